@@ -1,0 +1,2 @@
+//! Record batches: framing, CRC-32C, encoding and decoding.
+#![tactic(auto)]

@@ -1,0 +1,2 @@
+//! Partition changes and elections.
+#![tactic(auto)]

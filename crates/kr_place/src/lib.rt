@@ -1,0 +1,2 @@
+//! Placement of replicas over racks.
+#![tactic(auto)]

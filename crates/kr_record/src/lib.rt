@@ -1,0 +1,2 @@
+//! Metadata records: decoded and encoded as their grammar says.
+#![tactic(auto)]

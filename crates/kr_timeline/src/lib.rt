@@ -1,0 +1,2 @@
+//! A map with kept epochs.
+#![tactic(auto)]
