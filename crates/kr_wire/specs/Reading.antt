@@ -1,0 +1,159 @@
+-- Reading from the front of some bytes: the value and the bytes after it, or the first fault.
+use Rattle.std.specs.Prelude.{◌≡◌, ℕ, zero, suc, ◌+◌, ◌-◌, ◌*◌, ◌^◌, ◌≤◌, Bool, not, List, [], ◌∷◌, length, take, drop, Option, Some, None, Result, Ok, Err, ◌==◌, nat_lt, nat_le, if◌then◌else◌, MatchResult, cond}
+use Rattle.std.specs.Int.{Width, w64, byte_len, from_be_bytes}
+use Rattle.std.specs.Str.{is_utf8}
+use Rattle.kr_wire.specs.declared.WireFault.{WireFault}
+use Rattle.kr_wire.specs.declared.WireFault.TheVariants.{Short, Overlong, TooBig, BadTag, BadText, BadNull}
+
+infixl 10 ◌>>=◌
+abbrev pub ◌>>=◌ : {A B E : Type 0} → Result A E → (A → Result B E) → Result B E
+(Ok x) >>= f = f x
+(Err e) >>= f = Err e
+
+infix 5 refuse◌when◌else◌
+abbrev pub refuse◌when◌else◌ : {X E : Type 0} → E → Bool → Result X E → Result X E
+refuse fault when test else rest = cond test (Err fault) rest
+
+-- a value, and the bytes after it
+abbrev pub Read : Type 0 → Type 0
+Read X = Result (X × List ℕ) WireFault
+
+-- A call that reads at a place answers what reading gives there: the value seen by view and the next place, or the fault.
+abbrev pub Reads : {X Y : Type 0} → (X → Y) → Result (X × ℕ) WireFault → List ℕ → Read Y → Type 0
+Reads view result bytes read = MatchResult result (λ x. (read ≡ Ok (view x.0, drop x.1 bytes)) × (x.1 ≤ length bytes)) (λ e. read ≡ Err e)
+
+-- ---- numbers
+
+-- so many bytes
+abbrev pub piece_at : ℕ → List ℕ → Read (List ℕ)
+piece_at len bytes = refuse Short when nat_lt (length bytes) len else Ok (take len bytes, drop len bytes)
+
+abbrev pub number_at : Width → List ℕ → Read ℕ
+number_at w bytes = do
+  piece ← piece_at (byte_len w) bytes
+  Ok (from_be_bytes w piece.0, piece.1)
+
+-- an id: its high and its low 64 bits
+unfoldable pub id_at : List ℕ → Read ℕ
+id_at bytes = do
+  high ← number_at w64 bytes
+  low ← number_at w64 high.1
+  Ok (high.0 * 2 ^ 64 + low.0, low.1)
+
+-- The groups of seven bits after the first. With no more room the group is at most `top`. A group of 0 isn't the last.
+abbrev pub groups_at : ℕ → ℕ → List ℕ → Read ℕ
+groups_at top room [] = Err Short
+groups_at top zero (b ∷ bytes) =
+    refuse TooBig when nat_lt top b else
+    refuse Overlong when b == 0 else
+    Ok (b, bytes)
+groups_at top (suc room) (b ∷ bytes) =
+    if nat_lt b 128 then (refuse Overlong when b == 0 else Ok (b, bytes))
+    else (groups_at top room bytes >>= λ high. Ok (b - 128 + 128 * high.0, high.1))
+
+-- a number with the low groups first
+abbrev pub varint_at : ℕ → ℕ → List ℕ → Read ℕ
+varint_at top room [] = Err Short
+varint_at top room (b ∷ bytes) =
+    if nat_lt b 128 then Ok (b, bytes)
+    else (groups_at top room bytes >>= λ high. Ok (b - 128 + 128 * high.0, high.1))
+
+-- at most five bytes, for 32 bits
+unfoldable pub uvarint_at : List ℕ → Read ℕ
+uvarint_at bytes = varint_at 15 3 bytes
+
+-- ---- texts
+
+unfoldable pub text_at : List ℕ → Read (List ℕ)
+text_at bytes = do
+  size ← uvarint_at bytes
+  refuse BadNull when size.0 == 0 else do
+    piece ← piece_at (size.0 - 1) size.1
+    refuse BadText when not (is_utf8 piece.0) else Ok piece
+
+-- ---- tagged fields
+
+-- data that are all of a field; want of bytes and bytes left over are BadTag
+abbrev pub whole_field : {X : Type 0} → Read X → Result X WireFault
+whole_field (Ok x) = refuse BadTag when nat_lt 0 (length x.1) else Ok x.0
+whole_field (Err Short) = Err BadTag
+whole_field (Err Overlong) = Err Overlong
+whole_field (Err TooBig) = Err TooBig
+whole_field (Err BadTag) = Err BadTag
+whole_field (Err BadText) = Err BadText
+whole_field (Err BadNull) = Err BadNull
+
+-- what a known field makes of what was read before, from the field's bytes alone
+abbrev pub Known : Type 0 → Type 0
+Known X = ℕ → Option (X → List ℕ → Result X WireFault)
+
+-- an unknown field is skipped
+abbrev pub field_of : {X : Type 0} → Option (X → List ℕ → Result X WireFault) → X → List ℕ → Result X WireFault
+field_of None before bytes = Ok before
+field_of (Some read) before bytes = read before bytes
+
+-- data that are all of one field, and what they make of the value
+abbrev pub field_as : {X V : Type 0} → (List ℕ → Read V) → (X → V → X) → X → List ℕ → Result X WireFault
+field_as read put before bytes = whole_field (read bytes) >>= λ v. Ok (put before v)
+
+-- the fields of a table, by tag
+abbrev pub known_in : {X : Type 0} → List (ℕ × (X → List ℕ → Result X WireFault)) → Known X
+known_in [] tag = None
+known_in (e ∷ table) tag = cond (tag == e.0) (Some e.1) (known_in table tag)
+
+-- the tag isn't above the last one
+abbrev pub is_falling : Option ℕ → ℕ → Bool
+is_falling None tag = nat_lt tag 0
+is_falling (Some last) tag = nat_le tag last
+
+-- a tag and the size of its data
+abbrev pub tag_at : Option ℕ → List ℕ → Read (ℕ × ℕ)
+tag_at last bytes = do
+  tag ← uvarint_at bytes
+  refuse BadTag when is_falling last tag.0 else do
+    size ← uvarint_at tag.1
+    refuse Short when nat_lt (length size.1) size.0 else Ok ((tag.0, size.0), size.1)
+
+-- so many fields
+unfoldable pub fields_at : {X : Type 0} → Known X → ℕ → Option ℕ → X → List ℕ → Read X
+fields_at known zero last before bytes = Ok (before, bytes)
+fields_at known (suc count) last before bytes = do
+  tag ← tag_at last bytes
+  after ← field_of (known tag.0.0) before (take tag.0.1 tag.1)
+  fields_at known count (Some tag.0.0) after (drop tag.0.1 tag.1)
+
+-- a count, and the fields
+unfoldable pub tags_at : {X : Type 0} → Known X → X → List ℕ → Read X
+tags_at known before bytes = do
+  count ← uvarint_at bytes
+  fields_at known count.0 None before count.1
+
+abbrev pub none_known : Known (Unit {0})
+none_known tag = None
+
+-- ---- lists
+
+-- so many elements
+unfoldable pub elements_at : {X : Type 0} → (List ℕ → Read X) → ℕ → List ℕ → Read (List X)
+elements_at one zero bytes = Ok ([], bytes)
+elements_at one (suc count) bytes = do
+  first ← one bytes
+  others ← elements_at one count first.1
+  Ok (first.0 ∷ others.0, others.1)
+
+-- a count, and the elements
+unfoldable pub list_at : {X : Type 0} → (List ℕ → Read X) → List ℕ → Read (List X)
+list_at one bytes = do
+  count ← uvarint_at bytes
+  refuse BadNull when count.0 == 0 else
+      refuse Short when nat_lt (length count.1) (count.0 - 1) else
+      elements_at one (count.0 - 1) count.1
+
+-- null, or a count and the elements
+unfoldable pub list_or_null_at : {X : Type 0} → (List ℕ → Read X) → List ℕ → Read (Option (List X))
+list_or_null_at one bytes = do
+  count ← uvarint_at bytes
+  if count.0 == 0 then Ok (None, count.1) else
+      (refuse Short when nat_lt (length count.1) (count.0 - 1) else do
+        elements ← elements_at one (count.0 - 1) count.1
+        Ok (Some elements.0, elements.1))
