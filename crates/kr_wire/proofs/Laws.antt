@@ -143,6 +143,13 @@ complete_if_not false r s y test e = e
 pub joined : {First Second : List ℕ → Type 0} (a b : List ℕ) → First a → Second b → (First ⌢ Second) (a ++ b)
 joined a b first second = record { left = a; right = b; is = refl; first = first; second = second }
 
+-- a law of one function is that of another with the same answers
+pub law_as : {X E : Type 0} {Is : X → List ℕ → Type 0} {read other : List ℕ → Result (X × List ℕ) E} → ((bytes : List ℕ) → read bytes ≡ other bytes) → Law Is other → Law Is read
+law_as {X} {E} {Is} {read} {other} same law = record {
+  sound = λ bytes fits x rest e. law.sound bytes fits x rest (sym (same bytes) ∙ e);
+  complete = λ x front rest is. same (front ++ rest) ∙ law.complete x front rest is;
+}
+
 -- ---- what follows
 
 pub nothing : (l : List ℕ) → ltb 0 (length l) ≡ false → l ≡ []

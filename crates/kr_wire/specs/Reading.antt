@@ -1,6 +1,6 @@
 -- Reading from the front of some bytes: the value and the bytes after it, or the first fault.
-use Rattle.std.specs.Prelude.{◌≡◌, ℕ, zero, suc, ◌+◌, ◌-◌, ◌*◌, ◌^◌, ◌≤◌, Bool, not, List, [], ◌∷◌, length, take, drop, Option, Some, None, Result, Ok, Err, ◌==◌, nat_lt, nat_le, if◌then◌else◌, MatchResult, cond}
-use Rattle.std.specs.Int.{Width, w64, byte_len, from_be_bytes}
+use Rattle.std.specs.Prelude.{◌≡◌, ℕ, ℤ, zero, suc, ◌+◌, ◌-◌, ◌*◌, ◌^◌, ◌≤◌, Bool, false, not, List, [], ◌∷◌, length, take, drop, Option, Some, None, Result, Ok, Err, ◌==◌, nat_lt, nat_le, if◌then◌else◌, MatchResult, cond}
+use Rattle.std.specs.Int.{Width, w8, w64, byte_len, from_be_bytes, cast_signed}
 use Rattle.std.specs.Str.{is_utf8}
 use Rattle.kr_wire.specs.declared.WireFault.{WireFault}
 use Rattle.kr_wire.specs.declared.WireFault.TheVariants.{Short, Overlong, TooBig, BadTag, BadText, BadNull}
@@ -33,6 +33,18 @@ number_at w bytes = do
   piece ← piece_at (byte_len w) bytes
   Ok (from_be_bytes w piece.0, piece.1)
 
+-- a number with a sign, as two's complement
+abbrev pub signed_at : Width → List ℕ → Read ℤ
+signed_at w bytes = do
+  bits ← number_at w bytes
+  Ok (cast_signed w bits.0, bits.1)
+
+-- a byte, of which 0 alone is false
+abbrev pub bool_at : List ℕ → Read Bool
+bool_at bytes = do
+  byte ← number_at w8 bytes
+  Ok (not (byte.0 == 0), byte.1)
+
 -- an id: its high and its low 64 bits
 unfoldable pub id_at : List ℕ → Read ℕ
 id_at bytes = do
@@ -64,12 +76,24 @@ uvarint_at bytes = varint_at 15 3 bytes
 
 -- ---- texts
 
+-- so many bytes of UTF-8
+abbrev pub utf8_at : ℕ → List ℕ → Read (List ℕ)
+utf8_at len bytes = do
+  piece ← piece_at len bytes
+  refuse BadText when not (is_utf8 piece.0) else Ok piece
+
+-- a length plus one, and the text
 unfoldable pub text_at : List ℕ → Read (List ℕ)
 text_at bytes = do
   size ← uvarint_at bytes
-  refuse BadNull when size.0 == 0 else do
-    piece ← piece_at (size.0 - 1) size.1
-    refuse BadText when not (is_utf8 piece.0) else Ok piece
+  refuse BadNull when size.0 == 0 else utf8_at (size.0 - 1) size.1
+
+-- 0 for null, or a length plus one and the text
+unfoldable pub text_or_null_at : List ℕ → Read (Option (List ℕ))
+text_or_null_at bytes = do
+  size ← uvarint_at bytes
+  if size.0 == 0 then Ok (None, size.1) else
+      (utf8_at (size.0 - 1) size.1 >>= λ text. Ok (Some text.0, text.1))
 
 -- ---- tagged fields
 
@@ -103,7 +127,7 @@ known_in (e ∷ table) tag = cond (tag == e.0) (Some e.1) (known_in table tag)
 
 -- the tag isn't above the last one
 abbrev pub is_falling : Option ℕ → ℕ → Bool
-is_falling None tag = nat_lt tag 0
+is_falling None tag = false
 is_falling (Some last) tag = nat_le tag last
 
 -- a tag and the size of its data
@@ -141,19 +165,38 @@ elements_at one (suc count) bytes = do
   others ← elements_at one count first.1
   Ok (first.0 ∷ others.0, others.1)
 
+-- an element takes a byte at least, so a count past the bytes that are left is refused
+abbrev pub room_at : ℕ → List ℕ → Read ℕ
+room_at count bytes = refuse Short when nat_lt (length bytes) count else Ok (count, bytes)
+
+-- a count plus one
+unfoldable pub count_at : List ℕ → Read ℕ
+count_at bytes = do
+  size ← uvarint_at bytes
+  refuse BadNull when size.0 == 0 else room_at (size.0 - 1) size.1
+
+-- 0 for null, or a count plus one
+unfoldable pub count_or_null_at : List ℕ → Read (Option ℕ)
+count_or_null_at bytes = do
+  size ← uvarint_at bytes
+  if size.0 == 0 then Ok (None, size.1) else
+      (room_at (size.0 - 1) size.1 >>= λ count. Ok (Some count.0, count.1))
+
 -- a count, and the elements
 unfoldable pub list_at : {X : Type 0} → (List ℕ → Read X) → List ℕ → Read (List X)
 list_at one bytes = do
-  count ← uvarint_at bytes
-  refuse BadNull when count.0 == 0 else
-      refuse Short when nat_lt (length count.1) (count.0 - 1) else
-      elements_at one (count.0 - 1) count.1
+  count ← count_at bytes
+  elements_at one count.0 count.1
+
+-- no elements of null
+abbrev pub elements_or_null_at : {X : Type 0} → (List ℕ → Read X) → Option ℕ → List ℕ → Read (Option (List X))
+elements_or_null_at one None bytes = Ok (None, bytes)
+elements_or_null_at one (Some count) bytes = do
+  elements ← elements_at one count bytes
+  Ok (Some elements.0, elements.1)
 
 -- null, or a count and the elements
 unfoldable pub list_or_null_at : {X : Type 0} → (List ℕ → Read X) → List ℕ → Read (Option (List X))
 list_or_null_at one bytes = do
-  count ← uvarint_at bytes
-  if count.0 == 0 then Ok (None, count.1) else
-      (refuse Short when nat_lt (length count.1) (count.0 - 1) else do
-        elements ← elements_at one (count.0 - 1) count.1
-        Ok (Some elements.0, elements.1))
+  count ← count_or_null_at bytes
+  elements_or_null_at one count.0 count.1

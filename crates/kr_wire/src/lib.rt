@@ -1,13 +1,21 @@
 //! The primitives of Kafka's wire format, each equal to a grammar.
+//!
+//! Reading starts at a place of some bytes, takes no memory, and answers the value with the place
+//! behind it, or the first fault. Writing appends to a vector, or leaves it as it was.
 #![tactic(auto)]
 
 mod reading;
 mod writing;
 
 pub use reading::{
-    Span, Tag, read_groups, read_id, read_str, read_tag, read_u32, read_uvarint, skip_tags,
+    Span, Tag, read_bool, read_count, read_count_or_null, read_i8, read_i16, read_i32, read_i64,
+    read_id, read_str, read_str_or_null, read_tag, read_u16, read_u32, read_u64, read_uvarint,
+    skip_tags,
 };
-pub use writing::{put_id, put_str, put_uvarint};
+pub use writing::{
+    put_bool, put_count, put_i8, put_i16, put_i32, put_i64, put_id, put_null, put_str,
+    put_str_or_null, put_tag, put_u16, put_u32, put_u64, put_uvarint,
+};
 
 /// Why bytes stand for nothing.
 #[derive(Clone, Copy, Debug, Drop, PartialEq, Eq)]

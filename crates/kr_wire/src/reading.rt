@@ -1,14 +1,15 @@
 //! Reading at a place of some bytes.
 
-ghost use Rattle.std.specs.Prelude.{◌≡◌, ◌+◌, ◌-◌, ◌*◌, ◌^◌, ◌<◌, ◌≤◌, length, drop, slice_range, IfOk, MatchResult, IsTrue, IsUtf8};
-ghost use Rattle.std.specs.Int.{w32};
+ghost use Rattle.std.specs.Prelude.{◌≡◌, ◌+◌, ◌-◌, ◌*◌, ◌^◌, ◌<◌, ◌≤◌, length, drop, slice_range, IfOk, IfSome, MatchResult, IsTrue, IsUtf8};
+ghost use Rattle.std.specs.Int.{w8, w16, w32, w64};
+ghost use Rattle.std.specs.Option.{option_map};
 ghost use Rattle.std.specs.Str.{is_utf8};
 ghost use Rattle.kr_wire.specs.Reading;
-ghost use Rattle.kr_wire.specs.Reading.{Reads, groups_at, fields_at, id_at, none_known, number_at, piece_at, tag_at, tags_at, text_at, uvarint_at};
+ghost use Rattle.kr_wire.specs.Reading.{Reads, bool_at, count_at, count_or_null_at, fields_at, groups_at, id_at, none_known, number_at, piece_at, room_at, signed_at, tag_at, tags_at, text_at, text_or_null_at, utf8_at, uvarint_at};
 
 use crate::WireFault;
 
-pub fn read_groups(bytes: &[u8], at: usize, top: u8, room: u8) -> Result<(u64, usize), WireFault>
+fn read_groups(bytes: &[u8], at: usize, top: u8, room: u8) -> Result<(u64, usize), WireFault>
     requires start { at ≤ length bytes.now }
     requires small { room ≤ 8 }
     requires low { top ≤ 15 }
@@ -67,6 +68,23 @@ fn piece(bytes: &[u8], at: usize, len: usize) -> Result<(&[u8], usize), WireFaul
     Ok((&bytes[at..end], end))
 }
 
+fn read_byte(bytes: &[u8], at: usize) -> Result<(u8, usize), WireFault>
+    requires { at ≤ length bytes.now }
+    ensures { Reads (λ n. n) result bytes.now (number_at w8 (drop at bytes.now)) }
+{
+    let (piece, next) = piece(bytes, at, 1)?;
+    Ok((piece[0], next))
+}
+
+pub fn read_u16(bytes: &[u8], at: usize) -> Result<(u16, usize), WireFault>
+    requires { at ≤ length bytes.now }
+    ensures { Reads (λ n. n) result bytes.now (number_at w16 (drop at bytes.now)) }
+{
+    let (piece, next) = piece(bytes, at, 2)?;
+    let number = u16::from_be_bytes([piece[0], piece[1]]);
+    Ok((number, next))
+}
+
 pub fn read_u32(bytes: &[u8], at: usize) -> Result<(u32, usize), WireFault>
     requires { at ≤ length bytes.now }
     ensures { Reads (λ n. n) result bytes.now (number_at w32 (drop at bytes.now)) }
@@ -76,19 +94,64 @@ pub fn read_u32(bytes: &[u8], at: usize) -> Result<(u32, usize), WireFault>
     Ok((number, next))
 }
 
+pub fn read_u64(bytes: &[u8], at: usize) -> Result<(u64, usize), WireFault>
+    requires { at ≤ length bytes.now }
+    ensures { Reads (λ n. n) result bytes.now (number_at w64 (drop at bytes.now)) }
+{
+    let (piece, next) = piece(bytes, at, 8)?;
+    let number = u64::from_be_bytes([
+        piece[0], piece[1], piece[2], piece[3], piece[4], piece[5], piece[6], piece[7],
+    ]);
+    Ok((number, next))
+}
+
+pub fn read_i8(bytes: &[u8], at: usize) -> Result<(i8, usize), WireFault>
+    requires { at ≤ length bytes.now }
+    ensures { Reads (λ n. n) result bytes.now (signed_at w8 (drop at bytes.now)) }
+{
+    let (bits, next) = read_byte(bytes, at)?;
+    Ok((bits.cast_signed(), next))
+}
+
+pub fn read_i16(bytes: &[u8], at: usize) -> Result<(i16, usize), WireFault>
+    requires { at ≤ length bytes.now }
+    ensures { Reads (λ n. n) result bytes.now (signed_at w16 (drop at bytes.now)) }
+{
+    let (bits, next) = read_u16(bytes, at)?;
+    Ok((bits.cast_signed(), next))
+}
+
+pub fn read_i32(bytes: &[u8], at: usize) -> Result<(i32, usize), WireFault>
+    requires { at ≤ length bytes.now }
+    ensures { Reads (λ n. n) result bytes.now (signed_at w32 (drop at bytes.now)) }
+{
+    let (bits, next) = read_u32(bytes, at)?;
+    Ok((bits.cast_signed(), next))
+}
+
+pub fn read_i64(bytes: &[u8], at: usize) -> Result<(i64, usize), WireFault>
+    requires { at ≤ length bytes.now }
+    ensures { Reads (λ n. n) result bytes.now (signed_at w64 (drop at bytes.now)) }
+{
+    let (bits, next) = read_u64(bytes, at)?;
+    Ok((bits.cast_signed(), next))
+}
+
+pub fn read_bool(bytes: &[u8], at: usize) -> Result<(bool, usize), WireFault>
+    requires { at ≤ length bytes.now }
+    ensures { Reads (λ b. b) result bytes.now (bool_at (drop at bytes.now)) }
+{
+    let (byte, next) = read_byte(bytes, at)?;
+    Ok((byte != 0, next))
+}
+
 #[tactic(auto, unfolding(crate::specs::Reading::id_at))]
 pub fn read_id(bytes: &[u8], at: usize) -> Result<(u128, usize), WireFault>
     requires { at ≤ length bytes.now }
     ensures { Reads (λ n. n) result bytes.now (id_at (drop at bytes.now)) }
 {
-    let (high, next) = piece(bytes, at, 8)?;
-    let high = u64::from_be_bytes([
-        high[0], high[1], high[2], high[3], high[4], high[5], high[6], high[7],
-    ]);
-    let (low, next) = piece(bytes, next, 8)?;
-    let low = u64::from_be_bytes([
-        low[0], low[1], low[2], low[3], low[4], low[5], low[6], low[7],
-    ]);
+    let (high, next) = read_u64(bytes, at)?;
+    let (low, next) = read_u64(bytes, next)?;
     Ok((u128::from(high) << 64 | u128::from(low), next))
 }
 
@@ -110,7 +173,33 @@ pub fn read_str(bytes: &[u8], at: usize) -> Result<(Span, usize), WireFault>
     if size == 0 {
         return Err(WireFault::BadNull);
     }
-    let (text, end) = piece(bytes, start, (size - 1) as usize)?;
+    read_utf8(bytes, start, (size - 1) as usize)
+}
+
+/// A text, or null.
+#[tactic(auto, unfolding(crate::specs::Reading::text_or_null_at))]
+pub fn read_str_or_null(bytes: &[u8], at: usize) -> Result<(Option<Span>, usize), WireFault>
+    requires { at ≤ length bytes.now }
+    ensures read { Reads (λ o. option_map (λ s. slice_range bytes.now s.start s.end) o) result bytes.now (text_or_null_at (drop at bytes.now)) }
+    ensures span { IfOk result (λ x. IfSome x.0 (λ s. (s.start ≤ s.end) × (s.end ≤ length bytes.now))) }
+    ensures utf8 { IfOk result (λ x. IfSome x.0 (λ s. IsUtf8 (slice_range bytes.now s.start s.end))) }
+{
+    let (size, start) = read_uvarint(bytes, at)?;
+    if size == 0 {
+        return Ok((None, start));
+    }
+    let (text, next) = read_utf8(bytes, start, (size - 1) as usize)?;
+    Ok((Some(text), next))
+}
+
+// So many bytes of UTF-8.
+fn read_utf8(bytes: &[u8], start: usize, len: usize) -> Result<(Span, usize), WireFault>
+    requires { start ≤ length bytes.now }
+    ensures read { Reads (λ s. slice_range bytes.now s.start s.end) result bytes.now (utf8_at len (drop start bytes.now)) }
+    ensures span { IfOk result (λ x. (x.0.start ≤ x.0.end) × (x.0.end ≤ length bytes.now)) }
+    ensures utf8 { IfOk result (λ x. IsUtf8 (slice_range bytes.now x.0.start x.0.end)) }
+{
+    let (text, end) = piece(bytes, start, len)?;
     if !is_text(text) {
         return Err(WireFault::BadText);
     }
@@ -126,6 +215,47 @@ fn is_text(bytes: &[u8]) -> bool
         Ok(_) => true,
         Err(_) => false,
     }
+}
+
+/// The count of a list, which is no more than the bytes behind it.
+#[tactic(auto, unfolding(crate::specs::Reading::count_at))]
+pub fn read_count(bytes: &[u8], at: usize) -> Result<(u32, usize), WireFault>
+    requires { at ≤ length bytes.now }
+    ensures read { Reads (λ n. n) result bytes.now (count_at (drop at bytes.now)) }
+    ensures room { IfOk result (λ x. x.0 ≤ length bytes.now - x.1) }
+{
+    let (size, next) = read_uvarint(bytes, at)?;
+    if size == 0 {
+        return Err(WireFault::BadNull);
+    }
+    with_room(bytes, next, size - 1)
+}
+
+/// The count of a list, or null.
+#[tactic(auto, unfolding(crate::specs::Reading::count_or_null_at))]
+pub fn read_count_or_null(bytes: &[u8], at: usize) -> Result<(Option<u32>, usize), WireFault>
+    requires { at ≤ length bytes.now }
+    ensures read { Reads (λ n. n) result bytes.now (count_or_null_at (drop at bytes.now)) }
+    ensures room { IfOk result (λ x. IfSome x.0 (λ n. n ≤ length bytes.now - x.1)) }
+{
+    let (size, next) = read_uvarint(bytes, at)?;
+    if size == 0 {
+        return Ok((None, next));
+    }
+    let (count, next) = with_room(bytes, next, size - 1)?;
+    Ok((Some(count), next))
+}
+
+// The count, where as many bytes are left.
+fn with_room(bytes: &[u8], at: usize, count: u32) -> Result<(u32, usize), WireFault>
+    requires { at ≤ length bytes.now }
+    ensures read { Reads (λ n. n) result bytes.now (room_at count (drop at bytes.now)) }
+    ensures room { IfOk result (λ x. x.0 ≤ length bytes.now - x.1) }
+{
+    if bytes.len() - at < count as usize {
+        return Err(WireFault::Short);
+    }
+    Ok((count, at))
 }
 
 /// One tagged field: its number, and the place behind its data.

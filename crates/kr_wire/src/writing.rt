@@ -1,7 +1,10 @@
 //! Writing at the end of some bytes.
 
-ghost use Rattle.std.specs.Prelude.{◌≡◌, ◌+◌, ◌^◌, ◌<◌, ◌≤◌, ◌++◌, length, take, OnOk, OnErr, IsUtf8};
-ghost use Rattle.kr_wire.specs.Spelling.{groups, id, text, uvarint};
+ghost use Rattle.std.specs.Prelude.{◌≡◌, ◌+◌, ◌^◌, ◌<◌, ◌≤◌, ◌++◌, length, take, OnOk, OnErr, IfSome};
+ghost use Rattle.std.specs.Int.{w8, w16, w32, w64};
+ghost use Rattle.std.specs.Option.{option_map};
+ghost use Rattle.kr_wire.specs.Spelling;
+ghost use Rattle.kr_wire.specs.Spelling.{bool, groups, id, null, number, signed, tag, text, text_or_null, uvarint};
 
 use std::alloc::AllocError;
 
@@ -32,6 +35,76 @@ pub fn put_uvarint(out: &mut Vec<u8>, value: u32) -> Result<(), AllocError>
     out.extend_from_slice(&bytes[..len])
 }
 
+// Both, or neither.
+fn put_both(out: &mut Vec<u8>, first: &[u8], second: &[u8]) -> Result<(), AllocError>
+    ensures ok { OnOk result (out.new.items ≡ out.old.items ++ (first.now ++ second.now)) }
+    ensures err { OnErr result (out.new.items ≡ out.old.items) }
+{
+    let before = out.len();
+    out.extend_from_slice(first)?;
+    if let Err(refused) = out.extend_from_slice(second) {
+        out.truncate(before);
+        return Err(refused);
+    }
+    Ok(())
+}
+
+pub fn put_u16(out: &mut Vec<u8>, value: u16) -> Result<(), AllocError>
+    ensures ok { OnOk result (out.new.items ≡ out.old.items ++ number w16 value) }
+    ensures err { OnErr result (out.new.items ≡ out.old.items) }
+{
+    out.extend_from_slice(&value.to_be_bytes())
+}
+
+pub fn put_u32(out: &mut Vec<u8>, value: u32) -> Result<(), AllocError>
+    ensures ok { OnOk result (out.new.items ≡ out.old.items ++ number w32 value) }
+    ensures err { OnErr result (out.new.items ≡ out.old.items) }
+{
+    out.extend_from_slice(&value.to_be_bytes())
+}
+
+pub fn put_u64(out: &mut Vec<u8>, value: u64) -> Result<(), AllocError>
+    ensures ok { OnOk result (out.new.items ≡ out.old.items ++ number w64 value) }
+    ensures err { OnErr result (out.new.items ≡ out.old.items) }
+{
+    out.extend_from_slice(&value.to_be_bytes())
+}
+
+pub fn put_i8(out: &mut Vec<u8>, value: i8) -> Result<(), AllocError>
+    ensures ok { OnOk result (out.new.items ≡ out.old.items ++ signed w8 value) }
+    ensures err { OnErr result (out.new.items ≡ out.old.items) }
+{
+    out.extend_from_slice(&value.to_be_bytes())
+}
+
+pub fn put_i16(out: &mut Vec<u8>, value: i16) -> Result<(), AllocError>
+    ensures ok { OnOk result (out.new.items ≡ out.old.items ++ signed w16 value) }
+    ensures err { OnErr result (out.new.items ≡ out.old.items) }
+{
+    out.extend_from_slice(&value.to_be_bytes())
+}
+
+pub fn put_i32(out: &mut Vec<u8>, value: i32) -> Result<(), AllocError>
+    ensures ok { OnOk result (out.new.items ≡ out.old.items ++ signed w32 value) }
+    ensures err { OnErr result (out.new.items ≡ out.old.items) }
+{
+    out.extend_from_slice(&value.to_be_bytes())
+}
+
+pub fn put_i64(out: &mut Vec<u8>, value: i64) -> Result<(), AllocError>
+    ensures ok { OnOk result (out.new.items ≡ out.old.items ++ signed w64 value) }
+    ensures err { OnErr result (out.new.items ≡ out.old.items) }
+{
+    out.extend_from_slice(&value.to_be_bytes())
+}
+
+pub fn put_bool(out: &mut Vec<u8>, value: bool) -> Result<(), AllocError>
+    ensures ok { OnOk result (out.new.items ≡ out.old.items ++ bool value) }
+    ensures err { OnErr result (out.new.items ≡ out.old.items) }
+{
+    out.extend_from_slice(&[u8::from(value)])
+}
+
 #[tactic(auto, unfolding(crate::specs::Spelling::id))]
 pub fn put_id(out: &mut Vec<u8>, value: u128) -> Result<(), AllocError>
     ensures ok { OnOk result (out.new.items ≡ out.old.items ++ id value) }
@@ -39,13 +112,7 @@ pub fn put_id(out: &mut Vec<u8>, value: u128) -> Result<(), AllocError>
 {
     let high = (value >> 64) as u64;
     let low = (value % (1 << 64)) as u64;
-    let before = out.len();
-    out.extend_from_slice(&high.to_be_bytes())?;
-    if let Err(refused) = out.extend_from_slice(&low.to_be_bytes()) {
-        out.truncate(before);
-        return Err(refused);
-    }
-    Ok(())
+    put_both(out, &high.to_be_bytes(), &low.to_be_bytes())
 }
 
 pub fn put_str(out: &mut Vec<u8>, value: &str) -> Result<(), AllocError>
@@ -53,11 +120,45 @@ pub fn put_str(out: &mut Vec<u8>, value: &str) -> Result<(), AllocError>
     ensures ok { OnOk result (out.new.items ≡ out.old.items ++ text value.now) }
     ensures err { OnErr result (out.new.items ≡ out.old.items) }
 {
-    let before = out.len();
-    put_uvarint(out, value.len() as u32 + 1)?;
-    if let Err(refused) = out.extend_from_slice(value.as_bytes()) {
-        out.truncate(before);
-        return Err(refused);
+    let (size, len) = groups_of(value.len() as u64 + 1, 4);
+    put_both(out, &size[..len], value.as_bytes())
+}
+
+/// A text, or null.
+pub fn put_str_or_null(out: &mut Vec<u8>, value: Option<&str>) -> Result<(), AllocError>
+    requires { IfSome value (λ t. length t.now < 2 ^ 31) }
+    ensures ok { OnOk result (out.new.items ≡ out.old.items ++ text_or_null (option_map (λ t. t.now) value.entry)) }
+    ensures err { OnErr result (out.new.items ≡ out.old.items) }
+{
+    match value {
+        None => put_null(out),
+        Some(text) => put_str(out, text),
     }
-    Ok(())
+}
+
+/// The count of a list.
+pub fn put_count(out: &mut Vec<u8>, count: u32) -> Result<(), AllocError>
+    requires { count < 2 ^ 31 }
+    ensures ok { OnOk result (out.new.items ≡ out.old.items ++ Spelling.count count) }
+    ensures err { OnErr result (out.new.items ≡ out.old.items) }
+{
+    put_uvarint(out, count + 1)
+}
+
+/// What stands for a null, of a text or of a list.
+pub fn put_null(out: &mut Vec<u8>) -> Result<(), AllocError>
+    ensures ok { OnOk result (out.new.items ≡ out.old.items ++ null) }
+    ensures err { OnErr result (out.new.items ≡ out.old.items) }
+{
+    put_uvarint(out, 0)
+}
+
+/// The number of a tagged field, and the size of its data.
+pub fn put_tag(out: &mut Vec<u8>, number: u32, size: u32) -> Result<(), AllocError>
+    ensures ok { OnOk result (out.new.items ≡ out.old.items ++ tag number size) }
+    ensures err { OnErr result (out.new.items ≡ out.old.items) }
+{
+    let (number, number_len) = groups_of(u64::from(number), 4);
+    let (size, size_len) = groups_of(u64::from(size), 4);
+    put_both(out, &number[..number_len], &size[..size_len])
 }
