@@ -1,12 +1,9 @@
 //! Registered brokers.
 
-ghost use Rattle.std.specs.Prelude.{◌≡◌};
+use crate::{Rows, Text};
 
-use crate::Text;
-use std::alloc::AllocError;
-use std::marker::Model;
-
-#[derive(Clone, Debug, Drop, PartialEq, Eq)]
+/// Where a broker listens.
+#[derive(Debug, Drop, PartialEq, Eq)]
 pub struct Endpoint {
     pub name: Text,
     pub host: Text,
@@ -14,42 +11,27 @@ pub struct Endpoint {
     pub protocol: i16,
 }
 
-#[derive(Drop)]
-pub struct Endpoints {
-    list: Vec<Endpoint>,
+/// The endpoints of a broker, in the order of its registration.
+pub type Endpoints = Rows<Endpoint>;
+
+/// The levels of one feature that a broker supports.
+#[derive(Debug, Drop, PartialEq, Eq)]
+pub struct Range {
+    pub name: Text,
+    pub min: i16,
+    pub max: i16,
 }
 
-impl Model for Endpoints {
-    ghost use Rattle.std.specs.Prelude.{List};
-    ghost use Rattle.kr_defs.specs.declared.broker.Endpoint.{Endpoint};
+/// The features of a broker, in the order of its registration.
+pub type Ranges = Rows<Range>;
 
-    ghost Value = { List Endpoint };
-
-    ghost view = { λ s. s.list.items };
-}
-
-impl Endpoints {
-    pub fn as_slice(&self) -> &[Endpoint]
-        ensures { result.now ≡ self.now }
-    {
-        self.list.as_slice()
-    }
-}
-
-impl Clone for Endpoints {
-    ghost is_clone = { λ s t. t ≡ s };
-
-    fn clone(&self) -> Result<Endpoints, AllocError> {
-        let list = self.list.clone()?;
-        Ok(Endpoints { list })
-    }
-}
-
-#[derive(Drop)]
+/// The registration of a broker.
+#[derive(Debug, Drop, PartialEq, Eq)]
 pub struct Broker {
     pub epoch: i64,
     pub incarnation: u128,
     pub endpoints: Endpoints,
+    pub features: Ranges,
     pub rack: Option<Text>,
     pub fenced: bool,
     pub stopping: bool,

@@ -5,14 +5,13 @@ mod broker;
 mod calls;
 mod copied;
 mod events;
-mod ids;
 mod options;
 mod partition;
 mod record;
 mod rows;
 mod text;
 
-pub use broker::{Broker, Endpoint, Endpoints};
+pub use broker::{Broker, Endpoint, Endpoints, Range, Ranges};
 pub use calls::{
     Ask, AskFault, Call, ConfigOperation, ConfigOperations, ConfigResource, ConfigResources,
     ConfigResponse, ConfigResponses, IncrementalAlterConfigs, IncrementalAlterConfigsReply, Reply,
@@ -20,9 +19,8 @@ pub use calls::{
 };
 pub use copied::Copied;
 pub use events::{Event, Output};
-pub use ids::Ids;
 pub use options::Options;
 pub use partition::{Partition, PartitionChange};
 pub use record::{ConfigKey, Item, Record, Topic};
-pub use rows::{Bytes, Rows};
+pub use rows::{Bytes, Ids, Items, Records, Rows, Texts};
 pub use text::Text;

@@ -1,7 +1,11 @@
 //! A list of values that contracts see as a list.
 
-ghost use Rattle.std.specs.Prelude.{◌≡◌, ◌==◌, [], ◌∷◌, ◌++◌, length, OnOk, OnErr};
+ghost use Rattle.std.specs.Prelude.{◌≡◌, ◌==◌, [], ◌∷◌, ◌++◌, length, OnOk, OnErr, Contains, IsTrue, ◌↔◌};
+ghost use Rattle.std.specs.List.{list_any};
+ghost use Rattle.std.specs.Ordering.{int_eq};
+ghost use Rattle.std.specs.Cmp.Lexicographic.{pointwise, lists_per, lists_equiv};
 
+use crate::{Copied, Item, Record, Text};
 use std::alloc::{AllocError, Global};
 use std::marker::Model;
 
@@ -11,8 +15,20 @@ pub struct Rows<T> {
     list: Vec<T>,
 }
 
-/// Bytes.
+/// Ids of brokers.
+pub type Ids = Rows<i32>;
+
+/// Bytes, which need not be text.
 pub type Bytes = Rows<u8>;
+
+/// A list of texts.
+pub type Texts = Rows<Text>;
+
+/// What stands at the places of a log, in order.
+pub type Items = Rows<Item>;
+
+/// A list of records, in order.
+pub type Records = Rows<Record>;
 
 impl<T> Model for Rows<T> {
     ghost use Rattle.std.specs.Prelude.{List};
@@ -80,4 +96,45 @@ impl<T: Drop> Rows<T> {
         self.list.push(item)?;
         Ok(())
     }
+}
+
+impl Rows<i32> {
+    /// The lists have the same ids in the same order.
+    pub fn same(&self, other: &Rows<i32>) -> bool
+        ensures { IsTrue result ↔ (self.now ≡ other.now) }
+    {
+        self.list == other.list
+    }
+
+    /// The id stands in the list.
+    pub fn contains(&self, id: &i32) -> bool
+        ensures value { result ≡ list_any (λ x. int_eq x id.now) self.now }
+        ensures member { IsTrue result ↔ Contains self.now id.now }
+    {
+        self.list.contains(id)
+    }
+}
+
+impl<T: Copied + Drop> Copied for Rows<T> {
+    fn copied(&self, alloc: Global) -> Result<Rows<T>, AllocError> {
+        let mut copy = Rows::new(alloc);
+        for value in self.as_slice() {
+            copy.push(value.copied(alloc)?)?;
+        }
+        Ok(copy)
+    }
+}
+
+impl<T: PartialEq> PartialEq for Rows<T> {
+    ghost eq = { pointwise T.eq };
+
+    ghost laws = { lists_per T.laws };
+
+    fn eq(&self, other: &Rows<T>) -> bool {
+        self.list == other.list
+    }
+}
+
+impl<T: Eq> Eq for Rows<T> {
+    ghost laws = { lists_equiv T.Eq.laws };
 }
