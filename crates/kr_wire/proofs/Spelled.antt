@@ -25,6 +25,7 @@ groups_spelled (suc room) n fits = elim (cases_lt n 128) [
 ]
 
 pub uvarint_spelled : (n : ℕ) → n < 2 ^ 32 → IsUvarint n (uvarint n)
+unfolding uvarint
 uvarint_spelled n fits = record { fits = fits; spelled = groups_spelled 4 n (omega arith) }
 
 wide_spelled : (n : ℕ) → n < 2 ^ 64 → IsNumber w64 n (to_be_bytes w64 n)

@@ -27,6 +27,7 @@ fn groups_of(value: u64, room: usize) -> ([u8; 10], usize)
     (bytes, len + 1)
 }
 
+#[tactic(auto, unfolding(crate::specs::Spelling::uvarint))]
 pub fn put_uvarint(out: &mut Vec<u8>, value: u32) -> Result<(), AllocError>
     ensures ok { OnOk result (out.new.items ≡ out.old.items ++ uvarint value) }
     ensures err { OnErr result (out.new.items ≡ out.old.items) }
@@ -49,6 +50,7 @@ fn put_both(out: &mut Vec<u8>, first: &[u8], second: &[u8]) -> Result<(), AllocE
     Ok(())
 }
 
+#[tactic(auto, unfolding(crate::specs::Spelling::number))]
 pub fn put_u16(out: &mut Vec<u8>, value: u16) -> Result<(), AllocError>
     ensures ok { OnOk result (out.new.items ≡ out.old.items ++ number w16 value) }
     ensures err { OnErr result (out.new.items ≡ out.old.items) }
@@ -56,6 +58,7 @@ pub fn put_u16(out: &mut Vec<u8>, value: u16) -> Result<(), AllocError>
     out.extend_from_slice(&value.to_be_bytes())
 }
 
+#[tactic(auto, unfolding(crate::specs::Spelling::number))]
 pub fn put_u32(out: &mut Vec<u8>, value: u32) -> Result<(), AllocError>
     ensures ok { OnOk result (out.new.items ≡ out.old.items ++ number w32 value) }
     ensures err { OnErr result (out.new.items ≡ out.old.items) }
@@ -63,6 +66,7 @@ pub fn put_u32(out: &mut Vec<u8>, value: u32) -> Result<(), AllocError>
     out.extend_from_slice(&value.to_be_bytes())
 }
 
+#[tactic(auto, unfolding(crate::specs::Spelling::number))]
 pub fn put_u64(out: &mut Vec<u8>, value: u64) -> Result<(), AllocError>
     ensures ok { OnOk result (out.new.items ≡ out.old.items ++ number w64 value) }
     ensures err { OnErr result (out.new.items ≡ out.old.items) }
@@ -70,6 +74,7 @@ pub fn put_u64(out: &mut Vec<u8>, value: u64) -> Result<(), AllocError>
     out.extend_from_slice(&value.to_be_bytes())
 }
 
+#[tactic(auto, unfolding(crate::specs::Spelling::signed))]
 pub fn put_i8(out: &mut Vec<u8>, value: i8) -> Result<(), AllocError>
     ensures ok { OnOk result (out.new.items ≡ out.old.items ++ signed w8 value) }
     ensures err { OnErr result (out.new.items ≡ out.old.items) }
@@ -77,6 +82,7 @@ pub fn put_i8(out: &mut Vec<u8>, value: i8) -> Result<(), AllocError>
     out.extend_from_slice(&value.to_be_bytes())
 }
 
+#[tactic(auto, unfolding(crate::specs::Spelling::signed))]
 pub fn put_i16(out: &mut Vec<u8>, value: i16) -> Result<(), AllocError>
     ensures ok { OnOk result (out.new.items ≡ out.old.items ++ signed w16 value) }
     ensures err { OnErr result (out.new.items ≡ out.old.items) }
@@ -84,6 +90,7 @@ pub fn put_i16(out: &mut Vec<u8>, value: i16) -> Result<(), AllocError>
     out.extend_from_slice(&value.to_be_bytes())
 }
 
+#[tactic(auto, unfolding(crate::specs::Spelling::signed))]
 pub fn put_i32(out: &mut Vec<u8>, value: i32) -> Result<(), AllocError>
     ensures ok { OnOk result (out.new.items ≡ out.old.items ++ signed w32 value) }
     ensures err { OnErr result (out.new.items ≡ out.old.items) }
@@ -91,6 +98,7 @@ pub fn put_i32(out: &mut Vec<u8>, value: i32) -> Result<(), AllocError>
     out.extend_from_slice(&value.to_be_bytes())
 }
 
+#[tactic(auto, unfolding(crate::specs::Spelling::signed))]
 pub fn put_i64(out: &mut Vec<u8>, value: i64) -> Result<(), AllocError>
     ensures ok { OnOk result (out.new.items ≡ out.old.items ++ signed w64 value) }
     ensures err { OnErr result (out.new.items ≡ out.old.items) }
@@ -115,6 +123,7 @@ pub fn put_id(out: &mut Vec<u8>, value: u128) -> Result<(), AllocError>
     put_both(out, &high.to_be_bytes(), &low.to_be_bytes())
 }
 
+#[tactic(auto, unfolding(crate::specs::Spelling::uvarint))]
 pub fn put_str(out: &mut Vec<u8>, value: &str) -> Result<(), AllocError>
     requires { length value.now < 2 ^ 31 }
     ensures ok { OnOk result (out.new.items ≡ out.old.items ++ text value.now) }
@@ -154,6 +163,7 @@ pub fn put_null(out: &mut Vec<u8>) -> Result<(), AllocError>
 }
 
 /// The number of a tagged field, and the size of its data.
+#[tactic(auto, unfolding(crate::specs::Spelling::uvarint))]
 pub fn put_tag(out: &mut Vec<u8>, number: u32, size: u32) -> Result<(), AllocError>
     ensures ok { OnOk result (out.new.items ≡ out.old.items ++ tag number size) }
     ensures err { OnErr result (out.new.items ≡ out.old.items) }
