@@ -1,0 +1,41 @@
+//! Parts of lists of ids.
+
+ghost use Rattle.std.specs.Prelude.{◌≡◌, IfOk};
+ghost use Rattle.kr_defs.specs.Ids as ids;
+
+use kr_defs::Ids;
+use std::alloc::{AllocError, Global};
+
+fn others(alloc: Global, list: &[i32], those: &Ids) -> Result<Vec<i32>, AllocError>
+    ensures { IfOk result (λ left. left.items ≡ ids.without list.now those.now) }
+{
+    list.iter()
+        .copied()
+        .filter(|id| !those.contains(id))
+        .collect(alloc)
+}
+
+fn members(alloc: Global, list: &[i32], those: &Ids) -> Result<Vec<i32>, AllocError>
+    ensures { IfOk result (λ left. left.items ≡ ids.within list.now those.now) }
+{
+    list.iter()
+        .copied()
+        .filter(|id| those.contains(id))
+        .collect(alloc)
+}
+
+// These but for those.
+pub fn without(alloc: Global, list: &Ids, those: &Ids) -> Result<Ids, AllocError>
+    ensures { IfOk result (λ left. left ≡ ids.without list.now those.now) }
+{
+    let left = others(alloc, list.as_slice(), those)?;
+    Ok(Ids::from_vec(left))
+}
+
+// These that are among those.
+pub fn within(alloc: Global, list: &Ids, those: &Ids) -> Result<Ids, AllocError>
+    ensures { IfOk result (λ left. left ≡ ids.within list.now those.now) }
+{
+    let left = members(alloc, list.as_slice(), those)?;
+    Ok(Ids::from_vec(left))
+}
