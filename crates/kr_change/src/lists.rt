@@ -15,12 +15,18 @@ fn others(alloc: Global, list: &[i32], those: &Ids) -> Result<Vec<i32>, AllocErr
         .collect(alloc)
 }
 
+fn is_among(id: &i32, those: &Ids) -> bool
+    ensures { result ≡ ids.has those.now id.now }
+{
+    those.contains(id)
+}
+
 fn members(alloc: Global, list: &[i32], those: &Ids) -> Result<Vec<i32>, AllocError>
     ensures { IfOk result (λ left. left.items ≡ ids.within list.now those.now) }
 {
     list.iter()
         .copied()
-        .filter(|id| those.contains(id))
+        .filter(|id| is_among(id, those))
         .collect(alloc)
 }
 

@@ -26,4 +26,4 @@ without ids those = filter (λ id. not (has those id)) ids
 
 -- these that are among those, in the order of these
 abbrev pub within : List ℤ → List ℤ → List ℤ
-within ids those = filter (has those) ids
+within ids those = filter (λ id. has those id) ids
