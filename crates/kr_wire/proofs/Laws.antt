@@ -2,11 +2,10 @@
 use Rattle.std.proofs.Common.{◌≡◌, ℕ, ◌+◌, ◌<◌, Bool, true, false, cond, ltb, List, [], ◌∷◌, ◌++◌, length, get_or, append_assoc, Result, Ok, Err, refl, sym, ap, subst, ◌∙◌, arith, inl, inr, lit<}
 use Rattle.std.proofs.lemmas.List.{get_or-append-add, get_or_append_left, get_or_past, append-nil}
 use Rattle.std.proofs.lemmas.Bool.{cases_lt, ltb-false}
-use Rattle.kr_wire.specs.Reading.{◌>>=◌}
+pub use Rattle.kr_wire.specs.Laws.{IsBytes, Front, Yields, Law}
+use Rattle.kr_wire.specs.Laws.{IsPrimitive}
+use Rattle.kr_wire.specs.Reading.{◌>>=◌, Read}
 use Rattle.kr_wire.specs.Grammar.{◌⌢◌}
-
-abbrev pub IsBytes : List ℕ → Type 0
-IsBytes bytes = (i : ℕ) → get_or bytes i 0 < 256
 
 pub IsBytes-behind : (front rest bytes : List ℕ) → bytes ≡ front ++ rest → IsBytes bytes → IsBytes rest
 IsBytes-behind front rest bytes parts fits i =
@@ -20,20 +19,6 @@ IsBytes-before front rest bytes parts fits i = elim (cases_lt i (length front)) 
       rw get_or_append_left at h
   | inr le ↦ rw (get_or_past front i 0 le) (lit< tt)
 ]
-
--- some front, and the rest behind it
-pub record Front (Is : List ℕ → Type 0) (bytes rest : List ℕ) : Type 0 where
-  pub front : List ℕ
-  pub parts : bytes ≡ front ++ rest
-  pub holds : Is front
-
--- the values that are read have a front that stands for them
-abbrev pub Yields : {Y E : Type 0} → (Y → List ℕ → Type 0) → List ℕ → Result (Y × List ℕ) E → Type 0
-Yields {Y} Is bytes read = (y : Y) (rest : List ℕ) → read ≡ Ok (y, rest) → Front (Is y) bytes rest
-
-pub record Law {X E : Type 0} (Is : X → List ℕ → Type 0) (read : List ℕ → Result (X × List ℕ) E) : Type 0 where
-  pub sound : (bytes : List ℕ) → IsBytes bytes → Yields Is bytes (read bytes)
-  pub complete : (x : X) (front rest : List ℕ) → Is x front → read (front ++ rest) ≡ Ok (x, rest)
 
 -- ---- Ok and its parts
 
@@ -191,3 +176,13 @@ module _ {X E : Type 0} {Is : X → List ℕ → Type 0} {read : List ℕ → Re
 
   pub one_value : (x y : X) (bytes : List ℕ) → Is x bytes → Is y bytes → x ≡ y
   one_value x y bytes is other = (one_form x y bytes bytes [] [] is other refl).0
+
+-- a primitive, from its law and its written form
+pub primitive : {X : Type 0} {Is : X → List ℕ → Type 0} {read : List ℕ → Read X} (law : Law Is read) (write : X → List ℕ) (Fits : X → Type 0)
+    → ((x : X) → Fits x → Is x (write x)) → IsPrimitive Is read write Fits
+primitive law write Fits stands = record {
+  law = law;
+  one = one_value law;
+  stands = stands;
+  again = λ x rest fits. law.complete x (write x) rest (stands x fits);
+}

@@ -1,5 +1,5 @@
 -- Reading from the front of some bytes: the value and the bytes after it, or the first fault.
-use Rattle.std.specs.Prelude.{◌≡◌, ℕ, ℤ, zero, suc, ◌+◌, ◌-◌, ◌*◌, ◌^◌, ◌≤◌, Bool, false, not, List, [], ◌∷◌, length, take, drop, Option, Some, None, Result, Ok, Err, ◌==◌, nat_lt, nat_le, if◌then◌else◌, MatchResult, cond}
+use Rattle.std.specs.Prelude.{◌≡◌, ℕ, ℤ, pos, negsuc, zero, suc, ◌+◌, ◌-◌, ◌*◌, ◌/◌, ◌%◌, ◌^◌, ◌≤◌, Bool, false, not, List, [], ◌∷◌, length, take, drop, Option, Some, None, Result, Ok, Err, ◌==◌, nat_lt, nat_le, if◌then◌else◌, MatchResult, cond}
 use Rattle.std.specs.Int.{Width, w8, w64, byte_len, from_be_bytes, cast_signed}
 use Rattle.std.specs.Str.{is_utf8}
 use Rattle.kr_wire.specs.declared.WireFault.{WireFault}
@@ -73,6 +73,24 @@ varint_at top room (b ∷ bytes) =
 -- at most five bytes, for 32 bits
 unfoldable pub uvarint_at : List ℕ → Read ℕ
 uvarint_at bytes = varint_at 15 3 bytes
+
+-- at most ten bytes, for 64 bits
+unfoldable pub uvarlong_at : List ℕ → Read ℕ
+uvarlong_at bytes = varint_at 1 8 bytes
+
+-- the number that zigzag writes so
+abbrev pub unzigzag : ℕ → ℤ
+unzigzag n = if n % 2 == 0 then pos (n / 2) else negsuc (n / 2)
+
+unfoldable pub varint32_at : List ℕ → Read ℤ
+varint32_at bytes = do
+  n ← uvarint_at bytes
+  Ok (unzigzag n.0, n.1)
+
+unfoldable pub varint64_at : List ℕ → Read ℤ
+varint64_at bytes = do
+  n ← uvarlong_at bytes
+  Ok (unzigzag n.0, n.1)
 
 -- ---- texts
 

@@ -5,7 +5,7 @@ ghost use Rattle.std.specs.Int.{w8, w16, w32, w64};
 ghost use Rattle.std.specs.Option.{option_map};
 ghost use Rattle.std.specs.Str.{is_utf8};
 ghost use Rattle.kr_wire.specs.Reading;
-ghost use Rattle.kr_wire.specs.Reading.{Reads, bool_at, count_at, count_or_null_at, fields_at, groups_at, id_at, none_known, number_at, piece_at, room_at, signed_at, tag_at, tags_at, text_at, text_or_null_at, utf8_at, uvarint_at};
+ghost use Rattle.kr_wire.specs.Reading.{Reads, bool_at, count_at, count_or_null_at, fields_at, groups_at, id_at, none_known, number_at, piece_at, room_at, signed_at, tag_at, tags_at, text_at, text_or_null_at, utf8_at, uvarint_at, uvarlong_at, varint32_at, varint64_at, varint_at};
 
 use crate::WireFault;
 
@@ -39,20 +39,75 @@ fn read_groups(bytes: &[u8], at: usize, top: u8, room: u8) -> Result<(u64, usize
     Ok((u64::from(byte - 128) + 128 * high, next))
 }
 
-#[tactic(auto, unfolding(crate::specs::Reading::uvarint_at))]
-pub fn read_uvarint(bytes: &[u8], at: usize) -> Result<(u32, usize), WireFault>
-    requires { at ≤ length bytes.now }
-    ensures { Reads (λ n. n) result bytes.now (uvarint_at (drop at bytes.now)) }
+// A number in groups of seven bits, the low groups first.
+fn read_number(bytes: &[u8], at: usize, top: u8, room: u8) -> Result<(u64, usize), WireFault>
+    requires start { at ≤ length bytes.now }
+    requires small { room ≤ 8 }
+    requires low { top ≤ 15 }
+    requires fits { (top + 1) * 128 ^ (room + 1) ≤ 2 ^ 64 }
+    ensures read { Reads (λ n. n) result bytes.now (varint_at top room (drop at bytes.now)) }
+    ensures bound { IfOk result (λ x. x.0 < (top + 1) * 128 ^ (room + 1)) }
 {
     if at == bytes.len() {
         return Err(WireFault::Short);
     }
     let byte = bytes[at];
     if byte < 128 {
-        return Ok((u32::from(byte), at + 1));
+        return Ok((u64::from(byte), at + 1));
     }
-    let (high, next) = read_groups(bytes, at + 1, 15, 3)?;
-    Ok((u32::from(byte - 128) + 128 * (high as u32), next))
+    let (high, next) = read_groups(bytes, at + 1, top, room)?;
+    Ok((u64::from(byte - 128) + 128 * high, next))
+}
+
+#[tactic(auto, unfolding(crate::specs::Reading::uvarint_at))]
+pub fn read_uvarint(bytes: &[u8], at: usize) -> Result<(u32, usize), WireFault>
+    requires { at ≤ length bytes.now }
+    ensures { Reads (λ n. n) result bytes.now (uvarint_at (drop at bytes.now)) }
+{
+    let (number, next) = read_number(bytes, at, 15, 3)?;
+    Ok((number as u32, next))
+}
+
+#[tactic(auto, unfolding(crate::specs::Reading::uvarlong_at))]
+fn read_uvarlong(bytes: &[u8], at: usize) -> Result<(u64, usize), WireFault>
+    requires { at ≤ length bytes.now }
+    ensures { Reads (λ n. n) result bytes.now (uvarlong_at (drop at bytes.now)) }
+{
+    read_number(bytes, at, 1, 8)
+}
+
+fn unzigzag(number: u64) -> i64
+    ensures { result ≡ Reading.unzigzag number }
+{
+    let half = (number / 2) as i64;
+    if number % 2 == 0 { half } else { -half - 1 }
+}
+
+fn short_unzigzag(number: u32) -> i32
+    ensures { result ≡ Reading.unzigzag number }
+{
+    let half = (number / 2) as i32;
+    if number % 2 == 0 { half } else { -half - 1 }
+}
+
+/// A number with a sign, of 32 bits.
+#[tactic(auto, unfolding(crate::specs::Reading::varint32_at))]
+pub fn read_varint(bytes: &[u8], at: usize) -> Result<(i32, usize), WireFault>
+    requires { at ≤ length bytes.now }
+    ensures { Reads (λ n. n) result bytes.now (varint32_at (drop at bytes.now)) }
+{
+    let (number, next) = read_uvarint(bytes, at)?;
+    Ok((short_unzigzag(number), next))
+}
+
+/// A number with a sign, of 64 bits.
+#[tactic(auto, unfolding(crate::specs::Reading::varint64_at))]
+pub fn read_varlong(bytes: &[u8], at: usize) -> Result<(i64, usize), WireFault>
+    requires { at ≤ length bytes.now }
+    ensures { Reads (λ n. n) result bytes.now (varint64_at (drop at bytes.now)) }
+{
+    let (number, next) = read_uvarlong(bytes, at)?;
+    Ok((unzigzag(number), next))
 }
 
 // So many bytes.

@@ -3,8 +3,9 @@
 ghost use Rattle.std.specs.Prelude.{◌≡◌, ◌+◌, ◌^◌, ◌<◌, ◌≤◌, ◌++◌, length, take, OnOk, OnErr, IfSome};
 ghost use Rattle.std.specs.Int.{w8, w16, w32, w64};
 ghost use Rattle.std.specs.Option.{option_map};
+ghost use Rattle.kr_wire.specs.Grammar;
 ghost use Rattle.kr_wire.specs.Spelling;
-ghost use Rattle.kr_wire.specs.Spelling.{bool, groups, id, null, number, signed, tag, text, text_or_null, uvarint};
+ghost use Rattle.kr_wire.specs.Spelling.{bool, groups, id, null, number, signed, tag, text, text_or_null, uvarint, varint32, varint64};
 
 use std::alloc::AllocError;
 
@@ -27,13 +28,50 @@ fn groups_of(value: u64, room: usize) -> ([u8; 10], usize)
     (bytes, len + 1)
 }
 
+fn put_groups(out: &mut Vec<u8>, value: u64, room: usize) -> Result<(), AllocError>
+    requires few { room ≤ 9 }
+    requires fits { value < 128 ^ (room + 1) }
+    ensures ok { OnOk result (out.new.items ≡ out.old.items ++ groups room value) }
+    ensures err { OnErr result (out.new.items ≡ out.old.items) }
+{
+    let (bytes, len) = groups_of(value, room);
+    out.extend_from_slice(&bytes[..len])
+}
+
 #[tactic(auto, unfolding(crate::specs::Spelling::uvarint))]
 pub fn put_uvarint(out: &mut Vec<u8>, value: u32) -> Result<(), AllocError>
     ensures ok { OnOk result (out.new.items ≡ out.old.items ++ uvarint value) }
     ensures err { OnErr result (out.new.items ≡ out.old.items) }
 {
-    let (bytes, len) = groups_of(u64::from(value), 4);
-    out.extend_from_slice(&bytes[..len])
+    put_groups(out, u64::from(value), 4)
+}
+
+fn zigzag(value: i64) -> u64
+    ensures { result ≡ Grammar.zigzag value }
+{
+    if value < 0 {
+        2 * (-(value + 1)) as u64 + 1
+    } else {
+        2 * value as u64
+    }
+}
+
+/// A number with a sign, of 32 bits.
+#[tactic(auto, unfolding(crate::specs::Spelling::varint32))]
+pub fn put_varint(out: &mut Vec<u8>, value: i32) -> Result<(), AllocError>
+    ensures ok { OnOk result (out.new.items ≡ out.old.items ++ varint32 value) }
+    ensures err { OnErr result (out.new.items ≡ out.old.items) }
+{
+    put_groups(out, zigzag(i64::from(value)), 4)
+}
+
+/// A number with a sign, of 64 bits.
+#[tactic(auto, unfolding(crate::specs::Spelling::varint64))]
+pub fn put_varlong(out: &mut Vec<u8>, value: i64) -> Result<(), AllocError>
+    ensures ok { OnOk result (out.new.items ≡ out.old.items ++ varint64 value) }
+    ensures err { OnErr result (out.new.items ≡ out.old.items) }
+{
+    put_groups(out, zigzag(value), 9)
 }
 
 // Both, or neither.

@@ -1,0 +1,28 @@
+-- What joins a relation on whole byte strings, a reading function and a written form: this project's own.
+use Rattle.std.specs.Prelude.{◌≡◌, ℕ, ◌<◌, List, ◌++◌, slice_index, Result, Ok}
+use Rattle.kr_wire.specs.Reading.{Read}
+
+abbrev pub IsBytes : List ℕ → Type 0
+IsBytes bytes = (i : ℕ) → slice_index bytes i < 256
+
+-- some front, and the rest behind it
+pub record Front (Is : List ℕ → Type 0) (bytes rest : List ℕ) : Type 0 where
+  pub front : List ℕ
+  pub parts : bytes ≡ front ++ rest
+  pub holds : Is front
+
+-- the values that are read have a front that stands for them
+abbrev pub Yields : {Y E : Type 0} → (Y → List ℕ → Type 0) → List ℕ → Result (Y × List ℕ) E → Type 0
+Yields {Y} Is bytes read = (y : Y) (rest : List ℕ) → read ≡ Ok (y, rest) → Front (Is y) bytes rest
+
+-- What is read stands for the value, and what stands for a value is read as it, whatever follows.
+pub record Law {X E : Type 0} (Is : X → List ℕ → Type 0) (read : List ℕ → Result (X × List ℕ) E) : Type 0 where
+  pub sound : (bytes : List ℕ) → IsBytes bytes → Yields Is bytes (read bytes)
+  pub complete : (x : X) (front rest : List ℕ) → Is x front → read (front ++ rest) ≡ Ok (x, rest)
+
+-- Bytes stand for one value at most, and what is written for a value that fits stands for it and is read as it.
+pub record IsPrimitive {X : Type 0} (Is : X → List ℕ → Type 0) (read : List ℕ → Read X) (write : X → List ℕ) (Fits : X → Type 0) : Type 0 where
+  pub law : Law Is read
+  pub one : (x y : X) (bytes : List ℕ) → Is x bytes → Is y bytes → x ≡ y
+  pub stands : (x : X) → Fits x → Is x (write x)
+  pub again : (x : X) (rest : List ℕ) → Fits x → read (write x ++ rest) ≡ Ok (x, rest)
