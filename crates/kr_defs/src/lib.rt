@@ -3,6 +3,7 @@
 
 mod broker;
 mod calls;
+mod changing;
 mod copied;
 mod events;
 mod options;
@@ -17,6 +18,7 @@ pub use calls::{
     ConfigResponse, ConfigResponses, IncrementalAlterConfigs, IncrementalAlterConfigsReply, Reply,
     Request,
 };
+pub use changing::{Assignment, Choice, Facts, Mode, Want};
 pub use copied::Copied;
 pub use events::{Event, Output};
 pub use options::Options;
