@@ -1,0 +1,89 @@
+-- What a run of the tool tells: its status, what it took and wrote for each, and the line of notes.
+use Rattle.std.specs.Prelude.{◌≡◌, ℕ, ◌^◌, ◌<◌, ◌⊎◌, List, [], ◌∷◌, ◌++◌, length, Option, IfSome, codes}
+use Rattle.std.specs.Io.KnownBytes.{Consumes, Appends}
+use Rattle.std.specs.Fmt.{decimal}
+use Rattle.kr_base.specs.Written.{AppendsFront}
+use Rattle.kr_defs.specs.declared.options.Options.{Options}
+use Rattle.kr_defs.specs.declared.events.Event.{Event}
+use Rattle.kr_tool.specs.declared.status.Status.{Status}
+use Rattle.kr_tool.specs.declared.status.Status.TheVariants as statuses
+use Rattle.kr_tool.specs.Session.{Progress, HasRead, IsSession, NoFrame, answered}
+use Rattle.kr_tool.specs.Outputs.{written_for}
+
+-- the words that are served: so far one of the tool's four forms
+abbrev pub AreServed : List (List ℕ) → Type 0
+AreServed words = words ≡ codes "session" ∷ []
+
+-- the longest input
+abbrev pub longest : ℕ
+longest = 2 ^ 40
+
+-- one whole session was taken, nothing behind it, and the frames of its outputs were written
+pub record TookWhole (left left' written written' : Option (List ℕ)) : Type 0 where
+  pub options : Options
+  pub events : List Event
+  pub taken : List ℕ
+  pub session : IsSession options events taken
+  pub took : Consumes left left' taken
+  pub wrote : Appends written written' (written_for events)
+
+-- whole frames were taken, and then some bytes that are no whole frame (yet) or one that isn't accepted
+pub record TookPart (left left' : Option (List ℕ)) : Type 0 where
+  pub progress : Progress
+  pub front : List ℕ
+  pub rest : List ℕ
+  pub read : HasRead progress front
+  pub took : Consumes left left' (front ++ rest)
+
+-- a first frame that doesn't stand: before it whole frames in order, at it, however the stream goes on, no frame
+pub record StopsAt (left left' written written' : Option (List ℕ)) (at : ℕ) : Type 0 where
+  pub part : TookPart left left'
+  pub place : at ≡ length part.front
+  pub none : IfSome left (λ stream. (behind : List ℕ) → stream ≡ part.front ++ behind → NoFrame part.progress behind)
+  pub wrote : Appends written written' (answered part.progress)
+
+-- a read failed: the outputs of the events that were taken whole are written
+pub record StopsReading (left left' written written' : Option (List ℕ)) : Type 0 where
+  pub part : TookPart left left'
+  pub wrote : Appends written written' (answered part.progress)
+
+-- so many bytes were taken, and the last frame isn't whole
+pub record TookLongest (left left' written written' : Option (List ℕ)) : Type 0 where
+  pub part : TookPart left left'
+  pub long : length (part.front ++ part.rest) ≡ longest
+  pub none : NoFrame part.progress part.rest
+  pub wrote : Appends written written' (answered part.progress)
+
+-- a write failed or memory ran out: a front of those outputs is written
+pub record StopsWriting (left left' written written' : Option (List ℕ)) : Type 0 where
+  pub part : TookPart left left'
+  pub wrote : AppendsFront written written' (answered part.progress)
+
+-- ---- the notes
+
+abbrev pub line : List ℕ → List ℕ
+line text = text ++ 10 ∷ []
+
+-- the line of a status, none where the job was done
+abbrev pub note_of : Status → List ℕ
+note_of statuses.Done = []
+note_of statuses.Usage = line (codes "usage: kr_tool session | fold | dump | make N")
+note_of (statuses.Malformed at) = line (codes "malformed at " ++ decimal at)
+note_of statuses.ReadFault = line (codes "read fault")
+note_of statuses.WriteFault = line (codes "write fault")
+note_of statuses.NoMemory = line (codes "out of memory")
+note_of statuses.TooLong = line (codes "input too long")
+
+-- ---- where nothing failed
+
+-- a stream that begins with a whole session, shorter than the longest input, is served to its end
+abbrev pub ServesWhole : Option (List ℕ) → Status → Type 0
+ServesWhole left status = IfSome left (λ stream. (options : Options) (events : List Event) (session more : List ℕ) →
+    stream ≡ session ++ more → IsSession options events session → length session < longest →
+    (status ≡ statuses.Done) ⊎ (status ≡ statuses.NoMemory))
+
+-- a stream in which, behind whole frames, no frame stands is refused at that place, if the longest input doesn't end before
+abbrev pub RefusesBroken : Option (List ℕ) → Status → Type 0
+RefusesBroken left status = IfSome left (λ stream. (progress : Progress) (front behind : List ℕ) →
+    stream ≡ front ++ behind → HasRead progress front → NoFrame progress behind →
+    (status ≡ statuses.Malformed (length front)) ⊎ (status ≡ statuses.TooLong) ⊎ (status ≡ statuses.NoMemory))
