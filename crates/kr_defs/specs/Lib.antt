@@ -1,6 +1,17 @@
+pub mod Apply
 pub mod Build
+pub mod Causes
 pub mod Elect
 pub mod Eligible
+pub mod Guard
 pub mod Ids
+pub mod Image
+pub mod Log
+pub mod Map
 pub mod Merge
 pub mod Partition
+pub mod Records
+pub mod Settings
+pub mod Sizes
+pub mod Texts
+pub mod Weight

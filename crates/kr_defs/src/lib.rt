@@ -6,6 +6,8 @@ mod calls;
 mod changing;
 mod copied;
 mod events;
+mod ill;
+pub mod limits;
 mod options;
 mod partition;
 mod record;
@@ -21,6 +23,7 @@ pub use calls::{
 pub use changing::{Assignment, Choice, Facts, Mode, Want};
 pub use copied::Copied;
 pub use events::{Event, Output};
+pub use ill::Ill;
 pub use options::Options;
 pub use partition::{Partition, PartitionChange};
 pub use record::{ConfigKey, Item, Record, Topic};

@@ -1,0 +1,92 @@
+-- An image: what the records of a metadata log say so far (KIP-631), as five finite maps.
+use Rattle.std.specs.Prelude.{ℕ, ◌+◌, ◌≤◌, ℤ, pos, int_lt, Bool, true, not, ◌&&◌, List, [], ◌∷◌, length, All, sum_by, Option, unwrap_or, option_map, is_some, IsTrue, find, ◌==◌, nat_le}
+use Rattle.std.specs.List.{list_any}
+use Rattle.std.specs.Ordering.{int_cmp}
+use Rattle.std.specs.Map.{values_of}
+use Rattle.kr_defs.specs.declared.broker.Broker.{Broker}
+use Rattle.kr_defs.specs.declared.partition.Partition.{Partition}
+use Rattle.kr_defs.specs.declared.record.ConfigKey.{ConfigKey}
+use Rattle.kr_defs.specs.declared.limits.TheConstants.{MOST_BROKERS, MOST_TOPICS, MOST_PARTITIONS, LAST_INDEX, MOST_ENDPOINTS, MOST_RANGES, MOST_REGISTRATION_TEXT, MOST_CONFIG_TEXT, MOST_FEATURES, LONGEST_FEATURE}
+use Rattle.kr_defs.specs.Map as map
+use Rattle.kr_defs.specs.Map.{text_order, partition_order, config_order}
+use Rattle.kr_defs.specs.Partition.{is_natural, is_well_formed}
+use Rattle.kr_defs.specs.Texts.{is_topic_name}
+
+pub record Image : Type 0 where
+  -- by id
+  pub brokers : List (ℤ × Broker)
+  -- from name to id
+  pub topics : List (List ℕ × ℕ)
+  -- by topic id and index
+  pub partitions : List ((ℕ × ℤ) × Partition)
+  -- by type, resource name and key
+  pub configs : List (ConfigKey × List ℕ)
+  -- from name to level
+  pub features : List (List ℕ × ℤ)
+
+-- nothing is registered, created or set
+abbrev pub empty : Image
+empty = record { brokers = []; topics = []; partitions = []; configs = []; features = [] }
+
+-- the name of the topic with this id
+abbrev pub topic_name : List (List ℕ × ℕ) → ℕ → Option (List ℕ)
+topic_name topics id = option_map (λ e. e.0) (find (λ e. e.1 == id) topics)
+
+-- some topic has this id
+abbrev pub has_topic : List (List ℕ × ℕ) → ℕ → Bool
+has_topic topics id = is_some (topic_name topics id)
+
+-- the bytes of text in one registration
+abbrev pub registration_text : Broker → ℕ
+registration_text state =
+    sum_by (λ e. length e.name + length e.host) state.endpoints
+    + sum_by (λ r. length r.name) state.features
+    + length (unwrap_or state.rack [])
+
+-- no limit of one registration is passed
+abbrev pub is_small_registration : Broker → Bool
+is_small_registration state =
+    nat_le (length state.endpoints) MOST_ENDPOINTS && nat_le (length state.features) MOST_RANGES
+    && nat_le (registration_text state) MOST_REGISTRATION_TEXT
+
+-- a broker's id and epoch are not negative
+abbrev pub has_numbers : ℤ → Broker → Bool
+has_numbers id state = is_natural id && is_natural state.epoch
+
+-- 0 to the greatest
+abbrev pub is_index : ℤ → Bool
+is_index index = is_natural index && not (int_lt LAST_INDEX index)
+
+-- the bytes of text of all settings
+abbrev pub config_text : List (ConfigKey × List ℕ) → ℕ
+config_text configs = sum_by (λ e. length e.0.name + length e.0.key + length e.1) configs
+
+-- each id stands once
+abbrev pub are_distinct : List ℕ → Bool
+are_distinct [] = true
+are_distinct (id ∷ ids) = not (list_any (λ other. other == id) ids) && are_distinct ids
+
+-- This project's own: what is true of an image whatever records made it.
+pub record IsValid (image : Image) : Type 0 where
+  pub brokers : map.IsMap int_cmp image.brokers
+  pub topics : map.IsMap text_order image.topics
+  pub partitions : map.IsMap partition_order image.partitions
+  pub configs : map.IsMap config_order image.configs
+  pub features : map.IsMap text_order image.features
+  -- each broker, topic, partition and feature is as it has to be
+  pub numbers : All (λ e. IsTrue (has_numbers e.0 e.1)) image.brokers
+  pub names : All (λ e. IsTrue (is_topic_name e.0)) image.topics
+  pub ids : All (λ e. IsTrue (not (e.1 == 0))) image.topics
+  pub distinct : IsTrue (are_distinct (values_of image.topics))
+  pub owned : All (λ e. IsTrue (has_topic image.topics e.0.0)) image.partitions
+  pub indexes : All (λ e. IsTrue (is_index e.0.1)) image.partitions
+  pub well_formed : All (λ e. IsTrue (is_well_formed e.1)) image.partitions
+  pub levels : All (λ e. IsTrue (int_lt (pos 0) e.1)) image.features
+  -- no limit is passed
+  pub few_brokers : length image.brokers ≤ MOST_BROKERS
+  pub small : All (λ e. IsTrue (is_small_registration e.1)) image.brokers
+  pub few_topics : length image.topics ≤ MOST_TOPICS
+  pub few_partitions : length image.partitions ≤ MOST_PARTITIONS
+  pub little_text : config_text image.configs ≤ MOST_CONFIG_TEXT
+  pub few_features : length image.features ≤ MOST_FEATURES
+  pub short : All (λ e. IsTrue (nat_le (length e.0) LONGEST_FEATURE)) image.features

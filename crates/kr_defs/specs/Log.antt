@@ -1,0 +1,32 @@
+-- KIP-631: the metadata log, and the image at a place of it.
+use Rattle.std.specs.Prelude.{ℕ, ◌+◌, ◌-◌, List, [], ◌∷◌, length, take, Result, Ok, Err}
+use Rattle.kr_defs.specs.declared.record.Item.{Item}
+use Rattle.kr_defs.specs.declared.ill.Ill.{Ill}
+use Rattle.kr_defs.specs.Image.{Image, empty}
+use Rattle.kr_defs.specs.Apply.{apply}
+
+-- the image that a log starts from, the place of its first item, and the items
+pub record Log : Type 0 where
+  pub offset : ℕ
+  pub image : Image
+  pub items : List Item
+
+-- the log of a new cluster
+abbrev pub first : Log
+first = record { offset = 0; image = empty; items = [] }
+
+-- one place above the last item
+abbrev pub tip : Log → ℕ
+tip log = log.offset + length log.items
+
+-- the image after the items, one after the other
+abbrev pub apply_all : Image → List Item → Result Image Ill
+apply_all image [] = Ok image
+apply_all image (item ∷ items) = elim (apply image item) [
+  | Err cause ↦ Err cause
+  | Ok after ↦ apply_all after items
+]
+
+-- the image of the items below the place
+unfoldable pub image_at : Log → ℕ → Result Image Ill
+image_at log place = apply_all log.image (take (place - log.offset) log.items)

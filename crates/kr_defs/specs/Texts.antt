@@ -1,0 +1,53 @@
+-- Names, decimal numbers and lists in text.
+use Rattle.std.specs.Prelude.{ℕ, ◌+◌, ◌-◌, ◌*◌, Bool, not, ◌&&◌, ◌||◌, List, [], ◌∷◌, length, ◌==◌, nat_eq, nat_le, nat_lt, get_or, Option, Some, None, if◌then◌else◌}
+use Rattle.std.specs.List.{list_all, slice_split, join_with_byte}
+use Rattle.std.specs.Cmp.Lexicographic.{pointwise}
+use Rattle.kr_defs.specs.declared.limits.TheConstants.{LONGEST_TOPIC}
+
+-- the same text
+abbrev pub is_text : List ℕ → List ℕ → Bool
+is_text x y = pointwise nat_eq x y
+
+-- `0` to `9`
+abbrev pub is_digit : ℕ → Bool
+is_digit byte = nat_le 48 byte && nat_le byte 57
+
+-- Kafka's topic names: ASCII letters, digits, `.`, `_` and `-`
+abbrev pub is_name_byte : ℕ → Bool
+is_name_byte byte =
+    is_digit byte || (nat_le 65 byte && nat_le byte 90) || (nat_le 97 byte && nat_le byte 122)
+    || byte == 46 || byte == 95 || byte == 45
+
+-- 1 to 249 of these. The key of a setting is one (this project's own rule for keys)
+abbrev pub is_name : List ℕ → Bool
+is_name name = nat_lt 0 (length name) && nat_le (length name) LONGEST_TOPIC && list_all is_name_byte name
+
+-- Kafka's topic names are neither `.` nor `..`
+abbrev pub is_topic_name : List ℕ → Bool
+is_topic_name name = is_name name && not (is_text name (46 ∷ [])) && not (is_text name (46 ∷ 46 ∷ []))
+
+-- ---- decimal numbers (this project's own)
+
+-- the number that these digits spell, behind digits that spell the first number
+abbrev pub number_behind : ℕ → List ℕ → ℕ
+number_behind before [] = before
+number_behind before (digit ∷ digits) = number_behind (before * 10 + (digit - 48)) digits
+
+-- digits without sign or leading zero
+abbrev pub is_decimal : List ℕ → Bool
+is_decimal text = nat_lt 0 (length text) && list_all is_digit text && (length text == 1 || not (get_or text 0 48 == 48))
+
+-- the number up to the greatest that the text spells in decimal
+abbrev pub decimal_up_to : ℕ → List ℕ → Option ℕ
+decimal_up_to greatest text =
+    if is_decimal text && nat_le (number_behind 0 text) greatest then Some (number_behind 0 text) else None
+
+-- ---- lists in one text (Kafka's configuration values of type list)
+
+-- the parts between commas; an empty text has none
+abbrev pub parts : List ℕ → List (List ℕ)
+parts text = if length text == 0 then [] else slice_split (λ byte. byte == 44) text
+
+-- the parts, joined by commas
+abbrev pub joined : List (List ℕ) → List ℕ
+joined = join_with_byte 44

@@ -1,0 +1,67 @@
+//! How much there may be: each limit once, for the definitions and the code.
+
+/// Brokers that are registered.
+pub const MOST_BROKERS: usize = 1000;
+
+/// Topics.
+pub const MOST_TOPICS: usize = 9000;
+
+/// Partitions of all topics.
+pub const MOST_PARTITIONS: usize = 9000;
+
+/// The greatest index of a partition.
+pub const LAST_INDEX: i32 = 8999;
+
+/// Replicas that a request may ask for.
+pub const MOST_TARGETS: usize = 32;
+
+/// Replicas of a partition while it is reassigned.
+pub const MOST_REPLICAS: usize = 64;
+
+/// Endpoints of one registration.
+pub const MOST_ENDPOINTS: usize = 16;
+
+/// Features of one registration.
+pub const MOST_RANGES: usize = 64;
+
+/// Bytes of text in one registration.
+pub const MOST_REGISTRATION_TEXT: usize = 4096;
+
+/// Bytes of text in all settings.
+pub const MOST_CONFIG_TEXT: usize = 4194304;
+
+/// Features that have a level.
+pub const MOST_FEATURES: usize = 1000;
+
+/// Bytes in the name of a feature.
+pub const LONGEST_FEATURE: usize = 249;
+
+/// Bytes in the name of a topic.
+pub const LONGEST_TOPIC: usize = 249;
+
+/// Records of one batch.
+pub const MOST_RECORDS: usize = 10000;
+
+/// Bytes in the values of the records of a batch that this controller writes.
+pub const MOST_VALUE_BYTES: usize = 8000000;
+
+/// Records of each batch of an image, but for the last.
+pub const IMAGE_BATCH: usize = 1000;
+
+/// Bytes of a request message.
+pub const MOST_MESSAGE_BYTES: usize = 8388608;
+
+/// Bytes of a frame that is read, without its size field.
+pub const MOST_FRAME_BYTES: usize = 16777216;
+
+/// The same for a frame that loads an image.
+pub const MOST_LOAD_BYTES: usize = 67108864;
+
+/// Bytes of one session or connection.
+pub const MOST_SESSION_BYTES: u64 = 1099511627776;
+
+/// Places that one seat may pin.
+pub const MOST_PINS: usize = 16;
+
+/// Seats of clients.
+pub const MOST_SEATS: usize = 64;
