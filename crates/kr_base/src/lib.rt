@@ -6,6 +6,8 @@ mod answers;
 mod memory;
 mod outside;
 mod steps;
+#[cfg(test)]
+mod tests;
 
 pub use adapters::{ReadSource, WriteSink};
 pub use answers::{Failed, NoMemory};

@@ -152,6 +152,15 @@ impl MemorySink {
         self.calls
     }
 
+    // Counts a fault.
+    fn fault(&mut self) -> Failed
+        ensures counted { self.new ≡ record self.old { faults = raised self.old.faults } }
+        ensures later { self.old.faults ≤ self.new.faults }
+    {
+        self.faults = self.faults.saturating_add(1);
+        Failed
+    }
+
     // The next put, of so many bytes, is neither listed nor past the room.
     fn takes(&self, size: usize) -> bool
         ensures { result ≡ takes self.now.failing.items self.now.most self.now.calls self.now.room (vec_len self.now.bytes) size }
@@ -183,8 +192,7 @@ impl Sink for MemorySink {
         if self.takes(piece.len()) && self.bytes.extend_from_slice(piece).is_ok() {
             return Ok(());
         }
-        self.faults = self.faults.saturating_add(1);
-        Err(Failed)
+        Err(self.fault())
     }
 
     fn faults(&self) -> u64 {
