@@ -1,12 +1,16 @@
 -- What is written stands for its value.
-use Rattle.std.proofs.Common.{◌≡◌, ℕ, zero, suc, ◌+◌, ◌*◌, ◌/◌, ◌%◌, ◌^◌, ◌<◌, ◌≤◌, inl, inr, List, [], length, refl, sym, arith}
-use Rattle.std.specs.Prelude.{IsUtf8}
-use Rattle.std.specs.Int.{w64, to_be_bytes}
+use Rattle.std.proofs.Common.{◌≡◌, ℕ, zero, suc, ◌+◌, ◌*◌, ◌/◌, ◌%◌, ◌^◌, ◌<◌, ◌≤◌, inl, inr, true, false, List, [], ◌∷◌, ◌++◌, length, append_assoc, Option, Some, None, refl, sym, arith}
+use Rattle.std.specs.Prelude.{ℤ, pos, negsuc, Bool, IsUtf8, FitsSigned, MatchOption}
+use Rattle.std.specs.List.{AllByRecursion, flat_map}
+use Rattle.std.specs.Int.{Width, w8, w16, w32, w64, w128, to_be_bytes}
 use Rattle.std.proofs.lemmas.Bool.{lt-ltb, le-ltb, cases_lt}
-use Rattle.std.proofs.lemmas.Nat.{from_be_bytes-to_be_bytes_8}
+use Rattle.std.proofs.lemmas.Int.{to_z-of_z}
+use Rattle.std.proofs.lemmas.Nat.{from_be_bytes-to_be_bytes_2, from_be_bytes-to_be_bytes_4, from_be_bytes-to_be_bytes_8}
+use Rattle.std.proofs.Math.Facts.{Fits-of_z}
 use Rattle.std.proofs.Math.Nat.{pow-succ'}
-use Rattle.kr_wire.specs.Spelling.{groups, uvarint, text, id, tags}
-use Rattle.kr_wire.specs.Grammar.{IsVarint, IsUvarint, IsNumber, IsId, IsText, NoTags}
+use mir.Val.{bits}
+use Rattle.kr_wire.specs.Spelling.{groups, uvarint, varint32, varint64, number, signed, bool, text, text_or_null, id, list, field, tags}
+use Rattle.kr_wire.specs.Grammar.{◌⌢◌, Exactly, IsVarint, IsUvarint, IsUvarlong, zigzag, IsVarint32, IsVarint64, IsNumber, IsSigned, IsBool, IsId, IsText, IsTextOrNull, Each, IsList, AreRising, IsField, IsTags, NoTags}
 use Rattle.kr_wire.proofs.Laws.{joined}
 use Rattle.kr_wire.proofs.Numbers.{more}
 
@@ -28,8 +32,37 @@ pub uvarint_spelled : (n : ℕ) → n < 2 ^ 32 → IsUvarint n (uvarint n)
 unfolding uvarint
 uvarint_spelled n fits = record { fits = fits; spelled = groups_spelled 4 n (omega arith) }
 
+-- a number with a sign, from its zigzag
+pub varint32_spelled : (z : ℤ) → FitsSigned w32 z → IsVarint32 z (varint32 z)
+unfolding varint32
+varint32_spelled (pos n) fits = let h = fits.sfits in record { fits = omega arith; spelled = groups_spelled 4 (2 * n) (omega arith) }
+varint32_spelled (negsuc n) fits = let h = fits.sfits in record { fits = omega arith; spelled = groups_spelled 4 (2 * n + 1) (omega arith) }
+
+pub varint64_spelled : (z : ℤ) → FitsSigned w64 z → IsVarint64 z (varint64 z)
+unfolding varint64
+varint64_spelled (pos n) fits = let h = fits.sfits in record { fits = omega arith; spelled = groups_spelled 9 (2 * n) (omega arith) }
+varint64_spelled (negsuc n) fits = let h = fits.sfits in record { fits = omega arith; spelled = groups_spelled 9 (2 * n + 1) (omega arith) }
+
+-- up to 64 bits
+pub number_spelled : (w : Width) (n : ℕ) → bits w ≤ 64 → n < 2 ^ bits w → IsNumber w n (number w n)
+unfolding number
+number_spelled w8 n few fits = record { long = refl; spelled = omega arith }
+number_spelled w16 n few fits = record { long = refl; spelled = sym (from_be_bytes-to_be_bytes_2 n fits) }
+number_spelled w32 n few fits = record { long = refl; spelled = sym (from_be_bytes-to_be_bytes_4 n fits) }
+number_spelled w64 n few fits = record { long = refl; spelled = sym (from_be_bytes-to_be_bytes_8 n fits) }
+number_spelled w128 n few fits = absurd (omega arith)
+
+pub signed_spelled : (w : Width) (z : ℤ) → bits w ≤ 64 → FitsSigned w z → IsSigned w z (signed w z)
+unfolding signed number
+signed_spelled w z few fits = record { bits = _; signed = sym (to_z-of_z w z fits); spelled = number_spelled w _ few (Fits-of_z fits).fits }
+
+pub bool_spelled : (b : Bool) → IsBool b (bool b)
+bool_spelled true = record { byte = 1; is = refl; spelled = record { long = refl; spelled = refl } }
+bool_spelled false = record { byte = 0; is = refl; spelled = record { long = refl; spelled = refl } }
+
 wide_spelled : (n : ℕ) → n < 2 ^ 64 → IsNumber w64 n (to_be_bytes w64 n)
-wide_spelled n fits = record { long = refl; spelled = sym (from_be_bytes-to_be_bytes_8 n fits) }
+unfolding number
+wide_spelled n fits = number_spelled w64 n (omega arith) fits
 
 pub id_spelled : (n : ℕ) → n < 2 ^ 128 → IsId n (id n)
 unfolding id
@@ -45,3 +78,34 @@ text_spelled bytes utf8 short = record { utf8 = utf8; spelled = joined _ _ (uvar
 
 pub no_tags_spelled : NoTags (tags [])
 no_tags_spelled = record { fields = []; rising = tt; holds = tt; spelled = joined _ _ (uvarint_spelled 0 (omega arith)) refl }
+
+pub text_or_null_spelled : (o : Option (List ℕ)) → MatchOption o (Unit {0}) (λ text. IsUtf8 text × (length text < 2 ^ 31)) → IsTextOrNull o (text_or_null o)
+text_or_null_spelled None fits = uvarint_spelled 0 (omega arith)
+text_or_null_spelled (Some bytes) fits = text_spelled bytes fits.0 fits.1
+
+-- ---- lists and tagged fields
+
+pub each_spelled : {X : Type 0} (One : X → List ℕ → Type 0) (one : X → List ℕ) (xs : List X) → AllByRecursion (λ x. One x (one x)) xs → Each One xs (flat_map one xs)
+each_spelled One one [] stand = refl
+each_spelled One one (x ∷ xs) stand = joined _ _ stand.0 (each_spelled One one xs stand.1)
+
+pub list_spelled : {X : Type 0} (One : X → List ℕ → Type 0) (one : X → List ℕ) (xs : List X) → length xs < 2 ^ 31 → AllByRecursion (λ x. One x (one x)) xs → IsList One xs (list one xs)
+list_spelled One one xs short stand = joined _ _ (uvarint_spelled (length xs + 1) (omega arith)) (each_spelled One one xs stand)
+
+-- a tag and a size that fit
+abbrev pub IsShortField : ℕ × List ℕ → Type 0
+IsShortField f = (f.0 < 2 ^ 32) × (length f.1 < 2 ^ 32)
+
+fields_spelled : (fields : List (ℕ × List ℕ)) → AllByRecursion IsShortField fields → AllByRecursion (λ f. IsField f (field f)) fields
+fields_spelled [] short = tt
+fields_spelled (f ∷ fields) short =
+    (rw append_assoc (joined _ _ (uvarint_spelled f.0 short.0.0) (joined _ _ (uvarint_spelled (length f.1) short.0.1) refl)), fields_spelled fields short.1)
+
+pub tags_spelled : (Holds : List (ℕ × List ℕ) → Type 0) (fields : List (ℕ × List ℕ)) → AreRising None fields → Holds fields → length fields < 2 ^ 32 → AllByRecursion IsShortField fields
+    → IsTags Holds (tags fields)
+tags_spelled Holds fields rising holds few short = record {
+  fields = fields;
+  rising = rising;
+  holds = holds;
+  spelled = joined _ _ (uvarint_spelled (length fields) few) (each_spelled IsField field fields (fields_spelled fields short));
+}

@@ -1,5 +1,6 @@
 -- What joins a relation on whole byte strings, a reading function and a written form: this project's own.
-use Rattle.std.specs.Prelude.{◌≡◌, ℕ, ◌<◌, List, ◌++◌, slice_index, Result, Ok}
+use Rattle.std.specs.Prelude.{◌≡◌, ℕ, ◌^◌, ◌<◌, List, ◌++◌, length, slice_index, Option, MatchOption, Result, Ok, IsUtf8}
+use Rattle.std.specs.List.{AllByRecursion}
 use Rattle.kr_wire.specs.Reading.{Read}
 
 abbrev pub IsBytes : List ℕ → Type 0
@@ -26,3 +27,17 @@ pub record IsPrimitive {X : Type 0} (Is : X → List ℕ → Type 0) (read : Lis
   pub one : (x y : X) (bytes : List ℕ) → Is x bytes → Is y bytes → x ≡ y
   pub stands : (x : X) → Fits x → Is x (write x)
   pub again : (x : X) (rest : List ℕ) → Fits x → read (write x ++ rest) ≡ Ok (x, rest)
+
+-- ---- what is written of every value that fits
+
+abbrev pub IsShortText : List ℕ → Type 0
+IsShortText text = IsUtf8 text × (length text < 2 ^ 31)
+
+abbrev pub IsShortTextOrNull : Option (List ℕ) → Type 0
+IsShortTextOrNull o = MatchOption o (Unit {0}) IsShortText
+
+abbrev pub IsShortList : {X : Type 0} → (X → Type 0) → List X → Type 0
+IsShortList Fits xs = (length xs < 2 ^ 31) × AllByRecursion Fits xs
+
+abbrev pub IsShortListOrNull : {X : Type 0} → (X → Type 0) → Option (List X) → Type 0
+IsShortListOrNull Fits o = MatchOption o (Unit {0}) (IsShortList Fits)

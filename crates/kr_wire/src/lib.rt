@@ -5,6 +5,7 @@
 #![tactic(auto)]
 
 mod reading;
+pub mod theorems;
 mod writing;
 
 pub use reading::{
