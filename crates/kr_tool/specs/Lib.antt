@@ -6,3 +6,4 @@ pub mod Batches
 pub mod Outputs
 pub mod Session
 pub mod Told
+pub mod Taken
