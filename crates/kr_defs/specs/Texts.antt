@@ -1,5 +1,5 @@
 -- Names, decimal numbers and lists in text.
-use Rattle.std.specs.Prelude.{ℕ, ◌+◌, ◌-◌, ◌*◌, Bool, not, ◌&&◌, ◌||◌, List, [], ◌∷◌, length, ◌==◌, nat_eq, nat_le, nat_lt, get_or, Option, Some, None, if◌then◌else◌}
+use Rattle.std.specs.Prelude.{ℕ, ◌+◌, ◌-◌, ◌*◌, Bool, false, not, ◌&&◌, ◌||◌, List, [], ◌∷◌, length, ◌==◌, nat_eq, nat_le, nat_lt, Option, Some, None, if◌then◌else◌}
 use Rattle.std.specs.List.{list_all, slice_split, join_with_byte}
 use Rattle.std.specs.Cmp.Lexicographic.{pointwise}
 use Rattle.kr_defs.specs.declared.limits.TheConstants.{LONGEST_TOPIC}
@@ -12,15 +12,21 @@ is_text x y = pointwise nat_eq x y
 abbrev pub is_digit : ℕ → Bool
 is_digit byte = nat_le 48 byte && nat_le byte 57
 
+-- `A` to `Z` and `a` to `z`
+abbrev pub is_letter : ℕ → Bool
+is_letter byte = (nat_le 65 byte && nat_le byte 90) || (nat_le 97 byte && nat_le byte 122)
+
 -- Kafka's topic names: ASCII letters, digits, `.`, `_` and `-`
 abbrev pub is_name_byte : ℕ → Bool
-is_name_byte byte =
-    is_digit byte || (nat_le 65 byte && nat_le byte 90) || (nat_le 97 byte && nat_le byte 122)
-    || byte == 46 || byte == 95 || byte == 45
+is_name_byte byte = is_digit byte || is_letter byte || byte == 46 || byte == 95 || byte == 45
+
+-- each byte is one of these
+abbrev pub are_name_bytes : List ℕ → Bool
+are_name_bytes name = list_all is_name_byte name
 
 -- 1 to 249 of these. The key of a setting is one (this project's own rule for keys)
 abbrev pub is_name : List ℕ → Bool
-is_name name = nat_lt 0 (length name) && nat_le (length name) LONGEST_TOPIC && list_all is_name_byte name
+is_name name = nat_lt 0 (length name) && nat_le (length name) LONGEST_TOPIC && are_name_bytes name
 
 -- Kafka's topic names are neither `.` nor `..`
 abbrev pub is_topic_name : List ℕ → Bool
@@ -33,9 +39,18 @@ abbrev pub number_behind : ℕ → List ℕ → ℕ
 number_behind before [] = before
 number_behind before (digit ∷ digits) = number_behind (before * 10 + (digit - 48)) digits
 
+-- there is a first digit, which is zero only where it is the only one
+abbrev pub is_led : List ℕ → Bool
+is_led [] = false
+is_led (digit ∷ digits) = not (digit == 48) || length digits == 0
+
+-- each byte is a digit
+abbrev pub are_digits : List ℕ → Bool
+are_digits text = list_all is_digit text
+
 -- digits without sign or leading zero
 abbrev pub is_decimal : List ℕ → Bool
-is_decimal text = nat_lt 0 (length text) && list_all is_digit text && (length text == 1 || not (get_or text 0 48 == 48))
+is_decimal text = is_led text && are_digits text
 
 -- the number up to the greatest that the text spells in decimal
 abbrev pub decimal_up_to : ℕ → List ℕ → Option ℕ

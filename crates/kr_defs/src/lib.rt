@@ -12,7 +12,9 @@ mod options;
 mod partition;
 mod record;
 mod rows;
+mod settings;
 mod text;
+mod texts;
 
 pub use broker::{Broker, Endpoint, Endpoints, Range, Ranges};
 pub use calls::{
@@ -28,4 +30,6 @@ pub use options::Options;
 pub use partition::{Partition, PartitionChange};
 pub use record::{ConfigKey, Item, Record, Topic};
 pub use rows::{Bytes, Ids, Items, Records, Rows, Texts};
+pub use settings::{is_broker_name, read_minimum, read_switch};
 pub use text::Text;
+pub use texts::{decimal_up_to, is_name, is_topic_name};
