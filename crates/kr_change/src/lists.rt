@@ -3,6 +3,7 @@
 ghost use Rattle.std.specs.Prelude.{◌≡◌, IfOk};
 ghost use Rattle.kr_defs.specs.Ids as ids;
 
+use kr_base::NoMemory;
 use kr_defs::Ids;
 use std::alloc::{AllocError, Global};
 
@@ -31,7 +32,7 @@ fn members(alloc: Global, list: &[i32], those: &Ids) -> Result<Vec<i32>, AllocEr
 }
 
 // These but for those.
-pub fn without(alloc: Global, list: &Ids, those: &Ids) -> Result<Ids, AllocError>
+pub fn without(alloc: Global, list: &Ids, those: &Ids) -> Result<Ids, NoMemory>
     ensures { IfOk result (λ left. left ≡ ids.without list.now those.now) }
 {
     let left = others(alloc, list.as_slice(), those)?;
@@ -39,7 +40,7 @@ pub fn without(alloc: Global, list: &Ids, those: &Ids) -> Result<Ids, AllocError
 }
 
 // These that are among those.
-pub fn within(alloc: Global, list: &Ids, those: &Ids) -> Result<Ids, AllocError>
+pub fn within(alloc: Global, list: &Ids, those: &Ids) -> Result<Ids, NoMemory>
     ensures { IfOk result (λ left. left ≡ ids.within list.now those.now) }
 {
     let left = members(alloc, list.as_slice(), those)?;

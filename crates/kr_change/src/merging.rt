@@ -5,17 +5,19 @@ ghost use Rattle.kr_defs.specs.Merge as merges;
 ghost use Rattle.kr_defs.specs.Partition as formed;
 
 use crate::lists::without;
+use kr_base::NoMemory;
 use kr_defs::{Copied, Ids, Partition, PartitionChange};
-use std::alloc::{AllocError, Global};
+use std::alloc::Global;
 
 // The new list where there is one, else the old.
-fn chosen(alloc: Global, new: &Option<Ids>, old: &Ids) -> Result<Ids, AllocError>
+fn chosen(alloc: Global, new: &Option<Ids>, old: &Ids) -> Result<Ids, NoMemory>
     ensures { IfOk result (λ list. list ≡ unwrap_or new.now old.now) }
 {
-    match new {
-        Some(list) => list.copied(alloc),
-        None => old.copied(alloc),
-    }
+    let list = match new {
+        Some(list) => list.copied(alloc)?,
+        None => old.copied(alloc)?,
+    };
+    Ok(list)
 }
 
 fn next_epoch(epoch: i32) -> i32
@@ -40,7 +42,7 @@ pub fn merge(
     alloc: Global,
     partition: &Partition,
     change: &PartitionChange,
-) -> Result<Partition, AllocError>
+) -> Result<Partition, NoMemory>
     ensures { IfOk result (λ after. after ≡ merges.merged partition.now change.now) }
 {
     let replicas = chosen(alloc, &change.replicas, &partition.replicas)?;
@@ -64,7 +66,7 @@ pub fn merge(
 }
 
 /// The replicas that the partition's reassignment leads to: all of them where none runs.
-pub fn target_of(alloc: Global, partition: &Partition) -> Result<Ids, AllocError>
+pub fn target_of(alloc: Global, partition: &Partition) -> Result<Ids, NoMemory>
     ensures { IfOk result (λ list. list ≡ formed.target partition.now) }
 {
     without(alloc, &partition.replicas, &partition.removing)
