@@ -63,12 +63,12 @@ fn sound_candidate(
 }
 
 /// The broker is the one that has restarted uncleanly.
-pub fn has_restarted(restarted: Option<i32>, id: i32) -> bool
-    ensures { result ≡ is_restarted restarted id }
+pub fn has_restarted(restarted: Option<i32>, id: &i32) -> bool
+    ensures { result ≡ is_restarted restarted id.now }
 {
     match restarted {
         None => false,
-        Some(broker) => broker == id,
+        Some(broker) => broker == *id,
     }
 }
 
@@ -85,7 +85,7 @@ fn eligible_candidate(
     replicas.as_slice().iter().copied().find(|id| {
         partition.eligible.contains(id)
             && facts.active.contains(id)
-            && !has_restarted(restarted, *id)
+            && !has_restarted(restarted, id)
     })
 }
 

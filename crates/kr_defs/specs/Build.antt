@@ -1,6 +1,6 @@
 -- The change of a partition that follows from what is asked of it (after KIP-455 and KIP-966; when a
 -- reassignment ends is this project's own).
-use Rattle.std.specs.Prelude.{Bool, true, false, not, ◌&&◌, List, [], ◌∷◌, ◌++◌, ℤ, pos, Option, Some, None, is_none, if◌then◌else◌}
+use Rattle.std.specs.Prelude.{Bool, true, false, not, ◌&&◌, ◌||◌, ◌==◌, length, List, [], ◌∷◌, ℤ, pos, Option, Some, None, is_none, if◌then◌else◌}
 use Rattle.std.specs.Ordering.{int_eq}
 use Rattle.std.specs.Cmp.Lexicographic.{pointwise}
 use Rattle.kr_defs.specs.declared.partition.Partition.{Partition}
@@ -19,10 +19,14 @@ use Rattle.kr_defs.specs.Eligible.{eligible_after}
 abbrev pub is_sensible : Want → Bool
 is_sensible want = are_replicas want.replicas && is_reassignment want.replicas want.adding want.removing && is_recovery want.recovery
 
+-- each replica that the reassignment leads to is in sync
+abbrev pub is_target_in_sync : List ℤ → List ℤ → List ℤ → Bool
+is_target_in_sync replicas removing in_sync = is_within (without replicas removing) in_sync
+
 -- a reassignment runs, and each replica that it leads to is in sync
-abbrev pub completes : List ℤ → List ℤ → List ℤ → List ℤ → Bool
+unfoldable pub completes : List ℤ → List ℤ → List ℤ → List ℤ → Bool
 completes replicas adding removing in_sync =
-    not (pointwise int_eq (adding ++ removing) []) && is_within (without replicas removing) in_sync
+    (not (length adding == 0) || not (length removing == 0)) && is_target_in_sync replicas removing in_sync
 
 -- the lists that are asked for; in sync are the members of the replicas alone, in their order
 abbrev pub asked : Want → Assignment
@@ -117,5 +121,8 @@ is_blank change =
     && (is_none change.replicas && is_none change.removing && is_none change.adding && is_none change.recovery)
 
 -- no change where no field differs
+abbrev pub changed : Partition → Partition → Option PartitionChange
+changed old new = unless (is_blank (difference old new)) (difference old new)
+
 unfoldable pub built : Partition → Want → Facts → Option PartitionChange
-built p want facts = let change = difference p (aimed p want facts) in unless (is_blank change) change
+built p want facts = changed p (aimed p want facts)

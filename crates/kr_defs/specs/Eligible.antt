@@ -9,27 +9,27 @@ use Rattle.kr_defs.specs.Elect.{is_restarted}
 abbrev pub is_enough : List ℤ → List ℤ → ℤ → Bool
 is_enough replicas in_sync minimum = int_le (int_min minimum (pos (length replicas))) (pos (length in_sync))
 
-module _ (p : Partition) (replicas in_sync : List ℤ) (restarted : Option ℤ) where
-  -- it was in sync or eligible, isn't in sync now, and hasn't restarted
-  abbrev pub stays_eligible : ℤ → Bool
-  stays_eligible id = (has p.in_sync id || has p.eligible id) && not (has in_sync id) && not (is_restarted restarted id)
+-- it was in sync or eligible, isn't in sync now, and hasn't restarted uncleanly
+abbrev pub stays_eligible : Partition → List ℤ → Option ℤ → ℤ → Bool
+stays_eligible p in_sync restarted id =
+    (has p.in_sync id || has p.eligible id) && not (has in_sync id) && not (is_restarted restarted id)
 
-  -- it was in sync, eligible or last known
-  abbrev pub was_known : ℤ → Bool
-  was_known id = has p.in_sync id || has p.eligible id || has p.last_known id
+-- it was in sync, eligible or last known
+abbrev pub was_known : Partition → ℤ → Bool
+was_known p id = has p.in_sync id || has p.eligible id || has p.last_known id
 
-  abbrev pub eligible_now : List ℤ
-  eligible_now = filter stays_eligible replicas
+-- it was known, and is now neither in sync nor eligible
+abbrev pub is_last_known : Partition → List ℤ → List ℤ → ℤ → Bool
+is_last_known p in_sync eligible id = was_known p id && not (has in_sync id) && not (has eligible id)
 
-  -- it was known, and is now neither in sync nor eligible
-  abbrev pub is_last_known : List ℤ → ℤ → Bool
-  is_last_known eligible id = was_known id && not (has in_sync id) && not (has eligible id)
+abbrev pub eligible_now : Partition → List ℤ → List ℤ → Option ℤ → List ℤ
+eligible_now p replicas in_sync restarted = filter (λ id. stays_eligible p in_sync restarted id) replicas
 
-  abbrev pub last_known_now : List ℤ
-  last_known_now = filter (is_last_known eligible_now) replicas
+abbrev pub last_known_now : Partition → List ℤ → List ℤ → List ℤ → List ℤ
+last_known_now p replicas in_sync eligible = filter (λ id. is_last_known p in_sync eligible id) replicas
 
--- the eligible and the last known replicas; none where enough are in sync
+-- the eligible and the last known replicas, in the order of the replicas; none where enough are in sync
 unfoldable pub eligible_after : Partition → List ℤ → List ℤ → ℤ → Option ℤ → List ℤ × List ℤ
 eligible_after p replicas in_sync minimum restarted =
-    if is_enough replicas in_sync minimum then ([], [])
-    else (eligible_now p replicas in_sync restarted, last_known_now p replicas in_sync restarted)
+    let eligible = eligible_now p replicas in_sync restarted in
+    if is_enough replicas in_sync minimum then ([], []) else (eligible, last_known_now p replicas in_sync eligible)

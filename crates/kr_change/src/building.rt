@@ -1,0 +1,148 @@
+//! The change of a partition that follows from what is asked of it.
+
+ghost use Rattle.std.specs.Prelude.{◌≡◌, IfOk, IfSome, IsTrue, [], ◌∷◌};
+ghost use Rattle.kr_defs.specs.Build as builds;
+ghost use Rattle.kr_defs.specs.Merge as merges;
+ghost use Rattle.kr_defs.specs.Partition as formed;
+
+use crate::completing::ended;
+use crate::differing::difference;
+use crate::electing::elect;
+use crate::eligible::eligible_after;
+use crate::lists::within;
+use kr_base::NoMemory;
+use kr_defs::{Assignment, Choice, Copied, Facts, Ids, Partition, PartitionChange, Want};
+use std::alloc::Global;
+
+fn asked(alloc: Global, want: &Want) -> Result<Assignment, NoMemory>
+    ensures { IfOk result (λ lists. lists ≡ builds.asked want.now) }
+{
+    let in_sync = within(alloc, &want.replicas, &want.in_sync)?;
+    let replicas = want.replicas.copied(alloc)?;
+    let adding = want.adding.copied(alloc)?;
+    let removing = want.removing.copied(alloc)?;
+    Ok(Assignment {
+        replicas,
+        adding,
+        removing,
+        in_sync,
+    })
+}
+
+fn alone(alloc: Global, leader: i32) -> Result<Ids, NoMemory>
+    ensures { IfOk result (λ ids. ids ≡ leader ∷ []) }
+{
+    let mut ids = Ids::new(alloc);
+    ids.push(leader)?;
+    Ok(ids)
+}
+
+// A leader that wasn't in sync is then alone in sync.
+#[tactic(auto, unfolding(kr_defs::specs::Build::settled))]
+fn settled(
+    alloc: Global,
+    before: Assignment,
+    leader: i32,
+    choice: Choice,
+) -> Result<Assignment, NoMemory>
+    ensures { IfOk result (λ after. after ≡ builds.settled before leader choice) }
+{
+    match choice {
+        Choice::Eligible | Choice::Unclean => {
+            let in_sync = alone(alloc, leader)?;
+            ended(alloc, Assignment { in_sync, ..before })
+        }
+        Choice::InSync | Choice::Nobody => Ok(before),
+    }
+}
+
+#[tactic(auto, unfolding(kr_defs::specs::Build::standing_by))]
+fn standing_by(
+    alloc: Global,
+    partition: &Partition,
+    lists: &Assignment,
+    choice: Choice,
+    minimum: i32,
+    restarted: Option<i32>,
+) -> Result<(Ids, Ids), NoMemory>
+    ensures { IfOk result (λ ids. ids ≡ builds.standing_by partition.now lists.now choice minimum restarted) }
+{
+    match choice {
+        Choice::Unclean => Ok((Ids::new(alloc), Ids::new(alloc))),
+        Choice::InSync | Choice::Eligible | Choice::Nobody => eligible_after(
+            alloc,
+            partition,
+            &lists.replicas,
+            &lists.in_sync,
+            minimum,
+            restarted,
+        ),
+    }
+}
+
+fn recovery_after(choice: Choice, recovery: i8) -> i8
+    ensures { result ≡ builds.recovery_after choice recovery }
+{
+    match choice {
+        Choice::Unclean => 1,
+        Choice::InSync | Choice::Eligible | Choice::Nobody => recovery,
+    }
+}
+
+// The partition that follows, its epochs as before.
+#[tactic(auto, unfolding(kr_defs::specs::Build::aimed))]
+fn aimed(
+    alloc: Global,
+    partition: &Partition,
+    want: &Want,
+    facts: &Facts,
+) -> Result<Partition, NoMemory>
+    ensures { IfOk result (λ after. after ≡ builds.aimed partition.now want.now facts.now) }
+{
+    let lists = asked(alloc, want)?;
+    let before = ended(alloc, lists)?;
+    let (leader, choice) = elect(
+        partition,
+        &before.replicas,
+        &before.in_sync,
+        want.mode,
+        want.restarted,
+        facts,
+    );
+    let after = settled(alloc, before, leader, choice)?;
+    let (eligible, last_known) = standing_by(
+        alloc,
+        partition,
+        &after,
+        choice,
+        facts.minimum,
+        want.restarted,
+    )?;
+    Ok(Partition {
+        replicas: after.replicas,
+        in_sync: after.in_sync,
+        eligible,
+        last_known,
+        adding: after.adding,
+        removing: after.removing,
+        leader,
+        recovery: recovery_after(choice, want.recovery),
+        leader_epoch: partition.leader_epoch,
+        partition_epoch: partition.partition_epoch,
+    })
+}
+
+/// The change that brings a partition to what is asked of it, None where no field differs: a reassignment whose
+/// target is in sync ends, a leader is elected, and the eligible and last known replicas follow.
+#[tactic(auto, unfolding(kr_defs::specs::Build::built))]
+pub fn build(
+    alloc: Global,
+    partition: &Partition,
+    want: &Want,
+    facts: &Facts,
+) -> Result<Option<PartitionChange>, NoMemory>
+    ensures exact { IfOk result (λ change. change ≡ builds.built partition.now want.now facts.now) }
+{
+    let after = aimed(alloc, partition, want, facts)?;
+    Ok(difference(partition, after))
+}
