@@ -5,6 +5,7 @@ pub mod Elect
 pub mod Eligible
 pub mod Guard
 pub mod Ids
+pub mod KeptMaps
 pub mod Image
 pub mod Log
 pub mod Map

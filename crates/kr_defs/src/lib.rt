@@ -7,6 +7,7 @@ mod changing;
 mod copied;
 mod events;
 mod ill;
+pub mod kept_laws;
 pub mod limits;
 mod options;
 mod partition;

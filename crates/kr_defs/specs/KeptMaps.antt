@@ -1,0 +1,70 @@
+-- A map with kept epochs. This project's own.
+use Rattle.std.specs.Prelude.{ℕ, ℤ, List, [], ◌∷◌, ◌++◌, Option, ◌+◌, ◌-◌, ◌^◌, min, not, filter, find, map, All, IsTrue, int_lt}
+use Rattle.std.specs.Option.{option_map}
+use Rattle.std.specs.Ordering.{int_cmp, int_eq}
+use Rattle.std.specs.List.Sorted.{IsStrictlySortedBy}
+use Rattle.std.specs.declared.cmp.Ordering.{Ordering}
+use Rattle.kr_defs.specs.Map as entries
+
+-- a map as it stood at an epoch, and the calls of insert and remove from the mark before up to this one
+pub record Kept (K V : Type 0) : Type 0 where
+  pub epoch : ℤ
+  pub map : List (K × V)
+  pub made : ℕ
+
+-- the maps that are kept, by epoch, and the present one with the calls of insert and remove since the last mark
+pub record KeptMaps (K V : Type 0) : Type 0 where
+  pub kept : List (Kept K V)
+  pub present : List (K × V)
+  pub made : ℕ
+
+-- one call more, of which at most the greatest u64 are counted
+abbrev pub counted : ℕ → ℕ
+counted made = min (made + 1) (2 ^ 64 - 1)
+
+module _ {K V : Type 0} where
+  -- each epoch is above the one before
+  abbrev pub AreRising : List (Kept K V) → Type 0
+  AreRising kept = IsStrictlySortedBy int_cmp (map (λ (k : Kept K V). k.epoch) kept)
+
+  -- above each kept epoch
+  abbrev pub IsAbove : List (Kept K V) → ℤ → Type 0
+  IsAbove kept epoch = All (λ (k : Kept K V). IsTrue (int_lt k.epoch epoch)) kept
+
+  -- the map that is kept under an epoch
+  abbrev pub map_at : KeptMaps K V → ℤ → Option (List (K × V))
+  map_at maps epoch = option_map (λ (k : Kept K V). k.map) (find (λ (k : Kept K V). int_eq k.epoch epoch) maps.kept)
+
+  -- no map is kept, and the present one is empty
+  abbrev pub no_maps : KeptMaps K V
+  no_maps = record { kept = []; present = []; made = 0 }
+
+  -- the present map is kept under the epoch
+  unfoldable pub marked : KeptMaps K V → ℤ → KeptMaps K V
+  marked maps epoch =
+      let present : Kept K V = record { epoch = epoch; map = maps.present; made = maps.made } in
+      record { kept = maps.kept ++ present ∷ []; present = maps.present; made = 0 }
+
+  -- the entries above the epoch are dropped, and its map is the present one
+  unfoldable pub reverted : KeptMaps K V → ℤ → Option (KeptMaps K V)
+  reverted maps epoch =
+      let left : List (Kept K V) = filter (λ (k : Kept K V). not (int_lt epoch k.epoch)) maps.kept in
+      option_map (λ (present : List (K × V)). record { kept = left; present = present; made = 0 }) (map_at maps epoch)
+
+  -- no call counts for the oldest entry
+  abbrev pub oldest_unmade : List (Kept K V) → List (Kept K V)
+  oldest_unmade [] = []
+  oldest_unmade (oldest ∷ kept) = record oldest { made = 0 } ∷ kept
+
+  -- the entries below the epoch are dropped
+  unfoldable pub forgotten : KeptMaps K V → ℤ → KeptMaps K V
+  forgotten maps epoch = record maps { kept = oldest_unmade (filter (λ (k : Kept K V). not (int_lt k.epoch epoch)) maps.kept) }
+
+module _ {K V : Type 0} (order : K → K → Ordering) where
+  -- the key has the value in the present map
+  unfoldable pub inserted : KeptMaps K V → K → V → KeptMaps K V
+  inserted maps key value = record maps { present = entries.insert order maps.present key value; made = counted maps.made }
+
+  -- the key has no value in the present map
+  unfoldable pub removed : KeptMaps K V → K → KeptMaps K V
+  removed maps key = record maps { present = entries.remove order maps.present key; made = counted maps.made }
