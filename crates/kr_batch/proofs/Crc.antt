@@ -1,9 +1,9 @@
 -- Eight steps at once by a table.
-use Rattle.std.proofs.Common.{◌≡◌, ℕ, zero, suc, ◌+◌, ◌*◌, ◌-◌, ◌/◌, ◌%◌, ◌^◌, ◌<◌, ◌≤◌, ◌==◌, List, [], ◌∷◌, length, get_or, refl, sym, ap, ◌∙◌, arith, if◌then◌else◌}
+use Rattle.std.proofs.Common.{◌≡◌, ℕ, zero, suc, ◌+◌, ◌*◌, ◌/◌, ◌%◌, ◌^◌, ◌<◌, ◌==◌, List, [], ◌∷◌, get_or, refl, sym, ap, ◌∙◌, arith, if◌then◌else◌}
 use Rattle.std.specs.Prelude.{bit_and, bit_xor}
 use Rattle.std.specs.Int.Bits.{xor_assoc, xor_self, xor_zero_l, xor_zero_r}
 use Rattle.std.proofs.lemmas.Nat.{xor_comm, xor_shr, xor_mod, xor_block, and_mask}
-use Rattle.std.proofs.Math.Nat.{pow-succ', div-add-mod}
+use Rattle.std.proofs.Math.Nat.{pow-succ'}
 use Rattle.kr_batch.specs.Crc.{bit_step, bit_steps, byte_step, polynomial}
 use Rattle.kr_batch.specs.declared.checksum.TheConstants.{TABLE}
 

@@ -1,1 +1,3 @@
 pub mod Crc
+pub mod Records
+pub mod Sizes

@@ -1,5 +1,5 @@
 -- CRC-32C (Castagnoli), as iSCSI has it (RFC 3720, 12.1) and Kafka's record batches (KIP-98) use it.
-use Rattle.std.specs.Prelude.{ℕ, zero, suc, ◌+◌, ◌/◌, ◌%◌, ◌==◌, List, if◌then◌else◌, bit_xor}
+use Rattle.std.specs.Prelude.{ℕ, zero, suc, ◌/◌, ◌%◌, ◌==◌, List, if◌then◌else◌, bit_xor}
 use Rattle.std.specs.List.{fold}
 
 -- the polynomial, lowest power in the highest bit

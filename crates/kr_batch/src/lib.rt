@@ -2,5 +2,24 @@
 #![tactic(auto)]
 
 mod checksum;
+mod encoding;
+mod value;
 
 pub use checksum::crc32c;
+pub use encoding::encode;
+use kr_defs::Items;
+
+/// Records of consecutive offsets.
+#[derive(Debug, Drop)]
+pub struct Batch {
+    /// The offset of the first record.
+    pub base: i64,
+    /// The epoch of the leader that wrote it.
+    pub epoch: i32,
+    /// The greatest time that the leader had seen, in milliseconds.
+    pub time: i64,
+    pub items: Items,
+}
+
+#[cfg(test)]
+mod tests;

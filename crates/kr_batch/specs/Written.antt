@@ -1,0 +1,67 @@
+-- The bytes that are written for a batch: record batches of magic 2 (KIP-98), in this project's profile.
+use Rattle.std.specs.Prelude.{ℕ, ℤ, pos, negsuc, ◌+◌, ◌-◌, ◌<◌, ◌^◌, List, [], ◌∷◌, ◌++◌, length, IfSome}
+use Rattle.std.specs.List.{sum_by}
+use Rattle.std.specs.Int.{w8, w16, w32, w64}
+use Rattle.kr_wire.specs.Spelling.{number, signed, uvarint, varint32, varint64, text, text_or_null}
+use Rattle.kr_defs.specs.declared.record.Record.TheVariants as kinds
+use Rattle.kr_defs.specs.declared.record.Item.{Item}
+use Rattle.kr_defs.specs.declared.record.Item.TheVariants as items
+use Rattle.kr_batch.specs.Crc.{crc32c}
+use Rattle.kr_batch.specs.declared.Batch.{Batch}
+
+-- the value of a Config record (Kafka's ConfigRecord), behind its frame version 1, key 4 and version 0
+abbrev pub value_bytes : Item → List ℕ
+value_bytes (items.Record (kinds.Config kind name key value)) =
+    uvarint 1 ++ uvarint 4 ++ uvarint 0 ++ signed w8 kind ++ text name ++ text key ++ text_or_null value ++ uvarint 0
+value_bytes _ = []
+
+-- a record that is written: a Config with short texts
+abbrev pub IsWritable : Item → Type 0
+IsWritable (items.Record (kinds.Config kind name key value)) =
+    (length name < 2 ^ 31) × (length key < 2 ^ 31) × IfSome value (λ t. length t < 2 ^ 31)
+IsWritable _ = ⊥
+
+-- the bytes of all values together
+abbrev pub values_size : List Item → ℕ
+values_size items = sum_by (λ i. length (value_bytes i)) items
+
+-- attributes 0, timestamp delta 0, offset delta, no key (-1), the value behind its length, and no headers
+unfoldable pub record_body : ℕ → List ℕ → List ℕ
+record_body delta value =
+    signed w8 (pos 0) ++ varint64 (pos 0) ++ varint32 (pos delta) ++ varint32 (negsuc 0)
+    ++ varint32 (pos (length value)) ++ value ++ varint32 (pos 0)
+
+-- a record's body behind its length
+abbrev pub record_bytes : ℕ → List ℕ → List ℕ
+record_bytes delta value = varint32 (pos (length (record_body delta value))) ++ record_body delta value
+
+-- records, numbered from here on
+unfoldable pub records_bytes : ℕ → List Item → List ℕ
+records_bytes delta [] = []
+records_bytes delta (item ∷ items) = record_bytes delta (value_bytes item) ++ records_bytes (delta + 1) items
+
+-- no producer: its id, epoch and base sequence are -1
+unfoldable pub no_producer : List ℕ
+no_producer = signed w64 (negsuc 0) ++ signed w16 (negsuc 0) ++ signed w32 (negsuc 0)
+
+-- attributes 0, last offset delta, base and max timestamp, no producer, and the count
+unfoldable pub fixed_bytes : ℕ → ℤ → List ℕ
+fixed_bytes count time =
+    signed w16 (pos 0) ++ number w32 (count - 1) ++ signed w64 time ++ signed w64 time ++ no_producer ++ number w32 count
+
+-- what the CRC is over
+unfoldable pub checked_bytes : Batch → List ℕ
+checked_bytes batch = fixed_bytes (length batch.items) batch.time ++ records_bytes 0 batch.items
+
+-- base offset, the size of all that follows, and the leader's epoch
+unfoldable pub start_bytes : ℤ → ℕ → ℤ → List ℕ
+start_bytes base size epoch = signed w64 base ++ number w32 size ++ signed w32 epoch
+
+-- then magic 2 and the CRC
+unfoldable pub head_bytes : ℤ → ℕ → ℤ → ℕ → List ℕ
+head_bytes base size epoch crc = start_bytes base size epoch ++ signed w8 (pos 2) ++ number w32 crc
+
+unfoldable pub batch_bytes : Batch → List ℕ
+batch_bytes batch =
+    let checked = checked_bytes batch in
+    head_bytes batch.base (length checked + 9) batch.epoch (crc32c checked) ++ checked

@@ -1,0 +1,189 @@
+//! Batches to bytes.
+
+ghost use Rattle.std.specs.Prelude.{◌≡◌, pos, ◌+◌, ◌-◌, ◌<◌, ◌≤◌, ◌^◌, ◌++◌, length, OnOk, OnErr, vec_len};
+ghost use Rattle.std.specs.List.{All};
+ghost use Rattle.kr_wire.specs.Spelling.{varint32};
+ghost use Rattle.kr_batch.specs.Written.{IsWritable, batch_bytes, checked_bytes, fixed_bytes, head_bytes, no_producer, record_body, record_bytes, records_bytes, start_bytes, values_size};
+
+use crate::value::put_value;
+use crate::{Batch, crc32c};
+use kr_base::NoMemory;
+use kr_defs::Item;
+use kr_wire::{put_i8, put_i16, put_i32, put_i64, put_u32, put_uvarint, put_varint, put_varlong};
+use std::alloc::AllocError;
+
+/// Appends the batch. Without memory nothing changes.
+#[tactic(auto, unfolding(crate::specs::Written::batch_bytes))]
+pub fn encode(batch: &Batch, out: &mut Vec<u8>) -> Result<(), NoMemory>
+    requires some { 1 ≤ length batch.now.items }
+    requires few { length batch.now.items ≤ 10000 }
+    requires each { All IsWritable batch.now.items }
+    requires small { values_size batch.now.items < 2 ^ 30 }
+    ensures ok { OnOk result (out.new.items ≡ out.old.items ++ batch_bytes batch.now) }
+    ensures err { OnErr result (out.new.items ≡ out.old.items) }
+{
+    let mut checked = Vec::new(*out.allocator());
+    put_checked(batch, &mut checked)?;
+    let mut head = Vec::new(*out.allocator());
+    let size = size_with(batch, &checked);
+    put_head(batch.base, size, batch.epoch, crc32c(&checked), &mut head)?;
+    put_both(out, &head, &checked)?;
+    Ok(())
+}
+
+// Both, or neither.
+fn put_both(out: &mut Vec<u8>, first: &[u8], second: &[u8]) -> Result<(), AllocError>
+    ensures ok { OnOk result (out.new.items ≡ out.old.items ++ (first.now ++ second.now)) }
+    ensures err { OnErr result (out.new.items ≡ out.old.items) }
+{
+    let before = out.len();
+    out.extend_from_slice(first)?;
+    if let Err(refused) = out.extend_from_slice(second) {
+        out.truncate(before);
+        return Err(refused);
+    }
+    Ok(())
+}
+
+// The size of all that follows the size.
+#[tactic(auto, using(crate::proofs::Sizes::checked_length))]
+fn size_with(batch: &Batch, checked: &[u8]) -> u32
+    requires few { length batch.now.items ≤ 10000 }
+    requires small { values_size batch.now.items < 2 ^ 30 }
+    requires checked { checked.now ≡ checked_bytes batch.now }
+    ensures { result ≡ length checked.now + 9 }
+{
+    checked.len() as u32 + 9
+}
+
+// What stands before the bytes that the CRC is over.
+#[tactic(auto, unfolding(crate::specs::Written::head_bytes))]
+fn put_head(base: i64, size: u32, epoch: i32, crc: u32, out: &mut Vec<u8>) -> Result<(), AllocError>
+    ensures { OnOk result (out.new.items ≡ out.old.items ++ head_bytes base size epoch crc) }
+{
+    put_start(base, size, epoch, out)?;
+    put_i8(out, 2)?;
+    put_u32(out, crc)
+}
+
+#[tactic(auto, unfolding(crate::specs::Written::start_bytes))]
+fn put_start(base: i64, size: u32, epoch: i32, out: &mut Vec<u8>) -> Result<(), AllocError>
+    ensures { OnOk result (out.new.items ≡ out.old.items ++ start_bytes base size epoch) }
+{
+    put_i64(out, base)?;
+    put_u32(out, size)?;
+    put_i32(out, epoch)
+}
+
+// What the CRC is over.
+#[tactic(auto, unfolding(crate::specs::Written::checked_bytes))]
+fn put_checked(batch: &Batch, out: &mut Vec<u8>) -> Result<(), AllocError>
+    requires some { 1 ≤ length batch.now.items }
+    requires few { length batch.now.items ≤ 10000 }
+    requires each { All IsWritable batch.now.items }
+    requires small { values_size batch.now.items < 2 ^ 30 }
+    ensures { OnOk result (out.new.items ≡ out.old.items ++ checked_bytes batch.now) }
+{
+    put_fixed(batch.items.len() as u32, batch.time, out)?;
+    put_records(batch.items.as_slice(), out)
+}
+
+#[tactic(auto, unfolding(crate::specs::Written::fixed_bytes))]
+fn put_fixed(count: u32, time: i64, out: &mut Vec<u8>) -> Result<(), AllocError>
+    requires { 1 ≤ count }
+    ensures { OnOk result (out.new.items ≡ out.old.items ++ fixed_bytes count time) }
+{
+    put_i16(out, 0)?;
+    put_u32(out, count - 1)?;
+    put_i64(out, time)?;
+    put_i64(out, time)?;
+    put_no_producer(out)?;
+    put_u32(out, count)
+}
+
+#[tactic(auto, unfolding(crate::specs::Written::no_producer))]
+fn put_no_producer(out: &mut Vec<u8>) -> Result<(), AllocError>
+    ensures { OnOk result (out.new.items ≡ out.old.items ++ no_producer) }
+{
+    put_i64(out, -1)?;
+    put_i16(out, -1)?;
+    put_i32(out, -1)
+}
+
+fn put_records(items: &[Item], out: &mut Vec<u8>) -> Result<(), AllocError>
+    requires few { length items.now ≤ 10000 }
+    requires each { All IsWritable items.now }
+    requires small { values_size items.now < 2 ^ 30 }
+    ensures { OnOk result (out.new.items ≡ out.old.items ++ records_bytes 0 items.now) }
+{
+    let mut value = Vec::new(*out.allocator());
+    for (number, item) in items.iter().enumerate() {
+        value.clear();
+        put_value(item, &mut value)?;
+        put_record(number as u32, &value, out)?;
+    }
+    Ok(())
+}
+
+fn put_record(delta: u32, value: &[u8], out: &mut Vec<u8>) -> Result<(), AllocError>
+    requires delta { delta < 10000 }
+    requires value { length value.now < 2 ^ 30 }
+    ensures { OnOk result (out.new.items ≡ out.old.items ++ record_bytes delta value.now) }
+{
+    put_length(out, body_len(delta, value))?;
+    put_body(delta, value, out)
+}
+
+#[tactic(auto, unfolding(crate::specs::Written::record_body))]
+fn put_body(delta: u32, value: &[u8], out: &mut Vec<u8>) -> Result<(), AllocError>
+    requires delta { delta < 10000 }
+    requires value { length value.now < 2 ^ 30 }
+    ensures { OnOk result (out.new.items ≡ out.old.items ++ record_body delta value.now) }
+{
+    put_i8(out, 0)?;
+    put_varlong(out, 0)?;
+    put_length(out, delta)?;
+    put_varint(out, -1)?;
+    put_length(out, value.len() as u32)?;
+    out.extend_from_slice(value)?;
+    put_varint(out, 0)
+}
+
+// A varint that isn't negative.
+#[tactic(auto, unfolding(kr_wire::specs::Spelling::uvarint, kr_wire::specs::Spelling::varint32))]
+fn put_length(out: &mut Vec<u8>, len: u32) -> Result<(), AllocError>
+    requires { len < 2 ^ 31 }
+    ensures { OnOk result (out.new.items ≡ out.old.items ++ varint32 (pos len)) }
+{
+    put_uvarint(out, 2 * len)
+}
+
+#[tactic(auto, using(crate::proofs::Sizes::body_length))]
+fn body_len(delta: u32, value: &[u8]) -> u32
+    requires delta { delta < 10000 }
+    requires value { length value.now < 2 ^ 30 }
+    ensures size { result ≡ length (record_body delta value.now) }
+    ensures small { result < 2 ^ 31 }
+{
+    let len = value.len() as u32;
+    varint_len(delta) + varint_len(len) + len + 4
+}
+
+// How many bytes a varint has that isn't negative.
+fn varint_len(value: u32) -> u32
+    requires { value < 2 ^ 31 }
+    ensures len { result ≡ length (varint32 (pos value)) }
+    ensures small { result ≤ 5 }
+{
+    if value < 1 << 6 {
+        1
+    } else if value < 1 << 13 {
+        2
+    } else if value < 1 << 20 {
+        3
+    } else if value < 1 << 27 {
+        4
+    } else {
+        5
+    }
+}
