@@ -11,6 +11,7 @@ pub mod Log
 pub mod Map
 pub mod Merge
 pub mod Partition
+pub mod PartitionLaws
 pub mod Records
 pub mod Settings
 pub mod Sizes

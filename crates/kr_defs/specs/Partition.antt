@@ -1,13 +1,10 @@
 -- Partitions: which are well formed (KIP-631's fields; the rules are this project's own).
-use Rattle.std.specs.Prelude.{ℕ, Bool, not, ◌&&◌, ◌||◌, List, length, nat_le, nat_lt, ℤ, pos, negsuc, int_lt}
+use Rattle.std.specs.Prelude.{Bool, not, ◌&&◌, ◌||◌, List, length, nat_le, nat_lt, ℤ, pos, negsuc, int_lt}
 use Rattle.std.specs.Ordering.{int_eq}
 use Rattle.std.specs.List.{list_all}
 use Rattle.kr_defs.specs.declared.partition.Partition.{Partition}
+use Rattle.kr_defs.specs.declared.limits.TheConstants.{MOST_REPLICAS}
 use Rattle.kr_defs.specs.Ids.{has, is_distinct, is_within, are_apart, without}
-
--- the longest replica list, also while a reassignment runs
-abbrev pub most_replicas : ℕ
-most_replicas = 64
 
 -- not below 0
 abbrev pub is_natural : ℤ → Bool
@@ -28,7 +25,7 @@ target p = without p.replicas p.removing
 -- 1 to 64 replicas, each once, none negative
 abbrev pub are_replicas : List ℤ → Bool
 are_replicas replicas =
-    nat_lt 0 (length replicas) && nat_le (length replicas) most_replicas
+    nat_lt 0 (length replicas) && nat_le (length replicas) MOST_REPLICAS
     && is_distinct replicas && list_all is_natural replicas
 
 -- a reassignment adds and removes other replicas, and keeps one before it and one after it

@@ -11,6 +11,7 @@ pub mod kept_laws;
 pub mod limits;
 mod options;
 mod partition;
+mod partition_laws;
 mod record;
 mod rows;
 mod settings;
@@ -29,6 +30,10 @@ pub use events::{Event, Output};
 pub use ill::Ill;
 pub use options::Options;
 pub use partition::{Partition, PartitionChange};
+pub use partition_laws::{
+    built_changes_keep_partitions, clean_elections_keep_records, elections_are_sound,
+    eligible_stand_by,
+};
 pub use record::{ConfigKey, Item, Record, Topic};
 pub use rows::{Bytes, Ids, Items, Records, Rows, Texts};
 pub use settings::{is_broker_name, read_minimum, read_switch};

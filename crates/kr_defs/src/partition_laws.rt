@@ -1,0 +1,24 @@
+//! Laws of elections, of eligible replicas and of changes of partitions. Each function's contract is the law.
+
+ghost use Rattle.kr_defs.specs.PartitionLaws.{ElectionsAreSound, CleanElectionsKeepRecords, EligibleStandBy, BuiltChangesKeepPartitions};
+
+/// Who is elected is an active replica that is in sync, or eligible, or, where unclean election is on or asked for,
+/// any; or -1.
+pub fn elections_are_sound()
+    ensures { ElectionsAreSound }
+{}
+
+/// Where unclean election is neither on nor asked for, only a replica in sync or an eligible one leads.
+pub fn clean_elections_keep_records()
+    ensures { CleanElectionsKeepRecords }
+{}
+
+/// The eligible and the last known replicas are replicas, none is both, and none is in sync.
+pub fn eligible_stand_by()
+    ensures { EligibleStandBy }
+{}
+
+/// A partition stays well formed under the change that is built for it.
+pub fn built_changes_keep_partitions()
+    ensures { BuiltChangesKeepPartitions }
+{}
