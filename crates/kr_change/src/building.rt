@@ -132,9 +132,22 @@ fn aimed(
     })
 }
 
-/// The change that brings a partition to what is asked of it, None where no field differs: a reassignment whose
-/// target is in sync ends, a leader is elected, and the eligible and last known replicas follow.
 #[tactic(auto, unfolding(kr_defs::specs::Build::built))]
+fn change_of(
+    alloc: Global,
+    partition: &Partition,
+    want: &Want,
+    facts: &Facts,
+) -> Result<Option<PartitionChange>, NoMemory>
+    ensures { IfOk result (λ change. change ≡ builds.built partition.now want.now facts.now) }
+{
+    let after = aimed(alloc, partition, want, facts)?;
+    Ok(difference(partition, after))
+}
+
+/// The change that brings a partition to what is asked of it, None where no field differs: a reassignment whose
+/// target is in sync ends, a leader is elected, and the eligible and last known replicas follow. Where the
+/// partition is well formed and what is asked is sensible, it stays well formed under the change.
 pub fn build(
     alloc: Global,
     partition: &Partition,
@@ -142,7 +155,8 @@ pub fn build(
     facts: &Facts,
 ) -> Result<Option<PartitionChange>, NoMemory>
     ensures exact { IfOk result (λ change. change ≡ builds.built partition.now want.now facts.now) }
+    ensures well_formed { IsTrue (formed.is_well_formed partition.now) → IsTrue (builds.is_sensible want.now) →
+        IfOk result (λ built. IfSome built (λ change. IsTrue (formed.is_well_formed (merges.merged partition.now change)))) }
 {
-    let after = aimed(alloc, partition, want, facts)?;
-    Ok(difference(partition, after))
+    change_of(alloc, partition, want, facts)
 }
