@@ -6,6 +6,7 @@ mod calls;
 mod changing;
 mod copied;
 mod events;
+mod forming;
 mod ill;
 pub mod kept_laws;
 pub mod limits;
@@ -27,6 +28,7 @@ pub use calls::{
 pub use changing::{Assignment, Choice, Facts, Mode, Want};
 pub use copied::Copied;
 pub use events::{Event, Output};
+pub use forming::{are_replicas, is_reassignment, is_sensible, is_well_formed};
 pub use ill::Ill;
 pub use options::Options;
 pub use partition::{Partition, PartitionChange};
