@@ -5,13 +5,14 @@ pub mod Elect
 pub mod Eligible
 pub mod Guard
 pub mod Ids
-pub mod KeptMaps
 pub mod Image
+pub mod KeptMaps
 pub mod Log
 pub mod Map
 pub mod Merge
 pub mod Partition
 pub mod PartitionLaws
+pub mod Reassign
 pub mod Records
 pub mod Settings
 pub mod Sizes

@@ -1,6 +1,7 @@
 //! Laws of elections, of eligible replicas and of changes of partitions. Each function's contract is the law.
 
 ghost use Rattle.kr_defs.specs.PartitionLaws.{ElectionsAreSound, CleanElectionsKeepRecords, EligibleStandBy, BuiltChangesKeepPartitions};
+ghost use Rattle.kr_defs.specs.Reassign.{ReassignmentsLeadBothWays};
 
 /// Who is elected is an active replica that is in sync, or eligible, or, where unclean election is on or asked for,
 /// any; or -1.
@@ -21,4 +22,10 @@ pub fn eligible_stand_by()
 /// A partition stays well formed under the change that is built for it.
 pub fn built_changes_keep_partitions()
     ensures { BuiltChangesKeepPartitions }
+{}
+
+/// The lists of a reassignment, without what it removes, are its target; without what it adds, they have the members
+/// of its original; and they are distinct where both are.
+pub fn reassignments_lead_both_ways()
+    ensures { ReassignmentsLeadBothWays }
 {}
