@@ -1,3 +1,5 @@
+pub mod Digits
 pub mod Examples
 pub mod Filled
+pub mod Laws
 pub mod Streams

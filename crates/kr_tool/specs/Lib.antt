@@ -1,5 +1,6 @@
 pub mod Minimum
 pub mod Messages
+pub mod Reading
 pub mod Frames
 pub mod World
 pub mod Batches
@@ -7,3 +8,4 @@ pub mod Outputs
 pub mod Session
 pub mod Told
 pub mod Taken
+pub mod Controller

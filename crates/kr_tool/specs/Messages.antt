@@ -1,6 +1,7 @@
 -- What the bytes of a request message stand for, and how a reply is spelled: Kafka's request header version 2,
 -- its response header version 1, and IncrementalAlterConfigs (key 44) version 1.
-use Rattle.std.specs.Prelude.{◌≡◌, ℕ, ℤ, pos, negsuc, ◌<◌, ◌⊎◌, IsTrue, false, List, [], ◌∷◌, ◌++◌, length, Some, codes, IsUtf8}
+use Rattle.std.specs.Prelude.{◌≡◌, ℕ, ℤ, pos, negsuc, ◌<◌, ◌^◌, ◌⊎◌, IsTrue, false, List, [], ◌∷◌, ◌++◌, length, Some, codes, IsUtf8}
+use Rattle.std.specs.List.{All}
 use Rattle.std.specs.Int.{w8, w16, w32}
 use Rattle.kr_wire.specs.Grammar.{◌⌢◌, Exactly, IsSigned, IsText, IsUvarint}
 use Rattle.kr_wire.specs.Spelling.{signed, text, list, tags, uvarint}
@@ -53,17 +54,22 @@ NoFields = Exactly (0 ∷ [])
 abbrev pub IsHeader : ℤ → List ℕ → Type 0
 IsHeader correlation = IsSigned w16 (pos 44) ⌢ IsSigned w16 (pos 1) ⌢ IsSigned w32 correlation ⌢ IsClientId ⌢ NoFields
 
--- one resource, the broker default, with one setting: set the key to this value. Nothing is validated only.
-abbrev pub IsSettingBody : List ℕ → List ℕ → Type 0
-IsSettingBody value =
-    IsUvarint 2 ⌢ IsSigned w8 (pos 4) ⌢ IsText [] ⌢
-    IsUvarint 2 ⌢ IsText minimum_key ⌢ IsSigned w8 (pos 0) ⌢ IsText value ⌢ NoFields ⌢
-    NoFields ⌢ Exactly (0 ∷ []) ⌢ NoFields
+-- one resource, the broker default: type 4 with the empty name
+abbrev pub IsBrokerDefault : List ℕ → Type 0
+IsBrokerDefault = IsUvarint 2 ⌢ IsSigned w8 (pos 4) ⌢ IsText []
+
+-- one setting: set the key to this value
+abbrev pub IsOperation : List ℕ → List ℕ → Type 0
+IsOperation value = IsUvarint 2 ⌢ IsText minimum_key ⌢ IsSigned w8 (pos 0) ⌢ IsText value ⌢ NoFields
+
+-- no fields of the resource, nothing is validated only, no fields of the request
+abbrev pub IsClosing : List ℕ → Type 0
+IsClosing = NoFields ⌢ Exactly (0 ∷ []) ⌢ NoFields
 
 -- a message that sets it to a value that reads
 pub record IsSetting (correlation : ℤ) (value message : List ℕ) : Type 0 where
   pub reads : IsTrue (is_minimum value)
-  pub spelled : (IsHeader correlation ⌢ IsSettingBody value) message
+  pub spelled : (IsHeader correlation ⌢ IsBrokerDefault ⌢ IsOperation value ⌢ IsClosing) message
 
 -- what every message begins with: its key, its version and its correlation id
 abbrev pub BeginsWith : ℤ → ℤ → ℤ → List ℕ → Type 0
@@ -104,3 +110,8 @@ reply_body (replies.Bare error) = signed w16 error
 -- the response header and the body
 abbrev pub reply_message : ℤ → Reply → List ℕ
 reply_message correlation reply = signed w32 correlation ++ tags [] ++ reply_body reply
+
+-- a reply whose list and texts fit their size fields
+abbrev pub IsWritable : Reply → Type 0
+IsWritable (replies.IncrementalAlterConfigs reply) = (length reply.responses < 2 ^ 31) × All (λ r. length r.name < 2 ^ 31) reply.responses
+IsWritable (replies.Bare error) = Unit {0}

@@ -2,6 +2,9 @@
 #![tactic(auto)]
 
 mod filling;
+mod messages;
+mod minimum;
+mod replies;
 mod status;
 
 ghost use Rattle.std.specs.Prelude.{◌≡◌};

@@ -247,8 +247,8 @@ pub fn read_str_or_null(bytes: &[u8], at: usize) -> Result<(Option<Span>, usize)
     Ok((Some(text), next))
 }
 
-// So many bytes of UTF-8.
-fn read_utf8(bytes: &[u8], start: usize, len: usize) -> Result<(Span, usize), WireFault>
+/// So many bytes of UTF-8.
+pub fn read_utf8(bytes: &[u8], start: usize, len: usize) -> Result<(Span, usize), WireFault>
     requires { start ≤ length bytes.now }
     ensures read { Reads (λ s. slice_range bytes.now s.start s.end) result bytes.now (utf8_at len (drop start bytes.now)) }
     ensures span { IfOk result (λ x. (x.0.start ≤ x.0.end) × (x.0.end ≤ length bytes.now)) }
