@@ -1,0 +1,5 @@
+pub mod Answers
+pub mod Encodable
+pub mod Grammar
+pub mod Reading
+pub mod Spelling

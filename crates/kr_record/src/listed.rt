@@ -1,0 +1,140 @@
+//! Lists and what may be null, to bytes.
+
+ghost use Rattle.std.specs.Prelude.{◌≡◌, ◌++◌, List, ℕ, OnOk, All};
+ghost use Rattle.std.specs.Int.{w8, w16, w32, w64};
+ghost use Rattle.kr_wire.specs.Spelling;
+ghost use Rattle.kr_wire.specs.Spelling.{id, signed, text_or_null};
+ghost use Rattle.kr_record.specs.Encodable.{IsShort, IsShortOrNone, IsShortEndpoint, IsShortRange};
+ghost use Rattle.kr_record.specs.Spelling.{endpoint, no_directories, no_tags, range};
+
+use kr_defs::{Endpoint, Ids, Range, Rows, Text};
+use kr_wire::{
+    put_count, put_i8, put_i16, put_i32, put_i64, put_id, put_null, put_str, put_u16, put_uvarint,
+};
+use std::alloc::AllocError;
+
+/// An element of a list that is written.
+pub trait Spelled {
+    ghost spelling: { Self → List ℕ };
+
+    ghost is_short: { Self → Type 0 };
+
+    fn put(&self, out: &mut Vec<u8>) -> Result<(), AllocError>
+        requires { is_short self.now }
+        ensures { OnOk result (out.new.items ≡ out.old.items ++ spelling self.now) };
+}
+
+impl Spelled for i8 {
+    ghost spelling = { signed w8 };
+
+    ghost is_short = { λ n. Unit {0} };
+
+    fn put(&self, out: &mut Vec<u8>) -> Result<(), AllocError> {
+        put_i8(out, *self)
+    }
+}
+
+impl Spelled for i16 {
+    ghost spelling = { signed w16 };
+
+    ghost is_short = { λ n. Unit {0} };
+
+    fn put(&self, out: &mut Vec<u8>) -> Result<(), AllocError> {
+        put_i16(out, *self)
+    }
+}
+
+impl Spelled for i32 {
+    ghost spelling = { signed w32 };
+
+    ghost is_short = { λ n. Unit {0} };
+
+    fn put(&self, out: &mut Vec<u8>) -> Result<(), AllocError> {
+        put_i32(out, *self)
+    }
+}
+
+impl Spelled for i64 {
+    ghost spelling = { signed w64 };
+
+    ghost is_short = { λ n. Unit {0} };
+
+    fn put(&self, out: &mut Vec<u8>) -> Result<(), AllocError> {
+        put_i64(out, *self)
+    }
+}
+
+impl Spelled for Endpoint {
+    ghost spelling = { endpoint };
+
+    ghost is_short = { IsShortEndpoint };
+
+    #[tactic(auto, unfolding(crate::specs::Spelling::endpoint))]
+    fn put(&self, out: &mut Vec<u8>) -> Result<(), AllocError> {
+        put_str(out, self.name.as_str())?;
+        put_str(out, self.host.as_str())?;
+        put_u16(out, self.port)?;
+        self.protocol.put(out)?;
+        put_no_tags(out)
+    }
+}
+
+impl Spelled for Range {
+    ghost spelling = { range };
+
+    ghost is_short = { IsShortRange };
+
+    #[tactic(auto, unfolding(crate::specs::Spelling::range))]
+    fn put(&self, out: &mut Vec<u8>) -> Result<(), AllocError> {
+        put_str(out, self.name.as_str())?;
+        self.min.put(out)?;
+        self.max.put(out)?;
+        put_no_tags(out)
+    }
+}
+
+/// A list with its count in front.
+pub fn put_list<T: Spelled>(out: &mut Vec<u8>, list: &Rows<T>) -> Result<(), AllocError>
+    requires short { IsShort list.now }
+    requires each { All T.is_short list.now }
+    ensures { OnOk result (out.new.items ≡ out.old.items ++ Spelling.list T.spelling list.now) }
+{
+    let values = list.as_slice();
+    put_count(out, values.len() as u32)?;
+    for value in values {
+        value.put(out)?;
+    }
+    Ok(())
+}
+
+/// One all-zero id per replica.
+pub fn put_directories(out: &mut Vec<u8>, replicas: &Ids) -> Result<(), AllocError>
+    requires { IsShort replicas.now }
+    ensures { OnOk result (out.new.items ≡ out.old.items ++ Spelling.list id (no_directories replicas.now)) }
+{
+    let replicas = replicas.as_slice();
+    put_count(out, replicas.len() as u32)?;
+    for _replica in replicas {
+        put_id(out, 0)?;
+    }
+    Ok(())
+}
+
+/// No tagged fields.
+#[tactic(auto, unfolding(crate::specs::Spelling::no_tags))]
+pub fn put_no_tags(out: &mut Vec<u8>) -> Result<(), AllocError>
+    ensures { OnOk result (out.new.items ≡ out.old.items ++ no_tags) }
+{
+    put_uvarint(out, 0)
+}
+
+/// A text, or null.
+pub fn put_optional_text(out: &mut Vec<u8>, value: &Option<Text>) -> Result<(), AllocError>
+    requires { IsShortOrNone value.now }
+    ensures { OnOk result (out.new.items ≡ out.old.items ++ text_or_null value.now) }
+{
+    match value {
+        None => put_null(out),
+        Some(text) => put_str(out, text.as_str()),
+    }
+}
