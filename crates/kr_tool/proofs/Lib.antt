@@ -3,3 +3,4 @@ pub mod Examples
 pub mod Filled
 pub mod Laws
 pub mod Streams
+pub mod Worlds
