@@ -1,13 +1,13 @@
 -- A reassignment's lists lead to its target and back to its original.
-use Rattle.std.proofs.Common.{◌≡◌, ◌∙◌, sym, ap, refl, subst, ◌⊎◌, inl, inr, Bool, true, false, not, cond, ◌&&◌, ◌||◌, List, [], ◌∷◌, ◌++◌, ℤ}
+use Rattle.std.proofs.Common.{◌≡◌, ◌∙◌, sym, ap, refl, inl, inr, Bool, true, false, not, ◌||◌, List, [], ◌∷◌, ◌++◌, ℤ}
 use Rattle.std.proofs.lemmas.Bool.{and_parts, and_from, or_cases, or_left, or_right, cases_Bool}
 use Rattle.std.proofs.lemmas.List.{append-nil}
 use Rattle.std.proofs.lemmas.List.Elements.{filter-append}
 use Rattle.std.proofs.lemmas.List.Folds.{list_any-append}
-use Rattle.std.specs.Prelude.{filter, IsTrue}
+use Rattle.std.specs.Prelude.{filter}
 use Rattle.std.specs.Ordering.{int_eq}
-use Rattle.kr_defs.specs.Ids.{has, is_distinct, is_within, without}
-use Rattle.kr_defs.specs.Reassign.{reassigned, added, removed, LeadsBothWays, ReassignmentsLeadBothWays}
+use Rattle.kr_defs.specs.Ids.{has, is_distinct, without}
+use Rattle.kr_defs.specs.Reassign.{reassigned, added, removed, ReassignmentsLeadBothWays}
 use Rattle.kr_defs.proofs.IdLists.{refutes, refuted, id_itself, has_before, passes_kept, has_kept, distinct_kept}
 
 -- a filter that each passes keeps all, one that none passes keeps none

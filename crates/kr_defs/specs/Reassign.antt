@@ -1,6 +1,6 @@
 -- KIP-455: the lists of a partition while a reassignment from an original to a target runs.
 use Rattle.std.specs.Prelude.{◌≡◌, ◌++◌, List, ℤ, IsTrue}
-use Rattle.kr_defs.specs.Ids.{has, is_distinct, is_within, without}
+use Rattle.kr_defs.specs.Ids.{has, is_distinct, without}
 
 -- the target, then the members of the original that it hasn't
 abbrev pub reassigned : List ℤ → List ℤ → List ℤ
