@@ -1,6 +1,6 @@
 //! Reading at a place of some bytes.
 
-ghost use Rattle.std.specs.Prelude.{◌≡◌, ◌+◌, ◌-◌, ◌*◌, ◌^◌, ◌<◌, ◌≤◌, length, drop, slice_range, IfOk, IfSome, MatchResult, IsTrue, IsUtf8};
+ghost use Rattle.std.specs.Prelude.{◌≡◌, ◌==◌, false, true, ◌+◌, ◌-◌, ◌*◌, ◌^◌, ◌<◌, ◌≤◌, length, drop, slice_range, IfOk, IfSome, FitsSigned, MatchResult, IsTrue, IsUtf8};
 ghost use Rattle.std.specs.Int.{w8, w16, w32, w64};
 ghost use Rattle.std.specs.Option.{option_map};
 ghost use Rattle.std.specs.Str.{is_utf8};
@@ -9,6 +9,19 @@ ghost use Rattle.kr_wire.specs.Reading.{Reads, bool_at, count_at, count_or_null_
 
 use crate::WireFault;
 
+// The last of several groups, and the place behind it.
+fn last_group(byte: u8, next: usize) -> Result<(u64, usize), WireFault>
+    ensures test { MatchResult result (λ x. (byte == 0) ≡ false) (λ e. ((byte == 0) ≡ true) × (e ≡ WireFault.Overlong)) }
+    ensures value { IfOk result (λ x. x.0 ≡ byte) }
+    ensures next { IfOk result (λ x. x.1 ≡ next) }
+{
+    if byte == 0 {
+        return Err(WireFault::Overlong);
+    }
+    Ok((u64::from(byte), next))
+}
+
+// The groups of seven bits behind the first: with no more room the last is `top` at most.
 fn read_groups(bytes: &[u8], at: usize, top: u8, room: u8) -> Result<(u64, usize), WireFault>
     requires start { at ≤ length bytes.now }
     requires small { room ≤ 8 }
@@ -24,16 +37,10 @@ fn read_groups(bytes: &[u8], at: usize, top: u8, room: u8) -> Result<(u64, usize
         if byte > top {
             return Err(WireFault::TooBig);
         }
-        if byte == 0 {
-            return Err(WireFault::Overlong);
-        }
-        return Ok((u64::from(byte), at + 1));
+        return last_group(byte, at + 1);
     }
     if byte < 128 {
-        if byte == 0 {
-            return Err(WireFault::Overlong);
-        }
-        return Ok((u64::from(byte), at + 1));
+        return last_group(byte, at + 1);
     }
     let (high, next) = read_groups(bytes, at + 1, top, room - 1)?;
     Ok((u64::from(byte - 128) + 128 * high, next))
@@ -59,6 +66,8 @@ fn read_number(bytes: &[u8], at: usize, top: u8, room: u8) -> Result<(u64, usize
     Ok((u64::from(byte - 128) + 128 * high, next))
 }
 
+/// A number of 32 bits in groups of seven, the low groups first, in at most five bytes. The fault is
+/// `Short`, `TooBig` or `Overlong`, whichever is met first.
 #[tactic(auto, unfolding(crate::specs::Reading::uvarint_at))]
 pub fn read_uvarint(bytes: &[u8], at: usize) -> Result<(u32, usize), WireFault>
     requires { at ≤ length bytes.now }
@@ -76,31 +85,27 @@ fn read_uvarlong(bytes: &[u8], at: usize) -> Result<(u64, usize), WireFault>
     read_number(bytes, at, 1, 8)
 }
 
+// The number that zigzag writes so.
 fn unzigzag(number: u64) -> i64
-    ensures { result ≡ Reading.unzigzag number }
+    ensures value { result ≡ Reading.unzigzag number }
+    ensures short { number < 2 ^ 32 → FitsSigned w32 result }
 {
     let half = (number / 2) as i64;
     if number % 2 == 0 { half } else { -half - 1 }
 }
 
-fn short_unzigzag(number: u32) -> i32
-    ensures { result ≡ Reading.unzigzag number }
-{
-    let half = (number / 2) as i32;
-    if number % 2 == 0 { half } else { -half - 1 }
-}
-
-/// A number with a sign, of 32 bits.
+/// A number with a sign in zigzag form, of 32 bits, with the faults of `read_uvarint`.
 #[tactic(auto, unfolding(crate::specs::Reading::varint32_at))]
 pub fn read_varint(bytes: &[u8], at: usize) -> Result<(i32, usize), WireFault>
     requires { at ≤ length bytes.now }
     ensures { Reads (λ n. n) result bytes.now (varint32_at (drop at bytes.now)) }
 {
     let (number, next) = read_uvarint(bytes, at)?;
-    Ok((short_unzigzag(number), next))
+    Ok((unzigzag(u64::from(number)) as i32, next))
 }
 
-/// A number with a sign, of 64 bits.
+/// A number with a sign in zigzag form, of 64 bits, in at most ten bytes, with the faults of
+/// `read_uvarint`.
 #[tactic(auto, unfolding(crate::specs::Reading::varint64_at))]
 pub fn read_varlong(bytes: &[u8], at: usize) -> Result<(i64, usize), WireFault>
     requires { at ≤ length bytes.now }
@@ -131,6 +136,7 @@ fn read_byte(bytes: &[u8], at: usize) -> Result<(u8, usize), WireFault>
     Ok((piece[0], next))
 }
 
+/// Two bytes, high byte first, or `Short`.
 pub fn read_u16(bytes: &[u8], at: usize) -> Result<(u16, usize), WireFault>
     requires { at ≤ length bytes.now }
     ensures { Reads (λ n. n) result bytes.now (number_at w16 (drop at bytes.now)) }
@@ -140,6 +146,7 @@ pub fn read_u16(bytes: &[u8], at: usize) -> Result<(u16, usize), WireFault>
     Ok((number, next))
 }
 
+/// Four bytes, high byte first, or `Short`.
 pub fn read_u32(bytes: &[u8], at: usize) -> Result<(u32, usize), WireFault>
     requires { at ≤ length bytes.now }
     ensures { Reads (λ n. n) result bytes.now (number_at w32 (drop at bytes.now)) }
@@ -149,6 +156,7 @@ pub fn read_u32(bytes: &[u8], at: usize) -> Result<(u32, usize), WireFault>
     Ok((number, next))
 }
 
+/// Eight bytes, high byte first, or `Short`.
 pub fn read_u64(bytes: &[u8], at: usize) -> Result<(u64, usize), WireFault>
     requires { at ≤ length bytes.now }
     ensures { Reads (λ n. n) result bytes.now (number_at w64 (drop at bytes.now)) }
@@ -160,6 +168,7 @@ pub fn read_u64(bytes: &[u8], at: usize) -> Result<(u64, usize), WireFault>
     Ok((number, next))
 }
 
+/// One byte, in two's complement, or `Short`.
 pub fn read_i8(bytes: &[u8], at: usize) -> Result<(i8, usize), WireFault>
     requires { at ≤ length bytes.now }
     ensures { Reads (λ n. n) result bytes.now (signed_at w8 (drop at bytes.now)) }
@@ -168,6 +177,7 @@ pub fn read_i8(bytes: &[u8], at: usize) -> Result<(i8, usize), WireFault>
     Ok((bits.cast_signed(), next))
 }
 
+/// Two bytes, high byte first, in two's complement, or `Short`.
 pub fn read_i16(bytes: &[u8], at: usize) -> Result<(i16, usize), WireFault>
     requires { at ≤ length bytes.now }
     ensures { Reads (λ n. n) result bytes.now (signed_at w16 (drop at bytes.now)) }
@@ -176,6 +186,7 @@ pub fn read_i16(bytes: &[u8], at: usize) -> Result<(i16, usize), WireFault>
     Ok((bits.cast_signed(), next))
 }
 
+/// Four bytes, high byte first, in two's complement, or `Short`.
 pub fn read_i32(bytes: &[u8], at: usize) -> Result<(i32, usize), WireFault>
     requires { at ≤ length bytes.now }
     ensures { Reads (λ n. n) result bytes.now (signed_at w32 (drop at bytes.now)) }
@@ -184,6 +195,7 @@ pub fn read_i32(bytes: &[u8], at: usize) -> Result<(i32, usize), WireFault>
     Ok((bits.cast_signed(), next))
 }
 
+/// Eight bytes, high byte first, in two's complement, or `Short`.
 pub fn read_i64(bytes: &[u8], at: usize) -> Result<(i64, usize), WireFault>
     requires { at ≤ length bytes.now }
     ensures { Reads (λ n. n) result bytes.now (signed_at w64 (drop at bytes.now)) }
@@ -192,6 +204,7 @@ pub fn read_i64(bytes: &[u8], at: usize) -> Result<(i64, usize), WireFault>
     Ok((bits.cast_signed(), next))
 }
 
+/// One byte, of which 0 alone is false, or `Short`.
 pub fn read_bool(bytes: &[u8], at: usize) -> Result<(bool, usize), WireFault>
     requires { at ≤ length bytes.now }
     ensures { Reads (λ b. b) result bytes.now (bool_at (drop at bytes.now)) }
@@ -200,6 +213,7 @@ pub fn read_bool(bytes: &[u8], at: usize) -> Result<(bool, usize), WireFault>
     Ok((byte != 0, next))
 }
 
+/// Sixteen bytes, high byte first, or `Short`.
 #[tactic(auto, unfolding(crate::specs::Reading::id_at))]
 pub fn read_id(bytes: &[u8], at: usize) -> Result<(u128, usize), WireFault>
     requires { at ≤ length bytes.now }
@@ -217,6 +231,8 @@ pub struct Span {
     pub end: usize,
 }
 
+/// A text behind its length plus one, and where its bytes stand. The fault is that of the length,
+/// `BadNull`, `Short` or `BadText`, in this order.
 #[tactic(auto, unfolding(crate::specs::Reading::text_at))]
 pub fn read_str(bytes: &[u8], at: usize) -> Result<(Span, usize), WireFault>
     requires { at ≤ length bytes.now }
@@ -231,7 +247,7 @@ pub fn read_str(bytes: &[u8], at: usize) -> Result<(Span, usize), WireFault>
     read_utf8(bytes, start, (size - 1) as usize)
 }
 
-/// A text, or null.
+/// A text, or null. The fault is that of the length, `Short` or `BadText`, in this order.
 #[tactic(auto, unfolding(crate::specs::Reading::text_or_null_at))]
 pub fn read_str_or_null(bytes: &[u8], at: usize) -> Result<(Option<Span>, usize), WireFault>
     requires { at ≤ length bytes.now }
@@ -239,12 +255,14 @@ pub fn read_str_or_null(bytes: &[u8], at: usize) -> Result<(Option<Span>, usize)
     ensures span { IfOk result (λ x. IfSome x.0 (λ s. (s.start ≤ s.end) × (s.end ≤ length bytes.now))) }
     ensures utf8 { IfOk result (λ x. IfSome x.0 (λ s. IsUtf8 (slice_range bytes.now s.start s.end))) }
 {
-    let (size, start) = read_uvarint(bytes, at)?;
-    if size == 0 {
-        return Ok((None, start));
+    match read_uvarint(bytes, at)? {
+        (0, next) => Ok((None, next)),
+        (size, start) => {
+            let len = (size - 1) as usize;
+            let (text, next) = read_utf8(bytes, start, len)?;
+            Ok((Some(text), next))
+        }
     }
-    let (text, next) = read_utf8(bytes, start, (size - 1) as usize)?;
-    Ok((Some(text), next))
 }
 
 /// So many bytes of UTF-8.
@@ -272,33 +290,35 @@ fn is_text(bytes: &[u8]) -> bool
     }
 }
 
-/// The count of a list, which is no more than the bytes behind it.
+/// The count of a list, written plus one, which is no more than the bytes behind it. The fault is that
+/// of the number, `BadNull` or `Short`, in this order.
 #[tactic(auto, unfolding(crate::specs::Reading::count_at))]
 pub fn read_count(bytes: &[u8], at: usize) -> Result<(u32, usize), WireFault>
     requires { at ≤ length bytes.now }
     ensures read { Reads (λ n. n) result bytes.now (count_at (drop at bytes.now)) }
     ensures room { IfOk result (λ x. x.0 ≤ length bytes.now - x.1) }
 {
-    let (size, next) = read_uvarint(bytes, at)?;
-    if size == 0 {
+    let (count, next) = read_uvarint(bytes, at)?;
+    if count == 0 {
         return Err(WireFault::BadNull);
     }
-    with_room(bytes, next, size - 1)
+    with_room(bytes, next, count - 1)
 }
 
-/// The count of a list, or null.
+/// The count of a list, or null. The fault is that of the number or `Short`.
 #[tactic(auto, unfolding(crate::specs::Reading::count_or_null_at))]
 pub fn read_count_or_null(bytes: &[u8], at: usize) -> Result<(Option<u32>, usize), WireFault>
     requires { at ≤ length bytes.now }
     ensures read { Reads (λ n. n) result bytes.now (count_or_null_at (drop at bytes.now)) }
     ensures room { IfOk result (λ x. IfSome x.0 (λ n. n ≤ length bytes.now - x.1)) }
 {
-    let (size, next) = read_uvarint(bytes, at)?;
-    if size == 0 {
-        return Ok((None, next));
+    match read_uvarint(bytes, at)? {
+        (0, next) => Ok((None, next)),
+        (size, next) => {
+            let (count, next) = with_room(bytes, next, size - 1)?;
+            Ok((Some(count), next))
+        }
     }
-    let (count, next) = with_room(bytes, next, size - 1)?;
-    Ok((Some(count), next))
 }
 
 // The count, where as many bytes are left.
@@ -313,7 +333,7 @@ fn with_room(bytes: &[u8], at: usize, count: u32) -> Result<(u32, usize), WireFa
     Ok((count, at))
 }
 
-/// One tagged field: its number, and the place behind its data.
+/// A tagged field: its number, and the place behind its data.
 #[derive(Clone, Copy, Debug, Drop, PartialEq, Eq)]
 pub struct Tag {
     pub number: u32,
@@ -329,6 +349,9 @@ fn is_falling(last: Option<u32>, number: u32) -> bool
     }
 }
 
+/// The number of a tagged field and the size of its data, and the place of the data. The fault is that
+/// of the number, `BadTag` where it isn't above the last one, that of the size, or `Short` where the data
+/// end behind the bytes.
 pub fn read_tag(bytes: &[u8], at: usize, last: Option<u32>) -> Result<(Tag, usize), WireFault>
     requires { at ≤ length bytes.now }
     ensures read { MatchResult result
@@ -353,6 +376,7 @@ pub fn read_tag(bytes: &[u8], at: usize, last: Option<u32>) -> Result<(Tag, usiz
     ))
 }
 
+/// Tagged fields of which none is known, and the place behind them, or the first fault.
 #[tactic(auto, unfolding(crate::specs::Reading::tags_at))]
 pub fn skip_tags(bytes: &[u8], at: usize) -> Result<usize, WireFault>
     requires { at ≤ length bytes.now }

@@ -28,6 +28,7 @@ fn groups_of(value: u64, room: usize) -> ([u8; 10], usize)
     (bytes, len + 1)
 }
 
+// A number in groups of seven bits, with room for so many before the last.
 fn put_groups(out: &mut Vec<u8>, value: u64, room: usize) -> Result<(), AllocError>
     requires few { room ≤ 9 }
     requires fits { value < 128 ^ (room + 1) }
@@ -38,6 +39,7 @@ fn put_groups(out: &mut Vec<u8>, value: u64, room: usize) -> Result<(), AllocErr
     out.extend_from_slice(&bytes[..len])
 }
 
+/// A number in groups of seven bits, the low groups first, in the fewest bytes.
 #[tactic(auto, unfolding(crate::specs::Spelling::uvarint))]
 pub fn put_uvarint(out: &mut Vec<u8>, value: u32) -> Result<(), AllocError>
     ensures ok { OnOk result (out.new.items ≡ out.old.items ++ uvarint value) }
@@ -46,6 +48,7 @@ pub fn put_uvarint(out: &mut Vec<u8>, value: u32) -> Result<(), AllocError>
     put_groups(out, u64::from(value), 4)
 }
 
+// The number without a sign that stands for this one.
 fn zigzag(value: i64) -> u64
     ensures { result ≡ Grammar.zigzag value }
 {
@@ -56,7 +59,7 @@ fn zigzag(value: i64) -> u64
     }
 }
 
-/// A number with a sign, of 32 bits.
+/// A number with a sign in zigzag form, of 32 bits.
 #[tactic(auto, unfolding(crate::specs::Spelling::varint32))]
 pub fn put_varint(out: &mut Vec<u8>, value: i32) -> Result<(), AllocError>
     ensures ok { OnOk result (out.new.items ≡ out.old.items ++ varint32 value) }
@@ -65,7 +68,7 @@ pub fn put_varint(out: &mut Vec<u8>, value: i32) -> Result<(), AllocError>
     put_groups(out, zigzag(i64::from(value)), 4)
 }
 
-/// A number with a sign, of 64 bits.
+/// A number with a sign in zigzag form, of 64 bits.
 #[tactic(auto, unfolding(crate::specs::Spelling::varint64))]
 pub fn put_varlong(out: &mut Vec<u8>, value: i64) -> Result<(), AllocError>
     ensures ok { OnOk result (out.new.items ≡ out.old.items ++ varint64 value) }
@@ -88,6 +91,7 @@ fn put_both(out: &mut Vec<u8>, first: &[u8], second: &[u8]) -> Result<(), AllocE
     Ok(())
 }
 
+/// Two bytes, high byte first.
 #[tactic(auto, unfolding(crate::specs::Spelling::number))]
 pub fn put_u16(out: &mut Vec<u8>, value: u16) -> Result<(), AllocError>
     ensures ok { OnOk result (out.new.items ≡ out.old.items ++ number w16 value) }
@@ -96,6 +100,7 @@ pub fn put_u16(out: &mut Vec<u8>, value: u16) -> Result<(), AllocError>
     out.extend_from_slice(&value.to_be_bytes())
 }
 
+/// Four bytes, high byte first.
 #[tactic(auto, unfolding(crate::specs::Spelling::number))]
 pub fn put_u32(out: &mut Vec<u8>, value: u32) -> Result<(), AllocError>
     ensures ok { OnOk result (out.new.items ≡ out.old.items ++ number w32 value) }
@@ -104,6 +109,7 @@ pub fn put_u32(out: &mut Vec<u8>, value: u32) -> Result<(), AllocError>
     out.extend_from_slice(&value.to_be_bytes())
 }
 
+/// Eight bytes, high byte first.
 #[tactic(auto, unfolding(crate::specs::Spelling::number))]
 pub fn put_u64(out: &mut Vec<u8>, value: u64) -> Result<(), AllocError>
     ensures ok { OnOk result (out.new.items ≡ out.old.items ++ number w64 value) }
@@ -112,6 +118,7 @@ pub fn put_u64(out: &mut Vec<u8>, value: u64) -> Result<(), AllocError>
     out.extend_from_slice(&value.to_be_bytes())
 }
 
+/// One byte, in two's complement.
 #[tactic(auto, unfolding(crate::specs::Spelling::signed))]
 pub fn put_i8(out: &mut Vec<u8>, value: i8) -> Result<(), AllocError>
     ensures ok { OnOk result (out.new.items ≡ out.old.items ++ signed w8 value) }
@@ -120,6 +127,7 @@ pub fn put_i8(out: &mut Vec<u8>, value: i8) -> Result<(), AllocError>
     out.extend_from_slice(&value.to_be_bytes())
 }
 
+/// Two bytes, high byte first, in two's complement.
 #[tactic(auto, unfolding(crate::specs::Spelling::signed))]
 pub fn put_i16(out: &mut Vec<u8>, value: i16) -> Result<(), AllocError>
     ensures ok { OnOk result (out.new.items ≡ out.old.items ++ signed w16 value) }
@@ -128,6 +136,7 @@ pub fn put_i16(out: &mut Vec<u8>, value: i16) -> Result<(), AllocError>
     out.extend_from_slice(&value.to_be_bytes())
 }
 
+/// Four bytes, high byte first, in two's complement.
 #[tactic(auto, unfolding(crate::specs::Spelling::signed))]
 pub fn put_i32(out: &mut Vec<u8>, value: i32) -> Result<(), AllocError>
     ensures ok { OnOk result (out.new.items ≡ out.old.items ++ signed w32 value) }
@@ -136,6 +145,7 @@ pub fn put_i32(out: &mut Vec<u8>, value: i32) -> Result<(), AllocError>
     out.extend_from_slice(&value.to_be_bytes())
 }
 
+/// Eight bytes, high byte first, in two's complement.
 #[tactic(auto, unfolding(crate::specs::Spelling::signed))]
 pub fn put_i64(out: &mut Vec<u8>, value: i64) -> Result<(), AllocError>
     ensures ok { OnOk result (out.new.items ≡ out.old.items ++ signed w64 value) }
@@ -144,6 +154,7 @@ pub fn put_i64(out: &mut Vec<u8>, value: i64) -> Result<(), AllocError>
     out.extend_from_slice(&value.to_be_bytes())
 }
 
+/// One byte, 1 for true.
 pub fn put_bool(out: &mut Vec<u8>, value: bool) -> Result<(), AllocError>
     ensures ok { OnOk result (out.new.items ≡ out.old.items ++ bool value) }
     ensures err { OnErr result (out.new.items ≡ out.old.items) }
@@ -151,6 +162,7 @@ pub fn put_bool(out: &mut Vec<u8>, value: bool) -> Result<(), AllocError>
     out.extend_from_slice(&[u8::from(value)])
 }
 
+/// Sixteen bytes, high byte first.
 #[tactic(auto, unfolding(crate::specs::Spelling::id))]
 pub fn put_id(out: &mut Vec<u8>, value: u128) -> Result<(), AllocError>
     ensures ok { OnOk result (out.new.items ≡ out.old.items ++ id value) }
@@ -161,6 +173,7 @@ pub fn put_id(out: &mut Vec<u8>, value: u128) -> Result<(), AllocError>
     put_both(out, &high.to_be_bytes(), &low.to_be_bytes())
 }
 
+/// A text behind its length plus one.
 #[tactic(auto, unfolding(crate::specs::Spelling::uvarint))]
 pub fn put_str(out: &mut Vec<u8>, value: &str) -> Result<(), AllocError>
     requires { length value.now < 2 ^ 31 }
@@ -183,7 +196,7 @@ pub fn put_str_or_null(out: &mut Vec<u8>, value: Option<&str>) -> Result<(), All
     }
 }
 
-/// The count of a list.
+/// The count of a list, plus one.
 pub fn put_count(out: &mut Vec<u8>, count: u32) -> Result<(), AllocError>
     requires { count < 2 ^ 31 }
     ensures ok { OnOk result (out.new.items ≡ out.old.items ++ Spelling.count count) }
@@ -192,7 +205,7 @@ pub fn put_count(out: &mut Vec<u8>, count: u32) -> Result<(), AllocError>
     put_uvarint(out, count + 1)
 }
 
-/// What stands for a null, of a text or of a list.
+/// What stands for null, of a text or of a list.
 pub fn put_null(out: &mut Vec<u8>) -> Result<(), AllocError>
     ensures ok { OnOk result (out.new.items ≡ out.old.items ++ null) }
     ensures err { OnErr result (out.new.items ≡ out.old.items) }
@@ -200,7 +213,7 @@ pub fn put_null(out: &mut Vec<u8>) -> Result<(), AllocError>
     put_uvarint(out, 0)
 }
 
-/// The number of a tagged field, and the size of its data.
+/// The number of a tagged field and the size of its data, which are to follow.
 #[tactic(auto, unfolding(crate::specs::Spelling::uvarint))]
 pub fn put_tag(out: &mut Vec<u8>, number: u32, size: u32) -> Result<(), AllocError>
     ensures ok { OnOk result (out.new.items ≡ out.old.items ++ tag number size) }
