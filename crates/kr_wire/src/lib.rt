@@ -5,6 +5,8 @@
 #![tactic(auto)]
 
 mod reading;
+#[cfg(test)]
+mod tests;
 pub mod theorems;
 mod writing;
 
@@ -18,13 +20,25 @@ pub use writing::{
     put_str_or_null, put_tag, put_u16, put_u32, put_u64, put_uvarint, put_varint, put_varlong,
 };
 
-/// Why bytes stand for nothing.
-#[derive(Clone, Copy, Debug, Drop, PartialEq, Eq)]
+/// Why bytes stand for nothing: the first fault that reading meets.
+#[derive(Clone, Copy, Debug, Drop, PartialEq, Eq, thiserror::Error)]
 pub enum WireFault {
+    /// The bytes end before the value does, or fewer are left than a length or a count says.
+    #[error("the bytes end too early")]
     Short,
+    /// A number in groups of seven bits has a last group of 0 that isn't its only one.
+    #[error("a number is longer than it need be")]
     Overlong,
+    /// A number in groups of seven bits doesn't fit its type.
+    #[error("a number is too big")]
     TooBig,
+    /// A tag isn't above the one before it, or the data of a known tag aren't all of its field.
+    #[error("a tagged field is out of order or of the wrong size")]
     BadTag,
+    /// A text isn't UTF-8.
+    #[error("a text isn't UTF-8")]
     BadText,
+    /// A null stands where none is allowed.
+    #[error("a null stands where none is allowed")]
     BadNull,
 }
