@@ -4,3 +4,4 @@ pub mod Filled
 pub mod Laws
 pub mod Streams
 pub mod Worlds
+pub mod BodyLaws

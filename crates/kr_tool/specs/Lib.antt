@@ -9,3 +9,4 @@ pub mod Session
 pub mod Told
 pub mod Taken
 pub mod Controller
+pub mod Bodies

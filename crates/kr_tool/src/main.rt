@@ -1,6 +1,7 @@
 //! The tool: one session of the controller, from standard input to standard output.
 #![tactic(auto)]
 
+mod bodies;
 mod filling;
 mod messages;
 mod minimum;

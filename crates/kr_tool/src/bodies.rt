@@ -1,0 +1,135 @@
+//! The bodies of frames that are read.
+
+ghost use Rattle.std.specs.Prelude.{◌≡◌, ◌≤◌, ◌<◌, [], pos, length, drop, IfOk, OnErr, Ok, Err, MatchResult};
+ghost use Rattle.kr_wire.specs.Reading.{Reads};
+ghost use Rattle.kr_defs.specs.declared.events.Event.{Event as AnyEvent};
+ghost use Rattle.kr_tool.specs.Bodies.{IsLead, IsCommit, time_at, lead_at, commit_at, stamp_at, options_at};
+
+use kr_defs::Event;
+use kr_wire::{WireFault, read_i16, read_i32, read_i64, read_u32, read_u64};
+
+/// Why a body isn't read.
+#[derive(Clone, Copy, Debug, Drop, PartialEq, Eq)]
+pub(crate) enum BodyFault {
+    /// The bytes stand for no value.
+    Misfit,
+    NoMemory,
+}
+
+impl From<WireFault> for BodyFault {
+    ghost use Rattle.std.specs.Prelude.{◌≡◌};
+    ghost use Rattle.kr_tool.specs.declared.bodies.BodyFault.TheVariants.{Misfit};
+
+    ghost from_gives = { λ _ e. e ≡ Misfit };
+
+    fn from(_fault: WireFault) -> BodyFault {
+        BodyFault::Misfit
+    }
+}
+
+// Milliseconds, at least 0.
+#[tactic(auto, unfolding(crate::specs::Bodies::time_at))]
+fn time(bytes: &[u8], at: usize) -> Result<(i64, usize), WireFault>
+    requires { at ≤ length bytes.now }
+    ensures { Reads (λ n. n) result bytes.now (time_at (drop at bytes.now)) }
+{
+    let (now, next) = read_i64(bytes, at)?;
+    if now < 0 {
+        return Err(WireFault::TooBig);
+    }
+    Ok((now, next))
+}
+
+#[tactic(auto, unfolding(crate::specs::Bodies::lead_at))]
+fn read_lead(body: &[u8]) -> Result<(Event, usize), WireFault>
+    ensures { Reads (λ x. x) result body.now (lead_at body.now) }
+{
+    let (epoch, at) = read_i32(body, 0)?;
+    let (next, at) = read_i64(body, at)?;
+    let (now, at) = time(body, at)?;
+    Ok((Event::Lead { epoch, next, now }, at))
+}
+
+#[tactic(auto, unfolding(crate::specs::Bodies::commit_at))]
+fn read_commit(body: &[u8]) -> Result<(Event, usize), WireFault>
+    ensures { Reads (λ x. x) result body.now (commit_at body.now) }
+{
+    let (epoch, at) = read_i32(body, 0)?;
+    let (end, at) = read_i64(body, at)?;
+    Ok((Event::Commit { epoch, end }, at))
+}
+
+// The value, where it was read to the end.
+fn whole(value: Event, at: usize, len: usize) -> Result<Event, BodyFault>
+    ensures { MatchResult result (λ x. (x ≡ value) × (at ≡ len)) (λ e. at ≡ len → ⊥) }
+{
+    if at == len {
+        Ok(value)
+    } else {
+        Err(BodyFault::Misfit)
+    }
+}
+
+/// The event of a Lead frame's body.
+pub(crate) fn lead(body: &[u8]) -> Result<Event, BodyFault>
+    ensures found { IfOk result (λ event. IsLead event body.now) }
+    ensures misfit { OnErr result ((event : AnyEvent) → IsLead event body.now → ⊥) }
+{
+    let (event, at) = read_lead(body)?;
+    whole(event, at, body.len())
+}
+
+/// The event of a Commit frame's body.
+pub(crate) fn commit(body: &[u8]) -> Result<Event, BodyFault>
+    ensures found { IfOk result (λ event. IsCommit event body.now) }
+    ensures misfit { OnErr result ((event : AnyEvent) → IsCommit event body.now → ⊥) }
+{
+    let (event, at) = read_commit(body)?;
+    whole(event, at, body.len())
+}
+
+// The client and the time, before the message.
+#[tactic(auto, unfolding(crate::specs::Bodies::stamp_at))]
+fn read_stamp(body: &[u8]) -> Result<((u32, i64), usize), WireFault>
+    ensures { Reads (λ x. x) result body.now (stamp_at body.now) }
+{
+    let (client, at) = read_u32(body, 0)?;
+    let (now, at) = time(body, at)?;
+    Ok(((client, now), at))
+}
+
+// The settings but for the cluster id, and where that begins.
+#[derive(Clone, Copy, Drop)]
+struct Opening {
+    node: i32,
+    salt: u64,
+    session_ms: u32,
+    partitions: i32,
+    factor: i16,
+    minimum: i32,
+    cluster: usize,
+}
+
+#[tactic(auto, unfolding(crate::specs::Bodies::options_at))]
+fn read_opening(body: &[u8]) -> Result<Opening, WireFault>
+    ensures bound { IfOk result (λ o. o.cluster ≤ length body.now) }
+    ensures read { MatchResult result
+        (λ o. options_at body.now ≡ Ok (record { node = o.node; salt = o.salt; session_ms = o.session_ms; partitions = o.partitions; factor = o.factor; minimum = o.minimum; cluster = drop o.cluster body.now }, []))
+        (λ e. options_at body.now ≡ Err e) }
+{
+    let (node, at) = read_i32(body, 0)?;
+    let (salt, at) = read_u64(body, at)?;
+    let (session_ms, at) = read_u32(body, at)?;
+    let (partitions, at) = read_i32(body, at)?;
+    let (factor, at) = read_i16(body, at)?;
+    let (minimum, cluster) = read_i32(body, at)?;
+    Ok(Opening {
+        node,
+        salt,
+        session_ms,
+        partitions,
+        factor,
+        minimum,
+        cluster,
+    })
+}
