@@ -324,7 +324,7 @@ one_begin k v c k' v' c' message b b' =
     let e = ok_value _ _ _ _ (sym r.1 ∙ r'.1) in
     (ap (λ (p : ℤ × ℤ × ℤ). p.0) e, ap (λ (p : ℤ × ℤ × ℤ). p.1) e, ap (λ (p : ℤ × ℤ × ℤ). p.2) e)
 
-asked_once : (a b : Ask) (message : List ℕ) → IsAsk a message → IsAsk b message → a ≡ b
+pub asked_once : (a b : Ask) (message : List ℕ) → IsAsk a message → IsAsk b message → a ≡ b
 asked_once _ _ message (short _ lt) (short _ lt') = refl
 asked_once _ _ message (short _ lt) (unsupported k v c _ b served) = absurd (no_begin k v c message b lt)
 asked_once _ _ message (short _ lt) (other c _ b none) = absurd (no_begin (pos 44) (pos 1) c message b lt)
