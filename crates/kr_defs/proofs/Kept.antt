@@ -53,6 +53,15 @@ module _ {K V : Type 0} where
     AreRising-push kept k s.1 (All-tail (λ (y : Kept K V). IsTrue (int_lt y.epoch k.epoch)) x kept above),
   )
 
+  below_front : (x : ℤ) (front back : List (Kept K V)) → AllByRecursion (λ z. int_cmp x z ≡ Less) (epochs (front ++ back)) → AllByRecursion (λ z. int_cmp x z ≡ Less) (epochs front)
+  below_front x [] back a = tt
+  below_front x (y ∷ front) back a = (a.0, below_front x front back a.1)
+
+  pub AreRising-front : (front back : List (Kept K V)) → AreRising (front ++ back) → AreRising front
+  unfolding IsStrictlySortedBy
+  AreRising-front [] back s = tt
+  AreRising-front (x ∷ front) back s = (below_front x.epoch front back s.0, AreRising-front front back s.1)
+
   pub AreRising-tail : (k : Kept K V) (kept : List (Kept K V)) → AreRising (k ∷ kept) → AreRising kept
   unfolding IsStrictlySortedBy
   AreRising-tail k kept s = s.1

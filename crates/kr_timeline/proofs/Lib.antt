@@ -1,0 +1,4 @@
+mod Appended
+pub mod Forgets
+pub mod Maps
+pub mod Places

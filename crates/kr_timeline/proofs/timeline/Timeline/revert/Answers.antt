@@ -1,0 +1,10 @@
+use Rattle.std.proofs.Common.{◌≡◌, Some, None, take, w64}
+use Rattle.std.proofs.lemmas.Int.{to_z-of_z}
+use Rattle.kr_defs.specs.KeptMaps.{map_at}
+use Rattle.kr_timeline.specs.Stored.{last_of, entries_of}
+use Rattle.kr_timeline.proofs.timeline.Timeline.revert.Goals as goal
+
+pub returns-clause-no_epoch : goal.returns-clause-no_epoch
+returns-clause-no_epoch g c =
+    let found : map_at c.args.self.now.maps c.args.epoch ≡ Some (entries_of (last_of None (take c.in-Some.count c.self.inside.kept.items))) = rw (← c.self.view_is) (rw (to_z-of_z w64 c.args.epoch c.ranges.epoch) at c.in-Some.ensures.found.found) in
+    (λ h. cc, λ h. cc)
