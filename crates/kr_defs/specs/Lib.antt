@@ -11,6 +11,7 @@ pub mod Log
 pub mod Map
 pub mod Merge
 pub mod Partition
+pub mod Placed
 pub mod PartitionLaws
 pub mod Reassign
 pub mod Records
