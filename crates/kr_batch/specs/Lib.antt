@@ -1,2 +1,4 @@
+pub mod Answers
 pub mod Crc
+pub mod Reading
 pub mod Written

@@ -1,25 +1,24 @@
 -- The bytes that are written for a batch: record batches of magic 2 (KIP-98), in this project's profile.
-use Rattle.std.specs.Prelude.{ℕ, ℤ, pos, negsuc, ◌+◌, ◌-◌, ◌<◌, ◌^◌, List, [], ◌∷◌, ◌++◌, length, IfSome}
+use Rattle.std.specs.Prelude.{ℕ, ℤ, pos, negsuc, ◌+◌, ◌-◌, List, [], ◌∷◌, ◌++◌, length}
 use Rattle.std.specs.List.{sum_by}
 use Rattle.std.specs.Int.{w8, w16, w32, w64}
-use Rattle.kr_wire.specs.Spelling.{number, signed, uvarint, varint32, varint64, text, text_or_null}
-use Rattle.kr_defs.specs.declared.record.Record.TheVariants as kinds
+use Rattle.kr_wire.specs.Spelling.{number, signed, varint32, varint64}
 use Rattle.kr_defs.specs.declared.record.Item.{Item}
 use Rattle.kr_defs.specs.declared.record.Item.TheVariants as items
+use Rattle.kr_record.specs.Encodable.{IsEncodable}
+use Rattle.kr_record.specs.Spelling.{record_value}
 use Rattle.kr_batch.specs.Crc.{crc32c}
 use Rattle.kr_batch.specs.declared.Batch.{Batch}
 
--- the value of a Config record (Kafka's ConfigRecord), behind its frame version 1, key 4 and version 0
+-- the value of a record; a control item has none
 abbrev pub value_bytes : Item → List ℕ
-value_bytes (items.Record (kinds.Config kind name key value)) =
-    uvarint 1 ++ uvarint 4 ++ uvarint 0 ++ signed w8 kind ++ text name ++ text key ++ text_or_null value ++ uvarint 0
-value_bytes _ = []
+value_bytes (items.Record value) = record_value value
+value_bytes items.Control = []
 
--- a record that is written: a Config with short texts
+-- a record that has a written form
 abbrev pub IsWritable : Item → Type 0
-IsWritable (items.Record (kinds.Config kind name key value)) =
-    (length name < 2 ^ 31) × (length key < 2 ^ 31) × IfSome value (λ t. length t < 2 ^ 31)
-IsWritable _ = ⊥
+IsWritable (items.Record value) = IsEncodable value
+IsWritable items.Control = ⊥
 
 -- the bytes of all values together
 abbrev pub values_size : List Item → ℕ

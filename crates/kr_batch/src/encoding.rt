@@ -3,9 +3,8 @@
 ghost use Rattle.std.specs.Prelude.{◌≡◌, pos, ◌+◌, ◌-◌, ◌<◌, ◌≤◌, ◌^◌, ◌++◌, length, OnOk, OnErr, vec_len};
 ghost use Rattle.std.specs.List.{All};
 ghost use Rattle.kr_wire.specs.Spelling.{varint32};
-ghost use Rattle.kr_batch.specs.Written.{IsWritable, batch_bytes, checked_bytes, fixed_bytes, head_bytes, no_producer, record_body, record_bytes, records_bytes, start_bytes, values_size};
+ghost use Rattle.kr_batch.specs.Written.{IsWritable, batch_bytes, checked_bytes, fixed_bytes, head_bytes, no_producer, record_body, record_bytes, records_bytes, start_bytes, value_bytes, values_size};
 
-use crate::value::put_value;
 use crate::{Batch, crc32c};
 use kr_base::NoMemory;
 use kr_defs::Item;
@@ -77,7 +76,7 @@ fn put_start(base: i64, size: u32, epoch: i32, out: &mut Vec<u8>) -> Result<(), 
 
 // What the CRC is over.
 #[tactic(auto, unfolding(crate::specs::Written::checked_bytes))]
-fn put_checked(batch: &Batch, out: &mut Vec<u8>) -> Result<(), AllocError>
+fn put_checked(batch: &Batch, out: &mut Vec<u8>) -> Result<(), NoMemory>
     requires some { 1 ≤ length batch.now.items }
     requires few { length batch.now.items ≤ 10000 }
     requires each { All IsWritable batch.now.items }
@@ -110,7 +109,7 @@ fn put_no_producer(out: &mut Vec<u8>) -> Result<(), AllocError>
     put_i32(out, -1)
 }
 
-fn put_records(items: &[Item], out: &mut Vec<u8>) -> Result<(), AllocError>
+fn put_records(items: &[Item], out: &mut Vec<u8>) -> Result<(), NoMemory>
     requires few { length items.now ≤ 10000 }
     requires each { All IsWritable items.now }
     requires small { values_size items.now < 2 ^ 30 }
@@ -123,6 +122,16 @@ fn put_records(items: &[Item], out: &mut Vec<u8>) -> Result<(), AllocError>
         put_record(number as u32, &value, out)?;
     }
     Ok(())
+}
+
+fn put_value(item: &Item, out: &mut Vec<u8>) -> Result<(), NoMemory>
+    requires { IsWritable item.now }
+    ensures { OnOk result (out.new.items ≡ out.old.items ++ value_bytes item.now) }
+{
+    match item {
+        Item::Record(record) => kr_record::encode(record, out),
+        Item::Control => Ok(()),
+    }
 }
 
 fn put_record(delta: u32, value: &[u8], out: &mut Vec<u8>) -> Result<(), AllocError>

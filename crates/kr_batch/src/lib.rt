@@ -3,10 +3,13 @@
 
 mod checksum;
 mod encoding;
-mod value;
+mod fault;
+mod framing;
+mod heading;
 
 pub use checksum::crc32c;
 pub use encoding::encode;
+pub use fault::{BatchFault, Cause};
 use kr_defs::Items;
 
 /// Records of consecutive offsets.

@@ -1,0 +1,87 @@
+//! The frame of a record in a batch.
+
+ghost use Rattle.std.specs.Prelude.{◌≡◌, ◌+◌, ◌≤◌, length, drop, slice_range, IfOk, MatchResult, Ok, Err};
+ghost use Rattle.kr_wire.specs.Reading.{Reads, piece_at};
+ghost use Rattle.kr_batch.specs.Reading;
+ghost use Rattle.kr_batch.specs.Reading.{body_at, body_of, frame_at, key_at, natural, sized_at};
+
+use kr_wire::{WireFault, read_varint, read_varlong};
+
+// So many bytes.
+pub fn read_piece(bytes: &[u8], at: usize, len: usize) -> Result<(&[u8], usize), WireFault>
+    requires { at ≤ length bytes.now }
+    ensures read { Reads (λ s. s.now) result bytes.now (piece_at len (drop at bytes.now)) }
+    ensures at { IfOk result (λ x. (x.1 ≡ at + len) × (x.0.now ≡ slice_range bytes.now at x.1)) }
+{
+    if bytes.len() - at < len {
+        return Err(WireFault::Short);
+    }
+    let end = at + len;
+    Ok((&bytes[at..end], end))
+}
+
+fn natural(size: i32) -> usize
+    ensures { result ≡ Reading.natural size }
+{
+    if size < 0 { 0 } else { size as usize }
+}
+
+#[tactic(auto, unfolding(crate::specs::Reading::sized_at))]
+fn read_sized(bytes: &[u8], at: usize) -> Result<(&[u8], usize), WireFault>
+    requires { at ≤ length bytes.now }
+    ensures { Reads (λ s. s.now) result bytes.now (sized_at (drop at bytes.now)) }
+{
+    let (size, next) = read_varint(bytes, at)?;
+    if size < 0 {
+        return Err(WireFault::Short);
+    }
+    let (piece, end) = read_piece(bytes, next, natural(size))?;
+    Ok((piece, end))
+}
+
+#[tactic(auto, unfolding(crate::specs::Reading::key_at))]
+fn read_key(bytes: &[u8], at: usize) -> Result<(&[u8], usize), WireFault>
+    requires { at ≤ length bytes.now }
+    ensures { Reads (λ s. s.now) result bytes.now (key_at (drop at bytes.now)) }
+{
+    let (size, next) = read_varint(bytes, at)?;
+    let (piece, end) = read_piece(bytes, next, natural(size))?;
+    Ok((piece, end))
+}
+
+#[tactic(auto, unfolding(crate::specs::Reading::body_at))]
+fn read_body(bytes: &[u8]) -> Result<((i32, &[u8]), usize), WireFault>
+    ensures { Reads (λ f. (f.0, f.1.now)) result bytes.now (body_at bytes.now) }
+{
+    let (_attributes, next) = read_piece(bytes, 0, 1)?;
+    let (_timestamp, next) = read_varlong(bytes, next)?;
+    let (delta, next) = read_varint(bytes, next)?;
+    let (_key, next) = read_key(bytes, next)?;
+    let (value, next) = read_sized(bytes, next)?;
+    let (headers, next) = read_varint(bytes, next)?;
+    if headers != 0 {
+        return Err(WireFault::Short);
+    }
+    Ok(((delta, value), next))
+}
+
+#[tactic(auto, unfolding(crate::specs::Reading::body_of))]
+fn whole_body(bytes: &[u8]) -> Result<(i32, &[u8]), WireFault>
+    ensures { MatchResult result (λ f. body_of bytes.now ≡ Ok (f.0, f.1.now)) (λ e. body_of bytes.now ≡ Err e) }
+{
+    let (frame, next) = read_body(bytes)?;
+    if next < bytes.len() {
+        return Err(WireFault::Short);
+    }
+    Ok(frame)
+}
+
+#[tactic(auto, unfolding(crate::specs::Reading::frame_at))]
+pub fn read_frame(bytes: &[u8], at: usize) -> Result<((i32, &[u8]), usize), WireFault>
+    requires { at ≤ length bytes.now }
+    ensures { Reads (λ f. (f.0, f.1.now)) result bytes.now (frame_at (drop at bytes.now)) }
+{
+    let (body, next) = read_sized(bytes, at)?;
+    let frame = whole_body(body)?;
+    Ok((frame, next))
+}

@@ -1,0 +1,118 @@
+//! The fields of a batch before its records.
+
+ghost use Rattle.std.specs.Prelude.{◌≡◌, ◌≤◌, length, drop, IfOk, IsTrue, MatchResult, Ok, Err};
+ghost use Rattle.kr_batch.specs.Reading;
+ghost use Rattle.kr_batch.specs.Reading.{fixed_at, place_of, start_at, sum_at, sum_of};
+
+use crate::crc32c;
+use crate::fault::BatchFault;
+use crate::framing::read_piece;
+use kr_wire::{read_i8, read_i32, read_i64, read_u16, read_u32};
+
+/// The base, and all that follows the size.
+#[tactic(auto, unfolding(crate::specs::Reading::place_of))]
+pub fn read_place(bytes: &[u8]) -> Result<(i64, &[u8]), BatchFault>
+    ensures { MatchResult result (λ x. place_of bytes.now ≡ Ok (x.0, x.1.now)) (λ e. place_of bytes.now ≡ Err e) }
+{
+    let ((base, size), next) = read_start(bytes)?;
+    let (_start, rest) = bytes.split_at(next);
+    if is_short(size, rest.len()) {
+        return Err(BatchFault::Short);
+    }
+    if (size as usize) < rest.len() {
+        return Err(BatchFault::Trailing);
+    }
+    Ok((base, rest))
+}
+
+fn is_short(size: u32, rest: usize) -> bool
+    ensures { result ≡ Reading.is_short size rest }
+{
+    size < 49 || size >= 1 << 31 || rest < size as usize
+}
+
+#[tactic(auto, unfolding(crate::specs::Reading::start_at))]
+fn read_start(bytes: &[u8]) -> Result<((i64, u32), usize), BatchFault>
+    ensures { MatchResult result
+        (λ x. (start_at bytes.now ≡ Ok ((x.0.0, x.0.1), drop x.1 bytes.now)) × (x.1 ≤ length bytes.now))
+        (λ e. start_at bytes.now ≡ Err e) }
+{
+    let (base, next) = read_i64(bytes, 0)?;
+    let (size, next) = read_u32(bytes, next)?;
+    Ok(((base, size), next))
+}
+
+/// The epoch, and what the CRC is over.
+#[tactic(auto, unfolding(crate::specs::Reading::sum_of))]
+pub fn read_sum(bytes: &[u8]) -> Result<(i32, &[u8]), BatchFault>
+    ensures { MatchResult result (λ x. sum_of bytes.now ≡ Ok (x.0, x.1.now)) (λ e. sum_of bytes.now ≡ Err e) }
+{
+    let ((epoch, stored), next) = read_stored(bytes)?;
+    let (_start, checked) = bytes.split_at(next);
+    let counted = crc32c(checked);
+    if stored != counted {
+        return Err(BatchFault::Crc { stored, counted });
+    }
+    Ok((epoch, checked))
+}
+
+#[tactic(auto, unfolding(crate::specs::Reading::sum_at))]
+fn read_stored(bytes: &[u8]) -> Result<((i32, u32), usize), BatchFault>
+    ensures { MatchResult result
+        (λ x. (sum_at bytes.now ≡ Ok ((x.0.0, x.0.1), drop x.1 bytes.now)) × (x.1 ≤ length bytes.now))
+        (λ e. sum_at bytes.now ≡ Err e) }
+{
+    let (epoch, next) = read_i32(bytes, 0)?;
+    let (magic, next) = read_i8(bytes, next)?;
+    if magic != 2 {
+        return Err(BatchFault::Magic { found: magic });
+    }
+    let (crc, next) = read_u32(bytes, next)?;
+    Ok(((epoch, crc), next))
+}
+
+/// Whether it is a control batch, its base timestamp, its count, and the records.
+#[tactic(auto, unfolding(crate::specs::Reading::fixed_at))]
+pub fn read_fixed(bytes: &[u8]) -> Result<((bool, i64, u32), &[u8]), BatchFault>
+    ensures read { MatchResult result
+        (λ x. fixed_at bytes.now ≡ Ok ((x.0.0, x.0.1, x.0.2), x.1.now))
+        (λ e. fixed_at bytes.now ≡ Err e) }
+    ensures few { IfOk result (λ x. x.0.2 ≤ 10000) }
+{
+    let (attributes, next) = read_u16(bytes, 0)?;
+    let kind = compression(attributes);
+    if kind > 0 {
+        return Err(BatchFault::Compressed { kind });
+    }
+    let (delta, next) = read_u32(bytes, next)?;
+    let (time, next) = read_i64(bytes, next)?;
+    let (_skipped, next) = read_piece(bytes, next, 22)?;
+    let (count, next) = read_u32(bytes, next)?;
+    if !is_count(count, delta) {
+        return Err(BatchFault::BadCount {
+            count: count.cast_signed(),
+            delta: delta.cast_signed(),
+        });
+    }
+    let (_start, records) = bytes.split_at(next);
+    Ok(((is_control(attributes), time, count), records))
+}
+
+fn compression(attributes: u16) -> u8
+    ensures { result ≡ Reading.compression attributes }
+{
+    (attributes % 8) as u8
+}
+
+fn is_control(attributes: u16) -> bool
+    ensures { result ≡ Reading.is_control attributes }
+{
+    attributes / 32 % 2 == 1
+}
+
+fn is_count(count: u32, delta: u32) -> bool
+    ensures test { result ≡ Reading.is_count count delta }
+    ensures few { IsTrue result → count ≤ 10000 }
+{
+    count >= 1 && count <= 10000 && delta == count - 1
+}
