@@ -177,12 +177,21 @@ module _ {X E : Type 0} {Is : X → List ℕ → Type 0} {read : List ℕ → Re
   pub one_value : (x y : X) (bytes : List ℕ) → Is x bytes → Is y bytes → x ≡ y
   one_value x y bytes is other = (one_form x y bytes bytes [] [] is other refl).0
 
+-- what is refused has no front that stands for a value
+pub refused : {X E : Type 0} {Is : X → List ℕ → Type 0} {read : List ℕ → Result (X × List ℕ) E} → Law Is read
+    → (bytes : List ℕ) (fault : E) → read bytes ≡ Err fault → (x : X) (rest : List ℕ) → Front (Is x) bytes rest → ⊥
+refused {X} {E} {Is} {read} law bytes fault e x rest f =
+    let found : read bytes ≡ Ok (x, rest) = ap read f.parts ∙ law.complete x f.front rest f.holds in
+    cc
+
 -- a primitive, from its law and its written form
 pub primitive : {X : Type 0} {Is : X → List ℕ → Type 0} {read : List ℕ → Read X} (law : Law Is read) (write : X → List ℕ) (Fits : X → Type 0)
     → ((x : X) → Fits x → Is x (write x)) → IsPrimitive Is read write Fits
 primitive law write Fits stands = record {
   law = law;
   one = one_value law;
+  apart = one_form law;
+  refused = refused law;
   stands = stands;
   again = λ x rest fits. law.complete x (write x) rest (stands x fits);
 }

@@ -25,6 +25,10 @@ fits_behind b bytes fits i = fits (suc i)
 
 -- ---- groups
 
+-- a byte before what has a front
+front_more : (b : ℕ) (bytes front tail rest : List ℕ) → bytes ≡ front ++ tail → tail ≡ rest → b ∷ bytes ≡ b ∷ (front ++ rest)
+front_more b bytes front tail rest parts same = ap (λ (t : List ℕ). b ∷ t) (parts ∙ ap (λ (t : List ℕ). front ++ t) same)
+
 -- one group more in front
 pub more : (n b high : ℕ) (front : List ℕ) → 128 ≤ b → b < 256 → 0 < high → n + 128 ≡ b + 128 * high → IsVarint high front → IsVarint n (b ∷ front)
 more n b high [] big byte above whole is = absurd is
@@ -78,7 +82,7 @@ groups_sound top (suc room) (b ∷ bytes) n rest low fits e = elim (cases_lt b 1
       let below = g.below in
       record {
         front = b ∷ g.front;
-        parts = ap (λ (t : List ℕ). b ∷ t) (g.parts ∙ ap (λ (t : List ℕ). g.front ++ t) r);
+        parts = front_more b bytes g.front k.0.1 rest g.parts r;
         is = more n b k.0.0 g.front le byte above (omega arith) g.is;
         above = omega arith;
         below = rw pow-succ' (omega arith);
@@ -133,7 +137,7 @@ varint_sound top room low (b ∷ bytes) fits n rest e = elim (cases_lt b 128) [
       let below = first_more b k.0.0 top room byte g.below in
       record {
         front = b ∷ g.front;
-        parts = ap (λ (t : List ℕ). b ∷ t) (g.parts ∙ ap (λ (t : List ℕ). g.front ++ t) (ok_rest _ _ _ _ k.2));
+        parts = front_more b bytes g.front k.0.1 rest g.parts (ok_rest _ _ _ _ k.2);
         holds = (rw (← v) below, more n b k.0.0 g.front le byte above (omega arith) g.is);
       }
 ]

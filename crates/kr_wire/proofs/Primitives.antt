@@ -1,5 +1,5 @@
 -- The laws of each primitive together with its written form.
-use Rattle.std.proofs.Common.{◌≡◌, ℕ, ◌^◌, ◌<◌, ◌≤◌, List, [], ◌∷◌, length, Option, Some, None, ap, arith, lit<}
+use Rattle.std.proofs.Common.{ℕ, ◌^◌, ◌<◌, ◌≤◌, List, [], ◌∷◌, length, Option, Some, None, ap, arith, lit<}
 use Rattle.std.specs.Prelude.{ℤ, FitsSigned}
 use Rattle.std.specs.List.{AllByRecursion}
 use Rattle.std.specs.Int.{Width, w32, w64, byte_len}
@@ -7,7 +7,7 @@ use Rattle.std.proofs.lemmas.List.{length-append}
 use mir.Val.{bits}
 use Rattle.kr_wire.specs.Spelling.{uvarint, varint32, varint64, number, signed, bool, id, text, text_or_null, list, list_or_null}
 use Rattle.kr_wire.specs.Reading.{uvarint_at, varint32_at, varint64_at, number_at, signed_at, bool_at, id_at, text_at, text_or_null_at, list_at, list_or_null_at, Read}
-use Rattle.kr_wire.specs.Grammar.{IsUvarint, IsVarint32, IsVarint64, IsNumber, IsSigned, IsBool, IsId, IsText, IsTextOrNull, Each, IsList, IsListOrNull}
+use Rattle.kr_wire.specs.Grammar.{IsUvarint, IsVarint32, IsVarint64, IsNumber, IsSigned, IsBool, IsId, IsText, IsTextOrNull, IsList, IsListOrNull}
 use Rattle.kr_wire.specs.Laws.{IsPrimitive, IsShortText, IsShortTextOrNull, IsShortList, IsShortListOrNull}
 use Rattle.kr_wire.proofs.Laws.{primitive}
 use Rattle.kr_wire.proofs.Numbers.{uvarint_law, varint32_law, varint64_law, number_law, signed_law, bool_law, id_law, text_law, text_or_null_law}

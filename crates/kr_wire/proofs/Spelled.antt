@@ -1,5 +1,5 @@
 -- What is written stands for its value.
-use Rattle.std.proofs.Common.{◌≡◌, ℕ, zero, suc, ◌+◌, ◌*◌, ◌/◌, ◌%◌, ◌^◌, ◌<◌, ◌≤◌, inl, inr, true, false, List, [], ◌∷◌, ◌++◌, length, append_assoc, Option, Some, None, refl, sym, arith}
+use Rattle.std.proofs.Common.{◌≡◌, ℕ, zero, suc, ◌+◌, ◌*◌, ◌/◌, ◌%◌, ◌^◌, ◌<◌, ◌≤◌, inl, inr, true, false, List, [], ◌∷◌, length, append_assoc, Option, Some, None, refl, sym, arith}
 use Rattle.std.specs.Prelude.{ℤ, pos, negsuc, Bool, IsUtf8, FitsSigned, MatchOption}
 use Rattle.std.specs.List.{AllByRecursion, flat_map}
 use Rattle.std.specs.Int.{Width, w8, w16, w32, w64, w128, to_be_bytes}
@@ -10,7 +10,7 @@ use Rattle.std.proofs.Math.Facts.{Fits-of_z}
 use Rattle.std.proofs.Math.Nat.{pow-succ'}
 use mir.Val.{bits}
 use Rattle.kr_wire.specs.Spelling.{groups, uvarint, varint32, varint64, number, signed, bool, text, text_or_null, id, list, field, tags}
-use Rattle.kr_wire.specs.Grammar.{◌⌢◌, Exactly, IsVarint, IsUvarint, IsUvarlong, zigzag, IsVarint32, IsVarint64, IsNumber, IsSigned, IsBool, IsId, IsText, IsTextOrNull, Each, IsList, AreRising, IsField, IsTags, NoTags}
+use Rattle.kr_wire.specs.Grammar.{IsVarint, IsUvarint, IsVarint32, IsVarint64, IsNumber, IsSigned, IsBool, IsId, IsText, IsTextOrNull, Each, IsList, AreRising, IsField, IsTags, NoTags}
 use Rattle.kr_wire.proofs.Laws.{joined}
 use Rattle.kr_wire.proofs.Numbers.{more}
 

@@ -1,6 +1,7 @@
 -- What joins a relation on whole byte strings, a reading function and a written form: this project's own.
-use Rattle.std.specs.Prelude.{◌≡◌, ℕ, ◌^◌, ◌<◌, List, ◌++◌, length, slice_index, Option, MatchOption, Result, Ok, IsUtf8}
+use Rattle.std.specs.Prelude.{◌≡◌, ℕ, ◌^◌, ◌<◌, List, ◌++◌, length, slice_index, Option, MatchOption, Result, Ok, Err, IsUtf8}
 use Rattle.std.specs.List.{AllByRecursion}
+use Rattle.kr_wire.specs.declared.WireFault.{WireFault}
 use Rattle.kr_wire.specs.Reading.{Read}
 
 abbrev pub IsBytes : List ℕ → Type 0
@@ -21,10 +22,13 @@ pub record Law {X E : Type 0} (Is : X → List ℕ → Type 0) (read : List ℕ 
   pub sound : (bytes : List ℕ) → IsBytes bytes → Yields Is bytes (read bytes)
   pub complete : (x : X) (front rest : List ℕ) → Is x front → read (front ++ rest) ≡ Ok (x, rest)
 
--- Bytes stand for one value at most, and what is written for a value that fits stands for it and is read as it.
+-- A law; no form begins another, so that bytes stand for one value at most; what is refused has no front that
+-- stands for a value; and what is written for a value that fits stands for it and is read as it.
 pub record IsPrimitive {X : Type 0} (Is : X → List ℕ → Type 0) (read : List ℕ → Read X) (write : X → List ℕ) (Fits : X → Type 0) : Type 0 where
   pub law : Law Is read
   pub one : (x y : X) (bytes : List ℕ) → Is x bytes → Is y bytes → x ≡ y
+  pub apart : (x y : X) (a b s t : List ℕ) → Is x a → Is y b → a ++ s ≡ b ++ t → (x ≡ y) × (s ≡ t)
+  pub refused : (bytes : List ℕ) (fault : WireFault) → read bytes ≡ Err fault → (x : X) (rest : List ℕ) → Front (Is x) bytes rest → ⊥
   pub stands : (x : X) → Fits x → Is x (write x)
   pub again : (x : X) (rest : List ℕ) → Fits x → read (write x ++ rest) ≡ Ok (x, rest)
 

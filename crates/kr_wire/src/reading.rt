@@ -265,7 +265,7 @@ pub fn read_str_or_null(bytes: &[u8], at: usize) -> Result<(Option<Span>, usize)
     }
 }
 
-/// So many bytes of UTF-8.
+/// So many bytes of UTF-8, and where they stand, or `Short` or `BadText`, in this order.
 pub fn read_utf8(bytes: &[u8], start: usize, len: usize) -> Result<(Span, usize), WireFault>
     requires { start ≤ length bytes.now }
     ensures read { Reads (λ s. slice_range bytes.now s.start s.end) result bytes.now (utf8_at len (drop start bytes.now)) }
