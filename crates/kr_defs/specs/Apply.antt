@@ -1,5 +1,5 @@
 -- KIP-631: the meaning of a record is the image after it. The causes why there is none, and the limits, are this project's own.
-use Rattle.std.specs.Prelude.{ℕ, ℤ, pos, negsuc, int_lt, false, Bool, not, ◌&&◌, ◌||◌, List, length, filter, Option, Some, None, Result, Ok, Err, ◌==◌, nat_le, nat_lt, if◌then◌else◌}
+use Rattle.std.specs.Prelude.{ℕ, ℤ, pos, negsuc, int_lt, false, Bool, not, ◌&&◌, ◌||◌, List, length, filter, Option, Some, None, Result, Ok, ◌==◌, nat_le, nat_lt, if◌then◌else◌}
 use Rattle.std.specs.Ordering.{int_cmp, int_eq}
 use Rattle.std.specs.Option.{option_map_or}
 use Rattle.kr_defs.specs.declared.broker.Broker.{Broker}
@@ -13,7 +13,7 @@ use Rattle.kr_defs.specs.declared.record.Item.TheVariants as items
 use Rattle.kr_defs.specs.declared.ill.Ill.{Ill}
 use Rattle.kr_defs.specs.declared.ill.Ill.TheVariants.{BadNumber, NoBroker, StaleEpoch, NoTopic, TopicExists, BadName, NoPartition, PartitionExists, BadPartition, Limit}
 use Rattle.kr_defs.specs.declared.limits.TheConstants.{MOST_BROKERS, MOST_TOPICS, MOST_PARTITIONS, MOST_CONFIG_TEXT, MOST_FEATURES, LONGEST_FEATURE}
-use Rattle.kr_defs.specs.Guard.{refuse◌when◌else◌}
+use Rattle.kr_defs.specs.Guard.{refuse◌when◌else◌, found}
 use Rattle.kr_defs.specs.Map as map
 use Rattle.kr_defs.specs.Map.{text_order, partition_order, config_order}
 use Rattle.kr_defs.specs.Image.{Image, topic_name, has_topic, has_numbers, is_small_registration, is_index, config_text}
@@ -31,12 +31,9 @@ register image id state =
     Ok (record image { brokers = map.insert int_cmp image.brokers id state })
 
 abbrev pub unregister : Image → ℤ → ℤ → Result Image Ill
-unregister image id epoch = elim (map.get int_cmp image.brokers id) [
-  | None ↦ Err NoBroker
-  | Some old ↦
-      refuse StaleEpoch when not (int_eq epoch old.epoch) else
-      Ok (record image { brokers = map.remove int_cmp image.brokers id })
-]
+unregister image id epoch = found NoBroker (map.get int_cmp image.brokers id) (λ old.
+    refuse StaleEpoch when not (int_eq epoch old.epoch) else
+    Ok (record image { brokers = map.remove int_cmp image.brokers id }))
 
 -- 1 fences, -1 unfences, 0 leaves
 abbrev pub is_fencing : ℤ → Bool
@@ -54,13 +51,10 @@ changed old fenced stopping = record old {
 }
 
 abbrev pub change_registration : Image → ℤ → ℤ → ℤ → ℤ → Result Image Ill
-change_registration image id epoch fenced stopping = elim (map.get int_cmp image.brokers id) [
-  | None ↦ Err NoBroker
-  | Some old ↦
-      refuse StaleEpoch when not (int_eq epoch old.epoch) else
-      refuse BadNumber when not (is_fencing fenced && is_flag stopping) else
-      Ok (record image { brokers = map.insert int_cmp image.brokers id (changed old fenced stopping) })
-]
+change_registration image id epoch fenced stopping = found NoBroker (map.get int_cmp image.brokers id) (λ old.
+    refuse StaleEpoch when not (int_eq epoch old.epoch) else
+    refuse BadNumber when not (is_fencing fenced && is_flag stopping) else
+    Ok (record image { brokers = map.insert int_cmp image.brokers id (changed old fenced stopping) }))
 
 -- ---- topics and partitions
 
@@ -81,12 +75,9 @@ add_partition image index topic state =
     Ok (record image { partitions = map.insert partition_order image.partitions (topic, index) state })
 
 abbrev pub change_known : Image → ℤ → ℕ → PartitionChange → Result Image Ill
-change_known image index topic change = elim (map.get partition_order image.partitions (topic, index)) [
-  | None ↦ Err NoPartition
-  | Some old ↦
-      refuse BadPartition when not (is_well_formed (merged old change)) else
-      Ok (record image { partitions = map.insert partition_order image.partitions (topic, index) (merged old change) })
-]
+change_known image index topic change = found NoPartition (map.get partition_order image.partitions (topic, index)) (λ old.
+    refuse BadPartition when not (is_well_formed (merged old change)) else
+    Ok (record image { partitions = map.insert partition_order image.partitions (topic, index) (merged old change) }))
 
 abbrev pub change_partition : Image → ℤ → ℕ → PartitionChange → Result Image Ill
 change_partition image index topic change =
@@ -105,14 +96,12 @@ is_setting_of name key = int_eq key.kind topic_kind && is_text key.name name
 
 -- the topic goes, with its partitions and its settings
 abbrev pub remove_topic : Image → ℕ → Result Image Ill
-remove_topic image id = elim (topic_name image.topics id) [
-  | None ↦ Err NoTopic
-  | Some name ↦ Ok (record image {
-    topics = filter (λ e. not (e.1 == id)) image.topics;
-    partitions = filter (λ e. not (e.0.0 == id)) image.partitions;
-    configs = filter (λ e. not (is_setting_of name e.0)) image.configs;
-  })
-]
+remove_topic image id = found NoTopic (topic_name image.topics id) (λ name.
+    Ok (record image {
+      topics = filter (λ e. not (e.1 == id)) image.topics;
+      partitions = filter (λ e. not (e.0.0 == id)) image.partitions;
+      configs = filter (λ e. not (is_setting_of name e.0)) image.configs;
+    }))
 
 -- ---- settings and features
 

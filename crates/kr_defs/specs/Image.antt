@@ -67,26 +67,40 @@ are_distinct [] = true
 are_distinct (id ∷ ids) = not (list_any (λ other. other == id) ids) && are_distinct ids
 
 -- This project's own: what is true of an image whatever records made it.
+
+pub record AreBrokers (brokers : List (ℤ × Broker)) : Type 0 where
+  pub ordered : map.IsMap int_cmp brokers
+  pub numbers : All (λ e. IsTrue (has_numbers e.0 e.1)) brokers
+  pub small : All (λ e. IsTrue (is_small_registration e.1)) brokers
+  pub few : length brokers ≤ MOST_BROKERS
+
+pub record AreTopics (topics : List (List ℕ × ℕ)) : Type 0 where
+  pub ordered : map.IsMap text_order topics
+  pub names : All (λ e. IsTrue (is_topic_name e.0)) topics
+  pub ids : All (λ e. IsTrue (not (e.1 == 0))) topics
+  pub distinct : IsTrue (are_distinct (values_of topics))
+  pub few : length topics ≤ MOST_TOPICS
+
+pub record ArePartitions (topics : List (List ℕ × ℕ)) (partitions : List ((ℕ × ℤ) × Partition)) : Type 0 where
+  pub ordered : map.IsMap partition_order partitions
+  pub owned : All (λ e. IsTrue (has_topic topics e.0.0)) partitions
+  pub indexes : All (λ e. IsTrue (is_index e.0.1)) partitions
+  pub well_formed : All (λ e. IsTrue (is_well_formed e.1)) partitions
+  pub few : length partitions ≤ MOST_PARTITIONS
+
+pub record AreConfigs (configs : List (ConfigKey × List ℕ)) : Type 0 where
+  pub ordered : map.IsMap config_order configs
+  pub little : config_text configs ≤ MOST_CONFIG_TEXT
+
+pub record AreFeatures (features : List (List ℕ × ℤ)) : Type 0 where
+  pub ordered : map.IsMap text_order features
+  pub levels : All (λ e. IsTrue (int_lt (pos 0) e.1)) features
+  pub short : All (λ e. IsTrue (nat_le (length e.0) LONGEST_FEATURE)) features
+  pub few : length features ≤ MOST_FEATURES
+
 pub record IsValid (image : Image) : Type 0 where
-  pub brokers : map.IsMap int_cmp image.brokers
-  pub topics : map.IsMap text_order image.topics
-  pub partitions : map.IsMap partition_order image.partitions
-  pub configs : map.IsMap config_order image.configs
-  pub features : map.IsMap text_order image.features
-  -- each broker, topic, partition and feature is as it has to be
-  pub numbers : All (λ e. IsTrue (has_numbers e.0 e.1)) image.brokers
-  pub names : All (λ e. IsTrue (is_topic_name e.0)) image.topics
-  pub ids : All (λ e. IsTrue (not (e.1 == 0))) image.topics
-  pub distinct : IsTrue (are_distinct (values_of image.topics))
-  pub owned : All (λ e. IsTrue (has_topic image.topics e.0.0)) image.partitions
-  pub indexes : All (λ e. IsTrue (is_index e.0.1)) image.partitions
-  pub well_formed : All (λ e. IsTrue (is_well_formed e.1)) image.partitions
-  pub levels : All (λ e. IsTrue (int_lt (pos 0) e.1)) image.features
-  -- no limit is passed
-  pub few_brokers : length image.brokers ≤ MOST_BROKERS
-  pub small : All (λ e. IsTrue (is_small_registration e.1)) image.brokers
-  pub few_topics : length image.topics ≤ MOST_TOPICS
-  pub few_partitions : length image.partitions ≤ MOST_PARTITIONS
-  pub little_text : config_text image.configs ≤ MOST_CONFIG_TEXT
-  pub few_features : length image.features ≤ MOST_FEATURES
-  pub short : All (λ e. IsTrue (nat_le (length e.0) LONGEST_FEATURE)) image.features
+  pub brokers : AreBrokers image.brokers
+  pub topics : AreTopics image.topics
+  pub partitions : ArePartitions image.topics image.partitions
+  pub configs : AreConfigs image.configs
+  pub features : AreFeatures image.features

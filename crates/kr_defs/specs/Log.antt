@@ -1,7 +1,8 @@
 -- KIP-631: the metadata log, and the image at a place of it.
-use Rattle.std.specs.Prelude.{ℕ, ◌+◌, ◌-◌, List, [], ◌∷◌, length, take, Result, Ok, Err}
+use Rattle.std.specs.Prelude.{ℕ, ◌+◌, ◌-◌, List, [], ◌∷◌, ◌++◌, length, take, Result, Ok}
 use Rattle.kr_defs.specs.declared.record.Item.{Item}
 use Rattle.kr_defs.specs.declared.ill.Ill.{Ill}
+use Rattle.kr_defs.specs.Guard.{and_then}
 use Rattle.kr_defs.specs.Image.{Image, empty}
 use Rattle.kr_defs.specs.Apply.{apply}
 
@@ -22,11 +23,12 @@ tip log = log.offset + length log.items
 -- the image after the items, one after the other
 abbrev pub apply_all : Image → List Item → Result Image Ill
 apply_all image [] = Ok image
-apply_all image (item ∷ items) = elim (apply image item) [
-  | Err cause ↦ Err cause
-  | Ok after ↦ apply_all after items
-]
+apply_all image (item ∷ items) = and_then (apply image item) (λ after. apply_all after items)
 
 -- the image of the items below the place
 unfoldable pub image_at : Log → ℕ → Result Image Ill
 image_at log place = apply_all log.image (take (place - log.offset) log.items)
+
+-- the log with one item more
+abbrev pub more : Log → Item → Log
+more log item = record log { items = log.items ++ item ∷ [] }

@@ -9,6 +9,7 @@ mod events;
 mod forming;
 mod ill;
 pub mod kept_laws;
+pub mod laws;
 pub mod limits;
 mod options;
 mod partition;

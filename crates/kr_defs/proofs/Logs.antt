@@ -1,0 +1,78 @@
+-- A log from its start, and what RemoveTopic leaves.
+use Rattle.std.proofs.Common.{◌≡◌, ◌∙◌, sym, ℕ, ◌+◌, ◌-◌, ◌≤◌, false, List, [], ◌∷◌, ◌++◌, length, take, refl, ap, arith}
+use Rattle.std.specs.Prelude.{Result, Ok, Err, Some, All, IsTrue, not, ◌==◌, filter}
+use Rattle.std.proofs.lemmas.List.{take-append-le, take_all, length-append}
+use Rattle.std.proofs.lemmas.List.Elements.{filter_passes}
+use Rattle.kr_defs.specs.declared.record.Record.TheVariants as kinds
+use Rattle.kr_defs.specs.declared.record.Item.{Item}
+use Rattle.kr_defs.specs.declared.record.Item.TheVariants as items
+use Rattle.kr_defs.specs.declared.ill.Ill.{Ill}
+use Rattle.kr_defs.specs.declared.ill.Ill.TheVariants.{NoTopic}
+use Rattle.kr_defs.specs.Guard.{and_then}
+use Rattle.kr_defs.specs.Image.{Image, IsValid, has_topic, topic_name}
+use Rattle.kr_defs.specs.Log.{Log, tip, more, apply_all, image_at}
+use Rattle.kr_defs.specs.Apply as apply
+use Rattle.kr_defs.proofs.Validity.{kept}
+use Rattle.kr_defs.proofs.Parts.{has_topic_any, none_left}
+use Rattle.kr_defs.proofs.Tests.{Gives, gives_done, gives_found, gives_then, some_is}
+
+-- ---- logs
+
+pub kept_all : (items : List Item) (image : Image) → IsValid image → Gives IsValid (apply_all image items)
+kept_all [] image v = gives_done IsValid image v
+kept_all (item ∷ items) image v = gives_then IsValid IsValid (apply.apply image item) (λ after. apply_all after items) (kept image v item) (λ after w. kept_all items after w)
+
+then_done : {X E : Type 0} (r : Result X E) → and_then r (λ x. Ok x) ≡ r
+then_done (Ok x) = refl
+then_done (Err e) = refl
+
+then_more : (r : Result Image Ill) (items : List Item) (item : Item) → ((after : Image) → apply_all after (items ++ item ∷ []) ≡ and_then (apply_all after items) (λ i. apply.apply i item))
+    → and_then r (λ after. apply_all after (items ++ item ∷ [])) ≡ and_then (and_then r (λ after. apply_all after items)) (λ i. apply.apply i item)
+then_more (Ok after) items item step = step after
+then_more (Err cause) items item step = refl
+
+apply_more : (items : List Item) (item : Item) (image : Image) → apply_all image (items ++ item ∷ []) ≡ and_then (apply_all image items) (λ i. apply.apply i item)
+apply_more [] item image = then_done (apply.apply image item)
+apply_more (first ∷ items) item image = then_more (apply.apply image first) items item (apply_more items item)
+
+pub valid_at : (log : Log) (place : ℕ) → IsValid log.image → Gives IsValid (image_at log place)
+unfolding image_at
+valid_at log place v = kept_all (take (place - log.offset) log.items) log.image v
+
+pub at_start : (log : Log) → image_at log log.offset ≡ Ok log.image
+unfolding image_at
+at_start log = let zero : log.offset - log.offset ≡ 0 = omega arith in rw zero refl
+
+at_tip : (log : Log) → image_at log (tip log) ≡ apply_all log.image log.items
+unfolding image_at
+at_tip log = ap (λ (items : List Item). apply_all log.image items) (take_all (tip log - log.offset) log.items (omega arith))
+
+pub more_at_tip : (log : Log) (item : Item) (image : Image) → image_at log (tip log) ≡ Ok image → image_at (more log item) (tip log + 1) ≡ apply.apply image item
+unfolding image_at
+more_at_tip log item image is =
+    let long : length (log.items ++ item ∷ []) ≡ length log.items + 1 = length-append log.items (item ∷ []) in
+    let whole = take_all (tip log + 1 - log.offset) (log.items ++ item ∷ []) (omega (arith, long)) in
+    ap (λ (items : List Item). apply_all log.image items) whole ∙ (apply_more log.items item log.image ∙ ap (λ r. and_then r (λ i. apply.apply i item)) (sym (at_tip log) ∙ is))
+
+pub more_below : (log : Log) (item : Item) (place : ℕ) → place ≤ tip log → image_at (more log item) place ≡ image_at log place
+unfolding image_at
+more_below log item place below = ap (λ (items : List Item). apply_all log.image items) (take-append-le (place - log.offset) log.items (item ∷ []) (omega arith))
+
+-- ---- RemoveTopic
+
+pub topic_gone : (image : Image) (id : ℕ) → Gives (λ after. has_topic after.topics id ≡ false) (apply.apply image (items.Record (kinds.RemoveTopic id)))
+unfolding apply.apply apply.apply_record
+topic_gone image id = let P : Image → Type 0 = λ after. has_topic after.topics id ≡ false in
+    gives_found P NoTopic (topic_name image.topics id) _ (λ name there. gives_done P _ (has_topic_any (filter (λ e. not (e.1 == id)) image.topics) id ∙ none_left id image.topics))
+
+pub partitions_gone : (image : Image) (id : ℕ) → Gives (λ after. All (λ e. IsTrue (not (e.0.0 == id))) after.partitions) (apply.apply image (items.Record (kinds.RemoveTopic id)))
+unfolding apply.apply apply.apply_record
+partitions_gone image id = let P : Image → Type 0 = λ after. All (λ e. IsTrue (not (e.0.0 == id))) after.partitions in
+    gives_found P NoTopic (topic_name image.topics id) _ (λ name there. gives_done P _ (filter_passes (λ e. not (e.0.0 == id)) image.partitions))
+
+pub configs_gone : (image : Image) (id : ℕ) (name : List ℕ) → topic_name image.topics id ≡ Some name → Gives (λ after. All (λ e. IsTrue (not (apply.is_setting_of name e.0))) after.configs) (apply.apply image (items.Record (kinds.RemoveTopic id)))
+unfolding apply.apply apply.apply_record
+configs_gone image id name named = let P : Image → Type 0 = λ after. All (λ e. IsTrue (not (apply.is_setting_of name e.0))) after.configs in
+    gives_found P NoTopic (topic_name image.topics id) _ (λ other there. gives_done P _ (
+    let same : other ≡ name = some_is other name (sym there ∙ named) in
+    rw same (filter_passes (λ e. not (apply.is_setting_of name e.0)) image.configs)))

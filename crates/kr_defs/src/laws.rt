@@ -1,0 +1,44 @@
+//! What is true of the definitions. Each function says so in its contract, and does nothing.
+
+ghost use Rattle.std.specs.Prelude.{◌≡◌, ℕ, ◌+◌, ◌≤◌, List, All, IsTrue, not, ◌==◌, false};
+ghost use Rattle.kr_defs.specs.declared.record.Item.TheVariants as items;
+ghost use Rattle.kr_defs.specs.declared.record.Record.TheVariants as kinds;
+ghost use Rattle.kr_defs.specs.Image.{Image, IsValid, empty, has_topic, topic_name};
+ghost use Rattle.kr_defs.specs.Log.{Log, first, tip, more, image_at};
+ghost use Rattle.kr_defs.specs.Apply as apply;
+ghost use Rattle.kr_defs.specs.declared.record.Item.{Item as Any};
+
+/// The empty image is valid.
+pub fn empty_is_valid()
+    ensures { IsValid empty }
+{}
+
+/// Every item that has a meaning keeps a valid image valid.
+pub fn apply_keeps_valid()
+    ensures { (image after : Image) (item : Any) → IsValid image → apply.apply image item ≡ Ok after → IsValid after }
+{}
+
+/// So does a whole log: its image at each place is valid.
+pub fn logs_are_valid()
+    ensures { (log : Log) (place : ℕ) (image : Image) → IsValid log.image → image_at log place ≡ Ok image → IsValid image }
+{}
+
+/// Control and NoOp change nothing.
+pub fn nothing_changes()
+    ensures control { (image : Image) → apply.apply image items.Control ≡ Ok image }
+    ensures no_op { (image : Image) → apply.apply image (items.Record kinds.NoOp) ≡ Ok image }
+{}
+
+/// After RemoveTopic neither the topic is there, nor a partition or a setting of it.
+pub fn removed_whole()
+    ensures topic { (image after : Image) (id : ℕ) → apply.apply image (items.Record (kinds.RemoveTopic id)) ≡ Ok after → has_topic after.topics id ≡ false }
+    ensures partitions { (image after : Image) (id : ℕ) → apply.apply image (items.Record (kinds.RemoveTopic id)) ≡ Ok after → All (λ e. IsTrue (not (e.0.0 == id))) after.partitions }
+    ensures configs { (image after : Image) (id : ℕ) (name : List ℕ) → apply.apply image (items.Record (kinds.RemoveTopic id)) ≡ Ok after → topic_name image.topics id ≡ Some name → All (λ e. IsTrue (not (apply.is_setting_of name e.0))) after.configs }
+{}
+
+/// The image at the tip of a log that is longer by one item is what the item makes of the image before. Below, nothing changes.
+pub fn one_item_more()
+    ensures start { (log : Log) → image_at log log.offset ≡ Ok log.image }
+    ensures tip { (log : Log) (item : Any) (image : Image) → image_at log (tip log) ≡ Ok image → image_at (more log item) (tip log + 1) ≡ apply.apply image item }
+    ensures below { (log : Log) (item : Any) (place : ℕ) → place ≤ tip log → image_at (more log item) place ≡ image_at log place }
+{}
