@@ -32,7 +32,7 @@ frame_form k j Body Other a b x y f g same =
     let s = f.spelled in
     let t = g.spelled in
     let front : s.left ++ (s.right ++ x) ≡ t.left ++ (t.right ++ y) =
-        sym (append_assoc s.left s.right x) ∙ (ap (λ (l : List ℕ). l ++ x) (sym s.is) ∙ (same ∙ (ap (λ (l : List ℕ). l ++ y) t.is ∙ append_assoc t.left t.right y))) in
+    sym (append_assoc s.left s.right x) ∙ (ap (λ (l : List ℕ). l ++ x) (sym s.is) ∙ (same ∙ (ap (λ (l : List ℕ). l ++ y) t.is ∙ append_assoc t.left t.right y))) in
     let r = one_form (number_law w32) (length f.body + 1) (length g.body + 1) s.left t.left (s.right ++ x) (t.right ++ y) s.first t.first front in
     let behind : (k ∷ f.body) ++ x ≡ (j ∷ g.body) ++ y = ap (λ (l : List ℕ). l ++ x) (sym s.second) ∙ (r.1 ∙ ap (λ (l : List ℕ). l ++ y) t.second) in
     let kinds : k ≡ j = cc in

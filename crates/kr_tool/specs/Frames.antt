@@ -1,7 +1,8 @@
 -- The frames of a session (this project's own): a u32 size of what follows it, a kind byte, and the body.
 use Rattle.std.specs.Prelude.{◌≡◌, ℕ, ℤ, pos, ◌≤ℤ◌, ◌+◌, ◌≤◌, List, [], ◌∷◌, ◌++◌, length, IsUtf8}
-use Rattle.std.specs.Int.{w16, w32, w64, to_be_bytes}
+use Rattle.std.specs.Int.{w16, w32, w64}
 use Rattle.kr_wire.specs.Grammar.{◌⌢◌, Exactly, IsNumber, IsSigned}
+use Rattle.kr_wire.specs.Spelling.{number}
 use Rattle.kr_defs.specs.declared.options.Options.{Options}
 use Rattle.kr_defs.specs.declared.events.Event.{Event}
 use Rattle.kr_defs.specs.declared.events.Event.TheVariants as events
@@ -64,8 +65,8 @@ IsEnd = IsFrame 10 (Exactly [])
 
 -- a kind and a body behind their size
 abbrev pub frame : ℕ → List ℕ → List ℕ
-frame kind body = to_be_bytes w32 (length body + 1) ++ kind ∷ body
+frame kind body = number w32 (length body + 1) ++ kind ∷ body
 
 abbrev pub output_frame : Output → List ℕ
 output_frame (given.Append bytes) = frame 129 bytes
-output_frame (given.Reply client correlation reply) = frame 130 (to_be_bytes w32 client ++ reply_message correlation reply)
+output_frame (given.Reply client correlation reply) = frame 130 (number w32 client ++ reply_message correlation reply)

@@ -10,3 +10,4 @@ pub mod Told
 pub mod Taken
 pub mod Controller
 pub mod Bodies
+pub mod Fitting

@@ -7,6 +7,7 @@ mod messages;
 mod minimum;
 mod replies;
 mod status;
+mod writing;
 
 ghost use Rattle.std.specs.Prelude.{◌≡◌};
 ghost use Rattle.kr_tool.specs.Told.{TookWhole, StopsAt, StopsReading, TookLongest, StopsWriting, note_of, AreServed};
