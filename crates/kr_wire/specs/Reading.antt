@@ -1,15 +1,18 @@
--- Reading from the front of some bytes: the value and the bytes after it, or the first fault.
+-- Reading from the front of some bytes: the value and the bytes after it, or the first fault. The order of faults is
+-- this project's own.
 use Rattle.std.specs.Prelude.{◌≡◌, ℕ, ℤ, pos, negsuc, zero, suc, ◌+◌, ◌-◌, ◌*◌, ◌/◌, ◌%◌, ◌^◌, ◌≤◌, Bool, false, not, List, [], ◌∷◌, length, take, drop, Option, Some, None, Result, Ok, Err, ◌==◌, nat_lt, nat_le, if◌then◌else◌, MatchResult, cond}
 use Rattle.std.specs.Int.{Width, w8, w64, byte_len, from_be_bytes, cast_signed}
 use Rattle.std.specs.Str.{is_utf8}
 use Rattle.kr_wire.specs.declared.WireFault.{WireFault}
 use Rattle.kr_wire.specs.declared.WireFault.TheVariants.{Short, Overlong, TooBig, BadTag, BadText, BadNull}
 
+-- the second step, on what the first gave
 infixl 10 ◌>>=◌
 abbrev pub ◌>>=◌ : {A B E : Type 0} → Result A E → (A → Result B E) → Result B E
 (Ok x) >>= f = f x
 (Err e) >>= f = Err e
 
+-- this fault where the test holds, and else the rest
 infix 5 refuse◌when◌else◌
 abbrev pub refuse◌when◌else◌ : {X E : Type 0} → E → Bool → Result X E → Result X E
 refuse fault when test else rest = cond test (Err fault) rest
@@ -28,6 +31,7 @@ Reads view result bytes read = MatchResult result (λ x. (read ≡ Ok (view x.0,
 abbrev pub piece_at : ℕ → List ℕ → Read (List ℕ)
 piece_at len bytes = refuse Short when nat_lt (length bytes) len else Ok (take len bytes, drop len bytes)
 
+-- so many bits, high byte first
 abbrev pub number_at : Width → List ℕ → Read ℕ
 number_at w bytes = do
   piece ← piece_at (byte_len w) bytes
@@ -82,11 +86,13 @@ uvarlong_at bytes = varint_at 1 8 bytes
 abbrev pub unzigzag : ℕ → ℤ
 unzigzag n = if n % 2 == 0 then pos (n / 2) else negsuc (n / 2)
 
+-- in zigzag form, of 32 bits
 unfoldable pub varint32_at : List ℕ → Read ℤ
 varint32_at bytes = do
   n ← uvarint_at bytes
   Ok (unzigzag n.0, n.1)
 
+-- the same of 64 bits
 unfoldable pub varint64_at : List ℕ → Read ℤ
 varint64_at bytes = do
   n ← uvarlong_at bytes
@@ -170,6 +176,7 @@ tags_at known before bytes = do
   count ← uvarint_at bytes
   fields_at known count.0 None before count.1
 
+-- no field is known
 abbrev pub none_known : Known (Unit {0})
 none_known tag = None
 
