@@ -1,0 +1,63 @@
+//! Placement of the replicas of a partition.
+
+ghost use Rattle.std.specs.Prelude.{◌≡◌, ◌<◌, ◌≤◌, ◌≤ℤ◌, ◌+◌, pos, length, unsigned_abs, IfOk, IsOkUnless, Err};
+ghost use Rattle.kr_defs.specs.Placed.{placed};
+
+use crate::racked::Racked;
+use crate::racks::{racks_of, walk};
+use kr_base::NoMemory;
+use kr_defs::Ids;
+use std::alloc::Global;
+use thiserror::Error;
+
+/// Why no brokers were chosen.
+#[derive(Debug, Drop, PartialEq, Eq, Error)]
+pub enum PlaceFault {
+    /// More brokers are asked for than there are.
+    #[error("{usable} brokers are usable, {asked} are asked for")]
+    TooFew { usable: usize, asked: i16 },
+    #[error("out of memory")]
+    NoMemory,
+}
+
+impl From<NoMemory> for PlaceFault {
+    ghost use Rattle.kr_place.specs.declared.placing.PlaceFault.TheVariants as faults;
+
+    ghost from_gives = { λ _ fault. fault ≡ faults.NoMemory };
+
+    fn from(_refused: NoMemory) -> PlaceFault {
+        PlaceFault::NoMemory
+    }
+}
+
+/// The brokers of a partition's replicas, the first one preferred: `factor` different ones, over all racks in turn.
+///
+/// `start` is where the topic's placement begins, and `index` the number of the partition.
+#[tactic(auto, unfolding(kr_defs::specs::Placed::placed))]
+pub fn place(
+    alloc: Global,
+    brokers: &Racked,
+    start: i64,
+    index: i32,
+    factor: i16,
+) -> Result<Ids, PlaceFault>
+    requires start { pos 0 ≤ℤ start }
+    requires index { pos 0 ≤ℤ index }
+    requires factor { pos 1 ≤ℤ factor }
+    ensures placed { IfOk result (λ ids. ids ≡ placed brokers.now (unsigned_abs start + unsigned_abs index) (unsigned_abs factor)) }
+    ensures too_few { length brokers.now < unsigned_abs factor → result ≡ Err (PlaceFault.TooFew (length brokers.now) factor) }
+    ensures enough { unsigned_abs factor ≤ length brokers.now → IsOkUnless result PlaceFault.NoMemory }
+{
+    let usable = brokers.len();
+    let wanted = factor.unsigned_abs() as usize;
+    if usable < wanted {
+        return Err(PlaceFault::TooFew {
+            usable,
+            asked: factor,
+        });
+    }
+    let first = start.unsigned_abs() as u128 + index.unsigned_abs() as u128;
+    let racks = racks_of(alloc, brokers.as_slice())?;
+    let visits = racks.len() as u128 * usable as u128;
+    Ok(walk(alloc, racks.as_slice(), first, visits, wanted)?)
+}
