@@ -11,7 +11,7 @@ use Rattle.kr_defs.specs.declared.events.Output.{Output}
 use Rattle.kr_defs.specs.declared.events.Output.TheVariants as given
 use Rattle.kr_defs.specs.declared.record.Item.TheVariants as items
 use Rattle.kr_defs.specs.declared.record.Record.TheVariants as kinds
-use Rattle.kr_wire.specs.Spelling.{signed, uvarint}
+use Rattle.kr_wire.specs.Spelling.{number, signed, uvarint}
 use Rattle.kr_tool.specs.Batches.{appended_bytes}
 use Rattle.kr_tool.specs.Frames.{output_frame}
 use Rattle.kr_tool.specs.Messages.{setting_call, minimum_key}
@@ -91,5 +91,5 @@ no_digits = refl
 pub reply_frame :
     output_frame (replied (pos 7) (pos 0))
     ≡ 0 ∷ 0 ∷ 0 ∷ 0x16 ∷ 0x82 ∷ 0 ∷ 0 ∷ 0 ∷ 9 ∷ 0 ∷ 0 ∷ 0 ∷ 7 ∷ 0 ∷ 0 ∷ 0 ∷ 0 ∷ 0 ∷ 2 ∷ 0 ∷ 0 ∷ 0 ∷ 4 ∷ 1 ∷ 0 ∷ 0 ∷ []
-unfolding signed uvarint
+unfolding number signed uvarint
 reply_frame = refl
