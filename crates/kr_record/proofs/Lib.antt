@@ -1,1 +1,11 @@
+pub mod ChangeFields
+pub mod Elements
+pub mod ExtraFields
+pub mod FieldSteps
+pub mod FixedKinds
+pub mod FlagFields
+pub mod Laws
+pub mod Parts
+pub mod Since
+pub mod TaggedKinds
 pub mod Written

@@ -1,7 +1,92 @@
-//! The tagged fields of a change of a broker's registration.
+//! Changes of a broker's registration.
 
+ghost use Rattle.std.specs.Prelude.{◌≡◌, ◌≤◌, length, drop};
+ghost use Rattle.kr_wire.specs.Reading.{field_of, known_in};
+ghost use Rattle.kr_record.specs.Answers.{GivesWire, ReadsField};
+ghost use Rattle.kr_record.specs.Reading.{all_flags, first_with_flag, flags_at, known_since, registration_change_at};
+
+use crate::fault::RecordFault;
+use crate::tagged::{Tagged, read_tags};
+use crate::whole::whole_i8;
+use kr_wire::{read_i32, read_i64};
+use std::alloc::Global;
+
+/// The tagged fields of a change of a broker's registration.
 #[derive(Clone, Copy, Debug, Drop, PartialEq, Eq)]
 pub struct Flags {
     pub fenced: i8,
     pub stopping: i8,
+}
+
+impl Tagged for Flags {
+    ghost known = { λ version. known_since first_with_flag version (known_in all_flags) };
+
+    fn with_field(
+        self,
+        _alloc: Global,
+        version: u32,
+        tag: u32,
+        data: &[u8],
+    ) -> Result<Flags, RecordFault> {
+        if version < first_version(tag) {
+            return Ok(self);
+        }
+        with_flag(self, tag, data)
+    }
+}
+
+fn first_version(tag: u32) -> u32
+    ensures { result ≡ first_with_flag tag }
+{
+    if tag == 0 { 0 } else { 1 }
+}
+
+fn with_flag(flags: Flags, tag: u32, data: &[u8]) -> Result<Flags, RecordFault>
+    ensures { GivesWire result (field_of (known_in all_flags tag) flags «data».now) }
+{
+    match tag {
+        0 => {
+            let fenced = whole_i8(data)?;
+            Ok(Flags { fenced, ..flags })
+        }
+        1 => {
+            let stopping = whole_i8(data)?;
+            Ok(Flags { stopping, ..flags })
+        }
+        _ => Ok(flags),
+    }
+}
+
+#[tactic(auto, unfolding(crate::specs::Reading::flags_at))]
+fn read_flags(
+    alloc: Global,
+    bytes: &[u8],
+    at: usize,
+    version: u32,
+) -> Result<(Flags, usize), RecordFault>
+    requires { at ≤ length bytes.now }
+    ensures { ReadsField (λ f. f) result bytes.now (flags_at version (drop at bytes.now)) }
+{
+    let none = Flags {
+        fenced: 0,
+        stopping: 0,
+    };
+    read_tags(alloc, version, bytes, at, none)
+}
+
+/// A broker, its epoch, and what changes.
+#[tactic(auto, unfolding(crate::specs::Reading::registration_change_at))]
+pub fn read_registration_change(
+    alloc: Global,
+    bytes: &[u8],
+    at: usize,
+    version: u32,
+) -> Result<((i32, i64, Flags), usize), RecordFault>
+    requires { at ≤ length bytes.now }
+    ensures { ReadsField (λ t. (t.0, t.1, t.2)) result bytes.now (registration_change_at version (drop at bytes.now)) }
+{
+    let (broker, next) = read_i32(bytes, at)?;
+    let (epoch, next) = read_i64(bytes, next)?;
+    let (flags, end) = read_flags(alloc, bytes, next, version)?;
+    Ok(((broker, epoch, flags), end))
 }

@@ -1,12 +1,21 @@
 //! Metadata records: decoded and encoded as their grammar says.
 #![tactic(auto)]
 
+mod broker;
+mod change;
 mod fault;
 mod fields;
 mod flags;
 mod listed;
+mod lists;
 mod partition;
+mod reading;
+mod tagged;
+mod texts;
+mod topic;
+mod whole;
 mod writing;
 
 pub use fault::RecordFault;
+pub use reading::decode;
 pub use writing::encode;

@@ -1,0 +1,107 @@
+//! Brokers from bytes.
+
+ghost use Rattle.std.specs.Prelude.{◌≤◌, false, nat_le, length, drop};
+ghost use Rattle.kr_wire.specs.Reading.{Reads, bool_at};
+ghost use Rattle.kr_record.specs.Answers.{ReadsField};
+ghost use Rattle.kr_record.specs.Reading.{broker_epoch_at, endpoint_at, range_at, registration_at, since_at};
+
+use crate::fault::RecordFault;
+use crate::lists::{Layout, read_list};
+use crate::texts::{read_text, text_of};
+use kr_defs::{Broker, Endpoint, Range, Rows};
+use kr_wire::{
+    WireFault, read_bool, read_i16, read_i32, read_i64, read_id, read_str_or_null, read_u16,
+    skip_tags,
+};
+use std::alloc::Global;
+
+impl Layout for Endpoint {
+    ghost layout = { endpoint_at };
+
+    #[tactic(auto, unfolding(crate::specs::Reading::endpoint_at))]
+    fn read(alloc: Global, bytes: &[u8], at: usize) -> Result<(Endpoint, usize), RecordFault> {
+        let (name, next) = read_text(alloc, bytes, at)?;
+        let (host, next) = read_text(alloc, bytes, next)?;
+        let (port, next) = read_u16(bytes, next)?;
+        let (protocol, next) = read_i16(bytes, next)?;
+        let end = skip_tags(bytes, next)?;
+        Ok((
+            Endpoint {
+                name,
+                host,
+                port,
+                protocol,
+            },
+            end,
+        ))
+    }
+}
+
+impl Layout for Range {
+    ghost layout = { range_at };
+
+    #[tactic(auto, unfolding(crate::specs::Reading::range_at))]
+    fn read(alloc: Global, bytes: &[u8], at: usize) -> Result<(Range, usize), RecordFault> {
+        let (name, next) = read_text(alloc, bytes, at)?;
+        let (min, next) = read_i16(bytes, next)?;
+        let (max, next) = read_i16(bytes, next)?;
+        let end = skip_tags(bytes, next)?;
+        Ok((Range { name, min, max }, end))
+    }
+}
+
+/// The registration of a broker, and the broker.
+#[tactic(auto, unfolding(crate::specs::Reading::registration_at))]
+pub fn read_registration(
+    alloc: Global,
+    bytes: &[u8],
+    at: usize,
+    version: u32,
+) -> Result<((i32, Broker), usize), RecordFault>
+    requires { at ≤ length bytes.now }
+    ensures { ReadsField (λ t. (t.0, t.1)) result bytes.now (registration_at version (drop at bytes.now)) }
+{
+    let (broker, next) = read_i32(bytes, at)?;
+    let (incarnation, next) = read_id(bytes, next)?;
+    let (epoch, next) = read_i64(bytes, next)?;
+    let (endpoints, next) = read_list(alloc, bytes, next)?;
+    let (features, next) = read_list(alloc, bytes, next)?;
+    let (rack, next) = read_str_or_null(bytes, next)?;
+    let (fenced, next) = read_bool(bytes, next)?;
+    let (stopping, next) = read_stopping(bytes, next, version)?;
+    let end = skip_tags(bytes, next)?;
+    let rack = text_of(alloc, bytes, rack)?;
+    let state = Broker {
+        epoch,
+        incarnation,
+        endpoints: Rows::from_vec(endpoints),
+        features: Rows::from_vec(features),
+        rack,
+        fenced,
+        stopping,
+    };
+    Ok(((broker, state), end))
+}
+
+// Whether the broker is stopping, which version 0 doesn't say.
+fn read_stopping(bytes: &[u8], at: usize, version: u32) -> Result<(bool, usize), WireFault>
+    requires { at ≤ length bytes.now }
+    ensures { Reads (λ b. b) result bytes.now (since_at (nat_le 1 version) bool_at false (drop at bytes.now)) }
+{
+    if version < 1 {
+        return Ok((false, at));
+    }
+    read_bool(bytes, at)
+}
+
+/// A broker and its epoch.
+#[tactic(auto, unfolding(crate::specs::Reading::broker_epoch_at))]
+pub fn read_broker_epoch(bytes: &[u8], at: usize) -> Result<((i32, i64), usize), WireFault>
+    requires { at ≤ length bytes.now }
+    ensures { Reads (λ t. (t.0, t.1)) result bytes.now (broker_epoch_at (drop at bytes.now)) }
+{
+    let (broker, next) = read_i32(bytes, at)?;
+    let (epoch, next) = read_i64(bytes, next)?;
+    let end = skip_tags(bytes, next)?;
+    Ok(((broker, epoch), end))
+}

@@ -1,0 +1,185 @@
+//! Changes of partitions from bytes.
+
+ghost use Rattle.std.specs.Prelude.{◌≡◌, ◌≤◌, ◌<◌, length, drop};
+ghost use Rattle.kr_wire.specs.Reading.{field_of, known_in};
+ghost use Rattle.kr_record.specs.Answers.{GivesWire, ReadsField};
+ghost use Rattle.kr_record.specs.Reading.{all_changes, change_at, changes_at, first_with_change, known_since, no_leader_change, no_recovery_change};
+ghost use Rattle.kr_record.specs.Spelling.{unless};
+
+use crate::fault::RecordFault;
+use crate::tagged::{Tagged, read_tags};
+use crate::whole::{whole_directories, whole_i8, whole_i32, whole_ids};
+use kr_defs::PartitionChange;
+use kr_wire::{read_i32, read_id};
+use std::alloc::Global;
+
+impl Tagged for PartitionChange {
+    ghost known = { λ version. known_since first_with_change version (known_in all_changes) };
+
+    fn with_field(
+        self,
+        alloc: Global,
+        version: u32,
+        tag: u32,
+        data: &[u8],
+    ) -> Result<PartitionChange, RecordFault> {
+        if version < first_version(tag) {
+            return Ok(self);
+        }
+        if tag <= 2 {
+            return with_first_change(self, alloc, tag, data);
+        }
+        if tag <= 5 {
+            return with_second_change(self, alloc, tag, data);
+        }
+        with_third_change(self, alloc, tag, data)
+    }
+}
+
+fn first_version(tag: u32) -> u32
+    ensures { result ≡ first_with_change tag }
+{
+    if tag <= 5 {
+        0
+    } else if tag == 8 {
+        1
+    } else {
+        2
+    }
+}
+
+// A leader, none where the number says that it doesn't change.
+fn leader_of(number: i32) -> Option<i32>
+    ensures { result ≡ unless no_leader_change number }
+{
+    if number == -2 { None } else { Some(number) }
+}
+
+// A recovery state, none where the number says that it doesn't change.
+fn recovery_of(number: i8) -> Option<i8>
+    ensures { result ≡ unless no_recovery_change number }
+{
+    if number == -1 { None } else { Some(number) }
+}
+
+fn with_first_change(
+    change: PartitionChange,
+    alloc: Global,
+    tag: u32,
+    data: &[u8],
+) -> Result<PartitionChange, RecordFault>
+    requires { tag ≤ 2 }
+    ensures { GivesWire result (field_of (known_in all_changes tag) change «data».now) }
+{
+    match tag {
+        0 => {
+            let in_sync = whole_ids(alloc, data)?;
+            Ok(PartitionChange { in_sync, ..change })
+        }
+        1 => {
+            let leader = leader_of(whole_i32(data)?);
+            Ok(PartitionChange { leader, ..change })
+        }
+        2 => {
+            let replicas = whole_ids(alloc, data)?;
+            Ok(PartitionChange { replicas, ..change })
+        }
+        _ => Ok(change),
+    }
+}
+
+fn with_second_change(
+    change: PartitionChange,
+    alloc: Global,
+    tag: u32,
+    data: &[u8],
+) -> Result<PartitionChange, RecordFault>
+    requires from { 2 < tag }
+    requires up_to { tag ≤ 5 }
+    ensures { GivesWire result (field_of (known_in all_changes tag) change «data».now) }
+{
+    match tag {
+        3 => {
+            let removing = whole_ids(alloc, data)?;
+            Ok(PartitionChange { removing, ..change })
+        }
+        4 => {
+            let adding = whole_ids(alloc, data)?;
+            Ok(PartitionChange { adding, ..change })
+        }
+        5 => {
+            let recovery = recovery_of(whole_i8(data)?);
+            Ok(PartitionChange { recovery, ..change })
+        }
+        _ => Ok(change),
+    }
+}
+
+fn with_third_change(
+    change: PartitionChange,
+    alloc: Global,
+    tag: u32,
+    data: &[u8],
+) -> Result<PartitionChange, RecordFault>
+    requires { 5 < tag }
+    ensures { GivesWire result (field_of (known_in all_changes tag) change «data».now) }
+{
+    match tag {
+        6 => {
+            let eligible = whole_ids(alloc, data)?;
+            Ok(PartitionChange { eligible, ..change })
+        }
+        7 => {
+            let last_known = whole_ids(alloc, data)?;
+            Ok(PartitionChange {
+                last_known,
+                ..change
+            })
+        }
+        8 => {
+            whole_directories(alloc, data)?;
+            Ok(change)
+        }
+        _ => Ok(change),
+    }
+}
+
+#[tactic(auto, unfolding(crate::specs::Reading::changes_at))]
+fn read_changes(
+    alloc: Global,
+    bytes: &[u8],
+    at: usize,
+    version: u32,
+) -> Result<(PartitionChange, usize), RecordFault>
+    requires { at ≤ length bytes.now }
+    ensures { ReadsField (λ c. c) result bytes.now (changes_at version (drop at bytes.now)) }
+{
+    let none = PartitionChange {
+        in_sync: None,
+        replicas: None,
+        removing: None,
+        adding: None,
+        eligible: None,
+        last_known: None,
+        leader: None,
+        recovery: None,
+    };
+    read_tags(alloc, version, bytes, at, none)
+}
+
+/// The index of a partition, its topic, and what changes.
+#[tactic(auto, unfolding(crate::specs::Reading::change_at))]
+pub fn read_change(
+    alloc: Global,
+    bytes: &[u8],
+    at: usize,
+    version: u32,
+) -> Result<((i32, u128, PartitionChange), usize), RecordFault>
+    requires { at ≤ length bytes.now }
+    ensures { ReadsField (λ t. (t.0, t.1, t.2)) result bytes.now (change_at version (drop at bytes.now)) }
+{
+    let (index, next) = read_i32(bytes, at)?;
+    let (topic, next) = read_id(bytes, next)?;
+    let (change, end) = read_changes(alloc, bytes, next, version)?;
+    Ok(((index, topic, change), end))
+}
