@@ -1,11 +1,14 @@
 -- The laws of request messages: what is read stands for its value, what stands is read, and a message asks one thing.
-use Rattle.std.proofs.Common.{Fits, w8, w16, w32, get_or, ◌≡◌, ℕ, zero, suc, ◌+◌, ◌*◌, ◌<◌, ◌≤◌, Bool, true, false, eqb, ltb, List, [], ◌∷◌, ◌++◌, length, take, drop, append_assoc, inl, inr, ◌-◌, Result, Ok, Err, refl, sym, ap, subst, ◌∙◌, arith, lit<}
+use Rattle.std.proofs.Common.{Fits, w8, w16, w32, get_or, ◌≡◌, ℕ, zero, suc, ◌+◌, ◌*◌, ◌<◌, ◌≤◌, Bool, true, false, eqb, ltb, List, [], ◌∷◌, ◌++◌, length, take, drop, ◌^◌, append_assoc, inl, inr, ◌-◌, Result, Ok, Err, refl, sym, ap, subst, ◌∙◌, arith, lit<, lit≤, leb}
 use Rattle.std.specs.Prelude.{ℤ, pos, negsuc, not, int_lt, unsigned_abs, IfOk, IsUtf8}
 use Rattle.std.specs.Int.{Width, byte_len, cast_signed, from_be_bytes}
 use Rattle.std.specs.Ordering.{int_eq}
 use Rattle.std.specs.Str.{bytes_eq}
 use Rattle.std.proofs.lemmas.List.{append-nil, length-drop, length-append}
-use Rattle.std.proofs.lemmas.Bool.{le-ltb, cases_lt, and_parts}
+use Rattle.std.proofs.lemmas.Bool.{le-ltb, cases_lt, and_parts, leb-true}
+use Rattle.kr_tool.specs.Kept.{IsShortAsk}
+use Rattle.std.proofs.lemmas.List.Elements.{All-cons, All-nil}
+use Rattle.kr_defs.specs.declared.calls.ConfigResource.{ConfigResource}
 use Rattle.kr_wire.specs.declared.WireFault.{WireFault}
 use Rattle.kr_tool.specs.Minimum.{is_minimum}
 use Rattle.kr_base.specs.declared.answers.NoMemory.{NoMemory}
@@ -353,3 +356,23 @@ pub only : (message : List ℕ) (answer : Result Ask NoMemory) → ((i : ℕ) �
     → (any : Ask) → IsAsk any message → IfOk answer (λ ask. ask ≡ any)
 only message (Ok ask) fits given any is = given ∙ asked_once (ask_of message) any message (ask_found message (λ i. omega (arith, fits i))) is
 only message (Err e) fits given any is = tt
+
+-- ---- what is asked is short
+
+short_value : (value : List ℕ) → is_minimum value ≡ true → length value < 2 ^ 16
+short_value value reads =
+    let a = and_parts _ _ reads in
+    let b = and_parts _ _ a.0 in
+    let c = and_parts _ _ b.0 in
+    let d = and_parts (leb 1 (length value)) (leb (length value) 10) c.0 in
+    omega (arith, leb-true (length value) 10 d.1)
+
+pub short_ask : (ask : Ask) (message : List ℕ) → IsAsk ask message → IsShortAsk ask
+short_ask _ message (short _ lt) = tt
+short_ask _ message (unsupported k v c _ b served) = tt
+short_ask _ message (other c _ b none) = tt
+short_ask _ message (setting c value _ is) = (lit≤ tt, All-cons (λ (r : ConfigResource). length r.name < 2 ^ 16) _ [] (lit< tt) (All-nil (λ (r : ConfigResource). length r.name < 2 ^ 16)), short_value value is.reads)
+
+pub short_answer : (message : List ℕ) (answer : Result Ask NoMemory) → ((i : ℕ) → Fits w8 (get_or message i 0)) → IfOk answer (λ ask. ask ≡ ask_of message) → IfOk answer IsShortAsk
+short_answer message (Ok ask) fits given = short_ask ask message (found message (Ok ask) fits given)
+short_answer message (Err e) fits given = tt

@@ -4,5 +4,7 @@ pub mod Examples
 pub mod Filled
 pub mod FrameForms
 pub mod Laws
+pub mod Sizes
+pub mod Steps
 pub mod Streams
 pub mod Worlds

@@ -15,7 +15,8 @@ use Rattle.kr_defs.specs.declared.events.Event.TheVariants as events
 use Rattle.kr_defs.specs.declared.record.Item.TheVariants as items
 use Rattle.kr_defs.specs.declared.record.Record.{Record}
 use Rattle.kr_tool.specs.World.{World, start, world, happens, effect, appended, asked, decided, tip, is_accepted, greatest_time, later, image_at, apply}
-use Rattle.kr_tool.specs.Outputs.{Write, write_of, writes, writes_from, is_due}
+use Rattle.kr_tool.specs.declared.controller.Write.{Write}
+use Rattle.kr_tool.specs.Outputs.{write_of, writes, writes_from, is_due}
 
 -- ---- one more event
 

@@ -1,7 +1,8 @@
 -- The bytes of a batch that this controller appends.
-use Rattle.std.specs.Prelude.{ℕ, ℤ, List, []}
+use Rattle.std.specs.Prelude.{ℕ, ℤ, List}
+use Rattle.kr_batch.specs.Written.{batch_bytes}
 use Rattle.kr_defs.specs.declared.record.Item.{Item}
 
--- TO BE REPLACED by kr_batch's written form of a batch with this base, epoch, time and items
+-- a batch with this base, epoch, time and items (Kafka record batch v2)
 unfoldable pub appended_bytes : ℤ → ℤ → ℤ → List Item → List ℕ
-appended_bytes base epoch time items = []
+appended_bytes base epoch time items = batch_bytes (record { base = base; epoch = epoch; time = time; items = items })

@@ -8,6 +8,6 @@ pub mod Outputs
 pub mod Session
 pub mod Told
 pub mod Taken
-pub mod Controller
 pub mod Bodies
 pub mod Fitting
+pub mod Kept

@@ -2,6 +2,7 @@
 use Rattle.std.specs.Prelude.{ℕ, ℤ, pos, ◌&&◌, Bool, nat_lt, nat_le, List, [], ◌∷◌, ◌++◌, map, filter, is_some, if◌then◌else◌, Option, Some, None}
 use Rattle.std.specs.List.{flat_map}
 use Rattle.kr_tool.specs.Batches.{appended_bytes}
+use Rattle.kr_tool.specs.declared.controller.Write.{Write}
 use Rattle.kr_defs.specs.declared.calls.Ask.TheVariants as asks
 use Rattle.kr_defs.specs.declared.calls.Reply.{Reply}
 use Rattle.kr_defs.specs.declared.calls.Reply.TheVariants as replies
@@ -30,13 +31,6 @@ batches w time (events.Request client now (asks.Call call)) = batch_of w time w.
 batches w time other = []
 
 -- ---- replies
-
--- A request that was decided while leading. Its reply needs all that it saw or made: the tip after it.
-pub record Write : Type 0 where
-  pub client : ℕ
-  pub correlation : ℤ
-  pub reply : Reply
-  pub need : ℕ
 
 -- the request of an event, in the world before it
 abbrev pub write_of : World → Event → List Write

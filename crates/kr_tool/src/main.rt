@@ -2,6 +2,7 @@
 #![tactic(auto)]
 
 mod bodies;
+mod controller;
 mod filling;
 mod messages;
 mod minimum;

@@ -5,6 +5,7 @@ ghost use Rattle.std.specs.Ordering.{int_eq};
 ghost use Rattle.std.specs.Str.{bytes_eq};
 ghost use Rattle.kr_wire.specs.Reading.{Reads, Read};
 ghost use Rattle.kr_defs.specs.declared.calls.Ask.{Ask as Any};
+ghost use Rattle.kr_tool.specs.Kept.{IsShortAsk};
 ghost use Rattle.kr_tool.specs.Messages;
 ghost use Rattle.kr_tool.specs.Messages.{IsAsk, minimum_key};
 ghost use Rattle.kr_tool.specs.Reading.{Passes, one_uvarint_at, one_i8_at, one_i16_at, one_text_at, client_id_at, sized_text_at, header_at, resource_at, operation_at, closing_at, setting_at, setting_of, begin_at, ask_of};
@@ -19,7 +20,7 @@ use kr_defs::{
 use kr_wire::{Span, WireFault, read_i8, read_i16, read_i32, read_str, read_utf8, read_uvarint};
 use std::alloc::Global;
 
-const MINIMUM_KEY: &str = "min.insync.replicas";
+pub const MINIMUM_KEY: &str = "min.insync.replicas";
 
 #[tactic(auto, unfolding(crate::specs::Reading::one_uvarint_at))]
 fn one_uvarint(bytes: &[u8], at: usize, number: u32) -> Result<usize, WireFault>
@@ -302,6 +303,7 @@ fn read_ask(alloc: Global, message: &[u8]) -> Result<Ask, NoMemory>
 pub fn decode(alloc: Global, message: &[u8]) -> Result<Ask, NoMemory>
     // It is what the bytes stand for, and they stand for nothing else.
     ensures found { IfOk result (λ ask. IsAsk ask message.now) }
+    ensures short { IfOk result IsShortAsk }
     ensures only { (any : Any) → IsAsk any message.now → IfOk result (λ ask. ask ≡ any) }
 {
     read_ask(alloc, message)

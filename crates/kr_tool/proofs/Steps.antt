@@ -1,0 +1,214 @@
+-- What an accepted event makes of a state stands for the events with it, and what waits then are its outputs.
+use Rattle.std.proofs.Common.{◌≡◌, ℕ, ℤ, pos, ◌+◌, ◌<◌, ◌≤◌, inl, inr, Bool, true, false, cond, List, [], ◌∷◌, ◌++◌, length, map, filter, append_assoc, append-nil, length-append, Option, Some, None, refl, sym, ap, subst, ◌∙◌, arith}
+use Rattle.std.specs.Prelude.{◌||◌, ◌&&◌, not, nat_lt, nat_le, int_lt, unsigned_abs, is_some, IsTrue}
+use Rattle.std.specs.List.{fold, list_any}
+use Rattle.std.specs.Int.{int_max}
+use Rattle.std.specs.Option.{option_map_or}
+use Rattle.std.specs.Str.{bytes_eq}
+use Rattle.std.proofs.lemmas.List.Sums.{fold-append}
+use Rattle.std.proofs.lemmas.Bool.{cases_lt, lt-ltb, le-ltb, lt-leb, le-leb}
+use Rattle.kr_defs.specs.declared.calls.Ask.{Ask}
+use Rattle.kr_defs.specs.declared.calls.Ask.TheVariants as asks
+use Rattle.kr_defs.specs.declared.calls.Call.{Call}
+use Rattle.kr_defs.specs.declared.events.Event.{Event}
+use Rattle.kr_defs.specs.declared.events.Event.TheVariants as events
+use Rattle.kr_defs.specs.declared.events.Output.{Output}
+use Rattle.kr_defs.specs.declared.events.Output.TheVariants as given
+use Rattle.kr_defs.specs.declared.calls.Reply.TheVariants as replies
+use Rattle.kr_defs.specs.declared.record.Item.TheVariants as items
+use Rattle.kr_defs.specs.declared.record.Record.{Record}
+use Rattle.kr_defs.specs.declared.record.Record.TheVariants as kinds
+use Rattle.kr_tool.specs.declared.controller.Write.{Write}
+use Rattle.kr_tool.specs.Batches.{appended_bytes}
+use Rattle.kr_tool.specs.Messages.{minimum_key, error_of}
+use Rattle.kr_tool.specs.Kept.{State, Keeps, Stands, accepts, changed, item_of, give, append_value, append_change, answer, decide_call, take_call, take_ask, take_commit, after_event}
+use Rattle.kr_tool.specs.Outputs.{writes, write_of, reply_of, is_due, batch_of, batches, bare_of, replies_of, outputs_of}
+use Rattle.kr_tool.specs.World.{World, world, happens, effect, asked, appended, decided, setting_records, value_of, refuse, tip, image_at, apply, is_accepted, greatest_time, later}
+use Rattle.kr_tool.proofs.Worlds.{RisesTo, LiesBetween, world_push, time_push, writes_push, happens_log, happens_committed, happens_ends, happens_leading, happens_greatest, commit_lies_between, world_rises, image_at_tip}
+
+-- ---- accepted or not, as the state says and as the world says
+
+-- the state says of an event what the world says
+pub accepts_as : (s : State) (w : World) (latest : ℤ) (ws : List Write) → Keeps s w latest ws → (e : Event) → accepts s e ≡ is_accepted w e
+accepts_as s w latest ws k (events.Lead epoch next now) = rw (k.led, k.led_before, k.at_end) refl
+accepts_as s w latest ws k (events.Commit epoch end) = rw (k.led, k.at_end, k.ends) refl
+accepts_as s w latest ws k (events.Request client now (asks.Call call)) = rw (k.led, k.at_tip) refl
+accepts_as s w latest ws k (events.Request client now (asks.Bare correlation fault)) = refl
+
+-- ---- which replies are due
+
+-- the requests whose need is above a place
+abbrev above : ℕ → List Write → List Write
+above place ws = filter (λ x. nat_lt place x.need) ws
+
+above_later : (before after : ℕ) (ws : List Write) → before ≤ after → above after (above before ws) ≡ above after ws
+above_later before after [] le = refl
+above_later before after (x ∷ xs) le = elim (cases_lt before x.need) [
+  | inl lt ↦ rw (lt-ltb before x.need lt) (ap (λ (l : List Write). cond (nat_lt after x.need) (x ∷ l) l) (above_later before after xs le))
+  | inr ge ↦ rw (le-ltb before x.need ge, le-ltb after x.need (omega arith)) (above_later before after xs le)
+]
+
+due_among : (before after : ℕ) (ws : List Write) → filter (λ x. nat_le x.need after) (above before ws) ≡ filter (is_due before after) ws
+due_among before after [] = refl
+due_among before after (x ∷ xs) = elim (nat_lt before x.need) as (λ b. filter (λ x. nat_le x.need after) (cond b (x ∷ above before xs) (above before xs)) ≡ cond (b && nat_le x.need after) (x ∷ filter (is_due before after) xs) (filter (is_due before after) xs)) [
+  | true ↦ ap (λ (l : List Write). cond (nat_le x.need after) (x ∷ l) l) (due_among before after xs)
+  | false ↦ due_among before after xs
+]
+
+none_between : (place : ℕ) (ws : List Write) → filter (is_due place place) ws ≡ []
+none_between place [] = refl
+none_between place (x ∷ xs) = elim (cases_lt place x.need) [
+  | inl lt ↦ rw (lt-ltb place x.need lt, lt-leb x.need place lt) (none_between place xs)
+  | inr ge ↦ rw (le-ltb place x.need ge) (none_between place xs)
+]
+
+above_push : (place : ℕ) (ws : List Write) (x : Write) → above place (ws ++ x ∷ []) ≡ above place ws ++ above place (x ∷ [])
+above_push place [] x = refl
+above_push place (y ∷ ws) x = elim (nat_lt place y.need) as (λ b. cond b (y ∷ above place (ws ++ x ∷ [])) (above place (ws ++ x ∷ [])) ≡ cond b (y ∷ above place ws) (above place ws) ++ above place (x ∷ [])) [
+  | true ↦ ap (λ (l : List Write). y ∷ l) (above_push place ws x)
+  | false ↦ above_push place ws x
+]
+
+-- ---- parts of a step
+
+-- only what the state speaks of matters
+keeps_along : (s : State) (w w' : World) (t : ℤ) (ws : List Write) → w'.log ≡ w.log → w'.committed ≡ w.committed → w'.batch_ends ≡ w.batch_ends
+    → w'.leading ≡ w.leading → w'.greatest ≡ w.greatest → Keeps s w t ws → Keeps s w' t ws
+keeps_along s w w' t ws log committed ends leading greatest k = record {
+  at_tip = k.at_tip ∙ ap tip (sym log);
+  at_end = k.at_end ∙ sym committed;
+  ends = k.ends ∙ sym ends;
+  led = k.led ∙ sym leading;
+  led_before = k.led_before ∙ sym greatest;
+  at_time = k.at_time;
+  value = k.value ∙ ap (λ l. (image_at l (tip l)).minimum) (sym log);
+  unanswered = k.unanswered ∙ ap (λ place. above place ws) (sym committed);
+}
+
+-- the records that a request makes are those of the value that it changes
+abbrev of_change : Option (List ℕ) → List Record
+of_change None = []
+of_change (Some value) = kinds.Config (pos 4) [] minimum_key (Some value) ∷ []
+
+records_of : (old new : Option (List ℕ)) → setting_records old new ≡ of_change (changed old new)
+records_of old None = refl
+records_of old (Some value) = elim (option_map_or (λ v. bytes_eq v value) old false) as (λ b. cond b [] (kinds.Config (pos 4) [] minimum_key (Some value) ∷ []) ≡ of_change (cond b None (Some value))) [ true ↦ refl | false ↦ refl ]
+
+keeps_change : (s : State) (w : World) (t : ℤ) (ws : List Write) (led : ℤ) (change : Option (List ℕ)) → Keeps s w t ws
+    → Keeps (append_change s led change) (appended w (of_change change)) t ws
+unfolding append_value
+keeps_change s w t ws led None k = k
+keeps_change s w t ws led (Some value) k =
+    let w' : World = appended w (of_change (Some value)) in
+    let longer : length w'.log.items ≡ length w.log.items + 1 = length-append w.log.items (item_of value ∷ []) in
+    let tip_is : tip w'.log ≡ tip w.log + 1 = omega (arith, longer) in
+    let image : (image_at w'.log (tip w'.log)).minimum ≡ Some value =
+    ap (λ i. i.minimum) (image_at_tip w' ∙ fold-append apply w.log.first w.log.items (item_of value ∷ [])) in
+    record {
+      at_tip = ap (λ n. n + 1) k.at_tip ∙ sym tip_is;
+      at_end = k.at_end;
+      ends = ap (λ n. s.batch_ends ++ (n + 1) ∷ []) k.at_tip ∙ ap (λ (l : List ℕ). l ++ (tip w.log + 1) ∷ []) k.ends;
+      led = k.led;
+      led_before = k.led_before;
+      at_time = k.at_time;
+      value = sym image;
+      unanswered = k.unanswered;
+    }
+
+-- the reply to x is given or held
+answer_held_is : (s : State) (w : World) (ws : List Write) (x : Write) → s.held ≡ above w.committed ws → s.committed ≡ w.committed
+    → (answer s x).held ≡ above w.committed (ws ++ x ∷ [])
+unfolding answer
+answer_held_is s w ws x held committed = elim (cases_lt w.committed x.need) [
+  | inl lt ↦ rw (committed, lt-leb x.need w.committed lt, above_push w.committed ws x, lt-ltb w.committed x.need lt, held) refl
+  | inr ge ↦ rw (committed, le-leb x.need w.committed ge, above_push w.committed ws x, le-ltb w.committed x.need ge, held, append-nil) refl
+]
+
+keeps_answer : (s : State) (w : World) (t : ℤ) (ws : List Write) (x : Write) → Keeps s w t ws → Keeps (answer s x) w t (ws ++ x ∷ [])
+unfolding answer
+keeps_answer s w t ws x k =
+    let held = answer_held_is s w ws x k.unanswered k.at_end in
+    elim (nat_le x.need s.committed) as (λ b. (cond b (give s (reply_of x)) (record s { held = s.held ++ x ∷ [] })).held ≡ above w.committed (ws ++ x ∷ []) → Keeps (cond b (give s (reply_of x)) (record s { held = s.held ++ x ∷ [] })) w t (ws ++ x ∷ [])) [
+      | true ↦ λ h. record { at_tip = k.at_tip; at_end = k.at_end; ends = k.ends; led = k.led; led_before = k.led_before; at_time = k.at_time; value = k.value; unanswered = h }
+      | false ↦ λ h. record { at_tip = k.at_tip; at_end = k.at_end; ends = k.ends; led = k.led; led_before = k.led_before; at_time = k.at_time; value = k.value; unanswered = h }
+    ] held
+
+-- ---- one event, on the world that has its effect
+
+abbrev Goes : State → World → ℤ → List Write → Event → Type 0
+Goes s w t ws e = Keeps (after_event s e) (effect w e) (later t e) (ws ++ write_of w e)
+
+keeps_lead : (s : State) (w : World) (t : ℤ) (ws : List Write) (epoch next now : ℤ) → Keeps s w t ws → Goes s w t ws (events.Lead epoch next now)
+keeps_lead s w t ws epoch next now k = record {
+  at_tip = k.at_tip;
+  at_end = k.at_end;
+  ends = k.ends;
+  led = refl;
+  led_before = refl;
+  at_time = ap (λ u. int_max u now) k.at_time;
+  value = k.value;
+  unanswered = k.unanswered ∙ ap (above w.committed) (sym (append-nil ws));
+}
+
+keeps_commit : (s : State) (w : World) (t : ℤ) (ws : List Write) (epoch end : ℤ) → w.committed ≤ unsigned_abs end → Keeps s w t ws → Goes s w t ws (events.Commit epoch end)
+unfolding take_commit
+keeps_commit s w t ws epoch end le k = record {
+  at_tip = k.at_tip;
+  at_end = refl;
+  ends = ap (filter (λ n. int_lt end (pos n))) k.ends;
+  led = k.led;
+  led_before = k.led_before;
+  at_time = k.at_time;
+  value = k.value;
+  unanswered = ap (above (unsigned_abs end)) k.unanswered ∙ above_later w.committed (unsigned_abs end) ws le ∙ ap (above (unsigned_abs end)) (sym (append-nil ws));
+}
+
+-- a later time, and something given
+keeps_given : (s : State) (w : World) (t now : ℤ) (ws : List Write) (output : Output) → Keeps s w t ws → Keeps (give (record s { time = int_max s.time now }) output) w (int_max t now) (ws ++ [])
+keeps_given s w t now ws output k = record {
+  at_tip = k.at_tip;
+  at_end = k.at_end;
+  ends = k.ends;
+  led = k.led;
+  led_before = k.led_before;
+  at_time = ap (λ u. int_max u now) k.at_time;
+  value = k.value;
+  unanswered = k.unanswered ∙ ap (above w.committed) (sym (append-nil ws));
+}
+
+keeps_later : (s : State) (w : World) (t now : ℤ) (ws : List Write) → Keeps s w t ws → Keeps (record s { time = int_max s.time now }) w (int_max t now) ws
+keeps_later s w t now ws k = record {
+  at_tip = k.at_tip;
+  at_end = k.at_end;
+  ends = k.ends;
+  led = k.led;
+  led_before = k.led_before;
+  at_time = ap (λ u. int_max u now) k.at_time;
+  value = k.value;
+  unanswered = k.unanswered;
+}
+
+-- the request of a call while leading
+abbrev write_at : ℕ → Call → ℕ → Write
+write_at client call need = record { client = client; correlation = call.correlation; reply = refuse call.request (pos 0); need = need }
+
+-- the world after a call while leading
+abbrev after_call : World → Call → World
+after_call w call = appended w (decided w call.request).records
+
+keeps_decided : (s : State) (w : World) (t now : ℤ) (ws : List Write) (led : ℤ) (client : ℕ) (call : Call) → Keeps s w t ws
+    → Keeps (decide_call (record s { time = int_max s.time now }) led client call) (after_call w call) (int_max t now) (ws ++ write_at client call (tip (after_call w call).log) ∷ [])
+unfolding decide_call
+keeps_decided s w t now ws led client call k =
+    let s' : State = record s { time = int_max s.time now } in
+    let change : Option (List ℕ) = changed s.minimum (value_of call.request) in
+    let records : (decided w call.request).records ≡ of_change change =
+    ap (λ old. setting_records old (value_of call.request)) (sym k.value) ∙ records_of s.minimum (value_of call.request) in
+    let after : World = appended w (of_change change) in
+    let k' : Keeps (append_change s' led change) after (int_max t now) ws = keeps_change s' w (int_max t now) ws led change (keeps_later s w t now ws k) in
+    let x : Write = write_at client call (append_change s' led change).end in
+    let k'' : Keeps (answer (append_change s' led change) x) after (int_max t now) (ws ++ x ∷ []) = keeps_answer (append_change s' led change) after (int_max t now) ws x k' in
+    let P : ℕ → Type 0 = λ n. Keeps (answer (append_change s' led change) x) after (int_max t now) (ws ++ write_at client call n ∷ []) in
+    let k3 : P (tip after.log) = subst P k'.at_tip k'' in
+    let Q : List Record → Type 0 = λ rs. Keeps (answer (append_change s' led change) x) (appended w rs) (int_max t now) (ws ++ write_at client call (tip (appended w rs).log) ∷ []) in
+    subst Q (sym records) k3
