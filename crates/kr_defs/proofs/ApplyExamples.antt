@@ -1,8 +1,7 @@
 -- The meaning of records, computed: each cause once, and each effect.
-use Rattle.std.proofs.Common.{◌≡◌, refl, ℕ, ℤ, Bool, true, false, List, [], ◌∷◌, replicate}
-use Rattle.std.specs.Prelude.{pos, negsuc, codes, Option, Some, None, Result, Ok, Err}
+use Rattle.std.proofs.Common.{◌≡◌, refl, true, false, [], ◌∷◌, replicate}
+use Rattle.std.specs.Prelude.{pos, negsuc, codes, Some, None, Ok, Err}
 use Rattle.kr_defs.specs.declared.broker.Broker.{Broker}
-use Rattle.kr_defs.specs.declared.broker.Endpoint.{Endpoint}
 use Rattle.kr_defs.specs.declared.partition.Partition.{Partition}
 use Rattle.kr_defs.specs.declared.partition.PartitionChange.{PartitionChange}
 use Rattle.kr_defs.specs.declared.record.ConfigKey.{ConfigKey}
@@ -11,7 +10,7 @@ use Rattle.kr_defs.specs.declared.record.Record.TheVariants as kinds
 use Rattle.kr_defs.specs.declared.record.Item.TheVariants as items
 use Rattle.kr_defs.specs.declared.ill.Ill.{Ill}
 use Rattle.kr_defs.specs.declared.ill.Ill.TheVariants.{BadNumber, NoBroker, StaleEpoch, NoTopic, TopicExists, BadName, NoPartition, PartitionExists, BadPartition, Limit}
-use Rattle.kr_defs.specs.Image.{Image, empty}
+use Rattle.kr_defs.specs.Image.{Image}
 use Rattle.kr_defs.specs.Apply.{apply, apply_record}
 use Rattle.kr_defs.specs.Merge.{merged}
 use Rattle.kr_defs.specs.Partition.{is_well_formed}

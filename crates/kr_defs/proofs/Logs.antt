@@ -13,7 +13,7 @@ use Rattle.kr_defs.specs.Image.{Image, IsValid, has_topic, topic_name}
 use Rattle.kr_defs.specs.Log.{Log, tip, more, apply_all, image_at}
 use Rattle.kr_defs.specs.Apply as apply
 use Rattle.kr_defs.proofs.Validity.{kept}
-use Rattle.kr_defs.proofs.Parts.{has_topic_any, none_left}
+use Rattle.kr_defs.proofs.ImageParts.{has_topic_any, none_left}
 use Rattle.kr_defs.proofs.Tests.{Gives, gives_done, gives_found, gives_then, some_is}
 
 -- ---- logs

@@ -1,6 +1,6 @@
 -- Settings, numbers and lists in text, computed.
-use Rattle.std.proofs.Common.{◌≡◌, refl, ℤ, Bool, true, false, List, [], ◌∷◌, ℕ}
-use Rattle.std.specs.Prelude.{pos, codes, Option, Some, None}
+use Rattle.std.proofs.Common.{◌≡◌, refl, true, false, List, [], ◌∷◌, ℕ}
+use Rattle.std.specs.Prelude.{pos, codes, Some, None}
 use Rattle.kr_defs.specs.Image.{Image, empty}
 use Rattle.kr_defs.specs.Settings.{minimum_of, is_unclean, read_minimum, minimum_key, unclean_key, is_broker_name}
 use Rattle.kr_defs.specs.Texts.{parts, joined, is_name, decimal_up_to}

@@ -20,7 +20,7 @@ use Rattle.kr_defs.specs.Merge.{merged}
 use Rattle.kr_defs.specs.Partition.{is_well_formed}
 use Rattle.kr_defs.specs.Texts.{is_topic_name}
 use Rattle.kr_defs.specs.Apply as apply
-use Rattle.kr_defs.proofs.Parts.{brokers-insert, brokers-set, brokers-remove, topics-insert, topics-filter, partitions-insert, partitions-set, partitions-more, partitions-filter, configs-insert, configs-remove, configs-filter, features-insert, features-remove}
+use Rattle.kr_defs.proofs.ImageParts.{brokers-insert, brokers-set, brokers-remove, topics-insert, topics-filter, partitions-insert, partitions-set, partitions-more, partitions-filter, configs-insert, configs-remove, configs-filter, features-insert, features-remove}
 use Rattle.kr_defs.proofs.Tests.{Gives, gives_refuse, gives_found, gives_done, gives_if, positive, neither, not_false, none_is}
 
 short_enough : (n : ℕ) → nat_lt LONGEST_FEATURE n ≡ false → nat_le n LONGEST_FEATURE ≡ true

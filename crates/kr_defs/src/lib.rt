@@ -11,6 +11,7 @@ mod ill;
 pub mod kept_laws;
 pub mod laws;
 pub mod limits;
+mod lists;
 mod options;
 mod partition;
 mod partition_laws;
@@ -31,6 +32,7 @@ pub use copied::Copied;
 pub use events::{Event, Output};
 pub use forming::{are_replicas, is_reassignment, is_sensible, is_well_formed};
 pub use ill::Ill;
+pub use lists::parts;
 pub use options::Options;
 pub use partition::{Partition, PartitionChange};
 pub use partition_laws::{
