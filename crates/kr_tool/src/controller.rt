@@ -236,7 +236,9 @@ fn batch_bytes(
 
 impl Controller {
     /// A controller to which nothing has happened.
+    #[tactic(auto, using(crate::proofs::Steps::fresh_stands))]
     pub fn new(alloc: Global) -> Controller
+        ensures stands { Stands result [] }
         ensures fresh { result ≡ fresh }
     {
         Controller {
@@ -283,15 +285,22 @@ impl Controller {
         !self.decides(ask) || self.end <= LAST_PLACE
     }
 
-    /// The event may come now.
-    pub fn accepts(&self, event: &Event) -> bool
-        ensures value { result ≡ Kept.accepts self.now event.now }
+    fn may_come(&self, event: &Event) -> bool
+        ensures { result ≡ Kept.accepts self.now event.now }
     {
         match event {
             Event::Lead { epoch, next, .. } => self.accepts_lead(*epoch, *next),
             Event::Commit { epoch, end } => self.accepts_commit(*epoch, *end),
             Event::Request { ask, .. } => self.accepts_ask(ask),
         }
+    }
+
+    /// The event may come now.
+    pub fn accepts(&self, event: &Event) -> bool
+        ensures stands { (past : List Happening) → Stands self.now past → result ≡ is_accepted (world past) event.now }
+        ensures state { result ≡ Kept.accepts self.now event.now }
+    {
+        self.may_come(event)
     }
 
     fn give(&mut self, output: Output) -> Result<(), NoMemory>
@@ -434,12 +443,10 @@ impl Controller {
         Ok(())
     }
 
-    /// Takes an event that may come now. Without memory the controller is of no use any more.
-    pub fn step(&mut self, alloc: Global, event: &Event) -> Result<(), NoMemory>
+    fn take_event(&mut self, alloc: Global, event: &Event) -> Result<(), NoMemory>
         requires accepted { IsTrue (Kept.accepts self.old event.now) }
         requires short { HasShort event.now }
-        requires handed_out { self.old.waiting ≡ [] }
-        ensures state { OnOk result (self.new ≡ Kept.after_event self.old event.now) }
+        ensures { OnOk result (self.new ≡ Kept.after_event self.old event.now) }
     {
         match event {
             Event::Lead { epoch, now, .. } => {
@@ -456,11 +463,31 @@ impl Controller {
         }
     }
 
-    /// The next output that waits, in order; none where all is handed out. It takes no memory.
-    pub fn next_output(&mut self) -> Option<Output>
+    /// Takes an event that may come now. Its outputs wait then. Without memory the controller is of no use any more.
+    pub fn step(&mut self, alloc: Global, event: &Event) -> Result<(), NoMemory>
+        requires accepted { IsTrue (Kept.accepts self.old event.now) }
+        requires short { HasShort event.now }
+        requires handed_out { self.old.waiting ≡ [] }
+        ensures stands { OnOk result ((past : List Happening) → Stands self.old past → Stands self.new (past ++ event.now ∷ [])) }
+        ensures outputs { OnOk result ((past : List Happening) → Stands self.old past → self.new.waiting ≡ outputs_of past event.now) }
+        ensures state { OnOk result (self.new ≡ Kept.after_event self.old event.now) }
+    {
+        self.take_event(alloc, event)
+    }
+
+    fn pop_waiting(&mut self) -> Option<Output>
         ensures in_order { self.old.waiting ≡ option_to_list result ++ self.new.waiting }
         ensures same { self.new ≡ record self.old { waiting = self.new.waiting } }
     {
         self.waiting.pop_front()
+    }
+
+    /// The next output that waits, in order; none where all is handed out. It takes no memory.
+    pub fn next_output(&mut self) -> Option<Output>
+        ensures in_order { self.old.waiting ≡ option_to_list result ++ self.new.waiting }
+        ensures stands { (past : List Happening) → Stands self.old past → Stands self.new past }
+        ensures same { self.new ≡ record self.old { waiting = self.new.waiting } }
+    {
+        self.pop_waiting()
     }
 }
