@@ -7,3 +7,6 @@ mod racks;
 
 pub use placing::{PlaceFault, place};
 pub use racked::Racked;
+
+#[cfg(test)]
+mod tests;

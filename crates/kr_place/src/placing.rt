@@ -30,7 +30,7 @@ impl From<NoMemory> for PlaceFault {
     }
 }
 
-/// The brokers of a partition's replicas, the first one preferred: `factor` different ones, over all racks in turn.
+/// The brokers of a partition's replicas, the first one preferred: the first `factor` that the visits of the racks give.
 ///
 /// `start` is where the topic's placement begins, and `index` the number of the partition.
 #[tactic(auto, unfolding(kr_defs::specs::Placed::placed))]
