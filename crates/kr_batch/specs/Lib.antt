@@ -1,4 +1,5 @@
 pub mod Answers
 pub mod Crc
+pub mod Grammar
 pub mod Reading
 pub mod Written

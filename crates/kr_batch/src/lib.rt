@@ -2,12 +2,14 @@
 #![tactic(auto)]
 
 mod checksum;
+mod decoding;
 mod encoding;
 mod fault;
 mod framing;
 mod heading;
 
 pub use checksum::crc32c;
+pub use decoding::decode;
 pub use encoding::encode;
 pub use fault::{BatchFault, Cause};
 use kr_defs::Items;
