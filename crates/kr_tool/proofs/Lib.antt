@@ -8,3 +8,5 @@ pub mod Sizes
 pub mod Steps
 pub mod Streams
 pub mod Worlds
+pub mod Readings
+pub mod Asked

@@ -1,8 +1,8 @@
 -- Reading the body of a frame: its value, or that it doesn't read. The fault says no more than that.
-use Rattle.std.specs.Prelude.{◌≡◌, ℕ, ℤ, pos, List, [], int_lt, Ok}
+use Rattle.std.specs.Prelude.{◌≡◌, ℕ, ℤ, pos, List, [], int_lt, Ok, ◌≤ℤ◌, ◌≤◌}
 use Rattle.std.specs.Int.{w16, w32, w64}
 use Rattle.kr_wire.specs.declared.WireFault.TheVariants.{TooBig}
-use Rattle.kr_wire.specs.Grammar.{◌⌢◌, IsNumber, IsSigned}
+use Rattle.kr_wire.specs.Grammar.{◌⌢◌, Exactly, IsNumber, IsSigned}
 use Rattle.kr_wire.specs.Reading.{◌>>=◌, Read, refuse◌when◌else◌, number_at, signed_at}
 use Rattle.kr_defs.specs.declared.options.Options.{Options}
 use Rattle.kr_defs.specs.declared.events.Event.{Event}
@@ -56,6 +56,12 @@ stamp_at bytes = do
   now ← time_at client.1
   Ok ((client.0, now.0), now.1)
 
+-- a request of this client at this time, with the message of these bytes
+abbrev pub IsAsked : ℕ → ℤ → Event → List ℕ → Type 0
+IsAsked client now (events.Request c n ask) message = (c ≡ client) × (n ≡ now) × IsMessage ask message
+IsAsked client now (events.Lead epoch next then_) message = ⊥
+IsAsked client now (events.Commit epoch end) message = ⊥
+
 -- the kind and the body of an event's frame
 pub data IsBody (event : Event) (kind : ℕ) (body : List ℕ) : Type 0 where
   lead : kind ≡ 2 → IsLead event body → IsBody event kind body
@@ -64,7 +70,23 @@ pub data IsBody (event : Event) (kind : ℕ) (body : List ℕ) : Type 0 where
 
 -- ---- Open
 
+-- the numbers that a session may begin with
+pub record AreTopicNumbers (partitions factor : ℤ) : Type 0 where
+  pub least_partitions : pos 1 ≤ℤ partitions
+  pub most_partitions : partitions ≤ℤ pos 9000
+  pub least_factor : pos 1 ≤ℤ factor
+  pub most_factor : factor ≤ℤ pos 32
+
+pub record AreNumbers (node : ℤ) (session_ms : ℕ) (partitions factor minimum : ℤ) : Type 0 where
+  pub natural : pos 0 ≤ℤ node
+  pub session : 1 ≤ session_ms
+  pub topics : AreTopicNumbers partitions factor
+  pub least : pos 1 ≤ℤ minimum
+
 -- the settings but for the cluster id, which is what is left
+abbrev pub IsSpelled : Options → List ℕ → Type 0
+IsSpelled o = IsSigned w32 o.node ⌢ IsNumber w64 o.salt ⌢ IsNumber w32 o.session_ms ⌢ IsSigned w32 o.partitions ⌢ IsSigned w16 o.factor ⌢ IsSigned w32 o.minimum ⌢ Exactly o.cluster
+
 unfoldable pub options_at : List ℕ → Read Options
 options_at bytes = do
   node ← signed_at w32 bytes

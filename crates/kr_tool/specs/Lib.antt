@@ -11,3 +11,4 @@ pub mod Taken
 pub mod Bodies
 pub mod Fitting
 pub mod Kept
+pub mod Reader

@@ -1,12 +1,15 @@
 //! The bodies of frames that are read.
 
-ghost use Rattle.std.specs.Prelude.{◌≡◌, ◌≤◌, ◌<◌, [], pos, length, drop, IfOk, OnErr, Ok, Err, MatchResult};
+ghost use Rattle.std.specs.Prelude.{◌≡◌, ◌≤◌, ◌<◌, [], pos, length, drop, IfOk, OnErr, Ok, Err, MatchResult, IsTrue, IsUtf8, ◌↔◌};
 ghost use Rattle.kr_wire.specs.Reading.{Reads};
 ghost use Rattle.kr_defs.specs.declared.events.Event.{Event as AnyEvent};
-ghost use Rattle.kr_tool.specs.Bodies.{IsLead, IsCommit, time_at, lead_at, commit_at, stamp_at, options_at};
+ghost use Rattle.kr_tool.specs.Frames.{IsOptions, AreOptions};
+ghost use Rattle.kr_tool.specs.Bodies.{IsLead, IsCommit, IsRequest, IsAsked, IsBody, AreNumbers, AreTopicNumbers, time_at, lead_at, commit_at, stamp_at, options_at};
 
-use kr_defs::Event;
+use crate::messages::decode;
+use kr_defs::{Event, Options, Text};
 use kr_wire::{WireFault, read_i16, read_i32, read_i64, read_u32, read_u64};
+use std::alloc::Global;
 
 /// Why a body isn't read.
 #[derive(Clone, Copy, Debug, Drop, PartialEq, Eq)]
@@ -89,13 +92,64 @@ pub(crate) fn commit(body: &[u8]) -> Result<Event, BodyFault>
 }
 
 // The client and the time, before the message.
+#[derive(Clone, Copy, Drop)]
+struct Stamp {
+    client: u32,
+    now: i64,
+}
+
 #[tactic(auto, unfolding(crate::specs::Bodies::stamp_at))]
-fn read_stamp(body: &[u8]) -> Result<((u32, i64), usize), WireFault>
-    ensures { Reads (λ x. x) result body.now (stamp_at body.now) }
+fn read_stamp(body: &[u8]) -> Result<(Stamp, usize), WireFault>
+    ensures { Reads (λ s. (s.client, s.now)) result body.now (stamp_at body.now) }
 {
     let (client, at) = read_u32(body, 0)?;
     let (now, at) = time(body, at)?;
-    Ok(((client, now), at))
+    Ok((Stamp { client, now }, at))
+}
+
+// The event of a message under its stamp. The message has at most 8 MiB.
+fn asked(alloc: Global, stamp: Stamp, message: &[u8]) -> Result<Event, BodyFault>
+    ensures found { IfOk result (λ event. IsAsked stamp.client stamp.now event message.now) }
+{
+    if message.len() > 8_388_608 {
+        return Err(BodyFault::Misfit);
+    }
+    match decode(alloc, message) {
+        Err(_) => Err(BodyFault::NoMemory),
+        Ok(ask) => Ok(Event::Request {
+            client: stamp.client,
+            now: stamp.now,
+            ask,
+        }),
+    }
+}
+
+/// The event of a Request frame's body.
+pub(crate) fn request(alloc: Global, body: &[u8]) -> Result<Event, BodyFault>
+    ensures found { IfOk result (λ event. IsRequest event body.now) }
+{
+    match read_stamp(body) {
+        Err(_) => Err(BodyFault::Misfit),
+        Ok((stamp, at)) => {
+            let (_, message) = body.split_at(at);
+            asked(alloc, stamp, message)
+        }
+    }
+}
+
+/// The event of a frame's kind and body.
+pub(crate) fn event(alloc: Global, kind: u8, body: &[u8]) -> Result<Event, BodyFault>
+    ensures found { IfOk result (λ event. IsBody event kind body.now) }
+{
+    if kind == 2 {
+        lead(body)
+    } else if kind == 3 {
+        commit(body)
+    } else if kind == 8 {
+        request(alloc, body)
+    } else {
+        Err(BodyFault::Misfit)
+    }
 }
 
 // The settings but for the cluster id, and where that begins.
@@ -132,4 +186,58 @@ fn read_opening(body: &[u8]) -> Result<Opening, WireFault>
         minimum,
         cluster,
     })
+}
+
+// The numbers are those that a session may begin with.
+fn are_settings(o: &Opening) -> bool
+    ensures { IsTrue result → AreNumbers o.now.node o.now.session_ms o.now.partitions o.now.factor o.now.minimum }
+{
+    has_topics(o) && o.node >= 0 && o.session_ms >= 1 && o.minimum >= 1
+}
+
+fn has_topics(o: &Opening) -> bool
+    ensures { IsTrue result → AreTopicNumbers o.now.partitions o.now.factor }
+{
+    o.partitions >= 1 && o.partitions <= 9000 && o.factor >= 1 && o.factor <= 32
+}
+
+/// The settings of an Open frame's body.
+pub(crate) fn options(alloc: Global, body: &[u8]) -> Result<Options, BodyFault>
+    ensures found { IfOk result (λ options. IsOptions options body.now) }
+{
+    match read_opening(body) {
+        Err(_) => Err(BodyFault::Misfit),
+        Ok(opening) => {
+            let (_, cluster) = body.split_at(opening.cluster);
+            named(alloc, opening, cluster)
+        }
+    }
+}
+
+// The settings with the cluster id of these bytes.
+fn named(alloc: Global, o: Opening, cluster: &[u8]) -> Result<Options, BodyFault>
+    ensures found { IfOk result (λ options. AreOptions options × IsUtf8 cluster.now
+        × (options ≡ record { node = o.node; salt = o.salt; session_ms = o.session_ms; partitions = o.partitions; factor = o.factor; minimum = o.minimum; cluster = cluster.now })) }
+{
+    if !are_settings(&o) || cluster.len() > 255 || !is_text(cluster) {
+        return Err(BodyFault::Misfit);
+    }
+    match Text::from_utf8(alloc, cluster) {
+        Err(_) => Err(BodyFault::NoMemory),
+        Ok(cluster) => Ok(Options {
+            node: o.node,
+            salt: o.salt,
+            session_ms: o.session_ms,
+            partitions: o.partitions,
+            factor: o.factor,
+            minimum: o.minimum,
+            cluster,
+        }),
+    }
+}
+
+fn is_text(bytes: &[u8]) -> bool
+    ensures { IsTrue result ↔ IsUtf8 bytes.now }
+{
+    str::from_utf8(bytes).is_ok()
 }

@@ -4,6 +4,7 @@
 mod bodies;
 mod controller;
 mod filling;
+mod frames;
 mod messages;
 mod minimum;
 mod replies;

@@ -1,0 +1,86 @@
+-- What is read of the bodies of Request and Open frames stands for its value.
+use Rattle.std.proofs.Common.{Fits, w8, get_or, ◌≡◌, ℕ, ℤ, pos, ◌≤◌, List, [], ◌∷◌, ◌++◌, length, drop, append_assoc, Result, Ok, Err, refl, sym, ap, subst, ◌∙◌, arith}
+use Rattle.std.specs.Prelude.{IfOk, IsUtf8}
+use Rattle.std.specs.Int.{w16, w32, w64}
+use Rattle.std.proofs.lemmas.List.{append-nil}
+use Rattle.kr_wire.specs.Reading.{Read}
+use Rattle.kr_wire.specs.Grammar.{◌⌢◌, Exactly, IsNumber, IsSigned}
+use Rattle.kr_wire.proofs.Laws.{IsBytes, Yields, Front, joined, ok_value, ok_rest, sound_then}
+use Rattle.kr_wire.proofs.Numbers.{number_law, signed_law}
+use Rattle.kr_defs.specs.declared.options.Options.{Options}
+use Rattle.kr_defs.specs.declared.events.Event.{Event}
+use Rattle.kr_defs.specs.declared.events.Event.TheVariants as events
+use Rattle.kr_tool.specs.declared.bodies.BodyFault.{BodyFault}
+use Rattle.kr_tool.specs.Frames.{AreOptions, IsOptions, IsRest, IsTime, IsMessage}
+use Rattle.kr_tool.specs.Bodies.{IsRequest, IsAsked, stamp_at, IsSpelled, options_at}
+use Rattle.kr_tool.proofs.BodyLaws.{stamp_law}
+
+stamped : (client : ℕ) (now : ℤ) (Message : List ℕ → Type 0) (front rest body : List ℕ) → body ≡ front ++ rest → (IsNumber w32 client ⌢ IsTime now) front → Message rest
+    → (IsNumber w32 client ⌢ IsTime now ⌢ Message) body
+stamped client now Message front rest body parts h message = record {
+  left = h.left;
+  right = h.right ++ rest;
+  is = parts ∙ (ap (λ (l : List ℕ). l ++ rest) h.is ∙ append_assoc h.left h.right rest);
+  first = h.first;
+  second = joined h.right rest h.second message;
+}
+
+request_is : (client : ℕ) (now : ℤ) (event : Event) (front rest body : List ℕ) → body ≡ front ++ rest → (IsNumber w32 client ⌢ IsTime now) front → IsAsked client now event rest → IsRequest event body
+request_is client now (events.Request c n ask) front rest body parts h asked =
+    let P : ℕ → Type 0 = λ m. (IsNumber w32 m ⌢ IsTime n ⌢ IsMessage ask) body in
+    let Q : ℤ → Type 0 = λ m. (IsNumber w32 client ⌢ IsTime m ⌢ IsMessage ask) body in
+    subst P (sym asked.0) (subst Q (sym asked.1) (stamped client now (IsMessage ask) front rest body parts h asked.2))
+request_is client now (events.Lead epoch next then_) front rest body parts h asked = absurd asked
+request_is client now (events.Commit epoch end) front rest body parts h asked = absurd asked
+
+pub request_found : (client : ℕ) (now : ℤ) (at : ℕ) (body rest : List ℕ) (result : Result Event BodyFault) → ((i : ℕ) → Fits w8 (get_or body i 0))
+    → stamp_at body ≡ Ok ((client, now), drop at body) → rest ≡ drop at body
+    → IfOk result (λ event. IsAsked client now event rest) → IfOk result (λ event. IsRequest event body)
+request_found client now at body rest (Ok event) fits e behind asked =
+    let f = stamp_law.sound body (λ i. omega (arith, fits i)) (client, now) (drop at body) e in
+    request_is client now event f.front rest body (f.parts ∙ ap (λ (l : List ℕ). f.front ++ l) (sym behind)) f.holds asked
+request_found client now at body rest (Err f) fits e behind asked = tt
+
+-- ---- Open
+
+all_of : (bytes : List ℕ) (o : Options) (Is : Options → List ℕ → Type 0) → Is o bytes → (y : Options) (rest : List ℕ) → (let r : Read Options = Ok (o, []) in r) ≡ Ok (y, rest) → Front (Is y) bytes rest
+all_of bytes o Is is y rest e =
+    let none : [] ≡ rest = ok_rest _ _ _ _ e in
+    record {
+      front = bytes;
+      parts = sym (append-nil bytes) ∙ ap (λ (l : List ℕ). bytes ++ l) none;
+      holds = let P : Options → Type 0 = λ z. Is z bytes in subst P (ok_value _ _ _ _ e) is;
+    }
+
+options_sound : (bytes : List ℕ) → IsBytes bytes → Yields IsSpelled bytes (options_at bytes)
+unfolding options_at
+options_sound bytes fits =
+    sound_then (signed_law w32) IsSpelled _ bytes fits (λ node a r1 p1 m1.
+    sound_then (number_law w64) _ _ r1 m1 (λ salt b r2 p2 m2.
+    sound_then (number_law w32) _ _ r2 m2 (λ session c r3 p3 m3.
+    sound_then (signed_law w32) _ _ r3 m3 (λ partitions d r4 p4 m4.
+    sound_then (signed_law w16) _ _ r4 m4 (λ factor e r5 p5 m5.
+    sound_then (signed_law w32) _ _ r5 m5 (λ minimum f r6 p6 m6.
+    all_of r6 _ _ (joined a _ p1 (joined b _ p2 (joined c _ p3 (joined d _ p4 (joined e _ p5 (joined f r6 p6 refl))))))))))))
+
+last_as : {A B C : List ℕ → Type 0} (bytes : List ℕ) → (A ⌢ B) bytes → ((b : List ℕ) → B b → C b) → (A ⌢ C) bytes
+last_as bytes j as_ = record { left = j.left; right = j.right; is = j.is; first = j.first; second = as_ j.right j.second }
+
+options_are : (o : Options) (body : List ℕ) → IsSpelled o body → AreOptions o → IsUtf8 o.cluster → IsOptions o body
+options_are o body is fits utf8 = record {
+  fits = fits;
+  spelled = last_as body is (λ r1 s1. last_as r1 s1 (λ r2 s2. last_as r2 s2 (λ r3 s3. last_as r3 s3 (λ r4 s4. last_as r4 s4 (λ r5 s5. last_as r5 s5 (λ r6 all. record { utf8 = utf8; all = all }))))));
+}
+
+pub options_found : (o : Options) (body cluster : List ℕ) (result : Result Options BodyFault) → ((i : ℕ) → Fits w8 (get_or body i 0))
+    → options_at body ≡ Ok (o, []) → cluster ≡ o.cluster
+    → IfOk result (λ options. AreOptions options × IsUtf8 cluster × (options ≡ record o { cluster = cluster })) → IfOk result (λ options. IsOptions options body)
+options_found o body cluster (Ok options) fits e same named =
+    let f = options_sound body (λ i. omega (arith, fits i)) o [] e in
+    let all : body ≡ f.front = f.parts ∙ append-nil f.front in
+    let spelled : IsSpelled o body = subst (λ (l : List ℕ). IsSpelled o l) (sym all) f.holds in
+    let whole : options ≡ o = named.2 ∙ ap (λ (l : List ℕ). record o { cluster = l }) same in
+    let P : Options → Type 0 = λ z. IsOptions z body in
+    let Q : Options → Type 0 = λ z. AreOptions z in
+    subst P (sym whole) (options_are o body spelled (subst Q whole named.0) (subst (λ (l : List ℕ). IsUtf8 l) same named.1))
+options_found o body cluster (Err f) fits e same named = tt

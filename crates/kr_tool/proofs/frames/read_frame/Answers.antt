@@ -1,0 +1,10 @@
+use Rattle.std.proofs.Common.{◌≡◌, ◌+◌, arith}
+use Rattle.kr_tool.proofs.Readings.{stopped_behind, frame_taken}
+use Rattle.kr_tool.proofs.frames.read_frame.Goals as goal
+
+pub returns-in-Err-read_body-clause-stopped : goal.returns-in-Err-read_body-clause-stopped
+returns-in-Err-read_body-clause-stopped g c = stopped_behind _ _ _ c.args.at _ _ _ _ _ c.in-Ok.ensures.head c.read_head.ensures.later c.in-Err-read_body.ensures.stopped
+
+pub returns-in-Ok-read_body-clause-frame : goal.returns-in-Ok-read_body-clause-frame
+returns-in-Ok-read_body-clause-frame g c =
+    frame_taken _ _ _ c.args.at c.in-Ok.head.0 c.in-Ok.head.1 _ c.in-Ok-read_body.body.items c.in-Ok.ensures.head c.in-Ok-read_body.ensures.body c.in-Ok-read_body.ensures.len (omega (arith, c.from.ensures))
