@@ -5,6 +5,7 @@ pub mod Filled
 pub mod FrameForms
 pub mod Laws
 pub mod Sizes
+pub mod Small
 pub mod Steps
 pub mod Streams
 pub mod Worlds

@@ -20,11 +20,11 @@ groups_few (suc room) n = elim (cases_lt n 128) [
   | inr le ↦ let h = groups_few room (n / 128) in rw (le-ltb n 128 le) (omega (arith, h))
 ]
 
-uvarint_few : (n : ℕ) → length (uvarint n) ≤ 5
+pub uvarint_few : (n : ℕ) → length (uvarint n) ≤ 5
 unfolding uvarint
 uvarint_few n = groups_few 4 n
 
-byte_long : (z : ℤ) → length (signed w8 z) ≡ 1
+pub byte_long : (z : ℤ) → length (signed w8 z) ≡ 1
 unfolding signed
 byte_long z = refl
 

@@ -21,6 +21,7 @@ use Rattle.kr_defs.specs.declared.record.Item.TheVariants as items
 use Rattle.kr_defs.specs.declared.record.Record.TheVariants as kinds
 use Rattle.kr_tool.specs.declared.controller.Write.{Write}
 use Rattle.kr_tool.specs.Batches.{appended_bytes}
+use Rattle.kr_tool.specs.Fitting.{FitsFrame}
 use Rattle.kr_tool.specs.Messages.{error_of, minimum_key}
 use Rattle.kr_tool.specs.Outputs.{writes, reply_of}
 use Rattle.kr_tool.specs.World.{World, world, tip, image_at, greatest_time, last_place, refuse, value_of}
@@ -161,17 +162,7 @@ abbrev pub HasShort : Event → Type 0
 HasShort (events.Request client now ask) = IsShortAsk ask
 HasShort other = Unit {0}
 
--- a reply of at most one entry, with a short text
-abbrev pub IsShortReply : Reply → Type 0
-IsShortReply (replies.Bare error) = Unit {0}
-IsShortReply (replies.IncrementalAlterConfigs reply) = (length reply.responses ≤ 1) × All (λ r. length r.name < 2 ^ 16) reply.responses
-
--- an output whose frame fits its size field
-abbrev pub IsSmall : Output → Type 0
-IsSmall (given.Append bytes) = length bytes < 3 * 2 ^ 30
-IsSmall (given.Reply client correlation reply) = IsShortReply reply
-
--- all that is held and all that waits is small
+-- the frames of all that is held and of all that waits fit their size field
 pub record AreSmall (state : State) : Type 0 where
-  pub held : All (λ write. IsShortReply write.reply) state.held
-  pub waiting : All IsSmall state.waiting
+  pub held : All (λ write. FitsFrame (reply_of write)) state.held
+  pub waiting : All FitsFrame state.waiting

@@ -7,7 +7,8 @@ ghost use Rattle.std.specs.Ordering.{int_eq};
 ghost use Rattle.std.specs.Str.{bytes_eq};
 ghost use Rattle.kr_defs.specs.declared.events.Event.{Event as Happening};
 ghost use Rattle.kr_tool.specs.Batches.{appended_bytes};
-ghost use Rattle.kr_tool.specs.Kept.{Stands, HasShort, IsShort, IsShortAsk, item_of, IsSmall, AreSmall, fresh};
+ghost use Rattle.kr_tool.specs.Kept.{Stands, HasShort, IsShort, IsShortAsk, item_of, AreSmall, fresh};
+ghost use Rattle.kr_tool.specs.Fitting.{FitsFrame};
 ghost use Rattle.kr_tool.specs.Kept;
 ghost use Rattle.kr_tool.specs.Messages;
 ghost use Rattle.kr_tool.specs.Messages.{minimum_key};
@@ -236,9 +237,10 @@ fn batch_bytes(
 
 impl Controller {
     /// A controller to which nothing has happened.
-    #[tactic(auto, using(crate::proofs::Steps::fresh_stands))]
+    #[tactic(auto, using(crate::proofs::Steps::fresh_stands, crate::proofs::Small::fresh_small))]
     pub fn new(alloc: Global) -> Controller
         ensures stands { Stands result [] }
+        ensures small { AreSmall result }
         ensures fresh { result ≡ fresh }
     {
         Controller {
@@ -470,6 +472,7 @@ impl Controller {
         requires handed_out { self.old.waiting ≡ [] }
         ensures stands { OnOk result ((past : List Happening) → Stands self.old past → Stands self.new (past ++ event.now ∷ [])) }
         ensures outputs { OnOk result ((past : List Happening) → Stands self.old past → self.new.waiting ≡ outputs_of past event.now) }
+        ensures small { OnOk result (AreSmall self.old → AreSmall self.new) }
         ensures state { OnOk result (self.new ≡ Kept.after_event self.old event.now) }
     {
         self.take_event(alloc, event)
@@ -486,6 +489,7 @@ impl Controller {
     pub fn next_output(&mut self) -> Option<Output>
         ensures in_order { self.old.waiting ≡ option_to_list result ++ self.new.waiting }
         ensures stands { (past : List Happening) → Stands self.old past → Stands self.new past }
+        ensures small { AreSmall self.old → IfSome result FitsFrame × AreSmall self.new }
         ensures same { self.new ≡ record self.old { waiting = self.new.waiting } }
     {
         self.pop_waiting()
