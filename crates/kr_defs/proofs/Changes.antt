@@ -27,20 +27,20 @@ use Rattle.kr_defs.proofs.StandingBy.{nobody, stand_by}
 use Rattle.kr_defs.proofs.Elections.{sound}
 
 -- replica lists, part by part
-record Replicas (ids : List ℤ) : Type 0 where
-  some : nat_lt 0 (length ids) ≡ true
-  few : nat_le (length ids) MOST_REPLICAS ≡ true
-  distinct : is_distinct ids ≡ true
-  natural : list_all is_natural ids ≡ true
+pub record Replicas (ids : List ℤ) : Type 0 where
+  pub some : nat_lt 0 (length ids) ≡ true
+  pub few : nat_le (length ids) MOST_REPLICAS ≡ true
+  pub distinct : is_distinct ids ≡ true
+  pub natural : list_all is_natural ids ≡ true
 
-replicas_parts : (ids : List ℤ) → are_replicas ids ≡ true → Replicas ids
+pub replicas_parts : (ids : List ℤ) → are_replicas ids ≡ true → Replicas ids
 replicas_parts ids h =
     let a = and_parts (nat_lt 0 (length ids) && nat_le (length ids) MOST_REPLICAS && is_distinct ids) (list_all is_natural ids) h in
     let b = and_parts (nat_lt 0 (length ids) && nat_le (length ids) MOST_REPLICAS) (is_distinct ids) a.0 in
     let c = and_parts (nat_lt 0 (length ids)) (nat_le (length ids) MOST_REPLICAS) b.0 in
     record { some = c.0; few = c.1; distinct = b.1; natural = a.1 }
 
-replicas_from : (ids : List ℤ) → Replicas ids → are_replicas ids ≡ true
+pub replicas_from : (ids : List ℤ) → Replicas ids → are_replicas ids ≡ true
 replicas_from ids r =
     and_from (nat_lt 0 (length ids) && nat_le (length ids) MOST_REPLICAS && is_distinct ids) (list_all is_natural ids)
     (and_from (nat_lt 0 (length ids) && nat_le (length ids) MOST_REPLICAS) (is_distinct ids)

@@ -1,14 +1,18 @@
 -- A reassignment's lists lead to its target and back to its original.
-use Rattle.std.proofs.Common.{◌≡◌, ◌∙◌, sym, ap, refl, inl, inr, Bool, true, false, not, ◌||◌, List, [], ◌∷◌, ◌++◌, ℤ}
-use Rattle.std.proofs.lemmas.Bool.{and_parts, and_from, or_cases, or_left, or_right, cases_Bool}
+use Rattle.std.proofs.Common.{◌≡◌, ◌∙◌, sym, ap, refl, ◌⊎◌, inl, inr, Bool, true, false, not, ◌&&◌, ◌||◌, ℕ, ◌+◌, ◌<◌, ◌≤◌, arith, length, List, [], ◌∷◌, ◌++◌, ℤ}
+use Rattle.std.proofs.lemmas.Bool.{and_parts, and_from, or_cases, or_left, or_right, cases_Bool, lt-ltb}
 use Rattle.std.proofs.lemmas.List.{append-nil}
 use Rattle.std.proofs.lemmas.List.Elements.{filter-append}
-use Rattle.std.proofs.lemmas.List.Folds.{list_any-append}
-use Rattle.std.specs.Prelude.{filter}
+use Rattle.std.proofs.lemmas.List.Folds.{list_any-append, list_all-append}
+use Rattle.std.specs.List.{list_all}
+use Rattle.std.specs.Prelude.{filter, IsTrue, nat_lt, nat_le}
 use Rattle.std.specs.Ordering.{int_eq}
-use Rattle.kr_defs.specs.Ids.{has, is_distinct, without}
-use Rattle.kr_defs.specs.Reassign.{reassigned, added, removed, ReassignmentsLeadBothWays}
-use Rattle.kr_defs.proofs.IdLists.{refutes, refuted, id_itself, has_before, passes_kept, has_kept, distinct_kept}
+use Rattle.kr_defs.specs.Ids.{has, is_distinct, is_within, are_apart, without}
+use Rattle.kr_defs.specs.Reassign.{reassigned, added, removed, ReassignmentsLeadBothWays, ReassignmentsAreSensible}
+use Rattle.kr_defs.specs.declared.limits.TheConstants.{MOST_REPLICAS}
+use Rattle.kr_defs.specs.Partition.{is_natural, is_part, are_replicas, is_reassignment}
+use Rattle.kr_defs.proofs.Changes.{Replicas, replicas_parts, replicas_from}
+use Rattle.kr_defs.proofs.IdLists.{all_at, all_from, all_kept, first_member, refutes, refuted, id_itself, has_before, passes_kept, has_kept, distinct_kept}
 
 -- a filter that each passes keeps all, one that none passes keeps none
 all_pass : (p : ℤ → Bool) (xs : List ℤ) → ((id : ℤ) → has xs id ≡ true → p id ≡ true) → filter p xs ≡ xs
@@ -92,3 +96,67 @@ both_ways target original = record {
   from_original = λ id. same_tests (has (without (reassigned target original) (added target original)) id) (has original id) (forward target original id) (backward target original id);
   distinct = λ first second. joined_distinct target (without original target) first (distinct_kept (λ x. not (has target x)) original second) (not_in_target target original);
 }
+
+some_joined : (xs ys : List ℤ) → nat_lt 0 (length xs) ≡ true → nat_lt 0 (length (xs ++ ys)) ≡ true
+some_joined [] ys h = absurd cc
+some_joined (x ∷ xs) ys h = lt-ltb 0 (length (x ∷ (xs ++ ys))) (omega arith)
+
+module _ (target original : List ℤ) (wanted : Replicas target) (were : Replicas original) where
+  abbrev all : List ℤ
+  all = reassigned target original
+
+  abbrev joining : List ℤ
+  joining = added target original
+
+  abbrev leaving : List ℤ
+  leaving = removed target original
+
+  in_all : (id : ℤ) → (has target id || has leaving id) ≡ true → has all id ≡ true
+  in_all id h = list_any-append (λ x. int_eq x id) target leaving ∙ h
+
+  joining_part : is_part joining all ≡ true
+  joining_part =
+      and_from (is_distinct joining) (is_within joining all)
+      (distinct_kept (λ x. not (has original x)) target wanted.distinct)
+      (all_from (has all) joining (λ id h. in_all id (or_left (has target id) (has leaving id) (has_before (λ x. not (has original x)) target id h))))
+
+  leaving_part : is_part leaving all ≡ true
+  leaving_part =
+      and_from (is_distinct leaving) (is_within leaving all)
+      (distinct_kept (λ x. not (has target x)) original were.distinct)
+      (all_from (has all) leaving (λ id h. in_all id (or_right (has target id) (has leaving id) h)))
+
+  separate : are_apart joining leaving ≡ true
+  separate = all_from (λ id. not (has leaving id)) joining (λ id h. not_in_target target original id (has_before (λ x. not (has original x)) target id h))
+
+  some_were : not (is_within all joining) ≡ true
+  some_were =
+      let first = first_member original were.some in
+      let there = backward target original first.0 first.1 in
+      let p = λ (x : ℤ). not (has joining x) in
+      refuted (is_within all joining) (λ w. refutes (has joining first.0) (passes_kept p all first.0 there) (all_at (has joining) all first.0 w (has_before p all first.0 there)))
+
+  some_stay : not (is_within all leaving) ≡ true
+  some_stay =
+      let first = first_member target wanted.some in
+      refuted (is_within all leaving) (λ w. refutes (has leaving first.0) (not_in_target target original first.0 first.1)
+      (all_at (has leaving) all first.0 w (in_all first.0 (or_left (has target first.0) (has leaving first.0) first.1))))
+
+  lists_sensible : nat_le (length all) MOST_REPLICAS ≡ true → (are_replicas all && is_reassignment all joining leaving) ≡ true
+  lists_sensible few =
+      and_from (are_replicas all) (is_reassignment all joining leaving)
+      (replicas_from all (record {
+        some = some_joined target leaving wanted.some;
+        few = few;
+        distinct = joined_distinct target leaving wanted.distinct (distinct_kept (λ x. not (has target x)) original were.distinct) (not_in_target target original);
+        natural = list_all-append is_natural target leaving ∙ and_from (list_all is_natural target) (list_all is_natural leaving) wanted.natural (all_kept (λ x. not (has target x)) is_natural original were.natural);
+      }))
+      (and_from (is_part joining all && is_part leaving all && are_apart joining leaving && not (is_within all joining)) (not (is_within all leaving))
+      (and_from (is_part joining all && is_part leaving all && are_apart joining leaving) (not (is_within all joining))
+      (and_from (is_part joining all && is_part leaving all) (are_apart joining leaving)
+      (and_from (is_part joining all) (is_part leaving all) joining_part leaving_part) separate)
+      some_were)
+      some_stay)
+
+pub sensible : ReassignmentsAreSensible
+sensible target original wanted were few = lists_sensible target original (replicas_parts target wanted) (replicas_parts original were) few

@@ -37,7 +37,7 @@ pub use options::Options;
 pub use partition::{Partition, PartitionChange};
 pub use partition_laws::{
     built_changes_keep_partitions, clean_elections_keep_records, elections_are_sound,
-    eligible_stand_by, reassignments_lead_both_ways,
+    eligible_stand_by, reassignments_are_sensible, reassignments_lead_both_ways,
 };
 pub use record::{ConfigKey, Item, Record, Topic};
 pub use rows::{Bytes, Ids, Items, Records, Rows, Texts};

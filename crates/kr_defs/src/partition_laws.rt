@@ -1,7 +1,7 @@
 //! Laws of elections, of eligible replicas and of changes of partitions. Each function's contract is the law.
 
 ghost use Rattle.kr_defs.specs.PartitionLaws.{ElectionsAreSound, CleanElectionsKeepRecords, EligibleStandBy, BuiltChangesKeepPartitions};
-ghost use Rattle.kr_defs.specs.Reassign.{ReassignmentsLeadBothWays};
+ghost use Rattle.kr_defs.specs.Reassign.{ReassignmentsLeadBothWays, ReassignmentsAreSensible};
 
 /// Who is elected is an active replica that is in sync, or eligible, or, where unclean election is on or asked for,
 /// any; or -1.
@@ -28,4 +28,9 @@ pub fn built_changes_keep_partitions()
 /// of its original; and they are distinct where both are.
 pub fn reassignments_lead_both_ways()
     ensures { ReassignmentsLeadBothWays }
+{}
+
+/// Between two replica lists that together aren't too many, a reassignment's lists are those of a partition.
+pub fn reassignments_are_sensible()
+    ensures { ReassignmentsAreSensible }
 {}

@@ -1,0 +1,5 @@
+use Rattle.kr_defs.proofs.Reassigning.{sensible}
+use Rattle.kr_defs.proofs.partition_laws.reassignments_are_sensible.Goals as goal
+
+pub returns : goal.returns
+returns c = sensible
