@@ -12,10 +12,12 @@ mod partition;
 mod reading;
 mod tagged;
 mod texts;
+mod theorems;
 mod topic;
 mod whole;
 mod writing;
 
 pub use fault::RecordFault;
 pub use reading::decode;
+pub use theorems::records;
 pub use writing::encode;
