@@ -1,11 +1,11 @@
 -- A reassignment's lists lead to its target and back to its original.
-use Rattle.std.proofs.Common.{◌≡◌, ◌∙◌, sym, ap, refl, ◌⊎◌, inl, inr, Bool, true, false, not, ◌&&◌, ◌||◌, ℕ, ◌+◌, ◌<◌, ◌≤◌, arith, length, List, [], ◌∷◌, ◌++◌, ℤ}
+use Rattle.std.proofs.Common.{◌≡◌, ◌∙◌, sym, ap, refl, inl, inr, Bool, true, false, not, ◌&&◌, ◌||◌, arith, length, List, [], ◌∷◌, ◌++◌, ℤ}
 use Rattle.std.proofs.lemmas.Bool.{and_parts, and_from, or_cases, or_left, or_right, cases_Bool, lt-ltb}
 use Rattle.std.proofs.lemmas.List.{append-nil}
 use Rattle.std.proofs.lemmas.List.Elements.{filter-append}
 use Rattle.std.proofs.lemmas.List.Folds.{list_any-append, list_all-append}
 use Rattle.std.specs.List.{list_all}
-use Rattle.std.specs.Prelude.{filter, IsTrue, nat_lt, nat_le}
+use Rattle.std.specs.Prelude.{filter, nat_lt, nat_le}
 use Rattle.std.specs.Ordering.{int_eq}
 use Rattle.kr_defs.specs.Ids.{has, is_distinct, is_within, are_apart, without}
 use Rattle.kr_defs.specs.Reassign.{reassigned, added, removed, ReassignmentsLeadBothWays, ReassignmentsAreSensible}

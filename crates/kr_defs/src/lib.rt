@@ -12,6 +12,8 @@ pub mod kept_laws;
 pub mod laws;
 pub mod limits;
 mod lists;
+#[cfg(test)]
+mod memory_tests;
 mod options;
 mod partition;
 mod partition_laws;
