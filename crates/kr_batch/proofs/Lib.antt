@@ -6,3 +6,4 @@ pub mod Frames
 pub mod Heads
 pub mod Records
 pub mod Sizes
+pub mod Spelled

@@ -1,10 +1,13 @@
 -- How many bytes are written.
-use Rattle.std.proofs.Common.{◌≡◌, ℕ, ℤ, pos, negsuc, zero, suc, ◌+◌, ◌*◌, ◌/◌, ◌^◌, ◌<◌, ◌≤◌, inl, inr, List, [], ◌∷◌, length, refl, sym, arith, length-append}
+use Rattle.std.proofs.Common.{◌≡◌, ℕ, ℤ, pos, negsuc, zero, suc, ◌+◌, ◌*◌, ◌/◌, ◌^◌, ◌<◌, ◌≤◌, inl, inr, List, [], ◌∷◌, length, Some, refl, sym, arith, length-append}
 use Rattle.std.specs.Int.{w8}
 use Rattle.std.proofs.lemmas.Bool.{lt-ltb, le-ltb, cases_lt}
 use Rattle.std.proofs.lemmas.List.Sums.{sum_by-cons}
-use Rattle.kr_wire.specs.Spelling.{groups, varint32, varint64, number, signed}
+use Rattle.kr_wire.specs.Spelling.{groups, uvarint, varint32, varint64, number, signed}
 use Rattle.kr_defs.specs.declared.record.Item.{Item}
+use Rattle.kr_defs.specs.declared.record.Item.TheVariants as items
+use Rattle.kr_defs.specs.declared.record.Record.TheVariants as kinds
+use Rattle.kr_record.specs.Spelling.{record_value, config, framed, no_tags}
 use Rattle.kr_batch.specs.declared.Batch.{Batch}
 use Rattle.kr_batch.specs.Written.{record_body, record_bytes, records_bytes, no_producer, fixed_bytes, checked_bytes, value_bytes, values_size}
 
@@ -59,7 +62,7 @@ groups_few (suc room) n = elim (cases_lt n 128) [
   | inr le ↦ let e = more room n le in let h = groups_few room (n / 128) in omega (arith, e, h)
 ]
 
-varint_few : (n : ℕ) → length (varint32 (pos n)) ≤ 5
+pub varint_few : (n : ℕ) → length (varint32 (pos n)) ≤ 5
 unfolding varint32
 varint_few n = groups_few 4 (2 * n)
 
@@ -102,10 +105,37 @@ fixed_length : (count : ℕ) (time : ℤ) → length (fixed_bytes count time) �
 unfolding fixed_bytes no_producer signed number
 fixed_length count time = refl
 
-pub checked_length : (batch : Batch) → length batch.items ≤ 10000 → values_size batch.items < 2 ^ 30 → length (checked_bytes batch) < 2 ^ 31
+pub checked_length : (batch : Batch) → length batch.items ≤ 10000 → values_size batch.items < 2 ^ 30 → length (checked_bytes batch) + 9 < 2 ^ 31
 unfolding checked_bytes
 checked_length batch few small =
     let a = fixed_length (length batch.items) batch.time in
     let b = records_length 0 batch.items in
     let d = length-append (fixed_bytes (length batch.items) batch.time) (records_bytes 0 batch.items) in
     omega (arith, a, b, d)
+
+-- ---- a setting with short texts
+
+uvarint_few : (n : ℕ) → length (uvarint n) ≤ 5
+unfolding uvarint
+uvarint_few n = groups_few 4 n
+
+config_parts : (kind : ℤ) (name key value : List ℕ)
+    → length (record_value (kinds.Config kind name key (Some value)))
+    ≡ length (framed 4 0) + (length (signed w8 kind) + (length (uvarint (length name + 1)) + length name) + (length (uvarint (length key + 1)) + length key) + (length (uvarint (length value + 1)) + length value) + length no_tags)
+unfolding record_value config
+config_parts kind name key value = simp length-append
+
+few_parts : (kind : ℤ) → length (framed 4 0) + length (signed w8 kind) + length no_tags ≡ 5
+unfolding framed signed no_tags uvarint
+few_parts kind = refl
+
+pub setting_size : (kind : ℤ) (name key value : List ℕ) → length name + length key + length value ≤ 1000
+    → values_size (items.Record (kinds.Config kind name key (Some value)) ∷ []) < 2 ^ 30
+setting_size kind name key value short =
+    let a = config_parts kind name key value in
+    let b = few_parts kind in
+    let d = uvarint_few (length name + 1) in
+    let e = uvarint_few (length key + 1) in
+    let f = uvarint_few (length value + 1) in
+    let g = sum_by-cons (λ x. length (value_bytes x)) (items.Record (kinds.Config kind name key (Some value))) [] in
+    omega (arith, a, b, d, e, f, g)

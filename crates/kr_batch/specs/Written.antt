@@ -6,6 +6,7 @@ use Rattle.kr_wire.specs.Spelling.{number, signed, varint32, varint64}
 use Rattle.kr_defs.specs.declared.record.Item.{Item}
 use Rattle.kr_defs.specs.declared.record.Item.TheVariants as items
 use Rattle.kr_record.specs.Encodable.{IsEncodable}
+use Rattle.kr_record.specs.Grammar.{IsRecord}
 use Rattle.kr_record.specs.Spelling.{record_value}
 use Rattle.kr_batch.specs.Crc.{crc32c}
 use Rattle.kr_batch.specs.declared.Batch.{Batch}
@@ -19,6 +20,11 @@ value_bytes items.Control = []
 abbrev pub IsWritable : Item → Type 0
 IsWritable (items.Record value) = IsEncodable value
 IsWritable items.Control = ⊥
+
+-- a record that its value stands for
+abbrev pub IsStanding : Item → Type 0
+IsStanding (items.Record value) = IsRecord value (record_value value)
+IsStanding items.Control = ⊥
 
 -- the bytes of all values together
 abbrev pub values_size : List Item → ℕ

@@ -1,4 +1,9 @@
+ghost use Rattle.std.specs.Prelude.{◌≡◌, ◌<◌, ◌^◌, length, IfOk};
+ghost use Rattle.std.specs.List.{All};
+ghost use Rattle.kr_batch.specs.Written.{IsWritable, values_size};
+
 use super::*;
+use kr_defs::{Item, Record, Text};
 use kr_record::RecordFault;
 use std::alloc::{AllocError, Global};
 use std::test::*;
@@ -113,6 +118,14 @@ fn the_sum_is_judged_between_magic_and_compression(rt: HostRuntime) -> Result<()
     assert_eq!(rt; magic, Some(BatchFault::Magic { found: 1 }));
     let sum = answer(rt.alloc(), &[(22, 1)], true)?;
     assert!(rt; matches!(sum, Some(BatchFault::Crc { .. })));
+    let sum = answer(rt.alloc(), &[], true)?;
+    assert_eq!(rt;
+        sum,
+        Some(BatchFault::Crc {
+            stored: 0x235D_E381,
+            counted: 0x235D_E380
+        })
+    );
     Ok(())
 }
 
@@ -132,6 +145,37 @@ fn what_is_skipped_is_accepted(rt: HostRuntime) -> Result<(), Fail> {
     Ok(())
 }
 
+// The batch of the setting.
+#[tactic(auto, using(crate::proofs::Sizes::setting_size))]
+fn setting(alloc: Global) -> Result<Batch, AllocError>
+    ensures some { IfOk result (λ b. length b.items ≡ 1) }
+    ensures each { IfOk result (λ b. All IsWritable b.items) }
+    ensures small { IfOk result (λ b. values_size b.items < 2 ^ 30) }
+{
+    let mut items = Items::new(alloc);
+    items.push(Item::Record(Record::Config {
+        kind: 4,
+        name: Text::new(alloc),
+        key: Text::from_str(alloc, "min.insync.replicas")?,
+        value: Some(Text::from_str(alloc, "2")?),
+    }))?;
+    Ok(Batch {
+        base: 0,
+        epoch: 5,
+        time: 1000,
+        items,
+    })
+}
+
+#[test]
+fn one_setting_is_written(rt: HostRuntime) -> Result<(), Fail> {
+    let batch = setting(rt.alloc())?;
+    let mut out = Vec::new(rt.alloc());
+    assert!(rt; encode(&batch, &mut out).is_ok());
+    assert_eq!(rt; out.as_slice(), SETTING.as_slice());
+    Ok(())
+}
+
 #[test]
 fn one_setting_is_read(rt: HostRuntime) -> Result<(), Fail> {
     let batch = decode(rt.alloc(), &SETTING)
@@ -140,6 +184,7 @@ fn one_setting_is_read(rt: HostRuntime) -> Result<(), Fail> {
     assert_eq!(rt; batch.base, 0);
     assert_eq!(rt; batch.epoch, 5);
     assert_eq!(rt; batch.time, 1000);
-    assert_eq!(rt; batch.items.len(), 1);
+    let expected = setting(rt.alloc())?;
+    assert!(rt; batch.items == expected.items);
     Ok(())
 }
