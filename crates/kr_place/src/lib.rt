@@ -1,6 +1,7 @@
 //! Placement of replicas over racks.
 #![tactic(auto)]
 
+pub mod laws;
 mod placing;
 mod racked;
 mod racks;

@@ -1,12 +1,13 @@
 //! Placement of the replicas of a partition.
 
-ghost use Rattle.std.specs.Prelude.{◌≡◌, ◌<◌, ◌≤◌, ◌≤ℤ◌, ◌+◌, pos, length, unsigned_abs, IfOk, IsOkUnless, Err};
+ghost use Rattle.std.specs.Prelude.{◌≡◌, ◌<◌, ◌≤◌, ◌≤ℤ◌, ◌+◌, ◌^◌, pos, length, unsigned_abs, IfOk, IsOkUnless, Err};
 ghost use Rattle.kr_defs.specs.Placed.{placed};
+ghost use Rattle.kr_place.specs.Spread.{IsSpread};
 
 use crate::racked::Racked;
 use crate::racks::{racks_of, walk};
 use kr_base::NoMemory;
-use kr_defs::Ids;
+use kr_defs::{Ids, Text};
 use std::alloc::Global;
 use thiserror::Error;
 
@@ -33,7 +34,6 @@ impl From<NoMemory> for PlaceFault {
 /// The brokers of a partition's replicas, the first one preferred: the first `factor` that the visits of the racks give.
 ///
 /// `start` is where the topic's placement begins, and `index` the number of the partition.
-#[tactic(auto, unfolding(kr_defs::specs::Placed::placed))]
 pub fn place(
     alloc: Global,
     brokers: &Racked,
@@ -45,6 +45,7 @@ pub fn place(
     requires index { pos 0 ≤ℤ index }
     requires factor { pos 1 ≤ℤ factor }
     ensures placed { IfOk result (λ ids. ids ≡ placed brokers.now (unsigned_abs start + unsigned_abs index) (unsigned_abs factor)) }
+    ensures spread { IfOk result (λ ids. IsSpread brokers.now (unsigned_abs factor) ids) }
     ensures too_few { length brokers.now < unsigned_abs factor → result ≡ Err (PlaceFault.TooFew (length brokers.now) factor) }
     ensures enough { unsigned_abs factor ≤ length brokers.now → IsOkUnless result PlaceFault.NoMemory }
 {
@@ -57,7 +58,21 @@ pub fn place(
         });
     }
     let first = start.unsigned_abs() as u128 + index.unsigned_abs() as u128;
-    let racks = racks_of(alloc, brokers.as_slice())?;
-    let visits = racks.len() as u128 * usable as u128;
-    Ok(walk(alloc, racks.as_slice(), first, visits, wanted)?)
+    Ok(chosen(alloc, brokers.as_slice(), first, wanted)?)
+}
+
+// The first `factor` brokers of all visits.
+#[tactic(auto, unfolding(kr_defs::specs::Placed::placed))]
+fn chosen(
+    alloc: Global,
+    brokers: &[(i32, Option<Text>)],
+    first: u128,
+    factor: usize,
+) -> Result<Ids, NoMemory>
+    requires { first < 2 ^ 64 }
+    ensures { IfOk result (λ ids. ids ≡ placed brokers.now first factor) }
+{
+    let racks = racks_of(alloc, brokers)?;
+    let visits = racks.len() as u128 * brokers.len() as u128;
+    walk(alloc, racks.as_slice(), first, visits, factor)
 }
