@@ -1,11 +1,10 @@
 -- The law of the tagged fields of a partition's change.
-use Rattle.std.proofs.Common.{◌≡◌, ℕ, true, List, [], Option, None, Ok, refl, sym, ap, ◌∙◌, arith}
+use Rattle.std.proofs.Common.{◌≡◌, ℕ, true, List, Option, None, Ok, refl, sym, ap, ◌∙◌, arith}
 use Rattle.std.specs.Prelude.{ℤ, nat_le}
-use Rattle.std.specs.Option.{unwrap_or}
 use Rattle.std.specs.Int.{Width, w8, w32}
 use Rattle.std.proofs.lemmas.Bool.Decides.{nat_tests}
 use Rattle.kr_wire.specs.Reading.{Known, known_in}
-use Rattle.kr_wire.specs.Grammar.{IsTags, AreRising, IsId, IsListOrNull, IsSigned}
+use Rattle.kr_wire.specs.Grammar.{IsTags, AreRising, IsId, IsListOrNull}
 use Rattle.kr_wire.proofs.Laws.{Law}
 use Rattle.kr_wire.proofs.Numbers.{signed_law}
 use Rattle.kr_wire.proofs.Tags.{run, AreBytes, tags_law}

@@ -1,8 +1,7 @@
 -- The laws of the records without tagged fields of their own.
-use Rattle.std.proofs.Common.{◌≡◌, ℕ, ◌<◌, false, List, ◌++◌, length, ap, arith}
+use Rattle.std.proofs.Common.{ℕ, ◌<◌, false, List, ◌++◌, length}
 use Rattle.std.specs.Prelude.{nat_le}
 use Rattle.std.specs.Int.{w8, w16, w32, w64}
-use Rattle.std.proofs.lemmas.List.{length-append}
 use Rattle.kr_defs.specs.declared.broker.Endpoint.{Endpoint}
 use Rattle.kr_defs.specs.declared.broker.Range.{Range}
 use Rattle.kr_wire.specs.Grammar.{◌⌢◌, IsNumber, IsSigned, IsBool, IsId, IsText, IsTextOrNull, IsList, NoTags}

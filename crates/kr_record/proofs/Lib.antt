@@ -7,5 +7,9 @@ pub mod FlagFields
 pub mod Laws
 pub mod Parts
 pub mod Since
+pub mod Stands
+pub mod StandsFixed
+pub mod StandsKinds
+pub mod StandsTagged
 pub mod TaggedKinds
 pub mod Written

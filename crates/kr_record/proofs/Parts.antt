@@ -1,10 +1,10 @@
 -- The laws of the parts that records share.
-use Rattle.std.proofs.Common.{◌≡◌, ℕ, ◌<◌, ◌≤◌, Bool, true, false, ◌+◌, List, [], ◌∷◌, ◌++◌, length, Result, refl, sym, ap, arith}
+use Rattle.std.proofs.Common.{◌≡◌, ℕ, ◌<◌, Bool, true, false, ◌+◌, List, [], ◌∷◌, ◌++◌, length, refl, ap, arith}
 use Rattle.std.specs.Prelude.{ℤ}
 use Rattle.std.specs.Int.{w32}
 use Rattle.std.proofs.lemmas.List.{length-append}
 use Rattle.kr_wire.specs.Reading.{Read, id_at, list_at, list_or_null_at}
-use Rattle.kr_wire.specs.Grammar.{IsVarint, IsUvarint, IsSigned, IsText, IsId, IsList, IsListOrNull}
+use Rattle.kr_wire.specs.Grammar.{IsVarint, IsSigned, IsText, IsId, IsList, IsListOrNull}
 use Rattle.kr_wire.proofs.Laws.{Law, sound_last, sound_done, complete_last}
 use Rattle.kr_wire.proofs.Numbers.{signed_law, id_law}
 use Rattle.kr_wire.proofs.Lists.{list_law, list_or_null_law}

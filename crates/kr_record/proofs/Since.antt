@@ -1,11 +1,11 @@
 -- Tagged fields that only some versions have.
-use Rattle.std.proofs.Common.{◌≡◌, ℕ, Bool, true, false, cond, eqb, List, [], ◌∷◌, Option, Some, None, Result, Ok, refl, sym, ap, subst, ◌∙◌, arith}
+use Rattle.std.proofs.Common.{◌≡◌, ℕ, Bool, true, false, cond, eqb, List, [], ◌∷◌, Some, None, Result, Ok, refl, sym, ap, subst, ◌∙◌, arith}
 use Rattle.std.specs.Prelude.{nat_le}
 use Rattle.std.proofs.lemmas.Bool.Decides.{nat_tests}
 use Rattle.kr_wire.specs.declared.WireFault.{WireFault}
 use Rattle.kr_wire.specs.Reading.{Read, Known, field_of, field_as, known_in}
 use Rattle.kr_wire.specs.Grammar.{AreRising, data_of, IfTagged}
-use Rattle.kr_wire.proofs.Laws.{IsBytes, Law, bind_ok, is_ok}
+use Rattle.kr_wire.proofs.Laws.{Law, bind_ok, is_ok}
 use Rattle.kr_wire.proofs.Tags.{run, AreBytes}
 use Rattle.kr_wire.proofs.Slots.{IsSlot, Keeps, Opens, Sets, keeps_none, keeps_if, opens_none, opens_if, opens_part, slot_sound, slot_complete, absent_free}
 use Rattle.kr_record.specs.Reading.{known_since}

@@ -1,5 +1,5 @@
 -- The laws of the records with tagged fields.
-use Rattle.std.proofs.Common.{ℕ, List, ◌++◌}
+use Rattle.std.proofs.Common.{ℕ, ◌++◌}
 use Rattle.std.specs.Prelude.{nat_le}
 use Rattle.std.specs.Int.{w32, w64}
 use Rattle.kr_wire.specs.Grammar.{◌⌢◌, IsSigned, IsId, IsList, IsTags}

@@ -19,5 +19,5 @@ mod writing;
 
 pub use fault::RecordFault;
 pub use reading::decode;
-pub use theorems::records;
+pub use theorems::{records, written_records};
 pub use writing::encode;

@@ -1,0 +1,8 @@
+use Rattle.kr_record.proofs.Stands.{stands, again}
+use Rattle.kr_record.proofs.theorems.written_records.Goals as goal
+
+pub returns-clause-stands : goal.returns-clause-stands
+returns-clause-stands c r fits held = stands r fits held
+
+pub returns-clause-again : goal.returns-clause-again
+returns-clause-again c r fits held = again r fits held
