@@ -7,7 +7,7 @@ ghost use Rattle.kr_defs.specs.declared.record.Item.TheVariants as items;
 ghost use Rattle.kr_record.specs.Reading.{record_of};
 ghost use Rattle.kr_batch.specs.Answers.{Gives, GivesAt};
 ghost use Rattle.kr_batch.specs.Answers;
-ghost use Rattle.kr_batch.specs.declared.Batch.{Batch as Any};
+ghost use Rattle.kr_batch.specs.declared.Batch.{Batch as AnyBatch};
 ghost use Rattle.kr_batch.specs.Grammar.{IsBatch};
 ghost use Rattle.kr_batch.specs.Reading.{batch_of, caused, entries_of, entry_at, items_of};
 
@@ -144,9 +144,9 @@ pub fn decode(alloc: Global, bytes: &[u8]) -> Result<Batch, BatchFault>
     // What is decoded is what the bytes stand for.
     ensures found { IfOk result (λ b. IsBatch b bytes.now) }
     // What bytes stand for is decoded, unless memory runs out.
-    ensures only { (b : Any) → IsBatch b bytes.now → Gives result (Ok b) }
+    ensures only { (b : AnyBatch) → IsBatch b bytes.now → Gives result (Ok b) }
     // Bytes stand for at most one batch.
-    ensures one { (a : Any) (b : Any) → IsBatch a bytes.now → IsBatch b bytes.now → a ≡ b }
+    ensures one { (a : AnyBatch) (b : AnyBatch) → IsBatch a bytes.now → IsBatch b bytes.now → a ≡ b }
     // Which fault it is.
     ensures exact { Gives result (batch_of bytes.now) }
 {

@@ -6,7 +6,7 @@ ghost use Rattle.kr_defs.specs.declared.record.Record.TheVariants as kinds;
 ghost use Rattle.kr_defs.specs.Image.{Image, IsValid, empty, has_topic, topic_name};
 ghost use Rattle.kr_defs.specs.Log.{Log, first, tip, more, image_at};
 ghost use Rattle.kr_defs.specs.Apply as apply;
-ghost use Rattle.kr_defs.specs.declared.record.Item.{Item as Any};
+ghost use Rattle.kr_defs.specs.declared.record.Item.{Item as AnyItem};
 
 /// The empty image is valid.
 pub fn empty_is_valid()
@@ -15,7 +15,7 @@ pub fn empty_is_valid()
 
 /// Every item that has a meaning keeps a valid image valid.
 pub fn apply_keeps_valid()
-    ensures { (image after : Image) (item : Any) → IsValid image → apply.apply image item ≡ Ok after → IsValid after }
+    ensures { (image after : Image) (item : AnyItem) → IsValid image → apply.apply image item ≡ Ok after → IsValid after }
 {}
 
 /// So does a whole log: its image at each place is valid.
@@ -39,6 +39,6 @@ pub fn removed_whole()
 /// The image at the tip of a log that is longer by one item is what the item makes of the image before. Below, nothing changes.
 pub fn one_item_more()
     ensures start { (log : Log) → image_at log log.offset ≡ Ok log.image }
-    ensures tip { (log : Log) (item : Any) (image : Image) → image_at log (tip log) ≡ Ok image → image_at (more log item) (tip log + 1) ≡ apply.apply image item }
-    ensures below { (log : Log) (item : Any) (place : ℕ) → place ≤ tip log → image_at (more log item) place ≡ image_at log place }
+    ensures tip { (log : Log) (item : AnyItem) (image : Image) → image_at log (tip log) ≡ Ok image → image_at (more log item) (tip log + 1) ≡ apply.apply image item }
+    ensures below { (log : Log) (item : AnyItem) (place : ℕ) → place ≤ tip log → image_at (more log item) place ≡ image_at log place }
 {}

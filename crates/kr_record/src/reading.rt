@@ -1,7 +1,7 @@
 //! Records from bytes.
 
 ghost use Rattle.std.specs.Prelude.{◌≡◌, ◌≤◌, length, drop, Ok, nat_lt, if◌then◌else◌, IfOk, Err};
-ghost use Rattle.kr_defs.specs.declared.record.Record.{Record as Any};
+ghost use Rattle.kr_defs.specs.declared.record.Record.{Record as AnyRecord};
 ghost use Rattle.kr_wire.specs.Reading.{refuse◌when◌else◌};
 ghost use Rattle.kr_record.specs.declared.fault.RecordFault.TheVariants as faults;
 ghost use Rattle.kr_record.specs.Grammar.{IsRecord};
@@ -167,7 +167,7 @@ pub fn decode(alloc: Global, value: &[u8]) -> Result<Record, RecordFault>
     // What is decoded is what the bytes stand for.
     ensures found { IfOk result (λ r. IsRecord r value.now) }
     // What bytes stand for is decoded, unless memory runs out.
-    ensures only { (r : Any) → IsRecord r value.now → Gives result (Ok r) }
+    ensures only { (r : AnyRecord) → IsRecord r value.now → Gives result (Ok r) }
     // Which fault it is.
     ensures exact { Gives result (record_of value.now) }
 {

@@ -1,7 +1,7 @@
 //! What holds of all bytes and of all records. These functions do nothing.
 
 ghost use Rattle.std.specs.Prelude.{◌≡◌, List, ℕ, Ok};
-ghost use Rattle.kr_defs.specs.declared.record.Record.{Record as Any};
+ghost use Rattle.kr_defs.specs.declared.record.Record.{Record as AnyRecord};
 ghost use Rattle.kr_record.specs.Encodable.{IsEncodable};
 ghost use Rattle.kr_record.specs.Grammar.{IsRecord};
 ghost use Rattle.kr_record.specs.Held.{IsHeld};
@@ -10,12 +10,12 @@ ghost use Rattle.kr_record.specs.Spelling.{record_value};
 
 /// Bytes stand for one record at most, and what stands for a record is read as it.
 pub fn records()
-    ensures one { (r : Any) (s : Any) (bytes : List ℕ) → IsRecord r bytes → IsRecord s bytes → r ≡ s }
-    ensures read { (r : Any) (bytes : List ℕ) → IsRecord r bytes → record_of bytes ≡ Ok r }
+    ensures one { (r : AnyRecord) (s : AnyRecord) (bytes : List ℕ) → IsRecord r bytes → IsRecord s bytes → r ≡ s }
+    ensures read { (r : AnyRecord) (bytes : List ℕ) → IsRecord r bytes → record_of bytes ≡ Ok r }
 {}
 
 /// What is written of a record stands for it, and is read as it.
 pub fn written_records()
-    ensures stands { (r : Any) → IsEncodable r → IsHeld r → IsRecord r (record_value r) }
-    ensures again { (r : Any) → IsEncodable r → IsHeld r → record_of (record_value r) ≡ Ok r }
+    ensures stands { (r : AnyRecord) → IsEncodable r → IsHeld r → IsRecord r (record_value r) }
+    ensures again { (r : AnyRecord) → IsEncodable r → IsHeld r → record_of (record_value r) ≡ Ok r }
 {}

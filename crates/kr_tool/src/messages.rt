@@ -4,7 +4,7 @@ ghost use Rattle.std.specs.Prelude.{◌≡◌, ◌≤◌, ◌==◌, ◌&&◌, []
 ghost use Rattle.std.specs.Ordering.{int_eq};
 ghost use Rattle.std.specs.Str.{bytes_eq};
 ghost use Rattle.kr_wire.specs.Reading.{Reads, Read};
-ghost use Rattle.kr_defs.specs.declared.calls.Ask.{Ask as Any};
+ghost use Rattle.kr_defs.specs.declared.calls.Ask.{Ask as AnyAsk};
 ghost use Rattle.kr_tool.specs.Kept.{IsShortAsk};
 ghost use Rattle.kr_tool.specs.Messages;
 ghost use Rattle.kr_tool.specs.Messages.{IsAsk, minimum_key};
@@ -304,7 +304,7 @@ pub fn decode(alloc: Global, message: &[u8]) -> Result<Ask, NoMemory>
     // It is what the bytes stand for, and they stand for nothing else.
     ensures found { IfOk result (λ ask. IsAsk ask message.now) }
     ensures short { IfOk result IsShortAsk }
-    ensures only { (any : Any) → IsAsk any message.now → IfOk result (λ ask. ask ≡ any) }
+    ensures only { (any : AnyAsk) → IsAsk any message.now → IfOk result (λ ask. ask ≡ any) }
 {
     read_ask(alloc, message)
 }
