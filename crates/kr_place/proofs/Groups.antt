@@ -21,7 +21,7 @@ use Rattle.kr_defs.specs.Map.{IsMap, get}
 use Rattle.kr_defs.specs.Map as entries
 use Rattle.kr_defs.specs.Placed.{Rack, rack_order, by_id, joined, racks_of}
 
-rack_total : IsTotalOrder rack_order
+pub rack_total : IsTotalOrder rack_order
 rack_total = options_total nat_list_cmp_total
 
 -- ---- by id
@@ -52,7 +52,7 @@ get-other (e ∷ es) k v q differ none =
           ]
     ] refl none
 
-all-other : (es : List (ℤ × Rack)) (k : ℤ) (v : Rack) (ids : List ℤ) → AllByRecursion (λ y. int_eq k y ≡ false) ids → AllByRecursion (λ y. get int_cmp es y ≡ None) ids
+pub all-other : (es : List (ℤ × Rack)) (k : ℤ) (v : Rack) (ids : List ℤ) → AllByRecursion (λ y. int_eq k y ≡ false) ids → AllByRecursion (λ y. get int_cmp es y ≡ None) ids
     → AllByRecursion (λ y. get int_cmp (entries.insert int_cmp es k v) y ≡ None) ids
 all-other es k v [] differ none = tt
 all-other es k v (y ∷ ids) differ none = (get-other es k v y (apart k y differ.0) none.0, all-other es k v ids differ.1 none.1)
@@ -82,16 +82,16 @@ module _ (f : ℤ → ℕ) where
       let all = sum_by-cons f b.0 (map (λ (c : ℤ × Rack). c.0) brokers) in
       omega (arith, one, rest, all)
 
-abbrev nobody : List (ℤ × Rack)
+abbrev pub nobody : List (ℤ × Rack)
 nobody = []
 
-none-empty : (ids : List ℤ) → AllByRecursion (λ y. get int_cmp nobody y ≡ None) ids
+pub none-empty : (ids : List ℤ) → AllByRecursion (λ y. get int_cmp nobody y ≡ None) ids
 none-empty [] = tt
 none-empty (y ∷ ids) = (refl, none-empty ids)
 
 -- ---- by rack
 
-get-gone : (racks : List (Rack × List ℤ)) (rack : Rack) → IsMap rack_order racks → get rack_order (entries.remove rack_order racks rack) rack ≡ None
+pub get-gone : (racks : List (Rack × List ℤ)) (rack : Rack) → IsMap rack_order racks → get rack_order (entries.remove rack_order racks rack) rack ≡ None
 get-gone racks rack ordered =
     let laws = eq_by_cmp_equiv rack_total in
     let is : get rack_order (entries.remove rack_order racks rack) rack ≡ cond (eq_by_cmp rack_order rack rack) None (get rack_order racks rack) =
@@ -107,7 +107,7 @@ joined-filled racks (id, rack) filled =
     All-insert rack_order (λ (e : Rack × List ℤ). 0 < length e.1) (entries.remove rack_order racks rack) rack _ (λ j u was. new) new
     (All-remove rack_order (λ (e : Rack × List ℤ). 0 < length e.1) racks rack filled)
 
-joined-map : (racks : List (Rack × List ℤ)) (b : ℤ × Rack) → IsMap rack_order racks → IsMap rack_order (joined racks b)
+pub joined-map : (racks : List (Rack × List ℤ)) (b : ℤ × Rack) → IsMap rack_order racks → IsMap rack_order (joined racks b)
 joined-map racks (id, rack) ordered = IsMap-insert rack_total (entries.remove rack_order racks rack) rack _ (IsMap-remove rack_total racks rack ordered)
 
 fold-filled : (bs : List (ℤ × Rack)) (racks : List (Rack × List ℤ)) → All (λ (e : Rack × List ℤ). 0 < length e.1) racks → All (λ (e : Rack × List ℤ). 0 < length e.1) (fold joined racks bs)

@@ -1,5 +1,8 @@
+pub mod Across
 pub mod Brokers
+pub mod Chosen
 pub mod Groups
+pub mod Names
 pub mod Spread
 pub mod Totals
 pub mod Visits

@@ -96,3 +96,7 @@ module _ {X : Type 0} (f : X → ℕ) where
       let first = total-first (length xs) (λ i. weight (slice_get (x ∷ xs) i)) in
       let all = sum_by-cons f x xs in
       omega (arith, rest, first, all)
+
+pub total-ones : (n : ℕ) → total n (λ k. 1) ≡ n
+total-ones zero = refl
+total-ones (suc n) = let rest = total-ones n in omega (arith, rest)

@@ -14,7 +14,7 @@ use Rattle.kr_place.proofs.Walks.{visited-none, visited-more}
 abbrev pub given : ℕ → ℕ → List ℤ → Option ℤ
 given q j rack = cond (nat_lt j (length rack)) (slice_get rack ((q + j) % length rack)) None
 
-given-in : (q j : ℕ) (rack : List ℤ) → j < length rack → given q j rack ≡ slice_get rack ((q + j) % length rack)
+pub given-in : (q j : ℕ) (rack : List ℤ) → j < length rack → given q j rack ≡ slice_get rack ((q + j) % length rack)
 given-in q j rack lt = ap (λ b. cond b (slice_get rack ((q + j) % length rack)) None) (lt-ltb j (length rack) lt)
 
 given-out : (q j : ℕ) (rack : List ℤ) → length rack ≤ j → given q j rack ≡ None

@@ -32,6 +32,7 @@ impl From<NoMemory> for PlaceFault {
 }
 
 /// The brokers of a partition's replicas, the first one preferred: the first `factor` that the visits of the racks give.
+/// No broker stands among them twice, and they stand in `factor` racks, or in all where there are fewer.
 ///
 /// `start` is where the topic's placement begins, and `index` the number of the partition.
 pub fn place(
