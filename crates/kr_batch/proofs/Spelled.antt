@@ -1,5 +1,5 @@
 -- What is written stands for the batch.
-use Rattle.std.proofs.Common.{◌≡◌, ℕ, ℤ, pos, negsuc, zero, suc, ◌+◌, ◌-◌, ◌/◌, ◌%◌, ◌^◌, ◌<◌, ◌≤◌, Bool, true, false, eqb, List, [], ◌∷◌, ◌++◌, length, get_or, append_assoc, length-append, Result, Ok, refl, sym, ap, subst, ◌∙◌, arith}
+use Rattle.std.proofs.Common.{◌≡◌, ℕ, ℤ, pos, negsuc, zero, suc, ◌+◌, ◌-◌, ◌/◌, ◌%◌, ◌^◌, ◌<◌, ◌≤◌, Bool, true, false, eqb, List, [], ◌∷◌, ◌++◌, length, append_assoc, length-append, Ok, refl, sym, subst, arith}
 use Rattle.std.specs.Prelude.{FitsSigned, ◌≤ℤ◌, bit_xor, if◌then◌else◌}
 use Rattle.std.specs.List.{All, AllByRecursion, fold}
 use Rattle.std.specs.Int.{w8, w16, w32, w64}
@@ -16,10 +16,13 @@ use Rattle.kr_wire.proofs.Laws.{IsBytes, IsBytes-behind, joined}
 use Rattle.kr_wire.proofs.Spelled.{varint32_spelled, varint64_spelled, number_spelled, signed_spelled}
 use Rattle.kr_record.specs.Grammar.{IsRecord}
 use Rattle.kr_record.specs.Spelling.{record_value}
+use Rattle.kr_record.proofs.Stands.{stands}
 use Rattle.kr_batch.specs.Crc.{polynomial, bit_step, bit_steps, byte_step, crc32c}
 use Rattle.kr_batch.specs.declared.Batch.{Batch}
-use Rattle.kr_batch.specs.Grammar.{IsPiece, IsSized, IsKey, IsBody, IsEntry, AreEntries, IsAttributes, IsFixed, IsStart, IsSum, IsBatch}
-use Rattle.kr_batch.specs.Written.{IsStanding, value_bytes, values_size, record_body, record_bytes, records_bytes, no_producer, fixed_bytes, checked_bytes, start_bytes, head_bytes, batch_bytes}
+use Rattle.kr_batch.specs.Grammar.{IsSized, IsKey, IsBody, IsEntry, AreEntries, IsFixed, IsSum, IsBatch}
+use Rattle.kr_batch.specs.Written.{IsWritable, IsHeldItem, IsRegular, value_bytes, values_size, record_body, record_bytes, records_bytes, no_producer, fixed_bytes, checked_bytes, start_bytes, head_bytes, batch_bytes}
+use Rattle.kr_batch.specs.Reading.{batch_of}
+use Rattle.kr_batch.proofs.Batches.{of_complete}
 use Rattle.kr_batch.proofs.Sizes.{body_length, varint_few, checked_length}
 
 -- ---- a record
@@ -75,13 +78,14 @@ entry_spelled at r few is short = record {
   };
 }
 
-entries_spelled : (all : List Item) (at : ℕ) → at + length all ≤ 10000 → AllByRecursion IsStanding all → values_size all < 2 ^ 30 → AreEntries at all (records_bytes at all)
+entries_spelled : (all : List Item) (at : ℕ) → at + length all ≤ 10000 → AllByRecursion IsWritable all → AllByRecursion IsHeldItem all → values_size all < 2 ^ 30
+    → AreEntries at all (records_bytes at all)
 unfolding records_bytes
-entries_spelled [] at few each short = refl
-entries_spelled (items.Record r ∷ others) at few each short =
+entries_spelled [] at few each held short = refl
+entries_spelled (items.Record r ∷ others) at few each held short =
     let e = sum_by-cons (λ x. length (value_bytes x)) (items.Record r) others in
-    joined _ _ (entry_spelled at r (omega arith) each.0 (omega (arith, e))) (entries_spelled others (at + 1) (omega arith) each.1 (omega (arith, e)))
-entries_spelled (items.Control ∷ others) at few each short = absurd each.0
+    joined _ _ (entry_spelled at r (omega arith) (stands r each.0 held.0) (omega (arith, e))) (entries_spelled others (at + 1) (omega arith) each.1 held.1 (omega (arith, e)))
+entries_spelled (items.Control ∷ others) at few each held short = absurd each.0
 
 -- ---- the fields before the records
 
@@ -158,9 +162,9 @@ unfolding batch_bytes head_bytes start_bytes
 batch_is batch = simp append_assoc
 
 pub batch_spelled : (batch : Batch) → pos 0 ≤ℤ batch.base → FitsSigned w64 batch.base → FitsSigned w32 batch.epoch → FitsSigned w64 batch.time
-    → 1 ≤ length batch.items → length batch.items ≤ 10000 → All IsStanding batch.items → values_size batch.items < 2 ^ 30
+    → 1 ≤ length batch.items → length batch.items ≤ 10000 → All IsWritable batch.items → All IsHeldItem batch.items → values_size batch.items < 2 ^ 30
     → crc32c (checked_bytes batch) < 2 ^ 32 → IsBatch batch (batch_bytes batch)
-batch_spelled batch based base epoch time some few each short crc =
+batch_spelled batch based base epoch time some few each held short crc =
     let checked : List ℕ = checked_bytes batch in
     let sum : List ℕ = sum_bytes batch.epoch (crc32c checked) in
     let size : length checked + 9 ≡ length (sum ++ checked) = (let a = length-append sum checked in let b = sum_long batch.epoch (crc32c checked) in omega (arith, a, b)) in
@@ -182,5 +186,18 @@ batch_spelled batch based base epoch time some few each short crc =
       };
       sum = joined sum checked (sum_spelled batch.epoch (crc32c checked) epoch crc) refl;
       fixed = checked_spelled batch time some few;
-      items = entries_spelled batch.items 0 (omega arith) (recursion_from_All IsStanding batch.items each) short;
+      items = entries_spelled batch.items 0 (omega arith) (recursion_from_All IsWritable batch.items each) (recursion_from_All IsHeldItem batch.items held) short;
     }
+
+pub regular_spelled : (batch : Batch) → IsRegular batch → IsBatch batch (batch_bytes batch)
+regular_spelled batch is =
+    let start : List ℕ = signed w64 batch.base ++ number w32 (length (checked_bytes batch) + 9) in
+    let sum : List ℕ = sum_bytes batch.epoch (crc32c (checked_bytes batch)) in
+    let behind : IsBytes (sum ++ checked_bytes batch) = IsBytes-behind start (sum ++ checked_bytes batch) (batch_bytes batch) (batch_is batch) is.bytes in
+    let checked : IsBytes (checked_bytes batch) = IsBytes-behind sum (checked_bytes batch) (sum ++ checked_bytes batch) refl behind in
+    batch_spelled batch is.based is.base is.epoch is.time is.some is.few is.each is.held is.small (crc_small (checked_bytes batch) checked)
+
+pub regular_again : (batch : Batch) → IsRegular batch → batch_of (batch_bytes batch) ≡ Ok batch
+regular_again batch is = of_complete (batch_bytes batch) batch (regular_spelled batch is)
+
+pub ruleset regular = (regular_spelled, regular_again)

@@ -1,12 +1,13 @@
 -- The bytes that are written for a batch: record batches of magic 2 (KIP-98), in this project's profile.
-use Rattle.std.specs.Prelude.{ℕ, ℤ, pos, negsuc, ◌+◌, ◌-◌, List, [], ◌∷◌, ◌++◌, length}
-use Rattle.std.specs.List.{sum_by}
+use Rattle.std.specs.Prelude.{ℕ, ℤ, pos, negsuc, ◌+◌, ◌-◌, ◌^◌, ◌<◌, ◌≤◌, ◌≤ℤ◌, FitsSigned, List, [], ◌∷◌, ◌++◌, length}
+use Rattle.std.specs.List.{All, sum_by}
 use Rattle.std.specs.Int.{w8, w16, w32, w64}
+use Rattle.kr_wire.specs.Laws.{IsBytes}
 use Rattle.kr_wire.specs.Spelling.{number, signed, varint32, varint64}
 use Rattle.kr_defs.specs.declared.record.Item.{Item}
 use Rattle.kr_defs.specs.declared.record.Item.TheVariants as items
 use Rattle.kr_record.specs.Encodable.{IsEncodable}
-use Rattle.kr_record.specs.Grammar.{IsRecord}
+use Rattle.kr_record.specs.Held.{IsHeld}
 use Rattle.kr_record.specs.Spelling.{record_value}
 use Rattle.kr_batch.specs.Crc.{crc32c}
 use Rattle.kr_batch.specs.declared.Batch.{Batch}
@@ -21,10 +22,10 @@ abbrev pub IsWritable : Item → Type 0
 IsWritable (items.Record value) = IsEncodable value
 IsWritable items.Control = ⊥
 
--- a record that its value stands for
-abbrev pub IsStanding : Item → Type 0
-IsStanding (items.Record value) = IsRecord value (record_value value)
-IsStanding items.Control = ⊥
+-- an item that a program can hold
+abbrev pub IsHeldItem : Item → Type 0
+IsHeldItem (items.Record value) = IsHeld value
+IsHeldItem items.Control = Unit {0}
 
 -- the bytes of all values together
 abbrev pub values_size : List Item → ℕ
@@ -70,3 +71,17 @@ unfoldable pub batch_bytes : Batch → List ℕ
 batch_bytes batch =
     let checked = checked_bytes batch in
     head_bytes batch.base (length checked + 9) batch.epoch (crc32c checked) ++ checked
+
+-- A batch whose written form stands for it: the base is at least 0, it has 1 to 10,000 records that have a written
+-- form, and its numbers, texts and bytes are those of their types.
+pub record IsRegular (batch : Batch) : Type 0 where
+  pub based : pos 0 ≤ℤ batch.base
+  pub base : FitsSigned w64 batch.base
+  pub epoch : FitsSigned w32 batch.epoch
+  pub time : FitsSigned w64 batch.time
+  pub some : 1 ≤ length batch.items
+  pub few : length batch.items ≤ 10000
+  pub each : All IsWritable batch.items
+  pub held : All IsHeldItem batch.items
+  pub small : values_size batch.items < 2 ^ 30
+  pub bytes : IsBytes (batch_bytes batch)

@@ -1,9 +1,11 @@
 //! Batches to bytes.
 
-ghost use Rattle.std.specs.Prelude.{◌≡◌, pos, ◌+◌, ◌-◌, ◌<◌, ◌≤◌, ◌^◌, ◌++◌, length, OnOk, OnErr, vec_len};
+ghost use Rattle.std.specs.Prelude.{◌≡◌, pos, ◌≤ℤ◌, ◌+◌, ◌-◌, ◌<◌, ◌≤◌, ◌^◌, ◌++◌, length, OnOk, OnErr, FitsSigned, vec_len};
+ghost use Rattle.std.specs.Int.{w64};
 ghost use Rattle.std.specs.List.{All};
 ghost use Rattle.kr_wire.specs.Spelling.{varint32};
-ghost use Rattle.kr_batch.specs.Written.{IsWritable, batch_bytes, checked_bytes, fixed_bytes, head_bytes, no_producer, record_body, record_bytes, records_bytes, start_bytes, value_bytes, values_size};
+ghost use Rattle.kr_batch.specs.Grammar.{IsBatch};
+ghost use Rattle.kr_batch.specs.Written.{IsHeldItem, IsWritable, batch_bytes, checked_bytes, fixed_bytes, head_bytes, no_producer, record_body, record_bytes, records_bytes, start_bytes, value_bytes, values_size};
 
 use crate::{Batch, crc32c};
 use kr_base::NoMemory;
@@ -20,6 +22,8 @@ pub fn encode(batch: &Batch, out: &mut Vec<u8>) -> Result<(), NoMemory>
     requires small { values_size batch.now.items < 2 ^ 30 }
     ensures ok { OnOk result (out.new.items ≡ out.old.items ++ batch_bytes batch.now) }
     ensures err { OnErr result (out.new.items ≡ out.old.items) }
+    // What is appended stands for the batch, where its base is at least 0.
+    ensures stands { pos 0 ≤ℤ batch.now.base → All IsHeldItem batch.now.items → OnOk result (IsBatch batch.now (batch_bytes batch.now)) }
 {
     let mut checked = Vec::new(*out.allocator());
     put_checked(batch, &mut checked)?;
@@ -81,7 +85,8 @@ fn put_checked(batch: &Batch, out: &mut Vec<u8>) -> Result<(), NoMemory>
     requires few { length batch.now.items ≤ 10000 }
     requires each { All IsWritable batch.now.items }
     requires small { values_size batch.now.items < 2 ^ 30 }
-    ensures { OnOk result (out.new.items ≡ out.old.items ++ checked_bytes batch.now) }
+    ensures ok { OnOk result (out.new.items ≡ out.old.items ++ checked_bytes batch.now) }
+    ensures time { FitsSigned w64 batch.now.time }
 {
     put_fixed(batch.items.len() as u32, batch.time, out)?;
     put_records(batch.items.as_slice(), out)
