@@ -12,7 +12,8 @@ use Rattle.kr_defs.specs.declared.events.Event.{Event}
 use Rattle.kr_defs.specs.declared.events.Event.TheVariants as events
 use Rattle.kr_tool.specs.declared.bodies.BodyFault.{BodyFault}
 use Rattle.kr_tool.specs.Frames.{AreOptions, IsOptions, IsRest, IsTime, IsMessage}
-use Rattle.kr_tool.specs.Bodies.{IsRequest, IsAsked, stamp_at, IsSpelled, options_at}
+use Rattle.kr_tool.specs.Kept.{HasShort}
+use Rattle.kr_tool.specs.Bodies.{IsLead, IsCommit, IsRequest, IsAsked, stamp_at, IsSpelled, options_at}
 use Rattle.kr_tool.proofs.BodyLaws.{stamp_law}
 
 stamped : (client : ℕ) (now : ℤ) (Message : List ℕ → Type 0) (front rest body : List ℕ) → body ≡ front ++ rest → (IsNumber w32 client ⌢ IsTime now) front → Message rest
@@ -84,3 +85,24 @@ options_found o body cluster (Ok options) fits e same named =
     let Q : Options → Type 0 = λ z. AreOptions z in
     subst P (sym whole) (options_are o body spelled (subst Q whole named.0) (subst (λ (l : List ℕ). IsUtf8 l) same named.1))
 options_found o body cluster (Err f) fits e same named = tt
+
+-- an event without a request is short
+lead_is_short : (event : Event) (body : List ℕ) → IsLead event body → HasShort event
+lead_is_short (events.Lead epoch next now) body is = tt
+lead_is_short (events.Commit epoch end) body is = absurd is
+lead_is_short (events.Request client now ask) body is = absurd is
+
+commit_is_short : (event : Event) (body : List ℕ) → IsCommit event body → HasShort event
+commit_is_short (events.Commit epoch end) body is = tt
+commit_is_short (events.Lead epoch next now) body is = absurd is
+commit_is_short (events.Request client now ask) body is = absurd is
+
+pub lead_short : (body : List ℕ) (result : Result Event BodyFault) → IfOk result (λ event. IsLead event body) → IfOk result HasShort
+lead_short body (Ok event) is = lead_is_short event body is
+lead_short body (Err fault) is = tt
+
+pub commit_short : (body : List ℕ) (result : Result Event BodyFault) → IfOk result (λ event. IsCommit event body) → IfOk result HasShort
+commit_short body (Ok event) is = commit_is_short event body is
+commit_short body (Err fault) is = tt
+
+pub ruleset shorts = (lead_short, commit_short)

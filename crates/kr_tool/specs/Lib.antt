@@ -12,3 +12,4 @@ pub mod Bodies
 pub mod Fitting
 pub mod Kept
 pub mod Reader
+pub mod Serving

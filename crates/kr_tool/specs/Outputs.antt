@@ -92,6 +92,10 @@ outputs_after past (event ∷ events) = outputs_of past event ∷ outputs_after 
 abbrev pub outputs : List Event → List (List Output)
 outputs events = outputs_after [] events
 
+-- the frames of these outputs, one after the other
+abbrev pub frames_of : List Output → List ℕ
+frames_of given = flat_map output_frame given
+
 -- the bytes that are written for the events
 abbrev pub written_for : List Event → List ℕ
-written_for events = flat_map output_frame (flat_map (λ outputs. outputs) (outputs events))
+written_for events = frames_of (flat_map (λ given. given) (outputs events))

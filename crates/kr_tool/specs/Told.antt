@@ -59,6 +59,26 @@ pub record StopsWriting (left left' written written' : Option (List ℕ)) : Type
   pub part : TookPart left left'
   pub wrote : AppendsFront written written' (answered part.progress)
 
+-- what each status tells of a session, of the bytes that were taken and of those that were written
+abbrev pub EndsWith : Option (List ℕ) → Option (List ℕ) → Option (List ℕ) → Option (List ℕ) → Status → Type 0
+EndsWith left left' written written' statuses.Done = TookWhole left left' written written'
+EndsWith left left' written written' statuses.Usage = ⊥
+EndsWith left left' written written' (statuses.Malformed at) = StopsReading left left' written written'
+EndsWith left left' written written' statuses.ReadFault = StopsReading left left' written written'
+EndsWith left left' written written' statuses.WriteFault = StopsWriting left left' written written'
+EndsWith left left' written written' statuses.NoMemory = StopsWriting left left' written written'
+EndsWith left left' written written' statuses.TooLong = StopsReading left left' written written'
+
+-- the number with which the process ends
+abbrev pub number_of : Status → ℕ
+number_of statuses.Done = 0
+number_of statuses.Usage = 2
+number_of (statuses.Malformed at) = 3
+number_of statuses.ReadFault = 4
+number_of statuses.WriteFault = 5
+number_of statuses.NoMemory = 6
+number_of statuses.TooLong = 7
+
 -- ---- the notes
 
 abbrev pub line : List ℕ → List ℕ
@@ -87,3 +107,6 @@ abbrev pub RefusesBroken : Option (List ℕ) → Status → Type 0
 RefusesBroken left status = IfSome left (λ stream. (progress : Progress) (front behind : List ℕ) →
     stream ≡ front ++ behind → HasRead progress front → NoFrame progress behind →
     (status ≡ statuses.Malformed (length front)) ⊎ (status ≡ statuses.TooLong) ⊎ (status ≡ statuses.NoMemory))
+
+abbrev pub IsMalformed : Status → Type 0
+IsMalformed status = (at : ℕ) × (status ≡ statuses.Malformed at)

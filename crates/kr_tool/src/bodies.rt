@@ -4,6 +4,7 @@ ghost use Rattle.std.specs.Prelude.{◌≡◌, ◌≤◌, ◌<◌, [], pos, leng
 ghost use Rattle.kr_wire.specs.Reading.{Reads};
 ghost use Rattle.kr_defs.specs.declared.events.Event.{Event as AnyEvent};
 ghost use Rattle.kr_tool.specs.Frames.{IsOptions, AreOptions};
+ghost use Rattle.kr_tool.specs.Kept.{HasShort};
 ghost use Rattle.kr_tool.specs.Bodies.{IsLead, IsCommit, IsRequest, IsAsked, IsBody, AreNumbers, AreTopicNumbers, time_at, lead_at, commit_at, stamp_at, options_at};
 
 use crate::messages::decode;
@@ -110,6 +111,7 @@ fn read_stamp(body: &[u8]) -> Result<(Stamp, usize), WireFault>
 // The event of a message under its stamp. The message has at most 8 MiB.
 fn asked(alloc: Global, stamp: Stamp, message: &[u8]) -> Result<Event, BodyFault>
     ensures found { IfOk result (λ event. IsAsked stamp.client stamp.now event message.now) }
+    ensures short { IfOk result HasShort }
 {
     if message.len() > 8_388_608 {
         return Err(BodyFault::Misfit);
@@ -127,6 +129,7 @@ fn asked(alloc: Global, stamp: Stamp, message: &[u8]) -> Result<Event, BodyFault
 /// The event of a Request frame's body.
 pub(crate) fn request(alloc: Global, body: &[u8]) -> Result<Event, BodyFault>
     ensures found { IfOk result (λ event. IsRequest event body.now) }
+    ensures short { IfOk result HasShort }
 {
     match read_stamp(body) {
         Err(_) => Err(BodyFault::Misfit),
@@ -137,9 +140,11 @@ pub(crate) fn request(alloc: Global, body: &[u8]) -> Result<Event, BodyFault>
     }
 }
 
-/// The event of a frame's kind and body.
+/// The event of a frame's kind and body. Its request is short.
+#[tactic(auto, using(crate::proofs::Asked::shorts))]
 pub(crate) fn event(alloc: Global, kind: u8, body: &[u8]) -> Result<Event, BodyFault>
     ensures found { IfOk result (λ event. IsBody event kind body.now) }
+    ensures short { IfOk result HasShort }
 {
     if kind == 2 {
         lead(body)

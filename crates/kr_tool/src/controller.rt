@@ -1,6 +1,6 @@
 //! The state machine of a controller: what it keeps of the log, and what it gives out for each event.
 
-ghost use Rattle.std.specs.Prelude.{◌≡◌, ◌<◌, ◌≤◌, ◌+◌, ◌^◌, ◌++◌, ◌||◌, ◌&&◌, not, false, is_none, is_some, int_le, [], ◌∷◌, pos, length, map, filter, nat_le, nat_lt, int_lt, List, IfOk, IfSome, IsTrue, OnOk, option_to_list, string_bytes};
+ghost use Rattle.std.specs.Prelude.{◌≡◌, ◌<◌, ◌≤◌, ◌+◌, ◌^◌, ◌++◌, ◌||◌, ◌&&◌, not, false, is_none, is_some, int_le, [], ◌∷◌, pos, length, map, filter, nat_le, nat_lt, int_lt, List, IfOk, IfSome, IfNone, IsTrue, OnOk, option_to_list, string_bytes};
 ghost use Rattle.std.specs.List.{list_any};
 ghost use Rattle.std.specs.Option.{option_map_or, option_copied};
 ghost use Rattle.std.specs.Ordering.{int_eq};
@@ -480,6 +480,7 @@ impl Controller {
 
     fn pop_waiting(&mut self) -> Option<Output>
         ensures in_order { self.old.waiting ≡ option_to_list result ++ self.new.waiting }
+        ensures none { IfNone result (self.new.waiting ≡ []) }
         ensures same { self.new ≡ record self.old { waiting = self.new.waiting } }
     {
         self.waiting.pop_front()
@@ -488,6 +489,7 @@ impl Controller {
     /// The next output that waits, in order; none where all is handed out. It takes no memory.
     pub fn next_output(&mut self) -> Option<Output>
         ensures in_order { self.old.waiting ≡ option_to_list result ++ self.new.waiting }
+        ensures none { IfNone result (self.new.waiting ≡ []) }
         ensures stands { (past : List Happening) → Stands self.old past → Stands self.new past }
         ensures small { AreSmall self.old → IfSome result FitsFrame × AreSmall self.new }
         ensures same { self.new ≡ record self.old { waiting = self.new.waiting } }

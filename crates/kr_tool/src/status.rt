@@ -1,5 +1,8 @@
 //! How a run of the tool ended.
 
+ghost use Rattle.std.specs.Prelude.{◌≡◌};
+ghost use Rattle.kr_tool.specs.Told.{number_of};
+
 /// How a run ended. Each has its exit number.
 #[derive(Clone, Copy, Debug, Drop, PartialEq, Eq)]
 pub enum Status {
@@ -17,4 +20,21 @@ pub enum Status {
     NoMemory,
     /// The longest input was taken without its end.
     TooLong,
+}
+
+impl Status {
+    /// The number with which the process ends.
+    pub fn number(&self) -> u8
+        ensures { result ≡ number_of self.now }
+    {
+        match self {
+            Status::Done => 0,
+            Status::Usage => 2,
+            Status::Malformed { .. } => 3,
+            Status::ReadFault => 4,
+            Status::WriteFault => 5,
+            Status::NoMemory => 6,
+            Status::TooLong => 7,
+        }
+    }
 }

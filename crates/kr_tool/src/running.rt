@@ -1,0 +1,125 @@
+//! The top call: one run of the tool.
+
+ghost use Rattle.std.specs.Prelude.{◌≡◌, ◌⊎◌, ◌↔◌, [], ◌++◌, ◌∷◌, IfOk, IsTrue, codes, string_bytes};
+ghost use Rattle.std.specs.Fmt.{decimal};
+ghost use Rattle.std.specs.Io.KnownBytes.{Appends, Consumes};
+ghost use Rattle.kr_base.specs.Causes.{Rose};
+ghost use Rattle.kr_tool.specs.Told.{AreServed, TookWhole, StopsReading, StopsWriting, EndsWith, note_of, line, IsMalformed};
+
+use crate::serving::serve;
+use crate::status::Status;
+use kr_base::{Sink, Source};
+use kr_defs::Text;
+use std::alloc::{AllocError, Global};
+
+/// Runs the tool: serves the session that comes from `input`, writes its output frames to `output`, and the line of a
+/// status other than Done to `notes`. The status says how it ended; a fault of `notes` changes none. So far the one
+/// word `session` is served, and all other words are answered Usage.
+pub fn run<S: Source, K: Sink, E: Sink>(
+    alloc: Global,
+    words: &[Text],
+    input: &mut S,
+    output: &mut K,
+    notes: &mut E,
+) -> Status
+    // Usage is told exactly where the words aren't served, and then nothing is taken or written.
+    ensures usage { result ≡ Status.Usage → AreServed words.now → ⊥ }
+    ensures served { (AreServed words.now → ⊥) → result ≡ Status.Usage }
+    ensures idle { result ≡ Status.Usage → Consumes (S.left input.old) (S.left input.new) [] × Appends (K.written output.old) (K.written output.new) [] }
+
+    // One whole session was taken and nothing behind it, and the frames of its outputs were written.
+    ensures done { result ≡ Status.Done → TookWhole (S.left input.old) (S.left input.new) (K.written output.old) (K.written output.new) }
+
+    // A fault is told only where that object's count rose in this call.
+    ensures read { result ≡ Status.ReadFault → StopsReading (S.left input.old) (S.left input.new) (K.written output.old) (K.written output.new) × Rose (S.faults input.old) (S.faults input.new) }
+    ensures write { result ≡ Status.WriteFault → StopsWriting (S.left input.old) (S.left input.new) (K.written output.old) (K.written output.new) × Rose (K.faults output.old) (K.faults output.new) }
+    ensures no_memory { result ≡ Status.NoMemory → StopsWriting (S.left input.old) (S.left input.new) (K.written output.old) (K.written output.new) }
+
+    // The notes get exactly the status's line.
+    ensures notes { (Rose (E.faults notes.old) (E.faults notes.new) → ⊥) → Appends (E.written notes.old) (E.written notes.new) (note_of result) }
+{
+    let status = serve_words(alloc, words, input, output);
+    tell(alloc, status, notes)
+}
+
+// Does the job that the words name.
+fn serve_words<S: Source, K: Sink>(
+    alloc: Global,
+    words: &[Text],
+    input: &mut S,
+    output: &mut K,
+) -> Status
+    ensures usage { result ≡ Status.Usage → AreServed words.now → ⊥ }
+    ensures served { (AreServed words.now → ⊥) → result ≡ Status.Usage }
+    ensures idle { result ≡ Status.Usage → Consumes (S.left input.old) (S.left input.new) [] × Appends (K.written output.old) (K.written output.new) [] }
+    ensures ends { (result ≡ Status.Usage → ⊥) → EndsWith (S.left input.old) (S.left input.new) (K.written output.old) (K.written output.new) result }
+    ensures read { result ≡ Status.ReadFault → Rose (S.faults input.old) (S.faults input.new) }
+    ensures write { result ≡ Status.WriteFault → Rose (K.faults output.old) (K.faults output.new) }
+{
+    if !are_served(words) {
+        return Status::Usage;
+    }
+    serve(alloc, input, output)
+}
+
+// The words are one of the forms that are built.
+fn are_served(words: &[Text]) -> bool
+    ensures { IsTrue result ↔ AreServed words.now }
+{
+    match words {
+        [word] => is_session(word),
+        _ => false,
+    }
+}
+
+fn is_session(word: &Text) -> bool
+    ensures { IsTrue result ↔ (word.now ≡ codes "session") }
+{
+    word.as_str() == "session"
+}
+
+// Writes the line of a status, and answers it: or NoMemory, where memory for the line of a bad frame ran out.
+fn tell<E: Sink>(alloc: Global, status: Status, notes: &mut E) -> Status
+    ensures same { (result ≡ status) ⊎ ((result ≡ Status.NoMemory) × IsMalformed status) }
+    ensures told { (Rose (E.faults notes.old) (E.faults notes.new) → ⊥) → Appends (E.written notes.old) (E.written notes.new) (note_of result) }
+{
+    match status {
+        Status::Done => {}
+        Status::Usage => put_line(b"usage: kr_tool session | fold | dump | make N\n", notes),
+        Status::Malformed { at } => return tell_malformed(alloc, at, notes),
+        Status::ReadFault => put_line(b"read fault\n", notes),
+        Status::WriteFault => put_line(b"write fault\n", notes),
+        Status::NoMemory => put_line(b"out of memory\n", notes),
+        Status::TooLong => put_line(b"input too long\n", notes),
+    }
+    status
+}
+
+fn tell_malformed<E: Sink>(alloc: Global, at: u64, notes: &mut E) -> Status
+    ensures same { (result ≡ Status.Malformed at) ⊎ (result ≡ Status.NoMemory) }
+    ensures told { (Rose (E.faults notes.old) (E.faults notes.new) → ⊥) → Appends (E.written notes.old) (E.written notes.new) (note_of result) }
+{
+    match malformed_line(alloc, at) {
+        Ok(text) => {
+            put_line(text.as_bytes(), notes);
+            Status::Malformed { at }
+        }
+        Err(_) => {
+            put_line(b"out of memory\n", notes);
+            Status::NoMemory
+        }
+    }
+}
+
+fn malformed_line(alloc: Global, at: u64) -> Result<String, AllocError>
+    ensures { IfOk result (λ text. string_bytes text ≡ line (codes "malformed at " ++ decimal at)) }
+{
+    format!(in alloc; "malformed at {at}\n")
+}
+
+// A fault of the notes is passed over.
+fn put_line<E: Sink>(text: &[u8], notes: &mut E)
+    ensures { (Rose (E.faults notes.old) (E.faults notes.new) → ⊥) → Appends (E.written notes.old) (E.written notes.new) text.now }
+{
+    let _ = notes.put(text);
+}
