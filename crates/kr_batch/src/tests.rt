@@ -72,20 +72,46 @@ fn the_first_fault_is_named(rt: HostRuntime) -> Result<(), Fail> {
         at: 0,
         cause: Cause::Value(RecordFault::FrameVersion { found: 2 }),
     };
-    let cases: [(&[(usize, u8)], BatchFault); 17] = [
-        (&[(11, 0x30), (16, 1)], BatchFault::Short),
-        (&[(11, 0x55)], BatchFault::Short),
-        (&[(8, 0x80)], BatchFault::Short),
-        (&[(11, 0x53), (16, 1)], BatchFault::Trailing),
-        (&[(16, 1), (22, 1)], BatchFault::Magic { found: 1 }),
-        (&[(22, 7), (60, 0)], BatchFault::Compressed { kind: 7 }),
+    let cases: [(&[(usize, u8)], bool, BatchFault); 20] = [
+        (&[(11, 0x30), (16, 1)], false, BatchFault::Short),
+        (&[(11, 0x55)], false, BatchFault::Short),
+        (&[(8, 0x80)], false, BatchFault::Short),
+        (&[(11, 0x53), (16, 1)], false, BatchFault::Trailing),
+        (&[(16, 1)], true, BatchFault::Magic { found: 1 }),
+        (
+            &[],
+            true,
+            BatchFault::Crc {
+                stored: 0x235D_E381,
+                counted: 0x235D_E380,
+            },
+        ),
+        (
+            &[(22, 1)],
+            true,
+            BatchFault::Crc {
+                stored: 0xDDBA_8226,
+                counted: 0xDDBA_8227,
+            },
+        ),
+        (
+            &[(22, 7), (60, 0)],
+            false,
+            BatchFault::Compressed { kind: 7 },
+        ),
         (
             &[(60, 2), (0, 0x80)],
+            false,
             BatchFault::BadCount { count: 2, delta: 0 },
         ),
-        (&[(26, 1)], BatchFault::BadCount { count: 1, delta: 1 }),
+        (
+            &[(26, 1)],
+            false,
+            BatchFault::BadCount { count: 1, delta: 1 },
+        ),
         (
             &[(23, 255), (24, 255), (25, 255), (26, 255), (60, 0)],
+            false,
             BatchFault::BadCount {
                 count: 0,
                 delta: -1,
@@ -93,39 +119,32 @@ fn the_first_fault_is_named(rt: HostRuntime) -> Result<(), Fail> {
         ),
         (
             &[(22, 32), (25, 0x27), (26, 0x10), (59, 0x27), (60, 0x11)],
+            false,
             BatchFault::BadCount {
                 count: 10001,
                 delta: 10000,
             },
         ),
-        (&[(0, 0x80), (95, 2)], BatchFault::BadOffset { at: 0 }),
-        (&[(0, 0x80), (22, 32)], BatchFault::BadOffset { at: 0 }),
-        (&[(61, 0x42), (64, 2)], framing),
-        (&[(95, 2), (64, 2)], framing),
-        (&[(66, 0x01)], framing),
-        (&[(64, 2), (67, 2)], BatchFault::BadOffset { at: 0 }),
-        (&[(67, 2)], version),
+        (
+            &[(0, 0x80), (95, 2)],
+            false,
+            BatchFault::BadOffset { at: 0 },
+        ),
+        (
+            &[(0, 0x80), (22, 32)],
+            false,
+            BatchFault::BadOffset { at: 0 },
+        ),
+        (&[(61, 0x42), (64, 2)], false, framing),
+        (&[(95, 2), (64, 2)], false, framing),
+        (&[(66, 0x01)], false, framing),
+        (&[(65, 0x40)], false, framing),
+        (&[(64, 2), (67, 2)], false, BatchFault::BadOffset { at: 0 }),
+        (&[(67, 2)], false, version),
     ];
-    for (edits, fault) in cases {
-        assert_eq!(rt; answer(rt.alloc(), edits, false)?, Some(fault));
+    for (edits, wrong, fault) in cases {
+        assert_eq!(rt; answer(rt.alloc(), edits, wrong)?, Some(fault), "{fault}");
     }
-    Ok(())
-}
-
-#[test]
-fn the_sum_is_judged_between_magic_and_compression(rt: HostRuntime) -> Result<(), Fail> {
-    let magic = answer(rt.alloc(), &[(16, 1)], true)?;
-    assert_eq!(rt; magic, Some(BatchFault::Magic { found: 1 }));
-    let sum = answer(rt.alloc(), &[(22, 1)], true)?;
-    assert!(rt; matches!(sum, Some(BatchFault::Crc { .. })));
-    let sum = answer(rt.alloc(), &[], true)?;
-    assert_eq!(rt;
-        sum,
-        Some(BatchFault::Crc {
-            stored: 0x235D_E381,
-            counted: 0x235D_E380
-        })
-    );
     Ok(())
 }
 
