@@ -1,11 +1,11 @@
 -- What is read of the bodies of Request and Open frames stands for its value.
-use Rattle.std.proofs.Common.{Fits, w8, get_or, ◌≡◌, ℕ, ℤ, pos, ◌≤◌, List, [], ◌∷◌, ◌++◌, length, drop, append_assoc, Result, Ok, Err, refl, sym, ap, subst, ◌∙◌, arith}
+use Rattle.std.proofs.Common.{Fits, w8, get_or, ◌≡◌, ℕ, ℤ, pos, ◌≤◌, List, [], ◌++◌, length, drop, append_assoc, Result, Ok, Err, refl, sym, ap, subst, ◌∙◌, arith, ◌<◌}
 use Rattle.std.specs.Prelude.{IfOk, IsUtf8}
 use Rattle.std.specs.Int.{w16, w32, w64}
 use Rattle.std.proofs.lemmas.List.{append-nil}
 use Rattle.kr_wire.specs.Reading.{Read}
-use Rattle.kr_wire.specs.Grammar.{◌⌢◌, Exactly, IsNumber, IsSigned}
-use Rattle.kr_wire.proofs.Laws.{IsBytes, Yields, Front, joined, ok_value, ok_rest, sound_then}
+use Rattle.kr_wire.specs.Grammar.{◌⌢◌, IsNumber, IsSigned}
+use Rattle.kr_wire.proofs.Laws.{IsBytes, Yields, Front, joined, ok_value, ok_rest, sound_then, complete_then}
 use Rattle.kr_wire.proofs.Numbers.{number_law, signed_law}
 use Rattle.kr_defs.specs.declared.options.Options.{Options}
 use Rattle.kr_defs.specs.declared.events.Event.{Event}
@@ -13,7 +13,8 @@ use Rattle.kr_defs.specs.declared.events.Event.TheVariants as events
 use Rattle.kr_tool.specs.declared.bodies.BodyFault.{BodyFault}
 use Rattle.kr_tool.specs.Frames.{AreOptions, IsOptions, IsRest, IsTime, IsMessage}
 use Rattle.kr_tool.specs.Kept.{HasShort}
-use Rattle.kr_tool.specs.Bodies.{IsLead, IsCommit, IsRequest, IsAsked, stamp_at, IsSpelled, options_at}
+use Rattle.kr_wire.specs.declared.WireFault.{WireFault}
+use Rattle.kr_tool.specs.Bodies.{IsLead, IsCommit, IsRequest, IsAsked, stamp_at, IsSpelled, options_at, AreNumbers, IsBody, lead, commit, request}
 use Rattle.kr_tool.proofs.BodyLaws.{stamp_law}
 
 stamped : (client : ℕ) (now : ℤ) (Message : List ℕ → Type 0) (front rest body : List ℕ) → body ≡ front ++ rest → (IsNumber w32 client ⌢ IsTime now) front → Message rest
@@ -106,3 +107,69 @@ commit_short body (Ok event) is = commit_is_short event body is
 commit_short body (Err fault) is = tt
 
 pub ruleset shorts = (lead_short, commit_short)
+
+-- ---- what isn't read
+
+misfit_asked : (client : ℕ) (now : ℤ) (event : Event) (body : List ℕ) → IsRequest event body → (c : ℕ) × (n : ℤ) × (rest : List ℕ) × (stamp_at body ≡ Ok ((c, n), rest)) × IsAsked c n event rest
+misfit_asked client now (events.Request c n ask) body is =
+    let j = is.second in
+    let front : (IsNumber w32 c ⌢ IsTime n) (is.left ++ j.left) = joined is.left j.left is.first j.first in
+    let parts : body ≡ (is.left ++ j.left) ++ j.right = is.is ∙ (ap (λ (l : List ℕ). is.left ++ l) j.is ∙ sym (append_assoc is.left j.left j.right)) in
+    (c, n, j.right, ap stamp_at parts ∙ stamp_law.complete (c, n) (is.left ++ j.left) j.right front, (refl, refl, j.second))
+misfit_asked client now (events.Lead epoch next then_) body is = absurd is
+misfit_asked client now (events.Commit epoch end) body is = absurd is
+
+asked_short : (client : ℕ) (now : ℤ) (event : Event) (message : List ℕ) → IsAsked client now event message → length message ≤ 8388608
+asked_short client now (events.Request c n ask) message is = is.2.short
+asked_short client now (events.Lead epoch next then_) message is = absurd is
+asked_short client now (events.Commit epoch end) message is = absurd is
+
+-- no stamp
+pub request_unstamped : (body : List ℕ) (fault : WireFault) → stamp_at body ≡ Err fault → (event : Event) → IsRequest event body → ⊥
+request_unstamped body fault e event is = let m = misfit_asked 0 (pos 0) event body is in let clash = sym e ∙ m.3 in cc
+
+-- a message that is too long
+pub request_too_long : (body message : List ℕ) (client : ℕ) (now : ℤ) (at : ℕ) → stamp_at body ≡ Ok ((client, now), drop at body) → message ≡ drop at body → 8388608 < length message
+    → (event : Event) → IsRequest event body → ⊥
+request_too_long body message client now at e behind long event is =
+    let m = misfit_asked 0 (pos 0) event body is in
+    let rest : drop at body ≡ m.2 = ok_rest _ _ _ _ (sym e ∙ m.3) in
+    let short = asked_short m.0 m.1 event m.2 m.4 in
+    let same = ap length (behind ∙ rest) in
+    omega (arith, long, short, same)
+
+options_read : (o : Options) (body : List ℕ) → IsOptions o body → options_at (body ++ []) ≡ Ok (o, [])
+unfolding options_at
+options_read o body is =
+    complete_then (signed_law w32) o.node (IsNumber w64 o.salt ⌢ IsNumber w32 o.session_ms ⌢ IsSigned w32 o.partitions ⌢ IsSigned w16 o.factor ⌢ IsSigned w32 o.minimum ⌢ IsRest o.cluster) _ _ []
+    (complete_then (number_law w64) o.salt (IsNumber w32 o.session_ms ⌢ IsSigned w32 o.partitions ⌢ IsSigned w16 o.factor ⌢ IsSigned w32 o.minimum ⌢ IsRest o.cluster) _ _ []
+    (complete_then (number_law w32) o.session_ms (IsSigned w32 o.partitions ⌢ IsSigned w16 o.factor ⌢ IsSigned w32 o.minimum ⌢ IsRest o.cluster) _ _ []
+    (complete_then (signed_law w32) o.partitions (IsSigned w16 o.factor ⌢ IsSigned w32 o.minimum ⌢ IsRest o.cluster) _ _ []
+    (complete_then (signed_law w16) o.factor (IsSigned w32 o.minimum ⌢ IsRest o.cluster) _ _ []
+    (complete_then (signed_law w32) o.minimum (IsRest o.cluster) _ _ []
+    (λ tail all. ap (λ (l : List ℕ). let r : Read Options = Ok (record o { cluster = l }, []) in r) (append-nil tail ∙ all.all))))))) body is.spelled
+
+pub options_whole : (o : Options) (body : List ℕ) → IsOptions o body → options_at body ≡ Ok (o, [])
+options_whole o body is = ap options_at (sym (append-nil body)) ∙ options_read o body is
+
+pub options_unread : (body : List ℕ) (fault : WireFault) → options_at body ≡ Err fault → (o : Options) → IsOptions o body → ⊥
+options_unread body fault e o is = let clash = sym e ∙ options_whole o body is in cc
+
+-- settings that don't fit
+pub options_misfit : (body cluster : List ℕ) (p : Options) → options_at body ≡ Ok (p, []) → cluster ≡ p.cluster
+    → (AreNumbers p.node p.session_ms p.partitions p.factor p.minimum → length cluster ≤ 255 → IsUtf8 cluster → ⊥) → (o : Options) → IsOptions o body → ⊥
+options_misfit body cluster p e same wrong o is =
+    let q : p ≡ o = ok_value _ _ _ _ (sym e ∙ options_whole o body is) in
+    let P : Options → Type 0 = λ z. AreOptions z in
+    let fits = subst P (sym q) is.fits in
+    let utf8 : IsUtf8 o.cluster = is.spelled.second.second.second.second.second.second.utf8 in
+    let named : cluster ≡ o.cluster = same ∙ ap (λ (z : Options). z.cluster) q in
+    wrong (record { natural = fits.node; session = fits.session; topics = record { least_partitions = fits.least_partitions; most_partitions = fits.most_partitions; least_factor = fits.least_factor; most_factor = fits.most_factor }; least = fits.minimum })
+    (let l = ap length same in omega (arith, l, fits.cluster)) (subst (λ (l : List ℕ). IsUtf8 l) (sym named) utf8)
+
+-- the kinds of events
+pub body_misfit : (kind : ℕ) (body : List ℕ) → (kind ≡ 2 → (event : Event) → IsLead event body → ⊥) → (kind ≡ 3 → (event : Event) → IsCommit event body → ⊥) → (kind ≡ 8 → (event : Event) → IsRequest event body → ⊥)
+    → (event : Event) → IsBody event kind body → ⊥
+body_misfit kind body no_lead no_commit no_request event (lead same is) = no_lead same event is
+body_misfit kind body no_lead no_commit no_request event (commit same is) = no_commit same event is
+body_misfit kind body no_lead no_commit no_request event (request same is) = no_request same event is

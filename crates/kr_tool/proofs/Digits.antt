@@ -1,5 +1,5 @@
 -- How large the number of a few digits is, where any bytes count as digits.
-use Rattle.std.proofs.Common.{◌≡◌, ℕ, suc, ◌+◌, ◌-◌, ◌*◌, ◌^◌, ◌<◌, ◌≤◌, arith, add-one, lit≤}
+use Rattle.std.proofs.Common.{ℕ, ◌+◌, ◌-◌, ◌*◌, ◌^◌, ◌<◌, ◌≤◌, arith, add-one, lit≤}
 use Rattle.std.proofs.Math.Nat.{pow-succ', pow-le-pow_right}
 
 pub one_more : (value digit i : ℕ) → value + 23 ≤ 23 * 10 ^ i → digit < 256 → 10 * value + (digit - 48) + 23 ≤ 23 * 10 ^ (i + 1)

@@ -1,20 +1,19 @@
 -- No frame begins another: its size says where it ends, its kind what it is, and its body stands for one value.
-use Rattle.std.proofs.Common.{◌≡◌, ℕ, ℤ, pos, ◌+◌, List, [], ◌∷◌, ◌++◌, length, append_assoc, refl, sym, ap, subst, ◌∙◌, arith}
+use Rattle.std.proofs.Common.{◌≡◌, ℕ, ℤ, ◌+◌, List, [], ◌∷◌, ◌++◌, length, append_assoc, refl, sym, ap, subst, ◌∙◌, arith}
 use Rattle.std.specs.Int.{w16, w32, w64}
 use Rattle.std.specs.Prelude.{Result}
-use Rattle.kr_wire.specs.Grammar.{◌⌢◌, IsNumber, IsSigned}
+use Rattle.kr_wire.specs.Grammar.{◌⌢◌}
 use Rattle.kr_wire.proofs.Laws.{Law, one_form, one_value}
 use Rattle.kr_wire.proofs.Numbers.{number_law, signed_law}
-use Rattle.kr_defs.specs.declared.calls.Ask.{Ask}
 use Rattle.kr_defs.specs.declared.options.Options.{Options}
 use Rattle.kr_defs.specs.declared.events.Event.{Event}
 use Rattle.kr_defs.specs.declared.events.Event.TheVariants as events
-use Rattle.kr_tool.specs.Frames.{IsFrame, IsOptions, IsOpen, IsEvent, IsEnd, IsTime, IsMessage, IsRest}
+use Rattle.kr_tool.specs.Frames.{IsFrame, IsOptions, IsOpen, IsEvent, IsEnd, IsTime, IsMessage}
 use Rattle.kr_tool.proofs.Laws.{asked_once}
 use Rattle.kr_tool.proofs.Streams.{FramesDiffer}
 
 -- fronts of one length
-same_front : (a b x y : List ℕ) → length a ≡ length b → a ++ x ≡ b ++ y → (a ≡ b) × (x ≡ y)
+pub same_front : (a b x y : List ℕ) → length a ≡ length b → a ++ x ≡ b ++ y → (a ≡ b) × (x ≡ y)
 same_front [] [] x y long same = (refl, same)
 same_front [] (m ∷ b) x y long same = absurd (omega (arith, long))
 same_front (n ∷ a) [] x y long same = absurd (omega (arith, long))
@@ -26,7 +25,7 @@ same_front (n ∷ a) (m ∷ b) x y long same =
     (rw (head, r.0) refl, r.1)
 
 -- two frames at the front of one stream
-frame_form : (k j : ℕ) (Body Other : List ℕ → Type 0) (a b x y : List ℕ) (f : IsFrame k Body a) (g : IsFrame j Other b) → a ++ x ≡ b ++ y
+pub frame_form : (k j : ℕ) (Body Other : List ℕ → Type 0) (a b x y : List ℕ) (f : IsFrame k Body a) (g : IsFrame j Other b) → a ++ x ≡ b ++ y
     → (k ≡ j) × (f.body ≡ g.body) × (x ≡ y)
 frame_form k j Body Other a b x y f g same =
     let s = f.spelled in

@@ -1,11 +1,9 @@
 -- A session goes on by one frame, or ends.
-use Rattle.std.proofs.Common.{◌≡◌, ℕ, ◌+◌, ◌<◌, ◌≤◌, ◌^◌, true, false, List, [], ◌∷◌, ◌++◌, length, take, append_assoc, append-nil, length-append, Option, Some, None, refl, sym, ap, subst, ◌∙◌, arith}
+use Rattle.std.proofs.Common.{◌≡◌, ℕ, ◌+◌, ◌<◌, ◌≤◌, ◌^◌, true, false, List, [], ◌∷◌, ◌++◌, length, append-nil, length-append, Option, refl, sym, ap, subst, ◌∙◌, arith}
 use Rattle.std.specs.Io.KnownBytes.{Consumes, Appends}
-use Rattle.std.proofs.KnownBytes.{Consumes-trans, Appends-trans, Appends-nil, Consumes-nil}
+use Rattle.std.proofs.KnownBytes.{Consumes-trans, Appends-trans}
 use Rattle.std.proofs.lemmas.List.{take_all}
 use Rattle.kr_base.specs.Written.{AppendsFront}
-use Rattle.kr_base.specs.Causes.{Rose}
-use Rattle.kr_wire.specs.Grammar.{◌⌢◌}
 use Rattle.kr_defs.specs.declared.options.Options.{Options}
 use Rattle.kr_defs.specs.declared.events.Event.{Event}
 use Rattle.kr_tool.specs.declared.frames.Stop.{Stop}
@@ -16,10 +14,13 @@ use Rattle.kr_defs.specs.declared.events.Event.TheVariants as events
 use Rattle.kr_tool.specs.Frames.{IsFrame, IsOpen, IsEvent, IsEnd}
 use Rattle.kr_tool.specs.Kept.{State, Stands}
 use Rattle.kr_tool.specs.Outputs.{outputs_of, frames_of, written_for}
-use Rattle.kr_tool.specs.Reader.{Took, Stopped}
-use Rattle.kr_tool.specs.Session.{Unopened, Opened, HasRead}
+use Rattle.kr_tool.specs.Reader.{Took, Stopped, NoneOpens, NoneNext}
+use Rattle.std.specs.Prelude.{IfSome}
+use Rattle.kr_tool.proofs.Cuts.{behind_taken, behind_any, if_some}
+use Rattle.kr_tool.proofs.FrameForms.{same_front, frames_differ}
+use Rattle.kr_tool.specs.Session.{Unopened, Opened, NoFrame}
 use Rattle.kr_tool.specs.Serving.{Going, unread_status, unwritten_status}
-use Rattle.kr_tool.specs.Told.{EndsWith, TookWhole, TookPart, StopsReading, StopsWriting}
+use Rattle.kr_tool.specs.Told.{EndsWith, TookWhole, TookPart, StopsAt, StopsWriting}
 use Rattle.kr_tool.specs.World.{world, is_accepted}
 use Rattle.kr_tool.proofs.Progresses.{opened_first, read_push, written_push}
 use Rattle.kr_tool.proofs.Served.{appends_front_behind}
@@ -29,12 +30,20 @@ pub appends_all : (a b : Option (List ℕ)) (xs : List ℕ) → Appends a b xs �
 appends_all a b xs wrote = (length xs, subst (λ (l : List ℕ). Appends a b l) (sym (take_all (length xs) xs (omega arith))) wrote)
 
 module _ (left left' written written' : Option (List ℕ)) where
+  abbrev part_before : (taken : List ℕ) → Consumes left left' taken → TookPart left left'
+  part_before taken took = record { progress = Unopened; front = []; rest = taken; read = refl; took = took }
+
   -- before the first frame
-  pub unopened : (stop : Stop) (taken : List ℕ) → Consumes left left' taken → Appends written written' [] → EndsWith left left' written written' (unread_status stop 0)
-  unopened stops.Malformed taken took wrote = record { part = record { progress = Unopened; front = []; rest = taken; read = refl; took = took }; wrote = wrote }
-  unopened stops.ReadFault taken took wrote = record { part = record { progress = Unopened; front = []; rest = taken; read = refl; took = took }; wrote = wrote }
-  unopened stops.NoMemory taken took wrote = record { part = record { progress = Unopened; front = []; rest = taken; read = refl; took = took }; wrote = appends_all written written' [] wrote }
-  unopened stops.TooLong taken took wrote = record { part = record { progress = Unopened; front = []; rest = taken; read = refl; took = took }; wrote = wrote }
+  pub unopened : (stop : Stop) (f g : ℕ) → Stopped NoneOpens left left' 0 f g stop → Appends written written' [] → EndsWith left left' written written' (unread_status stop 0)
+  unopened stops.Malformed f g s wrote = record {
+    part = part_before s.taken s.took;
+    place = refl;
+    wrote = wrote;
+    none = if_some left NoneOpens (λ stream. (behind : List ℕ) → stream ≡ [] ++ behind → NoFrame Unopened behind) (λ stream none behind same. subst NoneOpens same none) (s.broken refl);
+  }
+  unopened stops.ReadFault f g s wrote = record { part = part_before s.taken s.took; wrote = wrote }
+  unopened stops.NoMemory f g s wrote = record { part = part_before s.taken s.took; wrote = appends_all written written' [] wrote }
+  unopened stops.TooLong f g s wrote = record { part = part_before s.taken s.took; long = (let l = (s.long refl).0 in omega (arith, l)); none = (s.long refl).1; wrote = wrote }
 
   -- behind the first frame
   pub opened : (options : Options) (state : State) (end : ℕ) → Took (IsOpen options) left left' 0 end → Appends written written' [] → Stands state [] → Going left left' written written' state end
@@ -59,12 +68,30 @@ module _ (left mid left' written between : Option (List ℕ)) (state : State) (a
     took = Consumes-trans left mid left' going.front taken going.took took;
   }
 
+  -- what was said of all that was left there
+  front_none : (P : List ℕ → Type 0) → IfSome mid P → IfSome left (λ stream. (behind : List ℕ) → stream ≡ going.front ++ behind → P behind)
+  front_none P p = behind_taken left mid going.front P (λ stream. (behind : List ℕ) → stream ≡ going.front ++ behind → P behind) going.took
+      (λ rest q behind same. subst P (same_front going.front going.front rest behind refl same).1 q) p
+
+  accepted_none : (bytes : List ℕ) → NoneNext bytes → NoFrame (Opened going.options going.events) bytes
+  accepted_none bytes none = (λ event good. none.0 event, none.1)
+
   -- the next frame isn't read
-  pub unread_next : (stop : Stop) (taken : List ℕ) → Consumes mid left' taken → EndsWith left left' written between (unread_status stop at)
-  unread_next stops.Malformed taken took = record { part = part_of taken took; wrote = going.wrote }
-  unread_next stops.ReadFault taken took = record { part = part_of taken took; wrote = going.wrote }
-  unread_next stops.NoMemory taken took = record { part = part_of taken took; wrote = appends_all written between (written_for going.events) going.wrote }
-  unread_next stops.TooLong taken took = record { part = part_of taken took; wrote = going.wrote }
+  pub unread_next : (stop : Stop) (f g : ℕ) → Stopped NoneNext mid left' at f g stop → EndsWith left left' written between (unread_status stop at)
+  unread_next stops.Malformed f g s = record {
+    part = part_of s.taken s.took;
+    place = going.place;
+    wrote = going.wrote;
+    none = front_none (NoFrame (Opened going.options going.events)) (if_some mid NoneNext (NoFrame (Opened going.options going.events)) accepted_none (s.broken refl));
+  }
+  unread_next stops.ReadFault f g s = record { part = part_of s.taken s.took; wrote = going.wrote }
+  unread_next stops.NoMemory f g s = record { part = part_of s.taken s.took; wrote = appends_all written between (written_for going.events) going.wrote }
+  unread_next stops.TooLong f g s = record {
+    part = part_of s.taken s.took;
+    long = let e = length-append going.front s.taken in let l = (s.long refl).0 in omega (arith, e, l, going.place);
+    none = accepted_none s.taken (s.long refl).1;
+    wrote = going.wrote;
+  }
 
   -- it is End
   pub ended : (end : ℕ) → Took IsEnd mid left' at end → TookWhole left left' written between
@@ -79,8 +106,19 @@ module _ (left mid left' written between : Option (List ℕ)) (state : State) (a
 
   module _ (e : Event) (end : ℕ) (t : Took (IsEvent e) mid left' at end) where
     -- it is an event that isn't accepted
-    pub refused : StopsReading left left' written between
-    refused = record { part = part_of t.taken t.took; wrote = going.wrote }
+    pub refused : is_accepted (world going.events) e ≡ false → StopsAt left left' written between at
+    refused bad = record {
+      part = part_of t.taken t.took;
+      place = going.place;
+      wrote = going.wrote;
+      none = front_none (NoFrame (Opened going.options going.events)) (behind_any mid left' t.taken (NoFrame (Opened going.options going.events)) t.took (λ rest. (
+        λ event good front behind parts is.
+            let same = frames_differ.event e event t.taken front rest behind t.is is parts in
+            let P : Event → Type 0 = λ x. is_accepted (world going.events) x ≡ false in
+            let wrong = sym (subst P same.0 bad) ∙ good in cc,
+        λ front behind parts is. frames_differ.event_end e t.taken front rest behind t.is is parts,
+      )));
+    }
 
     module _ (good : is_accepted (world going.events) e ≡ true) where
       -- its outputs are written

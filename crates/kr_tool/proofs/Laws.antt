@@ -1,6 +1,6 @@
 -- The laws of request messages: what is read stands for its value, what stands is read, and a message asks one thing.
-use Rattle.std.proofs.Common.{Fits, w8, w16, w32, get_or, ◌≡◌, ℕ, zero, suc, ◌+◌, ◌*◌, ◌<◌, ◌≤◌, Bool, true, false, eqb, ltb, List, [], ◌∷◌, ◌++◌, length, take, drop, ◌^◌, append_assoc, inl, inr, ◌-◌, Result, Ok, Err, refl, sym, ap, subst, ◌∙◌, arith, lit<, lit≤, leb}
-use Rattle.std.specs.Prelude.{ℤ, pos, negsuc, not, int_lt, unsigned_abs, IfOk, IsUtf8}
+use Rattle.std.proofs.Common.{Fits, w8, w16, w32, get_or, ◌≡◌, ℕ, ◌+◌, ◌*◌, ◌<◌, ◌≤◌, Bool, true, false, eqb, List, [], ◌∷◌, ◌++◌, length, take, drop, ◌^◌, append_assoc, inl, inr, ◌-◌, Result, Ok, Err, refl, sym, ap, subst, ◌∙◌, arith, lit<, lit≤, leb}
+use Rattle.std.specs.Prelude.{ℤ, pos, negsuc, not, int_lt, unsigned_abs, IfOk}
 use Rattle.std.specs.Int.{Width, byte_len, cast_signed, from_be_bytes}
 use Rattle.std.specs.Ordering.{int_eq}
 use Rattle.std.specs.Str.{bytes_eq}
@@ -12,7 +12,7 @@ use Rattle.kr_defs.specs.declared.calls.ConfigResource.{ConfigResource}
 use Rattle.kr_wire.specs.declared.WireFault.{WireFault}
 use Rattle.kr_tool.specs.Minimum.{is_minimum}
 use Rattle.kr_base.specs.declared.answers.NoMemory.{NoMemory}
-use Rattle.std.proofs.lemmas.Bool.Decides.{nat_tests, Decides-int_eq, Decides-eqb}
+use Rattle.std.proofs.lemmas.Bool.Decides.{Decides-int_eq, Decides-eqb}
 use Rattle.std.specs.Bool.{Decides}
 use Rattle.std.specs.Prelude.{◌&&◌, cond}
 use Rattle.kr_defs.specs.declared.calls.Ask.{Ask}
@@ -20,11 +20,11 @@ use Rattle.kr_defs.specs.declared.calls.Ask.TheVariants as asks
 use Rattle.kr_defs.specs.declared.calls.AskFault.TheVariants as faults
 use Rattle.std.proofs.lemmas.Slice.Eq.{bytes_eq-Decides}
 use Rattle.kr_wire.specs.declared.WireFault.TheVariants.{BadTag}
-use Rattle.kr_wire.specs.Reading.{◌>>=◌, Read, signed_at, uvarint_at, text_at}
+use Rattle.kr_wire.specs.Reading.{Read, signed_at}
 use Rattle.kr_wire.specs.Grammar.{◌⌢◌, Exactly, IsVarint, IsUvarint, IsSigned, IsText}
 use Rattle.kr_wire.proofs.Laws.{IsBytes, Yields, Law, ok_value, one_value, one_value, joined, sound_then, sound_last, sound_guard, sound_if, sound_as, sound_done, complete_then, complete_last, complete_guard, complete_bind, complete_if_not, all_sound, all_complete}
 use Rattle.kr_wire.proofs.Numbers.{uvarint_law, signed_law, text_law, utf8_law, IsUtf8Piece}
-use Rattle.kr_tool.specs.Messages.{minimum_key, IsShortText, IsClientId, NoFields, IsHeader, IsBrokerDefault, IsOperation, IsClosing, IsSetting, BeginsWith, IsAsk, short, unsupported, other, setting, setting_call}
+use Rattle.kr_tool.specs.Messages.{minimum_key, IsShortText, IsClientId, NoFields, IsHeader, IsBrokerDefault, IsOperation, IsClosing, IsSetting, BeginsWith, IsAsk, short, unsupported, other, setting}
 use Rattle.kr_tool.specs.Reading.{passing, one_uvarint_at, one_i8_at, one_i16_at, one_text_at, sized_text_at, client_id_at, header_at, resource_at, operation_at, closing_at, setting_at, setting_of, begin_at, setting_ask, begun_ask, ask_of}
 
 -- ---- one value alone

@@ -15,3 +15,5 @@ pub mod Streams
 pub mod Worlds
 pub mod Going
 pub mod Tells
+pub mod Cuts
+pub mod Nones

@@ -1,16 +1,15 @@
 -- One more event: what was read, and what is written for it.
-use Rattle.std.proofs.Common.{◌≡◌, ℕ, ◌+◌, ◌<◌, ◌^◌, ◌≤◌, true, List, [], ◌∷◌, ◌++◌, length, append_assoc, append-nil, length-append, refl, sym, ap, subst, ◌∙◌, arith, lit<}
-use Rattle.std.specs.Prelude.{All}
+use Rattle.std.proofs.Common.{◌≡◌, ℕ, true, List, [], ◌∷◌, ◌++◌, append_assoc, append-nil, refl, sym, ap, ◌∙◌}
 use Rattle.std.specs.List.{fold, flat_map}
 use Rattle.std.proofs.lemmas.Grind.{flat_map-append}
-use Rattle.kr_wire.specs.Grammar.{◌⌢◌, Each, Exactly}
+use Rattle.kr_wire.specs.Grammar.{Each}
 use Rattle.kr_defs.specs.declared.options.Options.{Options}
 use Rattle.kr_defs.specs.declared.events.Event.{Event}
 use Rattle.kr_defs.specs.declared.events.Output.{Output}
 use Rattle.kr_tool.specs.Frames.{IsOpen, IsEvent, output_frame}
 use Rattle.kr_tool.specs.World.{World, start, world, happens, is_accepted}
 use Rattle.kr_tool.specs.Outputs.{outputs, outputs_after, outputs_of, frames_of, written_for}
-use Rattle.kr_tool.specs.Session.{AreAccepted, Progress, Opened, HasRead}
+use Rattle.kr_tool.specs.Session.{AreAccepted, Opened, HasRead}
 
 -- ---- what was read
 

@@ -1,25 +1,13 @@
 -- Frames that are read in parts.
-use Rattle.std.proofs.Common.{◌≡◌, ℕ, ◌+◌, ◌-◌, ◌^◌, ◌≤◌, min, List, [], ◌∷◌, ◌++◌, length, Option, append_assoc, length-append, refl, sym, ap, subst, ◌∙◌, arith}
+use Rattle.std.proofs.Common.{◌≡◌, ℕ, ◌+◌, List, [], ◌∷◌, ◌++◌, length, Option, append_assoc, length-append, refl, sym, ap, subst, ◌∙◌, arith}
 use Rattle.std.specs.Int.{w32}
-use Rattle.std.specs.Io.KnownBytes.{Consumes}
-use Rattle.kr_base.specs.Causes.{Rose}
 use Rattle.kr_base.proofs.Pieces.{consumes_more}
 use Rattle.kr_wire.specs.Grammar.{◌⌢◌, Exactly, IsNumber}
 use Rattle.kr_wire.proofs.Laws.{joined}
-use Rattle.kr_tool.specs.declared.frames.Stop.{Stop}
-use Rattle.kr_tool.specs.declared.frames.Stop.TheVariants.{Malformed}
 use Rattle.kr_tool.specs.Frames.{IsFrame}
-use Rattle.kr_tool.specs.Reader.{Took, IsHead, Stopped}
+use Rattle.kr_tool.specs.Reader.{Took, IsHead}
 
 module _ (a b c : Option (List ℕ)) where
-  -- a stop behind what was taken
-  pub stopped_behind : {Is : List ℕ → Type 0} (at next : ℕ) (f g h : ℕ) (stop : Stop) → Took Is a b at next → f ≤ g → Stopped b c g h stop → Stopped a c f h stop
-  stopped_behind at next f g h stop t le s = record {
-    taken = t.taken ++ s.taken;
-    took = consumes_more a b c t.taken s.taken t.took s.took;
-    cause = λ is. let rose : Rose g h = s.cause is in omega (arith, le, rose);
-  }
-
   -- one part behind the other
   pub took_both : {First Second : List ℕ → Type 0} (at mid next : ℕ) → Took First a b at mid → Took Second b c mid next → Took (First ⌢ Second) a c at next
   took_both at mid next t s = record {
@@ -29,9 +17,6 @@ module _ (a b c : Option (List ℕ)) where
     place = let e : length (t.taken ++ s.taken) ≡ length t.taken + length s.taken = length-append t.taken s.taken in omega (arith, e, t.place, s.place);
     within = s.within;
   }
-
-pub stopped_here : (a b : Option (List ℕ)) {Is : List ℕ → Type 0} (at next : ℕ) (f g : ℕ) → Took Is a b at next → Stopped a b f g Malformed
-stopped_here a b at next f g t = record { taken = t.taken; took = t.took; cause = λ is. absurd cc }
 
 -- bytes of which that holds are such bytes
 pub took_as : {Is As : List ℕ → Type 0} (a b : Option (List ℕ)) (at next : ℕ) → Took Is a b at next → ((bytes : List ℕ) → Is bytes → As bytes) → Took As a b at next

@@ -1,8 +1,7 @@
 -- Serving a session: frames taken one after the other, and what was written for them.
-use Rattle.std.proofs.Common.{◌≡◌, ℕ, ◌+◌, ◌<◌, ◌≤◌, ◌^◌, true, false, List, [], ◌∷◌, ◌++◌, length, append_assoc, append-nil, length-append, take, min, Option, Some, None, Result, Ok, Err, refl, sym, ap, subst, ◌∙◌, arith}
-use Rattle.std.specs.Prelude.{IfOk, IsTrue}
-use Rattle.std.specs.Io.KnownBytes.{Consumes, Appends}
-use Rattle.std.proofs.KnownBytes.{Consumes-trans, Appends-trans, Appends-nil, Consumes-nil}
+use Rattle.std.proofs.Common.{◌≡◌, ℕ, ◌+◌, List, [], ◌∷◌, ◌++◌, length, append_assoc, append-nil, take, min, Option, refl, sym, ap, subst, ◌∙◌, arith}
+use Rattle.std.specs.Io.KnownBytes.{Appends}
+use Rattle.std.proofs.KnownBytes.{Appends-trans, Appends-nil}
 use Rattle.std.proofs.lemmas.List.{take-append-le, take_min}
 use Rattle.std.proofs.Math.Seq.{take-append-add}
 use Rattle.kr_tool.specs.Reader.{Took}
@@ -12,10 +11,8 @@ use Rattle.kr_base.specs.Written.{AppendsFront}
 use Rattle.kr_defs.specs.declared.events.Event.{Event}
 use Rattle.kr_defs.specs.declared.events.Event.TheVariants as events
 use Rattle.kr_defs.specs.declared.events.Output.{Output}
-use Rattle.kr_tool.specs.declared.bodies.BodyFault.{BodyFault}
-use Rattle.kr_tool.specs.Frames.{IsFrame, IsEvent, IsEnd, output_frame}
-use Rattle.kr_tool.specs.Bodies.{IsLead, IsCommit, IsRequest, IsBody, lead, commit, request}
-use Rattle.kr_tool.specs.Kept.{HasShort}
+use Rattle.kr_tool.specs.Frames.{IsFrame, IsEvent, output_frame}
+use Rattle.kr_tool.specs.Bodies.{IsBody, lead, commit, request}
 use Rattle.kr_tool.specs.Outputs.{frames_of}
 
 -- ---- frames

@@ -1,10 +1,10 @@
 -- What is written is small.
-use Rattle.std.proofs.Common.{◌≡◌, ℕ, ℤ, pos, ◌+◌, ◌*◌, ◌/◌, ◌^◌, ◌<◌, ◌≤◌, zero, suc, inl, inr, List, [], ◌∷◌, ◌++◌, length, Option, Some, None, refl, sym, ap, subst, ◌∙◌, arith, length-append, lit<, lit≤}
+use Rattle.std.proofs.Common.{◌≡◌, ℕ, ℤ, pos, ◌+◌, ◌/◌, ◌^◌, ◌<◌, ◌≤◌, zero, suc, inl, inr, List, [], ◌∷◌, length, refl, arith, length-append}
 use Rattle.std.specs.Prelude.{IfSome}
 use Rattle.std.specs.Int.{w8}
 use Rattle.std.proofs.lemmas.Bool.{lt-ltb, le-ltb, cases_lt}
 use Rattle.std.proofs.lemmas.List.Sums.{sum_by-cons}
-use Rattle.kr_wire.specs.Spelling.{groups, uvarint, signed, text}
+use Rattle.kr_wire.specs.Spelling.{groups, uvarint, signed}
 use Rattle.kr_defs.specs.declared.calls.Request.{Request}
 use Rattle.kr_defs.specs.declared.calls.Request.TheVariants as requests
 use Rattle.kr_record.specs.Spelling.{record_value, config, framed, no_tags}

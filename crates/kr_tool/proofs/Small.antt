@@ -1,11 +1,11 @@
 -- The frames of all outputs fit their size field.
-use Rattle.std.proofs.Common.{◌≡◌, ℕ, ℤ, pos, ◌+◌, ◌*◌, ◌^◌, ◌<◌, ◌≤◌, Bool, true, false, cond, List, [], ◌∷◌, ◌++◌, length, map, filter, Option, Some, None, refl, sym, ap, subst, ◌∙◌, arith, length-append, lit<}
+use Rattle.std.proofs.Common.{◌≡◌, ℕ, ℤ, pos, ◌+◌, ◌^◌, ◌<◌, ◌≤◌, true, false, cond, List, [], ◌∷◌, ◌++◌, length, map, Option, Some, None, refl, sym, ap, subst, arith, length-append}
 use Rattle.std.specs.Prelude.{nat_le, nat_lt, unsigned_abs, IfSome, option_to_list}
-use Rattle.std.specs.List.{All, flat_map}
-use Rattle.std.specs.Int.{w8, w16, w32, int_max}
+use Rattle.std.specs.List.{All}
+use Rattle.std.specs.Int.{w16, w32, int_max}
 use Rattle.std.proofs.lemmas.List.{length-map}
 use Rattle.std.proofs.lemmas.List.Elements.{All-nil, All-head, All-tail, All-append, All-push, All-map, All-filter}
-use Rattle.kr_wire.specs.Spelling.{uvarint, number, signed, text, list, tags}
+use Rattle.kr_wire.specs.Spelling.{number, signed, list, tags}
 use Rattle.kr_defs.specs.declared.calls.Ask.TheVariants as asks
 use Rattle.kr_defs.specs.declared.calls.Call.{Call}
 use Rattle.kr_defs.specs.declared.calls.ConfigResource.{ConfigResource}
@@ -24,10 +24,10 @@ use Rattle.kr_batch.proofs.Sizes.{checked_length}
 use Rattle.kr_tool.specs.declared.controller.Write.{Write}
 use Rattle.kr_tool.specs.Batches.{appended_bytes}
 use Rattle.kr_tool.specs.Fitting.{FitsFrame}
-use Rattle.kr_tool.specs.Messages.{IsWritable, error_of, response, reply_body, reply_message}
+use Rattle.kr_tool.specs.Messages.{error_of, response, reply_body}
 use Rattle.kr_tool.specs.Outputs.{reply_of}
 use Rattle.kr_tool.specs.World.{refuse, value_of}
-use Rattle.kr_tool.specs.Kept.{State, AreSmall, HasShort, IsShort, IsShortAsk, changed, item_of, give, append_value, append_change, answer, decide_call, take_call, take_ask, take_commit, after_event, fresh}
+use Rattle.kr_tool.specs.Kept.{State, AreSmall, HasShort, IsShort, changed, item_of, give, append_value, append_change, answer, decide_call, take_call, take_ask, take_commit, after_event, fresh}
 use Rattle.kr_tool.proofs.Sizes.{uvarint_few, byte_long, writable, short_value}
 
 -- ---- replies

@@ -1,13 +1,11 @@
 -- What an accepted event makes of a state stands for the events with it, and what waits then are its outputs.
-use Rattle.std.proofs.Common.{◌≡◌, ℕ, ℤ, pos, ◌+◌, ◌<◌, ◌≤◌, inl, inr, Bool, true, false, cond, List, [], ◌∷◌, ◌++◌, length, map, filter, append_assoc, append-nil, length-append, Option, Some, None, Result, Ok, Err, refl, sym, ap, subst, ◌∙◌, arith}
-use Rattle.std.specs.Prelude.{◌||◌, ◌&&◌, not, nat_lt, nat_le, int_lt, unsigned_abs, is_some, IsTrue, OnOk}
-use Rattle.std.specs.List.{fold, list_any}
+use Rattle.std.proofs.Common.{◌≡◌, ℕ, ℤ, pos, ◌+◌, ◌≤◌, inl, inr, Bool, true, false, cond, List, [], ◌∷◌, ◌++◌, length, map, filter, append-nil, length-append, Option, Some, None, Result, Ok, Err, refl, sym, ap, subst, ◌∙◌, arith}
+use Rattle.std.specs.Prelude.{◌&&◌, nat_lt, nat_le, int_lt, unsigned_abs, is_some, OnOk}
 use Rattle.std.specs.Int.{int_max}
 use Rattle.std.specs.Option.{option_map_or}
 use Rattle.std.specs.Str.{bytes_eq}
 use Rattle.std.proofs.lemmas.List.Sums.{fold-append}
 use Rattle.std.proofs.lemmas.Bool.{cases_lt, lt-ltb, le-ltb, lt-leb, le-leb}
-use Rattle.kr_defs.specs.declared.calls.Ask.{Ask}
 use Rattle.kr_defs.specs.declared.calls.Ask.TheVariants as asks
 use Rattle.kr_defs.specs.declared.calls.Call.{Call}
 use Rattle.kr_defs.specs.declared.events.Event.{Event}
@@ -15,16 +13,14 @@ use Rattle.kr_defs.specs.declared.events.Event.TheVariants as events
 use Rattle.kr_defs.specs.declared.events.Output.{Output}
 use Rattle.kr_defs.specs.declared.events.Output.TheVariants as given
 use Rattle.kr_defs.specs.declared.calls.Reply.TheVariants as replies
-use Rattle.kr_defs.specs.declared.record.Item.TheVariants as items
 use Rattle.kr_defs.specs.declared.record.Record.{Record}
 use Rattle.kr_defs.specs.declared.record.Record.TheVariants as kinds
 use Rattle.kr_tool.specs.declared.controller.Write.{Write}
-use Rattle.kr_tool.specs.Batches.{appended_bytes}
 use Rattle.kr_tool.specs.Messages.{minimum_key, error_of}
 use Rattle.kr_tool.specs.Kept.{State, Keeps, Stands, accepts, changed, item_of, give, append_value, append_change, answer, decide_call, take_call, take_ask, take_commit, after_event, fresh}
-use Rattle.kr_tool.specs.Outputs.{writes, write_of, reply_of, is_due, batch_of, batches, bare_of, replies_of, outputs_of}
-use Rattle.kr_tool.specs.World.{World, world, happens, effect, asked, appended, decided, setting_records, value_of, refuse, tip, image_at, apply, is_accepted, greatest_time, later}
-use Rattle.kr_tool.proofs.Worlds.{RisesTo, LiesBetween, world_push, time_push, writes_push, happens_log, happens_committed, happens_ends, happens_leading, happens_greatest, commit_lies_between, world_rises, image_at_tip}
+use Rattle.kr_tool.specs.Outputs.{writes, write_of, reply_of, is_due, batch_of, batches, bare_of, outputs_of}
+use Rattle.kr_tool.specs.World.{World, world, happens, effect, appended, decided, setting_records, value_of, refuse, tip, image_at, apply, is_accepted, greatest_time, later}
+use Rattle.kr_tool.proofs.Worlds.{RisesTo, world_push, time_push, writes_push, happens_log, happens_committed, happens_ends, happens_leading, happens_greatest, commit_lies_between, world_rises, image_at_tip}
 
 -- ---- accepted or not, as the state says and as the world says
 

@@ -1,5 +1,5 @@
 -- What the code of a controller keeps, what one event makes of it, and for which events it stands.
-use Rattle.std.specs.Prelude.{◌≡◌, ℕ, ℤ, pos, negsuc, ◌+◌, ◌*◌, ◌<◌, ◌≤◌, ◌^◌, ◌&&◌, ◌||◌, Bool, true, false, not, nat_le, nat_lt, int_lt, int_le, unsigned_abs, List, [], ◌∷◌, ◌++◌, length, map, filter, Option, Some, None, is_some, is_none, if◌then◌else◌, IfSome}
+use Rattle.std.specs.Prelude.{◌≡◌, ℕ, ℤ, pos, negsuc, ◌+◌, ◌<◌, ◌≤◌, ◌^◌, ◌&&◌, ◌||◌, Bool, false, not, nat_le, nat_lt, int_lt, int_le, unsigned_abs, List, [], ◌∷◌, ◌++◌, length, map, filter, Option, Some, None, is_some, is_none, if◌then◌else◌, IfSome}
 use Rattle.std.specs.List.{All, list_any}
 use Rattle.std.specs.Option.{option_map_or}
 use Rattle.std.specs.Int.{int_max}
@@ -10,7 +10,6 @@ use Rattle.kr_defs.specs.declared.calls.Ask.TheVariants as asks
 use Rattle.kr_defs.specs.declared.calls.Call.{Call}
 use Rattle.kr_defs.specs.declared.calls.Request.{Request}
 use Rattle.kr_defs.specs.declared.calls.Request.TheVariants as requests
-use Rattle.kr_defs.specs.declared.calls.Reply.{Reply}
 use Rattle.kr_defs.specs.declared.calls.Reply.TheVariants as replies
 use Rattle.kr_defs.specs.declared.events.Event.{Event}
 use Rattle.kr_defs.specs.declared.events.Event.TheVariants as events

@@ -4,7 +4,6 @@ use Rattle.std.specs.List.{flat_map}
 use Rattle.kr_tool.specs.Batches.{appended_bytes}
 use Rattle.kr_tool.specs.declared.controller.Write.{Write}
 use Rattle.kr_defs.specs.declared.calls.Ask.TheVariants as asks
-use Rattle.kr_defs.specs.declared.calls.Reply.{Reply}
 use Rattle.kr_defs.specs.declared.calls.Reply.TheVariants as replies
 use Rattle.kr_defs.specs.declared.events.Event.{Event}
 use Rattle.kr_defs.specs.declared.events.Event.TheVariants as events

@@ -63,11 +63,11 @@ pub record StopsWriting (left left' written written' : Option (List ℕ)) : Type
 abbrev pub EndsWith : Option (List ℕ) → Option (List ℕ) → Option (List ℕ) → Option (List ℕ) → Status → Type 0
 EndsWith left left' written written' statuses.Done = TookWhole left left' written written'
 EndsWith left left' written written' statuses.Usage = ⊥
-EndsWith left left' written written' (statuses.Malformed at) = StopsReading left left' written written'
+EndsWith left left' written written' (statuses.Malformed at) = StopsAt left left' written written' at
 EndsWith left left' written written' statuses.ReadFault = StopsReading left left' written written'
 EndsWith left left' written written' statuses.WriteFault = StopsWriting left left' written written'
 EndsWith left left' written written' statuses.NoMemory = StopsWriting left left' written written'
-EndsWith left left' written written' statuses.TooLong = StopsReading left left' written written'
+EndsWith left left' written written' statuses.TooLong = TookLongest left left' written written'
 
 -- the number with which the process ends
 abbrev pub number_of : Status → ℕ

@@ -1,8 +1,9 @@
 //! The bodies of frames that are read.
 
-ghost use Rattle.std.specs.Prelude.{◌≡◌, ◌≤◌, ◌<◌, [], pos, length, drop, IfOk, OnErr, Ok, Err, MatchResult, IsTrue, IsUtf8, ◌↔◌};
+ghost use Rattle.std.specs.Prelude.{◌≡◌, ◌≤◌, ◌<◌, [], pos, length, drop, IfOk, OnErr, Ok, Err, MatchResult, IsTrue, IsErrOf, false, IsUtf8, ◌↔◌};
 ghost use Rattle.kr_wire.specs.Reading.{Reads};
 ghost use Rattle.kr_defs.specs.declared.events.Event.{Event as AnyEvent};
+ghost use Rattle.kr_defs.specs.declared.options.Options.{Options as AnyOptions};
 ghost use Rattle.kr_tool.specs.Frames.{IsOptions, AreOptions};
 ghost use Rattle.kr_tool.specs.Kept.{HasShort};
 ghost use Rattle.kr_tool.specs.Bodies.{IsLead, IsCommit, IsRequest, IsAsked, IsBody, AreNumbers, AreTopicNumbers, time_at, lead_at, commit_at, stamp_at, options_at};
@@ -112,6 +113,7 @@ fn read_stamp(body: &[u8]) -> Result<(Stamp, usize), WireFault>
 fn asked(alloc: Global, stamp: Stamp, message: &[u8]) -> Result<Event, BodyFault>
     ensures found { IfOk result (λ event. IsAsked stamp.client stamp.now event message.now) }
     ensures short { IfOk result HasShort }
+    ensures misfit { IsErrOf result BodyFault.Misfit → 8388608 < length message.now }
 {
     if message.len() > 8_388_608 {
         return Err(BodyFault::Misfit);
@@ -130,6 +132,7 @@ fn asked(alloc: Global, stamp: Stamp, message: &[u8]) -> Result<Event, BodyFault
 pub(crate) fn request(alloc: Global, body: &[u8]) -> Result<Event, BodyFault>
     ensures found { IfOk result (λ event. IsRequest event body.now) }
     ensures short { IfOk result HasShort }
+    ensures misfit { IsErrOf result BodyFault.Misfit → (event : AnyEvent) → IsRequest event body.now → ⊥ }
 {
     match read_stamp(body) {
         Err(_) => Err(BodyFault::Misfit),
@@ -145,6 +148,7 @@ pub(crate) fn request(alloc: Global, body: &[u8]) -> Result<Event, BodyFault>
 pub(crate) fn event(alloc: Global, kind: u8, body: &[u8]) -> Result<Event, BodyFault>
     ensures found { IfOk result (λ event. IsBody event kind body.now) }
     ensures short { IfOk result HasShort }
+    ensures misfit { IsErrOf result BodyFault.Misfit → (event : AnyEvent) → IsBody event kind body.now → ⊥ }
 {
     if kind == 2 {
         lead(body)
@@ -195,13 +199,15 @@ fn read_opening(body: &[u8]) -> Result<Opening, WireFault>
 
 // The numbers are those that a session may begin with.
 fn are_settings(o: &Opening) -> bool
-    ensures { IsTrue result → AreNumbers o.now.node o.now.session_ms o.now.partitions o.now.factor o.now.minimum }
+    ensures yes { IsTrue result → AreNumbers o.now.node o.now.session_ms o.now.partitions o.now.factor o.now.minimum }
+    ensures no { result ≡ false → AreNumbers o.now.node o.now.session_ms o.now.partitions o.now.factor o.now.minimum → ⊥ }
 {
     has_topics(o) && o.node >= 0 && o.session_ms >= 1 && o.minimum >= 1
 }
 
 fn has_topics(o: &Opening) -> bool
-    ensures { IsTrue result → AreTopicNumbers o.now.partitions o.now.factor }
+    ensures yes { IsTrue result → AreTopicNumbers o.now.partitions o.now.factor }
+    ensures no { result ≡ false → AreTopicNumbers o.now.partitions o.now.factor → ⊥ }
 {
     o.partitions >= 1 && o.partitions <= 9000 && o.factor >= 1 && o.factor <= 32
 }
@@ -209,6 +215,7 @@ fn has_topics(o: &Opening) -> bool
 /// The settings of an Open frame's body.
 pub(crate) fn options(alloc: Global, body: &[u8]) -> Result<Options, BodyFault>
     ensures found { IfOk result (λ options. IsOptions options body.now) }
+    ensures misfit { IsErrOf result BodyFault.Misfit → (options : AnyOptions) → IsOptions options body.now → ⊥ }
 {
     match read_opening(body) {
         Err(_) => Err(BodyFault::Misfit),
@@ -223,8 +230,15 @@ pub(crate) fn options(alloc: Global, body: &[u8]) -> Result<Options, BodyFault>
 fn named(alloc: Global, o: Opening, cluster: &[u8]) -> Result<Options, BodyFault>
     ensures found { IfOk result (λ options. AreOptions options × IsUtf8 cluster.now
         × (options ≡ record { node = o.node; salt = o.salt; session_ms = o.session_ms; partitions = o.partitions; factor = o.factor; minimum = o.minimum; cluster = cluster.now })) }
+    ensures misfit { IsErrOf result BodyFault.Misfit → AreNumbers o.node o.session_ms o.partitions o.factor o.minimum → length cluster.now ≤ 255 → IsUtf8 cluster.now → ⊥ }
 {
-    if !are_settings(&o) || cluster.len() > 255 || !is_text(cluster) {
+    if !are_settings(&o) {
+        return Err(BodyFault::Misfit);
+    }
+    if cluster.len() > 255 {
+        return Err(BodyFault::Misfit);
+    }
+    if !is_text(cluster) {
         return Err(BodyFault::Misfit);
     }
     match Text::from_utf8(alloc, cluster) {

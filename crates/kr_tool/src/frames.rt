@@ -1,12 +1,12 @@
 //! One frame after the other, from a source.
 
-ghost use Rattle.std.specs.Prelude.{◌≡◌, [], ◌∷◌, ◌+◌, ◌-◌, ◌^◌, ◌<◌, ◌≤◌, length, IfOk, IfErr, OnOk, OnErr, IsTrue, IfSome};
+ghost use Rattle.std.specs.Prelude.{◌≡◌, Bool, false, IfNone, [], ◌∷◌, ◌+◌, ◌-◌, ◌^◌, ◌<◌, ◌≤◌, length, IfOk, IfErr, OnOk, OnErr, IsTrue, IfSome};
 ghost use Rattle.std.specs.Io.KnownBytes.{Consumes};
 ghost use Rattle.std.specs.Int.{w32};
 ghost use Rattle.kr_wire.specs.Grammar.{Exactly, IsNumber};
 ghost use Rattle.kr_tool.specs.Frames.{IsFrame};
 ghost use Rattle.kr_tool.specs.Reader;
-ghost use Rattle.kr_tool.specs.Reader.{Took, IsHead, Stopped};
+ghost use Rattle.kr_tool.specs.Reader.{Took, IsHead, Cut, Stopped, NoneAllowed};
 
 use crate::filling::fill;
 use kr_base::Source;
@@ -70,7 +70,7 @@ fn take<S: Source>(source: &mut S, into: &mut [u8], at: u64) -> Result<(), Stop>
     requires { at ≤ 2 ^ 40 }
     ensures full { OnOk result (Consumes (S.left source.old) (S.left source.new) into.new) }
     ensures room { OnOk result (at + length into.old ≤ 2 ^ 40) }
-    ensures stopped { IfErr result (λ stop. Stopped (S.left source.old) (S.left source.new) (S.faults source.old) (S.faults source.new) stop) }
+    ensures stopped { IfErr result (λ stop. Cut (S.left source.old) (S.left source.new) at (length into.old) (S.faults source.old) (S.faults source.new) stop) }
     ensures later { S.faults source.old ≤ S.faults source.new }
 {
     let len = into.len();
@@ -88,6 +88,7 @@ fn room(len: usize, at: u64) -> usize
     ensures within { result ≤ len }
     ensures fits { at + result ≤ 2 ^ 40 }
     ensures all { at + len ≤ 2 ^ 40 → result ≡ len }
+    ensures short { result < len → at + result ≡ 2 ^ 40 }
 {
     len.min((LONGEST - at) as usize)
 }
@@ -98,6 +99,8 @@ fn taken(count: usize, most: usize, len: usize) -> Result<(), Stop>
     requires asked { most ≤ len }
     ensures ok { OnOk result ((count ≡ most) × (most ≡ len)) }
     ensures err { IfErr result (λ stop. stop ≡ Stop.ReadFault → ⊥) }
+    ensures ended { IfErr result (λ stop. stop ≡ Stop.Malformed → count < most) }
+    ensures long { IfErr result (λ stop. stop ≡ Stop.TooLong → (count ≡ most) × (most < len)) }
 {
     if count < most {
         Err(Stop::Malformed)
@@ -119,7 +122,7 @@ pub(crate) fn read_frame<S: Source>(
     requires { at ≤ 2 ^ 40 }
     ensures frame { IfOk result (λ x. Took (IsFrame x.0.kind (Exactly x.0.body.items)) (S.left source.old) (S.left source.new) at x.1) }
     ensures allowed { IfOk result (λ x. IsTrue (Reader.is_allowed opened x.0.kind (length x.0.body.items))) }
-    ensures stopped { IfErr result (λ stop. Stopped (S.left source.old) (S.left source.new) (S.faults source.old) (S.faults source.new) stop) }
+    ensures stopped { IfErr result (λ stop. Stopped (NoneAllowed opened) (S.left source.old) (S.left source.new) at (S.faults source.old) (S.faults source.new) stop) }
     ensures later { S.faults source.old ≤ S.faults source.new }
 {
     let (kind, len) = match read_head(source, opened, at) {
@@ -140,7 +143,7 @@ fn read_head<S: Source>(source: &mut S, opened: bool, at: u64) -> Result<(u8, u3
     requires { at ≤ 2 ^ 40 }
     ensures head { IfOk result (λ x. Took (IsHead x.0 x.1) (S.left source.old) (S.left source.new) at (at + 5)) }
     ensures allowed { IfOk result (λ x. IsTrue (Reader.is_allowed opened x.0 x.1)) }
-    ensures stopped { IfErr result (λ stop. Stopped (S.left source.old) (S.left source.new) (S.faults source.old) (S.faults source.new) stop) }
+    ensures stopped { IfErr result (λ stop. Stopped (NoneAllowed opened) (S.left source.old) (S.left source.new) at (S.faults source.old) (S.faults source.new) stop) }
     ensures later { S.faults source.old ≤ S.faults source.new }
 {
     let size = match read_size(source, at) {
@@ -161,7 +164,7 @@ fn read_size<S: Source>(source: &mut S, at: u64) -> Result<u32, Stop>
     requires { at ≤ 2 ^ 40 }
     ensures size { IfOk result (λ size. Took (IsNumber w32 size) (S.left source.old) (S.left source.new) at (at + 4)) }
     ensures some { IfOk result (λ size. 0 < size) }
-    ensures stopped { IfErr result (λ stop. Stopped (S.left source.old) (S.left source.new) (S.faults source.old) (S.faults source.new) stop) }
+    ensures stopped { (opened : Bool) → IfErr result (λ stop. Stopped (NoneAllowed opened) (S.left source.old) (S.left source.new) at (S.faults source.old) (S.faults source.new) stop) }
     ensures later { S.faults source.old ≤ S.faults source.new }
 {
     let mut bytes = [0; 4];
@@ -180,7 +183,7 @@ fn read_size<S: Source>(source: &mut S, at: u64) -> Result<u32, Stop>
 fn read_kind<S: Source>(source: &mut S, at: u64) -> Result<u8, Stop>
     requires { at ≤ 2 ^ 40 }
     ensures kind { IfOk result (λ kind. Took (Exactly (kind ∷ [])) (S.left source.old) (S.left source.new) at (at + 1)) }
-    ensures stopped { IfErr result (λ stop. Stopped (S.left source.old) (S.left source.new) (S.faults source.old) (S.faults source.new) stop) }
+    ensures stopped { IfErr result (λ stop. Cut (S.left source.old) (S.left source.new) at 1 (S.faults source.old) (S.faults source.new) stop) }
     ensures later { S.faults source.old ≤ S.faults source.new }
 {
     let mut bytes = [0; 1];
@@ -194,7 +197,7 @@ fn read_body<S: Source>(alloc: Global, source: &mut S, len: u32, at: u64) -> Res
     requires { at ≤ 2 ^ 40 }
     ensures body { IfOk result (λ body. Took (Exactly body.items) (S.left source.old) (S.left source.new) at (at + len)) }
     ensures len { IfOk result (λ body. length body.items ≡ len) }
-    ensures stopped { IfErr result (λ stop. Stopped (S.left source.old) (S.left source.new) (S.faults source.old) (S.faults source.new) stop) }
+    ensures stopped { IfErr result (λ stop. Cut (S.left source.old) (S.left source.new) at len (S.faults source.old) (S.faults source.new) stop) }
     ensures later { S.faults source.old ≤ S.faults source.new }
 {
     let mut body = match vec![in alloc; 0; len as usize] {
@@ -212,6 +215,7 @@ fn body_len(opened: bool, kind: u8, size: u32) -> Option<u32>
     requires { 0 < size }
     ensures len { IfSome result (λ len. size ≡ len + 1) }
     ensures allowed { IfSome result (λ len. IsTrue (Reader.is_allowed opened kind len)) }
+    ensures none { IfNone result (Reader.is_allowed opened kind (size - 1) ≡ false) }
 {
     let len = size - 1;
     if is_allowed(opened, kind, len) {

@@ -1,10 +1,10 @@
 //! The top call: one run of the tool.
 
-ghost use Rattle.std.specs.Prelude.{◌≡◌, ◌⊎◌, ◌↔◌, [], ◌++◌, ◌∷◌, IfOk, IsTrue, codes, string_bytes};
+ghost use Rattle.std.specs.Prelude.{◌≡◌, ◌⊎◌, ◌↔◌, ℕ, [], ◌++◌, ◌∷◌, IfOk, IsTrue, codes, string_bytes};
 ghost use Rattle.std.specs.Fmt.{decimal};
 ghost use Rattle.std.specs.Io.KnownBytes.{Appends, Consumes};
 ghost use Rattle.kr_base.specs.Causes.{Rose};
-ghost use Rattle.kr_tool.specs.Told.{AreServed, TookWhole, StopsReading, StopsWriting, EndsWith, note_of, line, IsMalformed};
+ghost use Rattle.kr_tool.specs.Told.{AreServed, TookWhole, StopsAt, StopsReading, TookLongest, StopsWriting, EndsWith, ServesWhole, RefusesBroken, note_of, line, IsMalformed};
 
 use crate::serving::serve;
 use crate::status::Status;
@@ -30,10 +30,18 @@ pub fn run<S: Source, K: Sink, E: Sink>(
     // One whole session was taken and nothing behind it, and the frames of its outputs were written.
     ensures done { result ≡ Status.Done → TookWhole (S.left input.old) (S.left input.new) (K.written output.old) (K.written output.new) }
 
+    // At the first byte of a bad frame: before it whole frames in order, at it no frame; outputs as of the whole frames.
+    ensures malformed { (at : ℕ) → result ≡ Status.Malformed at → StopsAt (S.left input.old) (S.left input.new) (K.written output.old) (K.written output.new) at }
+    ensures too_long { result ≡ Status.TooLong → TookLongest (S.left input.old) (S.left input.new) (K.written output.old) (K.written output.new) }
+
     // A fault is told only where that object's count rose in this call.
     ensures read { result ≡ Status.ReadFault → StopsReading (S.left input.old) (S.left input.new) (K.written output.old) (K.written output.new) × Rose (S.faults input.old) (S.faults input.new) }
     ensures write { result ≡ Status.WriteFault → StopsWriting (S.left input.old) (S.left input.new) (K.written output.old) (K.written output.new) × Rose (K.faults output.old) (K.faults output.new) }
     ensures no_memory { result ≡ Status.NoMemory → StopsWriting (S.left input.old) (S.left input.new) (K.written output.old) (K.written output.new) }
+
+    // Where no read and no write failed: a whole session is served, and a broken one is refused at that frame.
+    ensures complete { AreServed words.now → (Rose (S.faults input.old) (S.faults input.new) → ⊥) → (Rose (K.faults output.old) (K.faults output.new) → ⊥) → ServesWhole (S.left input.old) result }
+    ensures broken { AreServed words.now → (Rose (S.faults input.old) (S.faults input.new) → ⊥) → (Rose (K.faults output.old) (K.faults output.new) → ⊥) → RefusesBroken (S.left input.old) result }
 
     // The notes get exactly the status's line.
     ensures notes { (Rose (E.faults notes.old) (E.faults notes.new) → ⊥) → Appends (E.written notes.old) (E.written notes.new) (note_of result) }

@@ -11,7 +11,7 @@ ghost use Rattle.kr_tool.specs.Frames.{IsOpen, IsEvent, output_frame};
 ghost use Rattle.kr_tool.specs.Kept;
 ghost use Rattle.kr_tool.specs.Kept.{Stands, HasShort, AreSmall, fresh};
 ghost use Rattle.kr_tool.specs.Outputs.{frames_of, outputs_of};
-ghost use Rattle.kr_tool.specs.Reader.{Took, Stopped, IsNext};
+ghost use Rattle.kr_tool.specs.Reader.{Took, Stopped, IsNext, NoneOpens, NoneNext};
 ghost use Rattle.kr_tool.specs.Serving.{Going, unread_status, unwritten_status};
 ghost use Rattle.kr_tool.specs.Told.{EndsWith};
 
@@ -85,7 +85,9 @@ pub(crate) fn serve_event<K: Sink>(
 }
 
 fn stop_of(fault: BodyFault) -> Stop
-    ensures { result ≡ Stop.ReadFault → ⊥ }
+    ensures no_fault { result ≡ Stop.ReadFault → ⊥ }
+    ensures not_long { result ≡ Stop.TooLong → ⊥ }
+    ensures misfit { result ≡ Stop.Malformed → fault ≡ BodyFault.Misfit }
 {
     match fault {
         BodyFault::Misfit => Stop::Malformed,
@@ -96,7 +98,7 @@ fn stop_of(fault: BodyFault) -> Stop
 /// Reads the first frame of a session: its settings, and the place behind it.
 pub(crate) fn read_open<S: Source>(alloc: Global, source: &mut S) -> Result<(Options, u64), Stop>
     ensures open { IfOk result (λ x. Took (IsOpen x.0) (S.left source.old) (S.left source.new) 0 x.1) }
-    ensures stopped { IfErr result (λ stop. Stopped (S.left source.old) (S.left source.new) (S.faults source.old) (S.faults source.new) stop) }
+    ensures stopped { IfErr result (λ stop. Stopped NoneOpens (S.left source.old) (S.left source.new) 0 (S.faults source.old) (S.faults source.new) stop) }
     ensures later { S.faults source.old ≤ S.faults source.new }
 {
     let (frame, next) = match read_frame(alloc, source, false, 0) {
@@ -118,7 +120,7 @@ pub(crate) fn read_next<S: Source>(
     requires { at ≤ 2 ^ 40 }
     ensures next { IfOk result (λ x. Took (IsNext x.0) (S.left source.old) (S.left source.new) at x.1) }
     ensures short { IfOk result (λ x. IfSome x.0 HasShort) }
-    ensures stopped { IfErr result (λ stop. Stopped (S.left source.old) (S.left source.new) (S.faults source.old) (S.faults source.new) stop) }
+    ensures stopped { IfErr result (λ stop. Stopped NoneNext (S.left source.old) (S.left source.new) at (S.faults source.old) (S.faults source.new) stop) }
     ensures later { S.faults source.old ≤ S.faults source.new }
 {
     let (frame, next) = match read_frame(alloc, source, true, at) {
@@ -249,7 +251,7 @@ pub(crate) fn serve<S: Source, K: Sink>(alloc: Global, input: &mut S, output: &m
 // Reads the first frame, and answers the place behind it: no rule that is built reads the settings yet.
 fn pass_open<S: Source>(alloc: Global, source: &mut S) -> Result<u64, Stop>
     ensures open { IfOk result (λ end. (options : Settings) × Took (IsOpen options) (S.left source.old) (S.left source.new) 0 end) }
-    ensures stopped { IfErr result (λ stop. Stopped (S.left source.old) (S.left source.new) (S.faults source.old) (S.faults source.new) stop) }
+    ensures stopped { IfErr result (λ stop. Stopped NoneOpens (S.left source.old) (S.left source.new) 0 (S.faults source.old) (S.faults source.new) stop) }
     ensures later { S.faults source.old ≤ S.faults source.new }
 {
     match read_open(alloc, source) {

@@ -1,9 +1,14 @@
-use Rattle.std.proofs.Common.{◌≡◌, ◌+◌, arith}
-use Rattle.kr_tool.proofs.Readings.{stopped_behind, frame_taken}
+use Rattle.std.proofs.Common.{arith}
+use Rattle.kr_tool.specs.Reader.{NoneAllowed}
+use Rattle.kr_tool.proofs.Cuts.{stopped_in, cut_none}
+use Rattle.kr_tool.proofs.Readings.{frame_taken}
 use Rattle.kr_tool.proofs.frames.read_frame.Goals as goal
 
 pub returns-in-Err-read_body-clause-stopped : goal.returns-in-Err-read_body-clause-stopped
-returns-in-Err-read_body-clause-stopped g c = stopped_behind _ _ _ c.args.at _ _ _ _ _ c.in-Ok.ensures.head c.read_head.ensures.later c.in-Err-read_body.ensures.stopped
+returns-in-Err-read_body-clause-stopped g c =
+    let head = c.in-Ok.ensures.head in
+    stopped_in _ _ _ c.args.at _ _ _ _ _ _ _ (NoneAllowed c.args.opened) head c.read_head.ensures.later c.in-Err-read_body.ensures.stopped
+    (λ rest few. cut_none c.args.opened c.in-Ok.head.0 c.in-Ok.head.1 head.taken rest head.is few)
 
 pub returns-in-Ok-read_body-clause-frame : goal.returns-in-Ok-read_body-clause-frame
 returns-in-Ok-read_body-clause-frame g c =

@@ -5,7 +5,7 @@ use Rattle.kr_tool.proofs.Going.{refused, goes_on, unwritten_ends}
 use Rattle.kr_tool.proofs.serving.serve_accepted.Goals as goal
 
 pub returns-then-not-accepts-clause-goes : goal.returns-then-not-accepts-clause-goes
-returns-then-not-accepts-clause-goes g c = λ left mid left' written end going t. refused left mid left' written _ _ _ going c.args.event end t
+returns-then-not-accepts-clause-goes g c = λ left mid left' written end going t. refused left mid left' written _ _ _ going c.args.event end t (sym (c.if-not-accepts.ensures.stands going.events going.stands))
 
 pub returns-in-Err-clause-goes : goal.returns-in-Err-clause-goes
 returns-in-Err-clause-goes g c = λ left mid left' written end going t.

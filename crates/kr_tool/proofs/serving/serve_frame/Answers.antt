@@ -1,4 +1,4 @@
-use Rattle.std.proofs.Common.{sym, subst, ℕ, List, Option}
+use Rattle.std.proofs.Common.{sym, subst, Option}
 use Rattle.kr_defs.specs.declared.events.Event.{Event}
 use Rattle.kr_tool.specs.declared.status.Status.{Status}
 use Rattle.kr_tool.specs.Reader.{Took, IsNext}
@@ -9,7 +9,7 @@ use Rattle.kr_tool.proofs.serving.serve_frame.Goals as goal
 pub returns-in-Err-clause-goes : goal.returns-in-Err-clause-goes
 returns-in-Err-clause-goes g c = λ left written going.
     let P : Status → Type 0 = λ status. EndsWith left (g.S.Source.left c.read_next.new.source) written (g.K.Sink.written c.args.output.now) status in
-    subst P (sym c.unread.ensures) (unread_next left _ _ written _ _ c.args.at going c.in-Err.stop c.in-Err.ensures.stopped.taken c.in-Err.ensures.stopped.took)
+    subst P (sym c.unread.ensures) (unread_next left _ _ written _ _ c.args.at going c.in-Err.stop _ _ c.in-Err.ensures.stopped)
 
 pub returns-in-None-clause-goes : goal.returns-in-None-clause-goes
 returns-in-None-clause-goes g c = λ left written going.

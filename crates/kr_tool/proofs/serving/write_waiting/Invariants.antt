@@ -1,9 +1,6 @@
-use Rattle.std.proofs.Common.{◌≡◌, ℕ, ◌≤◌, ◌++◌, List, length}
-use Rattle.std.specs.Io.KnownBytes.{Appends}
+use Rattle.std.proofs.Common.{◌≤◌, List, length}
 use Rattle.kr_defs.specs.declared.events.Event.{Event}
-use Rattle.kr_defs.specs.declared.events.Output.{Output}
 use Rattle.kr_tool.specs.Kept.{Stands, AreSmall}
-use Rattle.kr_tool.specs.Outputs.{frames_of}
 use Rattle.kr_tool.proofs.Served.{HandedOut}
 use Rattle.kr_tool.proofs.serving.write_waiting.Given as goal
 
