@@ -11,6 +11,8 @@ mod replies;
 mod running;
 mod serving;
 mod status;
+#[cfg(test)]
+mod tests;
 mod writing;
 
 use kr_base::{ReadSource, WriteSink};
