@@ -2,6 +2,8 @@
 
 ghost use Rattle.std.specs.Prelude.{◌≡◌, ◌++◌, OnOk, OnErr};
 ghost use Rattle.kr_record.specs.Encodable.{IsEncodable, IsShort, IsShortBroker, IsShortConfig, IsShortPartition, IsSpelledChange};
+ghost use Rattle.kr_record.specs.Grammar.{IsRecord};
+ghost use Rattle.kr_record.specs.Held.{IsHeld};
 ghost use Rattle.kr_record.specs.Spelling.{broker_epoch, change, config, feature, framed, led, partition, placed, record_value, registration, registration_change, topic, topic_id, two_ids};
 
 use crate::fields::{put_change_fields, put_extras, put_flags};
@@ -253,10 +255,13 @@ fn put_record(out: &mut Vec<u8>, value: &Record) -> Result<(), AllocError>
 }
 
 /// Appends the record's written form. Without memory nothing is appended.
+#[tactic(auto, using(crate::proofs::Stands::stands))]
 pub fn encode(value: &Record, out: &mut Vec<u8>) -> Result<(), NoMemory>
     requires { IsEncodable value.now }
     ensures ok { OnOk result (out.new.items ≡ out.old.items ++ record_value value.now) }
     ensures err { OnErr result (out.new.items ≡ out.old.items) }
+    // What is appended stands for the record: its numbers fit their types and its texts are UTF-8, as of any record held.
+    ensures stands { IsHeld value.now → IsRecord value.now (record_value value.now) }
 {
     // The record is written alone first, so that `out` is as it was where memory runs out.
     let before = mem::try_take(out)?;
