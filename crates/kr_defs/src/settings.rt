@@ -9,10 +9,10 @@ use crate::{Text, decimal_up_to};
 const GREATEST: u32 = 2147483647;
 
 /// The minimum of replicas in sync that a value says: decimal without sign or leading zero, from 1 to 2147483647.
-pub fn read_minimum(value: &Text) -> Option<i32>
+pub fn read_minimum(value: &[u8]) -> Option<i32>
     ensures { result ≡ settings.read_minimum value.now }
 {
-    let minimum = decimal_up_to(GREATEST, value.as_bytes())?;
+    let minimum = decimal_up_to(GREATEST, value)?;
     if minimum == 0 {
         return None;
     }
