@@ -1,10 +1,15 @@
+pub mod Bytes
+pub mod BytesTagged
 pub mod ChangeFields
 pub mod Elements
+pub mod Entries
 pub mod ExtraFields
 pub mod FieldSteps
 pub mod FixedKinds
 pub mod FlagFields
 pub mod Laws
+pub mod Lengths
+pub mod LengthsTagged
 pub mod Parts
 pub mod Since
 pub mod Stands

@@ -52,7 +52,7 @@ text_stands : (o : Option (List ℕ)) → IsShortOrNone o → IsUtf8OrNone o →
 text_stands None short utf8 = text_or_null_spelled None tt
 text_stands (Some t) short utf8 = text_or_null_spelled (Some t) (utf8, short)
 
-each : {X : Type 0} (P Q R : X → Type 0) → ((x : X) → P x → Q x → R x) → (xs : List X) → All P xs → All Q xs → AllByRecursion R xs
+pub each : {X : Type 0} (P Q R : X → Type 0) → ((x : X) → P x → Q x → R x) → (xs : List X) → All P xs → All Q xs → AllByRecursion R xs
 each P Q R step [] p q = tt
 each P Q R step (x ∷ xs) p q = (step x (All-head P x xs p) (All-head Q x xs q), each P Q R step xs (All-tail P x xs p) (All-tail Q x xs q))
 

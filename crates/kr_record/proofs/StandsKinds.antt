@@ -1,50 +1,26 @@
 -- What is written of a record with tagged fields stands for it.
-use Rattle.std.proofs.Common.{◌≡◌, ℕ, zero, suc, ◌+◌, ◌/◌, ◌%◌, ◌<◌, ◌≤◌, ◌^◌, Bool, true, false, cond, eqb, List, [], ◌∷◌, ◌++◌, length, append_assoc, Option, Some, None, refl, sym, ap, subst, arith, lit<, lit≤}
-use Rattle.std.specs.Prelude.{ℤ, pos, ◌≢◌, nat_lt, FitsSigned}
+use Rattle.std.proofs.Common.{◌≡◌, ℕ, ◌<◌, ◌^◌, Bool, true, false, cond, eqb, List, [], ◌∷◌, ◌++◌, length, append_assoc, Option, Some, None, refl, sym, ap, subst, arith, lit<, lit≤}
+use Rattle.std.specs.Prelude.{ℤ, pos, ◌≢◌, FitsSigned}
 use Rattle.std.specs.List.{AllByRecursion}
 use Rattle.std.specs.Option.{option_map}
 use Rattle.std.specs.Ordering.{int_eq}
 use Rattle.std.specs.Int.{w8, w32, w64}
 use Rattle.std.proofs.lemmas.Bool.Decides.{nat_tests, Decides-int_eq}
-use Rattle.std.proofs.lemmas.List.{append-nil, length-map}
+use Rattle.std.proofs.lemmas.List.{length-map}
 use Rattle.kr_defs.specs.declared.partition.Partition.{Partition}
 use Rattle.kr_defs.specs.declared.partition.PartitionChange.{PartitionChange}
 use Rattle.kr_wire.specs.Grammar.{◌⌢◌, IsSigned, IsId, IsList, IsTags, given}
-use Rattle.kr_wire.specs.Spelling.{groups, uvarint, signed, id, list, tags}
+use Rattle.kr_wire.specs.Spelling.{signed, id, list, tags}
 use Rattle.kr_wire.proofs.Laws.{joined}
 use Rattle.kr_wire.proofs.Spelled.{id_spelled, list_spelled}
 use Rattle.kr_record.specs.Encodable.{FitsField, FitsFieldOrNone, IsShortPartition, IsSpelledChange}
 use Rattle.kr_record.specs.Reading.{no_leader_change, no_recovery_change}
 use Rattle.kr_record.specs.Grammar.{IsIdsOrNull, IsIdsOrEmpty, IsUnless, IsDropped, AreExtras, extras_of, IsPartition, AreChanges, IsChange, AreFlags, IsRegistrationChange}
 use Rattle.kr_record.specs.Held.{AreInts, AreIntsOrNone, IsIntOrNone, IsByteOrNone, IsHeldPartition, IsHeldChange}
-use Rattle.kr_record.specs.Spelling.{ids, two_ids, unless, unless_empty, no_directories, partition_fields, partition_tags, placed, led, partition, change_fields, change_tags, change, flags, flag_tags, registration_change}
-use Rattle.kr_record.proofs.Written.{length_signed_8, length_signed_32, length_ids}
-use Rattle.kr_record.proofs.StandsTagged.{Entries, fields_of, Climb, FitsEntry, tagged_is, entries_spelled}
+use Rattle.kr_record.specs.Spelling.{ids, two_ids, unless, unless_empty, no_directories, partition_tags, placed, led, partition, change_tags, change, flag_tags, registration_change}
+use Rattle.kr_record.proofs.StandsTagged.{fields_of, Climb, tagged_is, entries_spelled}
+use Rattle.kr_record.proofs.Entries.{flag_entries, flags_are, flags_fit, extra_entries, extras_are, extras_fit, change_entries, changes_are, changes_fit}
 use Rattle.kr_record.proofs.StandsFixed.{int8, int32, int64, ids_stand, stand_3}
-
--- ---- sizes
-
-groups_length : (room n : ℕ) → length (groups room n) ≤ suc room
-groups_length zero n = omega arith
-groups_length (suc room) n =
-    let k = groups_length room (n / 128) in
-    elim (nat_lt n 128) as (λ b. length (cond b (n ∷ []) ((128 + n % 128) ∷ groups room (n / 128))) ≤ suc (suc room)) [ true ↦ omega arith | false ↦ omega arith ]
-
-uvarint_short : (n : ℕ) → length (uvarint n) ≤ 5
-unfolding uvarint
-uvarint_short n = groups_length 4 n
-
-byte_fits : (tag : ℕ) → tag < 100 → (o : Option ℤ) → FitsEntry (tag, option_map (signed w8) o)
-byte_fits tag small None = tt
-byte_fits tag small (Some n) = (omega arith, let h = length_signed_8 n in omega arith)
-
-int_fits : (tag : ℕ) → tag < 100 → (o : Option ℤ) → FitsEntry (tag, option_map (signed w32) o)
-int_fits tag small None = tt
-int_fits tag small (Some n) = (omega arith, let h = length_signed_32 n in omega arith)
-
-ids_fit : (tag : ℕ) → tag < 100 → (o : Option (List ℤ)) → FitsFieldOrNone o → FitsEntry (tag, option_map ids o)
-ids_fit tag small None fits = tt
-ids_fit tag small (Some xs) fits = (omega arith, let h = length_ids xs in let k = uvarint_short (length xs + 1) in omega arith)
 
 -- ---- what stands for a field that may be there
 
@@ -82,28 +58,21 @@ ids_or_empty (x ∷ xs) fits held =
     ] in
     step refl
 
-empty_fits : (tag : ℕ) → tag < 100 → (xs : List ℤ) → FitsField xs → FitsEntry (tag, option_map ids (unless_empty xs))
-empty_fits tag small xs fits = elim (eqb (length xs) 0) as (λ b. FitsEntry (tag, option_map ids (cond b None (Some xs)))) [ true ↦ tt | false ↦ ids_fit tag small (Some xs) fits ]
-
 -- ---- BrokerRegistrationChange
 
 module _ (fenced stopping : ℤ) (fits : FitsSigned w8 fenced) (held : FitsSigned w8 stopping) where
-  flag_entries : Entries
-  flag_entries = (0, option_map (signed w8) (unless (pos 0) fenced)) ∷ (1, option_map (signed w8) (unless (pos 0) stopping)) ∷ []
-
-  flags_hold : AreFlags 1 (record { fenced = fenced; stopping = stopping }) (fields_of flag_entries)
+  flags_hold : AreFlags 1 (record { fenced = fenced; stopping = stopping }) (fields_of (flag_entries fenced stopping))
   unfolding flag_entries
   flags_hold = record {
-    fenced = tagged_is 0 flag_entries _ _ (lit< tt, tt) (zero_or fenced fits);
-    stopping = tagged_is 1 flag_entries _ _ (lit< tt, tt) (zero_or stopping held);
+    fenced = tagged_is 0 (flag_entries fenced stopping) _ _ (lit< tt, tt) (zero_or fenced fits);
+    stopping = tagged_is 1 (flag_entries fenced stopping) _ _ (lit< tt, tt) (zero_or stopping held);
   }
 
   flag_tags_stand : IsTags (AreFlags 1 (record { fenced = fenced; stopping = stopping })) (flag_tags fenced stopping)
   unfolding flag_entries flag_tags
   flag_tags_stand =
-      let same : fields_of flag_entries ≡ flags fenced stopping = rw append-nil refl in
-      subst (λ (fields : List (ℕ × List ℕ)). IsTags (AreFlags 1 (record { fenced = fenced; stopping = stopping })) (tags fields)) same
-      (entries_spelled _ flag_entries (lit< tt, tt) flags_hold (lit≤ tt) (byte_fits 0 (lit< tt) _, (byte_fits 1 (lit< tt) _, tt)))
+      subst (λ (fields : List (ℕ × List ℕ)). IsTags (AreFlags 1 (record { fenced = fenced; stopping = stopping })) (tags fields)) (flags_are fenced stopping)
+      (entries_spelled _ (flag_entries fenced stopping) (lit< tt, tt) flags_hold (lit≤ tt) (flags_fit fenced stopping))
 
 pub registration_change_stands : (broker epoch fenced stopping : ℤ) → FitsSigned w32 broker → FitsSigned w64 epoch → FitsSigned w8 fenced → FitsSigned w8 stopping
     → IsRegistrationChange 1 (broker, epoch, record { fenced = fenced; stopping = stopping }) (registration_change broker epoch fenced stopping)
@@ -117,27 +86,19 @@ registration_change_stands broker epoch fenced stopping a b c d =
 -- ---- Partition
 
 module _ (p : Partition) (short : IsShortPartition p) (held : IsHeldPartition p) where
-  extra_entries : Entries
-  extra_entries =
-      (0, option_map (signed w8) (unless (pos 0) p.recovery)) ∷
-      (1, option_map ids (unless_empty p.eligible)) ∷
-      (2, option_map ids (unless_empty p.last_known)) ∷ []
-
-  extras_hold : AreExtras 2 (extras_of p) (fields_of extra_entries)
+  extras_hold : AreExtras 2 (extras_of p) (fields_of (extra_entries p))
   unfolding extra_entries
   extras_hold = record {
-    recovery = tagged_is 0 extra_entries _ _ (lit< tt, (lit< tt, tt)) (zero_or p.recovery held.recovery);
-    eligible = tagged_is 1 extra_entries _ _ (lit< tt, (lit< tt, tt)) (ids_or_empty p.eligible short.eligible held.eligible);
-    last_known = tagged_is 2 extra_entries _ _ (lit< tt, (lit< tt, tt)) (ids_or_empty p.last_known short.last_known held.last_known);
+    recovery = tagged_is 0 (extra_entries p) _ _ (lit< tt, (lit< tt, tt)) (zero_or p.recovery held.recovery);
+    eligible = tagged_is 1 (extra_entries p) _ _ (lit< tt, (lit< tt, tt)) (ids_or_empty p.eligible short.eligible held.eligible);
+    last_known = tagged_is 2 (extra_entries p) _ _ (lit< tt, (lit< tt, tt)) (ids_or_empty p.last_known short.last_known held.last_known);
   }
 
   partition_tags_stand : IsTags (AreExtras 2 (extras_of p)) (partition_tags p)
   unfolding extra_entries partition_tags
   partition_tags_stand =
-      let same : fields_of extra_entries ≡ partition_fields p = simp (append-nil, append_assoc) in
-      subst (λ (fields : List (ℕ × List ℕ)). IsTags (AreExtras 2 (extras_of p)) (tags fields)) same
-      (entries_spelled _ extra_entries (lit< tt, (lit< tt, tt)) extras_hold (lit≤ tt)
-      (byte_fits 0 (lit< tt) _, (empty_fits 1 (lit< tt) p.eligible short.eligible, (empty_fits 2 (lit< tt) p.last_known short.last_known, tt))))
+      subst (λ (fields : List (ℕ × List ℕ)). IsTags (AreExtras 2 (extras_of p)) (tags fields)) (extras_are p)
+      (entries_spelled _ (extra_entries p) (lit< tt, (lit< tt, tt)) extras_hold (lit≤ tt) (extras_fit p short))
 
 zeros_stand : (replicas : List ℤ) → AllByRecursion (λ n. IsId n (id n)) (no_directories replicas)
 zeros_stand [] = tt
@@ -180,66 +141,29 @@ partition_stands index topic p fits small short held =
 -- ---- PartitionChange
 
 module _ (c : PartitionChange) (short : IsSpelledChange c) (held : IsHeldChange c) where
-  change_entries : Entries
-  change_entries =
-      (0, option_map ids c.in_sync) ∷
-      (1, option_map (signed w32) c.leader) ∷
-      (2, option_map ids c.replicas) ∷
-      (3, option_map ids c.removing) ∷
-      (4, option_map ids c.adding) ∷
-      (5, option_map (signed w8) c.recovery) ∷
-      (6, option_map ids c.eligible) ∷
-      (7, option_map ids c.last_known) ∷ []
-
-  climbs : Climb change_entries
+  climbs : Climb (change_entries c)
   unfolding change_entries
   climbs = (lit< tt, (lit< tt, (lit< tt, (lit< tt, (lit< tt, (lit< tt, (lit< tt, tt)))))))
 
-  changes_hold : AreChanges 2 c (fields_of change_entries)
+  changes_hold : AreChanges 2 c (fields_of (change_entries c))
   unfolding change_entries
   changes_hold = record {
-    in_sync = tagged_is 0 change_entries _ _ climbs (ids_or c.in_sync short.in_sync held.in_sync);
-    leader = tagged_is 1 change_entries _ _ climbs (leader_or c.leader short.leader held.leader);
-    replicas = tagged_is 2 change_entries _ _ climbs (ids_or c.replicas short.replicas held.replicas);
-    removing = tagged_is 3 change_entries _ _ climbs (ids_or c.removing short.removing held.removing);
-    adding = tagged_is 4 change_entries _ _ climbs (ids_or c.adding short.adding held.adding);
-    recovery = tagged_is 5 change_entries _ _ climbs (recovery_or c.recovery short.recovery held.recovery);
-    eligible = tagged_is 6 change_entries _ _ climbs (ids_or c.eligible short.eligible held.eligible);
-    last_known = tagged_is 7 change_entries _ _ climbs (ids_or c.last_known short.last_known held.last_known);
-    directories = tagged_is 8 change_entries _ _ climbs tt;
+    in_sync = tagged_is 0 (change_entries c) _ _ climbs (ids_or c.in_sync short.in_sync held.in_sync);
+    leader = tagged_is 1 (change_entries c) _ _ climbs (leader_or c.leader short.leader held.leader);
+    replicas = tagged_is 2 (change_entries c) _ _ climbs (ids_or c.replicas short.replicas held.replicas);
+    removing = tagged_is 3 (change_entries c) _ _ climbs (ids_or c.removing short.removing held.removing);
+    adding = tagged_is 4 (change_entries c) _ _ climbs (ids_or c.adding short.adding held.adding);
+    recovery = tagged_is 5 (change_entries c) _ _ climbs (recovery_or c.recovery short.recovery held.recovery);
+    eligible = tagged_is 6 (change_entries c) _ _ climbs (ids_or c.eligible short.eligible held.eligible);
+    last_known = tagged_is 7 (change_entries c) _ _ climbs (ids_or c.last_known short.last_known held.last_known);
+    directories = tagged_is 8 (change_entries c) _ _ climbs tt;
   }
-
-  change_fit : AllByRecursion FitsEntry change_entries
-  unfolding change_entries
-  change_fit = (
-    ids_fit 0 (lit< tt) c.in_sync short.in_sync,
-    (
-      int_fits 1 (lit< tt) c.leader,
-      (
-        ids_fit 2 (lit< tt) c.replicas short.replicas,
-        (
-          ids_fit 3 (lit< tt) c.removing short.removing,
-          (
-            ids_fit 4 (lit< tt) c.adding short.adding,
-            (
-              byte_fits 5 (lit< tt) c.recovery,
-              (
-                ids_fit 6 (lit< tt) c.eligible short.eligible,
-                (ids_fit 7 (lit< tt) c.last_known short.last_known, tt),
-              ),
-            ),
-          ),
-        ),
-      ),
-    ),
-  )
 
   change_tags_stand : IsTags (AreChanges 2 c) (change_tags c)
   unfolding change_entries change_tags
   change_tags_stand =
-      let same : fields_of change_entries ≡ change_fields c = simp (append-nil, append_assoc) in
-      subst (λ (fields : List (ℕ × List ℕ)). IsTags (AreChanges 2 c) (tags fields)) same
-      (entries_spelled _ change_entries climbs changes_hold (lit≤ tt) change_fit)
+      subst (λ (fields : List (ℕ × List ℕ)). IsTags (AreChanges 2 c) (tags fields)) (changes_are c)
+      (entries_spelled _ (change_entries c) climbs changes_hold (lit≤ tt) (changes_fit c short))
 
 pub change_stands : (index : ℤ) (topic : ℕ) (c : PartitionChange) → FitsSigned w32 index → topic < 2 ^ 128 → IsSpelledChange c → IsHeldChange c
     → IsChange 2 (index, topic, c) (change index topic c)

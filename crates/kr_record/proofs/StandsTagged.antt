@@ -85,7 +85,7 @@ short [] h = tt
 short ((tag, None) ∷ es) h = short es h.1
 short ((tag, Some d) ∷ es) h = (h.0, short es h.1)
 
-few : (es : Entries) → length (fields_of es) ≤ length es
+pub few : (es : Entries) → length (fields_of es) ≤ length es
 few [] = omega arith
 few ((tag, None) ∷ es) = let h = few es in omega arith
 few ((tag, Some d) ∷ es) = let h = few es in omega arith

@@ -1,7 +1,11 @@
-//! Bytes by kind: of those that are refused the first fault, and of those that are accepted the form that is written.
+//! Bytes by kind: of those that are refused the first fault, of those that are accepted the form that is written; and
+//! records with the bytes that are written for them.
+
+ghost use Rattle.kr_record.specs.Encodable.{IsEncodable};
 
 use crate::RecordFault::{FrameVersion, Trailing, UnknownKey, UnknownVersion, Wire};
-use crate::{RecordFault, decode};
+use crate::{RecordFault, decode, encode};
+use kr_defs::{Record, Text};
 use kr_wire::WireFault::{BadNull, BadTag, BadText, Overlong, Short, TooBig};
 use std::alloc::{AllocError, Global};
 use std::process::Abort;
@@ -446,4 +450,59 @@ fn forms_of_changes(rt: HostRuntime) -> Result<(), AllocError> {
             ),
         ],
     )
+}
+
+// The record is written so, behind what stands there.
+fn written(rt: &impl Abort, alloc: Global, value: &Record, digits: &str) -> Result<(), AllocError>
+    requires { IsEncodable value.now }
+{
+    let wanted = bytes_of(alloc, digits)?;
+    let mut out = bytes_of(alloc, "AB")?;
+    assert!(rt; encode(value, &mut out).is_ok(), "of {digits}");
+    assert_eq!(rt; out.as_slice(), wanted.as_slice(), "of {digits}");
+    Ok(())
+}
+
+#[test]
+fn written_of_topics(rt: HostRuntime) -> Result<(), AllocError> {
+    let alloc = rt.alloc();
+    written(
+        &rt,
+        alloc,
+        &Record::RemoveTopic { topic: u128::MAX },
+        "AB010900FFFFFFFFFFFFFFFFFFFFFFFFFFFFFFFF00",
+    )?;
+    written(&rt, alloc, &Record::NoOp, "AB01140000")
+}
+
+#[test]
+fn written_of_brokers(rt: HostRuntime) -> Result<(), AllocError> {
+    let alloc = rt.alloc();
+    let gone = Record::UnregisterBroker {
+        broker: -1,
+        epoch: i64::MIN,
+    };
+    written(&rt, alloc, &gone, "AB010100FFFFFFFF800000000000000000")?;
+    let fence = Record::FenceBroker {
+        broker: 0,
+        epoch: 1,
+    };
+    written(&rt, alloc, &fence, "AB01070000000000000000000000000100")?;
+    let unfence = Record::UnfenceBroker {
+        broker: i32::MIN,
+        epoch: 0x4000_0000_0000_0000,
+    };
+    written(&rt, alloc, &unfence, "AB01080080000000400000000000000000")
+}
+
+#[test]
+fn written_of_a_setting(rt: HostRuntime) -> Result<(), AllocError> {
+    let alloc = rt.alloc();
+    let config = Record::Config {
+        kind: 4,
+        name: Text::new(alloc),
+        key: Text::new(alloc),
+        value: None,
+    };
+    written(&rt, alloc, &config, "AB0104000401010000")
 }

@@ -1,6 +1,7 @@
 //! Records to bytes.
 
-ghost use Rattle.std.specs.Prelude.{◌≡◌, ◌++◌, OnOk, OnErr};
+ghost use Rattle.std.specs.Prelude.{◌≡◌, ◌+◌, ◌++◌, length, OnOk, OnErr};
+ghost use Rattle.kr_defs.specs.Sizes.{value_bytes};
 ghost use Rattle.kr_record.specs.Encodable.{IsEncodable, IsShort, IsShortBroker, IsShortConfig, IsShortPartition, IsSpelledChange};
 ghost use Rattle.kr_record.specs.Grammar.{IsRecord};
 ghost use Rattle.kr_record.specs.Held.{IsHeld};
@@ -255,13 +256,15 @@ fn put_record(out: &mut Vec<u8>, value: &Record) -> Result<(), AllocError>
 }
 
 /// Appends the record's written form. Without memory nothing is appended.
-#[tactic(auto, using(crate::proofs::Stands::stands))]
+#[tactic(auto, using(crate::proofs::Stands::stands, crate::proofs::Lengths::appended))]
 pub fn encode(value: &Record, out: &mut Vec<u8>) -> Result<(), NoMemory>
     requires { IsEncodable value.now }
     ensures ok { OnOk result (out.new.items ≡ out.old.items ++ record_value value.now) }
     ensures err { OnErr result (out.new.items ≡ out.old.items) }
     // What is appended stands for the record: its numbers fit their types and its texts are UTF-8, as of any record held.
     ensures stands { IsHeld value.now → IsRecord value.now (record_value value.now) }
+    // It is as many bytes as the record's kind and its texts and lists say.
+    ensures size { OnOk result (length out.new.items ≡ length out.old.items + value_bytes value.now) }
 {
     // The record is written alone first, so that `out` is as it was where memory runs out.
     let before = mem::try_take(out)?;
