@@ -11,7 +11,7 @@ use Rattle.kr_defs.specs.declared.record.Record.{Record}
 use Rattle.kr_defs.specs.declared.record.Item.{Item}
 use Rattle.kr_defs.specs.declared.record.Item.TheVariants as items
 use Rattle.kr_wire.specs.declared.WireFault.{WireFault}
-use Rattle.kr_wire.specs.Reading.{◌>>=◌}
+use Rattle.kr_wire.specs.Reading.{◌>>=◌, refuse◌when◌else◌}
 use Rattle.kr_wire.proofs.Laws.{IsBytes, IsBytes-before, IsBytes-behind, bind_ok, guard_ok, is_ok, ok_value, ok_rest, read_ok, nothing, complete_guard, complete_bind}
 use Rattle.kr_wire.proofs.Numbers.{not_zero}
 use Rattle.kr_record.specs.declared.fault.RecordFault.{RecordFault}
@@ -21,6 +21,7 @@ use Rattle.kr_record.proofs.Laws.{of_sound as record_sound, of_complete as recor
 use Rattle.kr_batch.specs.Crc.{crc32c}
 use Rattle.kr_batch.specs.declared.Batch.{Batch}
 use Rattle.kr_batch.specs.declared.fault.BatchFault.{BatchFault}
+use Rattle.kr_batch.specs.declared.fault.BatchFault.TheVariants as faults
 use Rattle.kr_batch.specs.Answers.{Gives}
 use Rattle.kr_batch.specs.Reading.{framed, caused, frame_at, entry_at, entries_of, fixed_at, items_of, place_of, sum_of, batch_of}
 use Rattle.kr_batch.specs.Grammar.{IsFrame, IsEntry, AreEntries, IsFixed, AreItems, IsBatch}
@@ -136,34 +137,53 @@ not_below : (z : ℤ) → pos 0 ≤ℤ z → int_lt z (pos 0) ≡ false
 not_below (pos n) le = le-ltb n 0 (omega arith)
 not_below (negsuc n) le = absurd (omega (arith, ints))
 
+-- what is left to read behind the items, the fields before them, the CRC and the size
+abbrev with_items : ℤ → ℤ → ℤ → List Item → Result Batch BatchFault
+with_items base epoch time all = Ok (record { base = base; epoch = epoch; time = time; items = all })
+
+abbrev with_fixed : ℤ → ℤ → (Bool × ℤ × ℕ) × List ℕ → Result Batch BatchFault
+with_fixed base epoch f = refuse (faults.BadOffset 0) when int_lt base (pos 0) else (items_of f.0.0 f.0.2 f.1 >>= with_items base epoch f.0.1)
+
+abbrev with_sum : ℤ → ℤ × List ℕ → Result Batch BatchFault
+with_sum base sum = fixed_at sum.1 >>= with_fixed base sum.0
+
+abbrev with_place : ℤ × List ℕ → Result Batch BatchFault
+with_place place = sum_of place.1 >>= with_sum place.0
+
+-- what is read in these steps stands for the batch
+batch_there : (bytes : List ℕ) (place sum : ℤ × List ℕ) (fixed : (Bool × ℤ × ℕ) × List ℕ) (all : List Item) (batch : Batch) → IsBytes bytes
+    → place_of bytes ≡ Ok place → sum_of place.1 ≡ Ok sum → fixed_at sum.1 ≡ Ok fixed → int_lt place.0 (pos 0) ≡ false → items_of fixed.0.0 fixed.0.2 fixed.1 ≡ Ok all
+    → with_items place.0 sum.0 fixed.0.1 all ≡ Ok batch → IsBatch batch bytes
+batch_there bytes place sum fixed all batch fits of_place of_sum of_fixed based of_items is =
+    let p = place_sound bytes place fits of_place in
+    let s = sum_sound place.1 sum p.small of_sum in
+    let f = fixed_law.sound sum.1 s.small fixed.0 fixed.1 of_fixed in
+    let of_records : IsBytes fixed.1 = IsBytes-behind f.front fixed.1 sum.1 f.parts s.small in
+    let counted = items_sound fixed.0.0 fixed.0.2 fixed.1 all of_records f.holds.second.second.second.second.some of_items in
+    let it : Batch = record { base = place.0; epoch = sum.0; time = fixed.0.1; items = all } in
+    let there : IsBatch it bytes = record {
+      behind = place.1;
+      checked = sum.1;
+      records = fixed.1;
+      control = fixed.0.0;
+      based = from_zero place.0 based;
+      fits = p.fits;
+      start = p.start;
+      sum = s.sum;
+      fixed = record { left = f.front; right = fixed.1; is = f.parts; first = subst (λ (n : ℕ). IsFixed (fixed.0.0, fixed.0.1, n) f.front) (sym counted.1) f.holds; second = refl };
+      items = counted.0;
+    } in
+    subst (λ (b : Batch). IsBatch b bytes) (is_ok it batch is) there
+
 pub of_sound : (bytes : List ℕ) (batch : Batch) → IsBytes bytes → batch_of bytes ≡ Ok batch → IsBatch batch bytes
 unfolding batch_of
 of_sound bytes batch fits e =
-    let p = bind_ok (place_of bytes) _ batch e in
-    let s = bind_ok (sum_of p.0.1) _ batch p.2 in
-    let f = bind_ok (fixed_at s.0.1) _ batch s.2 in
-    let g = guard_ok (int_lt p.0.0 (pos 0)) _ _ batch f.2 in
-    let i = bind_ok (items_of f.0.0.0 f.0.0.2 f.0.1) _ batch g.1 in
-    let place = place_sound bytes p.0 fits p.1 in
-    let sum = sum_sound p.0.1 s.0 place.small s.1 in
-    let fixed = fixed_law.sound s.0.1 sum.small f.0.0 f.0.1 f.1 in
-    let of_records : IsBytes f.0.1 = IsBytes-behind fixed.front f.0.1 s.0.1 fixed.parts sum.small in
-    let counted = items_sound f.0.0.0 f.0.0.2 f.0.1 i.0 of_records fixed.holds.second.second.second.second.some i.1 in
-    let it : Batch = record { base = p.0.0; epoch = s.0.0; time = f.0.0.1; items = i.0 } in
-    let same : it ≡ batch = is_ok _ _ i.2 in
-    let there : IsBatch it bytes = record {
-      behind = p.0.1;
-      checked = s.0.1;
-      records = f.0.1;
-      control = f.0.0.0;
-      based = from_zero p.0.0 g.0;
-      fits = place.fits;
-      start = place.start;
-      sum = sum.sum;
-      fixed = record { left = fixed.front; right = f.0.1; is = fixed.parts; first = subst (λ (n : ℕ). IsFixed (f.0.0.0, f.0.0.1, n) fixed.front) (sym counted.1) fixed.holds; second = refl };
-      items = counted.0;
-    } in
-    subst (λ (b : Batch). IsBatch b bytes) same there
+    let p = bind_ok (place_of bytes) with_place batch e in
+    let s = bind_ok (sum_of p.0.1) (with_sum p.0.0) batch p.2 in
+    let f = bind_ok (fixed_at s.0.1) (with_fixed p.0.0 s.0.0) batch s.2 in
+    let g = guard_ok (int_lt p.0.0 (pos 0)) (faults.BadOffset 0) (items_of f.0.0.0 f.0.0.2 f.0.1 >>= with_items p.0.0 s.0.0 f.0.0.1) batch f.2 in
+    let i = bind_ok (items_of f.0.0.0 f.0.0.2 f.0.1) (with_items p.0.0 s.0.0 f.0.0.1) batch g.1 in
+    batch_there bytes p.0 s.0 f.0 i.0 batch fits p.1 s.1 f.1 g.0 i.1 i.2
 
 pub of_complete : (bytes : List ℕ) (batch : Batch) → IsBatch batch bytes → batch_of bytes ≡ Ok batch
 unfolding batch_of

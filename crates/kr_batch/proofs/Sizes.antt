@@ -82,6 +82,13 @@ body_length delta value =
     let b = fixed_parts in
     omega (arith, a, b)
 
+pub body_short : (delta : ℕ) (value : List ℕ) → length value < 2 ^ 30 → length (record_body delta value) < 2 ^ 31
+body_short delta value short =
+    let a = body_length delta value in
+    let b = varint_few delta in
+    let d = varint_few (length value) in
+    omega (arith, a, b, d)
+
 pub record_length : (delta : ℕ) (value : List ℕ) → length (record_bytes delta value) ≤ 19 + length value
 record_length delta value =
     let a = body_length delta value in

@@ -12,7 +12,7 @@ use Rattle.kr_defs.specs.declared.record.Item.{Item}
 use Rattle.kr_defs.specs.declared.record.Item.TheVariants as items
 use Rattle.kr_wire.specs.Grammar.{◌⌢◌, Exactly, IsNumber, IsVarint32}
 use Rattle.kr_wire.specs.Spelling.{number, signed, varint32, varint64}
-use Rattle.kr_wire.proofs.Laws.{IsBytes, IsBytes-behind, joined}
+use Rattle.kr_wire.proofs.Laws.{IsBytes, joined}
 use Rattle.kr_wire.proofs.Spelled.{varint32_spelled, varint64_spelled, number_spelled, signed_spelled}
 use Rattle.kr_record.specs.Grammar.{IsRecord}
 use Rattle.kr_record.specs.Spelling.{record_value}
@@ -23,7 +23,8 @@ use Rattle.kr_batch.specs.Grammar.{IsSized, IsKey, IsBody, IsEntry, AreEntries, 
 use Rattle.kr_batch.specs.Written.{IsWritable, IsHeldItem, IsRegular, value_bytes, values_size, record_body, record_bytes, records_bytes, no_producer, fixed_bytes, checked_bytes, start_bytes, head_bytes, batch_bytes}
 use Rattle.kr_batch.specs.Reading.{batch_of}
 use Rattle.kr_batch.proofs.Batches.{of_complete}
-use Rattle.kr_batch.proofs.Sizes.{body_length, varint_few, checked_length}
+use Rattle.kr_batch.proofs.Sizes.{body_short, checked_length}
+use Rattle.kr_batch.proofs.Bytes.{checked_fits, batch_fits}
 
 -- ---- a record
 
@@ -59,13 +60,6 @@ body_spelled delta value few short =
     (joined _ _ (size_spelled delta few)
     (joined _ _ (record { value = []; spelled = no_key_spelled })
     (joined _ _ (sized_spelled value short) (size_spelled 0 (omega arith)))))))
-
-body_short : (delta : ℕ) (value : List ℕ) → length value < 2 ^ 30 → length (record_body delta value) < 2 ^ 31
-body_short delta value short =
-    let a = body_length delta value in
-    let b = varint_few delta in
-    let d = varint_few (length value) in
-    omega (arith, a, b, d)
 
 entry_spelled : (at : ℕ) (r : Record) → at < 10000 → IsRecord r (record_value r) → length (record_value r) < 2 ^ 30 → IsEntry at r (record_bytes at (record_value r))
 entry_spelled at r few is short = record {
@@ -163,12 +157,13 @@ batch_is batch = simp append_assoc
 
 pub batch_spelled : (batch : Batch) → pos 0 ≤ℤ batch.base → FitsSigned w64 batch.base → FitsSigned w32 batch.epoch → FitsSigned w64 batch.time
     → 1 ≤ length batch.items → length batch.items ≤ 10000 → All IsWritable batch.items → All IsHeldItem batch.items → values_size batch.items < 2 ^ 30
-    → crc32c (checked_bytes batch) < 2 ^ 32 → IsBatch batch (batch_bytes batch)
-batch_spelled batch based base epoch time some few each held short crc =
+    → IsBatch batch (batch_bytes batch)
+batch_spelled batch based base epoch time some few each held short =
     let checked : List ℕ = checked_bytes batch in
     let sum : List ℕ = sum_bytes batch.epoch (crc32c checked) in
     let size : length checked + 9 ≡ length (sum ++ checked) = (let a = length-append sum checked in let b = sum_long batch.epoch (crc32c checked) in omega (arith, a, b)) in
     let fits : length checked + 9 < 2 ^ 31 = checked_length batch few short in
+    let crc : crc32c checked < 2 ^ 32 = crc_small checked (checked_fits batch few each held short).each in
     record {
       behind = sum ++ checked;
       checked = checked;
@@ -190,14 +185,12 @@ batch_spelled batch based base epoch time some few each held short crc =
     }
 
 pub regular_spelled : (batch : Batch) → IsRegular batch → IsBatch batch (batch_bytes batch)
-regular_spelled batch is =
-    let start : List ℕ = signed w64 batch.base ++ number w32 (length (checked_bytes batch) + 9) in
-    let sum : List ℕ = sum_bytes batch.epoch (crc32c (checked_bytes batch)) in
-    let behind : IsBytes (sum ++ checked_bytes batch) = IsBytes-behind start (sum ++ checked_bytes batch) (batch_bytes batch) (batch_is batch) is.bytes in
-    let checked : IsBytes (checked_bytes batch) = IsBytes-behind sum (checked_bytes batch) (sum ++ checked_bytes batch) refl behind in
-    batch_spelled batch is.based is.base is.epoch is.time is.some is.few is.each is.held is.small (crc_small (checked_bytes batch) checked)
+regular_spelled batch is = batch_spelled batch is.based is.base is.epoch is.time is.some is.few is.each is.held is.small
 
 pub regular_again : (batch : Batch) → IsRegular batch → batch_of (batch_bytes batch) ≡ Ok batch
 regular_again batch is = of_complete (batch_bytes batch) batch (regular_spelled batch is)
 
-pub ruleset regular = (regular_spelled, regular_again)
+pub regular_bytes : (batch : Batch) → IsRegular batch → IsBytes (batch_bytes batch)
+regular_bytes batch is = (batch_fits batch is.few is.each is.held is.small).each
+
+pub ruleset regular = (regular_spelled, regular_again, regular_bytes)

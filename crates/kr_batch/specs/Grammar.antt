@@ -2,6 +2,7 @@
 use Rattle.std.specs.Prelude.{◌≡◌, ℕ, ℤ, pos, ◌≤ℤ◌, ◌+◌, ◌-◌, ◌<◌, ◌≤◌, ◌^◌, Bool, true, false, List, [], ◌∷◌, length}
 use Rattle.std.specs.Int.{w8, w16, w32, w64}
 use Rattle.std.proofs.Math.ListN.{replicate}
+use Rattle.kr_defs.specs.declared.limits.TheConstants.{MOST_RECORDS}
 use Rattle.kr_defs.specs.declared.record.Record.{Record}
 use Rattle.kr_defs.specs.declared.record.Item.{Item}
 use Rattle.kr_defs.specs.declared.record.Item.TheVariants as items
@@ -69,7 +70,7 @@ pub record IsAttributes (control : Bool) (bytes : List ℕ) : Type 0 where
 
 pub record IsCount (count : ℕ) (bytes : List ℕ) : Type 0 where
   pub some : 1 ≤ count
-  pub few : count ≤ 10000
+  pub few : count ≤ MOST_RECORDS
   pub spelled : IsNumber w32 count bytes
 
 -- attributes, last offset delta, base timestamp, max timestamp and producer, and the count

@@ -3,6 +3,7 @@ use Rattle.std.specs.Prelude.{ℕ, ℤ, zero, suc, pos, negsuc, int_lt, ◌+◌,
 use Rattle.std.specs.Ordering.{int_eq}
 use Rattle.std.proofs.Math.ListN.{replicate}
 use Rattle.std.specs.Int.{w8, w16, w32, w64, cast_signed}
+use Rattle.kr_defs.specs.declared.limits.TheConstants.{MOST_RECORDS}
 use Rattle.kr_defs.specs.declared.record.Record.{Record}
 use Rattle.kr_defs.specs.declared.record.Item.{Item}
 use Rattle.kr_defs.specs.declared.record.Item.TheVariants as items
@@ -117,7 +118,7 @@ abbrev pub is_control : ℕ → Bool
 is_control attributes = attributes / 32 % 2 == 1
 
 abbrev pub is_count : ℕ → ℕ → Bool
-is_count count delta = nat_le 1 count && nat_le count 10000 && delta == count - 1
+is_count count delta = nat_le 1 count && nat_le count MOST_RECORDS && delta == count - 1
 
 -- attributes, last offset delta, base and max timestamp, producer, and the count: whether it is a control batch, the
 -- base timestamp and the count

@@ -2,8 +2,8 @@
 use Rattle.std.specs.Prelude.{ℕ, ℤ, pos, negsuc, ◌+◌, ◌-◌, ◌^◌, ◌<◌, ◌≤◌, ◌≤ℤ◌, FitsSigned, List, [], ◌∷◌, ◌++◌, length}
 use Rattle.std.specs.List.{All, sum_by}
 use Rattle.std.specs.Int.{w8, w16, w32, w64}
-use Rattle.kr_wire.specs.Laws.{IsBytes}
 use Rattle.kr_wire.specs.Spelling.{number, signed, varint32, varint64}
+use Rattle.kr_defs.specs.declared.limits.TheConstants.{MOST_RECORDS}
 use Rattle.kr_defs.specs.declared.record.Item.{Item}
 use Rattle.kr_defs.specs.declared.record.Item.TheVariants as items
 use Rattle.kr_record.specs.Encodable.{IsEncodable}
@@ -73,15 +73,14 @@ batch_bytes batch =
     head_bytes batch.base (length checked + 9) batch.epoch (crc32c checked) ++ checked
 
 -- A batch whose written form stands for it: the base is at least 0, it has 1 to 10,000 records that have a written
--- form, and its numbers, texts and bytes are those of their types.
+-- form, and its numbers and texts are those of their types.
 pub record IsRegular (batch : Batch) : Type 0 where
   pub based : pos 0 ≤ℤ batch.base
   pub base : FitsSigned w64 batch.base
   pub epoch : FitsSigned w32 batch.epoch
   pub time : FitsSigned w64 batch.time
   pub some : 1 ≤ length batch.items
-  pub few : length batch.items ≤ 10000
+  pub few : length batch.items ≤ MOST_RECORDS
   pub each : All IsWritable batch.items
   pub held : All IsHeldItem batch.items
   pub small : values_size batch.items < 2 ^ 30
-  pub bytes : IsBytes (batch_bytes batch)

@@ -3,6 +3,7 @@
 ghost use Rattle.std.specs.Prelude.{◌≡◌, ◌<◌, ◌≤◌, pos, length, drop, Ok, IfOk};
 ghost use Rattle.std.specs.Ordering.{int_eq};
 ghost use Rattle.std.proofs.Math.ListN.{replicate};
+ghost use Rattle.kr_defs.specs.declared.limits.TheConstants.{MOST_RECORDS};
 ghost use Rattle.kr_defs.specs.declared.record.Item.TheVariants as items;
 ghost use Rattle.kr_record.specs.Reading.{record_of};
 ghost use Rattle.kr_batch.specs.Answers.{Gives, GivesAt};
@@ -40,7 +41,7 @@ fn batch(alloc: Global, bytes: &[u8]) -> Result<Batch, BatchFault>
 
 #[tactic(auto, unfolding(crate::specs::Reading::items_of))]
 fn read_items(alloc: Global, control: bool, count: u32, bytes: &[u8]) -> Result<Items, BatchFault>
-    requires { count ≤ 10000 }
+    requires { count ≤ MOST_RECORDS }
     ensures { Gives result (items_of control count bytes.now) }
 {
     if control {
@@ -61,7 +62,7 @@ fn controls(alloc: Global, count: u32) -> Result<Items, BatchFault>
 }
 
 fn read_entries(alloc: Global, bytes: &[u8], count: u32) -> Result<Items, BatchFault>
-    requires { count ≤ 10000 }
+    requires { count ≤ MOST_RECORDS }
     ensures { Gives result (entries_of 0 count bytes.now) }
 {
     let mut list = Vec::new(alloc);
@@ -83,7 +84,7 @@ fn read_entry(
     last: bool,
 ) -> Result<(Record, usize), BatchFault>
     requires start { at ≤ length bytes.now }
-    requires few { number < 10000 }
+    requires few { number < MOST_RECORDS }
     ensures { GivesAt result bytes.now (entry_at number last (drop at bytes.now)) }
 {
     let ((delta, value), next) = match read_frame(bytes, at) {
@@ -109,7 +110,7 @@ fn read_entry(
 }
 
 fn is_at(delta: i32, number: u32) -> bool
-    requires { number < 10000 }
+    requires { number < MOST_RECORDS }
     ensures { result ≡ int_eq delta (pos number) }
 {
     delta == number as i32

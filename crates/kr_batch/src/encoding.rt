@@ -3,6 +3,7 @@
 ghost use Rattle.std.specs.Prelude.{◌≡◌, pos, ◌≤ℤ◌, ◌+◌, ◌-◌, ◌<◌, ◌≤◌, ◌^◌, ◌++◌, length, OnOk, OnErr, FitsSigned, vec_len};
 ghost use Rattle.std.specs.Int.{w64};
 ghost use Rattle.std.specs.List.{All};
+ghost use Rattle.kr_defs.specs.declared.limits.TheConstants.{MOST_RECORDS};
 ghost use Rattle.kr_wire.specs.Spelling.{varint32};
 ghost use Rattle.kr_batch.specs.Grammar.{IsBatch};
 ghost use Rattle.kr_batch.specs.Written.{IsHeldItem, IsWritable, batch_bytes, checked_bytes, fixed_bytes, head_bytes, no_producer, record_body, record_bytes, records_bytes, start_bytes, value_bytes, values_size};
@@ -17,7 +18,7 @@ use std::alloc::AllocError;
 #[tactic(auto, unfolding(crate::specs::Written::batch_bytes))]
 pub fn encode(batch: &Batch, out: &mut Vec<u8>) -> Result<(), NoMemory>
     requires some { 1 ≤ length batch.now.items }
-    requires few { length batch.now.items ≤ 10000 }
+    requires few { length batch.now.items ≤ MOST_RECORDS }
     requires each { All IsWritable batch.now.items }
     requires small { values_size batch.now.items < 2 ^ 30 }
     ensures ok { OnOk result (out.new.items ≡ out.old.items ++ batch_bytes batch.now) }
@@ -51,7 +52,7 @@ fn put_both(out: &mut Vec<u8>, first: &[u8], second: &[u8]) -> Result<(), AllocE
 // The size of all that follows the size.
 #[tactic(auto, using(crate::proofs::Sizes::checked_length))]
 fn size_with(batch: &Batch, checked: &[u8]) -> u32
-    requires few { length batch.now.items ≤ 10000 }
+    requires few { length batch.now.items ≤ MOST_RECORDS }
     requires small { values_size batch.now.items < 2 ^ 30 }
     requires checked { checked.now ≡ checked_bytes batch.now }
     ensures { result ≡ length checked.now + 9 }
@@ -82,7 +83,7 @@ fn put_start(base: i64, size: u32, epoch: i32, out: &mut Vec<u8>) -> Result<(), 
 #[tactic(auto, unfolding(crate::specs::Written::checked_bytes))]
 fn put_checked(batch: &Batch, out: &mut Vec<u8>) -> Result<(), NoMemory>
     requires some { 1 ≤ length batch.now.items }
-    requires few { length batch.now.items ≤ 10000 }
+    requires few { length batch.now.items ≤ MOST_RECORDS }
     requires each { All IsWritable batch.now.items }
     requires small { values_size batch.now.items < 2 ^ 30 }
     ensures ok { OnOk result (out.new.items ≡ out.old.items ++ checked_bytes batch.now) }
@@ -115,7 +116,7 @@ fn put_no_producer(out: &mut Vec<u8>) -> Result<(), AllocError>
 }
 
 fn put_records(items: &[Item], out: &mut Vec<u8>) -> Result<(), NoMemory>
-    requires few { length items.now ≤ 10000 }
+    requires few { length items.now ≤ MOST_RECORDS }
     requires each { All IsWritable items.now }
     requires small { values_size items.now < 2 ^ 30 }
     ensures { OnOk result (out.new.items ≡ out.old.items ++ records_bytes 0 items.now) }
@@ -140,7 +141,7 @@ fn put_value(item: &Item, out: &mut Vec<u8>) -> Result<(), NoMemory>
 }
 
 fn put_record(delta: u32, value: &[u8], out: &mut Vec<u8>) -> Result<(), AllocError>
-    requires delta { delta < 10000 }
+    requires delta { delta < MOST_RECORDS }
     requires value { length value.now < 2 ^ 30 }
     ensures { OnOk result (out.new.items ≡ out.old.items ++ record_bytes delta value.now) }
 {
@@ -150,7 +151,7 @@ fn put_record(delta: u32, value: &[u8], out: &mut Vec<u8>) -> Result<(), AllocEr
 
 #[tactic(auto, unfolding(crate::specs::Written::record_body))]
 fn put_body(delta: u32, value: &[u8], out: &mut Vec<u8>) -> Result<(), AllocError>
-    requires delta { delta < 10000 }
+    requires delta { delta < MOST_RECORDS }
     requires value { length value.now < 2 ^ 30 }
     ensures { OnOk result (out.new.items ≡ out.old.items ++ record_body delta value.now) }
 {
@@ -174,7 +175,7 @@ fn put_length(out: &mut Vec<u8>, len: u32) -> Result<(), AllocError>
 
 #[tactic(auto, using(crate::proofs::Sizes::body_length))]
 fn body_len(delta: u32, value: &[u8]) -> u32
-    requires delta { delta < 10000 }
+    requires delta { delta < MOST_RECORDS }
     requires value { length value.now < 2 ^ 30 }
     ensures size { result ≡ length (record_body delta value.now) }
     ensures small { result < 2 ^ 31 }

@@ -1,12 +1,14 @@
 //! The fields of a batch before its records.
 
 ghost use Rattle.std.specs.Prelude.{◌≡◌, ◌≤◌, length, drop, IfOk, IsTrue, MatchResult, Ok, Err};
+ghost use Rattle.kr_defs.specs.declared.limits.TheConstants.{MOST_RECORDS};
 ghost use Rattle.kr_batch.specs.Reading;
 ghost use Rattle.kr_batch.specs.Reading.{fixed_at, place_of, start_at, sum_at, sum_of};
 
 use crate::crc32c;
 use crate::fault::BatchFault;
 use crate::framing::read_piece;
+use kr_defs::limits::MOST_RECORDS;
 use kr_wire::{read_i8, read_i32, read_i64, read_u16, read_u32};
 
 /// The base, and all that follows the size.
@@ -77,7 +79,7 @@ pub fn read_fixed(bytes: &[u8]) -> Result<((bool, i64, u32), &[u8]), BatchFault>
     ensures read { MatchResult result
         (λ x. fixed_at bytes.now ≡ Ok ((x.0.0, x.0.1, x.0.2), x.1.now))
         (λ e. fixed_at bytes.now ≡ Err e) }
-    ensures few { IfOk result (λ x. x.0.2 ≤ 10000) }
+    ensures few { IfOk result (λ x. x.0.2 ≤ MOST_RECORDS) }
 {
     let (attributes, next) = read_u16(bytes, 0)?;
     let kind = compression(attributes);
@@ -112,7 +114,7 @@ fn is_control(attributes: u16) -> bool
 
 fn is_count(count: u32, delta: u32) -> bool
     ensures test { result ≡ Reading.is_count count delta }
-    ensures few { IsTrue result → count ≤ 10000 }
+    ensures few { IsTrue result → count ≤ MOST_RECORDS }
 {
-    count >= 1 && count <= 10000 && delta == count - 1
+    count >= 1 && count as usize <= MOST_RECORDS && delta == count - 1
 }
