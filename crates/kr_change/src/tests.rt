@@ -551,3 +551,33 @@ fn elections(rt: HostRuntime) -> Result<(), Fail> {
     }
     Ok(())
 }
+
+// The epochs of a partition, that of its leader first, once a change is merged into it.
+fn merged_epochs(
+    alloc: Global,
+    epochs: (i32, i32),
+    fields: Fields,
+) -> Result<(i32, i32), NoMemory> {
+    let mut partition = partition(alloc, WHOLE)?;
+    partition.leader_epoch = epochs.0;
+    partition.partition_epoch = epochs.1;
+    let change = change(alloc, fields)?;
+    let merged = merge(alloc, &partition, &change)?;
+    Ok((merged.leader_epoch, merged.partition_epoch))
+}
+
+// A named leader raises the leader epoch, also the same one, and a change with no field the partition epoch alone; both
+// stay at the greatest number.
+#[test]
+fn epochs_rise_and_stay(rt: HostRuntime) -> Result<(), Fail> {
+    let alloc = rt.alloc();
+    let same = Fields {
+        leader: Some(1),
+        ..NO_FIELD
+    };
+    let greatest = (2147483647, 2147483647);
+    assert_eq!(rt; merged_epochs(alloc, (0, 0), same)?, (1, 1));
+    assert_eq!(rt; merged_epochs(alloc, (0, 0), NO_FIELD)?, (0, 1));
+    assert_eq!(rt; merged_epochs(alloc, greatest, same)?, greatest);
+    Ok(())
+}
