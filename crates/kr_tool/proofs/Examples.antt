@@ -1,6 +1,6 @@
 -- The definitions computed on small sessions.
 use Rattle.std.proofs.Common.{◌≡◌, ℕ, ℤ, pos, List, [], ◌∷◌, Some, refl}
-use Rattle.std.specs.Prelude.{codes, true, false}
+use Rattle.std.specs.Prelude.{codes, false}
 use Rattle.kr_defs.specs.declared.calls.Ask.TheVariants as asks
 use Rattle.kr_defs.specs.declared.calls.AskFault.TheVariants as faults
 use Rattle.kr_defs.specs.declared.calls.Reply.TheVariants as replies
@@ -14,8 +14,8 @@ use Rattle.kr_defs.specs.declared.record.Record.TheVariants as kinds
 use Rattle.kr_wire.specs.Spelling.{number, signed, uvarint}
 use Rattle.kr_tool.specs.Batches.{appended_bytes}
 use Rattle.kr_tool.specs.Frames.{output_frame}
-use Rattle.kr_tool.specs.Messages.{setting_call, minimum_key}
-use Rattle.kr_tool.specs.Minimum.{is_minimum}
+use Rattle.kr_defs.specs.Settings.{minimum_key}
+use Rattle.kr_tool.specs.Messages.{setting_call}
 use Rattle.kr_tool.specs.World.{world, is_accepted}
 use Rattle.kr_tool.specs.Outputs.{outputs}
 
@@ -73,19 +73,6 @@ commit_past_tip = refl
 
 pub commit_of_another : is_accepted (world (lead ∷ [])) (events.Commit (pos 4) (pos 0)) ≡ false
 commit_of_another = refl
-
--- how a value is spelled
-pub greatest_minimum : is_minimum (codes "2147483647") ≡ true
-greatest_minimum = refl
-
-pub past_greatest : is_minimum (codes "2147483648") ≡ false
-past_greatest = refl
-
-pub leading_zero : is_minimum (codes "02") ≡ false
-leading_zero = refl
-
-pub no_digits : is_minimum [] ≡ false
-no_digits = refl
 
 -- the reply's frame, byte for byte
 pub reply_frame :

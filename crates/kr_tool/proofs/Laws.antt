@@ -1,16 +1,17 @@
 -- The laws of request messages: what is read stands for its value, what stands is read, and a message asks one thing.
-use Rattle.std.proofs.Common.{Fits, w8, w16, w32, get_or, ◌≡◌, ℕ, ◌+◌, ◌*◌, ◌<◌, ◌≤◌, Bool, true, false, eqb, List, [], ◌∷◌, ◌++◌, length, take, drop, ◌^◌, append_assoc, inl, inr, ◌-◌, Result, Ok, Err, refl, sym, ap, subst, ◌∙◌, arith, lit<, lit≤, leb}
-use Rattle.std.specs.Prelude.{ℤ, pos, negsuc, not, int_lt, unsigned_abs, IfOk}
+use Rattle.std.proofs.Common.{Fits, w8, w16, w32, get_or, ◌≡◌, ℕ, ◌+◌, ◌*◌, ◌<◌, ◌≤◌, Bool, true, false, eqb, List, [], ◌∷◌, ◌++◌, length, take, drop, ◌^◌, append_assoc, inl, inr, ◌-◌, Result, Ok, Err, refl, sym, ap, subst, ◌∙◌, arith, lit<, lit≤}
+use Rattle.std.specs.Prelude.{ℤ, pos, negsuc, not, int_lt, unsigned_abs, IfOk, is_some}
 use Rattle.std.specs.Int.{Width, byte_len, cast_signed, from_be_bytes}
 use Rattle.std.specs.Ordering.{int_eq}
 use Rattle.std.specs.Str.{bytes_eq}
 use Rattle.std.proofs.lemmas.List.{append-nil, length-drop, length-append}
-use Rattle.std.proofs.lemmas.Bool.{le-ltb, cases_lt, and_parts, leb-true}
+use Rattle.std.proofs.lemmas.Bool.{le-ltb, cases_lt, and_parts}
 use Rattle.kr_tool.specs.Kept.{IsShortAsk}
 use Rattle.std.proofs.lemmas.List.Elements.{All-cons, All-nil}
 use Rattle.kr_defs.specs.declared.calls.ConfigResource.{ConfigResource}
 use Rattle.kr_wire.specs.declared.WireFault.{WireFault}
-use Rattle.kr_tool.specs.Minimum.{is_minimum}
+use Rattle.kr_defs.specs.Settings.{minimum_key, read_minimum}
+use Rattle.kr_tool.proofs.Digits.{short_minimum}
 use Rattle.kr_base.specs.declared.answers.NoMemory.{NoMemory}
 use Rattle.std.proofs.lemmas.Bool.Decides.{Decides-int_eq, Decides-eqb}
 use Rattle.std.specs.Bool.{Decides}
@@ -24,7 +25,7 @@ use Rattle.kr_wire.specs.Reading.{Read, signed_at}
 use Rattle.kr_wire.specs.Grammar.{◌⌢◌, Exactly, IsVarint, IsUvarint, IsSigned, IsText}
 use Rattle.kr_wire.proofs.Laws.{IsBytes, Yields, Law, ok_value, one_value, one_value, joined, sound_then, sound_last, sound_guard, sound_if, sound_as, sound_done, complete_then, complete_last, complete_guard, complete_bind, complete_if_not, all_sound, all_complete}
 use Rattle.kr_wire.proofs.Numbers.{uvarint_law, signed_law, text_law, utf8_law, IsUtf8Piece}
-use Rattle.kr_tool.specs.Messages.{minimum_key, IsShortText, IsClientId, NoFields, IsHeader, IsBrokerDefault, IsOperation, IsClosing, IsSetting, BeginsWith, IsAsk, short, unsupported, other, setting}
+use Rattle.kr_tool.specs.Messages.{IsShortText, IsClientId, NoFields, IsHeader, IsBrokerDefault, IsOperation, IsClosing, IsSetting, BeginsWith, IsAsk, short, unsupported, other, setting}
 use Rattle.kr_tool.specs.Reading.{passing, one_uvarint_at, one_i8_at, one_i16_at, one_text_at, sized_text_at, client_id_at, header_at, resource_at, operation_at, closing_at, setting_at, setting_of, begin_at, setting_ask, begun_ask, ask_of}
 
 -- ---- one value alone
@@ -172,9 +173,9 @@ setting_law = record {
       sound_then resource_law _ _ rest more (λ u b rest second more.
       sound_then operation_law _ _ rest more (λ value c rest third more.
       sound_then closing_law _ _ rest more (λ u d rest fourth more.
-      sound_guard _ rest (not (is_minimum value)) BadTag _ (λ reads.
+      sound_guard _ rest (not (is_some (read_minimum value))) BadTag _ (λ reads.
       sound_done _ rest (correlation, value) (rw append-nil (record {
-        reads = not_not (is_minimum value) reads;
+        reads = not_not (is_some (read_minimum value)) reads;
         spelled = joined a (b ++ (c ++ d)) first (joined b (c ++ d) second (joined c d third fourth));
       })))))));
   complete = λ s bytes rest is.
@@ -359,19 +360,11 @@ only message (Err e) fits given any is = tt
 
 -- ---- what is asked is short
 
-short_value : (value : List ℕ) → is_minimum value ≡ true → length value < 2 ^ 16
-short_value value reads =
-    let a = and_parts _ _ reads in
-    let b = and_parts _ _ a.0 in
-    let c = and_parts _ _ b.0 in
-    let d = and_parts (leb 1 (length value)) (leb (length value) 10) c.0 in
-    omega (arith, leb-true (length value) 10 d.1)
-
 pub short_ask : (ask : Ask) (message : List ℕ) → IsAsk ask message → IsShortAsk ask
 short_ask _ message (short _ lt) = tt
 short_ask _ message (unsupported k v c _ b served) = tt
 short_ask _ message (other c _ b none) = tt
-short_ask _ message (setting c value _ is) = (lit≤ tt, All-cons (λ (r : ConfigResource). length r.name < 2 ^ 16) _ [] (lit< tt) (All-nil (λ (r : ConfigResource). length r.name < 2 ^ 16)), short_value value is.reads)
+short_ask _ message (setting c value _ is) = (lit≤ tt, All-cons (λ (r : ConfigResource). length r.name < 2 ^ 16) _ [] (lit< tt) (All-nil (λ (r : ConfigResource). length r.name < 2 ^ 16)), short_minimum value is.reads)
 
 pub short_answer : (message : List ℕ) (answer : Result Ask NoMemory) → ((i : ℕ) → Fits w8 (get_or message i 0)) → IfOk answer (λ ask. ask ≡ ask_of message) → IfOk answer IsShortAsk
 short_answer message (Ok ask) fits given = short_ask ask message (found message (Ok ask) fits given)

@@ -9,7 +9,7 @@ use Rattle.kr_defs.specs.declared.calls.Request.{Request}
 use Rattle.kr_defs.specs.declared.calls.Request.TheVariants as requests
 use Rattle.kr_record.specs.Spelling.{record_value, config, framed, no_tags}
 use Rattle.kr_batch.specs.Written.{value_bytes, values_size}
-use Rattle.kr_tool.specs.Messages.{minimum_key}
+use Rattle.kr_defs.specs.Settings.{minimum_key}
 use Rattle.kr_tool.specs.World.{value_of}
 use Rattle.kr_tool.specs.Kept.{IsShort, item_of}
 

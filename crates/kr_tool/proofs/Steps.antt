@@ -16,7 +16,8 @@ use Rattle.kr_defs.specs.declared.calls.Reply.TheVariants as replies
 use Rattle.kr_defs.specs.declared.record.Record.{Record}
 use Rattle.kr_defs.specs.declared.record.Record.TheVariants as kinds
 use Rattle.kr_tool.specs.declared.controller.Write.{Write}
-use Rattle.kr_tool.specs.Messages.{minimum_key, error_of}
+use Rattle.kr_defs.specs.Settings.{minimum_key}
+use Rattle.kr_tool.specs.Messages.{error_of}
 use Rattle.kr_tool.specs.Kept.{State, Keeps, Stands, accepts, changed, item_of, give, append_value, append_change, answer, decide_call, take_call, take_ask, take_commit, after_event, fresh}
 use Rattle.kr_tool.specs.Outputs.{writes, write_of, reply_of, is_due, batch_of, batches, bare_of, outputs_of}
 use Rattle.kr_tool.specs.World.{World, world, happens, effect, appended, decided, setting_records, value_of, refuse, tip, image_at, apply, is_accepted, greatest_time, later}

@@ -3,6 +3,7 @@ use Rattle.std.specs.Prelude.{◌≡◌, ℕ, ℤ, pos, ◌≤ℤ◌, ◌+◌, �
 use Rattle.std.specs.Int.{w16, w32, w64}
 use Rattle.kr_wire.specs.Grammar.{◌⌢◌, Exactly, IsNumber, IsSigned}
 use Rattle.kr_wire.specs.Spelling.{number}
+use Rattle.kr_defs.specs.declared.limits.TheConstants.{MOST_PARTITIONS, MOST_TARGETS, MOST_MESSAGE_BYTES}
 use Rattle.kr_defs.specs.declared.options.Options.{Options}
 use Rattle.kr_defs.specs.declared.events.Event.{Event}
 use Rattle.kr_defs.specs.declared.events.Event.TheVariants as events
@@ -24,9 +25,9 @@ pub record AreOptions (options : Options) : Type 0 where
   pub node : pos 0 ≤ℤ options.node
   pub session : 1 ≤ options.session_ms
   pub least_partitions : pos 1 ≤ℤ options.partitions
-  pub most_partitions : options.partitions ≤ℤ pos 9000
+  pub most_partitions : options.partitions ≤ℤ pos MOST_PARTITIONS
   pub least_factor : pos 1 ≤ℤ options.factor
-  pub most_factor : options.factor ≤ℤ pos 32
+  pub most_factor : options.factor ≤ℤ pos MOST_TARGETS
   pub minimum : pos 1 ≤ℤ options.minimum
   pub cluster : length options.cluster ≤ 255
 
@@ -47,7 +48,7 @@ pub record IsTime (now : ℤ) (bytes : List ℕ) : Type 0 where
 
 -- a message of at most 8 MiB, all that is left
 pub record IsMessage (ask : Ask) (bytes : List ℕ) : Type 0 where
-  pub short : length bytes ≤ 8388608
+  pub short : length bytes ≤ MOST_MESSAGE_BYTES
   pub is : IsAsk ask bytes
 
 abbrev pub IsOpen : Options → List ℕ → Type 0

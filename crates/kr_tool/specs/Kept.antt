@@ -21,7 +21,8 @@ use Rattle.kr_defs.specs.declared.record.Record.TheVariants as kinds
 use Rattle.kr_tool.specs.declared.controller.Write.{Write}
 use Rattle.kr_tool.specs.Batches.{appended_bytes}
 use Rattle.kr_tool.specs.Fitting.{FitsFrame}
-use Rattle.kr_tool.specs.Messages.{error_of, minimum_key}
+use Rattle.kr_defs.specs.Settings.{minimum_key}
+use Rattle.kr_tool.specs.Messages.{error_of}
 use Rattle.kr_tool.specs.Outputs.{writes, reply_of}
 use Rattle.kr_tool.specs.World.{World, world, tip, image_at, greatest_time, last_place, refuse, value_of}
 

@@ -1,4 +1,3 @@
-pub mod Minimum
 pub mod Messages
 pub mod Reading
 pub mod Frames

@@ -1,6 +1,6 @@
 -- What the bytes of a request message stand for, and how a reply is spelled: Kafka's request header version 2,
 -- its response header version 1, and IncrementalAlterConfigs (key 44) version 1.
-use Rattle.std.specs.Prelude.{◌≡◌, ℕ, ℤ, pos, negsuc, ◌<◌, ◌^◌, ◌⊎◌, IsTrue, false, List, [], ◌∷◌, ◌++◌, length, Some, codes, IsUtf8}
+use Rattle.std.specs.Prelude.{◌≡◌, ℕ, ℤ, pos, negsuc, ◌<◌, ◌^◌, ◌⊎◌, IsTrue, false, List, [], ◌∷◌, ◌++◌, length, Some, is_some, IsUtf8}
 use Rattle.std.specs.List.{All}
 use Rattle.std.specs.Int.{w8, w16, w32}
 use Rattle.kr_wire.specs.Grammar.{◌⌢◌, Exactly, IsSigned, IsText, IsUvarint}
@@ -14,15 +14,11 @@ use Rattle.kr_defs.specs.declared.calls.ConfigResponse.{ConfigResponse}
 use Rattle.kr_defs.specs.declared.calls.Reply.{Reply}
 use Rattle.kr_defs.specs.declared.calls.Reply.TheVariants as replies
 use Rattle.kr_defs.specs.declared.calls.Request.TheVariants as requests
-use Rattle.kr_tool.specs.Minimum.{is_minimum}
+use Rattle.kr_defs.specs.Settings.{minimum_key, read_minimum}
 
 -- ---- requests
 
--- the only setting that is served so far
-abbrev pub minimum_key : List ℕ
-minimum_key = codes "min.insync.replicas"
-
--- the call that sets it for the broker default
+-- the call that sets the only setting that is served so far, for the broker default
 abbrev pub setting_call : ℤ → List ℕ → Call
 setting_call correlation value = record {
   correlation = correlation;
@@ -68,7 +64,7 @@ IsClosing = NoFields ⌢ Exactly (0 ∷ []) ⌢ NoFields
 
 -- a message that sets it to a value that reads
 pub record IsSetting (correlation : ℤ) (value message : List ℕ) : Type 0 where
-  pub reads : IsTrue (is_minimum value)
+  pub reads : IsTrue (is_some (read_minimum value))
   pub spelled : (IsHeader correlation ⌢ IsBrokerDefault ⌢ IsOperation value ⌢ IsClosing) message
 
 -- what every message begins with: its key, its version and its correlation id

@@ -1,5 +1,5 @@
 -- Reading a request message from its front: what is read, or that it doesn't read. The fault says no more than that.
-use Rattle.std.specs.Prelude.{◌≡◌, ◌≤◌, drop, MatchResult, ℕ, ℤ, pos, negsuc, ◌&&◌, Bool, not, List, [], length, Result, Ok, Err, ◌==◌, nat_lt, int_lt, unsigned_abs, if◌then◌else◌}
+use Rattle.std.specs.Prelude.{◌≡◌, ◌≤◌, drop, MatchResult, ℕ, ℤ, pos, negsuc, ◌&&◌, Bool, not, List, [], length, Result, Ok, Err, is_some, ◌==◌, nat_lt, int_lt, unsigned_abs, if◌then◌else◌}
 use Rattle.std.specs.Int.{w8, w16, w32}
 use Rattle.std.specs.Ordering.{int_eq}
 use Rattle.std.specs.Str.{bytes_eq}
@@ -9,8 +9,8 @@ use Rattle.kr_wire.specs.Reading.{◌>>=◌, Read, refuse◌when◌else◌, uvar
 use Rattle.kr_defs.specs.declared.calls.Ask.{Ask}
 use Rattle.kr_defs.specs.declared.calls.Ask.TheVariants as asks
 use Rattle.kr_defs.specs.declared.calls.AskFault.TheVariants as faults
-use Rattle.kr_tool.specs.Messages.{minimum_key, setting_call}
-use Rattle.kr_tool.specs.Minimum.{is_minimum}
+use Rattle.kr_defs.specs.Settings.{minimum_key, read_minimum}
+use Rattle.kr_tool.specs.Messages.{setting_call}
 
 -- a value that passes a test, and no other
 abbrev pub passing : {X : Type 0} → (X → Bool) → Read X → Read (Unit {0})
@@ -83,7 +83,7 @@ setting_at bytes = do
   resource ← resource_at correlation.1
   value ← operation_at resource.1
   closing ← closing_at value.1
-  refuse BadTag when not (is_minimum value.0) else Ok ((correlation.0, value.0), closing.1)
+  refuse BadTag when not (is_some (read_minimum value.0)) else Ok ((correlation.0, value.0), closing.1)
 
 -- nothing is behind it
 unfoldable pub setting_of : List ℕ → Result (ℤ × List ℕ) WireFault

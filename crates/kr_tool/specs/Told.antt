@@ -1,8 +1,9 @@
 -- What a run of the tool tells: its status, what it took and wrote for each, and the line of notes.
-use Rattle.std.specs.Prelude.{◌≡◌, ℕ, ◌^◌, ◌<◌, ◌⊎◌, List, [], ◌∷◌, ◌++◌, length, Option, IfSome, codes}
+use Rattle.std.specs.Prelude.{◌≡◌, ℕ, ◌<◌, ◌⊎◌, List, [], ◌∷◌, ◌++◌, length, Option, IfSome, codes}
 use Rattle.std.specs.Io.KnownBytes.{Consumes, Appends}
 use Rattle.std.specs.Fmt.{decimal}
 use Rattle.kr_base.specs.Written.{AppendsFront}
+use Rattle.kr_defs.specs.declared.limits.TheConstants.{MOST_SESSION_BYTES}
 use Rattle.kr_defs.specs.declared.options.Options.{Options}
 use Rattle.kr_defs.specs.declared.events.Event.{Event}
 use Rattle.kr_tool.specs.declared.status.Status.{Status}
@@ -16,7 +17,7 @@ AreServed words = words ≡ codes "session" ∷ []
 
 -- the longest input
 abbrev pub longest : ℕ
-longest = 2 ^ 40
+longest = MOST_SESSION_BYTES
 
 -- one whole session was taken, nothing behind it, and the frames of its outputs were written
 pub record TookWhole (left left' written written' : Option (List ℕ)) : Type 0 where

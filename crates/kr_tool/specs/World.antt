@@ -17,7 +17,7 @@ use Rattle.kr_defs.specs.declared.record.Item.{Item}
 use Rattle.kr_defs.specs.declared.record.Item.TheVariants as items
 use Rattle.kr_defs.specs.declared.record.Record.{Record}
 use Rattle.kr_defs.specs.declared.record.Record.TheVariants as kinds
-use Rattle.kr_tool.specs.Messages.{minimum_key}
+use Rattle.kr_defs.specs.Settings.{minimum_key}
 
 -- ---- the log and its image
 

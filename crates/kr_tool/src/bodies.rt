@@ -1,6 +1,7 @@
 //! The bodies of frames that are read.
 
-ghost use Rattle.std.specs.Prelude.{◌≡◌, ◌≤◌, ◌<◌, [], pos, length, drop, IfOk, OnErr, Ok, Err, MatchResult, IsTrue, IsErrOf, false, IsUtf8, ◌↔◌};
+ghost use Rattle.std.specs.Prelude.{◌≡◌, ◌≤◌, ◌<◌, [], pos, length, drop, IfErr, IfOk, OnErr, Ok, Err, MatchResult, IsTrue, IsErrOf, false, IsUtf8, ◌↔◌};
+ghost use Rattle.kr_defs.specs.declared.limits.TheConstants.{MOST_MESSAGE_BYTES};
 ghost use Rattle.kr_wire.specs.Reading.{Reads};
 ghost use Rattle.kr_defs.specs.declared.events.Event.{Event as AnyEvent};
 ghost use Rattle.kr_defs.specs.declared.options.Options.{Options as AnyOptions};
@@ -9,6 +10,7 @@ ghost use Rattle.kr_tool.specs.Kept.{HasShort};
 ghost use Rattle.kr_tool.specs.Bodies.{IsLead, IsCommit, IsRequest, IsAsked, IsBody, AreNumbers, AreTopicNumbers, time_at, lead_at, commit_at, stamp_at, options_at};
 
 use crate::messages::decode;
+use kr_defs::limits::{MOST_MESSAGE_BYTES, MOST_PARTITIONS, MOST_TARGETS};
 use kr_defs::{Event, Options, Text};
 use kr_wire::{WireFault, read_i16, read_i32, read_i64, read_u32, read_u64};
 use std::alloc::Global;
@@ -66,7 +68,8 @@ fn read_commit(body: &[u8]) -> Result<(Event, usize), WireFault>
 
 // The value, where it was read to the end.
 fn whole(value: Event, at: usize, len: usize) -> Result<Event, BodyFault>
-    ensures { MatchResult result (λ x. (x ≡ value) × (at ≡ len)) (λ e. at ≡ len → ⊥) }
+    ensures whole { MatchResult result (λ x. (x ≡ value) × (at ≡ len)) (λ e. at ≡ len → ⊥) }
+    ensures fault { IfErr result (λ e. e ≡ BodyFault.Misfit) }
 {
     if at == len {
         Ok(value)
@@ -79,6 +82,7 @@ fn whole(value: Event, at: usize, len: usize) -> Result<Event, BodyFault>
 pub(crate) fn lead(body: &[u8]) -> Result<Event, BodyFault>
     ensures found { IfOk result (λ event. IsLead event body.now) }
     ensures misfit { OnErr result ((event : AnyEvent) → IsLead event body.now → ⊥) }
+    ensures fault { IfErr result (λ e. e ≡ BodyFault.Misfit) }
 {
     let (event, at) = read_lead(body)?;
     whole(event, at, body.len())
@@ -88,6 +92,7 @@ pub(crate) fn lead(body: &[u8]) -> Result<Event, BodyFault>
 pub(crate) fn commit(body: &[u8]) -> Result<Event, BodyFault>
     ensures found { IfOk result (λ event. IsCommit event body.now) }
     ensures misfit { OnErr result ((event : AnyEvent) → IsCommit event body.now → ⊥) }
+    ensures fault { IfErr result (λ e. e ≡ BodyFault.Misfit) }
 {
     let (event, at) = read_commit(body)?;
     whole(event, at, body.len())
@@ -113,9 +118,9 @@ fn read_stamp(body: &[u8]) -> Result<(Stamp, usize), WireFault>
 fn asked(alloc: Global, stamp: Stamp, message: &[u8]) -> Result<Event, BodyFault>
     ensures found { IfOk result (λ event. IsAsked stamp.client stamp.now event message.now) }
     ensures short { IfOk result HasShort }
-    ensures misfit { IsErrOf result BodyFault.Misfit → 8388608 < length message.now }
+    ensures misfit { IsErrOf result BodyFault.Misfit → MOST_MESSAGE_BYTES < length message.now }
 {
-    if message.len() > 8_388_608 {
+    if message.len() > MOST_MESSAGE_BYTES {
         return Err(BodyFault::Misfit);
     }
     match decode(alloc, message) {
@@ -209,7 +214,10 @@ fn has_topics(o: &Opening) -> bool
     ensures yes { IsTrue result → AreTopicNumbers o.now.partitions o.now.factor }
     ensures no { result ≡ false → AreTopicNumbers o.now.partitions o.now.factor → ⊥ }
 {
-    o.partitions >= 1 && o.partitions <= 9000 && o.factor >= 1 && o.factor <= 32
+    o.partitions >= 1
+        && o.partitions as usize <= MOST_PARTITIONS
+        && o.factor >= 1
+        && o.factor as usize <= MOST_TARGETS
 }
 
 /// The settings of an Open frame's body.

@@ -11,7 +11,7 @@ ghost use Rattle.kr_tool.specs.Kept.{Stands, HasShort, IsShort, IsShortAsk, item
 ghost use Rattle.kr_tool.specs.Fitting.{FitsFrame};
 ghost use Rattle.kr_tool.specs.Kept;
 ghost use Rattle.kr_tool.specs.Messages;
-ghost use Rattle.kr_tool.specs.Messages.{minimum_key};
+ghost use Rattle.kr_defs.specs.Settings.{minimum_key};
 ghost use Rattle.kr_tool.specs.Outputs.{outputs_of, reply_of};
 ghost use Rattle.kr_tool.specs.World;
 ghost use Rattle.kr_tool.specs.World.{world, is_accepted, last_place, only_one};

@@ -10,10 +10,8 @@ ghost use Rattle.kr_tool.specs.Reader.{Took, IsHead, Cut, Stopped, NoneAllowed};
 
 use crate::filling::fill;
 use kr_base::Source;
+use kr_defs::limits::MOST_SESSION_BYTES;
 use std::alloc::Global;
-
-/// The longest input in bytes.
-pub(crate) const LONGEST: u64 = 1 << 40;
 
 /// Why no frame was read.
 #[derive(Clone, Copy, Debug, Drop, PartialEq, Eq)]
@@ -90,7 +88,7 @@ fn room(len: usize, at: u64) -> usize
     ensures all { at + len ≤ 2 ^ 40 → result ≡ len }
     ensures short { result < len → at + result ≡ 2 ^ 40 }
 {
-    len.min((LONGEST - at) as usize)
+    len.min((MOST_SESSION_BYTES - at) as usize)
 }
 
 // What it means that so many bytes came of so many that were asked for, out of so many that were needed.

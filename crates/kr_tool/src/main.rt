@@ -6,7 +6,6 @@ mod controller;
 mod filling;
 mod frames;
 mod messages;
-mod minimum;
 mod replies;
 mod running;
 mod serving;

@@ -7,15 +7,15 @@ ghost use Rattle.kr_wire.specs.Reading.{Reads, Read};
 ghost use Rattle.kr_defs.specs.declared.calls.Ask.{Ask as AnyAsk};
 ghost use Rattle.kr_tool.specs.Kept.{IsShortAsk};
 ghost use Rattle.kr_tool.specs.Messages;
-ghost use Rattle.kr_tool.specs.Messages.{IsAsk, minimum_key};
+ghost use Rattle.kr_defs.specs.Settings.{minimum_key};
+ghost use Rattle.kr_tool.specs.Messages.{IsAsk};
 ghost use Rattle.kr_tool.specs.Reading.{Passes, one_uvarint_at, one_i8_at, one_i16_at, one_text_at, client_id_at, sized_text_at, header_at, resource_at, operation_at, closing_at, setting_at, setting_of, begin_at, ask_of};
 ghost use Rattle.kr_tool.specs.Reading;
 
-use crate::minimum::is_minimum;
 use kr_base::NoMemory;
 use kr_defs::{
     Ask, AskFault, Call, ConfigOperation, ConfigResource, IncrementalAlterConfigs, Request, Rows,
-    Text,
+    Text, read_minimum,
 };
 use kr_wire::{Span, WireFault, read_i8, read_i16, read_i32, read_str, read_utf8, read_uvarint};
 use std::alloc::Global;
@@ -166,7 +166,7 @@ fn read_setting(bytes: &[u8], at: usize) -> Result<(Setting, usize), WireFault>
     let next = read_resource(bytes, next)?;
     let (value, next) = read_operation(bytes, next)?;
     let next = read_closing(bytes, next)?;
-    if !is_minimum(&bytes[value.start..value.end]) {
+    if read_minimum(&bytes[value.start..value.end]).is_none() {
         return Err(WireFault::BadTag);
     }
     Ok((Setting { correlation, value }, next))
