@@ -1,5 +1,5 @@
-# `make run` builds the proved tool and runs its stored session; `make test` is the gate.
-.PHONY: run test tools
+# `make run` builds the proved tool and runs its stored session; `make test` is the gate; `make bench` measures.
+.PHONY: run test bench tools
 
 tools:
 	@command -v rt >/dev/null 2>&1 || { echo "rt, the command of the Rattle toolchain, isn't on the PATH: install the toolchain and run this again" >&2; exit 127; }
@@ -13,3 +13,6 @@ run: tools
 
 test: tools
 	@.ci/run
+
+bench: tools
+	@cd crates/kr_bench && rt run -- time

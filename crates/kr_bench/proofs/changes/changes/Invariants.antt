@@ -1,0 +1,6 @@
+use Rattle.std.proofs.Common.{◌≡◌}
+use Rattle.kr_bench.specs.Changes.{changed}
+use Rattle.kr_bench.proofs.changes.changes.Given as goal
+
+abbrev pub invariant-loop-index : goal.invariant-loop-index
+invariant-loop-index l = l.items ≡ changed l.index

@@ -1,0 +1,127 @@
+//! Each job many times, and how long the shortest took, beside a plain copy of the same bytes.
+
+ghost use Rattle.std.specs.Prelude.{◌≡◌, ◌*◌, ◌/◌, max};
+ghost use Rattle.std.specs.Duration.{as_nanos};
+
+use crate::load::{Job, Load};
+use anyhow::{Result, ensure};
+use std::alloc::Global;
+use std::rt::Clock;
+use std::time::{Duration, Instant};
+
+/// How often each job is done.
+const ROUNDS: u32 = 20;
+
+// How long the shortest round of a job took, and the shortest copy of its bytes.
+#[derive(Clone, Copy)]
+struct Row {
+    job: Job,
+    bytes: usize,
+    work: Duration,
+    copy: Duration,
+}
+
+/// Measures each job and prints a table. Time is the shortest of all rounds, and a MB a million bytes.
+pub fn print_table<R: Print + Clock + AllocGlobal>(rt: &R) -> Result<()> {
+    let load = Load::new(rt.alloc())?;
+    println!(rt; "the best of {ROUNDS} rounds")?;
+    println!(rt;
+        "{:<10}{:>10}{:>10}{:>16}",
+        "job", "bytes", "MB/s", "MB/s of a copy"
+    )?;
+    for job in [Job::Checksum, Job::Encode, Job::Decode] {
+        let row = measured(rt, rt.alloc(), &load, job)?;
+        print_row(rt, &row)?;
+    }
+    Ok(())
+}
+
+fn print_row(rt: &impl Print, row: &Row) -> Result<()> {
+    let (work, copy) = (rate(row.bytes, row.work), rate(row.bytes, row.copy));
+    println!(rt;
+        "{:<10}{:>10}{:>10}{:>16}",
+        row.job.name(),
+        row.bytes,
+        work,
+        copy
+    )?;
+    Ok(())
+}
+
+// Millions of bytes a second. A time below a nanosecond counts as one.
+fn rate(bytes: usize, time: Duration) -> u128
+    ensures { result ≡ bytes * 1000 / max (as_nanos time) 1 }
+{
+    bytes as u128 * 1000 / time.as_nanos().max(1)
+}
+
+// The shortest rounds of the job, and then of the copy.
+fn measured(rt: &impl Clock, alloc: Global, load: &Load, job: Job) -> Result<Row> {
+    let bytes = load.bytes_of(job);
+    let mut room = Vec::with_capacity(alloc, bytes.len())?;
+    let mut row = Row {
+        job,
+        bytes: bytes.len(),
+        work: Duration::MAX,
+        copy: Duration::MAX,
+    };
+    for _ in 0..ROUNDS {
+        row.work = row.work.min(work_round(rt, alloc, load, job, &mut room)?);
+    }
+    for _ in 0..ROUNDS {
+        row.copy = row.copy.min(copy_round(rt, bytes, &mut room)?);
+    }
+    Ok(row)
+}
+
+fn work_round(
+    rt: &impl Clock,
+    alloc: Global,
+    load: &Load,
+    job: Job,
+    room: &mut Vec<u8>,
+) -> Result<Duration> {
+    match job {
+        Job::Checksum => checksum_round(rt, load),
+        Job::Encode => encode_round(rt, load, room),
+        Job::Decode => decode_round(rt, alloc, load),
+    }
+}
+
+fn checksum_round(rt: &impl Clock, load: &Load) -> Result<Duration> {
+    let start = Instant::now(rt)?;
+    let sum = load.checksum();
+    let time = start.elapsed(rt)?;
+    ensure!(sum == load.sum(), "the checksum is another one");
+    Ok(time)
+}
+
+fn encode_round(rt: &impl Clock, load: &Load, room: &mut Vec<u8>) -> Result<Duration> {
+    room.clear();
+    let start = Instant::now(rt)?;
+    load.encode(room)?;
+    let time = start.elapsed(rt)?;
+    ensure!(
+        room.as_slice() == load.bytes_of(Job::Encode),
+        "other bytes were encoded"
+    );
+    Ok(time)
+}
+
+// The batch that was decoded is dropped behind the time.
+fn decode_round(rt: &impl Clock, alloc: Global, load: &Load) -> Result<Duration> {
+    let start = Instant::now(rt)?;
+    let batch = load.decode(alloc)?;
+    let time = start.elapsed(rt)?;
+    ensure!(load.has(&batch), "another batch was decoded");
+    Ok(time)
+}
+
+fn copy_round(rt: &impl Clock, bytes: &[u8], room: &mut Vec<u8>) -> Result<Duration> {
+    room.clear();
+    let start = Instant::now(rt)?;
+    room.extend_from_slice(bytes)?;
+    let time = start.elapsed(rt)?;
+    ensure!(room.as_slice() == bytes, "other bytes were copied");
+    Ok(time)
+}
