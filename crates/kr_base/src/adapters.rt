@@ -19,8 +19,8 @@ pub struct ReadSource<R: Read> {
 impl<R: Read> ReadSource<R> {
     /// A source over the reader, with no fault counted.
     pub fn new(inner: R) -> ReadSource<R>
-        ensures inner { result.inner ≡ inner }
-        ensures faults { result.faults ≡ 0 }
+        ensures left { ⟦<ReadSource<R> as Source>⟧.left result ≡ R.remaining inner }
+        ensures faults { ⟦<ReadSource<R> as Source>⟧.faults result ≡ 0 }
     {
         ReadSource { inner, faults: 0 }
     }
@@ -57,8 +57,8 @@ pub struct WriteSink<W: Write> {
 impl<W: Write> WriteSink<W> {
     /// A sink over the writer, with no fault counted.
     pub fn new(inner: W) -> WriteSink<W>
-        ensures inner { result.inner ≡ inner }
-        ensures faults { result.faults ≡ 0 }
+        ensures written { ⟦<WriteSink<W> as Sink>⟧.written result ≡ W.contents inner }
+        ensures faults { ⟦<WriteSink<W> as Sink>⟧.faults result ≡ 0 }
     {
         WriteSink { inner, faults: 0 }
     }

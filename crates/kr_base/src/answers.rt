@@ -27,3 +27,7 @@ impl<T: Drop> From<AllocFailed<T>> for NoMemory {
 /// A call of an outside object failed, and the object counted the fault.
 #[derive(Clone, Copy, Debug, Drop, PartialEq, Eq)]
 pub struct Failed;
+
+/// The epoch isn't kept.
+#[derive(Clone, Copy, Debug, Drop, PartialEq, Eq)]
+pub struct NoEpoch;

@@ -10,7 +10,7 @@ mod steps;
 mod tests;
 
 pub use adapters::{ReadSource, WriteSink};
-pub use answers::{Failed, NoMemory};
+pub use answers::{Failed, NoEpoch, NoMemory};
 pub use memory::{MemorySink, MemorySource};
 pub use outside::{Sink, Source};
 pub use steps::Steps;

@@ -1,15 +1,15 @@
 //! A source and a sink in memory, whose calls fail by a list.
 
-ghost use Rattle.std.specs.Prelude.{◌≡◌, ◌+◌, ◌-◌, ◌≤◌, ◌^◌, min, Some, [], ◌++◌, take, drop, slice_range, length, vec_len, vec_capacity, IfOk, OnOk, OnErr, ◌↔◌, IsErr, IsOk, IsTrue, Contains};
+ghost use Rattle.std.specs.Prelude.{◌≡◌, ◌+◌, ◌-◌, ◌≤◌, min, Some, [], ◌++◌, take, slice_range, length, IfOk, OnOk, OnErr, ◌↔◌, IsErr, IsOk, IsTrue, Contains};
 ghost use Rattle.std.specs.Io.{ReadsAtMost};
-ghost use Rattle.std.specs.Io.KnownBytes.{ReadConsumes, Appends};
+ghost use Rattle.std.specs.Io.KnownBytes.{ReadConsumes};
 ghost use Rattle.kr_base.specs.Causes.{HasCause, raised};
-ghost use Rattle.kr_base.specs.Written.{AppendsFront};
 ghost use Rattle.kr_base.specs.Memory.{takes};
 
 use crate::answers::{Failed, NoMemory};
 use crate::outside::{Sink, Source};
 use std::alloc::Global;
+use std::marker::Model;
 
 /// Bytes in memory, and the numbers of the reads that are to fail, counted from 1.
 #[derive(Drop)]
@@ -19,17 +19,24 @@ pub struct MemorySource {
     failing: Vec<u64>,
     calls: u64,
     faults: u64,
-    ghost within: { at ≤ vec_len bytes },
+}
+
+impl Model for MemorySource {
+    ghost use Rattle.std.specs.Prelude.{drop, vec_len, ◌≤◌};
+    ghost use Rattle.kr_base.specs.Memory.{Input};
+
+    ghost Value = { Input };
+
+    ghost view = { λ s. record { left = drop s.at s.bytes.items; failing = s.failing.items; calls = s.calls; faults = s.faults } };
+
+    ghost invariant = { λ s. s.at ≤ vec_len s.bytes };
 }
 
 impl MemorySource {
     /// A source of these bytes, of which no call has been made. `failing` has the numbers of the reads that are to
     /// fail; the first read has number 1.
     pub fn new(bytes: Vec<u8>, failing: Vec<u64>) -> MemorySource
-        ensures bytes { drop result.at result.bytes.items ≡ bytes.items }
-        ensures failing { result.failing.items ≡ failing.items }
-        ensures calls { result.calls ≡ 0 }
-        ensures faults { result.faults ≡ 0 }
+        ensures { result ≡ record { left = bytes.items; failing = failing.items; calls = 0; faults = 0 } }
     {
         MemorySource {
             bytes,
@@ -42,7 +49,7 @@ impl MemorySource {
 
     /// The bytes that are left.
     pub fn left(&self) -> &[u8]
-        ensures { result.now ≡ drop self.now.at self.now.bytes.items }
+        ensures { result.now ≡ self.now.left }
     {
         &self.bytes.as_slice()[self.at..]
     }
@@ -56,19 +63,19 @@ impl MemorySource {
 }
 
 impl Source for MemorySource {
-    ghost left = { λ s. Some (drop s.at s.bytes.items) };
+    ghost left = { λ s. Some s.left };
 
     ghost faults = { λ s. s.faults };
 
     /// Reads as many bytes as there is room for and are left. It fails exactly where the call's number is listed.
     fn read(&mut self, into: &mut [u8]) -> Result<usize, Failed>
         ensures bound { ReadsAtMost result into.new }
-        ensures bytes { ReadConsumes (Some (drop self.old.at self.old.bytes.items)) (Some (drop self.new.at self.new.bytes.items)) result into.new }
+        ensures bytes { ReadConsumes (Some self.old.left) (Some self.new.left) result into.new }
         ensures cause { HasCause self.old.faults self.new.faults result }
-        ensures most { IfOk result (λ count. count ≡ min (length into.new) (vec_len self.old.bytes - self.old.at)) }
-        ensures fails { IsErr result ↔ Contains self.old.failing.items (raised self.old.calls) }
+        ensures most { IfOk result (λ count. count ≡ min (length into.new) (length self.old.left)) }
+        ensures fails { IsErr result ↔ Contains self.old.failing (raised self.old.calls) }
         ensures calls { self.new.calls ≡ raised self.old.calls }
-        ensures list { self.new.failing.items ≡ self.old.failing.items }
+        ensures failing { self.new.failing ≡ self.old.failing }
     {
         self.calls = self.calls.saturating_add(1);
         if self.failing.contains(&self.calls) {
@@ -108,8 +115,17 @@ pub struct MemorySink {
     failing: Vec<u64>,
     calls: u64,
     faults: u64,
-    ghost within: { vec_len bytes ≤ room },
-    ghost held: { room ≤ vec_capacity bytes },
+}
+
+impl Model for MemorySink {
+    ghost use Rattle.std.specs.Prelude.{vec_len, vec_capacity, ◌≤◌};
+    ghost use Rattle.kr_base.specs.Memory.{Output};
+
+    ghost Value = { Output };
+
+    ghost view = { λ s. record { written = s.bytes.items; room = s.room; most = s.most; failing = s.failing.items; calls = s.calls; faults = s.faults } };
+
+    ghost invariant = { λ s. (vec_len s.bytes ≤ s.room) × (s.room ≤ vec_capacity s.bytes) };
 }
 
 impl MemorySink {
@@ -121,12 +137,7 @@ impl MemorySink {
         calls: usize,
         failing: Vec<u64>,
     ) -> Result<MemorySink, NoMemory>
-        ensures empty { IfOk result (λ sink. sink.bytes.items ≡ []) }
-        ensures room { IfOk result (λ sink. sink.room ≡ bytes) }
-        ensures most { IfOk result (λ sink. sink.most ≡ calls) }
-        ensures failing { IfOk result (λ sink. sink.failing.items ≡ failing.items) }
-        ensures calls { IfOk result (λ sink. sink.calls ≡ 0) }
-        ensures faults { IfOk result (λ sink. sink.faults ≡ 0) }
+        ensures { IfOk result (λ sink. sink ≡ record { written = []; room = bytes; most = calls; failing = failing.items; calls = 0; faults = 0 }) }
     {
         Ok(MemorySink {
             bytes: Vec::with_capacity(alloc, bytes)?,
@@ -140,7 +151,7 @@ impl MemorySink {
 
     /// The bytes that were written.
     pub fn written(&self) -> &[u8]
-        ensures { result.now ≡ self.now.bytes.items }
+        ensures { result.now ≡ self.now.written }
     {
         self.bytes.as_slice()
     }
@@ -152,47 +163,41 @@ impl MemorySink {
         self.calls
     }
 
-    // Counts a fault.
-    fn fault(&mut self) -> Failed
-        ensures counted { self.new ≡ record self.old { faults = raised self.old.faults } }
-        ensures later { self.old.faults ≤ self.new.faults }
-    {
-        self.faults = self.faults.saturating_add(1);
-        Failed
-    }
-
-    // The next put, of so many bytes, is neither listed nor past the room.
+    // The next put, of so many bytes, is neither listed nor past the most puts, and has room.
     fn takes(&self, size: usize) -> bool
-        ensures { result ≡ takes self.now.failing.items self.now.most self.now.calls self.now.room (vec_len self.now.bytes) size }
+        ensures { result ≡ takes self.now size }
     {
-        !self.failing.contains(&self.calls)
-            && self.calls <= self.most
+        let number = self.calls.saturating_add(1);
+        !self.failing.contains(&number)
+            && number <= self.most
             && size <= self.room - self.bytes.len()
     }
 }
 
 impl Sink for MemorySink {
-    ghost written = { λ s. Some s.bytes.items };
+    ghost written = { λ s. Some s.written };
 
     ghost faults = { λ s. s.faults };
 
     /// Appends the piece. It fails exactly where the call's number is listed or past the number of calls, or where the
     /// piece has no room, and then takes none of it.
     fn put(&mut self, piece: &[u8]) -> Result<(), Failed>
-        ensures ok { OnOk result (self.new.bytes.items ≡ self.old.bytes.items ++ piece.now) }
-        ensures err { OnErr result (self.new.bytes.items ≡ self.old.bytes.items) }
+        ensures ok { OnOk result (self.new.written ≡ self.old.written ++ piece.now) }
+        ensures err { OnErr result (self.new.written ≡ self.old.written) }
         ensures cause { HasCause self.old.faults self.new.faults result }
-        ensures fails { IsOk result ↔ IsTrue (takes self.old.failing.items self.old.most (raised self.old.calls) self.old.room (vec_len self.old.bytes) (length piece.now)) }
+        ensures fails { IsOk result ↔ IsTrue (takes self.old (length piece.now)) }
         ensures calls { self.new.calls ≡ raised self.old.calls }
-        ensures list { self.new.failing.items ≡ self.old.failing.items }
+        ensures failing { self.new.failing ≡ self.old.failing }
         ensures most { self.new.most ≡ self.old.most }
         ensures room { self.new.room ≡ self.old.room }
     {
+        let takes = self.takes(piece.len());
         self.calls = self.calls.saturating_add(1);
-        if self.takes(piece.len()) && self.bytes.extend_from_slice(piece).is_ok() {
+        if takes && self.bytes.extend_from_slice(piece).is_ok() {
             return Ok(());
         }
-        Err(self.fault())
+        self.faults = self.faults.saturating_add(1);
+        Err(Failed)
     }
 
     fn faults(&self) -> u64 {
