@@ -24,6 +24,10 @@ impl<T: Drop> From<AllocFailed<T>> for NoMemory {
     }
 }
 
+/// The epoch isn't kept.
+#[derive(Clone, Copy, Debug, Drop, PartialEq, Eq)]
+pub struct NoEpoch;
+
 /// A call of an outside object failed, and the object counted the fault.
 #[derive(Clone, Copy, Debug, Drop, PartialEq, Eq)]
 pub struct Failed;

@@ -4,7 +4,8 @@
 mod ordered;
 mod timeline;
 
-pub use timeline::{NoEpoch, Timeline};
+pub use kr_base::NoEpoch;
+pub use timeline::Timeline;
 
 #[cfg(test)]
 mod tests;

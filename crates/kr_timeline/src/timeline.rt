@@ -10,16 +10,12 @@ ghost use Rattle.kr_defs.specs.KeptMaps.{AreRising, IsAbove, no_maps, map_at, ma
 ghost use Rattle.kr_timeline.specs.Stored.{later, last_of, entries_of, kept_of, EndsAt, carried, is_first_below};
 
 use crate::ordered::Ordered;
-use kr_base::{NoMemory, Steps};
+use kr_base::{NoEpoch, NoMemory, Steps};
 use kr_defs::Copied;
 use std::alloc::Global;
 use std::collections::VecDeque;
 use std::marker::Model;
 use std::sync::ledger::Ledger;
-
-/// The epoch isn't kept.
-#[derive(Clone, Copy, Debug, PartialEq, Eq)]
-pub struct NoEpoch;
 
 // One kept epoch. Without a map it has that of the epoch before.
 #[derive(Drop)]

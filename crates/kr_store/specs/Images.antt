@@ -1,0 +1,97 @@
+-- An image with kept epochs, and where it is looked at. This project's own.
+use Rattle.std.specs.Prelude.{ℕ, ℤ, List, length, filter, find, not, int_lt, slice_get, All, IsTrue, ◌-◌, ◌++◌, [], ◌∷◌, map, Option, Some}
+use Rattle.std.specs.Option.{option_map}
+use Rattle.std.specs.Ordering.{int_cmp, int_eq}
+use Rattle.std.specs.List.Sorted.{IsStrictlySortedBy}
+use Rattle.kr_defs.specs.declared.broker.Broker.{Broker}
+use Rattle.kr_defs.specs.declared.partition.Partition.{Partition}
+use Rattle.kr_defs.specs.declared.record.ConfigKey.{ConfigKey}
+use Rattle.kr_defs.specs.declared.record.Topic.{Topic}
+use Rattle.kr_defs.specs.Image.{Image, IsValid, empty, config_text}
+use Rattle.kr_store.specs.declared.places.At.{At}
+use Rattle.kr_store.specs.declared.places.At.TheVariants as places
+use Rattle.kr_store.specs.declared.places.Counts.{Counts}
+
+pub record Images : Type 0 where
+  -- each kept epoch with the image as it stood then
+  pub kept : List (ℤ × Image)
+  -- the present image
+  pub tip : Image
+  -- the calls of insert and remove since the last kept epoch
+  pub made : ℕ
+
+-- epochs rise, and every image is valid
+pub record AreValid (images : Images) : Type 0 where
+  pub rising : IsStrictlySortedBy int_cmp (map (λ (k : ℤ × Image). k.0) images.kept)
+  pub kept : All (λ (k : ℤ × Image). IsValid k.1) images.kept
+  pub tip : IsValid images.tip
+
+-- the image that is kept under the epoch
+abbrev pub kept_at : Images → ℤ → Option Image
+kept_at images epoch = option_map (λ (k : ℤ × Image). k.1) (find (λ (k : ℤ × Image). int_eq k.0 epoch) images.kept)
+
+-- the image at a place
+abbrev pub image_at : Images → At → Option Image
+image_at images places.Tip = Some images.tip
+image_at images (places.Epoch epoch) = kept_at images epoch
+
+abbrev pub brokers_at : Images → At → Option (List (ℤ × Broker))
+brokers_at images place = option_map (λ (i : Image). i.brokers) (image_at images place)
+
+abbrev pub topics_at : Images → At → Option (List (List ℕ × ℕ))
+topics_at images place = option_map (λ (i : Image). i.topics) (image_at images place)
+
+abbrev pub partitions_at : Images → At → Option (List ((ℕ × ℤ) × Partition))
+partitions_at images place = option_map (λ (i : Image). i.partitions) (image_at images place)
+
+abbrev pub configs_at : Images → At → Option (List (ConfigKey × List ℕ))
+configs_at images place = option_map (λ (i : Image). i.configs) (image_at images place)
+
+abbrev pub features_at : Images → At → Option (List (List ℕ × ℤ))
+features_at images place = option_map (λ (i : Image). i.features) (image_at images place)
+
+-- a topic, of which an image has the name and the id
+abbrev pub topic_of : List ℕ → ℕ → Topic
+topic_of name id = record { name = name; id = id }
+
+-- the same under its name
+abbrev pub topic_entry : List ℕ × ℕ → List ℕ × Topic
+topic_entry e = (e.0, topic_of e.0 e.1)
+
+-- the last kept epoch with its image, if an epoch is kept
+abbrev pub last_kept : Images → Option (ℤ × Image)
+last_kept images = slice_get images.kept (length images.kept - 1)
+
+abbrev pub last_image : Images → Option Image
+last_image images = option_map (λ (k : ℤ × Image). k.1) (last_kept images)
+
+-- how much an image has
+abbrev pub counts_of : Image → Counts
+counts_of image = record {
+  brokers = length image.brokers;
+  topics = length image.topics;
+  partitions = length image.partitions;
+  config_bytes = config_text image.configs;
+  features = length image.features;
+}
+
+-- no epoch is kept, and the present image is empty
+abbrev pub no_images : Images
+no_images = record { kept = []; tip = empty; made = 0 }
+
+-- the present image is kept under the epoch
+abbrev pub marked : Images → ℤ → Images
+marked images epoch = record { kept = images.kept ++ (epoch, images.tip) ∷ []; tip = images.tip; made = 0 }
+
+-- the kept epochs above this one are dropped, and its image is the present one
+abbrev pub reverted : Images → ℤ → Option Images
+reverted images epoch =
+    option_map (λ (tip : Image). record { kept = filter (λ (k : ℤ × Image). not (int_lt epoch k.0)) images.kept; tip = tip; made = 0 }) (kept_at images epoch)
+
+-- the kept epochs below this one are dropped
+abbrev pub forgotten : Images → ℤ → Images
+forgotten images epoch = record images { kept = filter (λ (k : ℤ × Image). not (int_lt k.0 epoch)) images.kept }
+
+-- the epoch is above each kept one
+abbrev pub IsAbove : List (ℤ × Image) → ℤ → Type 0
+IsAbove kept epoch = All (λ (k : ℤ × Image). IsTrue (int_lt k.0 epoch)) kept

@@ -1,0 +1,9 @@
+//! An image with kept epochs, as those who read and change it see it.
+#![tactic(auto)]
+
+mod places;
+mod store;
+
+pub use kr_base::NoEpoch;
+pub use places::{ApplyFault, At, Counts};
+pub use store::Store;
