@@ -1,14 +1,1 @@
-pub mod Messages
-pub mod Reading
-pub mod Frames
-pub mod World
-pub mod Batches
-pub mod Outputs
-pub mod Session
-pub mod Told
-pub mod Taken
-pub mod Bodies
-pub mod Fitting
-pub mod Kept
-pub mod Reader
-pub mod Serving
+pub mod Notes

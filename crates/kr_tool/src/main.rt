@@ -1,23 +1,14 @@
 //! The tool: one session of the controller, from standard input to standard output.
 #![tactic(auto)]
 
-mod bodies;
-mod controller;
-mod filling;
-mod frames;
-mod messages;
-mod replies;
 mod running;
-mod serving;
-mod status;
 #[cfg(test)]
 mod tests;
-mod writing;
 
 use kr_base::{ReadSource, WriteSink};
 use kr_defs::Text;
+pub use kr_run::Status;
 pub use running::run;
-pub use status::Status;
 use std::process::ExitCode;
 use std::rt::Env;
 use std::{env, io};

@@ -4,12 +4,12 @@ ghost use Rattle.std.specs.Prelude.{◌≡◌, ◌⊎◌, ◌↔◌, ℕ, [], �
 ghost use Rattle.std.specs.Fmt.{decimal};
 ghost use Rattle.std.specs.Io.KnownBytes.{Appends, Consumes};
 ghost use Rattle.kr_base.specs.Causes.{Rose};
-ghost use Rattle.kr_tool.specs.Told.{AreServed, TookWhole, StopsAt, StopsReading, TookLongest, StopsWriting, EndsWith, ServesWhole, RefusesBroken, note_of, line, IsMalformed};
+ghost use Rattle.kr_run.specs.Endings.{TookWhole, StopsAt, StopsReading, TookLongest, StopsWriting, ServesWhole, RefusesBroken};
+ghost use Rattle.kr_tool.specs.Notes.{AreServed, note_of, line, IsMalformed};
 
-use crate::serving::serve;
-use crate::status::Status;
 use kr_base::{Sink, Source};
 use kr_defs::Text;
+use kr_run::{Status, session};
 use std::alloc::{AllocError, Global};
 
 /// Runs the tool: serves the session that comes from `input`, writes its output frames to `output`, and the line of a
@@ -60,14 +60,19 @@ fn serve_words<S: Source, K: Sink>(
     ensures usage { result ≡ Status.Usage → AreServed words.now → ⊥ }
     ensures served { (AreServed words.now → ⊥) → result ≡ Status.Usage }
     ensures idle { result ≡ Status.Usage → Consumes (S.left input.old) (S.left input.new) [] × Appends (K.written output.old) (K.written output.new) [] }
-    ensures ends { (result ≡ Status.Usage → ⊥) → EndsWith (S.left input.old) (S.left input.new) (K.written output.old) (K.written output.new) result }
-    ensures read { result ≡ Status.ReadFault → Rose (S.faults input.old) (S.faults input.new) }
-    ensures write { result ≡ Status.WriteFault → Rose (K.faults output.old) (K.faults output.new) }
+    ensures done { result ≡ Status.Done → TookWhole (S.left input.old) (S.left input.new) (K.written output.old) (K.written output.new) }
+    ensures malformed { (at : ℕ) → result ≡ Status.Malformed at → StopsAt (S.left input.old) (S.left input.new) (K.written output.old) (K.written output.new) at }
+    ensures too_long { result ≡ Status.TooLong → TookLongest (S.left input.old) (S.left input.new) (K.written output.old) (K.written output.new) }
+    ensures read { result ≡ Status.ReadFault → StopsReading (S.left input.old) (S.left input.new) (K.written output.old) (K.written output.new) × Rose (S.faults input.old) (S.faults input.new) }
+    ensures write { result ≡ Status.WriteFault → StopsWriting (S.left input.old) (S.left input.new) (K.written output.old) (K.written output.new) × Rose (K.faults output.old) (K.faults output.new) }
+    ensures no_memory { result ≡ Status.NoMemory → StopsWriting (S.left input.old) (S.left input.new) (K.written output.old) (K.written output.new) }
+    ensures complete { AreServed words.now → (Rose (S.faults input.old) (S.faults input.new) → ⊥) → (Rose (K.faults output.old) (K.faults output.new) → ⊥) → ServesWhole (S.left input.old) result }
+    ensures broken { AreServed words.now → (Rose (S.faults input.old) (S.faults input.new) → ⊥) → (Rose (K.faults output.old) (K.faults output.new) → ⊥) → RefusesBroken (S.left input.old) result }
 {
     if !are_served(words) {
         return Status::Usage;
     }
-    serve(alloc, input, output)
+    session(alloc, input, output)
 }
 
 // The words are one of the forms that are built.

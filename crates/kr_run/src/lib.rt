@@ -1,0 +1,15 @@
+//! Sessions of the controller: frames in, outputs out, from any source to any sink.
+#![tactic(auto)]
+
+mod bodies;
+mod controller;
+mod filling;
+mod frames;
+mod messages;
+mod replies;
+mod serving;
+mod status;
+mod writing;
+
+pub use serving::session;
+pub use status::Status;

@@ -1,0 +1,40 @@
+//! How a run of the tool ended.
+
+ghost use Rattle.std.specs.Prelude.{◌≡◌};
+ghost use Rattle.kr_run.specs.Endings.{number_of};
+
+/// How a run ended. Each has its exit number.
+#[derive(Clone, Copy, Debug, Drop, PartialEq, Eq)]
+pub enum Status {
+    /// The job was done.
+    Done,
+    /// The words aren't one of the tool's forms.
+    Usage,
+    /// No frame stands at this byte of the input.
+    Malformed { at: u64 },
+    /// A read of the input failed.
+    ReadFault,
+    /// A write of the output failed.
+    WriteFault,
+    /// Memory ran out.
+    NoMemory,
+    /// The longest input was taken without its end.
+    TooLong,
+}
+
+impl Status {
+    /// The number with which the process ends.
+    pub fn number(&self) -> u8
+        ensures { result ≡ number_of self.now }
+    {
+        match self {
+            Status::Done => 0,
+            Status::Usage => 2,
+            Status::Malformed { .. } => 3,
+            Status::ReadFault => 4,
+            Status::WriteFault => 5,
+            Status::NoMemory => 6,
+            Status::TooLong => 7,
+        }
+    }
+}
