@@ -1,0 +1,179 @@
+//! Requests that change partitions: reports of their leaders, elections and reassignments. Fields are those of Kafka's
+//! schemas, without timeouts, throttle times and messages.
+
+use kr_defs::{Ids, Rows, Text};
+
+/// A replica that is in sync, with its broker's epoch (BrokerState).
+#[derive(Drop)]
+pub struct BrokerState {
+    pub broker: i32,
+    pub epoch: i64,
+}
+
+/// A list of replicas in sync, in the order of the request.
+pub type BrokerStates = Rows<BrokerState>;
+
+/// What a leader reports of one partition (PartitionData of AlterPartitionRequest).
+#[derive(Drop)]
+pub struct PartitionReport {
+    pub index: i32,
+    pub leader_epoch: i32,
+    /// The replicas that are to be in sync.
+    pub in_sync: BrokerStates,
+    /// 1 while the leader recovers from an unclean election, else 0.
+    pub recovery: i8,
+    pub partition_epoch: i32,
+}
+
+/// A list of reports, in the order of the request.
+pub type PartitionReports = Rows<PartitionReport>;
+
+/// The reports on one topic's partitions (TopicData of AlterPartitionRequest).
+#[derive(Drop)]
+pub struct AlterPartitionTopic {
+    pub topic: u128,
+    pub partitions: PartitionReports,
+}
+
+/// A list of reports by topic, in the order of the request.
+pub type AlterPartitionTopics = Rows<AlterPartitionTopic>;
+
+/// A broker reports which replicas are in sync with it (AlterPartitionRequest, version 3).
+#[derive(Drop)]
+pub struct AlterPartition {
+    pub broker: i32,
+    pub epoch: i64,
+    pub topics: AlterPartitionTopics,
+}
+
+/// The answer to one report (PartitionData of AlterPartitionResponse).
+#[derive(Drop)]
+pub struct AlterPartitionResult {
+    pub index: i32,
+    pub error: i16,
+    pub leader: i32,
+    pub leader_epoch: i32,
+    pub in_sync: Ids,
+    pub recovery: i8,
+    pub partition_epoch: i32,
+}
+
+/// A list of answers, in the order of the request.
+pub type AlterPartitionResults = Rows<AlterPartitionResult>;
+
+/// The answers on one topic's partitions (TopicData of AlterPartitionResponse).
+#[derive(Drop)]
+pub struct AlterPartitionTopicResult {
+    pub topic: u128,
+    pub partitions: AlterPartitionResults,
+}
+
+/// A list of answers by topic, in the order of the request.
+pub type AlterPartitionTopicResults = Rows<AlterPartitionTopicResult>;
+
+/// The reply to an AlterPartition (AlterPartitionResponse, version 3).
+#[derive(Drop)]
+pub struct AlterPartitionReply {
+    pub error: i16,
+    pub topics: AlterPartitionTopicResults,
+}
+
+/// Partitions of a topic that are to get leaders (TopicPartitions of ElectLeadersRequest).
+#[derive(Drop)]
+pub struct ElectLeadersTopic {
+    pub topic: Text,
+    pub partitions: Ids,
+}
+
+/// A list of topics to elect in, in the order of the request.
+pub type ElectLeadersTopics = Rows<ElectLeadersTopic>;
+
+/// Leaders are to be elected (ElectLeadersRequest, version 2).
+#[derive(Drop)]
+pub struct ElectLeaders {
+    /// 0 the preferred leaders, 1 any replica where there is no leader.
+    pub kind: i8,
+    /// The partitions, or null for all.
+    pub topics: Option<ElectLeadersTopics>,
+}
+
+/// The answer for one partition (PartitionResult).
+#[derive(Drop)]
+pub struct PartitionElectionResult {
+    pub index: i32,
+    pub error: i16,
+}
+
+/// A list of answers, in order.
+pub type PartitionElectionResults = Rows<PartitionElectionResult>;
+
+/// The answers for one topic (ReplicaElectionResult).
+#[derive(Drop)]
+pub struct ReplicaElectionResult {
+    pub topic: Text,
+    pub partitions: PartitionElectionResults,
+}
+
+/// A list of answers by topic, in order.
+pub type ReplicaElectionResults = Rows<ReplicaElectionResult>;
+
+/// The reply to an ElectLeaders (ElectLeadersResponse, version 2).
+#[derive(Drop)]
+pub struct ElectLeadersReply {
+    pub error: i16,
+    pub results: ReplicaElectionResults,
+}
+
+/// A partition whose replicas are to change (ReassignablePartition).
+#[derive(Drop)]
+pub struct ReassignablePartition {
+    pub index: i32,
+    /// The replicas that it is to have, or null to give up the present reassignment.
+    pub replicas: Option<Ids>,
+}
+
+/// A list of partitions to reassign, in the order of the request.
+pub type ReassignablePartitions = Rows<ReassignablePartition>;
+
+/// The partitions of one topic that are to be reassigned (ReassignableTopic).
+#[derive(Drop)]
+pub struct ReassignableTopic {
+    pub name: Text,
+    pub partitions: ReassignablePartitions,
+}
+
+/// A list of topics with partitions to reassign, in the order of the request.
+pub type ReassignableTopics = Rows<ReassignableTopic>;
+
+/// Partitions are to get other replicas (AlterPartitionReassignmentsRequest, version 0).
+#[derive(Drop)]
+pub struct AlterPartitionReassignments {
+    pub topics: ReassignableTopics,
+}
+
+/// The answer for one partition (ReassignablePartitionResponse).
+#[derive(Drop)]
+pub struct ReassignablePartitionResponse {
+    pub index: i32,
+    pub error: i16,
+}
+
+/// A list of answers, in the order of the request.
+pub type ReassignablePartitionResponses = Rows<ReassignablePartitionResponse>;
+
+/// The answers for one topic (ReassignableTopicResponse).
+#[derive(Drop)]
+pub struct ReassignableTopicResponse {
+    pub name: Text,
+    pub partitions: ReassignablePartitionResponses,
+}
+
+/// A list of answers by topic, in the order of the request.
+pub type ReassignableTopicResponses = Rows<ReassignableTopicResponse>;
+
+/// The reply to an AlterPartitionReassignments (AlterPartitionReassignmentsResponse, version 0).
+#[derive(Drop)]
+pub struct AlterPartitionReassignmentsReply {
+    pub error: i16,
+    pub responses: ReassignableTopicResponses,
+}
