@@ -31,7 +31,3 @@ pub struct NoEpoch;
 /// A call of an outside object failed, and the object counted the fault.
 #[derive(Clone, Copy, Debug, Drop, PartialEq, Eq)]
 pub struct Failed;
-
-/// The epoch isn't kept.
-#[derive(Clone, Copy, Debug, Drop, PartialEq, Eq)]
-pub struct NoEpoch;
