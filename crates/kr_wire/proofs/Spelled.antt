@@ -1,16 +1,18 @@
 -- What is written stands for its value.
-use Rattle.std.proofs.Common.{◌≡◌, ℕ, zero, suc, ◌+◌, ◌*◌, ◌/◌, ◌%◌, ◌^◌, ◌<◌, ◌≤◌, inl, inr, true, false, List, [], ◌∷◌, length, append_assoc, Option, Some, None, refl, sym, arith}
+use Rattle.std.proofs.Common.{◌≡◌, ℕ, zero, suc, ◌+◌, ◌*◌, ◌/◌, ◌%◌, ◌^◌, ◌<◌, ◌≤◌, inl, inr, true, false, List, [], ◌∷◌, length, append_assoc, Option, Some, None, refl, sym, arith, lit<}
 use Rattle.std.specs.Prelude.{ℤ, pos, negsuc, Bool, IsUtf8, FitsSigned, MatchOption}
 use Rattle.std.specs.List.{AllByRecursion, flat_map}
 use Rattle.std.specs.Int.{Width, w8, w16, w32, w64, w128, to_be_bytes}
 use Rattle.std.proofs.lemmas.Bool.{lt-ltb, le-ltb, cases_lt}
+use Rattle.std.proofs.lemmas.List.Elements.{recursion_from_All}
 use Rattle.std.proofs.lemmas.Int.{to_z-of_z}
 use Rattle.std.proofs.lemmas.Nat.{from_be_bytes-to_be_bytes_2, from_be_bytes-to_be_bytes_4, from_be_bytes-to_be_bytes_8}
 use Rattle.std.proofs.Math.Facts.{Fits-of_z}
 use Rattle.std.proofs.Math.Nat.{pow-succ'}
 use mir.Val.{bits}
-use Rattle.kr_wire.specs.Spelling.{groups, uvarint, varint32, varint64, number, signed, bool, text, text_or_null, id, list, field, tags}
-use Rattle.kr_wire.specs.Grammar.{IsVarint, IsUvarint, IsVarint32, IsVarint64, IsNumber, IsSigned, IsBool, IsId, IsText, IsTextOrNull, Each, IsList, AreRising, IsField, IsTags, NoTags}
+use Rattle.kr_wire.specs.Spelling.{groups, uvarint, varint32, varint64, number, signed, bool, text, text_or_null, id, list, list_or_null, field, tags}
+use Rattle.kr_wire.specs.Grammar.{IsVarint, IsUvarint, IsVarint32, IsVarint64, IsNumber, IsSigned, IsBool, IsId, IsText, IsTextOrNull, Each, IsList, IsListOrNull, AreRising, IsField, IsTags, NoTags}
+use Rattle.kr_wire.specs.Laws.{IsShortList, IsShortListOrNull}
 use Rattle.kr_wire.proofs.Laws.{joined}
 use Rattle.kr_wire.proofs.Numbers.{more}
 
@@ -91,6 +93,19 @@ each_spelled One one (x ∷ xs) stand = joined _ _ stand.0 (each_spelled One one
 
 pub list_spelled : {X : Type 0} (One : X → List ℕ → Type 0) (one : X → List ℕ) (xs : List X) → length xs < 2 ^ 31 → AllByRecursion (λ x. One x (one x)) xs → IsList One xs (list one xs)
 list_spelled One one xs short stand = joined _ _ (uvarint_spelled (length xs + 1) (omega arith)) (each_spelled One one xs stand)
+
+-- of elements that stand where they fit
+module _ {X : Type 0} (One : X → List ℕ → Type 0) (one : X → List ℕ) (Fits : X → Type 0) (stands : (x : X) → Fits x → One x (one x)) where
+  stand : (xs : List X) → AllByRecursion Fits xs → AllByRecursion (λ x. One x (one x)) xs
+  stand [] fits = tt
+  stand (x ∷ xs) fits = (stands x fits.0, stand xs fits.1)
+
+  pub list_stands : (xs : List X) → IsShortList Fits xs → IsList One xs (list one xs)
+  list_stands xs fits = list_spelled One one xs fits.short (stand xs (recursion_from_All Fits xs fits.each))
+
+  pub list_or_null_stands : (o : Option (List X)) → IsShortListOrNull Fits o → IsListOrNull One o (list_or_null one o)
+  list_or_null_stands None fits = uvarint_spelled 0 (lit< tt)
+  list_or_null_stands (Some xs) fits = list_stands xs fits
 
 -- a tag and a size that fit
 abbrev pub IsShortField : ℕ × List ℕ → Type 0

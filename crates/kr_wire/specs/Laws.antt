@@ -1,6 +1,5 @@
 -- What joins a relation on whole byte strings, a reading function and a written form: this project's own.
-use Rattle.std.specs.Prelude.{◌≡◌, ℕ, ◌^◌, ◌<◌, List, ◌++◌, length, slice_index, Option, MatchOption, Result, Ok, Err, IsUtf8}
-use Rattle.std.specs.List.{AllByRecursion}
+use Rattle.std.specs.Prelude.{◌≡◌, ℕ, ◌^◌, ◌<◌, List, ◌++◌, length, All, slice_index, Option, MatchOption, Result, Ok, Err, IsUtf8}
 use Rattle.kr_wire.specs.declared.WireFault.{WireFault}
 use Rattle.kr_wire.specs.Reading.{Read}
 
@@ -40,8 +39,10 @@ IsShortText text = IsUtf8 text × (length text < 2 ^ 31)
 abbrev pub IsShortTextOrNull : Option (List ℕ) → Type 0
 IsShortTextOrNull o = MatchOption o (Unit {0}) IsShortText
 
-abbrev pub IsShortList : {X : Type 0} → (X → Type 0) → List X → Type 0
-IsShortList Fits xs = (length xs < 2 ^ 31) × AllByRecursion Fits xs
+-- fewer than 2^31, of which each fits
+pub record IsShortList {X : Type 0} (Fits : X → Type 0) (xs : List X) : Type 0 where
+  pub short : length xs < 2 ^ 31
+  pub each : All Fits xs
 
 abbrev pub IsShortListOrNull : {X : Type 0} → (X → Type 0) → Option (List X) → Type 0
 IsShortListOrNull Fits o = MatchOption o (Unit {0}) (IsShortList Fits)

@@ -2,12 +2,12 @@
 //! bytes that are read as it and the bytes that are written for it are the same, and no bytes stand
 //! for two values. These functions do nothing.
 
-ghost use Rattle.std.specs.Prelude.{◌≡◌, ◌^◌, ◌<◌, FitsSigned};
+ghost use Rattle.std.specs.Prelude.{◌≡◌, ◌+◌, ◌*◌, ◌^◌, ◌<◌, ◌≤◌, ℕ, ℤ, Bool, List, length, cond, nat_lt, FitsSigned};
 ghost use Rattle.std.specs.Int.{w16, w32, w64, w8};
 ghost use Rattle.kr_wire.specs.Grammar.{IsBool, IsId, IsList, IsListOrNull, IsNumber, IsSigned, IsText, IsTextOrNull, IsUvarint, IsVarint32, IsVarint64, NoTags};
 ghost use Rattle.kr_wire.specs.Laws.{IsPrimitive, IsShortList, IsShortListOrNull, IsShortText, IsShortTextOrNull, Law};
 ghost use Rattle.kr_wire.specs.Reading.{bool_at, id_at, list_at, list_or_null_at, none_known, number_at, signed_at, tags_at, text_at, text_or_null_at, uvarint_at, varint32_at, varint64_at};
-ghost use Rattle.kr_wire.specs.Spelling.{bool, id, list, list_or_null, number, signed, text, text_or_null, uvarint, varint32, varint64};
+ghost use Rattle.kr_wire.specs.Spelling.{bool, count, groups, id, list, list_or_null, number, signed, text, text_or_null, uvarint, varint32, varint64};
 
 /// Numbers of a fixed length.
 pub fn numbers()
@@ -45,4 +45,17 @@ pub fn lists()
 /// Tagged fields of which none is known.
 pub fn tags()
     ensures { Law (λ nothing. NoTags) (tags_at none_known tt) }
+{}
+
+/// How many bytes are written.
+pub fn lengths()
+    ensures numbers { (n : ℕ) → (length (number w16 n) ≡ 2) × (length (number w32 n) ≡ 4) × (length (number w64 n) ≡ 8) }
+    ensures signed { (n : ℤ) → (length (signed w8 n) ≡ 1) × (length (signed w16 n) ≡ 2) × (length (signed w32 n) ≡ 4) × (length (signed w64 n) ≡ 8) }
+    ensures id { (n : ℕ) → length (id n) ≡ 16 }
+    ensures bool { (b : Bool) → length (bool b) ≡ 1 }
+    ensures groups { (room n : ℕ) → length (groups room n) ≤ room + 1 }
+    ensures uvarint { (n : ℕ) → n < 2 ^ 32
+        → length (uvarint n) ≡ cond (nat_lt n 128) 1 (cond (nat_lt n 16384) 2 (cond (nat_lt n 2097152) 3 (cond (nat_lt n 268435456) 4 5))) }
+    ensures text { (bytes : List ℕ) → length (text bytes) ≡ length (uvarint (length bytes + 1)) + length bytes }
+    ensures list { (ids : List ℤ) → length (list (signed w32) ids) ≡ length (count (length ids)) + 4 * length ids }
 {}

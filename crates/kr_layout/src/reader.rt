@@ -1,0 +1,181 @@
+//! Bytes that are read one value after the other.
+
+ghost use Rattle.std.specs.Prelude.{◌≡◌, ◌==◌, ◌≤◌, length, drop, slice_range, IfOk, IfSome, IsUtf8};
+ghost use Rattle.std.specs.Option.{option_map};
+ghost use Rattle.std.specs.Int.{w8, w16, w32, w64};
+ghost use Rattle.kr_wire.specs.Reading.{none_known, bool_at, count_at, count_or_null_at, id_at, number_at, signed_at, tags_at, text_at, text_or_null_at};
+ghost use Rattle.kr_layout.specs.Answers.{Takes};
+
+use crate::ReadFault;
+use kr_defs::Text;
+use kr_wire::{
+    Span, read_bool, read_count, read_count_or_null, read_i8, read_i16, read_i32, read_i64,
+    read_id, read_str, read_str_or_null, read_u16, skip_tags,
+};
+use std::alloc::{AllocError, Global};
+use std::marker::{Model, PhantomData};
+
+/// Bytes, of which those from a place on are still to be read. A clause sees these.
+#[derive(Drop)]
+pub struct Reader<'a, M> {
+    alloc: Global,
+    mine: PhantomData<M>,
+    bytes: &'a [u8],
+    at: usize,
+}
+
+impl<'a, M> Model for Reader<'a, M> {
+    ghost use Rattle.std.specs.Prelude.{ℕ, List, ◌≤◌, length, drop};
+
+    ghost Value = { List ℕ };
+
+    ghost view = { λ r. drop r.at r.bytes.now };
+
+    ghost invariant = { λ r. r.at ≤ length r.bytes.now };
+}
+
+impl<'a, M> Reader<'a, M> {
+    /// The bytes from a place on.
+    pub fn new(alloc: Global, bytes: &'a [u8], at: usize) -> Reader<'a, M>
+        requires { at ≤ length bytes.now }
+        ensures { result ≡ drop at bytes.now }
+    {
+        Reader {
+            alloc,
+            mine: PhantomData,
+            bytes,
+            at,
+        }
+    }
+
+    /// How many bytes are still to be read.
+    pub fn len(&self) -> usize
+        ensures { result ≡ length self.now }
+    {
+        self.bytes.len() - self.at
+    }
+
+    pub fn is_empty(&self) -> bool
+        ensures { result ≡ (length self.now == 0) }
+    {
+        self.at == self.bytes.len()
+    }
+
+    pub fn i8(&mut self) -> Result<i8, ReadFault>
+        ensures { Takes result self.new (signed_at w8 self.old) }
+    {
+        let (number, next) = read_i8(self.bytes, self.at)?;
+        self.at = next;
+        Ok(number)
+    }
+
+    pub fn i16(&mut self) -> Result<i16, ReadFault>
+        ensures { Takes result self.new (signed_at w16 self.old) }
+    {
+        let (number, next) = read_i16(self.bytes, self.at)?;
+        self.at = next;
+        Ok(number)
+    }
+
+    pub fn i32(&mut self) -> Result<i32, ReadFault>
+        ensures { Takes result self.new (signed_at w32 self.old) }
+    {
+        let (number, next) = read_i32(self.bytes, self.at)?;
+        self.at = next;
+        Ok(number)
+    }
+
+    pub fn i64(&mut self) -> Result<i64, ReadFault>
+        ensures { Takes result self.new (signed_at w64 self.old) }
+    {
+        let (value, next) = read_i64(self.bytes, self.at)?;
+        self.at = next;
+        Ok(value)
+    }
+
+    pub fn u16(&mut self) -> Result<u16, ReadFault>
+        ensures { Takes result self.new (number_at w16 self.old) }
+    {
+        let (value, next) = read_u16(self.bytes, self.at)?;
+        self.at = next;
+        Ok(value)
+    }
+
+    /// An id.
+    pub fn id(&mut self) -> Result<u128, ReadFault>
+        ensures { Takes result self.new (id_at self.old) }
+    {
+        let (value, next) = read_id(self.bytes, self.at)?;
+        self.at = next;
+        Ok(value)
+    }
+
+    pub fn bool(&mut self) -> Result<bool, ReadFault>
+        ensures { Takes result self.new (bool_at self.old) }
+    {
+        let (value, next) = read_bool(self.bytes, self.at)?;
+        self.at = next;
+        Ok(value)
+    }
+
+    pub fn text(&mut self) -> Result<Text, ReadFault>
+        ensures { Takes result self.new (text_at self.old) }
+    {
+        let (span, next) = read_str(self.bytes, self.at)?;
+        let text = Text::from_utf8(self.alloc, &self.bytes[span.start..span.end])?;
+        self.at = next;
+        Ok(text)
+    }
+
+    pub fn text_or_null(&mut self) -> Result<Option<Text>, ReadFault>
+        ensures { Takes result self.new (text_or_null_at self.old) }
+    {
+        let (span, next) = read_str_or_null(self.bytes, self.at)?;
+        let text = text_of(self.alloc, self.bytes, span)?;
+        self.at = next;
+        Ok(text)
+    }
+
+    /// The count of a list.
+    pub fn count(&mut self) -> Result<u32, ReadFault>
+        ensures { Takes result self.new (count_at self.old) }
+    {
+        let (count, next) = read_count(self.bytes, self.at)?;
+        self.at = next;
+        Ok(count)
+    }
+
+    /// The count of a list, or null.
+    pub fn count_or_null(&mut self) -> Result<Option<u32>, ReadFault>
+        ensures { Takes result self.new (count_or_null_at self.old) }
+    {
+        let (value, next) = read_count_or_null(self.bytes, self.at)?;
+        self.at = next;
+        Ok(value)
+    }
+
+    /// Tagged fields of which none is known.
+    pub fn end(&mut self) -> Result<(), ReadFault>
+        ensures { Takes result self.new (tags_at none_known tt self.old) }
+    {
+        let next = skip_tags(self.bytes, self.at)?;
+        self.at = next;
+        Ok(())
+    }
+
+    pub fn alloc(&self) -> Global {
+        self.alloc
+    }
+}
+
+// The text that stands there, or none.
+fn text_of(alloc: Global, bytes: &[u8], span: Option<Span>) -> Result<Option<Text>, AllocError>
+    requires within { IfSome span (λ s. (s.start ≤ s.end) × (s.end ≤ length bytes.now)) }
+    requires utf8 { IfSome span (λ s. IsUtf8 (slice_range bytes.now s.start s.end)) }
+    ensures { IfOk result (λ t. t ≡ option_map (λ s. slice_range bytes.now s.start s.end) span) }
+{
+    match span {
+        None => Ok(None),
+        Some(span) => Ok(Some(Text::from_utf8(alloc, &bytes[span.start..span.end])?)),
+    }
+}

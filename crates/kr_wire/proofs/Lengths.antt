@@ -1,0 +1,88 @@
+-- How many bytes are written of the primitives.
+use Rattle.std.proofs.Common.{◌≡◌, ℕ, zero, suc, ◌+◌, ◌*◌, ◌/◌, ◌^◌, ◌<◌, ◌≤◌, Bool, true, false, inl, inr, cond, ltb, List, [], ◌∷◌, length, refl, ap, ◌∙◌, arith}
+use Rattle.std.specs.Prelude.{ℤ}
+use Rattle.std.specs.List.{flat_map}
+use Rattle.std.specs.Int.{Width, byte_len, bytes_high_first, cast_unsigned}
+use Rattle.std.proofs.lemmas.Bool.{lt-ltb, le-ltb, cases_lt}
+use Rattle.std.proofs.lemmas.List.{length-append}
+use Rattle.kr_wire.specs.Spelling.{groups, uvarint, number, signed, bool, id, text, count, list}
+
+-- ---- numbers of a fixed length
+
+length_high_first : (k n : ℕ) → length (bytes_high_first k n) ≡ k
+length_high_first zero n = refl
+length_high_first (suc k) n = ap suc (length_high_first k n)
+
+pub length_number : (w : Width) (n : ℕ) → length (number w n) ≡ byte_len w
+unfolding number
+length_number w n = length_high_first (byte_len w) n
+
+pub length_signed : (w : Width) (n : ℤ) → length (signed w n) ≡ byte_len w
+unfolding signed
+length_signed w n = length_high_first (byte_len w) (cast_unsigned w n)
+
+pub length_id : (n : ℕ) → length (id n) ≡ 16
+unfolding id
+length_id n = refl
+
+pub length_bool : (b : Bool) → length (bool b) ≡ 1
+length_bool true = refl
+length_bool false = refl
+
+-- ---- numbers in groups of seven bits
+
+-- one group, where the number is that small
+pub one_group : (room n : ℕ) → n < 128 → length (groups (suc room) n) ≡ 1
+one_group room n lt = rw (lt-ltb n 128 lt) refl
+
+-- a group more than those of the rest
+pub more_groups : (room n : ℕ) → 128 ≤ n → length (groups (suc room) n) ≡ 1 + length (groups room (n / 128))
+more_groups room n le = rw (le-ltb n 128 le) (omega arith)
+
+pub groups_few : (room n : ℕ) → length (groups room n) ≤ room + 1
+groups_few zero n = omega arith
+groups_few (suc room) n = elim (cases_lt n 128) [
+  | inl lt ↦ let e = one_group room n lt in omega (arith, e)
+  | inr le ↦ let e = more_groups room n le in let h = groups_few room (n / 128) in omega (arith, e, h)
+]
+
+pub uvarint_few : (n : ℕ) → length (uvarint n) ≤ 5
+unfolding uvarint
+uvarint_few n = groups_few 4 n
+
+pub uvarint_one : (n : ℕ) → n < 128 → length (uvarint n) ≡ 1
+unfolding uvarint
+uvarint_one n lt = one_group 3 n lt
+
+-- exactly, of 32 bits
+pub length_uvarint : (n : ℕ) → n < 2 ^ 32
+    → length (uvarint n) ≡ cond (ltb n 128) 1 (cond (ltb n 16384) 2 (cond (ltb n 2097152) 3 (cond (ltb n 268435456) 4 5)))
+unfolding uvarint
+length_uvarint n fits = elim (cases_lt n 128) [
+  | inl a ↦ rw (lt-ltb n 128 a) refl
+  | inr a ↦ rw (le-ltb n 128 a) (elim (cases_lt n 16384) [
+    | inl b ↦ let b' : n / 128 < 128 = omega arith in rw (lt-ltb n 16384 b, lt-ltb (n / 128) 128 b') refl
+    | inr b ↦ let b' : 128 ≤ n / 128 = omega arith in rw (le-ltb n 16384 b, le-ltb (n / 128) 128 b') (elim (cases_lt n 2097152) [
+      | inl c ↦ let c' : n / 128 / 128 < 128 = omega arith in rw (lt-ltb n 2097152 c, lt-ltb (n / 128 / 128) 128 c') refl
+      | inr c ↦ let c' : 128 ≤ n / 128 / 128 = omega arith in rw (le-ltb n 2097152 c, le-ltb (n / 128 / 128) 128 c') (elim (cases_lt n 268435456) [
+        | inl d ↦ let d' : n / 128 / 128 / 128 < 128 = omega arith in rw (lt-ltb n 268435456 d, lt-ltb (n / 128 / 128 / 128) 128 d') refl
+        | inr d ↦ let d' : 128 ≤ n / 128 / 128 / 128 = omega arith in rw (le-ltb n 268435456 d, le-ltb (n / 128 / 128 / 128) 128 d') refl
+      ])
+    ])
+  ])
+]
+
+-- ---- texts and lists
+
+pub length_text : (bytes : List ℕ) → length (text bytes) ≡ length (uvarint (length bytes + 1)) + length bytes
+length_text bytes = length-append (uvarint (length bytes + 1)) bytes
+
+pub length_each : {X : Type 0} (one : X → List ℕ) (k : ℕ) → ((x : X) → length (one x) ≡ k) → (xs : List X) → length (flat_map one xs) ≡ k * length xs
+length_each one k same [] = omega arith
+length_each one k same (x ∷ xs) =
+    let h = same x in
+    let more = length_each one k same xs in
+    omega (arith, length-append (one x) (flat_map one xs))
+
+pub length_list : {X : Type 0} (one : X → List ℕ) (k : ℕ) → ((x : X) → length (one x) ≡ k) → (xs : List X) → length (list one xs) ≡ length (count (length xs)) + k * length xs
+length_list one k same xs = length-append (count (length xs)) (flat_map one xs) ∙ ap (λ (n : ℕ). length (count (length xs)) + n) (length_each one k same xs)
