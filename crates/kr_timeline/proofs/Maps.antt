@@ -1,5 +1,5 @@
 -- Maps that are stored where they differ from the one before.
-use Rattle.std.proofs.Common.{◌≡◌, List, [], ◌∷◌, ◌++◌, Option, None, ℕ, ◌+◌, ◌<◌, length, take, get_or, refl, sym, ◌∙◌, ap}
+use Rattle.std.proofs.Common.{◌≡◌, List, [], ◌∷◌, ◌++◌, Option, None, ℕ, suc, ◌+◌, ◌<◌, length, take, get_or, refl, sym, ◌∙◌, ap}
 use Rattle.std.proofs.lemmas.List.{take_more}
 use Rattle.kr_defs.specs.KeptMaps.{Kept, KeptMaps, AreRising, IsAbove, marked}
 use Rattle.kr_timeline.specs.Stored.{later, last_of, kept_of, entries_of}
@@ -16,6 +16,10 @@ module _ {K V : Type 0} where
   kept_of-push before [] s = refl
   kept_of-push before (x ∷ stored) s = ap (λ (ks : List (Kept K V)). record { epoch = x.epoch; map = entries_of (later before x.map); made = x.made } ∷ ks) (kept_of-push (later before x.map) stored s)
 
+  pub length-kept_of : (before : Option (List (K × V))) (stored : List (Stored K V)) → length (kept_of before stored) ≡ length stored
+  length-kept_of before [] = refl
+  length-kept_of before (x ∷ stored) = ap suc (length-kept_of (later before x.map) stored)
+
   -- the last map among one entry more
   pub last_of-more : (stored : List (Stored K V)) (i : ℕ) (s : Stored K V) → i < length stored → s ≡ get_or stored i s
       → last_of None (take (i + 1) stored) ≡ later (last_of None (take i stored)) s.map
@@ -30,12 +34,6 @@ module _ {K V : Type 0} where
   pub rising-mark : (stored : List (Stored K V)) (s : Stored K V) → AreRising (kept_of None stored) → IsAbove (kept_of None stored) s.epoch → AreRising (kept_of None (stored ++ s ∷ []))
   rising-mark stored s rising above = rw kept_of-push (AreRising-push (kept_of None stored) _ rising above)
 
-  pub rising-mark-is : (stored stored' : List (Stored K V)) (s : Stored K V) (maps : KeptMaps K V) → stored' ≡ stored ++ s ∷ [] → kept_of None stored ≡ maps.kept
-      → AreRising (kept_of None stored) → IsAbove maps.kept s.epoch → AreRising (kept_of None stored')
-  rising-mark-is stored stored' s maps more is rising above =
-      let before : IsAbove (kept_of None stored) s.epoch = rw is above in
-      rw more (rising-mark stored s rising before)
-
   -- what is stored after a mark
   pub marked-is : (stored stored' : List (Stored K V)) (s : Stored K V) (present : Option (List (K × V))) (maps : KeptMaps K V) → stored' ≡ stored ++ s ∷ [] → present ≡ None
       → record { kept = kept_of None stored; present = entries_of (later (last_of None stored) s.map); made = s.made } ≡ maps
@@ -43,4 +41,4 @@ module _ {K V : Type 0} where
   unfolding marked
   marked-is stored stored' s present maps more none is = rw (more, none, ← is, kept_of-push, last_of-push)
 
-pub ruleset maps = (last_of-push, kept_of-push, last_of-more, rising-none, rising-mark)
+pub ruleset maps = (length-kept_of, last_of-push, kept_of-push, last_of-more, rising-none, rising-mark)

@@ -2,7 +2,7 @@
 use Rattle.std.specs.Prelude.{◌≡◌, ◌≤◌, ℕ, ℤ, Bool, false, List, [], ◌∷◌, unwrap_or, Option, Some, None, filter, find, not, int_lt, length, take}
 use Rattle.std.specs.Option.{option_map}
 use Rattle.std.specs.Ordering.{int_eq}
-use Rattle.kr_defs.specs.KeptMaps.{Kept, AreRising}
+use Rattle.kr_defs.specs.KeptMaps.{Kept, KeptMaps, AreRising}
 use Rattle.kr_timeline.specs.declared.timeline.Stored.{Stored}
 
 module _ {K V : Type 0} where
@@ -24,6 +24,10 @@ module _ {K V : Type 0} where
   abbrev pub kept_of : Option (List (K × V)) → List (Stored K V) → List (Kept K V)
   kept_of before [] = []
   kept_of before (s ∷ stored) = record { epoch = s.epoch; map = entries_of (later before s.map); made = s.made } ∷ kept_of (later before s.map) stored
+
+  -- the maps that are kept, and the present one with the calls since the last mark
+  abbrev pub maps_of : List (Stored K V) → Option (List (K × V)) → ℕ → KeptMaps K V
+  maps_of stored present made = record { kept = kept_of None stored; present = entries_of (later (last_of None stored) present); made = made }
 
   -- the first `count` of what is stored end with the entry of the epoch
   pub record EndsAt (stored : List (Stored K V)) (epoch : ℤ) (count : ℕ) : Type 0 where

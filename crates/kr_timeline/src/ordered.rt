@@ -44,6 +44,7 @@ impl<K: Ord + Drop, V: Drop> Ordered<K, V> {
     pub fn insert(&mut self, key: K, value: V) -> Result<(), AllocError>
         ensures ok { OnOk result (self.new ≡ entries.insert K.cmp self.old key value) }
         ensures err { OnErr result (self.new ≡ self.old) }
+        ensures ordered { entries.IsMap K.cmp self.new }
     {
         self.map.insert(key, value)?;
         Ok(())
@@ -52,6 +53,7 @@ impl<K: Ord + Drop, V: Drop> Ordered<K, V> {
     pub fn remove(&mut self, key: &K) -> bool
         ensures found { result ≡ entries.contains K.cmp self.old key.now }
         ensures rest { self.new ≡ entries.remove K.cmp self.old key.now }
+        ensures ordered { entries.IsMap K.cmp self.new }
     {
         self.map.remove(key).is_some()
     }

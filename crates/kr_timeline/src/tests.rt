@@ -78,6 +78,8 @@ fn a_timeline_at_a_compound_key(rt: HostRuntime) -> Result<(), NoMemory> {
     );
     assert_eq!(rt; timeline.next_at(-4, Some(&(3, 1))), Ok(None));
     assert_eq!(rt; timeline.next_at(-3, None), Err(NoEpoch));
+    assert_eq!(rt; timeline.next(None), Some((&(2, 5), &30)));
     assert_eq!(rt; timeline.get(&(2, 5)), Some(&30));
+    assert_eq!(rt; timeline.epochs(), 1);
     Ok(())
 }

@@ -1,6 +1,6 @@
 //! A map with kept epochs. Each map is stored where it differs from the one before.
 
-ghost use Rattle.std.specs.Prelude.{◌≡◌, ◌↔◌, [], ◌∷◌, OnOk, OnErr, IfOk, IfErr, IsOk, IsTrue, IsSome, IfSome, None, Some, IsNone, IsErr, IsOkAnd, MatchOption, Ok, Err, not, filter, find, int_lt, length, take, ◌<◌, ◌≤◌, ◌+◌};
+ghost use Rattle.std.specs.Prelude.{◌≡◌, ◌↔◌, [], ◌∷◌, OnOk, OnErr, IfOk, IfErr, IsOk, IsTrue, IsSome, IfSome, None, Some, IsNone, IsErr, IsOkAnd, MatchOption, Ok, Err, All, not, filter, find, int_lt, length, take, ◌<◌, ◌≤◌, ◌+◌};
 ghost use Rattle.std.specs.List.{position_from};
 ghost use Rattle.std.specs.Option.{option_copied, option_map};
 ghost use Rattle.std.specs.Ordering.{int_eq};
@@ -35,7 +35,7 @@ pub struct Timeline<K: Ord, V> {
 }
 
 impl<K: Ord, V> Model for Timeline<K, V> {
-    ghost use Rattle.std.specs.Prelude.{None, nat_lt};
+    ghost use Rattle.std.specs.Prelude.{nat_lt};
     ghost use Rattle.std.specs.VecDeque.{deque_len, deque_capacity};
     ghost use Rattle.kr_timeline.specs.History.{History, history_code};
 
@@ -43,15 +43,12 @@ impl<K: Ord, V> Model for Timeline<K, V> {
 
     ghost coded = { history_code K.code V.code };
 
-    ghost use Rattle.kr_defs.specs.KeptMaps.{AreRising};
-    ghost use Rattle.kr_timeline.specs.Stored.{later, last_of, entries_of, kept_of};
+    ghost use Rattle.kr_timeline.specs.History.{AreMaps};
+    ghost use Rattle.kr_timeline.specs.Stored.{maps_of};
 
-    ghost view = { λ t. record {
-      maps = record { kept = kept_of None t.kept.items; present = entries_of (later (last_of None t.kept.items) t.present); made = t.made };
-      has_room = nat_lt (deque_len t.kept) (deque_capacity t.kept);
-    } };
+    ghost view = { λ t. record { maps = maps_of t.kept.items t.present t.made; has_room = nat_lt (deque_len t.kept) (deque_capacity t.kept) } };
 
-    ghost invariant = { λ t. AreRising (kept_of None t.kept.items) };
+    ghost invariant = { λ t. AreMaps K.cmp (maps_of t.kept.items t.present t.made) };
 }
 
 impl<K: Ord + Drop, V: Drop> Timeline<K, V> {
@@ -78,10 +75,32 @@ impl<K: Ord + Drop, V: Drop> Timeline<K, V> {
         }
     }
 
-    /// Makes room for one more kept epoch, so that the next `mark` answers Ok.
+    /// The entry with the least key above the given one, or the first entry, in the present map.
+    pub fn next(&self, after: Option<&K>) -> Option<(&K, &V)>
+        ensures { option_map (λ e. (e.0.now, e.1.now)) result ≡ entries.next K.cmp self.now.maps.present (option_copied after.entry) }
+    {
+        match later_of(latest_of(&self.kept, self.kept.len()), &self.present) {
+            Some(map) => map.next(after),
+            None => None,
+        }
+    }
+
+    /// How many epochs are kept. Whatever was done, they rise, and each map has its keys in order.
+    #[tactic(auto, using(crate::proofs::Maps::maps))]
+    pub fn epochs(&self) -> usize
+        ensures count { result ≡ length self.now.maps.kept }
+        ensures rising { AreRising self.now.maps.kept }
+        ensures kept { All (λ k. entries.IsMap K.cmp k.map) self.now.maps.kept }
+        ensures present { entries.IsMap K.cmp self.now.maps.present }
+    {
+        self.kept.len()
+    }
+
+    /// Makes room for one more kept epoch, so that the next `mark` answers Ok. Room that was made before stays.
     pub fn reserve(&mut self) -> Result<(), NoMemory>
         ensures same { self.new.maps ≡ self.old.maps }
         ensures room { OnOk result (IsTrue self.new.has_room) }
+        ensures left { IsTrue self.old.has_room → IsTrue self.new.has_room }
     {
         self.kept.reserve(1)?;
         Ok(())

@@ -5,10 +5,13 @@ use Rattle.kr_timeline.proofs.timeline.drop_below.Goals as goal
 pub loop-steps-preserved : goal.loop-steps-preserved
 loop-steps-preserved g c =
     let first = sym c.is_first_below.ensures ∙ c.loop-steps-test.true in
+    let kept = c.loop-steps.kept.items in
+    let left = c.pop_front.new.self.items in
+    let popped = c.pop_front.ensures.items in
     record {
-      left = rw c.carried_on-map.ensures (dropped c.args.epoch.now c.loop-steps.map c.pop_front.result c.loop-steps.kept.items c.pop_front.new.self.items c.pop_front.ensures.items first ∙ c.loop-steps.invariant.left);
-      last = rw c.carried_on-map.ensures (last-dropped c.loop-steps.map c.pop_front.result c.loop-steps.kept.items c.pop_front.new.self.items c.pop_front.ensures.items ∙ c.loop-steps.invariant.last);
-      rising = rw c.carried_on-map.ensures (rising-dropped c.loop-steps.map c.pop_front.result c.loop-steps.kept.items c.pop_front.new.self.items c.pop_front.ensures.items c.loop-steps.invariant.rising);
+      left = rw c.carried_on-map.ensures (rw (dropped c.args.epoch.now c.loop-steps.map c.pop_front.result kept left popped first) c.loop-steps.invariant.left);
+      last = rw c.carried_on-map.ensures (rw (last-dropped c.loop-steps.map c.pop_front.result kept left popped) c.loop-steps.invariant.last);
+      rising = rw c.carried_on-map.ensures (rising-dropped c.loop-steps.map c.pop_front.result kept left popped c.loop-steps.invariant.rising);
       capacity = c.pop_front.ensures.capacity ∙ c.loop-steps.invariant.capacity;
       len = omega (arith, c.pop_front.ensures.len);
       counted = omega (arith, c.tick.ensures);
@@ -17,4 +20,4 @@ loop-steps-preserved g c =
 pub returns-clause-left : goal.returns-clause-left
 returns-clause-left g c =
     let first = sym c.is_first_below.ensures ∙ c.loop-steps-test.false in
-    none_dropped c.args.epoch.now c.loop-steps.map c.loop-steps.kept.items first c.loop-steps.invariant.rising ∙ c.loop-steps.invariant.left
+    rw (← c.loop-steps.invariant.left) (none_dropped c.args.epoch.now c.loop-steps.map c.loop-steps.kept.items first c.loop-steps.invariant.rising)

@@ -1,8 +1,12 @@
-use Rattle.std.proofs.Common.{◌≡◌, Some, None, take, w64}
+use Rattle.std.proofs.Common.{◌≡◌, Some, None, refl, take, w64}
 use Rattle.std.proofs.lemmas.Int.{to_z-of_z}
 use Rattle.kr_defs.specs.KeptMaps.{map_at}
 use Rattle.kr_timeline.specs.Stored.{last_of, entries_of}
+use Rattle.kr_timeline.proofs.Histories.{maps-ended}
 use Rattle.kr_timeline.proofs.timeline.Timeline.revert.Goals as goal
+
+pub invariant_of-self : goal.invariant_of-self
+invariant_of-self g c = maps-ended g.K.Ord.cmp c.self.inside.kept.items _ c.self.inside.present None c.self.inside.made 0 _ _ c.in-Some.ensures.found c.drop_after.ensures.items refl c.self.invariant
 
 pub returns-clause-no_epoch : goal.returns-clause-no_epoch
 returns-clause-no_epoch g c =
