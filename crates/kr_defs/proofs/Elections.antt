@@ -36,13 +36,13 @@ module _ (p : Partition) (replicas in_sync : List ℤ) (mode : Mode) (restarted 
   abbrev told : ℤ × Choice → Type 0
   told c = IsChoice p replicas in_sync mode restarted facts c.0 c.1
 
-  abbrev first : List (ℤ × Choice)
+  abbrev pub first : List (ℤ × Choice)
   first = map (λ id. (id, choices.InSync)) (filter (is_sound p replicas in_sync mode restarted facts) (in_turn p replicas in_sync mode restarted facts))
 
-  abbrev second : List (ℤ × Choice)
+  abbrev pub second : List (ℤ × Choice)
   second = map (λ id. (id, choices.Eligible)) (filter (is_electable p replicas in_sync mode restarted facts) replicas)
 
-  abbrev third : List (ℤ × Choice)
+  abbrev pub third : List (ℤ × Choice)
   third = map (λ id. (id, choices.Unclean)) (filter (has facts.active) (at_last p replicas in_sync mode restarted facts))
 
   tell_sound : is_within in_sync replicas ≡ true → (id : ℤ) → is_sound p replicas in_sync mode restarted facts id ≡ true → LeadsInSync replicas in_sync facts id

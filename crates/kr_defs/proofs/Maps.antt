@@ -25,7 +25,7 @@ module _ {K V : Type 0} where
         | false ↦ (a.0, all_keys-remove P test es a.1)
       ]
 
-  all_keys-filter : (P : K → Type 0) (test : K × V → Bool) (es : List (K × V)) → AllByRecursion P (keys_of es) → AllByRecursion P (keys_of (filter test es))
+  pub all_keys-filter : (P : K → Type 0) (test : K × V → Bool) (es : List (K × V)) → AllByRecursion P (keys_of es) → AllByRecursion P (keys_of (filter test es))
   all_keys-filter P test [] a = tt
   all_keys-filter P test (e ∷ es) a =
       elim (test e) as (λ b. AllByRecursion P (keys_of (cond b (e ∷ filter test es) (filter test es)))) [
@@ -42,9 +42,10 @@ module _ {K V : Type 0} where
         | Greater ↦ (a.0, all_keys-insert R P es k v a.1 h)
       ]
 
-all_above : {K : Type 0} {R : K → K → Ordering} → IsTotalOrder R → (x y : K) (ks : List K) → R x y ≡ Less → AllByRecursion (λ z. R y z ≡ Less) ks → AllByRecursion (λ z. R x z ≡ Less) ks
-all_above o x y [] lt a = tt
-all_above o x y (k ∷ ks) lt a = (o.trans x y k lt a.0, all_above o x y ks lt a.1)
+-- below one that is below all
+pub below_all : {K : Type 0} {R : K → K → Ordering} → IsTotalOrder R → (x y : K) (ks : List K) → R x y ≡ Less → AllByRecursion (λ z. R y z ≡ Less) ks → AllByRecursion (λ z. R x z ≡ Less) ks
+below_all o x y [] lt a = tt
+below_all o x y (k ∷ ks) lt a = (o.trans x y k lt a.0, below_all o x y ks lt a.1)
 
 pub IsMap-filter : {K V : Type 0} (R : K → K → Ordering) (test : K × V → Bool) (es : List (K × V)) → IsMap R es → IsMap R (filter test es)
 unfolding IsStrictlySortedBy
@@ -61,7 +62,7 @@ module _ {K V : Type 0} {R : K → K → Ordering} (o : IsTotalOrder R) where
   IsMap-insert [] k v s = (tt, tt)
   IsMap-insert (e ∷ es) k v s =
       elim (R k e.0) as (λ r. R k e.0 ≡ r → IsMap R (match_ordering r ((k, v) ∷ e ∷ es) ((e.0, v) ∷ es) (e ∷ insert_entry R es k v))) [
-        | Less ↦ λ is. ((is, all_above o k e.0 (keys_of es) is s.0), s)
+        | Less ↦ λ is. ((is, below_all o k e.0 (keys_of es) is s.0), s)
         | Equal ↦ λ is. s
         | Greater ↦ λ is. (all_keys-insert R (λ z. R e.0 z ≡ Less) es k v s.0 (o.antisymm e.0 k ∙ ap ordering_reverse is), IsMap-insert es k v s.1)
       ] refl
@@ -76,7 +77,7 @@ module _ {K V : Type 0} {R : K → K → Ordering} (o : IsTotalOrder R) where
       ]
 
   -- a key below all keys has no value
-  none_below : (es : List (K × V)) (k : K) → AllByRecursion (λ z. R k z ≡ Less) (keys_of es) → get R es k ≡ None
+  pub none_below : (es : List (K × V)) (k : K) → AllByRecursion (λ z. R k z ≡ Less) (keys_of es) → get R es k ≡ None
   none_below [] k a = refl
   none_below (e ∷ es) k a = ap (λ r. cond (is_eq r) (Some e.1) (get R es k)) a.0 ∙ none_below es k a.1
 
@@ -87,7 +88,7 @@ module _ {K V : Type 0} {R : K → K → Ordering} (o : IsTotalOrder R) where
   set_all P [] k old v s found step a = absurd cc
   set_all P (e ∷ es) k old v s found step a =
       elim (R k e.0) as (λ r. R k e.0 ≡ r → cond (is_eq r) (Some e.1) (get R es k) ≡ Some old → AllByRecursion P (match_ordering r ((k, v) ∷ e ∷ es) ((e.0, v) ∷ es) (e ∷ insert_entry R es k v))) [
-        | Less ↦ λ is found. let none = none_below es k (all_above o k e.0 (keys_of es) is s.0) in absurd cc
+        | Less ↦ λ is found. let none = none_below es k (below_all o k e.0 (keys_of es) is s.0) in absurd cc
         | Equal ↦ λ is found. (step e.0 (subst (λ (u : V). P (e.0, u)) (some_is e.1 old found) a.0), a.1)
         | Greater ↦ λ is found. (a.0, set_all P es k old v s.1 found step a.1)
       ] refl found
@@ -100,7 +101,7 @@ module _ {K V : Type 0} {R : K → K → Ordering} (o : IsTotalOrder R) where
   length-set [] k old v s found = absurd cc
   length-set (e ∷ es) k old v s found =
       elim (R k e.0) as (λ r. R k e.0 ≡ r → cond (is_eq r) (Some e.1) (get R es k) ≡ Some old → length (match_ordering r ((k, v) ∷ e ∷ es) ((e.0, v) ∷ es) (e ∷ insert_entry R es k v)) ≡ suc (length es)) [
-        | Less ↦ λ is found. let none = none_below es k (all_above o k e.0 (keys_of es) is s.0) in absurd cc
+        | Less ↦ λ is found. let none = none_below es k (below_all o k e.0 (keys_of es) is s.0) in absurd cc
         | Equal ↦ λ is found. refl
         | Greater ↦ λ is found. ap suc (length-set es k old v s.1 found)
       ] refl found

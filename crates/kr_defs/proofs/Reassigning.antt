@@ -101,7 +101,7 @@ some_joined : (xs ys : List ℤ) → nat_lt 0 (length xs) ≡ true → nat_lt 0 
 some_joined [] ys h = absurd cc
 some_joined (x ∷ xs) ys h = lt-ltb 0 (length (x ∷ (xs ++ ys))) (omega arith)
 
-module _ (target original : List ℤ) (wanted : Replicas target) (were : Replicas original) where
+module _ (target original : List ℤ) (wanted : Replicas MOST_REPLICAS target) (were : Replicas MOST_REPLICAS original) where
   abbrev all : List ℤ
   all = reassigned target original
 

@@ -2,16 +2,20 @@
 #![tactic(auto)]
 
 mod broker;
+mod built_laws;
 mod calls;
 mod changing;
 mod copied;
+mod epoch_laws;
 mod events;
 mod forming;
 mod ill;
+mod image_laws;
 pub mod kept_laws;
 pub mod laws;
 pub mod limits;
 mod lists;
+mod map_laws;
 #[cfg(test)]
 mod memory_tests;
 mod options;
@@ -24,6 +28,10 @@ mod text;
 mod texts;
 
 pub use broker::{Broker, Endpoint, Endpoints, Range, Ranges};
+pub use built_laws::{
+    built_leaders_had_records, default_wants_are_sensible, emptying_keeps_well_formed,
+    long_lists_are_the_only_fault, new_partitions_are_well_formed, reassignments_end_in_sync,
+};
 pub use calls::{
     Ask, AskFault, Call, ConfigOperation, ConfigOperations, ConfigResource, ConfigResources,
     ConfigResponse, ConfigResponses, IncrementalAlterConfigs, IncrementalAlterConfigsReply, Reply,
@@ -31,10 +39,13 @@ pub use calls::{
 };
 pub use changing::{Assignment, Choice, Facts, Mode, Want};
 pub use copied::Copied;
+pub use epoch_laws::{forgetting_leaves_the_others, reverts_leave_the_others, reverts_restore};
 pub use events::{Event, Output};
 pub use forming::{are_replicas, is_reassignment, is_sensible, is_well_formed};
 pub use ill::Ill;
+pub use image_laws::own_records_make_images;
 pub use lists::parts;
+pub use map_laws::{maps_hold, topic_walks_pass_all};
 pub use options::Options;
 pub use partition::{Partition, PartitionChange};
 pub use partition_laws::{
