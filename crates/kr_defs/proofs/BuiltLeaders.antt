@@ -1,11 +1,10 @@
 -- A leader that is named had the records, and a reassignment that ends has its target in sync.
-use Rattle.std.proofs.Common.{◌≡◌, ◌∙◌, sym, refl, ap, subst, ◌⊎◌, inl, inr, Bool, true, false, not, cond, ◌&&◌, ◌||◌, ◌==◌, length, List, [], ◌∷◌, ◌++◌, ℤ, negsuc, append_assoc, Option, Some, None}
+use Rattle.std.proofs.Common.{◌≡◌, ◌∙◌, sym, refl, subst, ◌⊎◌, inl, inr, Bool, true, false, not, cond, ◌&&◌, ◌||◌, ◌==◌, length, List, [], ◌∷◌, ◌++◌, ℤ, negsuc, append_assoc, Option}
 use Rattle.std.proofs.lemmas.Bool.{and_parts, or_cases, or_left, or_right, cases_Bool}
 use Rattle.std.proofs.lemmas.List.Folds.{list_any-append}
-use Rattle.std.specs.Prelude.{filter, map, take, unwrap_or, IfSome, IsTrue, if◌then◌else◌}
+use Rattle.std.specs.Prelude.{filter, map, take, IfSome, IsTrue, if◌then◌else◌}
 use Rattle.std.specs.Ordering.{int_eq}
 use Rattle.kr_defs.specs.declared.partition.Partition.{Partition}
-use Rattle.kr_defs.specs.declared.partition.PartitionChange.{PartitionChange}
 use Rattle.kr_defs.specs.declared.changing.Assignment.{Assignment}
 use Rattle.kr_defs.specs.declared.changing.Choice.{Choice}
 use Rattle.kr_defs.specs.declared.changing.Choice.TheVariants as choices
@@ -15,10 +14,10 @@ use Rattle.kr_defs.specs.declared.changing.Want.{Want}
 use Rattle.kr_defs.specs.Ids.{has, is_within, without, within}
 use Rattle.kr_defs.specs.Partition.{target}
 use Rattle.kr_defs.specs.Merge.{merged}
-use Rattle.kr_defs.specs.Elect.{is_unclean, is_preferred, is_sound, in_turn, first_of, elected}
+use Rattle.kr_defs.specs.Elect.{is_preferred, is_sound, in_turn, first_of, elected}
 use Rattle.kr_defs.specs.Build.{is_target_in_sync, completes, asked, reached, ended, starts_alone, settled, aimed, unless, difference, built}
 use Rattle.kr_defs.specs.PartitionLaws.{IsChoice}
-use Rattle.kr_defs.specs.BuiltLaws.{HadRecords, BuiltLeadersHadRecords, is_reassigned, AsksOwnLists, EndsInSync, ReassignmentsEndInSync}
+use Rattle.kr_defs.specs.BuiltLaws.{HadRecords, BuiltLeadersHadRecords, EndsInSync, ReassignmentsEndInSync}
 use Rattle.kr_defs.proofs.IdLists.{same_id, all_at, all_from, has_before, passes_kept, has_kept}
 use Rattle.kr_defs.proofs.Elections.{first, second, third, sound, clean}
 use Rattle.kr_defs.proofs.Changes.{alone, same_list, replaced, replaced_same, changed_told}

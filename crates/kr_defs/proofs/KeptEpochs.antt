@@ -1,6 +1,6 @@
 -- What is kept under an epoch, after what is done above it.
-use Rattle.std.proofs.Common.{◌≡◌, ◌∙◌, Bool, true, false, cond, not, List, [], ◌∷◌, ◌++◌, ℤ, refl, ap, subst, sym, inl, inr, Option, Some, None, filter, find, IsTrue}
-use Rattle.std.proofs.lemmas.Bool.{and_parts, cases_Bool, not_from_false}
+use Rattle.std.proofs.Common.{◌≡◌, ◌∙◌, Bool, true, false, cond, not, List, [], ◌∷◌, ℤ, refl, ap, subst, sym, inl, inr, Option, Some, None, filter, find}
+use Rattle.std.proofs.lemmas.Bool.{and_parts, cases_Bool}
 use Rattle.std.proofs.lemmas.List.Folds.{find-append}
 use Rattle.std.specs.List.{list_all}
 use Rattle.std.specs.Option.{option_map, option_or}

@@ -17,7 +17,7 @@ use Rattle.kr_defs.specs.ImageLaws.{as_items}
 use Rattle.kr_defs.specs.MapLaws.{of_topic}
 use Rattle.kr_defs.specs.BuiltLaws.{is_sensible_at_length}
 use Rattle.kr_defs.specs.KeptMaps.{KeptMaps, no_maps, map_at, inserted, removed, marked, reverted, forgotten}
-use Rattle.kr_defs.specs.KeptLaws.{Action, Insert, Remove, Mark, Revert, Forget, after_actions}
+use Rattle.kr_defs.specs.KeptLaws.{Insert, Remove, Mark, Revert, Forget, after_actions}
 use Rattle.kr_defs.specs.Partition.{is_well_formed}
 use Rattle.kr_defs.specs.Merge.{merged}
 use Rattle.kr_defs.specs.Elect.{elected}

@@ -1,9 +1,9 @@
 -- What is asked where nothing is named, and partitions that are created or emptied.
-use Rattle.std.proofs.Common.{◌≡◌, ◌∙◌, refl, ap, sym, inl, inr, ◌⊎◌, Bool, true, false, not, cond, ◌&&◌, ◌||◌, ◌==◌, ℕ, suc, ◌+◌, arith, length, List, [], ◌∷◌, ℤ, negsuc, Option, Some, None}
-use Rattle.std.proofs.lemmas.Bool.{and_parts, and_from, or_left, or_right, cases_Bool, le-leb, leb-true, leb-false}
+use Rattle.std.proofs.Common.{◌≡◌, refl, inl, inr, ◌⊎◌, true, ◌&&◌, ◌==◌, ℕ, suc, ◌+◌, arith, length, List, [], ◌∷◌, ℤ, negsuc}
+use Rattle.std.proofs.lemmas.Bool.{and_parts, and_from, or_left, or_right, cases_Bool, le-leb, leb-false}
 use Rattle.std.proofs.lemmas.Bool.Decides.{nat_tests}
 use Rattle.std.proofs.lemmas.Option.{IfSome_then}
-use Rattle.std.specs.Prelude.{IsTrue, IfSome, unwrap_or, nat_lt, nat_le}
+use Rattle.std.specs.Prelude.{IsTrue, unwrap_or, nat_lt, nat_le}
 use Rattle.std.specs.List.{list_all}
 use Rattle.std.specs.Ordering.{int_eq}
 use Rattle.kr_defs.specs.declared.partition.Partition.{Partition}
@@ -12,13 +12,12 @@ use Rattle.kr_defs.specs.declared.limits.TheConstants.{MOST_REPLICAS}
 use Rattle.kr_defs.specs.Ids.{has, is_distinct, is_within, within}
 use Rattle.kr_defs.specs.Partition.{is_natural, is_part, are_replicas, is_reassignment, is_leader, is_recovery, is_well_formed}
 use Rattle.kr_defs.specs.Merge.{merged}
-use Rattle.kr_defs.specs.Build.{is_sensible, unless, built}
-use Rattle.kr_defs.specs.DefaultWant.{default_want}
+use Rattle.kr_defs.specs.Build.{unless, built}
 use Rattle.kr_defs.specs.NewPartition.{first_leader, new_partition, emptying}
 use Rattle.kr_defs.specs.BuiltLaws.{DefaultWantsAreSensible, is_sensible_at_length, has_too_many, LongListsAreTheOnlyFault, NewPartitionsAreWellFormed, EmptyingKeeps}
 use Rattle.kr_defs.proofs.IdLists.{id_itself}
 use Rattle.kr_defs.proofs.StandingBy.{nobody, kept_part}
-use Rattle.kr_defs.proofs.Changes.{Replicas, replicas_parts, replicas_from, Sensible, Formed, formed_parts, formed_from, none_runs, next_epochs, built_formed}
+use Rattle.kr_defs.proofs.Changes.{replicas_parts, replicas_from, Sensible, Formed, formed_parts, formed_from, none_runs, next_epochs, built_formed}
 
 pub defaults_sensible : DefaultWantsAreSensible
 defaults_sensible p formed =
@@ -77,7 +76,7 @@ emptied_formed p formed =
       reassignment = f.reassignment;
       distinct = f.distinct;
       inside = f.inside;
-      stand = rw emptied (rw emptied (nobody p.replicas p.in_sync));
+      stand = rw (emptied p.eligible, emptied p.last_known) (nobody p.replicas p.in_sync);
       leads = f.leads;
       recovers = f.recovers;
       epochs = epochs;

@@ -1,6 +1,6 @@
 -- The records of a valid image make it, part by part.
 use Rattle.std.proofs.Common.{◌≡◌, ◌∙◌, ℕ, ◌+◌, ◌≤◌, Bool, true, false, cond, List, [], ◌∷◌, ◌++◌, length, refl, sym, ap, subst, inl, inr, append_assoc, arith, ℤ}
-use Rattle.std.specs.Prelude.{Option, Some, None, Result, Ok, Err, IsTrue, not, ◌&&◌, ◌||◌, is_some, filter, find, map, nat_le, nat_lt, ◌==◌, int_lt, pos, negsuc, sum_by}
+use Rattle.std.specs.Prelude.{Option, Some, None, Result, Ok, Err, IsTrue, not, ◌&&◌, ◌||◌, is_some, filter, find, map, nat_le, nat_lt, ◌==◌, int_lt, pos, negsuc}
 use Rattle.std.specs.Option.{option_map, option_map_or}
 use Rattle.std.specs.Ordering.{int_cmp, int_eq}
 use Rattle.std.specs.declared.cmp.Ordering.TheVariants.{Less, Equal, Greater}
@@ -18,19 +18,18 @@ use Rattle.kr_defs.specs.declared.partition.Partition.{Partition}
 use Rattle.kr_defs.specs.declared.record.ConfigKey.{ConfigKey}
 use Rattle.kr_defs.specs.declared.record.Record.{Record}
 use Rattle.kr_defs.specs.declared.record.Record.TheVariants as kinds
-use Rattle.kr_defs.specs.declared.record.Item.{Item}
 use Rattle.kr_defs.specs.declared.record.Item.TheVariants as items
 use Rattle.kr_defs.specs.declared.ill.Ill.{Ill}
 use Rattle.kr_defs.specs.declared.limits.TheConstants.{MOST_BROKERS, MOST_TOPICS, MOST_PARTITIONS, MOST_CONFIG_TEXT, MOST_FEATURES, LONGEST_FEATURE}
 use Rattle.kr_defs.specs.Map as entries
 use Rattle.kr_defs.specs.Map.{IsMap, text_order, partition_order, config_order}
 use Rattle.kr_defs.specs.Guard.{and_then}
-use Rattle.kr_defs.specs.Image.{Image, IsValid, empty, has_topic, has_numbers, is_small_registration, is_index, config_text, are_distinct, topic_name}
+use Rattle.kr_defs.specs.Image.{Image, IsValid, empty, has_topic, has_numbers, is_small_registration, is_index, config_text, are_distinct}
 use Rattle.kr_defs.specs.Partition.{is_well_formed}
 use Rattle.kr_defs.specs.Texts.{is_topic_name}
 use Rattle.kr_defs.specs.Apply.{apply, apply_record}
 use Rattle.kr_defs.specs.Log.{apply_all}
-use Rattle.kr_defs.specs.Records.{topic_records, topics_records, records_of}
+use Rattle.kr_defs.specs.Records.{topics_records, records_of}
 use Rattle.kr_defs.specs.ImageLaws.{as_items, OwnRecordsMakeImages}
 use Rattle.kr_defs.proofs.Maps.{all_keys-filter, length-filter_le}
 use Rattle.kr_defs.proofs.ImageParts.{text_total, partition_total, config_total}

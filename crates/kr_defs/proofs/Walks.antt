@@ -12,7 +12,7 @@ use Rattle.std.specs.BTreeMap.{insert_entry}
 use Rattle.std.proofs.lemmas.List.{append-nil}
 use Rattle.std.proofs.lemmas.List.Elements.{All-from_recursion}
 use Rattle.kr_defs.specs.Map.{IsMap, get, insert, above, next}
-use Rattle.kr_defs.specs.MapLaws.{MapsHold, MapLaws}
+use Rattle.kr_defs.specs.MapLaws.{MapLaws}
 use Rattle.kr_defs.proofs.Maps.{below_all}
 use Rattle.kr_defs.proofs.Tests.{some_is}
 

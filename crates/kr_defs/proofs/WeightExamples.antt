@@ -1,6 +1,6 @@
 -- How many entries an item writes, computed.
 use Rattle.std.proofs.Common.{◌≡◌, ℕ, refl, [], ◌∷◌}
-use Rattle.std.specs.Prelude.{pos, codes, Some, None}
+use Rattle.std.specs.Prelude.{pos, codes, None}
 use Rattle.kr_defs.specs.declared.partition.Partition.{Partition}
 use Rattle.kr_defs.specs.declared.record.Record.{Record}
 use Rattle.kr_defs.specs.declared.record.Record.TheVariants as kinds

@@ -6,7 +6,7 @@ use Rattle.kr_defs.specs.declared.changing.Facts.{Facts}
 use Rattle.kr_defs.specs.declared.changing.Want.{Want}
 use Rattle.kr_defs.specs.declared.limits.TheConstants.{MOST_REPLICAS}
 use Rattle.kr_defs.specs.Ids.{has, is_distinct, is_within, within}
-use Rattle.kr_defs.specs.Partition.{is_natural, is_part, are_replicas, is_reassignment, is_recovery, target, is_well_formed}
+use Rattle.kr_defs.specs.Partition.{is_natural, is_part, is_reassignment, is_recovery, target, is_well_formed}
 use Rattle.kr_defs.specs.Merge.{merged}
 use Rattle.kr_defs.specs.Elect.{is_unclean}
 use Rattle.kr_defs.specs.Build.{is_sensible, built}

@@ -1,5 +1,5 @@
 -- Laws of maps with kept epochs (this project's own).
-use Rattle.std.specs.Prelude.{◌≡◌, ℤ, Bool, true, not, List, [], ◌∷◌, Option, Some, None, unwrap_or, int_lt, IsTrue, IfSome}
+use Rattle.std.specs.Prelude.{◌≡◌, ℤ, Bool, true, not, List, [], ◌∷◌, Some, None, unwrap_or, int_lt, IsTrue, IfSome}
 use Rattle.std.specs.List.{list_all}
 use Rattle.std.specs.Option.{option_map}
 use Rattle.std.specs.declared.cmp.Ordering.{Ordering}
