@@ -6,6 +6,7 @@ pub mod DefaultWant
 pub mod Elect
 pub mod Eligible
 pub mod Guard
+pub mod Heartbeats
 pub mod Ids
 pub mod Image
 pub mod ImageLaws

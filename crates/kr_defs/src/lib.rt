@@ -1,6 +1,7 @@
 //! The data of the metadata log, and the definitions that speak of no bytes, request or event.
 #![tactic(auto)]
 
+mod basis;
 mod broker;
 mod built_laws;
 mod calls;
@@ -27,6 +28,7 @@ mod settings;
 mod text;
 mod texts;
 
+pub use basis::{Basis, Contact, Contacts, Stopping, Stops};
 pub use broker::{Broker, Endpoint, Endpoints, Range, Ranges};
 pub use built_laws::{
     built_leaders_had_records, default_wants_are_sensible, emptying_keeps_well_formed,
