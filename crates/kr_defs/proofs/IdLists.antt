@@ -1,6 +1,7 @@
 -- What the tests on lists of ids tell, and what gives them.
-use Rattle.std.proofs.Common.{◌≡◌, sym, refl, subst, inl, inr, Bool, true, false, not, cond, ◌&&◌, ◌||◌, ℕ, ◌≤◌, length, List, [], ◌∷◌, ℤ, arith}
+use Rattle.std.proofs.Common.{◌≡◌, ◌∙◌, sym, refl, subst, inl, inr, Bool, true, false, not, cond, ◌&&◌, ◌||◌, ℕ, ◌≤◌, length, List, [], ◌∷◌, ◌++◌, ℤ, arith}
 use Rattle.std.proofs.lemmas.Bool.{and_parts, and_from, or_cases, or_left, or_right, cases_Bool, leb-true, le-leb, lt-ltb}
+use Rattle.std.proofs.lemmas.List.Folds.{list_any-append}
 use Rattle.std.proofs.lemmas.List.Sums.{length-filter, count_by-le-length}
 use Rattle.std.specs.Prelude.{filter, nat_lt, nat_le}
 use Rattle.std.specs.List.{list_all}
@@ -87,6 +88,18 @@ distinct_kept p (x ∷ xs) h =
           (distinct_kept p xs parts.1)
       | false ↦ distinct_kept p xs parts.1
     ]
+
+-- two lists of which each is distinct and that have no common member
+pub joined_distinct : (xs ys : List ℤ) → is_distinct xs ≡ true → is_distinct ys ≡ true → ((id : ℤ) → has xs id ≡ true → not (has ys id) ≡ true) → is_distinct (xs ++ ys) ≡ true
+joined_distinct [] ys first second apart = second
+joined_distinct (x ∷ xs) ys first second apart =
+    let parts = and_parts (not (has xs x)) (is_distinct xs) first in
+    and_from (not (has (xs ++ ys) x)) (is_distinct (xs ++ ys))
+    (refuted (has (xs ++ ys) x) (λ h. elim (or_cases (has xs x) (has ys x) (sym (list_any-append (λ y. int_eq y x) xs ys) ∙ h)) [
+      | inl k ↦ refutes (has xs x) parts.0 k
+      | inr k ↦ refutes (has ys x) (apart x (or_left (int_eq x x) (has xs x) (id_itself x))) k
+    ]))
+    (joined_distinct xs ys parts.1 second (λ id h. apart id (or_right (int_eq x id) (has xs id) h)))
 
 pub all_kept : (p q : ℤ → Bool) (xs : List ℤ) → list_all q xs ≡ true → list_all q (filter p xs) ≡ true
 all_kept p q xs all = all_from q (filter p xs) (λ id h. all_at q xs id all (has_before p xs id h))

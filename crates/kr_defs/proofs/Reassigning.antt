@@ -1,6 +1,6 @@
 -- A reassignment's lists lead to its target and back to its original.
 use Rattle.std.proofs.Common.{◌≡◌, ◌∙◌, sym, ap, refl, inl, inr, Bool, true, false, not, ◌&&◌, ◌||◌, arith, length, List, [], ◌∷◌, ◌++◌, ℤ}
-use Rattle.std.proofs.lemmas.Bool.{and_parts, and_from, or_cases, or_left, or_right, cases_Bool, lt-ltb}
+use Rattle.std.proofs.lemmas.Bool.{and_from, or_cases, or_left, or_right, cases_Bool, lt-ltb}
 use Rattle.std.proofs.lemmas.List.{append-nil}
 use Rattle.std.proofs.lemmas.List.Elements.{filter-append}
 use Rattle.std.proofs.lemmas.List.Folds.{list_any-append, list_all-append}
@@ -12,7 +12,7 @@ use Rattle.kr_defs.specs.Reassign.{reassigned, added, removed, ReassignmentsLead
 use Rattle.kr_defs.specs.declared.limits.TheConstants.{MOST_REPLICAS}
 use Rattle.kr_defs.specs.Partition.{is_natural, is_part, are_replicas, is_reassignment}
 use Rattle.kr_defs.proofs.Changes.{Replicas, replicas_parts, replicas_from}
-use Rattle.kr_defs.proofs.IdLists.{all_at, all_from, all_kept, first_member, refutes, refuted, id_itself, has_before, passes_kept, has_kept, distinct_kept}
+use Rattle.kr_defs.proofs.IdLists.{joined_distinct, all_at, all_from, all_kept, first_member, refutes, refuted, id_itself, has_before, passes_kept, has_kept, distinct_kept}
 
 -- a filter that each passes keeps all, one that none passes keeps none
 all_pass : (p : ℤ → Bool) (xs : List ℤ) → ((id : ℤ) → has xs id ≡ true → p id ≡ true) → filter p xs ≡ xs
@@ -77,18 +77,6 @@ module _ (target original : List ℤ) where
         | inr outside ↦ or_right (has target id) (has rest id) (has_kept (λ x. not (has target x)) original id h (rw outside refl))
       ]) in
       has_kept p (reassigned target original) id (list_any-append (λ x. int_eq x id) target rest ∙ there) passes
-
--- two lists of which each is distinct and that have no common member
-joined_distinct : (xs ys : List ℤ) → is_distinct xs ≡ true → is_distinct ys ≡ true → ((id : ℤ) → has xs id ≡ true → not (has ys id) ≡ true) → is_distinct (xs ++ ys) ≡ true
-joined_distinct [] ys first second apart = second
-joined_distinct (x ∷ xs) ys first second apart =
-    let parts = and_parts (not (has xs x)) (is_distinct xs) first in
-    and_from (not (has (xs ++ ys) x)) (is_distinct (xs ++ ys))
-    (refuted (has (xs ++ ys) x) (λ h. elim (or_cases (has xs x) (has ys x) (sym (list_any-append (λ y. int_eq y x) xs ys) ∙ h)) [
-      | inl k ↦ refutes (has xs x) parts.0 k
-      | inr k ↦ refutes (has ys x) (apart x (or_left (int_eq x x) (has xs x) (id_itself x))) k
-    ]))
-    (joined_distinct xs ys parts.1 second (λ id h. apart id (or_right (int_eq x id) (has xs id) h)))
 
 pub both_ways : ReassignmentsLeadBothWays
 both_ways target original = record {

@@ -1,11 +1,10 @@
 -- KIP-631: the brokers whose heartbeats a leading controller has, as Kafka's BrokerHeartbeatManager keeps them. That these
 -- two lists are all that is kept is this project's own.
-use Rattle.std.specs.Prelude.{◌+ℤ◌, ◌-◌, ◌++◌, ◌∷◌, [], ℕ, ℤ, pos, negsuc, int_lt, int_le, Bool, true, not, ◌&&◌, List, length, filter, map, find, take_while, slice_get, Option, IsTrue}
+use Rattle.std.specs.Prelude.{◌+ℤ◌, ◌++◌, ◌∷◌, [], ℕ, ℤ, pos, negsuc, int_lt, int_le, Bool, true, not, ◌&&◌, List, filter, map, find, take_while, Option, None, IsTrue}
 use Rattle.std.specs.Int.{int_min}
-use Rattle.std.specs.List.{filter_map, list_any, reduce}
-use Rattle.std.specs.List.Sorted.{IsSortedByKey}
+use Rattle.std.specs.List.{filter_map, list_any, list_all, last_or, reduce}
 use Rattle.std.specs.Option.{option_map, option_map_or}
-use Rattle.std.specs.Ordering.{int_cmp, int_eq}
+use Rattle.std.specs.Ordering.{int_eq}
 use Rattle.kr_defs.specs.declared.basis.Contact.{Contact}
 use Rattle.kr_defs.specs.declared.basis.Stopping.{Stopping}
 use Rattle.kr_defs.specs.Ids.{is_distinct, is_within}
@@ -83,15 +82,20 @@ expired h limit = map (λ c. c.broker) (take_while (λ c. int_le c.time limit) h
 
 -- the time isn't before the last contact's
 abbrev pub is_not_before : Heartbeats → ℤ → Bool
-is_not_before h now = option_map_or (λ c. not (int_lt now c.time)) (slice_get h.contacts (length h.contacts - 1)) true
+is_not_before h now = option_map_or (λ c. int_le c.time now) (last_or None h.contacts) true
 
 -- ---- what is true of them whatever was heard
+
+-- no contact's time is before that of an earlier one
+abbrev pub never_fall : List Contact → Bool
+never_fall [] = true
+never_fall (c ∷ cs) = list_all (λ later. int_le c.time later.time) cs && never_fall cs
 
 pub record AreHeartbeats (h : Heartbeats) : Type 0 where
   -- each broker stands once in either list
   pub distinct : IsTrue (is_distinct (contact_brokers h))
   pub stopping_distinct : IsTrue (is_distinct (stopping_brokers h))
   -- the times never fall
-  pub rising : IsSortedByKey (λ c. c.time) int_cmp h.contacts
+  pub rising : IsTrue (never_fall h.contacts)
   -- a stopping broker is a contact
   pub among : IsTrue (is_within (stopping_brokers h) (contact_brokers h))

@@ -7,6 +7,7 @@ pub mod Elect
 pub mod Eligible
 pub mod Guard
 pub mod Heartbeats
+pub mod HeartbeatLaws
 pub mod Ids
 pub mod Image
 pub mod ImageLaws

@@ -10,6 +10,7 @@ mod copied;
 mod epoch_laws;
 mod events;
 mod forming;
+pub mod heartbeat_laws;
 mod ill;
 mod image_laws;
 pub mod kept_laws;
