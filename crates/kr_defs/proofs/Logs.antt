@@ -1,8 +1,11 @@
 -- A log from its start, and what RemoveTopic leaves.
-use Rattle.std.proofs.Common.{◌≡◌, ◌∙◌, sym, ℕ, ◌+◌, ◌-◌, ◌≤◌, false, List, [], ◌∷◌, ◌++◌, length, take, refl, ap, arith}
-use Rattle.std.specs.Prelude.{Result, Ok, Err, Some, All, IsTrue, not, ◌==◌, filter}
+use Rattle.std.proofs.Common.{◌≡◌, ◌∙◌, sym, subst, ℕ, suc, ◌+◌, ◌-◌, ◌≤◌, ◌<◌, ℤ, pos, ◌+ℤ◌, false, List, [], ◌∷◌, ◌++◌, length, take, refl, ap, arith}
+use Rattle.std.specs.Prelude.{Option, Result, Ok, Err, None, Some, IfSome, IsOk, All, IsTrue, not, ◌==◌, filter}
 use Rattle.std.proofs.lemmas.List.{take-append-le, take_all, length-append}
 use Rattle.std.proofs.lemmas.List.Elements.{filter_passes}
+use Rattle.std.specs.Option.{option_map}
+use Rattle.std.specs.Result.{result_err}
+use Rattle.std.proofs.Math.IntN.{+ℤ_assoc, +ℤ_idr}
 use Rattle.kr_defs.specs.declared.record.Record.TheVariants as kinds
 use Rattle.kr_defs.specs.declared.record.Item.{Item}
 use Rattle.kr_defs.specs.declared.record.Item.TheVariants as items
@@ -10,7 +13,7 @@ use Rattle.kr_defs.specs.declared.ill.Ill.{Ill}
 use Rattle.kr_defs.specs.declared.ill.Ill.TheVariants.{NoTopic}
 use Rattle.kr_defs.specs.Guard.{and_then}
 use Rattle.kr_defs.specs.Image.{Image, IsValid, has_topic, topic_name}
-use Rattle.kr_defs.specs.Log.{Log, tip, more, apply_all, image_at}
+use Rattle.kr_defs.specs.Log.{Log, tip, more, apply_all, image_at, ill_or, first_ill, IsBehindGood}
 use Rattle.kr_defs.specs.Apply as apply
 use Rattle.kr_defs.proofs.Validity.{kept}
 use Rattle.kr_defs.proofs.ImageParts.{has_topic_any, none_left}
@@ -76,3 +79,40 @@ configs_gone image id name named = let P : Image → Type 0 = λ after. All (λ 
     gives_found P NoTopic (topic_name image.topics id) _ (λ other there. gives_done P _ (
     let same : other ≡ name = some_is other name (sym there ∙ named) in
     rw same (filter_passes (λ e. not (apply.is_setting_of name e.0)) image.configs)))
+
+-- ---- the first ill item
+
+cause_of : (r : Result Image Ill) (place : ℤ) (items : List Item) → ((after : Image) → option_map (λ (i : ℤ × Ill). i.1) (first_ill after (place +ℤ pos 1) items) ≡ result_err (apply_all after items))
+    → option_map (λ (i : ℤ × Ill). i.1) (ill_or place r (λ after. first_ill after (place +ℤ pos 1) items)) ≡ result_err (and_then r (λ after. apply_all after items))
+cause_of (Ok after) place items step = step after
+cause_of (Err cause) place items step = refl
+
+pub cause_named : (items : List Item) (image : Image) (place : ℤ) → option_map (λ (i : ℤ × Ill). i.1) (first_ill image place items) ≡ result_err (apply_all image items)
+cause_named [] image place = refl
+cause_named (item ∷ items) image place = cause_of (apply.apply image item) place items (λ after. cause_named items after (place +ℤ pos 1))
+
+if_some_then : {X : Type 0} (P Q : X → Type 0) (o : Option X) → ((x : X) → P x → Q x) → IfSome o P → IfSome o Q
+if_some_then P Q None step p = tt
+if_some_then P Q (Some x) step p = step x p
+
+one_further : (image after : Image) (place : ℤ) (item : Item) (items : List Item) → apply.apply image item ≡ Ok after
+    → (ill : ℤ × Ill) → IsBehindGood after (place +ℤ pos 1) items ill → IsBehindGood image place (item ∷ items) ill
+one_further image after place item items is ill (n, fewer, at, good) =
+    let G : Result Image Ill → Type 0 = λ r. IsOk (and_then r (λ i. apply_all i (take n items))) in
+    let few : suc n < length (item ∷ items) = omega (arith, fewer) in
+    let next : 1 + n ≡ suc n = omega arith in
+    (suc n, few, at ∙ +ℤ_assoc place (pos 1) (pos n) ∙ ap (λ m. place +ℤ pos m) next, subst G (sym is) good)
+
+place_of : (image : Image) (place : ℤ) (item : Item) (items : List Item) (r : Result Image Ill) → apply.apply image item ≡ r
+    → ((after : Image) → IfSome (first_ill after (place +ℤ pos 1) items) (IsBehindGood after (place +ℤ pos 1) items))
+    → IfSome (ill_or place r (λ after. first_ill after (place +ℤ pos 1) items)) (IsBehindGood image place (item ∷ items))
+place_of image place item items (Ok after) is step =
+    if_some_then (IsBehindGood after (place +ℤ pos 1) items) (IsBehindGood image place (item ∷ items)) (first_ill after (place +ℤ pos 1) items)
+    (one_further image after place item items is) (step after)
+place_of image place item items (Err cause) is step =
+    let some : 0 < length (item ∷ items) = omega arith in
+    (0, some, sym (+ℤ_idr place), refl)
+
+pub place_named : (items : List Item) (image : Image) (place : ℤ) → IfSome (first_ill image place items) (IsBehindGood image place items)
+place_named [] image place = tt
+place_named (item ∷ items) image place = place_of image place item items (apply.apply image item) refl (λ after. place_named items after (place +ℤ pos 1))

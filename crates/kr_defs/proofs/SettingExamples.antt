@@ -2,8 +2,8 @@
 use Rattle.std.proofs.Common.{◌≡◌, refl, true, false, List, [], ◌∷◌, ℕ}
 use Rattle.std.specs.Prelude.{pos, codes, Some, None}
 use Rattle.kr_defs.specs.Image.{Image, empty}
-use Rattle.kr_defs.specs.Settings.{minimum_of, is_unclean, read_minimum, minimum_key, unclean_key, is_broker_name}
-use Rattle.kr_defs.specs.Texts.{parts, joined, is_name, decimal_up_to}
+use Rattle.kr_defs.specs.Settings.{minimum_of, is_unclean, read_minimum, is_setting_key, minimum_key, unclean_key, is_broker_name}
+use Rattle.kr_defs.specs.Texts.{parts, joined, decimal_up_to}
 
 -- the topic's own value, and the default of all brokers
 abbrev set : List ℕ → List ℕ → List ℕ → Image
@@ -53,7 +53,7 @@ one_broker = refl
 leading_zero : is_broker_name (codes "01") ≡ false
 leading_zero = refl
 
-slash : is_name (codes "a/b") ≡ false
+slash : is_setting_key (codes "a/b") ≡ false
 slash = refl
 
 zero : decimal_up_to 9 (codes "0") ≡ Some 0

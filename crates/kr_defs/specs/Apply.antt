@@ -1,5 +1,5 @@
 -- KIP-631: the meaning of a record is the image after it. The causes why there is none, and the limits, are this project's own.
-use Rattle.std.specs.Prelude.{ℕ, ℤ, pos, negsuc, int_lt, false, Bool, not, ◌&&◌, ◌||◌, List, length, filter, Option, Some, None, Result, Ok, ◌==◌, nat_le, nat_lt, if◌then◌else◌}
+use Rattle.std.specs.Prelude.{ℕ, ℤ, pos, negsuc, int_lt, false, Bool, not, ◌&&◌, ◌||◌, List, length, bytes_eq, filter, Option, Some, None, Result, Ok, ◌==◌, nat_le, nat_lt, if◌then◌else◌}
 use Rattle.std.specs.Ordering.{int_cmp, int_eq}
 use Rattle.std.specs.Option.{option_map_or}
 use Rattle.kr_defs.specs.declared.broker.Broker.{Broker}
@@ -19,7 +19,7 @@ use Rattle.kr_defs.specs.Map.{text_order, partition_order, config_order}
 use Rattle.kr_defs.specs.Image.{Image, topic_name, has_topic, has_numbers, is_small_registration, is_index, config_text}
 use Rattle.kr_defs.specs.Merge.{merged}
 use Rattle.kr_defs.specs.Partition.{is_well_formed}
-use Rattle.kr_defs.specs.Texts.{is_text, is_topic_name}
+use Rattle.kr_defs.specs.Texts.{is_topic_name}
 
 -- ---- brokers
 
@@ -92,7 +92,7 @@ broker_kind = pos 4
 
 -- a setting of the topic with this name
 abbrev pub is_setting_of : List ℕ → ConfigKey → Bool
-is_setting_of name key = int_eq key.kind topic_kind && is_text key.name name
+is_setting_of name key = int_eq key.kind topic_kind && bytes_eq key.name name
 
 -- the topic goes, with its partitions and its settings
 abbrev pub remove_topic : Image → ℕ → Result Image Ill

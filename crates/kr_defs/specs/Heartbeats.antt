@@ -5,6 +5,7 @@ use Rattle.std.specs.Int.{int_min}
 use Rattle.std.specs.List.{filter_map, list_any, list_all, last_or, reduce}
 use Rattle.std.specs.Option.{option_map, option_map_or}
 use Rattle.std.specs.Ordering.{int_eq}
+use Rattle.kr_defs.specs.declared.basis.Basis.{Basis}
 use Rattle.kr_defs.specs.declared.basis.Contact.{Contact}
 use Rattle.kr_defs.specs.declared.basis.Stopping.{Stopping}
 use Rattle.kr_defs.specs.Ids.{is_distinct, is_within}
@@ -14,6 +15,10 @@ pub record Heartbeats : Type 0 where
   pub contacts : List Contact
   -- the stopping brokers among them, by when they began to stop
   pub stopping : List Stopping
+
+-- those of a basis
+abbrev pub heard : Basis → Heartbeats
+heard basis = record { contacts = basis.contacts; stopping = basis.stopping }
 
 abbrev pub contact_brokers : Heartbeats → List ℤ
 contact_brokers h = map (λ c. c.broker) h.contacts

@@ -1,4 +1,5 @@
 pub mod Apply
+pub mod Brokers
 pub mod Build
 pub mod BuiltLaws
 pub mod Causes
@@ -6,11 +7,12 @@ pub mod DefaultWant
 pub mod Elect
 pub mod Eligible
 pub mod Guard
-pub mod Heartbeats
 pub mod HeartbeatLaws
+pub mod Heartbeats
 pub mod Ids
 pub mod Image
 pub mod ImageLaws
+pub mod ImageOrder
 pub mod KeptLaws
 pub mod KeptMaps
 pub mod Log
@@ -18,12 +20,15 @@ pub mod Map
 pub mod MapLaws
 pub mod Merge
 pub mod NewPartition
+pub mod OpenOptions
 pub mod Partition
-pub mod Placed
 pub mod PartitionLaws
+pub mod Placed
 pub mod Reassign
 pub mod Records
 pub mod Settings
 pub mod Sizes
 pub mod Texts
+pub mod Topics
+pub mod Walk
 pub mod Weight

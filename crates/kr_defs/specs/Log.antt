@@ -1,5 +1,5 @@
 -- KIP-631: the metadata log, and the image at a place of it.
-use Rattle.std.specs.Prelude.{ℕ, ◌+◌, ◌-◌, List, [], ◌∷◌, ◌++◌, length, take, Result, Ok}
+use Rattle.std.specs.Prelude.{◌≡◌, ◌<◌, ℕ, ◌+◌, ◌-◌, ℤ, pos, ◌+ℤ◌, List, [], ◌∷◌, ◌++◌, length, take, Option, Some, None, Result, Ok, Err, IsOk}
 use Rattle.kr_defs.specs.declared.record.Item.{Item}
 use Rattle.kr_defs.specs.declared.ill.Ill.{Ill}
 use Rattle.kr_defs.specs.Guard.{and_then}
@@ -32,3 +32,18 @@ image_at log place = apply_all log.image (take (place - log.offset) log.items)
 -- the log with one item more
 abbrev pub more : Log → Item → Log
 more log item = record log { items = log.items ++ item ∷ [] }
+
+-- what comes of an answer, or the place and the cause of the fault
+abbrev pub ill_or : ℤ → Result Image Ill → (Image → Option (ℤ × Ill)) → Option (ℤ × Ill)
+ill_or place (Ok image) next = next image
+ill_or place (Err cause) next = Some (place, cause)
+
+-- the place and the cause of the first item that has no meaning, where the first of all has this place
+abbrev pub first_ill : Image → ℤ → List Item → Option (ℤ × Ill)
+first_ill image place [] = None
+first_ill image place (item ∷ items) = ill_or place (apply image item) (λ after. first_ill after (place +ℤ pos 1) items)
+
+-- so many items before this place all have a meaning
+abbrev pub IsBehindGood : Image → ℤ → List Item → ℤ × Ill → Type 0
+IsBehindGood image place items ill =
+    (n : ℕ) × (n < length items) × (ill.0 ≡ place +ℤ pos n) × IsOk (apply_all image (take n items))

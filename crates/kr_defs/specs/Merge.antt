@@ -1,11 +1,12 @@
 -- KIP-631: what a change makes of a partition.
 use Rattle.std.specs.Prelude.{ℤ, pos, ◌+ℤ◌, int_lt, unwrap_or, is_some, if◌then◌else◌}
+use Rattle.kr_defs.specs.declared.limits.TheConstants.{GREATEST_EPOCH}
 use Rattle.kr_defs.specs.declared.partition.Partition.{Partition}
 use Rattle.kr_defs.specs.declared.partition.PartitionChange.{PartitionChange}
 
 -- one more; the greatest epoch stays
 abbrev pub next_epoch : ℤ → ℤ
-next_epoch epoch = if int_lt epoch (pos 2147483647) then epoch +ℤ pos 1 else epoch
+next_epoch epoch = if int_lt epoch GREATEST_EPOCH then epoch +ℤ pos 1 else epoch
 
 -- Each present field replaces its value. The partition epoch rises, and the leader epoch where a leader is named.
 unfoldable pub merged : Partition → PartitionChange → Partition

@@ -1,9 +1,9 @@
 -- Partitions: which are well formed (KIP-631's fields; the rules are this project's own).
-use Rattle.std.specs.Prelude.{Bool, not, ◌&&◌, ◌||◌, List, length, nat_le, nat_lt, ℤ, pos, negsuc, int_lt}
+use Rattle.std.specs.Prelude.{Bool, not, ◌&&◌, ◌||◌, ◌==◌, List, length, nat_le, nat_lt, ℤ, pos, negsuc, int_lt}
 use Rattle.std.specs.Ordering.{int_eq}
 use Rattle.std.specs.List.{list_all}
 use Rattle.kr_defs.specs.declared.partition.Partition.{Partition}
-use Rattle.kr_defs.specs.declared.limits.TheConstants.{MOST_REPLICAS}
+use Rattle.kr_defs.specs.declared.limits.TheConstants.{MOST_REPLICAS, MOST_TARGETS}
 use Rattle.kr_defs.specs.Ids.{has, is_distinct, is_within, are_apart, without}
 
 -- not below 0
@@ -28,11 +28,19 @@ are_replicas replicas =
     nat_lt 0 (length replicas) && nat_le (length replicas) MOST_REPLICAS
     && is_distinct replicas && list_all is_natural replicas
 
+-- KIP-455: the replicas that a request may ask for, 1 to 32, each once
+abbrev pub are_targets : List ℤ → Bool
+are_targets ids = nat_lt 0 (length ids) && nat_le (length ids) MOST_TARGETS && is_distinct ids
+
 -- a reassignment adds and removes other replicas, and keeps one before it and one after it
 abbrev pub is_reassignment : List ℤ → List ℤ → List ℤ → Bool
 is_reassignment replicas adding removing =
     is_part adding replicas && is_part removing replicas && are_apart adding removing
     && not (is_within replicas adding) && not (is_within replicas removing)
+
+-- a reassignment runs
+abbrev pub is_moving : Partition → Bool
+is_moving p = not (length p.adding == 0) || not (length p.removing == 0)
 
 -- KIP-966: in sync, eligible and last known are three parts of the replicas with no common member
 abbrev pub are_parts : List ℤ → List ℤ → List ℤ → List ℤ → Bool

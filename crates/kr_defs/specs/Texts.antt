@@ -1,12 +1,7 @@
 -- Names, decimal numbers and lists in text.
-use Rattle.std.specs.Prelude.{ℕ, ◌+◌, ◌-◌, ◌*◌, Bool, false, not, ◌&&◌, ◌||◌, List, [], ◌∷◌, length, ◌==◌, nat_eq, nat_le, nat_lt, Option, Some, None, if◌then◌else◌}
+use Rattle.std.specs.Prelude.{ℕ, ◌+◌, ◌-◌, ◌*◌, Bool, false, not, ◌&&◌, ◌||◌, List, [], ◌∷◌, length, map, bytes_eq, ◌==◌, nat_le, nat_lt, Option, Some, None, if◌then◌else◌}
 use Rattle.std.specs.List.{list_all, slice_split, join_with_byte}
-use Rattle.std.specs.Cmp.Lexicographic.{pointwise}
 use Rattle.kr_defs.specs.declared.limits.TheConstants.{LONGEST_TOPIC}
-
--- the same text
-abbrev pub is_text : List ℕ → List ℕ → Bool
-is_text x y = pointwise nat_eq x y
 
 -- `0` to `9`
 abbrev pub is_digit : ℕ → Bool
@@ -24,13 +19,21 @@ is_name_byte byte = is_digit byte || is_letter byte || byte == 46 || byte == 95 
 abbrev pub are_name_bytes : List ℕ → Bool
 are_name_bytes name = list_all is_name_byte name
 
--- 1 to 249 of these. The key of a setting is one (this project's own rule for keys)
-abbrev pub is_name : List ℕ → Bool
-is_name name = nat_lt 0 (length name) && nat_le (length name) LONGEST_TOPIC && are_name_bytes name
+-- some of these, at most so many
+abbrev pub is_name : ℕ → List ℕ → Bool
+is_name longest name = nat_lt 0 (length name) && nat_le (length name) longest && are_name_bytes name
 
 -- Kafka's topic names are neither `.` nor `..`
 abbrev pub is_topic_name : List ℕ → Bool
-is_topic_name name = is_name name && not (is_text name (46 ∷ [])) && not (is_text name (46 ∷ 46 ∷ []))
+is_topic_name name = is_name LONGEST_TOPIC name && not (bytes_eq name (46 ∷ [])) && not (bytes_eq name (46 ∷ 46 ∷ []))
+
+-- `.` becomes `_`
+abbrev pub as_underscore : ℕ → ℕ
+as_underscore byte = if byte == 46 then 95 else byte
+
+-- Kafka's Topic.hasCollision: the names are the same after each `.` becomes `_`
+abbrev pub names_agree : List ℕ → List ℕ → Bool
+names_agree name other = bytes_eq (map as_underscore name) (map as_underscore other)
 
 -- ---- decimal numbers (this project's own)
 

@@ -1,10 +1,12 @@
 //! What is true of the definitions. Each function says so in its contract, and does nothing.
 
-ghost use Rattle.std.specs.Prelude.{◌≡◌, ℕ, ◌+◌, ◌≤◌, List, All, IsTrue, not, ◌==◌, false};
+ghost use Rattle.std.specs.Prelude.{◌≡◌, ℕ, ℤ, ◌+◌, ◌≤◌, List, IfSome, All, IsTrue, not, ◌==◌, false};
 ghost use Rattle.kr_defs.specs.declared.record.Item.TheVariants as items;
 ghost use Rattle.kr_defs.specs.declared.record.Record.TheVariants as kinds;
 ghost use Rattle.kr_defs.specs.Image.{Image, IsValid, empty, has_topic, topic_name};
-ghost use Rattle.kr_defs.specs.Log.{Log, first, tip, more, image_at};
+ghost use Rattle.std.specs.Option.{option_map};
+ghost use Rattle.std.specs.Result.{result_err};
+ghost use Rattle.kr_defs.specs.Log.{Log, first, tip, more, image_at, apply_all, first_ill, IsBehindGood};
 ghost use Rattle.kr_defs.specs.Apply as apply;
 ghost use Rattle.kr_defs.specs.declared.record.Item.{Item as AnyItem};
 
@@ -41,4 +43,10 @@ pub fn one_item_more()
     ensures start { (log : Log) → image_at log log.offset ≡ Ok log.image }
     ensures tip { (log : Log) (item : AnyItem) (image : Image) → image_at log (tip log) ≡ Ok image → image_at (more log item) (tip log + 1) ≡ apply.apply image item }
     ensures below { (log : Log) (item : AnyItem) (place : ℕ) → place ≤ tip log → image_at (more log item) place ≡ image_at log place }
+{}
+
+/// The first ill item is named exactly where the items have no image, with the cause that there is none, and all before it have one.
+pub fn first_ill_is_named()
+    ensures cause { (image : Image) (place : ℤ) (items : List AnyItem) → option_map (λ ill. ill.1) (first_ill image place items) ≡ result_err (apply_all image items) }
+    ensures place { (image : Image) (place : ℤ) (items : List AnyItem) → IfSome (first_ill image place items) (IsBehindGood image place items) }
 {}

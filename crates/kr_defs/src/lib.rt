@@ -57,6 +57,9 @@ pub use partition_laws::{
 };
 pub use record::{ConfigKey, Item, Record, Topic};
 pub use rows::{Bytes, Ids, Items, Records, Rows, Texts};
-pub use settings::{is_broker_name, read_minimum, read_switch};
+pub use settings::{
+    MINIMUM_KEY, UNCLEAN_KEY, is_broker_name, is_list_key, is_setting_key, is_setting_value,
+    read_minimum, read_switch,
+};
 pub use text::Text;
-pub use texts::{decimal_up_to, is_name, is_topic_name};
+pub use texts::{decimal_up_to, is_topic_name, names_agree};

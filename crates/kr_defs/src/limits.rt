@@ -12,7 +12,10 @@ pub const MOST_PARTITIONS: usize = 9000;
 /// The greatest index of a partition.
 pub const LAST_INDEX: i32 = 8999;
 
-/// Replicas that a request may ask for.
+/// Partitions of a topic where a request leaves their number open, in the options of a controller.
+pub const MOST_DEFAULT_PARTITIONS: i32 = 9000;
+
+/// Replicas that a request may ask for, and of a topic where it leaves their number open.
 pub const MOST_TARGETS: usize = 32;
 
 /// Replicas of a partition while it is reassigned.
@@ -30,6 +33,21 @@ pub const MOST_REGISTRATION_TEXT: usize = 4096;
 /// Bytes of text in all settings.
 pub const MOST_CONFIG_TEXT: usize = 4194304;
 
+/// Bytes in the key of a setting that a request names.
+pub const LONGEST_KEY: usize = 249;
+
+/// Bytes in the value of a setting that a request sets.
+pub const LONGEST_VALUE: usize = 8192;
+
+/// The greatest number that `min.insync.replicas` may say.
+pub const GREATEST_MINIMUM: u32 = 2147483647;
+
+/// The greatest id in the name of a broker resource.
+pub const GREATEST_BROKER: u32 = 2147483647;
+
+/// Bytes in the id of the cluster.
+pub const LONGEST_CLUSTER: usize = 255;
+
 /// Features that have a level.
 pub const MOST_FEATURES: usize = 1000;
 
@@ -39,11 +57,26 @@ pub const LONGEST_FEATURE: usize = 249;
 /// Bytes in the name of a topic.
 pub const LONGEST_TOPIC: usize = 249;
 
+/// The leader epoch and the partition epoch of a partition stay at this one.
+pub const GREATEST_EPOCH: i32 = 2147483647;
+
 /// Records of one batch.
 pub const MOST_RECORDS: usize = 10000;
 
 /// Bytes in the values of the records of a batch that this controller writes.
 pub const MOST_VALUE_BYTES: usize = 8000000;
+
+/// Records that one request gives.
+pub const MOST_REQUEST_RECORDS: usize = 10000;
+
+/// Bytes in the values of the records that one request gives.
+pub const MOST_REQUEST_BYTES: usize = 8000000;
+
+/// Above this tip of the log nothing is led, decided or loaded.
+pub const GREATEST_TIP: i64 = 2305843009213693952;
+
+/// Each place of the log is below this one.
+pub const PLACES_END: i64 = 4611686018427387904;
 
 /// Records of each batch of an image, but for the last.
 pub const IMAGE_BATCH: usize = 1000;

@@ -30,18 +30,40 @@ fn are_name_bytes(name: &[u8]) -> bool
     name.iter().all(|byte| is_name_byte(*byte))
 }
 
-/// The text is 1 to 249 ASCII letters, digits, `.`, `_` and `-`, as the key of a setting has to be.
-pub fn is_name(name: &Text) -> bool
-    ensures { result ≡ texts.is_name name.now }
+/// The text is at most so many ASCII letters, digits, `.`, `_` and `-`, and not empty.
+pub fn is_name(longest: usize, name: &Text) -> bool
+    ensures { result ≡ texts.is_name longest name.now }
 {
-    !name.is_empty() && name.len() <= LONGEST_TOPIC && are_name_bytes(name.as_bytes())
+    !name.is_empty() && name.len() <= longest && are_name_bytes(name.as_bytes())
 }
 
-/// The text may name a topic: it is a name, and neither `.` nor `..`.
+/// The text may name a topic: 1 to 249 ASCII letters, digits, `.`, `_` and `-`, and neither `.` nor `..`.
 pub fn is_topic_name(name: &Text) -> bool
     ensures { result ≡ texts.is_topic_name name.now }
 {
-    is_name(name) && name.as_str() != "." && name.as_str() != ".."
+    is_name(LONGEST_TOPIC, name) && name.as_str() != "." && name.as_str() != ".."
+}
+
+fn as_underscore(byte: u8) -> u8
+    ensures { result ≡ texts.as_underscore byte }
+{
+    if byte == b'.' { b'_' } else { byte }
+}
+
+/// The names are the same after each `.` becomes `_`.
+pub fn names_agree(name: &Text, other: &Text) -> bool
+    ensures { result ≡ texts.names_agree name.now other.now }
+{
+    let others = other.as_bytes();
+    if name.len() != others.len() {
+        return false;
+    }
+    for (at, byte) in name.as_bytes().iter().enumerate() {
+        if as_underscore(*byte) != as_underscore(others[at]) {
+            return false;
+        }
+    }
+    true
 }
 
 fn are_digits(text: &[u8]) -> bool
