@@ -1,13 +1,12 @@
 -- KIP-631: a partition that is created, and (after KIP-966) a change that ends its standing by.
-use Rattle.std.specs.Prelude.{List, [], ◌∷◌, length, ◌==◌, ℤ, pos, negsuc, None}
+use Rattle.std.specs.Prelude.{List, [], length, slice_get, ◌==◌, ℤ, pos, negsuc, None, unwrap_or}
 use Rattle.kr_defs.specs.declared.partition.Partition.{Partition}
 use Rattle.kr_defs.specs.declared.partition.PartitionChange.{PartitionChange}
 use Rattle.kr_defs.specs.Build.{unless}
 
 -- the first replica in sync leads, or nobody
 abbrev pub first_leader : List ℤ → ℤ
-first_leader [] = negsuc 0
-first_leader (id ∷ ids) = id
+first_leader in_sync = unwrap_or (slice_get in_sync 0) (negsuc 0)
 
 abbrev pub new_partition : List ℤ → List ℤ → Partition
 new_partition replicas in_sync = record {
