@@ -17,7 +17,7 @@ use Rattle.kr_defs.specs.Merge.{merged}
 use Rattle.kr_defs.specs.Elect.{is_preferred, is_sound, in_turn, first_of, elected}
 use Rattle.kr_defs.specs.Build.{is_target_in_sync, completes, asked, reached, ended, starts_alone, settled, aimed, unless, difference, built}
 use Rattle.kr_defs.specs.PartitionLaws.{IsChoice}
-use Rattle.kr_defs.specs.BuiltLaws.{HadRecords, BuiltLeadersHadRecords, EndsInSync, ReassignmentsEndInSync}
+use Rattle.kr_defs.specs.BuiltLaws.{IsAmong, BuiltLeadersHadRecords, EndsInSync, ReassignmentsEndInSync}
 use Rattle.kr_defs.proofs.IdLists.{same_id, all_at, all_from, has_before, passes_kept, has_kept}
 use Rattle.kr_defs.proofs.Elections.{first, second, third, sound, clean}
 use Rattle.kr_defs.proofs.Changes.{alone, same_list, replaced, replaced_same, changed_told}
@@ -35,28 +35,36 @@ in_sync_before want id h =
       | false ↦ λ k. asked_for k
     ] h
 
-had_records : (p : Partition) (in_sync : List ℤ) (leader : ℤ) → ((id : ℤ) → has in_sync id ≡ true → has p.in_sync id ≡ true) → (leader ≡ negsuc 0) ⊎ IsTrue (has in_sync leader || has p.eligible leader) → HadRecords p leader
-had_records p in_sync leader before (inl nobody) = inl nobody
-had_records p in_sync leader before (inr somebody) =
-    inr (elim (or_cases (has in_sync leader) (has p.eligible leader) somebody) [
-      | inl k ↦ or_left (has p.in_sync leader) (has p.eligible leader) (before leader k)
-      | inr k ↦ or_right (has p.in_sync leader) (has p.eligible leader) k
+among : (xs ys : List ℤ) (p : Partition) (leader : ℤ) → ((id : ℤ) → has xs id ≡ true → has ys id ≡ true) → IsAmong xs p leader → IsAmong ys p leader
+among xs ys p leader inside (inl nobody) = inl nobody
+among xs ys p leader inside (inr somebody) =
+    inr (elim (or_cases (has xs leader) (has p.eligible leader) somebody) [
+      | inl k ↦ or_left (has ys leader) (has p.eligible leader) (inside leader k)
+      | inr k ↦ or_right (has ys leader) (has p.eligible leader) k
     ])
 
 named : (test : Bool) (leader : ℤ) (P : ℤ → Type 0) → P leader → IfSome (unless test leader) P
 named true leader P told = tt
 named false leader P told = told
 
-pub leaders_had_records : BuiltLeadersHadRecords
+-- a leader that is named is one that the election found
+leader_told : (p : Partition) (want : Want) (facts : Facts) (P : ℤ → Type 0) → P (elected p (ended (asked want)).replicas (ended (asked want)).in_sync want.mode want.restarted facts).0 → IfSome (built p want facts) (λ change. IfSome change.leader P)
 unfolding built aimed difference
-leaders_had_records p want facts inside fails =
+leader_told p want facts P told =
     let before = ended (asked want) in
     let election = elected p before.replicas before.in_sync want.mode want.restarted facts in
-    let told : HadRecords p election.0 = had_records p before.in_sync election.0
-    (λ id h. all_at (has p.in_sync) want.in_sync id inside (in_sync_before want id h))
-    (clean p before.replicas before.in_sync want.mode want.restarted facts fails) in
-    changed_told p (aimed p want facts) (λ change. IfSome change.leader (HadRecords p))
-    (named (int_eq p.leader election.0 && is_within p.replicas (aimed p want facts).replicas) election.0 (HadRecords p) told)
+    changed_told p (aimed p want facts) (λ change. IfSome change.leader P)
+    (named (int_eq p.leader election.0 && is_within p.replicas (aimed p want facts).replicas) election.0 P told)
+
+pub leaders_had_records : BuiltLeadersHadRecords
+leaders_had_records p want facts fails =
+    let before = ended (asked want) in
+    let leader = (elected p before.replicas before.in_sync want.mode want.restarted facts).0 in
+    let told : IsAmong want.in_sync p leader = among before.in_sync want.in_sync p leader (in_sync_before want) (clean p before.replicas before.in_sync want.mode want.restarted facts fails) in
+    record {
+      wanted = leader_told p want facts (IsAmong want.in_sync p) told;
+      had = λ inside. leader_told p want facts (IsAmong p.in_sync p) (among want.in_sync p.in_sync p leader (λ id h. all_at (has p.in_sync) want.in_sync id inside h) told);
+    }
 
 -- ---- the end of a reassignment
 

@@ -14,7 +14,7 @@ use Rattle.kr_defs.specs.Log.{apply_all}
 use Rattle.kr_defs.specs.Map.{get, insert, above, next, partition_order}
 use Rattle.kr_defs.specs.Records.{records_of}
 use Rattle.kr_defs.specs.ImageLaws.{as_items}
-use Rattle.kr_defs.specs.MapLaws.{of_topic}
+use Rattle.kr_defs.specs.Walk.{of_topic}
 use Rattle.kr_defs.specs.BuiltLaws.{is_sensible_at_length}
 use Rattle.kr_defs.specs.KeptMaps.{KeptMaps, no_maps, map_at, inserted, removed, marked, reverted, forgotten}
 use Rattle.kr_defs.specs.KeptLaws.{Insert, Remove, Mark, Revert, Forget, after_actions}

@@ -4,7 +4,7 @@ use Rattle.std.specs.Prelude.{Option, Some, None, Result, Ok, Err, IsTrue, not, 
 use Rattle.std.specs.Option.{option_map, option_map_or}
 use Rattle.std.specs.Ordering.{int_cmp, int_eq}
 use Rattle.std.specs.declared.cmp.Ordering.TheVariants.{Less, Equal, Greater}
-use Rattle.std.specs.List.{AllByRecursion, list_any}
+use Rattle.std.specs.List.{AllByRecursion, list_any, flat_map}
 use Rattle.std.specs.List.Sorted.{IsStrictlySortedBy}
 use Rattle.std.specs.Map.{keys_of, values_of}
 use Rattle.std.proofs.lemmas.Bool.{cases_Bool}
@@ -29,7 +29,8 @@ use Rattle.kr_defs.specs.Partition.{is_well_formed}
 use Rattle.kr_defs.specs.Texts.{is_topic_name}
 use Rattle.kr_defs.specs.Apply.{apply, apply_record}
 use Rattle.kr_defs.specs.Log.{apply_all}
-use Rattle.kr_defs.specs.Records.{topics_records, records_of}
+use Rattle.kr_defs.specs.Records.{partition_record, topic_records, records_of}
+use Rattle.kr_defs.specs.Walk.{walked, of_topic}
 use Rattle.kr_defs.specs.ImageLaws.{as_items, OwnRecordsMakeImages}
 use Rattle.kr_defs.proofs.Maps.{all_keys-filter, length-filter_le}
 use Rattle.kr_defs.proofs.ImageParts.{text_total, partition_total, config_total}
@@ -153,6 +154,10 @@ configs_added image xs (y ∷ ys) before ordered little =
 abbrev Entry : Type 0
 Entry = (ℕ × ℤ) × Partition
 
+-- the records of a topic's partitions
+abbrev records_in : List ℕ → ℕ → List Entry → List Record
+records_in name topic ps = map partition_record (map (walked name) (of_topic topic ps))
+
 -- of those that are chosen later, the topic's are added to those that were chosen before
 record Adds (topic : ℕ) (before later : Entry → Bool) : Type 0 where
   new : (e : Entry) → (e.0.0 == topic) ≡ true → before e ≡ false
@@ -169,11 +174,11 @@ partition_added image xs ys e are below lt owned index formed room =
     (passes _ _ _ _ (ap (λ ps. nat_le MOST_PARTITIONS (length ps)) are ∙ no_room (length (xs ++ ys)) MOST_PARTITIONS room)
     (ap (λ ps. Ok (record image { partitions = entries.insert partition_order ps e.0 e.1 })) are ∙ ap (λ ps. Ok (record image { partitions = ps })) (insert-between partition_total xs ys e.0 e.1 below lt))))))
 
-module _ (image : Image) (topic : ℕ) (before later : Entry → Bool) (there : has_topic image.topics topic ≡ true) (adds : Adds topic before later) where
+module _ (image : Image) (name : List ℕ) (topic : ℕ) (before later : Entry → Bool) (there : has_topic image.topics topic ≡ true) (adds : Adds topic before later) where
   abbrev with : List Entry → Image
   with ps = record image { partitions = ps }
 
-  partitions_added : (xs ys : List Entry) → IsBefore partition_order xs ys → IsMap partition_order ys → length xs + length ys ≤ MOST_PARTITIONS → AllByRecursion (λ e. IsTrue (is_index e.0.1)) ys → AllByRecursion (λ e. IsTrue (is_well_formed e.1)) ys → after (with (xs ++ filter before ys)) (map (λ e. kinds.Partition e.0.1 e.0.0 e.1) (filter (λ e. e.0.0 == topic) ys)) ≡ Ok (with (xs ++ filter later ys))
+  partitions_added : (xs ys : List Entry) → IsBefore partition_order xs ys → IsMap partition_order ys → length xs + length ys ≤ MOST_PARTITIONS → AllByRecursion (λ e. IsTrue (is_index e.0.1)) ys → AllByRecursion (λ e. IsTrue (is_well_formed e.1)) ys → after (with (xs ++ filter before ys)) (records_in name topic ys) ≡ Ok (with (xs ++ filter later ys))
   unfolding IsStrictlySortedBy
   partitions_added xs [] behind ordered few indexes formed = refl
   partitions_added xs (y ∷ ys) behind ordered few indexes formed =
@@ -186,11 +191,11 @@ module _ (image : Image) (topic : ℕ) (before later : Entry → Bool) (there : 
             let owned : has_topic image.topics y.0.0 ≡ true = subst (λ (id : ℕ). has_topic image.topics id ≡ true) (sym (same_topic y.0.0 topic is)) there in
             rw (is, adds.new y is, adds.own y is)
             (after_one _ _ _ _ (partition_added (with (xs ++ filter before ys)) xs (filter before ys) y refl behind.0 (all_keys-filter (λ z. partition_order y.0 z ≡ Less) before ys ordered.0) owned indexes.0 formed.0 (omega (arith, fewer, long)))
-            ∙ (ap (λ ps. after (with ps) (map (λ e. kinds.Partition e.0.1 e.0.0 e.1) (filter (λ e. e.0.0 == topic) ys))) (sym (append_assoc xs (y ∷ []) (filter before ys)))
+            ∙ (ap (λ ps. after (with ps) (records_in name topic ys)) (sym (append_assoc xs (y ∷ []) (filter before ys)))
             ∙ (partitions_added (xs ++ y ∷ []) ys pushed ordered.1 less indexes.1 formed.1
             ∙ ap (λ ps. Ok (with ps)) (append_assoc xs (y ∷ []) (filter later ys)))))
-        | inr not ↦ rw (not, adds.others y not) (elim (before y) as (λ b. after (with (xs ++ cond b (y ∷ filter before ys) (filter before ys))) (map (λ e. kinds.Partition e.0.1 e.0.0 e.1) (filter (λ e. e.0.0 == topic) ys)) ≡ Ok (with (xs ++ cond b (y ∷ filter later ys) (filter later ys)))) [
-          | true ↦ ap (λ ps. after (with ps) (map (λ e. kinds.Partition e.0.1 e.0.0 e.1) (filter (λ e. e.0.0 == topic) ys))) (sym (append_assoc xs (y ∷ []) (filter before ys)))
+        | inr not ↦ rw (not, adds.others y not) (elim (before y) as (λ b. after (with (xs ++ cond b (y ∷ filter before ys) (filter before ys))) (records_in name topic ys) ≡ Ok (with (xs ++ cond b (y ∷ filter later ys) (filter later ys)))) [
+          | true ↦ ap (λ ps. after (with ps) (records_in name topic ys)) (sym (append_assoc xs (y ∷ []) (filter before ys)))
               ∙ (partitions_added (xs ++ y ∷ []) ys pushed ordered.1 less indexes.1 formed.1
               ∙ ap (λ ps. Ok (with ps)) (append_assoc xs (y ∷ []) (filter later ys)))
           | false ↦ partitions_added xs ys behind.1 ordered.1 (omega arith) indexes.1 formed.1
@@ -267,16 +272,16 @@ module _ (image : Image) (ps : List Entry) (ordered_ps : IsMap partition_order p
   abbrev holding : List (List ℕ × ℕ) → Image
   holding topics = record image { topics = topics; partitions = filter (owned_by topics) ps }
 
-  topics_added : (xs ys : List (List ℕ × ℕ)) → IsBefore text_order xs ys → IsMap text_order ys → length xs + length ys ≤ MOST_TOPICS → IsNew xs ys → are_distinct (values_of ys) ≡ true → AllByRecursion (λ e. IsTrue (is_topic_name e.0)) ys → AllByRecursion (λ e. IsTrue (not (e.1 == 0))) ys → after (holding xs) (topics_records ps ys) ≡ Ok (holding (xs ++ ys))
+  topics_added : (xs ys : List (List ℕ × ℕ)) → IsBefore text_order xs ys → IsMap text_order ys → length xs + length ys ≤ MOST_TOPICS → IsNew xs ys → are_distinct (values_of ys) ≡ true → AllByRecursion (λ e. IsTrue (is_topic_name e.0)) ys → AllByRecursion (λ e. IsTrue (not (e.1 == 0))) ys → after (holding xs) (flat_map (topic_records ps) ys) ≡ Ok (holding (xs ++ ys))
   unfolding IsStrictlySortedBy
   topics_added xs [] before ordered few new distinct names ids = ap (λ ts. Ok (holding ts)) (sym (append-nil xs))
   topics_added xs (y ∷ ys) before ordered few new distinct names ids =
       let apart = both (not (list_any (λ other. other == y.1) (values_of ys))) (are_distinct (values_of ys)) distinct in
       let there : has_topic (xs ++ y ∷ []) y.1 ≡ true = has_topic-push xs y y.1 ∙ (ap (λ b. has_topic xs y.1 || b) (equal_self y.1) ∙ or_true (has_topic xs y.1)) in
       let named = record (holding xs) { topics = xs ++ y ∷ [] } in
-      let parts = map (λ e. kinds.Partition e.0.1 e.0.0 e.1) (filter (λ e. e.0.0 == y.1) ps) in
-      after_one (holding xs) named _ (parts ++ topics_records ps ys) (topic_added (holding xs) y.0 y.1 before.0 names.0 new.0 ids.0 (omega arith))
-      ∙ (after_first named (holding (xs ++ y ∷ [])) parts (topics_records ps ys) (partitions_added named y.1 (owned_by xs) (owned_by (xs ++ y ∷ [])) there (adds_own xs y new.0) [] ps (before_none partition_order ps) ordered_ps (omega arith) indexes formed)
+      let parts = records_in y.0 y.1 ps in
+      after_one (holding xs) named _ (parts ++ flat_map (topic_records ps) ys) (topic_added (holding xs) y.0 y.1 before.0 names.0 new.0 ids.0 (omega arith))
+      ∙ (after_first named (holding (xs ++ y ∷ [])) parts (flat_map (topic_records ps) ys) (partitions_added named y.0 y.1 (owned_by xs) (owned_by (xs ++ y ∷ [])) there (adds_own xs y new.0) [] ps (before_none partition_order ps) ordered_ps (omega arith) indexes formed)
       ∙ (topics_added (xs ++ y ∷ []) ys (before_push text_order xs y ys before.1 ordered.0) ordered.1 (one_less xs y ys MOST_TOPICS few) (new_push xs y ys new.1 (not_true (list_any (λ other. other == y.1) (values_of ys)) apart.0)) apart.1 names.1 ids.1
       ∙ ap (λ ts. Ok (holding ts)) (append_assoc xs (y ∷ []) ys)))
 
@@ -304,14 +309,14 @@ module _ (image : Image) (v : IsValid image) where
       let few = are.few in
       brokers_added with_features [] image.brokers (before_none int_cmp image.brokers) are.ordered (omega (arith, few)) (recursion_from_All (λ e. IsTrue (has_numbers e.0 e.1)) image.brokers are.numbers) (recursion_from_All (λ e. IsTrue (is_small_registration e.1)) image.brokers are.small)
 
-  of_topics : after with_brokers (topics_records image.partitions image.topics) ≡ Ok with_topics
+  of_topics : after with_brokers (flat_map (topic_records image.partitions) image.topics) ≡ Ok with_topics
   of_topics =
       let are = v.topics in
       let few = are.few in
       let ps = v.partitions in
       let none : filter (owned_by []) image.partitions ≡ [] = none_owned image.partitions in
       let all : filter (owned_by image.topics) image.partitions ≡ image.partitions = all_owned image.topics image.partitions (recursion_from_All (λ e. IsTrue (has_topic image.topics e.0.0)) image.partitions ps.owned) in
-      ap (λ qs. after (record with_brokers { partitions = qs }) (topics_records image.partitions image.topics)) (sym none)
+      ap (λ qs. after (record with_brokers { partitions = qs }) (flat_map (topic_records image.partitions) image.topics)) (sym none)
       ∙ (topics_added with_brokers image.partitions ps.ordered ps.few (recursion_from_All (λ e. IsTrue (is_index e.0.1)) image.partitions ps.indexes) (recursion_from_All (λ e. IsTrue (is_well_formed e.1)) image.partitions ps.well_formed)
       [] image.topics (before_none text_order image.topics) are.ordered (omega (arith, few)) (none_new image.topics) are.distinct (recursion_from_All (λ e. IsTrue (is_topic_name e.0)) image.topics are.names) (recursion_from_All (λ e. IsTrue (not (e.1 == 0))) image.topics are.ids)
       ∙ ap (λ qs. Ok (record with_topics { partitions = qs })) all)
@@ -327,7 +332,7 @@ unfolding records_of
 own_records image v =
     let features = map (λ e. kinds.FeatureLevel e.0 e.1) image.features in
     let brokers = map (λ e. kinds.RegisterBroker e.0 e.1) image.brokers in
-    let topics = topics_records image.partitions image.topics in
+    let topics = flat_map (topic_records image.partitions) image.topics in
     let configs = map (λ e. kinds.Config e.0.kind e.0.name e.0.key (Some e.1)) image.configs in
     let first = after_first empty (with_features image v) features brokers (of_features image v) ∙ of_brokers image v in
     let second = after_first empty (with_brokers image v) (features ++ brokers) topics first ∙ of_topics image v in

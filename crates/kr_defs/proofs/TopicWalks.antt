@@ -13,7 +13,8 @@ use Rattle.std.proofs.lemmas.List.Elements.{recursion_from_All}
 use Rattle.kr_defs.specs.declared.partition.Partition.{Partition}
 use Rattle.kr_defs.specs.Image.{is_index}
 use Rattle.kr_defs.specs.Map.{IsMap, above, next, partition_order}
-use Rattle.kr_defs.specs.MapLaws.{of_topic, TopicWalks}
+use Rattle.kr_defs.specs.Walk.{of_topic}
+use Rattle.kr_defs.specs.MapLaws.{TopicWalks}
 use Rattle.kr_defs.proofs.ImageParts.{partition_total}
 use Rattle.kr_defs.proofs.Walks.{walk_next, walk_end, all_above}
 

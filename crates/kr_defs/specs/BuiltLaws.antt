@@ -6,28 +6,26 @@ use Rattle.kr_defs.specs.declared.changing.Facts.{Facts}
 use Rattle.kr_defs.specs.declared.changing.Want.{Want}
 use Rattle.kr_defs.specs.declared.limits.TheConstants.{MOST_REPLICAS}
 use Rattle.kr_defs.specs.Ids.{has, is_distinct, is_within, within}
-use Rattle.kr_defs.specs.Partition.{is_natural, is_part, is_reassignment, is_recovery, target, is_well_formed}
+use Rattle.kr_defs.specs.Partition.{is_moving, is_natural, is_part, is_reassignment, is_recovery, target, is_well_formed}
 use Rattle.kr_defs.specs.Merge.{merged}
 use Rattle.kr_defs.specs.Elect.{is_unclean}
 use Rattle.kr_defs.specs.Build.{is_sensible, built}
 use Rattle.kr_defs.specs.DefaultWant.{default_want}
 use Rattle.kr_defs.specs.NewPartition.{new_partition, emptying}
 
--- -1, or a replica that was in sync or eligible
-abbrev pub HadRecords : Partition → ℤ → Type 0
-HadRecords p leader = (leader ≡ negsuc 0) ⊎ IsTrue (has p.in_sync leader || has p.eligible leader)
+-- -1, or one of these, or a replica that was eligible
+abbrev pub IsAmong : List ℤ → Partition → ℤ → Type 0
+IsAmong ids p leader = (leader ≡ negsuc 0) ⊎ IsTrue (has ids leader || has p.eligible leader)
 
--- Where unclean election is neither on nor asked for, and no further replica is said to be in sync, a leader that is
--- named was in sync or eligible.
+-- Where unclean election is neither on nor asked for, a leader that is named is said to be in sync, or was eligible.
+-- Where no further replica is said to be in sync, it was in sync or eligible.
+pub record LeadersHadRecords (p : Partition) (want : Want) (facts : Facts) : Type 0 where
+  pub wanted : IfSome (built p want facts) (λ change. IfSome change.leader (IsAmong want.in_sync p))
+  pub had : IsTrue (is_within want.in_sync p.in_sync) → IfSome (built p want facts) (λ change. IfSome change.leader (IsAmong p.in_sync p))
+
 abbrev pub BuiltLeadersHadRecords : Type 0
 BuiltLeadersHadRecords =
-    (p : Partition) (want : Want) (facts : Facts) →
-    IsTrue (is_within want.in_sync p.in_sync) → facts.unclean || is_unclean want.mode ≡ false →
-    IfSome (built p want facts) (λ change. IfSome change.leader (HadRecords p))
-
--- a reassignment runs
-abbrev pub is_reassigned : Partition → Bool
-is_reassigned p = not (length p.adding == 0) || not (length p.removing == 0)
+    (p : Partition) (want : Want) (facts : Facts) → facts.unclean || is_unclean want.mode ≡ false → LeadersHadRecords p want facts
 
 -- the replicas and the reassignment that are asked for are the partition's own
 pub record AsksOwnLists (p : Partition) (want : Want) : Type 0 where
@@ -43,7 +41,7 @@ EndsInSync p after = after.adding ≡ [] → after.removing ≡ [] → IsTrue (i
 abbrev pub ReassignmentsEndInSync : Type 0
 ReassignmentsEndInSync =
     (p : Partition) (want : Want) (facts : Facts) →
-    AsksOwnLists p want → IsTrue (is_reassigned p) →
+    AsksOwnLists p want → IsTrue (is_moving p) →
     IfSome (built p want facts) (λ change. EndsInSync p (merged p change))
 
 -- What is asked of a well formed partition where nothing is named is sensible.

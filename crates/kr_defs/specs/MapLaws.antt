@@ -5,6 +5,7 @@ use Rattle.std.specs.Ordering.{is_eq}
 use Rattle.std.specs.Cmp.{IsTotalOrder}
 use Rattle.kr_defs.specs.declared.partition.Partition.{Partition}
 use Rattle.kr_defs.specs.Image.{is_index}
+use Rattle.kr_defs.specs.Walk.{of_topic}
 use Rattle.kr_defs.specs.Map.{IsMap, get, insert, above, next, partition_order}
 
 module _ {K V : Type 0} (order : K → K → Ordering) (entries : List (K × V)) where
@@ -29,10 +30,6 @@ module _ {K V : Type 0} (order : K → K → Ordering) (entries : List (K × V))
 
 abbrev pub MapLaws : {K V : Type 0} → (K → K → Ordering) → List (K × V) → Type 0
 MapLaws order entries = IsTotalOrder order → IsMap order entries → MapsHold order entries
-
--- the partitions of one topic, by index
-abbrev pub of_topic : ℕ → List ((ℕ × ℤ) × Partition) → List ((ℕ × ℤ) × Partition)
-of_topic id partitions = filter (λ e. e.0.0 == id) partitions
 
 -- A walk that begins below the first index of a topic passes each partition of that topic, and then no other of it.
 pub record TopicWalksPassAll (partitions : List ((ℕ × ℤ) × Partition)) : Type 0 where

@@ -6,8 +6,8 @@ ghost use Rattle.kr_defs.specs.declared.partition.Partition.{Partition as AnyPar
 ghost use Rattle.kr_defs.specs.Partition.{are_replicas};
 ghost use Rattle.kr_defs.specs.BuiltLaws.{BuiltLeadersHadRecords, ReassignmentsEndInSync, DefaultWantsAreSensible, LongListsAreTheOnlyFault, NewPartitionsAreWellFormed, EmptyingKeeps};
 
-/// Where unclean election is neither on nor asked for, and no further replica is said to be in sync, a leader that is
-/// named was in sync or eligible.
+/// Where unclean election is neither on nor asked for, a leader that is named is said to be in sync, or was eligible.
+/// Where no further replica is said to be in sync, it was in sync or eligible.
 pub fn built_leaders_had_records()
     ensures { BuiltLeadersHadRecords }
 {}
