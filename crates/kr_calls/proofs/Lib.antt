@@ -1,0 +1,8 @@
+mod BrokerExamples
+mod Cluster
+mod ConfigExamples
+mod PartitionExamples
+mod ReadExamples
+mod SafeChangeExamples
+pub mod Standing
+mod TopicExamples

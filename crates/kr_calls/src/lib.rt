@@ -4,7 +4,9 @@
 mod brokers;
 mod calls;
 mod configs;
+mod deciding;
 mod events;
+pub mod laws;
 mod partitions;
 mod reads;
 mod topics;
@@ -18,6 +20,7 @@ pub use configs::{
     ConfigOperation, ConfigOperations, ConfigResource, ConfigResources, ConfigResponse,
     ConfigResponses, IncrementalAlterConfigs, IncrementalAlterConfigsReply,
 };
+pub use deciding::{Draft, Effect};
 pub use events::{Event, Output, Reason};
 pub use partitions::{
     AlterPartition, AlterPartitionReassignments, AlterPartitionReassignmentsReply,

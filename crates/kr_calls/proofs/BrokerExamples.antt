@@ -1,0 +1,185 @@
+-- What is decided of brokers, by computation: each refusal, and each row of the table of heartbeats.
+use Rattle.std.specs.Prelude.{◌≡◌, ℤ, pos, negsuc, Bool, true, false, [], ◌∷◌, Some, None, Ok, Err, codes, OnOk}
+use Rattle.std.proofs.Common.{refl}
+use Rattle.kr_defs.specs.declared.basis.Basis.{Basis}
+use Rattle.kr_defs.specs.declared.record.Record.TheVariants as kinds
+use Rattle.kr_defs.specs.Build.{aimed, built, completes, difference, ended, settled, standing_by}
+use Rattle.kr_defs.specs.Elect.{elected}
+use Rattle.kr_defs.specs.Eligible.{eligible_after}
+use Rattle.kr_defs.specs.Image.{Image}
+use Rattle.kr_calls.specs.declared.brokers.BrokerHeartbeat.{BrokerHeartbeat}
+use Rattle.kr_calls.specs.declared.brokers.BrokerHeartbeatReply.{BrokerHeartbeatReply}
+use Rattle.kr_calls.specs.declared.brokers.BrokerRegistration.{BrokerRegistration}
+use Rattle.kr_calls.specs.BrokerHeartbeat as heartbeating
+use Rattle.kr_calls.specs.BrokerRegistration as registering
+use Rattle.kr_calls.specs.UnregisterBroker as unregistering
+use Rattle.kr_calls.proofs.Cluster.{basis, broker, cluster, image, leaderless, no_change, options}
+
+-- ---- registrations
+
+abbrev asks : BrokerRegistration
+asks = record {
+  broker = pos 4;
+  cluster = codes "c1";
+  incarnation = 101;
+  listeners = record { name = []; host = codes "h"; port = 1; protocol = pos 0 } ∷ [];
+  features = [];
+  rack = None;
+  migrating = false;
+  previous_epoch = pos 13;
+}
+
+other_cluster : registering.rule options basis image (pos 30) (record asks { cluster = codes "c2"; broker = negsuc 0 }) ≡ Err (pos 104)
+other_cluster = refl
+
+negative_id : registering.rule options basis image (pos 30) (record asks { broker = negsuc 0 }) ≡ Err (pos 42)
+negative_id = refl
+
+migrating : registering.rule options basis image (pos 30) (record asks { migrating = true }) ≡ Err (pos 42)
+migrating = refl
+
+no_listener : registering.rule options basis image (pos 30) (record asks { listeners = [] }) ≡ Err (pos 42)
+no_listener = refl
+
+-- broker 1 was heard of a second ago
+other_incarnation : registering.rule options basis image (pos 30) (record asks { broker = pos 1 }) ≡ Err (pos 101)
+other_incarnation = refl
+
+-- its session has just ended
+late : OnOk (registering.rule options (record basis { time = pos 10000 }) image (pos 30) (record asks { broker = pos 1 })) (Unit {0})
+late = tt
+
+-- one millisecond before that it hasn't
+in_time : registering.rule options (record basis { time = pos 9999 }) image (pos 30) (record asks { broker = pos 1 }) ≡ Err (pos 101)
+in_time = refl
+
+-- a fenced broker registers anew; it is in sync nowhere
+anew : registering.rule options basis image (pos 30) asks
+    ≡ Ok (record { records = kinds.RegisterBroker (pos 4) (record (broker (pos 30) true) { incarnation = 101; endpoints = asks.listeners }) ∷ []; answer = record { error = pos 0; epoch = pos 30 } })
+anew = refl
+
+-- ---- heartbeats
+
+abbrev beats : BrokerHeartbeat
+beats = record { broker = pos 2; epoch = pos 11; offset = pos 30; want_fence = false; want_shutdown = false }
+
+abbrev fenced_beats : BrokerHeartbeat
+fenced_beats = record beats { broker = pos 4; epoch = pos 13 }
+
+abbrev answers : Bool → Bool → Bool → BrokerHeartbeatReply
+answers caught_up fenced shuts_down = record { error = pos 0; caught_up = caught_up; fenced = fenced; should_shut_down = shuts_down }
+
+unknown_broker : heartbeating.rule options basis image (pos 30) (record beats { broker = pos 9 }) ≡ Err (pos 77)
+unknown_broker = refl
+
+stale_epoch : heartbeating.rule options basis image (pos 30) (record beats { epoch = pos 12 }) ≡ Err (pos 77)
+stale_epoch = refl
+
+active_stays : heartbeating.rule options basis image (pos 30) beats ≡ Ok (record { records = []; answer = answers true false false })
+unfolding heartbeating.step
+active_stays = refl
+
+active_behind : heartbeating.rule options basis image (pos 30) (record beats { offset = pos 10 }) ≡ Ok (record { records = []; answer = answers false false false })
+unfolding heartbeating.step
+active_behind = refl
+
+fenced_shuts_down : heartbeating.rule options basis image (pos 30) (record fenced_beats { want_shutdown = true }) ≡ Ok (record { records = []; answer = answers true true true })
+unfolding heartbeating.step
+fenced_shuts_down = refl
+
+fenced_stays : heartbeating.rule options basis image (pos 30) (record fenced_beats { want_fence = true }) ≡ Ok (record { records = []; answer = answers true true false })
+unfolding heartbeating.step
+fenced_stays = refl
+
+fenced_behind : heartbeating.rule options basis image (pos 30) (record fenced_beats { offset = pos 12 }) ≡ Ok (record { records = []; answer = answers false true false })
+unfolding heartbeating.step
+fenced_behind = refl
+
+unfences : heartbeating.rule options basis image (pos 30) fenced_beats
+    ≡ Ok (record { records = kinds.BrokerRegistrationChange (pos 4) (pos 13) (negsuc 0) (pos 0) ∷ []; answer = answers true false false })
+unfolding heartbeating.step
+unfences = refl
+
+-- broker 2 follows, so that it leaves the replicas in sync alone
+wants_fence : heartbeating.rule options basis image (pos 30) (record beats { want_fence = true })
+    ≡ Ok (record {
+      records = kinds.BrokerRegistrationChange (pos 2) (pos 11) (pos 1) (pos 0)
+          ∷ kinds.PartitionChange (pos 0) 77 (record no_change { in_sync = Some (pos 1 ∷ pos 3 ∷ []) }) ∷ [];
+      answer = answers true true false;
+    })
+unfolding heartbeating.step built aimed ended completes settled standing_by elected eligible_after difference
+wants_fence = refl
+
+-- broker 2 leads nothing, so that it may go at once
+shuts_down : heartbeating.rule options basis image (pos 30) (record beats { want_shutdown = true })
+    ≡ Ok (record {
+      records = kinds.BrokerRegistrationChange (pos 2) (pos 11) (pos 1) (pos 0)
+          ∷ kinds.PartitionChange (pos 0) 77 (record no_change { in_sync = Some (pos 1 ∷ pos 3 ∷ []) }) ∷ [];
+      answer = answers true true true;
+    })
+unfolding heartbeating.step built aimed ended completes settled standing_by elected eligible_after difference
+shuts_down = refl
+
+-- broker 1 leads, so that it stops first and hands its leadership on
+begins_to_stop : heartbeating.rule options basis image (pos 30) (record beats { broker = pos 1; epoch = pos 10; want_shutdown = true })
+    ≡ Ok (record {
+      records = kinds.BrokerRegistrationChange (pos 1) (pos 10) (pos 0) (pos 1)
+          ∷ kinds.PartitionChange (pos 0) 77 (record no_change { in_sync = Some (pos 2 ∷ pos 3 ∷ []); leader = Some (pos 2) }) ∷ [];
+      answer = answers true false false;
+    })
+unfolding heartbeating.step built aimed ended completes settled standing_by elected eligible_after difference
+begins_to_stop = refl
+
+-- ---- a stopping broker
+
+abbrev stopping_image : Image
+stopping_image = record image {
+  brokers = (pos 1, record (broker (pos 10) false) { stopping = true }) ∷ (pos 2, broker (pos 11) false) ∷ (pos 3, broker (pos 12) false) ∷ [];
+  partitions = [];
+}
+
+abbrev stopping_at : ℤ → Basis
+stopping_at tip = record basis { stopping = record { broker = pos 1; tip = tip } ∷ [] }
+
+-- broker 2 has read up to 21 alone
+waits : heartbeating.rule options (stopping_at (pos 22)) stopping_image (pos 30) (record beats { broker = pos 1; epoch = pos 10 })
+    ≡ Ok (record { records = []; answer = answers true false false })
+unfolding heartbeating.step
+waits = refl
+
+-- both active brokers have read so far
+goes : heartbeating.rule options (stopping_at (pos 21)) stopping_image (pos 30) (record beats { broker = pos 1; epoch = pos 10 })
+    ≡ Ok (record { records = kinds.BrokerRegistrationChange (pos 1) (pos 10) (pos 1) (pos 0) ∷ []; answer = answers true true true })
+unfolding heartbeating.step
+goes = refl
+
+-- ---- a leaderless partition finds the broker that is unfenced
+
+abbrev broken_image : Image
+broken_image = record (cluster leaderless) {
+  brokers = (pos 1, broker (pos 10) false) ∷ (pos 2, broker (pos 11) false) ∷ (pos 3, broker (pos 12) true) ∷ [];
+}
+
+leads_again : heartbeating.rule options basis broken_image (pos 30) (record beats { broker = pos 3; epoch = pos 12 })
+    ≡ Ok (record {
+      records = kinds.BrokerRegistrationChange (pos 3) (pos 12) (negsuc 0) (pos 0)
+          ∷ kinds.PartitionChange (pos 0) 77 (record no_change { in_sync = Some (pos 3 ∷ []); eligible = Some []; leader = Some (pos 3) }) ∷ [];
+      answer = answers true false false;
+    })
+unfolding heartbeating.step built aimed ended completes settled standing_by elected eligible_after difference
+leads_again = refl
+
+-- ---- unregistrations
+
+not_registered : unregistering.rule options image (pos 30) (record { broker = pos 9 }) ≡ Err (pos 102)
+not_registered = refl
+
+-- broker 3 goes uncleanly: it is neither in sync nor eligible afterwards
+goes_for_good : unregistering.rule options image (pos 30) (record { broker = pos 3 })
+    ≡ Ok (record {
+      records = kinds.UnregisterBroker (pos 3) (pos 12)
+          ∷ kinds.PartitionChange (pos 0) 77 (record no_change { in_sync = Some (pos 1 ∷ pos 2 ∷ []) }) ∷ [];
+      answer = record { error = pos 0 };
+    })
+unfolding built aimed ended completes settled standing_by elected eligible_after difference
+goes_for_good = refl

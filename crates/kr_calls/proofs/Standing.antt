@@ -1,0 +1,100 @@
+-- What is decided has a meaning: each record at its place.
+use Rattle.std.proofs.Common.{◌≡◌, ◌∙◌, ℤ, Bool, true, false, cond, List, [], ◌∷◌, ◌++◌, refl, ap, subst, not}
+use Rattle.std.specs.Prelude.{Option, Some, None, Result, Ok, Err, unwrap_or}
+use Rattle.kr_defs.specs.declared.basis.Basis.{Basis}
+use Rattle.kr_defs.specs.declared.ill.Ill.{Ill}
+use Rattle.kr_defs.specs.declared.options.Options.{Options}
+use Rattle.kr_defs.specs.declared.record.Record.{Record}
+use Rattle.kr_defs.specs.Apply.{apply_record}
+use Rattle.kr_defs.specs.Guard.{and_then}
+use Rattle.kr_defs.specs.Image.{Image}
+use Rattle.kr_calls.specs.declared.calls.Request.{Request}
+use Rattle.kr_calls.specs.declared.calls.Request.TheVariants as requests
+use Rattle.kr_calls.specs.declared.deciding.Draft.{Draft}
+use Rattle.kr_calls.specs.Deciding.{Work, apply_records, is_within_limits, begun, added, taken, settled, done, one, after_all, after_groups, unless_validating, HaveMeanings}
+use Rattle.kr_calls.specs.Decide.{work_of}
+use Rattle.kr_calls.specs.Refuse.{refused_creation, refused_deletion, refused_growth, refused_resource}
+use Rattle.kr_calls.specs.AlterPartition as reporting
+use Rattle.kr_calls.specs.AlterPartitionReassignments as reassigning
+use Rattle.kr_calls.specs.BrokerHeartbeat as heartbeating
+use Rattle.kr_calls.specs.BrokerRegistration as registering
+use Rattle.kr_calls.specs.CreatePartitions as growing
+use Rattle.kr_calls.specs.CreateTopics as creating
+use Rattle.kr_calls.specs.DeleteTopics as deleting
+use Rattle.kr_calls.specs.ElectLeaders as electing
+use Rattle.kr_calls.specs.IncrementalAlterConfigs as configuring
+use Rattle.kr_calls.specs.UnregisterBroker as unregistering
+
+pub applied_in_two : (image : Image) (xs ys : List Record) → apply_records image (xs ++ ys) ≡ and_then (apply_records image xs) (λ after. apply_records after ys)
+applied_in_two image [] ys = refl
+applied_in_two image (x ∷ xs) ys =
+    elim (apply_record image x) as (λ r. and_then r (λ after. apply_records after (xs ++ ys)) ≡ and_then (and_then r (λ after. apply_records after xs)) (λ after. apply_records after ys)) [
+      | Ok after ↦ applied_in_two after xs ys
+      | Err cause ↦ refl
+    ]
+
+module _ (start : Image) where
+  added_stand : (w : Work) (records : List Record) (b : Bool) (r : Result Image Ill) (after : Work) → HaveMeanings start w → apply_records w.image records ≡ r → cond b (added w records r) None ≡ Some after → HaveMeanings start after
+  added_stand w records true (Ok image) after so_far meaning is =
+      subst (HaveMeanings start) (ap (λ o. unwrap_or o after) is) (applied_in_two start w.records records ∙ (ap (λ r. and_then r (λ i. apply_records i records)) so_far ∙ meaning))
+  added_stand w records true (Err cause) after so_far meaning is = absurd cc
+  added_stand w records false r after so_far meaning is = absurd cc
+
+  taken_stand : (w : Work) (records : List Record) (after : Work) → HaveMeanings start w → taken w records ≡ Some after → HaveMeanings start after
+  unfolding taken
+  taken_stand w records after so_far is = added_stand w records (is_within_limits w.records records) (apply_records w.image records) after so_far refl is
+
+  module _ {E A : Type 0} (refused : ℤ → E → A) where
+    settled_stand : (w : Work) (entry : E) (answer : A) (o : Option Work) → ((after : Work) → o ≡ Some after → HaveMeanings start after) → HaveMeanings start w → HaveMeanings start (settled refused w entry answer o).0
+    settled_stand w entry answer None stand so_far = so_far
+    settled_stand w entry answer (Some after) stand so_far = stand after refl
+
+    done_stand : (w : Work) (entry : E) (r : Result (Draft A) ℤ) → HaveMeanings start w → HaveMeanings start (done refused w entry r).0
+    unfolding done
+    done_stand w entry (Err error) so_far = so_far
+    done_stand w entry (Ok draft) so_far = settled_stand w entry draft.answer (taken w draft.records) (λ after is. taken_stand w draft.records after so_far is) so_far
+
+    module _ (rule : Image → ℤ → E → Result (Draft A) ℤ) where
+      pub one_stand : (w : Work) (entry : E) → HaveMeanings start w → HaveMeanings start (one refused rule w entry).0
+      one_stand w entry so_far = done_stand w entry (rule w.image w.place entry) so_far
+
+      pub all_stand : (w : Work) (entries : List E) → HaveMeanings start w → HaveMeanings start (after_all refused rule w entries)
+      all_stand w [] so_far = so_far
+      all_stand w (entry ∷ entries) so_far = all_stand (one refused rule w entry).0 entries (one_stand w entry so_far)
+
+      pub groups_stand : {G B : Type 0} (entries_of : G → List E) (answer_of : G → List A → B) (w : Work) (groups : List G) → HaveMeanings start w → HaveMeanings start (after_groups refused rule entries_of answer_of w groups)
+      groups_stand entries_of answer_of w [] so_far = so_far
+      groups_stand entries_of answer_of w (group ∷ groups) so_far =
+          groups_stand entries_of answer_of (after_all refused rule w (entries_of group)) groups (all_stand w (entries_of group) so_far)
+
+  validated_stand : (validate_only : Bool) (before after : Work) → HaveMeanings start before → HaveMeanings start after → HaveMeanings start (unless_validating validate_only before after)
+  validated_stand true before after first then = first
+  validated_stand false before after first then = then
+
+  chosen_stand : {X : Type 0} (test : Bool) (x y : Work × X) → HaveMeanings start x.0 → HaveMeanings start y.0 → HaveMeanings start (cond test x y).0
+  chosen_stand true x y first then = first
+  chosen_stand false x y first then = then
+
+-- every request, by its rule
+pub requests_stand : (options : Options) (basis : Basis) (image : Image) (place : ℤ) (request : Request) → HaveMeanings image (work_of options basis image place request).0
+unfolding work_of registering.decided heartbeating.decided unregistering.decided creating.decided deleting.decided growing.decided reporting.decided electing.decided reassigning.decided configuring.decided
+requests_stand options basis image place (requests.BrokerRegistration q) = one_stand image registering.refused (registering.rule options basis) (begun place image) q refl
+requests_stand options basis image place (requests.BrokerHeartbeat q) = one_stand image heartbeating.refused (heartbeating.rule options basis) (begun place image) q refl
+requests_stand options basis image place (requests.UnregisterBroker q) = one_stand image unregistering.refused (unregistering.rule options) (begun place image) q refl
+requests_stand options basis image place (requests.CreateTopics q) =
+    validated_stand image q.validate_only (begun place image) _ refl (all_stand image refused_creation (creating.rule options q.validate_only) (begun place image) q.topics refl)
+requests_stand options basis image place (requests.DeleteTopics q) = all_stand image refused_deletion deleting.rule (begun place image) q.topics refl
+requests_stand options basis image place (requests.CreatePartitions q) =
+    validated_stand image q.validate_only (begun place image) _ refl (all_stand image refused_growth growing.rule (begun place image) q.topics refl)
+requests_stand options basis image place (requests.AlterPartition q) =
+    chosen_stand image (reporting.is_stale image q) _ _ refl (groups_stand image reporting.refused (reporting.rule options q.broker) reporting.entries_of reporting.answer_of (begun place image) q.topics refl)
+requests_stand options basis image place (requests.ElectLeaders q) =
+    chosen_stand image (not (electing.is_kind q.kind)) _ _ refl (groups_stand image electing.answer (electing.rule options q.kind) electing.entries_of electing.answer_of (begun place image) (electing.groups_of image q.topics) refl)
+requests_stand options basis image place (requests.AlterPartitionReassignments q) =
+    groups_stand image reassigning.answer (reassigning.rule options) reassigning.entries_of reassigning.answer_of (begun place image) q.topics refl
+requests_stand options basis image place (requests.IncrementalAlterConfigs q) =
+    validated_stand image q.validate_only (begun place image) _ refl (all_stand image refused_resource (configuring.rule options) (begun place image) q.resources refl)
+requests_stand options basis image place (requests.ListPartitionReassignments q) = refl
+requests_stand options basis image place (requests.Metadata q) = refl
+
+pub ruleset standing = (requests_stand)

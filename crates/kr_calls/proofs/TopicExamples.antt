@@ -1,0 +1,196 @@
+-- What is decided of topics, by computation: each refusal, and each kind of record.
+use Rattle.std.specs.Prelude.{◌≡◌, ℕ, ℤ, pos, negsuc, false, List, [], ◌∷◌, slice_get, Option, Some, None, unwrap_or, Result, Ok, Err, codes}
+use Rattle.std.proofs.Common.{refl}
+use Rattle.kr_defs.specs.declared.record.Record.{Record}
+use Rattle.kr_defs.specs.declared.record.Record.TheVariants as kinds
+use Rattle.kr_defs.specs.Placed.{placed, racks_of, visit, visited}
+use Rattle.kr_calls.specs.declared.deciding.Draft.{Draft}
+use Rattle.kr_calls.specs.declared.topics.CreatableReplicaAssignment.{CreatableReplicaAssignment}
+use Rattle.kr_calls.specs.declared.topics.CreatableTopic.{CreatableTopic}
+use Rattle.kr_calls.specs.declared.topics.CreatableTopicConfig.{CreatableTopicConfig}
+use Rattle.kr_calls.specs.declared.topics.CreatableTopicResult.{CreatableTopicResult}
+use Rattle.kr_calls.specs.declared.topics.CreatePartitionsAssignment.{CreatePartitionsAssignment}
+use Rattle.kr_calls.specs.declared.topics.CreatePartitionsTopic.{CreatePartitionsTopic}
+use Rattle.kr_calls.specs.declared.topics.CreatePartitionsTopicResult.{CreatePartitionsTopicResult}
+use Rattle.kr_calls.specs.declared.topics.DeletableTopicResult.{DeletableTopicResult}
+use Rattle.kr_calls.specs.CreatePartitions as growing
+use Rattle.kr_calls.specs.CreateTopics as creating
+use Rattle.kr_calls.specs.DeleteTopics as deleting
+use Rattle.kr_calls.proofs.Cluster.{broker, image, options, whole}
+
+-- ---- topics that are made
+
+abbrev asks : CreatableTopic
+asks = record { name = codes "u"; partitions = pos 1; factor = pos 3; assignments = []; configs = [] }
+
+abbrev assigned_to : List ℤ → CreatableReplicaAssignment
+assigned_to brokers = record { index = pos 0; brokers = brokers }
+
+abbrev asks_for : List CreatableReplicaAssignment → CreatableTopic
+asks_for assignments = record asks { partitions = negsuc 0; factor = negsuc 0; assignments = assignments }
+
+abbrev create : CreatableTopic → Result (Draft CreatableTopicResult) ℤ
+create entry = creating.rule options false image (pos 30) entry
+
+bad_name : create (record asks { name = codes "a/b" }) ≡ Err (pos 17)
+bad_name = refl
+
+name_exists : create (record asks { name = codes "t.a" }) ≡ Err (pos 36)
+name_exists = refl
+
+names_agree_up_to_dots : create (record asks { name = codes "t_a" }) ≡ Err (pos 17)
+names_agree_up_to_dots = refl
+
+partitions_beside_assignments : create (record (asks_for (assigned_to (pos 1 ∷ []) ∷ [])) { partitions = pos 1 }) ≡ Err (pos 42)
+partitions_beside_assignments = refl
+
+factor_beside_assignments : create (record (asks_for (assigned_to (pos 1 ∷ []) ∷ [])) { factor = pos 1 }) ≡ Err (pos 42)
+factor_beside_assignments = refl
+
+index_missing : create (asks_for (record (assigned_to (pos 1 ∷ [])) { index = pos 1 } ∷ [])) ≡ Err (pos 39)
+index_missing = refl
+
+index_twice : create (asks_for (assigned_to (pos 1 ∷ []) ∷ assigned_to (pos 2 ∷ []) ∷ [])) ≡ Err (pos 39)
+index_twice = refl
+
+no_replicas : create (asks_for (assigned_to [] ∷ [])) ≡ Err (pos 39)
+no_replicas = refl
+
+replica_twice : create (asks_for (assigned_to (pos 1 ∷ pos 1 ∷ []) ∷ [])) ≡ Err (pos 39)
+replica_twice = refl
+
+lists_differ : create (asks_for (assigned_to (pos 1 ∷ pos 2 ∷ []) ∷ record (assigned_to (pos 1 ∷ [])) { index = pos 1 } ∷ [])) ≡ Err (pos 39)
+lists_differ = refl
+
+not_registered : create (asks_for (assigned_to (pos 1 ∷ pos 9 ∷ []) ∷ [])) ≡ Err (pos 39)
+not_registered = refl
+
+none_active : create (asks_for (assigned_to (pos 4 ∷ []) ∷ [])) ≡ Err (pos 39)
+none_active = refl
+
+no_partitions : create (record asks { partitions = pos 0 }) ≡ Err (pos 37)
+no_partitions = refl
+
+no_factor : create (record asks { factor = pos 0 }) ≡ Err (pos 38)
+no_factor = refl
+
+-- three brokers are active
+many_replicas : create (record asks { factor = pos 4 }) ≡ Err (pos 38)
+many_replicas = refl
+
+setting_without_value : create (record asks { configs = record { name = codes "k"; value = None } ∷ [] }) ≡ Err (pos 40)
+setting_without_value = refl
+
+setting_with_bad_key : create (record asks { configs = record { name = []; value = Some [] } ∷ [] }) ≡ Err (pos 40)
+setting_with_bad_key = refl
+
+setting_with_bad_value : create (record asks { configs = record { name = codes "min.insync.replicas"; value = Some (codes "0") } ∷ [] }) ≡ Err (pos 40)
+setting_with_bad_value = refl
+
+-- 7 * 2 ^ 64 + 31
+abbrev id : ℕ
+id = 129127208515966861343
+
+abbrev made : List ℤ → List ℤ → Record
+made replicas in_sync = kinds.Partition (pos 0) id (record {
+  replicas = replicas;
+  in_sync = in_sync;
+  eligible = [];
+  last_known = [];
+  adding = [];
+  removing = [];
+  leader = unwrap_or (slice_get in_sync 0) (negsuc 0);
+  recovery = pos 0;
+  leader_epoch = pos 0;
+  partition_epoch = pos 0;
+})
+
+-- one rack of three brokers: visit number k begins with broker 30 mod 3
+placed_topic : create asks ≡ Ok (record {
+  records = kinds.Topic (codes "u") id ∷ made (pos 1 ∷ pos 2 ∷ pos 3 ∷ []) (pos 1 ∷ pos 2 ∷ pos 3 ∷ []) ∷ [];
+  answer = record { name = codes "u"; topic = id; error = pos 0; partitions = pos 1; factor = pos 3 };
+})
+unfolding placed visited visit racks_of
+placed_topic = refl
+
+-- broker 4 is fenced
+assigned_topic : create (asks_for (assigned_to (pos 4 ∷ pos 2 ∷ []) ∷ [])) ≡ Ok (record {
+  records = kinds.Topic (codes "u") id ∷ made (pos 4 ∷ pos 2 ∷ []) (pos 2 ∷ []) ∷ [];
+  answer = record { name = codes "u"; topic = id; error = pos 0; partitions = pos 1; factor = pos 2 };
+})
+assigned_topic = refl
+
+abbrev settings : List (List ℕ) → List CreatableTopicConfig
+settings [] = []
+settings (value ∷ values) = record { name = codes "k"; value = Some value } ∷ settings values
+
+abbrev set : List ℕ → Record
+set value = kinds.Config (pos 2) (codes "u") (codes "k") (Some value)
+
+two_values : creating.settings_records [] (codes "u") (settings (codes "1" ∷ codes "2" ∷ [])) ≡ set (codes "1") ∷ set (codes "2") ∷ []
+two_values = refl
+
+same_value : creating.settings_records [] (codes "u") (settings (codes "1" ∷ codes "1" ∷ [])) ≡ set (codes "1") ∷ []
+same_value = refl
+
+value_again : creating.settings_records [] (codes "u") (settings (codes "1" ∷ codes "2" ∷ codes "1" ∷ []))
+    ≡ set (codes "1") ∷ set (codes "2") ∷ set (codes "1") ∷ []
+value_again = refl
+
+-- ---- topics that go
+
+neither_name_nor_id : deleting.rule image (pos 30) (record { name = None; topic = 0 }) ≡ Err (pos 42)
+neither_name_nor_id = refl
+
+name_and_id : deleting.rule image (pos 30) (record { name = Some (codes "t.a"); topic = 77 }) ≡ Err (pos 42)
+name_and_id = refl
+
+unknown_name : deleting.rule image (pos 30) (record { name = Some (codes "x"); topic = 0 }) ≡ Err (pos 3)
+unknown_name = refl
+
+unknown_id : deleting.rule image (pos 30) (record { name = None; topic = 78 }) ≡ Err (pos 100)
+unknown_id = refl
+
+abbrev gone : Draft DeletableTopicResult
+gone = record { records = kinds.RemoveTopic 77 ∷ []; answer = record { name = Some (codes "t.a"); topic = 77; error = pos 0 } }
+
+deleted_by_name : deleting.rule image (pos 30) (record { name = Some (codes "t.a"); topic = 0 }) ≡ Ok gone
+deleted_by_name = refl
+
+deleted_by_id : deleting.rule image (pos 30) (record { name = None; topic = 77 }) ≡ Ok gone
+deleted_by_id = refl
+
+-- ---- topics that grow
+
+abbrev grows : ℤ → Option (List CreatePartitionsAssignment) → CreatePartitionsTopic
+grows count assignments = record { name = codes "t.a"; count = count; assignments = assignments }
+
+abbrev grow : CreatePartitionsTopic → Result (Draft CreatePartitionsTopicResult) ℤ
+grow entry = growing.rule image (pos 30) entry
+
+unknown_topic : growing.rule image (pos 30) (record (grows (pos 2) None) { name = codes "x" }) ≡ Err (pos 3)
+unknown_topic = refl
+
+no_more : grow (grows (pos 1) None) ≡ Err (pos 37)
+no_more = refl
+
+-- the topic has partition 1 alone
+first_missing : growing.rule (record image { partitions = ((77, pos 1), whole) ∷ [] }) (pos 30) (grows (pos 3) None) ≡ Err (pos 39)
+first_missing = refl
+
+-- one new partition, and no list
+too_few_lists : grow (grows (pos 2) (Some [])) ≡ Err (pos 39)
+too_few_lists = refl
+
+-- the first partition has three replicas
+short_list : grow (grows (pos 2) (Some (record { brokers = pos 1 ∷ pos 2 ∷ [] } ∷ []))) ≡ Err (pos 39)
+short_list = refl
+
+too_few_active : growing.rule (record image { brokers = (pos 1, broker (pos 10) false) ∷ (pos 2, broker (pos 11) false) ∷ [] }) (pos 30) (grows (pos 2) None) ≡ Err (pos 38)
+too_few_active = refl
+
+grown : grow (grows (pos 2) (Some (record { brokers = pos 3 ∷ pos 4 ∷ pos 1 ∷ [] } ∷ []))) ≡ Ok (record {
+  records = kinds.Partition (pos 1) 77 (record whole { replicas = pos 3 ∷ pos 4 ∷ pos 1 ∷ []; in_sync = pos 3 ∷ pos 1 ∷ []; leader = pos 3; leader_epoch = pos 0; partition_epoch = pos 0 }) ∷ [];
+  answer = record { name = codes "t.a"; error = pos 0 };
+})
+grown = refl

@@ -1,0 +1,73 @@
+-- What each request gives: a write its records, its reply and the next basis, a read its reply.
+use Rattle.std.specs.Prelude.{ℤ, pos, Bool, true, false, List, Option, Some, None}
+use Rattle.kr_defs.specs.declared.basis.Basis.{Basis}
+use Rattle.kr_defs.specs.declared.options.Options.{Options}
+use Rattle.kr_defs.specs.declared.record.Record.{Record}
+use Rattle.kr_defs.specs.Heartbeats.{Heartbeats, heard}
+use Rattle.kr_defs.specs.Image.{Image}
+use Rattle.kr_calls.specs.declared.calls.Reply.{Reply}
+use Rattle.kr_calls.specs.declared.calls.Request.{Request}
+use Rattle.kr_calls.specs.AlterPartition as reporting
+use Rattle.kr_calls.specs.AlterPartitionReassignments as reassigning
+use Rattle.kr_calls.specs.BrokerHeartbeat as heartbeating
+use Rattle.kr_calls.specs.BrokerRegistration as registering
+use Rattle.kr_calls.specs.CreatePartitions as growing
+use Rattle.kr_calls.specs.CreateTopics as creating
+use Rattle.kr_calls.specs.DeleteTopics as deleting
+use Rattle.kr_calls.specs.ElectLeaders as electing
+use Rattle.kr_calls.specs.IncrementalAlterConfigs as configuring
+use Rattle.kr_calls.specs.ListPartitionReassignments as listing
+use Rattle.kr_calls.specs.Metadata as describing
+use Rattle.kr_calls.specs.UnregisterBroker as unregistering
+use Rattle.kr_calls.specs.declared.calls.Reply.TheVariants as replies
+use Rattle.kr_calls.specs.declared.calls.Request.TheVariants as requests
+use Rattle.kr_calls.specs.Deciding.{Work, begun}
+use Rattle.kr_calls.specs.NextBasis.{heartbeats_after}
+
+-- the records, the image after them, the reply, and the brokers that are heard of
+pub record Decision : Type 0 where
+  pub records : List Record
+  pub image : Image
+  pub reply : Reply
+  pub heartbeats : Heartbeats
+
+-- a read changes nothing; its reply is given by `query`
+abbrev pub no_work : Image → ℤ → Work × Reply
+no_work image place = (begun place image, replies.Bare (pos 0))
+
+unfoldable pub work_of : Options → Basis → Image → ℤ → Request → Work × Reply
+work_of options basis image place (requests.BrokerRegistration q) = registering.decided options basis image place q
+work_of options basis image place (requests.BrokerHeartbeat q) = heartbeating.decided options basis image place q
+work_of options basis image place (requests.UnregisterBroker q) = unregistering.decided options image place q
+work_of options basis image place (requests.CreateTopics q) = creating.decided options image place q
+work_of options basis image place (requests.DeleteTopics q) = deleting.decided image place q
+work_of options basis image place (requests.CreatePartitions q) = growing.decided image place q
+work_of options basis image place (requests.AlterPartition q) = reporting.decided options image place q
+work_of options basis image place (requests.ElectLeaders q) = electing.decided options image place q
+work_of options basis image place (requests.AlterPartitionReassignments q) = reassigning.decided options image place q
+work_of options basis image place (requests.IncrementalAlterConfigs q) = configuring.decided options image place q
+work_of options basis image place (requests.ListPartitionReassignments q) = no_work image place
+work_of options basis image place (requests.Metadata q) = no_work image place
+
+-- the request is decided on the image at the place, with the basis whose time is the present one
+abbrev pub decide : Options → Image → Basis → ℤ → Request → Decision
+decide options image basis place request =
+    let d = work_of options basis image place request in
+    record {
+      records = d.0.records;
+      image = d.0.image;
+      reply = d.1;
+      heartbeats = heartbeats_after (heard basis) image d.0.image basis.time place request d.1;
+    }
+
+-- it changes nothing, whoever leads
+abbrev pub is_read : Request → Bool
+is_read (requests.ListPartitionReassignments q) = true
+is_read (requests.Metadata q) = true
+is_read other = false
+
+-- the reply to a read on an image
+unfoldable pub query : Options → Image → Request → Option Reply
+query options image (requests.ListPartitionReassignments q) = Some (listing.queried image q)
+query options image (requests.Metadata q) = Some (describing.queried options image q)
+query options image other = None

@@ -1,0 +1,15 @@
+//! What is true of whatever is decided. Each function says so in its contract, and does nothing.
+
+ghost use Rattle.std.specs.Prelude.{ℤ};
+ghost use Rattle.kr_defs.specs.Image.{Image};
+ghost use Rattle.kr_defs.specs.declared.basis.Basis.{Basis as AnyBasis};
+ghost use Rattle.kr_defs.specs.declared.options.Options.{Options as AnyOptions};
+ghost use Rattle.kr_calls.specs.declared.calls.Request.{Request as AnyRequest};
+ghost use Rattle.kr_calls.specs.Decide.{work_of};
+ghost use Rattle.kr_calls.specs.Deciding.{HaveMeanings};
+
+/// Each record that a request gives has a meaning at its place, and the last one leaves the image of the decision.
+#[tactic(auto, using(crate::proofs::Standing::standing))]
+pub fn records_have_meanings()
+    ensures { (options : AnyOptions) (basis : AnyBasis) (image : Image) (place : ℤ) (request : AnyRequest) → HaveMeanings image (work_of options basis image place request).0 }
+{}
