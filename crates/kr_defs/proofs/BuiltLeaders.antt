@@ -1,8 +1,8 @@
 -- A leader that is named had the records, and a reassignment that ends has its target in sync.
-use Rattle.std.proofs.Common.{◌≡◌, ◌∙◌, sym, refl, subst, ◌⊎◌, inl, inr, Bool, true, false, not, cond, ◌&&◌, ◌||◌, ◌==◌, length, List, [], ◌∷◌, ◌++◌, ℤ, negsuc, append_assoc, Option}
+use Rattle.std.proofs.Common.{◌≡◌, ◌∙◌, sym, refl, subst, inl, inr, Bool, true, false, not, cond, ◌&&◌, ◌||◌, ◌==◌, length, List, [], ◌∷◌, ◌++◌, ℤ, append_assoc, Option}
 use Rattle.std.proofs.lemmas.Bool.{and_parts, or_cases, or_left, or_right, cases_Bool}
 use Rattle.std.proofs.lemmas.List.Folds.{list_any-append}
-use Rattle.std.specs.Prelude.{filter, map, take, IfSome, IsTrue, if◌then◌else◌}
+use Rattle.std.specs.Prelude.{filter, map, take, IfSome, if◌then◌else◌}
 use Rattle.std.specs.Ordering.{int_eq}
 use Rattle.kr_defs.specs.declared.partition.Partition.{Partition}
 use Rattle.kr_defs.specs.declared.changing.Assignment.{Assignment}

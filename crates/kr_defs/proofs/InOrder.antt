@@ -1,5 +1,5 @@
 -- Entries that are inserted in the order of their keys.
-use Rattle.std.proofs.Common.{◌≡◌, ◌∙◌, ℕ, ◌+◌, ◌≤◌, Bool, true, false, List, [], ◌∷◌, ◌++◌, length, refl, sym, ap, arith}
+use Rattle.std.proofs.Common.{◌≡◌, ◌∙◌, ℕ, ◌+◌, ◌≤◌, false, List, [], ◌∷◌, ◌++◌, length, refl, sym, ap, arith}
 use Rattle.std.specs.Prelude.{None, not, ◌&&◌, nat_le}
 use Rattle.std.specs.declared.cmp.Ordering.{Ordering}
 use Rattle.std.specs.declared.cmp.Ordering.TheVariants.{Less}
@@ -7,17 +7,15 @@ use Rattle.std.specs.Ordering.{ordering_reverse}
 use Rattle.std.specs.Cmp.{IsTotalOrder}
 use Rattle.std.specs.List.{AllByRecursion}
 use Rattle.std.specs.Map.{keys_of}
+use Rattle.std.proofs.Math.Bool.{and-false}
 use Rattle.std.proofs.lemmas.Bool.Decides.{nat_tests}
 use Rattle.std.proofs.lemmas.List.{append-nil}
 use Rattle.kr_defs.specs.Map.{get, contains, insert, is_full}
 use Rattle.kr_defs.proofs.Maps.{none_below}
 
-fails_at : (most n : ℕ) → n + 1 ≤ most → nat_le most n ≡ false
-fails_at most n room = grind (arith, nat_tests)
-
-and_false : (b : Bool) → (b && false) ≡ false
-and_false true = refl
-and_false false = refl
+-- there is room for one more
+pub has_room : (most n : ℕ) → n + 1 ≤ most → nat_le most n ≡ false
+has_room most n room = grind (arith, nat_tests)
 
 module _ {K V : Type 0} (R : K → K → Ordering) where
   -- the keys of the front are below the key
@@ -42,7 +40,7 @@ module _ {K V : Type 0} (R : K → K → Ordering) where
 
   -- there is room for one entry more
   pub not_full : (most : ℕ) (es : List (K × V)) (key : K) → length es + 1 ≤ most → is_full R most es key ≡ false
-  not_full most es key room = ap (λ b. not (contains R es key) && b) (fails_at most (length es) room) ∙ and_false (not (contains R es key))
+  not_full most es key room = ap (λ b. not (contains R es key) && b) (has_room most (length es) room) ∙ and-false (not (contains R es key))
 
 module _ {K V : Type 0} {R : K → K → Ordering} (o : IsTotalOrder R) where
   -- between a front and a back

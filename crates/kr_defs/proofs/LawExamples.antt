@@ -5,6 +5,7 @@ use Rattle.std.specs.Option.{option_map}
 use Rattle.std.specs.Ordering.{int_cmp}
 use Rattle.kr_defs.specs.declared.broker.Broker.{Broker}
 use Rattle.kr_defs.specs.declared.partition.Partition.{Partition}
+use Rattle.kr_defs.specs.declared.partition.PartitionChange.{PartitionChange}
 use Rattle.kr_defs.specs.declared.record.Record.TheVariants as kinds
 use Rattle.kr_defs.specs.declared.changing.Facts.{Facts}
 use Rattle.kr_defs.specs.declared.changing.Want.{Want}
@@ -15,7 +16,7 @@ use Rattle.kr_defs.specs.Map.{get, insert, above, next, partition_order}
 use Rattle.kr_defs.specs.Records.{records_of}
 use Rattle.kr_defs.specs.ImageLaws.{as_items}
 use Rattle.kr_defs.specs.Walk.{of_topic}
-use Rattle.kr_defs.specs.BuiltLaws.{is_sensible_at_length}
+use Rattle.kr_defs.specs.BuiltLaws.{is_sensible_at_length, has_too_many}
 use Rattle.kr_defs.specs.KeptMaps.{KeptMaps, no_maps, map_at, inserted, removed, marked, reverted, forgotten}
 use Rattle.kr_defs.specs.KeptLaws.{Insert, Remove, Mark, Revert, Forget, after_actions}
 use Rattle.kr_defs.specs.Partition.{is_well_formed}
@@ -128,6 +129,11 @@ sensible_but_long = refl
 
 abbrev among : List ℤ → Facts
 among active = record { active = active; unclean = false; minimum = pos 2 }
+
+-- and leads to a partition with too many
+too_many : option_map (λ (change : PartitionChange). has_too_many (merged state change)) (built state (asked 65) (record { active = []; unclean = false; minimum = pos 1 })) ≡ Some true
+unfolding built aimed ended completes settled standing_by elected eligible_after difference merged
+too_many = refl
 
 -- it is being reassigned to 3, 4 and 5
 abbrev reassigning : Partition

@@ -7,7 +7,8 @@ use Rattle.std.specs.declared.cmp.Ordering.TheVariants.{Less, Equal, Greater}
 use Rattle.std.specs.List.{AllByRecursion, list_any, flat_map}
 use Rattle.std.specs.List.Sorted.{IsStrictlySortedBy}
 use Rattle.std.specs.Map.{keys_of, values_of}
-use Rattle.std.proofs.lemmas.Bool.{cases_Bool}
+use Rattle.std.proofs.Math.Bool.{or-false, or-true}
+use Rattle.std.proofs.lemmas.Bool.{cases_Bool, or_from}
 use Rattle.std.proofs.lemmas.Bool.Decides.{nat_tests}
 use Rattle.std.proofs.lemmas.Cmp.{int_cmp_total}
 use Rattle.std.proofs.lemmas.List.{append-nil, length-append}
@@ -34,9 +35,9 @@ use Rattle.kr_defs.specs.Walk.{walked, of_topic}
 use Rattle.kr_defs.specs.ImageLaws.{as_items, OwnRecordsMakeImages}
 use Rattle.kr_defs.proofs.Maps.{all_keys-filter, length-filter_le}
 use Rattle.kr_defs.proofs.ImageParts.{text_total, partition_total, config_total}
-use Rattle.kr_defs.proofs.InOrder.{IsBelow, IsBefore, before_push, before_none, not_full, insert-between, get-between, insert-last, get-last}
+use Rattle.kr_defs.proofs.InOrder.{IsBelow, IsBefore, before_push, before_none, has_room, not_full, insert-between, get-between, insert-last, get-last}
 use Rattle.kr_defs.proofs.Tests.{both, neither, not_true, not_equal}
-use Rattle.kr_defs.proofs.TopicWalks.{same_topic}
+use Rattle.kr_defs.proofs.TopicWalks.{same_topic, equal_ids}
 use Rattle.kr_defs.proofs.Walks.{behind_apart}
 
 -- ---- one record after the other
@@ -64,12 +65,6 @@ after_one image next r rs is = ap (λ x. and_then x (λ i. after i rs)) is
 passes : {X : Type 0} (test : Bool) (x y z : X) → test ≡ false → y ≡ z → cond test x y ≡ z
 passes test x y z fails is = ap (λ b. cond b x y) fails ∙ is
 
-neither_holds : (a b : Bool) → a ≡ false → b ≡ false → (a || b) ≡ false
-neither_holds a b first second = rw (first, second) refl
-
-holds_not : (a : Bool) → a ≡ true → not a ≡ false
-holds_not a h = ap not h
-
 not_negative : (n : ℤ) → int_lt (pos 0) n ≡ true → int_lt n (pos 0) ≡ false
 not_negative (pos n) h = grind (arith, nat_tests)
 not_negative (negsuc n) h = absurd cc
@@ -83,9 +78,6 @@ not_longer n most h = grind (arith, nat_tests)
 not_above : (n most : ℕ) → n ≤ most → nat_lt most n ≡ false
 not_above n most h = grind (arith, nat_tests)
 
-no_room : (n most : ℕ) → n + 1 ≤ most → nat_le most n ≡ false
-no_room n most h = grind (arith, nat_tests)
-
 -- what is left after one entry more
 one_less : {X : Type 0} (xs : List X) (x : X) (ys : List X) (most : ℕ) → length xs + length (x ∷ ys) ≤ most → length (xs ++ x ∷ []) + length ys ≤ most
 one_less xs x ys most few = let long = length-append xs (x ∷ []) in omega (arith, long)
@@ -96,7 +88,7 @@ feature_added : (image : Image) (name : List ℕ) (level : ℤ) → IsBelow text
 unfolding apply_record
 feature_added image name level below some short room =
     passes _ _ _ _ (not_negative level some)
-    (passes _ _ _ _ (neither_holds _ _ (not_longer (length name) LONGEST_FEATURE short) (ap (λ b. not (int_eq level (pos 0)) && b) (not_full text_order MOST_FEATURES image.features name room) ∙ rw (not_zero level some) refl))
+    (passes _ _ _ _ (or_from _ _ (not_longer (length name) LONGEST_FEATURE short) (ap (λ b. not (int_eq level (pos 0)) && b) (not_full text_order MOST_FEATURES image.features name room) ∙ rw (not_zero level some) refl))
     (passes _ _ _ _ (not_zero level some)
     (ap (λ fs. Ok (record image { features = fs })) (insert-last text_total image.features name level below))))
 
@@ -113,9 +105,9 @@ features_added image xs (y ∷ ys) before ordered few levels short =
 broker_added : (image : Image) (id : ℤ) (state : Broker) → IsBelow int_cmp image.brokers id → has_numbers id state ≡ true → is_small_registration state ≡ true → length image.brokers + 1 ≤ MOST_BROKERS → apply_record image (kinds.RegisterBroker id state) ≡ Ok (record image { brokers = image.brokers ++ (id, state) ∷ [] })
 unfolding apply_record
 broker_added image id state below numbers small room =
-    passes _ _ _ _ (holds_not (has_numbers id state) numbers)
+    passes _ _ _ _ (ap not numbers)
     (passes _ _ _ _ (ap (λ (o : Option Broker). option_map_or (λ old. int_lt state.epoch old.epoch) o false) (get-last int_cmp_total image.brokers id below))
-    (passes _ _ _ _ (neither_holds _ _ (not_full int_cmp MOST_BROKERS image.brokers id room) (holds_not (is_small_registration state) small))
+    (passes _ _ _ _ (or_from _ _ (not_full int_cmp MOST_BROKERS image.brokers id room) (ap not small))
     (ap (λ bs. Ok (record image { brokers = bs })) (insert-last int_cmp_total image.brokers id state below))))
 
 brokers_added : (image : Image) (xs ys : List (ℤ × Broker)) → IsBefore int_cmp xs ys → IsMap int_cmp ys → length xs + length ys ≤ MOST_BROKERS → AllByRecursion (λ e. IsTrue (has_numbers e.0 e.1)) ys → AllByRecursion (λ e. IsTrue (is_small_registration e.1)) ys → after (record image { brokers = xs }) (map (λ e. kinds.RegisterBroker e.0 e.1) ys) ≡ Ok (record image { brokers = xs ++ ys })
@@ -167,11 +159,11 @@ record Adds (topic : ℕ) (before later : Entry → Bool) : Type 0 where
 partition_added : (image : Image) (xs ys : List Entry) (e : Entry) → image.partitions ≡ xs ++ ys → IsBelow partition_order xs e.0 → AllByRecursion (λ z. partition_order e.0 z ≡ Less) (keys_of ys) → has_topic image.topics e.0.0 ≡ true → is_index e.0.1 ≡ true → is_well_formed e.1 ≡ true → length (xs ++ ys) + 1 ≤ MOST_PARTITIONS → apply_record image (kinds.Partition e.0.1 e.0.0 e.1) ≡ Ok (record image { partitions = xs ++ e ∷ ys })
 unfolding apply_record
 partition_added image xs ys e are below lt owned index formed room =
-    passes _ _ _ _ (holds_not (has_topic image.topics e.0.0) owned)
-    (passes _ _ _ _ (holds_not (is_index e.0.1) index)
+    passes _ _ _ _ (ap not owned)
+    (passes _ _ _ _ (ap not index)
     (passes _ _ _ _ (ap (λ ps. is_some (entries.get partition_order ps e.0)) are ∙ ap is_some (get-between partition_total xs ys e.0 below lt))
-    (passes _ _ _ _ (holds_not (is_well_formed e.1) formed)
-    (passes _ _ _ _ (ap (λ ps. nat_le MOST_PARTITIONS (length ps)) are ∙ no_room (length (xs ++ ys)) MOST_PARTITIONS room)
+    (passes _ _ _ _ (ap not formed)
+    (passes _ _ _ _ (ap (λ ps. nat_le MOST_PARTITIONS (length ps)) are ∙ has_room MOST_PARTITIONS (length (xs ++ ys)) room)
     (ap (λ ps. Ok (record image { partitions = entries.insert partition_order ps e.0 e.1 })) are ∙ ap (λ ps. Ok (record image { partitions = ps })) (insert-between partition_total xs ys e.0 e.1 below lt))))))
 
 module _ (image : Image) (name : List ℕ) (topic : ℕ) (before later : Entry → Bool) (there : has_topic image.topics topic ≡ true) (adds : Adds topic before later) where
@@ -227,17 +219,6 @@ has_topic-push (d ∷ topics) t id =
 equal_back : (x y : ℕ) → (x == y) ≡ true → (y == x) ≡ true
 equal_back x y h = grind (arith, nat_tests)
 
-equal_self : (x : ℕ) → (x == x) ≡ true
-equal_self x = grind (arith, nat_tests)
-
-or_false : (b : Bool) → (b || false) ≡ b
-or_false true = refl
-or_false false = refl
-
-or_true : (b : Bool) → (b || true) ≡ true
-or_true true = refl
-or_true false = refl
-
 -- the ids of the front aren't in the back
 abbrev IsNew : List (List ℕ × ℕ) → List (List ℕ × ℕ) → Type 0
 IsNew front back = AllByRecursion (λ (t : List ℕ × ℕ). has_topic front t.1 ≡ false) back
@@ -250,21 +231,21 @@ new_push : (front : List (List ℕ × ℕ)) (t : List ℕ × ℕ) (back : List (
 new_push front t [] new absent = tt
 new_push front t (u ∷ back) new absent =
     let apart = neither (u.1 == t.1) (list_any (λ other. other == t.1) (values_of back)) absent in
-    (has_topic-push front t u.1 ∙ neither_holds (has_topic front u.1) (t.1 == u.1) new.0 (not_equal u.1 t.1 apart.0), new_push front t back new.1 apart.1)
+    (has_topic-push front t u.1 ∙ or_from (has_topic front u.1) (t.1 == u.1) new.0 (not_equal u.1 t.1 apart.0), new_push front t back new.1 apart.1)
 
 adds_own : (front : List (List ℕ × ℕ)) (t : List ℕ × ℕ) → has_topic front t.1 ≡ false → Adds t.1 (owned_by front) (owned_by (front ++ t ∷ []))
 adds_own front t new = record {
   new = λ e is. subst (λ (id : ℕ). has_topic front id ≡ false) (sym (same_topic e.0.0 t.1 is)) new;
-  own = λ e is. has_topic-push front t e.0.0 ∙ (ap (λ b. has_topic front e.0.0 || b) (equal_back e.0.0 t.1 is) ∙ or_true (has_topic front e.0.0));
-  others = λ e not. has_topic-push front t e.0.0 ∙ (ap (λ b. has_topic front e.0.0 || b) (not_equal e.0.0 t.1 not) ∙ or_false (has_topic front e.0.0));
+  own = λ e is. has_topic-push front t e.0.0 ∙ (ap (λ b. has_topic front e.0.0 || b) (equal_back e.0.0 t.1 is) ∙ or-true (has_topic front e.0.0));
+  others = λ e not. has_topic-push front t e.0.0 ∙ (ap (λ b. has_topic front e.0.0 || b) (not_equal e.0.0 t.1 not) ∙ or-false (has_topic front e.0.0));
 }
 
 topic_added : (image : Image) (name : List ℕ) (id : ℕ) → IsBelow text_order image.topics name → is_topic_name name ≡ true → has_topic image.topics id ≡ false → not (id == 0) ≡ true → length image.topics + 1 ≤ MOST_TOPICS → apply_record image (kinds.Topic name id) ≡ Ok (record image { topics = image.topics ++ (name, id) ∷ [] })
 unfolding apply_record
 topic_added image name id below named new some room =
-    passes _ _ _ _ (holds_not (is_topic_name name) named)
-    (passes _ _ _ _ (neither_holds _ _ (neither_holds _ _ (ap is_some (get-last text_total image.topics name below)) new) (not_true (id == 0) some))
-    (passes _ _ _ _ (no_room (length image.topics) MOST_TOPICS room)
+    passes _ _ _ _ (ap not named)
+    (passes _ _ _ _ (or_from _ _ (or_from _ _ (ap is_some (get-last text_total image.topics name below)) new) (not_true (id == 0) some))
+    (passes _ _ _ _ (has_room MOST_TOPICS (length image.topics) room)
     (ap (λ ts. Ok (record image { topics = ts })) (insert-last text_total image.topics name id below))))
 
 module _ (image : Image) (ps : List Entry) (ordered_ps : IsMap partition_order ps) (few_ps : length ps ≤ MOST_PARTITIONS) (indexes : AllByRecursion (λ e. IsTrue (is_index e.0.1)) ps) (formed : AllByRecursion (λ e. IsTrue (is_well_formed e.1)) ps) where
@@ -277,7 +258,7 @@ module _ (image : Image) (ps : List Entry) (ordered_ps : IsMap partition_order p
   topics_added xs [] before ordered few new distinct names ids = ap (λ ts. Ok (holding ts)) (sym (append-nil xs))
   topics_added xs (y ∷ ys) before ordered few new distinct names ids =
       let apart = both (not (list_any (λ other. other == y.1) (values_of ys))) (are_distinct (values_of ys)) distinct in
-      let there : has_topic (xs ++ y ∷ []) y.1 ≡ true = has_topic-push xs y y.1 ∙ (ap (λ b. has_topic xs y.1 || b) (equal_self y.1) ∙ or_true (has_topic xs y.1)) in
+      let there : has_topic (xs ++ y ∷ []) y.1 ≡ true = has_topic-push xs y y.1 ∙ (ap (λ b. has_topic xs y.1 || b) (equal_ids y.1 y.1 refl) ∙ or-true (has_topic xs y.1)) in
       let named = record (holding xs) { topics = xs ++ y ∷ [] } in
       let parts = records_in y.0 y.1 ps in
       after_one (holding xs) named _ (parts ++ flat_map (topic_records ps) ys) (topic_added (holding xs) y.0 y.1 before.0 names.0 new.0 ids.0 (omega arith))

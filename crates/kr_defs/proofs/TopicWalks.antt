@@ -33,7 +33,7 @@ another x id e more less = grind (arith, nat_tests)
 further : (x e : ℕ) → x ≤ e → (e == x) ≡ false → x < e
 further x e less other = grind (arith, nat_tests)
 
-equal_ids : (x y : ℕ) → x ≡ y → (x == y) ≡ true
+pub equal_ids : (x y : ℕ) → x ≡ y → (x == y) ≡ true
 equal_ids x y is = grind (arith, nat_tests)
 
 other_ids : (x y : ℕ) → x ≢ y → (x == y) ≡ false

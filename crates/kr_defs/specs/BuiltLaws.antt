@@ -1,5 +1,5 @@
 -- Laws of the changes that are built, and of partitions that are created or emptied (this project's own).
-use Rattle.std.specs.Prelude.{◌≡◌, ◌⊎◌, Bool, false, not, ◌&&◌, ◌||◌, List, [], length, ◌==◌, nat_lt, ℤ, negsuc, IfSome, IsTrue}
+use Rattle.std.specs.Prelude.{◌≡◌, ◌⊎◌, Bool, false, ◌&&◌, ◌||◌, List, [], length, nat_lt, ℤ, negsuc, IfSome, IsTrue}
 use Rattle.std.specs.List.{list_all}
 use Rattle.kr_defs.specs.declared.partition.Partition.{Partition}
 use Rattle.kr_defs.specs.declared.changing.Facts.{Facts}
