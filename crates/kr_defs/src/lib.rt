@@ -4,11 +4,9 @@
 mod basis;
 mod broker;
 mod built_laws;
-mod calls;
 mod changing;
 mod copied;
 mod epoch_laws;
-mod events;
 mod forming;
 pub mod heartbeat_laws;
 mod ill;
@@ -35,15 +33,9 @@ pub use built_laws::{
     built_leaders_had_records, default_wants_are_sensible, emptying_keeps_well_formed,
     long_lists_are_the_only_fault, new_partitions_are_well_formed, reassignments_end_in_sync,
 };
-pub use calls::{
-    Ask, AskFault, Call, ConfigOperation, ConfigOperations, ConfigResource, ConfigResources,
-    ConfigResponse, ConfigResponses, IncrementalAlterConfigs, IncrementalAlterConfigsReply, Reply,
-    Request,
-};
 pub use changing::{Assignment, Choice, Facts, Mode, Want};
 pub use copied::Copied;
 pub use epoch_laws::{forgetting_leaves_the_others, reverts_leave_the_others, reverts_restore};
-pub use events::{Event, Output};
 pub use forming::{are_replicas, is_reassignment, is_sensible, is_well_formed};
 pub use ill::Ill;
 pub use image_laws::own_records_make_images;

@@ -8,8 +8,8 @@ use Rattle.kr_wire.specs.Grammar.{◌⌢◌, IsNumber, IsSigned}
 use Rattle.kr_wire.proofs.Laws.{IsBytes, Yields, Front, joined, ok_value, ok_rest, sound_then, complete_then}
 use Rattle.kr_wire.proofs.Numbers.{number_law, signed_law}
 use Rattle.kr_defs.specs.declared.options.Options.{Options}
-use Rattle.kr_defs.specs.declared.events.Event.{Event}
-use Rattle.kr_defs.specs.declared.events.Event.TheVariants as events
+use Rattle.kr_run.specs.declared.events.Event.{Event}
+use Rattle.kr_run.specs.declared.events.Event.TheVariants as events
 use Rattle.kr_run.specs.declared.bodies.BodyFault.{BodyFault}
 use Rattle.kr_run.specs.Frames.{AreOptions, IsOptions, IsRest, IsTime, IsMessage}
 use Rattle.kr_run.specs.Kept.{HasShort}

@@ -9,8 +9,8 @@ use Rattle.kr_wire.specs.Reading.{signed_at}
 use Rattle.kr_wire.specs.Grammar.{◌⌢◌, IsSigned}
 use Rattle.kr_wire.proofs.Laws.{IsBytes, Law, joined, ok_rest, read_ok, sound_then, sound_last, sound_guard, sound_done, complete_then, complete_last, complete_guard, complete_bind, whole_sound, whole_complete}
 use Rattle.kr_wire.proofs.Numbers.{number_law, signed_law}
-use Rattle.kr_defs.specs.declared.events.Event.{Event}
-use Rattle.kr_defs.specs.declared.events.Event.TheVariants as events
+use Rattle.kr_run.specs.declared.events.Event.{Event}
+use Rattle.kr_run.specs.declared.events.Event.TheVariants as events
 use Rattle.kr_run.specs.Frames.{IsTime}
 use Rattle.kr_run.specs.Bodies.{time_at, IsLead, lead_at, IsCommit, commit_at, IsStamp, stamp_at}
 

@@ -1,7 +1,7 @@
 -- What a session tells by its status.
 use Rattle.std.proofs.Common.{◌≡◌, ℕ, ◌<◌, ◌≤◌, ◌⊎◌, inl, inr, List, [], ◌∷◌, ◌++◌, length, append_assoc, Option, Some, None, refl, sym, ap, subst, ◌∙◌, arith}
 use Rattle.kr_defs.specs.declared.options.Options.{Options}
-use Rattle.kr_defs.specs.declared.events.Event.{Event}
+use Rattle.kr_run.specs.declared.events.Event.{Event}
 use Rattle.kr_run.specs.Session.{Progress, HasRead, IsSession, NoFrame}
 use Rattle.kr_run.proofs.FrameForms.{frames_differ}
 use Rattle.kr_run.proofs.Streams.{whole_not_broken, one_break}

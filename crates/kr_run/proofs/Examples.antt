@@ -1,14 +1,14 @@
 -- The definitions computed on small sessions.
 use Rattle.std.proofs.Common.{◌≡◌, ℕ, ℤ, pos, List, [], ◌∷◌, Some, refl}
 use Rattle.std.specs.Prelude.{codes, false}
-use Rattle.kr_defs.specs.declared.calls.Ask.TheVariants as asks
-use Rattle.kr_defs.specs.declared.calls.AskFault.TheVariants as faults
-use Rattle.kr_defs.specs.declared.calls.Reply.TheVariants as replies
-use Rattle.kr_defs.specs.declared.calls.Reply.{Reply}
-use Rattle.kr_defs.specs.declared.events.Event.{Event}
-use Rattle.kr_defs.specs.declared.events.Event.TheVariants as events
-use Rattle.kr_defs.specs.declared.events.Output.{Output}
-use Rattle.kr_defs.specs.declared.events.Output.TheVariants as given
+use Rattle.kr_calls.specs.declared.calls.Ask.TheVariants as asks
+use Rattle.kr_calls.specs.declared.calls.AskFault.TheVariants as faults
+use Rattle.kr_calls.specs.declared.calls.Reply.TheVariants as replies
+use Rattle.kr_calls.specs.declared.calls.Reply.{Reply}
+use Rattle.kr_run.specs.declared.events.Event.{Event}
+use Rattle.kr_run.specs.declared.events.Event.TheVariants as events
+use Rattle.kr_run.specs.declared.events.Output.{Output}
+use Rattle.kr_run.specs.declared.events.Output.TheVariants as given
 use Rattle.kr_defs.specs.declared.record.Item.TheVariants as items
 use Rattle.kr_defs.specs.declared.record.Record.TheVariants as kinds
 use Rattle.kr_wire.specs.Spelling.{number, signed, uvarint}

@@ -6,8 +6,8 @@ use Rattle.kr_wire.specs.Grammar.{◌⌢◌}
 use Rattle.kr_wire.proofs.Laws.{Law, one_form, one_value}
 use Rattle.kr_wire.proofs.Numbers.{number_law, signed_law}
 use Rattle.kr_defs.specs.declared.options.Options.{Options}
-use Rattle.kr_defs.specs.declared.events.Event.{Event}
-use Rattle.kr_defs.specs.declared.events.Event.TheVariants as events
+use Rattle.kr_run.specs.declared.events.Event.{Event}
+use Rattle.kr_run.specs.declared.events.Event.TheVariants as events
 use Rattle.kr_run.specs.Frames.{IsFrame, IsOptions, IsOpen, IsEvent, IsEnd, IsTime, IsMessage}
 use Rattle.kr_run.proofs.Laws.{asked_once}
 use Rattle.kr_run.proofs.Streams.{FramesDiffer}

@@ -5,12 +5,12 @@ use Rattle.std.proofs.KnownBytes.{Consumes-trans, Appends-trans}
 use Rattle.std.proofs.lemmas.List.{take_all}
 use Rattle.kr_base.specs.Written.{AppendsFront}
 use Rattle.kr_defs.specs.declared.options.Options.{Options}
-use Rattle.kr_defs.specs.declared.events.Event.{Event}
+use Rattle.kr_run.specs.declared.events.Event.{Event}
 use Rattle.kr_run.specs.declared.frames.Stop.{Stop}
 use Rattle.kr_run.specs.declared.frames.Stop.TheVariants as stops
 use Rattle.kr_run.specs.declared.writing.WriteFault.{WriteFault}
 use Rattle.kr_run.specs.declared.writing.WriteFault.TheVariants as faults
-use Rattle.kr_defs.specs.declared.events.Event.TheVariants as events
+use Rattle.kr_run.specs.declared.events.Event.TheVariants as events
 use Rattle.kr_run.specs.Frames.{IsFrame, IsOpen, IsEvent, IsEnd}
 use Rattle.kr_run.specs.Kept.{State, Stands}
 use Rattle.kr_run.specs.Outputs.{outputs_of, frames_of, written_for}

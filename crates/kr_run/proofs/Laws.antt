@@ -8,7 +8,7 @@ use Rattle.std.proofs.lemmas.List.{append-nil, length-drop, length-append}
 use Rattle.std.proofs.lemmas.Bool.{le-ltb, cases_lt, and_parts}
 use Rattle.kr_run.specs.Kept.{IsShortAsk}
 use Rattle.std.proofs.lemmas.List.Elements.{All-cons, All-nil}
-use Rattle.kr_defs.specs.declared.calls.ConfigResource.{ConfigResource}
+use Rattle.kr_calls.specs.declared.configs.ConfigResource.{ConfigResource}
 use Rattle.kr_wire.specs.declared.WireFault.{WireFault}
 use Rattle.kr_defs.specs.Settings.{minimum_key, read_minimum}
 use Rattle.kr_run.proofs.Digits.{short_minimum}
@@ -16,9 +16,9 @@ use Rattle.kr_base.specs.declared.answers.NoMemory.{NoMemory}
 use Rattle.std.proofs.lemmas.Bool.Decides.{Decides-int_eq, Decides-eqb}
 use Rattle.std.specs.Bool.{Decides}
 use Rattle.std.specs.Prelude.{◌&&◌, cond}
-use Rattle.kr_defs.specs.declared.calls.Ask.{Ask}
-use Rattle.kr_defs.specs.declared.calls.Ask.TheVariants as asks
-use Rattle.kr_defs.specs.declared.calls.AskFault.TheVariants as faults
+use Rattle.kr_calls.specs.declared.calls.Ask.{Ask}
+use Rattle.kr_calls.specs.declared.calls.Ask.TheVariants as asks
+use Rattle.kr_calls.specs.declared.calls.AskFault.TheVariants as faults
 use Rattle.std.proofs.lemmas.Slice.Eq.{bytes_eq-Decides}
 use Rattle.kr_wire.specs.declared.WireFault.TheVariants.{BadTag}
 use Rattle.kr_wire.specs.Reading.{Read, signed_at}

@@ -3,8 +3,8 @@ use Rattle.std.proofs.Common.{◌≡◌, ℕ, ◌≤◌, true, false, List, [], 
 use Rattle.std.proofs.lemmas.Bool.{le-leb}
 use Rattle.kr_wire.specs.Grammar.{Exactly}
 use Rattle.kr_defs.specs.declared.options.Options.{Options}
-use Rattle.kr_defs.specs.declared.events.Event.{Event}
-use Rattle.kr_defs.specs.declared.events.Event.TheVariants as events
+use Rattle.kr_run.specs.declared.events.Event.{Event}
+use Rattle.kr_run.specs.declared.events.Event.TheVariants as events
 use Rattle.kr_run.specs.declared.frames.Stop.{Stop}
 use Rattle.kr_run.specs.declared.frames.Stop.TheVariants.{Malformed, ReadFault, TooLong}
 use Rattle.kr_run.specs.Frames.{IsFrame, IsOptions, IsEvent}

@@ -4,8 +4,8 @@ use Rattle.std.specs.List.{fold, flat_map}
 use Rattle.std.proofs.lemmas.Grind.{flat_map-append}
 use Rattle.kr_wire.specs.Grammar.{Each}
 use Rattle.kr_defs.specs.declared.options.Options.{Options}
-use Rattle.kr_defs.specs.declared.events.Event.{Event}
-use Rattle.kr_defs.specs.declared.events.Output.{Output}
+use Rattle.kr_run.specs.declared.events.Event.{Event}
+use Rattle.kr_run.specs.declared.events.Output.{Output}
 use Rattle.kr_run.specs.Frames.{IsOpen, IsEvent, output_frame}
 use Rattle.kr_run.specs.World.{World, start, world, happens, is_accepted}
 use Rattle.kr_run.specs.Outputs.{outputs, outputs_after, outputs_of, frames_of, written_for}

@@ -8,9 +8,9 @@ use Rattle.kr_run.specs.Reader.{Took}
 use Rattle.std.proofs.lemmas.Grind.{flat_map-append}
 use Rattle.kr_wire.specs.Grammar.{Exactly}
 use Rattle.kr_base.specs.Written.{AppendsFront}
-use Rattle.kr_defs.specs.declared.events.Event.{Event}
-use Rattle.kr_defs.specs.declared.events.Event.TheVariants as events
-use Rattle.kr_defs.specs.declared.events.Output.{Output}
+use Rattle.kr_run.specs.declared.events.Event.{Event}
+use Rattle.kr_run.specs.declared.events.Event.TheVariants as events
+use Rattle.kr_run.specs.declared.events.Output.{Output}
 use Rattle.kr_run.specs.Frames.{IsFrame, IsEvent, output_frame}
 use Rattle.kr_run.specs.Bodies.{IsBody, lead, commit, request}
 use Rattle.kr_run.specs.Outputs.{frames_of}

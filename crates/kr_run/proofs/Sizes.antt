@@ -5,8 +5,8 @@ use Rattle.std.specs.Int.{w8}
 use Rattle.std.proofs.lemmas.Bool.{lt-ltb, le-ltb, cases_lt}
 use Rattle.std.proofs.lemmas.List.Sums.{sum_by-cons}
 use Rattle.kr_wire.specs.Spelling.{groups, uvarint, signed}
-use Rattle.kr_defs.specs.declared.calls.Request.{Request}
-use Rattle.kr_defs.specs.declared.calls.Request.TheVariants as requests
+use Rattle.kr_calls.specs.declared.calls.Request.{Request}
+use Rattle.kr_calls.specs.declared.calls.Request.TheVariants as requests
 use Rattle.kr_record.specs.Spelling.{record_value, config, framed, no_tags}
 use Rattle.kr_batch.specs.Written.{value_bytes, values_size}
 use Rattle.kr_defs.specs.Settings.{minimum_key}
@@ -49,3 +49,4 @@ writable value short =
 
 pub short_value : (request : Request) → IsShort request → IfSome (value_of request) (λ v. length v < 2 ^ 16)
 short_value (requests.IncrementalAlterConfigs request) short = short.2
+short_value other short = tt

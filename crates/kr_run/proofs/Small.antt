@@ -6,17 +6,17 @@ use Rattle.std.specs.Int.{w16, w32, int_max}
 use Rattle.std.proofs.lemmas.List.{length-map}
 use Rattle.std.proofs.lemmas.List.Elements.{All-nil, All-head, All-tail, All-append, All-push, All-map, All-filter}
 use Rattle.kr_wire.specs.Spelling.{number, signed, list, tags}
-use Rattle.kr_defs.specs.declared.calls.Ask.TheVariants as asks
-use Rattle.kr_defs.specs.declared.calls.Call.{Call}
-use Rattle.kr_defs.specs.declared.calls.ConfigResource.{ConfigResource}
-use Rattle.kr_defs.specs.declared.calls.ConfigResponse.{ConfigResponse}
-use Rattle.kr_defs.specs.declared.calls.Reply.TheVariants as replies
-use Rattle.kr_defs.specs.declared.calls.Request.{Request}
-use Rattle.kr_defs.specs.declared.calls.Request.TheVariants as requests
-use Rattle.kr_defs.specs.declared.events.Event.{Event}
-use Rattle.kr_defs.specs.declared.events.Event.TheVariants as events
-use Rattle.kr_defs.specs.declared.events.Output.{Output}
-use Rattle.kr_defs.specs.declared.events.Output.TheVariants as given
+use Rattle.kr_calls.specs.declared.calls.Ask.TheVariants as asks
+use Rattle.kr_calls.specs.declared.calls.Call.{Call}
+use Rattle.kr_calls.specs.declared.configs.ConfigResource.{ConfigResource}
+use Rattle.kr_calls.specs.declared.configs.ConfigResponse.{ConfigResponse}
+use Rattle.kr_calls.specs.declared.calls.Reply.TheVariants as replies
+use Rattle.kr_calls.specs.declared.calls.Request.{Request}
+use Rattle.kr_calls.specs.declared.calls.Request.TheVariants as requests
+use Rattle.kr_run.specs.declared.events.Event.{Event}
+use Rattle.kr_run.specs.declared.events.Event.TheVariants as events
+use Rattle.kr_run.specs.declared.events.Output.{Output}
+use Rattle.kr_run.specs.declared.events.Output.TheVariants as given
 use Rattle.kr_batch.specs.Written.{batch_bytes, head_bytes, start_bytes, checked_bytes}
 use Rattle.kr_batch.specs.Crc.{crc32c}
 use Rattle.kr_batch.specs.declared.Batch.{Batch}
@@ -67,6 +67,12 @@ frame_fits client correlation body small =
     let d = uvarint_few 0 in
     simp length-append (omega arith)
 
+bare_fits : (client : ℕ) (correlation error : ℤ) → FitsFrame (given.Reply client correlation (replies.Bare error))
+bare_fits client correlation error =
+    let a = short_long error in
+    let body : length (signed w16 error) ≤ 2 ^ 18 = omega arith in
+    (tt, frame_fits client correlation (signed w16 error) body)
+
 refusal_fits : (client : ℕ) (correlation error : ℤ) (request : Request) → IsShort request → FitsFrame (given.Reply client correlation (refuse request error))
 refusal_fits client correlation error (requests.IncrementalAlterConfigs request) short =
     let few : length request.resources ≤ 1 = short.0 in
@@ -77,12 +83,7 @@ refusal_fits client correlation error (requests.IncrementalAlterConfigs request)
     let count : length (map (entry error) request.resources) ≡ length request.resources = length-map request.resources (entry error) in
     let names : All (λ (r : ConfigResource). length r.name < 2 ^ 31) request.resources = λ k d lt. let h = short.1 k d lt in omega (arith, h) in
     ((omega arith, All-map (λ (r : ConfigResponse). length r.name < 2 ^ 31) (entry error) request.resources names), frame_fits client correlation (reply_body (refuse (requests.IncrementalAlterConfigs request) error)) body)
-
-bare_fits : (client : ℕ) (correlation error : ℤ) → FitsFrame (given.Reply client correlation (replies.Bare error))
-bare_fits client correlation error =
-    let a = short_long error in
-    let body : length (signed w16 error) ≤ 2 ^ 18 = omega arith in
-    (tt, frame_fits client correlation (signed w16 error) body)
+refusal_fits client correlation error other short = bare_fits client correlation error
 
 -- ---- batches
 

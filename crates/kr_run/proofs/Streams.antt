@@ -4,7 +4,7 @@ use Rattle.std.specs.Prelude.{IsTrue}
 use Rattle.std.specs.List.{fold}
 use Rattle.kr_wire.specs.Grammar.{Each}
 use Rattle.kr_defs.specs.declared.options.Options.{Options}
-use Rattle.kr_defs.specs.declared.events.Event.{Event}
+use Rattle.kr_run.specs.declared.events.Event.{Event}
 use Rattle.kr_run.specs.Frames.{IsOpen, IsEvent, IsEnd}
 use Rattle.kr_run.specs.World.{World, start, happens, is_accepted}
 use Rattle.kr_run.specs.Session.{AreAccepted, Progress, Unopened, Opened, HasRead, IsSession, NoneBegins, NoFrame}

@@ -8,10 +8,10 @@ use Rattle.std.proofs.lemmas.Bool.Decides.{Decides-int_eq}
 use Rattle.std.proofs.lemmas.List.{take_all, length-map}
 use Rattle.std.specs.Ordering.{int_eq}
 use Rattle.std.specs.Option.{option_map_or}
-use Rattle.kr_defs.specs.declared.calls.Ask.{Ask}
-use Rattle.kr_defs.specs.declared.calls.Ask.TheVariants as asks
-use Rattle.kr_defs.specs.declared.events.Event.{Event}
-use Rattle.kr_defs.specs.declared.events.Event.TheVariants as events
+use Rattle.kr_calls.specs.declared.calls.Ask.{Ask}
+use Rattle.kr_calls.specs.declared.calls.Ask.TheVariants as asks
+use Rattle.kr_run.specs.declared.events.Event.{Event}
+use Rattle.kr_run.specs.declared.events.Event.TheVariants as events
 use Rattle.kr_defs.specs.declared.record.Item.TheVariants as items
 use Rattle.kr_defs.specs.declared.record.Record.{Record}
 use Rattle.kr_run.specs.World.{World, start, world, happens, effect, appended, asked, decided, tip, is_accepted, greatest_time, later, image_at, apply}

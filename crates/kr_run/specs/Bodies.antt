@@ -6,8 +6,8 @@ use Rattle.kr_wire.specs.Grammar.{◌⌢◌, Exactly, IsNumber, IsSigned}
 use Rattle.kr_wire.specs.Reading.{◌>>=◌, Read, refuse◌when◌else◌, number_at, signed_at}
 use Rattle.kr_defs.specs.declared.limits.TheConstants.{MOST_PARTITIONS, MOST_TARGETS}
 use Rattle.kr_defs.specs.declared.options.Options.{Options}
-use Rattle.kr_defs.specs.declared.events.Event.{Event}
-use Rattle.kr_defs.specs.declared.events.Event.TheVariants as events
+use Rattle.kr_run.specs.declared.events.Event.{Event}
+use Rattle.kr_run.specs.declared.events.Event.TheVariants as events
 use Rattle.kr_run.specs.Frames.{IsTime, IsMessage}
 
 -- milliseconds, at least 0

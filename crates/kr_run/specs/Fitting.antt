@@ -2,8 +2,8 @@
 use Rattle.std.specs.Prelude.{◌+◌, ◌^◌, ◌<◌, ◌++◌, length}
 use Rattle.std.specs.Int.{w32}
 use Rattle.kr_wire.specs.Spelling.{number}
-use Rattle.kr_defs.specs.declared.events.Output.{Output}
-use Rattle.kr_defs.specs.declared.events.Output.TheVariants as given
+use Rattle.kr_run.specs.declared.events.Output.{Output}
+use Rattle.kr_run.specs.declared.events.Output.TheVariants as given
 use Rattle.kr_run.specs.Messages.{IsWritable, reply_message}
 
 -- what stands behind the size is shorter than 2^32

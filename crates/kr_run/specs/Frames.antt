@@ -5,11 +5,11 @@ use Rattle.kr_wire.specs.Grammar.{◌⌢◌, Exactly, IsNumber, IsSigned}
 use Rattle.kr_wire.specs.Spelling.{number}
 use Rattle.kr_defs.specs.declared.limits.TheConstants.{MOST_PARTITIONS, MOST_TARGETS, MOST_MESSAGE_BYTES}
 use Rattle.kr_defs.specs.declared.options.Options.{Options}
-use Rattle.kr_defs.specs.declared.events.Event.{Event}
-use Rattle.kr_defs.specs.declared.events.Event.TheVariants as events
-use Rattle.kr_defs.specs.declared.events.Output.{Output}
-use Rattle.kr_defs.specs.declared.events.Output.TheVariants as given
-use Rattle.kr_defs.specs.declared.calls.Ask.{Ask}
+use Rattle.kr_run.specs.declared.events.Event.{Event}
+use Rattle.kr_run.specs.declared.events.Event.TheVariants as events
+use Rattle.kr_run.specs.declared.events.Output.{Output}
+use Rattle.kr_run.specs.declared.events.Output.TheVariants as given
+use Rattle.kr_calls.specs.declared.calls.Ask.{Ask}
 use Rattle.kr_run.specs.Messages.{IsAsk, reply_message}
 
 -- ---- what is read

@@ -5,16 +5,16 @@ use Rattle.std.specs.Option.{option_map_or}
 use Rattle.std.specs.Int.{int_max}
 use Rattle.std.specs.Ordering.{int_eq}
 use Rattle.std.specs.Str.{bytes_eq}
-use Rattle.kr_defs.specs.declared.calls.Ask.{Ask}
-use Rattle.kr_defs.specs.declared.calls.Ask.TheVariants as asks
-use Rattle.kr_defs.specs.declared.calls.Call.{Call}
-use Rattle.kr_defs.specs.declared.calls.Request.{Request}
-use Rattle.kr_defs.specs.declared.calls.Request.TheVariants as requests
-use Rattle.kr_defs.specs.declared.calls.Reply.TheVariants as replies
-use Rattle.kr_defs.specs.declared.events.Event.{Event}
-use Rattle.kr_defs.specs.declared.events.Event.TheVariants as events
-use Rattle.kr_defs.specs.declared.events.Output.{Output}
-use Rattle.kr_defs.specs.declared.events.Output.TheVariants as given
+use Rattle.kr_calls.specs.declared.calls.Ask.{Ask}
+use Rattle.kr_calls.specs.declared.calls.Ask.TheVariants as asks
+use Rattle.kr_calls.specs.declared.calls.Call.{Call}
+use Rattle.kr_calls.specs.declared.calls.Request.{Request}
+use Rattle.kr_calls.specs.declared.calls.Request.TheVariants as requests
+use Rattle.kr_calls.specs.declared.calls.Reply.TheVariants as replies
+use Rattle.kr_run.specs.declared.events.Event.{Event}
+use Rattle.kr_run.specs.declared.events.Event.TheVariants as events
+use Rattle.kr_run.specs.declared.events.Output.{Output}
+use Rattle.kr_run.specs.declared.events.Output.TheVariants as given
 use Rattle.kr_defs.specs.declared.record.Item.{Item}
 use Rattle.kr_defs.specs.declared.record.Item.TheVariants as items
 use Rattle.kr_defs.specs.declared.record.Record.TheVariants as kinds
@@ -152,6 +152,7 @@ abbrev pub IsShort : Request → Type 0
 IsShort (requests.IncrementalAlterConfigs request) =
     (length request.resources ≤ 1) × All (λ r. length r.name < 2 ^ 16) request.resources
     × IfSome (value_of (requests.IncrementalAlterConfigs request)) (λ v. length v < 2 ^ 16)
+IsShort other = Unit {0}
 
 abbrev pub IsShortAsk : Ask → Type 0
 IsShortAsk (asks.Call call) = IsShort call.request

@@ -5,15 +5,15 @@ use Rattle.std.specs.List.{All}
 use Rattle.std.specs.Int.{w8, w16, w32}
 use Rattle.kr_wire.specs.Grammar.{◌⌢◌, Exactly, IsSigned, IsText, IsUvarint}
 use Rattle.kr_wire.specs.Spelling.{signed, text, list, tags, uvarint}
-use Rattle.kr_defs.specs.declared.calls.Ask.{Ask}
-use Rattle.kr_defs.specs.declared.calls.Ask.TheVariants as asks
-use Rattle.kr_defs.specs.declared.calls.AskFault.TheVariants as faults
-use Rattle.kr_defs.specs.declared.calls.AskFault.{AskFault}
-use Rattle.kr_defs.specs.declared.calls.Call.{Call}
-use Rattle.kr_defs.specs.declared.calls.ConfigResponse.{ConfigResponse}
-use Rattle.kr_defs.specs.declared.calls.Reply.{Reply}
-use Rattle.kr_defs.specs.declared.calls.Reply.TheVariants as replies
-use Rattle.kr_defs.specs.declared.calls.Request.TheVariants as requests
+use Rattle.kr_calls.specs.declared.calls.Ask.{Ask}
+use Rattle.kr_calls.specs.declared.calls.Ask.TheVariants as asks
+use Rattle.kr_calls.specs.declared.calls.AskFault.TheVariants as faults
+use Rattle.kr_calls.specs.declared.calls.AskFault.{AskFault}
+use Rattle.kr_calls.specs.declared.calls.Call.{Call}
+use Rattle.kr_calls.specs.declared.configs.ConfigResponse.{ConfigResponse}
+use Rattle.kr_calls.specs.declared.calls.Reply.{Reply}
+use Rattle.kr_calls.specs.declared.calls.Reply.TheVariants as replies
+use Rattle.kr_calls.specs.declared.calls.Request.TheVariants as requests
 use Rattle.kr_defs.specs.Settings.{minimum_key, read_minimum}
 
 -- ---- requests
@@ -98,16 +98,19 @@ null = uvarint 0
 abbrev pub response : ConfigResponse → List ℕ
 response r = signed w16 r.error ++ null ++ signed w8 r.kind ++ text r.name ++ tags []
 
--- the body: for a call its throttle time (always 0) and what the request has, for a bare reply the error alone
+-- The body: for a call its throttle time (always 0) and what the request has, for a bare reply the error alone. The other
+-- replies aren't written so far.
 abbrev pub reply_body : Reply → List ℕ
 reply_body (replies.IncrementalAlterConfigs reply) = signed w32 (pos 0) ++ list response reply.responses ++ tags []
 reply_body (replies.Bare error) = signed w16 error
+reply_body _ = []
 
 -- the response header and the body
 abbrev pub reply_message : ℤ → Reply → List ℕ
 reply_message correlation reply = signed w32 correlation ++ tags [] ++ reply_body reply
 
--- a reply whose list and texts fit their size fields
+-- a reply that is written, and whose list and texts fit their size fields
 abbrev pub IsWritable : Reply → Type 0
 IsWritable (replies.IncrementalAlterConfigs reply) = (length reply.responses < 2 ^ 31) × All (λ r. length r.name < 2 ^ 31) reply.responses
 IsWritable (replies.Bare error) = Unit {0}
+IsWritable _ = ⊥

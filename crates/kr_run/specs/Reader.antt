@@ -7,7 +7,7 @@ use Rattle.kr_base.specs.Causes.{Rose}
 use Rattle.kr_wire.specs.Grammar.{◌⌢◌, Exactly, IsNumber}
 use Rattle.std.specs.Int.{w32}
 use Rattle.kr_defs.specs.declared.options.Options.{Options}
-use Rattle.kr_defs.specs.declared.events.Event.{Event}
+use Rattle.kr_run.specs.declared.events.Event.{Event}
 use Rattle.kr_run.specs.declared.frames.Stop.{Stop}
 use Rattle.kr_run.specs.declared.frames.Stop.TheVariants.{ReadFault, Malformed, TooLong}
 use Rattle.kr_run.specs.Frames.{IsFrame, IsOpen, IsEvent, IsEnd}

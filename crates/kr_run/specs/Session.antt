@@ -2,7 +2,7 @@
 use Rattle.std.specs.Prelude.{◌≡◌, ℕ, IsTrue, List, [], ◌∷◌, ◌++◌}
 use Rattle.kr_wire.specs.Grammar.{◌⌢◌, Each}
 use Rattle.kr_defs.specs.declared.options.Options.{Options}
-use Rattle.kr_defs.specs.declared.events.Event.{Event}
+use Rattle.kr_run.specs.declared.events.Event.{Event}
 use Rattle.kr_run.specs.Frames.{IsOpen, IsEvent, IsEnd}
 use Rattle.kr_run.specs.World.{World, start, world, happens, is_accepted}
 use Rattle.kr_run.specs.Outputs.{written_for}

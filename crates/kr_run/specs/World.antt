@@ -5,14 +5,14 @@ use Rattle.std.specs.Option.{option_and_then, option_map_or}
 use Rattle.std.specs.Int.{int_max}
 use Rattle.std.specs.Ordering.{int_eq}
 use Rattle.std.specs.Str.{bytes_eq}
-use Rattle.kr_defs.specs.declared.calls.Ask.{Ask}
-use Rattle.kr_defs.specs.declared.calls.Ask.TheVariants as asks
-use Rattle.kr_defs.specs.declared.calls.Request.{Request}
-use Rattle.kr_defs.specs.declared.calls.Request.TheVariants as requests
-use Rattle.kr_defs.specs.declared.calls.Reply.{Reply}
-use Rattle.kr_defs.specs.declared.calls.Reply.TheVariants as replies
-use Rattle.kr_defs.specs.declared.events.Event.{Event}
-use Rattle.kr_defs.specs.declared.events.Event.TheVariants as events
+use Rattle.kr_calls.specs.declared.calls.Ask.{Ask}
+use Rattle.kr_calls.specs.declared.calls.Ask.TheVariants as asks
+use Rattle.kr_calls.specs.declared.calls.Request.{Request}
+use Rattle.kr_calls.specs.declared.calls.Request.TheVariants as requests
+use Rattle.kr_calls.specs.declared.calls.Reply.{Reply}
+use Rattle.kr_calls.specs.declared.calls.Reply.TheVariants as replies
+use Rattle.kr_run.specs.declared.events.Event.{Event}
+use Rattle.kr_run.specs.declared.events.Event.TheVariants as events
 use Rattle.kr_defs.specs.declared.record.Item.{Item}
 use Rattle.kr_defs.specs.declared.record.Item.TheVariants as items
 use Rattle.kr_defs.specs.declared.record.Record.{Record}
@@ -46,10 +46,11 @@ image_at log place = fold apply log.first (take (place - log.start) log.items)
 
 -- ---- what a request gives
 
--- the same answer to each entry
+-- The same answer to each entry. No other request is read so far.
 abbrev pub refuse : Request → ℤ → Reply
 refuse (requests.IncrementalAlterConfigs request) error =
     replies.IncrementalAlterConfigs (record { responses = map (λ r. record { error = error; kind = r.kind; name = r.name }) request.resources })
+refuse other error = replies.Bare error
 
 abbrev pub only_one : {X : Type 0} → List X → Option X
 only_one (x ∷ []) = Some x
@@ -59,6 +60,7 @@ only_one other = None
 abbrev pub value_of : Request → Option (List ℕ)
 value_of (requests.IncrementalAlterConfigs request) =
     option_and_then (λ resource. option_and_then (λ setting. setting.value) (only_one resource.configs)) (only_one request.resources)
+value_of other = None
 
 -- a record where the value differs from the one that is set
 abbrev pub setting_records : Option (List ℕ) → Option (List ℕ) → List Record

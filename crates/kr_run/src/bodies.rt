@@ -3,15 +3,16 @@
 ghost use Rattle.std.specs.Prelude.{◌≡◌, ◌≤◌, ◌<◌, [], pos, length, drop, IfErr, IfOk, OnErr, Ok, Err, MatchResult, IsTrue, IsErrOf, false, IsUtf8, ◌↔◌};
 ghost use Rattle.kr_defs.specs.declared.limits.TheConstants.{MOST_MESSAGE_BYTES};
 ghost use Rattle.kr_wire.specs.Reading.{Reads};
-ghost use Rattle.kr_defs.specs.declared.events.Event.{Event as AnyEvent};
+ghost use Rattle.kr_run.specs.declared.events.Event.{Event as AnyEvent};
 ghost use Rattle.kr_defs.specs.declared.options.Options.{Options as AnyOptions};
 ghost use Rattle.kr_run.specs.Frames.{IsOptions, AreOptions};
 ghost use Rattle.kr_run.specs.Kept.{HasShort};
 ghost use Rattle.kr_run.specs.Bodies.{IsLead, IsCommit, IsRequest, IsAsked, IsBody, AreNumbers, AreTopicNumbers, time_at, lead_at, commit_at, stamp_at, options_at};
 
+use crate::events::Event;
 use crate::messages::decode;
 use kr_defs::limits::{MOST_MESSAGE_BYTES, MOST_PARTITIONS, MOST_TARGETS};
-use kr_defs::{Event, Options, Text};
+use kr_defs::{Options, Text};
 use kr_wire::{WireFault, read_i16, read_i32, read_i64, read_u32, read_u64};
 use std::alloc::Global;
 

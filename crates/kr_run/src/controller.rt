@@ -5,7 +5,7 @@ ghost use Rattle.std.specs.List.{list_any};
 ghost use Rattle.std.specs.Option.{option_map_or, option_copied};
 ghost use Rattle.std.specs.Ordering.{int_eq};
 ghost use Rattle.std.specs.Str.{bytes_eq};
-ghost use Rattle.kr_defs.specs.declared.events.Event.{Event as Happening};
+ghost use Rattle.kr_run.specs.declared.events.Event.{Event as Happening};
 ghost use Rattle.kr_run.specs.Batches.{appended_bytes};
 ghost use Rattle.kr_run.specs.Kept.{Stands, HasShort, IsShort, IsShortAsk, item_of, AreSmall, fresh};
 ghost use Rattle.kr_run.specs.Fitting.{FitsFrame};
@@ -16,21 +16,20 @@ ghost use Rattle.kr_run.specs.Outputs.{outputs_of, reply_of};
 ghost use Rattle.kr_run.specs.World;
 ghost use Rattle.kr_run.specs.World.{world, is_accepted, last_place, only_one};
 
+use crate::events::{Event, Output};
 use crate::messages::MINIMUM_KEY;
 use crate::replies::refuse;
 use kr_base::NoMemory;
 use kr_batch::{Batch, encode};
-use kr_defs::{
-    Ask, AskFault, Bytes, Call, ConfigOperation, ConfigResource, Copied, Event, Item, Output,
-    Record, Reply, Request, Rows, Text,
-};
+use kr_calls::{Ask, AskFault, Call, ConfigOperation, ConfigResource, Reply, Request};
+use kr_defs::{Bytes, Copied, Item, Record, Rows, Text};
 use std::alloc::Global;
 use std::collections::VecDeque;
 use std::marker::Model;
 use std::mem;
 
 /// A request that was decided while leading. Its reply needs all that it saw or made: the tip after it.
-#[derive(Debug, Drop)]
+#[derive(Drop)]
 pub struct Write {
     pub client: u32,
     pub correlation: i32,
@@ -39,7 +38,7 @@ pub struct Write {
 }
 
 /// What a controller keeps between events.
-#[derive(Debug, Drop)]
+#[derive(Drop)]
 pub struct Controller {
     end: u64,
     committed: u64,
@@ -193,6 +192,7 @@ fn value_of(request: &Request) -> Option<&Text>
             let operation = only_operation(resource.configs.as_slice())?;
             operation.value.as_ref()
         }
+        _ => None,
     }
 }
 

@@ -3,6 +3,7 @@
 
 mod bodies;
 mod controller;
+mod events;
 mod filling;
 mod frames;
 mod messages;

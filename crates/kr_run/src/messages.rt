@@ -4,7 +4,7 @@ ghost use Rattle.std.specs.Prelude.{◌≡◌, ◌≤◌, ◌==◌, ◌&&◌, []
 ghost use Rattle.std.specs.Ordering.{int_eq};
 ghost use Rattle.std.specs.Str.{bytes_eq};
 ghost use Rattle.kr_wire.specs.Reading.{Reads, Read};
-ghost use Rattle.kr_defs.specs.declared.calls.Ask.{Ask as AnyAsk};
+ghost use Rattle.kr_calls.specs.declared.calls.Ask.{Ask as AnyAsk};
 ghost use Rattle.kr_run.specs.Kept.{IsShortAsk};
 ghost use Rattle.kr_run.specs.Messages;
 ghost use Rattle.kr_defs.specs.Settings.{minimum_key};
@@ -13,10 +13,10 @@ ghost use Rattle.kr_run.specs.Reading.{Passes, one_uvarint_at, one_i8_at, one_i1
 ghost use Rattle.kr_run.specs.Reading;
 
 use kr_base::NoMemory;
-use kr_defs::{
-    Ask, AskFault, Call, ConfigOperation, ConfigResource, IncrementalAlterConfigs, Request, Rows,
-    Text, read_minimum,
+use kr_calls::{
+    Ask, AskFault, Call, ConfigOperation, ConfigResource, IncrementalAlterConfigs, Request,
 };
+use kr_defs::{Rows, Text, read_minimum};
 use kr_wire::{Span, WireFault, read_i8, read_i16, read_i32, read_str, read_utf8, read_uvarint};
 use std::alloc::Global;
 

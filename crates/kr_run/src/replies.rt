@@ -3,15 +3,14 @@
 ghost use Rattle.std.specs.Prelude.{◌≡◌, ◌<◌, ◌^◌, pos, [], ◌++◌, length, map, IfOk, OnOk, OnErr};
 ghost use Rattle.std.specs.List.{All, flat_map};
 ghost use Rattle.kr_wire.specs.Spelling.{list, tags};
-ghost use Rattle.kr_defs.specs.declared.calls.Request.TheVariants as requests;
+ghost use Rattle.kr_calls.specs.declared.calls.Request.TheVariants as requests;
 ghost use Rattle.kr_run.specs.Messages;
 ghost use Rattle.kr_run.specs.Messages.{IsWritable, reply_body, reply_message, response};
 ghost use Rattle.kr_run.specs.World;
 
 use kr_base::NoMemory;
-use kr_defs::{
-    ConfigResource, ConfigResponse, Copied, IncrementalAlterConfigsReply, Reply, Request, Rows,
-};
+use kr_calls::{ConfigResource, ConfigResponse, IncrementalAlterConfigsReply, Reply, Request};
+use kr_defs::{Copied, Rows};
 use kr_wire::{put_count, put_i8, put_i16, put_i32, put_null, put_str, put_uvarint};
 use std::alloc::{AllocError, Global};
 
@@ -62,6 +61,7 @@ fn put_body(reply: &Reply, out: &mut Vec<u8>) -> Result<(), AllocError>
             put_no_tags(out)
         }
         Reply::Bare { error } => put_i16(out, *error),
+        _ => Ok(()),
     }
 }
 
@@ -124,5 +124,6 @@ pub fn refuse(alloc: Global, request: &Request, error: i16) -> Result<Reply, NoM
             let responses = responses_to(alloc, request.resources.as_slice(), error)?;
             Ok(Reply::IncrementalAlterConfigs(IncrementalAlterConfigsReply { responses }))
         }
+        _ => Ok(Reply::Bare { error }),
     }
 }

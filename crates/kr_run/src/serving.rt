@@ -4,7 +4,7 @@ ghost use Rattle.std.specs.Prelude.{◌≡◌, [], ◌∷◌, ◌++◌, ◌<◌,
 ghost use Rattle.std.specs.Io.KnownBytes.{Appends};
 ghost use Rattle.kr_base.specs.Causes.{Rose};
 ghost use Rattle.kr_base.specs.Written.{AppendsFront};
-ghost use Rattle.kr_defs.specs.declared.events.Event.{Event as Happening};
+ghost use Rattle.kr_run.specs.declared.events.Event.{Event as Happening};
 ghost use Rattle.kr_defs.specs.declared.options.Options.{Options as Settings};
 ghost use Rattle.kr_run.specs.Fitting.{FitsFrame};
 ghost use Rattle.kr_run.specs.Frames.{IsOpen, IsEvent, output_frame};
@@ -17,11 +17,12 @@ ghost use Rattle.kr_run.specs.Endings.{EndsWith, TookWhole, StopsAt, StopsReadin
 
 use crate::bodies::{BodyFault, event, options};
 use crate::controller::Controller;
+use crate::events::{Event, Output};
 use crate::frames::{Stop, read_frame};
 use crate::status::Status;
 use crate::writing::{WriteFault, write_frame};
 use kr_base::{Sink, Source};
-use kr_defs::{Event, Options, Output};
+use kr_defs::Options;
 use std::alloc::Global;
 
 /// Writes all outputs that wait, in order, each as one frame.

@@ -11,9 +11,10 @@ ghost use Rattle.kr_run.specs.Fitting.{FitsFrame};
 ghost use Rattle.kr_run.specs.Frames.{frame, output_frame};
 ghost use Rattle.kr_run.specs.declared.writing.WriteFault.TheVariants.{NoMemory as MemoryRanOut};
 
+use crate::events::Output;
 use crate::replies::encode_reply;
 use kr_base::{NoMemory, Sink};
-use kr_defs::{Output, Reply};
+use kr_calls::Reply;
 use kr_wire::put_u32;
 use std::alloc::Global;
 

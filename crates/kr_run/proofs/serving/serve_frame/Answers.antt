@@ -1,5 +1,5 @@
 use Rattle.std.proofs.Common.{sym, subst, Option}
-use Rattle.kr_defs.specs.declared.events.Event.{Event}
+use Rattle.kr_run.specs.declared.events.Event.{Event}
 use Rattle.kr_run.specs.declared.status.Status.{Status}
 use Rattle.kr_run.specs.Reader.{Took, IsNext}
 use Rattle.kr_run.specs.Endings.{EndsWith}

@@ -1,5 +1,5 @@
 use Rattle.std.proofs.Common.{◌≤◌, List, length}
-use Rattle.kr_defs.specs.declared.events.Event.{Event}
+use Rattle.kr_run.specs.declared.events.Event.{Event}
 use Rattle.kr_run.specs.Kept.{Stands, AreSmall}
 use Rattle.kr_run.proofs.Served.{HandedOut}
 use Rattle.kr_run.proofs.serving.write_waiting.Given as goal

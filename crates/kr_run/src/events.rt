@@ -1,9 +1,10 @@
-//! What a controller is told, and what it gives out.
+//! What this controller is told, and what it gives out, so far.
 
-use crate::{Ask, Bytes, Reply};
+use kr_calls::{Ask, Reply};
+use kr_defs::Bytes;
 
 /// What happens to a controller. The other kinds join as they are built.
-#[derive(Debug, Drop)]
+#[derive(Drop)]
 pub enum Event {
     /// The quorum made this node the leader of the metadata log.
     Lead {
@@ -29,7 +30,7 @@ pub enum Event {
 }
 
 /// What a controller gives out. The other kinds join as they are built.
-#[derive(Debug, Drop)]
+#[derive(Drop)]
 pub enum Output {
     /// A record batch that the quorum is to append.
     Append {
