@@ -6,6 +6,8 @@ ghost use Rattle.kr_defs.specs.declared.record.Record.TheVariants as kinds;
 ghost use Rattle.kr_defs.specs.Image.{Image, IsValid, empty, has_topic, topic_name};
 ghost use Rattle.std.specs.Option.{option_map};
 ghost use Rattle.std.specs.Result.{result_err};
+ghost use Rattle.kr_defs.specs.ImageOrder.{are_in_order, nothing_seen};
+ghost use Rattle.kr_defs.specs.Records.{records_of};
 ghost use Rattle.kr_defs.specs.Log.{Log, first, tip, more, image_at, apply_all, first_ill, IsBehindGood};
 ghost use Rattle.kr_defs.specs.Apply as apply;
 ghost use Rattle.kr_defs.specs.declared.record.Item.{Item as AnyItem};
@@ -49,4 +51,9 @@ pub fn one_item_more()
 pub fn first_ill_is_named()
     ensures cause { (image : Image) (place : ℤ) (items : List AnyItem) → option_map (λ ill. ill.1) (first_ill image place items) ≡ result_err (apply_all image items) }
     ensures place { (image : Image) (place : ℤ) (items : List AnyItem) → IfSome (first_ill image place items) (IsBehindGood image place items) }
+{}
+
+/// The records that make a valid image are in the order in which an image is read.
+pub fn records_are_in_order()
+    ensures { (image : Image) → IsValid image → IsTrue (are_in_order nothing_seen (records_of image)) }
 {}
