@@ -112,31 +112,30 @@ module _ (p : Partition) (replicas in_sync : List ℤ) (mode : Mode) (restarted 
   stays_whole : is_within in_sync replicas ≡ true → is_within replicas in_sync ≡ true → starts_alone chosen ≡ false
   stays_whole inside whole = not_alone (elected p replicas in_sync mode restarted facts).0 chosen (sound p replicas in_sync mode restarted facts inside) (found_in_sync whole)
 
+-- a reassignment runs
+abbrev moves : List ℤ → List ℤ → Bool
+moves adding removing = not (length adding == 0) || not (length removing == 0)
+
 module _ (a : Assignment) where
   abbrev goal : List ℤ
   goal = without a.replicas a.removing
 
   -- a reassignment that is over has its target in sync
   abbrev Ended : Assignment → Type 0
-  Ended b = b.adding ≡ [] → b.removing ≡ [] → is_within goal b.in_sync ≡ true
+  Ended b = moves b.adding b.removing ≡ false → is_within goal b.in_sync ≡ true
 
   whole_target : (in_sync : List ℤ) → is_within goal in_sync ≡ true → is_within goal (within in_sync goal) ≡ true
   whole_target in_sync h = all_from (has (within in_sync goal)) goal (λ id k. has_kept (λ x. has goal x) in_sync id (all_at (has in_sync) goal id h k) k)
 
-  still_runs : (adding removing : List ℤ) → (not (length adding == 0) || not (length removing == 0)) ≡ true → adding ≡ [] → removing ≡ [] → ⊥
-  still_runs [] [] runs none none' = cc
-  still_runs [] (id ∷ removing) runs none none' = cc
-  still_runs (id ∷ adding) removing runs none none' = cc
-
-  module _ (runs : (not (length a.adding == 0) || not (length a.removing == 0)) ≡ true) where
+  module _ (runs : moves a.adding a.removing ≡ true) where
     running_on : (in_sync : List ℤ) → Ended (record a { in_sync = in_sync })
-    running_on in_sync none none' = absurd (still_runs a.adding a.removing runs none none')
+    running_on in_sync none = absurd cc
 
     alone_ends : (leader : ℤ) → Ended (ended (alone a leader))
     unfolding ended completes
     alone_ends leader =
-        elim (cases_Bool ((not (length a.adding == 0) || not (length a.removing == 0)) && is_target_in_sync a.replicas a.removing (leader ∷ []))) [
-          | inl holds ↦ rw holds (λ _ _. whole_target (leader ∷ []) (and_parts (not (length a.adding == 0) || not (length a.removing == 0)) (is_target_in_sync a.replicas a.removing (leader ∷ [])) holds).1)
+        elim (cases_Bool (moves a.adding a.removing && is_target_in_sync a.replicas a.removing (leader ∷ []))) [
+          | inl holds ↦ rw holds (λ _. whole_target (leader ∷ []) (and_parts (moves a.adding a.removing) (is_target_in_sync a.replicas a.removing (leader ∷ [])) holds).1)
           | inr fails ↦ rw fails (running_on (leader ∷ []))
         ]
 
@@ -158,28 +157,32 @@ module _ (a : Assignment) where
           let in_sync = within a.in_sync goal in
           let all = whole_target a.in_sync whole in
           let inside = all_from (has goal) in_sync (λ id h. passes_kept (λ x. has goal x) a.in_sync id h) in
-          rw (stays_whole p goal in_sync mode restarted facts inside all) (λ _ _. all)
+          rw (stays_whole p goal in_sync mode restarted facts inside all) (λ _. all)
 
       ends : Ended (outcome (ended a))
       unfolding ended completes
       ends =
-          elim (cases_Bool ((not (length a.adding == 0) || not (length a.removing == 0)) && is_target_in_sync a.replicas a.removing a.in_sync)) [
-            | inl holds ↦ rw holds (reached_ends (and_parts (not (length a.adding == 0) || not (length a.removing == 0)) (is_target_in_sync a.replicas a.removing a.in_sync) holds).1)
+          elim (cases_Bool (moves a.adding a.removing && is_target_in_sync a.replicas a.removing a.in_sync)) [
+            | inl holds ↦ rw holds (reached_ends (and_parts (moves a.adding a.removing) (is_target_in_sync a.replicas a.removing a.in_sync) holds).1)
             | inr fails ↦ rw fails (goes_on (elected p a.replicas a.in_sync mode restarted facts).0 (elected p a.replicas a.in_sync mode restarted facts).1)
           ]
 
 -- of the lists that differ
-merged_ends : (p q : Partition) → (q.adding ≡ [] → q.removing ≡ [] → is_within (target p) q.in_sync ≡ true) → EndsInSync p (merged p (difference p q))
+merged_ends : (p q : Partition) → (moves q.adding q.removing ≡ false → is_within (target p) q.in_sync ≡ true) → EndsInSync p (merged p (difference p q))
 unfolding merged difference
-merged_ends p q told adding removing =
-    let whole = told (sym (same_list p.adding q.adding) ∙ adding) (sym (same_list p.removing q.removing) ∙ removing) in
-    all_from (has (replaced p.in_sync q.in_sync)) (target p) (λ id h. (replaced_same p.in_sync q.in_sync).back id (all_at (has q.in_sync) (target p) id whole h))
+merged_ends p q told =
+    rw (same_list p.adding q.adding, same_list p.removing q.removing)
+    (elim (cases_Bool (moves q.adding q.removing)) [
+      | inl moving ↦ or_left (moves q.adding q.removing) (is_within (target p) (replaced p.in_sync q.in_sync)) moving
+      | inr over ↦ or_right (moves q.adding q.removing) (is_within (target p) (replaced p.in_sync q.in_sync))
+          (all_from (has (replaced p.in_sync q.in_sync)) (target p) (λ id h. (replaced_same p.in_sync q.in_sync).back id (all_at (has q.in_sync) (target p) id (told over) h)))
+    ])
 
 pub end_in_sync : ReassignmentsEndInSync
 unfolding built aimed
 end_in_sync p want facts own runs =
     let a = asked want in
-    let runs_on : (not (length a.adding == 0) || not (length a.removing == 0)) ≡ true = rw (own.adding, own.removing) runs in
-    let P : List ℤ → List ℤ → Type 0 = λ r m. (aimed p want facts).adding ≡ [] → (aimed p want facts).removing ≡ [] → is_within (without r m) (aimed p want facts).in_sync ≡ true in
+    let runs_on : moves a.adding a.removing ≡ true = rw (own.adding, own.removing) runs in
+    let P : List ℤ → List ℤ → Type 0 = λ r m. moves (aimed p want facts).adding (aimed p want facts).removing ≡ false → is_within (without r m) (aimed p want facts).in_sync ≡ true in
     let told : P p.replicas p.removing = subst (λ r. P r p.removing) own.replicas (subst (λ m. P want.replicas m) own.removing (ends a runs_on p want.mode want.restarted facts)) in
     changed_told p (aimed p want facts) (λ change. EndsInSync p (merged p change)) (merged_ends p (aimed p want facts) told)

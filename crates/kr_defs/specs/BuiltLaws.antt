@@ -33,11 +33,11 @@ pub record AsksOwnLists (p : Partition) (want : Want) : Type 0 where
   pub adding : want.adding ≡ p.adding
   pub removing : want.removing ≡ p.removing
 
--- no reassignment runs, and each replica that the one before led to is in sync
+-- a reassignment still runs, or each replica that it led to is in sync
 abbrev pub EndsInSync : Partition → Partition → Type 0
-EndsInSync p after = after.adding ≡ [] → after.removing ≡ [] → IsTrue (is_within (target p) after.in_sync)
+EndsInSync p after = IsTrue (is_moving after || is_within (target p) after.in_sync)
 
--- Where a reassignment ends by itself, its target is in sync.
+-- A reassignment that runs by the lists of the partition goes on, or its target is in sync.
 abbrev pub ReassignmentsEndInSync : Type 0
 ReassignmentsEndInSync =
     (p : Partition) (want : Want) (facts : Facts) →

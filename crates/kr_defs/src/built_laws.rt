@@ -12,7 +12,7 @@ pub fn built_leaders_had_records()
     ensures { BuiltLeadersHadRecords }
 {}
 
-/// Where a reassignment ends by itself, its target is in sync.
+/// A reassignment that runs by the lists of the partition goes on, or its target is in sync.
 pub fn reassignments_end_in_sync()
     ensures { ReassignmentsEndInSync }
 {}
