@@ -31,4 +31,5 @@ pub mod Sizes
 pub mod Texts
 pub mod Topics
 pub mod Walk
+pub mod WalkLaws
 pub mod Weight

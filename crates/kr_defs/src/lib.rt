@@ -40,7 +40,7 @@ pub use forming::{are_replicas, is_reassignment, is_sensible, is_well_formed};
 pub use ill::Ill;
 pub use image_laws::own_records_make_images;
 pub use lists::parts;
-pub use map_laws::{maps_hold, topic_walks_pass_all};
+pub use map_laws::{maps_hold, topic_walks_pass_all, valid_images_are_walked_once};
 pub use options::Options;
 pub use partition::{Partition, PartitionChange};
 pub use partition_laws::{
