@@ -10,7 +10,9 @@ mod messages;
 mod replies;
 mod serving;
 mod status;
+mod words;
 mod writing;
 
 pub use serving::session;
 pub use status::Status;
+pub use words::{WordsFault, words_of};

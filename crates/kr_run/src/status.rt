@@ -1,7 +1,11 @@
 //! How a run of the tool ended.
 
 ghost use Rattle.std.specs.Prelude.{◌≡◌};
+ghost use Rattle.std.specs.Process.{exit_status};
 ghost use Rattle.kr_run.specs.Endings.{number_of};
+
+use std::io::Eprint;
+use std::process::{ExitCode, Termination};
 
 /// How a run ended. Each has its exit number.
 #[derive(Clone, Copy, Debug, Drop, PartialEq, Eq)]
@@ -36,5 +40,14 @@ impl Status {
             Status::NoMemory => 6,
             Status::TooLong => 7,
         }
+    }
+}
+
+/// A program whose `main` answers a status ends with its number.
+impl Termination for Status {
+    fn report<R: Eprint>(self, _rt: &R) -> ExitCode
+        ensures { exit_status result ≡ number_of self }
+    {
+        ExitCode::from(self.number())
     }
 }

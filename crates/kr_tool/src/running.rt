@@ -9,7 +9,7 @@ ghost use Rattle.kr_tool.specs.Notes.{AreServed, note_of, line, IsMalformed};
 
 use kr_base::{Sink, Source};
 use kr_defs::Text;
-use kr_run::{Status, session};
+use kr_run::{Status, WordsFault, session};
 use std::alloc::{AllocError, Global};
 
 /// Runs the tool: serves the session that comes from `input`, writes its output frames to `output`, and the line of a
@@ -47,6 +47,20 @@ pub fn run<S: Source, K: Sink, E: Sink>(
     ensures notes { (Rose (E.faults notes.old) (E.faults notes.new) → ⊥) → Appends (E.written notes.old) (E.written notes.new) (note_of result) }
 {
     let status = serve_words(alloc, words, input, output);
+    tell(alloc, status, notes)
+}
+
+/// Answers for words that aren't known: Usage where one isn't text, NoMemory where memory for them ran out, each with its
+/// line.
+pub fn refuse<E: Sink>(alloc: Global, fault: WordsFault, notes: &mut E) -> Status
+    ensures usage { fault ≡ WordsFault.NotText → result ≡ Status.Usage }
+    ensures no_memory { fault ≡ WordsFault.NoMemory → result ≡ Status.NoMemory }
+    ensures notes { (Rose (E.faults notes.old) (E.faults notes.new) → ⊥) → Appends (E.written notes.old) (E.written notes.new) (note_of result) }
+{
+    let status = match fault {
+        WordsFault::NotText => Status::Usage,
+        WordsFault::NoMemory => Status::NoMemory,
+    };
     tell(alloc, status, notes)
 }
 

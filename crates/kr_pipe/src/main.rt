@@ -1,0 +1,12 @@
+//! The session call as a pipe: frames from standard input, output frames to standard output, and the status as the number
+//! with which the process ends. It takes no words and writes no notes.
+#![tactic(auto)]
+
+use kr_base::{ReadSource, WriteSink};
+use kr_run::{Status, session};
+
+fn main(rt: HostRuntime) -> Status {
+    let mut input = ReadSource::new(rt.stdin());
+    let mut output = WriteSink::new(rt.stdout());
+    session(rt.alloc(), &mut input, &mut output)
+}
