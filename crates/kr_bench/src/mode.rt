@@ -3,9 +3,8 @@
 ghost use Rattle.std.specs.Prelude.{◌≡◌, ◌↔◌, [], ◌∷◌, Some, IsTrue, codes};
 
 use kr_defs::Text;
-use std::io::ErrorKind;
+use kr_run::{WordsFault, words_of};
 use std::rt::Env;
-use std::{env, io};
 
 /// The ways to run the jobs.
 #[derive(Clone, Copy, Debug, PartialEq, Eq)]
@@ -17,21 +16,12 @@ pub enum Mode {
 }
 
 /// The way that the words of this process ask for. Words that aren't all text ask for none.
-pub fn asked<R: Env + AllocGlobal>(rt: &R) -> io::Result<Option<Mode>> {
-    match words(rt) {
+pub fn asked<R: Env + AllocGlobal>(rt: &R) -> Result<Option<Mode>, WordsFault> {
+    match words_of(rt) {
         Ok(words) => Ok(mode_of(&words)),
-        Err(fault) if fault.kind() == ErrorKind::InvalidData => Ok(None),
+        Err(WordsFault::NotText) => Ok(None),
         Err(fault) => Err(fault),
     }
-}
-
-// The words behind the program's name.
-fn words<R: Env + AllocGlobal>(rt: &R) -> io::Result<Vec<Text>> {
-    let mut words = Vec::new(rt.alloc());
-    for word in env::args(rt)?.skip(1) {
-        words.push(Text::from_string(word))?;
-    }
-    Ok(words)
 }
 
 // No word, or the one word `time`; all other words ask for nothing.

@@ -1,4 +1,5 @@
 -- Where no frame is read: too few bytes, a size of 0, or a kind and size that may not stand there.
+use Rattle.kr_defs.specs.declared.limits.TheConstants.{MOST_SESSION_BYTES}
 use Rattle.std.proofs.Common.{◌≡◌, ℕ, ◌+◌, ◌-◌, ◌<◌, ◌≤◌, ◌^◌, Bool, false, List, [], ◌∷◌, ◌++◌, length, take, Option, Some, None, Result, Ok, Err, append_assoc, length-append, sym, ap, subst, ◌∙◌, arith}
 use Rattle.std.specs.Prelude.{IfErr, IfSome}
 use Rattle.std.specs.Int.{w32}
@@ -103,7 +104,7 @@ if_some (Some x) P Q step p = step x p
 pub cut_of : (a b : Option (List ℕ)) (at most len count f g : ℕ) (front : List ℕ) (result : Result (Unit {0}) Stop)
     → Consumes a b (take count front) → count ≤ length front → length front ≡ most → most ≤ len → (count < length front → IsAtEnd b)
     → IfErr result (λ stop. stop ≡ ReadFault → ⊥) → IfErr result (λ stop. stop ≡ Malformed → count < most)
-    → IfErr result (λ stop. stop ≡ TooLong → (count ≡ most) × (most < len)) → (most < len → at + most ≡ 2 ^ 40)
+    → IfErr result (λ stop. stop ≡ TooLong → (count ≡ most) × (most < len)) → (most < len → at + most ≡ MOST_SESSION_BYTES)
     → IfErr result (λ stop. Cut a b at len f g stop)
 cut_of a b at most len count f g front (Ok u) took within long_ fits end no_fault ended long room = tt
 cut_of a b at most len count f g front (Err stop) took within long_ fits end no_fault ended long room =

@@ -1,4 +1,5 @@
 -- A session goes on by one frame, or ends.
+use Rattle.kr_defs.specs.declared.limits.TheConstants.{MOST_SESSION_BYTES}
 use Rattle.std.proofs.Common.{◌≡◌, ℕ, ◌+◌, ◌<◌, ◌≤◌, ◌^◌, true, false, List, [], ◌∷◌, ◌++◌, length, append-nil, length-append, Option, refl, sym, ap, subst, ◌∙◌, arith}
 use Rattle.std.specs.Io.KnownBytes.{Consumes, Appends}
 use Rattle.std.proofs.KnownBytes.{Consumes-trans, Appends-trans}
@@ -166,5 +167,5 @@ event_long (events.Commit epoch end) bytes is = frame_long 3 _ bytes is
 event_long (events.Request client now ask) bytes is = frame_long 8 _ bytes is
 
 -- an event's frame takes some bytes
-pub took_further : (a b : Option (List ℕ)) (at end : ℕ) (e : Event) → Took (IsEvent e) a b at end → (at < end) × (end ≤ 2 ^ 40)
+pub took_further : (a b : Option (List ℕ)) (at end : ℕ) (e : Event) → Took (IsEvent e) a b at end → (at < end) × (end ≤ MOST_SESSION_BYTES)
 took_further a b at end e t = let long = event_long e t.taken t.is in (omega (arith, long, t.place), t.within)

@@ -1,5 +1,6 @@
 -- From what may not stand at a place to what no frame is.
-use Rattle.std.proofs.Common.{◌≡◌, ℕ, ◌≤◌, true, false, List, [], ◌++◌, length, length-append, Option, refl, sym, ap, subst, ◌∙◌, arith}
+use Rattle.kr_defs.specs.declared.limits.TheConstants.{MOST_MESSAGE_BYTES}
+use Rattle.std.proofs.Common.{◌≡◌, ℕ, ◌+◌, ◌≤◌, true, false, List, [], ◌++◌, length, length-append, Option, refl, sym, ap, subst, ◌∙◌, arith}
 use Rattle.std.proofs.lemmas.Bool.{le-leb}
 use Rattle.kr_wire.specs.Grammar.{Exactly}
 use Rattle.kr_defs.specs.declared.options.Options.{Options}
@@ -74,8 +75,8 @@ none_event bytes none (events.Request client now ask) front behind parts is =
     let na : length a.left ≡ 4 = a.first.long in
     let nb : length b.left ≡ 8 = b.first.spelled.spelled.long in
     let short = b.second.short in
-    let size : length is.body ≤ 8388620 = omega (arith, la, lb, na, nb, short) in
-    none 8 is.body front behind (exact_frame 8 _ front is) (le-leb (length is.body) 8388620 size) parts
+    let size : length is.body ≤ MOST_MESSAGE_BYTES + 12 = omega (arith, la, lb, na, nb, short) in
+    none 8 is.body front behind (exact_frame 8 _ front is) (le-leb (length is.body) (MOST_MESSAGE_BYTES + 12) size) parts
 
 pub none_next : (bytes : List ℕ) → NoneAllowed true bytes → NoneNext bytes
 none_next bytes none = (

@@ -2,7 +2,7 @@
 use Rattle.std.proofs.Common.{◌≡◌, ℕ, ℤ, pos, ◌+◌, ◌^◌, ◌<◌, ◌≤◌, true, false, cond, List, [], ◌∷◌, ◌++◌, length, map, Option, Some, None, refl, sym, ap, subst, arith, length-append}
 use Rattle.std.specs.Prelude.{nat_le, nat_lt, unsigned_abs, IfSome, option_to_list}
 use Rattle.std.specs.List.{All}
-use Rattle.std.specs.Int.{w16, w32, int_max}
+use Rattle.std.specs.Int.{w8, w16, w32, int_max}
 use Rattle.std.proofs.lemmas.List.{length-map}
 use Rattle.std.proofs.lemmas.List.Elements.{All-nil, All-head, All-tail, All-append, All-push, All-map, All-filter}
 use Rattle.kr_wire.specs.Spelling.{number, signed, list, tags}
@@ -28,21 +28,10 @@ use Rattle.kr_run.specs.Messages.{error_of, response, reply_body}
 use Rattle.kr_run.specs.Outputs.{reply_of}
 use Rattle.kr_run.specs.World.{refuse, value_of}
 use Rattle.kr_run.specs.Kept.{State, AreSmall, HasShort, IsShort, changed, item_of, give, append_value, append_change, answer, decide_call, take_call, take_ask, take_commit, after_event, fresh}
-use Rattle.kr_run.proofs.Sizes.{uvarint_few, byte_long, writable, short_value}
+use Rattle.kr_wire.proofs.Lengths.{length_number, length_signed, uvarint_few}
+use Rattle.kr_run.proofs.Sizes.{writable, short_value}
 
 -- ---- replies
-
-short_long : (z : ℤ) → length (signed w16 z) ≡ 2
-unfolding signed
-short_long z = refl
-
-word_long : (z : ℤ) → length (signed w32 z) ≡ 4
-unfolding signed
-word_long z = refl
-
-client_long : (n : ℕ) → length (number w32 n) ≡ 4
-unfolding number
-client_long n = refl
 
 -- the entry that gives an error to a resource
 abbrev entry : ℤ → ConfigResource → ConfigResponse
@@ -52,9 +41,9 @@ entries_long : (rs : List ConfigResource) (error : ℤ) → length rs ≤ 1 → 
 entries_long [] error few short = let a = uvarint_few (length {A = ConfigResponse} [] + 1) in simp length-append (omega arith)
 entries_long (r ∷ []) error few short =
     let a = uvarint_few (length (entry error r ∷ []) + 1) in
-    let b = short_long error in
+    let b = length_signed w16 error in
     let d = uvarint_few 0 in
-    let e = byte_long r.kind in
+    let e = length_signed w8 r.kind in
     let f = uvarint_few (length r.name + 1) in
     let name : length r.name < 2 ^ 16 = All-head (λ (r : ConfigResource). length r.name < 2 ^ 16) r [] short in
     simp length-append (omega arith)
@@ -62,14 +51,14 @@ entries_long (r ∷ s ∷ rs) error few short = absurd (omega arith)
 
 frame_fits : (client : ℕ) (correlation : ℤ) (body : List ℕ) → length body ≤ 2 ^ 18 → length (number w32 client ++ (signed w32 correlation ++ tags [] ++ body)) + 1 < 2 ^ 32
 frame_fits client correlation body small =
-    let a = client_long client in
-    let b = word_long correlation in
+    let a = length_number w32 client in
+    let b = length_signed w32 correlation in
     let d = uvarint_few 0 in
     simp length-append (omega arith)
 
 bare_fits : (client : ℕ) (correlation error : ℤ) → FitsFrame (given.Reply client correlation (replies.Bare error))
 bare_fits client correlation error =
-    let a = short_long error in
+    let a = length_signed w16 error in
     let body : length (signed w16 error) ≤ 2 ^ 18 = omega arith in
     (tt, frame_fits client correlation (signed w16 error) body)
 
@@ -77,7 +66,7 @@ refusal_fits : (client : ℕ) (correlation error : ℤ) (request : Request) → 
 refusal_fits client correlation error (requests.IncrementalAlterConfigs request) short =
     let few : length request.resources ≤ 1 = short.0 in
     let long = entries_long request.resources error short.0 short.1 in
-    let a = word_long (pos 0) in
+    let a = length_signed w32 (pos 0) in
     let b = uvarint_few 0 in
     let body : length (reply_body (refuse (requests.IncrementalAlterConfigs request) error)) ≤ 2 ^ 18 = simp length-append (omega (arith, simp length-append at long)) in
     let count : length (map (entry error) request.resources) ≡ length request.resources = length-map request.resources (entry error) in

@@ -1,4 +1,5 @@
 -- What the reading of one frame answers.
+use Rattle.kr_defs.specs.declared.limits.TheConstants.{MOST_SESSION_BYTES, MOST_MESSAGE_BYTES}
 use Rattle.std.specs.Prelude.{◌≡◌, ℕ, ◌+◌, ◌^◌, ◌<◌, ◌≤◌, ◌==◌, Bool, true, false, List, [], ◌∷◌, ◌++◌, length, nat_le, Option, Some, None, IfSome, if◌then◌else◌}
 use Rattle.kr_run.specs.Session.{NoneBegins}
 use Rattle.std.specs.Option.{option_map_or}
@@ -12,11 +13,12 @@ use Rattle.kr_run.specs.declared.frames.Stop.{Stop}
 use Rattle.kr_run.specs.declared.frames.Stop.TheVariants.{ReadFault, Malformed, TooLong}
 use Rattle.kr_run.specs.Frames.{IsFrame, IsOpen, IsEvent, IsEnd}
 
--- the longest body of a kind, at the beginning of a session or behind its Open frame
+-- The longest body of a kind, at the beginning of a session or behind its Open frame. A request has its client and time
+-- before the message.
 abbrev pub limit : Bool → ℕ → Option ℕ
 limit opened kind =
     if opened
-    then (if kind == 2 then Some 20 else (if kind == 3 then Some 12 else (if kind == 8 then Some 8388620 else (if kind == 10 then Some 0 else None))))
+    then (if kind == 2 then Some 20 else (if kind == 3 then Some 12 else (if kind == 8 then Some (MOST_MESSAGE_BYTES + 12) else (if kind == 10 then Some 0 else None))))
     else (if kind == 1 then Some 281 else None)
 
 -- a body of this length may stand here in a frame of this kind
@@ -29,7 +31,7 @@ pub record Took (Is : List ℕ → Type 0) (left left' : Option (List ℕ)) (at 
   pub is : Is taken
   pub took : Consumes left left' taken
   pub place : next ≡ at + length taken
-  pub within : next ≤ 2 ^ 40
+  pub within : next ≤ MOST_SESSION_BYTES
 
 -- the size and the kind of a frame with a body of that length
 abbrev pub IsHead : ℕ → ℕ → List ℕ → Type 0
@@ -53,7 +55,7 @@ pub record Cut (left left' : Option (List ℕ)) (at most faults faults' : ℕ) (
   pub took : Consumes left left' taken
   pub cause : stop ≡ ReadFault → Rose faults faults'
   pub ended : stop ≡ Malformed → IfSome left (λ stream. length stream < most)
-  pub long : stop ≡ TooLong → (at + length taken ≡ 2 ^ 40) × (length taken < most)
+  pub long : stop ≡ TooLong → (at + length taken ≡ MOST_SESSION_BYTES) × (length taken < most)
 
 -- No frame was read: some bytes were taken, a read failed where its count rose, or none stands there, or the longest input was taken.
 pub record Stopped (Nothing : List ℕ → Type 0) (left left' : Option (List ℕ)) (at faults faults' : ℕ) (stop : Stop) : Type 0 where
@@ -61,7 +63,7 @@ pub record Stopped (Nothing : List ℕ → Type 0) (left left' : Option (List �
   pub took : Consumes left left' taken
   pub cause : stop ≡ ReadFault → Rose faults faults'
   pub broken : stop ≡ Malformed → IfSome left Nothing
-  pub long : stop ≡ TooLong → (at + length taken ≡ 2 ^ 40) × Nothing taken
+  pub long : stop ≡ TooLong → (at + length taken ≡ MOST_SESSION_BYTES) × Nothing taken
 
 -- the next frame behind Open: an event, or End
 abbrev pub IsNext : Option Event → List ℕ → Type 0

@@ -4,13 +4,14 @@ ghost use Rattle.std.specs.Prelude.{◌≡◌, Bool, false, IfNone, [], ◌∷�
 ghost use Rattle.std.specs.Io.KnownBytes.{Consumes};
 ghost use Rattle.std.specs.Int.{w32};
 ghost use Rattle.kr_wire.specs.Grammar.{Exactly, IsNumber};
+ghost use Rattle.kr_defs.specs.declared.limits.TheConstants.{MOST_SESSION_BYTES};
 ghost use Rattle.kr_run.specs.Frames.{IsFrame};
 ghost use Rattle.kr_run.specs.Reader;
 ghost use Rattle.kr_run.specs.Reader.{Took, IsHead, Cut, Stopped, NoneAllowed};
 
 use crate::filling::fill;
 use kr_base::Source;
-use kr_defs::limits::MOST_SESSION_BYTES;
+use kr_defs::limits::{MOST_MESSAGE_BYTES, MOST_SESSION_BYTES};
 use std::alloc::Global;
 
 /// Why no frame was read.
@@ -31,6 +32,9 @@ pub(crate) struct Frame {
     pub(crate) body: Vec<u8>,
 }
 
+// The longest body of a Request frame: a client, a time and a message.
+const LONGEST_REQUEST: u32 = MOST_MESSAGE_BYTES as u32 + 12;
+
 // The longest body of a kind, at the beginning of a session or behind its Open frame; none where it can't stand.
 fn limit(opened: bool, kind: u8) -> Option<u32>
     ensures { result ≡ Reader.limit opened kind }
@@ -41,7 +45,7 @@ fn limit(opened: bool, kind: u8) -> Option<u32>
         } else if kind == 3 {
             Some(12)
         } else if kind == 8 {
-            Some(8_388_620)
+            Some(LONGEST_REQUEST)
         } else if kind == 10 {
             Some(0)
         } else {
@@ -65,9 +69,9 @@ fn is_allowed(opened: bool, kind: u8, len: u32) -> bool
 
 // Fills a slice, where the longest input isn't at its end before.
 fn take<S: Source>(source: &mut S, into: &mut [u8], at: u64) -> Result<(), Stop>
-    requires { at ≤ 2 ^ 40 }
+    requires { at ≤ MOST_SESSION_BYTES }
     ensures full { OnOk result (Consumes (S.left source.old) (S.left source.new) into.new) }
-    ensures room { OnOk result (at + length into.old ≤ 2 ^ 40) }
+    ensures room { OnOk result (at + length into.old ≤ MOST_SESSION_BYTES) }
     ensures stopped { IfErr result (λ stop. Cut (S.left source.old) (S.left source.new) at (length into.old) (S.faults source.old) (S.faults source.new) stop) }
     ensures later { S.faults source.old ≤ S.faults source.new }
 {
@@ -82,11 +86,11 @@ fn take<S: Source>(source: &mut S, into: &mut [u8], at: u64) -> Result<(), Stop>
 
 // How much of so many bytes the longest input has room for.
 fn room(len: usize, at: u64) -> usize
-    requires { at ≤ 2 ^ 40 }
+    requires { at ≤ MOST_SESSION_BYTES }
     ensures within { result ≤ len }
-    ensures fits { at + result ≤ 2 ^ 40 }
-    ensures all { at + len ≤ 2 ^ 40 → result ≡ len }
-    ensures short { result < len → at + result ≡ 2 ^ 40 }
+    ensures fits { at + result ≤ MOST_SESSION_BYTES }
+    ensures all { at + len ≤ MOST_SESSION_BYTES → result ≡ len }
+    ensures short { result < len → at + result ≡ MOST_SESSION_BYTES }
 {
     len.min((MOST_SESSION_BYTES - at) as usize)
 }
@@ -117,7 +121,7 @@ pub(crate) fn read_frame<S: Source>(
     opened: bool,
     at: u64,
 ) -> Result<(Frame, u64), Stop>
-    requires { at ≤ 2 ^ 40 }
+    requires { at ≤ MOST_SESSION_BYTES }
     ensures frame { IfOk result (λ x. Took (IsFrame x.0.kind (Exactly x.0.body.items)) (S.left source.old) (S.left source.new) at x.1) }
     ensures allowed { IfOk result (λ x. IsTrue (Reader.is_allowed opened x.0.kind (length x.0.body.items))) }
     ensures stopped { IfErr result (λ stop. Stopped (NoneAllowed opened) (S.left source.old) (S.left source.new) at (S.faults source.old) (S.faults source.new) stop) }
@@ -138,7 +142,7 @@ pub(crate) fn read_frame<S: Source>(
 
 // The kind, and the length of the body.
 fn read_head<S: Source>(source: &mut S, opened: bool, at: u64) -> Result<(u8, u32), Stop>
-    requires { at ≤ 2 ^ 40 }
+    requires { at ≤ MOST_SESSION_BYTES }
     ensures head { IfOk result (λ x. Took (IsHead x.0 x.1) (S.left source.old) (S.left source.new) at (at + 5)) }
     ensures allowed { IfOk result (λ x. IsTrue (Reader.is_allowed opened x.0 x.1)) }
     ensures stopped { IfErr result (λ stop. Stopped (NoneAllowed opened) (S.left source.old) (S.left source.new) at (S.faults source.old) (S.faults source.new) stop) }
@@ -159,7 +163,7 @@ fn read_head<S: Source>(source: &mut S, opened: bool, at: u64) -> Result<(u8, u3
 
 // The size of what follows it, at least 1.
 fn read_size<S: Source>(source: &mut S, at: u64) -> Result<u32, Stop>
-    requires { at ≤ 2 ^ 40 }
+    requires { at ≤ MOST_SESSION_BYTES }
     ensures size { IfOk result (λ size. Took (IsNumber w32 size) (S.left source.old) (S.left source.new) at (at + 4)) }
     ensures some { IfOk result (λ size. 0 < size) }
     ensures stopped { (opened : Bool) → IfErr result (λ stop. Stopped (NoneAllowed opened) (S.left source.old) (S.left source.new) at (S.faults source.old) (S.faults source.new) stop) }
@@ -179,7 +183,7 @@ fn read_size<S: Source>(source: &mut S, at: u64) -> Result<u32, Stop>
 }
 
 fn read_kind<S: Source>(source: &mut S, at: u64) -> Result<u8, Stop>
-    requires { at ≤ 2 ^ 40 }
+    requires { at ≤ MOST_SESSION_BYTES }
     ensures kind { IfOk result (λ kind. Took (Exactly (kind ∷ [])) (S.left source.old) (S.left source.new) at (at + 1)) }
     ensures stopped { IfErr result (λ stop. Cut (S.left source.old) (S.left source.new) at 1 (S.faults source.old) (S.faults source.new) stop) }
     ensures later { S.faults source.old ≤ S.faults source.new }
@@ -192,7 +196,7 @@ fn read_kind<S: Source>(source: &mut S, at: u64) -> Result<u8, Stop>
 }
 
 fn read_body<S: Source>(alloc: Global, source: &mut S, len: u32, at: u64) -> Result<Vec<u8>, Stop>
-    requires { at ≤ 2 ^ 40 }
+    requires { at ≤ MOST_SESSION_BYTES }
     ensures body { IfOk result (λ body. Took (Exactly body.items) (S.left source.old) (S.left source.new) at (at + len)) }
     ensures len { IfOk result (λ body. length body.items ≡ len) }
     ensures stopped { IfErr result (λ stop. Cut (S.left source.old) (S.left source.new) at len (S.faults source.old) (S.faults source.new) stop) }

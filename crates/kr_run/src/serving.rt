@@ -6,6 +6,7 @@ ghost use Rattle.kr_base.specs.Causes.{Rose};
 ghost use Rattle.kr_base.specs.Written.{AppendsFront};
 ghost use Rattle.kr_run.specs.declared.events.Event.{Event as Happening};
 ghost use Rattle.kr_defs.specs.declared.options.Options.{Options as Settings};
+ghost use Rattle.kr_defs.specs.declared.limits.TheConstants.{MOST_SESSION_BYTES};
 ghost use Rattle.kr_run.specs.Fitting.{FitsFrame};
 ghost use Rattle.kr_run.specs.Frames.{IsOpen, IsEvent, output_frame};
 ghost use Rattle.kr_run.specs.Kept;
@@ -118,7 +119,7 @@ pub(crate) fn read_next<S: Source>(
     source: &mut S,
     at: u64,
 ) -> Result<(Option<Event>, u64), Stop>
-    requires { at ≤ 2 ^ 40 }
+    requires { at ≤ MOST_SESSION_BYTES }
     ensures next { IfOk result (λ x. Took (IsNext x.0) (S.left source.old) (S.left source.new) at x.1) }
     ensures short { IfOk result (λ x. IfSome x.0 HasShort) }
     ensures stopped { IfErr result (λ stop. Stopped NoneNext (S.left source.old) (S.left source.new) at (S.faults source.old) (S.faults source.new) stop) }
@@ -194,13 +195,13 @@ fn serve_frame<S: Source, K: Sink>(
     output: &mut K,
     at: u64,
 ) -> Result<u64, Status>
-    requires place { at ≤ 2 ^ 40 }
+    requires place { at ≤ MOST_SESSION_BYTES }
     requires handed_out { controller.old.waiting ≡ [] }
     requires small { AreSmall controller.old }
     ensures goes { (left written : Option (List ℕ)) → Going left (S.left input.old) written (K.written output.old) controller.old at
         → MatchResult result (λ end. Going left (S.left input.new) written (K.written output.new) controller.new end) (λ status. EndsWith left (S.left input.new) written (K.written output.new) status) }
     ensures ready { OnOk result (AreSmall controller.new × (controller.new.waiting ≡ [])) }
-    ensures further { IfOk result (λ end. (at < end) × (end ≤ 2 ^ 40)) }
+    ensures further { IfOk result (λ end. (at < end) × (end ≤ MOST_SESSION_BYTES)) }
     ensures read { IsErrOf result Status.ReadFault → Rose (S.faults input.old) (S.faults input.new) }
     ensures write { IsErrOf result Status.WriteFault → Rose (K.faults output.old) (K.faults output.new) }
     ensures input_later { S.faults input.old ≤ S.faults input.new }
@@ -221,7 +222,7 @@ fn serve_frame<S: Source, K: Sink>(
 
 // Serves the frames behind the first, the next of which stands at `at`.
 fn serve_frames<S: Source, K: Sink>(alloc: Global, input: &mut S, output: &mut K, at: u64) -> Status
-    requires { at ≤ 2 ^ 40 }
+    requires { at ≤ MOST_SESSION_BYTES }
     ensures ends { (left written : Option (List ℕ)) → Going left (S.left input.old) written (K.written output.old) fresh at → EndsWith left (S.left input.new) written (K.written output.new) result }
     ensures read { result ≡ Status.ReadFault → Rose (S.faults input.old) (S.faults input.new) }
     ensures write { result ≡ Status.WriteFault → Rose (K.faults output.old) (K.faults output.new) }

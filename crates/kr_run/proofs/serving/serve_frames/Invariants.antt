@@ -1,3 +1,4 @@
+use Rattle.kr_defs.specs.declared.limits.TheConstants.{MOST_SESSION_BYTES}
 use Rattle.std.proofs.Common.{◌≡◌, ℕ, ◌≤◌, ◌-◌, ◌^◌, List, [], Option}
 use Rattle.kr_run.specs.Kept.{AreSmall, fresh}
 use Rattle.kr_run.specs.Serving.{Going}
@@ -5,7 +6,7 @@ use Rattle.kr_run.proofs.serving.serve_frames.Given as goal
 
 abbrev pub invariant-loop-status : goal.invariant-loop-status
 invariant-loop-status g l = record {
-  place : l.place ≤ 2 ^ 40;
+  place : l.place ≤ MOST_SESSION_BYTES;
   small : AreSmall l.controller;
   handed_out : l.controller.waiting ≡ [];
   going : (left written : Option (List ℕ)) → Going left (g.S.Source.left l.initial.input) written (g.K.Sink.written l.initial.output) fresh l.at
@@ -15,4 +16,4 @@ invariant-loop-status g l = record {
 }
 
 abbrev pub decreases-loop-status : goal.decreases-loop-status
-decreases-loop-status g l = 2 ^ 40 - l.place
+decreases-loop-status g l = MOST_SESSION_BYTES - l.place
