@@ -1,6 +1,6 @@
 -- What the reading of one frame answers.
 use Rattle.kr_defs.specs.declared.limits.TheConstants.{MOST_SESSION_BYTES, MOST_MESSAGE_BYTES}
-use Rattle.std.specs.Prelude.{◌≡◌, ℕ, ◌+◌, ◌^◌, ◌<◌, ◌≤◌, ◌==◌, Bool, true, false, List, [], ◌∷◌, ◌++◌, length, nat_le, Option, Some, None, IfSome, if◌then◌else◌}
+use Rattle.std.specs.Prelude.{◌≡◌, ℕ, ◌+◌, ◌<◌, ◌≤◌, ◌==◌, Bool, true, false, List, [], ◌∷◌, ◌++◌, length, nat_le, Option, Some, None, IfSome, if◌then◌else◌}
 use Rattle.kr_run.specs.Session.{NoneBegins}
 use Rattle.std.specs.Option.{option_map_or}
 use Rattle.std.specs.Io.KnownBytes.{Consumes}

@@ -1,5 +1,5 @@
 use Rattle.kr_defs.specs.declared.limits.TheConstants.{MOST_SESSION_BYTES}
-use Rattle.std.proofs.Common.{◌≡◌, ℕ, ◌≤◌, ◌-◌, ◌^◌, List, [], Option}
+use Rattle.std.proofs.Common.{◌≡◌, ℕ, ◌≤◌, ◌-◌, List, [], Option}
 use Rattle.kr_run.specs.Kept.{AreSmall, fresh}
 use Rattle.kr_run.specs.Serving.{Going}
 use Rattle.kr_run.proofs.serving.serve_frames.Given as goal

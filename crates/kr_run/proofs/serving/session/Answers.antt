@@ -1,5 +1,4 @@
 use Rattle.kr_run.specs.declared.status.Status.TheVariants as statuses
-use Rattle.std.proofs.Common.{◌≡◌}
 use Rattle.kr_run.proofs.Completeness.{ends_at, serves_whole, refuses_broken}
 use Rattle.kr_run.proofs.serving.session.Goals as goal
 

@@ -1,5 +1,4 @@
 use Rattle.kr_run.specs.declared.status.Status.TheVariants as statuses
-use Rattle.std.proofs.Common.{◌≡◌}
 use Rattle.kr_tool.proofs.Statuses.{same_but_memory, told_no_memory, serves_told, refuses_told}
 use Rattle.kr_tool.proofs.running.run.Goals as goal
 
