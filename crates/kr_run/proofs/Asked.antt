@@ -1,4 +1,5 @@
 -- What is read of the bodies of Request and Open frames stands for its value.
+use Rattle.kr_defs.specs.declared.limits.TheConstants.{LONGEST_CLUSTER, MOST_MESSAGE_BYTES}
 use Rattle.std.proofs.Common.{Fits, w8, get_or, ◌≡◌, ℕ, ℤ, pos, ◌≤◌, List, [], ◌++◌, length, drop, append_assoc, Result, Ok, Err, refl, sym, ap, subst, ◌∙◌, arith, ◌<◌}
 use Rattle.std.specs.Prelude.{IfOk, IsUtf8}
 use Rattle.std.specs.Int.{w16, w32, w64}
@@ -119,7 +120,7 @@ misfit_asked client now (events.Request c n ask) body is =
 misfit_asked client now (events.Lead epoch next then_) body is = absurd is
 misfit_asked client now (events.Commit epoch end) body is = absurd is
 
-asked_short : (client : ℕ) (now : ℤ) (event : Event) (message : List ℕ) → IsAsked client now event message → length message ≤ 8388608
+asked_short : (client : ℕ) (now : ℤ) (event : Event) (message : List ℕ) → IsAsked client now event message → length message ≤ MOST_MESSAGE_BYTES
 asked_short client now (events.Request c n ask) message is = is.2.short
 asked_short client now (events.Lead epoch next then_) message is = absurd is
 asked_short client now (events.Commit epoch end) message is = absurd is
@@ -129,7 +130,7 @@ pub request_unstamped : (body : List ℕ) (fault : WireFault) → stamp_at body 
 request_unstamped body fault e event is = let m = misfit_asked 0 (pos 0) event body is in let clash = sym e ∙ m.3 in cc
 
 -- a message that is too long
-pub request_too_long : (body message : List ℕ) (client : ℕ) (now : ℤ) (at : ℕ) → stamp_at body ≡ Ok ((client, now), drop at body) → message ≡ drop at body → 8388608 < length message
+pub request_too_long : (body message : List ℕ) (client : ℕ) (now : ℤ) (at : ℕ) → stamp_at body ≡ Ok ((client, now), drop at body) → message ≡ drop at body → MOST_MESSAGE_BYTES < length message
     → (event : Event) → IsRequest event body → ⊥
 request_too_long body message client now at e behind long event is =
     let m = misfit_asked 0 (pos 0) event body is in
@@ -157,7 +158,7 @@ options_unread body fault e o is = let clash = sym e ∙ options_whole o body is
 
 -- settings that don't fit
 pub options_misfit : (body cluster : List ℕ) (p : Options) → options_at body ≡ Ok (p, []) → cluster ≡ p.cluster
-    → (AreNumbers p.node p.session_ms p.partitions p.factor p.minimum → length cluster ≤ 255 → IsUtf8 cluster → ⊥) → (o : Options) → IsOptions o body → ⊥
+    → (AreNumbers p.node p.session_ms p.partitions p.factor p.minimum → length cluster ≤ LONGEST_CLUSTER → IsUtf8 cluster → ⊥) → (o : Options) → IsOptions o body → ⊥
 options_misfit body cluster p e same wrong o is =
     let q : p ≡ o = ok_value _ _ _ _ (sym e ∙ options_whole o body is) in
     let P : Options → Type 0 = λ z. AreOptions z in

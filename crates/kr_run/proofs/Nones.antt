@@ -1,5 +1,5 @@
 -- From what may not stand at a place to what no frame is.
-use Rattle.kr_defs.specs.declared.limits.TheConstants.{MOST_MESSAGE_BYTES}
+use Rattle.kr_defs.specs.declared.limits.TheConstants.{LONGEST_CLUSTER, MOST_MESSAGE_BYTES}
 use Rattle.std.proofs.Common.{◌≡◌, ℕ, ◌+◌, ◌≤◌, true, false, List, [], ◌++◌, length, length-append, Option, refl, sym, ap, subst, ◌∙◌, arith}
 use Rattle.std.proofs.lemmas.Bool.{le-leb}
 use Rattle.kr_wire.specs.Grammar.{Exactly}
@@ -19,7 +19,7 @@ exact_frame kind Body front f = record { body = f.body; holds = refl; spelled = 
 
 -- ---- sizes
 
-options_long : (o : Options) (body : List ℕ) → IsOptions o body → length body ≤ 281
+options_long : (o : Options) (body : List ℕ) → IsOptions o body → length body ≤ 26 + LONGEST_CLUSTER
 options_long o body is =
     let a = is.spelled in
     let b = a.second in
@@ -47,7 +47,7 @@ options_long o body is =
 
 pub none_opens : (bytes : List ℕ) → NoneAllowed false bytes → NoneOpens bytes
 none_opens bytes none options front behind parts is =
-    none 1 is.body front behind (exact_frame 1 _ front is) (le-leb (length is.body) 281 (options_long options is.body is.holds)) parts
+    none 1 is.body front behind (exact_frame 1 _ front is) (le-leb (length is.body) (26 + LONGEST_CLUSTER) (options_long options is.body is.holds)) parts
 
 none_event : (bytes : List ℕ) → NoneAllowed true bytes → (event : Event) (front behind : List ℕ) → bytes ≡ front ++ behind → IsEvent event front → ⊥
 none_event bytes none (events.Lead epoch next now) front behind parts is =

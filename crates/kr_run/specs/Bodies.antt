@@ -4,7 +4,7 @@ use Rattle.std.specs.Int.{w16, w32, w64}
 use Rattle.kr_wire.specs.declared.WireFault.TheVariants.{TooBig}
 use Rattle.kr_wire.specs.Grammar.{◌⌢◌, Exactly, IsNumber, IsSigned}
 use Rattle.kr_wire.specs.Reading.{◌>>=◌, Read, refuse◌when◌else◌, number_at, signed_at}
-use Rattle.kr_defs.specs.declared.limits.TheConstants.{MOST_PARTITIONS, MOST_TARGETS}
+use Rattle.kr_defs.specs.declared.limits.TheConstants.{MOST_DEFAULT_PARTITIONS, MOST_TARGETS}
 use Rattle.kr_defs.specs.declared.options.Options.{Options}
 use Rattle.kr_run.specs.declared.events.Event.{Event}
 use Rattle.kr_run.specs.declared.events.Event.TheVariants as events
@@ -74,7 +74,7 @@ pub data IsBody (event : Event) (kind : ℕ) (body : List ℕ) : Type 0 where
 -- the numbers that a session may begin with
 pub record AreTopicNumbers (partitions factor : ℤ) : Type 0 where
   pub least_partitions : pos 1 ≤ℤ partitions
-  pub most_partitions : partitions ≤ℤ pos MOST_PARTITIONS
+  pub most_partitions : partitions ≤ℤ MOST_DEFAULT_PARTITIONS
   pub least_factor : pos 1 ≤ℤ factor
   pub most_factor : factor ≤ℤ pos MOST_TARGETS
 

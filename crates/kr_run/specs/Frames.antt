@@ -3,7 +3,7 @@ use Rattle.std.specs.Prelude.{◌≡◌, ℕ, ℤ, pos, ◌≤ℤ◌, ◌+◌, �
 use Rattle.std.specs.Int.{w16, w32, w64}
 use Rattle.kr_wire.specs.Grammar.{◌⌢◌, Exactly, IsNumber, IsSigned}
 use Rattle.kr_wire.specs.Spelling.{number}
-use Rattle.kr_defs.specs.declared.limits.TheConstants.{MOST_PARTITIONS, MOST_TARGETS, MOST_MESSAGE_BYTES}
+use Rattle.kr_defs.specs.declared.limits.TheConstants.{LONGEST_CLUSTER, MOST_DEFAULT_PARTITIONS, MOST_TARGETS, MOST_MESSAGE_BYTES}
 use Rattle.kr_defs.specs.declared.options.Options.{Options}
 use Rattle.kr_run.specs.declared.events.Event.{Event}
 use Rattle.kr_run.specs.declared.events.Event.TheVariants as events
@@ -25,11 +25,11 @@ pub record AreOptions (options : Options) : Type 0 where
   pub node : pos 0 ≤ℤ options.node
   pub session : 1 ≤ options.session_ms
   pub least_partitions : pos 1 ≤ℤ options.partitions
-  pub most_partitions : options.partitions ≤ℤ pos MOST_PARTITIONS
+  pub most_partitions : options.partitions ≤ℤ MOST_DEFAULT_PARTITIONS
   pub least_factor : pos 1 ≤ℤ options.factor
   pub most_factor : options.factor ≤ℤ pos MOST_TARGETS
   pub minimum : pos 1 ≤ℤ options.minimum
-  pub cluster : length options.cluster ≤ 255
+  pub cluster : length options.cluster ≤ LONGEST_CLUSTER
 
 -- all that is left, as text
 pub record IsRest (text bytes : List ℕ) : Type 0 where

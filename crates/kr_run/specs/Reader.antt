@@ -1,5 +1,5 @@
 -- What the reading of one frame answers.
-use Rattle.kr_defs.specs.declared.limits.TheConstants.{MOST_SESSION_BYTES, MOST_MESSAGE_BYTES}
+use Rattle.kr_defs.specs.declared.limits.TheConstants.{LONGEST_CLUSTER, MOST_SESSION_BYTES, MOST_MESSAGE_BYTES}
 use Rattle.std.specs.Prelude.{◌≡◌, ℕ, ◌+◌, ◌<◌, ◌≤◌, ◌==◌, Bool, true, false, List, [], ◌∷◌, ◌++◌, length, nat_le, Option, Some, None, IfSome, if◌then◌else◌}
 use Rattle.kr_run.specs.Session.{NoneBegins}
 use Rattle.std.specs.Option.{option_map_or}
@@ -13,13 +13,13 @@ use Rattle.kr_run.specs.declared.frames.Stop.{Stop}
 use Rattle.kr_run.specs.declared.frames.Stop.TheVariants.{ReadFault, Malformed, TooLong}
 use Rattle.kr_run.specs.Frames.{IsFrame, IsOpen, IsEvent, IsEnd}
 
--- The longest body of a kind, at the beginning of a session or behind its Open frame. A request has its client and time
--- before the message.
+-- The longest body of a kind, at the beginning of a session or behind its Open frame. Open has 26 bytes
+-- before the cluster id, and a request its client and time, 12 bytes, before the message.
 abbrev pub limit : Bool → ℕ → Option ℕ
 limit opened kind =
     if opened
     then (if kind == 2 then Some 20 else (if kind == 3 then Some 12 else (if kind == 8 then Some (MOST_MESSAGE_BYTES + 12) else (if kind == 10 then Some 0 else None))))
-    else (if kind == 1 then Some 281 else None)
+    else (if kind == 1 then Some (26 + LONGEST_CLUSTER) else None)
 
 -- a body of this length may stand here in a frame of this kind
 abbrev pub is_allowed : Bool → ℕ → ℕ → Bool

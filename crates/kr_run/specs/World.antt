@@ -13,6 +13,7 @@ use Rattle.kr_calls.specs.declared.calls.Reply.{Reply}
 use Rattle.kr_calls.specs.declared.calls.Reply.TheVariants as replies
 use Rattle.kr_run.specs.declared.events.Event.{Event}
 use Rattle.kr_run.specs.declared.events.Event.TheVariants as events
+use Rattle.kr_defs.specs.declared.limits.TheConstants.{GREATEST_TIP}
 use Rattle.kr_defs.specs.declared.record.Item.{Item}
 use Rattle.kr_defs.specs.declared.record.Item.TheVariants as items
 use Rattle.kr_defs.specs.declared.record.Record.{Record}
@@ -98,7 +99,7 @@ start = record {
 
 -- the greatest place at which anything may still be added
 abbrev pub last_place : ℕ
-last_place = 2 ^ 61
+last_place = unsigned_abs GREATEST_TIP
 
 -- a message that is a call, while this node leads
 abbrev pub is_decided : World → Ask → Bool

@@ -1,7 +1,7 @@
 //! The bodies of frames that are read.
 
 ghost use Rattle.std.specs.Prelude.{◌≡◌, ◌≤◌, ◌<◌, [], pos, length, drop, IfErr, IfOk, OnErr, Ok, Err, MatchResult, IsTrue, IsErrOf, false, IsUtf8, ◌↔◌};
-ghost use Rattle.kr_defs.specs.declared.limits.TheConstants.{MOST_MESSAGE_BYTES};
+ghost use Rattle.kr_defs.specs.declared.limits.TheConstants.{LONGEST_CLUSTER, MOST_MESSAGE_BYTES};
 ghost use Rattle.kr_wire.specs.Reading.{Reads};
 ghost use Rattle.kr_run.specs.declared.events.Event.{Event as AnyEvent};
 ghost use Rattle.kr_defs.specs.declared.options.Options.{Options as AnyOptions};
@@ -11,7 +11,7 @@ ghost use Rattle.kr_run.specs.Bodies.{IsLead, IsCommit, IsRequest, IsAsked, IsBo
 
 use crate::events::Event;
 use crate::messages::decode;
-use kr_defs::limits::{MOST_MESSAGE_BYTES, MOST_PARTITIONS, MOST_TARGETS};
+use kr_defs::limits::{LONGEST_CLUSTER, MOST_DEFAULT_PARTITIONS, MOST_MESSAGE_BYTES, MOST_TARGETS};
 use kr_defs::{Options, Text};
 use kr_wire::{WireFault, read_i16, read_i32, read_i64, read_u32, read_u64};
 use std::alloc::Global;
@@ -216,7 +216,7 @@ fn has_topics(o: &Opening) -> bool
     ensures no { result ≡ false → AreTopicNumbers o.now.partitions o.now.factor → ⊥ }
 {
     o.partitions >= 1
-        && o.partitions as usize <= MOST_PARTITIONS
+        && o.partitions <= MOST_DEFAULT_PARTITIONS
         && o.factor >= 1
         && o.factor as usize <= MOST_TARGETS
 }
@@ -239,12 +239,12 @@ pub(crate) fn options(alloc: Global, body: &[u8]) -> Result<Options, BodyFault>
 fn named(alloc: Global, o: Opening, cluster: &[u8]) -> Result<Options, BodyFault>
     ensures found { IfOk result (λ options. AreOptions options × IsUtf8 cluster.now
         × (options ≡ record { node = o.node; salt = o.salt; session_ms = o.session_ms; partitions = o.partitions; factor = o.factor; minimum = o.minimum; cluster = cluster.now })) }
-    ensures misfit { IsErrOf result BodyFault.Misfit → AreNumbers o.node o.session_ms o.partitions o.factor o.minimum → length cluster.now ≤ 255 → IsUtf8 cluster.now → ⊥ }
+    ensures misfit { IsErrOf result BodyFault.Misfit → AreNumbers o.node o.session_ms o.partitions o.factor o.minimum → length cluster.now ≤ LONGEST_CLUSTER → IsUtf8 cluster.now → ⊥ }
 {
     if !are_settings(&o) {
         return Err(BodyFault::Misfit);
     }
-    if cluster.len() > 255 {
+    if cluster.len() > LONGEST_CLUSTER {
         return Err(BodyFault::Misfit);
     }
     if !is_text(cluster) {

@@ -22,6 +22,7 @@ use crate::replies::refuse;
 use kr_base::NoMemory;
 use kr_batch::{Batch, encode};
 use kr_calls::{Ask, AskFault, Call, ConfigOperation, ConfigResource, Reply, Request};
+use kr_defs::limits::GREATEST_TIP;
 use kr_defs::{Bytes, Copied, Item, Record, Rows, Text};
 use std::alloc::Global;
 use std::collections::VecDeque;
@@ -70,7 +71,7 @@ impl Model for Controller {
 }
 
 // The greatest place at which anything may still be added.
-const LAST_PLACE: u64 = 1 << 61;
+const LAST_PLACE: u64 = GREATEST_TIP as u64;
 
 fn is_at(place: i64, other: u64) -> bool
     ensures { result ≡ int_eq place (pos other) }
@@ -218,7 +219,7 @@ fn batch_bytes(
     time: i64,
     value: &Text,
 ) -> Result<Bytes, NoMemory>
-    requires place { base ≤ 2 ^ 61 }
+    requires place { base ≤ last_place }
     requires short { length value.now < 2 ^ 16 }
     ensures { IfOk result (λ bytes. bytes ≡ appended_bytes (pos base) epoch time (item_of value.now ∷ [])) }
 {
@@ -262,7 +263,7 @@ impl Controller {
         self.leading.is_none()
             && self.greatest < epoch
             && is_at(next, self.committed)
-            && next <= LAST_PLACE as i64
+            && next <= GREATEST_TIP
     }
 
     fn accepts_commit(&self, epoch: i32, end: i64) -> bool

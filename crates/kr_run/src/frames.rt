@@ -11,7 +11,7 @@ ghost use Rattle.kr_run.specs.Reader.{Took, IsHead, Cut, Stopped, NoneAllowed};
 
 use crate::filling::fill;
 use kr_base::Source;
-use kr_defs::limits::{MOST_MESSAGE_BYTES, MOST_SESSION_BYTES};
+use kr_defs::limits::{LONGEST_CLUSTER, MOST_MESSAGE_BYTES, MOST_SESSION_BYTES};
 use std::alloc::Global;
 
 /// Why no frame was read.
@@ -31,6 +31,9 @@ pub(crate) struct Frame {
     pub(crate) kind: u8,
     pub(crate) body: Vec<u8>,
 }
+
+// The longest body of an Open frame: six numbers and the cluster id.
+const LONGEST_OPEN: u32 = LONGEST_CLUSTER as u32 + 26;
 
 // The longest body of a Request frame: a client, a time and a message.
 const LONGEST_REQUEST: u32 = MOST_MESSAGE_BYTES as u32 + 12;
@@ -52,7 +55,7 @@ fn limit(opened: bool, kind: u8) -> Option<u32>
             None
         }
     } else if kind == 1 {
-        Some(281)
+        Some(LONGEST_OPEN)
     } else {
         None
     }
