@@ -1,0 +1,9 @@
+use Rattle.std.proofs.Common.{w32}
+use Rattle.std.proofs.lemmas.Int.{to_z-of_z}
+use Rattle.kr_defs.proofs.Hearing.{left}
+use Rattle.kr_sessions.proofs.sessions.Sessions.leave.Goals as goal
+
+pub invariant_of-self : goal.invariant_of-self
+invariant_of-self c =
+    rw (c.drop_contact.ensures.items, c.drop_stopping.ensures.items, to_z-of_z w32 c.args.broker c.ranges.broker)
+    (left (record { contacts = c.self.inside.contacts.items; stopping = c.self.inside.stopping.items }) c.args.broker c.self.invariant)
