@@ -12,10 +12,9 @@ use Rattle.std.proofs.Math.Nat.{mul-le-mul}
 use Rattle.kr_defs.specs.declared.partition.Partition.{Partition}
 use Rattle.kr_defs.specs.declared.partition.PartitionChange.{PartitionChange}
 use Rattle.kr_defs.specs.Sizes.{field_bytes, field_there, tags_bytes, number_field, number_field_or, ids_field, ids_field_or}
-use Rattle.kr_wire.specs.Grammar.{IsSigned, Each, IsField, IsTags, data_of, given, IfTagged}
+use Rattle.kr_wire.specs.Grammar.{IsSigned, Each, IsField, IsTags, data_of, given, IfTagged, IfTaggedSince}
 use Rattle.kr_record.specs.declared.flags.Flags.{Flags}
-use Rattle.kr_record.specs.Reading.{no_leader_change, no_recovery_change}
-use Rattle.kr_record.specs.Grammar.{IsIdsOrNull, IsIdsOrEmpty, IsUnless, IfTaggedSince, AreExtras, extras_of, AreChanges, AreFlags}
+use Rattle.kr_record.specs.Grammar.{no_leader_change, no_recovery_change, IsIdsOrNull, IsIdsOrEmpty, IsUnless, AreExtras, extras_of, AreChanges, AreFlags}
 use Rattle.kr_again.proofs.Short.{some_uvarint}
 use Rattle.kr_again.proofs.Costs.{Costs, uvarint_cost, ids_take}
 

@@ -4,9 +4,8 @@ use Rattle.std.specs.Prelude.{All}
 use Rattle.std.proofs.lemmas.List.{length-append}
 use Rattle.std.proofs.lemmas.List.Elements.{All-nil, All-cons}
 use Rattle.kr_wire.specs.Laws.{IsBytes}
-use Rattle.kr_wire.specs.Grammar.{◌⌢◌, Each, IsList, IsField, IsTags, data_of, given, IfTagged}
+use Rattle.kr_wire.specs.Grammar.{◌⌢◌, Each, IsList, IsField, IsTags, data_of, given, IfTagged, IfTaggedSince}
 use Rattle.kr_wire.proofs.Laws.{IsBytes-before, IsBytes-behind}
-use Rattle.kr_record.specs.Grammar.{IfTaggedSince}
 
 -- what is known of the bytes: that they are few, or that each is below 256
 abbrev pub Premise : Bool → List ℕ → Type 0

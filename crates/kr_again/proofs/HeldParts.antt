@@ -10,9 +10,7 @@ use mir.Val.{bits, Fits}
 use Rattle.kr_wire.specs.Laws.{IsBytes}
 use Rattle.kr_wire.specs.Grammar.{◌⌢◌, IsNumber, IsSigned, IsId, IsText, IsTextOrNull}
 use Rattle.kr_record.specs.Held.{IsUtf8OrNone, AreInts, AreIntsOrNone, IsIntOrNone, IsByteOrNone}
-use Rattle.kr_record.specs.Spelling.{unless}
-use Rattle.kr_record.specs.Reading.{no_leader_change, no_recovery_change}
-use Rattle.kr_record.specs.Grammar.{IsIds, IsIdsOrNull, IsIdsOrEmpty, IsUnless}
+use Rattle.kr_record.specs.Grammar.{no_leader_change, no_recovery_change, unless, IsIds, IsIdsOrNull, IsIdsOrEmpty, IsUnless}
 use Rattle.kr_again.proofs.Follows.{Follows, nothing, ◌and◌, list_follows}
 
 -- ---- numbers and texts

@@ -15,9 +15,7 @@ use Rattle.kr_defs.specs.declared.record.Record.{Record}
 use Rattle.kr_defs.specs.declared.record.Record.TheVariants as kinds
 use Rattle.kr_wire.specs.Grammar.{◌⌢◌, IsUvarint, IsSigned, IsText, IsTextOrNull, Each, IsList, IsTags}
 use Rattle.kr_record.specs.Encodable.{IsShort, IsShortOrNone, FitsField, FitsFieldOrNone, IsShortEndpoint, IsShortRange, IsShortBroker, IsShortPartition, IsSpelledChange, IsShortConfig, IsEncodable}
-use Rattle.kr_record.specs.Reading.{no_leader_change, no_recovery_change}
-use Rattle.kr_record.specs.Spelling.{unless}
-use Rattle.kr_record.specs.Grammar.{IsIds, IsIdsOrNull, IsIdsOrEmpty, IsUnless, IsEndpoint, IsRange, IsRegistration, IsTopic, AreExtras, extras_of, IsPartition, IsConfig, AreChanges, IsChange, IsFeature, IsLayout, IsRecord}
+use Rattle.kr_record.specs.Grammar.{no_leader_change, no_recovery_change, unless, IsIds, IsIdsOrNull, IsIdsOrEmpty, IsUnless, IsEndpoint, IsRange, IsRegistration, IsTopic, AreExtras, extras_of, IsPartition, IsConfig, AreChanges, IsChange, IsFeature, IsLayout, IsRecord}
 use Rattle.kr_again.proofs.Follows.{Follows, nothing, ◌and◌, then, list_follows, tags_follow, if_tagged, if_since}
 
 -- ---- how many bytes there are at least

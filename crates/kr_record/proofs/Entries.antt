@@ -8,22 +8,14 @@ use Rattle.std.proofs.lemmas.List.{append-nil}
 use Rattle.kr_defs.specs.declared.partition.Partition.{Partition}
 use Rattle.kr_defs.specs.declared.partition.PartitionChange.{PartitionChange}
 use Rattle.kr_wire.specs.Spelling.{groups, uvarint, signed}
+use Rattle.kr_record.specs.Grammar.{unless}
 use Rattle.kr_record.specs.Encodable.{FitsField, FitsFieldOrNone, IsShortPartition, IsSpelledChange}
-use Rattle.kr_record.specs.Spelling.{ids, unless, unless_empty, partition_fields, change_fields, flags}
-use Rattle.kr_record.proofs.Written.{length_signed_8, length_signed_32, length_ids}
+use Rattle.kr_record.specs.Spelling.{ids, unless_empty, partition_fields, change_fields, flags}
+use Rattle.kr_wire.proofs.Lengths.{length_signed_8, length_signed_32, uvarint_few}
+use Rattle.kr_record.proofs.Written.{length_ids}
 use Rattle.kr_record.proofs.StandsTagged.{Entries, fields_of, FitsEntry}
 
 -- ---- data that fit
-
-groups_length : (room n : ℕ) → length (groups room n) ≤ suc room
-groups_length zero n = omega arith
-groups_length (suc room) n =
-    let k = groups_length room (n / 128) in
-    elim (nat_lt n 128) as (λ b. length (cond b (n ∷ []) ((128 + n % 128) ∷ groups room (n / 128))) ≤ suc (suc room)) [ true ↦ omega arith | false ↦ omega arith ]
-
-uvarint_short : (n : ℕ) → length (uvarint n) ≤ 5
-unfolding uvarint
-uvarint_short n = groups_length 4 n
 
 byte_fits : (tag : ℕ) → tag < 100 → (o : Option ℤ) → FitsEntry (tag, option_map (signed w8) o)
 byte_fits tag small None = tt
@@ -35,7 +27,7 @@ int_fits tag small (Some n) = (omega arith, let h = length_signed_32 n in omega 
 
 ids_fit : (tag : ℕ) → tag < 100 → (o : Option (List ℤ)) → FitsFieldOrNone o → FitsEntry (tag, option_map ids o)
 ids_fit tag small None fits = tt
-ids_fit tag small (Some xs) fits = (omega arith, let h = length_ids xs in let k = uvarint_short (length xs + 1) in omega arith)
+ids_fit tag small (Some xs) fits = (omega arith, let h = length_ids xs in let k = uvarint_few (length xs + 1) in omega arith)
 
 empty_fits : (tag : ℕ) → tag < 100 → (xs : List ℤ) → FitsField xs → FitsEntry (tag, option_map ids (unless_empty xs))
 empty_fits tag small xs fits = elim (eqb (length xs) 0) as (λ b. FitsEntry (tag, option_map ids (cond b None (Some xs)))) [ true ↦ tt | false ↦ ids_fit tag small (Some xs) fits ]

@@ -17,8 +17,7 @@ use Rattle.kr_record.specs.declared.flags.Flags.{Flags}
 use Rattle.kr_record.specs.Answers.{Gives}
 use Rattle.kr_record.specs.Reading.{wired, versioned, as_record, layout_at, record_at, record_of}
 use Rattle.kr_record.specs.Grammar.{IsLayout, IsRecord}
-use Rattle.kr_record.proofs.FixedKinds.{registration_law, broker_epoch_law, topic_law, topic_id_law, config_law, feature_law}
-use Rattle.kr_record.proofs.TaggedKinds.{partition_law, change_law, registration_change_law}
+use Rattle.kr_record.proofs.LayoutLaws.{registration_law, broker_epoch_law, topic_law, topic_id_law, partition_law, config_law, change_law, feature_law, registration_change_law}
 
 -- ---- a fault of the wire is one of the record
 

@@ -17,8 +17,8 @@ use Rattle.kr_defs.specs.Sizes.{text_bytes, text_or_null_bytes, list_bytes, rows
 use Rattle.kr_wire.specs.Spelling.{uvarint, number, signed, bool, id, text, text_or_null, list}
 use Rattle.kr_record.specs.Encodable.{IsShort, IsShortOrNone, IsShortEndpoint, IsShortRange, IsShortBroker, IsShortPartition, IsSpelledChange, IsShortConfig, IsEncodable}
 use Rattle.kr_record.specs.Spelling.{two_ids, no_tags, endpoint, range, registration, broker_epoch, topic, topic_id, no_directories, placed, led, partition, config, change, feature, registration_change, framed, record_value}
-use Rattle.kr_record.proofs.Written.{length_signed_8, length_signed_32}
-use Rattle.kr_record.proofs.LengthsTagged.{uvarint_size, one_byte, ids_size, flag_tags_size, partition_tags_size, change_tags_size}
+use Rattle.kr_wire.proofs.Lengths.{length_number_16, length_signed_8, length_signed_16, length_signed_32, length_signed_64, length_id, length_bool, uvarint_one}
+use Rattle.kr_record.proofs.LengthsTagged.{uvarint_size, ids_size, flag_tags_size, partition_tags_size, change_tags_size}
 
 -- ---- one part after the other
 
@@ -35,26 +35,6 @@ sum_5 : (a b c d e : List ℕ) (k l m n o : ℕ) → length a ≡ k → length b
 sum_5 a b c d e k l m n o ha hb hc hd he = simp length-append (omega arith)
 
 -- ---- parts
-
-length_number_16 : (n : ℕ) → length (number w16 n) ≡ 2
-unfolding number
-length_number_16 n = refl
-
-length_signed_16 : (n : ℤ) → length (signed w16 n) ≡ 2
-unfolding signed
-length_signed_16 n = refl
-
-length_signed_64 : (n : ℤ) → length (signed w64 n) ≡ 8
-unfolding signed
-length_signed_64 n = refl
-
-length_id : (n : ℕ) → length (id n) ≡ 16
-unfolding id
-length_id n = refl
-
-length_bool : (b : Bool) → length (bool b) ≡ 1
-length_bool true = refl
-length_bool false = refl
 
 length_no_tags : length no_tags ≡ 1
 unfolding no_tags uvarint
@@ -172,7 +152,7 @@ registration_change_size broker epoch fenced stopping = sum_3 _ _ _ _ _ _ (lengt
 
 framed_size : (key version : ℕ) (layout : List ℕ) (n : ℕ) → key < 100 → version < 100 → length layout ≡ n → length (framed key version ++ layout) ≡ 3 + n
 unfolding framed
-framed_size key version layout n known served is = sum_4 _ _ _ _ _ _ _ _ (one_byte 1 (lit< tt)) (one_byte key (omega arith)) (one_byte version (omega arith)) is
+framed_size key version layout n known served is = sum_4 _ _ _ _ _ _ _ _ (uvarint_one 1 (lit< tt)) (uvarint_one key (omega arith)) (uvarint_one version (omega arith)) is
 
 pub size : (r : Record) → IsEncodable r → length (record_value r) ≡ value_bytes r
 unfolding record_value value_bytes

@@ -14,19 +14,18 @@ use Rattle.kr_defs.specs.declared.partition.PartitionChange.{PartitionChange}
 use Rattle.kr_defs.specs.Sizes.{uvarint_bytes, list_bytes, field_bytes, field_there, tags_bytes, number_field, number_field_or, ids_field, ids_field_or}
 use Rattle.kr_wire.specs.Spelling.{uvarint, signed, field, tags}
 use Rattle.kr_wire.proofs.Numbers.{not_zero}
+use Rattle.kr_record.specs.Grammar.{unless}
 use Rattle.kr_record.specs.Encodable.{FitsField, FitsFieldOrNone, IsShortPartition, IsSpelledChange}
-use Rattle.kr_record.specs.Spelling.{ids, unless, unless_empty, partition_tags, change_tags, flag_tags}
-use Rattle.kr_record.proofs.Written.{uvarint_length, length_signed_8, length_signed_32, length_ids}
+use Rattle.kr_record.specs.Spelling.{ids, unless_empty, partition_tags, change_tags, flag_tags}
+use Rattle.kr_wire.proofs.Lengths.{length_uvarint, uvarint_one, length_signed_8, length_signed_32}
+use Rattle.kr_record.proofs.Written.{length_ids}
 use Rattle.kr_record.proofs.StandsTagged.{Entries, fields_of, FitsEntry, few}
 use Rattle.kr_record.proofs.Entries.{flag_entries, flags_are, flags_fit, extra_entries, extras_are, extras_fit, change_entries, changes_are, changes_fit}
 
 -- ---- numbers and lists of ids
 
 pub uvarint_size : (n : ℕ) → n < 2 ^ 32 → length (uvarint n) ≡ uvarint_bytes n
-uvarint_size n fits = uvarint_length n fits
-
-pub one_byte : (n : ℕ) → n < 128 → length (uvarint n) ≡ 1
-one_byte n low = uvarint_size n (omega arith) ∙ rw (lt-ltb n 128 low) refl
+uvarint_size n fits = length_uvarint n fits
 
 pub ids_size : (xs : List ℤ) → length xs < 2 ^ 31 → length (ids xs) ≡ list_bytes 4 xs
 ids_size xs short = length_ids xs ∙ ap (λ (n : ℕ). n + 4 * length xs) (uvarint_size (length xs + 1) (omega arith))
@@ -52,7 +51,7 @@ counted ((tag, Some d) ∷ es) = omega (arith, counted es, sum_by-cons field_the
 
 field_size : (tag : ℕ) (d : List ℕ) → tag < 128 → length d < 2 ^ 32 → length (field (tag, d)) ≡ 1 + uvarint_bytes (length d) + length d
 field_size tag d low fits =
-    let t = one_byte tag low in
+    let t = uvarint_one tag low in
     let s = uvarint_size (length d) fits in
     simp (length-append, t, s) refl
 

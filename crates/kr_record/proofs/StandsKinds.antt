@@ -14,10 +14,9 @@ use Rattle.kr_wire.specs.Spelling.{signed, id, list, tags}
 use Rattle.kr_wire.proofs.Laws.{joined}
 use Rattle.kr_wire.proofs.Spelled.{id_spelled, list_spelled}
 use Rattle.kr_record.specs.Encodable.{FitsField, FitsFieldOrNone, IsShortPartition, IsSpelledChange}
-use Rattle.kr_record.specs.Reading.{no_leader_change, no_recovery_change}
-use Rattle.kr_record.specs.Grammar.{IsIdsOrNull, IsIdsOrEmpty, IsUnless, IsDropped, AreExtras, extras_of, IsPartition, AreChanges, IsChange, AreFlags, IsRegistrationChange}
+use Rattle.kr_record.specs.Grammar.{no_leader_change, no_recovery_change, unless, IsIdsOrNull, IsIdsOrEmpty, IsUnless, IsDropped, AreExtras, extras_of, IsPartition, AreChanges, IsChange, AreFlags, IsRegistrationChange}
 use Rattle.kr_record.specs.Held.{AreInts, AreIntsOrNone, IsIntOrNone, IsByteOrNone, IsHeldPartition, IsHeldChange}
-use Rattle.kr_record.specs.Spelling.{ids, two_ids, unless, unless_empty, no_directories, partition_tags, placed, led, partition, change_tags, change, flag_tags, registration_change}
+use Rattle.kr_record.specs.Spelling.{ids, two_ids, unless_empty, no_directories, partition_tags, placed, led, partition, change_tags, change, flag_tags, registration_change}
 use Rattle.kr_record.proofs.StandsTagged.{fields_of, Climb, tagged_is, entries_spelled}
 use Rattle.kr_record.proofs.Entries.{flag_entries, flags_are, flags_fit, extra_entries, extras_are, extras_fit, change_entries, changes_are, changes_fit}
 use Rattle.kr_record.proofs.StandsFixed.{int8, int32, int64, ids_stand, stand_3}

@@ -10,46 +10,17 @@ use Rattle.std.proofs.lemmas.Grind.{flat_map-append}
 use Rattle.kr_defs.specs.declared.partition.Partition.{Partition}
 use Rattle.kr_defs.specs.declared.partition.PartitionChange.{PartitionChange}
 use Rattle.kr_wire.specs.Spelling.{uvarint, signed, id, tag, field, tagged, tags}
-use Rattle.kr_record.specs.Spelling.{ids, no_directories, unless, unless_empty, partition_tags, change_fields, change_tags, first_changes, later_changes, flag_tags}
+use Rattle.kr_record.specs.Grammar.{unless}
+use Rattle.kr_wire.proofs.Lengths.{length_signed_8, length_signed_32, length_list}
+use Rattle.kr_record.specs.Spelling.{ids, no_directories, unless_empty, partition_tags, change_fields, change_tags, first_changes, later_changes, flag_tags}
 
 -- ---- sizes
 
 abbrev one_if : {X : Type 0} → Option X → ℕ
 one_if o = cond (is_some o) 1 0
 
-pub uvarint_length : (n : ℕ) → n < 2 ^ 32
-    → length (uvarint n) ≡ cond (ltb n 128) 1 (cond (ltb n 16384) 2 (cond (ltb n 2097152) 3 (cond (ltb n 268435456) 4 5)))
-unfolding uvarint
-uvarint_length n fits = elim (cases_lt n 128) [
-  | inl a ↦ rw (lt-ltb n 128 a) refl
-  | inr a ↦ rw (le-ltb n 128 a) (elim (cases_lt n 16384) [
-    | inl b ↦ let b' : n / 128 < 128 = omega arith in rw (lt-ltb n 16384 b, lt-ltb (n / 128) 128 b') refl
-    | inr b ↦ let b' : 128 ≤ n / 128 = omega arith in rw (le-ltb n 16384 b, le-ltb (n / 128) 128 b') (elim (cases_lt n 2097152) [
-      | inl c ↦ let c' : n / 128 / 128 < 128 = omega arith in rw (lt-ltb n 2097152 c, lt-ltb (n / 128 / 128) 128 c') refl
-      | inr c ↦ let c' : 128 ≤ n / 128 / 128 = omega arith in rw (le-ltb n 2097152 c, le-ltb (n / 128 / 128) 128 c') (elim (cases_lt n 268435456) [
-        | inl d ↦ let d' : n / 128 / 128 / 128 < 128 = omega arith in rw (lt-ltb n 268435456 d, lt-ltb (n / 128 / 128 / 128) 128 d') refl
-        | inr d ↦ let d' : 128 ≤ n / 128 / 128 / 128 = omega arith in rw (le-ltb n 268435456 d, le-ltb (n / 128 / 128 / 128) 128 d') refl
-      ])
-    ])
-  ])
-]
-
-pub length_signed_8 : (n : ℤ) → length (signed w8 n) ≡ 1
-unfolding signed
-length_signed_8 n = refl
-
-pub length_signed_32 : (n : ℤ) → length (signed w32 n) ≡ 4
-unfolding signed
-length_signed_32 n = refl
-
-each_of_four : (xs : List ℤ) → length (flat_map (signed w32) xs) ≡ 4 * length xs
-each_of_four [] = refl
-each_of_four (x ∷ xs) = let h = length_signed_32 x in let k = each_of_four xs in omega (arith, length-append (signed w32 x) (flat_map (signed w32) xs))
-
 pub length_ids : (xs : List ℤ) → length (ids xs) ≡ length (uvarint (length xs + 1)) + 4 * length xs
-length_ids xs = length-append (uvarint (length xs + 1)) (flat_map (signed w32) xs) ∙ ap (λ (n : ℕ). length (uvarint (length xs + 1)) + n) (each_of_four xs)
-
-pub ruleset length_signed = (length_signed_8, length_signed_32)
+length_ids xs = length_list (signed w32) 4 length_signed_32 xs
 
 -- ---- fields one after the other
 

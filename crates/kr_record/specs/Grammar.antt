@@ -1,5 +1,6 @@
 -- What a record's bytes stand for: Kafka's metadata record schemas, each version that is served.
-use Rattle.std.specs.Prelude.{◌≡◌, ℕ, ℤ, pos, ◌≤◌, Bool, true, false, nat_le, List, [], Option, None}
+use Rattle.std.specs.Prelude.{◌≡◌, ℕ, ℤ, pos, negsuc, ◌≤◌, Bool, true, false, nat_le, if◌then◌else◌, List, [], Option, Some, None}
+use Rattle.std.specs.Ordering.{int_eq}
 use Rattle.std.specs.Option.{unwrap_or}
 use Rattle.std.specs.Int.{Width, w8, w16, w32, w64}
 use Rattle.kr_defs.specs.declared.broker.Broker.{Broker}
@@ -9,11 +10,9 @@ use Rattle.kr_defs.specs.declared.partition.Partition.{Partition}
 use Rattle.kr_defs.specs.declared.partition.PartitionChange.{PartitionChange}
 use Rattle.kr_defs.specs.declared.record.Record.{Record}
 use Rattle.kr_defs.specs.declared.record.Record.TheVariants as kinds
-use Rattle.kr_wire.specs.Grammar.{◌⌢◌, IsUvarint, IsNumber, IsSigned, IsBool, IsId, IsText, IsTextOrNull, NoTags, IsTags, IfTagged, IsList, IsListOrNull}
+use Rattle.kr_wire.specs.Grammar.{◌⌢◌, IsUvarint, IsNumber, IsSigned, IsBool, IsId, IsText, IsTextOrNull, NoTags, IsTags, IfTagged, IfTaggedSince, IsList, IsListOrNull}
 use Rattle.kr_record.specs.declared.flags.Flags.{Flags}
 use Rattle.kr_record.specs.declared.partition.Extras.{Extras}
-use Rattle.kr_record.specs.Spelling.{unless}
-use Rattle.kr_record.specs.Reading.{no_leader_change, no_recovery_change}
 
 -- ---- parts
 
@@ -28,6 +27,10 @@ pub record IsIdsOrEmpty (ids : List ℤ) (bytes : List ℕ) : Type 0 where
   pub listed : Option (List ℤ)
   pub is : ids ≡ unwrap_or listed []
   pub spelled : IsIdsOrNull listed bytes
+
+-- a number that is left out at its default
+abbrev pub unless : ℤ → ℤ → Option ℤ
+unless default n = if int_eq n default then None else Some n
 
 -- a number, none at its default
 pub record IsUnless (w : Width) (default : ℤ) (o : Option ℤ) (bytes : List ℕ) : Type 0 where
@@ -44,11 +47,6 @@ pub record IsDropped {X : Type 0} (Is : X → List ℕ → Type 0) (u : Unit {0}
 abbrev pub IsSince : {X : Type 0} → Bool → (X → List ℕ → Type 0) → X → X → List ℕ → Type 0
 IsSince true Is absent x bytes = Is x bytes
 IsSince false Is absent x bytes = (bytes ≡ []) × (x ≡ absent)
-
--- a tagged field, where the version has it
-abbrev pub IfTaggedSince : Bool → ℕ → (List ℕ → Type 0) → Type 0 → List (ℕ × List ℕ) → Type 0
-IfTaggedSince true tag Is Absent fields = IfTagged tag Is Absent fields
-IfTaggedSince false tag Is Absent fields = Absent
 
 -- ---- RegisterBroker
 
@@ -98,6 +96,13 @@ abbrev pub IsConfig : ℤ × List ℕ × List ℕ × Option (List ℕ) → List 
 IsConfig (kind, name, key, value) = IsSigned w8 kind ⌢ IsText name ⌢ IsText key ⌢ IsTextOrNull value ⌢ NoTags
 
 -- ---- PartitionChange: null is "no change", and an empty list is "becomes empty"
+
+-- the leader that spells "no change" (KIP-631), and the recovery state (KIP-704)
+abbrev pub no_leader_change : ℤ
+no_leader_change = negsuc 1
+
+abbrev pub no_recovery_change : ℤ
+no_recovery_change = negsuc 0
 
 pub record AreChanges (version : ℕ) (c : PartitionChange) (fields : List (ℕ × List ℕ)) : Type 0 where
   pub in_sync : IfTagged 0 (IsIdsOrNull c.in_sync) (c.in_sync ≡ None) fields

@@ -10,12 +10,12 @@ use Rattle.kr_defs.specs.declared.partition.PartitionChange.{PartitionChange}
 use Rattle.kr_defs.specs.declared.record.Record.{Record}
 use Rattle.kr_defs.specs.declared.record.Record.TheVariants as kinds
 use Rattle.kr_wire.specs.declared.WireFault.{WireFault}
-use Rattle.kr_wire.specs.Reading.{◌>>=◌, Read, Known, none_known, refuse◌when◌else◌, field_as, known_in, uvarint_at, number_at, signed_at, bool_at, id_at, text_at, text_or_null_at, tags_at, list_at, list_or_null_at}
+use Rattle.kr_wire.specs.Reading.{◌>>=◌, ◌followed_by◌, structure_at, Read, Known, none_known, refuse◌when◌else◌, field_as, known_in, uvarint_at, number_at, signed_at, bool_at, id_at, text_at, text_or_null_at, tags_at, list_at, list_or_null_at}
 use Rattle.kr_record.specs.declared.fault.RecordFault.{RecordFault}
 use Rattle.kr_record.specs.declared.fault.RecordFault.TheVariants as faults
 use Rattle.kr_record.specs.declared.flags.Flags.{Flags}
 use Rattle.kr_record.specs.declared.partition.Extras.{Extras}
-use Rattle.kr_record.specs.Spelling.{unless}
+use Rattle.kr_record.specs.Grammar.{unless, no_leader_change, no_recovery_change}
 
 -- ---- parts
 
@@ -44,59 +44,46 @@ known_since first version known tag = cond (nat_le (first tag) version) (known t
 
 -- ---- RegisterBroker
 
+abbrev pub endpoint_of : List ℕ × (List ℕ × (ℕ × (ℤ × Unit {0}))) → Endpoint
+endpoint_of (name, (host, (port, (protocol, none)))) = record { name = name; host = host; port = port; protocol = protocol }
+
 unfoldable pub endpoint_at : List ℕ → Read Endpoint
-endpoint_at bytes = do
-  name ← text_at bytes
-  host ← text_at name.1
-  port ← number_at w16 host.1
-  protocol ← signed_at w16 port.1
-  tags ← no_tags_at protocol.1
-  Ok (record { name = name.0; host = host.0; port = port.0; protocol = protocol.0 }, tags.1)
+endpoint_at = structure_at endpoint_of (text_at followed_by text_at followed_by number_at w16 followed_by signed_at w16 followed_by no_tags_at)
+
+abbrev pub range_of : List ℕ × (ℤ × (ℤ × Unit {0})) → Range
+range_of (name, (min, (max, none))) = record { name = name; min = min; max = max }
 
 unfoldable pub range_at : List ℕ → Read Range
-range_at bytes = do
-  name ← text_at bytes
-  min ← signed_at w16 name.1
-  max ← signed_at w16 min.1
-  tags ← no_tags_at max.1
-  Ok (record { name = name.0; min = min.0; max = max.0 }, tags.1)
+range_at = structure_at range_of (text_at followed_by signed_at w16 followed_by signed_at w16 followed_by no_tags_at)
+
+abbrev pub registration_of : ℤ × (ℕ × (ℤ × (List Endpoint × (List Range × (Option (List ℕ) × (Bool × (Bool × Unit {0}))))))) → ℤ × Broker
+registration_of (broker, (incarnation, (epoch, (endpoints, (features, (rack, (fenced, (stopping, none)))))))) =
+    (broker, record { epoch = epoch; incarnation = incarnation; endpoints = endpoints; features = features; rack = rack; fenced = fenced; stopping = stopping })
 
 unfoldable pub registration_at : ℕ → List ℕ → Read (ℤ × Broker)
-registration_at version bytes = do
-  broker ← signed_at w32 bytes
-  incarnation ← id_at broker.1
-  epoch ← signed_at w64 incarnation.1
-  endpoints ← list_at endpoint_at epoch.1
-  features ← list_at range_at endpoints.1
-  rack ← text_or_null_at features.1
-  fenced ← bool_at rack.1
-  stopping ← since_at (nat_le 1 version) bool_at false fenced.1
-  tags ← no_tags_at stopping.1
-  Ok ((broker.0, record { epoch = epoch.0; incarnation = incarnation.0; endpoints = endpoints.0; features = features.0; rack = rack.0; fenced = fenced.0; stopping = stopping.0 }), tags.1)
+registration_at version = structure_at registration_of (
+    signed_at w32 followed_by id_at followed_by signed_at w64 followed_by list_at endpoint_at followed_by list_at range_at
+    followed_by text_or_null_at followed_by bool_at followed_by since_at (nat_le 1 version) bool_at false followed_by no_tags_at)
 
 -- ---- UnregisterBroker, FenceBroker and UnfenceBroker
 
+-- two values and no tags
+abbrev pub pair_of : {A B : Type 0} → A × (B × Unit {0}) → A × B
+pair_of (a, (b, none)) = (a, b)
+
 unfoldable pub broker_epoch_at : List ℕ → Read (ℤ × ℤ)
-broker_epoch_at bytes = do
-  broker ← signed_at w32 bytes
-  epoch ← signed_at w64 broker.1
-  tags ← no_tags_at epoch.1
-  Ok ((broker.0, epoch.0), tags.1)
+broker_epoch_at = structure_at pair_of (signed_at w32 followed_by signed_at w64 followed_by no_tags_at)
 
 -- ---- Topic and RemoveTopic
 
 unfoldable pub topic_at : List ℕ → Read (List ℕ × ℕ)
-topic_at bytes = do
-  name ← text_at bytes
-  id ← id_at name.1
-  tags ← no_tags_at id.1
-  Ok ((name.0, id.0), tags.1)
+topic_at = structure_at pair_of (text_at followed_by id_at followed_by no_tags_at)
+
+abbrev pub topic_id_of : ℕ × Unit {0} → ℕ
+topic_id_of (id, none) = id
 
 unfoldable pub topic_id_at : List ℕ → Read ℕ
-topic_id_at bytes = do
-  id ← id_at bytes
-  tags ← no_tags_at id.1
-  Ok (id.0, tags.1)
+topic_id_at = structure_at topic_id_of (id_at followed_by no_tags_at)
 
 -- ---- Partition
 
@@ -116,57 +103,39 @@ first_with_extra tag = if tag == 0 then 0 else 2
 unfoldable pub extras_at : ℕ → List ℕ → Read Extras
 extras_at version bytes = tags_at (known_since first_with_extra version (known_in all_extras)) no_extras bytes
 
+abbrev pub partition_of : ℤ × (ℕ × (List ℤ × (List ℤ × (List ℤ × (List ℤ × (ℤ × (ℤ × (ℤ × (Unit {0} × Extras))))))))) → ℤ × ℕ × Partition
+partition_of (index, (topic, (replicas, (in_sync, (removing, (adding, (leader, (leader_epoch, (partition_epoch, (directories, extras)))))))))) = (
+  index,
+  topic,
+  record {
+    replicas = replicas;
+    in_sync = in_sync;
+    removing = removing;
+    adding = adding;
+    leader = leader;
+    leader_epoch = leader_epoch;
+    partition_epoch = partition_epoch;
+    recovery = extras.recovery;
+    eligible = extras.eligible;
+    last_known = extras.last_known;
+  },
+)
+
 unfoldable pub partition_at : ℕ → List ℕ → Read (ℤ × ℕ × Partition)
-partition_at version bytes = do
-  index ← signed_at w32 bytes
-  topic ← id_at index.1
-  replicas ← ids_at topic.1
-  in_sync ← ids_at replicas.1
-  removing ← ids_at in_sync.1
-  adding ← ids_at removing.1
-  leader ← signed_at w32 adding.1
-  leader_epoch ← signed_at w32 leader.1
-  partition_epoch ← signed_at w32 leader_epoch.1
-  directories ← since_at (nat_le 1 version) (dropped_at (list_at id_at)) tt partition_epoch.1
-  extras ← extras_at version directories.1
-  Ok (
-    (
-      index.0,
-      topic.0,
-      record {
-        replicas = replicas.0;
-        in_sync = in_sync.0;
-        removing = removing.0;
-        adding = adding.0;
-        leader = leader.0;
-        leader_epoch = leader_epoch.0;
-        partition_epoch = partition_epoch.0;
-        recovery = extras.0.recovery;
-        eligible = extras.0.eligible;
-        last_known = extras.0.last_known;
-      },
-    ),
-    extras.1,
-  )
+partition_at version = structure_at partition_of (
+    signed_at w32 followed_by id_at followed_by ids_at followed_by ids_at followed_by ids_at followed_by ids_at
+    followed_by signed_at w32 followed_by signed_at w32 followed_by signed_at w32
+    followed_by since_at (nat_le 1 version) (dropped_at (list_at id_at)) tt followed_by extras_at version)
 
 -- ---- Config
 
+abbrev pub config_of : ℤ × (List ℕ × (List ℕ × (Option (List ℕ) × Unit {0}))) → ℤ × List ℕ × List ℕ × Option (List ℕ)
+config_of (kind, (name, (key, (value, none)))) = (kind, name, key, value)
+
 unfoldable pub config_at : List ℕ → Read (ℤ × List ℕ × List ℕ × Option (List ℕ))
-config_at bytes = do
-  kind ← signed_at w8 bytes
-  name ← text_at kind.1
-  key ← text_at name.1
-  value ← text_or_null_at key.1
-  tags ← no_tags_at value.1
-  Ok ((kind.0, name.0, key.0, value.0), tags.1)
+config_at = structure_at config_of (signed_at w8 followed_by text_at followed_by text_at followed_by text_or_null_at followed_by no_tags_at)
 
 -- ---- PartitionChange
-
-abbrev pub no_leader_change : ℤ
-no_leader_change = negsuc 1
-
-abbrev pub no_recovery_change : ℤ
-no_recovery_change = negsuc 0
 
 abbrev pub no_change : PartitionChange
 no_change = record { in_sync = None; replicas = None; removing = None; adding = None; eligible = None; last_known = None; leader = None; recovery = None }
@@ -189,21 +158,17 @@ first_with_change tag = if nat_le tag 5 then 0 else if tag == 8 then 1 else 2
 unfoldable pub changes_at : ℕ → List ℕ → Read PartitionChange
 changes_at version bytes = tags_at (known_since first_with_change version (known_in all_changes)) no_change bytes
 
+-- a place or a broker, and what its tagged fields say
+abbrev pub three_of : {A B C : Type 0} → A × (B × C) → A × B × C
+three_of (a, (b, c)) = (a, b, c)
+
 unfoldable pub change_at : ℕ → List ℕ → Read (ℤ × ℕ × PartitionChange)
-change_at version bytes = do
-  index ← signed_at w32 bytes
-  topic ← id_at index.1
-  change ← changes_at version topic.1
-  Ok ((index.0, topic.0, change.0), change.1)
+change_at version = structure_at three_of (signed_at w32 followed_by id_at followed_by changes_at version)
 
 -- ---- FeatureLevel
 
 unfoldable pub feature_at : List ℕ → Read (List ℕ × ℤ)
-feature_at bytes = do
-  name ← text_at bytes
-  level ← signed_at w16 name.1
-  tags ← no_tags_at level.1
-  Ok ((name.0, level.0), tags.1)
+feature_at = structure_at pair_of (text_at followed_by signed_at w16 followed_by no_tags_at)
 
 -- ---- BrokerRegistrationChange
 
@@ -222,11 +187,7 @@ unfoldable pub flags_at : ℕ → List ℕ → Read Flags
 flags_at version bytes = tags_at (known_since first_with_flag version (known_in all_flags)) no_flags bytes
 
 unfoldable pub registration_change_at : ℕ → List ℕ → Read (ℤ × ℤ × Flags)
-registration_change_at version bytes = do
-  broker ← signed_at w32 bytes
-  epoch ← signed_at w64 broker.1
-  flags ← flags_at version epoch.1
-  Ok ((broker.0, epoch.0, flags.0), flags.1)
+registration_change_at version = structure_at three_of (signed_at w32 followed_by signed_at w64 followed_by flags_at version)
 
 -- ---- a record
 

@@ -2,7 +2,6 @@
 use Rattle.std.specs.Prelude.{ℕ, ℤ, pos, List, [], ◌++◌, length, map, Option, Some, None, ◌==◌, if◌then◌else◌}
 use Rattle.std.specs.List.{flat_map}
 use Rattle.std.specs.Option.{option_map}
-use Rattle.std.specs.Ordering.{int_eq}
 use Rattle.std.specs.Int.{w8, w16, w32, w64}
 use Rattle.kr_defs.specs.declared.broker.Broker.{Broker}
 use Rattle.kr_defs.specs.declared.broker.Endpoint.{Endpoint}
@@ -11,6 +10,7 @@ use Rattle.kr_defs.specs.declared.partition.Partition.{Partition}
 use Rattle.kr_defs.specs.declared.partition.PartitionChange.{PartitionChange}
 use Rattle.kr_defs.specs.declared.record.Record.{Record}
 use Rattle.kr_defs.specs.declared.record.Record.TheVariants as kinds
+use Rattle.kr_record.specs.Grammar.{unless}
 use Rattle.kr_wire.specs.Spelling.{uvarint, number, signed, bool, id, text, text_or_null, list, field, tags, tagged}
 
 -- ---- parts
@@ -24,10 +24,6 @@ two_ids xs ys = ids xs ++ ids ys
 -- no tagged fields
 unfoldable pub no_tags : List ℕ
 no_tags = tags []
-
--- a number that is left out at its default
-abbrev pub unless : ℤ → ℤ → Option ℤ
-unless default n = if int_eq n default then None else Some n
 
 -- a list that is left out where it is empty
 abbrev pub unless_empty : List ℤ → Option (List ℤ)

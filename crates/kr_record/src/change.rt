@@ -2,9 +2,9 @@
 
 ghost use Rattle.std.specs.Prelude.{◌≡◌, ◌≤◌, ◌<◌, length, drop};
 ghost use Rattle.kr_wire.specs.Reading.{field_of, known_in};
+ghost use Rattle.kr_record.specs.Grammar.{no_leader_change, no_recovery_change, unless};
 ghost use Rattle.kr_record.specs.Answers.{GivesWire, ReadsField};
-ghost use Rattle.kr_record.specs.Reading.{all_changes, change_at, changes_at, first_with_change, known_since, no_leader_change, no_recovery_change};
-ghost use Rattle.kr_record.specs.Spelling.{unless};
+ghost use Rattle.kr_record.specs.Reading.{all_changes, change_at, changes_at, first_with_change, known_since};
 
 use crate::fault::RecordFault;
 use crate::tagged::{Tagged, read_tags};

@@ -5,16 +5,23 @@ ghost use Rattle.kr_record.specs.declared.fault.RecordFault.TheVariants.{NoMemor
 
 use kr_wire::WireFault;
 use std::alloc::{AllocError, AllocFailed};
+use thiserror::Error;
 
 /// The first fault of bytes that stand for no record, or want of memory.
-#[derive(Clone, Copy, Debug, Drop, PartialEq, Eq)]
+#[derive(Clone, Copy, Debug, Drop, PartialEq, Eq, Error)]
 pub enum RecordFault {
+    #[error("{0}")]
     Wire(WireFault),
+    #[error("the frame version is {found} and not 1")]
     FrameVersion { found: u32 },
+    #[error("no record has the key {key}")]
     UnknownKey { key: u32 },
+    #[error("the record of key {key} has no version {version}")]
     UnknownVersion { key: u32, version: u32 },
     /// Bytes are left behind the record.
+    #[error("bytes are left behind the record")]
     Trailing,
+    #[error("out of memory")]
     NoMemory,
 }
 

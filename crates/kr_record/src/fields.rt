@@ -5,9 +5,10 @@ ghost use Rattle.std.specs.Int.{w8, w32};
 ghost use Rattle.std.specs.Option.{option_map};
 ghost use Rattle.std.specs.List.{flat_map};
 ghost use Rattle.kr_wire.specs.Spelling.{field, signed, tagged, uvarint};
+ghost use Rattle.kr_record.specs.Grammar.{unless};
 ghost use Rattle.kr_record.specs.Encodable.{FitsField, FitsFieldOrNone, IsShortPartition, IsSpelledChange};
 ghost use Rattle.kr_record.specs.Spelling;
-ghost use Rattle.kr_record.specs.Spelling.{change_fields, change_tags, first_changes, flag_tags, ids, later_changes, partition_tags, unless};
+ghost use Rattle.kr_record.specs.Spelling.{change_fields, change_tags, first_changes, flag_tags, ids, later_changes, partition_tags};
 
 use crate::listed::{Spelled, put_list};
 use kr_defs::{Ids, Partition, PartitionChange};
@@ -15,7 +16,7 @@ use kr_wire::{put_tag, put_uvarint};
 use std::alloc::AllocError;
 
 // How many bytes a uvarint takes.
-#[tactic(auto, using(crate::proofs::Written::uvarint_length))]
+#[tactic(auto, using(kr_wire::proofs::Lengths::length_uvarint))]
 fn uvarint_len(value: u32) -> u32
     ensures length { result ≡ length (uvarint value) }
     ensures small { result ≤ 5 }

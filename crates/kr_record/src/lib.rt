@@ -6,6 +6,7 @@ mod change;
 mod fault;
 mod fields;
 mod flags;
+mod held;
 mod listed;
 mod lists;
 mod partition;

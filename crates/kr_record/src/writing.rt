@@ -4,10 +4,10 @@ ghost use Rattle.std.specs.Prelude.{◌≡◌, ◌+◌, ◌++◌, length, OnOk, 
 ghost use Rattle.kr_defs.specs.Sizes.{value_bytes};
 ghost use Rattle.kr_record.specs.Encodable.{IsEncodable, IsShort, IsShortBroker, IsShortConfig, IsShortPartition, IsSpelledChange};
 ghost use Rattle.kr_record.specs.Grammar.{IsRecord};
-ghost use Rattle.kr_record.specs.Held.{IsHeld};
 ghost use Rattle.kr_record.specs.Spelling.{broker_epoch, change, config, feature, framed, led, partition, placed, record_value, registration, registration_change, topic, topic_id, two_ids};
 
 use crate::fields::{put_change_fields, put_extras, put_flags};
+use crate::held::record_is_held;
 use crate::listed::{Spelled, put_directories, put_list, put_no_tags, put_optional_text};
 use kr_base::NoMemory;
 use kr_defs::{Broker, Ids, Partition, PartitionChange, Record, Text};
@@ -261,11 +261,12 @@ pub fn encode(value: &Record, out: &mut Vec<u8>) -> Result<(), NoMemory>
     requires { IsEncodable value.now }
     ensures ok { OnOk result (out.new.items ≡ out.old.items ++ record_value value.now) }
     ensures err { OnErr result (out.new.items ≡ out.old.items) }
-    // What is appended stands for the record: its numbers fit their types and its texts are UTF-8, as of any record held.
-    ensures stands { IsHeld value.now → IsRecord value.now (record_value value.now) }
+    // What is appended stands for the record.
+    ensures stands { IsRecord value.now (record_value value.now) }
     // It is as many bytes as the record's kind and its texts and lists say.
     ensures size { OnOk result (length out.new.items ≡ length out.old.items + value_bytes value.now) }
 {
+    record_is_held(value);
     // The record is written alone first, so that `out` is as it was where memory runs out.
     let before = mem::try_take(out)?;
     let written = put_record(out, value);

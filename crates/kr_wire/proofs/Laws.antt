@@ -4,7 +4,7 @@ use Rattle.std.proofs.lemmas.List.{get_or-append-add, get_or_append_left, get_or
 use Rattle.std.proofs.lemmas.Bool.{cases_lt, ltb-false}
 pub use Rattle.kr_wire.specs.Laws.{IsBytes, Front, Yields, Law}
 use Rattle.kr_wire.specs.Laws.{IsPrimitive}
-use Rattle.kr_wire.specs.Reading.{◌>>=◌, Read}
+use Rattle.kr_wire.specs.Reading.{◌>>=◌, ◌followed_by◌, structure_at, Read}
 use Rattle.kr_wire.specs.Grammar.{◌⌢◌}
 
 pub IsBytes-behind : (front rest bytes : List ℕ) → bytes ≡ front ++ rest → IsBytes bytes → IsBytes rest
@@ -133,6 +133,28 @@ pub law_as : {X E : Type 0} {Is : X → List ℕ → Type 0} {read other : List 
 law_as {X} {E} {Is} {read} {other} same law = record {
   sound = λ bytes fits x rest e. law.sound bytes fits x rest (sym (same bytes) ∙ e);
   complete = λ x front rest is. same (front ++ rest) ∙ law.complete x front rest is;
+}
+
+-- ---- a structure, from its fields one after the other
+
+pub then_law : {X Y E : Type 0} {A : X → List ℕ → Type 0} {B : Y → List ℕ → Type 0} {first : List ℕ → Result (X × List ℕ) E} {second : List ℕ → Result (Y × List ℕ) E}
+    → Law A first → Law B second → Law (λ (v : X × Y). A v.0 ⌢ B v.1) (first followed_by second)
+then_law {X} {Y} {E} {A} {B} one other = record {
+  sound = λ bytes fits. sound_then one (λ (v : X × Y). A v.0 ⌢ B v.1) _ bytes fits (λ x front rest first more.
+      sound_last other _ (λ y. (x, y)) rest more (λ y tail second. joined front tail first second));
+  complete = λ v bytes rest is. complete_then one v.0 (B v.1) _ v rest (complete_last other v.1 (λ y. (v.0, y)) rest) bytes is;
+}
+
+infixr 6 ◌before◌
+pub ◌before◌ : {X Y E : Type 0} {A : X → List ℕ → Type 0} {B : Y → List ℕ → Type 0} {first : List ℕ → Result (X × List ℕ) E} {second : List ℕ → Result (Y × List ℕ) E}
+    → Law A first → Law B second → Law (λ (v : X × Y). A v.0 ⌢ B v.1) (first followed_by second)
+one before other = then_law one other
+
+pub structure_law : {X Y E : Type 0} {Is : X → List ℕ → Type 0} {read : List ℕ → Result (X × List ℕ) E} → (of : X → Y) → (fields : Y → X) → ((x : X) → fields (of x) ≡ x) → ((y : Y) → of (fields y) ≡ y)
+    → Law Is read → Law (λ (y : Y). Is (fields y)) (structure_at of read)
+structure_law {X} {Y} {E} {Is} {read} of fields there back law = record {
+  sound = λ bytes fits. sound_last law (λ (y : Y). Is (fields y)) of bytes fits (λ x front is. subst (λ (z : X). Is z front) (sym (there x)) is);
+  complete = λ y front rest is. complete_last law (fields y) of rest front is ∙ ap (λ (z : Y). read_ok z rest) (back y);
 }
 
 -- ---- what follows

@@ -2,7 +2,7 @@
 use Rattle.std.proofs.Common.{◌≡◌, ℕ, zero, suc, ◌+◌, ◌*◌, ◌/◌, ◌^◌, ◌<◌, ◌≤◌, Bool, true, false, inl, inr, cond, ltb, List, [], ◌∷◌, length, refl, ap, ◌∙◌, arith}
 use Rattle.std.specs.Prelude.{ℤ}
 use Rattle.std.specs.List.{flat_map}
-use Rattle.std.specs.Int.{Width, byte_len, bytes_high_first, cast_unsigned}
+use Rattle.std.specs.Int.{Width, w8, w16, w32, w64, byte_len, bytes_high_first, cast_unsigned}
 use Rattle.std.proofs.lemmas.Bool.{lt-ltb, le-ltb, cases_lt}
 use Rattle.std.proofs.lemmas.List.{length-append}
 use Rattle.kr_wire.specs.Spelling.{groups, uvarint, number, signed, bool, id, text, count, list}
@@ -20,6 +20,26 @@ length_number w n = length_high_first (byte_len w) n
 pub length_signed : (w : Width) (n : ℤ) → length (signed w n) ≡ byte_len w
 unfolding signed
 length_signed w n = length_high_first (byte_len w) (cast_unsigned w n)
+
+-- the same by each width
+
+pub length_number_16 : (n : ℕ) → length (number w16 n) ≡ 2
+length_number_16 n = length_number w16 n
+
+pub length_number_32 : (n : ℕ) → length (number w32 n) ≡ 4
+length_number_32 n = length_number w32 n
+
+pub length_signed_8 : (n : ℤ) → length (signed w8 n) ≡ 1
+length_signed_8 n = length_signed w8 n
+
+pub length_signed_16 : (n : ℤ) → length (signed w16 n) ≡ 2
+length_signed_16 n = length_signed w16 n
+
+pub length_signed_32 : (n : ℤ) → length (signed w32 n) ≡ 4
+length_signed_32 n = length_signed w32 n
+
+pub length_signed_64 : (n : ℤ) → length (signed w64 n) ≡ 8
+length_signed_64 n = length_signed w64 n
 
 pub length_id : (n : ℕ) → length (id n) ≡ 16
 unfolding id

@@ -1,11 +1,11 @@
 -- The laws of all layouts, by one induction each.
-use Rattle.std.proofs.Common.{◌≡◌, ℕ, ◌+◌, ◌<◌, ◌≤◌, Bool, true, false, ◌&&◌, List, [], ◌∷◌, ◌++◌, length, Option, Some, None, Ok, refl, sym, ap, subst, ◌∙◌, arith}
+use Rattle.std.proofs.Common.{◌≡◌, ℕ, ◌+◌, ◌<◌, ◌≤◌, Bool, true, false, ◌&&◌, List, [], ◌∷◌, ◌++◌, length, Option, Some, None, refl, ap, arith}
 use Rattle.std.specs.Int.{Width, w8, w16, w32, w64, byte_len}
 use Rattle.std.proofs.lemmas.List.{length-append}
 use Rattle.kr_wire.specs.Grammar.{IsVarint, IsNumber, IsText, IsTextOrNull, IsList, IsListOrNull, IsTags}
 use Rattle.kr_wire.specs.Laws.{IsPrimitive}
 use Rattle.kr_wire.specs.Schema.{Schema, Int8, Int16, Int32, Int64, Uint16, Boolean, Uuid, Text, TextOrNull, End, Array, ArrayOrNull, ◌▸◌, Dropped, Constant, Structure, Is, value_at, written, Fits, is_read, least_bytes}
-use Rattle.kr_wire.proofs.Laws.{Law, primitive, joined, sound_last, sound_then, complete_last, complete_then}
+use Rattle.kr_wire.proofs.Laws.{Law, ◌before◌, structure_law, primitive, joined, sound_last, complete_last}
 use Rattle.kr_wire.proofs.Numbers.{number_law, signed_law, bool_law, id_law, text_law, text_or_null_law}
 use Rattle.kr_wire.proofs.Lists.{list_law, list_or_null_law}
 use Rattle.kr_wire.proofs.Tags.{no_tags_law}
@@ -101,22 +101,13 @@ law TextOrNull e = text_or_null_law
 law End e = no_tags_law
 law (Array s) e = list_law (law s e) (not_empty s)
 law (ArrayOrNull s) e = list_or_null_law (law s e) (not_empty s)
-law (a ▸ b) e =
-    let h = both (is_read a) (is_read b) e in
-    record {
-      sound = λ bytes fits. sound_then (law a h.0) (Is (a ▸ b)) _ bytes fits (λ x front rest first more.
-          sound_last (law b h.1) _ (λ y. (x, y)) rest more (λ y tail second. joined front tail first second));
-      complete = λ v bytes rest is. complete_then (law a h.0) v.0 (Is b v.1) _ v rest (complete_last (law b h.1) v.1 (λ y. (v.0, y)) rest) bytes is;
-    }
+law (a ▸ b) e = let h = both (is_read a) (is_read b) e in law a h.0 before law b h.1
 law (Dropped s) e = record {
   sound = λ bytes fits. sound_last (law s e) (Is (Dropped s)) (λ x. tt {0}) bytes fits (λ x a is. record { value = x; spelled = is });
   complete = λ u front rest is. complete_last (law s e) is.value (λ x. tt {0}) rest front is.spelled;
 }
 law (Constant c s) e = absurd cc
-law (Structure {X} {Y} s of fields there back) e = record {
-  sound = λ bytes fits. sound_last (law s e) (Is (Structure s of fields there back)) of bytes fits (λ x front is. subst (λ (z : X). Is s z front) (sym (there x)) is);
-  complete = λ y front rest is. complete_last (law s e) (fields y) of rest front is ∙ ap (λ (z : Y). Ok (z, rest)) (back y);
-}
+law (Structure s of fields there back) e = structure_law of fields there back (law s e)
 
 -- ---- what is written stands for the value
 

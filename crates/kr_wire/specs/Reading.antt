@@ -225,3 +225,14 @@ unfoldable pub list_or_null_at : {X : Type 0} → (List ℕ → Read X) → List
 list_or_null_at one bytes = do
   count ← count_or_null_at bytes
   elements_or_null_at one count.0 count.1
+
+-- ---- structures
+
+-- one value, and behind it another
+infixr 6 ◌followed_by◌
+abbrev pub ◌followed_by◌ : {X Y E : Type 0} → (List ℕ → Result (X × List ℕ) E) → (List ℕ → Result (Y × List ℕ) E) → List ℕ → Result ((X × Y) × List ℕ) E
+(first followed_by second) bytes = first bytes >>= λ x. (second x.1 >>= λ y. Ok ((x.0, y.0), y.1))
+
+-- a structure, from its fields
+abbrev pub structure_at : {X Y E : Type 0} → (X → Y) → (List ℕ → Result (X × List ℕ) E) → List ℕ → Result (Y × List ℕ) E
+structure_at of fields bytes = fields bytes >>= λ x. Ok (of x.0, x.1)

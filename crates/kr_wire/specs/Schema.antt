@@ -1,11 +1,11 @@
 -- Layouts as values: from one description of a value's layout follow the bytes that stand for it, how it is read, what is
 -- written for it, and the fewest bytes that it takes. The types are those of Kafka's protocol guide; texts and arrays
 -- are the compact ones (KIP-482).
-use Rattle.std.specs.Prelude.{◌≡◌, ℕ, ℤ, ◌+◌, ◌^◌, ◌<◌, Bool, true, false, ◌&&◌, List, [], ◌++◌, Option, Ok, FitsSigned}
+use Rattle.std.specs.Prelude.{◌≡◌, ℕ, ℤ, ◌+◌, ◌^◌, ◌<◌, Bool, true, false, ◌&&◌, List, [], ◌++◌, Option, FitsSigned}
 use Rattle.std.specs.Int.{w8, w16, w32, w64}
 use Rattle.kr_wire.specs.Grammar.{◌⌢◌, IsNumber, IsSigned, IsBool, IsId, IsText, IsTextOrNull, IsList, IsListOrNull, IsDropped, NoTags}
 use Rattle.kr_wire.specs.Laws.{IsShortText, IsShortTextOrNull, IsShortList, IsShortListOrNull}
-use Rattle.kr_wire.specs.Reading.{◌>>=◌, Read, none_known, number_at, signed_at, bool_at, id_at, text_at, text_or_null_at, tags_at, list_at, list_or_null_at}
+use Rattle.kr_wire.specs.Reading.{Read, ◌followed_by◌, structure_at, none_known, number_at, signed_at, bool_at, id_at, text_at, text_or_null_at, tags_at, list_at, list_or_null_at}
 use Rattle.kr_wire.specs.Spelling.{number, signed, bool, id, text, text_or_null, list, list_or_null, tags}
 
 -- The layout of the values of a type.
@@ -66,10 +66,10 @@ value_at TextOrNull = text_or_null_at
 value_at End = tags_at none_known tt
 value_at (Array s) = list_at (value_at s)
 value_at (ArrayOrNull s) = list_or_null_at (value_at s)
-value_at (a ▸ b) = λ bytes. value_at a bytes >>= λ x. (value_at b x.1 >>= λ y. Ok ((x.0, y.0), y.1))
-value_at (Dropped s) = λ bytes. value_at s bytes >>= λ x. Ok (tt, x.1)
-value_at (Constant c s) = λ bytes. value_at s bytes >>= λ x. Ok (tt, x.1)
-value_at (Structure s of fields there back) = λ bytes. value_at s bytes >>= λ x. Ok (of x.0, x.1)
+value_at (a ▸ b) = value_at a followed_by value_at b
+value_at (Dropped s) = structure_at (λ x. tt) (value_at s)
+value_at (Constant c s) = structure_at (λ x. tt) (value_at s)
+value_at (Structure s of fields there back) = structure_at of (value_at s)
 
 -- What is written for the value.
 abbrev pub written : {X : Type 0} → Schema X → X → List ℕ

@@ -115,8 +115,8 @@ pub fn read_varlong(bytes: &[u8], at: usize) -> Result<(i64, usize), WireFault>
     Ok((unzigzag(number), next))
 }
 
-// So many bytes.
-fn piece(bytes: &[u8], at: usize, len: usize) -> Result<(&[u8], usize), WireFault>
+/// So many bytes, and the place behind them.
+pub fn piece(bytes: &[u8], at: usize, len: usize) -> Result<(&[u8], usize), WireFault>
     requires { at ≤ length bytes.now }
     ensures read { Reads (λ s. s.now) result bytes.now (piece_at len (drop at bytes.now)) }
     ensures at { IfOk result (λ x. (x.1 ≡ at + len) × (x.0.now ≡ slice_range bytes.now at x.1)) }

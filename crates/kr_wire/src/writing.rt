@@ -77,8 +77,8 @@ pub fn put_varlong(out: &mut Vec<u8>, value: i64) -> Result<(), AllocError>
     put_groups(out, zigzag(value), 9)
 }
 
-// Both, or neither.
-fn put_both(out: &mut Vec<u8>, first: &[u8], second: &[u8]) -> Result<(), AllocError>
+/// Both, or neither.
+pub fn put_both(out: &mut Vec<u8>, first: &[u8], second: &[u8]) -> Result<(), AllocError>
     ensures ok { OnOk result (out.new.items ≡ out.old.items ++ (first.now ++ second.now)) }
     ensures err { OnErr result (out.new.items ≡ out.old.items) }
 {
