@@ -1,13 +1,13 @@
 -- The tagged fields of each record: the tags, with their data where they are there.
-use Rattle.std.proofs.Common.{◌≡◌, ℕ, zero, suc, ◌+◌, ◌/◌, ◌%◌, ◌<◌, ◌≤◌, true, false, cond, eqb, List, [], ◌∷◌, length, append_assoc, Option, Some, None, refl, arith, lit<}
-use Rattle.std.specs.Prelude.{ℤ, pos, nat_lt}
+use Rattle.std.proofs.Common.{◌≡◌, ℕ, ◌+◌, ◌<◌, true, false, cond, eqb, List, [], ◌∷◌, length, append_assoc, Option, Some, None, refl, arith, lit<}
+use Rattle.std.specs.Prelude.{ℤ, pos}
 use Rattle.std.specs.List.{AllByRecursion}
 use Rattle.std.specs.Option.{option_map}
 use Rattle.std.specs.Int.{w8, w32}
 use Rattle.std.proofs.lemmas.List.{append-nil}
 use Rattle.kr_defs.specs.declared.partition.Partition.{Partition}
 use Rattle.kr_defs.specs.declared.partition.PartitionChange.{PartitionChange}
-use Rattle.kr_wire.specs.Spelling.{groups, uvarint, signed}
+use Rattle.kr_wire.specs.Spelling.{signed}
 use Rattle.kr_record.specs.Grammar.{unless}
 use Rattle.kr_record.specs.Encodable.{FitsField, FitsFieldOrNone, IsShortPartition, IsSpelledChange}
 use Rattle.kr_record.specs.Spelling.{ids, unless_empty, partition_fields, change_fields, flags}

@@ -9,8 +9,6 @@ use Rattle.kr_wire.proofs.Laws.{Law}
 use Rattle.kr_wire.proofs.Numbers.{signed_law}
 use Rattle.kr_wire.proofs.Tables.{IsPart, part_of, same_part, Fields, NoField, Field, Are, fields_law, absent_as}
 use Rattle.kr_defs.specs.declared.partition.PartitionChange.{PartitionChange}
-use Rattle.kr_record.specs.declared.flags.Flags.{Flags}
-use Rattle.kr_record.specs.declared.partition.Extras.{Extras}
 use Rattle.kr_record.specs.Reading.{ids_or_null_at, dropped_at, first_with_change, changes_at, first_with_flag, flags_at, first_with_extra, extras_at}
 use Rattle.kr_record.specs.Grammar.{unless, no_leader_change, no_recovery_change, IsIdsOrNull, IsIdsOrEmpty, IsUnless, IsDropped, AreChanges, AreFlags, AreExtras}
 use Rattle.kr_record.proofs.Parts.{ids_or_null_law, null_directories_law}

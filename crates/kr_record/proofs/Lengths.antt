@@ -1,8 +1,7 @@
 -- How many bytes are written for a record.
-use Rattle.std.proofs.Common.{◌≡◌, ℕ, ◌+◌, ◌*◌, ◌<◌, Bool, true, false, List, [], ◌∷◌, ◌++◌, length, Option, Some, None, refl, ap, ◌∙◌, arith, lit<}
+use Rattle.std.proofs.Common.{◌≡◌, ℕ, ◌+◌, ◌*◌, ◌<◌, List, [], ◌∷◌, ◌++◌, length, Option, Some, None, refl, ap, ◌∙◌, arith, lit<}
 use Rattle.std.specs.Prelude.{ℤ, pos, All}
 use Rattle.std.specs.List.{flat_map, sum_by}
-use Rattle.std.specs.Int.{w16, w64}
 use Rattle.std.proofs.lemmas.List.{length-append, length-map}
 use Rattle.std.proofs.lemmas.List.Elements.{All-head, All-tail}
 use Rattle.std.proofs.lemmas.List.Sums.{sum_by-cons}
@@ -14,7 +13,7 @@ use Rattle.kr_defs.specs.declared.partition.PartitionChange.{PartitionChange}
 use Rattle.kr_defs.specs.declared.record.Record.{Record}
 use Rattle.kr_defs.specs.declared.record.Record.TheVariants as kinds
 use Rattle.kr_defs.specs.Sizes.{text_bytes, text_or_null_bytes, list_bytes, rows_bytes, tags_bytes, number_field, registration_bytes, partition_bytes, change_bytes, value_bytes}
-use Rattle.kr_wire.specs.Spelling.{uvarint, number, signed, bool, id, text, text_or_null, list}
+use Rattle.kr_wire.specs.Spelling.{uvarint, id, text, text_or_null, list}
 use Rattle.kr_record.specs.Encodable.{IsShort, IsShortOrNone, IsShortEndpoint, IsShortRange, IsShortBroker, IsShortPartition, IsSpelledChange, IsShortConfig, IsEncodable}
 use Rattle.kr_record.specs.Spelling.{two_ids, no_tags, endpoint, range, registration, broker_epoch, topic, topic_id, no_directories, placed, led, partition, config, change, feature, registration_change, framed, record_value}
 use Rattle.kr_wire.proofs.Lengths.{length_number_16, length_signed_8, length_signed_16, length_signed_32, length_signed_64, length_id, length_bool, uvarint_one}

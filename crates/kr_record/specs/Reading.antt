@@ -1,5 +1,5 @@
 -- Reading a record from the front of some bytes: the value and the bytes after it, or the first fault.
-use Rattle.std.specs.Prelude.{ℕ, ℤ, pos, negsuc, Bool, false, not, List, [], ◌∷◌, length, Option, None, Result, Ok, Err, ◌==◌, nat_lt, nat_le, if◌then◌else◌, cond}
+use Rattle.std.specs.Prelude.{ℕ, ℤ, pos, Bool, false, not, List, [], ◌∷◌, length, Option, None, Result, Ok, Err, ◌==◌, nat_lt, nat_le, if◌then◌else◌, cond}
 use Rattle.std.specs.Option.{unwrap_or}
 use Rattle.std.specs.Int.{w8, w16, w32, w64}
 use Rattle.kr_defs.specs.declared.broker.Broker.{Broker}
