@@ -1,36 +1,56 @@
-//! Compares the codecs of records and batches with rows of expected answers: on each line bytes in hex, a tab, and the
-//! answer in words. A row that differs is printed, and at the end how many rows hold.
+//! Compares the library's calls with rows of expected answers: on each line what is asked, a tab, and the answer in
+//! words. A row that differs is printed, and at the end how many rows of each kind hold.
 #![tactic(auto)]
 
-mod answers;
+mod batches;
+mod changes;
+mod fields;
+mod kinds;
+mod places;
+mod plain;
+mod primitives;
+mod records;
+mod rows;
+mod sessions;
 
-use answers::{batch_answer, record_answer};
+use fields::RowFault;
+use kinds::Kind;
+use rows::answer;
 use std::alloc::{AllocError, Global};
 use std::io::{BufRead, BufReader, Input, Print};
 use std::process::ExitCode;
 use std::rt::Env;
 use std::{env, io};
 
-// What the rows speak of.
-#[derive(Clone, Copy, Debug, Drop, PartialEq, Eq)]
-enum Kind {
-    Records,
-    Batches,
+// What the lines are.
+#[derive(Clone, Copy, Drop)]
+enum Form {
+    /// Each begins with the word of its kind.
+    Mixed,
+    /// All are rows of one kind.
+    Alone(Kind),
 }
 
-#[derive(Clone, Copy, Debug, Drop, PartialEq, Eq)]
+#[derive(Clone, Copy, Drop)]
 struct Counts {
     rows: u64,
     held: u64,
 }
 
+// The rows of each kind, and whether each line was a row and held.
+#[derive(Drop)]
+struct Tally {
+    by_kind: [Counts; 11],
+    all_held: bool,
+}
+
 fn main(rt: HostRuntime) -> ExitCode {
-    let Ok(Some(kind)) = kind_of(&rt) else {
-        let _ = eprintln!(rt; "usage: kr_vectors records | batches");
+    let Ok(Some(form)) = form_of(&rt) else {
+        let _ = eprintln!(rt; "usage: kr_vectors [KIND]");
         return ExitCode::from(2);
     };
-    match compare(&rt, kind) {
-        Ok(counts) => ended(&rt, counts),
+    match compare(&rt, form) {
+        Ok(tally) => ended(&rt, &tally),
         Err(fault) => {
             let _ = eprintln!(rt; "{fault}");
             ExitCode::from(2)
@@ -39,64 +59,108 @@ fn main(rt: HostRuntime) -> ExitCode {
 }
 
 // Status 0 where all rows hold, else 1.
-fn ended(rt: &impl Print, counts: Counts) -> ExitCode {
-    let told = println!(rt; "{} of {} rows hold", counts.held, counts.rows);
-    if told.is_err() || counts.held != counts.rows {
+fn ended(rt: &impl Print, tally: &Tally) -> ExitCode {
+    if tell(rt, tally).is_err() || !tally.all_held {
         return ExitCode::from(1);
     }
     ExitCode::from(0)
 }
 
-// The one word behind the program's name.
-fn kind_of<R: Env + AllocGlobal>(rt: &R) -> io::Result<Option<Kind>> {
+// A line for each kind that has rows.
+fn tell(rt: &impl Print, tally: &Tally) -> io::Result<()> {
+    for kind in Kind::ALL {
+        if let Some(counts) = tally.by_kind.get(kind as usize) {
+            if counts.rows > 0 {
+                println!(rt;
+                    "{}: {} of {} rows hold",
+                    kind.word(),
+                    counts.held,
+                    counts.rows
+                )?;
+            }
+        }
+    }
+    Ok(())
+}
+
+// The word behind the program's name is a kind; none, or `rows`, is rows of all kinds.
+fn form_of<R: Env + AllocGlobal>(rt: &R) -> io::Result<Option<Form>> {
     let mut words = env::args(rt)?.skip(1);
-    let kind = match words.next() {
-        Some(word) if word.as_str() == "records" => Kind::Records,
-        Some(word) if word.as_str() == "batches" => Kind::Batches,
-        _ => return Ok(None),
+    let form = match words.next() {
+        None => return Ok(Some(Form::Mixed)),
+        Some(word) if word.as_str() == "rows" => Form::Mixed,
+        Some(word) => match Kind::of(word.as_str()) {
+            Some(kind) => Form::Alone(kind),
+            None => return Ok(None),
+        },
     };
     Ok(if words.next().is_none() {
-        Some(kind)
+        Some(form)
     } else {
         None
     })
 }
 
-fn compare<R: Input + Print + AllocGlobal>(rt: &R, kind: Kind) -> io::Result<Counts> {
-    let mut counts = Counts { rows: 0, held: 0 };
+// Empty lines and those that begin with `#` are no rows.
+fn compare<R: Input + Print + AllocGlobal>(rt: &R, form: Form) -> io::Result<Tally> {
+    let mut tally = Tally {
+        by_kind: [Counts { rows: 0, held: 0 }; 11],
+        all_held: true,
+    };
+    let mut number = 0_u64;
     for line in BufReader::new(rt.alloc(), rt.reader())?.lines(rt.alloc()) {
         let line = line?;
-        counts.rows = counts.rows.saturating_add(1);
-        match difference(rt.alloc(), kind, &line)? {
-            None => counts.held = counts.held.saturating_add(1),
-            Some(text) => println!(rt; "row {}: {text}", counts.rows)?,
+        number = number.saturating_add(1);
+        if line.is_empty() || line.as_str().starts_with('#') {
+            continue;
+        }
+        if let Some(text) = judge(rt.alloc(), form, line.as_str(), &mut tally)? {
+            tally.all_held = false;
+            println!(rt; "line {number}: {text}")?;
         }
     }
-    Ok(counts)
+    Ok(tally)
+}
+
+// How a line differs, if it does; its row is counted.
+fn judge(
+    alloc: Global,
+    form: Form,
+    line: &str,
+    tally: &mut Tally,
+) -> Result<Option<String>, AllocError> {
+    let (kind, row) = match form {
+        Form::Alone(kind) => (kind, line),
+        Form::Mixed => match kind_and_row(line) {
+            Some(both) => both,
+            None => return Ok(Some(String::from_str(alloc, "no kind of row")?)),
+        },
+    };
+    let text = difference(alloc, kind, row)?;
+    if let Some(counts) = tally.by_kind.get_mut(kind as usize) {
+        counts.rows = counts.rows.saturating_add(1);
+        if text.is_none() {
+            counts.held = counts.held.saturating_add(1);
+        }
+    }
+    Ok(text)
+}
+
+fn kind_and_row(line: &str) -> Option<(Kind, &str)> {
+    let (word, row) = line.split_once(' ')?;
+    let kind = Kind::of(word)?;
+    Some((kind, row))
 }
 
 // How the answer to a row differs from the expected one, if it does.
-fn difference(alloc: Global, kind: Kind, line: &str) -> Result<Option<String>, AllocError> {
-    let Some((digits, expected)) = line.split_once('\t') else {
+fn difference(alloc: Global, kind: Kind, row: &str) -> Result<Option<String>, AllocError> {
+    let Some((asked, expected)) = row.split_once('\t') else {
         return Ok(Some(String::from_str(alloc, "no tab")?));
     };
-    let Some(bytes) = bytes_of(alloc, digits) else {
-        return Ok(Some(String::from_str(alloc, "no bytes in hex")?));
-    };
-    let answer = match kind {
-        Kind::Records => record_answer(alloc, &bytes)?,
-        Kind::Batches => batch_answer(alloc, &bytes)?,
-    };
-    if answer.as_str() == expected {
-        return Ok(None);
+    match answer(alloc, kind, asked) {
+        Ok(answer) if answer.as_str() == expected => Ok(None),
+        Ok(answer) => Ok(Some(format!(in alloc; "{expected} was expected, {answer} came")?)),
+        Err(RowFault::Fields) => Ok(Some(String::from_str(alloc, "no row of this kind")?)),
+        Err(RowFault::NoMemory) => Err(AllocError),
     }
-    Ok(Some(format!(in alloc; "{expected} was expected, {answer} came")?))
-}
-
-// The bytes that hex digits spell; `-` spells none.
-fn bytes_of(alloc: Global, digits: &str) -> Option<Vec<u8>> {
-    if digits == "-" {
-        return Some(Vec::new(alloc));
-    }
-    hex::decode(alloc, digits).ok()
 }

@@ -1,0 +1,54 @@
+//! The kinds of rows.
+
+/// What a row asks.
+#[derive(Clone, Copy, Drop)]
+pub enum Kind {
+    Primitives,
+    Records,
+    Batches,
+    Merge,
+    Target,
+    Completes,
+    Eligible,
+    Elect,
+    Build,
+    Place,
+    Sessions,
+}
+
+impl Kind {
+    pub const ALL: [Kind; 11] = [
+        Kind::Primitives,
+        Kind::Records,
+        Kind::Batches,
+        Kind::Merge,
+        Kind::Target,
+        Kind::Completes,
+        Kind::Eligible,
+        Kind::Elect,
+        Kind::Build,
+        Kind::Place,
+        Kind::Sessions,
+    ];
+
+    /// The word that rows of the kind begin with.
+    pub fn word(self) -> &'static str {
+        match self {
+            Kind::Primitives => "primitives",
+            Kind::Records => "records",
+            Kind::Batches => "batches",
+            Kind::Merge => "merge",
+            Kind::Target => "target",
+            Kind::Completes => "completes",
+            Kind::Eligible => "eligible",
+            Kind::Elect => "elect",
+            Kind::Build => "build",
+            Kind::Place => "place",
+            Kind::Sessions => "sessions",
+        }
+    }
+
+    pub fn of(word: &str) -> Option<Kind> {
+        Kind::ALL.iter().copied().find(|kind| kind.word() == word)
+    }
+}

@@ -1,0 +1,165 @@
+//! What a row asks, read from its fields, and the answer.
+
+use crate::batches::batch_answer;
+use crate::changes::{
+    build_answer, completes_answer, elect_answer, eligible_answer, merge_answer, target_answer,
+};
+use crate::fields::{Fields, RowFault, parsed};
+use crate::kinds::Kind;
+use crate::places::place_answer;
+use crate::primitives::primitive_answer;
+use crate::records::record_answer;
+use crate::sessions::session_answer;
+use kr_defs::Text;
+use kr_place::Racked;
+use std::alloc::Global;
+
+/// The answer to what a row of this kind asks.
+pub fn answer(alloc: Global, kind: Kind, asked: &str) -> Result<String, RowFault> {
+    let mut fields = Fields::new(alloc, asked)?;
+    let text = match kind {
+        Kind::Primitives => primitive_row(alloc, &mut fields)?,
+        Kind::Records => record_row(alloc, &mut fields)?,
+        Kind::Batches => batch_row(alloc, &mut fields)?,
+        Kind::Merge => merge_row(alloc, &mut fields)?,
+        Kind::Target => target_row(alloc, &mut fields)?,
+        Kind::Completes => completes_row(alloc, &mut fields)?,
+        Kind::Eligible => eligible_row(alloc, &mut fields)?,
+        Kind::Elect => elect_row(alloc, &mut fields)?,
+        Kind::Build => build_row(alloc, &mut fields)?,
+        Kind::Place => place_row(alloc, &mut fields)?,
+        Kind::Sessions => session_row(alloc, &mut fields)?,
+    };
+    fields.end()?;
+    Ok(text)
+}
+
+// A reader and bytes; for `tag` the last tag behind them, `.` for none.
+fn primitive_row(alloc: Global, fields: &mut Fields) -> Result<String, RowFault> {
+    let reader = fields.word()?;
+    let bytes = fields.bytes(alloc)?;
+    let last = if reader.as_str() == "tag" {
+        fields.number_or_none()?
+    } else {
+        None
+    };
+    if bytes.len() >= 1 << 31 {
+        return Err(RowFault::Fields);
+    }
+    match primitive_answer(alloc, reader.as_str(), &bytes, last)? {
+        Some(answer) => Ok(answer),
+        None => Err(RowFault::Fields),
+    }
+}
+
+fn record_row(alloc: Global, fields: &mut Fields) -> Result<String, RowFault> {
+    let bytes = fields.bytes(alloc)?;
+    Ok(record_answer(alloc, &bytes)?)
+}
+
+fn batch_row(alloc: Global, fields: &mut Fields) -> Result<String, RowFault> {
+    let bytes = fields.bytes(alloc)?;
+    Ok(batch_answer(alloc, &bytes)?)
+}
+
+// PARTITION / CHANGE
+fn merge_row(alloc: Global, fields: &mut Fields) -> Result<String, RowFault> {
+    let partition = fields.partition(alloc)?;
+    fields.bar()?;
+    let change = fields.change(alloc)?;
+    Ok(merge_answer(alloc, &partition, &change)?)
+}
+
+fn target_row(alloc: Global, fields: &mut Fields) -> Result<String, RowFault> {
+    let partition = fields.partition(alloc)?;
+    Ok(target_answer(alloc, &partition)?)
+}
+
+// The replicas, those added, those removed and those in sync.
+fn completes_row(alloc: Global, fields: &mut Fields) -> Result<String, RowFault> {
+    let replicas = fields.ids(alloc)?;
+    let adding = fields.ids(alloc)?;
+    let removing = fields.ids(alloc)?;
+    let in_sync = fields.ids(alloc)?;
+    let answer = completes_answer(alloc, &replicas, &adding, &removing, &in_sync)?;
+    Ok(answer)
+}
+
+// PARTITION / the replicas, those in sync, the minimum and a restarted broker.
+fn eligible_row(alloc: Global, fields: &mut Fields) -> Result<String, RowFault> {
+    let partition = fields.partition(alloc)?;
+    fields.bar()?;
+    let replicas = fields.ids(alloc)?;
+    let in_sync = fields.ids(alloc)?;
+    let minimum = fields.number()?;
+    let restarted = fields.number_or_none()?;
+    let answer = eligible_answer(alloc, &partition, &replicas, &in_sync, minimum, restarted)?;
+    Ok(answer)
+}
+
+// PARTITION / the replicas, those in sync, the mode and a restarted broker / FACTS
+fn elect_row(alloc: Global, fields: &mut Fields) -> Result<String, RowFault> {
+    let partition = fields.partition(alloc)?;
+    fields.bar()?;
+    let replicas = fields.ids(alloc)?;
+    let in_sync = fields.ids(alloc)?;
+    let mode = fields.mode()?;
+    let restarted = fields.number_or_none()?;
+    fields.bar()?;
+    let facts = fields.facts(alloc)?;
+    let answer = elect_answer(
+        alloc, &partition, &replicas, &in_sync, mode, restarted, &facts,
+    )?;
+    Ok(answer)
+}
+
+// PARTITION / WANT / FACTS
+fn build_row(alloc: Global, fields: &mut Fields) -> Result<String, RowFault> {
+    let partition = fields.partition(alloc)?;
+    fields.bar()?;
+    let want = fields.want(alloc)?;
+    fields.bar()?;
+    let facts = fields.facts(alloc)?;
+    Ok(build_answer(alloc, &partition, &want, &facts)?)
+}
+
+// The brokers with their racks, the start, the index and the factor.
+fn place_row(alloc: Global, fields: &mut Fields) -> Result<String, RowFault> {
+    let word = fields.word()?;
+    let brokers = racked(alloc, word.as_str())?;
+    let start = fields.number()?;
+    let index = fields.number()?;
+    let factor = fields.number()?;
+    if start < 0 || index < 0 || factor < 1 {
+        return Err(RowFault::Fields);
+    }
+    Ok(place_answer(alloc, &brokers, start, index, factor)?)
+}
+
+// Brokers with commas between them, each with its rack behind a colon if it has one; `-` for none.
+fn racked(alloc: Global, word: &str) -> Result<Racked, RowFault> {
+    let mut brokers = Racked::new(alloc);
+    if word == "-" {
+        return Ok(brokers);
+    }
+    for part in word.split(',') {
+        let (id, rack) = broker_of(alloc, part)?;
+        if brokers.contains(&id) {
+            return Err(RowFault::Fields);
+        }
+        brokers.push(id, rack)?;
+    }
+    Ok(brokers)
+}
+
+fn broker_of(alloc: Global, part: &str) -> Result<(i32, Option<Text>), RowFault> {
+    match part.split_once(':') {
+        Some((id, rack)) => Ok((parsed(id)?, Some(Text::from_str(alloc, rack)?))),
+        None => Ok((parsed(part)?, None)),
+    }
+}
+
+fn session_row(alloc: Global, fields: &mut Fields) -> Result<String, RowFault> {
+    let bytes = fields.bytes(alloc)?;
+    Ok(session_answer(alloc, bytes)?)
+}
