@@ -16,8 +16,6 @@ pub mod laws;
 pub mod limits;
 mod lists;
 mod map_laws;
-#[cfg(test)]
-mod memory_tests;
 mod options;
 mod partition;
 mod partition_laws;

@@ -1,6 +1,6 @@
-//! Each call that takes memory, once with memory to spare.
+//! Each call of kr_defs that takes memory, once with memory to spare.
 
-use crate::*;
+use kr_defs::*;
 use std::alloc::{AllocError, Global};
 
 fn ids(alloc: Global) -> Result<Ids, AllocError> {
@@ -128,6 +128,22 @@ fn keys_and_numbers_are_copied(rt: HostRuntime) -> Result<(), AllocError> {
     assert_eq!(rt; (7_i64).copied(alloc)?, 7);
     assert_eq!(rt; (7_u128).copied(alloc)?, 7);
     assert_eq!(rt; (7_u8).copied(alloc)?, 7);
+    Ok(())
+}
+
+#[test]
+fn contacts_are_copied(rt: HostRuntime) -> Result<(), AllocError> {
+    let alloc = rt.alloc();
+    let mut contacts = Contacts::new(alloc);
+    contacts.push(Contact {
+        broker: 1,
+        time: 1000,
+        offset: -1,
+    })?;
+    assert!(rt; contacts.copied(alloc)? == contacts);
+    let mut stops = Stops::new(alloc);
+    stops.push(Stopping { broker: 2, tip: 7 })?;
+    assert!(rt; stops.copied(alloc)? == stops);
     Ok(())
 }
 

@@ -1,0 +1,9 @@
+//! Tests of what rows of `kr_vectors` can't show: objects that fail, and calls with memory to spare that no row makes.
+#![tactic(auto)]
+
+#[cfg(test)]
+mod copies;
+#[cfg(test)]
+mod encoders;
+#[cfg(test)]
+mod sessions;
