@@ -3,7 +3,6 @@ pub mod Bytes
 pub mod Crc
 pub mod Entries
 pub mod Faults
-pub mod Fences
 pub mod Frames
 pub mod Heads
 pub mod Records

@@ -27,6 +27,3 @@ pub struct Batch {
     pub time: i64,
     pub items: Items,
 }
-
-#[cfg(test)]
-mod tests;

@@ -8,8 +8,6 @@ mod electing;
 mod eligible;
 mod lists;
 mod merging;
-#[cfg(test)]
-mod tests;
 
 pub use building::build;
 pub use completing::completes;

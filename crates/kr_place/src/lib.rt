@@ -8,6 +8,3 @@ mod racks;
 
 pub use placing::{PlaceFault, place};
 pub use racked::Racked;
-
-#[cfg(test)]
-mod tests;

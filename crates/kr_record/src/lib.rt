@@ -12,8 +12,6 @@ mod lists;
 mod partition;
 mod reading;
 mod tagged;
-#[cfg(test)]
-mod tests;
 mod texts;
 mod theorems;
 mod topic;

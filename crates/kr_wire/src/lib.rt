@@ -5,8 +5,6 @@
 #![tactic(auto)]
 
 mod reading;
-#[cfg(test)]
-mod tests;
 pub mod theorems;
 mod writing;
 
