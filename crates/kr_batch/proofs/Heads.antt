@@ -14,8 +14,8 @@ use Rattle.kr_wire.proofs.Laws.{IsBytes, Law, IsBytes-behind, bind_ok, guard_ok,
 use Rattle.kr_wire.proofs.Numbers.{piece_law, number_law, signed_law}
 use Rattle.kr_batch.specs.declared.fault.BatchFault.{BatchFault}
 use Rattle.kr_batch.specs.Crc.{crc32c}
-use Rattle.kr_batch.specs.Reading.{short, start_at, sum_at, fixed_at, compression, is_control, is_count, is_short, place_of, sum_of}
-use Rattle.kr_batch.specs.Grammar.{IsPiece, IsSome, IsStart, IsSum, IsCount, IsFixed}
+use Rattle.kr_batch.specs.Reading.{short, start_at, sum_at, fixed_at, is_count, is_short, place_of, sum_of}
+use Rattle.kr_batch.specs.Grammar.{compression, is_control, IsPiece, IsSome, IsStart, IsSum, IsCount, IsFixed}
 use Rattle.kr_batch.proofs.Frames.{complete_some, is_true}
 
 short_ok : {X : Type 0} (r : Result X WireFault) (x : X) → short r ≡ Ok x → r ≡ Ok x

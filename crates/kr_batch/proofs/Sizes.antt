@@ -1,66 +1,50 @@
 -- How many bytes are written.
 use Rattle.std.proofs.Common.{◌≡◌, ℕ, ℤ, pos, negsuc, zero, suc, ◌+◌, ◌*◌, ◌/◌, ◌^◌, ◌<◌, ◌≤◌, inl, inr, List, [], ◌∷◌, length, Some, refl, sym, arith, length-append}
 use Rattle.std.specs.Int.{w8}
-use Rattle.std.proofs.lemmas.Bool.{lt-ltb, le-ltb, cases_lt}
 use Rattle.std.proofs.lemmas.List.Sums.{sum_by-cons}
-use Rattle.kr_wire.specs.Spelling.{groups, uvarint, varint32, varint64, number, signed}
+use Rattle.kr_wire.specs.Spelling.{groups, varint32, varint64, number, signed}
+use Rattle.kr_wire.proofs.Lengths.{one_group, more_groups, groups_few}
 use Rattle.kr_defs.specs.declared.record.Item.{Item}
-use Rattle.kr_defs.specs.declared.record.Item.TheVariants as items
-use Rattle.kr_defs.specs.declared.record.Record.TheVariants as kinds
-use Rattle.kr_record.specs.Spelling.{record_value, config, framed, no_tags}
 use Rattle.kr_batch.specs.declared.Batch.{Batch}
 use Rattle.kr_batch.specs.Written.{record_body, record_bytes, records_bytes, no_producer, fixed_bytes, checked_bytes, value_bytes, values_size}
 
-last : (room n : ℕ) → n < 128 → length (groups (suc room) n) ≡ 1
-last room n lt = rw (lt-ltb n 128 lt) refl
-
-more : (room n : ℕ) → 128 ≤ n → length (groups (suc room) n) ≡ 1 + length (groups room (n / 128))
-more room n le = rw (le-ltb n 128 le) (omega arith)
-
 pub one : (n : ℕ) → n < 64 → 1 ≡ length (varint32 (pos n))
 unfolding varint32
-one n lt = sym (last 3 (2 * n) (omega arith))
+one n lt = sym (one_group 3 (2 * n) (omega arith))
 
 pub two : (n : ℕ) → 64 ≤ n → n < 8192 → 2 ≡ length (varint32 (pos n))
 unfolding varint32
 two n le lt =
-    let a = more 3 (2 * n) (omega arith) in
-    let b = last 2 (2 * n / 128) (omega arith) in
+    let a = more_groups 3 (2 * n) (omega arith) in
+    let b = one_group 2 (2 * n / 128) (omega arith) in
     omega (arith, a, b)
 
 pub three : (n : ℕ) → 8192 ≤ n → n < 1048576 → 3 ≡ length (varint32 (pos n))
 unfolding varint32
 three n le lt =
-    let a = more 3 (2 * n) (omega arith) in
-    let b = more 2 (2 * n / 128) (omega arith) in
-    let d = last 1 (2 * n / 128 / 128) (omega arith) in
+    let a = more_groups 3 (2 * n) (omega arith) in
+    let b = more_groups 2 (2 * n / 128) (omega arith) in
+    let d = one_group 1 (2 * n / 128 / 128) (omega arith) in
     omega (arith, a, b, d)
 
 pub four : (n : ℕ) → 1048576 ≤ n → n < 134217728 → 4 ≡ length (varint32 (pos n))
 unfolding varint32
 four n le lt =
-    let a = more 3 (2 * n) (omega arith) in
-    let b = more 2 (2 * n / 128) (omega arith) in
-    let d = more 1 (2 * n / 128 / 128) (omega arith) in
-    let e = last 0 (2 * n / 128 / 128 / 128) (omega arith) in
+    let a = more_groups 3 (2 * n) (omega arith) in
+    let b = more_groups 2 (2 * n / 128) (omega arith) in
+    let d = more_groups 1 (2 * n / 128 / 128) (omega arith) in
+    let e = one_group 0 (2 * n / 128 / 128 / 128) (omega arith) in
     omega (arith, a, b, d, e)
 
 pub five : (n : ℕ) → 134217728 ≤ n → 5 ≡ length (varint32 (pos n))
 unfolding varint32
 five n le =
-    let a = more 3 (2 * n) (omega arith) in
-    let b = more 2 (2 * n / 128) (omega arith) in
-    let d = more 1 (2 * n / 128 / 128) (omega arith) in
-    let e = more 0 (2 * n / 128 / 128 / 128) (omega arith) in
+    let a = more_groups 3 (2 * n) (omega arith) in
+    let b = more_groups 2 (2 * n / 128) (omega arith) in
+    let d = more_groups 1 (2 * n / 128 / 128) (omega arith) in
+    let e = more_groups 0 (2 * n / 128 / 128 / 128) (omega arith) in
     let f : length (groups 0 (2 * n / 128 / 128 / 128 / 128)) ≡ 1 = refl in
     omega (arith, a, b, d, e, f)
-
-groups_few : (room n : ℕ) → length (groups room n) ≤ room + 1
-groups_few zero n = omega arith
-groups_few (suc room) n = elim (cases_lt n 128) [
-  | inl lt ↦ let e = last room n lt in omega (arith, e)
-  | inr le ↦ let e = more room n le in let h = groups_few room (n / 128) in omega (arith, e, h)
-]
 
 pub varint_few : (n : ℕ) → length (varint32 (pos n)) ≤ 5
 unfolding varint32
@@ -119,30 +103,3 @@ checked_length batch few small =
     let b = records_length 0 batch.items in
     let d = length-append (fixed_bytes (length batch.items) batch.time) (records_bytes 0 batch.items) in
     omega (arith, a, b, d)
-
--- ---- a setting with short texts
-
-uvarint_few : (n : ℕ) → length (uvarint n) ≤ 5
-unfolding uvarint
-uvarint_few n = groups_few 4 n
-
-config_parts : (kind : ℤ) (name key value : List ℕ)
-    → length (record_value (kinds.Config kind name key (Some value)))
-    ≡ length (framed 4 0) + (length (signed w8 kind) + (length (uvarint (length name + 1)) + length name) + (length (uvarint (length key + 1)) + length key) + (length (uvarint (length value + 1)) + length value) + length no_tags)
-unfolding record_value config
-config_parts kind name key value = simp length-append
-
-few_parts : (kind : ℤ) → length (framed 4 0) + length (signed w8 kind) + length no_tags ≡ 5
-unfolding framed signed no_tags uvarint
-few_parts kind = refl
-
-pub setting_size : (kind : ℤ) (name key value : List ℕ) → length name + length key + length value ≤ 1000
-    → values_size (items.Record (kinds.Config kind name key (Some value)) ∷ []) < 2 ^ 30
-setting_size kind name key value short =
-    let a = config_parts kind name key value in
-    let b = few_parts kind in
-    let d = uvarint_few (length name + 1) in
-    let e = uvarint_few (length key + 1) in
-    let f = uvarint_few (length value + 1) in
-    let g = sum_by-cons (λ x. length (value_bytes x)) (items.Record (kinds.Config kind name key (Some value))) [] in
-    omega (arith, a, b, d, e, f, g)

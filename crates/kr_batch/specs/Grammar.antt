@@ -1,5 +1,5 @@
 -- What bytes stand for a batch: record batches of magic 2 (KIP-98), in this project's profile.
-use Rattle.std.specs.Prelude.{◌≡◌, ℕ, ℤ, pos, ◌≤ℤ◌, ◌+◌, ◌-◌, ◌<◌, ◌≤◌, ◌^◌, Bool, true, false, List, [], ◌∷◌, length}
+use Rattle.std.specs.Prelude.{◌≡◌, ℕ, ℤ, pos, negsuc, ◌≤ℤ◌, ◌+◌, ◌-◌, ◌/◌, ◌%◌, ◌==◌, ◌<◌, ◌≤◌, ◌^◌, Bool, true, false, List, [], ◌∷◌, length}
 use Rattle.std.specs.Int.{w8, w16, w32, w64}
 use Rattle.std.proofs.Math.ListN.{replicate}
 use Rattle.kr_defs.specs.declared.limits.TheConstants.{MOST_RECORDS}
@@ -9,8 +9,12 @@ use Rattle.kr_defs.specs.declared.record.Item.TheVariants as items
 use Rattle.kr_wire.specs.Grammar.{◌⌢◌, Exactly, IsNumber, IsSigned, IsVarint32, IsVarint64}
 use Rattle.kr_record.specs.Grammar.{IsRecord}
 use Rattle.kr_batch.specs.Crc.{crc32c}
-use Rattle.kr_batch.specs.Reading.{natural, compression, is_control}
 use Rattle.kr_batch.specs.declared.Batch.{Batch}
+
+-- a length; a negative one is that of nothing
+abbrev pub natural : ℤ → ℕ
+natural (pos n) = n
+natural (negsuc n) = 0
 
 -- so many bytes
 abbrev pub IsPiece : ℕ → List ℕ → List ℕ → Type 0
@@ -60,6 +64,13 @@ IsStart (base, size) = IsSigned w64 base ⌢ IsNumber w32 size
 -- the leader's epoch, magic 2, and the CRC
 abbrev pub IsSum : ℤ × ℕ → List ℕ → Type 0
 IsSum (epoch, crc) = IsSigned w32 epoch ⌢ IsSigned w8 (pos 2) ⌢ IsNumber w32 crc
+
+-- bits 0 to 2 say how the records are compressed, and bit 5 that the batch is a control batch
+abbrev pub compression : ℕ → ℕ
+compression attributes = attributes % 8
+
+abbrev pub is_control : ℕ → Bool
+is_control attributes = attributes / 32 % 2 == 1
 
 -- no compression, and whether it is a control batch; the other bits are skipped
 pub record IsAttributes (control : Bool) (bytes : List ℕ) : Type 0 where

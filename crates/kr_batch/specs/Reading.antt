@@ -13,17 +13,13 @@ use Rattle.kr_wire.specs.Reading.{◌>>=◌, refuse◌when◌else◌, Read, piec
 use Rattle.kr_record.specs.declared.fault.RecordFault.{RecordFault}
 use Rattle.kr_record.specs.Reading.{record_of}
 use Rattle.kr_batch.specs.Crc.{crc32c}
+use Rattle.kr_batch.specs.Grammar.{natural, compression, is_control}
 use Rattle.kr_batch.specs.declared.Batch.{Batch}
 use Rattle.kr_batch.specs.declared.fault.BatchFault.{BatchFault}
 use Rattle.kr_batch.specs.declared.fault.BatchFault.TheVariants as faults
 use Rattle.kr_batch.specs.declared.fault.Cause.TheVariants.{Framing, Value}
 
 -- ---- a record's frame; which fault it has doesn't matter
-
--- a length that isn't negative
-abbrev pub natural : ℤ → ℕ
-natural (pos n) = n
-natural (negsuc n) = 0
 
 -- bytes behind their length
 unfoldable pub sized_at : List ℕ → Read (List ℕ)
@@ -109,13 +105,6 @@ sum_at bytes = do
   refuse (faults.Magic magic.0) when not (int_eq magic.0 (pos 2)) else do
     crc ← short (number_at w32 magic.1)
     Ok ((epoch.0, crc.0), crc.1)
-
--- bits 0 to 2 say how the records are compressed, and bit 5 that the batch is a control batch
-abbrev pub compression : ℕ → ℕ
-compression attributes = attributes % 8
-
-abbrev pub is_control : ℕ → Bool
-is_control attributes = attributes / 32 % 2 == 1
 
 abbrev pub is_count : ℕ → ℕ → Bool
 is_count count delta = nat_le 1 count && nat_le count MOST_RECORDS && delta == count - 1

@@ -2,8 +2,8 @@
 
 ghost use Rattle.std.specs.Prelude.{◌≡◌, ◌+◌, ◌≤◌, length, drop, slice_range, IfOk, MatchResult, Ok, Err};
 ghost use Rattle.kr_wire.specs.Reading.{Reads, piece_at};
-ghost use Rattle.kr_batch.specs.Reading;
-ghost use Rattle.kr_batch.specs.Reading.{body_at, body_of, frame_at, key_at, natural, sized_at};
+ghost use Rattle.kr_batch.specs.Grammar;
+ghost use Rattle.kr_batch.specs.Reading.{body_at, body_of, frame_at, key_at, sized_at};
 
 use kr_wire::{WireFault, read_varint, read_varlong};
 
@@ -21,7 +21,7 @@ pub fn read_piece(bytes: &[u8], at: usize, len: usize) -> Result<(&[u8], usize),
 }
 
 fn natural(size: i32) -> usize
-    ensures { result ≡ Reading.natural size }
+    ensures { result ≡ Grammar.natural size }
 {
     if size < 0 { 0 } else { size as usize }
 }

@@ -2,6 +2,7 @@
 
 ghost use Rattle.std.specs.Prelude.{◌≡◌, ◌≤◌, length, drop, IfOk, IsTrue, MatchResult, Ok, Err};
 ghost use Rattle.kr_defs.specs.declared.limits.TheConstants.{MOST_RECORDS};
+ghost use Rattle.kr_batch.specs.Grammar;
 ghost use Rattle.kr_batch.specs.Reading;
 ghost use Rattle.kr_batch.specs.Reading.{fixed_at, place_of, start_at, sum_at, sum_of};
 
@@ -101,13 +102,13 @@ pub fn read_fixed(bytes: &[u8]) -> Result<((bool, i64, u32), &[u8]), BatchFault>
 }
 
 fn compression(attributes: u16) -> u8
-    ensures { result ≡ Reading.compression attributes }
+    ensures { result ≡ Grammar.compression attributes }
 {
     (attributes % 8) as u8
 }
 
 fn is_control(attributes: u16) -> bool
-    ensures { result ≡ Reading.is_control attributes }
+    ensures { result ≡ Grammar.is_control attributes }
 {
     attributes / 32 % 2 == 1
 }
