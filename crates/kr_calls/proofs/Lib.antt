@@ -5,4 +5,6 @@ mod PartitionExamples
 mod ReadExamples
 mod SafeChangeExamples
 pub mod Standing
+pub mod TakenOut
 mod TopicExamples
+pub mod WalkedChanges

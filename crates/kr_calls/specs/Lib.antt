@@ -16,4 +16,5 @@ pub mod NextBasis
 pub mod Refuse
 pub mod SafeChange
 pub mod TakingOut
+pub mod TakingOutLaws
 pub mod UnregisterBroker

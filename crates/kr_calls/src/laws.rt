@@ -7,9 +7,18 @@ ghost use Rattle.kr_defs.specs.declared.options.Options.{Options as AnyOptions};
 ghost use Rattle.kr_calls.specs.declared.calls.Request.{Request as AnyRequest};
 ghost use Rattle.kr_calls.specs.Decide.{work_of};
 ghost use Rattle.kr_calls.specs.Deciding.{HaveMeanings};
+ghost use Rattle.kr_calls.specs.TakingOutLaws.{TakingOutIsNeverRefused, FencingIsNeverRefused, UnregisteringIsNeverRefused};
 
 /// Each record that a request gives has a meaning at its place, and the last one leaves the image of the decision.
 #[tactic(auto, using(crate::proofs::Standing::standing))]
 pub fn records_have_meanings()
     ensures { (options : AnyOptions) (basis : AnyBasis) (image : Image) (place : ℤ) (request : AnyRequest) → HaveMeanings image (work_of options basis image place request).0 }
+{}
+
+/// Taking a broker out of the partitions of a valid image is never refused, and changes the partitions alone. Nor is a
+/// registered broker's fencing by its own epoch refused, nor an unregistration.
+pub fn taking_out_is_never_refused()
+    ensures taking_out { TakingOutIsNeverRefused }
+    ensures fencing { FencingIsNeverRefused }
+    ensures unregistering { UnregisteringIsNeverRefused }
 {}
