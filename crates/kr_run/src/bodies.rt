@@ -116,7 +116,7 @@ fn read_stamp(body: &[u8]) -> Result<(Stamp, usize), WireFault>
 }
 
 // The event of a message under its stamp. The message has at most 8 MiB.
-fn asked(alloc: Global, stamp: Stamp, message: &[u8]) -> Result<Event, BodyFault>
+fn message_event(alloc: Global, stamp: Stamp, message: &[u8]) -> Result<Event, BodyFault>
     ensures found { IfOk result (λ event. IsAsked stamp.client stamp.now event message.now) }
     ensures short { IfOk result HasShort }
     ensures misfit { IsErrOf result BodyFault.Misfit → MOST_MESSAGE_BYTES < length message.now }
@@ -144,7 +144,7 @@ pub(crate) fn request(alloc: Global, body: &[u8]) -> Result<Event, BodyFault>
         Err(_) => Err(BodyFault::Misfit),
         Ok((stamp, at)) => {
             let (_, message) = body.split_at(at);
-            asked(alloc, stamp, message)
+            message_event(alloc, stamp, message)
         }
     }
 }
@@ -230,13 +230,13 @@ pub(crate) fn options(alloc: Global, body: &[u8]) -> Result<Options, BodyFault>
         Err(_) => Err(BodyFault::Misfit),
         Ok(opening) => {
             let (_, cluster) = body.split_at(opening.cluster);
-            named(alloc, opening, cluster)
+            options_with(alloc, opening, cluster)
         }
     }
 }
 
 // The settings with the cluster id of these bytes.
-fn named(alloc: Global, o: Opening, cluster: &[u8]) -> Result<Options, BodyFault>
+fn options_with(alloc: Global, o: Opening, cluster: &[u8]) -> Result<Options, BodyFault>
     ensures found { IfOk result (λ options. AreOptions options × IsUtf8 cluster.now
         × (options ≡ record { node = o.node; salt = o.salt; session_ms = o.session_ms; partitions = o.partitions; factor = o.factor; minimum = o.minimum; cluster = cluster.now })) }
     ensures misfit { IsErrOf result BodyFault.Misfit → AreNumbers o.node o.session_ms o.partitions o.factor o.minimum → length cluster.now ≤ LONGEST_CLUSTER → IsUtf8 cluster.now → ⊥ }

@@ -83,7 +83,7 @@ fn take<S: Source>(source: &mut S, into: &mut [u8], at: u64) -> Result<(), Stop>
     let (front, _) = into.split_at_mut(most);
     match fill(source, front) {
         Err(_) => Err(Stop::ReadFault),
-        Ok(count) => taken(count, most, len),
+        Ok(count) => count_outcome(count, most, len),
     }
 }
 
@@ -99,7 +99,7 @@ fn room(len: usize, at: u64) -> usize
 }
 
 // What it means that so many bytes came of so many that were asked for, out of so many that were needed.
-fn taken(count: usize, most: usize, len: usize) -> Result<(), Stop>
+fn count_outcome(count: usize, most: usize, len: usize) -> Result<(), Stop>
     requires read { count ≤ most }
     requires asked { most ≤ len }
     ensures ok { OnOk result ((count ≡ most) × (most ≡ len)) }

@@ -139,7 +139,7 @@ pub(crate) fn read_next<S: Source>(
 }
 
 // The status of a frame that isn't read, at its first byte.
-fn unread(stop: Stop, at: u64) -> Status
+fn stop_status(stop: Stop, at: u64) -> Status
     ensures { result ≡ unread_status stop at }
 {
     match stop {
@@ -151,7 +151,7 @@ fn unread(stop: Stop, at: u64) -> Status
 }
 
 // The status of an output that isn't written.
-fn unwritten(fault: WriteFault) -> Status
+fn fault_status(fault: WriteFault) -> Status
     ensures { result ≡ unwritten_status fault }
 {
     match fault {
@@ -182,7 +182,7 @@ fn serve_accepted<K: Sink>(
         return Err(Status::Malformed { at });
     }
     match serve_event(alloc, controller, &event, output) {
-        Err(fault) => Err(unwritten(fault)),
+        Err(fault) => Err(fault_status(fault)),
         Ok(()) => Ok(()),
     }
 }
@@ -208,7 +208,7 @@ fn serve_frame<S: Source, K: Sink>(
     ensures output_later { K.faults output.old ≤ K.faults output.new }
 {
     let (next, end) = match read_next(alloc, input, at) {
-        Err(stop) => return Err(unread(stop, at)),
+        Err(stop) => return Err(stop_status(stop, at)),
         Ok(read) => read,
     };
     match next {
@@ -267,7 +267,7 @@ fn serve<S: Source, K: Sink>(alloc: Global, input: &mut S, output: &mut K) -> St
     ensures write { result ≡ Status.WriteFault → Rose (K.faults output.old) (K.faults output.new) }
 {
     let end = match pass_open(alloc, input) {
-        Err(stop) => return unread(stop, 0),
+        Err(stop) => return stop_status(stop, 0),
         Ok(end) => end,
     };
     serve_frames(alloc, input, output, end)

@@ -59,14 +59,14 @@ fn frame_of(alloc: Global, output: &Output) -> Result<Vec<u8>, NoMemory>
     ensures { IfOk result (λ bytes. bytes.items ≡ output_frame output.now) }
 {
     match output {
-        Output::Append { bytes } => framed(alloc, 0x81, bytes.as_slice()),
+        Output::Append { bytes } => frame_bytes(alloc, 0x81, bytes.as_slice()),
         Output::Reply {
             client,
             correlation,
             reply,
         } => {
             let body = body_of(alloc, *client, *correlation, reply)?;
-            framed(alloc, 0x82, body.as_slice())
+            frame_bytes(alloc, 0x82, body.as_slice())
         }
     }
 }
@@ -83,7 +83,7 @@ fn body_of(alloc: Global, client: u32, correlation: i32, reply: &Reply) -> Resul
 }
 
 // A kind and a body behind their size.
-fn framed(alloc: Global, kind: u8, body: &[u8]) -> Result<Vec<u8>, NoMemory>
+fn frame_bytes(alloc: Global, kind: u8, body: &[u8]) -> Result<Vec<u8>, NoMemory>
     requires { length body.now + 1 < 2 ^ 32 }
     ensures { IfOk result (λ bytes. bytes.items ≡ frame kind body.now) }
 {

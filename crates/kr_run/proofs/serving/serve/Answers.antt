@@ -10,7 +10,7 @@ use Rattle.kr_run.proofs.serving.serve.Goals as goal
 pub returns-in-Err-clause-ends : goal.returns-in-Err-clause-ends
 returns-in-Err-clause-ends g c =
     let P : Status → Type 0 = λ status. EndsWith (g.S.Source.left c.args.input.now) (g.S.Source.left c.pass_open.new.source) (g.K.Sink.written c.args.output.now) (g.K.Sink.written c.args.output.now) status in
-    subst P (sym c.unread.ensures) (unopened _ _ _ _ c.in-Err.stop _ _ c.in-Err.ensures.stopped (Appends-nil (g.K.Sink.written c.args.output.now)))
+    subst P (sym c.stop_status.ensures) (unopened _ _ _ _ c.in-Err.stop _ _ c.in-Err.ensures.stopped (Appends-nil (g.K.Sink.written c.args.output.now)))
 
 pub returns-clause-ends : goal.returns-clause-ends
 returns-clause-ends g c =

@@ -10,7 +10,7 @@ returns-then-not-accepts-clause-goes g c = λ left mid left' written end going t
 pub returns-in-Err-clause-goes : goal.returns-in-Err-clause-goes
 returns-in-Err-clause-goes g c = λ left mid left' written end going t.
     let P : Status → Type 0 = λ status. EndsWith left left' written (g.K.Sink.written c.serve_event.new.sink) status in
-    subst P (sym c.unwritten.ensures) (unwritten_ends left mid left' written _ _ _ going c.args.event end t
+    subst P (sym c.fault_status.ensures) (unwritten_ends left mid left' written _ _ _ going c.args.event end t
     (sym (c.if-not-accepts.ensures.stands going.events going.stands)) _ c.in-Err.fault (c.in-Err.ensures.err going.events going.stands))
 
 pub returns-clause-goes : goal.returns-clause-goes

@@ -9,7 +9,7 @@ use Rattle.kr_run.proofs.serving.serve_frame.Goals as goal
 pub returns-in-Err-clause-goes : goal.returns-in-Err-clause-goes
 returns-in-Err-clause-goes g c = λ left written going.
     let P : Status → Type 0 = λ status. EndsWith left (g.S.Source.left c.read_next.new.source) written (g.K.Sink.written c.args.output.now) status in
-    subst P (sym c.unread.ensures) (unread_next left _ _ written _ _ c.args.at going c.in-Err.stop _ _ c.in-Err.ensures.stopped)
+    subst P (sym c.stop_status.ensures) (unread_next left _ _ written _ _ c.args.at going c.in-Err.stop _ _ c.in-Err.ensures.stopped)
 
 pub returns-in-None-clause-goes : goal.returns-in-None-clause-goes
 returns-in-None-clause-goes g c = λ left written going.
