@@ -1,0 +1,4 @@
+mod Headers
+mod Bodies
+mod Asks
+mod Replies

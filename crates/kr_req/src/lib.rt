@@ -1,0 +1,14 @@
+//! Messages of calls: what a request message asks, and the bytes of replies.
+#![tactic(auto)]
+
+mod api;
+mod body;
+mod header;
+mod message;
+mod refusal;
+mod reply;
+
+pub use api::ApiKey;
+pub use message::decode;
+pub use refusal::refuse;
+pub use reply::encode_reply;

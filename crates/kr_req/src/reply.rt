@@ -1,0 +1,33 @@
+//! Reply messages.
+
+ghost use Rattle.std.specs.Prelude.{◌≡◌, [], ◌++◌, OnOk, OnErr};
+ghost use Rattle.std.specs.Int.{w32};
+ghost use Rattle.kr_layout.specs.Answers.{Adds};
+ghost use Rattle.kr_wire.specs.Spelling.{signed, tags};
+ghost use Rattle.kr_req.specs.Messages.{IsReply};
+
+use crate::body::put_body;
+use kr_base::NoMemory;
+use kr_calls::Reply;
+use kr_layout::put_end;
+use kr_wire::put_i32;
+
+// The header: the correlation id, and no tagged field.
+fn put_header(correlation: i32, out: &mut Vec<u8>) -> Result<(), NoMemory>
+    ensures { OnOk result (out.new.items ≡ out.old.items ++ signed w32 correlation ++ tags []) }
+{
+    put_i32(out, correlation)?;
+    put_end(out)
+}
+
+/// Appends the bytes of the reply's message. Without memory nothing changes.
+pub fn encode_reply(correlation: i32, reply: &Reply, out: &mut Vec<u8>) -> Result<(), NoMemory>
+    ensures ok { OnOk result (Adds (IsReply correlation) reply.now out.old.items out.new.items) }
+    ensures err { OnErr result (out.new.items ≡ out.old.items) }
+{
+    let mut message = Vec::new(*out.allocator());
+    put_header(correlation, &mut message)?;
+    put_body(reply, &mut message)?;
+    out.extend_from_slice(&message)?;
+    Ok(())
+}
