@@ -2,3 +2,4 @@ mod Headers
 mod Bodies
 mod Asks
 mod Replies
+pub mod Examples
