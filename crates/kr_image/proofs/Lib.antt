@@ -1,0 +1,9 @@
+pub mod Counting
+pub mod Index
+pub mod KeptLists
+pub mod Last
+pub mod Owners
+pub mod Places
+pub mod Removal
+pub mod Rows
+pub mod Stores

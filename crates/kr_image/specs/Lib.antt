@@ -1,0 +1,4 @@
+pub mod Changed
+pub mod Held
+pub mod Kept
+pub mod Looking

@@ -1,0 +1,76 @@
+//! A record of any kind, or a control item, is applied to the timelines.
+
+ghost use Rattle.std.specs.Prelude.{◌≡◌, ◌≤◌, ◌+◌, OnOk, negsuc, pos};
+ghost use Rattle.kr_defs.specs.Apply as apply;
+ghost use Rattle.kr_defs.specs.Image.{IsValid};
+ghost use Rattle.kr_defs.specs.Weight.{record_weight, weight};
+ghost use Rattle.kr_image.specs.Changed.{Changes};
+ghost use Rattle.kr_image.specs.Held.{Agrees, keeps, made_of, tip_of};
+
+use crate::timelines::{ChangeFault, Timelines};
+use kr_defs::{Item, Record};
+
+impl Timelines {
+    #[tactic(auto, unfolding(kr_defs::specs::Apply::apply_record))]
+    fn apply_record(&mut self, value: &Record) -> Result<(), ChangeFault>
+        requires valid { IsValid (tip_of self.old) }
+        requires agrees { Agrees self.old }
+        ensures changes { Changes self.old self.new result (apply.apply_record (tip_of self.old) value.now) }
+        ensures agrees { OnOk result (Agrees self.new) }
+        ensures kept { keeps self.new ≡ keeps self.old }
+        ensures made { OnOk result (made_of self.new ≤ made_of self.old + record_weight (tip_of self.old) value.now) }
+    {
+        match value {
+            Record::RegisterBroker { broker, state } => self.register(broker, state),
+            Record::UnregisterBroker { broker, epoch } => self.unregister(broker, epoch),
+            Record::Topic { name, id } => self.add_topic(name, id),
+            Record::Partition {
+                index,
+                topic,
+                state,
+            } => self.add_partition(index, topic, state),
+            Record::Config {
+                kind,
+                name,
+                key,
+                value,
+            } => self.set_config(kind, name, key, value),
+            Record::PartitionChange {
+                index,
+                topic,
+                change,
+            } => self.change_partition(index, topic, change),
+            Record::FenceBroker { broker, epoch } => self.change_registration(
+                broker, epoch, &1, &0,
+            ),
+            Record::UnfenceBroker { broker, epoch } => self.change_registration(
+                broker, epoch, &-1, &0,
+            ),
+            Record::RemoveTopic { topic } => self.remove_topic(topic),
+            Record::FeatureLevel { name, level } => self.set_feature(name, level),
+            Record::BrokerRegistrationChange {
+                broker,
+                epoch,
+                fenced,
+                stopping,
+            } => { self.change_registration(broker, epoch, fenced, stopping) }
+            Record::NoOp => Ok(()),
+        }
+    }
+
+    /// Changes the present image by the meaning of an item. An item without one changes nothing.
+    #[tactic(auto, unfolding(kr_defs::specs::Apply::apply, kr_defs::specs::Weight::weight))]
+    pub fn apply(&mut self, item: &Item) -> Result<(), ChangeFault>
+        requires valid { IsValid (tip_of self.old) }
+        requires agrees { Agrees self.old }
+        ensures changes { Changes self.old self.new result (apply.apply (tip_of self.old) item.now) }
+        ensures agrees { OnOk result (Agrees self.new) }
+        ensures kept { keeps self.new ≡ keeps self.old }
+        ensures made { OnOk result (made_of self.new ≤ made_of self.old + weight (tip_of self.old) item.now) }
+    {
+        match item {
+            Item::Control => Ok(()),
+            Item::Record(record) => self.apply_record(record),
+        }
+    }
+}

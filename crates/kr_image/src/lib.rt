@@ -1,0 +1,20 @@
+//! The store of the metadata image: one timeline for each kind of entry, and the kept epochs of all at once.
+#![tactic(auto)]
+
+mod applying;
+mod brokers;
+mod entries;
+mod epochs;
+mod features;
+mod keeping;
+mod kept_counts;
+mod looking;
+mod partitions;
+mod registrations;
+mod settings;
+mod store;
+mod sums;
+mod timelines;
+mod topics;
+
+pub use store::ImageStore;

@@ -1,0 +1,38 @@
+//! A map of a timeline is looked at: the present one, or that of a kept epoch.
+
+ghost use Rattle.std.specs.Prelude.{◌≡◌, IsErr, IsOkAnd, MatchOption};
+ghost use Rattle.std.specs.Option.{option_copied, option_map};
+ghost use Rattle.kr_defs.specs.Map as map;
+ghost use Rattle.kr_image.specs.Looking.{entries_at};
+
+use kr_base::NoEpoch;
+use kr_store::At;
+use kr_timeline::Timeline;
+
+/// The value of the key.
+pub fn found<'a, K: Ord + Drop, V: Drop>(
+    timeline: &'a Timeline<K, V>,
+    at: At,
+    key: &K,
+) -> Result<Option<&'a V>, NoEpoch>
+    ensures { MatchOption (entries_at timeline.now.maps at) (IsErr result) (λ entries. IsOkAnd result (λ value. option_copied value ≡ map.get K.cmp entries key.now)) }
+{
+    match at {
+        At::Tip => Ok(timeline.get(key)),
+        At::Epoch(epoch) => timeline.get_at(epoch, key),
+    }
+}
+
+/// The entry with the least key above the given one, or the first entry.
+pub fn next<'a, K: Ord + Drop, V: Drop>(
+    timeline: &'a Timeline<K, V>,
+    at: At,
+    after: Option<&K>,
+) -> Result<Option<(&'a K, &'a V)>, NoEpoch>
+    ensures { MatchOption (entries_at timeline.now.maps at) (IsErr result) (λ entries. IsOkAnd result (λ entry. option_map (λ e. (e.0.now, e.1.now)) entry ≡ map.next K.cmp entries (option_copied after.entry))) }
+{
+    match at {
+        At::Tip => Ok(timeline.next(after)),
+        At::Epoch(epoch) => timeline.next_at(epoch, after),
+    }
+}
