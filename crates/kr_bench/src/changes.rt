@@ -1,6 +1,7 @@
 //! Records as a controller writes them when a broker is fenced.
 
 ghost use Rattle.std.specs.Prelude.{◌≡◌, ◌≤◌, IfOk};
+ghost use Rattle.kr_defs.specs.declared.limits.TheConstants.{MOST_RECORDS};
 ghost use Rattle.kr_bench.specs.Changes.{change_at, changed};
 
 use kr_defs::{Ids, Item, Items, PartitionChange, Record};
@@ -12,7 +13,7 @@ const TOPIC: u128 = 0x0123_4567_89AB_CDEF_FEDC_BA98_7654_3210;
 /// The changes of so many partitions, numbered from 0.
 #[tactic(auto, unfolding(crate::specs::Changes::changed))]
 pub fn changes(alloc: Global, count: u32) -> Result<Items, AllocError>
-    requires { count ≤ 10000 }
+    requires { count ≤ MOST_RECORDS }
     ensures { IfOk result (λ items. items ≡ changed count) }
 {
     let mut items = Items::new(alloc);

@@ -11,6 +11,7 @@ ghost use Rattle.kr_bench.specs.declared.load.TheConstants.{RECORDS};
 use crate::changes::changes;
 use kr_base::NoMemory;
 use kr_batch::{Batch, BatchFault, crc32c, round_trip};
+use kr_defs::limits::MOST_RECORDS;
 use std::alloc::{AllocError, Global};
 
 /// What is measured.
@@ -35,7 +36,7 @@ impl Job {
 const SUMMED: u32 = 8 << 20;
 
 /// How many records the batch has: as many as a batch may have.
-const RECORDS: u32 = 10000;
+const RECORDS: u32 = MOST_RECORDS as u32;
 
 /// What the jobs work on.
 #[derive(Drop)]
