@@ -1,10 +1,8 @@
 -- What each status tells, joined.
-use Rattle.std.proofs.Common.{◌≡◌, ℕ, List, refl, Option, Some, [], Result, Ok, Err}
-use Rattle.std.specs.Prelude.{IfOk}
+use Rattle.std.proofs.Common.{◌≡◌, ℕ, List, refl, Option}
 use Rattle.kr_run.specs.declared.status.Status.{Status}
 use Rattle.kr_run.specs.declared.status.Status.TheVariants as statuses
 use Rattle.kr_run.specs.Endings.{EndsWith, TookWhole, StopsAt, StopsReading, StopsWriting, TookLongest}
-use Rattle.kr_vectors.specs.SessionWords.{TellsSession, session_words}
 
 module _ (l l' w w' : Option (List ℕ)) where
   pub ends : (status : Status) → (status ≡ statuses.Usage → ⊥) → (status ≡ statuses.Done → TookWhole l l' w w')
@@ -18,10 +16,3 @@ module _ (l l' w w' : Option (List ℕ)) where
   ends statuses.WriteFault usage done malformed long read write none = write refl
   ends statuses.NoMemory usage done malformed long read write none = none refl
   ends statuses.TooLong usage done malformed long read write none = long refl
-
-module _ {T : Type 0} (bytes_of : T → List ℕ) where
-  pub told_session : {E : Type 0} (status : Status) (bytes left written : List ℕ) (answer : Result T E)
-      → EndsWith (Some bytes) (Some left) (Some []) (Some written) status
-      → IfOk answer (λ text. bytes_of text ≡ session_words left written status) → IfOk answer (λ text. TellsSession bytes (bytes_of text))
-  told_session status bytes left written (Ok text) ends told = record { left = left; written = written; status = status; ends = ends; words = told }
-  told_session status bytes left written (Err e) ends told = tt

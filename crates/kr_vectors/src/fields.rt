@@ -33,7 +33,7 @@ pub struct Fields {
 }
 
 impl Fields {
-    pub fn new(alloc: Global, text: &str) -> Result<Fields, RowFault> {
+    pub(crate) fn new(alloc: Global, text: &str) -> Result<Fields, RowFault> {
         let mut words = VecDeque::new(alloc);
         for word in text.split(' ') {
             let word = String::from_str(alloc, word)?;
@@ -42,7 +42,7 @@ impl Fields {
         Ok(Fields { words })
     }
 
-    pub fn word(&mut self) -> Result<String, RowFault> {
+    pub(crate) fn word(&mut self) -> Result<String, RowFault> {
         match self.words.pop_front() {
             Some(word) => Ok(word),
             None => Err(RowFault::Fields),
@@ -50,7 +50,7 @@ impl Fields {
     }
 
     /// A number, or `true` or `false`.
-    pub fn number<T: FromStr>(&mut self) -> Result<T, RowFault>
+    pub(crate) fn number<T: FromStr>(&mut self) -> Result<T, RowFault>
     where
         T::Err: Drop,
     {
@@ -59,7 +59,7 @@ impl Fields {
     }
 
     /// A number, or `.` for none.
-    pub fn number_or_none<T: FromStr>(&mut self) -> Result<Option<T>, RowFault>
+    pub(crate) fn number_or_none<T: FromStr>(&mut self) -> Result<Option<T>, RowFault>
     where
         T::Err: Drop,
     {
@@ -71,7 +71,7 @@ impl Fields {
     }
 
     /// Bytes in hex, `-` for none.
-    pub fn bytes(&mut self, alloc: Global) -> Result<Vec<u8>, RowFault> {
+    pub(crate) fn bytes(&mut self, alloc: Global) -> Result<Vec<u8>, RowFault> {
         let digits = self.word()?;
         if digits.as_str() == "-" {
             return Ok(Vec::new(alloc));
@@ -83,13 +83,13 @@ impl Fields {
     }
 
     /// Ids with commas between them, `-` for none.
-    pub fn ids(&mut self, alloc: Global) -> Result<Ids, RowFault> {
+    pub(crate) fn ids(&mut self, alloc: Global) -> Result<Ids, RowFault> {
         let word = self.word()?;
         ids_of(alloc, word.as_str())
     }
 
     /// Ids, or `.` where no list is given.
-    pub fn ids_or_none(&mut self, alloc: Global) -> Result<Option<Ids>, RowFault> {
+    pub(crate) fn ids_or_none(&mut self, alloc: Global) -> Result<Option<Ids>, RowFault> {
         let word = self.word()?;
         if word.as_str() == "." {
             return Ok(None);
@@ -98,7 +98,7 @@ impl Fields {
     }
 
     /// The bar between two groups of fields.
-    pub fn bar(&mut self) -> Result<(), RowFault> {
+    pub(crate) fn bar(&mut self) -> Result<(), RowFault> {
         let word = self.word()?;
         if word.as_str() == "/" {
             return Ok(());
@@ -107,21 +107,21 @@ impl Fields {
     }
 
     /// The row ends here.
-    pub fn end(&self) -> Result<(), RowFault> {
+    pub(crate) fn end(&self) -> Result<(), RowFault> {
         if self.words.is_empty() {
             return Ok(());
         }
         Err(RowFault::Fields)
     }
 
-    pub fn mode(&mut self) -> Result<Mode, RowFault> {
+    pub(crate) fn mode(&mut self) -> Result<Mode, RowFault> {
         let word = self.word()?;
         mode_of(word.as_str()).ok_or(RowFault::Fields)
     }
 
     /// The replicas, those in sync, the eligible, the last known, the added and the removed ones; then leader and
     /// recovery, and the epochs of the leader and of the partition.
-    pub fn partition(&mut self, alloc: Global) -> Result<Partition, RowFault> {
+    pub(crate) fn partition(&mut self, alloc: Global) -> Result<Partition, RowFault> {
         Ok(Partition {
             replicas: self.ids(alloc)?,
             in_sync: self.ids(alloc)?,
@@ -137,7 +137,7 @@ impl Fields {
     }
 
     /// The fields in the order of their tags, `.` for one that is absent.
-    pub fn change(&mut self, alloc: Global) -> Result<PartitionChange, RowFault> {
+    pub(crate) fn change(&mut self, alloc: Global) -> Result<PartitionChange, RowFault> {
         Ok(PartitionChange {
             in_sync: self.ids_or_none(alloc)?,
             replicas: self.ids_or_none(alloc)?,
@@ -151,7 +151,7 @@ impl Fields {
     }
 
     /// The lists that are asked for, recovery and mode, and a broker that has restarted uncleanly.
-    pub fn want(&mut self, alloc: Global) -> Result<Want, RowFault> {
+    pub(crate) fn want(&mut self, alloc: Global) -> Result<Want, RowFault> {
         Ok(Want {
             replicas: self.ids(alloc)?,
             adding: self.ids(alloc)?,
@@ -164,7 +164,7 @@ impl Fields {
     }
 
     /// The active brokers, whether unclean election is on, and the least number in sync.
-    pub fn facts(&mut self, alloc: Global) -> Result<Facts, RowFault> {
+    pub(crate) fn facts(&mut self, alloc: Global) -> Result<Facts, RowFault> {
         Ok(Facts {
             active: self.ids(alloc)?,
             unclean: self.number()?,
@@ -174,7 +174,7 @@ impl Fields {
 }
 
 /// A number that a word spells.
-pub fn parsed<T: FromStr>(word: &str) -> Result<T, RowFault>
+pub(crate) fn parsed<T: FromStr>(word: &str) -> Result<T, RowFault>
 where
     T::Err: Drop,
 {

@@ -14,10 +14,11 @@ pub enum Kind {
     Build,
     Place,
     Sessions,
+    Messages,
 }
 
 impl Kind {
-    pub const ALL: [Kind; 11] = [
+    pub const ALL: [Kind; 12] = [
         Kind::Primitives,
         Kind::Records,
         Kind::Batches,
@@ -29,10 +30,11 @@ impl Kind {
         Kind::Build,
         Kind::Place,
         Kind::Sessions,
+        Kind::Messages,
     ];
 
     /// The word that rows of the kind begin with.
-    pub fn word(self) -> &'static str {
+    pub(crate) fn word(self) -> &'static str {
         match self {
             Kind::Primitives => "primitives",
             Kind::Records => "records",
@@ -45,10 +47,11 @@ impl Kind {
             Kind::Build => "build",
             Kind::Place => "place",
             Kind::Sessions => "sessions",
+            Kind::Messages => "messages",
         }
     }
 
-    pub fn of(word: &str) -> Option<Kind> {
+    pub(crate) fn of(word: &str) -> Option<Kind> {
         Kind::ALL.iter().copied().find(|kind| kind.word() == word)
     }
 }

@@ -6,6 +6,7 @@ mod batches;
 mod changes;
 mod fields;
 mod kinds;
+mod messages;
 mod places;
 mod plain;
 mod primitives;
@@ -40,7 +41,7 @@ struct Counts {
 // The rows of each kind, and whether each line was a row and held.
 #[derive(Drop)]
 struct Tally {
-    by_kind: [Counts; 11],
+    by_kind: [Counts; 12],
     all_held: bool,
 }
 
@@ -104,7 +105,7 @@ fn form_of<R: Env + AllocGlobal>(rt: &R) -> io::Result<Option<Form>> {
 // Empty lines and those that begin with `#` are no rows.
 fn compare<R: Input + Print + AllocGlobal>(rt: &R, form: Form) -> io::Result<Tally> {
     let mut tally = Tally {
-        by_kind: [Counts { rows: 0, held: 0 }; 11],
+        by_kind: [Counts { rows: 0, held: 0 }; 12],
         all_held: true,
     };
     let mut number = 0_u64;

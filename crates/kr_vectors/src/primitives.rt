@@ -371,7 +371,7 @@ fn sum_answer(alloc: Global, bytes: &[u8]) -> Result<String, AllocError>
 }
 
 /// The answer of the reader that has this name, or for `crc32c` the checksum of the bytes; None for another name.
-pub fn primitive_answer(
+pub(crate) fn primitive_answer(
     alloc: Global,
     reader: &str,
     bytes: &[u8],

@@ -6,6 +6,7 @@ use crate::changes::{
 };
 use crate::fields::{Fields, RowFault, parsed};
 use crate::kinds::Kind;
+use crate::messages::message_answer;
 use crate::places::place_answer;
 use crate::primitives::primitive_answer;
 use crate::records::record_answer;
@@ -15,7 +16,7 @@ use kr_place::Racked;
 use std::alloc::Global;
 
 /// The answer to what a row of this kind asks.
-pub fn answer(alloc: Global, kind: Kind, asked: &str) -> Result<String, RowFault> {
+pub(crate) fn answer(alloc: Global, kind: Kind, asked: &str) -> Result<String, RowFault> {
     let mut fields = Fields::new(alloc, asked)?;
     let text = match kind {
         Kind::Primitives => primitive_row(alloc, &mut fields)?,
@@ -29,6 +30,7 @@ pub fn answer(alloc: Global, kind: Kind, asked: &str) -> Result<String, RowFault
         Kind::Build => build_row(alloc, &mut fields)?,
         Kind::Place => place_row(alloc, &mut fields)?,
         Kind::Sessions => session_row(alloc, &mut fields)?,
+        Kind::Messages => message_row(alloc, &mut fields)?,
     };
     fields.end()?;
     Ok(text)
@@ -162,4 +164,9 @@ fn broker_of(alloc: Global, part: &str) -> Result<(i32, Option<Text>), RowFault>
 fn session_row(alloc: Global, fields: &mut Fields) -> Result<String, RowFault> {
     let bytes = fields.bytes(alloc)?;
     Ok(session_answer(alloc, bytes)?)
+}
+
+fn message_row(alloc: Global, fields: &mut Fields) -> Result<String, RowFault> {
+    let bytes = fields.bytes(alloc)?;
+    Ok(message_answer(alloc, &bytes)?)
 }
