@@ -125,8 +125,9 @@ impl Sessions {
         ensures contact_room { IsTrue self.old.contact_room → IsTrue self.new.contact_room }
         ensures stopping_room { IsTrue self.old.stopping_room → IsTrue self.new.stopping_room }
     {
-        lists::drop_contact(&mut self.contacts, &broker);
-        lists::drop_stopping(&mut self.stopping, &broker);
+        let id = &broker;
+        lists::drop_contact(&mut self.contacts, id);
+        lists::drop_stopping(&mut self.stopping, id);
     }
 
     /// The broker began to stop at the tip.

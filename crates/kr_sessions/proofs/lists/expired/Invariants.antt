@@ -1,4 +1,4 @@
-use Rattle.std.proofs.Common.{◌≡◌, ◌+◌, ◌++◌, ◌≤◌, map, drop, length, take_while, int_le}
+use Rattle.std.proofs.Common.{◌≡◌, ◌+◌, ◌++◌, map, drop, length, take_while, int_le}
 use Rattle.kr_sessions.proofs.lists.expired.Given as goal
 
 abbrev pub invariant-loop-contact : goal.invariant-loop-contact
