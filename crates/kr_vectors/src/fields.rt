@@ -1,5 +1,6 @@
 //! The fields of a row, with a space between each two.
 
+use crate::heartbeats::Operation;
 use kr_base::NoMemory;
 use kr_defs::{Facts, Ids, Mode, Partition, PartitionChange, Want};
 use std::alloc::{AllocError, Global};
@@ -106,9 +107,14 @@ impl Fields {
         Err(RowFault::Fields)
     }
 
+    /// No word is left.
+    pub(crate) fn is_empty(&self) -> bool {
+        self.words.is_empty()
+    }
+
     /// The row ends here.
     pub(crate) fn end(&self) -> Result<(), RowFault> {
-        if self.words.is_empty() {
+        if self.is_empty() {
             return Ok(());
         }
         Err(RowFault::Fields)
@@ -161,6 +167,33 @@ impl Fields {
             mode: self.mode()?,
             restarted: self.number_or_none()?,
         })
+    }
+
+    /// What sessions are told: a word, and what belongs to it.
+    pub(crate) fn operation(&mut self, alloc: Global) -> Result<Operation, RowFault> {
+        let word = self.word()?;
+        match word.as_str() {
+            "begin" => Ok(Operation::Begin {
+                unfenced: self.ids(alloc)?,
+                stopping: self.ids(alloc)?,
+                now: self.number()?,
+                led: self.number()?,
+            }),
+            "beat" => Ok(Operation::Beat {
+                broker: self.number()?,
+                now: self.number()?,
+                offset: self.number()?,
+            }),
+            "stop" => Ok(Operation::Stop {
+                broker: self.number()?,
+                tip: self.number()?,
+            }),
+            "leave" => Ok(Operation::Leave {
+                broker: self.number()?,
+            }),
+            "end" => Ok(Operation::End),
+            _ => Err(RowFault::Fields),
+        }
     }
 
     /// The active brokers, whether unclean election is on, and the least number in sync.

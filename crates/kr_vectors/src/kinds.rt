@@ -15,10 +15,11 @@ pub enum Kind {
     Place,
     Sessions,
     Messages,
+    Heartbeats,
 }
 
 impl Kind {
-    pub const ALL: [Kind; 12] = [
+    pub const ALL: [Kind; 13] = [
         Kind::Primitives,
         Kind::Records,
         Kind::Batches,
@@ -31,6 +32,7 @@ impl Kind {
         Kind::Place,
         Kind::Sessions,
         Kind::Messages,
+        Kind::Heartbeats,
     ];
 
     /// The word that rows of the kind begin with.
@@ -48,6 +50,7 @@ impl Kind {
             Kind::Place => "place",
             Kind::Sessions => "sessions",
             Kind::Messages => "messages",
+            Kind::Heartbeats => "heartbeats",
         }
     }
 

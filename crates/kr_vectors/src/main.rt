@@ -5,6 +5,7 @@
 mod batches;
 mod changes;
 mod fields;
+mod heartbeats;
 mod kinds;
 mod messages;
 mod places;
@@ -41,7 +42,7 @@ struct Counts {
 // The rows of each kind, and whether each line was a row and held.
 #[derive(Drop)]
 struct Tally {
-    by_kind: [Counts; 12],
+    by_kind: [Counts; 13],
     all_held: bool,
 }
 
@@ -105,7 +106,7 @@ fn form_of<R: Env + AllocGlobal>(rt: &R) -> io::Result<Option<Form>> {
 // Empty lines and those that begin with `#` are no rows.
 fn compare<R: Input + Print + AllocGlobal>(rt: &R, form: Form) -> io::Result<Tally> {
     let mut tally = Tally {
-        by_kind: [Counts { rows: 0, held: 0 }; 12],
+        by_kind: [Counts { rows: 0, held: 0 }; 13],
         all_held: true,
     };
     let mut number = 0_u64;

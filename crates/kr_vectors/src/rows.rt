@@ -5,6 +5,7 @@ use crate::changes::{
     build_answer, completes_answer, elect_answer, eligible_answer, merge_answer, target_answer,
 };
 use crate::fields::{Fields, RowFault, parsed};
+use crate::heartbeats::heartbeats_answer;
 use crate::kinds::Kind;
 use crate::messages::message_answer;
 use crate::places::place_answer;
@@ -13,7 +14,10 @@ use crate::records::record_answer;
 use crate::sessions::session_answer;
 use kr_defs::Text;
 use kr_place::Racked;
-use std::alloc::Global;
+use std::alloc::{AllocError, Global};
+
+// A row has at most so many operations.
+const MOST_OPERATIONS: u32 = 1000;
 
 /// The answer to what a row of this kind asks.
 pub(crate) fn answer(alloc: Global, kind: Kind, asked: &str) -> Result<String, RowFault> {
@@ -31,6 +35,7 @@ pub(crate) fn answer(alloc: Global, kind: Kind, asked: &str) -> Result<String, R
         Kind::Place => place_row(alloc, &mut fields)?,
         Kind::Sessions => session_row(alloc, &mut fields)?,
         Kind::Messages => message_row(alloc, &mut fields)?,
+        Kind::Heartbeats => heartbeats_row(alloc, &mut fields)?,
     };
     fields.end()?;
     Ok(text)
@@ -169,4 +174,17 @@ fn session_row(alloc: Global, fields: &mut Fields) -> Result<String, RowFault> {
 fn message_row(alloc: Global, fields: &mut Fields) -> Result<String, RowFault> {
     let bytes = fields.bytes(alloc)?;
     Ok(message_answer(alloc, &bytes)?)
+}
+
+// Operations, each a word and what it is told.
+fn heartbeats_row(alloc: Global, fields: &mut Fields) -> Result<String, RowFault> {
+    let mut operations = Vec::new(alloc);
+    for _operation in 0..MOST_OPERATIONS {
+        if fields.is_empty() {
+            break;
+        }
+        let operation = fields.operation(alloc)?;
+        operations.push(operation).map_err(AllocError::from)?;
+    }
+    heartbeats_answer(alloc, &operations)
 }
