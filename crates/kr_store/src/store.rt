@@ -3,6 +3,7 @@
 ghost use Rattle.std.specs.Prelude.{◌≡◌, ◌≤◌, ◌+◌, IsOkAnd, IsErr, IsSome, Some, MatchOption, OnOk};
 ghost use Rattle.std.specs.Option.{option_copied, option_map};
 ghost use Rattle.std.specs.Ordering.{int_cmp};
+ghost use Rattle.kr_defs.specs.declared.record.Item.TheVariants as items;
 ghost use Rattle.kr_defs.specs.Image.{topic_name};
 ghost use Rattle.kr_defs.specs.Map as entries;
 ghost use Rattle.kr_defs.specs.Map.{text_order, partition_order, config_order};
@@ -12,7 +13,7 @@ ghost use Rattle.kr_store.specs.Images.{Images, AreValid, brokers_at, topics_at,
 
 use crate::{ApplyFault, At, Counts};
 use kr_base::{NoEpoch, Steps};
-use kr_defs::{Broker, ConfigKey, Item, Partition, Text, Topic};
+use kr_defs::{Broker, ConfigKey, Item, Partition, Record, Text, Topic};
 use std::sync::ledger::Ledger;
 
 /// An image that items are applied to, with kept epochs. A look-up answers by the image at a place, and NoEpoch exactly
@@ -82,6 +83,20 @@ pub trait Store {
         ensures applied { Applies (images self.old) (images self.new) result place item.now }
         ensures kept { (images self.new).kept ≡ (images self.old).kept }
         ensures made { OnOk result ((images self.new).made ≤ (images self.old).made + weight (images self.old).tip item.now) }
+        ensures valid { AreValid (images self.new) }
+        ensures counted { Ticks steps.old steps.new result };
+
+    /// The same for a record.
+    fn apply_record<L: Ledger>(
+        &mut self,
+        place: i64,
+        value: &Record,
+        steps: &mut Steps<L>,
+    ) -> Result<(), ApplyFault>
+        requires { IsSome (last_kept (images self.old)) }
+        ensures applied { Applies (images self.old) (images self.new) result place (items.Record value.now) }
+        ensures kept { (images self.new).kept ≡ (images self.old).kept }
+        ensures made { OnOk result ((images self.new).made ≤ (images self.old).made + weight (images self.old).tip (items.Record value.now)) }
         ensures valid { AreValid (images self.new) }
         ensures counted { Ticks steps.old steps.new result };
 

@@ -1,0 +1,138 @@
+//! A request's entries, each decided on the image after the earlier ones.
+
+ghost use Rattle.std.specs.Prelude.{◌≡◌, ◌≤◌, ◌+◌, ℕ, ℤ, pos, ◌≤ℤ◌, List, [], Ok, Some, Result, IfOk, OnOk, IsSome};
+ghost use Rattle.kr_defs.specs.declared.limits.TheConstants.{PLACES_END as places_end};
+ghost use Rattle.kr_defs.specs.Image.{Image};
+ghost use Rattle.kr_calls.specs.Deciding as deciding;
+ghost use Rattle.kr_calls.specs.Deciding.{begun, unless_validating, weights};
+ghost use Rattle.kr_store.specs.Images.{last_kept, last_image};
+ghost use Rattle.kr_rules.specs.Progress.{work_at, base_of, Leads};
+ghost use Rattle.kr_rules.specs.Refusals.{IfError};
+
+use crate::taking::take;
+use crate::{Refusal, Rule, Work};
+use kr_base::{NoMemory, Steps};
+use kr_calls::Draft;
+use kr_defs::{Records, Rows};
+use kr_store::Store;
+use std::alloc::Global;
+use std::sync::ledger::Ledger;
+
+// Kafka's POLICY_VIOLATION: a limit is passed.
+const OVER_A_LIMIT: i16 = 44;
+
+// The answer to an entry that is refused.
+fn answer_to<E, A: Drop, R: Rule<E, A>>(
+    alloc: Global,
+    rule: &R,
+    refusal: &Refusal,
+    entry: &E,
+) -> Result<A, NoMemory>
+    ensures { IfOk result (λ answer. IfError refusal.now (λ error. answer ≡ R.refused error entry.now)) }
+{
+    match refusal {
+        Refusal::Error(error) => rule.refused(alloc, error, entry),
+        Refusal::NoMemory => Err(NoMemory),
+    }
+}
+
+/// An entry is done by its rule: its records are taken, all or none.
+pub fn one<E, A: Drop, R: Rule<E, A>, S: Store, L: Ledger>(
+    alloc: Global,
+    store: &mut S,
+    work: &mut Work,
+    rule: &R,
+    entry: &E,
+    steps: &mut Steps<L>,
+) -> Result<A, NoMemory>
+    requires some { IsSome (last_kept (S.images store.old)) }
+    requires leads { Leads (S.images store.old) work.old.records }
+    ensures done { IfOk result (λ answer. deciding.one R.refused (R.rule rule.now) (work_at work.old (S.images store.old).tip) entry.now ≡ (work_at work.new (S.images store.new).tip, answer)) }
+    ensures leads { OnOk result (Leads (S.images store.new) work.new.records) }
+    ensures kept { (S.images store.new).kept ≡ (S.images store.old).kept }
+    ensures start { OnOk result (work.new.start ≡ work.old.start) }
+    ensures made { (so_far : ℕ) → (S.images store.old).made ≤ so_far + weights (base_of (S.images store.old)) work.old.records → OnOk result ((S.images store.new).made ≤ so_far + weights (base_of (S.images store.new)) work.new.records) }
+    ensures later { steps.old ≤ steps.new }
+{
+    match rule.judge(alloc, store, work, entry) {
+        Ok(Draft { records, answer }) => {
+            if take(store, work, records, steps)? {
+                Ok(answer)
+            } else {
+                rule.refused(alloc, &OVER_A_LIMIT, entry)
+            }
+        }
+        Err(refusal) => answer_to(alloc, rule, &refusal, entry),
+    }
+}
+
+/// The answers to all entries, in order.
+pub fn over_entries<E, A: Drop, R: Rule<E, A>, S: Store, L: Ledger>(
+    alloc: Global,
+    store: &mut S,
+    work: &mut Work,
+    rule: &R,
+    entries: &[E],
+    steps: &mut Steps<L>,
+) -> Result<Rows<A>, NoMemory>
+    requires some { IsSome (last_kept (S.images store.old)) }
+    requires leads { Leads (S.images store.old) work.old.records }
+    ensures answers { IfOk result (λ answers. answers ≡ deciding.answers R.refused (R.rule rule.now) (work_at work.old (S.images store.old).tip) entries.now) }
+    ensures after { OnOk result (work_at work.new (S.images store.new).tip ≡ deciding.after_all R.refused (R.rule rule.now) (work_at work.old (S.images store.old).tip) entries.now) }
+    ensures leads { OnOk result (Leads (S.images store.new) work.new.records) }
+    ensures kept { (S.images store.new).kept ≡ (S.images store.old).kept }
+    ensures start { OnOk result (work.new.start ≡ work.old.start) }
+    ensures made { (so_far : ℕ) → (S.images store.old).made ≤ so_far + weights (base_of (S.images store.old)) work.old.records → OnOk result ((S.images store.new).made ≤ so_far + weights (base_of (S.images store.new)) work.new.records) }
+    ensures later { steps.old ≤ steps.new }
+{
+    let mut answers = Rows::new(alloc);
+    for entry in entries {
+        answers.push(one(alloc, store, work, rule, entry, steps)?)?;
+    }
+    Ok(answers)
+}
+
+/// A request of one entry is decided: its records and its answer.
+#[tactic(auto, using(crate::proofs::Takes::bases))]
+pub fn decide_one<E, A: Drop, R: Rule<E, A>, S: Store, L: Ledger>(
+    alloc: Global,
+    store: &mut S,
+    place: i64,
+    rule: &R,
+    entry: &E,
+    steps: &mut Steps<L>,
+) -> Result<(Records, A), NoMemory>
+    requires low { place ≤ℤ places_end }
+    requires kept { last_image (S.images store.old) ≡ Some (S.images store.old).tip }
+    ensures decided { IfOk result (λ d. deciding.one R.refused (R.rule rule.now) (begun place (S.images store.old).tip) entry.now ≡ (work_at (record { start = place; records = d.0 }) (S.images store.new).tip, d.1)) }
+    ensures kept { (S.images store.new).kept ≡ (S.images store.old).kept }
+    ensures made { IfOk result (λ d. (S.images store.new).made ≤ (S.images store.old).made + weights (S.images store.old).tip d.0) }
+    ensures later { steps.old ≤ steps.new }
+{
+    let mut work = Work::new(alloc, place);
+    let answer = one(alloc, store, &mut work, rule, entry, steps)?;
+    Ok((work.into_records(), answer))
+}
+
+/// A request of several entries is decided: its records and its answers.
+#[tactic(auto, using(crate::proofs::Takes::bases))]
+pub fn decide_each<E, A: Drop, R: Rule<E, A>, S: Store, L: Ledger>(
+    alloc: Global,
+    store: &mut S,
+    place: i64,
+    rule: &R,
+    entries: &[E],
+    steps: &mut Steps<L>,
+) -> Result<(Records, Rows<A>), NoMemory>
+    requires low { place ≤ℤ places_end }
+    requires kept { last_image (S.images store.old) ≡ Some (S.images store.old).tip }
+    ensures answers { IfOk result (λ d. d.1 ≡ deciding.answers R.refused (R.rule rule.now) (begun place (S.images store.old).tip) entries.now) }
+    ensures after { IfOk result (λ d. work_at (record { start = place; records = d.0 }) (S.images store.new).tip ≡ deciding.after_all R.refused (R.rule rule.now) (begun place (S.images store.old).tip) entries.now) }
+    ensures kept { (S.images store.new).kept ≡ (S.images store.old).kept }
+    ensures made { IfOk result (λ d. (S.images store.new).made ≤ (S.images store.old).made + weights (S.images store.old).tip d.0) }
+    ensures later { steps.old ≤ steps.new }
+{
+    let mut work = Work::new(alloc, place);
+    let answers = over_entries(alloc, store, &mut work, rule, entries, steps)?;
+    Ok((work.into_records(), answers))
+}

@@ -1,0 +1,14 @@
+//! How a request is decided on any store: its entries in turn, each by its rule, and what rules share.
+#![tactic(auto)]
+
+mod entries;
+mod refusal;
+mod rule;
+mod sizes;
+mod taking;
+
+pub use entries::{decide_each, decide_one};
+pub use refusal::Refusal;
+pub use rule::Rule;
+pub use sizes::value_bytes;
+pub use taking::{Work, take};
