@@ -1,6 +1,9 @@
 mod BrokerExamples
+pub mod BrokersLeft
 mod Cluster
 mod ConfigExamples
+pub mod KeptByRequests
+pub mod OtherRequests
 mod PartitionExamples
 mod ReadExamples
 mod SafeChangeExamples

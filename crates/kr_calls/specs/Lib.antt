@@ -13,6 +13,7 @@ pub mod ListPartitionReassignments
 pub mod Metadata
 pub mod NewPartitions
 pub mod NextBasis
+pub mod NextBasisLaws
 pub mod Refuse
 pub mod SafeChange
 pub mod TakingOut

@@ -7,6 +7,7 @@ ghost use Rattle.kr_defs.specs.declared.options.Options.{Options as AnyOptions};
 ghost use Rattle.kr_calls.specs.declared.calls.Request.{Request as AnyRequest};
 ghost use Rattle.kr_calls.specs.Decide.{work_of};
 ghost use Rattle.kr_calls.specs.Deciding.{HaveMeanings};
+ghost use Rattle.kr_calls.specs.NextBasisLaws.{OtherRequestsLeaveBrokers};
 ghost use Rattle.kr_calls.specs.TakingOutLaws.{TakingOutIsNeverRefused, FencingIsNeverRefused, UnregisteringIsNeverRefused};
 
 /// Each record that a request gives has a meaning at its place, and the last one leaves the image of the decision.
@@ -21,4 +22,9 @@ pub fn taking_out_is_never_refused()
     ensures taking_out { TakingOutIsNeverRefused }
     ensures fencing { FencingIsNeverRefused }
     ensures unregistering { UnregisteringIsNeverRefused }
+{}
+
+/// A request that isn't a broker's own leaves the brokers of the image, and who is heard of.
+pub fn other_requests_leave_brokers()
+    ensures { OtherRequestsLeaveBrokers }
 {}

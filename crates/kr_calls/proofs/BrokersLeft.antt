@@ -1,0 +1,193 @@
+-- Requests that aren't about brokers leave the brokers of an image as they are.
+use Rattle.std.proofs.Common.{◌≡◌, ◌∙◌, ℤ, ℕ, suc, Bool, true, false, cond, List, [], ◌∷◌, ◌++◌, refl, not}
+use Rattle.std.specs.Prelude.{Option, Some, None, Result, Ok, ◌&&◌, ◌||◌, pos, bytes_eq, unwrap_or, length, ◌-◌, unsigned_abs, nat_le, nat_lt, negsuc, int_lt, ◌==◌}
+use Rattle.std.specs.List.{list_any, list_all, filter_map, cons_option}
+use Rattle.std.specs.Option.{option_map, option_map_or}
+use Rattle.std.specs.Ordering.{int_eq}
+use Rattle.std.proofs.lemmas.Bool.{and_parts, and_from}
+use Rattle.std.proofs.lemmas.List.Folds.{list_all-append}
+use Rattle.kr_defs.specs.declared.options.Options.{Options}
+use Rattle.kr_defs.specs.declared.partition.Partition.{Partition}
+use Rattle.kr_defs.specs.declared.partition.PartitionChange.{PartitionChange}
+use Rattle.kr_defs.specs.declared.record.ConfigKey.{ConfigKey}
+use Rattle.kr_defs.specs.declared.record.Record.{Record}
+use Rattle.kr_defs.specs.declared.record.Record.TheVariants as kinds
+use Rattle.kr_defs.specs.Apply as apply
+use Rattle.kr_defs.specs.Build.{built}
+use Rattle.kr_defs.specs.Image.{Image, topic_name, has_topic, is_index, config_text}
+use Rattle.kr_defs.specs.Merge.{merged}
+use Rattle.kr_defs.specs.Texts.{is_topic_name}
+use Rattle.kr_defs.specs.declared.limits.TheConstants.{MOST_TOPICS, MOST_PARTITIONS, MOST_CONFIG_TEXT, MOST_FEATURES, LONGEST_FEATURE}
+use Rattle.kr_calls.specs.Refuse.{refused_resource}
+use Rattle.kr_defs.specs.Map as entries
+use Rattle.kr_defs.specs.Map.{config_order, partition_order, text_order}
+use Rattle.kr_defs.specs.Partition.{target, is_well_formed}
+use Rattle.kr_defs.specs.Settings.{facts_of, is_broker_name}
+use Rattle.kr_defs.specs.Brokers.{active}
+use Rattle.kr_defs.specs.Ids.{has}
+use Rattle.kr_defs.specs.Texts.{names_agree}
+use Rattle.kr_defs.specs.Topics.{count_of}
+use Rattle.kr_defs.specs.declared.changing.Mode.TheVariants as modes
+use Rattle.kr_defs.specs.declared.ill.Ill.TheVariants.{BadNumber, NoTopic, TopicExists, BadName, NoPartition, PartitionExists, BadPartition, Limit}
+use Rattle.kr_defs.specs.Walk.{Walked, changes_of, change_records, walk}
+use Rattle.kr_defs.proofs.Tests.{Gives, gives_refuse, gives_found, gives_done, gives_if, gives_then}
+use Rattle.kr_calls.specs.declared.configs.ConfigResource.{ConfigResource}
+use Rattle.kr_calls.specs.declared.deciding.Draft.{Draft}
+use Rattle.kr_calls.specs.declared.topics.CreatableTopicConfig.{CreatableTopicConfig}
+use Rattle.kr_calls.specs.Deciding.{apply_records}
+use Rattle.kr_calls.specs.AlterPartition as reporting
+use Rattle.kr_calls.specs.AlterPartitionReassignments as reassigning
+use Rattle.kr_calls.specs.CreatePartitions as growing
+use Rattle.kr_calls.specs.CreateTopics as creating
+use Rattle.kr_calls.specs.DeleteTopics as deleting
+use Rattle.kr_calls.specs.ElectLeaders as electing
+use Rattle.kr_calls.specs.IncrementalAlterConfigs as configuring
+use Rattle.kr_calls.specs.NewPartitions.{new_partitions}
+
+-- a record that isn't about a broker
+abbrev pub is_brokerless : Record → Bool
+is_brokerless (kinds.RegisterBroker broker state) = false
+is_brokerless (kinds.UnregisterBroker broker epoch) = false
+is_brokerless (kinds.FenceBroker broker epoch) = false
+is_brokerless (kinds.UnfenceBroker broker epoch) = false
+is_brokerless (kinds.BrokerRegistrationChange broker epoch fenced stopping) = false
+is_brokerless other = true
+
+abbrev pub are_brokerless : List Record → Bool
+are_brokerless records = list_all is_brokerless records
+
+-- ---- what they leave
+
+abbrev pub LeavesBrokers : Image → Image → Type 0
+LeavesBrokers image after = after.brokers ≡ image.brokers
+
+one_leaves : (image : Image) (r : Record) → is_brokerless r ≡ true → Gives (LeavesBrokers image) (apply.apply_record image r)
+unfolding apply.apply_record
+one_leaves image (kinds.RegisterBroker broker state) not_one = absurd cc
+one_leaves image (kinds.UnregisterBroker broker epoch) not_one = absurd cc
+one_leaves image (kinds.FenceBroker broker epoch) not_one = absurd cc
+one_leaves image (kinds.UnfenceBroker broker epoch) not_one = absurd cc
+one_leaves image (kinds.BrokerRegistrationChange broker epoch fenced stopping) not_one = absurd cc
+one_leaves image (kinds.Topic name id) is =
+    gives_refuse (LeavesBrokers image) BadName (not (is_topic_name name)) _ (λ _. gives_refuse (LeavesBrokers image) TopicExists (entries.contains text_order image.topics name || has_topic image.topics id || id == 0) _ (λ _. gives_refuse (LeavesBrokers image) Limit (nat_le MOST_TOPICS (length image.topics)) _ (λ _. gives_done (LeavesBrokers image) _ refl)))
+one_leaves image (kinds.Partition index topic state) is =
+    gives_refuse (LeavesBrokers image) NoTopic (not (has_topic image.topics topic)) _ (λ _. gives_refuse (LeavesBrokers image) BadNumber (not (is_index index)) _ (λ _. gives_refuse (LeavesBrokers image) PartitionExists (entries.contains partition_order image.partitions (topic, index)) _ (λ _.
+    gives_refuse (LeavesBrokers image) BadPartition (not (is_well_formed state)) _ (λ _. gives_refuse (LeavesBrokers image) Limit (nat_le MOST_PARTITIONS (length image.partitions)) _ (λ _. gives_done (LeavesBrokers image) _ refl)))))
+one_leaves image (kinds.Config kind name key None) is = gives_done (LeavesBrokers image) _ refl
+one_leaves image (kinds.Config kind name key (Some value)) is = gives_refuse (LeavesBrokers image) Limit (let k : ConfigKey = record { kind = kind; name = name; key = key } in nat_lt MOST_CONFIG_TEXT (config_text (entries.insert config_order image.configs k value))) _ (λ _. gives_done (LeavesBrokers image) _ refl)
+one_leaves image (kinds.PartitionChange index topic change) is =
+    gives_refuse (LeavesBrokers image) NoTopic (not (has_topic image.topics topic)) _ (λ _. gives_found (LeavesBrokers image) NoPartition (entries.get partition_order image.partitions (topic, index)) _ (λ old _. gives_refuse (LeavesBrokers image) BadPartition (not (is_well_formed (merged old change))) _ (λ _. gives_done (LeavesBrokers image) _ refl)))
+one_leaves image (kinds.RemoveTopic topic) is = gives_found (LeavesBrokers image) NoTopic (topic_name image.topics topic) _ (λ _ _. gives_done (LeavesBrokers image) _ refl)
+one_leaves image (kinds.FeatureLevel name level) is =
+    gives_refuse (LeavesBrokers image) BadNumber (int_lt level (pos 0)) _ (λ _. gives_refuse (LeavesBrokers image) Limit (nat_lt LONGEST_FEATURE (length name) || (not (int_eq level (pos 0)) && entries.is_full text_order MOST_FEATURES image.features name)) _ (λ _. gives_if (LeavesBrokers image) (int_eq level (pos 0)) _ _ (λ _. gives_done (LeavesBrokers image) _ refl) (λ _. gives_done (LeavesBrokers image) _ refl)))
+one_leaves image kinds.NoOp is = gives_done (LeavesBrokers image) _ refl
+
+pub all_leave : (image : Image) (records : List Record) → are_brokerless records ≡ true → Gives (LeavesBrokers image) (apply_records image records)
+all_leave image [] are = gives_done (LeavesBrokers image) image refl
+all_leave image (r ∷ records) are =
+    let parts = and_parts (is_brokerless r) (are_brokerless records) are in
+    gives_then (LeavesBrokers image) (LeavesBrokers image) (apply.apply_record image r) (λ after. apply_records after records) (one_leaves image r parts.0) (λ mid same after is. all_leave mid records parts.1 after is ∙ same)
+
+-- ---- which records aren't about brokers
+
+pub changes_are : (change : Walked → Option PartitionChange) (ws : List Walked) → are_brokerless (changes_of change ws) ≡ true
+changes_are change [] = refl
+changes_are change (w ∷ ws) =
+    elim (change w) as (λ o. are_brokerless (cons_option (option_map (λ c. kinds.PartitionChange w.key.1 w.key.0 c) o) (changes_of change ws)) ≡ true) [
+      | None ↦ changes_are change ws
+      | Some c ↦ changes_are change ws
+    ]
+
+change_is : (id : ℕ) (index : ℤ) (change : Option PartitionChange) → are_brokerless (change_records id index change) ≡ true
+change_is id index None = refl
+change_is id index (Some change) = refl
+
+partitions_are : (image : Image) (id first : ℕ) (lists : List (List ℤ)) → are_brokerless (new_partitions image id first lists) ≡ true
+partitions_are image id first [] = refl
+partitions_are image id first (replicas ∷ lists) = partitions_are image id (suc first) lists
+
+settings_are : (configs : List (ConfigKey × List ℕ)) (topic : List ℕ) (settings : List CreatableTopicConfig) → are_brokerless (creating.settings_records configs topic settings) ≡ true
+settings_are configs topic [] = refl
+settings_are configs topic (setting ∷ settings) =
+    let key : ConfigKey = record { kind = pos 2; name = topic; key = setting.name } in
+    let value : List ℕ = unwrap_or setting.value [] in
+    let next = creating.settings_records (entries.insert config_order configs key value) topic settings in
+    elim (option_map_or (bytes_eq value) (entries.get config_order configs key) false) as (λ b. are_brokerless (cond b (creating.settings_records configs topic settings) (kinds.Config (pos 2) topic setting.name (Some value) ∷ next)) ≡ true) [
+      | true ↦ settings_are configs topic settings
+      | false ↦ settings_are (entries.insert config_order configs key value) topic settings
+    ]
+
+values_are : (image : Image) (entry : ConfigResource) (values : configuring.Values) → are_brokerless (filter_map (configuring.config_record image entry) values) ≡ true
+values_are image entry [] = refl
+values_are image entry (v ∷ values) =
+    elim (configuring.is_same_value v.1 (entries.get config_order image.configs (configuring.key_of entry v.0))) as (λ b. are_brokerless (cons_option (cond b None (Some (kinds.Config entry.kind entry.name v.0 v.1))) (filter_map (configuring.config_record image entry) values)) ≡ true) [
+      | true ↦ values_are image entry values
+      | false ↦ values_are image entry values
+    ]
+
+both_are : (xs ys : List Record) → are_brokerless xs ≡ true → are_brokerless ys ≡ true → are_brokerless (xs ++ ys) ≡ true
+both_are xs ys a b = list_all-append is_brokerless xs ys ∙ and_from (are_brokerless xs) (are_brokerless ys) a b
+
+-- ---- the rules
+
+abbrev pub IsBrokerless : {A : Type 0} → Draft A → Type 0
+IsBrokerless draft = are_brokerless draft.records ≡ true
+
+-- a rule gives no record about a broker
+abbrev pub AreBrokerless : {E A : Type 0} → (Image → ℤ → E → Result (Draft A) ℤ) → Type 0
+AreBrokerless rule = (image : Image) (place : ℤ) (entry : _) → Gives IsBrokerless (rule image place entry)
+
+pub creates : (options : Options) (validate_only : Bool) → AreBrokerless (creating.rule options validate_only)
+creates options validate_only image place entry =
+    gives_refuse IsBrokerless (pos 17) (not (is_topic_name entry.name)) _ (λ _. gives_refuse IsBrokerless (pos 36) (entries.contains text_order image.topics entry.name) _ (λ _. gives_refuse IsBrokerless (pos 17) (list_any (λ topic. names_agree topic.0 entry.name) image.topics) _ (λ _.
+    gives_then (λ _. Unit {0}) IsBrokerless (creating.layout options image place entry) (creating.of_layout options validate_only image place entry) (λ _ _. tt) (λ layout _.
+    gives_refuse IsBrokerless (pos 40) (list_any creating.is_bad_setting entry.configs) _ (λ _. gives_done IsBrokerless (creating.created image validate_only (creating.new_id options image place) entry layout)
+    (both_are (creating.settings_records image.configs entry.name entry.configs) (new_partitions image (creating.new_id options image place) 0 layout.replicas)
+    (settings_are image.configs entry.name entry.configs) (partitions_are image (creating.new_id options image place) 0 layout.replicas)))))))
+
+deletes_named : (image : Image) (name : Option (List ℕ)) (id : ℕ) → Gives IsBrokerless (deleting.by_name_or_id image name id)
+deletes_named image (Some name) id = gives_found IsBrokerless (pos 3) (entries.get text_order image.topics name) _ (λ _ _. gives_done IsBrokerless _ refl)
+deletes_named image None id = gives_found IsBrokerless (pos 100) (topic_name image.topics id) _ (λ _ _. gives_done IsBrokerless _ refl)
+
+pub deletes : AreBrokerless deleting.rule
+deletes image place entry = gives_refuse IsBrokerless (pos 42) _ _ (λ _. deletes_named image entry.name entry.topic)
+
+pub grows : AreBrokerless growing.rule
+grows image place entry =
+    gives_found IsBrokerless (pos 3) (entries.get text_order image.topics entry.name) _ (λ id _. let first = count_of image id in
+    gives_refuse IsBrokerless (pos 37) _ _ (λ _. gives_found IsBrokerless (pos 39) (entries.get partition_order image.partitions (id, pos 0)) _ (λ p _.
+    gives_then (λ _. Unit {0}) IsBrokerless (growing.new_replicas image place first (unsigned_abs entry.count - first) (length (target p)) entry.assignments) _ (λ _ _. tt) (λ lists _. gives_done IsBrokerless (growing.grown image id first entry lists) (partitions_are image id first lists)))))
+
+drafted_is : (broker : ℤ) (entry : reporting.Entry) (p : Partition) (o : Option PartitionChange) → IsBrokerless (reporting.drafted broker entry p o)
+drafted_is broker entry p None = refl
+drafted_is broker entry p (Some change) = refl
+
+pub reports : (options : Options) (broker : ℤ) → AreBrokerless (reporting.rule options broker)
+unfolding reporting.of_partition reporting.accepted
+reports options broker image place entry =
+    gives_found IsBrokerless (pos 100) (topic_name image.topics entry.0) _ (λ name _. gives_found IsBrokerless (pos 3) (entries.get partition_order image.partitions (entry.0, entry.1.index)) _ (λ p _.
+    gives_refuse IsBrokerless (pos 74) (int_lt entry.1.leader_epoch p.leader_epoch) _ (λ _. gives_refuse IsBrokerless (pos 75) (int_lt p.leader_epoch entry.1.leader_epoch) _ (λ _. gives_refuse IsBrokerless (pos 95) (not (int_eq entry.1.partition_epoch p.partition_epoch)) _ (λ _. gives_refuse IsBrokerless (pos 42) (reporting.is_bad broker p entry.1) _ (λ _. gives_refuse IsBrokerless (pos 107) (not (list_all (reporting.is_ready image) entry.1.in_sync)) _ (λ _.
+    gives_done IsBrokerless (reporting.drafted broker entry p (built p (reporting.wanted p entry.1) (facts_of options image name))) (drafted_is broker entry p (built p (reporting.wanted p entry.1) (facts_of options image name))))))))))
+
+elects_one : (options : Options) (kind : ℤ) (image : Image) (entry : electing.Entry) (id : ℕ) (p : Partition) → Gives IsBrokerless (electing.of_partition options kind image entry id p)
+elects_one options kind image entry id p =
+    gives_if IsBrokerless (electing.is_preferred_kind kind) (electing.prefers options image entry id p) (electing.elects_any options image entry id p)
+    (λ _. gives_refuse IsBrokerless (pos 84) (int_eq p.leader (electing.first_replica p)) _ (λ _. gives_refuse IsBrokerless (pos 80) (not (has p.in_sync (electing.first_replica p) && has (active image) (electing.first_replica p))) _ (λ _. gives_done IsBrokerless _ (change_is id entry.1 (built p (electing.in_mode p modes.Preferred) (facts_of options image entry.0))))))
+    (λ _. gives_refuse IsBrokerless (pos 84) (not (int_eq p.leader (negsuc 0))) _ (λ _. gives_refuse IsBrokerless (pos 83) (electing.finds_nobody options image entry p) _ (λ _. gives_done IsBrokerless _ (change_is id entry.1 (built p (electing.in_mode p modes.Unclean) (facts_of options image entry.0))))))
+
+pub elects : (options : Options) (kind : ℤ) → AreBrokerless (electing.rule options kind)
+elects options kind image place entry =
+    gives_found IsBrokerless (pos 3) (entries.get text_order image.topics entry.0) _ (λ id _. gives_found IsBrokerless (pos 3) (entries.get partition_order image.partitions (id, entry.1)) _ (λ p _. elects_one options kind image entry id p))
+
+pub reassigns : (options : Options) → AreBrokerless (reassigning.rule options)
+reassigns options image place entry =
+    gives_found IsBrokerless (pos 3) (entries.get text_order image.topics entry.0) _ (λ id _. gives_found IsBrokerless (pos 3) (entries.get partition_order image.partitions (id, entry.1.index)) _ (λ p _.
+    gives_then (λ _. Unit {0}) IsBrokerless (reassigning.wanted image p entry.1.replicas) _ (λ _ _. tt) (λ want _. gives_refuse IsBrokerless (pos 39) (reassigning.loses_all image entry.0 p want) _ (λ _. gives_done IsBrokerless _ (change_is id entry.1.index (built p want (facts_of options image entry.0)))))))
+
+pub configures : (options : Options) → AreBrokerless (configuring.rule options)
+configures options image place entry =
+    gives_refuse IsBrokerless (pos 42) (not (configuring.is_topic_kind entry || configuring.is_broker_kind entry)) _ (λ _. gives_refuse IsBrokerless (pos 3) (configuring.is_topic_kind entry && not (entries.contains text_order image.topics entry.name)) _ (λ _. gives_refuse IsBrokerless (pos 42) (configuring.is_broker_kind entry && not (is_broker_name entry.name)) _ (λ _.
+    gives_then (λ _. Unit {0}) IsBrokerless (configuring.after_operations image entry [] entry.configs) (λ (values : configuring.Values). Ok (record { records = configuring.resource_records options image entry values; answer = refused_resource (pos 0) entry })) (λ _ _. tt) (λ values _.
+    let after : Image = record image { configs = configuring.with_values image.configs entry values } in
+    let relieved = changes_of (configuring.relief options image after) (walk image) in
+    gives_done IsBrokerless (record { records = configuring.resource_records options image entry values; answer = refused_resource (pos 0) entry }) (both_are (filter_map (configuring.config_record image entry) values) relieved (values_are image entry values) (changes_are (configuring.relief options image after) (walk image)))))))

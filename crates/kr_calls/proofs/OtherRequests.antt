@@ -1,0 +1,79 @@
+-- Requests that aren't a broker's own leave the brokers and who is heard of.
+use Rattle.std.proofs.Common.{◌≡◌, ◌∙◌, ℤ, false, List, refl, not}
+use Rattle.std.specs.Prelude.{Result}
+use Rattle.kr_defs.specs.declared.basis.Basis.{Basis}
+use Rattle.kr_defs.specs.declared.options.Options.{Options}
+use Rattle.kr_defs.specs.Image.{Image}
+use Rattle.kr_calls.specs.declared.calls.Request.{Request}
+use Rattle.kr_calls.specs.declared.calls.Request.TheVariants as requests
+use Rattle.kr_calls.specs.declared.deciding.Draft.{Draft}
+use Rattle.kr_calls.specs.Deciding.{Work, begun}
+use Rattle.kr_calls.specs.Decide.{work_of}
+use Rattle.kr_calls.specs.NextBasis.{heartbeats_after}
+use Rattle.kr_calls.specs.NextBasisLaws.{OtherRequestsLeaveBrokers, is_of_a_broker}
+use Rattle.kr_calls.specs.Refuse.{refused_creation, refused_deletion, refused_growth, refused_resource}
+use Rattle.kr_calls.specs.AlterPartition as reporting
+use Rattle.kr_calls.specs.AlterPartitionReassignments as reassigning
+use Rattle.kr_calls.specs.CreatePartitions as growing
+use Rattle.kr_calls.specs.CreateTopics as creating
+use Rattle.kr_calls.specs.DeleteTopics as deleting
+use Rattle.kr_calls.specs.ElectLeaders as electing
+use Rattle.kr_calls.specs.IncrementalAlterConfigs as configuring
+use Rattle.kr_calls.proofs.BrokersLeft.{AreBrokerless, all_leave, creates, deletes, grows, reports, elects, reassigns, configures}
+use Rattle.kr_calls.proofs.KeptByRequests.{Keeps, all_keep, groups_keep, validated_keep, chosen_keep, any_entry, any_groups}
+
+module _ (image : Image) where
+  abbrev I : Work → Type 0
+  I w = w.image.brokers ≡ image.brokers
+
+  keeps : {E A : Type 0} (refused : ℤ → E → A) (rule : Image → ℤ → E → Result (Draft A) ℤ) → AreBrokerless rule → Keeps refused rule I (λ _. Unit {0})
+  keeps refused rule are w entry is so_far draft gives after by = all_leave w.image draft.records (are w.image w.place entry draft gives) after.image by.applied ∙ so_far
+
+  all : {E A : Type 0} (refused : ℤ → E → A) (rule : Image → ℤ → E → Result (Draft A) ℤ) → AreBrokerless rule → (place : ℤ) (entries : List E) → I (Rattle.kr_calls.specs.Deciding.after_all refused rule (begun place image) entries)
+  all refused rule are place entries = all_keep refused rule I (λ _. Unit {0}) (keeps refused rule are) (begun place image) entries (any_entry entries) refl
+
+  groups : {E A G B : Type 0} (refused : ℤ → E → A) (rule : Image → ℤ → E → Result (Draft A) ℤ) → AreBrokerless rule → (entries_of : G → List E) (answer_of : G → List A → B) (place : ℤ) (those : List G) → I (Rattle.kr_calls.specs.Deciding.after_groups refused rule entries_of answer_of (begun place image) those)
+  groups refused rule are entries_of answer_of place those =
+      groups_keep refused rule I (λ _. Unit {0}) entries_of answer_of (keeps refused rule are) (begun place image) those (any_groups entries_of those) refl
+
+registered : (options : Options) (basis : Basis) (image : Image) (place : ℤ) (request : Request) → is_of_a_broker request ≡ false → I image (work_of options basis image place request).0
+unfolding work_of creating.decided deleting.decided growing.decided reporting.decided electing.decided reassigning.decided configuring.decided
+registered options basis image place (requests.BrokerRegistration q) other = absurd cc
+registered options basis image place (requests.BrokerHeartbeat q) other = absurd cc
+registered options basis image place (requests.UnregisterBroker q) other = absurd cc
+registered options basis image place (requests.CreateTopics q) other =
+    validated_keep (I image) q.validate_only (begun place image) _ refl (all image refused_creation (creating.rule options q.validate_only) (creates options q.validate_only) place q.topics)
+registered options basis image place (requests.DeleteTopics q) other = all image refused_deletion deleting.rule deletes place q.topics
+registered options basis image place (requests.CreatePartitions q) other =
+    validated_keep (I image) q.validate_only (begun place image) _ refl (all image refused_growth growing.rule grows place q.topics)
+registered options basis image place (requests.AlterPartition q) other =
+    chosen_keep (I image) (reporting.is_stale image q) _ _ refl (groups image reporting.refused (reporting.rule options q.broker) (reports options q.broker) reporting.entries_of reporting.answer_of place q.topics)
+registered options basis image place (requests.ElectLeaders q) other =
+    chosen_keep (I image) (not (electing.is_kind q.kind)) _ _ refl (groups image electing.answer (electing.rule options q.kind) (elects options q.kind) electing.entries_of electing.answer_of place (electing.groups_of image q.topics))
+registered options basis image place (requests.AlterPartitionReassignments q) other =
+    groups image reassigning.answer (reassigning.rule options) (reassigns options) reassigning.entries_of reassigning.answer_of place q.topics
+registered options basis image place (requests.IncrementalAlterConfigs q) other =
+    validated_keep (I image) q.validate_only (begun place image) _ refl (all image refused_resource (configuring.rule options) (configures options) place q.resources)
+registered options basis image place (requests.ListPartitionReassignments q) other = refl
+registered options basis image place (requests.Metadata q) other = refl
+
+heard_of : (h : Rattle.kr_defs.specs.Heartbeats.Heartbeats) (before after : Image) (now place : ℤ) (request : Request) (reply : Rattle.kr_calls.specs.declared.calls.Reply.Reply) → is_of_a_broker request ≡ false → heartbeats_after h before after now place request reply ≡ h
+unfolding heartbeats_after
+heard_of h before after now place (requests.BrokerRegistration q) reply other = absurd cc
+heard_of h before after now place (requests.BrokerHeartbeat q) reply other = absurd cc
+heard_of h before after now place (requests.UnregisterBroker q) reply other = absurd cc
+heard_of h before after now place (requests.CreateTopics q) reply other = refl
+heard_of h before after now place (requests.DeleteTopics q) reply other = refl
+heard_of h before after now place (requests.CreatePartitions q) reply other = refl
+heard_of h before after now place (requests.AlterPartition q) reply other = refl
+heard_of h before after now place (requests.ElectLeaders q) reply other = refl
+heard_of h before after now place (requests.AlterPartitionReassignments q) reply other = refl
+heard_of h before after now place (requests.IncrementalAlterConfigs q) reply other = refl
+heard_of h before after now place (requests.ListPartitionReassignments q) reply other = refl
+heard_of h before after now place (requests.Metadata q) reply other = refl
+
+pub others_leave : OtherRequestsLeaveBrokers
+others_leave options basis image place request other = record {
+  registered = registered options basis image place request other;
+  heard_of = heard_of _ image _ basis.time place request _ other;
+}
