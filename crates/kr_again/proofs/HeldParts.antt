@@ -1,6 +1,6 @@
 -- Numbers that stand in bytes fit their types, and texts are UTF-8.
 use Rattle.std.proofs.Common.{◌≡◌, ℕ, ◌^◌, ◌<◌, ◌≤◌, true, false, cond, List, [], Option, Some, None, sym, subst, arith, lit<, lit≤}
-use Rattle.std.specs.Prelude.{ℤ, pos, FitsSigned, IsUtf8}
+use Rattle.std.specs.Prelude.{ℤ, pos, FitsSigned, IsUtf8, IfSome}
 use Rattle.std.specs.Option.{unwrap_or}
 use Rattle.std.specs.Ordering.{int_eq}
 use Rattle.std.specs.Int.{Width, w8, w16, w32, w64, w128}
@@ -9,7 +9,7 @@ use Rattle.std.proofs.Math.Facts.{sfits_to_z}
 use mir.Val.{bits, Fits}
 use Rattle.kr_wire.specs.Laws.{IsBytes}
 use Rattle.kr_wire.specs.Grammar.{◌⌢◌, IsNumber, IsSigned, IsId, IsText, IsTextOrNull}
-use Rattle.kr_record.specs.Held.{IsUtf8OrNone, AreInts, AreIntsOrNone, IsIntOrNone, IsByteOrNone}
+use Rattle.kr_record.specs.Held.{AreInts}
 use Rattle.kr_record.specs.Grammar.{no_leader_change, no_recovery_change, unless, IsIds, IsIdsOrNull, IsIdsOrEmpty, IsUnless}
 use Rattle.kr_again.proofs.Follows.{Follows, nothing, ◌and◌, list_follows}
 
@@ -56,18 +56,18 @@ id_held n = record {
 pub text_held : (t : List ℕ) → Follows false (IsText t) (IsUtf8 t)
 text_held t = record { from = λ bytes is fit. is.utf8 }
 
-pub text_or_null_held : (o : Option (List ℕ)) → Follows false (IsTextOrNull o) (IsUtf8OrNone o)
+pub text_or_null_held : (o : Option (List ℕ)) → Follows false (IsTextOrNull o) (IfSome o IsUtf8)
 text_or_null_held None = nothing
 text_or_null_held (Some t) = text_held t
 
 pub ids_held : (xs : List ℤ) → Follows false (IsIds xs) (AreInts xs)
 ids_held xs = list_follows int32 xs
 
-pub ids_or_null_held : (o : Option (List ℤ)) → Follows false (IsIdsOrNull o) (AreIntsOrNone o)
+pub ids_or_null_held : (o : Option (List ℤ)) → Follows false (IsIdsOrNull o) (IfSome o AreInts)
 ids_or_null_held None = nothing
 ids_or_null_held (Some xs) = ids_held xs
 
-listed_held : (o : Option (List ℤ)) → AreIntsOrNone o → AreInts (unwrap_or o [])
+listed_held : (o : Option (List ℤ)) → IfSome o AreInts → AreInts (unwrap_or o [])
 listed_held None are = All-nil _
 listed_held (Some xs) are = are
 
@@ -86,11 +86,11 @@ module _ (Fit : Option ℤ → Type 0) (none : Fit None) (default : ℤ) where
     from = λ bytes is fit. subst Fit (sym is.is) (unless_fits is.n (some is.n ((signed_held w is.n few).from bytes is.spelled fit)));
   }
 
-pub leader_held : (o : Option ℤ) → Follows false (IsUnless w32 no_leader_change o) (IsIntOrNone o)
-leader_held o = unless_held IsIntOrNone tt no_leader_change w32 o (lit≤ tt) (λ n fits. fits)
+pub leader_held : (o : Option ℤ) → Follows false (IsUnless w32 no_leader_change o) (IfSome o (FitsSigned w32))
+leader_held o = unless_held (λ o. IfSome o (FitsSigned w32)) tt no_leader_change w32 o (lit≤ tt) (λ n fits. fits)
 
-pub recovery_held : (o : Option ℤ) → Follows false (IsUnless w8 no_recovery_change o) (IsByteOrNone o)
-recovery_held o = unless_held IsByteOrNone tt no_recovery_change w8 o (lit≤ tt) (λ n fits. fits)
+pub recovery_held : (o : Option ℤ) → Follows false (IsUnless w8 no_recovery_change o) (IfSome o (FitsSigned w8))
+recovery_held o = unless_held (λ o. IfSome o (FitsSigned w8)) tt no_recovery_change w8 o (lit≤ tt) (λ n fits. fits)
 
 -- ---- what a field that is absent has
 
@@ -100,8 +100,8 @@ no_number Fit o none is = subst Fit (sym is) none
 pub no_ids : (xs : List ℤ) → xs ≡ [] → AreInts xs
 no_ids xs none = subst AreInts (sym none) (All-nil _)
 
-pub no_list : (o : Option (List ℤ)) → o ≡ None → AreIntsOrNone o
-no_list o none = subst AreIntsOrNone (sym none) tt
+pub no_list : (o : Option (List ℤ)) → o ≡ None → IfSome o AreInts
+no_list o none = subst (λ o. IfSome o AreInts) (sym none) tt
 
 pub zero_held : (n : ℤ) → n ≡ pos 0 → FitsSigned w8 n
 zero_held n none = subst (FitsSigned w8) (sym none) (record { sfits = lit< tt })

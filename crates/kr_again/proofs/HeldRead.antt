@@ -1,6 +1,6 @@
 -- A record that stands in bytes has numbers that fit their types, and texts of UTF-8.
 use Rattle.std.proofs.Common.{ℕ, ◌^◌, ◌<◌, false, List, Option, lit≤}
-use Rattle.std.specs.Prelude.{ℤ, FitsSigned, IsUtf8, nat_le}
+use Rattle.std.specs.Prelude.{ℤ, FitsSigned, IsUtf8, nat_le, IfSome}
 use Rattle.std.specs.Int.{w8, w16, w32, w64}
 use Rattle.kr_defs.specs.declared.broker.Broker.{Broker}
 use Rattle.kr_defs.specs.declared.broker.Endpoint.{Endpoint}
@@ -11,7 +11,7 @@ use Rattle.kr_defs.specs.declared.record.Record.{Record}
 use Rattle.kr_defs.specs.declared.record.Record.TheVariants as kinds
 use Rattle.kr_wire.specs.Laws.{IsBytes}
 use Rattle.kr_wire.specs.Grammar.{IsTags}
-use Rattle.kr_record.specs.Held.{AreInts, IsIntOrNone, IsByteOrNone, IsHeldEndpoint, IsHeldRange, IsHeldBroker, IsHeldPartition, IsHeldChange, IsHeldConfig, IsHeld}
+use Rattle.kr_record.specs.Held.{AreInts, IsHeldEndpoint, IsHeldRange, IsHeldBroker, IsHeldPartition, IsHeldChange, IsHeldConfig, IsHeld}
 use Rattle.kr_record.specs.declared.flags.Flags.{Flags}
 use Rattle.kr_record.specs.Grammar.{IsEndpoint, IsRange, IsRegistration, IsBrokerEpoch, IsTopic, IsTopicId, AreExtras, extras_of, IsPartition, IsConfig, AreChanges, IsChange, IsFeature, AreFlags, IsRegistrationChange, IsLayout, IsRecord}
 use Rattle.kr_again.proofs.Follows.{Follows, nothing, ◌and◌, then, list_follows, tags_follow, if_tagged, if_since}
@@ -85,8 +85,8 @@ changes_held version c = tags_follow (λ fields known is. record {
   adding = if_tagged fields known 4 (ids_or_null_held c.adding) (no_list c.adding) is.adding;
   eligible = if_since fields known 6 (ids_or_null_held c.eligible) (no_list c.eligible) (nat_le 2 version) is.eligible;
   last_known = if_since fields known 7 (ids_or_null_held c.last_known) (no_list c.last_known) (nat_le 2 version) is.last_known;
-  leader = if_tagged fields known 1 (leader_held c.leader) (no_number IsIntOrNone c.leader tt) is.leader;
-  recovery = if_tagged fields known 5 (recovery_held c.recovery) (no_number IsByteOrNone c.recovery tt) is.recovery;
+  leader = if_tagged fields known 1 (leader_held c.leader) (no_number (λ o. IfSome o (FitsSigned w32)) c.leader tt) is.leader;
+  recovery = if_tagged fields known 5 (recovery_held c.recovery) (no_number (λ o. IfSome o (FitsSigned w8)) c.recovery tt) is.recovery;
 })
 
 change_held : (version : ℕ) (index : ℤ) (topic : ℕ) (c : PartitionChange) → Follows false (IsChange version (index, topic, c)) (FitsSigned w32 index × ((topic < 2 ^ 128) × IsHeldChange c))

@@ -1,6 +1,6 @@
 -- A record that stands in fewer than 2^31 bytes has a written form.
 use Rattle.std.proofs.Common.{◌≡◌, ℕ, ◌+◌, ◌*◌, ◌^◌, ◌<◌, ◌≤◌, Bool, true, false, cond, List, [], ◌∷◌, length, Option, Some, None, refl, sym, ap, subst, ◌∙◌, arith, lit<}
-use Rattle.std.specs.Prelude.{ℤ, ◌≢◌, nat_le}
+use Rattle.std.specs.Prelude.{ℤ, ◌≢◌, nat_le, IfSome}
 use Rattle.std.specs.Option.{unwrap_or}
 use Rattle.std.specs.Ordering.{int_eq}
 use Rattle.std.specs.Int.{Width, w8, w32}
@@ -14,7 +14,7 @@ use Rattle.kr_defs.specs.declared.partition.PartitionChange.{PartitionChange}
 use Rattle.kr_defs.specs.declared.record.Record.{Record}
 use Rattle.kr_defs.specs.declared.record.Record.TheVariants as kinds
 use Rattle.kr_wire.specs.Grammar.{◌⌢◌, IsUvarint, IsSigned, IsText, IsTextOrNull, Each, IsList, IsTags}
-use Rattle.kr_record.specs.Encodable.{IsShort, IsShortOrNone, FitsField, FitsFieldOrNone, IsShortEndpoint, IsShortRange, IsShortBroker, IsShortPartition, IsSpelledChange, IsShortConfig, IsEncodable}
+use Rattle.kr_record.specs.Encodable.{IsShort, FitsField, IsShortEndpoint, IsShortRange, IsShortBroker, IsShortPartition, IsSpelledChange, IsShortConfig, IsEncodable}
 use Rattle.kr_record.specs.Grammar.{no_leader_change, no_recovery_change, unless, IsIds, IsIdsOrNull, IsIdsOrEmpty, IsUnless, IsEndpoint, IsRange, IsRegistration, IsTopic, AreExtras, extras_of, IsPartition, IsConfig, AreChanges, IsChange, IsFeature, IsLayout, IsRecord}
 use Rattle.kr_again.proofs.Follows.{Follows, nothing, ◌and◌, then, list_follows, tags_follow, if_tagged, if_since}
 
@@ -59,7 +59,7 @@ some_before bytes is first = omega (arith, first is.left is.first, length-append
 text_short : (t : List ℕ) → Follows true (IsText t) (IsShort t)
 text_short t = record { from = λ bytes is few. omega (arith, some_text t bytes is) }
 
-text_or_null_short : (o : Option (List ℕ)) → Follows true (IsTextOrNull o) (IsShortOrNone o)
+text_or_null_short : (o : Option (List ℕ)) → Follows true (IsTextOrNull o) (IfSome o IsShort)
 text_or_null_short None = nothing
 text_or_null_short (Some t) = text_short t
 
@@ -69,11 +69,11 @@ ids_fit xs = record { from = λ bytes is few. omega (arith, some_ids xs bytes is
 ids_short : (xs : List ℤ) → Follows true (IsIds xs) (IsShort xs)
 ids_short xs = then (ids_fit xs) (λ fits. omega arith)
 
-ids_or_null_fit : (o : Option (List ℤ)) → Follows true (IsIdsOrNull o) (FitsFieldOrNone o)
+ids_or_null_fit : (o : Option (List ℤ)) → Follows true (IsIdsOrNull o) (IfSome o FitsField)
 ids_or_null_fit None = nothing
 ids_or_null_fit (Some xs) = ids_fit xs
 
-listed_fit : (o : Option (List ℤ)) → FitsFieldOrNone o → FitsField (unwrap_or o [])
+listed_fit : (o : Option (List ℤ)) → IfSome o FitsField → FitsField (unwrap_or o [])
 listed_fit None fits = lit< tt
 listed_fit (Some xs) fits = fits
 
@@ -156,8 +156,8 @@ config_short kind name key value = then
     (nothing and text_short name and text_short key and text_or_null_short value and nothing)
     (λ p. record { short_name = p.1.0; short_key = p.1.1.0; short_value = p.1.1.1.0 })
 
-none_fits : (o : Option (List ℤ)) → o ≡ None → FitsFieldOrNone o
-none_fits o none = subst FitsFieldOrNone (sym none) tt
+none_fits : (o : Option (List ℤ)) → o ≡ None → IfSome o FitsField
+none_fits o none = subst (λ o. IfSome o FitsField) (sym none) tt
 
 changes_spelled : (version : ℕ) (c : PartitionChange) → Follows true (IsTags (AreChanges version c)) (IsSpelledChange c)
 changes_spelled version c = tags_follow (λ fields known is. record {

@@ -11,7 +11,9 @@ ghost use Rattle.kr_batch.specs.Written.{IsHeldItem, IsWritable, batch_bytes, ch
 use crate::{Batch, crc32c};
 use kr_base::NoMemory;
 use kr_defs::Item;
-use kr_wire::{put_i8, put_i16, put_i32, put_i64, put_u32, put_uvarint, put_varint, put_varlong};
+use kr_wire::{
+    put_both, put_i8, put_i16, put_i32, put_i64, put_u32, put_uvarint, put_varint, put_varlong,
+};
 use std::alloc::AllocError;
 
 /// Appends the batch. Without memory nothing changes.
@@ -32,20 +34,6 @@ pub fn encode(batch: &Batch, out: &mut Vec<u8>) -> Result<(), NoMemory>
     let size = size_with(batch, &checked);
     put_head(batch.base, size, batch.epoch, crc32c(&checked), &mut head)?;
     put_both(out, &head, &checked)?;
-    Ok(())
-}
-
-// Both, or neither.
-fn put_both(out: &mut Vec<u8>, first: &[u8], second: &[u8]) -> Result<(), AllocError>
-    ensures ok { OnOk result (out.new.items ≡ out.old.items ++ (first.now ++ second.now)) }
-    ensures err { OnErr result (out.new.items ≡ out.old.items) }
-{
-    let before = out.len();
-    out.extend_from_slice(first)?;
-    if let Err(refused) = out.extend_from_slice(second) {
-        out.truncate(before);
-        return Err(refused);
-    }
     Ok(())
 }
 

@@ -1,24 +1,11 @@
 //! The frame of a record in a batch.
 
-ghost use Rattle.std.specs.Prelude.{◌≡◌, ◌+◌, ◌≤◌, length, drop, slice_range, IfOk, MatchResult, Ok, Err};
-ghost use Rattle.kr_wire.specs.Reading.{Reads, piece_at};
+ghost use Rattle.std.specs.Prelude.{◌≡◌, ◌+◌, ◌≤◌, length, drop, MatchResult, Ok, Err};
+ghost use Rattle.kr_wire.specs.Reading.{Reads};
 ghost use Rattle.kr_batch.specs.Grammar;
 ghost use Rattle.kr_batch.specs.Reading.{body_at, body_of, frame_at, key_at, sized_at};
 
-use kr_wire::{WireFault, read_varint, read_varlong};
-
-// So many bytes.
-pub fn read_piece(bytes: &[u8], at: usize, len: usize) -> Result<(&[u8], usize), WireFault>
-    requires { at ≤ length bytes.now }
-    ensures read { Reads (λ s. s.now) result bytes.now (piece_at len (drop at bytes.now)) }
-    ensures at { IfOk result (λ x. (x.1 ≡ at + len) × (x.0.now ≡ slice_range bytes.now at x.1)) }
-{
-    if bytes.len() - at < len {
-        return Err(WireFault::Short);
-    }
-    let end = at + len;
-    Ok((&bytes[at..end], end))
-}
+use kr_wire::{WireFault, piece, read_varint, read_varlong};
 
 fn natural(size: i32) -> usize
     ensures { result ≡ Grammar.natural size }
@@ -35,8 +22,8 @@ fn read_sized(bytes: &[u8], at: usize) -> Result<(&[u8], usize), WireFault>
     if size < 0 {
         return Err(WireFault::Short);
     }
-    let (piece, end) = read_piece(bytes, next, natural(size))?;
-    Ok((piece, end))
+    let (found, end) = piece(bytes, next, natural(size))?;
+    Ok((found, end))
 }
 
 #[tactic(auto, unfolding(crate::specs::Reading::key_at))]
@@ -45,15 +32,15 @@ fn read_key(bytes: &[u8], at: usize) -> Result<(&[u8], usize), WireFault>
     ensures { Reads (λ s. s.now) result bytes.now (key_at (drop at bytes.now)) }
 {
     let (size, next) = read_varint(bytes, at)?;
-    let (piece, end) = read_piece(bytes, next, natural(size))?;
-    Ok((piece, end))
+    let (found, end) = piece(bytes, next, natural(size))?;
+    Ok((found, end))
 }
 
 #[tactic(auto, unfolding(crate::specs::Reading::body_at))]
 fn read_body(bytes: &[u8]) -> Result<((i32, &[u8]), usize), WireFault>
     ensures { Reads (λ f. (f.0, f.1.now)) result bytes.now (body_at bytes.now) }
 {
-    let (_attributes, next) = read_piece(bytes, 0, 1)?;
+    let (_attributes, next) = piece(bytes, 0, 1)?;
     let (_timestamp, next) = read_varlong(bytes, next)?;
     let (delta, next) = read_varint(bytes, next)?;
     let (_key, next) = read_key(bytes, next)?;

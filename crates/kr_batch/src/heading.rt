@@ -8,9 +8,8 @@ ghost use Rattle.kr_batch.specs.Reading.{fixed_at, place_of, start_at, sum_at, s
 
 use crate::crc32c;
 use crate::fault::BatchFault;
-use crate::framing::read_piece;
 use kr_defs::limits::MOST_RECORDS;
-use kr_wire::{read_i8, read_i32, read_i64, read_u16, read_u32};
+use kr_wire::{piece, read_i8, read_i32, read_i64, read_u16, read_u32};
 
 /// The base, and all that follows the size.
 #[tactic(auto, unfolding(crate::specs::Reading::place_of))]
@@ -89,7 +88,7 @@ pub fn read_fixed(bytes: &[u8]) -> Result<((bool, i64, u32), &[u8]), BatchFault>
     }
     let (delta, next) = read_u32(bytes, next)?;
     let (time, next) = read_i64(bytes, next)?;
-    let (_skipped, next) = read_piece(bytes, next, 22)?;
+    let (_skipped, next) = piece(bytes, next, 22)?;
     let (count, next) = read_u32(bytes, next)?;
     if !is_count(count, delta) {
         return Err(BatchFault::BadCount {

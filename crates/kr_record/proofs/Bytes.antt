@@ -1,6 +1,6 @@
 -- What is written of a record is bytes.
 use Rattle.std.proofs.Common.{◌≡◌, ℕ, ◌<◌, List, [], ◌∷◌, length, Option, Some, None, arith, lit<}
-use Rattle.std.specs.Prelude.{ℤ, IsUtf8}
+use Rattle.std.specs.Prelude.{ℤ, IsUtf8, IfSome}
 use Rattle.std.specs.List.{AllByRecursion}
 use Rattle.std.specs.Int.{w8, w16, w32, w64}
 use Rattle.std.proofs.lemmas.List.{length-map}
@@ -14,8 +14,8 @@ use Rattle.kr_defs.specs.declared.record.Record.TheVariants as kinds
 use Rattle.kr_wire.specs.Laws.{IsBytes}
 use Rattle.kr_wire.specs.Spelling.{id, text_or_null, list}
 use Rattle.kr_wire.proofs.SpelledBytes.{OfBytes, ◌and◌, number_fits, signed_fits, bool_fits, id_fits, uvarint_fits, text_fits, null_fits, list_fits, tags_fits}
-use Rattle.kr_record.specs.Encodable.{IsShort, IsShortOrNone, IsShortEndpoint, IsShortRange, IsShortBroker, IsShortPartition, IsSpelledChange, IsShortConfig, IsEncodable}
-use Rattle.kr_record.specs.Held.{IsUtf8OrNone, IsHeldEndpoint, IsHeldRange, IsHeldBroker, IsHeldConfig, IsHeld}
+use Rattle.kr_record.specs.Encodable.{IsShort, IsShortEndpoint, IsShortRange, IsShortBroker, IsShortPartition, IsSpelledChange, IsShortConfig, IsEncodable}
+use Rattle.kr_record.specs.Held.{IsHeldEndpoint, IsHeldRange, IsHeldBroker, IsHeldConfig, IsHeld}
 use Rattle.kr_record.specs.Spelling.{two_ids, no_tags, endpoint, range, registration, broker_epoch, topic, topic_id, no_directories, placed, led, partition, config, change, feature, registration_change, framed, record_value}
 use Rattle.kr_record.proofs.StandsFixed.{each}
 use Rattle.kr_record.proofs.BytesTagged.{ids_fit, flag_tags_fit, partition_tags_fit, change_tags_fit}
@@ -26,7 +26,7 @@ no_tags_fit : OfBytes no_tags
 unfolding no_tags
 no_tags_fit = tags_fits [] (lit< tt) tt
 
-text_or_null_fits : (o : Option (List ℕ)) → IsShortOrNone o → IsUtf8OrNone o → OfBytes (text_or_null o)
+text_or_null_fits : (o : Option (List ℕ)) → IfSome o IsShort → IfSome o IsUtf8 → OfBytes (text_or_null o)
 text_or_null_fits None short utf8 = null_fits
 text_or_null_fits (Some t) short utf8 = text_fits t utf8 short
 

@@ -1,6 +1,6 @@
 -- Tagged fields are bytes as they are written.
 use Rattle.std.proofs.Common.{ℕ, ◌≤◌, eqb, true, false, cond, List, [], ◌∷◌, length, Option, Some, None, subst, arith, lit≤}
-use Rattle.std.specs.Prelude.{ℤ}
+use Rattle.std.specs.Prelude.{ℤ, IfSome}
 use Rattle.std.specs.List.{AllByRecursion}
 use Rattle.std.specs.Option.{option_map}
 use Rattle.std.specs.Int.{w8, w32}
@@ -8,7 +8,7 @@ use Rattle.kr_defs.specs.declared.partition.Partition.{Partition}
 use Rattle.kr_defs.specs.declared.partition.PartitionChange.{PartitionChange}
 use Rattle.kr_wire.specs.Spelling.{signed, field, tags}
 use Rattle.kr_wire.proofs.SpelledBytes.{OfBytes, signed_fits, list_fits, field_fits, tags_fits}
-use Rattle.kr_record.specs.Encodable.{IsShort, FitsField, FitsFieldOrNone, IsShortPartition, IsSpelledChange}
+use Rattle.kr_record.specs.Encodable.{IsShort, FitsField, IsShortPartition, IsSpelledChange}
 use Rattle.kr_record.specs.Spelling.{ids, unless_empty, partition_tags, change_tags, flag_tags}
 use Rattle.kr_record.proofs.StandsTagged.{Entries, fields_of, FitsEntry, few}
 use Rattle.kr_record.proofs.Entries.{flag_entries, flags_are, flags_fit, extra_entries, extras_are, extras_fit, change_entries, changes_are, changes_fit}
@@ -46,7 +46,7 @@ int_there tag None = tt
 int_there tag (Some n) = signed_fits w32 n
 
 -- the ids of a field that fits
-ids_there : (tag : ℕ) (o : Option (List ℤ)) → FitsFieldOrNone o → HasBytes (tag, option_map ids o)
+ids_there : (tag : ℕ) (o : Option (List ℤ)) → IfSome o FitsField → HasBytes (tag, option_map ids o)
 ids_there tag None fits = tt
 ids_there tag (Some xs) fits = ids_fit xs (omega arith)
 

@@ -1,6 +1,6 @@
 -- The tagged fields of each record: the tags, with their data where they are there.
 use Rattle.std.proofs.Common.{◌≡◌, ℕ, ◌+◌, ◌<◌, true, false, cond, eqb, List, [], ◌∷◌, length, append_assoc, Option, Some, None, refl, arith, lit<}
-use Rattle.std.specs.Prelude.{ℤ, pos}
+use Rattle.std.specs.Prelude.{ℤ, pos, IfSome}
 use Rattle.std.specs.List.{AllByRecursion}
 use Rattle.std.specs.Option.{option_map}
 use Rattle.std.specs.Int.{w8, w32}
@@ -9,7 +9,7 @@ use Rattle.kr_defs.specs.declared.partition.Partition.{Partition}
 use Rattle.kr_defs.specs.declared.partition.PartitionChange.{PartitionChange}
 use Rattle.kr_wire.specs.Spelling.{signed}
 use Rattle.kr_record.specs.Grammar.{unless}
-use Rattle.kr_record.specs.Encodable.{FitsField, FitsFieldOrNone, IsShortPartition, IsSpelledChange}
+use Rattle.kr_record.specs.Encodable.{FitsField, IsShortPartition, IsSpelledChange}
 use Rattle.kr_record.specs.Spelling.{ids, unless_empty, partition_fields, change_fields, flags}
 use Rattle.kr_wire.proofs.Lengths.{length_signed_8, length_signed_32, uvarint_few}
 use Rattle.kr_record.proofs.Written.{length_ids}
@@ -25,7 +25,7 @@ int_fits : (tag : ℕ) → tag < 100 → (o : Option ℤ) → FitsEntry (tag, op
 int_fits tag small None = tt
 int_fits tag small (Some n) = (omega arith, let h = length_signed_32 n in omega arith)
 
-ids_fit : (tag : ℕ) → tag < 100 → (o : Option (List ℤ)) → FitsFieldOrNone o → FitsEntry (tag, option_map ids o)
+ids_fit : (tag : ℕ) → tag < 100 → (o : Option (List ℤ)) → IfSome o FitsField → FitsEntry (tag, option_map ids o)
 ids_fit tag small None fits = tt
 ids_fit tag small (Some xs) fits = (omega arith, let h = length_ids xs in let k = uvarint_few (length xs + 1) in omega arith)
 

@@ -1,6 +1,6 @@
 -- How many bytes are written for a record.
 use Rattle.std.proofs.Common.{◌≡◌, ℕ, ◌+◌, ◌*◌, ◌<◌, List, [], ◌∷◌, ◌++◌, length, Option, Some, None, refl, ap, ◌∙◌, arith, lit<}
-use Rattle.std.specs.Prelude.{ℤ, pos, All}
+use Rattle.std.specs.Prelude.{ℤ, pos, All, IfSome}
 use Rattle.std.specs.List.{flat_map, sum_by}
 use Rattle.std.proofs.lemmas.List.{length-append, length-map}
 use Rattle.std.proofs.lemmas.List.Elements.{All-head, All-tail}
@@ -14,7 +14,7 @@ use Rattle.kr_defs.specs.declared.record.Record.{Record}
 use Rattle.kr_defs.specs.declared.record.Record.TheVariants as kinds
 use Rattle.kr_defs.specs.Sizes.{text_bytes, text_or_null_bytes, list_bytes, rows_bytes, tags_bytes, number_field, registration_bytes, partition_bytes, change_bytes, value_bytes}
 use Rattle.kr_wire.specs.Spelling.{uvarint, id, text, text_or_null, list}
-use Rattle.kr_record.specs.Encodable.{IsShort, IsShortOrNone, IsShortEndpoint, IsShortRange, IsShortBroker, IsShortPartition, IsSpelledChange, IsShortConfig, IsEncodable}
+use Rattle.kr_record.specs.Encodable.{IsShort, IsShortEndpoint, IsShortRange, IsShortBroker, IsShortPartition, IsSpelledChange, IsShortConfig, IsEncodable}
 use Rattle.kr_record.specs.Spelling.{two_ids, no_tags, endpoint, range, registration, broker_epoch, topic, topic_id, no_directories, placed, led, partition, config, change, feature, registration_change, framed, record_value}
 use Rattle.kr_wire.proofs.Lengths.{length_number_16, length_signed_8, length_signed_16, length_signed_32, length_signed_64, length_id, length_bool, uvarint_one}
 use Rattle.kr_record.proofs.LengthsTagged.{uvarint_size, ids_size, flag_tags_size, partition_tags_size, change_tags_size}
@@ -42,7 +42,7 @@ length_no_tags = refl
 text_size : (t : List ℕ) → IsShort t → length (text t) ≡ text_bytes t
 text_size t short = sum_2 _ _ _ _ (uvarint_size (length t + 1) (omega arith)) refl
 
-text_or_null_size : (o : Option (List ℕ)) → IsShortOrNone o → length (text_or_null o) ≡ text_or_null_bytes o
+text_or_null_size : (o : Option (List ℕ)) → IfSome o IsShort → length (text_or_null o) ≡ text_or_null_bytes o
 text_or_null_size None short = uvarint_size 0 (lit< tt)
 text_or_null_size (Some t) short = text_size t short
 

@@ -1,6 +1,6 @@
 -- How many bytes are written of tagged fields.
 use Rattle.std.proofs.Common.{◌≡◌, ℕ, ◌+◌, ◌*◌, ◌^◌, ◌<◌, ◌≤◌, Bool, true, false, cond, List, [], ◌∷◌, length, Option, Some, None, refl, sym, ap, ◌∙◌, arith, lit<, lit≤}
-use Rattle.std.specs.Prelude.{ℤ, pos, negsuc, ◌≢◌}
+use Rattle.std.specs.Prelude.{ℤ, pos, negsuc, ◌≢◌, IfSome}
 use Rattle.std.specs.List.{AllByRecursion, flat_map, sum_by}
 use Rattle.std.specs.Option.{option_map}
 use Rattle.std.specs.Ordering.{int_eq}
@@ -14,7 +14,7 @@ use Rattle.kr_defs.specs.Sizes.{uvarint_bytes, list_bytes, field_bytes, field_th
 use Rattle.kr_wire.specs.Spelling.{uvarint, signed, field, tags}
 use Rattle.kr_wire.proofs.Numbers.{not_zero}
 use Rattle.kr_record.specs.Grammar.{unless}
-use Rattle.kr_record.specs.Encodable.{FitsField, FitsFieldOrNone, IsShortPartition, IsSpelledChange}
+use Rattle.kr_record.specs.Encodable.{FitsField, IsShortPartition, IsSpelledChange}
 use Rattle.kr_record.specs.Spelling.{ids, unless_empty, partition_tags, change_tags, flag_tags}
 use Rattle.kr_wire.proofs.Lengths.{length_uvarint, uvarint_one, length_signed_8, length_signed_32}
 use Rattle.kr_record.proofs.Written.{length_ids}
@@ -87,7 +87,7 @@ recovery_size : (o : Option ℤ) → o ≢ Some (negsuc 0) → data_size (option
 recovery_size None other = refl
 recovery_size (Some n) other = ap (λ (m : ℕ). Some m) (length_signed_8 n) ∙ sym (other_number 1 (negsuc 0) n (λ e. other (ap (λ (m : ℤ). Some m) e)))
 
-ids_or_size : (o : Option (List ℤ)) → FitsFieldOrNone o → data_size (option_map ids o) ≡ ids_field_or o
+ids_or_size : (o : Option (List ℤ)) → IfSome o FitsField → data_size (option_map ids o) ≡ ids_field_or o
 ids_or_size None fits = refl
 ids_or_size (Some xs) fits = ap (λ (m : ℕ). Some m) (ids_size xs (omega arith))
 

@@ -1,6 +1,6 @@
 -- What is written of a record without tagged fields stands for it.
 use Rattle.std.proofs.Common.{ℕ, ◌<◌, ◌^◌, List, [], ◌∷◌, ◌++◌, length, append_assoc, Option, Some, None, lit≤}
-use Rattle.std.specs.Prelude.{ℤ, All, FitsSigned, IsUtf8}
+use Rattle.std.specs.Prelude.{ℤ, All, FitsSigned, IsUtf8, IfSome}
 use Rattle.std.specs.List.{AllByRecursion}
 use Rattle.std.specs.Int.{w8, w16, w32, w64}
 use Rattle.std.proofs.lemmas.List.Elements.{All-head, All-tail}
@@ -11,9 +11,9 @@ use Rattle.kr_wire.specs.Grammar.{◌⌢◌, IsSigned, IsTextOrNull, NoTags}
 use Rattle.kr_wire.specs.Spelling.{signed, text_or_null}
 use Rattle.kr_wire.proofs.Laws.{joined}
 use Rattle.kr_wire.proofs.Spelled.{number_spelled, signed_spelled, bool_spelled, id_spelled, text_spelled, no_tags_spelled, text_or_null_spelled, list_spelled}
-use Rattle.kr_record.specs.Encodable.{IsShort, IsShortOrNone, IsShortEndpoint, IsShortRange, IsShortBroker, IsShortConfig}
+use Rattle.kr_record.specs.Encodable.{IsShort, IsShortEndpoint, IsShortRange, IsShortBroker, IsShortConfig}
 use Rattle.kr_record.specs.Grammar.{IsIds, IsEndpoint, IsRange, IsRegistration, IsBrokerEpoch, IsTopic, IsTopicId, IsConfig, IsFeature}
-use Rattle.kr_record.specs.Held.{IsUtf8OrNone, AreInts, IsHeldEndpoint, IsHeldRange, IsHeldBroker, IsHeldConfig}
+use Rattle.kr_record.specs.Held.{AreInts, IsHeldEndpoint, IsHeldRange, IsHeldBroker, IsHeldConfig}
 use Rattle.kr_record.specs.Spelling.{ids, no_tags, endpoint, range, registration, broker_epoch, topic, topic_id, config, feature}
 
 -- ---- one part after the other, as `++` groups them
@@ -48,7 +48,7 @@ pub no_tags_stand : NoTags no_tags
 unfolding no_tags
 no_tags_stand = no_tags_spelled
 
-text_stands : (o : Option (List ℕ)) → IsShortOrNone o → IsUtf8OrNone o → IsTextOrNull o (text_or_null o)
+text_stands : (o : Option (List ℕ)) → IfSome o IsShort → IfSome o IsUtf8 → IsTextOrNull o (text_or_null o)
 text_stands None short utf8 = text_or_null_spelled None tt
 text_stands (Some t) short utf8 = text_or_null_spelled (Some t) (utf8, short)
 

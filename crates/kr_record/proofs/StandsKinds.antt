@@ -1,6 +1,6 @@
 -- What is written of a record with tagged fields stands for it.
 use Rattle.std.proofs.Common.{◌≡◌, ℕ, ◌<◌, ◌^◌, Bool, true, false, cond, eqb, List, [], ◌∷◌, ◌++◌, length, append_assoc, Option, Some, None, refl, sym, ap, subst, arith, lit<, lit≤}
-use Rattle.std.specs.Prelude.{ℤ, pos, ◌≢◌, FitsSigned}
+use Rattle.std.specs.Prelude.{ℤ, pos, ◌≢◌, FitsSigned, IfSome}
 use Rattle.std.specs.List.{AllByRecursion}
 use Rattle.std.specs.Option.{option_map}
 use Rattle.std.specs.Ordering.{int_eq}
@@ -13,9 +13,9 @@ use Rattle.kr_wire.specs.Grammar.{◌⌢◌, IsSigned, IsId, IsList, IsTags, giv
 use Rattle.kr_wire.specs.Spelling.{signed, id, list, tags}
 use Rattle.kr_wire.proofs.Laws.{joined}
 use Rattle.kr_wire.proofs.Spelled.{id_spelled, list_spelled}
-use Rattle.kr_record.specs.Encodable.{FitsField, FitsFieldOrNone, IsShortPartition, IsSpelledChange}
+use Rattle.kr_record.specs.Encodable.{FitsField, IsShortPartition, IsSpelledChange}
 use Rattle.kr_record.specs.Grammar.{no_leader_change, no_recovery_change, unless, IsIdsOrNull, IsIdsOrEmpty, IsUnless, IsDropped, AreExtras, extras_of, IsPartition, AreChanges, IsChange, AreFlags, IsRegistrationChange}
-use Rattle.kr_record.specs.Held.{AreInts, AreIntsOrNone, IsIntOrNone, IsByteOrNone, IsHeldPartition, IsHeldChange}
+use Rattle.kr_record.specs.Held.{AreInts, IsHeldPartition, IsHeldChange}
 use Rattle.kr_record.specs.Spelling.{ids, two_ids, unless_empty, no_directories, partition_tags, placed, led, partition, change_tags, change, flag_tags, registration_change}
 use Rattle.kr_record.proofs.StandsTagged.{fields_of, Climb, tagged_is, entries_spelled}
 use Rattle.kr_record.proofs.Entries.{flag_entries, flags_are, flags_fit, extra_entries, extras_are, extras_fit, change_entries, changes_are, changes_fit}
@@ -35,15 +35,15 @@ other_than default n other =
     let step : P (int_eq n default) = elim (int_eq n default) as P [ true ↦ λ e. absurd (other ((Decides-int_eq n default).0 e)) | false ↦ λ e. refl ] in
     step refl
 
-leader_or : (o : Option ℤ) → o ≢ Some no_leader_change → IsIntOrNone o → given (option_map (signed w32) o) (IsUnless w32 no_leader_change o) (o ≡ None)
+leader_or : (o : Option ℤ) → o ≢ Some no_leader_change → IfSome o (FitsSigned w32) → given (option_map (signed w32) o) (IsUnless w32 no_leader_change o) (o ≡ None)
 leader_or None other fits = refl
 leader_or (Some n) other fits = record { n = n; is = sym (other_than no_leader_change n (λ e. other (ap (λ (m : ℤ). Some m) e))); spelled = int32 n fits }
 
-recovery_or : (o : Option ℤ) → o ≢ Some no_recovery_change → IsByteOrNone o → given (option_map (signed w8) o) (IsUnless w8 no_recovery_change o) (o ≡ None)
+recovery_or : (o : Option ℤ) → o ≢ Some no_recovery_change → IfSome o (FitsSigned w8) → given (option_map (signed w8) o) (IsUnless w8 no_recovery_change o) (o ≡ None)
 recovery_or None other fits = refl
 recovery_or (Some n) other fits = record { n = n; is = sym (other_than no_recovery_change n (λ e. other (ap (λ (m : ℤ). Some m) e))); spelled = int8 n fits }
 
-ids_or : (o : Option (List ℤ)) → FitsFieldOrNone o → AreIntsOrNone o → given (option_map ids o) (IsIdsOrNull o) (o ≡ None)
+ids_or : (o : Option (List ℤ)) → IfSome o FitsField → IfSome o AreInts → given (option_map ids o) (IsIdsOrNull o) (o ≡ None)
 ids_or None fits held = refl
 ids_or (Some xs) fits held = ids_stand xs (omega arith) held
 

@@ -1,5 +1,5 @@
 -- The records that have a written form: this project's own limits, from the sizes that 32 bits can hold.
-use Rattle.std.specs.Prelude.{ℕ, ℤ, negsuc, ◌^◌, ◌<◌, ◌≢◌, List, length, Option, Some, None, All}
+use Rattle.std.specs.Prelude.{ℕ, ℤ, negsuc, ◌^◌, ◌<◌, ◌≢◌, List, length, Option, Some, None, All, IfSome}
 use Rattle.kr_defs.specs.declared.broker.Broker.{Broker}
 use Rattle.kr_defs.specs.declared.broker.Endpoint.{Endpoint}
 use Rattle.kr_defs.specs.declared.broker.Range.{Range}
@@ -12,18 +12,9 @@ use Rattle.kr_defs.specs.declared.record.Record.TheVariants as kinds
 abbrev pub IsShort : {X : Type 0} → List X → Type 0
 IsShort xs = length xs < 2 ^ 31
 
--- the same where it may be absent
-abbrev pub IsShortOrNone : {X : Type 0} → Option (List X) → Type 0
-IsShortOrNone None = Unit {0}
-IsShortOrNone (Some xs) = length xs < 2 ^ 31
-
 -- the ids of a tagged field, fewer than 2^29
 abbrev pub FitsField : List ℤ → Type 0
 FitsField ids = length ids < 2 ^ 29
-
-abbrev pub FitsFieldOrNone : Option (List ℤ) → Type 0
-FitsFieldOrNone None = Unit {0}
-FitsFieldOrNone (Some ids) = length ids < 2 ^ 29
 
 pub record IsShortEndpoint (e : Endpoint) : Type 0 where
   pub name : IsShort e.name
@@ -37,7 +28,7 @@ pub record IsShortBroker (b : Broker) : Type 0 where
   pub each_endpoint : All IsShortEndpoint b.endpoints
   pub features : IsShort b.features
   pub each_feature : All IsShortRange b.features
-  pub rack : IsShortOrNone b.rack
+  pub rack : IfSome b.rack IsShort
 
 pub record IsShortPartition (p : Partition) : Type 0 where
   pub replicas : IsShort p.replicas
@@ -49,19 +40,19 @@ pub record IsShortPartition (p : Partition) : Type 0 where
 
 -- The leader -2 and the recovery state -1 spell "no change".
 pub record IsSpelledChange (c : PartitionChange) : Type 0 where
-  pub in_sync : FitsFieldOrNone c.in_sync
-  pub replicas : FitsFieldOrNone c.replicas
-  pub removing : FitsFieldOrNone c.removing
-  pub adding : FitsFieldOrNone c.adding
-  pub eligible : FitsFieldOrNone c.eligible
-  pub last_known : FitsFieldOrNone c.last_known
+  pub in_sync : IfSome c.in_sync FitsField
+  pub replicas : IfSome c.replicas FitsField
+  pub removing : IfSome c.removing FitsField
+  pub adding : IfSome c.adding FitsField
+  pub eligible : IfSome c.eligible FitsField
+  pub last_known : IfSome c.last_known FitsField
   pub leader : c.leader ≢ Some (negsuc 1)
   pub recovery : c.recovery ≢ Some (negsuc 0)
 
 pub record IsShortConfig (name key : List ℕ) (value : Option (List ℕ)) : Type 0 where
   pub short_name : IsShort name
   pub short_key : IsShort key
-  pub short_value : IsShortOrNone value
+  pub short_value : IfSome value IsShort
 
 abbrev pub IsEncodable : Record → Type 0
 IsEncodable (kinds.RegisterBroker broker state) = IsShortBroker state

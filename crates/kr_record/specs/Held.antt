@@ -1,5 +1,5 @@
 -- What every record that a program holds meets: its numbers fit their types, and its texts are UTF-8.
-use Rattle.std.specs.Prelude.{ℕ, ℤ, ◌^◌, ◌<◌, List, Option, Some, None, All, FitsSigned, IsUtf8}
+use Rattle.std.specs.Prelude.{ℕ, ℤ, ◌^◌, ◌<◌, List, Option, Some, None, All, FitsSigned, IsUtf8, IfSome}
 use Rattle.std.specs.Int.{w8, w16, w32, w64}
 use Rattle.kr_defs.specs.declared.broker.Broker.{Broker}
 use Rattle.kr_defs.specs.declared.broker.Endpoint.{Endpoint}
@@ -9,17 +9,9 @@ use Rattle.kr_defs.specs.declared.partition.PartitionChange.{PartitionChange}
 use Rattle.kr_defs.specs.declared.record.Record.{Record}
 use Rattle.kr_defs.specs.declared.record.Record.TheVariants as kinds
 
-abbrev pub IsUtf8OrNone : Option (List ℕ) → Type 0
-IsUtf8OrNone None = Unit {0}
-IsUtf8OrNone (Some text) = IsUtf8 text
-
 -- ids of 32 bits with a sign
 abbrev pub AreInts : List ℤ → Type 0
 AreInts ids = All (FitsSigned w32) ids
-
-abbrev pub AreIntsOrNone : Option (List ℤ) → Type 0
-AreIntsOrNone None = Unit {0}
-AreIntsOrNone (Some ids) = AreInts ids
 
 pub record IsHeldEndpoint (e : Endpoint) : Type 0 where
   pub name : IsUtf8 e.name
@@ -37,7 +29,7 @@ pub record IsHeldBroker (b : Broker) : Type 0 where
   pub incarnation : b.incarnation < 2 ^ 128
   pub endpoints : All IsHeldEndpoint b.endpoints
   pub features : All IsHeldRange b.features
-  pub rack : IsUtf8OrNone b.rack
+  pub rack : IfSome b.rack IsUtf8
 
 pub record IsHeldPartition (p : Partition) : Type 0 where
   pub replicas : AreInts p.replicas
@@ -51,29 +43,21 @@ pub record IsHeldPartition (p : Partition) : Type 0 where
   pub leader_epoch : FitsSigned w32 p.leader_epoch
   pub partition_epoch : FitsSigned w32 p.partition_epoch
 
-abbrev pub IsIntOrNone : Option ℤ → Type 0
-IsIntOrNone None = Unit {0}
-IsIntOrNone (Some n) = FitsSigned w32 n
-
-abbrev pub IsByteOrNone : Option ℤ → Type 0
-IsByteOrNone None = Unit {0}
-IsByteOrNone (Some n) = FitsSigned w8 n
-
 pub record IsHeldChange (c : PartitionChange) : Type 0 where
-  pub in_sync : AreIntsOrNone c.in_sync
-  pub replicas : AreIntsOrNone c.replicas
-  pub removing : AreIntsOrNone c.removing
-  pub adding : AreIntsOrNone c.adding
-  pub eligible : AreIntsOrNone c.eligible
-  pub last_known : AreIntsOrNone c.last_known
-  pub leader : IsIntOrNone c.leader
-  pub recovery : IsByteOrNone c.recovery
+  pub in_sync : IfSome c.in_sync AreInts
+  pub replicas : IfSome c.replicas AreInts
+  pub removing : IfSome c.removing AreInts
+  pub adding : IfSome c.adding AreInts
+  pub eligible : IfSome c.eligible AreInts
+  pub last_known : IfSome c.last_known AreInts
+  pub leader : IfSome c.leader (FitsSigned w32)
+  pub recovery : IfSome c.recovery (FitsSigned w8)
 
 pub record IsHeldConfig (kind : ℤ) (name key : List ℕ) (value : Option (List ℕ)) : Type 0 where
   pub held_kind : FitsSigned w8 kind
   pub held_name : IsUtf8 name
   pub held_key : IsUtf8 key
-  pub held_value : IsUtf8OrNone value
+  pub held_value : IfSome value IsUtf8
 
 abbrev pub IsHeld : Record → Type 0
 IsHeld (kinds.RegisterBroker broker state) = FitsSigned w32 broker × IsHeldBroker state

@@ -1,12 +1,12 @@
 //! Tagged fields to bytes.
 
-ghost use Rattle.std.specs.Prelude.{◌≡◌, ◌≤◌, ◌++◌, pos, length, if◌then◌else◌, OnOk};
+ghost use Rattle.std.specs.Prelude.{◌≡◌, ◌≤◌, ◌++◌, pos, length, if◌then◌else◌, OnOk, IfSome};
 ghost use Rattle.std.specs.Int.{w8, w32};
 ghost use Rattle.std.specs.Option.{option_map};
 ghost use Rattle.std.specs.List.{flat_map};
 ghost use Rattle.kr_wire.specs.Spelling.{field, signed, tagged, uvarint};
 ghost use Rattle.kr_record.specs.Grammar.{unless};
-ghost use Rattle.kr_record.specs.Encodable.{FitsField, FitsFieldOrNone, IsShortPartition, IsSpelledChange};
+ghost use Rattle.kr_record.specs.Encodable.{FitsField, IsShortPartition, IsSpelledChange};
 ghost use Rattle.kr_record.specs.Spelling;
 ghost use Rattle.kr_record.specs.Spelling.{change_fields, change_tags, first_changes, flag_tags, ids, later_changes, partition_tags};
 
@@ -56,7 +56,7 @@ fn unless_zero(number: &i8) -> Option<&i8>
 }
 
 fn put_ids_field(out: &mut Vec<u8>, tag: u32, value: Option<&Ids>) -> Result<(), AllocError>
-    requires { FitsFieldOrNone (option_map (λ ids. ids.now) value) }
+    requires { IfSome (option_map (λ ids. ids.now) value) FitsField }
     ensures { OnOk result (out.new.items ≡ out.old.items ++ flat_map field (tagged tag (option_map ids (option_map (λ ids. ids.now) value.entry)))) }
 {
     match value {

@@ -1,8 +1,8 @@
 //! What a record's types see to: its numbers fit them, and its texts are UTF-8. These functions only look.
 
-ghost use Rattle.std.specs.Prelude.{All, FitsSigned, IsUtf8};
-ghost use Rattle.std.specs.Int.{w32};
-ghost use Rattle.kr_record.specs.Held.{AreInts, AreIntsOrNone, IsHeld, IsHeldBroker, IsHeldChange, IsHeldConfig, IsHeldEndpoint, IsHeldPartition, IsHeldRange, IsIntOrNone, IsByteOrNone, IsUtf8OrNone};
+ghost use Rattle.std.specs.Prelude.{All, FitsSigned, IsUtf8, IfSome};
+ghost use Rattle.std.specs.Int.{w32, w8};
+ghost use Rattle.kr_record.specs.Held.{AreInts, IsHeld, IsHeldBroker, IsHeldChange, IsHeldConfig, IsHeldEndpoint, IsHeldPartition, IsHeldRange};
 
 use kr_defs::{
     Broker, Endpoint, Endpoints, Ids, Partition, PartitionChange, Range, Ranges, Record, Text,
@@ -15,7 +15,7 @@ fn text_is_held(text: &Text)
 }
 
 fn optional_text_is_held(text: &Option<Text>)
-    ensures { IsUtf8OrNone text.now }
+    ensures { IfSome text.now IsUtf8 }
 {
     if let Some(text) = text {
         text_is_held(text);
@@ -38,7 +38,7 @@ fn ids_are_held(ids: &Ids)
 }
 
 fn optional_ids_are_held(ids: &Option<Ids>)
-    ensures { AreIntsOrNone ids.now }
+    ensures { IfSome ids.now AreInts }
 {
     if let Some(ids) = ids {
         ids_are_held(ids);
@@ -106,7 +106,7 @@ fn partition_is_held(state: &Partition)
 }
 
 fn leader_is_held(leader: &Option<i32>)
-    ensures { IsIntOrNone leader.now }
+    ensures { IfSome leader.now (FitsSigned w32) }
 {
     if let Some(leader) = leader {
         let _leader = *leader;
@@ -114,7 +114,7 @@ fn leader_is_held(leader: &Option<i32>)
 }
 
 fn recovery_is_held(recovery: &Option<i8>)
-    ensures { IsByteOrNone recovery.now }
+    ensures { IfSome recovery.now (FitsSigned w8) }
 {
     if let Some(recovery) = recovery {
         let _recovery = *recovery;

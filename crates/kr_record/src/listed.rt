@@ -1,10 +1,10 @@
 //! Lists and what may be null, to bytes.
 
-ghost use Rattle.std.specs.Prelude.{◌≡◌, ◌++◌, List, ℕ, OnOk, All};
+ghost use Rattle.std.specs.Prelude.{◌≡◌, ◌++◌, List, ℕ, OnOk, All, IfSome};
 ghost use Rattle.std.specs.Int.{w8, w16, w32, w64};
 ghost use Rattle.kr_wire.specs.Spelling;
 ghost use Rattle.kr_wire.specs.Spelling.{id, signed, text_or_null};
-ghost use Rattle.kr_record.specs.Encodable.{IsShort, IsShortOrNone, IsShortEndpoint, IsShortRange};
+ghost use Rattle.kr_record.specs.Encodable.{IsShort, IsShortEndpoint, IsShortRange};
 ghost use Rattle.kr_record.specs.Spelling.{endpoint, no_directories, no_tags, range};
 
 use kr_defs::{Endpoint, Ids, Range, Rows, Text};
@@ -130,7 +130,7 @@ pub fn put_no_tags(out: &mut Vec<u8>) -> Result<(), AllocError>
 
 /// A text, or null.
 pub fn put_optional_text(out: &mut Vec<u8>, value: &Option<Text>) -> Result<(), AllocError>
-    requires { IsShortOrNone value.now }
+    requires { IfSome value.now IsShort }
     ensures { OnOk result (out.new.items ≡ out.old.items ++ text_or_null value.now) }
 {
     match value {
