@@ -34,3 +34,8 @@ GivesWire (Ok x) read = read ≡ Ok x
 GivesWire (Err (faults.Wire fault)) read = read ≡ Err fault
 GivesWire (Err faults.NoMemory) read = Unit {0}
 GivesWire (Err e) read = ⊥
+
+-- the same of a value that is changed in place
+abbrev pub Sets : {Y : Type 0} → Result (Unit {0}) RecordFault → Y → Result Y WireFault → Type 0
+Sets (Ok nothing) new read = read ≡ Ok new
+Sets (Err e) new read = GivesWire (Err e) read
