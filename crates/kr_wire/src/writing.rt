@@ -38,7 +38,21 @@ fn put_groups(out: &mut Vec<u8>, value: u64, room: usize) -> Result<(), AllocErr
     if value < 128 {
         return out.extend_from_slice(&[value as u8]);
     }
+    if room > 0 && value < 16384 {
+        return out.extend_from_slice(&two_groups(value, room));
+    }
     put_many_groups(out, value, room)
+}
+
+// The groups of a number that has two.
+#[tactic(auto, using(crate::proofs::Written::two_groups))]
+fn two_groups(value: u64, room: usize) -> [u8; 2]
+    requires some { 1 ≤ room }
+    requires big { 128 ≤ value }
+    requires small { value < 16384 }
+    ensures { result ≡ groups room value }
+{
+    [128 + (value % 128) as u8, (value / 128) as u8]
 }
 
 // The same, whatever the number.
