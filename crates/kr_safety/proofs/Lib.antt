@@ -1,0 +1,6 @@
+pub mod CarefulChanges
+pub mod NamedTopics
+pub mod SafeRecords
+pub mod SafeRequests
+pub mod SafeRules
+pub mod SafeWalks
