@@ -1,4 +1,6 @@
 pub mod CarefulChanges
+pub mod FencingSizes
+pub mod Lengths
 pub mod NamedTopics
 pub mod SafeRecords
 pub mod SafeRequests
