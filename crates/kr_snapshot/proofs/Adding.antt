@@ -25,11 +25,11 @@ use Rattle.kr_snapshot.specs.Written.{groups, batches_bytes}
 use Rattle.kr_snapshot.specs.Writer.{setting_text, IsLight, texts, text_of, IsSound, body_with, count_of, Adds, IsAmid, MayAdd}
 use Rattle.kr_snapshot.specs.declared.writer.BatchWriter.{BatchWriter}
 
-all_front : {X : Type 0} (P : X → Type 0) (xs ys : List X) → AllByRecursion P (xs ++ ys) → AllByRecursion P xs
+pub all_front : {X : Type 0} (P : X → Type 0) (xs ys : List X) → AllByRecursion P (xs ++ ys) → AllByRecursion P xs
 all_front P [] ys a = tt
 all_front P (x ∷ xs) ys a = (a.0, all_front P xs ys a.1)
 
-all_back : {X : Type 0} (P : X → Type 0) (xs ys : List X) → AllByRecursion P (xs ++ ys) → AllByRecursion P ys
+pub all_back : {X : Type 0} (P : X → Type 0) (xs ys : List X) → AllByRecursion P (xs ++ ys) → AllByRecursion P ys
 all_back P [] ys a = a
 all_back P (x ∷ xs) ys a = all_back P xs ys a.1
 

@@ -1,7 +1,7 @@
 pub mod Adding
 pub mod Fronts
 pub mod Groups
-pub mod Images
+pub mod WholeImages
 pub mod Light
 pub mod Lookups
 pub mod Records

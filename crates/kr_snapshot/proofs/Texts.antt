@@ -25,13 +25,13 @@ use Rattle.kr_wire.proofs.Spelled.{signed_spelled}
 use Rattle.kr_record.specs.Held.{IsHeld}
 use Rattle.kr_batch.specs.Written.{IsHeldItem, batch_bytes}
 use Rattle.kr_batch.proofs.Spelled.{batch_spelled}
-use Rattle.kr_snapshot.specs.Grammar.{IsPart, AreParts, all_of, IsImage}
+use Rattle.kr_snapshot.specs.Grammar.{IsPart, AreParts, all_of, Makes, IsImage}
 use Rattle.kr_snapshot.specs.Reading.{image_of}
 use Rattle.kr_snapshot.specs.Writer.{setting_text, item_text, texts, IsLight, IsLightItem}
 use Rattle.kr_snapshot.specs.Written.{last_group, groups, batch_of_group, batches_bytes, head_bytes, image_text}
 use Rattle.kr_snapshot.proofs.Adding.{all_front, all_back}
 use Rattle.kr_snapshot.proofs.Groups.{group_writable, group_small}
-use Rattle.kr_snapshot.proofs.Images.{image_complete}
+use Rattle.kr_snapshot.proofs.WholeImages.{image_complete}
 use Rattle.kr_snapshot.proofs.Light.{own_light, own_text}
 
 -- ---- groups of records are groups of items
@@ -143,13 +143,16 @@ text_stands offset image valid least fits few held =
     let rs : List Record = records_of image in
     let gs : List (List Record) = groups IMAGE_BATCH [] rs in
     let all : all_of gs ≡ rs = groups_all IMAGE_BATCH [] rs in
-    let spelled : AreParts 0 gs (batches_bytes 0 (map as_items gs)) = parts_spelled gs 0 (rw all few) (groups_sized IMAGE_BATCH [] rs (omega arith) (omega arith))
-        (rw all (recursion_from_All IsLight rs (own_light image valid))) (rw all (recursion_from_All IsHeld rs held)) (rw all (own_text image valid)) in
-    let count : IsSigned w64 (pos (length (all_of gs))) (signed w64 (pos (length rs))) = rw all (signed_spelled w64 (pos (length rs)) (omega arith) (record { sfits = few })) in
+    let spelled : AreParts 0 gs (batches_bytes 0 (map as_items gs)) = parts_spelled gs 0 (let l = ap (λ (xs : List Record). length xs) all in omega (arith, few, l)) (groups_sized IMAGE_BATCH [] rs (omega arith) (omega arith))
+    (subst (λ (xs : List Record). AllByRecursion IsLight xs) (sym all) (recursion_from_All IsLight rs (own_light image valid)))
+    (subst (λ (xs : List Record). AllByRecursion IsHeld xs) (sym all) (recursion_from_All IsHeld rs held))
+    (subst (λ (xs : List Record). texts xs ≤ MOST_CONFIG_TEXT) (sym all) (own_text image valid)) in
+    let count : IsSigned w64 (pos (length (all_of gs))) (signed w64 (pos (length rs))) = subst (λ (xs : List Record). IsSigned w64 (pos (length xs)) (signed w64 (pos (length rs)))) (sym all) (signed_spelled w64 (pos (length rs)) (omega arith) (record { sfits = few })) in
+    let makes : Makes rs image = record { ordered = own_order image valid; applied = own_records image valid } in
     record {
       parts = gs;
       natural = least;
-      makes = rw all (record { ordered = own_order image valid; applied = own_records image valid });
+      makes = subst (λ (xs : List Record). Makes xs image) (sym all) makes;
       spelled = record {
         left = signed w64 offset;
         right = signed w64 (pos (length rs)) ++ batches_bytes 0 (groups IMAGE_BATCH [] (as_items rs));
@@ -162,5 +165,3 @@ text_stands offset image valid least fits few held =
 pub text_again : (offset : ℤ) (image : Image) → IsValid image → pos 0 ≤ℤ offset → FitsSigned w64 offset → length (records_of image) < 2 ^ 63 → All IsHeld (records_of image)
     → image_of (image_text offset image) ≡ Ok (offset, image)
 text_again offset image valid least fits few held = image_complete offset image (image_text offset image) (text_stands offset image valid least fits few held)
-
-pub ruleset written = (text_stands, text_again)

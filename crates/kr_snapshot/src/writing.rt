@@ -16,6 +16,7 @@ use crate::shown::is_kept;
 use crate::walking::{put_brokers, put_configs, put_features, put_topics};
 use crate::writer::BatchWriter;
 use kr_base::NoMemory;
+use kr_defs::laws::empty_is_valid;
 use kr_store::{At, Store};
 use kr_wire::{put_both, put_i64};
 use std::alloc::{AllocError, Global};
@@ -78,6 +79,7 @@ fn put_image<S: Store>(
 
 /// Appends the image at a place, under an offset: the offset, how many records it has, and its records in batches of
 /// 1,000. After an `Err` nothing has changed. It is NoEpoch exactly where the place is an epoch that isn't kept.
+#[tactic(auto, using(crate::proofs::Lookups::looked))]
 pub fn write<S: Store>(
     alloc: Global,
     store: &S,
@@ -93,6 +95,7 @@ pub fn write<S: Store>(
     if !is_kept(store, at) {
         return Err(SnapFault::NoEpoch);
     }
+    empty_is_valid();
     let _valid = store.counts();
     put_image(alloc, store, at, offset, out)?;
     Ok(())

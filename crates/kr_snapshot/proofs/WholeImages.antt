@@ -36,6 +36,9 @@ use Rattle.kr_snapshot.proofs.Fronts.{front_complete, front_sound, part_some}
 abbrev done : Image → Result Image ImageFault
 done image = Ok image
 
+abbrev pair_of : ℤ → Image → ℤ × Image
+pair_of offset image = (offset, image)
+
 abbrev meant : Image → Result Image Ill
 meant image = Ok image
 
@@ -220,7 +223,10 @@ head_sound bytes x fits e =
     let there : IsHead ((a.0.0, unsigned_abs b.0.0), b.0.1) bytes = record {
       natural = (not_negative a.0.0 n.0).0;
       spelled = record {
-        left = f.front; right = a.0.1; is = f.parts; first = f.holds;
+        left = f.front;
+        right = a.0.1;
+        is = f.parts;
+        first = f.holds;
         second = record { left = h.front; right = b.0.1; is = h.parts; first = subst (λ (z : ℤ). IsSigned w64 z h.front) (sym count.1) h.holds; second = refl };
       };
       small = IsBytes-behind h.front b.0.1 a.0.1 h.parts behind;
@@ -242,12 +248,17 @@ image_complete offset image bytes is =
     let rs : List Record = all_of is.parts in
     let behind : List ℕ = is.spelled.second.right in
     let r = records_complete rs (begun (length rs)) image is.makes.ordered is.makes.applied in
-    let head = head_complete offset (length rs) bytes behind is.natural (record { left = is.spelled.left; right = is.spelled.right; is = is.spelled.is; first = is.spelled.first;
-        second = record { left = is.spelled.second.left; right = behind; is = is.spelled.second.is; first = is.spelled.second.first; second = refl } }) in
+    let head = head_complete offset (length rs) bytes behind is.natural (record {
+      left = is.spelled.left;
+      right = is.spelled.right;
+      is = is.spelled.is;
+      first = is.spelled.first;
+      second = record { left = is.spelled.second.left; right = behind; is = is.spelled.second.is; first = is.spelled.second.first; second = refl };
+    }) in
     let image_is : done r.0.image ≡ Ok image = ap (λ (i : Image). done i) (sym r.2) in
     complete_bind (headed (numbers_at bytes)) _ ((offset, length rs), behind) _ (ap headed head)
     (complete_bind (batches_read (length behind) (begun (length rs)) behind) _ image _
-    (batches_complete is.parts (length behind) (begun (length rs)) r.0 behind (omega arith) is.spelled.second.second refl r.1 ∙ image_is) refl)
+    (batches_complete is.parts (length behind) (begun (length rs)) r.0 behind (omega arith) is.spelled.second.second (omega arith) r.1 ∙ image_is) refl)
 
 pub image_sound : (bytes : List ℕ) (offset : ℤ) (image : Image) → IsBytes bytes → image_of bytes ≡ Ok (offset, image) → IsImage offset image bytes
 unfolding image_of rest_read
@@ -257,19 +268,31 @@ image_sound bytes offset image fits e =
     let b = bind_ok (batches_read (length a.0.1) (begun a.0.0.1) a.0.1) _ (offset, image) a.2 in
     let all = batches_sound (length a.0.1) (begun a.0.0.1) a.0.1 b.0 h.small (omega arith) (omega arith) b.1 in
     let s = records_sound (all_of all.parts) (begun a.0.0.1) all.after all.read in
-    let whole : length (all_of all.parts) ≡ a.0.0.1 = all.whole in
+    let whole : length (all_of all.parts) ≡ a.0.0.1 = (let w = all.whole in omega (arith, w)) in
     let there : IsImage a.0.0.0 b.0 bytes = record {
       parts = all.parts;
       natural = h.natural;
       makes = record { ordered = s.ordered; applied = s.applied ∙ ap (λ (i : Image). meant i) all.is };
-      spelled = record { left = h.spelled.left; right = h.spelled.right; is = h.spelled.is; first = h.spelled.first;
-        second = record { left = h.spelled.second.left; right = a.0.1; is = h.spelled.second.is ∙ ap (λ (l : List ℕ). h.spelled.second.left ++ l) h.spelled.second.second;
-          first = subst (λ (n : ℕ). IsSigned w64 (pos n) h.spelled.second.left) (sym whole) h.spelled.second.first; second = all.spelled } };
+      spelled = record {
+        left = h.spelled.left;
+        right = h.spelled.right;
+        is = h.spelled.is;
+        first = h.spelled.first;
+        second = record {
+          left = h.spelled.second.left;
+          right = a.0.1;
+          is = h.spelled.second.is ∙ ap (λ (l : List ℕ). h.spelled.second.left ++ l) h.spelled.second.second;
+          first = subst (λ (n : ℕ). IsSigned w64 (pos n) h.spelled.second.left) (sym whole) h.spelled.second.first;
+          second = all.spelled;
+        };
+      };
     } in
-    let same : (a.0.0.0, b.0) ≡ (offset, image) = is_ok _ _ b.2 in
+    let same : pair_of a.0.0.0 b.0 ≡ pair_of offset image = is_ok _ _ b.2 in
     subst (λ (x : ℤ × Image). IsImage x.0 x.1 bytes) same there
 
-pub image_one : (bytes : List ℕ) (a b : ℤ) (i j : Image) → IsImage a i bytes → IsImage b j bytes → (a, i) ≡ (b, j)
-image_one bytes a b i j first second = is_ok _ _ (sym (image_complete a i bytes first) ∙ image_complete b j bytes second)
+pub image_one : (bytes : List ℕ) (a b : ℤ) (i j : Image) → IsImage a i bytes → IsImage b j bytes → (a ≡ b) × (i ≡ j)
+image_one bytes a b i j first second =
+    let same : pair_of a i ≡ pair_of b j = is_ok _ _ (sym (image_complete a i bytes first) ∙ image_complete b j bytes second) in
+    (ap (λ (x : ℤ × Image). x.0) same, ap (λ (x : ℤ × Image). x.1) same)
 
-pub ruleset images = (image_sound, image_complete, image_one)
+pub ruleset images = (image_sound)

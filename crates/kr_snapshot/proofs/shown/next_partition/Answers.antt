@@ -1,8 +1,0 @@
-use Rattle.std.proofs.Common.{sym}
-use Rattle.std.specs.Option.{option_copied}
-use Rattle.kr_defs.specs.Map.{partition_order}
-use Rattle.kr_snapshot.proofs.Lookups.{shown, nothing_next}
-use Rattle.kr_snapshot.proofs.shown.next_partition.Goals as goal
-
-pub returns : goal.returns
-returns g c = rw c.unwrap_or.ensures (shown _ _ _ _ _ c.next_partition.ensures (sym (nothing_next partition_order (option_copied c.args.after))))
