@@ -1,13 +1,13 @@
 -- Records that are added to a writer one after the other.
-use Rattle.std.proofs.Common.{◌≡◌, ◌∙◌, ℕ, ℤ, ◌+◌, ◌<◌, ◌≤◌, List, [], ◌∷◌, ◌++◌, length, length-append, append_assoc, refl, sym, ap, subst, arith, All, negsuc}
-use Rattle.std.specs.Prelude.{sum_by, map, flat_map, Option, Some, None, IsTrue}
+use Rattle.std.proofs.Common.{◌≡◌, ◌∙◌, ℕ, ℤ, List, [], ◌∷◌, ◌++◌, length, length-append, append_assoc, refl, sym, ap, subst, arith, All, negsuc}
+use Rattle.std.specs.Prelude.{map, Option, Some, None, IsTrue}
 use Rattle.std.specs.declared.cmp.Ordering.{Ordering}
 use Rattle.std.specs.Cmp.{IsTotalOrder}
 use Rattle.std.specs.List.{AllByRecursion}
 use Rattle.std.proofs.lemmas.List.{append-nil, map-append}
 use Rattle.std.proofs.lemmas.List.Elements.{All-from_recursion, recursion_from_All}
 use Rattle.std.proofs.lemmas.List.Sums.{sum_by-append}
-use Rattle.kr_defs.specs.declared.limits.TheConstants.{IMAGE_BATCH, MOST_CONFIG_TEXT}
+use Rattle.kr_defs.specs.declared.limits.TheConstants.{IMAGE_BATCH}
 use Rattle.kr_defs.specs.declared.partition.Partition.{Partition}
 use Rattle.kr_defs.specs.declared.record.Record.{Record}
 use Rattle.kr_defs.specs.declared.record.Record.TheVariants as kinds
@@ -22,7 +22,7 @@ use Rattle.kr_defs.proofs.Walks.{walk_next, walk_end}
 use Rattle.kr_defs.proofs.TopicWalks.{group_begin}
 use Rattle.kr_snapshot.specs.Walked.{partition_record}
 use Rattle.kr_snapshot.specs.Written.{groups, batches_bytes}
-use Rattle.kr_snapshot.specs.Writer.{setting_text, IsLight, texts, text_of, IsSound, body_with, count_of, Adds, IsAmid, MayAdd}
+use Rattle.kr_snapshot.specs.Writer.{setting_text, IsLight, texts, IsSound, body_with, count_of, Adds, IsAmid, MayAdd}
 use Rattle.kr_snapshot.specs.declared.writer.BatchWriter.{BatchWriter}
 
 pub all_front : {X : Type 0} (P : X → Type 0) (xs ys : List X) → AllByRecursion P (xs ++ ys) → AllByRecursion P xs

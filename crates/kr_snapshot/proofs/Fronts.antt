@@ -1,10 +1,9 @@
 -- The bytes of the batch at the front.
-use Rattle.std.proofs.Common.{◌≡◌, ◌∙◌, ℕ, ℤ, ◌+◌, ◌<◌, ◌≤◌, ◌^◌, Bool, true, false, ltb, leb, List, ◌++◌, length, length-append, append_assoc, Result, Ok, refl, sym, ap, subst, arith}
+use Rattle.std.proofs.Common.{◌≡◌, ◌∙◌, ℕ, ℤ, ◌<◌, ◌≤◌, ◌^◌, false, List, ◌++◌, length, length-append, append_assoc, Ok, refl, sym, ap, subst, arith}
 use Rattle.std.specs.Prelude.{take, drop, ◌||◌, nat_lt, nat_le}
 use Rattle.std.proofs.lemmas.Bool.Decides.{nat_tests}
 use Rattle.std.proofs.lemmas.List.{take_at, drop_at, take-append-drop, length-take-le}
 use Rattle.kr_defs.proofs.Tests.{neither}
-use Rattle.kr_wire.specs.Grammar.{◌⌢◌, Exactly}
 use Rattle.kr_wire.proofs.Laws.{IsBytes, bind_ok, guard_ok, is_ok, complete_bind, complete_guard}
 use Rattle.kr_batch.specs.declared.Batch.{Batch}
 use Rattle.kr_batch.specs.Crc.{crc32c}

@@ -1,5 +1,5 @@
 -- The records of a valid image can be written, and are small.
-use Rattle.std.proofs.Common.{◌≡◌, ◌∙◌, ℕ, ℤ, pos, ◌+◌, ◌*◌, ◌<◌, ◌≤◌, ◌^◌, Bool, true, false, cond, List, [], ◌∷◌, ◌++◌, length, append_assoc, refl, sym, ap, subst, arith, All}
+use Rattle.std.proofs.Common.{◌≡◌, ◌∙◌, ℕ, ℤ, pos, ◌+◌, ◌*◌, ◌<◌, ◌≤◌, ◌^◌, Bool, true, false, cond, List, [], ◌∷◌, ◌++◌, length, append_assoc, refl, subst, arith, All}
 use Rattle.std.specs.Prelude.{sum_by, map, flat_map, filter, Option, Some, None, IsTrue, IfSome, not, ◌||◌, ◌&&◌, nat_le, nat_lt, ◌==◌, unwrap_or, bytes_eq}
 use Rattle.std.specs.Ordering.{int_eq}
 use Rattle.std.specs.List.{AllByRecursion}
@@ -19,9 +19,9 @@ use Rattle.kr_defs.specs.Image.{Image, IsValid, config_text, is_small_registrati
 use Rattle.kr_defs.specs.Partition.{is_well_formed, is_part, is_reassignment}
 use Rattle.kr_defs.specs.Texts.{is_topic_name, is_name, are_name_bytes}
 use Rattle.kr_defs.specs.Records.{topic_records, records_of, partition_record as walked_record}
-use Rattle.kr_defs.specs.Sizes.{uvarint_bytes, text_bytes, text_or_null_bytes, list_bytes, rows_bytes, field_bytes, field_there, number_field, ids_field, tags_bytes, no_tags, value_bytes}
+use Rattle.kr_defs.specs.Sizes.{uvarint_bytes, text_bytes, text_or_null_bytes, list_bytes, field_bytes, field_there, number_field, ids_field, tags_bytes, no_tags, value_bytes}
 use Rattle.kr_defs.specs.Walk.{walked, of_topic, walk_topic}
-use Rattle.kr_defs.proofs.Changes.{Formed, formed_parts}
+use Rattle.kr_defs.proofs.Changes.{formed_parts}
 use Rattle.kr_defs.proofs.IdLists.{same_id, refutes, refuted, all_at, all_from, has_kept}
 use Rattle.kr_record.specs.Encodable.{IsEncodable, IsShortEndpoint, IsShortRange}
 use Rattle.kr_record.proofs.Lengths.{size}

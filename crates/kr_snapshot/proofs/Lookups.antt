@@ -1,16 +1,13 @@
 -- What a look-up answers where there is an image, and where there is none.
-use Rattle.std.proofs.Common.{◌≡◌, ◌∙◌, ℕ, ℤ, List, [], ◌∷◌, cond, refl, sym, ap}
-use Rattle.std.specs.Prelude.{Option, Some, None, Result, Ok, Err, IsErr, IsOkAnd, MatchOption, unwrap_or, is_some, Bool, true, false}
-use Rattle.std.specs.Prelude.{find, IfSome}
+use Rattle.std.proofs.Common.{◌≡◌, ℕ, ℤ, List, [], ◌∷◌, cond, refl, ap}
+use Rattle.std.specs.Prelude.{Option, Some, None, unwrap_or, is_some, true, false}
+use Rattle.std.specs.Prelude.{find}
 use Rattle.std.specs.List.{AllByRecursion}
 use Rattle.std.specs.Ordering.{int_eq}
 use Rattle.std.proofs.lemmas.List.Elements.{recursion_from_All}
 use Rattle.std.specs.Option.{option_map}
-use Rattle.std.specs.Result.{result_unwrap_or, is_ok}
-use Rattle.std.specs.declared.cmp.Ordering.{Ordering}
 use Rattle.kr_defs.specs.declared.record.Topic.{Topic}
 use Rattle.kr_defs.specs.Image.{Image, IsValid, empty}
-use Rattle.kr_defs.specs.Map.{next, text_order}
 use Rattle.kr_defs.proofs.Tests.{some_is}
 use Rattle.kr_store.specs.declared.places.At.{At}
 use Rattle.kr_store.specs.declared.places.At.TheVariants as places

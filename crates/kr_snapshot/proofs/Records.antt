@@ -1,6 +1,6 @@
 -- The records that are read one after the other, against their order and their meaning.
-use Rattle.std.proofs.Common.{◌≡◌, ◌∙◌, ℕ, ◌+◌, ◌≤◌, Bool, true, false, cond, List, [], ◌∷◌, ◌++◌, length, Result, Ok, Err, refl, sym, ap, subst, arith}
-use Rattle.std.specs.Prelude.{not, ◌||◌}
+use Rattle.std.proofs.Common.{◌≡◌, ◌∙◌, ◌+◌, Bool, true, false, cond, List, [], ◌∷◌, ◌++◌, length, Result, Ok, Err, refl, sym, ap, subst, arith}
+use Rattle.std.specs.Prelude.{not}
 use Rattle.std.specs.List.{list_any}
 use Rattle.kr_defs.specs.declared.ill.Ill.{Ill}
 use Rattle.kr_defs.specs.declared.record.Record.{Record}
@@ -12,7 +12,6 @@ use Rattle.kr_defs.specs.Image.{Image}
 use Rattle.kr_defs.specs.ImageLaws.{as_items}
 use Rattle.kr_defs.specs.ImageOrder.{is_later, seen_with, are_in_order}
 use Rattle.kr_defs.specs.Log.{apply_all}
-use Rattle.kr_defs.proofs.Tests.{neither}
 use Rattle.kr_wire.specs.Reading.{◌>>=◌}
 use Rattle.kr_wire.proofs.Laws.{bind_ok, guard_ok, is_ok, complete_bind, complete_guard}
 use Rattle.kr_batch.proofs.Frames.{is_true}

@@ -1,6 +1,6 @@
 -- What is written for an image stands for it.
-use Rattle.std.proofs.Common.{◌≡◌, ◌∙◌, ℕ, ℤ, pos, ◌+◌, ◌<◌, ◌≤◌, ◌^◌, Bool, true, false, cond, ltb, List, [], ◌∷◌, ◌++◌, length, length-append, append_assoc, Ok, refl, sym, ap, subst, arith, All}
-use Rattle.std.specs.Prelude.{FitsSigned, ◌≤ℤ◌, map, sum_by, nat_lt, IsTrue}
+use Rattle.std.proofs.Common.{◌≡◌, ◌∙◌, ℕ, ℤ, pos, ◌+◌, ◌<◌, ◌≤◌, ◌^◌, true, false, cond, List, [], ◌∷◌, ◌++◌, length, length-append, append_assoc, Ok, refl, sym, ap, subst, arith, All}
+use Rattle.std.specs.Prelude.{FitsSigned, ◌≤ℤ◌, map, sum_by, nat_lt}
 use Rattle.std.specs.Int.{w64}
 use Rattle.std.specs.List.{AllByRecursion}
 use Rattle.std.proofs.lemmas.Bool.{cases_Bool, ltb-true, ltb-false}
@@ -28,7 +28,7 @@ use Rattle.kr_batch.proofs.Spelled.{batch_spelled}
 use Rattle.kr_snapshot.specs.Grammar.{IsPart, AreParts, all_of, Makes, IsImage}
 use Rattle.kr_snapshot.specs.Reading.{image_of}
 use Rattle.kr_snapshot.specs.Writer.{setting_text, item_text, texts, IsLight, IsLightItem}
-use Rattle.kr_snapshot.specs.Written.{last_group, groups, batch_of_group, batches_bytes, head_bytes, image_text}
+use Rattle.kr_snapshot.specs.Written.{last_group, groups, batch_of_group, batches_bytes, image_text}
 use Rattle.kr_snapshot.proofs.Adding.{all_front, all_back}
 use Rattle.kr_snapshot.proofs.Groups.{group_writable, group_small}
 use Rattle.kr_snapshot.proofs.WholeImages.{image_complete}

@@ -1,5 +1,5 @@
 -- Bytes that stand for an image are read as it, and what is read stands for it.
-use Rattle.std.proofs.Common.{◌≡◌, ◌∙◌, ℕ, ℤ, pos, negsuc, zero, suc, ◌+◌, ◌≤◌, ◌^◌, Bool, true, false, ltb, List, [], ◌∷◌, ◌++◌, length, length-append, Result, Ok, Err, refl, sym, ap, subst, arith}
+use Rattle.std.proofs.Common.{◌≡◌, ◌∙◌, ℕ, ℤ, pos, negsuc, zero, suc, ◌+◌, ◌≤◌, false, List, [], ◌∷◌, ◌++◌, length, length-append, Result, Ok, Err, refl, sym, ap, subst, arith}
 use Rattle.std.specs.Prelude.{not, ◌||◌, ◌≤ℤ◌, int_lt, unsigned_abs, nat_lt}
 use Rattle.std.specs.Int.{w64}
 use Rattle.std.specs.List.{list_any}
@@ -18,7 +18,7 @@ use Rattle.kr_defs.proofs.Tests.{neither}
 use Rattle.kr_wire.specs.declared.WireFault.{WireFault}
 use Rattle.kr_wire.specs.Reading.{◌>>=◌, signed_at}
 use Rattle.kr_wire.specs.Grammar.{◌⌢◌, Exactly, IsSigned}
-use Rattle.kr_wire.proofs.Laws.{IsBytes, IsBytes-before, IsBytes-behind, bind_ok, guard_ok, is_ok, joined, complete_bind, complete_guard}
+use Rattle.kr_wire.proofs.Laws.{IsBytes, IsBytes-before, IsBytes-behind, bind_ok, guard_ok, is_ok, complete_bind, complete_guard}
 use Rattle.kr_wire.proofs.Numbers.{signed_law}
 use Rattle.kr_batch.specs.declared.Batch.{Batch}
 use Rattle.kr_batch.specs.declared.fault.BatchFault.{BatchFault}
@@ -27,7 +27,7 @@ use Rattle.kr_batch.specs.Grammar.{IsBatch}
 use Rattle.kr_batch.proofs.Batches.{of_sound, of_complete}
 use Rattle.kr_batch.proofs.Frames.{is_true}
 use Rattle.kr_snapshot.specs.declared.fault.ImageFault.{ImageFault}
-use Rattle.kr_snapshot.specs.Grammar.{IsPart, AreParts, all_of, Makes, IsImage}
+use Rattle.kr_snapshot.specs.Grammar.{AreParts, all_of, IsImage}
 use Rattle.kr_snapshot.specs.Reading.{Progress, begun, headed, numbers_at, items_read, is_control, batch_read, refused, front_at, whole_read, ended, batches_read, rest_read, image_of}
 use Rattle.kr_snapshot.proofs.Records.{records_sound, records_complete, items_append, none_control, only_records}
 use Rattle.kr_snapshot.proofs.Fronts.{front_complete, front_sound, part_some}

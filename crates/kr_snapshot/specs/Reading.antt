@@ -1,5 +1,5 @@
 -- Reading an image: what the bytes give, or the first fault. Want of memory is free. This project's own.
-use Rattle.std.specs.Prelude.{ℕ, ℤ, pos, zero, suc, int_lt, unsigned_abs, ◌+◌, ◌||◌, Bool, true, false, not, List, [], ◌∷◌, length, take, drop, Result, Ok, Err, nat_lt, ◌==◌}
+use Rattle.std.specs.Prelude.{ℕ, ℤ, pos, zero, suc, int_lt, unsigned_abs, ◌+◌, ◌||◌, Bool, true, false, not, List, [], ◌∷◌, length, take, drop, Result, Ok, Err, nat_lt}
 use Rattle.std.specs.Int.{w64}
 use Rattle.std.specs.List.{list_any}
 use Rattle.std.specs.Ordering.{int_eq}

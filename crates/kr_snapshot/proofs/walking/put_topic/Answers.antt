@@ -1,4 +1,4 @@
-use Rattle.std.proofs.Common.{[], ◌∷◌, List, ℕ, ℤ, refl, sym, pos, negsuc, Some}
+use Rattle.std.proofs.Common.{[], ◌∷◌, List, refl, sym, negsuc, Some}
 use Rattle.std.specs.Prelude.{map}
 use Rattle.std.proofs.lemmas.List.{append-nil}
 use Rattle.kr_defs.specs.declared.record.Record.{Record}

@@ -1,4 +1,4 @@
-use Rattle.std.proofs.Common.{[], ◌∷◌, List, ℕ, ap, sym}
+use Rattle.std.proofs.Common.{List, ℕ, ap, sym}
 use Rattle.std.specs.Prelude.{flat_map}
 use Rattle.std.specs.Option.{option_copied}
 use Rattle.kr_defs.specs.Map.{above, text_order}

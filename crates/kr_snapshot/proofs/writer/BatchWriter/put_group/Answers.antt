@@ -1,4 +1,4 @@
-use Rattle.std.proofs.Common.{rules, ◌≡◌, ◌++◌, [], length}
+use Rattle.std.proofs.Common.{rules, ◌≡◌, ◌++◌, length}
 use Rattle.kr_batch.specs.Written.{batch_bytes}
 use Rattle.kr_snapshot.specs.Written.{batch_of_group}
 use Rattle.kr_snapshot.proofs.Groups.{group_behind, sound_empty}
