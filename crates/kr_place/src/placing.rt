@@ -4,8 +4,8 @@ ghost use Rattle.std.specs.Prelude.{◌≡◌, ◌<◌, ◌≤◌, ◌≤ℤ◌,
 ghost use Rattle.kr_defs.specs.Placed.{placed};
 ghost use Rattle.kr_place.specs.Spread.{IsSpread};
 
+use crate::grouped::Grouped;
 use crate::racked::Racked;
-use crate::racks::{racks_of, walk};
 use kr_base::NoMemory;
 use kr_defs::{Ids, Text};
 use std::alloc::Global;
@@ -58,7 +58,7 @@ pub fn place(
             asked: factor,
         });
     }
-    let first = start.unsigned_abs() as u128 + index.unsigned_abs() as u128;
+    let first = start.unsigned_abs() + index.unsigned_abs() as u64;
     Ok(chosen(alloc, brokers.as_slice(), first, wanted)?)
 }
 
@@ -67,13 +67,11 @@ pub fn place(
 fn chosen(
     alloc: Global,
     brokers: &[(i32, Option<Text>)],
-    first: u128,
+    first: u64,
     factor: usize,
 ) -> Result<Ids, NoMemory>
-    requires { first < 2 ^ 64 }
     ensures { IfOk result (λ ids. ids ≡ placed brokers.now first factor) }
 {
-    let racks = racks_of(alloc, brokers)?;
-    let visits = racks.len() as u128 * brokers.len() as u128;
-    walk(alloc, racks.as_slice(), first, visits, factor)
+    let those = Grouped::of(alloc, brokers)?;
+    those.place(alloc, first, factor)
 }
