@@ -44,7 +44,16 @@ impl<'a, K, I, A, R: ItemRule<K, I, A>> Rule<I, A> for Within<'a, K, R> {
 }
 
 // The answer to a group, whose entries are decided in order.
-fn over_group<G, K, I, A: Drop, B: Drop, R: ItemRule<K, I, A> + Groups<G, K, I, A, B>, S: Store, L: Ledger>(
+fn over_group<
+    G,
+    K,
+    I,
+    A: Drop,
+    B: Drop,
+    R: ItemRule<K, I, A> + Groups<G, K, I, A, B>,
+    S: Store,
+    L: Ledger,
+>(
     alloc: Global,
     store: &mut S,
     work: &mut Work,
@@ -68,7 +77,16 @@ fn over_group<G, K, I, A: Drop, B: Drop, R: ItemRule<K, I, A> + Groups<G, K, I, 
 }
 
 /// The answers to all groups, in order.
-pub fn over_groups<G, K, I, A: Drop, B: Drop, R: ItemRule<K, I, A> + Groups<G, K, I, A, B>, S: Store, L: Ledger>(
+pub fn over_groups<
+    G,
+    K,
+    I,
+    A: Drop,
+    B: Drop,
+    R: ItemRule<K, I, A> + Groups<G, K, I, A, B>,
+    S: Store,
+    L: Ledger,
+>(
     alloc: Global,
     store: &mut S,
     work: &mut Work,
@@ -95,7 +113,16 @@ pub fn over_groups<G, K, I, A: Drop, B: Drop, R: ItemRule<K, I, A> + Groups<G, K
 
 /// A request of entries in groups is decided: its records, and the answer to each group.
 #[tactic(auto, using(crate::proofs::Takes::bases))]
-pub fn decide_groups<G, K, I, A: Drop, B: Drop, R: ItemRule<K, I, A> + Groups<G, K, I, A, B>, S: Store, L: Ledger>(
+pub fn decide_groups<
+    G,
+    K,
+    I,
+    A: Drop,
+    B: Drop,
+    R: ItemRule<K, I, A> + Groups<G, K, I, A, B>,
+    S: Store,
+    L: Ledger,
+>(
     alloc: Global,
     store: &mut S,
     place: i64,

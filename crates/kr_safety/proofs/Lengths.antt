@@ -41,7 +41,7 @@ distinct_few (x ∷ xs) ys distinct within =
     let d = and_parts (not (has xs x)) (is_distinct xs) distinct in
     let w = and_parts (has ys x) (list_all (has ys) xs) within in
     let rest = distinct_few xs (filter (λ y. not (int_eq y x)) ys) d.1 (all_from (has (filter (λ y. not (int_eq y x)) ys)) xs (λ id there.
-      has_kept (λ y. not (int_eq y x)) ys id (all_at (has ys) xs id w.1 there) (other xs x id d.0 there))) in
+    has_kept (λ y. not (int_eq y x)) ys id (all_at (has ys) xs id w.1 there) (other xs x id d.0 there))) in
     let less = shorter ys x w.0 in
     omega (arith, rest, less)
 

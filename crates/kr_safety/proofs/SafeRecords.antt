@@ -94,8 +94,7 @@ module _ (request : Option Request) where
         | None ↦ λ is. changes_safe change image ws safe stand.1.1
         | Some c ↦ λ is.
             let next = record image { partitions = entries.insert partition_order image.partitions w.key (merged w.partition c) } in
-            let rest = changes_safe change next ws safe (still_stand change image.topics image.partitions w.key (merged w.partition c) ws stand.1.0 stand.1.1) in
-            (
+            let rest = changes_safe change next ws safe (still_stand change image.topics image.partitions w.key (merged w.partition c) ws stand.1.0 stand.1.1) in (
               record { name = w.topic; partition = w.partition; named = stand.0.named; stands = stand.0.there; safe = safe image w c refl is },
               rw (is_owned image.topics w.key.0 w.topic stand.0.named, stand.0.there, stand.0.formed c is) rest,
             )

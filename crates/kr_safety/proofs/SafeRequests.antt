@@ -68,16 +68,16 @@ own_reports : (q : AlterPartition) → AllByRecursion (λ topic. AllByRecursion 
 own_reports q =
     each_group (λ topic. AllByRecursion (IsReportOf q) (reporting.entries_of topic)) (λ topic. (test : AlterPartitionTopic → Bool) → test topic ≡ true → list_any test q.topics ≡ true)
     (λ topic here. each_entry (IsReportOf q) (λ report. (test : _) → test report ≡ true → list_any test topic.partitions ≡ true) (λ report. (topic.topic, report))
-      (λ report there test is. here (λ other. other.topic == topic.topic && list_any test other.partitions) (and_from (topic.topic == topic.topic) (list_any test topic.partitions) (equal_ids topic.topic topic.topic refl) (there test is)))
-      topic.partitions (each_here topic.partitions))
+    (λ report there test is. here (λ other. other.topic == topic.topic && list_any test other.partitions) (and_from (topic.topic == topic.topic) (list_any test topic.partitions) (equal_ids topic.topic topic.topic refl) (there test is)))
+    topic.partitions (each_here topic.partitions))
     q.topics (each_here q.topics)
 
 own_moves : (q : AlterPartitionReassignments) → AllByRecursion (λ topic. AllByRecursion (IsMoveOf q) (reassigning.entries_of topic)) q.topics
 own_moves q =
     each_group (λ topic. AllByRecursion (IsMoveOf q) (reassigning.entries_of topic)) (λ topic. (test : ReassignableTopic → Bool) → test topic ≡ true → list_any test q.topics ≡ true)
     (λ topic here. each_entry (IsMoveOf q) (λ partition. (test : _) → test partition ≡ true → list_any test topic.partitions ≡ true) (λ partition. (topic.name, partition))
-      (λ partition there test is. here (λ other. bytes_eq other.name topic.name && list_any test other.partitions) (and_from (bytes_eq topic.name topic.name) (list_any test topic.partitions) ((bytes_eq-Decides topic.name topic.name).1 refl) (there test is)))
-      topic.partitions (each_here topic.partitions))
+    (λ partition there test is. here (λ other. bytes_eq other.name topic.name && list_any test other.partitions) (and_from (bytes_eq topic.name topic.name) (list_any test topic.partitions) ((bytes_eq-Decides topic.name topic.name).1 refl) (there test is)))
+    topic.partitions (each_here topic.partitions))
     q.topics (each_here q.topics)
 
 -- ---- the work of a request
@@ -100,7 +100,7 @@ module _ (request : Option Request) (start : Image) where
     keeps : Keeps refused rule IsSafeWork Is
     keeps w entry is so_far draft drafted after by = record {
       safe = subst (AreSafe request start) (sym by.written) (both_safe request start w.records draft.records so_far.safe (λ mid reached.
-        subst (λ (i : Image). AreSafe request i draft.records) (ap (ok_or_this w.image) (sym so_far.meaning ∙ reached)) (gives w.image w.place entry is so_far.valid draft drafted)));
+          subst (λ (i : Image). AreSafe request i draft.records) (ap (ok_or_this w.image) (sym so_far.meaning ∙ reached)) (gives w.image w.place entry is so_far.valid draft drafted)));
       meaning = subst (λ (records : List Record). apply_records start records ≡ Ok after.image) (sym by.written) (applied_in_two start w.records draft.records ∙ (ap (λ r. and_then r (λ i. apply_records i draft.records)) so_far.meaning ∙ by.applied));
       valid = valid_after w.image draft.records so_far.valid after.image by.applied;
     }

@@ -84,9 +84,11 @@ module _ (request : Option Request) (image : Image) where
   created_safe : (validate_only : Bool) (id : ℕ) (entry : Rattle.kr_calls.specs.declared.topics.CreatableTopic.CreatableTopic) (layout : creating.Layout) → P (creating.created image validate_only id entry layout)
   created_safe validate_only id entry layout =
       let settings = creating.settings_records image.configs entry.name entry.configs in
-      let partitions = new_partitions image id 0 layout.replicas in
-      (tt, if_ok (λ after. AreSafe request after (settings ++ partitions)) _ (λ after is.
-        both_safe request after settings partitions (all_calm_safe request after settings (settings_calm image.configs entry.name entry.configs)) (λ mid is. partitions_safe request mid image id 0 layout.replicas)))
+      let partitions = new_partitions image id 0 layout.replicas in (
+        tt,
+        if_ok (λ after. AreSafe request after (settings ++ partitions)) _ (λ after is.
+            both_safe request after settings partitions (all_calm_safe request after settings (settings_calm image.configs entry.name entry.configs)) (λ mid is. partitions_safe request mid image id 0 layout.replicas)),
+      )
 
   pub creates : (options : Options) (validate_only : Bool) (place : ℤ) (entry : _) → Gives P (creating.rule options validate_only image place entry)
   creates options validate_only place entry =
