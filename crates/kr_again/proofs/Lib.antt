@@ -1,3 +1,3 @@
-pub mod Kinds
+pub mod Layouts
 pub mod Parts
 pub mod ReadAgain

@@ -13,7 +13,7 @@ use Rattle.kr_defs.specs.Sizes as sizes
 use Rattle.kr_wire.specs.Laws.{IsBytes}
 use Rattle.kr_wire.specs.Grammar.{◌⌢◌, Exactly}
 use Rattle.kr_wire.proofs.Follows.{Follows, free, ◌and◌, then, int32, int64, exactly}
-use Rattle.kr_again.proofs.Kinds.{short, held, cost}
+use Rattle.kr_again.proofs.Layouts.{short, held, cost}
 use Rattle.kr_record.specs.Encodable.{IsEncodable}
 use Rattle.kr_record.specs.Held.{IsHeld}
 use Rattle.kr_record.specs.Spelling.{record_value}

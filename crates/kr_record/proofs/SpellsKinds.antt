@@ -1,5 +1,5 @@
 -- What is written of each kind of record.
-use Rattle.std.proofs.Common.{◌≡◌, ℕ, ◌+◌, ◌<◌, ◌^◌, List, [], ◌∷◌, append_assoc, Option, refl, arith, lit<, lit≤}
+use Rattle.std.proofs.Common.{ℕ, ◌+◌, ◌<◌, ◌^◌, List, [], ◌∷◌, append_assoc, Option, refl, arith, lit<, lit≤}
 use Rattle.std.specs.Prelude.{ℤ, pos, FitsSigned, IsUtf8}
 use Rattle.std.specs.Int.{w8, w16, w32, w64}
 use Rattle.std.proofs.lemmas.List.{append-nil}

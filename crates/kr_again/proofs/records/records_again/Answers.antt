@@ -1,5 +1,5 @@
 use Rattle.kr_record.proofs.Stands.{stands}
-use Rattle.kr_again.proofs.Kinds.{short, held, cost}
+use Rattle.kr_again.proofs.Layouts.{short, held, cost}
 use Rattle.kr_again.proofs.records.records_again.Goals as goal
 
 pub returns-clause-short : goal.returns-clause-short

@@ -1,6 +1,6 @@
 -- What follows of the bytes of a record: how many are written for it, that it has a written form, and that its numbers and texts
 -- are those of their types.
-use Rattle.std.proofs.Common.{true, ℕ, ◌+◌, ◌*◌, ◌^◌, ◌<◌, ◌≤◌, List, [], ◌∷◌, length, Option, arith, lit≤}
+use Rattle.std.proofs.Common.{ℕ, true, ◌+◌, ◌*◌, ◌^◌, ◌<◌, ◌≤◌, List, [], ◌∷◌, length, Option, arith, lit≤}
 use Rattle.std.specs.Prelude.{ℤ, pos, FitsSigned, IsUtf8, nat_le}
 use Rattle.std.specs.Int.{w8, w16, w32, w64}
 use Rattle.kr_defs.specs.declared.broker.Broker.{Broker}
