@@ -1,12 +1,12 @@
 -- What follows of the parts that records share.
-use Rattle.std.proofs.Common.{◌≡◌, ℕ, ◌*◌, ◌^◌, ◌<◌, ◌≤◌, Bool, true, false, cond, List, [], ◌∷◌, length, Option, Some, None, refl, sym, ap, subst, ◌∙◌, arith, lit<, lit≤}
+use Rattle.std.proofs.Common.{◌≡◌, ℕ, ◌*◌, ◌≤◌, Bool, true, false, cond, List, [], ◌∷◌, length, Option, Some, None, refl, sym, ap, subst, ◌∙◌, arith, lit<, lit≤}
 use Rattle.std.specs.Prelude.{ℤ, pos, negsuc, ◌≢◌, FitsSigned, IsUtf8, IfSome}
 use Rattle.std.specs.Option.{unwrap_or}
 use Rattle.std.specs.Ordering.{int_eq}
 use Rattle.std.specs.Int.{Width, w8, w32}
 use Rattle.std.proofs.lemmas.Bool.Decides.{Decides-int_eq}
 use Rattle.std.proofs.lemmas.List.Elements.{All-nil}
-use Rattle.kr_defs.specs.Sizes.{text_bytes, text_or_null_bytes, list_bytes, number_field, number_field_or, ids_field, ids_field_or}
+use Rattle.kr_defs.specs.Sizes.{text_or_null_bytes, list_bytes, number_field, number_field_or, ids_field, ids_field_or}
 use Rattle.kr_wire.specs.Grammar.{IsSigned, IsTextOrNull}
 use Rattle.kr_wire.proofs.Follows.{Follows, then, int8, int32, uvarint, text, int32s}
 use Rattle.kr_wire.proofs.FollowsTagged.{Within, FieldFollows}

@@ -16,10 +16,9 @@ use Rattle.kr_wire.proofs.Follows.{Follows, free, ◌and◌, then, int32, int64,
 use Rattle.kr_again.proofs.Layouts.{short, held, cost}
 use Rattle.kr_record.specs.Encodable.{IsEncodable}
 use Rattle.kr_record.specs.Held.{IsHeld}
-use Rattle.kr_record.specs.Spelling.{record_value}
 use Rattle.kr_record.proofs.Lengths.{size}
 use Rattle.kr_batch.specs.declared.Batch.{Batch}
-use Rattle.kr_batch.specs.Grammar.{IsSized, IsBody, IsFrame, IsEntry, AreEntries, IsStart, IsSum, IsCount, IsFixed, AreItems, IsBatch}
+use Rattle.kr_batch.specs.Grammar.{IsSized, IsBody, IsEntry, AreEntries, IsStart, IsSum, IsCount, IsFixed, AreItems, IsBatch}
 use Rattle.kr_batch.specs.Written.{IsWritable, IsHeldItem, IsRegular, value_bytes, values_size}
 use Rattle.kr_again.specs.Items.{HasRecords}
 
@@ -58,8 +57,13 @@ entries (items.Control ∷ others) at = record { cost = λ bytes is. absurd is; 
 values_long : (all : List Item) → All IsWritable all → values_size all ≤ sum_by item_bytes all
 values_long [] fit = omega arith
 values_long (items.Record r ∷ others) fit =
-    omega (arith, size r (All-head IsWritable (items.Record r) others fit), values_long others (All-tail IsWritable (items.Record r) others fit),
-    sum_by-cons (λ x. length (value_bytes x)) (items.Record r) others, sum_by-cons item_bytes (items.Record r) others)
+    omega (
+      arith,
+      size r (All-head IsWritable (items.Record r) others fit),
+      values_long others (All-tail IsWritable (items.Record r) others fit),
+      sum_by-cons (λ x. length (value_bytes x)) (items.Record r) others,
+      sum_by-cons item_bytes (items.Record r) others,
+    )
 values_long (items.Control ∷ others) fit = absurd (All-head IsWritable items.Control others fit)
 
 record_no_control : (r : Record) (others more : List Item) → items.Record r ∷ others ≡ items.Control ∷ more → ⊥
