@@ -1,5 +1,8 @@
+pub mod BrokerTests
 pub mod CarefulChanges
 pub mod FencingSizes
+pub mod HeardBrokers
+pub mod HearingRequests
 pub mod Lengths
 pub mod NamedTopics
 pub mod SafeRecords

@@ -42,7 +42,7 @@ use Rattle.kr_safety.proofs.SafeRules.{IsSafeDraft, IsReportOf, IsMoveOf, create
 use Rattle.kr_safety.proofs.SafeWalks.{fencing_safe}
 
 -- records that have a meaning keep a valid image valid
-valid_after : (image : Image) (records : List Record) → IsValid image → Gives IsValid (apply_records image records)
+pub valid_after : (image : Image) (records : List Record) → IsValid image → Gives IsValid (apply_records image records)
 valid_after image [] valid = gives_done IsValid image valid
 valid_after image (r ∷ records) valid = gives_then IsValid IsValid (apply_record image r) (λ after. apply_records after records) (validity.records image valid r) (λ mid v. valid_after mid records v)
 

@@ -1,2 +1,3 @@
 pub mod FencingLaws
+pub mod HearingLaws
 pub mod SafeChangeLaws

@@ -3,6 +3,7 @@
 #![tactic(auto)]
 
 ghost use Rattle.kr_safety.specs.FencingLaws.{FencingsFit};
+ghost use Rattle.kr_safety.specs.HearingLaws.{LeadersBeginHearing, RequestsKeepHearing, FencingsKeepHearing};
 ghost use Rattle.kr_safety.specs.SafeChangeLaws.{RequestsAreSafe, FencingsAreSafe};
 
 /// Each change of a partition that a request gives on a valid image is safe just below its place, and the first replica in
@@ -16,4 +17,12 @@ pub fn changes_are_safe()
 /// some 830 bytes each.
 pub fn fencings_fit()
     ensures { FencingsFit }
+{}
+
+/// A leader hears of the unfenced brokers, and of the stopping ones among them: from the start of its leadership, and after
+/// each request that is decided on a valid image, and each fencing.
+pub fn leaders_hear_of_unfenced_brokers()
+    ensures begin { LeadersBeginHearing }
+    ensures requests { RequestsKeepHearing }
+    ensures fencings { FencingsKeepHearing }
 {}
