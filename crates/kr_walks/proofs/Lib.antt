@@ -1,4 +1,4 @@
 pub mod Any
-pub mod Brokers
+pub mod BrokerIds
 pub mod Changes
 pub mod Counts

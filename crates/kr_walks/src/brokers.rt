@@ -25,12 +25,7 @@ pub trait BrokerTest {
         ensures { result ≡ accepts self.now (id.now, state.now) };
 }
 
-fn add_if<T: BrokerTest>(
-    ids: &mut Ids,
-    test: &T,
-    id: &i32,
-    state: &Broker,
-) -> Result<(), NoMemory>
+fn add_if<T: BrokerTest>(ids: &mut Ids, test: &T, id: &i32, state: &Broker) -> Result<(), NoMemory>
     ensures { OnOk result (ids.new ≡ ids.old ++ map (λ e. e.0) (filter (T.accepts test.now) ((id.now, state.now) ∷ []))) }
 {
     if test.accepts(id, state) {

@@ -58,7 +58,7 @@ struct Leaver {
     restarted: bool,
 }
 
-fn leaver(minimum: &i32, active: Ids, broker: &i32, restarted: bool) -> Leaver
+fn leaver_of(minimum: &i32, active: Ids, broker: &i32, restarted: bool) -> Leaver
     ensures { result ≡ record { minimum = minimum.now; active = active; broker = broker.now; restarted = restarted } }
 {
     Leaver {
@@ -132,7 +132,7 @@ pub fn take_out<S: Store>(
 {
     let everyone = active(alloc, store)?;
     let active = others(alloc, &everyone, broker)?;
-    let rule = leaver(minimum, active, broker, restarted);
+    let rule = leaver_of(minimum, active, broker, restarted);
     add_changes(alloc, store, &rule, records)
 }
 
@@ -148,7 +148,7 @@ fn fence_record(broker: &i32, epoch: &i64) -> Record
 }
 
 /// The records that fence a broker of this epoch.
-pub fn fencing<S: Store>(
+pub fn fencing_records<S: Store>(
     alloc: Global,
     store: &S,
     minimum: &i32,

@@ -13,22 +13,22 @@ loop-other-preserved g c =
     let after = option_copied c.loop-other.after in
     let test = λ (topic : List ℕ × ℕ). names_agree topic.0 c.args.name.now in
     let found = topic_found (next text_order topics after) c.in-Some.other.now c.in-Some._topic.now c.in-Some.ensures in
-    c.loop-other.invariant ∙ any_later text_total test topics after (c.in-Some.other.now, c.in-Some._topic.now.id) c.counts-_valid.ensures.valid.tip.topics.ordered found (sym c.names_agree.ensures ∙ c.if-branch.false)
+    c.loop-other.invariant ∙ any_later text_total test topics after (c.in-Some.other.now, c.in-Some._topic.now.id) c.counts-valid.ensures.valid.tip.topics.ordered found (sym c.names_agree.ensures ∙ c.if-names_agree.false)
 
 pub loop-other-smaller : goal.loop-other-smaller
 loop-other-smaller g c =
     let topics = (g.S.Store.images c.args.store.now).tip.topics in
     let after = option_copied c.loop-other.after in
     let found = topic_found (next text_order topics after) c.in-Some.other.now c.in-Some._topic.now c.in-Some.ensures in
-    topic_less topics after (c.in-Some.other.now, c.in-Some._topic.now.id) c.counts-_valid.ensures.valid.tip.topics.ordered found
+    topic_less topics after (c.in-Some.other.now, c.in-Some._topic.now.id) c.counts-valid.ensures.valid.tip.topics.ordered found
 
-pub returns-then-branch : goal.returns-then-branch
-returns-then-branch g c =
+pub returns-then-names_agree : goal.returns-then-names_agree
+returns-then-names_agree g c =
     let topics = (g.S.Store.images c.args.store.now).tip.topics in
     let after = option_copied c.loop-other.after in
     let test = λ (topic : List ℕ × ℕ). names_agree topic.0 c.args.name.now in
     let found = topic_found (next text_order topics after) c.in-Some.other.now c.in-Some._topic.now c.in-Some.ensures in
-    sym (c.loop-other.invariant ∙ any_here text_total test topics after (c.in-Some.other.now, c.in-Some._topic.now.id) c.counts-_valid.ensures.valid.tip.topics.ordered found (sym c.names_agree.ensures ∙ c.if-branch.true))
+    sym (c.loop-other.invariant ∙ any_here text_total test topics after (c.in-Some.other.now, c.in-Some._topic.now.id) c.counts-valid.ensures.valid.tip.topics.ordered found (sym c.names_agree.ensures ∙ c.if-names_agree.true))
 
 pub returns : goal.returns
 returns g c =

@@ -1,0 +1,4 @@
+pub mod Before
+pub mod Heard
+pub mod LastKept
+pub mod Unfenced
