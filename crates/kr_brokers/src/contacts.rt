@@ -10,6 +10,7 @@ ghost use Rattle.kr_calls.specs.NextBasis as following;
 ghost use Rattle.kr_calls.specs.declared.calls.Request.TheVariants as requests;
 ghost use Rattle.kr_rules.specs.Progress.{base_of};
 ghost use Rattle.kr_store.specs.Images.{last_kept};
+ghost use Rattle.kr_store.specs.declared.places.At.TheVariants as places;
 
 use kr_calls::{BrokerHeartbeat, BrokerHeartbeatReply, Reply, Request};
 use kr_defs::Broker;
@@ -17,13 +18,20 @@ use kr_sessions::Sessions;
 use kr_store::{At, Store};
 use kr_walks::tip;
 
+fn at_epoch(epoch: &i64) -> At
+    ensures { result ≡ places.Epoch epoch.now }
+{
+    At::Epoch(*epoch)
+}
+
 // The broker in the image that the request was decided on.
 fn broker_before<'a, S: Store>(store: &'a S, place: &i64, id: &i32) -> Option<&'a Broker>
     requires { last_kept (S.images store.now) ≡ Some (place.now, base_of (S.images store.now)) }
     ensures { option_copied result ≡ entries.get int_cmp (base_of (S.images store.now)).brokers id.now }
 {
     let _valid = store.counts();
-    match store.broker(At::Epoch(*place), *id) {
+    let at = at_epoch(place);
+    match store.broker(at, *id) {
         Ok(found) => found,
         Err(_) => None,
     }

@@ -1,6 +1,6 @@
 //! The elections that a broker may win once it is unfenced.
 
-ghost use Rattle.std.specs.Prelude.{◌≡◌, ◌&&◌, ◌||◌, not, negsuc, pos, ◌∷◌, [], Some, None, IfOk, filter, map, if◌then◌else◌};
+ghost use Rattle.std.specs.Prelude.{◌≡◌, ◌++◌, ◌&&◌, ◌||◌, not, negsuc, pos, ◌∷◌, [], Some, None, IfOk, OnOk, filter, map, if◌then◌else◌};
 ghost use Rattle.std.specs.Ordering.{int_cmp, int_eq};
 ghost use Rattle.kr_defs.specs.declared.record.Record.TheVariants as kinds;
 ghost use Rattle.kr_defs.specs.Brokers as brokers;
@@ -8,6 +8,7 @@ ghost use Rattle.kr_defs.specs.Build.{built};
 ghost use Rattle.kr_defs.specs.DefaultWant as wants;
 ghost use Rattle.kr_defs.specs.Map as entries;
 ghost use Rattle.kr_defs.specs.Settings.{facts_with};
+ghost use Rattle.kr_defs.specs.Walk.{changes_of, walk};
 ghost use Rattle.kr_calls.specs.BrokerHeartbeat as heartbeating;
 
 use kr_base::NoMemory;
@@ -96,6 +97,23 @@ impl Change for Candidate {
     }
 }
 
+// Adds the elections that the broker may win.
+fn add_elections<S: Store>(
+    alloc: Global,
+    store: &S,
+    minimum: &i32,
+    broker: &i32,
+    state: &Broker,
+    records: &mut Records,
+) -> Result<(), NoMemory>
+    requires { entries.get int_cmp (S.images store.now).tip.brokers broker.now ≡ Some state.now }
+    ensures { OnOk result (records.new ≡ records.old ++ changes_of (heartbeating.electing minimum.now (S.images store.now).tip broker.now state.now) (walk (S.images store.now).tip)) }
+{
+    let active = active_with(alloc, store, broker, state)?;
+    let rule = candidate_of(minimum, active, broker);
+    add_changes(alloc, store, &rule, records)
+}
+
 fn unfence_record(broker: &i32, epoch: &i64) -> Record
     ensures { result ≡ kinds.BrokerRegistrationChange broker.now epoch.now (negsuc 0) (pos 0) }
 {
@@ -120,8 +138,6 @@ pub fn unfencing_records<S: Store>(
 {
     let mut records = Records::new(alloc);
     records.push(unfence_record(broker, &state.epoch))?;
-    let active = active_with(alloc, store, broker, state)?;
-    let rule = candidate_of(minimum, active, broker);
-    add_changes(alloc, store, &rule, &mut records)?;
+    add_elections(alloc, store, minimum, broker, state, &mut records)?;
     Ok(records)
 }

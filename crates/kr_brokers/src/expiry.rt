@@ -57,7 +57,7 @@ pub fn fence<S: Store, L: Ledger>(
     requires low { context.now.place ≤ℤ places_end }
     requires kept { last_kept (S.images store.old) ≡ Some (context.now.place, (S.images store.old).tip) }
     requires registered { IsSome (entries.get int_cmp (S.images store.old).tip.brokers broker.now) }
-    ensures records { (state : AnyBroker) → entries.get int_cmp (S.images store.old).tip.brokers broker.now ≡ Some state → OnOk result (out.new.records ≡ taking.fencing context.now.options.now.minimum (S.images store.old).tip broker.now state.epoch) }
+    ensures records { (state : AnyBroker) → entries.get int_cmp (S.images store.old).tip.brokers broker.now ≡ Some state → OnOk result (out.new.records ≡ taking.fencing context.entry.now.options.now.minimum (S.images store.old).tip broker.now state.epoch) }
     ensures image { OnOk result (apply_records (S.images store.old).tip out.new.records ≡ Ok (S.images store.new).tip) }
     ensures reply { out.new.reply ≡ out.old.reply }
     ensures same { OnErr result (out.new ≡ out.old) }

@@ -1,9 +1,12 @@
 //! A broker is alive: it is unfenced, told to stop, or fenced.
 
-ghost use Rattle.std.specs.Prelude.{◌≡◌, ◌≤◌, ◌+◌, ◌∷◌, ℤ, pos, false, ◌≤ℤ◌, Some, IfOk, OnOk, OnErr};
+ghost use Rattle.std.specs.Prelude.{◌≡◌, ◌≤◌, ◌+◌, ◌∷◌, ℤ, pos, true, false, int_le, ◌≤ℤ◌, Some, IfOk, OnOk, OnErr};
+ghost use Rattle.std.specs.Option.{option_map_or};
 ghost use Rattle.std.specs.Ordering.{int_cmp, int_eq};
 ghost use Rattle.kr_defs.specs.declared.limits.TheConstants.{PLACES_END as places_end};
 ghost use Rattle.kr_defs.specs.declared.record.Record.TheVariants as kinds;
+ghost use Rattle.kr_defs.specs.Brokers.{active};
+ghost use Rattle.kr_defs.specs.Heartbeats.{lowest_offset, stopped_at};
 ghost use Rattle.kr_defs.specs.Map as entries;
 ghost use Rattle.kr_calls.specs.BrokerHeartbeat as heartbeating;
 ghost use Rattle.kr_calls.specs.Deciding.{weights};
@@ -75,22 +78,32 @@ fn of_fenced<S: Store>(
     Ok(draft_of(request, records, false, false))
 }
 
+// The offset that all have read is at least the tip when the broker began to stop.
+fn is_reached(since: &i64, lowest: Option<i64>) -> bool
+    ensures { result ≡ option_map_or (λ offset. int_le since.now offset) lowest true }
+{
+    match lowest {
+        Some(offset) => *since <= offset,
+        None => true,
+    }
+}
+
 // Every active broker has told of an offset that is at least the tip when the broker began to stop.
 fn is_passed_on<S: Store>(
     alloc: Global,
     store: &S,
     sessions: &Sessions,
-    broker: i32,
+    broker: &i32,
 ) -> Result<bool, NoMemory>
-    ensures { IfOk result (λ passed. passed ≡ heartbeating.is_passed_on (basis_of (pos 0) (pos 0) sessions.now.heartbeats) (S.images store.now).tip broker) }
+    ensures { IfOk result (λ passed. passed ≡ option_map_or (λ since. option_map_or (λ offset. int_le since offset) (lowest_offset sessions.now.heartbeats (active (S.images store.now).tip)) true) (stopped_at sessions.now.heartbeats broker.now) false) }
 {
-    let Some(since) = sessions.stopped_at(broker) else {
-        return Ok(false);
-    };
-    let active = active(alloc, store)?;
-    match sessions.lowest_offset(&active) {
-        Some(offset) => Ok(since <= offset),
-        None => Ok(true),
+    let stopped = sessions.stopped_at(*broker);
+    match &stopped {
+        Some(since) => {
+            let active = active(alloc, store)?;
+            Ok(is_reached(since, sessions.lowest_offset(&active)))
+        }
+        None => Ok(false),
     }
 }
 
@@ -103,7 +116,7 @@ fn of_stopping<S: Store>(
 ) -> Result<Draft<BrokerHeartbeatReply>, NoMemory>
     ensures { IfOk result (λ draft. draft ≡ heartbeating.told request.now (heartbeating.of_stopping minimum.now (basis_of (pos 0) (pos 0) sessions.now.heartbeats) (S.images store.now).tip request.now)) }
 {
-    if is_passed_on(alloc, store, sessions, request.broker)? {
+    if is_passed_on(alloc, store, sessions, &request.broker)? {
         let records = fencing_records(alloc, store, minimum, &request.broker, &request.epoch)?;
         Ok(draft_of(request, records, true, true))
     } else {
@@ -248,9 +261,9 @@ pub fn heartbeat<S: Store, L: Ledger>(
     requires natural { pos 0 ≤ℤ context.now.place }
     requires low { context.now.place ≤ℤ places_end }
     requires kept { last_kept (S.images store.old) ≡ Some (context.now.place, (S.images store.old).tip) }
-    ensures records { (led : ℤ) → OnOk result (out.new.records ≡ (heartbeating.decided context.now.options.now (basis_of context.now.now led context.now.sessions.now.heartbeats) (S.images store.old).tip context.now.place request.now).0.records) }
-    ensures reply { (led : ℤ) → OnOk result (out.new.reply ≡ (heartbeating.decided context.now.options.now (basis_of context.now.now led context.now.sessions.now.heartbeats) (S.images store.old).tip context.now.place request.now).1) }
-    ensures image { (led : ℤ) → OnOk result ((S.images store.new).tip ≡ (heartbeating.decided context.now.options.now (basis_of context.now.now led context.now.sessions.now.heartbeats) (S.images store.old).tip context.now.place request.now).0.image) }
+    ensures records { (led : ℤ) → OnOk result (out.new.records ≡ (heartbeating.decided context.entry.now.options.now (basis_of context.entry.now.now led context.entry.now.sessions.now.heartbeats) (S.images store.old).tip context.entry.now.place request.now).0.records) }
+    ensures reply { (led : ℤ) → OnOk result (out.new.reply ≡ (heartbeating.decided context.entry.now.options.now (basis_of context.entry.now.now led context.entry.now.sessions.now.heartbeats) (S.images store.old).tip context.entry.now.place request.now).1) }
+    ensures image { (led : ℤ) → OnOk result ((S.images store.new).tip ≡ (heartbeating.decided context.entry.now.options.now (basis_of context.entry.now.now led context.entry.now.sessions.now.heartbeats) (S.images store.old).tip context.entry.now.place request.now).0.image) }
     ensures same { OnErr result (out.new ≡ out.old) }
     ensures kept { (S.images store.new).kept ≡ (S.images store.old).kept }
     ensures made { OnOk result ((S.images store.new).made ≤ (S.images store.old).made + weights (S.images store.old).tip out.new.records) }

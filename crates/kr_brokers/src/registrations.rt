@@ -1,8 +1,8 @@
 //! A broker registers.
 
-ghost use Rattle.std.specs.Prelude.{◌≡◌, ◌≤◌, ◌+◌, ◌++◌, ◌==◌, ◌||◌, ℤ, pos, int_lt, ◌≤ℤ◌, length, bytes_eq, Some, IfOk, OnOk, OnErr};
+ghost use Rattle.std.specs.Prelude.{◌≡◌, ◌≤◌, ◌+◌, ◌++◌, ◌==◌, ◌||◌, not, ℤ, pos, int_lt, ◌≤ℤ◌, length, bytes_eq, Some, IfOk, OnOk, OnErr};
 ghost use Rattle.std.specs.Option.{option_copied};
-ghost use Rattle.std.specs.Ordering.{int_cmp};
+ghost use Rattle.std.specs.Ordering.{int_cmp, int_eq};
 ghost use Rattle.kr_defs.specs.declared.limits.TheConstants.{PLACES_END as places_end};
 ghost use Rattle.kr_defs.specs.Map as entries;
 ghost use Rattle.kr_calls.specs.BrokerRegistration as registering;
@@ -30,9 +30,9 @@ struct Registering<'a> {
 }
 
 fn rule_of<'a>(context: &Context<'a>) -> Registering<'a>
-    ensures options { result.options.now ≡ context.now.options.now }
-    ensures sessions { result.sessions.now ≡ context.now.sessions.now }
-    ensures time { result.time ≡ context.now.now }
+    ensures options { result.options.now ≡ context.entry.now.options.now }
+    ensures sessions { result.sessions.now ≡ context.entry.now.sessions.now }
+    ensures time { result.time ≡ context.entry.now.now }
 {
     Registering {
         options: context.options,
@@ -96,7 +96,29 @@ fn registration(
     })
 }
 
-// The broker of an earlier registration is taken out.
+// The broker wasn't shut down from this registration.
+fn is_unclean(request: &BrokerRegistration, old: &Broker) -> bool
+    ensures { result ≡ not (int_eq request.now.previous_epoch old.now.epoch) }
+{
+    request.previous_epoch != old.epoch
+}
+
+// The broker of this earlier registration is taken out.
+fn take_out_old<S: Store>(
+    alloc: Global,
+    store: &S,
+    minimum: &i32,
+    request: &BrokerRegistration,
+    old: &Broker,
+    records: &mut Records,
+) -> Result<(), NoMemory>
+    ensures { OnOk result (records.new ≡ records.old ++ registering.earlier_taken_out minimum.now (S.images store.now).tip request.now (Some old.now)) }
+{
+    let restarted = is_unclean(request, old);
+    take_out(alloc, store, minimum, &request.broker, restarted, records)
+}
+
+// The broker of an earlier registration, if there is one, is taken out.
 fn take_out_earlier<S: Store>(
     alloc: Global,
     store: &S,
@@ -107,14 +129,7 @@ fn take_out_earlier<S: Store>(
     ensures { OnOk result (records.new ≡ records.old ++ registering.earlier_taken_out minimum.now (S.images store.now).tip request.now (entries.get int_cmp (S.images store.now).tip.brokers request.now.broker)) }
 {
     match tip::broker(store, &request.broker) {
-        Some(old) => take_out(
-            alloc,
-            store,
-            minimum,
-            &request.broker,
-            request.previous_epoch != old.epoch,
-            records,
-        ),
+        Some(old) => take_out_old(alloc, store, minimum, request, old, records),
         None => Ok(()),
     }
 }
@@ -196,9 +211,9 @@ pub fn register<S: Store, L: Ledger>(
     requires natural { pos 0 ≤ℤ context.now.place }
     requires low { context.now.place ≤ℤ places_end }
     requires kept { last_kept (S.images store.old) ≡ Some (context.now.place, (S.images store.old).tip) }
-    ensures records { (led : ℤ) → OnOk result (out.new.records ≡ (registering.decided context.now.options.now (basis_of context.now.now led context.now.sessions.now.heartbeats) (S.images store.old).tip context.now.place request.now).0.records) }
-    ensures reply { (led : ℤ) → OnOk result (out.new.reply ≡ (registering.decided context.now.options.now (basis_of context.now.now led context.now.sessions.now.heartbeats) (S.images store.old).tip context.now.place request.now).1) }
-    ensures image { (led : ℤ) → OnOk result ((S.images store.new).tip ≡ (registering.decided context.now.options.now (basis_of context.now.now led context.now.sessions.now.heartbeats) (S.images store.old).tip context.now.place request.now).0.image) }
+    ensures records { (led : ℤ) → OnOk result (out.new.records ≡ (registering.decided context.entry.now.options.now (basis_of context.entry.now.now led context.entry.now.sessions.now.heartbeats) (S.images store.old).tip context.entry.now.place request.now).0.records) }
+    ensures reply { (led : ℤ) → OnOk result (out.new.reply ≡ (registering.decided context.entry.now.options.now (basis_of context.entry.now.now led context.entry.now.sessions.now.heartbeats) (S.images store.old).tip context.entry.now.place request.now).1) }
+    ensures image { (led : ℤ) → OnOk result ((S.images store.new).tip ≡ (registering.decided context.entry.now.options.now (basis_of context.entry.now.now led context.entry.now.sessions.now.heartbeats) (S.images store.old).tip context.entry.now.place request.now).0.image) }
     ensures same { OnErr result (out.new ≡ out.old) }
     ensures kept { (S.images store.new).kept ≡ (S.images store.old).kept }
     ensures made { OnOk result ((S.images store.new).made ≤ (S.images store.old).made + weights (S.images store.old).tip out.new.records) }

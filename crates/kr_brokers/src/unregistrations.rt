@@ -94,9 +94,9 @@ pub fn unregister<S: Store, L: Ledger>(
     requires natural { pos 0 ≤ℤ context.now.place }
     requires low { context.now.place ≤ℤ places_end }
     requires kept { last_kept (S.images store.old) ≡ Some (context.now.place, (S.images store.old).tip) }
-    ensures records { OnOk result (out.new.records ≡ (unregistering.decided context.now.options.now (S.images store.old).tip context.now.place request.now).0.records) }
-    ensures reply { OnOk result (out.new.reply ≡ (unregistering.decided context.now.options.now (S.images store.old).tip context.now.place request.now).1) }
-    ensures image { OnOk result ((S.images store.new).tip ≡ (unregistering.decided context.now.options.now (S.images store.old).tip context.now.place request.now).0.image) }
+    ensures records { OnOk result (out.new.records ≡ (unregistering.decided context.entry.now.options.now (S.images store.old).tip context.entry.now.place request.now).0.records) }
+    ensures reply { OnOk result (out.new.reply ≡ (unregistering.decided context.entry.now.options.now (S.images store.old).tip context.entry.now.place request.now).1) }
+    ensures image { OnOk result ((S.images store.new).tip ≡ (unregistering.decided context.entry.now.options.now (S.images store.old).tip context.entry.now.place request.now).0.image) }
     ensures same { OnErr result (out.new ≡ out.old) }
     ensures kept { (S.images store.new).kept ≡ (S.images store.old).kept }
     ensures made { OnOk result ((S.images store.new).made ≤ (S.images store.old).made + weights (S.images store.old).tip out.new.records) }
