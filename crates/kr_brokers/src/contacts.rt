@@ -1,6 +1,6 @@
 //! Whom a leading controller hears of after a write was decided.
 
-ghost use Rattle.std.specs.Prelude.{◌≡◌, ℤ, IsTrue, Some, true, false};
+ghost use Rattle.std.specs.Prelude.{◌≡◌, ℤ, IsTrue, IsErr, IsOkAnd, MatchOption, Some, true, false};
 ghost use Rattle.std.specs.Option.{option_copied};
 ghost use Rattle.std.specs.Ordering.{int_cmp};
 ghost use Rattle.kr_defs.specs.Heartbeats.{stopping_brokers, is_not_before};
@@ -9,9 +9,10 @@ ghost use Rattle.kr_defs.specs.Map as entries;
 ghost use Rattle.kr_calls.specs.NextBasis as following;
 ghost use Rattle.kr_calls.specs.declared.calls.Request.TheVariants as requests;
 ghost use Rattle.kr_rules.specs.Progress.{base_of};
-ghost use Rattle.kr_store.specs.Images.{last_kept};
+ghost use Rattle.kr_store.specs.Images.{last_kept, brokers_at};
 ghost use Rattle.kr_store.specs.declared.places.At.TheVariants as places;
 
+use kr_base::NoEpoch;
 use kr_calls::{BrokerHeartbeat, BrokerHeartbeatReply, Reply, Request};
 use kr_defs::Broker;
 use kr_sessions::Sessions;
@@ -24,6 +25,12 @@ fn at_epoch(epoch: &i64) -> At
     At::Epoch(*epoch)
 }
 
+fn broker_at<'a, S: Store>(store: &'a S, at: At, id: &i32) -> Result<Option<&'a Broker>, NoEpoch>
+    ensures { MatchOption (brokers_at (S.images store.now) at) (IsErr result) (λ map. IsOkAnd result (λ value. option_copied value ≡ entries.get int_cmp map id.now)) }
+{
+    store.broker(at, *id)
+}
+
 // The broker in the image that the request was decided on.
 fn broker_before<'a, S: Store>(store: &'a S, place: &i64, id: &i32) -> Option<&'a Broker>
     requires { last_kept (S.images store.now) ≡ Some (place.now, base_of (S.images store.now)) }
@@ -31,7 +38,7 @@ fn broker_before<'a, S: Store>(store: &'a S, place: &i64, id: &i32) -> Option<&'
 {
     let _valid = store.counts();
     let at = at_epoch(place);
-    match store.broker(at, *id) {
+    match broker_at(store, at, id) {
         Ok(found) => found,
         Err(_) => None,
     }
