@@ -14,6 +14,7 @@ ghost use Rattle.kr_store.specs.Images.{last_kept};
 ghost use Rattle.kr_brokers.specs.Judged.{basis_of};
 
 use crate::elections::unfencing_records;
+use crate::registrations::next_place;
 use kr_base::{NoMemory, Steps};
 use kr_calls::{BrokerHeartbeat, BrokerHeartbeatReply, Draft, Effect, Reply};
 use kr_defs::{Broker, Options, Record, Records};
@@ -273,7 +274,8 @@ pub fn heartbeat<S: Store, L: Ledger>(
         options: context.options,
         sessions: context.sessions,
     };
-    let (records, answer) = decide_one(alloc, store, context.place, &rule, request, steps)?;
+    let place = next_place(context);
+    let (records, answer) = decide_one(alloc, store, place, &rule, request, steps)?;
     out.records = records;
     out.reply = Reply::BrokerHeartbeat(answer);
     Ok(())

@@ -41,6 +41,13 @@ fn rule_of<'a>(context: &Context<'a>) -> Registering<'a>
     }
 }
 
+/// The place that the next record will have.
+pub fn next_place(context: &Context) -> i64
+    ensures { result ≡ context.entry.now.place }
+{
+    context.place
+}
+
 // The broker belongs to this cluster.
 fn is_of_cluster(options: &Options, request: &BrokerRegistration) -> bool
     ensures { result ≡ bytes_eq request.now.cluster options.now.cluster }
@@ -220,7 +227,8 @@ pub fn register<S: Store, L: Ledger>(
     ensures later { steps.old ≤ steps.new }
 {
     let rule = rule_of(context);
-    let (records, answer) = decide_one(alloc, store, context.place, &rule, request, steps)?;
+    let place = next_place(context);
+    let (records, answer) = decide_one(alloc, store, place, &rule, request, steps)?;
     out.records = records;
     out.reply = Reply::BrokerRegistration(answer);
     Ok(())
