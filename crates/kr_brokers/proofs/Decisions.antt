@@ -18,11 +18,10 @@ use Rattle.kr_calls.specs.BrokerRegistration as registering
 use Rattle.kr_calls.specs.Deciding.{Work, begun, done, one}
 use Rattle.kr_brokers.specs.Judged.{basis_of}
 
-module _ (options : Options) (time led : ℤ) (heard : Heartbeats) (image : Image) (place : ℤ) (work : Work) where
-  -- a registration that is judged by this time
-  pub registration_decided : (request : BrokerRegistration) (answer : BrokerRegistrationReply) → one registering.refused (registering.rule options (basis_of time (pos 0) heard)) (begun place image) request ≡ (work, answer) → registering.decided options (basis_of time led heard) image place request ≡ (work, replies.BrokerRegistration answer)
+module _ (options : Options) (time led : ℤ) (heard : Heartbeats) (image : Image) (place : ℤ) where
+  pub registration_decided : (request : BrokerRegistration) → registering.decided options (basis_of time led heard) image place request ≡ registering.decided options (basis_of time (pos 0) heard) image place request
   unfolding registering.decided
-  registration_decided request answer is = ap (λ (d : Work × BrokerRegistrationReply). (d.0, replies.BrokerRegistration d.1)) is
+  registration_decided request = refl
 
   step_same : (minimum : ℤ) (request : BrokerHeartbeat) (state : Broker) → heartbeating.step minimum (basis_of time led heard) image request state ≡ heartbeating.step minimum (basis_of (pos 0) (pos 0) heard) image request state
   unfolding heartbeating.step
@@ -35,6 +34,6 @@ module _ (options : Options) (time led : ℤ) (heard : Heartbeats) (image : Imag
         | Some state ↦ ap (λ s. refuse pos 77 when not (int_eq request.epoch state.epoch) else Ok (heartbeating.told request s)) (step_same options.minimum request state)
       ]
 
-  pub heartbeat_decided : (request : BrokerHeartbeat) (answer : BrokerHeartbeatReply) → one heartbeating.refused (heartbeating.rule options (basis_of (pos 0) (pos 0) heard)) (begun place image) request ≡ (work, answer) → heartbeating.decided options (basis_of time led heard) image place request ≡ (work, replies.BrokerHeartbeat answer)
+  pub heartbeat_decided : (request : BrokerHeartbeat) → heartbeating.decided options (basis_of time led heard) image place request ≡ heartbeating.decided options (basis_of (pos 0) (pos 0) heard) image place request
   unfolding heartbeating.decided
-  heartbeat_decided request answer is = ap (λ (d : Work × BrokerHeartbeatReply). (d.0, replies.BrokerHeartbeat d.1)) (ap (done heartbeating.refused (begun place image) request) (rule_same request) ∙ is)
+  heartbeat_decided request = ap (λ (d : Work × BrokerHeartbeatReply). (d.0, replies.BrokerHeartbeat d.1)) (ap (done heartbeating.refused (begun place image) request) (rule_same request))

@@ -14,7 +14,6 @@ ghost use Rattle.kr_store.specs.Images.{last_kept};
 ghost use Rattle.kr_brokers.specs.Judged.{basis_of};
 
 use crate::elections::unfencing_records;
-use crate::registrations::next_place;
 use kr_base::{NoMemory, Steps};
 use kr_calls::{BrokerHeartbeat, BrokerHeartbeatReply, Draft, Effect, Reply};
 use kr_defs::{Broker, Options, Record, Records};
@@ -246,11 +245,41 @@ impl<'a> Rule<BrokerHeartbeat, BrokerHeartbeatReply> for HeartbeatRule<'a> {
     }
 }
 
+// The same, said of a node that began to lead at place 0, at time 0.
+#[tactic(auto, unfolding(kr_calls::specs::BrokerHeartbeat::decided))]
+fn hear_from<S: Store, L: Ledger>(
+    alloc: Global,
+    store: &mut S,
+    context: &Context,
+    request: &BrokerHeartbeat,
+    out: &mut Effect,
+    steps: &mut Steps<L>,
+) -> Result<(), NoMemory>
+    requires natural { pos 0 ≤ℤ context.now.place }
+    requires low { context.now.place ≤ℤ places_end }
+    requires kept { last_kept (S.images store.old) ≡ Some (context.now.place, (S.images store.old).tip) }
+    ensures records { OnOk result (out.new.records ≡ (heartbeating.decided context.entry.now.options.now (basis_of (pos 0) (pos 0) context.entry.now.sessions.now.heartbeats) (S.images store.old).tip context.entry.now.place request.now).0.records) }
+    ensures reply { OnOk result (out.new.reply ≡ (heartbeating.decided context.entry.now.options.now (basis_of (pos 0) (pos 0) context.entry.now.sessions.now.heartbeats) (S.images store.old).tip context.entry.now.place request.now).1) }
+    ensures image { OnOk result ((S.images store.new).tip ≡ (heartbeating.decided context.entry.now.options.now (basis_of (pos 0) (pos 0) context.entry.now.sessions.now.heartbeats) (S.images store.old).tip context.entry.now.place request.now).0.image) }
+    ensures same { OnErr result (out.new ≡ out.old) }
+    ensures kept { (S.images store.new).kept ≡ (S.images store.old).kept }
+    ensures made { OnOk result ((S.images store.new).made ≤ (S.images store.old).made + weights (S.images store.old).tip out.new.records) }
+    ensures later { steps.old ≤ steps.new }
+{
+    let rule = HeartbeatRule {
+        options: context.options,
+        sessions: context.sessions,
+    };
+    let (records, answer) = decide_one(alloc, store, context.place, &rule, request, steps)?;
+    out.records = records;
+    out.reply = Reply::BrokerHeartbeat(answer);
+    Ok(())
+}
+
 /// A broker is alive. A fenced one is unfenced once it has read its own registration, where it wants neither to be
 /// fenced nor to stop; an active one that wants to stop is told to, and fenced at once where it leads nothing; a stopping
 /// one is fenced once every active broker has read up to where it began to stop. 77 where it isn't registered or by
 /// another epoch; 44 past a limit.
-#[tactic(auto, unfolding(kr_calls::specs::BrokerHeartbeat::decided))]
 pub fn heartbeat<S: Store, L: Ledger>(
     alloc: Global,
     store: &mut S,
@@ -270,13 +299,5 @@ pub fn heartbeat<S: Store, L: Ledger>(
     ensures made { OnOk result ((S.images store.new).made ≤ (S.images store.old).made + weights (S.images store.old).tip out.new.records) }
     ensures later { steps.old ≤ steps.new }
 {
-    let rule = HeartbeatRule {
-        options: context.options,
-        sessions: context.sessions,
-    };
-    let place = next_place(context);
-    let (records, answer) = decide_one(alloc, store, place, &rule, request, steps)?;
-    out.records = records;
-    out.reply = Reply::BrokerHeartbeat(answer);
-    Ok(())
+    hear_from(alloc, store, context, request, out, steps)
 }

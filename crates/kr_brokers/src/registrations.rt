@@ -41,13 +41,6 @@ fn rule_of<'a>(context: &Context<'a>) -> Registering<'a>
     }
 }
 
-/// The place that the next record will have.
-pub fn next_place(context: &Context) -> i64
-    ensures { result ≡ context.entry.now.place }
-{
-    context.place
-}
-
 // The broker belongs to this cluster.
 fn is_of_cluster(options: &Options, request: &BrokerRegistration) -> bool
     ensures { result ≡ bytes_eq request.now.cluster options.now.cluster }
@@ -203,10 +196,37 @@ impl<'a> Rule<BrokerRegistration, BrokerRegistrationReply> for Registering<'a> {
     }
 }
 
+// The same, said of a node that began to lead at place 0.
+#[tactic(auto, unfolding(kr_calls::specs::BrokerRegistration::decided))]
+fn register_now<S: Store, L: Ledger>(
+    alloc: Global,
+    store: &mut S,
+    context: &Context,
+    request: &BrokerRegistration,
+    out: &mut Effect,
+    steps: &mut Steps<L>,
+) -> Result<(), NoMemory>
+    requires natural { pos 0 ≤ℤ context.now.place }
+    requires low { context.now.place ≤ℤ places_end }
+    requires kept { last_kept (S.images store.old) ≡ Some (context.now.place, (S.images store.old).tip) }
+    ensures records { OnOk result (out.new.records ≡ (registering.decided context.entry.now.options.now (basis_of context.entry.now.now (pos 0) context.entry.now.sessions.now.heartbeats) (S.images store.old).tip context.entry.now.place request.now).0.records) }
+    ensures reply { OnOk result (out.new.reply ≡ (registering.decided context.entry.now.options.now (basis_of context.entry.now.now (pos 0) context.entry.now.sessions.now.heartbeats) (S.images store.old).tip context.entry.now.place request.now).1) }
+    ensures image { OnOk result ((S.images store.new).tip ≡ (registering.decided context.entry.now.options.now (basis_of context.entry.now.now (pos 0) context.entry.now.sessions.now.heartbeats) (S.images store.old).tip context.entry.now.place request.now).0.image) }
+    ensures same { OnErr result (out.new ≡ out.old) }
+    ensures kept { (S.images store.new).kept ≡ (S.images store.old).kept }
+    ensures made { OnOk result ((S.images store.new).made ≤ (S.images store.old).made + weights (S.images store.old).tip out.new.records) }
+    ensures later { steps.old ≤ steps.new }
+{
+    let rule = rule_of(context);
+    let (records, answer) = decide_one(alloc, store, context.place, &rule, request, steps)?;
+    out.records = records;
+    out.reply = Reply::BrokerRegistration(answer);
+    Ok(())
+}
+
 /// A broker registers, fenced: its epoch is the place of its registration. The broker of an earlier registration is
 /// taken out, as restarted where it wasn't shut down from that one. 104 for another cluster; 42 for a negative id, a
 /// broker that migrates or one without listeners; 101 while another incarnation is in contact; 44 past a limit.
-#[tactic(auto, unfolding(kr_calls::specs::BrokerRegistration::decided))]
 pub fn register<S: Store, L: Ledger>(
     alloc: Global,
     store: &mut S,
@@ -226,10 +246,5 @@ pub fn register<S: Store, L: Ledger>(
     ensures made { OnOk result ((S.images store.new).made ≤ (S.images store.old).made + weights (S.images store.old).tip out.new.records) }
     ensures later { steps.old ≤ steps.new }
 {
-    let rule = rule_of(context);
-    let place = next_place(context);
-    let (records, answer) = decide_one(alloc, store, place, &rule, request, steps)?;
-    out.records = records;
-    out.reply = Reply::BrokerRegistration(answer);
-    Ok(())
+    register_now(alloc, store, context, request, out, steps)
 }
