@@ -160,7 +160,7 @@ fn registration_draft<S: Store>(
 }
 
 impl<'a> Rule<BrokerRegistration, BrokerRegistrationReply> for Registering<'a> {
-    ghost refused = { registering.refused };
+    ghost refused = { λ _. registering.refused };
 
     ghost rule = { λ r. registering.rule r.options.now (basis_of r.time (pos 0) r.sessions.now.heartbeats) };
 

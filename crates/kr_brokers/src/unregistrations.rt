@@ -44,7 +44,7 @@ fn unregistration<S: Store>(
 }
 
 impl<'a> Rule<UnregisterBroker, UnregisterBrokerReply> for Unregistering<'a> {
-    ghost refused = { unregistering.refused };
+    ghost refused = { λ _. unregistering.refused };
 
     ghost rule = { λ r. unregistering.rule r.options.now };
 
