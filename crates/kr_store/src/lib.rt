@@ -5,5 +5,5 @@ mod places;
 mod store;
 
 pub use kr_base::NoEpoch;
-pub use places::{ApplyFault, At, Counts};
+pub use places::{ApplyFault, At, Counts, ReadFault};
 pub use store::Store;

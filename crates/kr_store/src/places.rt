@@ -1,5 +1,9 @@
-//! Where an image is looked at, how much it has, and why an item isn't applied.
+//! Where an image is looked at, how much it has, and why an item isn't applied or a read has no answer.
 
+ghost use Rattle.std.specs.Prelude.{◌≡◌};
+ghost use Rattle.kr_store.specs.declared.places.ReadFault.TheVariants as faults;
+
+use kr_base::{NoEpoch, NoMemory};
 use kr_defs::Ill;
 
 /// An image of a store: the present one, or that of a kept epoch.
@@ -24,4 +28,27 @@ pub struct Counts {
 pub enum ApplyFault {
     IllFormed { place: i64, cause: Ill },
     NoMemory,
+}
+
+/// Why a read has no answer: the epoch isn't kept, or there was no memory.
+#[derive(Clone, Copy, Debug, Drop, PartialEq, Eq)]
+pub enum ReadFault {
+    NoEpoch,
+    NoMemory,
+}
+
+impl From<NoEpoch> for ReadFault {
+    ghost from_gives = { λ _ fault. fault ≡ faults.NoEpoch };
+
+    fn from(_missing: NoEpoch) -> ReadFault {
+        ReadFault::NoEpoch
+    }
+}
+
+impl From<NoMemory> for ReadFault {
+    ghost from_gives = { λ _ fault. fault ≡ faults.NoMemory };
+
+    fn from(_refused: NoMemory) -> ReadFault {
+        ReadFault::NoMemory
+    }
 }

@@ -1,0 +1,51 @@
+//! Lists of replicas.
+
+ghost use Rattle.std.specs.Prelude.{◌≡◌, IfOk};
+ghost use Rattle.kr_defs.specs.Ids as ids;
+
+use kr_base::NoMemory;
+use kr_defs::Ids;
+use std::alloc::{AllocError, Global};
+
+/// Each id stands once.
+pub fn is_distinct(list: &[i32]) -> bool
+    ensures { result ≡ ids.is_distinct list.now }
+{
+    for (at, id) in list.iter().enumerate() {
+        let (_, later) = list.split_at(at + 1);
+        if later.contains(id) {
+            return false;
+        }
+    }
+    true
+}
+
+/// Each of these is among those.
+pub fn is_within(list: &[i32], those: &Ids) -> bool
+    ensures { result ≡ ids.is_within list.now those.now }
+{
+    list.iter().all(|id| those.contains(id))
+}
+
+/// None of these is among those.
+pub fn are_apart(list: &[i32], those: &Ids) -> bool
+    ensures { result ≡ ids.are_apart list.now those.now }
+{
+    list.iter().all(|id| !those.contains(id))
+}
+
+fn others(alloc: Global, list: &[i32], those: &Ids) -> Result<Vec<i32>, AllocError>
+    ensures { IfOk result (λ left. left.items ≡ ids.without list.now those.now) }
+{
+    list.iter()
+        .copied()
+        .filter(|id| !those.contains(id))
+        .collect(alloc)
+}
+
+/// These but for those.
+pub fn without(alloc: Global, list: &Ids, those: &Ids) -> Result<Ids, NoMemory>
+    ensures { IfOk result (λ left. left ≡ ids.without list.now those.now) }
+{
+    Ok(Ids::from_vec(others(alloc, list.as_slice(), those)?))
+}

@@ -1,0 +1,107 @@
+//! The partitions that are to get leaders, by topic.
+
+ghost use Rattle.std.specs.Prelude.{◌≡◌, ◌++◌, [], ◌∷◌, IfOk, OnOk, map};
+ghost use Rattle.kr_calls.specs.ElectLeaders as electing;
+ghost use Rattle.kr_store.specs.Reads.{seen_at};
+
+use kr_base::NoMemory;
+use kr_calls::{ElectLeadersTopic, ElectLeadersTopics};
+use kr_defs::{Copied, Ids, Partition, Rows, Text};
+use kr_gather::{PartitionPart, TopicPart, gather_partitions, gather_topics};
+use kr_store::{At, Store};
+use std::alloc::Global;
+
+/// The name of a topic, and indexes of its partitions.
+pub type Group = (Text, Ids);
+
+fn group_of(alloc: Global, topic: &ElectLeadersTopic) -> Result<Group, NoMemory>
+    ensures { IfOk result (λ group. group ≡ (topic.now.topic, topic.now.partitions)) }
+{
+    let name = topic.topic.copied(alloc)?;
+    let indexes = topic.partitions.copied(alloc)?;
+    Ok((name, indexes))
+}
+
+fn given_groups(alloc: Global, topics: &[ElectLeadersTopic]) -> Result<Rows<Group>, NoMemory>
+    ensures { IfOk result (λ groups. groups ≡ map (λ t. (t.topic, t.partitions)) topics.now) }
+{
+    let mut groups = Rows::new(alloc);
+    for topic in topics {
+        groups.push(group_of(alloc, topic)?)?;
+    }
+    Ok(groups)
+}
+
+// A partition gives its index.
+struct Indexes;
+
+impl PartitionPart<i32> for Indexes {
+    ghost part = { λ _ e. e.0.1 ∷ [] };
+
+    fn add(
+        &self,
+        _alloc: Global,
+        key: &(u128, i32),
+        _partition: &Partition,
+        rows: &mut Ids,
+    ) -> Result<(), NoMemory> {
+        rows.push(key.1)?;
+        Ok(())
+    }
+}
+
+// A topic gives all its partitions.
+struct WholeTopics;
+
+#[tactic(auto, using(crate::proofs::WholeTopics::whole))]
+fn whole_topic<S: Store>(
+    alloc: Global,
+    store: &S,
+    at: At,
+    name: &Text,
+    id: &u128,
+) -> Result<Group, NoMemory>
+    ensures { IfOk result (λ group. group ≡ electing.whole_topic (seen_at (S.images store.now) at) (name.now, id.now)) }
+{
+    let name = name.copied(alloc)?;
+    let indexes = gather_partitions(alloc, store, at, &Indexes, id)?;
+    Ok((name, indexes))
+}
+
+impl TopicPart<Group> for WholeTopics {
+    ghost part = { λ _ image topic. electing.whole_topic image topic ∷ [] };
+
+    fn add<S: Store>(
+        &self,
+        alloc: Global,
+        store: &S,
+        at: At,
+        name: &Text,
+        id: &u128,
+        rows: &mut Rows<Group>,
+    ) -> Result<(), NoMemory> {
+        rows.push(whole_topic(alloc, store, at, name, id)?)?;
+        Ok(())
+    }
+}
+
+#[tactic(auto, using(crate::proofs::WholeTopics::all_whole))]
+fn all_groups<S: Store>(alloc: Global, store: &S) -> Result<Rows<Group>, NoMemory>
+    ensures { IfOk result (λ groups. groups ≡ map (electing.whole_topic (S.images store.now).tip) (S.images store.now).tip.topics) }
+{
+    gather_topics(alloc, store, At::Tip, &WholeTopics)
+}
+
+/// The partitions that are asked for, all of them at null.
+pub fn groups_of<S: Store>(
+    alloc: Global,
+    store: &S,
+    topics: &Option<ElectLeadersTopics>,
+) -> Result<Rows<Group>, NoMemory>
+    ensures { IfOk result (λ groups. groups ≡ electing.groups_of (S.images store.now).tip topics.now) }
+{
+    match topics {
+        Some(topics) => given_groups(alloc, topics.as_slice()),
+        None => all_groups(alloc, store),
+    }
+}

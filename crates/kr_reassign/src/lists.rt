@@ -1,0 +1,42 @@
+//! Lists of replicas.
+
+ghost use Rattle.std.specs.Prelude.{◌≡◌, IfOk};
+ghost use Rattle.kr_defs.specs.Partition as formed;
+ghost use Rattle.kr_defs.specs.Reassign as reassign;
+
+use kr_base::NoMemory;
+use kr_defs::limits::MOST_TARGETS;
+use kr_defs::{Copied, Ids, Partition};
+use kr_gather::{is_distinct, without};
+use std::alloc::Global;
+
+/// 1 to 32 replicas, each once.
+pub fn are_targets(list: &Ids) -> bool
+    ensures { result ≡ formed.are_targets list.now }
+{
+    !list.is_empty() && list.len() <= MOST_TARGETS && is_distinct(list.as_slice())
+}
+
+/// The replicas before the reassignment that runs.
+pub fn original(alloc: Global, partition: &Partition) -> Result<Ids, NoMemory>
+    ensures { IfOk result (λ ids. ids ≡ formed.original partition.now) }
+{
+    without(alloc, &partition.replicas, &partition.adding)
+}
+
+/// The target, then the members of the original that it hasn't.
+pub fn reassigned(alloc: Global, target: &Ids, original: &Ids) -> Result<Ids, NoMemory>
+    ensures { IfOk result (λ ids. ids ≡ reassign.reassigned target.now original.now) }
+{
+    let mut replicas = target.copied(alloc)?.into_vec();
+    let mut left = without(alloc, original, target)?.into_vec();
+    replicas.append(&mut left)?;
+    Ok(Ids::from_vec(replicas))
+}
+
+/// A reassignment runs.
+pub fn is_moving(partition: &Partition) -> bool
+    ensures { result ≡ formed.is_moving partition.now }
+{
+    !partition.adding.is_empty() || !partition.removing.is_empty()
+}

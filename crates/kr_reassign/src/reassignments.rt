@@ -1,0 +1,243 @@
+//! What is decided of the reassignment of one partition.
+
+ghost use Rattle.std.specs.Prelude.{◌≡◌, IfOk};
+ghost use Rattle.std.specs.List.{list_all};
+ghost use Rattle.std.specs.Ordering.{int_cmp};
+ghost use Rattle.kr_defs.specs.DefaultWant.{default_want};
+ghost use Rattle.kr_defs.specs.Map as entries;
+ghost use Rattle.kr_calls.specs.AlterPartitionReassignments as reassigning;
+ghost use Rattle.kr_rules.specs.Refusals.{Judges};
+
+use crate::lists::{are_targets, is_moving, original, reassigned};
+use kr_base::NoMemory;
+use kr_calls::{
+    Draft, ReassignablePartition, ReassignablePartitionResponse, ReassignablePartitionResponses,
+    ReassignableTopic, ReassignableTopicResponse,
+};
+use kr_change::{Want, build};
+use kr_defs::{Copied, Ids, Options, Partition, PartitionChange, Text};
+use kr_gather::{are_apart, change_records, without};
+use kr_rules::{Groups, ItemRule, Refusal, Work};
+use kr_store::Store;
+use kr_walks::{active, default_want, facts, is_unclean, tip};
+use std::alloc::Global;
+
+/// The rule for reassignments.
+#[derive(Drop)]
+pub struct ReassignmentRule<'a> {
+    pub options: &'a Options,
+}
+
+// The answer for a partition.
+fn answer(
+    error: &i16,
+    _name: &Text,
+    partition: &ReassignablePartition,
+) -> ReassignablePartitionResponse
+    ensures { result ≡ reassigning.answer error.now (_name.now, partition.now) }
+{
+    ReassignablePartitionResponse {
+        index: partition.index,
+        error: *error,
+    }
+}
+
+fn drafted(
+    alloc: Global,
+    name: &Text,
+    partition: &ReassignablePartition,
+    topic: &u128,
+    change: Option<PartitionChange>,
+) -> Result<Draft<ReassignablePartitionResponse>, NoMemory>
+    ensures { IfOk result (λ draft. draft ≡ reassigning.drafted (name.now, partition.now) topic.now change) }
+{
+    let records = change_records(alloc, topic, &partition.index, change)?;
+    let answer = answer(&0, name, partition);
+    Ok(Draft { records, answer })
+}
+
+// What is asked of a partition where its replicas are to be these.
+fn with_replicas(
+    alloc: Global,
+    partition: &Partition,
+    replicas: Ids,
+    adding: Ids,
+    removing: Ids,
+) -> Result<Want, NoMemory>
+    ensures { IfOk result (λ want. want ≡ record (default_want partition.now) { replicas = replicas; adding = adding; removing = removing }) }
+{
+    let want = default_want(alloc, partition)?;
+    Ok(Want {
+        replicas,
+        adding,
+        removing,
+        ..want
+    })
+}
+
+// A reassignment to the target is to run.
+fn leading_to(alloc: Global, partition: &Partition, target: &Ids) -> Result<Want, NoMemory>
+    ensures { IfOk result (λ want. want ≡ reassigning.leading_to partition.now target.now) }
+{
+    let original = original(alloc, partition)?;
+    let replicas = reassigned(alloc, target, &original)?;
+    let adding = without(alloc, target, &original)?;
+    let removing = without(alloc, &original, target)?;
+    with_replicas(alloc, partition, replicas, adding, removing)
+}
+
+// The reassignment that runs is to be given up.
+fn leading_back(alloc: Global, partition: &Partition) -> Result<Want, NoMemory>
+    ensures { IfOk result (λ want. want ≡ reassigning.leading_back partition.now) }
+{
+    let original = original(alloc, partition)?;
+    with_replicas(alloc, partition, original, Ids::new(alloc), Ids::new(alloc))
+}
+
+fn is_registered<S: Store>(store: &S, id: &i32) -> bool
+    ensures { result ≡ entries.contains int_cmp (S.images store.now).tip.brokers id.now }
+{
+    tip::broker(store, id).is_some()
+}
+
+fn are_registered<S: Store>(store: &S, ids: &[i32]) -> bool
+    ensures { result ≡ list_all (entries.contains int_cmp (S.images store.now).tip.brokers) ids.now }
+{
+    ids.iter().all(|id| is_registered(store, id))
+}
+
+fn is_target<S: Store>(store: &S, ids: &Ids) -> bool
+    ensures { result ≡ reassigning.is_target (S.images store.now).tip ids.now }
+{
+    are_targets(ids) && are_registered(store, ids.as_slice())
+}
+
+// What is asked of the partition; without replicas the reassignment that runs is cancelled.
+fn wanted<S: Store>(
+    alloc: Global,
+    store: &S,
+    partition: &Partition,
+    replicas: &Option<Ids>,
+) -> Result<Want, Refusal>
+    ensures { Judges result (reassigning.wanted (S.images store.now).tip partition.now replicas.now) }
+{
+    match replicas {
+        Some(target) => {
+            if !is_target(store, target) {
+                return Err(Refusal::Error(39));
+            }
+            Ok(leading_to(alloc, partition, target)?)
+        }
+        None => {
+            if !is_moving(partition) {
+                return Err(Refusal::Error(85));
+            }
+            Ok(leading_back(alloc, partition)?)
+        }
+    }
+}
+
+// All that is in sync would go, and records may not be lost.
+fn loses_all<S: Store>(
+    alloc: Global,
+    store: &S,
+    name: &Text,
+    partition: &Partition,
+    want: &Want,
+) -> Result<bool, NoMemory>
+    ensures { IfOk result (λ loses. loses ≡ reassigning.loses_all (S.images store.now).tip name.now partition.now want.now) }
+{
+    if partition.in_sync.is_empty() || !are_apart(partition.in_sync.as_slice(), &want.replicas) {
+        return Ok(false);
+    }
+    let is_unclean = is_unclean(alloc, store, name)?;
+    Ok(!is_unclean)
+}
+
+// What is said of a partition of which this is asked.
+fn of_want<S: Store>(
+    alloc: Global,
+    store: &S,
+    rule: &ReassignmentRule,
+    name: &Text,
+    entry: &ReassignablePartition,
+    topic: &u128,
+    partition: &Partition,
+    want: &Want,
+) -> Result<Draft<ReassignablePartitionResponse>, Refusal>
+    ensures { Judges result (reassigning.of_want rule.now.options.now (S.images store.now).tip (name.now, entry.now) topic.now partition.now want.now) }
+{
+    if loses_all(alloc, store, name, partition, want)? {
+        return Err(Refusal::Error(39));
+    }
+    let active = active(alloc, store)?;
+    let facts = facts(alloc, store, &rule.options.minimum, &active, name)?;
+    let change = build(alloc, partition, want, &facts)?;
+    Ok(drafted(alloc, name, entry, topic, change)?)
+}
+
+impl<'a> ItemRule<Text, ReassignablePartition, ReassignablePartitionResponse>
+    for ReassignmentRule<'a> {
+    ghost refused = { λ _. reassigning.answer };
+
+    ghost rule = { λ r. reassigning.rule r.options.now };
+
+    fn refused(
+        &self,
+        _alloc: Global,
+        error: &i16,
+        key: &Text,
+        item: &ReassignablePartition,
+    ) -> Result<ReassignablePartitionResponse, NoMemory> {
+        Ok(answer(error, key, item))
+    }
+
+    fn judge<S: Store>(
+        &self,
+        alloc: Global,
+        store: &S,
+        _work: &Work,
+        key: &Text,
+        item: &ReassignablePartition,
+    ) -> Result<Draft<ReassignablePartitionResponse>, Refusal> {
+        let Some(topic) = tip::topic_named(store, key) else {
+            return Err(Refusal::Error(3));
+        };
+        let Some(partition) = tip::partition(store, &topic.id, &item.index) else {
+            return Err(Refusal::Error(3));
+        };
+        let want = wanted(alloc, store, partition, &item.replicas)?;
+        of_want(alloc, store, self, key, item, &topic.id, partition, &want)
+    }
+}
+
+impl<'a> Groups<
+    ReassignableTopic,
+    Text,
+    ReassignablePartition,
+    ReassignablePartitionResponse,
+    ReassignableTopicResponse,
+> for ReassignmentRule<'a> {
+    ghost entries_of = { reassigning.entries_of };
+
+    ghost answer_of = { reassigning.answer_of };
+
+    fn members<'g>(&self, group: &'g ReassignableTopic) -> (&'g Text, &'g [ReassignablePartition]) {
+        (&group.name, group.partitions.as_slice())
+    }
+
+    fn answer(
+        &self,
+        alloc: Global,
+        group: &ReassignableTopic,
+        answers: ReassignablePartitionResponses,
+    ) -> Result<ReassignableTopicResponse, NoMemory>
+        ensures { IfOk result (λ answer. answer ≡ reassigning.answer_of group.now answers) }
+    {
+        let name = group.name.copied(alloc)?;
+        Ok(ReassignableTopicResponse {
+            name,
+            partitions: answers,
+        })
+    }
+}
