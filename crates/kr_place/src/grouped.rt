@@ -39,6 +39,13 @@ impl Grouped {
         })
     }
 
+    /// How many brokers there are.
+    pub fn count(&self) -> usize
+        ensures { result ≡ self.now.count }
+    {
+        self.count
+    }
+
     /// The first `factor` brokers that the visits of the racks give, or all of them where there are fewer. `start` is
     /// the place where the topic's placement begins and the number of the partition, together.
     pub fn place(&self, alloc: Global, start: u64, factor: usize) -> Result<Ids, NoMemory>

@@ -1,0 +1,17 @@
+//! Requests on topics: they are created, deleted, grown and shown.
+#![tactic(auto)]
+
+mod assigning;
+mod creating;
+mod deleting;
+mod growing;
+mod partitions;
+mod racks;
+mod settings;
+mod tip;
+mod validating;
+mod walks;
+
+pub use creating::create;
+pub use deleting::delete;
+pub use growing::grow;
