@@ -35,8 +35,7 @@ use kr_place::Grouped;
 use kr_rules::{Refusal, Rule, Work};
 use kr_sessions::Context;
 use kr_store::Store;
-use crate::tip;
-use crate::walks::has_agreeing_name;
+use kr_walks::{has_agreeing_name, tip};
 use std::alloc::Global;
 use std::sync::ledger::Ledger;
 

@@ -8,7 +8,6 @@ ghost use Rattle.kr_calls.specs.DeleteTopics as deletions;
 ghost use Rattle.kr_calls.specs.Refuse.{refused_deletion};
 ghost use Rattle.kr_store.specs.Images.{last_kept};
 
-use crate::tip;
 use kr_base::{NoMemory, Steps};
 use kr_calls::{
     DeletableTopicResult, DeleteTopicState, DeleteTopics, DeleteTopicsReply, Draft, Effect, Reply,
@@ -17,6 +16,7 @@ use kr_defs::{Copied, Record, Rows, Text};
 use kr_rules::{Refusal, Rule, Work, decide_each};
 use kr_sessions::Context;
 use kr_store::Store;
+use kr_walks::tip;
 use std::alloc::Global;
 use std::sync::ledger::Ledger;
 

@@ -29,8 +29,7 @@ use crate::validating::decide_or_validate;
 use kr_rules::{Refusal, Rule, Work};
 use kr_sessions::Context;
 use kr_store::Store;
-use crate::tip;
-use crate::walks::count_of;
+use kr_walks::{count_of, tip};
 use std::alloc::Global;
 use std::sync::ledger::Ledger;
 

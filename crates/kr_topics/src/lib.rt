@@ -8,9 +8,7 @@ mod growing;
 mod partitions;
 mod racks;
 mod settings;
-mod tip;
 mod validating;
-mod walks;
 
 pub use creating::create;
 pub use deleting::delete;

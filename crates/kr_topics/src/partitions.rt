@@ -20,8 +20,7 @@ use kr_defs::{Copied, Ids, Partition, Record, Records, Rows};
 use kr_place::Grouped;
 use kr_rules::Work;
 use kr_store::Store;
-use crate::tip;
-use crate::tip::is_active;
+use kr_walks::{is_active, tip};
 use std::alloc::Global;
 
 /// The replicas of some partitions, in the order of their indexes.

@@ -9,8 +9,7 @@ use kr_base::NoMemory;
 use kr_defs::{Broker, Copied, Text};
 use kr_place::Grouped;
 use kr_store::Store;
-use crate::tip;
-use crate::tip::is_active;
+use kr_walks::{is_active, tip};
 use std::alloc::Global;
 
 type Racks = Vec<(i32, Option<Text>)>;

@@ -11,11 +11,11 @@ ghost use Rattle.kr_calls.specs.CreateTopics as creations;
 ghost use Rattle.kr_topics.specs.Given as given_settings;
 ghost use Rattle.kr_topics.specs.Given.{is_old};
 
-use crate::tip;
 use kr_base::NoMemory;
 use kr_calls::CreatableTopicConfig;
 use kr_defs::{ConfigKey, Copied, Record, Records, Text, is_setting_key, is_setting_value};
 use kr_store::Store;
+use kr_walks::tip;
 use std::alloc::Global;
 use std::collections::BTreeMap;
 

@@ -3,7 +3,6 @@
 ghost use Rattle.std.specs.Prelude.{◌≡◌};
 ghost use Rattle.std.specs.Option.{option_copied, option_map};
 ghost use Rattle.std.specs.Ordering.{int_cmp};
-ghost use Rattle.kr_defs.specs.Brokers as brokers;
 ghost use Rattle.kr_defs.specs.Image.{topic_name};
 ghost use Rattle.kr_defs.specs.Map as entries;
 ghost use Rattle.kr_defs.specs.Map.{text_order, partition_order, config_order};
@@ -79,11 +78,4 @@ pub fn next_config<'a, S: Store>(
     ensures { option_map (λ e. (e.0.now, e.1.now)) result ≡ entries.next config_order (S.images store.now).tip.configs (option_copied after.entry) }
 {
     store.next_config(At::Tip, after).unwrap_or(None)
-}
-
-/// The broker is neither fenced nor stopping.
-pub fn is_active(state: &Broker) -> bool
-    ensures { result ≡ brokers.is_active state.now }
-{
-    !state.fenced && !state.stopping
 }

@@ -1,0 +1,15 @@
+use Rattle.std.proofs.Common.{◌≡◌, ◌++◌, length}
+use Rattle.std.specs.Prelude.{Some}
+use Rattle.kr_defs.specs.Map.{above, partition_order}
+use Rattle.kr_defs.specs.Walk.{of_topic}
+use Rattle.kr_walks.proofs.Changes.{left}
+use Rattle.kr_walks.proofs.partitions.add_above.Given as goal
+
+abbrev pub invariant-loop-key : goal.invariant-loop-key
+invariant-loop-key g l =
+    let tip = (g.S.Store.images l.store).tip in
+    let change = g.C.Change.change l.rule tip in
+    l.records ++ left change tip.partitions l.name l.after ≡ l.fn.records ++ left change tip.partitions l.name l.first
+
+abbrev pub decreases-loop-key : goal.decreases-loop-key
+decreases-loop-key g l = length (of_topic l.after.0 (above partition_order (g.S.Store.images l.store).tip.partitions (Some l.after)))

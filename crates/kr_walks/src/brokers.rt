@@ -1,0 +1,71 @@
+//! The brokers of an image by what they may do.
+
+ghost use Rattle.std.specs.Prelude.{◌≡◌, ◌++◌, [], ◌∷◌, ℤ, Bool, IfOk, OnOk, filter, map};
+ghost use Rattle.kr_defs.specs.declared.broker.Broker.{Broker as AnyBroker};
+ghost use Rattle.kr_defs.specs.Brokers as brokers;
+
+use crate::tip;
+use kr_base::NoMemory;
+use kr_defs::{Broker, Ids};
+use kr_store::Store;
+use std::alloc::Global;
+
+/// The broker is neither fenced nor stopping.
+pub fn is_active(state: &Broker) -> bool
+    ensures { result ≡ brokers.is_active state.now }
+{
+    !state.fenced && !state.stopping
+}
+
+/// Which brokers are looked for.
+pub trait BrokerTest {
+    ghost accepts: { Self → ℤ × AnyBroker → Bool };
+
+    fn accepts(&self, id: &i32, state: &Broker) -> bool
+        ensures { result ≡ accepts self.now (id.now, state.now) };
+}
+
+fn add_if<T: BrokerTest>(ids: &mut Ids, test: &T, id: &i32, state: &Broker) -> Result<(), NoMemory>
+    ensures { OnOk result (ids.new ≡ ids.old ++ map (λ e. e.0) (filter (T.accepts test.now) ((id.now, state.now) ∷ []))) }
+{
+    if test.accepts(id, state) {
+        ids.push(*id)?;
+    }
+    Ok(())
+}
+
+/// The brokers that the test accepts, by id.
+pub fn brokers_where<T: BrokerTest, S: Store>(
+    alloc: Global,
+    store: &S,
+    test: &T,
+) -> Result<Ids, NoMemory>
+    ensures { IfOk result (λ ids. ids ≡ map (λ e. e.0) (filter (T.accepts test.now) (S.images store.now).tip.brokers)) }
+{
+    let _valid = store.counts();
+    let mut ids = Ids::new(alloc);
+    let mut after = None;
+    while let Some((id, state)) = tip::next_broker(store, after) {
+        add_if(&mut ids, test, id, state)?;
+        after = Some(id);
+    }
+    Ok(ids)
+}
+
+#[derive(Clone, Copy, Drop)]
+struct ActiveOnes;
+
+impl BrokerTest for ActiveOnes {
+    ghost accepts = { λ t e. brokers.is_active e.1 };
+
+    fn accepts(&self, _id: &i32, state: &Broker) -> bool {
+        is_active(state)
+    }
+}
+
+/// The active brokers, by id.
+pub fn active<S: Store>(alloc: Global, store: &S) -> Result<Ids, NoMemory>
+    ensures { IfOk result (λ ids. ids ≡ brokers.active (S.images store.now).tip) }
+{
+    brokers_where(alloc, store, &ActiveOnes)
+}
