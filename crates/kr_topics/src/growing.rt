@@ -1,6 +1,6 @@
 //! Topics get more partitions.
 
-ghost use Rattle.std.specs.Prelude.{◌≡◌, ◌≤◌, ◌+◌, ◌-◌, ◌^◌, ◌&&◌, ◌==◌, pos, ◌≤ℤ◌, ◌<ℤ◌, Some, not, int_le, length, map, nat_lt, unsigned_abs, Ok, IfOk, OnErr, OnOk, IsTrue};
+ghost use Rattle.std.specs.Prelude.{◌≡◌, ◌≤◌, ◌+◌, ◌-◌, ◌^◌, ◌&&◌, ◌==◌, pos, ◌≤ℤ◌, ◌<ℤ◌, Some, not, false, ◌<◌, int_le, length, map, nat_lt, unsigned_abs, Ok, IfOk, OnErr, OnOk};
 ghost use Rattle.std.specs.List.{list_all};
 ghost use Rattle.kr_defs.specs.declared.limits.TheConstants.{PLACES_END as places_end};
 ghost use Rattle.kr_defs.specs.Guard.{refuse◌when◌else◌};
@@ -53,17 +53,19 @@ fn answer(
     })
 }
 
-// The topic is to have more partitions than it has.
-fn is_more(entry: &CreatePartitionsTopic, first: u32) -> bool
-    ensures value { result ≡ not (int_le entry.now.count (pos first)) }
-    ensures more { IsTrue result → pos first <ℤ entry.now.count }
+// The topic has as many partitions already.
+fn has_as_many(entry: &CreatePartitionsTopic, first: u32) -> bool
+    ensures value { result ≡ int_le entry.now.count (pos first) }
+    ensures more { result ≡ false → pos first <ℤ entry.now.count }
 {
-    entry.count as i64 > first as i64
+    entry.count as i64 <= first as i64
 }
 
 // How many partitions are new.
 fn new_count(entry: &CreatePartitionsTopic, first: u32) -> u32
-    ensures { result ≡ unsigned_abs entry.now.count - first }
+    requires { pos first <ℤ entry.now.count }
+    ensures value { result ≡ unsigned_abs entry.now.count - first }
+    ensures room { first + result < 2 ^ 31 }
 {
     entry.count.unsigned_abs().saturating_sub(first)
 }
@@ -84,7 +86,8 @@ fn lists_of(
     alloc: Global,
     assignments: &[CreatePartitionsAssignment],
 ) -> Result<Lists, NoMemory>
-    ensures { IfOk result (λ lists. lists ≡ map (λ a. a.brokers) assignments.now) }
+    ensures lists { IfOk result (λ lists. lists ≡ map (λ a. a.brokers) assignments.now) }
+    ensures count { IfOk result (λ lists. length lists ≡ length assignments.now) }
 {
     let mut lists = Rows::new(alloc);
     for assignment in assignments {
@@ -199,7 +202,7 @@ fn of_topic<S: Store>(
     ensures { Judges result (room.of_topic rule.now.those (S.images store.now).tip (place_of work.now) entry.now topic.now (topics.count_of (S.images store.now).tip topic.now)) }
 {
     let first = count_of(store, topic);
-    if !is_more(entry, first) {
+    if has_as_many(entry, first) {
         return Err(Refusal::Error(37));
     }
     match tip::partition(store, topic, &0) {

@@ -1,8 +1,9 @@
 //! The replicas of new partitions, and their records.
 
-ghost use Rattle.std.specs.Prelude.{◌≡◌, ◌≤◌, ◌<◌, ◌+◌, ◌^◌, ◌++◌, [], ◌∷◌, pos, ◌&&◌, length, map, filter, unsigned_abs, IfOk, OnOk};
+ghost use Rattle.std.specs.Prelude.{◌≡◌, ◌≤◌, ◌<◌, ◌+◌, ◌^◌, ◌++◌, [], ◌∷◌, pos, ◌&&◌, length, map, filter, unsigned_abs, IfOk, OnOk, IsTrue};
 ghost use Rattle.std.specs.List.{list_all, list_any, range_with_len};
 ghost use Rattle.std.specs.Ordering.{int_cmp};
+ghost use Rattle.kr_defs.specs.declared.limits.TheConstants.{MOST_PARTITIONS as most_partitions};
 ghost use Rattle.kr_defs.specs.declared.record.Record.TheVariants as kinds;
 ghost use Rattle.kr_defs.specs.Brokers.{active};
 ghost use Rattle.kr_defs.specs.Ids.{has, is_distinct, within};
@@ -83,7 +84,8 @@ pub fn is_assignable<S: Store>(store: &S, replicas: &Ids) -> bool
 
 /// There is room for so many more partitions.
 pub fn has_room<S: Store>(store: &S, count: usize) -> bool
-    ensures { result ≡ has_room (S.images store.now).tip count }
+    ensures value { result ≡ has_room (S.images store.now).tip count }
+    ensures few { IsTrue result → count ≤ most_partitions }
 {
     let taken = store.counts().partitions as usize;
     count <= MOST_PARTITIONS.saturating_sub(taken)
@@ -135,7 +137,8 @@ pub fn placements(
 ) -> Result<Lists, NoMemory>
     requires start { start ≤ 2 ^ 63 }
     requires indexes { first + count ≤ 2 ^ 32 }
-    ensures { IfOk result (λ lists. lists ≡ map (λ index. placed_in those.now (start + index) factor) (range_with_len first count)) }
+    ensures lists { IfOk result (λ lists. lists ≡ map (λ index. placed_in those.now (start + index) factor) (range_with_len first count)) }
+    ensures count { IfOk result (λ lists. length lists ≡ count) }
 {
     let mut lists = Rows::new(alloc);
     for index in first..first + count {
