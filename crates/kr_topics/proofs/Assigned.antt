@@ -86,7 +86,8 @@ few_first image [] all = omega arith
 few_first image (a ∷ others) all =
     let first = both (is_assignable image a.brokers && length a.brokers == length a.brokers) (list_all (λ (b : CreatableReplicaAssignment). is_assignable image b.brokers && length b.brokers == length a.brokers) others) all in
     let assignable = both (is_assignable image a.brokers) (length a.brokers == length a.brokers) first.0 in
-    let targets = both (are_targets a.brokers) (list_all (contains int_cmp image.brokers) a.brokers && list_any (has (active image)) a.brokers) assignable.0 in
-    let size = both (nat_lt 0 (length a.brokers)) (nat_le (length a.brokers) MOST_TARGETS && is_distinct a.brokers) targets.0 in
-    let few = both (nat_le (length a.brokers) MOST_TARGETS) (is_distinct a.brokers) size.1 in
-    grind (arith, nat_tests, few.0)
+    let standing = both (are_targets a.brokers && list_all (contains int_cmp image.brokers) a.brokers) (list_any (has (active image)) a.brokers) assignable.0 in
+    let targets = both (are_targets a.brokers) (list_all (contains int_cmp image.brokers) a.brokers) standing.0 in
+    let size = both (nat_lt 0 (length a.brokers) && nat_le (length a.brokers) MOST_TARGETS) (is_distinct a.brokers) targets.0 in
+    let few = both (nat_lt 0 (length a.brokers)) (nat_le (length a.brokers) MOST_TARGETS) size.0 in
+    grind (arith, nat_tests, few.1)

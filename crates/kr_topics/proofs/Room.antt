@@ -1,6 +1,6 @@
 -- What is refused early for want of room would be refused by Apply.
 use Rattle.std.proofs.Common.{◌≡◌, ◌∙◌, ◌<◌, ◌≤◌, ◌+◌, ◌-◌, ℕ, suc, ℤ, pos, Bool, true, false, cond, not, List, [], ◌∷◌, ◌++◌, length, refl, sym, ap, subst, arith}
-use Rattle.std.specs.Prelude.{Option, Some, None, Result, Ok, Err, IsErr, filter, nat_le, nat_lt, int_le, is_some, unsigned_abs, unwrap_or, bytes_eq}
+use Rattle.std.specs.Prelude.{Option, Some, None, Result, Ok, Err, IsErr, filter, nat_le, nat_lt, int_le, is_some, unsigned_abs, unwrap_or, bytes_eq, ◌==◌, ◌||◌}
 use Rattle.std.specs.Option.{option_map_or}
 use Rattle.std.specs.declared.cmp.Ordering.{Ordering}
 use Rattle.std.specs.declared.cmp.Ordering.TheVariants.{Less, Equal, Greater}
@@ -11,7 +11,8 @@ use Rattle.std.proofs.lemmas.Bool.Decides.{nat_tests}
 use Rattle.std.proofs.lemmas.List.{length-map}
 use Rattle.kr_defs.specs.declared.broker.Broker.{Broker}
 use Rattle.kr_defs.specs.declared.ill.Ill.{Ill}
-use Rattle.kr_defs.specs.declared.limits.TheConstants.{MOST_PARTITIONS}
+use Rattle.kr_defs.specs.declared.ill.Ill.TheVariants as causes
+use Rattle.kr_defs.specs.declared.limits.TheConstants.{MOST_CONFIG_TEXT, MOST_PARTITIONS, MOST_TOPICS}
 use Rattle.kr_defs.specs.declared.options.Options.{Options}
 use Rattle.kr_defs.specs.declared.partition.Partition.{Partition}
 use Rattle.kr_defs.specs.declared.record.ConfigKey.{ConfigKey}
@@ -20,11 +21,11 @@ use Rattle.kr_defs.specs.declared.record.Record.TheVariants as kinds
 use Rattle.kr_defs.specs.Apply.{apply_record, topic_kind}
 use Rattle.kr_defs.specs.Brokers.{active, is_active}
 use Rattle.kr_defs.specs.Guard.{and_then, found}
-use Rattle.kr_defs.specs.Image.{Image}
+use Rattle.kr_defs.specs.Image.{Image, config_text, has_topic, is_index}
 use Rattle.kr_defs.specs.Ids.{within}
 use Rattle.kr_defs.specs.Map.{get, insert, contains, partition_order, text_order, config_order}
 use Rattle.kr_defs.specs.NewPartition.{new_partition}
-use Rattle.kr_defs.specs.Partition.{target}
+use Rattle.kr_defs.specs.Partition.{is_well_formed, target}
 use Rattle.kr_defs.specs.Placed.{placed}
 use Rattle.kr_defs.specs.Texts.{is_topic_name, names_agree}
 use Rattle.kr_defs.specs.Topics.{count_of}
@@ -69,10 +70,14 @@ record OneMore (image after : Image) : Type 0 where
 one_more : (image : Image) (index : ℤ) (topic : ℕ) (state : Partition) → Gives (OneMore image) (apply_record image (kinds.Partition index topic state))
 unfolding apply_record
 one_more image index topic state =
-    gives_refuse (OneMore image) _ _ _ (λ _. gives_refuse (OneMore image) _ _ _ (λ _. gives_refuse (OneMore image) _ _ _ (λ new. gives_refuse (OneMore image) _ _ _ (λ _. gives_refuse (OneMore image) _ (nat_le MOST_PARTITIONS (length image.partitions)) _ (λ room.
+    gives_refuse (OneMore image) causes.NoTopic (not (has_topic image.topics topic)) _ (λ _.
+    gives_refuse (OneMore image) causes.BadNumber (not (is_index index)) _ (λ _.
+    gives_refuse (OneMore image) causes.PartitionExists (contains partition_order image.partitions (topic, index)) _ (λ new.
+    gives_refuse (OneMore image) causes.BadPartition (not (is_well_formed state)) _ (λ _.
+    gives_refuse (OneMore image) causes.Limit (nat_le MOST_PARTITIONS (length image.partitions)) _ (λ below.
     gives_done (OneMore image) (record image { partitions = insert partition_order image.partitions (topic, index) state }) (record {
       more = length-new partition_order image.partitions (topic, index) state new;
-      room = grind (arith, nat_tests, room);
+      room = grind (arith, nat_tests, below);
     }))))))
 
 -- ---- records that Apply refuses
@@ -97,12 +102,16 @@ KeepsPartitions image after = after.partitions ≡ image.partitions
 topic_keeps : (image : Image) (name : List ℕ) (id : ℕ) → Gives (KeepsPartitions image) (apply_record image (kinds.Topic name id))
 unfolding apply_record
 topic_keeps image name id =
-    gives_refuse (KeepsPartitions image) _ _ _ (λ _. gives_refuse (KeepsPartitions image) _ _ _ (λ _. gives_refuse (KeepsPartitions image) _ _ _ (λ _. gives_done (KeepsPartitions image) (record image { topics = insert text_order image.topics name id }) refl)))
+    gives_refuse (KeepsPartitions image) causes.BadName (not (is_topic_name name)) _ (λ _.
+    gives_refuse (KeepsPartitions image) causes.TopicExists (contains text_order image.topics name || has_topic image.topics id || id == 0) _ (λ _.
+    gives_refuse (KeepsPartitions image) causes.Limit (nat_le MOST_TOPICS (length image.topics)) _ (λ _.
+    gives_done (KeepsPartitions image) (record image { topics = insert text_order image.topics name id }) refl)))
 
 setting_keeps : (image : Image) (kind : ℤ) (name key value : List ℕ) → Gives (KeepsPartitions image) (apply_record image (kinds.Config kind name key (Some value)))
 unfolding apply_record
 setting_keeps image kind name key value =
-    gives_refuse (KeepsPartitions image) _ _ _ (λ _. gives_done (KeepsPartitions image) (record image { configs = insert config_order image.configs (record { kind = kind; name = name; key = key }) value }) refl)
+    gives_refuse (KeepsPartitions image) causes.Limit (nat_lt MOST_CONFIG_TEXT (config_text (insert config_order image.configs (record { kind = kind; name = name; key = key }) value))) _ (λ _.
+    gives_done (KeepsPartitions image) (record image { configs = insert config_order image.configs (record { kind = kind; name = name; key = key }) value }) refl)
 
 -- a record that keeps the partitions, and records that do
 keeps_then : (image : Image) (r : Record) (records : List Record) → Gives (KeepsPartitions image) (apply_record image r) → ((after : Image) → Gives (KeepsPartitions after) (apply_records after records)) → Gives (KeepsPartitions image) (apply_records image (r ∷ records))
@@ -127,7 +136,7 @@ crowded_behind image before id lists keeps more =
     crowded image id after 0 lists (subst (λ ps. MOST_PARTITIONS - length ps < length lists) (sym (keeps after is)) more)))
 
 no_room : (image : Image) (count : ℕ) → has_room image count ≡ false → MOST_PARTITIONS - length image.partitions < count
-no_room image count no = grind (arith, nat_tests, no)
+no_room image count lacks = grind (arith, nat_tests, lacks)
 
 -- ---- an entry by either rule
 
@@ -186,7 +195,7 @@ growth_alike those w entry is =
     let lists_of : Result (List (List ℤ)) ℤ = growing.new_replicas w.image w.place first (unsigned_abs entry.count - first) (length (target p)) entry.assignments in
     ap (λ (x : Result (List (List ℤ)) ℤ). done refused_growth w entry (and_then x (λ lists. cond (not (has_room w.image (length lists))) (Err over_a_limit) (Ok (growing.grown w.image id first entry lists))))) (same_replicas w.image w.place first (unsigned_abs entry.count - first) (length (target p)) entry.assignments)
     ∙ under_then refused_growth w entry lists_of _ _ (λ lists.
-    early refused_growth w entry (growing.grown w.image id first entry lists) (has_room w.image (length lists)) (λ no. not_taken w _ (crowded w.image id w.image first lists (no_room w.image (length lists) no)))))))
+    early refused_growth w entry (growing.grown w.image id first entry lists) (has_room w.image (length lists)) (λ lacks. not_taken w _ (crowded w.image id w.image first lists (no_room w.image (length lists) lacks)))))))
 
 creation_alike : (those : Grouped) (options : Options) (validate_only : Bool) (w : Work) (entry : CreatableTopic) → IsOf those w.image → one refused_creation (room.creation those options validate_only) w entry ≡ one refused_creation (creating.rule options validate_only) w entry
 creation_alike those options validate_only w entry is =
@@ -198,8 +207,8 @@ creation_alike those options validate_only w entry is =
     under_refusal refused_creation w entry (pos 40) (list_any creating.is_bad_setting entry.configs) _ _ (
     let id : ℕ = creating.new_id options w.image w.place in
     let before : List Record = kinds.Topic entry.name id ∷ creating.settings_records w.image.configs entry.name entry.configs in
-    early refused_creation w entry (creating.created w.image validate_only id entry layout) (has_room w.image (length layout.replicas)) (λ no. not_taken w _ (crowded_behind w.image before id layout.replicas
-    (keeps_then w.image (kinds.Topic entry.name id) _ (topic_keeps w.image entry.name id) (λ after. settings_keep after w.image.configs entry.name entry.configs)) (no_room w.image (length layout.replicas) no))))))))
+    early refused_creation w entry (creating.created w.image validate_only id entry layout) (has_room w.image (length layout.replicas)) (λ lacks. not_taken w _ (crowded_behind w.image before id layout.replicas
+    (keeps_then w.image (kinds.Topic entry.name id) _ (topic_keeps w.image entry.name id) (λ after. settings_keep after w.image.configs entry.name entry.configs)) (no_room w.image (length layout.replicas) lacks))))))))
 
 -- ---- all entries
 

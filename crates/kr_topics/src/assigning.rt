@@ -1,6 +1,6 @@
 //! Assignments of replicas to the partitions of a new topic.
 
-ghost use Rattle.std.specs.Prelude.{◌≡◌, ◌&&◌, ◌==◌, ◌++◌, ◌∷◌, [], ℤ, pos, find, is_some, length, IfOk, IfSome, OnOk};
+ghost use Rattle.std.specs.Prelude.{◌≡◌, ◌<◌, ◌^◌, ◌&&◌, ◌==◌, ◌++◌, ◌∷◌, [], ℤ, pos, find, is_some, length, IfOk, IfSome, OnOk};
 ghost use Rattle.std.specs.List.{filter_map};
 ghost use Rattle.std.specs.Option.{option_copied, option_map};
 ghost use Rattle.std.specs.Ordering.{int_cmp, int_eq};
@@ -77,11 +77,20 @@ fn by_index(
     Ok(those)
 }
 
+fn key_of(index: usize) -> i64
+    requires { index < 2 ^ 63 }
+    ensures { result ≡ pos index }
+{
+    index as i64
+}
+
 // The replicas at an index.
 fn at_index(those: &ByIndex, index: usize) -> Option<&Ids>
+    requires { index < 2 ^ 63 }
     ensures { option_copied result ≡ entries.get int_cmp those.now.entries (pos index) }
 {
-    those.get(&(index as i64))
+    let key = key_of(index);
+    those.get(&key)
 }
 
 fn add_list(alloc: Global, lists: &mut Lists, brokers: &Ids) -> Result<(), NoMemory>

@@ -52,10 +52,10 @@ struct Creating<'a> {
 
 // ---- the id
 
-fn is_free<S: Store>(store: &S, id: &u128) -> bool
-    ensures { result ≡ not (has_topic (S.images store.now).tip.topics id.now) }
+fn is_free<S: Store>(store: &S, id: u128) -> bool
+    ensures { result ≡ not (has_topic (S.images store.now).tip.topics id) }
 {
-    tip::topic(store, id).is_none()
+    tip::topic(store, &id).is_none()
 }
 
 // The first id among so many that no topic has.
@@ -64,7 +64,7 @@ fn free_id<S: Store>(store: &S, first: u128, count: u128) -> Option<u128>
     ensures { result ≡ find (λ id. not (has_topic (S.images store.now).tip.topics id)) (range_with_len first count) }
 {
     for id in first..first + count {
-        if is_free(store, &id) {
+        if is_free(store, id) {
             return Some(id);
         }
     }
@@ -96,15 +96,15 @@ fn may_agree(name: &Text) -> bool
 }
 
 // There is a topic whose name agrees with this one, which is that of no topic.
-#[tactic(auto, using(crate::proofs::Names::none_agrees))]
 fn is_like_another<S: Store>(store: &S, name: &Text) -> bool
     requires { entries.contains text_order (S.images store.now).tip.topics name.now ≡ false }
     ensures { result ≡ list_any (λ topic. texts.names_agree topic.0 name.now) (S.images store.now).tip.topics }
 {
-    if !may_agree(name) {
-        return false;
+    if may_agree(name) {
+        has_agreeing_name(store, name)
+    } else {
+        false
     }
-    has_agreeing_name(store, name)
 }
 
 // ---- the records

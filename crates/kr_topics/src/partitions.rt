@@ -60,10 +60,13 @@ fn has_active<S: Store>(store: &S, ids: &[i32]) -> bool
 fn is_distinct(ids: &[i32]) -> bool
     ensures { result ≡ is_distinct ids.now }
 {
-    match ids.split_first() {
-        None => true,
-        Some((id, others)) => !others.contains(id) && is_distinct(others),
+    for (at, id) in ids.iter().enumerate() {
+        let (_, later) = ids.split_at(at + 1);
+        if later.contains(id) {
+            return false;
+        }
     }
+    true
 }
 
 fn are_targets(ids: &[i32]) -> bool

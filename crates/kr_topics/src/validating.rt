@@ -1,4 +1,4 @@
-//! Stand-in.
+//! Requests that may be judged without effect.
 
 ghost use Rattle.std.specs.Prelude.{◌≡◌, ◌≤◌, ◌+◌, ◌≤ℤ◌, Some, IfOk};
 ghost use Rattle.kr_defs.specs.declared.limits.TheConstants.{PLACES_END as places_end};
@@ -9,14 +9,15 @@ ghost use Rattle.kr_rules.specs.Progress.{work_at};
 
 use kr_base::{NoMemory, Steps};
 use kr_defs::{Records, Rows};
-use kr_rules::Rule;
+use kr_rules::{Rule, decide_each};
 use kr_store::Store;
 use std::alloc::Global;
 use std::sync::ledger::Ledger;
 
 /// A request of several entries is decided, as by `decide_each`; with validate-only no record stands.
+#[tactic(auto, using(kr_rules::proofs::Takes::bases))]
 pub fn decide_or_validate<E, A: Drop, R: Rule<E, A>, S: Store, L: Ledger>(
-    _alloc: Global,
+    alloc: Global,
     store: &mut S,
     place: i64,
     rule: &R,
@@ -32,5 +33,10 @@ pub fn decide_or_validate<E, A: Drop, R: Rule<E, A>, S: Store, L: Ledger>(
     ensures made { IfOk result (λ d. (S.images store.new).made ≤ (S.images store.old).made + weights (S.images store.old).tip d.0) }
     ensures later { steps.old ≤ steps.new }
 {
-    Err(NoMemory)
+    let (records, answers) = decide_each(alloc, store, place, rule, entries, steps)?;
+    if validate_only {
+        store.revert_to_last(steps);
+        return Ok((Rows::new(alloc), answers));
+    }
+    Ok((records, answers))
 }

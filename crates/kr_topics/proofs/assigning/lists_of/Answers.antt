@@ -9,9 +9,9 @@ loop-index-preserved c =
     let lt : c.loop-index.index < length c.args.assignments.now = omega arith in
     let here : assigned_at c.args.assignments.now c.loop-index.index ≡ Some c.in-Some.brokers.now = sym (c.in-Some.ensures ∙ c.in_ok-those.ensures (pos c.loop-index.index)) in
     record {
-      told = rw c.in_ok-add_list.ensures (list_more c.args.assignments.now c.loop-index.index lt c.in-Some.brokers.now here c.loop-index.lists _ c.loop-index.invariant.told);
+      told = rw c.in_ok-add_list-in-Some.ensures (list_more c.args.assignments.now c.loop-index.index lt c.in-Some.brokers.now here c.loop-index.lists _ c.loop-index.invariant.told);
       whole = whole_more c.args.assignments.now c.loop-index.index lt c.in-Some.brokers.now here _ c.loop-index.invariant.whole;
-      count = omega (arith, ap length c.in_ok-add_list.ensures, length-append c.loop-index.lists (c.in-Some.brokers.now ∷ []), c.loop-index.invariant.count);
+      count = omega (arith, ap length c.in_ok-add_list-in-Some.ensures, length-append c.loop-index.lists (c.in-Some.brokers.now ∷ []), c.loop-index.invariant.count);
     }
 
 pub returns-in-None-clause-whole : goal.returns-in-None-clause-whole
