@@ -35,7 +35,7 @@ none_agrees (t ∷ ts) name plain none =
       | true ↦ λ is.
           let same : text_order name t.0 ≡ Equal = ap (text_order name) (agree_same t.0 name plain is) ∙ mirrored (text_order name name) (text_total.antisymm name name) in
           let some : is_some (cond (is_eq (text_order name t.0)) (Some t.1) (get text_order ts name)) ≡ true = rw same refl in
-          let no : true ≡ false = sym some ∙ none in
+          let against : true ≡ false = sym some ∙ none in
           absurd cc
       | false ↦ λ is. elim (is_eq (text_order name t.0)) as (λ b. is_some (cond b (Some t.1) (get text_order ts name)) ≡ false → list_any (λ (topic : List ℕ × ℕ). names_agree topic.0 name) ts ≡ false) [
         | true ↦ λ none. absurd cc

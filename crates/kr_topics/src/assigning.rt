@@ -84,13 +84,18 @@ fn key_of(index: usize) -> i64
     index as i64
 }
 
+fn at_key<'a>(those: &'a ByIndex, key: &i64) -> Option<&'a Ids>
+    ensures { option_copied result ≡ entries.get int_cmp those.now.entries key.now }
+{
+    those.get(key)
+}
+
 // The replicas at an index.
 fn at_index(those: &ByIndex, index: usize) -> Option<&Ids>
     requires { index < 2 ^ 63 }
     ensures { option_copied result ≡ entries.get int_cmp those.now.entries (pos index) }
 {
-    let key = key_of(index);
-    those.get(&key)
+    at_key(those, &key_of(index))
 }
 
 fn add_list(alloc: Global, lists: &mut Lists, brokers: &Ids) -> Result<(), NoMemory>

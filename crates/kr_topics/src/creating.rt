@@ -338,30 +338,62 @@ impl<'a> Rule<CreatableTopic, CreatableTopicResult> for Creating<'a> {
     }
 }
 
-// The topics of a request in turn.
-fn decide_creations<S: Store, L: Ledger>(
+// The topics in turn, on brokers that are grouped.
+fn decide_on<S: Store, L: Ledger>(
     alloc: Global,
     store: &mut S,
     options: &Options,
-    place: i64,
-    request: &CreateTopics,
+    place: &i64,
+    those: Grouped,
+    topics: &[CreatableTopic],
+    validate_only: bool,
     steps: &mut Steps<L>,
 ) -> Result<(Records, CreatableTopicResults), NoMemory>
-    requires low { place ≤ℤ places_end }
+    requires low { place.now ≤ℤ places_end }
     requires kept { last_image (S.images store.old) ≡ Some (S.images store.old).tip }
-    ensures answers { IfOk result (λ d. d.1 ≡ deciding.answers refused_creation (creations.rule options.now request.now.validate_only) (begun place (S.images store.old).tip) request.now.topics) }
-    ensures after { IfOk result (λ d. work_at (record { start = place; records = d.0 }) (S.images store.new).tip ≡ unless_validating request.now.validate_only (begun place (S.images store.old).tip) (deciding.after_all refused_creation (creations.rule options.now request.now.validate_only) (begun place (S.images store.old).tip) request.now.topics)) }
+    ensures answers { IfOk result (λ d. d.1 ≡ deciding.answers refused_creation (room.creation those options.now validate_only) (begun place.now (S.images store.old).tip) topics.now) }
+    ensures after { IfOk result (λ d. work_at (record { start = place.now; records = d.0 }) (S.images store.new).tip ≡ unless_validating validate_only (begun place.now (S.images store.old).tip) (deciding.after_all refused_creation (room.creation those options.now validate_only) (begun place.now (S.images store.old).tip) topics.now)) }
     ensures kept { (S.images store.new).kept ≡ (S.images store.old).kept }
     ensures made { IfOk result (λ d. (S.images store.new).made ≤ (S.images store.old).made + weights (S.images store.old).tip d.0) }
     ensures later { steps.old ≤ steps.new }
 {
     let rule = Creating {
         options,
-        validate_only: request.validate_only,
-        those: active_by_rack(alloc, store)?,
+        validate_only,
+        those,
     };
+    decide_or_validate(alloc, store, *place, &rule, topics, validate_only, steps)
+}
+
+// The topics of a request in turn.
+fn decide_creations<S: Store, L: Ledger>(
+    alloc: Global,
+    store: &mut S,
+    options: &Options,
+    place: &i64,
+    request: &CreateTopics,
+    steps: &mut Steps<L>,
+) -> Result<(Records, CreatableTopicResults), NoMemory>
+    requires low { place.now ≤ℤ places_end }
+    requires kept { last_image (S.images store.old) ≡ Some (S.images store.old).tip }
+    ensures answers { IfOk result (λ d. d.1 ≡ deciding.answers refused_creation (creations.rule options.now request.now.validate_only) (begun place.now (S.images store.old).tip) request.now.topics) }
+    ensures after { IfOk result (λ d. work_at (record { start = place.now; records = d.0 }) (S.images store.new).tip ≡ unless_validating request.now.validate_only (begun place.now (S.images store.old).tip) (deciding.after_all refused_creation (creations.rule options.now request.now.validate_only) (begun place.now (S.images store.old).tip) request.now.topics)) }
+    ensures kept { (S.images store.new).kept ≡ (S.images store.old).kept }
+    ensures made { IfOk result (λ d. (S.images store.new).made ≤ (S.images store.old).made + weights (S.images store.old).tip d.0) }
+    ensures later { steps.old ≤ steps.new }
+{
+    let those = active_by_rack(alloc, store)?;
     let topics = request.topics.as_slice();
-    decide_or_validate(alloc, store, place, &rule, topics, request.validate_only, steps)
+    decide_on(
+        alloc,
+        store,
+        options,
+        place,
+        those,
+        topics,
+        request.validate_only,
+        steps,
+    )
 }
 
 /// Each topic whose name is new is created, with its settings and its partitions: over the replicas that the request
@@ -390,7 +422,7 @@ pub fn create<S: Store, L: Ledger>(
         alloc,
         store,
         context.options,
-        context.place,
+        &context.place,
         request,
         steps,
     )?;

@@ -242,27 +242,47 @@ impl Rule<CreatePartitionsTopic, CreatePartitionsTopicResult> for Growing {
     }
 }
 
-// The topics of a request in turn.
-fn decide_growths<S: Store, L: Ledger>(
+// The topics in turn, on brokers that are grouped.
+fn decide_on<S: Store, L: Ledger>(
     alloc: Global,
     store: &mut S,
-    place: i64,
-    request: &CreatePartitions,
+    place: &i64,
+    those: Grouped,
+    topics: &[CreatePartitionsTopic],
+    validate_only: bool,
     steps: &mut Steps<L>,
 ) -> Result<(Records, CreatePartitionsTopicResults), NoMemory>
-    requires low { place ≤ℤ places_end }
+    requires low { place.now ≤ℤ places_end }
     requires kept { last_image (S.images store.old) ≡ Some (S.images store.old).tip }
-    ensures answers { IfOk result (λ d. d.1 ≡ deciding.answers refused_growth growths.rule (begun place (S.images store.old).tip) request.now.topics) }
-    ensures after { IfOk result (λ d. work_at (record { start = place; records = d.0 }) (S.images store.new).tip ≡ unless_validating request.now.validate_only (begun place (S.images store.old).tip) (deciding.after_all refused_growth growths.rule (begun place (S.images store.old).tip) request.now.topics)) }
+    ensures answers { IfOk result (λ d. d.1 ≡ deciding.answers refused_growth (room.growth those) (begun place.now (S.images store.old).tip) topics.now) }
+    ensures after { IfOk result (λ d. work_at (record { start = place.now; records = d.0 }) (S.images store.new).tip ≡ unless_validating validate_only (begun place.now (S.images store.old).tip) (deciding.after_all refused_growth (room.growth those) (begun place.now (S.images store.old).tip) topics.now)) }
     ensures kept { (S.images store.new).kept ≡ (S.images store.old).kept }
     ensures made { IfOk result (λ d. (S.images store.new).made ≤ (S.images store.old).made + weights (S.images store.old).tip d.0) }
     ensures later { steps.old ≤ steps.new }
 {
-    let rule = Growing {
-        those: active_by_rack(alloc, store)?,
-    };
+    let rule = Growing { those };
+    decide_or_validate(alloc, store, *place, &rule, topics, validate_only, steps)
+}
+
+// The topics of a request in turn.
+fn decide_growths<S: Store, L: Ledger>(
+    alloc: Global,
+    store: &mut S,
+    place: &i64,
+    request: &CreatePartitions,
+    steps: &mut Steps<L>,
+) -> Result<(Records, CreatePartitionsTopicResults), NoMemory>
+    requires low { place.now ≤ℤ places_end }
+    requires kept { last_image (S.images store.old) ≡ Some (S.images store.old).tip }
+    ensures answers { IfOk result (λ d. d.1 ≡ deciding.answers refused_growth growths.rule (begun place.now (S.images store.old).tip) request.now.topics) }
+    ensures after { IfOk result (λ d. work_at (record { start = place.now; records = d.0 }) (S.images store.new).tip ≡ unless_validating request.now.validate_only (begun place.now (S.images store.old).tip) (deciding.after_all refused_growth growths.rule (begun place.now (S.images store.old).tip) request.now.topics)) }
+    ensures kept { (S.images store.new).kept ≡ (S.images store.old).kept }
+    ensures made { IfOk result (λ d. (S.images store.new).made ≤ (S.images store.old).made + weights (S.images store.old).tip d.0) }
+    ensures later { steps.old ≤ steps.new }
+{
+    let those = active_by_rack(alloc, store)?;
     let topics = request.topics.as_slice();
-    decide_or_validate(alloc, store, place, &rule, topics, request.validate_only, steps)
+    decide_on(alloc, store, place, those, topics, request.validate_only, steps)
 }
 
 /// Each topic that is named gets more partitions: over the replicas that the request gives, or else placed on the active
@@ -287,7 +307,7 @@ pub fn grow<S: Store, L: Ledger>(
     ensures made { OnOk result ((S.images store.new).made ≤ (S.images store.old).made + weights (S.images store.old).tip out.new.records) }
     ensures later { steps.old ≤ steps.new }
 {
-    let (records, results) = decide_growths(alloc, store, context.place, request, steps)?;
+    let (records, results) = decide_growths(alloc, store, &context.place, request, steps)?;
     out.records = records;
     out.reply = Reply::CreatePartitions(CreatePartitionsReply { results });
     Ok(())
