@@ -79,10 +79,10 @@ module _ (base : List (ConfigKey × List ℕ)) (topic : List ℕ) where
       elim (is_old base given topic s) as (λ b. given' ≡ cond b given (insert text_order given s.name (value_of s)) → records' ≡ cond b records (records ++ kinds.Config topic_kind topic s.name (Some (value_of s)) ∷ []) → records ++ cond b (settings_records under.configs topic rest) (kinds.Config topic_kind topic s.name (Some (value_of s)) ∷ settings_records (insert config_order under.configs (key_of topic s.name) (value_of s)) topic rest) ≡ all → IsUnder base topic given' records' rest all) [
         | true ↦ λ is_given is_records told. rw (is_given, is_records) (record { configs = under.configs; stands = under.stands; told = told })
         | false ↦ λ is_given is_records told. rw (is_given, is_records) (record {
-            configs = insert config_order under.configs (key_of topic s.name) (value_of s);
-            stands = stands_more given under.configs under.stands s.name (value_of s);
-            told = append_assoc records (kinds.Config topic_kind topic s.name (Some (value_of s)) ∷ []) (settings_records (insert config_order under.configs (key_of topic s.name) (value_of s)) topic rest) ∙ told;
-          })
+          configs = insert config_order under.configs (key_of topic s.name) (value_of s);
+          stands = stands_more given under.configs under.stands s.name (value_of s);
+          told = append_assoc records (kinds.Config topic_kind topic s.name (Some (value_of s)) ∷ []) (settings_records (insert config_order under.configs (key_of topic s.name) (value_of s)) topic rest) ∙ told;
+        })
       ] is_given is_records told
 
   -- the setting at an index of a list

@@ -40,7 +40,9 @@ pub fn are_assignable<S: Store>(store: &S, assignments: &[CreatableReplicaAssign
     ensures { result ≡ creations.are_assignable (S.images store.now).tip assignments.now }
 {
     let size = first_size(assignments);
-    assignments.iter().all(|assignment| is_wide(store, size, assignment))
+    assignments
+        .iter()
+        .all(|assignment| is_wide(store, size, assignment))
 }
 
 fn index_of(assignment: &CreatableReplicaAssignment) -> i64
@@ -62,10 +64,7 @@ fn add(
 }
 
 // Of two assignments of one index the first counts.
-fn by_index(
-    alloc: Global,
-    assignments: &[CreatableReplicaAssignment],
-) -> Result<ByIndex, NoMemory>
+fn by_index(alloc: Global, assignments: &[CreatableReplicaAssignment]) -> Result<ByIndex, NoMemory>
     ensures { IfOk result (λ those. (index : ℤ) → entries.get int_cmp those.entries index ≡ option_map (λ a. a.brokers) (find (λ a. int_eq a.index index) assignments.now)) }
 {
     let mut those = BTreeMap::new(alloc);

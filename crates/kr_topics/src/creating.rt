@@ -23,6 +23,7 @@ use crate::assigning::{are_assignable, first_size, lists_of};
 use crate::partitions::{Lists, add_partitions, has_room, placements, start_of};
 use crate::racks::active_by_rack;
 use crate::settings::{add_settings, has_bad_setting};
+use crate::validating::decide_or_validate;
 use kr_base::{NoMemory, Steps};
 use kr_calls::{
     CreatableReplicaAssignment, CreatableTopic, CreatableTopicResult, CreatableTopicResults,
@@ -30,7 +31,6 @@ use kr_calls::{
 };
 use kr_defs::limits::MOST_TARGETS;
 use kr_defs::{Copied, Options, Record, Records, Rows, Text, is_topic_name};
-use crate::validating::decide_or_validate;
 use kr_place::Grouped;
 use kr_rules::{Refusal, Rule, Work};
 use kr_sessions::Context;
@@ -92,7 +92,9 @@ fn new_id<S: Store>(store: &S, options: &Options, work: &Work) -> u128
 fn may_agree(name: &Text) -> bool
     ensures { result ≡ list_any (λ byte. byte == 46 || byte == 95) name.now }
 {
-    name.as_bytes().iter().any(|byte| *byte == b'.' || *byte == b'_')
+    name.as_bytes()
+        .iter()
+        .any(|byte| *byte == b'.' || *byte == b'_')
 }
 
 // There is a topic whose name agrees with this one, which is that of no topic.
@@ -156,7 +158,13 @@ fn records_of<S: Store>(
 {
     let mut records = Rows::new(alloc);
     records.push(topic_record(alloc, &entry.name, id)?)?;
-    add_settings(alloc, store, &mut records, &entry.name, entry.configs.as_slice())?;
+    add_settings(
+        alloc,
+        store,
+        &mut records,
+        &entry.name,
+        entry.configs.as_slice(),
+    )?;
     add_partitions(alloc, store, &mut records, id, 0, lists.as_slice())?;
     Ok(records)
 }
@@ -226,7 +234,16 @@ fn assigned<S: Store>(
     }
     let partitions = count_of(&lists);
     let factor = size_of(assignments);
-    Ok(created(alloc, store, rule, work, entry, &partitions, &factor, &lists)?)
+    Ok(created(
+        alloc,
+        store,
+        rule,
+        work,
+        entry,
+        &partitions,
+        &factor,
+        &lists,
+    )?)
 }
 
 // ---- without assignments
@@ -234,13 +251,21 @@ fn assigned<S: Store>(
 fn partitions_of(options: &Options, entry: &CreatableTopic) -> i32
     ensures { result ≡ creations.or_default entry.now.partitions options.now.partitions }
 {
-    if entry.partitions == -1 { options.partitions } else { entry.partitions }
+    if entry.partitions == -1 {
+        options.partitions
+    } else {
+        entry.partitions
+    }
 }
 
 fn factor_of(options: &Options, entry: &CreatableTopic) -> i16
     ensures { result ≡ creations.or_default entry.now.factor options.now.factor }
 {
-    if entry.factor == -1 { options.factor } else { entry.factor }
+    if entry.factor == -1 {
+        options.factor
+    } else {
+        entry.factor
+    }
 }
 
 fn is_factor(those: &Grouped, factor: i16) -> bool
@@ -282,7 +307,16 @@ fn spread<S: Store>(
         partitions.unsigned_abs() as u64,
         factor.unsigned_abs() as usize,
     )?;
-    Ok(created(alloc, store, rule, work, entry, &partitions, &factor, &lists)?)
+    Ok(created(
+        alloc,
+        store,
+        rule,
+        work,
+        entry,
+        &partitions,
+        &factor,
+        &lists,
+    )?)
 }
 
 // ---- the rule

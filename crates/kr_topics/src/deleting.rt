@@ -29,7 +29,11 @@ fn is_named_once(name: &Option<Text>, topic: &u128) -> bool
     name.is_some() && *topic == 0 || name.is_none() && *topic != 0
 }
 
-fn deleted(alloc: Global, name: &Text, topic: &u128) -> Result<Draft<DeletableTopicResult>, NoMemory>
+fn deleted(
+    alloc: Global,
+    name: &Text,
+    topic: &u128,
+) -> Result<Draft<DeletableTopicResult>, NoMemory>
     ensures { IfOk result (λ draft. draft ≡ deletions.deleted name.now topic.now) }
 {
     let mut records = Rows::new(alloc);

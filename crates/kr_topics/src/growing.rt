@@ -16,8 +16,11 @@ ghost use Rattle.kr_store.specs.Images.{last_image, last_kept};
 ghost use Rattle.kr_topics.specs.Room as room;
 ghost use Rattle.kr_topics.specs.Room.{has_room};
 
-use crate::partitions::{Lists, add_partitions, has_room, is_assignable, placements, start_of, target_len};
+use crate::partitions::{
+    Lists, add_partitions, has_room, is_assignable, placements, start_of, target_len,
+};
 use crate::racks::active_by_rack;
+use crate::validating::decide_or_validate;
 use kr_base::{NoMemory, Steps};
 use kr_calls::{
     CreatePartitions, CreatePartitionsAssignment, CreatePartitionsReply, CreatePartitionsTopic,
@@ -25,7 +28,6 @@ use kr_calls::{
 };
 use kr_defs::{Copied, Records, Rows};
 use kr_place::Grouped;
-use crate::validating::decide_or_validate;
 use kr_rules::{Refusal, Rule, Work};
 use kr_sessions::Context;
 use kr_store::Store;
@@ -79,13 +81,12 @@ fn is_wide<S: Store>(store: &S, size: usize, assignment: &CreatePartitionsAssign
 fn are_wide<S: Store>(store: &S, size: usize, assignments: &[CreatePartitionsAssignment]) -> bool
     ensures { result ≡ list_all (λ a. partitions.is_assignable (S.images store.now).tip a.brokers && length a.brokers == size) assignments.now }
 {
-    assignments.iter().all(|assignment| is_wide(store, size, assignment))
+    assignments
+        .iter()
+        .all(|assignment| is_wide(store, size, assignment))
 }
 
-fn lists_of(
-    alloc: Global,
-    assignments: &[CreatePartitionsAssignment],
-) -> Result<Lists, NoMemory>
+fn lists_of(alloc: Global, assignments: &[CreatePartitionsAssignment]) -> Result<Lists, NoMemory>
     ensures lists { IfOk result (λ lists. lists ≡ map (λ a. a.brokers) assignments.now) }
     ensures count { IfOk result (λ lists. length lists ≡ length assignments.now) }
 {
@@ -164,7 +165,14 @@ fn placed<S: Store>(
         return Err(Refusal::Error(44));
     }
     let those = &rule.those;
-    let lists = placements(alloc, those, start_of(work), first as u64, count as u64, size)?;
+    let lists = placements(
+        alloc,
+        those,
+        start_of(work),
+        first as u64,
+        count as u64,
+        size,
+    )?;
     Ok(grown(alloc, store, entry, topic, first, &lists)?)
 }
 
@@ -185,7 +193,15 @@ fn of_size<S: Store>(
 {
     match &entry.assignments {
         Some(assignments) => {
-            assigned(alloc, store, entry, topic, first, size, assignments.as_slice())
+            assigned(
+                alloc,
+                store,
+                entry,
+                topic,
+                first,
+                size,
+                assignments.as_slice(),
+            )
         }
         None => placed(alloc, store, rule, work, entry, topic, first, size),
     }
@@ -282,7 +298,15 @@ fn decide_growths<S: Store, L: Ledger>(
 {
     let those = active_by_rack(alloc, store)?;
     let topics = request.topics.as_slice();
-    decide_on(alloc, store, place, those, topics, request.validate_only, steps)
+    decide_on(
+        alloc,
+        store,
+        place,
+        those,
+        topics,
+        request.validate_only,
+        steps,
+    )
 }
 
 /// Each topic that is named gets more partitions: over the replicas that the request gives, or else placed on the active

@@ -14,12 +14,7 @@ use std::alloc::Global;
 
 type Racks = Vec<(i32, Option<Text>)>;
 
-fn add_active(
-    alloc: Global,
-    racks: &mut Racks,
-    id: &i32,
-    state: &Broker,
-) -> Result<(), NoMemory>
+fn add_active(alloc: Global, racks: &mut Racks, id: &i32, state: &Broker) -> Result<(), NoMemory>
     ensures { OnOk result (racks.new.items ≡ racks.old.items ++ racked_of ((id.now, state.now) ∷ [])) }
 {
     if is_active(state) {
