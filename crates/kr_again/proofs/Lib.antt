@@ -1,8 +1,3 @@
-pub mod Costs
-pub mod CostsKinds
-pub mod CostsTagged
-pub mod Follows
-pub mod HeldParts
-pub mod HeldRead
+pub mod Layouts
+pub mod Parts
 pub mod ReadAgain
-pub mod Short

@@ -1,9 +1,8 @@
 -- A batch that stands in fewer than 2^27 bytes, and has records, can be written again.
-use Rattle.std.proofs.Common.{◌≡◌, ℕ, ℤ, pos, ◌+◌, ◌*◌, ◌^◌, ◌<◌, ◌≤◌, Bool, true, false, List, [], ◌∷◌, length, subst, ap, arith}
+use Rattle.std.proofs.Common.{◌≡◌, ℕ, ℤ, pos, ◌+◌, ◌*◌, ◌^◌, ◌<◌, ◌≤◌, Bool, true, false, List, [], ◌∷◌, length, arith}
 use Rattle.std.specs.Prelude.{FitsSigned}
-use Rattle.std.specs.List.{All}
+use Rattle.std.specs.List.{All, sum_by}
 use Rattle.std.specs.Int.{w32, w64}
-use Rattle.std.proofs.lemmas.List.{length-append}
 use Rattle.std.proofs.lemmas.List.Elements.{All-nil, All-cons, All-head, All-tail}
 use Rattle.std.proofs.lemmas.List.Sums.{sum_by-cons}
 use Rattle.kr_defs.specs.declared.limits.TheConstants.{MOST_RECORDS}
@@ -13,82 +12,59 @@ use Rattle.kr_defs.specs.declared.record.Item.TheVariants as items
 use Rattle.kr_defs.specs.Sizes as sizes
 use Rattle.kr_wire.specs.Laws.{IsBytes}
 use Rattle.kr_wire.specs.Grammar.{◌⌢◌, Exactly}
+use Rattle.kr_wire.proofs.Follows.{Follows, free, ◌and◌, then, int32, int64, exactly}
+use Rattle.kr_again.proofs.Layouts.{short, held, cost}
 use Rattle.kr_record.specs.Encodable.{IsEncodable}
 use Rattle.kr_record.specs.Held.{IsHeld}
-use Rattle.kr_record.specs.Spelling.{record_value}
-use Rattle.kr_again.proofs.Follows.{Premise, Follows, behind, nothing, ◌and◌, then}
-use Rattle.kr_again.proofs.Costs.{Costs, free, ◌plus◌, at_most}
-use Rattle.kr_again.proofs.CostsKinds.{record_cost}
-use Rattle.kr_again.proofs.HeldParts.{int32, int64}
-use Rattle.kr_again.proofs.HeldRead.{held}
 use Rattle.kr_record.proofs.Lengths.{size}
-use Rattle.kr_again.proofs.Short.{short}
 use Rattle.kr_batch.specs.declared.Batch.{Batch}
-use Rattle.kr_batch.specs.Grammar.{IsSized, IsBody, IsFrame, IsEntry, AreEntries, IsStart, IsSum, IsCount, IsFixed, AreItems, IsBatch}
+use Rattle.kr_batch.specs.Grammar.{IsSized, IsBody, IsEntry, AreEntries, IsStart, IsSum, IsCount, IsFixed, AreItems, IsBatch}
 use Rattle.kr_batch.specs.Written.{IsWritable, IsHeldItem, IsRegular, value_bytes, values_size}
 use Rattle.kr_again.specs.Items.{HasRecords}
 
 -- ---- a record's value
 
-exactly : (few : Bool) (piece : List ℕ) → Follows few (Exactly piece) (Premise few piece)
-exactly few piece = record { from = λ bytes is known. subst (Premise few) is known }
+sized : (piece : List ℕ) → Follows (IsSized piece) (8 * length piece) (length piece < 2 ^ 31) (IsBytes piece)
+sized piece = then (free and exactly piece) (omega arith) (λ p. p.1) (λ q. q.1)
 
-sized_piece : (few : Bool) (piece : List ℕ) → Follows few (IsSized piece) (Premise few piece)
-sized_piece few piece = then (nothing and exactly few piece) (λ p. p.1)
+body : (delta : ℤ) (value : List ℕ) → Follows (IsBody (delta, value)) (8 * length value) (length value < 2 ^ 31) (IsBytes value)
+body delta value = then (free and free and free and free and sized value and free) (omega arith) (λ p. p.1.1.1.1.0) (λ q. q.1.1.1.1.0)
 
-body_value : (few : Bool) (delta : ℤ) (value : List ℕ) → Follows few (IsBody (delta, value)) (Premise few value)
-body_value few delta value = then (nothing and nothing and nothing and nothing and sized_piece few value and nothing) (λ p. p.1.1.1.1.0)
-
-frame_value : (few : Bool) (delta : ℤ) (value : List ℕ) → Follows few (IsFrame (delta, value)) (Premise few value)
-frame_value few delta value = record {
-  from = λ bytes is known. (body_value few delta value).from is.body is.whole ((sized_piece few is.body).from bytes is.spelled known);
-}
-
-entry_writable : (at : ℕ) (r : Record) → Follows true (IsEntry at r) (IsEncodable r)
-entry_writable at r = record { from = λ bytes is known. short r is.value is.is ((frame_value true (pos at) is.value).from bytes is.spelled known) }
-
-entry_held : (at : ℕ) (r : Record) → Follows false (IsEntry at r) (IsHeld r)
-entry_held at r = record { from = λ bytes is known. held r is.value is.is ((frame_value false (pos at) is.value).from bytes is.spelled known) }
-
--- ---- how long a record is
-
-exactly_cost : (piece : List ℕ) → Costs (Exactly piece) (8 * length piece)
-exactly_cost piece = record { from = λ bytes is. omega (arith, ap (λ (l : List ℕ). length l) is) }
-
-sized_cost : (piece : List ℕ) → Costs (IsSized piece) (8 * length piece)
-sized_cost piece = at_most (free plus exactly_cost piece) (omega arith)
-
-body_cost : (delta : ℤ) (value : List ℕ) → Costs (IsBody (delta, value)) (8 * length value)
-body_cost delta value = at_most (free plus free plus free plus free plus sized_cost value plus free) (omega arith)
-
-entry_cost : (at : ℕ) (r : Record) → Costs (IsEntry at r) (sizes.value_bytes r)
-entry_cost at r = record {
-  from = λ bytes is.
+entry : (at : ℕ) (r : Record) → Follows (IsEntry at r) (sizes.value_bytes r) (IsEncodable r) (IsHeld r)
+entry at r = record {
+  cost = λ bytes is.
       let frame = is.spelled in
-      omega (arith, record_cost r is.value is.is, (body_cost (pos at) is.value).from frame.body frame.whole, (sized_cost frame.body).from bytes frame.spelled);
+      omega (arith, cost r is.value is.is, (body (pos at) is.value).cost frame.body frame.whole, (sized frame.body).cost bytes frame.spelled);
+  short = λ bytes is few. let frame = is.spelled in short r is.value is.is ((body (pos at) is.value).short frame.body frame.whole ((sized frame.body).short bytes frame.spelled few));
+  held = λ bytes is fit. let frame = is.spelled in held r is.value is.is ((body (pos at) is.value).held frame.body frame.whole ((sized frame.body).held bytes frame.spelled fit));
 }
 
 -- ---- records
 
-entries_writable : (all : List Item) (at : ℕ) → Follows true (AreEntries at all) (All IsWritable all)
-entries_writable [] at = record { from = λ bytes is known. All-nil IsWritable }
-entries_writable (items.Record r ∷ others) at =
-    then (entry_writable at r and entries_writable others (at + 1)) (λ p. All-cons IsWritable (items.Record r) others p.0 p.1)
-entries_writable (items.Control ∷ others) at = record { from = λ bytes is known. absurd is }
+abbrev item_bytes : Item → ℕ
+item_bytes (items.Record r) = sizes.value_bytes r
+item_bytes items.Control = 0
 
-entries_held : (all : List Item) (at : ℕ) → Follows false (AreEntries at all) (All IsHeldItem all)
-entries_held [] at = record { from = λ bytes is known. All-nil IsHeldItem }
-entries_held (items.Record r ∷ others) at =
-    then (entry_held at r and entries_held others (at + 1)) (λ p. All-cons IsHeldItem (items.Record r) others p.0 p.1)
-entries_held (items.Control ∷ others) at = record { from = λ bytes is known. absurd is }
+entries : (all : List Item) (at : ℕ) → Follows (AreEntries at all) (sum_by item_bytes all) (All IsWritable all) (All IsHeldItem all)
+entries [] at = then free (omega arith) (λ p. All-nil IsWritable) (λ q. All-nil IsHeldItem)
+entries (items.Record r ∷ others) at =
+    then (entry at r and entries others (at + 1)) (omega (arith, sum_by-cons item_bytes (items.Record r) others))
+    (λ p. All-cons IsWritable (items.Record r) others p.0 p.1)
+    (λ q. All-cons IsHeldItem (items.Record r) others q.0 q.1)
+entries (items.Control ∷ others) at = record { cost = λ bytes is. absurd is; short = λ bytes is few. absurd is; held = λ bytes is fit. absurd is }
 
-entries_cost : (all : List Item) (at : ℕ) → All IsWritable all → Costs (AreEntries at all) (values_size all)
-entries_cost [] at fit = free
-entries_cost (items.Record r ∷ others) at fit =
-    let one : length (record_value r) ≡ sizes.value_bytes r = size r (All-head IsWritable (items.Record r) others fit) in
-    at_most (entry_cost at r plus entries_cost others (at + 1) (All-tail IsWritable (items.Record r) others fit))
-    (omega (arith, one, sum_by-cons (λ x. length (value_bytes x)) (items.Record r) others))
-entries_cost (items.Control ∷ others) at fit = record { from = λ bytes is. absurd is }
+-- the values, as long as they are written
+values_long : (all : List Item) → All IsWritable all → values_size all ≤ sum_by item_bytes all
+values_long [] fit = omega arith
+values_long (items.Record r ∷ others) fit =
+    omega (
+      arith,
+      size r (All-head IsWritable (items.Record r) others fit),
+      values_long others (All-tail IsWritable (items.Record r) others fit),
+      sum_by-cons (λ x. length (value_bytes x)) (items.Record r) others,
+      sum_by-cons item_bytes (items.Record r) others,
+    )
+values_long (items.Control ∷ others) fit = absurd (All-head IsWritable items.Control others fit)
 
 record_no_control : (r : Record) (others more : List Item) → items.Record r ∷ others ≡ items.Control ∷ more → ⊥
 record_no_control r others more e = cc
@@ -102,43 +78,42 @@ items_stand false all bytes some has is = is
 
 -- ---- the fields before the records
 
-start_holds : (base : ℤ) (behind : List ℕ) → Follows false (IsStart (base, length behind) ⌢ Exactly behind) (FitsSigned w64 base × IsBytes behind)
-start_holds base behind = then ((int64 base and nothing) and exactly false behind) (λ p. (p.0.0, p.1))
+start : (base : ℤ) (behind : List ℕ) → Follows (IsStart (base, length behind) ⌢ Exactly behind) (8 * length behind) (Unit {0}) (FitsSigned w64 base × IsBytes behind)
+start base behind = then ((int64 base and free) and exactly behind) (omega arith) (λ p. tt) (λ q. (q.0.0, q.1))
 
-sum_holds : (epoch : ℤ) (crc : ℕ) (checked : List ℕ) → Follows false (IsSum (epoch, crc) ⌢ Exactly checked) (FitsSigned w32 epoch × IsBytes checked)
-sum_holds epoch crc checked = then ((int32 epoch and nothing) and exactly false checked) (λ p. (p.0.0, p.1))
+sum : (epoch : ℤ) (crc : ℕ) (checked : List ℕ) → Follows (IsSum (epoch, crc) ⌢ Exactly checked) (8 * length checked) (Unit {0}) (FitsSigned w32 epoch × IsBytes checked)
+sum epoch crc checked = then ((int32 epoch and free) and exactly checked) (omega arith) (λ p. tt) (λ q. (q.0.0, q.1))
 
-count_holds : {few : Bool} (count : ℕ) → Follows few (IsCount count) ((1 ≤ count) × (count ≤ MOST_RECORDS))
-count_holds count = record { from = λ bytes is known. (is.some, is.few) }
+count : (n : ℕ) → Follows (IsCount n) 0 (Unit {0}) ((1 ≤ n) × (n ≤ MOST_RECORDS))
+count n = record { cost = λ bytes is. omega arith; short = λ bytes is few. tt; held = λ bytes is fit. (is.some, is.few) }
 
-fixed_holds : (control : Bool) (time : ℤ) (count : ℕ) (records : List ℕ)
-    → Follows false (IsFixed (control, time, count) ⌢ Exactly records) ((FitsSigned w64 time × ((1 ≤ count) × (count ≤ MOST_RECORDS))) × IsBytes records)
-fixed_holds control time count records =
-    then ((nothing and nothing and int64 time and nothing and count_holds count) and exactly false records) (λ p. ((p.0.1.1.0, p.0.1.1.1.1), p.1))
-
--- what is behind some bytes is no longer than all of them
-no_longer : {First : List ℕ → Type 0} (rest bytes : List ℕ) → (First ⌢ Exactly rest) bytes → length rest ≤ length bytes
-no_longer rest bytes is =
-    omega (arith, length-append is.left is.right, ap (λ (l : List ℕ). length l) is.is, ap (λ (l : List ℕ). length l) is.second)
+fixed : (control : Bool) (time : ℤ) (n : ℕ) (records : List ℕ)
+    → Follows (IsFixed (control, time, n) ⌢ Exactly records) (8 * length records) (Unit {0}) ((FitsSigned w64 time × ((1 ≤ n) × (n ≤ MOST_RECORDS))) × IsBytes records)
+fixed control time n records =
+    then ((free and free and int64 time and free and count n) and exactly records) (omega arith) (λ p. tt) (λ q. ((q.0.1.1.0, q.0.1.1.1.1), q.1))
 
 -- ---- a batch
 
 pub read_regular : (batch : Batch) (bytes : List ℕ) → IsBatch batch bytes → IsBytes bytes → length bytes < 2 ^ 27 → HasRecords batch.items → IsRegular batch
 read_regular batch bytes is known few some =
-    let start = (start_holds batch.base is.behind).from bytes is.start known in
-    let sum = (sum_holds batch.epoch _ is.checked).from is.behind is.sum start.1 in
-    let fixed = (fixed_holds is.control batch.time (length batch.items) is.records).from is.checked is.fixed sum.1 in
-    let entries = items_stand is.control batch.items is.records fixed.0.1.0 some is.items in
-    let small : length is.records < 2 ^ 27 = omega (arith, no_longer is.behind bytes is.start, no_longer is.checked is.behind is.sum, no_longer is.records is.checked is.fixed) in
-    let writable = (entries_writable batch.items 0).from is.records entries (omega arith) in
+    let starts = start batch.base is.behind in
+    let sums = sum batch.epoch _ is.checked in
+    let fixes = fixed is.control batch.time (length batch.items) is.records in
+    let all = entries batch.items 0 in
+    let started = starts.held bytes is.start known in
+    let summed = sums.held is.behind is.sum started.1 in
+    let found = fixes.held is.checked is.fixed summed.1 in
+    let stand = items_stand is.control batch.items is.records found.0.1.0 some is.items in
+    let small : length is.records < 2 ^ 27 = omega (arith, starts.cost bytes is.start, sums.cost is.behind is.sum, fixes.cost is.checked is.fixed) in
+    let writable = all.short is.records stand (omega arith) in
     record {
       based = is.based;
-      base = start.0;
-      epoch = sum.0;
-      time = fixed.0.0;
-      some = fixed.0.1.0;
-      few = fixed.0.1.1;
+      base = started.0;
+      epoch = summed.0;
+      time = found.0.0;
+      some = found.0.1.0;
+      few = found.0.1.1;
       each = writable;
-      held = (entries_held batch.items 0).from is.records entries fixed.1;
-      small = omega (arith, (entries_cost batch.items 0 writable).from is.records entries);
+      held = all.held is.records stand found.1;
+      small = omega (arith, all.cost is.records stand, values_long batch.items writable);
     }

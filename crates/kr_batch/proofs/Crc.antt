@@ -1,30 +1,10 @@
--- Eight steps at once by a table.
-use Rattle.std.proofs.Common.{◌≡◌, ℕ, zero, suc, ◌+◌, ◌*◌, ◌/◌, ◌%◌, ◌^◌, ◌<◌, ◌==◌, List, [], ◌∷◌, get_or, refl, sym, ap, ◌∙◌, arith, if◌then◌else◌}
-use Rattle.std.specs.Prelude.{bit_and, bit_xor}
+-- The steps are linear, and bits above the lowest only move down.
+use Rattle.std.proofs.Common.{◌≡◌, ℕ, zero, suc, ◌+◌, ◌*◌, ◌/◌, ◌%◌, ◌^◌, ◌<◌, ◌==◌, refl, sym, ap, ◌∙◌, arith, if◌then◌else◌}
+use Rattle.std.specs.Prelude.{bit_xor}
 use Rattle.std.specs.Int.Bits.{xor_assoc, xor_self, xor_zero_l, xor_zero_r}
-use Rattle.std.proofs.lemmas.Nat.{xor_comm, xor_shr, xor_mod, xor_block, and_mask}
+use Rattle.std.proofs.lemmas.Nat.{xor_comm, xor_shr, xor_mod, xor_block}
 use Rattle.std.proofs.Math.Nat.{pow-succ'}
-use Rattle.kr_batch.specs.Crc.{bit_step, bit_steps, byte_step, polynomial}
-use Rattle.kr_batch.specs.declared.checksum.TheConstants.{TABLE}
-
--- ---- the table
-
--- the values of f at n numbers, from a number on
-abbrev values : (ℕ → ℕ) → ℕ → ℕ → List ℕ
-values f zero from = []
-values f (suc n) from = f from ∷ values f n (from + 1)
-
-value_at : (f : ℕ → ℕ) (n from i : ℕ) → i < n → get_or (values f n from) i 0 ≡ f (from + i)
-value_at f zero from i lt = absurd (omega arith)
-value_at f (suc n) from zero lt = let e : from ≡ from + 0 = omega arith in ap f e
-value_at f (suc n) from (suc i) lt = (let e : from + 1 + i ≡ from + suc i = omega arith in value_at f n (from + 1) i (omega arith) ∙ ap f e)
-
--- the whole table, computed
-table_is : TABLE ≡ values (bit_steps 8) 256 0
-table_is = refl
-
-table_at : (i : ℕ) → i < 256 → get_or TABLE i 0 ≡ bit_steps 8 i
-table_at i lt = ap (λ (t : List ℕ). get_or t i 0) table_is ∙ (let e : 0 + i ≡ i = omega arith in value_at (bit_steps 8) 256 0 i lt ∙ ap (bit_steps 8) e)
+use Rattle.kr_batch.specs.Crc.{bit_step, bit_steps, polynomial}
 
 -- ---- the steps are linear
 
@@ -53,7 +33,7 @@ step_xor a b =
     let high : bit_xor a b / 2 ≡ bit_xor (a / 2) (b / 2) = xor_shr a b 1 in
     ap (λ p. mixed p (bit_xor a b / 2)) low ∙ ap (mixed (bit_xor (a % 2) (b % 2))) high ∙ mixed_xor (a % 2) (b % 2) (a / 2) (b / 2) (omega arith) (omega arith)
 
-steps_xor : (n a b : ℕ) → bit_steps n (bit_xor a b) ≡ bit_xor (bit_steps n a) (bit_steps n b)
+pub steps_xor : (n a b : ℕ) → bit_steps n (bit_xor a b) ≡ bit_xor (bit_steps n a) (bit_steps n b)
 steps_xor zero a b = refl
 steps_xor (suc n) a b = ap (bit_steps n) (step_xor a b) ∙ steps_xor n (bit_step a) (bit_step b)
 
@@ -65,14 +45,14 @@ step_double m =
     let high : 2 * m / 2 ≡ m = omega arith in
     ap (λ p. mixed p (2 * m / 2)) low ∙ high
 
-steps_double : (n q : ℕ) → bit_steps n (2 ^ n * q) ≡ q
+pub steps_double : (n q : ℕ) → bit_steps n (2 ^ n * q) ≡ q
 steps_double zero q = omega arith
 steps_double (suc n) q =
     let p = pow-succ' 2 n in
     let e : 2 ^ suc n * q ≡ 2 * (2 ^ n * q) = rw p (omega arith) in
     ap (λ c. bit_steps n (bit_step c)) e ∙ ap (bit_steps n) (step_double (2 ^ n * q)) ∙ steps_double n q
 
-split : (x : ℕ) → x ≡ bit_xor (256 * (x / 256)) (x % 256)
+pub split : (x : ℕ) → x ≡ bit_xor (256 * (x / 256)) (x % 256)
 split x =
     let block : bit_xor (x / 256 * 256 + 0) (0 * 256 + x % 256) ≡ bit_xor (x / 256) 0 * 256 + bit_xor 0 (x % 256) = xor_block 8 (x / 256) 0 0 (x % 256) (omega arith) (omega arith) in
     let left : x / 256 * 256 + 0 ≡ 256 * (x / 256) = omega arith in
@@ -81,18 +61,12 @@ split x =
     let sum : x / 256 * 256 + x % 256 ≡ x = omega arith in
     sym (whole ∙ sum)
 
-eight : (x : ℕ) → bit_steps 8 x ≡ bit_xor (x / 256) (bit_steps 8 (x % 256))
+pub eight : (x : ℕ) → bit_steps 8 x ≡ bit_xor (x / 256) (bit_steps 8 (x % 256))
 eight x =
     ap (bit_steps 8) (split x) ∙ steps_xor 8 (256 * (x / 256)) (x % 256)
     ∙ ap (λ h. bit_xor h (bit_steps 8 (x % 256))) (steps_double 8 (x / 256))
 
-pub table_step : (sum byte wide entry : ℕ) → byte < 256 → wide ≡ byte → entry ≡ get_or TABLE (bit_and (bit_xor sum wide) 255) 0
-    → bit_xor (sum / 256) entry ≡ byte_step sum byte
-unfolding byte_step
-table_step sum byte wide entry small same is =
-    let low : bit_and (bit_xor sum byte) 255 ≡ bit_xor sum byte % 256 = and_mask (bit_xor sum byte) 8 in
-    let index : bit_and (bit_xor sum wide) 255 ≡ bit_xor sum byte % 256 = ap (λ b. bit_and (bit_xor sum b) 255) same ∙ low in
-    let none : byte / 256 ≡ 0 = omega arith in
-    let high : bit_xor sum byte / 256 ≡ sum / 256 = xor_shr sum byte 8 ∙ ap (bit_xor (sum / 256)) none ∙ xor_zero_r (sum / 256) in
-    let there : entry ≡ bit_steps 8 (bit_xor sum byte % 256) = is ∙ ap (λ i. get_or TABLE i 0) index ∙ table_at (bit_xor sum byte % 256) (omega arith) in
-    ap (bit_xor (sum / 256)) there ∙ sym (eight (bit_xor sum byte) ∙ ap (λ h. bit_xor h (bit_steps 8 (bit_xor sum byte % 256))) high)
+-- steps behind steps
+pub steps_then : (m n c : ℕ) → bit_steps n (bit_steps m c) ≡ bit_steps (m + n) c
+steps_then zero n c = let e : n ≡ 0 + n = omega arith in ap (λ k. bit_steps k c) e
+steps_then (suc m) n c = steps_then m n (bit_step c) ∙ (let e : suc (m + n) ≡ suc m + n = omega arith in ap (λ k. bit_steps k c) e)

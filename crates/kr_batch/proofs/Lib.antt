@@ -1,10 +1,12 @@
 pub mod Batches
+pub mod Blocks
 pub mod Bytes
 pub mod Crc
 pub mod Entries
 pub mod Faults
 pub mod Frames
 pub mod Heads
+pub mod Lookups
 pub mod Records
 pub mod Sizes
 pub mod Spelled

@@ -20,6 +20,9 @@ use kr_defs::{Item, Items, Record};
 use kr_record::RecordFault;
 use std::alloc::Global;
 
+// The fewest bytes of a record: its length, attributes, timestamp, offset, key, the length of its value, and headers.
+const LEAST_RECORD: usize = 7;
+
 #[tactic(auto, unfolding(crate::specs::Reading::batch_of), using(crate::proofs::Faults::is_fault))]
 fn batch(alloc: Global, bytes: &[u8]) -> Result<Batch, BatchFault>
     ensures { Gives result (batch_of bytes.now) }
@@ -65,7 +68,8 @@ fn read_entries(alloc: Global, bytes: &[u8], count: u32) -> Result<Items, BatchF
     requires { count ≤ MOST_RECORDS }
     ensures { Gives result (entries_of 0 count bytes.now) }
 {
-    let mut list = Vec::new(alloc);
+    let room = (count as usize).min(bytes.len() / LEAST_RECORD);
+    let mut list = Vec::with_capacity(alloc, room)?;
     let mut next = 0;
     for number in 0..count {
         let (record, after) = read_entry(alloc, bytes, next, number, number + 1 == count)?;

@@ -123,7 +123,7 @@ fn put_value(item: &Item, out: &mut Vec<u8>) -> Result<(), NoMemory>
     ensures { OnOk result (out.new.items ≡ out.old.items ++ value_bytes item.now) }
 {
     match item {
-        Item::Record(record) => kr_record::encode(record, out),
+        Item::Record(record) => kr_record::append(record, out),
         Item::Control => Ok(()),
     }
 }

@@ -7,6 +7,7 @@ mod encoding;
 mod fault;
 mod framing;
 mod heading;
+mod table;
 mod theorems;
 
 pub use checksum::crc32c;

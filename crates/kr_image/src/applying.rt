@@ -1,18 +1,19 @@
-//! A record of any kind, or a control item, is applied to the timelines.
+//! A record of any kind is applied to the timelines.
 
 ghost use Rattle.std.specs.Prelude.{◌≡◌, ◌≤◌, ◌+◌, OnOk, negsuc, pos};
 ghost use Rattle.kr_defs.specs.Apply as apply;
 ghost use Rattle.kr_defs.specs.Image.{IsValid};
-ghost use Rattle.kr_defs.specs.Weight.{record_weight, weight};
+ghost use Rattle.kr_defs.specs.Weight.{record_weight};
 ghost use Rattle.kr_image.specs.Changed.{Changes};
 ghost use Rattle.kr_image.specs.Held.{Agrees, keeps, made_of, tip_of};
 
 use crate::timelines::{ChangeFault, Timelines};
-use kr_defs::{Item, Record};
+use kr_defs::Record;
 
 impl Timelines {
+    /// Changes the present image by the meaning of a record. A record without one changes nothing.
     #[tactic(auto, unfolding(kr_defs::specs::Apply::apply_record))]
-    fn apply_record(&mut self, value: &Record) -> Result<(), ChangeFault>
+    pub fn apply_record(&mut self, value: &Record) -> Result<(), ChangeFault>
         requires valid { IsValid (tip_of self.old) }
         requires agrees { Agrees self.old }
         ensures changes { Changes self.old self.new result (apply.apply_record (tip_of self.old) value.now) }
@@ -55,22 +56,6 @@ impl Timelines {
                 stopping,
             } => { self.change_registration(broker, epoch, fenced, stopping) }
             Record::NoOp => Ok(()),
-        }
-    }
-
-    /// Changes the present image by the meaning of an item. An item without one changes nothing.
-    #[tactic(auto, unfolding(kr_defs::specs::Apply::apply, kr_defs::specs::Weight::weight))]
-    pub fn apply(&mut self, item: &Item) -> Result<(), ChangeFault>
-        requires valid { IsValid (tip_of self.old) }
-        requires agrees { Agrees self.old }
-        ensures changes { Changes self.old self.new result (apply.apply (tip_of self.old) item.now) }
-        ensures agrees { OnOk result (Agrees self.new) }
-        ensures kept { keeps self.new ≡ keeps self.old }
-        ensures made { OnOk result (made_of self.new ≤ made_of self.old + weight (tip_of self.old) item.now) }
-    {
-        match item {
-            Item::Control => Ok(()),
-            Item::Record(record) => self.apply_record(record),
         }
     }
 }

@@ -1,6 +1,7 @@
 //! The store: the timelines, and the epochs with their counts.
 
 ghost use Rattle.std.specs.Prelude.{◌≡◌, ◌↔◌, ◌+◌, ◌≤◌, None, Some, IsErr, IsSome, OnErr, OnOk};
+ghost use Rattle.kr_defs.specs.declared.record.Item.TheVariants as items;
 ghost use Rattle.kr_defs.specs.Weight.{weight};
 ghost use Rattle.kr_store.specs.Applied.{Applies, Ticks};
 ghost use Rattle.kr_store.specs.Images.{IsAbove, forgotten, kept_at, last_image, last_kept, marked, no_images, reverted};
@@ -12,7 +13,7 @@ use crate::looking::{found, next};
 use crate::timelines::{ChangeFault, Timelines};
 use kr_base::{NoEpoch, NoMemory, Steps};
 use kr_defs::laws::{apply_keeps_valid, empty_is_valid};
-use kr_defs::{Broker, ConfigKey, Item, Partition, Text, Topic};
+use kr_defs::{Broker, ConfigKey, Item, Partition, Record, Text, Topic};
 use kr_store::{ApplyFault, At, Counts, Store};
 use std::alloc::Global;
 use std::marker::Model;
@@ -146,7 +147,37 @@ fn go_back<L: Ledger>(timelines: &mut Timelines, kept: &[KeptCounts], steps: &mu
     }
 }
 
-// Applies the item to the timelines of a store.
+// Applies the record to the timelines of a store.
+#[tactic(auto, unfolding(kr_defs::specs::Apply::apply, kr_defs::specs::Weight::weight))]
+fn apply_record<L: Ledger>(
+    timelines: &mut Timelines,
+    kept: &[KeptCounts],
+    place: i64,
+    value: &Record,
+    steps: &mut Steps<L>,
+) -> Result<(), ApplyFault>
+    requires store { IsStore timelines.old kept.now }
+    requires some { IsSome (last_kept (images_of timelines.old kept.now)) }
+    ensures store { IsStore timelines.new kept.now }
+    ensures applied { Applies (images_of timelines.old kept.now) (images_of timelines.new kept.now) result place (items.Record value.now) }
+    ensures same { keeps timelines.new ≡ keeps timelines.old }
+    ensures made { OnOk result (made_of timelines.new ≤ made_of timelines.old + weight (tip_of timelines.old) (items.Record value.now)) }
+    ensures counted { Ticks steps.old steps.new result }
+{
+    apply_keeps_valid();
+    steps.tick();
+    match timelines.apply_record(value) {
+        Ok(()) => Ok(()),
+        Err(ChangeFault::IllFormed(cause)) => Err(ApplyFault::IllFormed { place, cause }),
+        Err(ChangeFault::NoMemory) => {
+            go_back(timelines, kept, steps);
+            Err(ApplyFault::NoMemory)
+        }
+    }
+}
+
+// Applies the item to the timelines of a store; a control item changes nothing.
+#[tactic(auto, unfolding(kr_defs::specs::Apply::apply, kr_defs::specs::Weight::weight))]
 fn apply<L: Ledger>(
     timelines: &mut Timelines,
     kept: &[KeptCounts],
@@ -162,15 +193,12 @@ fn apply<L: Ledger>(
     ensures made { OnOk result (made_of timelines.new ≤ made_of timelines.old + weight (tip_of timelines.old) item.now) }
     ensures counted { Ticks steps.old steps.new result }
 {
-    apply_keeps_valid();
-    steps.tick();
-    match timelines.apply(item) {
-        Ok(()) => Ok(()),
-        Err(ChangeFault::IllFormed(cause)) => Err(ApplyFault::IllFormed { place, cause }),
-        Err(ChangeFault::NoMemory) => {
-            go_back(timelines, kept, steps);
-            Err(ApplyFault::NoMemory)
+    match item {
+        Item::Control => {
+            steps.tick();
+            Ok(())
         }
+        Item::Record(value) => apply_record(timelines, kept, place, value, steps),
     }
 }
 
@@ -252,6 +280,15 @@ impl Store for ImageStore {
         steps: &mut Steps<L>,
     ) -> Result<(), ApplyFault> {
         apply(&mut self.timelines, &self.kept, place, item, steps)
+    }
+
+    fn apply_record<L: Ledger>(
+        &mut self,
+        place: i64,
+        value: &Record,
+        steps: &mut Steps<L>,
+    ) -> Result<(), ApplyFault> {
+        apply_record(&mut self.timelines, &self.kept, place, value, steps)
     }
 
     fn revert_to_last<L: Ledger>(&mut self, steps: &mut Steps<L>) {

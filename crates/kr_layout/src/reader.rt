@@ -1,6 +1,6 @@
 //! Bytes that are read one value after the other.
 
-ghost use Rattle.std.specs.Prelude.{◌≡◌, ◌==◌, ◌≤◌, length, drop, slice_range, IfOk, IfSome, IsUtf8};
+ghost use Rattle.std.specs.Prelude.{◌≡◌, ◌==◌, ◌≤◌, length, drop, IfOk};
 ghost use Rattle.std.specs.Option.{option_map};
 ghost use Rattle.std.specs.Int.{w8, w16, w32, w64};
 ghost use Rattle.kr_wire.specs.Reading.{none_known, bool_at, count_at, count_or_null_at, id_at, number_at, signed_at, tags_at, text_at, text_or_null_at};
@@ -9,8 +9,8 @@ ghost use Rattle.kr_layout.specs.Answers.{Takes};
 use crate::ReadFault;
 use kr_defs::Text;
 use kr_wire::{
-    Span, read_bool, read_count, read_count_or_null, read_i8, read_i16, read_i32, read_i64,
-    read_id, read_str, read_str_or_null, read_u16, skip_tags,
+    read_bool, read_count, read_count_or_null, read_i8, read_i16, read_i32, read_i64, read_id,
+    read_text, read_text_or_null, read_u16, skip_tags,
 };
 use std::alloc::{AllocError, Global};
 use std::marker::{Model, PhantomData};
@@ -121,8 +121,8 @@ impl<'a, M> Reader<'a, M> {
     pub fn text(&mut self) -> Result<Text, ReadFault>
         ensures { Takes result self.new (text_at self.old) }
     {
-        let (span, next) = read_str(self.bytes, self.at)?;
-        let text = Text::from_utf8(self.alloc, &self.bytes[span.start..span.end])?;
+        let (text, next) = read_text(self.bytes, self.at)?;
+        let text = Text::from_str(self.alloc, text)?;
         self.at = next;
         Ok(text)
     }
@@ -130,8 +130,8 @@ impl<'a, M> Reader<'a, M> {
     pub fn text_or_null(&mut self) -> Result<Option<Text>, ReadFault>
         ensures { Takes result self.new (text_or_null_at self.old) }
     {
-        let (span, next) = read_str_or_null(self.bytes, self.at)?;
-        let text = text_of(self.alloc, self.bytes, span)?;
+        let (text, next) = read_text_or_null(self.bytes, self.at)?;
+        let text = text_of(self.alloc, text)?;
         self.at = next;
         Ok(text)
     }
@@ -168,14 +168,12 @@ impl<'a, M> Reader<'a, M> {
     }
 }
 
-// The text that stands there, or none.
-fn text_of(alloc: Global, bytes: &[u8], span: Option<Span>) -> Result<Option<Text>, AllocError>
-    requires within { IfSome span (λ s. (s.start ≤ s.end) × (s.end ≤ length bytes.now)) }
-    requires utf8 { IfSome span (λ s. IsUtf8 (slice_range bytes.now s.start s.end)) }
-    ensures { IfOk result (λ t. t ≡ option_map (λ s. slice_range bytes.now s.start s.end) span) }
+// A copy of the text, or none.
+fn text_of(alloc: Global, text: Option<&str>) -> Result<Option<Text>, AllocError>
+    ensures { IfOk result (λ t. t ≡ option_map (λ s. s.now) text.entry) }
 {
-    match span {
+    match text {
         None => Ok(None),
-        Some(span) => Ok(Some(Text::from_utf8(alloc, &bytes[span.start..span.end])?)),
+        Some(text) => Ok(Some(Text::from_str(alloc, text)?)),
     }
 }

@@ -8,7 +8,7 @@ use Rattle.kr_wire.proofs.Lists.{list_law}
 use Rattle.kr_wire.proofs.Tags.{no_tags_law}
 use Rattle.kr_record.specs.Reading.{endpoint_of, endpoint_at, range_of, range_at, registration_of, registration_at, pair_of, broker_epoch_at, topic_at, topic_id_of, topic_id_at, partition_of, partition_at, config_of, config_at, three_of, change_at, feature_at, registration_change_at}
 use Rattle.kr_record.specs.Grammar.{IsEndpoint, IsRange, IsRegistration, IsBrokerEpoch, IsTopic, IsTopicId, extras_of, IsPartition, IsConfig, IsChange, IsFeature, IsRegistrationChange}
-use Rattle.kr_record.proofs.Parts.{longer, text_long, since_law, ids_law, directories_law}
+use Rattle.kr_record.proofs.Parts.{named, since_law, ids_law, directories_law}
 use Rattle.kr_record.proofs.KnownFields.{changes_law, extras_law, flags_law}
 
 endpoint_law : Law IsEndpoint endpoint_at
@@ -26,8 +26,8 @@ unfolding registration_at
 registration_law version =
     structure_law registration_of (λ t. (t.0, (t.1.incarnation, (t.1.epoch, (t.1.endpoints, (t.1.features, (t.1.rack, (t.1.fenced, (t.1.stopping, tt))))))))) (λ z. refl) (λ t. refl)
     (signed_law w32 before id_law before signed_law w64
-    before list_law endpoint_law (λ e bytes is. longer bytes is.left is.right is.is (text_long e.name is.left is.first))
-    before list_law range_law (λ r bytes is. longer bytes is.left is.right is.is (text_long r.name is.left is.first))
+    before list_law endpoint_law (λ e bytes is. named bytes is)
+    before list_law range_law (λ r bytes is. named bytes is)
     before text_or_null_law before bool_law before since_law (nat_le 1 version) bool_law false before no_tags_law)
 
 pub broker_epoch_law : Law IsBrokerEpoch broker_epoch_at

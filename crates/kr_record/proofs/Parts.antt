@@ -1,28 +1,22 @@
 -- The laws of the parts that records share.
-use Rattle.std.proofs.Common.{◌≡◌, ℕ, ◌<◌, Bool, true, false, ◌+◌, List, [], ◌∷◌, ◌++◌, length, refl, ap, arith}
+use Rattle.std.proofs.Common.{ℕ, ◌<◌, Bool, true, false, List, length, refl, arith}
 use Rattle.std.specs.Prelude.{ℤ}
 use Rattle.std.specs.Int.{w32}
-use Rattle.std.proofs.lemmas.List.{length-append}
 use Rattle.kr_wire.specs.Reading.{Read, id_at, list_at, list_or_null_at}
-use Rattle.kr_wire.specs.Grammar.{IsVarint, IsSigned, IsText, IsId, IsList, IsListOrNull}
+use Rattle.kr_wire.specs.Grammar.{◌⌢◌, IsSigned, IsText, IsId, IsList, IsListOrNull}
+use Rattle.kr_wire.specs.Schema.{Text}
 use Rattle.kr_wire.proofs.Laws.{Law, sound_last, sound_done, complete_last}
 use Rattle.kr_wire.proofs.Numbers.{signed_law, id_law}
 use Rattle.kr_wire.proofs.Lists.{list_law, list_or_null_law}
+use Rattle.kr_wire.proofs.Lengths.{both_lengths}
 use Rattle.kr_wire.proofs.Primitives.{signed_long, id_long}
+use Rattle.kr_wire.proofs.Schemas.{long}
 use Rattle.kr_record.specs.Reading.{ids_at, ids_or_null_at, since_at, dropped_at}
 use Rattle.kr_record.specs.Grammar.{IsIds, IsIdsOrNull, IsDropped, IsSince}
 
--- ---- parts that aren't empty
-
-pub longer : (bytes left right : List ℕ) → bytes ≡ left ++ right → 0 < length left → 0 < length bytes
-longer bytes left right is some = omega (arith, ap length is, length-append left right)
-
-varint_long : (n : ℕ) (bytes : List ℕ) → IsVarint n bytes → 0 < length bytes
-varint_long n [] is = absurd is
-varint_long n (b ∷ bytes) is = omega arith
-
-pub text_long : (text bytes : List ℕ) → IsText text bytes → 0 < length bytes
-text_long text bytes is = longer bytes is.spelled.left is.spelled.right is.spelled.is (varint_long (length text + 1) is.spelled.left is.spelled.first.spelled)
+-- what begins with a text isn't empty
+pub named : {t : List ℕ} {Rest : List ℕ → Type 0} (bytes : List ℕ) → (IsText t ⌢ Rest) bytes → 0 < length bytes
+named {t} bytes is = omega (arith, both_lengths bytes is, long Text t is.left is.first)
 
 -- ---- a field that is there where the version has it
 

@@ -1,5 +1,5 @@
 -- The records that have a written form: this project's own limits, from the sizes that 32 bits can hold.
-use Rattle.std.specs.Prelude.{ℕ, ℤ, negsuc, ◌^◌, ◌<◌, ◌≢◌, List, length, Option, Some, None, All, IfSome}
+use Rattle.std.specs.Prelude.{ℕ, ℤ, negsuc, ◌^◌, ◌<◌, ◌≢◌, List, length, Option, Some, All, IfSome}
 use Rattle.kr_defs.specs.declared.broker.Broker.{Broker}
 use Rattle.kr_defs.specs.declared.broker.Endpoint.{Endpoint}
 use Rattle.kr_defs.specs.declared.broker.Range.{Range}

@@ -10,7 +10,7 @@ use crate::lists::{Layout, read_list};
 use crate::texts::{read_text, text_of};
 use kr_defs::{Broker, Endpoint, Range, Rows};
 use kr_wire::{
-    WireFault, read_bool, read_i16, read_i32, read_i64, read_id, read_str_or_null, read_u16,
+    WireFault, read_bool, read_i16, read_i32, read_i64, read_id, read_text_or_null, read_u16,
     skip_tags,
 };
 use std::alloc::Global;
@@ -35,6 +35,11 @@ impl Layout for Endpoint {
             end,
         ))
     }
+
+    // Two texts, two numbers, and no tagged fields.
+    fn least() -> usize {
+        7
+    }
 }
 
 impl Layout for Range {
@@ -47,6 +52,11 @@ impl Layout for Range {
         let (max, next) = read_i16(bytes, next)?;
         let end = skip_tags(bytes, next)?;
         Ok((Range { name, min, max }, end))
+    }
+
+    // A text, two numbers, and no tagged fields.
+    fn least() -> usize {
+        6
     }
 }
 
@@ -66,11 +76,11 @@ pub fn read_registration(
     let (epoch, next) = read_i64(bytes, next)?;
     let (endpoints, next) = read_list(alloc, bytes, next)?;
     let (features, next) = read_list(alloc, bytes, next)?;
-    let (rack, next) = read_str_or_null(bytes, next)?;
+    let (rack, next) = read_text_or_null(bytes, next)?;
     let (fenced, next) = read_bool(bytes, next)?;
     let (stopping, next) = read_stopping(bytes, next, version)?;
     let end = skip_tags(bytes, next)?;
-    let rack = text_of(alloc, bytes, rack)?;
+    let rack = text_of(alloc, rack)?;
     let state = Broker {
         epoch,
         incarnation,

@@ -3,7 +3,7 @@
 ghost use Rattle.std.specs.Prelude.{◌≡◌, ◌≤◌, ◌<◌, length, drop};
 ghost use Rattle.kr_wire.specs.Reading.{field_of, known_in};
 ghost use Rattle.kr_record.specs.Grammar.{no_leader_change, no_recovery_change, unless};
-ghost use Rattle.kr_record.specs.Answers.{GivesWire, ReadsField};
+ghost use Rattle.kr_record.specs.Answers.{ReadsField, Sets};
 ghost use Rattle.kr_record.specs.Reading.{all_changes, change_at, changes_at, first_with_change, known_since};
 
 use crate::fault::RecordFault;
@@ -16,23 +16,23 @@ use std::alloc::Global;
 impl Tagged for PartitionChange {
     ghost known = { λ version. known_since first_with_change version (known_in all_changes) };
 
-    fn with_field(
-        self,
+    fn set_field(
+        &mut self,
         alloc: Global,
         version: u32,
         tag: u32,
         data: &[u8],
-    ) -> Result<PartitionChange, RecordFault> {
+    ) -> Result<(), RecordFault> {
         if version < first_version(tag) {
-            return Ok(self);
+            return Ok(());
         }
         if tag <= 2 {
-            return with_first_change(self, alloc, tag, data);
+            return set_first_change(self, alloc, tag, data);
         }
         if tag <= 5 {
-            return with_second_change(self, alloc, tag, data);
+            return set_second_change(self, alloc, tag, data);
         }
-        with_third_change(self, alloc, tag, data)
+        set_third_change(self, alloc, tag, data)
     }
 }
 
@@ -62,85 +62,82 @@ fn recovery_of(number: i8) -> Option<i8>
     if number == -1 { None } else { Some(number) }
 }
 
-fn with_first_change(
-    change: PartitionChange,
+fn set_first_change(
+    change: &mut PartitionChange,
     alloc: Global,
     tag: u32,
     data: &[u8],
-) -> Result<PartitionChange, RecordFault>
+) -> Result<(), RecordFault>
     requires { tag ≤ 2 }
-    ensures { GivesWire result (field_of (known_in all_changes tag) change «data».now) }
+    ensures { Sets result change.new (field_of (known_in all_changes tag) change.old «data».now) }
 {
     match tag {
         0 => {
-            let in_sync = whole_ids(alloc, data)?;
-            Ok(PartitionChange { in_sync, ..change })
+            change.in_sync = whole_ids(alloc, data)?;
+            Ok(())
         }
         1 => {
-            let leader = leader_of(whole_i32(data)?);
-            Ok(PartitionChange { leader, ..change })
+            change.leader = leader_of(whole_i32(data)?);
+            Ok(())
         }
         2 => {
-            let replicas = whole_ids(alloc, data)?;
-            Ok(PartitionChange { replicas, ..change })
+            change.replicas = whole_ids(alloc, data)?;
+            Ok(())
         }
-        _ => Ok(change),
+        _ => Ok(()),
     }
 }
 
-fn with_second_change(
-    change: PartitionChange,
+fn set_second_change(
+    change: &mut PartitionChange,
     alloc: Global,
     tag: u32,
     data: &[u8],
-) -> Result<PartitionChange, RecordFault>
+) -> Result<(), RecordFault>
     requires from { 2 < tag }
     requires up_to { tag ≤ 5 }
-    ensures { GivesWire result (field_of (known_in all_changes tag) change «data».now) }
+    ensures { Sets result change.new (field_of (known_in all_changes tag) change.old «data».now) }
 {
     match tag {
         3 => {
-            let removing = whole_ids(alloc, data)?;
-            Ok(PartitionChange { removing, ..change })
+            change.removing = whole_ids(alloc, data)?;
+            Ok(())
         }
         4 => {
-            let adding = whole_ids(alloc, data)?;
-            Ok(PartitionChange { adding, ..change })
+            change.adding = whole_ids(alloc, data)?;
+            Ok(())
         }
         5 => {
-            let recovery = recovery_of(whole_i8(data)?);
-            Ok(PartitionChange { recovery, ..change })
+            change.recovery = recovery_of(whole_i8(data)?);
+            Ok(())
         }
-        _ => Ok(change),
+        _ => Ok(()),
     }
 }
 
-fn with_third_change(
-    change: PartitionChange,
+fn set_third_change(
+    change: &mut PartitionChange,
     alloc: Global,
     tag: u32,
     data: &[u8],
-) -> Result<PartitionChange, RecordFault>
+) -> Result<(), RecordFault>
     requires { 5 < tag }
-    ensures { GivesWire result (field_of (known_in all_changes tag) change «data».now) }
+    ensures { Sets result change.new (field_of (known_in all_changes tag) change.old «data».now) }
 {
     match tag {
         6 => {
-            let eligible = whole_ids(alloc, data)?;
-            Ok(PartitionChange { eligible, ..change })
+            change.eligible = whole_ids(alloc, data)?;
+            Ok(())
         }
         7 => {
-            let last_known = whole_ids(alloc, data)?;
-            Ok(PartitionChange {
-                last_known,
-                ..change
-            })
+            change.last_known = whole_ids(alloc, data)?;
+            Ok(())
         }
         8 => {
             whole_directories(alloc, data)?;
-            Ok(change)
+            Ok(())
         }
-        _ => Ok(change),
+        _ => Ok(()),
     }
 }
 

@@ -2,7 +2,7 @@
 
 ghost use Rattle.std.specs.Prelude.{◌≡◌, ◌≤◌, length, drop};
 ghost use Rattle.kr_wire.specs.Reading.{field_of, known_in};
-ghost use Rattle.kr_record.specs.Answers.{GivesWire, ReadsField};
+ghost use Rattle.kr_record.specs.Answers.{ReadsField, Sets};
 ghost use Rattle.kr_record.specs.Reading.{all_flags, first_with_flag, flags_at, known_since, registration_change_at};
 
 use crate::fault::RecordFault;
@@ -21,17 +21,17 @@ pub struct Flags {
 impl Tagged for Flags {
     ghost known = { λ version. known_since first_with_flag version (known_in all_flags) };
 
-    fn with_field(
-        self,
+    fn set_field(
+        &mut self,
         _alloc: Global,
         version: u32,
         tag: u32,
         data: &[u8],
-    ) -> Result<Flags, RecordFault> {
+    ) -> Result<(), RecordFault> {
         if version < first_version(tag) {
-            return Ok(self);
+            return Ok(());
         }
-        with_flag(self, tag, data)
+        set_flag(self, tag, data)
     }
 }
 
@@ -41,19 +41,19 @@ fn first_version(tag: u32) -> u32
     if tag == 0 { 0 } else { 1 }
 }
 
-fn with_flag(flags: Flags, tag: u32, data: &[u8]) -> Result<Flags, RecordFault>
-    ensures { GivesWire result (field_of (known_in all_flags tag) flags «data».now) }
+fn set_flag(flags: &mut Flags, tag: u32, data: &[u8]) -> Result<(), RecordFault>
+    ensures { Sets result flags.new (field_of (known_in all_flags tag) flags.old «data».now) }
 {
     match tag {
         0 => {
-            let fenced = whole_i8(data)?;
-            Ok(Flags { fenced, ..flags })
+            flags.fenced = whole_i8(data)?;
+            Ok(())
         }
         1 => {
-            let stopping = whole_i8(data)?;
-            Ok(Flags { stopping, ..flags })
+            flags.stopping = whole_i8(data)?;
+            Ok(())
         }
-        _ => Ok(flags),
+        _ => Ok(()),
     }
 }
 

@@ -21,4 +21,4 @@ mod writing;
 pub use fault::RecordFault;
 pub use reading::decode;
 pub use theorems::{records, written_records};
-pub use writing::encode;
+pub use writing::{append, encode};

@@ -17,6 +17,10 @@ pub trait Layout: Drop {
     fn read(alloc: Global, bytes: &[u8], at: usize) -> Result<(Self, usize), RecordFault>
         requires { at ≤ length bytes.now }
         ensures { ReadsField (λ x. x) result bytes.now (layout (drop at bytes.now)) };
+
+    /// The fewest bytes that a value has.
+    fn least() -> usize
+        ensures { 1 ≤ result };
 }
 
 impl Layout for i32 {
@@ -26,6 +30,10 @@ impl Layout for i32 {
         let (number, next) = read_i32(bytes, at)?;
         Ok((number, next))
     }
+
+    fn least() -> usize {
+        4
+    }
 }
 
 impl Layout for u128 {
@@ -34,6 +42,10 @@ impl Layout for u128 {
     fn read(_alloc: Global, bytes: &[u8], at: usize) -> Result<(u128, usize), RecordFault> {
         let (id, next) = read_id(bytes, at)?;
         Ok((id, next))
+    }
+
+    fn least() -> usize {
+        16
     }
 }
 
@@ -60,7 +72,8 @@ fn read_elements<T: Layout>(
     requires { start ≤ length bytes.now }
     ensures { ReadsField (λ v. v.items) result bytes.now (elements_at T.layout count (drop start bytes.now)) }
 {
-    let mut list = Vec::new(alloc);
+    let room = (count as usize).min((bytes.len() - start) / T::least());
+    let mut list = Vec::with_capacity(alloc, room)?;
     let mut next = start;
     for _ in 0..count {
         let (element, after) = T::read(alloc, bytes, next)?;

@@ -3,7 +3,7 @@
 ghost use Rattle.std.specs.Prelude.{◌≡◌, ◌≤◌, [], nat_le, length, drop};
 ghost use Rattle.std.specs.Option.{unwrap_or};
 ghost use Rattle.kr_wire.specs.Reading.{field_of, id_at, known_in, list_at};
-ghost use Rattle.kr_record.specs.Answers.{GivesWire, ReadsField};
+ghost use Rattle.kr_record.specs.Answers.{ReadsField, Sets};
 ghost use Rattle.kr_record.specs.Reading.{all_extras, dropped_at, extras_at, first_with_extra, ids_at, known_since, partition_at, since_at};
 
 use crate::fault::RecordFault;
@@ -25,17 +25,17 @@ pub struct Extras {
 impl Tagged for Extras {
     ghost known = { λ version. known_since first_with_extra version (known_in all_extras) };
 
-    fn with_field(
-        self,
+    fn set_field(
+        &mut self,
         alloc: Global,
         version: u32,
         tag: u32,
         data: &[u8],
-    ) -> Result<Extras, RecordFault> {
+    ) -> Result<(), RecordFault> {
         if version < first_version(tag) {
-            return Ok(self);
+            return Ok(());
         }
-        with_extra(self, alloc, tag, data)
+        set_extra(self, alloc, tag, data)
     }
 }
 
@@ -55,26 +55,23 @@ fn ids_of(alloc: Global, ids: Option<Ids>) -> Ids
     }
 }
 
-fn with_extra(extras: Extras, alloc: Global, tag: u32, data: &[u8]) -> Result<Extras, RecordFault>
-    ensures { GivesWire result (field_of (known_in all_extras tag) extras «data».now) }
+fn set_extra(extras: &mut Extras, alloc: Global, tag: u32, data: &[u8]) -> Result<(), RecordFault>
+    ensures { Sets result extras.new (field_of (known_in all_extras tag) extras.old «data».now) }
 {
     match tag {
         0 => {
-            let recovery = whole_i8(data)?;
-            Ok(Extras { recovery, ..extras })
+            extras.recovery = whole_i8(data)?;
+            Ok(())
         }
         1 => {
-            let eligible = ids_of(alloc, whole_ids(alloc, data)?);
-            Ok(Extras { eligible, ..extras })
+            extras.eligible = ids_of(alloc, whole_ids(alloc, data)?);
+            Ok(())
         }
         2 => {
-            let last_known = ids_of(alloc, whole_ids(alloc, data)?);
-            Ok(Extras {
-                last_known,
-                ..extras
-            })
+            extras.last_known = ids_of(alloc, whole_ids(alloc, data)?);
+            Ok(())
         }
-        _ => Ok(extras),
+        _ => Ok(()),
     }
 }
 

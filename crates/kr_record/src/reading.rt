@@ -28,6 +28,203 @@ fn has_version(key: u32, version: u32, newest: u32) -> Result<(), RecordFault>
     Ok(())
 }
 
+#[inline(never)]
+#[tactic(auto, unfolding(crate::specs::Reading::layout_at))]
+fn register_broker(
+    alloc: Global,
+    bytes: &[u8],
+    at: usize,
+    version: u32,
+) -> Result<(Record, usize), RecordFault>
+    requires { at ≤ length bytes.now }
+    ensures { GivesField result bytes.now (layout_at 0 version (drop at bytes.now)) }
+{
+    has_version(0, version, 1)?;
+    let ((broker, state), end) = read_registration(alloc, bytes, at, version)?;
+    Ok((Record::RegisterBroker { broker, state }, end))
+}
+
+#[inline(never)]
+#[tactic(auto, unfolding(crate::specs::Reading::layout_at))]
+fn unregister_broker(bytes: &[u8], at: usize, version: u32) -> Result<(Record, usize), RecordFault>
+    requires { at ≤ length bytes.now }
+    ensures { GivesField result bytes.now (layout_at 1 version (drop at bytes.now)) }
+{
+    has_version(1, version, 0)?;
+    let ((broker, epoch), end) = read_broker_epoch(bytes, at)?;
+    Ok((Record::UnregisterBroker { broker, epoch }, end))
+}
+
+#[inline(never)]
+#[tactic(auto, unfolding(crate::specs::Reading::layout_at))]
+fn topic(
+    alloc: Global,
+    bytes: &[u8],
+    at: usize,
+    version: u32,
+) -> Result<(Record, usize), RecordFault>
+    requires { at ≤ length bytes.now }
+    ensures { GivesField result bytes.now (layout_at 2 version (drop at bytes.now)) }
+{
+    has_version(2, version, 0)?;
+    let ((name, id), end) = read_topic(alloc, bytes, at)?;
+    Ok((Record::Topic { name, id }, end))
+}
+
+#[inline(never)]
+#[tactic(auto, unfolding(crate::specs::Reading::layout_at))]
+fn partition(
+    alloc: Global,
+    bytes: &[u8],
+    at: usize,
+    version: u32,
+) -> Result<(Record, usize), RecordFault>
+    requires { at ≤ length bytes.now }
+    ensures { GivesField result bytes.now (layout_at 3 version (drop at bytes.now)) }
+{
+    has_version(3, version, 2)?;
+    let ((index, topic, state), end) = read_partition(alloc, bytes, at, version)?;
+    Ok((
+        Record::Partition {
+            index,
+            topic,
+            state,
+        },
+        end,
+    ))
+}
+
+#[inline(never)]
+#[tactic(auto, unfolding(crate::specs::Reading::layout_at))]
+fn config(
+    alloc: Global,
+    bytes: &[u8],
+    at: usize,
+    version: u32,
+) -> Result<(Record, usize), RecordFault>
+    requires { at ≤ length bytes.now }
+    ensures { GivesField result bytes.now (layout_at 4 version (drop at bytes.now)) }
+{
+    has_version(4, version, 0)?;
+    let ((kind, name, key, value), end) = read_config(alloc, bytes, at)?;
+    Ok((
+        Record::Config {
+            kind,
+            name,
+            key,
+            value,
+        },
+        end,
+    ))
+}
+
+#[inline(never)]
+#[tactic(auto, unfolding(crate::specs::Reading::layout_at))]
+fn partition_change(
+    alloc: Global,
+    bytes: &[u8],
+    at: usize,
+    version: u32,
+) -> Result<(Record, usize), RecordFault>
+    requires { at ≤ length bytes.now }
+    ensures { GivesField result bytes.now (layout_at 5 version (drop at bytes.now)) }
+{
+    has_version(5, version, 2)?;
+    let ((index, topic, change), end) = read_change(alloc, bytes, at, version)?;
+    Ok((
+        Record::PartitionChange {
+            index,
+            topic,
+            change,
+        },
+        end,
+    ))
+}
+
+#[inline(never)]
+#[tactic(auto, unfolding(crate::specs::Reading::layout_at))]
+fn fence_broker(bytes: &[u8], at: usize, version: u32) -> Result<(Record, usize), RecordFault>
+    requires { at ≤ length bytes.now }
+    ensures { GivesField result bytes.now (layout_at 7 version (drop at bytes.now)) }
+{
+    has_version(7, version, 0)?;
+    let ((broker, epoch), end) = read_broker_epoch(bytes, at)?;
+    Ok((Record::FenceBroker { broker, epoch }, end))
+}
+
+#[inline(never)]
+#[tactic(auto, unfolding(crate::specs::Reading::layout_at))]
+fn unfence_broker(bytes: &[u8], at: usize, version: u32) -> Result<(Record, usize), RecordFault>
+    requires { at ≤ length bytes.now }
+    ensures { GivesField result bytes.now (layout_at 8 version (drop at bytes.now)) }
+{
+    has_version(8, version, 0)?;
+    let ((broker, epoch), end) = read_broker_epoch(bytes, at)?;
+    Ok((Record::UnfenceBroker { broker, epoch }, end))
+}
+
+#[inline(never)]
+#[tactic(auto, unfolding(crate::specs::Reading::layout_at))]
+fn remove_topic(bytes: &[u8], at: usize, version: u32) -> Result<(Record, usize), RecordFault>
+    requires { at ≤ length bytes.now }
+    ensures { GivesField result bytes.now (layout_at 9 version (drop at bytes.now)) }
+{
+    has_version(9, version, 0)?;
+    let (topic, end) = read_topic_id(bytes, at)?;
+    Ok((Record::RemoveTopic { topic }, end))
+}
+
+#[inline(never)]
+#[tactic(auto, unfolding(crate::specs::Reading::layout_at))]
+fn feature_level(
+    alloc: Global,
+    bytes: &[u8],
+    at: usize,
+    version: u32,
+) -> Result<(Record, usize), RecordFault>
+    requires { at ≤ length bytes.now }
+    ensures { GivesField result bytes.now (layout_at 12 version (drop at bytes.now)) }
+{
+    has_version(12, version, 0)?;
+    let ((name, level), end) = read_feature(alloc, bytes, at)?;
+    Ok((Record::FeatureLevel { name, level }, end))
+}
+
+#[inline(never)]
+#[tactic(auto, unfolding(crate::specs::Reading::layout_at))]
+fn broker_registration_change(
+    alloc: Global,
+    bytes: &[u8],
+    at: usize,
+    version: u32,
+) -> Result<(Record, usize), RecordFault>
+    requires { at ≤ length bytes.now }
+    ensures { GivesField result bytes.now (layout_at 17 version (drop at bytes.now)) }
+{
+    has_version(17, version, 1)?;
+    let ((broker, epoch, flags), end) = read_registration_change(alloc, bytes, at, version)?;
+    Ok((
+        Record::BrokerRegistrationChange {
+            broker,
+            epoch,
+            fenced: flags.fenced,
+            stopping: flags.stopping,
+        },
+        end,
+    ))
+}
+
+#[inline(never)]
+#[tactic(auto, unfolding(crate::specs::Reading::layout_at))]
+fn no_op(bytes: &[u8], at: usize, version: u32) -> Result<(Record, usize), RecordFault>
+    requires { at ≤ length bytes.now }
+    ensures { GivesField result bytes.now (layout_at 20 version (drop at bytes.now)) }
+{
+    has_version(20, version, 0)?;
+    let end = skip_tags(bytes, at)?;
+    Ok((Record::NoOp, end))
+}
+
 #[tactic(auto, unfolding(crate::specs::Reading::layout_at))]
 fn read_layout(
     alloc: Global,
@@ -40,98 +237,18 @@ fn read_layout(
     ensures { GivesField result bytes.now (layout_at key version (drop at bytes.now)) }
 {
     match key {
-        0 => {
-            has_version(key, version, 1)?;
-            let ((broker, state), end) = read_registration(alloc, bytes, at, version)?;
-            Ok((Record::RegisterBroker { broker, state }, end))
-        }
-        1 => {
-            has_version(key, version, 0)?;
-            let ((broker, epoch), end) = read_broker_epoch(bytes, at)?;
-            Ok((Record::UnregisterBroker { broker, epoch }, end))
-        }
-        2 => {
-            has_version(key, version, 0)?;
-            let ((name, id), end) = read_topic(alloc, bytes, at)?;
-            Ok((Record::Topic { name, id }, end))
-        }
-        3 => {
-            has_version(key, version, 2)?;
-            let ((index, topic, state), end) = read_partition(alloc, bytes, at, version)?;
-            Ok((
-                Record::Partition {
-                    index,
-                    topic,
-                    state,
-                },
-                end,
-            ))
-        }
-        4 => {
-            has_version(key, version, 0)?;
-            let ((kind, name, key, value), end) = read_config(alloc, bytes, at)?;
-            Ok((
-                Record::Config {
-                    kind,
-                    name,
-                    key,
-                    value,
-                },
-                end,
-            ))
-        }
-        5 => {
-            has_version(key, version, 2)?;
-            let ((index, topic, change), end) = read_change(alloc, bytes, at, version)?;
-            Ok((
-                Record::PartitionChange {
-                    index,
-                    topic,
-                    change,
-                },
-                end,
-            ))
-        }
-        7 => {
-            has_version(key, version, 0)?;
-            let ((broker, epoch), end) = read_broker_epoch(bytes, at)?;
-            Ok((Record::FenceBroker { broker, epoch }, end))
-        }
-        8 => {
-            has_version(key, version, 0)?;
-            let ((broker, epoch), end) = read_broker_epoch(bytes, at)?;
-            Ok((Record::UnfenceBroker { broker, epoch }, end))
-        }
-        9 => {
-            has_version(key, version, 0)?;
-            let (topic, end) = read_topic_id(bytes, at)?;
-            Ok((Record::RemoveTopic { topic }, end))
-        }
-        12 => {
-            has_version(key, version, 0)?;
-            let ((name, level), end) = read_feature(alloc, bytes, at)?;
-            Ok((Record::FeatureLevel { name, level }, end))
-        }
-        17 => {
-            has_version(key, version, 1)?;
-            let ((broker, epoch, flags), end) = read_registration_change(
-                alloc, bytes, at, version,
-            )?;
-            Ok((
-                Record::BrokerRegistrationChange {
-                    broker,
-                    epoch,
-                    fenced: flags.fenced,
-                    stopping: flags.stopping,
-                },
-                end,
-            ))
-        }
-        20 => {
-            has_version(key, version, 0)?;
-            let end = skip_tags(bytes, at)?;
-            Ok((Record::NoOp, end))
-        }
+        0 => register_broker(alloc, bytes, at, version),
+        1 => unregister_broker(bytes, at, version),
+        2 => topic(alloc, bytes, at, version),
+        3 => partition(alloc, bytes, at, version),
+        4 => config(alloc, bytes, at, version),
+        5 => partition_change(alloc, bytes, at, version),
+        7 => fence_broker(bytes, at, version),
+        8 => unfence_broker(bytes, at, version),
+        9 => remove_topic(bytes, at, version),
+        12 => feature_level(alloc, bytes, at, version),
+        17 => broker_registration_change(alloc, bytes, at, version),
+        20 => no_op(bytes, at, version),
         _ => Err(RecordFault::UnknownKey { key }),
     }
 }

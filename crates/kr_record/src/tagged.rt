@@ -2,7 +2,7 @@
 
 ghost use Rattle.std.specs.Prelude.{◌≡◌, ◌≤◌, List, ℕ, None, length, drop};
 ghost use Rattle.kr_wire.specs.Reading.{Known, field_of, fields_at, tags_at};
-ghost use Rattle.kr_record.specs.Answers.{ReadsField, GivesWire};
+ghost use Rattle.kr_record.specs.Answers.{ReadsField, Sets};
 
 use crate::fault::RecordFault;
 use kr_wire::{read_tag, read_uvarint};
@@ -12,15 +12,15 @@ use std::alloc::Global;
 pub trait Tagged: Drop {
     ghost known: { ℕ → Known Self };
 
-    /// What the field with this tag and these data makes of the value.
-    fn with_field(
-        self,
+    /// Sets what the field with this tag and these data says. After a fault nothing is said of the value.
+    fn set_field(
+        &mut self,
         alloc: Global,
         version: u32,
         tag: u32,
         data: &[u8],
-    ) -> Result<Self, RecordFault>
-        ensures { GivesWire result (field_of (known version tag) self «data».now) };
+    ) -> Result<(), RecordFault>
+        ensures { Sets result self.new (field_of (known version tag) self.old «data».now) };
 }
 
 #[tactic(auto, unfolding(kr_wire::specs::Reading::tags_at))]
@@ -54,7 +54,7 @@ fn read_fields<T: Tagged>(
     let mut last = None;
     for _ in 0..count {
         let (tag, place) = read_tag(bytes, next, last)?;
-        value = value.with_field(alloc, version, tag.number, &bytes[place..tag.end])?;
+        value.set_field(alloc, version, tag.number, &bytes[place..tag.end])?;
         next = tag.end;
         last = Some(tag.number);
     }

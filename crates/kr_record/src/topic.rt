@@ -8,7 +8,7 @@ ghost use Rattle.kr_record.specs.Reading.{config_at, feature_at, topic_at, topic
 use crate::fault::RecordFault;
 use crate::texts::{read_text, text_of};
 use kr_defs::Text;
-use kr_wire::{WireFault, read_i8, read_i16, read_id, read_str_or_null, skip_tags};
+use kr_wire::{WireFault, read_i8, read_i16, read_id, read_text_or_null, skip_tags};
 use std::alloc::Global;
 
 /// The name and the id of a topic.
@@ -51,9 +51,9 @@ pub fn read_config(
     let (kind, next) = read_i8(bytes, at)?;
     let (name, next) = read_text(alloc, bytes, next)?;
     let (key, next) = read_text(alloc, bytes, next)?;
-    let (value, next) = read_str_or_null(bytes, next)?;
+    let (value, next) = read_text_or_null(bytes, next)?;
     let end = skip_tags(bytes, next)?;
-    let value = text_of(alloc, bytes, value)?;
+    let value = text_of(alloc, value)?;
     Ok(((kind, name, key, value), end))
 }
 

@@ -255,6 +255,15 @@ fn put_record(out: &mut Vec<u8>, value: &Record) -> Result<(), AllocError>
     }
 }
 
+/// Appends the record's written form. Without memory some front of it may be appended.
+pub fn append(value: &Record, out: &mut Vec<u8>) -> Result<(), NoMemory>
+    requires { IsEncodable value.now }
+    ensures { OnOk result (out.new.items ≡ out.old.items ++ record_value value.now) }
+{
+    put_record(out, value)?;
+    Ok(())
+}
+
 /// Appends the record's written form. Without memory nothing is appended.
 #[tactic(auto, using(crate::proofs::Stands::stands, crate::proofs::Lengths::appended))]
 pub fn encode(value: &Record, out: &mut Vec<u8>) -> Result<(), NoMemory>

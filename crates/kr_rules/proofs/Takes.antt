@@ -1,6 +1,6 @@
 -- Records that are taken after others.
 use Rattle.std.proofs.Common.{◌≡◌, ◌∙◌, ◌≤◌, ◌+◌, ℕ, pos, true, false, cond, List, [], ◌∷◌, ◌++◌, length, refl, sym, ap, arith, length-append}
-use Rattle.std.proofs.Math.IntN.{+ℤ_assoc}
+use Rattle.std.proofs.Math.IntN.{+ℤ_assoc, +ℤ_idr}
 use Rattle.std.specs.Prelude.{◌+ℤ◌, ℤ, Option, Some, None, Ok, Err, IsErr, IsSome, option_map, unwrap_or}
 use Rattle.kr_defs.specs.declared.record.Record.{Record}
 use Rattle.kr_defs.specs.declared.record.Item.TheVariants as items
@@ -9,7 +9,7 @@ use Rattle.kr_defs.specs.Guard.{and_then}
 use Rattle.kr_defs.specs.Image.{Image, empty}
 use Rattle.kr_store.specs.Images.{Images, last_kept, last_image}
 use Rattle.kr_defs.specs.Weight.{weight}
-use Rattle.kr_calls.specs.Deciding.{apply_records, weights, weight_then, is_within_limits, added, taken}
+use Rattle.kr_calls.specs.Deciding.{Work, begun, apply_records, weights, weight_then, is_within_limits, added, taken}
 use Rattle.kr_calls.proofs.Standing.{applied_in_two}
 use Rattle.kr_rules.specs.Progress.{Drawn, work_at, base_of}
 
@@ -64,6 +64,13 @@ is_kept images image last = some_of (λ (k : ℤ × Image). k.1) (last_kept imag
 
 pub kept_base : (kept : List (ℤ × Image)) (old : Images) (image : Image) → kept ≡ old.kept → last_image old ≡ Some image → base_of (record { kept = kept; tip = old.tip; made = 0 }) ≡ image
 kept_base kept old image same last = rw same (base_is old image last)
+
+-- no records yet
+abbrev pub drawn_from : ℤ → Drawn
+drawn_from place = record { start = place; records = [] }
+
+pub begun_at : (d : Drawn) (place : ℤ) (image : Image) → d ≡ drawn_from place → work_at d image ≡ begun place image
+begun_at d place image is = rw (is, +ℤ_idr place) refl
 
 pub ruleset bases = (base_is, is_kept)
 

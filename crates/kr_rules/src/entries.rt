@@ -28,7 +28,7 @@ fn answer_to<E, A: Drop, R: Rule<E, A>>(
     refusal: &Refusal,
     entry: &E,
 ) -> Result<A, NoMemory>
-    ensures { IfOk result (λ answer. IfError refusal.now (λ error. answer ≡ R.refused error entry.now)) }
+    ensures { IfOk result (λ answer. IfError refusal.now (λ error. answer ≡ R.refused rule.now error entry.now)) }
 {
     match refusal {
         Refusal::Error(error) => rule.refused(alloc, error, entry),
@@ -47,7 +47,7 @@ pub fn one<E, A: Drop, R: Rule<E, A>, S: Store, L: Ledger>(
 ) -> Result<A, NoMemory>
     requires some { IsSome (last_kept (S.images store.old)) }
     requires leads { Leads (S.images store.old) work.old.records }
-    ensures done { IfOk result (λ answer. deciding.one R.refused (R.rule rule.now) (work_at work.old (S.images store.old).tip) entry.now ≡ (work_at work.new (S.images store.new).tip, answer)) }
+    ensures done { IfOk result (λ answer. deciding.one (R.refused rule.now) (R.rule rule.now) (work_at work.old (S.images store.old).tip) entry.now ≡ (work_at work.new (S.images store.new).tip, answer)) }
     ensures leads { OnOk result (Leads (S.images store.new) work.new.records) }
     ensures kept { (S.images store.new).kept ≡ (S.images store.old).kept }
     ensures start { OnOk result (work.new.start ≡ work.old.start) }
@@ -77,8 +77,8 @@ pub fn over_entries<E, A: Drop, R: Rule<E, A>, S: Store, L: Ledger>(
 ) -> Result<Rows<A>, NoMemory>
     requires some { IsSome (last_kept (S.images store.old)) }
     requires leads { Leads (S.images store.old) work.old.records }
-    ensures answers { IfOk result (λ answers. answers ≡ deciding.answers R.refused (R.rule rule.now) (work_at work.old (S.images store.old).tip) entries.now) }
-    ensures after { OnOk result (work_at work.new (S.images store.new).tip ≡ deciding.after_all R.refused (R.rule rule.now) (work_at work.old (S.images store.old).tip) entries.now) }
+    ensures answers { IfOk result (λ answers. answers ≡ deciding.answers (R.refused rule.now) (R.rule rule.now) (work_at work.old (S.images store.old).tip) entries.now) }
+    ensures after { OnOk result (work_at work.new (S.images store.new).tip ≡ deciding.after_all (R.refused rule.now) (R.rule rule.now) (work_at work.old (S.images store.old).tip) entries.now) }
     ensures leads { OnOk result (Leads (S.images store.new) work.new.records) }
     ensures kept { (S.images store.new).kept ≡ (S.images store.old).kept }
     ensures start { OnOk result (work.new.start ≡ work.old.start) }
@@ -104,7 +104,7 @@ pub fn decide_one<E, A: Drop, R: Rule<E, A>, S: Store, L: Ledger>(
 ) -> Result<(Records, A), NoMemory>
     requires low { place ≤ℤ places_end }
     requires kept { last_image (S.images store.old) ≡ Some (S.images store.old).tip }
-    ensures decided { IfOk result (λ d. deciding.one R.refused (R.rule rule.now) (begun place (S.images store.old).tip) entry.now ≡ (work_at (record { start = place; records = d.0 }) (S.images store.new).tip, d.1)) }
+    ensures decided { IfOk result (λ d. deciding.one (R.refused rule.now) (R.rule rule.now) (begun place (S.images store.old).tip) entry.now ≡ (work_at (record { start = place; records = d.0 }) (S.images store.new).tip, d.1)) }
     ensures kept { (S.images store.new).kept ≡ (S.images store.old).kept }
     ensures made { IfOk result (λ d. (S.images store.new).made ≤ (S.images store.old).made + weights (S.images store.old).tip d.0) }
     ensures later { steps.old ≤ steps.new }
@@ -126,8 +126,8 @@ pub fn decide_each<E, A: Drop, R: Rule<E, A>, S: Store, L: Ledger>(
 ) -> Result<(Records, Rows<A>), NoMemory>
     requires low { place ≤ℤ places_end }
     requires kept { last_image (S.images store.old) ≡ Some (S.images store.old).tip }
-    ensures answers { IfOk result (λ d. d.1 ≡ deciding.answers R.refused (R.rule rule.now) (begun place (S.images store.old).tip) entries.now) }
-    ensures after { IfOk result (λ d. work_at (record { start = place; records = d.0 }) (S.images store.new).tip ≡ deciding.after_all R.refused (R.rule rule.now) (begun place (S.images store.old).tip) entries.now) }
+    ensures answers { IfOk result (λ d. d.1 ≡ deciding.answers (R.refused rule.now) (R.rule rule.now) (begun place (S.images store.old).tip) entries.now) }
+    ensures after { IfOk result (λ d. work_at (record { start = place; records = d.0 }) (S.images store.new).tip ≡ deciding.after_all (R.refused rule.now) (R.rule rule.now) (begun place (S.images store.old).tip) entries.now) }
     ensures kept { (S.images store.new).kept ≡ (S.images store.old).kept }
     ensures made { IfOk result (λ d. (S.images store.new).made ≤ (S.images store.old).made + weights (S.images store.old).tip d.0) }
     ensures later { steps.old ≤ steps.new }
@@ -135,4 +135,31 @@ pub fn decide_each<E, A: Drop, R: Rule<E, A>, S: Store, L: Ledger>(
     let mut work = Work::new(alloc, place);
     let answers = over_entries(alloc, store, &mut work, rule, entries, steps)?;
     Ok((work.into_records(), answers))
+}
+
+/// A request of several entries is decided, as by `decide_each`; with validate-only no record stands.
+#[tactic(auto, using(crate::proofs::Takes::bases))]
+pub fn decide_or_validate<E, A: Drop, R: Rule<E, A>, S: Store, L: Ledger>(
+    alloc: Global,
+    store: &mut S,
+    place: i64,
+    rule: &R,
+    entries: &[E],
+    validate_only: bool,
+    steps: &mut Steps<L>,
+) -> Result<(Records, Rows<A>), NoMemory>
+    requires low { place ≤ℤ places_end }
+    requires kept { last_image (S.images store.old) ≡ Some (S.images store.old).tip }
+    ensures answers { IfOk result (λ d. d.1 ≡ deciding.answers (R.refused rule.now) (R.rule rule.now) (begun place (S.images store.old).tip) entries.now) }
+    ensures after { IfOk result (λ d. work_at (record { start = place; records = d.0 }) (S.images store.new).tip ≡ unless_validating validate_only (begun place (S.images store.old).tip) (deciding.after_all (R.refused rule.now) (R.rule rule.now) (begun place (S.images store.old).tip) entries.now)) }
+    ensures kept { (S.images store.new).kept ≡ (S.images store.old).kept }
+    ensures made { IfOk result (λ d. (S.images store.new).made ≤ (S.images store.old).made + weights (S.images store.old).tip d.0) }
+    ensures later { steps.old ≤ steps.new }
+{
+    let (records, answers) = decide_each(alloc, store, place, rule, entries, steps)?;
+    if validate_only {
+        store.revert_to_last(steps);
+        return Ok((Rows::new(alloc), answers));
+    }
+    Ok((records, answers))
 }

@@ -2,13 +2,15 @@
 #![tactic(auto)]
 
 mod entries;
+mod groups;
 mod refusal;
 mod rule;
 mod sizes;
 mod taking;
 
-pub use entries::{decide_each, decide_one};
+pub use entries::{decide_each, decide_one, decide_or_validate, over_entries};
+pub use groups::{decide_groups, over_groups};
 pub use refusal::Refusal;
-pub use rule::Rule;
+pub use rule::{Groups, ItemRule, Rule};
 pub use sizes::value_bytes;
 pub use taking::{Work, take};

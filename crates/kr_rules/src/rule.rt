@@ -1,6 +1,6 @@
 //! What a request's rule says of one entry.
 
-ghost use Rattle.std.specs.Prelude.{◌≡◌, ℤ, List, Result, IfOk};
+ghost use Rattle.std.specs.Prelude.{◌≡◌, ℤ, List, map, Result, IfOk};
 ghost use Rattle.kr_defs.specs.Image.{Image};
 ghost use Rattle.kr_calls.specs.declared.deciding.Draft.{Draft as AnyDraft};
 ghost use Rattle.kr_rules.specs.Progress.{place_of};
@@ -16,13 +16,13 @@ use std::alloc::Global;
 /// What is decided of one entry of a request.
 pub trait Rule<E, A>: Sized {
     /// The answer to an entry with this error number.
-    ghost refused: { ℤ → E → A };
+    ghost refused: { Self → ℤ → E → A };
 
     /// The records and the answer, or an error number, by the image and the place.
     ghost rule: { Self → Image → ℤ → E → Result (AnyDraft A) ℤ };
 
     fn refused(&self, alloc: Global, error: &i16, entry: &E) -> Result<A, NoMemory>
-        ensures { IfOk result (λ answer. answer ≡ refused error.now entry.now) };
+        ensures { IfOk result (λ answer. answer ≡ refused self.now error.now entry.now) };
 
     fn judge<S: Store>(
         &self,
@@ -32,4 +32,41 @@ pub trait Rule<E, A>: Sized {
         entry: &E,
     ) -> Result<Draft<A>, Refusal>
         ensures { Judges result (rule self.now (S.images store.now).tip (place_of work.now) entry.now) };
+}
+
+/// What is decided of one item of a group, as of a partition of a topic. The key is the group's.
+pub trait ItemRule<K, I, A>: Sized {
+    /// The answer to an item with this error number.
+    ghost refused: { Self → ℤ → K × I → A };
+
+    /// The records and the answer, or an error number, by the image and the place.
+    ghost rule: { Self → Image → ℤ → K × I → Result (AnyDraft A) ℤ };
+
+    fn refused(&self, alloc: Global, error: &i16, key: &K, item: &I) -> Result<A, NoMemory>
+        ensures { IfOk result (λ answer. answer ≡ refused self.now error.now (key.now, item.now)) };
+
+    fn judge<S: Store>(
+        &self,
+        alloc: Global,
+        store: &S,
+        work: &Work,
+        key: &K,
+        item: &I,
+    ) -> Result<Draft<A>, Refusal>
+        ensures { Judges result (rule self.now (S.images store.now).tip (place_of work.now) (key.now, item.now)) };
+}
+
+/// How the entries of a request stand in groups.
+pub trait Groups<G, K, I, A, B>: Sized {
+    ghost entries_of: { G → List (K × I) };
+
+    /// The answer to a group, of the answers to its entries.
+    ghost answer_of: { G → List A → B };
+
+    /// The key of a group, and its items.
+    fn members<'a>(&self, group: &'a G) -> (&'a K, &'a [I])
+        ensures { entries_of group.now ≡ map (λ item. (result.0.now, item)) result.1.now };
+
+    fn answer(&self, alloc: Global, group: &G, answers: Rows<A>) -> Result<B, NoMemory>
+        ensures { IfOk result (λ answer. answer ≡ answer_of group.now answers) };
 }

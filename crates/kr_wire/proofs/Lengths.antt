@@ -1,10 +1,11 @@
 -- How many bytes are written of the primitives.
-use Rattle.std.proofs.Common.{◌≡◌, ℕ, zero, suc, ◌+◌, ◌*◌, ◌/◌, ◌^◌, ◌<◌, ◌≤◌, Bool, true, false, inl, inr, cond, ltb, List, [], ◌∷◌, length, refl, ap, ◌∙◌, arith}
+use Rattle.std.proofs.Common.{◌≡◌, ℕ, zero, suc, ◌+◌, ◌*◌, ◌/◌, ◌^◌, ◌<◌, ◌≤◌, Bool, true, false, inl, inr, cond, ltb, List, [], ◌∷◌, length, refl, ap, subst, ◌∙◌, arith}
 use Rattle.std.specs.Prelude.{ℤ}
 use Rattle.std.specs.List.{flat_map}
 use Rattle.std.specs.Int.{Width, w8, w16, w32, w64, byte_len, bytes_high_first, cast_unsigned}
 use Rattle.std.proofs.lemmas.Bool.{lt-ltb, le-ltb, cases_lt}
 use Rattle.std.proofs.lemmas.List.{length-append}
+use Rattle.kr_wire.specs.Grammar.{◌⌢◌, IsVarint, IsUvarint}
 use Rattle.kr_wire.specs.Spelling.{groups, uvarint, number, signed, bool, id, text, count, list}
 
 -- ---- numbers of a fixed length
@@ -74,6 +75,10 @@ pub uvarint_one : (n : ℕ) → n < 128 → length (uvarint n) ≡ 1
 unfolding uvarint
 uvarint_one n lt = one_group 3 n lt
 
+-- how many bytes a number of 32 bits has
+abbrev pub uvarint_bytes : ℕ → ℕ
+uvarint_bytes n = cond (ltb n 128) 1 (cond (ltb n 16384) 2 (cond (ltb n 2097152) 3 (cond (ltb n 268435456) 4 5)))
+
 -- exactly, of 32 bits
 pub length_uvarint : (n : ℕ) → n < 2 ^ 32
     → length (uvarint n) ≡ cond (ltb n 128) 1 (cond (ltb n 16384) 2 (cond (ltb n 2097152) 3 (cond (ltb n 268435456) 4 5)))
@@ -91,6 +96,36 @@ length_uvarint n fits = elim (cases_lt n 128) [
     ])
   ])
 ]
+
+-- a number's bytes are no fewer than are written for it, or for one below it
+groups_least : (room m n : ℕ) (bytes : List ℕ) → m ≤ n → IsVarint n bytes → length (groups room m) ≤ length bytes
+groups_least room m n [] le is = absurd is
+groups_least zero m n (b ∷ bytes) le is = omega arith
+groups_least (suc room) m n (b ∷ []) le is = let low : b < 128 = is.0 in let same : n ≡ b = is.1 in omega (arith, one_group room m (omega arith))
+groups_least (suc room) m n (b ∷ c ∷ bytes) le is = elim (cases_lt m 128) [
+  | inl small ↦ omega (arith, one_group room m small)
+  | inr big ↦
+      let byte : b < 256 = is.1 in
+      let high : ℕ = is.2.0 in
+      let whole : n + 128 ≡ b + 128 * high = is.2.2 in
+      let lower : m / 128 ≤ high = omega arith in
+      omega (arith, more_groups room m big, groups_least room (m / 128) high (c ∷ bytes) lower is.2.3)
+]
+
+pub uvarint_least : (m n : ℕ) (bytes : List ℕ) → m ≤ n → IsUvarint n bytes → uvarint_bytes m ≤ length bytes
+unfolding uvarint
+uvarint_least m n bytes le is =
+    let fits : m < 2 ^ 32 = let h = is.fits in omega arith in
+    subst (λ (k : ℕ). k ≤ length bytes) (length_uvarint m fits) (groups_least 4 m n bytes le is.spelled)
+
+pub some_uvarint : (n : ℕ) (bytes : List ℕ) → IsUvarint n bytes → 1 ≤ length bytes
+some_uvarint n [] is = absurd is.spelled
+some_uvarint n (b ∷ bytes) is = omega arith
+
+-- ---- one part after the other
+
+pub both_lengths : {First Second : List ℕ → Type 0} (bytes : List ℕ) (is : (First ⌢ Second) bytes) → length bytes ≡ length is.left + length is.right
+both_lengths bytes is = ap (λ (l : List ℕ). length l) is.is ∙ length-append is.left is.right
 
 -- ---- texts and lists
 

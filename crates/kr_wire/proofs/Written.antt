@@ -15,6 +15,10 @@ group_last zero n last = refl
 group_last (suc room) n (inl none) = absurd (omega arith)
 group_last (suc room) n (inr small) = rw (lt-ltb n 128 small) refl
 
+pub two_groups : (room n : ℕ) → 1 ≤ room → 128 ≤ n → n < 16384 → (128 + n % 128) ∷ n / 128 ∷ [] ≡ groups room n
+two_groups zero n some big small = absurd (omega arith)
+two_groups (suc room) n some big small = sym (group_first room n big ∙ ap (λ (g : List ℕ). (128 + n % 128) ∷ g) (group_last room (n / 128) (inr (omega arith))))
+
 pub writes_one : (bytes : List ℕ) (len room rest : ℕ) (whole : List ℕ) → len < length bytes → len < room → 128 ≤ rest
     → take len bytes ++ groups (room - len) rest ≡ whole
     → take (len + 1) (slice_set bytes len (128 + rest % 128)) ++ groups (room - (len + 1)) (rest / 128) ≡ whole

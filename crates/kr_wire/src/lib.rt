@@ -10,8 +10,8 @@ mod writing;
 
 pub use reading::{
     Span, Tag, piece, read_bool, read_count, read_count_or_null, read_i8, read_i16, read_i32,
-    read_i64, read_id, read_str, read_str_or_null, read_tag, read_u16, read_u32, read_u64,
-    read_utf8, read_uvarint, read_varint, read_varlong, skip_tags,
+    read_i64, read_id, read_str, read_str_or_null, read_tag, read_text, read_text_or_null,
+    read_u16, read_u32, read_u64, read_utf8, read_uvarint, read_varint, read_varlong, skip_tags,
 };
 pub use writing::{
     put_bool, put_both, put_count, put_i8, put_i16, put_i32, put_i64, put_id, put_null, put_str,

@@ -265,6 +265,57 @@ pub fn read_str_or_null(bytes: &[u8], at: usize) -> Result<(Option<Span>, usize)
     }
 }
 
+/// A text behind its length plus one, where it stands. The fault is that of the length, `BadNull`,
+/// `Short` or `BadText`, in this order.
+#[tactic(auto, unfolding(crate::specs::Reading::text_at))]
+pub fn read_text(bytes: &[u8], at: usize) -> Result<(&str, usize), WireFault>
+    requires { at ≤ length bytes.now }
+    ensures { Reads (λ t. t.now) result bytes.now (text_at (drop at bytes.now)) }
+{
+    let (size, start) = read_uvarint(bytes, at)?;
+    if size == 0 {
+        return Err(WireFault::BadNull);
+    }
+    text_piece(bytes, start, (size - 1) as usize)
+}
+
+/// A text where it stands, or null. The fault is that of the length, `Short` or `BadText`, in this order.
+#[tactic(auto, unfolding(crate::specs::Reading::text_or_null_at))]
+pub fn read_text_or_null(bytes: &[u8], at: usize) -> Result<(Option<&str>, usize), WireFault>
+    requires { at ≤ length bytes.now }
+    ensures { Reads (λ o. option_map (λ t. t.now) o) result bytes.now (text_or_null_at (drop at bytes.now)) }
+{
+    match read_uvarint(bytes, at)? {
+        (0, next) => Ok((None, next)),
+        (size, start) => {
+            let (text, next) = text_piece(bytes, start, (size - 1) as usize)?;
+            Ok((Some(text), next))
+        }
+    }
+}
+
+// So many bytes of UTF-8.
+#[tactic(auto, using(crate::proofs::Texts::text_passes, crate::proofs::Texts::other_fails))]
+fn text_piece(bytes: &[u8], start: usize, len: usize) -> Result<(&str, usize), WireFault>
+    requires { start ≤ length bytes.now }
+    ensures { Reads (λ t. t.now) result bytes.now (utf8_at len (drop start bytes.now)) }
+{
+    let (piece, end) = piece(bytes, start, len)?;
+    Ok((text_of(piece)?, end))
+}
+
+#[tactic(auto, using(crate::proofs::Texts::text_passes, crate::proofs::Texts::other_fails))]
+fn text_of(bytes: &[u8]) -> Result<&str, WireFault>
+    ensures { MatchResult result
+        (λ t. (true ≡ is_utf8 bytes.now) × (t.now ≡ bytes.now))
+        (λ e. (false ≡ is_utf8 bytes.now) × (e ≡ WireFault.BadText)) }
+{
+    match str::from_utf8(bytes) {
+        Ok(text) => Ok(text),
+        Err(_) => Err(WireFault::BadText),
+    }
+}
+
 /// So many bytes of UTF-8, and where they stand, or `Short` or `BadText`, in this order.
 pub fn read_utf8(bytes: &[u8], start: usize, len: usize) -> Result<(Span, usize), WireFault>
     requires { start ≤ length bytes.now }

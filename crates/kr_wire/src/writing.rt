@@ -35,6 +35,33 @@ fn put_groups(out: &mut Vec<u8>, value: u64, room: usize) -> Result<(), AllocErr
     ensures ok { OnOk result (out.new.items ≡ out.old.items ++ groups room value) }
     ensures err { OnErr result (out.new.items ≡ out.old.items) }
 {
+    if value < 128 {
+        return out.extend_from_slice(&[value as u8]);
+    }
+    if room > 0 && value < 16384 {
+        return out.extend_from_slice(&two_groups(value, room));
+    }
+    put_many_groups(out, value, room)
+}
+
+// The groups of a number that has two.
+#[tactic(auto, using(crate::proofs::Written::two_groups))]
+fn two_groups(value: u64, room: usize) -> [u8; 2]
+    requires some { 1 ≤ room }
+    requires big { 128 ≤ value }
+    requires small { value < 16384 }
+    ensures { result ≡ groups room value }
+{
+    [128 + (value % 128) as u8, (value / 128) as u8]
+}
+
+// The same, whatever the number.
+fn put_many_groups(out: &mut Vec<u8>, value: u64, room: usize) -> Result<(), AllocError>
+    requires few { room ≤ 9 }
+    requires fits { value < 128 ^ (room + 1) }
+    ensures ok { OnOk result (out.new.items ≡ out.old.items ++ groups room value) }
+    ensures err { OnErr result (out.new.items ≡ out.old.items) }
+{
     let (bytes, len) = groups_of(value, room);
     out.extend_from_slice(&bytes[..len])
 }
@@ -180,8 +207,13 @@ pub fn put_str(out: &mut Vec<u8>, value: &str) -> Result<(), AllocError>
     ensures ok { OnOk result (out.new.items ≡ out.old.items ++ text value.now) }
     ensures err { OnErr result (out.new.items ≡ out.old.items) }
 {
-    let (size, len) = groups_of(value.len() as u64 + 1, 4);
-    put_both(out, &size[..len], value.as_bytes())
+    let before = out.len();
+    put_groups(out, value.len() as u64 + 1, 4)?;
+    if let Err(refused) = out.extend_from_slice(value.as_bytes()) {
+        out.truncate(before);
+        return Err(refused);
+    }
+    Ok(())
 }
 
 /// A text, or null.
@@ -219,6 +251,9 @@ pub fn put_tag(out: &mut Vec<u8>, number: u32, size: u32) -> Result<(), AllocErr
     ensures ok { OnOk result (out.new.items ≡ out.old.items ++ tag number size) }
     ensures err { OnErr result (out.new.items ≡ out.old.items) }
 {
+    if number < 128 && size < 128 {
+        return out.extend_from_slice(&[number as u8, size as u8]);
+    }
     let (number, number_len) = groups_of(u64::from(number), 4);
     let (size, size_len) = groups_of(u64::from(size), 4);
     put_both(out, &number[..number_len], &size[..size_len])

@@ -1,7 +1,5 @@
 use Rattle.kr_record.proofs.Stands.{stands}
-use Rattle.kr_again.proofs.CostsKinds.{record_cost}
-use Rattle.kr_again.proofs.HeldRead.{held}
-use Rattle.kr_again.proofs.Short.{short}
+use Rattle.kr_again.proofs.Layouts.{short, held, cost}
 use Rattle.kr_again.proofs.records.records_again.Goals as goal
 
 pub returns-clause-short : goal.returns-clause-short
@@ -14,4 +12,4 @@ pub returns-clause-stands : goal.returns-clause-stands
 returns-clause-stands c r bytes is fit few = stands r (short r bytes is few) (held r bytes is fit)
 
 pub returns-clause-size : goal.returns-clause-size
-returns-clause-size c r bytes is = record_cost r bytes is
+returns-clause-size c r bytes is = cost r bytes is

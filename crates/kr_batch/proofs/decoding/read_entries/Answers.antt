@@ -4,7 +4,7 @@ use Rattle.kr_batch.proofs.decoding.read_entries.Goals as goal
 
 pub returns-in_err-record : goal.returns-in_err-record
 returns-in_err-record c =
-    let p = err_from_is_err_and c.from_residual.result c.from_residual.ensures.1 in
+    let p = err_from_is_err_and c.from_residual-in_err-record.result c.from_residual-in_err-record.ensures.1 in
     rw (p.1, p.2) (ends c.loop-number.list.items c.args.count c.loop-number.number _ _ c.in_err-record.field-0.0 c.loop-number-test.true c.in_err-record.ensures c.loop-number.invariant.so_far)
 
 pub loop-number-preserved : goal.loop-number-preserved

@@ -4,7 +4,7 @@ use Rattle.kr_record.proofs.lists.read_elements.Goals as goal
 
 pub returns-in_err-element : goal.returns-in_err-element
 returns-in_err-element g c =
-    let p = err_from_is_err_and c.from_residual.result c.from_residual.ensures.1 in
+    let p = err_from_is_err_and c.from_residual-in_err-element.result c.from_residual-in_err-element.ensures.1 in
     rw (p.1, p.2) (ends g.T.Layout.layout c.in_err-element.field-0.0 c.loop.list.items c.args.count c.loop.counter _ _ c.loop-test.true c.in_err-element.ensures c.loop.invariant.so_far)
 
 pub loop-preserved : goal.loop-preserved

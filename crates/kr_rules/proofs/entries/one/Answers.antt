@@ -5,16 +5,16 @@ use Rattle.kr_rules.proofs.entries.one.Goals as goal
 
 pub returns-then-branch-clause-done : goal.returns-then-branch-clause-done
 returns-then-branch-clause-done g c =
-    one_taken g.R.Rule.refused (g.R.Rule.rule c.args.rule.now) (work_at c.args.work.now (g.S.Store.images c.args.store.now).tip) c.args.entry.now c.in-Ok.field-0 _ c.in-Ok.ensures (rw c.if-branch.true at c.in_ok-take-in-Ok.ensures.taken)
+    one_taken (g.R.Rule.refused c.args.rule.now) (g.R.Rule.rule c.args.rule.now) (work_at c.args.work.now (g.S.Store.images c.args.store.now).tip) c.args.entry.now c.in-Ok.field-0 _ c.in-Ok.ensures (rw c.if-branch.true at c.in_ok-take-in-Ok.ensures.taken)
 
 pub returns-else-branch-clause-done : goal.returns-else-branch-clause-done
 returns-else-branch-clause-done g c =
     let took = rw c.if-branch.false at c.in_ok-take-in-Ok.ensures.taken in
-    rw took.1 (IfOk-weaker c.refused.result _ _ (λ answer is. one_limited g.R.Rule.refused (g.R.Rule.rule c.args.rule.now) (work_at c.args.work.now (g.S.Store.images c.args.store.now).tip) c.args.entry.now c.in-Ok.field-0 answer c.in-Ok.ensures took.0 is) c.refused.ensures)
+    rw took.1 (IfOk-weaker c.refused.result _ _ (λ answer is. one_limited (g.R.Rule.refused c.args.rule.now) (g.R.Rule.rule c.args.rule.now) (work_at c.args.work.now (g.S.Store.images c.args.store.now).tip) c.args.entry.now c.in-Ok.field-0 answer c.in-Ok.ensures took.0 is) c.refused.ensures)
 
 pub returns-else-branch-clause-made : goal.returns-else-branch-clause-made
 returns-else-branch-clause-made g c so_far before = on_ok c.refused.result (c.in_ok-take-in-Ok.ensures.made so_far before)
 
 pub returns-in-Err-clause-done : goal.returns-in-Err-clause-done
 returns-in-Err-clause-done g c =
-    IfOk-weaker c.answer_to.result _ _ (λ answer is. one_refused g.R.Rule.refused (g.R.Rule.rule c.args.rule.now) (work_at c.args.work.now (g.S.Store.images c.args.store.now).tip) c.args.entry.now c.in-Err.refusal answer c.in-Err.ensures is) c.answer_to.ensures
+    IfOk-weaker c.answer_to.result _ _ (λ answer is. one_refused (g.R.Rule.refused c.args.rule.now) (g.R.Rule.rule c.args.rule.now) (work_at c.args.work.now (g.S.Store.images c.args.store.now).tip) c.args.entry.now c.in-Err.refusal answer c.in-Err.ensures is) c.answer_to.ensures

@@ -8,8 +8,8 @@ pub loop-entry-preserved : goal.loop-entry-preserved
 loop-entry-preserved g c =
     let w = work_at c.loop-entry.work (g.S.Store.images c.loop-entry.store).tip in
     record {
-      told = rw c.in_ok-push.ensures.ok (answers_more g.R.Rule.refused (g.R.Rule.rule c.args.rule.now) w c.entry-item.result c.args.entries.now c.loop-entry.entry-index c.loop-entry-test.true c.entry-item.is _ _ c.in_ok-one.ensures.done c.loop-entry.answers ∙ c.loop-entry.invariant.told);
-      rest = after_more g.R.Rule.refused (g.R.Rule.rule c.args.rule.now) w c.entry-item.result c.args.entries.now c.loop-entry.entry-index c.loop-entry-test.true c.entry-item.is _ _ c.in_ok-one.ensures.done ∙ c.loop-entry.invariant.rest;
+      told = rw c.in_ok-push.ensures.ok (answers_more (g.R.Rule.refused c.args.rule.now) (g.R.Rule.rule c.args.rule.now) w c.entry-item.result c.args.entries.now c.loop-entry.entry-index c.loop-entry-test.true c.entry-item.is _ _ c.in_ok-one.ensures.done c.loop-entry.answers ∙ c.loop-entry.invariant.told);
+      rest = after_more (g.R.Rule.refused c.args.rule.now) (g.R.Rule.rule c.args.rule.now) w c.entry-item.result c.args.entries.now c.loop-entry.entry-index c.loop-entry-test.true c.entry-item.is _ _ c.in_ok-one.ensures.done ∙ c.loop-entry.invariant.rest;
       some = rw c.in_ok-one.ensures.kept c.loop-entry.invariant.some;
       leads = c.in_ok-one.ensures.leads;
       same = c.in_ok-one.ensures.kept ∙ c.loop-entry.invariant.same;

@@ -9,7 +9,7 @@ use Rattle.kr_rules.proofs.entries.over_entries.Given as goal
 abbrev pub invariant-loop-entry : goal.invariant-loop-entry
 invariant-loop-entry g l =
     let images = g.S.Store.images in
-    let refused = g.R.Rule.refused in
+    let refused = g.R.Rule.refused l.rule in
     let rule = g.R.Rule.rule l.rule in
     let left = drop l.entry-index l.entries in
     record {

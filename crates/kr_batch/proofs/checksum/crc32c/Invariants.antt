@@ -1,7 +1,0 @@
-use Rattle.std.proofs.Common.{◌≡◌, take}
-use Rattle.std.specs.List.{fold}
-use Rattle.kr_batch.specs.Crc.{byte_step}
-use Rattle.kr_batch.proofs.checksum.crc32c.Given as goal
-
-abbrev pub invariant-loop-byte : goal.invariant-loop-byte
-invariant-loop-byte l = l.sum ≡ fold byte_step 0xFFFFFFFF (take l.byte-index l.bytes)

@@ -1,0 +1,2 @@
+pub mod FencingLaws
+pub mod SafeChangeLaws

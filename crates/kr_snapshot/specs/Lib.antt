@@ -1,0 +1,6 @@
+pub mod Grammar
+pub mod Reading
+pub mod Shown
+pub mod Walked
+pub mod Writer
+pub mod Written

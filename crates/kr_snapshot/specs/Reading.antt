@@ -1,0 +1,127 @@
+-- Reading an image: what the bytes give, or the first fault. Want of memory is free. This project's own.
+use Rattle.std.specs.Prelude.{ℕ, ℤ, pos, zero, suc, int_lt, unsigned_abs, ◌+◌, ◌||◌, Bool, true, false, not, List, [], ◌∷◌, length, take, drop, Result, Ok, Err, nat_lt}
+use Rattle.std.specs.Int.{w64}
+use Rattle.std.specs.List.{list_any}
+use Rattle.std.specs.Ordering.{int_eq}
+use Rattle.kr_defs.specs.declared.ill.Ill.{Ill}
+use Rattle.kr_defs.specs.declared.record.Record.{Record}
+use Rattle.kr_defs.specs.declared.record.Item.{Item}
+use Rattle.kr_defs.specs.declared.record.Item.TheVariants as items
+use Rattle.kr_defs.specs.Apply.{apply}
+use Rattle.kr_defs.specs.Image.{Image, empty}
+use Rattle.kr_defs.specs.ImageOrder.{Seen, nothing_seen, seen_with, is_later}
+use Rattle.kr_wire.specs.declared.WireFault.{WireFault}
+use Rattle.kr_wire.specs.declared.WireFault.TheVariants as wire
+use Rattle.kr_wire.specs.Reading.{◌>>=◌, refuse◌when◌else◌, Read, signed_at}
+use Rattle.kr_batch.specs.declared.Batch.{Batch}
+use Rattle.kr_batch.specs.declared.fault.BatchFault.{BatchFault}
+use Rattle.kr_batch.specs.declared.fault.BatchFault.TheVariants as refusals
+use Rattle.kr_batch.specs.Reading.{start_at, is_short, batch_of}
+use Rattle.kr_snapshot.specs.declared.fault.ImageFault.{ImageFault}
+use Rattle.kr_snapshot.specs.declared.fault.ImageFault.TheVariants as faults
+use Rattle.kr_snapshot.specs.declared.fault.BatchCause.{BatchCause}
+use Rattle.kr_snapshot.specs.declared.fault.BatchCause.TheVariants as causes
+
+-- the fault of the batch behind so many records
+abbrev pub bad_batch : ℕ → BatchCause → ImageFault
+bad_batch found cause = faults.Batch (pos found) cause
+
+-- ---- the head: the offset and the count
+
+unfoldable pub numbers_at : List ℕ → Read (ℤ × ℕ)
+numbers_at bytes = do
+  offset ← signed_at w64 bytes
+  count ← signed_at w64 offset.1
+  refuse wire.Short when int_lt offset.0 (pos 0) || int_lt count.0 (pos 0) else Ok ((offset.0, unsigned_abs count.0), count.1)
+
+abbrev pub headed : {X : Type 0} → Result X WireFault → Result X ImageFault
+headed (Ok x) = Ok x
+headed (Err fault) = Err (bad_batch 0 causes.Head)
+
+-- ---- records
+
+-- how many records there are to be, and what was read of them so far
+pub record Progress : Type 0 where
+  pub expected : ℕ
+  pub found : ℕ
+  pub seen : Seen
+  pub image : Image
+
+abbrev pub begun : ℕ → Progress
+begun expected = record { expected = expected; found = 0; seen = nothing_seen; image = empty }
+
+abbrev pub with_meaning : Progress → Record → Result Image Ill → Result Progress ImageFault
+with_meaning p r (Ok image) = Ok (record { expected = p.expected; found = p.found + 1; seen = seen_with p.seen r; image = image })
+with_meaning p r (Err cause) = Err (faults.IllFormed (pos p.found) cause)
+
+-- a record: its place in the order, and then its meaning
+unfoldable pub record_read : Progress → Record → Result Progress ImageFault
+record_read p r =
+    refuse (faults.Order (pos p.found)) when not (is_later p.seen r) else
+    with_meaning p r (apply p.image (items.Record r))
+
+abbrev pub item_read : Progress → Item → Result Progress ImageFault
+item_read p (items.Record r) = record_read p r
+item_read p items.Control = Err (bad_batch p.found causes.Control)
+
+abbrev pub items_read : Progress → List Item → Result Progress ImageFault
+items_read p [] = Ok p
+items_read p (item ∷ others) = item_read p item >>= λ next. items_read next others
+
+-- ---- batches
+
+abbrev pub is_control : Item → Bool
+is_control items.Control = true
+is_control (items.Record r) = false
+
+-- a batch: its base, whether it is one of the quorum's own, its count, and then its records
+unfoldable pub batch_read : Progress → Batch → Result Progress ImageFault
+batch_read p batch =
+    refuse (bad_batch p.found causes.Base) when not (int_eq batch.base (pos p.found)) else
+    refuse (bad_batch p.found causes.Control) when list_any is_control batch.items else
+    refuse (faults.NoEnd (p.found + length batch.items) p.expected) when nat_lt p.expected (p.found + length batch.items) else
+    items_read p batch.items
+
+abbrev pub refused : {X : Type 0} → ℕ → Result X BatchFault → Result X ImageFault
+refused found (Ok x) = Ok x
+refused found (Err fault) = Err (bad_batch found (causes.Refused fault))
+
+-- base and size, and as many bytes more as the size says
+abbrev pub extent : ℕ → ℕ
+extent size = size + 12
+
+-- the bytes of the batch at the front, as its size says, and those behind
+unfoldable pub front_at : List ℕ → Result (List ℕ × List ℕ) BatchFault
+front_at bytes = do
+  start ← start_at bytes
+  refuse refusals.Short when is_short start.0.1 (length start.1) else Ok (take (extent start.0.1) bytes, drop (extent start.0.1) bytes)
+
+-- all bytes of a batch
+unfoldable pub whole_read : Progress → List ℕ → Result Progress ImageFault
+whole_read p bytes = do
+  batch ← refused p.found (batch_of bytes)
+  batch_read p batch
+
+-- the bytes end
+abbrev pub ended : Progress → Result Image ImageFault
+ended p = refuse (faults.NoEnd p.found p.expected) when nat_lt p.found p.expected else Ok p.image
+
+-- at most so many batches; each has bytes
+abbrev pub batches_read : ℕ → Progress → List ℕ → Result Image ImageFault
+batches_read most p [] = ended p
+batches_read zero p (byte ∷ bytes) = ended p
+batches_read (suc most) p (byte ∷ bytes) = do
+  front ← refused p.found (front_at (byte ∷ bytes))
+  next ← whole_read p front.0
+  batches_read most next front.1
+
+unfoldable pub rest_read : Progress → List ℕ → Result Image ImageFault
+rest_read p bytes = batches_read (length bytes) p bytes
+
+-- ---- all bytes: the offset and the image
+
+unfoldable pub image_of : List ℕ → Result (ℤ × Image) ImageFault
+image_of bytes = do
+  head ← headed (numbers_at bytes)
+  image ← rest_read (begun head.0.1) head.1
+  Ok (head.0.0, image)

@@ -1,0 +1,214 @@
+//! The records of an image, in their order, go to a writer.
+
+ghost use Rattle.std.specs.Prelude.{◌≡◌, ◌∷◌, [], negsuc, map, flat_map, IfOk, OnOk, IfSome, IsNone, Some};
+ghost use Rattle.kr_defs.specs.declared.record.Record.TheVariants as kinds;
+ghost use Rattle.kr_defs.specs.Image.{IsValid};
+ghost use Rattle.kr_defs.specs.Map.{above, partition_order};
+ghost use Rattle.kr_defs.specs.Records.{topic_records};
+ghost use Rattle.kr_defs.specs.Walk.{of_topic};
+ghost use Rattle.kr_snapshot.specs.Shown.{image_or_empty};
+ghost use Rattle.kr_snapshot.specs.Walked.{feature_record, broker_record, partition_record, config_record};
+ghost use Rattle.kr_snapshot.specs.Writer.{MayAdd, Adds};
+
+use crate::shown;
+use crate::writer::BatchWriter;
+use kr_base::NoMemory;
+use kr_defs::{Broker, ConfigKey, Copied, Partition, Record, Text};
+use kr_store::{At, Store};
+use std::alloc::Global;
+
+fn feature(alloc: Global, name: &Text, level: &i16) -> Result<Record, NoMemory>
+    ensures { IfOk result (λ r. r ≡ feature_record (name.now, level.now)) }
+{
+    let name = name.copied(alloc)?;
+    Ok(Record::FeatureLevel {
+        name,
+        level: *level,
+    })
+}
+
+fn registration(alloc: Global, id: &i32, state: &Broker) -> Result<Record, NoMemory>
+    ensures { IfOk result (λ r. r ≡ broker_record (id.now, state.now)) }
+{
+    let state = state.copied(alloc)?;
+    Ok(Record::RegisterBroker { broker: *id, state })
+}
+
+fn topic(alloc: Global, name: &Text, id: &u128) -> Result<Record, NoMemory>
+    ensures { IfOk result (λ r. r ≡ kinds.Topic name.now id.now) }
+{
+    let name = name.copied(alloc)?;
+    Ok(Record::Topic { name, id: *id })
+}
+
+fn partition(alloc: Global, key: &(u128, i32), state: &Partition) -> Result<Record, NoMemory>
+    ensures { IfOk result (λ r. r ≡ partition_record (key.now, state.now)) }
+{
+    let state = state.copied(alloc)?;
+    Ok(Record::Partition {
+        index: key.1,
+        topic: key.0,
+        state,
+    })
+}
+
+fn setting(alloc: Global, key: &ConfigKey, value: &Text) -> Result<Record, NoMemory>
+    ensures { IfOk result (λ r. r ≡ config_record (key.now, value.now)) }
+{
+    let ConfigKey { kind, name, key } = key.copied(alloc)?;
+    let value = value.copied(alloc)?;
+    Ok(Record::Config {
+        kind,
+        name,
+        key,
+        value: Some(value),
+    })
+}
+
+/// The features, by name.
+#[tactic(auto, using(crate::proofs::Adding::adding))]
+pub fn put_features<S: Store>(
+    alloc: Global,
+    store: &S,
+    at: At,
+    writer: &mut BatchWriter,
+) -> Result<(), NoMemory>
+    requires valid { IsValid (image_or_empty (S.images store.now) at) }
+    requires may { MayAdd writer.old (map feature_record (image_or_empty (S.images store.now) at).features) }
+    ensures { OnOk result (Adds writer.old writer.new (map feature_record (image_or_empty (S.images store.now) at).features)) }
+{
+    let mut after = None;
+    while let Some((name, level)) = shown::next_feature(store, at, after) {
+        writer.push(feature(alloc, name, level)?)?;
+        after = Some(name);
+    }
+    Ok(())
+}
+
+/// The brokers, by id.
+#[tactic(auto, using(crate::proofs::Adding::adding))]
+pub fn put_brokers<S: Store>(
+    alloc: Global,
+    store: &S,
+    at: At,
+    writer: &mut BatchWriter,
+) -> Result<(), NoMemory>
+    requires valid { IsValid (image_or_empty (S.images store.now) at) }
+    requires may { MayAdd writer.old (map broker_record (image_or_empty (S.images store.now) at).brokers) }
+    ensures { OnOk result (Adds writer.old writer.new (map broker_record (image_or_empty (S.images store.now) at).brokers)) }
+{
+    let mut after = None;
+    while let Some((id, state)) = shown::next_broker(store, at, after) {
+        writer.push(registration(alloc, id, state)?)?;
+        after = Some(id);
+    }
+    Ok(())
+}
+
+fn before_all(id: &u128) -> (u128, i32)
+    ensures { result ≡ (id.now, negsuc 0) }
+{
+    (*id, -1)
+}
+
+// The next partition of the same topic.
+fn next_of<'a, S: Store>(
+    store: &'a S,
+    at: At,
+    after: &(u128, i32),
+) -> Option<(&'a (u128, i32), &'a Partition)>
+    requires { IsValid (image_or_empty (S.images store.now) at) }
+    ensures next { IfSome result (λ e. of_topic after.now.0 (above partition_order (image_or_empty (S.images store.now) at).partitions (Some after.now)) ≡ (e.0.now, e.1.now) ∷ of_topic e.0.now.0 (above partition_order (image_or_empty (S.images store.now) at).partitions (Some e.0.now))) }
+    ensures none { IsNone result → of_topic after.now.0 (above partition_order (image_or_empty (S.images store.now) at).partitions (Some after.now)) ≡ [] }
+{
+    match shown::next_partition(store, at, Some(after)) {
+        Some((key, partition)) => {
+            if key.0 == after.0 {
+                Some((key, partition))
+            } else {
+                None
+            }
+        }
+        None => None,
+    }
+}
+
+// The partitions of the topic of this key, above it.
+#[tactic(auto, using(crate::proofs::Adding::adding))]
+fn put_above<S: Store>(
+    alloc: Global,
+    store: &S,
+    at: At,
+    first: &(u128, i32),
+    writer: &mut BatchWriter,
+) -> Result<(), NoMemory>
+    requires valid { IsValid (image_or_empty (S.images store.now) at) }
+    requires may { MayAdd writer.old (map partition_record (of_topic first.now.0 (above partition_order (image_or_empty (S.images store.now) at).partitions (Some first.now)))) }
+    ensures { OnOk result (Adds writer.old writer.new (map partition_record (of_topic first.now.0 (above partition_order (image_or_empty (S.images store.now) at).partitions (Some first.now))))) }
+{
+    let mut after = first;
+    while let Some((key, state)) = next_of(store, at, after) {
+        writer.push(partition(alloc, key, state)?)?;
+        after = key;
+    }
+    Ok(())
+}
+
+// A topic, and its partitions by index.
+fn put_topic<S: Store>(
+    alloc: Global,
+    store: &S,
+    at: At,
+    name: &Text,
+    id: &u128,
+    writer: &mut BatchWriter,
+) -> Result<(), NoMemory>
+    requires valid { IsValid (image_or_empty (S.images store.now) at) }
+    requires may { MayAdd writer.old (topic_records (image_or_empty (S.images store.now) at).partitions (name.now, id.now)) }
+    ensures { OnOk result (Adds writer.old writer.new (topic_records (image_or_empty (S.images store.now) at).partitions (name.now, id.now))) }
+{
+    writer.push(topic(alloc, name, id)?)?;
+    let first = before_all(id);
+    put_above(alloc, store, at, &first, writer)?;
+    Ok(())
+}
+
+/// The topics by name, each with its partitions behind it.
+#[tactic(auto, using(crate::proofs::Adding::adding))]
+pub fn put_topics<S: Store>(
+    alloc: Global,
+    store: &S,
+    at: At,
+    writer: &mut BatchWriter,
+) -> Result<(), NoMemory>
+    requires valid { IsValid (image_or_empty (S.images store.now) at) }
+    requires may { MayAdd writer.old (flat_map (topic_records (image_or_empty (S.images store.now) at).partitions) (image_or_empty (S.images store.now) at).topics) }
+    ensures { OnOk result (Adds writer.old writer.new (flat_map (topic_records (image_or_empty (S.images store.now) at).partitions) (image_or_empty (S.images store.now) at).topics)) }
+{
+    let mut after = None;
+    while let Some((name, topic)) = shown::next_topic(store, at, after) {
+        put_topic(alloc, store, at, name, &topic.id, writer)?;
+        after = Some(name);
+    }
+    Ok(())
+}
+
+/// The settings, by type, resource name and key.
+#[tactic(auto, using(crate::proofs::Adding::adding))]
+pub fn put_configs<S: Store>(
+    alloc: Global,
+    store: &S,
+    at: At,
+    writer: &mut BatchWriter,
+) -> Result<(), NoMemory>
+    requires valid { IsValid (image_or_empty (S.images store.now) at) }
+    requires may { MayAdd writer.old (map config_record (image_or_empty (S.images store.now) at).configs) }
+    ensures { OnOk result (Adds writer.old writer.new (map config_record (image_or_empty (S.images store.now) at).configs)) }
+{
+    let mut after = None;
+    while let Some((key, value)) = shown::next_config(store, at, after) {
+        writer.push(setting(alloc, key, value)?)?;
+        after = Some(key);
+    }
+    Ok(())
+}

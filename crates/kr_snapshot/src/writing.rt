@@ -1,0 +1,102 @@
+//! Images to bytes.
+
+ghost use Rattle.std.specs.Prelude.{◌≡◌, ◌↔◌, ◌<◌, ◌^◌, ◌++◌, [], ◌≤ℤ◌, pos, length, None, IsErrOf, IfOk, IfSome, OnOk, OnErr};
+ghost use Rattle.kr_defs.specs.declared.limits.TheConstants.{IMAGE_BATCH as most};
+ghost use Rattle.kr_defs.specs.Image.{IsValid};
+ghost use Rattle.kr_defs.specs.ImageLaws.{as_items};
+ghost use Rattle.kr_defs.specs.Records.{records_of};
+ghost use Rattle.kr_store.specs.Images.{image_at};
+ghost use Rattle.kr_snapshot.specs.Shown.{image_or_empty};
+ghost use Rattle.kr_snapshot.specs.Writer.{Adds, MayAdd};
+ghost use Rattle.kr_snapshot.specs.Written.{batches_bytes, groups, head_bytes, image_text};
+ghost use Rattle.kr_snapshot.specs.declared.fault.SnapFault.TheVariants as faults;
+
+use crate::fault::SnapFault;
+use crate::shown::is_kept;
+use crate::walking::{put_brokers, put_configs, put_features, put_topics};
+use crate::writer::BatchWriter;
+use kr_base::NoMemory;
+use kr_defs::laws::empty_is_valid;
+use kr_store::{At, Store};
+use kr_wire::{put_both, put_i64};
+use std::alloc::{AllocError, Global};
+
+fn put_records<S: Store>(
+    alloc: Global,
+    store: &S,
+    at: At,
+    writer: &mut BatchWriter,
+) -> Result<(), NoMemory>
+    requires valid { IsValid (image_or_empty (S.images store.now) at) }
+    requires may { MayAdd writer.old (records_of (image_or_empty (S.images store.now) at)) }
+    ensures { OnOk result (Adds writer.old writer.new (records_of (image_or_empty (S.images store.now) at))) }
+{
+    put_features(alloc, store, at, writer)?;
+    put_brokers(alloc, store, at, writer)?;
+    put_topics(alloc, store, at, writer)?;
+    put_configs(alloc, store, at, writer)?;
+    Ok(())
+}
+
+// The batches of all records, and how many records these are.
+fn batches<S: Store>(alloc: Global, store: &S, at: At) -> Result<(Vec<u8>, usize), NoMemory>
+    requires { IsValid (image_or_empty (S.images store.now) at) }
+    ensures bytes { IfOk result (λ x. x.0.items ≡ batches_bytes 0 (groups most [] (as_items (records_of (image_or_empty (S.images store.now) at))))) }
+    ensures count { IfOk result (λ x. x.1 ≡ length (records_of (image_or_empty (S.images store.now) at))) }
+    ensures small { IfOk result (λ x. x.1 < 2 ^ 63) }
+{
+    let mut writer = BatchWriter::new(alloc);
+    put_records(alloc, store, at, &mut writer)?;
+    writer.finish()
+}
+
+fn put_head(offset: i64, count: usize, out: &mut Vec<u8>) -> Result<(), AllocError>
+    requires { count < 2 ^ 63 }
+    ensures { OnOk result (out.new.items ≡ out.old.items ++ head_bytes offset count) }
+{
+    put_i64(out, offset)?;
+    put_i64(out, count as i64)
+}
+
+#[tactic(auto, unfolding(crate::specs::Written::image_text))]
+fn put_image<S: Store>(
+    alloc: Global,
+    store: &S,
+    at: At,
+    offset: i64,
+    out: &mut Vec<u8>,
+) -> Result<(), NoMemory>
+    requires { IsValid (image_or_empty (S.images store.now) at) }
+    ensures ok { OnOk result (out.new.items ≡ out.old.items ++ image_text offset (image_or_empty (S.images store.now) at)) }
+    ensures err { OnErr result (out.new.items ≡ out.old.items) }
+{
+    let (body, count) = batches(alloc, store, at)?;
+    let mut head = Vec::new(alloc);
+    put_head(offset, count, &mut head)?;
+    put_both(out, &head, &body)?;
+    Ok(())
+}
+
+/// Appends the image at a place, under an offset: the offset, how many records it has, and its records in batches of
+/// 1,000. After an `Err` nothing has changed. It is NoEpoch exactly where the place is an epoch that isn't kept.
+#[tactic(auto, using(crate::proofs::Lookups::looked))]
+pub fn write<S: Store>(
+    alloc: Global,
+    store: &S,
+    at: At,
+    offset: i64,
+    out: &mut Vec<u8>,
+) -> Result<(), SnapFault>
+    requires { pos 0 ≤ℤ offset }
+    ensures ok { OnOk result (IfSome (image_at (S.images store.now) at) (λ image. out.new.items ≡ out.old.items ++ image_text offset image)) }
+    ensures err { OnErr result (out.new.items ≡ out.old.items) }
+    ensures no_epoch { IsErrOf result faults.NoEpoch ↔ (image_at (S.images store.now) at ≡ None) }
+{
+    if !is_kept(store, at) {
+        return Err(SnapFault::NoEpoch);
+    }
+    empty_is_valid();
+    let _valid = store.counts();
+    put_image(alloc, store, at, offset, out)?;
+    Ok(())
+}
