@@ -23,7 +23,6 @@ use crate::assigning::{are_assignable, first_size, lists_of};
 use crate::partitions::{Lists, add_partitions, has_room, placements, start_of};
 use crate::racks::active_by_rack;
 use crate::settings::{add_settings, has_bad_setting};
-use crate::validating::decide_or_validate;
 use kr_base::{NoMemory, Steps};
 use kr_calls::{
     CreatableReplicaAssignment, CreatableTopic, CreatableTopicResult, CreatableTopicResults,
@@ -32,7 +31,7 @@ use kr_calls::{
 use kr_defs::limits::MOST_TARGETS;
 use kr_defs::{Copied, Options, Record, Records, Rows, Text, is_topic_name};
 use kr_place::Grouped;
-use kr_rules::{Refusal, Rule, Work};
+use kr_rules::{Refusal, Rule, Work, decide_or_validate};
 use kr_sessions::Context;
 use kr_store::Store;
 use kr_walks::{has_agreeing_name, tip};
@@ -339,7 +338,7 @@ fn named<S: Store>(
 }
 
 impl<'a> Rule<CreatableTopic, CreatableTopicResult> for Creating<'a> {
-    ghost refused = { refused_creation };
+    ghost refused = { λ _. refused_creation };
 
     ghost rule = { λ r. room.creation r.those r.options.now r.validate_only };
 

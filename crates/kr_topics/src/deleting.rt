@@ -50,7 +50,7 @@ fn deleted(
 }
 
 impl Rule<DeleteTopicState, DeletableTopicResult> for Deleting {
-    ghost refused = { refused_deletion };
+    ghost refused = { λ _. refused_deletion };
 
     ghost rule = { λ _. deletions.rule };
 

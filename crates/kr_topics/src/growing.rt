@@ -20,7 +20,6 @@ use crate::partitions::{
     Lists, add_partitions, has_room, is_assignable, placements, start_of, target_len,
 };
 use crate::racks::active_by_rack;
-use crate::validating::decide_or_validate;
 use kr_base::{NoMemory, Steps};
 use kr_calls::{
     CreatePartitions, CreatePartitionsAssignment, CreatePartitionsReply, CreatePartitionsTopic,
@@ -28,7 +27,7 @@ use kr_calls::{
 };
 use kr_defs::{Copied, Records, Rows};
 use kr_place::Grouped;
-use kr_rules::{Refusal, Rule, Work};
+use kr_rules::{Refusal, Rule, Work, decide_or_validate};
 use kr_sessions::Context;
 use kr_store::Store;
 use kr_walks::{count_of, tip};
@@ -231,7 +230,7 @@ fn of_topic<S: Store>(
 }
 
 impl Rule<CreatePartitionsTopic, CreatePartitionsTopicResult> for Growing {
-    ghost refused = { refused_growth };
+    ghost refused = { λ _. refused_growth };
 
     ghost rule = { λ r. room.growth r.those };
 

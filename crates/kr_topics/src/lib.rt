@@ -8,7 +8,6 @@ mod growing;
 mod partitions;
 mod racks;
 mod settings;
-mod validating;
 
 pub use creating::create;
 pub use deleting::delete;
