@@ -1,0 +1,7 @@
+pub mod Actives
+pub mod Assigned
+pub mod Free
+pub mod Given
+pub mod Names
+pub mod Placements
+pub mod Room

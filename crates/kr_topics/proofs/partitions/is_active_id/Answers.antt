@@ -1,0 +1,15 @@
+use Rattle.std.proofs.Common.{◌∙◌, ap, false}
+use Rattle.std.specs.Option.{option_map_or}
+use Rattle.kr_defs.specs.Brokers.{is_active}
+use Rattle.kr_topics.proofs.Actives.{active_by_id}
+use Rattle.kr_topics.proofs.partitions.is_active_id.Goals as goal
+
+pub returns-in-Some : goal.returns-in-Some
+returns-in-Some g c =
+    let tip = (g.S.Store.images c.args.store.now).tip in
+    c.is_active.ensures ∙ ap (λ o. option_map_or is_active o false) c.in-Some.ensures ∙ active_by_id tip.brokers c.args.id.now c.counts-valid.ensures.valid.tip.brokers.ordered
+
+pub returns-in-None : goal.returns-in-None
+returns-in-None g c =
+    let tip = (g.S.Store.images c.args.store.now).tip in
+    ap (λ o. option_map_or is_active o false) c.in-None.ensures ∙ active_by_id tip.brokers c.args.id.now c.counts-valid.ensures.valid.tip.brokers.ordered

@@ -1,0 +1,23 @@
+-- The settings of a new topic, each beside those that its entry set before. This project's own.
+use Rattle.std.specs.Prelude.{ℕ, Bool, false, List, [], bytes_eq, unwrap_or, Option}
+use Rattle.std.specs.Option.{option_map_or, option_or}
+use Rattle.kr_defs.specs.declared.record.ConfigKey.{ConfigKey}
+use Rattle.kr_defs.specs.Apply.{topic_kind}
+use Rattle.kr_defs.specs.Map.{config_order, get, text_order}
+use Rattle.kr_calls.specs.declared.topics.CreatableTopicConfig.{CreatableTopicConfig}
+
+-- where a topic's setting stands
+abbrev pub key_of : List ℕ → List ℕ → ConfigKey
+key_of topic key = record { kind = topic_kind; name = topic; key = key }
+
+-- its value among those that were given so far, or else among the configurations
+abbrev pub value_before : List (ConfigKey × List ℕ) → List (List ℕ × List ℕ) → List ℕ → List ℕ → Option (List ℕ)
+value_before configs given topic key = option_or (get text_order given key) (get config_order configs (key_of topic key))
+
+-- the value of a setting, which isn't absent in what is accepted
+abbrev pub value_of : CreatableTopicConfig → List ℕ
+value_of setting = unwrap_or setting.value []
+
+-- the setting has this value already
+abbrev pub is_old : List (ConfigKey × List ℕ) → List (List ℕ × List ℕ) → List ℕ → CreatableTopicConfig → Bool
+is_old configs given topic setting = option_map_or (bytes_eq (value_of setting)) (value_before configs given topic setting.name) false
