@@ -203,11 +203,11 @@ fn is_of_epoch(request: &BrokerHeartbeat, state: &Broker) -> bool
 }
 
 impl<'a> Rule<BrokerHeartbeat, BrokerHeartbeatReply> for HeartbeatRule<'a> {
-    ghost refused = { λ _. heartbeating.refused };
+    ghost refusal = { λ _. heartbeating.refused };
 
     ghost rule = { λ r. heartbeating.rule r.options.now (basis_of (pos 0) (pos 0) r.sessions.now.heartbeats) };
 
-    fn refused(
+    fn refusal(
         &self,
         _alloc: Global,
         error: &i16,

@@ -160,11 +160,11 @@ fn registration_draft<S: Store>(
 }
 
 impl<'a> Rule<BrokerRegistration, BrokerRegistrationReply> for Registering<'a> {
-    ghost refused = { λ _. registering.refused };
+    ghost refusal = { λ _. registering.refused };
 
     ghost rule = { λ r. registering.rule r.options.now (basis_of r.time (pos 0) r.sessions.now.heartbeats) };
 
-    fn refused(
+    fn refusal(
         &self,
         _alloc: Global,
         error: &i16,

@@ -44,11 +44,11 @@ fn unregistration<S: Store>(
 }
 
 impl<'a> Rule<UnregisterBroker, UnregisterBrokerReply> for Unregistering<'a> {
-    ghost refused = { λ _. unregistering.refused };
+    ghost refusal = { λ _. unregistering.refused };
 
     ghost rule = { λ r. unregistering.rule r.options.now };
 
-    fn refused(
+    fn refusal(
         &self,
         _alloc: Global,
         error: &i16,

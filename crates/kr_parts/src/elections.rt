@@ -49,7 +49,7 @@ fn answer(error: &i16, _name: &Text, index: &i32) -> PartitionElectionResult
     }
 }
 
-fn drafted(
+fn draft_of(
     alloc: Global,
     name: &Text,
     index: &i32,
@@ -128,7 +128,7 @@ fn prefers<S: Store>(
         return Err(Refusal::Error(80));
     }
     let change = elected(alloc, store, options, name, partition, Mode::Preferred)?;
-    Ok(drafted(alloc, name, index, topic, change)?)
+    Ok(draft_of(alloc, name, index, topic, change)?)
 }
 
 // No leader is named, or -1.
@@ -155,7 +155,7 @@ fn with_leader(
     if names_nobody(&change) {
         return Err(Refusal::Error(83));
     }
-    Ok(drafted(alloc, name, index, topic, change)?)
+    Ok(draft_of(alloc, name, index, topic, change)?)
 }
 
 fn has_leader(partition: &Partition) -> bool
@@ -216,11 +216,11 @@ fn of_partition<S: Store>(
 }
 
 impl<'a> ItemRule<Text, i32, PartitionElectionResult> for ElectionRule<'a> {
-    ghost refused = { λ _. electing.answer };
+    ghost refusal = { λ _. electing.answer };
 
     ghost rule = { λ r. electing.rule r.options.now r.kind };
 
-    fn refused(
+    fn refusal(
         &self,
         _alloc: Global,
         error: &i16,

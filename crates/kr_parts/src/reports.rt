@@ -43,7 +43,7 @@ impl<'a> ReportRule<'a> {
 }
 
 // The answer to a report that is refused.
-fn refused(
+fn error_answer(
     alloc: Global,
     error: &i16,
     _topic: &u128,
@@ -105,7 +105,7 @@ fn are_ready<S: Store>(store: &S, members: &[BrokerState]) -> bool
     members.iter().all(|member| is_ready(store, member))
 }
 
-fn wanted(
+fn want_of(
     alloc: Global,
     partition: &Partition,
     report: &PartitionReport,
@@ -133,7 +133,7 @@ fn told(
     ensures { IfOk result (λ answer. answer ≡ reporting.told broker.now (topic.now, report.now) partition.now) }
 {
     if partition.leader != *broker {
-        return Ok(refused(alloc, &NEW_LEADER, topic, report));
+        return Ok(error_answer(alloc, &NEW_LEADER, topic, report));
     }
     let in_sync = partition.in_sync.copied(alloc)?;
     Ok(AlterPartitionResult {
@@ -147,7 +147,7 @@ fn told(
     })
 }
 
-fn drafted(
+fn draft_of(
     alloc: Global,
     broker: &i32,
     topic: &u128,
@@ -187,11 +187,11 @@ fn accepted<S: Store>(
     requires { members ≡ reporting.members report.now }
     ensures { IfOk result (λ draft. draft ≡ reporting.accepted rule.now.options.now rule.now.broker (S.images store.now).tip (topic.now, report.now) name.now partition.now) }
 {
-    let want = wanted(alloc, partition, report, members)?;
+    let want = want_of(alloc, partition, report, members)?;
     let active = active(alloc, store)?;
     let facts = facts(alloc, store, &rule.options.minimum, &active, name)?;
     let change = build(alloc, partition, &want, &facts)?;
-    drafted(alloc, &rule.broker, topic, report, partition, change)
+    draft_of(alloc, &rule.broker, topic, report, partition, change)
 }
 
 // What is said of a report that knows the partition's epochs.
@@ -243,18 +243,18 @@ fn of_partition<S: Store>(
 }
 
 impl<'a> ItemRule<u128, PartitionReport, AlterPartitionResult> for ReportRule<'a> {
-    ghost refused = { λ _. reporting.refused };
+    ghost refusal = { λ _. reporting.refused };
 
     ghost rule = { λ r. reporting.rule r.options.now r.broker };
 
-    fn refused(
+    fn refusal(
         &self,
         alloc: Global,
         error: &i16,
         key: &u128,
         item: &PartitionReport,
     ) -> Result<AlterPartitionResult, NoMemory> {
-        Ok(refused(alloc, error, key, item))
+        Ok(error_answer(alloc, error, key, item))
     }
 
     fn judge<S: Store>(

@@ -40,13 +40,13 @@ module _ {E A : Type 0} (refused : ℤ → E → A) (rule : Image → ℤ → E 
 
 -- entries that are made of items
 module _ {E I A : Type 0} (refused : ℤ → E → A) (rule : Image → ℤ → E → Result (Draft A) ℤ) (f : I → E) where
-  abbrev refused_item : ℤ → I → A
+  abbrev pub refused_item : ℤ → I → A
   refused_item error item = refused error (f item)
 
-  abbrev rule_item : Image → ℤ → I → Result (Draft A) ℤ
+  abbrev pub rule_item : Image → ℤ → I → Result (Draft A) ℤ
   rule_item image place item = rule image place (f item)
 
-  done_item : (w : Work) (item : I) (meaning : Result (Draft A) ℤ) → done refused_item w item meaning ≡ done refused w (f item) meaning
+  pub done_item : (w : Work) (item : I) (meaning : Result (Draft A) ℤ) → done refused_item w item meaning ≡ done refused w (f item) meaning
   unfolding done
   done_item w item (Err error) = refl
   done_item w item (Ok draft) = elim (taken w draft.records) as (λ o. settled refused_item w item draft.answer o ≡ settled refused w (f item) draft.answer o) [ None ↦ refl | Some after ↦ refl ]

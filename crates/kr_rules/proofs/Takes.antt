@@ -1,7 +1,9 @@
 -- Records that are taken after others.
-use Rattle.std.proofs.Common.{◌≡◌, ◌∙◌, ◌≤◌, ◌+◌, ℕ, pos, true, false, cond, List, [], ◌∷◌, ◌++◌, length, refl, sym, ap, arith, length-append}
+use Rattle.std.proofs.Common.{◌≡◌, ◌∙◌, ◌≤◌, ◌+◌, ℕ, pos, Bool, true, false, not, cond, List, [], ◌∷◌, ◌++◌, length, refl, sym, ap, arith, length-append}
 use Rattle.std.proofs.Math.IntN.{+ℤ_assoc, +ℤ_idr}
-use Rattle.std.specs.Prelude.{◌+ℤ◌, ℤ, Option, Some, None, Ok, Err, IsErr, IsSome, option_map, unwrap_or}
+use Rattle.std.specs.Prelude.{◌+ℤ◌, ℤ, Option, Some, None, Result, Ok, Err, is_err, ◌&&◌, IsErr, IsSome, option_map, unwrap_or}
+use Rattle.std.specs.List.{list_all}
+use Rattle.kr_defs.specs.declared.ill.Ill.{Ill}
 use Rattle.kr_defs.specs.declared.record.Record.{Record}
 use Rattle.kr_defs.specs.declared.record.Item.TheVariants as items
 use Rattle.kr_defs.specs.Apply.{apply_record}
@@ -9,9 +11,12 @@ use Rattle.kr_defs.specs.Guard.{and_then}
 use Rattle.kr_defs.specs.Image.{Image, empty}
 use Rattle.kr_store.specs.Images.{Images, last_kept, last_image}
 use Rattle.kr_defs.specs.Weight.{weight}
-use Rattle.kr_calls.specs.Deciding.{Work, begun, apply_records, weights, weight_then, is_within_limits, added, taken}
+use Rattle.kr_calls.specs.Deciding.{begun, apply_records, weights, weight_then, is_within_limits, added, taken}
 use Rattle.kr_calls.proofs.Standing.{applied_in_two}
-use Rattle.kr_rules.specs.Progress.{Drawn, work_at, base_of}
+use Rattle.kr_defs.proofs.Tests.{both, not_false}
+use Rattle.kr_rules.specs.Costs.{is_undone}
+use Rattle.kr_rules.specs.Progress.{Drawn, work_at, base_of, begins}
+use Rattle.kr_rules.specs.Room.{TellsRoom, is_plain, lacks_room}
 
 module _ (d : Drawn) (image : Image) (records : List Record) where
   pub not_within : false ≡ is_within_limits d.records records → taken (work_at d image) records ≡ None
@@ -33,6 +38,24 @@ module _ (d : Drawn) (image : Image) (records : List Record) where
   pub all_taken : (after : Image) (more : Drawn) → true ≡ is_within_limits d.records records → apply_records image records ≡ Ok after → more ≡ record { start = d.start; records = d.records ++ records } → taken (work_at d image) records ≡ Some (work_at more after)
   unfolding taken
   all_taken after more within meaning is = rw (is, ← within, meaning, place_behind) refl
+
+  -- what can be told isn't undone
+  cut : (meaning : Result Image Ill) → IsErr meaning → begins image records ≡ true → TellsRoom records meaning true → (begins image records && is_err meaning && not (list_all is_plain records && lacks_room meaning)) ≡ false → ⊥
+  cut (Ok after) e first told ordinary = absurd cc
+  cut (Err cause) e first told ordinary =
+      let rest : not (list_all is_plain records && lacks_room (Err cause)) ≡ false = rw first at ordinary in
+      let lacks = both (list_all is_plain records) (lacks_room (Err cause)) (not_false (list_all is_plain records && lacks_room (Err cause)) rest) in
+      let has : lacks_room (Err cause) ≡ false = told lacks.0 in
+      let lack : lacks_room (Err cause) ≡ true = lacks.1 in
+      cc
+
+  -- where there is no room, some record has no meaning
+  pub not_roomy : (fits : Bool) → fits ≡ false → TellsRoom records (apply_records image records) fits → taken (work_at d image) records ≡ None
+  not_roomy fits is tells = not_applied (rw is at tells)
+
+  -- so what is applied in part takes as few steps as need be
+  pub own_part : (fits : Bool) (steps limit : ℕ) → fits ≡ true → TellsRoom records (apply_records image records) fits → IsErr (apply_records image records) × (begins image records ≡ true) → is_undone image records ≡ false → steps ≤ limit
+  own_part fits steps limit is tells part ordinary = absurd (cut (apply_records image records) part.0 part.1 (rw is at tells) ordinary)
 
 applied_behind : (image mid : Image) (xs ys : List Record) → apply_records image xs ≡ Ok mid → apply_records image (xs ++ ys) ≡ apply_records mid ys
 applied_behind image mid xs ys first = applied_in_two image xs ys ∙ ap (λ r. and_then r (λ after. apply_records after ys)) first
@@ -74,4 +97,4 @@ begun_at d place image is = rw (is, +ℤ_idr place) refl
 
 pub ruleset bases = (base_is, is_kept)
 
-pub ruleset takes = (not_within, not_applied, all_taken, all_lead, frugal)
+pub ruleset takes = (not_within, not_applied, not_roomy, own_part, all_taken, all_lead, frugal)

@@ -1,2 +1,4 @@
+pub mod Costs
 pub mod Progress
 pub mod Refusals
+pub mod Room

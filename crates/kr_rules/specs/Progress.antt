@@ -1,5 +1,5 @@
 -- How far a request has come, on a store whose last kept epoch is where it began.
-use Rattle.std.specs.Prelude.{◌≡◌, ◌≤◌, ℕ, ℤ, pos, ◌+ℤ◌, ◌≤ℤ◌, List, length, Bool, true, false, Some, None, Result, Ok, IsErr, sum_by, unwrap_or}
+use Rattle.std.specs.Prelude.{◌≡◌, ◌≤◌, ℕ, ℤ, pos, ◌+ℤ◌, ◌≤ℤ◌, List, [], ◌∷◌, length, Bool, true, false, Some, None, Result, Ok, is_ok, IsErr, sum_by, unwrap_or}
 use Rattle.kr_defs.specs.declared.ill.Ill.{Ill}
 use Rattle.kr_defs.specs.declared.limits.TheConstants.{MOST_REQUEST_BYTES, MOST_REQUEST_RECORDS, PLACES_END}
 use Rattle.kr_defs.specs.declared.record.Record.{Record}
@@ -44,15 +44,20 @@ abbrev pub IsApplied : Images → Images → Record → Bool → Type 0
 IsApplied before after r true = apply_record before.tip r ≡ Ok after.tip
 IsApplied before after r false = IsErr (apply_record before.tip r) × (after ≡ before)
 
+-- the first of the records has a meaning
+abbrev pub begins : Image → List Record → Bool
+begins image [] = true
+begins image (r ∷ records) = is_ok (apply_record image r)
+
 -- all records have a meaning, and lead to the image
 abbrev pub Stands : Bool → Result Image Ill → Image → Type 0
 Stands true meaning after = meaning ≡ Ok after
 Stands false meaning after = IsErr meaning
 
--- all records have a meaning, which is the present image; or one has none, where it is the first nothing has changed
+-- all records have a meaning, which is the present image; or one has none, and where it is the first nothing has changed
 abbrev pub Reaches : Images → Images → List Record → Extent → Type 0
 Reaches before after records extents.All = apply_records before.tip records ≡ Ok after.tip
-Reaches before after records extents.Part = IsErr (apply_records before.tip records)
+Reaches before after records extents.Part = IsErr (apply_records before.tip records) × (begins before.tip records ≡ true)
 Reaches before after records extents.Nothing = IsErr (apply_records before.tip records) × (after ≡ before)
 
 -- the records were taken, or nothing has changed

@@ -1,12 +1,13 @@
 //! A request's entries, each decided on the image after the earlier ones.
 
-ghost use Rattle.std.specs.Prelude.{◌≡◌, ◌≤◌, ◌+◌, ℕ, ℤ, pos, ◌≤ℤ◌, List, [], Ok, Some, Result, IfOk, OnOk, IsSome};
+ghost use Rattle.std.specs.Prelude.{◌≡◌, ◌≤◌, ◌+◌, ℕ, ℤ, pos, ◌≤ℤ◌, List, [], Ok, Some, Result, IfOk, OnOk, IfSome, IsSome, false};
 ghost use Rattle.kr_defs.specs.declared.limits.TheConstants.{PLACES_END as places_end};
 ghost use Rattle.kr_defs.specs.Image.{Image};
 ghost use Rattle.kr_calls.specs.Deciding as deciding;
 ghost use Rattle.kr_calls.specs.Deciding.{begun, unless_validating, weights};
 ghost use Rattle.kr_store.specs.Images.{last_kept, last_image};
-ghost use Rattle.kr_rules.specs.Progress.{work_at, base_of, Leads};
+ghost use Rattle.kr_rules.specs.Costs.{cost, draft_cost};
+ghost use Rattle.kr_rules.specs.Progress.{work_at, base_of, place_of, Leads};
 ghost use Rattle.kr_rules.specs.Refusals.{IfError};
 
 use crate::taking::take;
@@ -28,15 +29,15 @@ fn answer_to<E, A: Drop, R: Rule<E, A>>(
     refusal: &Refusal,
     entry: &E,
 ) -> Result<A, NoMemory>
-    ensures { IfOk result (λ answer. IfError refusal.now (λ error. answer ≡ R.refused rule.now error entry.now)) }
+    ensures { IfOk result (λ answer. IfError refusal.now (λ error. answer ≡ R.refusal rule.now error entry.now)) }
 {
     match refusal {
-        Refusal::Error(error) => rule.refused(alloc, error, entry),
+        Refusal::Error(error) => rule.refusal(alloc, error, entry),
         Refusal::NoMemory => Err(NoMemory),
     }
 }
 
-/// An entry is done by its rule: its records are taken, all or none.
+/// An entry is done by its rule: its records are taken, all or none. A refused one costs no more than its own records.
 pub fn one<E, A: Drop, R: Rule<E, A>, S: Store, L: Ledger>(
     alloc: Global,
     store: &mut S,
@@ -47,19 +48,20 @@ pub fn one<E, A: Drop, R: Rule<E, A>, S: Store, L: Ledger>(
 ) -> Result<A, NoMemory>
     requires some { IsSome (last_kept (S.images store.old)) }
     requires leads { Leads (S.images store.old) work.old.records }
-    ensures done { IfOk result (λ answer. deciding.one (R.refused rule.now) (R.rule rule.now) (work_at work.old (S.images store.old).tip) entry.now ≡ (work_at work.new (S.images store.new).tip, answer)) }
+    ensures done { IfOk result (λ answer. deciding.one (R.refusal rule.now) (R.rule rule.now) (work_at work.old (S.images store.old).tip) entry.now ≡ (work_at work.new (S.images store.new).tip, answer)) }
     ensures leads { OnOk result (Leads (S.images store.new) work.new.records) }
     ensures kept { (S.images store.new).kept ≡ (S.images store.old).kept }
     ensures start { OnOk result (work.new.start ≡ work.old.start) }
     ensures made { (so_far : ℕ) → (S.images store.old).made ≤ so_far + weights (base_of (S.images store.old)) work.old.records → OnOk result ((S.images store.new).made ≤ so_far + weights (base_of (S.images store.new)) work.new.records) }
+    ensures own { IfSome (draft_cost (S.images store.old).tip (R.rule rule.now (S.images store.old).tip (place_of work.old) entry.now)) (λ n. OnOk result (steps.new ≤ steps.old + n)) }
     ensures later { steps.old ≤ steps.new }
 {
     match rule.judge(alloc, store, work, entry) {
         Ok(Draft { records, answer }) => {
-            if take(store, work, records, steps)? {
+            if take(alloc, store, work, records, steps)? {
                 Ok(answer)
             } else {
-                rule.refused(alloc, &OVER_A_LIMIT, entry)
+                rule.refusal(alloc, &OVER_A_LIMIT, entry)
             }
         }
         Err(refusal) => answer_to(alloc, rule, &refusal, entry),
@@ -77,12 +79,13 @@ pub fn over_entries<E, A: Drop, R: Rule<E, A>, S: Store, L: Ledger>(
 ) -> Result<Rows<A>, NoMemory>
     requires some { IsSome (last_kept (S.images store.old)) }
     requires leads { Leads (S.images store.old) work.old.records }
-    ensures answers { IfOk result (λ answers. answers ≡ deciding.answers (R.refused rule.now) (R.rule rule.now) (work_at work.old (S.images store.old).tip) entries.now) }
-    ensures after { OnOk result (work_at work.new (S.images store.new).tip ≡ deciding.after_all (R.refused rule.now) (R.rule rule.now) (work_at work.old (S.images store.old).tip) entries.now) }
+    ensures answers { IfOk result (λ answers. answers ≡ deciding.answers (R.refusal rule.now) (R.rule rule.now) (work_at work.old (S.images store.old).tip) entries.now) }
+    ensures after { OnOk result (work_at work.new (S.images store.new).tip ≡ deciding.after_all (R.refusal rule.now) (R.rule rule.now) (work_at work.old (S.images store.old).tip) entries.now) }
     ensures leads { OnOk result (Leads (S.images store.new) work.new.records) }
     ensures kept { (S.images store.new).kept ≡ (S.images store.old).kept }
     ensures start { OnOk result (work.new.start ≡ work.old.start) }
     ensures made { (so_far : ℕ) → (S.images store.old).made ≤ so_far + weights (base_of (S.images store.old)) work.old.records → OnOk result ((S.images store.new).made ≤ so_far + weights (base_of (S.images store.new)) work.new.records) }
+    ensures own { IfSome (cost (R.refusal rule.now) (R.rule rule.now) (work_at work.old (S.images store.old).tip) entries.now) (λ n. OnOk result (steps.new ≤ steps.old + n)) }
     ensures later { steps.old ≤ steps.new }
 {
     let mut answers = Rows::new(alloc);
@@ -92,7 +95,8 @@ pub fn over_entries<E, A: Drop, R: Rule<E, A>, S: Store, L: Ledger>(
     Ok(answers)
 }
 
-/// A request of one entry is decided: its records and its answer.
+/// A request of one entry is decided: its records and its answer. What it costs is said by `cost`, as for the calls below:
+/// each record of a draft is applied once at most, also where the entry is refused.
 #[tactic(auto, using(crate::proofs::Takes::bases))]
 pub fn decide_one<E, A: Drop, R: Rule<E, A>, S: Store, L: Ledger>(
     alloc: Global,
@@ -104,9 +108,10 @@ pub fn decide_one<E, A: Drop, R: Rule<E, A>, S: Store, L: Ledger>(
 ) -> Result<(Records, A), NoMemory>
     requires low { place ≤ℤ places_end }
     requires kept { last_image (S.images store.old) ≡ Some (S.images store.old).tip }
-    ensures decided { IfOk result (λ d. deciding.one (R.refused rule.now) (R.rule rule.now) (begun place (S.images store.old).tip) entry.now ≡ (work_at (record { start = place; records = d.0 }) (S.images store.new).tip, d.1)) }
+    ensures decided { IfOk result (λ d. deciding.one (R.refusal rule.now) (R.rule rule.now) (begun place (S.images store.old).tip) entry.now ≡ (work_at (record { start = place; records = d.0 }) (S.images store.new).tip, d.1)) }
     ensures kept { (S.images store.new).kept ≡ (S.images store.old).kept }
     ensures made { IfOk result (λ d. (S.images store.new).made ≤ (S.images store.old).made + weights (S.images store.old).tip d.0) }
+    ensures own { IfSome (draft_cost (S.images store.old).tip (R.rule rule.now (S.images store.old).tip place entry.now)) (λ n. OnOk result (steps.new ≤ steps.old + n)) }
     ensures later { steps.old ≤ steps.new }
 {
     let mut work = Work::new(alloc, place);
@@ -126,10 +131,11 @@ pub fn decide_each<E, A: Drop, R: Rule<E, A>, S: Store, L: Ledger>(
 ) -> Result<(Records, Rows<A>), NoMemory>
     requires low { place ≤ℤ places_end }
     requires kept { last_image (S.images store.old) ≡ Some (S.images store.old).tip }
-    ensures answers { IfOk result (λ d. d.1 ≡ deciding.answers (R.refused rule.now) (R.rule rule.now) (begun place (S.images store.old).tip) entries.now) }
-    ensures after { IfOk result (λ d. work_at (record { start = place; records = d.0 }) (S.images store.new).tip ≡ deciding.after_all (R.refused rule.now) (R.rule rule.now) (begun place (S.images store.old).tip) entries.now) }
+    ensures answers { IfOk result (λ d. d.1 ≡ deciding.answers (R.refusal rule.now) (R.rule rule.now) (begun place (S.images store.old).tip) entries.now) }
+    ensures after { IfOk result (λ d. work_at (record { start = place; records = d.0 }) (S.images store.new).tip ≡ deciding.after_all (R.refusal rule.now) (R.rule rule.now) (begun place (S.images store.old).tip) entries.now) }
     ensures kept { (S.images store.new).kept ≡ (S.images store.old).kept }
     ensures made { IfOk result (λ d. (S.images store.new).made ≤ (S.images store.old).made + weights (S.images store.old).tip d.0) }
+    ensures own { IfSome (cost (R.refusal rule.now) (R.rule rule.now) (begun place (S.images store.old).tip) entries.now) (λ n. OnOk result (steps.new ≤ steps.old + n)) }
     ensures later { steps.old ≤ steps.new }
 {
     let mut work = Work::new(alloc, place);
@@ -150,10 +156,11 @@ pub fn decide_or_validate<E, A: Drop, R: Rule<E, A>, S: Store, L: Ledger>(
 ) -> Result<(Records, Rows<A>), NoMemory>
     requires low { place ≤ℤ places_end }
     requires kept { last_image (S.images store.old) ≡ Some (S.images store.old).tip }
-    ensures answers { IfOk result (λ d. d.1 ≡ deciding.answers (R.refused rule.now) (R.rule rule.now) (begun place (S.images store.old).tip) entries.now) }
-    ensures after { IfOk result (λ d. work_at (record { start = place; records = d.0 }) (S.images store.new).tip ≡ unless_validating validate_only (begun place (S.images store.old).tip) (deciding.after_all (R.refused rule.now) (R.rule rule.now) (begun place (S.images store.old).tip) entries.now)) }
+    ensures answers { IfOk result (λ d. d.1 ≡ deciding.answers (R.refusal rule.now) (R.rule rule.now) (begun place (S.images store.old).tip) entries.now) }
+    ensures after { IfOk result (λ d. work_at (record { start = place; records = d.0 }) (S.images store.new).tip ≡ unless_validating validate_only (begun place (S.images store.old).tip) (deciding.after_all (R.refusal rule.now) (R.rule rule.now) (begun place (S.images store.old).tip) entries.now)) }
     ensures kept { (S.images store.new).kept ≡ (S.images store.old).kept }
     ensures made { IfOk result (λ d. (S.images store.new).made ≤ (S.images store.old).made + weights (S.images store.old).tip d.0) }
+    ensures own { validate_only ≡ false → IfSome (cost (R.refusal rule.now) (R.rule rule.now) (begun place (S.images store.old).tip) entries.now) (λ n. OnOk result (steps.new ≤ steps.old + n)) }
     ensures later { steps.old ≤ steps.new }
 {
     let (records, answers) = decide_each(alloc, store, place, rule, entries, steps)?;

@@ -4,6 +4,7 @@
 mod entries;
 mod groups;
 mod refusal;
+mod room;
 mod rule;
 mod sizes;
 mod taking;

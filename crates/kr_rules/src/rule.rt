@@ -16,13 +16,13 @@ use std::alloc::Global;
 /// What is decided of one entry of a request.
 pub trait Rule<E, A>: Sized {
     /// The answer to an entry with this error number.
-    ghost refused: { Self → ℤ → E → A };
+    ghost refusal: { Self → ℤ → E → A };
 
     /// The records and the answer, or an error number, by the image and the place.
     ghost rule: { Self → Image → ℤ → E → Result (AnyDraft A) ℤ };
 
-    fn refused(&self, alloc: Global, error: &i16, entry: &E) -> Result<A, NoMemory>
-        ensures { IfOk result (λ answer. answer ≡ refused self.now error.now entry.now) };
+    fn refusal(&self, alloc: Global, error: &i16, entry: &E) -> Result<A, NoMemory>
+        ensures { IfOk result (λ answer. answer ≡ refusal self.now error.now entry.now) };
 
     fn judge<S: Store>(
         &self,
@@ -37,13 +37,13 @@ pub trait Rule<E, A>: Sized {
 /// What is decided of one item of a group, as of a partition of a topic. The key is the group's.
 pub trait ItemRule<K, I, A>: Sized {
     /// The answer to an item with this error number.
-    ghost refused: { Self → ℤ → K × I → A };
+    ghost refusal: { Self → ℤ → K × I → A };
 
     /// The records and the answer, or an error number, by the image and the place.
     ghost rule: { Self → Image → ℤ → K × I → Result (AnyDraft A) ℤ };
 
-    fn refused(&self, alloc: Global, error: &i16, key: &K, item: &I) -> Result<A, NoMemory>
-        ensures { IfOk result (λ answer. answer ≡ refused self.now error.now (key.now, item.now)) };
+    fn refusal(&self, alloc: Global, error: &i16, key: &K, item: &I) -> Result<A, NoMemory>
+        ensures { IfOk result (λ answer. answer ≡ refusal self.now error.now (key.now, item.now)) };
 
     fn judge<S: Store>(
         &self,

@@ -1,6 +1,6 @@
 //! Records are added to those of a request, all or none.
 
-ghost use Rattle.std.specs.Prelude.{◌≡◌, ◌≤◌, ◌<◌, ◌+◌, ◌++◌, ℕ, ℤ, pos, ◌+ℤ◌, ◌≤ℤ◌, [], length, Ok, IfOk, OnOk, IfSome, IsNone, IsSome, is_some, option_map, sum_by, cond, Some, None, Option, if◌then◌else◌};
+ghost use Rattle.std.specs.Prelude.{◌≡◌, ◌≤◌, ◌<◌, ◌+◌, ◌++◌, ℕ, ℤ, false, pos, ◌+ℤ◌, ◌≤ℤ◌, [], length, Ok, IfOk, OnOk, IfSome, IsNone, IsSome, is_some, option_map, sum_by, cond, Some, None, Option, if◌then◌else◌};
 ghost use Rattle.std.specs.List.{list_all};
 ghost use Rattle.kr_defs.specs.declared.limits.TheConstants.{MOST_REQUEST_RECORDS as most_records, MOST_REQUEST_BYTES as most_bytes, PLACES_END as places_end};
 ghost use Rattle.kr_defs.specs.Sizes.{value_bytes};
@@ -11,8 +11,10 @@ ghost use Rattle.kr_defs.specs.declared.record.Item.TheVariants as items;
 ghost use Rattle.kr_calls.specs.Deciding as deciding;
 ghost use Rattle.kr_calls.specs.Deciding.{apply_records, is_within_limits, weights, taken};
 ghost use Rattle.kr_store.specs.Images.{last_kept};
+ghost use Rattle.kr_rules.specs.Costs.{is_undone};
 ghost use Rattle.kr_rules.specs.Progress.{work_at, base_of, Leads, IsApplied, Stands, Reaches, Takes, IsCounted};
 
+use crate::room::has_room;
 use crate::sizes::value_bytes;
 use kr_base::{NoMemory, Steps};
 use kr_defs::limits::{MOST_REQUEST_BYTES, MOST_REQUEST_RECORDS, MOST_TARGETS};
@@ -98,6 +100,7 @@ fn apply_all<S: Store, L: Ledger>(
     requires low { place ≤ℤ (places_end +ℤ pos (most_records + 1)) }
     requires few { length records.now ≤ most_records }
     ensures stood { IfOk result (λ all. Stands all (apply_records (S.images store.old).tip records.now) (S.images store.new).tip) }
+    ensures few { OnOk result (steps.new ≤ steps.old + length records.now) }
     ensures kept { (S.images store.new).kept ≡ (S.images store.old).kept }
     ensures made { OnOk result ((S.images store.new).made ≤ (S.images store.old).made + weights (S.images store.old).tip records.now) }
     ensures later { steps.old ≤ steps.new }
@@ -123,6 +126,7 @@ fn apply_each<S: Store, L: Ledger>(
     requires low { place ≤ℤ (places_end +ℤ pos most_records) }
     requires few { length records.now ≤ most_records }
     ensures reached { IfOk result (λ extent. Reaches (S.images store.old) (S.images store.new) records.now extent) }
+    ensures few { OnOk result (steps.new ≤ steps.old + length records.now) }
     ensures kept { (S.images store.new).kept ≡ (S.images store.old).kept }
     ensures made { OnOk result ((S.images store.new).made ≤ (S.images store.old).made + weights (S.images store.old).tip records.now) }
     ensures later { steps.old ≤ steps.new }
@@ -236,9 +240,10 @@ impl Work {
 }
 
 /// Adds the records to those of the request and applies them, where each has a meaning and no limit is passed; else
-/// nothing changes.
+/// nothing changes. No more steps are taken than there are records, unless some are applied and then undone.
 #[tactic(auto, using(crate::proofs::Takes::takes))]
 pub fn take<S: Store, L: Ledger>(
+    alloc: Global,
     store: &mut S,
     work: &mut Work,
     records: Records,
@@ -247,6 +252,7 @@ pub fn take<S: Store, L: Ledger>(
     requires some { IsSome (last_kept (S.images store.old)) }
     requires leads { Leads (S.images store.old) work.old.records }
     ensures taken { IfOk result (λ took. Takes (work_at work.old (S.images store.old).tip) records took (work_at work.new (S.images store.new).tip)) }
+    ensures own { is_undone (S.images store.old).tip records ≡ false → OnOk result (steps.new ≤ steps.old + length records) }
     ensures leads { OnOk result (Leads (S.images store.new) work.new.records) }
     ensures kept { (S.images store.new).kept ≡ (S.images store.old).kept }
     ensures start { OnOk result (work.new.start ≡ work.old.start) }
@@ -256,6 +262,9 @@ pub fn take<S: Store, L: Ledger>(
     let Some(bytes) = work.room_for(records.as_slice()) else {
         return Ok(false);
     };
+    if !has_room(alloc, store, records.as_slice())? {
+        return Ok(false);
+    }
     match apply_each(store, work.place(), records.as_slice(), steps)? {
         Extent::All => {
             work.add(records, bytes)?;

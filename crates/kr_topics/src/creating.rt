@@ -338,11 +338,11 @@ fn named<S: Store>(
 }
 
 impl<'a> Rule<CreatableTopic, CreatableTopicResult> for Creating<'a> {
-    ghost refused = { λ _. refused_creation };
+    ghost refusal = { λ _. refused_creation };
 
     ghost rule = { λ r. room.creation r.those r.options.now r.validate_only };
 
-    fn refused(
+    fn refusal(
         &self,
         alloc: Global,
         error: &i16,

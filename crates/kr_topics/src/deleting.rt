@@ -50,11 +50,11 @@ fn deleted(
 }
 
 impl Rule<DeleteTopicState, DeletableTopicResult> for Deleting {
-    ghost refused = { λ _. refused_deletion };
+    ghost refusal = { λ _. refused_deletion };
 
     ghost rule = { λ _. deletions.rule };
 
-    fn refused(
+    fn refusal(
         &self,
         alloc: Global,
         error: &i16,

@@ -230,11 +230,11 @@ fn of_topic<S: Store>(
 }
 
 impl Rule<CreatePartitionsTopic, CreatePartitionsTopicResult> for Growing {
-    ghost refused = { λ _. refused_growth };
+    ghost refusal = { λ _. refused_growth };
 
     ghost rule = { λ r. room.growth r.those };
 
-    fn refused(
+    fn refusal(
         &self,
         alloc: Global,
         error: &i16,

@@ -1,15 +1,17 @@
 use Rattle.std.proofs.Common.{◌≡◌, ◌≤◌, ◌+◌, ◌++◌, drop, ℕ}
-use Rattle.std.specs.Prelude.{IsSome}
+use Rattle.std.specs.Prelude.{IfSome, IsSome}
 use Rattle.kr_calls.specs.Deciding as deciding
 use Rattle.kr_calls.specs.Deciding.{weights}
 use Rattle.kr_store.specs.Images.{last_kept}
+use Rattle.kr_rules.specs.Costs.{cost}
 use Rattle.kr_rules.specs.Progress.{work_at, base_of, Leads}
+use Rattle.kr_rules.proofs.Spent.{Reach}
 use Rattle.kr_rules.proofs.entries.over_entries.Given as goal
 
 abbrev pub invariant-loop-entry : goal.invariant-loop-entry
 invariant-loop-entry g l =
     let images = g.S.Store.images in
-    let refused = g.R.Rule.refused l.rule in
+    let refused = g.R.Rule.refusal l.rule in
     let rule = g.R.Rule.rule l.rule in
     let left = drop l.entry-index l.entries in
     record {
@@ -20,5 +22,6 @@ invariant-loop-entry g l =
       same : (images l.store).kept ≡ (images l.fn.store).kept;
       start : l.work.start ≡ l.fn.work.start;
       made : (so_far : ℕ) → (images l.fn.store).made ≤ so_far + weights (base_of (images l.fn.store)) l.fn.work.records → (images l.store).made ≤ so_far + weights (base_of (images l.store)) l.work.records;
+      own : IfSome (cost refused rule (work_at l.fn.work (images l.fn.store).tip) l.entries) (λ n. Reach (cost refused rule (work_at l.work (images l.store).tip) left) l.steps (l.fn.steps + n));
       later : l.fn.steps ≤ l.steps;
     }

@@ -9,7 +9,7 @@ use Rattle.kr_rules.proofs.groups.decide_groups.Goals as goal
 pub returns-clause-answers : goal.returns-clause-answers
 returns-clause-answers g c =
     c.in_ok-answers.ensures.answers
-    ∙ ap (λ (w : Work). deciding.group_answers (g.R.ItemRule.refused c.args.rule.now) (g.R.ItemRule.rule c.args.rule.now) g.R.Groups.entries_of g.R.Groups.answer_of w c.args.groups.now) (begun_at c.new-work.result c.args.place (g.S.Store.images c.args.store.now).tip (c.new-work.ensures ∙ ap drawn_from (to_z-of_z w64 c.args.place c.ranges.place)))
+    ∙ ap (λ (w : Work). deciding.group_answers (g.R.ItemRule.refusal c.args.rule.now) (g.R.ItemRule.rule c.args.rule.now) g.R.Groups.entries_of g.R.Groups.answer_of w c.args.groups.now) (begun_at c.new-work.result c.args.place (g.S.Store.images c.args.store.now).tip (c.new-work.ensures ∙ ap drawn_from (to_z-of_z w64 c.args.place c.ranges.place)))
 
 pub returns-clause-made : goal.returns-clause-made
 returns-clause-made g c =

@@ -13,6 +13,7 @@ invariant-loop-record g l =
       kept : (images l.store).kept ≡ (images l.fn.store).kept;
       some : IsSome (last_kept (images l.store));
       made : (images l.store).made + weights (images l.store).tip rest ≤ (images l.fn.store).made + weights (images l.fn.store).tip l.records;
+      few : l.steps ≤ l.fn.steps + l.record-index;
       later : l.fn.steps ≤ l.steps;
       at : l.at ≡ l.place +ℤ pos l.record-index;
     }

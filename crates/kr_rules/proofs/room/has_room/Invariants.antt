@@ -1,0 +1,15 @@
+use Rattle.std.proofs.Common.{◌≡◌, drop, true}
+use Rattle.std.specs.List.{list_all}
+use Rattle.kr_calls.specs.Deciding.{apply_records}
+use Rattle.kr_rules.specs.Room.{is_plain}
+use Rattle.kr_rules.proofs.Filled.{IsAsFar}
+use Rattle.kr_rules.proofs.room.has_room.Given as goal
+
+abbrev pub invariant-loop-value : goal.invariant-loop-value
+invariant-loop-value g l =
+    let tip = (g.S.Store.images l.store).tip in
+    let rest = drop l.value-index l.records in
+    record {
+      plain : list_all is_plain rest ≡ true;
+      far : IsAsFar tip.configs (apply_records tip l.records) rest l.filling;
+    }
