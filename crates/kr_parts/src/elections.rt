@@ -49,7 +49,7 @@ fn answer(error: &i16, _name: &Text, index: &i32) -> PartitionElectionResult
     }
 }
 
-fn draft_of(
+fn drafted(
     alloc: Global,
     name: &Text,
     index: &i32,
@@ -128,7 +128,7 @@ fn prefers<S: Store>(
         return Err(Refusal::Error(80));
     }
     let change = elected(alloc, store, options, name, partition, Mode::Preferred)?;
-    Ok(draft_of(alloc, name, index, topic, change)?)
+    Ok(drafted(alloc, name, index, topic, change)?)
 }
 
 // No leader is named, or -1.
@@ -155,7 +155,7 @@ fn with_leader(
     if names_nobody(&change) {
         return Err(Refusal::Error(83));
     }
-    Ok(draft_of(alloc, name, index, topic, change)?)
+    Ok(drafted(alloc, name, index, topic, change)?)
 }
 
 fn has_leader(partition: &Partition) -> bool

@@ -43,7 +43,7 @@ impl<'a> ReportRule<'a> {
 }
 
 // The answer to a report that is refused.
-fn error_answer(
+fn refused(
     alloc: Global,
     error: &i16,
     _topic: &u128,
@@ -105,7 +105,7 @@ fn are_ready<S: Store>(store: &S, members: &[BrokerState]) -> bool
     members.iter().all(|member| is_ready(store, member))
 }
 
-fn want_of(
+fn wanted(
     alloc: Global,
     partition: &Partition,
     report: &PartitionReport,
@@ -133,7 +133,7 @@ fn told(
     ensures { IfOk result (λ answer. answer ≡ reporting.told broker.now (topic.now, report.now) partition.now) }
 {
     if partition.leader != *broker {
-        return Ok(error_answer(alloc, &NEW_LEADER, topic, report));
+        return Ok(refused(alloc, &NEW_LEADER, topic, report));
     }
     let in_sync = partition.in_sync.copied(alloc)?;
     Ok(AlterPartitionResult {
@@ -147,7 +147,7 @@ fn told(
     })
 }
 
-fn draft_of(
+fn drafted(
     alloc: Global,
     broker: &i32,
     topic: &u128,
@@ -187,11 +187,11 @@ fn accepted<S: Store>(
     requires { members ≡ reporting.members report.now }
     ensures { IfOk result (λ draft. draft ≡ reporting.accepted rule.now.options.now rule.now.broker (S.images store.now).tip (topic.now, report.now) name.now partition.now) }
 {
-    let want = want_of(alloc, partition, report, members)?;
+    let want = wanted(alloc, partition, report, members)?;
     let active = active(alloc, store)?;
     let facts = facts(alloc, store, &rule.options.minimum, &active, name)?;
     let change = build(alloc, partition, &want, &facts)?;
-    draft_of(alloc, &rule.broker, topic, report, partition, change)
+    drafted(alloc, &rule.broker, topic, report, partition, change)
 }
 
 // What is said of a report that knows the partition's epochs.
@@ -254,7 +254,7 @@ impl<'a> ItemRule<u128, PartitionReport, AlterPartitionResult> for ReportRule<'a
         key: &u128,
         item: &PartitionReport,
     ) -> Result<AlterPartitionResult, NoMemory> {
-        Ok(error_answer(alloc, error, key, item))
+        Ok(refused(alloc, error, key, item))
     }
 
     fn judge<S: Store>(

@@ -23,8 +23,8 @@ fn keep_needed(partitions: &mut Vec<PartitionElectionResult>)
     partitions.retain(|partition| is_needed(partition));
 }
 
-// The topic with the partitions alone that needed an election.
-fn with_needed(topic: ReplicaElectionResult) -> ReplicaElectionResult
+// Without the partitions that needed no election.
+fn needed(topic: ReplicaElectionResult) -> ReplicaElectionResult
     ensures { result ≡ electing.needed topic }
 {
     let ReplicaElectionResult { topic, partitions } = topic;
@@ -42,7 +42,7 @@ fn is_shown(topic: &ReplicaElectionResult) -> bool
     topic.partitions.len() > 0
 }
 
-fn shown_topics(
+fn needed_ones(
     alloc: Global,
     topics: Vec<ReplicaElectionResult>,
 ) -> Result<Vec<ReplicaElectionResult>, AllocError>
@@ -50,7 +50,7 @@ fn shown_topics(
 {
     topics
         .into_iter()
-        .map(|topic| with_needed(topic))
+        .map(|topic| needed(topic))
         .filter(|topic| is_shown(topic))
         .collect(alloc)
 }
@@ -66,6 +66,6 @@ pub fn shown(
 {
     match asked {
         Some(_) => Ok(results),
-        None => Ok(Rows::from_vec(shown_topics(alloc, results.into_vec())?)),
+        None => Ok(Rows::from_vec(needed_ones(alloc, results.into_vec())?)),
     }
 }

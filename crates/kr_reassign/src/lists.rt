@@ -25,7 +25,7 @@ pub fn original(alloc: Global, partition: &Partition) -> Result<Ids, NoMemory>
 }
 
 /// The target, then the members of the original that it hasn't.
-pub fn replicas_on_the_way(alloc: Global, target: &Ids, original: &Ids) -> Result<Ids, NoMemory>
+pub fn reassigned(alloc: Global, target: &Ids, original: &Ids) -> Result<Ids, NoMemory>
     ensures { IfOk result (λ ids. ids ≡ reassign.reassigned target.now original.now) }
 {
     let mut replicas = target.copied(alloc)?.into_vec();

@@ -8,7 +8,7 @@ ghost use Rattle.kr_defs.specs.Map as entries;
 ghost use Rattle.kr_calls.specs.AlterPartitionReassignments as reassigning;
 ghost use Rattle.kr_rules.specs.Refusals.{Judges};
 
-use crate::lists::{are_targets, is_moving, original, replicas_on_the_way};
+use crate::lists::{are_targets, is_moving, original, reassigned};
 use kr_base::NoMemory;
 use kr_calls::{
     Draft, ReassignablePartition, ReassignablePartitionResponse, ReassignablePartitionResponses,
@@ -42,7 +42,7 @@ fn answer(
     }
 }
 
-fn draft_of(
+fn drafted(
     alloc: Global,
     name: &Text,
     partition: &ReassignablePartition,
@@ -80,7 +80,7 @@ fn leading_to(alloc: Global, partition: &Partition, target: &Ids) -> Result<Want
     ensures { IfOk result (λ want. want ≡ reassigning.leading_to partition.now target.now) }
 {
     let original = original(alloc, partition)?;
-    let replicas = replicas_on_the_way(alloc, target, &original)?;
+    let replicas = reassigned(alloc, target, &original)?;
     let adding = without(alloc, target, &original)?;
     let removing = without(alloc, &original, target)?;
     with_replicas(alloc, partition, replicas, adding, removing)
@@ -113,7 +113,7 @@ fn is_target<S: Store>(store: &S, ids: &Ids) -> bool
 }
 
 // What is asked of the partition; without replicas the reassignment that runs is cancelled.
-fn want_of<S: Store>(
+fn wanted<S: Store>(
     alloc: Global,
     store: &S,
     partition: &Partition,
@@ -173,7 +173,7 @@ fn of_want<S: Store>(
     let active = active(alloc, store)?;
     let facts = facts(alloc, store, &rule.options.minimum, &active, name)?;
     let change = build(alloc, partition, want, &facts)?;
-    Ok(draft_of(alloc, name, entry, topic, change)?)
+    Ok(drafted(alloc, name, entry, topic, change)?)
 }
 
 impl<'a> ItemRule<Text, ReassignablePartition, ReassignablePartitionResponse>
@@ -206,7 +206,7 @@ impl<'a> ItemRule<Text, ReassignablePartition, ReassignablePartitionResponse>
         let Some(partition) = tip::partition(store, &topic.id, &item.index) else {
             return Err(Refusal::Error(3));
         };
-        let want = want_of(alloc, store, partition, &item.replicas)?;
+        let want = wanted(alloc, store, partition, &item.replicas)?;
         of_want(alloc, store, self, key, item, &topic.id, partition, &want)
     }
 }
