@@ -85,7 +85,7 @@ fn list_after(
 }
 
 // The value that results; none where the setting goes.
-fn operated(
+fn value_after(
     alloc: Global,
     operation: &ConfigOperation,
     value: Option<&Text>,
@@ -123,7 +123,7 @@ fn result_of<S: Store>(
     ensures { IfOk result (λ value. value ≡ configs.operated operation.now (configs.value_now (S.images store.now).tip entry.now values.now operation.now.name)) }
 {
     let before = value_now(alloc, store, entry, values, operation.name.as_str())?;
-    operated(alloc, operation, before)
+    value_after(alloc, operation, before)
 }
 
 // The operation is done, or refused where it can't be.

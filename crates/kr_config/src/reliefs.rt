@@ -35,8 +35,8 @@ struct Relief<'r, 'k> {
     values: &'r Values<'k>,
 }
 
-// No replica is named, where some are.
-fn emptied(alloc: Global, list: &Ids) -> Option<Ids>
+// No ids, as a field that is named where the list has some.
+fn no_ids(alloc: Global, list: &Ids) -> Option<Ids>
     ensures { result ≡ unless (length list.now == 0) [] }
 {
     if list.is_empty() {
@@ -46,7 +46,7 @@ fn emptied(alloc: Global, list: &Ids) -> Option<Ids>
 }
 
 // Nobody stands by any more.
-fn emptying(alloc: Global, partition: &Partition) -> PartitionChange
+fn relief_of(alloc: Global, partition: &Partition) -> PartitionChange
     ensures { result ≡ partitions.emptying partition.now }
 {
     PartitionChange {
@@ -54,8 +54,8 @@ fn emptying(alloc: Global, partition: &Partition) -> PartitionChange
         replicas: None,
         removing: None,
         adding: None,
-        eligible: emptied(alloc, &partition.eligible),
-        last_known: emptied(alloc, &partition.last_known),
+        eligible: no_ids(alloc, &partition.eligible),
+        last_known: no_ids(alloc, &partition.last_known),
         leader: None,
         recovery: None,
     }
@@ -170,7 +170,7 @@ impl<'r, 'k> Change for Relief<'r, 'k> {
         if !has_enough(alloc, store, self, topic, partition)? {
             return Ok(None);
         }
-        Ok(Some(emptying(alloc, partition)))
+        Ok(Some(relief_of(alloc, partition)))
     }
 }
 
