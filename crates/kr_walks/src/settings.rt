@@ -30,8 +30,8 @@ fn key_of(alloc: Global, kind: &i8, name: &Text, key: &str) -> Result<ConfigKey,
     })
 }
 
-// The value of a resource's setting.
-fn value_at<'a, S: Store>(
+/// The value of a resource's setting.
+pub fn value_at<'a, S: Store>(
     alloc: Global,
     store: &'a S,
     kind: &i8,
@@ -44,8 +44,8 @@ fn value_at<'a, S: Store>(
     Ok(tip::config(store, &key))
 }
 
-// The minimum that a resource sets.
-fn minimum_at<S: Store>(
+/// The minimum of replicas in sync that a resource sets, where its value reads.
+pub fn minimum_at<S: Store>(
     alloc: Global,
     store: &S,
     kind: &i8,

@@ -1,0 +1,4 @@
+mod Joined
+mod Named
+mod Overlay
+mod Relieved

@@ -1,0 +1,83 @@
+//! The records of one resource's settings.
+
+ghost use Rattle.std.specs.Prelude.{◌≡◌, ◌++◌, [], filter_map, IfOk, OnOk};
+ghost use Rattle.std.specs.List.{cons_option};
+ghost use Rattle.std.specs.Option.{option_copied};
+ghost use Rattle.kr_calls.specs.IncrementalAlterConfigs as configs;
+
+use crate::values::Values;
+use kr_base::NoMemory;
+use kr_calls::ConfigResource;
+use kr_defs::{Copied, Record, Records, Text};
+use kr_store::Store;
+use kr_walks::value_at;
+use std::alloc::Global;
+
+/// The settings have the same value, or both have none.
+pub fn is_same_value(value: Option<&Text>, other: Option<&Text>) -> bool
+    ensures { result ≡ configs.is_same_value (option_copied value.entry) (option_copied other.entry) }
+{
+    match (value, other) {
+        (Some(value), Some(other)) => *value == *other,
+        (None, None) => true,
+        _ => false,
+    }
+}
+
+// The record of a setting whose value differs.
+fn config_record<S: Store>(
+    alloc: Global,
+    store: &S,
+    entry: &ConfigResource,
+    key: &str,
+    value: &Option<Text>,
+) -> Result<Option<Record>, NoMemory>
+    ensures { IfOk result (λ made. made ≡ configs.config_record (S.images store.now).tip entry.now (key.now, value.now)) }
+{
+    let before = value_at(alloc, store, &entry.kind, &entry.name, key)?;
+    if is_same_value(value.as_ref(), before) {
+        return Ok(None);
+    }
+    let name = entry.name.copied(alloc)?;
+    let key = Text::from_str(alloc, key)?;
+    let value = Copied::copied(value, alloc)?;
+    Ok(Some(Record::Config {
+        kind: entry.kind,
+        name,
+        key,
+        value,
+    }))
+}
+
+// Adds the record of a setting whose value differs.
+fn add_record<S: Store>(
+    alloc: Global,
+    store: &S,
+    entry: &ConfigResource,
+    key: &str,
+    value: &Option<Text>,
+    records: &mut Records,
+) -> Result<(), NoMemory>
+    ensures { OnOk result (records.new ≡ records.old ++ cons_option (configs.config_record (S.images store.now).tip entry.now (key.now, value.now)) []) }
+{
+    if let Some(made) = config_record(alloc, store, entry, key, value)? {
+        records.push(made)?;
+    }
+    Ok(())
+}
+
+/// The records of the settings whose values differ, in order of first naming.
+pub fn config_records<S: Store>(
+    alloc: Global,
+    store: &S,
+    entry: &ConfigResource,
+    values: &Values,
+) -> Result<Records, NoMemory>
+    ensures { IfOk result (λ records. records ≡ filter_map (configs.config_record (S.images store.now).tip entry.now) values.now) }
+{
+    let mut records = Records::new(alloc);
+    for (key, value) in values.named() {
+        add_record(alloc, store, entry, key, value, &mut records)?;
+    }
+    Ok(records)
+}

@@ -1,0 +1,124 @@
+//! What is decided of one resource.
+
+ghost use Rattle.std.specs.Prelude.{◌≡◌, IfOk};
+ghost use Rattle.kr_calls.specs.IncrementalAlterConfigs as configs;
+ghost use Rattle.kr_calls.specs.Refuse.{refused_resource};
+ghost use Rattle.kr_defs.specs.Map as entries;
+ghost use Rattle.kr_defs.specs.Map.{text_order};
+ghost use Rattle.kr_rules.specs.Refusals.{Judges};
+
+use crate::operations::operate_all;
+use crate::records::config_records;
+use crate::reliefs::add_reliefs;
+use crate::values::Values;
+use kr_base::NoMemory;
+use kr_calls::{ConfigResource, ConfigResponse, Draft};
+use kr_defs::{Copied, Options, Records, Text, is_broker_name};
+use kr_rules::{Refusal, Rule, Work};
+use kr_store::Store;
+use kr_walks::tip;
+use std::alloc::Global;
+
+// Kafka's types of resources.
+const TOPIC: i8 = 2;
+
+const BROKER: i8 = 4;
+
+/// The rule for one resource's settings.
+#[derive(Drop)]
+pub struct ResourceRule<'a> {
+    pub options: &'a Options,
+}
+
+// The answer for a resource.
+fn answer(alloc: Global, error: &i16, entry: &ConfigResource) -> Result<ConfigResponse, NoMemory>
+    ensures { IfOk result (λ answer. answer ≡ refused_resource error.now entry.now) }
+{
+    let name = entry.name.copied(alloc)?;
+    Ok(ConfigResponse {
+        error: *error,
+        kind: entry.kind,
+        name,
+    })
+}
+
+fn is_topic_kind(entry: &ConfigResource) -> bool
+    ensures { result ≡ configs.is_topic_kind entry.now }
+{
+    entry.kind == TOPIC
+}
+
+fn is_broker_kind(entry: &ConfigResource) -> bool
+    ensures { result ≡ configs.is_broker_kind entry.now }
+{
+    entry.kind == BROKER
+}
+
+fn is_topic<S: Store>(store: &S, name: &Text) -> bool
+    ensures { result ≡ entries.contains text_order (S.images store.now).tip.topics name.now }
+{
+    tip::topic_named(store, name).is_some()
+}
+
+fn resource_records<S: Store>(
+    alloc: Global,
+    store: &S,
+    options: &Options,
+    entry: &ConfigResource,
+    values: &Values,
+) -> Result<Records, NoMemory>
+    ensures { IfOk result (λ records. records ≡ configs.resource_records options.now (S.images store.now).tip entry.now values.now) }
+{
+    let mut records = config_records(alloc, store, entry, values)?;
+    add_reliefs(alloc, store, options, entry, values, &mut records)?;
+    Ok(records)
+}
+
+// What is said of a resource that there is.
+fn of_resource<S: Store>(
+    alloc: Global,
+    store: &S,
+    options: &Options,
+    entry: &ConfigResource,
+) -> Result<Draft<ConfigResponse>, Refusal>
+    ensures { Judges result (configs.of_resource options.now (S.images store.now).tip entry.now) }
+{
+    let values = operate_all(alloc, store, entry)?;
+    let records = resource_records(alloc, store, options, entry, &values)?;
+    let answer = answer(alloc, &0, entry)?;
+    Ok(Draft { records, answer })
+}
+
+impl<'a> Rule<ConfigResource, ConfigResponse> for ResourceRule<'a> {
+    ghost refused = { λ _. refused_resource };
+
+    ghost rule = { λ r. configs.rule r.options.now };
+
+    fn refused(
+        &self,
+        alloc: Global,
+        error: &i16,
+        entry: &ConfigResource,
+    ) -> Result<ConfigResponse, NoMemory> {
+        answer(alloc, error, entry)
+    }
+
+    fn judge<S: Store>(
+        &self,
+        alloc: Global,
+        store: &S,
+        _work: &Work,
+        entry: &ConfigResource,
+    ) -> Result<Draft<ConfigResponse>, Refusal> {
+        if !is_topic_kind(entry) && !is_broker_kind(entry) {
+            return Err(Refusal::Error(42));
+        }
+        if is_topic_kind(entry) && !is_topic(store, &entry.name) {
+            return Err(Refusal::Error(3));
+        }
+        if is_broker_kind(entry) && !is_broker_name(&entry.name) {
+            return Err(Refusal::Error(42));
+        }
+        of_resource(alloc, store, self.options, entry)
+    }
+}
