@@ -1,14 +1,15 @@
 -- What a walk has gathered, and what is left.
 use Rattle.std.proofs.Common.{◌≡◌, ◌∙◌, ◌<◌, ℕ, ℤ, List, [], ◌∷◌, ◌++◌, length, refl, sym, ap, append_assoc, arith, negsuc}
 use Rattle.std.specs.Prelude.{Option, Some, None, All, IsTrue}
+use Rattle.std.specs.declared.cmp.Ordering.{Ordering}
+use Rattle.std.specs.Cmp.{IsTotalOrder}
 use Rattle.std.specs.List.{flat_map}
 use Rattle.std.proofs.lemmas.List.{append-nil}
 use Rattle.std.proofs.lemmas.List.Elements.{recursion_from_All}
 use Rattle.kr_defs.specs.declared.partition.Partition.{Partition}
 use Rattle.kr_defs.specs.Image.{is_index}
-use Rattle.kr_defs.specs.Map.{IsMap, above, next, partition_order, text_order}
+use Rattle.kr_defs.specs.Map.{IsMap, above, next, partition_order}
 use Rattle.kr_defs.specs.Walk.{of_topic}
-use Rattle.kr_defs.proofs.ImageParts.{text_total}
 use Rattle.kr_defs.proofs.TopicWalks.{group_begin}
 use Rattle.kr_defs.proofs.Walks.{walk_more, walk_over, walk_less}
 
@@ -31,16 +32,18 @@ module _ (ps : List ((ℕ × ℤ) × Partition)) where
     pub key_begin : (id : ℕ) → All (λ (e : (ℕ × ℤ) × Partition). IsTrue (is_index e.0.1)) ps → flat_map f (left (id, negsuc 0)) ≡ flat_map f (of_topic id ps)
     key_begin id indexes = ap (flat_map f) (group_begin id ps (recursion_from_All (λ (e : (ℕ × ℤ) × Partition). IsTrue (is_index e.0.1)) ps indexes))
 
-module _ {Y : Type 0} (f : List ℕ × ℕ → List Y) where
-  single : (t : List ℕ × ℕ) (ts : List (List ℕ × ℕ)) → flat_map f (t ∷ ts) ≡ flat_map f (t ∷ []) ++ flat_map f ts
-  single t ts = ap (λ ys. ys ++ flat_map f ts) (sym (append-nil (f t)))
+-- the same over all entries of a map
+module _ {K V : Type 0} {R : K → K → Ordering} (o : IsTotalOrder R) where
+  module _ {Y : Type 0} (f : K × V → List Y) where
+    single : (e : K × V) (es : List (K × V)) → flat_map f (e ∷ es) ≡ flat_map f (e ∷ []) ++ flat_map f es
+    single e es = ap (λ ys. ys ++ flat_map f es) (sym (append-nil (f e)))
 
-  pub topic_more : (ts : List (List ℕ × ℕ)) (after : Option (List ℕ)) (t : List ℕ × ℕ) → IsMap text_order ts → Some t ≡ next text_order ts after → (so_far all new : List Y) → new ≡ so_far ++ f t → so_far ++ flat_map f (above text_order ts after) ≡ all → new ++ flat_map f (above text_order ts (Some t.0)) ≡ all
-  topic_more ts after t ordered found so_far all new is told =
-      rw is (ap (λ ys. (so_far ++ ys) ++ flat_map f (above text_order ts (Some t.0))) (sym (append-nil (f t))) ∙ (walk_more text_total (flat_map f) single ts after t ordered found so_far ∙ told))
+    pub entry_more : (es : List (K × V)) (after : Option K) (e : K × V) → IsMap R es → Some e ≡ next R es after → (so_far all new : List Y) → new ≡ so_far ++ f e → so_far ++ flat_map f (above R es after) ≡ all → new ++ flat_map f (above R es (Some e.0)) ≡ all
+    entry_more es after e ordered found so_far all new is told =
+        rw is (ap (λ ys. (so_far ++ ys) ++ flat_map f (above R es (Some e.0))) (sym (append-nil (f e))) ∙ (walk_more o (flat_map f) single es after e ordered found so_far ∙ told))
 
-  pub topic_over : (ts : List (List ℕ × ℕ)) (after : Option (List ℕ)) → None ≡ next text_order ts after → (so_far all : List Y) → so_far ++ flat_map f (above text_order ts after) ≡ all → so_far ≡ all
-  topic_over ts after none so_far all told = walk_over text_total (flat_map f) refl ts after none so_far all told
+    pub entry_over : (es : List (K × V)) (after : Option K) → None ≡ next R es after → (so_far all : List Y) → so_far ++ flat_map f (above R es after) ≡ all → so_far ≡ all
+    entry_over es after none so_far all told = walk_over o (flat_map f) refl es after none so_far all told
 
-pub topic_less : (ts : List (List ℕ × ℕ)) (after : Option (List ℕ)) (t : List ℕ × ℕ) → IsMap text_order ts → Some t ≡ next text_order ts after → length (above text_order ts (Some t.0)) < length (above text_order ts after)
-topic_less ts after t ordered found = walk_less text_total ts after t ordered found
+  pub entry_less : (es : List (K × V)) (after : Option K) (e : K × V) → IsMap R es → Some e ≡ next R es after → length (above R es (Some e.0)) < length (above R es after)
+  entry_less es after e ordered found = walk_less o es after e ordered found

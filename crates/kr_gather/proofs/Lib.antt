@@ -1,2 +1,3 @@
-pub mod Seen
 pub mod Gathers
+pub mod Parts
+pub mod Seen

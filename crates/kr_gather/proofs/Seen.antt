@@ -1,6 +1,6 @@
 -- Images that are looked at are valid.
-use Rattle.std.proofs.Common.{◌≡◌, ℤ, Bool, true, false, cond, List, [], ◌∷◌}
-use Rattle.std.specs.Prelude.{Option, Some, None, find, unwrap_or}
+use Rattle.std.proofs.Common.{ℤ, Bool, true, false, cond, List, [], ◌∷◌}
+use Rattle.std.specs.Prelude.{Some, find, unwrap_or}
 use Rattle.std.specs.List.{AllByRecursion}
 use Rattle.std.specs.Option.{option_map}
 use Rattle.std.specs.Ordering.{int_eq}
@@ -8,7 +8,7 @@ use Rattle.std.proofs.lemmas.List.Elements.{recursion_from_All}
 use Rattle.kr_defs.specs.Image.{Image, IsValid, empty}
 use Rattle.kr_store.specs.declared.places.At.{At}
 use Rattle.kr_store.specs.declared.places.At.TheVariants as places
-use Rattle.kr_store.specs.Images.{Images, AreValid, image_at}
+use Rattle.kr_store.specs.Images.{Images, AreValid}
 use Rattle.kr_store.specs.Reads.{seen_at}
 
 found_valid : (test : ℤ × Image → Bool) (kept : List (ℤ × Image)) → IsValid empty → AllByRecursion (λ (k : ℤ × Image). IsValid k.1) kept → IsValid (unwrap_or (option_map (λ (k : ℤ × Image). k.1) (find test kept)) empty)

@@ -1,19 +1,34 @@
-//! What topics and partitions give, in the order of a walk, at any place of a store that is kept.
+//! What brokers, topics and partitions give, in the order of a walk, at any place of a store that is kept.
 
 ghost use Rattle.std.specs.Prelude.{◌≡◌, ◌++◌, ◌∷◌, [], ℕ, ℤ, List, Some, negsuc, IfOk, IfSome, IsNone, OnOk};
 ghost use Rattle.std.specs.List.{flat_map};
-ghost use Rattle.std.specs.Option.{option_copied, option_map};
+ghost use Rattle.kr_defs.specs.declared.broker.Broker.{Broker as AnyBroker};
 ghost use Rattle.kr_defs.specs.declared.partition.Partition.{Partition as AnyPartition};
 ghost use Rattle.kr_defs.specs.Image.{Image, IsValid};
-ghost use Rattle.kr_defs.specs.Map.{above, next, partition_order, text_order};
+ghost use Rattle.kr_defs.specs.Map.{above, partition_order};
 ghost use Rattle.kr_defs.specs.Walk.{of_topic};
 ghost use Rattle.kr_store.specs.Reads.{seen_at};
 
-use kr_base::{NoEpoch, NoMemory};
-use kr_defs::laws::empty_is_valid;
-use kr_defs::{Partition, Rows, Text};
+use crate::looking::{next_broker, next_partition, next_topic, see};
+use kr_base::NoMemory;
+use kr_defs::{Broker, Partition, Rows, Text};
 use kr_store::{At, Store};
 use std::alloc::Global;
+
+/// What one broker gives.
+pub trait BrokerPart<Y: Drop> {
+    ghost part: { Self → ℤ × AnyBroker → List Y };
+
+    /// Adds what the broker gives.
+    fn add(
+        &self,
+        alloc: Global,
+        id: &i32,
+        state: &Broker,
+        rows: &mut Rows<Y>,
+    ) -> Result<(), NoMemory>
+        ensures { OnOk result (rows.new ≡ rows.old ++ part self.now (id.now, state.now)) };
+}
 
 /// What one partition gives.
 pub trait PartitionPart<Y: Drop> {
@@ -45,43 +60,6 @@ pub trait TopicPart<Y: Drop> {
         rows: &mut Rows<Y>,
     ) -> Result<(), NoMemory>
         ensures { OnOk result (rows.new ≡ rows.old ++ part self.now (seen_at (S.images store.now) at) (name.now, id.now)) };
-}
-
-// The image at the place is valid.
-fn see<S: Store>(store: &S, at: At)
-    ensures { IsValid (seen_at (S.images store.now) at) }
-{
-    let _valid = store.counts();
-    empty_is_valid();
-}
-
-// The topic with the least name above the given one.
-fn next_topic<'a, S: Store>(
-    store: &'a S,
-    at: At,
-    after: Option<&Text>,
-) -> Option<(&'a Text, &'a u128)>
-    ensures { option_map (λ e. (e.0.now, e.1.now)) result ≡ next text_order (seen_at (S.images store.now) at).topics (option_copied after.entry) }
-{
-    match store.next_topic(at, after) {
-        Ok(Some((name, topic))) => Some((name, &topic.id)),
-        Ok(None) => None,
-        Err(NoEpoch) => None,
-    }
-}
-
-// The partition with the least key above the given one.
-fn next_partition<'a, S: Store>(
-    store: &'a S,
-    at: At,
-    after: &(u128, i32),
-) -> Option<(&'a (u128, i32), &'a Partition)>
-    ensures { option_map (λ e. (e.0.now, e.1.now)) result ≡ next partition_order (seen_at (S.images store.now) at).partitions (Some after.now) }
-{
-    match store.next_partition(at, Some(after)) {
-        Ok(next) => next,
-        Err(NoEpoch) => None,
-    }
 }
 
 // A key below all partitions of the topic.
@@ -131,6 +109,25 @@ fn add_above<'a, Y: Drop, P: PartitionPart<Y>, S: Store>(
         after = key;
     }
     Ok(())
+}
+
+/// What all brokers give, by id.
+pub fn gather_brokers<Y: Drop, P: BrokerPart<Y>, S: Store>(
+    alloc: Global,
+    store: &S,
+    at: At,
+    part: &P,
+) -> Result<Rows<Y>, NoMemory>
+    ensures { IfOk result (λ rows. rows ≡ flat_map (P.part part.now) (seen_at (S.images store.now) at).brokers) }
+{
+    see(store, at);
+    let mut rows = Rows::new(alloc);
+    let mut after = None;
+    while let Some((id, state)) = next_broker(store, at, after) {
+        part.add(alloc, id, state, &mut rows)?;
+        after = Some(id);
+    }
+    Ok(rows)
 }
 
 /// What the partitions of one topic give, by index.

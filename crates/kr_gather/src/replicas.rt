@@ -1,10 +1,17 @@
 //! Lists of replicas.
 
 ghost use Rattle.std.specs.Prelude.{◌≡◌, IfOk};
+ghost use Rattle.std.specs.List.{list_all};
+ghost use Rattle.std.specs.Ordering.{int_cmp};
 ghost use Rattle.kr_defs.specs.Ids as ids;
+ghost use Rattle.kr_defs.specs.Map as entries;
+ghost use Rattle.kr_defs.specs.Partition.{are_targets};
 
+use crate::looking;
 use kr_base::NoMemory;
 use kr_defs::Ids;
+use kr_defs::limits::MOST_TARGETS;
+use kr_store::{At, Store};
 use std::alloc::{AllocError, Global};
 
 /// Each id stands once.
@@ -32,6 +39,26 @@ pub fn are_apart(list: &[i32], those: &Ids) -> bool
     ensures { result ≡ ids.are_apart list.now those.now }
 {
     list.iter().all(|id| !those.contains(id))
+}
+
+/// 1 to 32 replicas, each once.
+pub fn are_targets(list: &Ids) -> bool
+    ensures { result ≡ are_targets list.now }
+{
+    !list.is_empty() && list.len() <= MOST_TARGETS && is_distinct(list.as_slice())
+}
+
+fn is_registered<S: Store>(store: &S, id: &i32) -> bool
+    ensures { result ≡ entries.contains int_cmp (S.images store.now).tip.brokers id.now }
+{
+    looking::broker(store, At::Tip, id).is_some()
+}
+
+/// Each of these is a broker of the present image.
+pub fn are_registered<S: Store>(store: &S, ids: &[i32]) -> bool
+    ensures { result ≡ list_all (entries.contains int_cmp (S.images store.now).tip.brokers) ids.now }
+{
+    ids.iter().all(|id| is_registered(store, id))
 }
 
 fn others(alloc: Global, list: &[i32], those: &Ids) -> Result<Vec<i32>, AllocError>

@@ -8,7 +8,7 @@ ghost use Rattle.kr_store.specs.Images.{last_kept};
 
 use crate::elections::{ElectionRule, is_kind};
 use crate::groups::groups_of;
-use crate::showing::shown;
+use crate::showing::show;
 use kr_base::{NoMemory, Steps};
 use kr_calls::{Effect, ElectLeaders, ElectLeadersReply, ReplicaElectionResults, Reply};
 use kr_defs::{Records, Rows};
@@ -58,7 +58,7 @@ pub fn elect<S: Store, L: Ledger>(
     let rule = ElectionRule::new(context.options, &request.kind);
     let groups = groups.as_slice();
     let (records, answers) = decide_groups(alloc, store, context.place, &rule, groups, steps)?;
-    let results = shown(alloc, &request.topics, answers)?;
+    let results = show(alloc, &request.topics, answers)?;
     out.records = records;
     out.reply = reply_of(&0, results);
     Ok(())

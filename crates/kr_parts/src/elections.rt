@@ -49,7 +49,7 @@ fn answer(error: &i16, _name: &Text, index: &i32) -> PartitionElectionResult
     }
 }
 
-fn drafted(
+fn draft_of(
     alloc: Global,
     name: &Text,
     index: &i32,
@@ -80,7 +80,7 @@ fn first_replica(partition: &Partition) -> i32
 }
 
 // The change of an election in this mode.
-fn elected<S: Store>(
+fn election_change<S: Store>(
     alloc: Global,
     store: &S,
     options: &Options,
@@ -127,8 +127,8 @@ fn prefers<S: Store>(
     if !is_in_sync_and_active(alloc, store, partition, &first)? {
         return Err(Refusal::Error(80));
     }
-    let change = elected(alloc, store, options, name, partition, Mode::Preferred)?;
-    Ok(drafted(alloc, name, index, topic, change)?)
+    let change = election_change(alloc, store, options, name, partition, Mode::Preferred)?;
+    Ok(draft_of(alloc, name, index, topic, change)?)
 }
 
 // No leader is named, or -1.
@@ -155,7 +155,7 @@ fn with_leader(
     if names_nobody(&change) {
         return Err(Refusal::Error(83));
     }
-    Ok(drafted(alloc, name, index, topic, change)?)
+    Ok(draft_of(alloc, name, index, topic, change)?)
 }
 
 fn has_leader(partition: &Partition) -> bool
@@ -179,7 +179,7 @@ fn elects_any<S: Store>(
     if has_leader(partition) {
         return Err(Refusal::Error(84));
     }
-    let change = elected(alloc, store, options, name, partition, Mode::Unclean)?;
+    let change = election_change(alloc, store, options, name, partition, Mode::Unclean)?;
     with_leader(alloc, name, index, topic, change)
 }
 

@@ -43,7 +43,7 @@ impl<'a> ReportRule<'a> {
 }
 
 // The answer to a report that is refused.
-fn refused(
+fn refusal_answer(
     alloc: Global,
     error: &i16,
     _topic: &u128,
@@ -105,7 +105,7 @@ fn are_ready<S: Store>(store: &S, members: &[BrokerState]) -> bool
     members.iter().all(|member| is_ready(store, member))
 }
 
-fn wanted(
+fn want_of(
     alloc: Global,
     partition: &Partition,
     report: &PartitionReport,
@@ -123,7 +123,7 @@ fn wanted(
 }
 
 // The partition's new values, where the broker that reported still leads.
-fn told(
+fn answer_to_leader(
     alloc: Global,
     broker: &i32,
     topic: &u128,
@@ -133,7 +133,7 @@ fn told(
     ensures { IfOk result (λ answer. answer ≡ reporting.told broker.now (topic.now, report.now) partition.now) }
 {
     if partition.leader != *broker {
-        return Ok(refused(alloc, &NEW_LEADER, topic, report));
+        return Ok(refusal_answer(alloc, &NEW_LEADER, topic, report));
     }
     let in_sync = partition.in_sync.copied(alloc)?;
     Ok(AlterPartitionResult {
@@ -147,7 +147,7 @@ fn told(
     })
 }
 
-fn drafted(
+fn draft_of(
     alloc: Global,
     broker: &i32,
     topic: &u128,
@@ -160,12 +160,12 @@ fn drafted(
     match change {
         Some(change) => {
             let after = merge(alloc, partition, &change)?;
-            let answer = told(alloc, broker, topic, report, &after)?;
+            let answer = answer_to_leader(alloc, broker, topic, report, &after)?;
             let records = change_records(alloc, topic, &report.index, Some(change))?;
             Ok(Draft { records, answer })
         }
         None => {
-            let answer = told(alloc, broker, topic, report, partition)?;
+            let answer = answer_to_leader(alloc, broker, topic, report, partition)?;
             let records = Records::new(alloc);
             Ok(Draft { records, answer })
         }
@@ -174,7 +174,7 @@ fn drafted(
 
 // What is said where no refusal fits.
 #[tactic(auto, unfolding(kr_calls::specs::AlterPartition::accepted))]
-fn accepted<S: Store>(
+fn accept<S: Store>(
     alloc: Global,
     store: &S,
     rule: &ReportRule,
@@ -187,11 +187,11 @@ fn accepted<S: Store>(
     requires { members ≡ reporting.members report.now }
     ensures { IfOk result (λ draft. draft ≡ reporting.accepted rule.now.options.now rule.now.broker (S.images store.now).tip (topic.now, report.now) name.now partition.now) }
 {
-    let want = wanted(alloc, partition, report, members)?;
+    let want = want_of(alloc, partition, report, members)?;
     let active = active(alloc, store)?;
     let facts = facts(alloc, store, &rule.options.minimum, &active, name)?;
     let change = build(alloc, partition, &want, &facts)?;
-    drafted(alloc, &rule.broker, topic, report, partition, change)
+    draft_of(alloc, &rule.broker, topic, report, partition, change)
 }
 
 // What is said of a report that knows the partition's epochs.
@@ -214,7 +214,7 @@ fn of_members<S: Store>(
     if !are_ready(store, report.in_sync.as_slice()) {
         return Err(Refusal::Error(107));
     }
-    Ok(accepted(alloc, store, rule, topic, report, name, partition, members)?)
+    Ok(accept(alloc, store, rule, topic, report, name, partition, members)?)
 }
 
 // What is said of a partition that stands.
@@ -254,7 +254,7 @@ impl<'a> ItemRule<u128, PartitionReport, AlterPartitionResult> for ReportRule<'a
         key: &u128,
         item: &PartitionReport,
     ) -> Result<AlterPartitionResult, NoMemory> {
-        Ok(refused(alloc, error, key, item))
+        Ok(refusal_answer(alloc, error, key, item))
     }
 
     fn judge<S: Store>(

@@ -24,7 +24,7 @@ fn keep_needed(partitions: &mut Vec<PartitionElectionResult>)
 }
 
 // Without the partitions that needed no election.
-fn needed(topic: ReplicaElectionResult) -> ReplicaElectionResult
+fn with_needed(topic: ReplicaElectionResult) -> ReplicaElectionResult
     ensures { result ≡ electing.needed topic }
 {
     let ReplicaElectionResult { topic, partitions } = topic;
@@ -50,14 +50,14 @@ fn needed_ones(
 {
     topics
         .into_iter()
-        .map(|topic| needed(topic))
+        .map(|topic| with_needed(topic))
         .filter(|topic| is_shown(topic))
         .collect(alloc)
 }
 
 /// The answers that are shown: where all partitions were asked for, those that needed no election aren't, nor are
 /// topics with nothing to show.
-pub fn shown(
+pub fn show(
     alloc: Global,
     asked: &Option<ElectLeadersTopics>,
     results: ReplicaElectionResults,

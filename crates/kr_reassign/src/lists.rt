@@ -5,17 +5,9 @@ ghost use Rattle.kr_defs.specs.Partition as formed;
 ghost use Rattle.kr_defs.specs.Reassign as reassign;
 
 use kr_base::NoMemory;
-use kr_defs::limits::MOST_TARGETS;
 use kr_defs::{Copied, Ids, Partition};
-use kr_gather::{is_distinct, without};
+use kr_gather::without;
 use std::alloc::Global;
-
-/// 1 to 32 replicas, each once.
-pub fn are_targets(list: &Ids) -> bool
-    ensures { result ≡ formed.are_targets list.now }
-{
-    !list.is_empty() && list.len() <= MOST_TARGETS && is_distinct(list.as_slice())
-}
 
 /// The replicas before the reassignment that runs.
 pub fn original(alloc: Global, partition: &Partition) -> Result<Ids, NoMemory>
@@ -25,7 +17,7 @@ pub fn original(alloc: Global, partition: &Partition) -> Result<Ids, NoMemory>
 }
 
 /// The target, then the members of the original that it hasn't.
-pub fn reassigned(alloc: Global, target: &Ids, original: &Ids) -> Result<Ids, NoMemory>
+pub fn reassigned_replicas(alloc: Global, target: &Ids, original: &Ids) -> Result<Ids, NoMemory>
     ensures { IfOk result (λ ids. ids ≡ reassign.reassigned target.now original.now) }
 {
     let mut replicas = target.copied(alloc)?.into_vec();

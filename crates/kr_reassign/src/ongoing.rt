@@ -1,21 +1,20 @@
 //! The reassignments that go on.
 
-ghost use Rattle.std.specs.Prelude.{◌≡◌, ◌&&◌, [], ◌∷◌, IfOk, IsErr, IsOk, MatchOption, bytes_eq, filter_map, option_to_list, if◌then◌else◌};
+ghost use Rattle.std.specs.Prelude.{◌≡◌, ◌&&◌, [], ◌∷◌, IfOk, bytes_eq, filter_map, option_to_list, if◌then◌else◌};
 ghost use Rattle.std.specs.List.{list_any};
 ghost use Rattle.kr_defs.specs.Ids.{has};
 ghost use Rattle.kr_defs.specs.Partition.{is_moving};
 ghost use Rattle.kr_calls.specs.ListPartitionReassignments as listing;
-ghost use Rattle.kr_store.specs.Images.{image_at};
-ghost use Rattle.kr_store.specs.Reads.{Reads};
-ghost use Rattle.kr_store.specs.Reads.{seen_at};
+ghost use Rattle.kr_store.specs.Reads.{Reads, seen_at};
 
 use crate::lists::is_moving;
-use kr_base::{NoEpoch, NoMemory};
+use kr_base::NoMemory;
 use kr_calls::{
     ListPartitionReassignments, ListPartitionReassignmentsReply, ListedTopic, ListedTopics,
     OngoingPartitionReassignment, OngoingPartitionReassignments, OngoingTopicReassignment, Reply,
 };
 use kr_defs::{Copied, Options, Partition, Rows, Text};
+use kr_gather::looking::look;
 use kr_gather::{PartitionPart, TopicPart, gather_partitions, gather_topics};
 use kr_store::{At, ReadFault, Store};
 use std::alloc::Global;
@@ -42,7 +41,7 @@ fn is_asked(asked: &Option<ListedTopics>, name: &Text, index: &i32) -> bool
     }
 }
 
-fn ongoing(
+fn ongoing_row(
     alloc: Global,
     key: &(u128, i32),
     partition: &Partition,
@@ -78,7 +77,7 @@ impl<'a> PartitionPart<OngoingPartitionReassignment> for AskedPartitions<'a> {
         rows: &mut OngoingPartitionReassignments,
     ) -> Result<(), NoMemory> {
         if is_moving(partition) && is_asked(self.asked, self.name, &key.1) {
-            rows.push(ongoing(alloc, key, partition)?)?;
+            rows.push(ongoing_row(alloc, key, partition)?)?;
         }
         Ok(())
     }
@@ -100,7 +99,7 @@ fn ongoing_of<S: Store>(
 }
 
 // What is shown of a topic, where there is something to show.
-fn shown<S: Store>(
+fn topic_row<S: Store>(
     alloc: Global,
     store: &S,
     at: At,
@@ -136,7 +135,7 @@ impl<'a> TopicPart<OngoingTopicReassignment> for AskedTopics<'a> {
         id: &u128,
         rows: &mut Rows<OngoingTopicReassignment>,
     ) -> Result<(), NoMemory> {
-        if let Some(row) = shown(alloc, store, at, self.asked, name, id)? {
+        if let Some(row) = topic_row(alloc, store, at, self.asked, name, id)? {
             rows.push(row)?;
         }
         Ok(())
@@ -144,7 +143,7 @@ impl<'a> TopicPart<OngoingTopicReassignment> for AskedTopics<'a> {
 }
 
 #[tactic(auto, using(crate::proofs::Gathered::all_shown))]
-fn all_shown<S: Store>(
+fn all_topic_rows<S: Store>(
     alloc: Global,
     store: &S,
     at: At,
@@ -153,14 +152,6 @@ fn all_shown<S: Store>(
     ensures { IfOk result (λ rows. rows ≡ filter_map (listing.shown (seen_at (S.images store.now) at) asked.now) (seen_at (S.images store.now) at).topics) }
 {
     gather_topics(alloc, store, at, &AskedTopics { asked })
-}
-
-// The place is kept.
-fn look<S: Store>(store: &S, at: At) -> Result<(), NoEpoch>
-    ensures { MatchOption (image_at (S.images store.now) at) (IsErr result) (λ image. IsOk result) }
-{
-    store.next_broker(at, None)?;
-    Ok(())
 }
 
 /// The partitions that are being reassigned, all or those that are asked for, at a place of the store. NoEpoch exactly
@@ -176,6 +167,6 @@ pub fn list<S: Store>(
     ensures { Reads (S.images store.now) at result (λ image. listing.queried image request.now) }
 {
     look(store, at)?;
-    let topics = all_shown(alloc, store, at, &request.topics)?;
+    let topics = all_topic_rows(alloc, store, at, &request.topics)?;
     Ok(Reply::ListPartitionReassignments(ListPartitionReassignmentsReply { error: 0, topics }))
 }

@@ -1,14 +1,11 @@
 //! What is decided of the reassignment of one partition.
 
 ghost use Rattle.std.specs.Prelude.{◌≡◌, IfOk};
-ghost use Rattle.std.specs.List.{list_all};
-ghost use Rattle.std.specs.Ordering.{int_cmp};
 ghost use Rattle.kr_defs.specs.DefaultWant.{default_want};
-ghost use Rattle.kr_defs.specs.Map as entries;
 ghost use Rattle.kr_calls.specs.AlterPartitionReassignments as reassigning;
 ghost use Rattle.kr_rules.specs.Refusals.{Judges};
 
-use crate::lists::{are_targets, is_moving, original, reassigned};
+use crate::lists::{is_moving, original, reassigned_replicas};
 use kr_base::NoMemory;
 use kr_calls::{
     Draft, ReassignablePartition, ReassignablePartitionResponse, ReassignablePartitionResponses,
@@ -16,7 +13,7 @@ use kr_calls::{
 };
 use kr_change::{Want, build};
 use kr_defs::{Copied, Ids, Options, Partition, PartitionChange, Text};
-use kr_gather::{are_apart, change_records, without};
+use kr_gather::{are_apart, are_registered, are_targets, change_records, without};
 use kr_rules::{Groups, ItemRule, Refusal, Work};
 use kr_store::Store;
 use kr_walks::{active, default_want, facts, is_unclean, tip};
@@ -42,7 +39,7 @@ fn answer(
     }
 }
 
-fn drafted(
+fn draft_of(
     alloc: Global,
     name: &Text,
     partition: &ReassignablePartition,
@@ -80,7 +77,7 @@ fn leading_to(alloc: Global, partition: &Partition, target: &Ids) -> Result<Want
     ensures { IfOk result (λ want. want ≡ reassigning.leading_to partition.now target.now) }
 {
     let original = original(alloc, partition)?;
-    let replicas = reassigned(alloc, target, &original)?;
+    let replicas = reassigned_replicas(alloc, target, &original)?;
     let adding = without(alloc, target, &original)?;
     let removing = without(alloc, &original, target)?;
     with_replicas(alloc, partition, replicas, adding, removing)
@@ -94,18 +91,6 @@ fn leading_back(alloc: Global, partition: &Partition) -> Result<Want, NoMemory>
     with_replicas(alloc, partition, original, Ids::new(alloc), Ids::new(alloc))
 }
 
-fn is_registered<S: Store>(store: &S, id: &i32) -> bool
-    ensures { result ≡ entries.contains int_cmp (S.images store.now).tip.brokers id.now }
-{
-    tip::broker(store, id).is_some()
-}
-
-fn are_registered<S: Store>(store: &S, ids: &[i32]) -> bool
-    ensures { result ≡ list_all (entries.contains int_cmp (S.images store.now).tip.brokers) ids.now }
-{
-    ids.iter().all(|id| is_registered(store, id))
-}
-
 fn is_target<S: Store>(store: &S, ids: &Ids) -> bool
     ensures { result ≡ reassigning.is_target (S.images store.now).tip ids.now }
 {
@@ -113,7 +98,7 @@ fn is_target<S: Store>(store: &S, ids: &Ids) -> bool
 }
 
 // What is asked of the partition; without replicas the reassignment that runs is cancelled.
-fn wanted<S: Store>(
+fn want_of<S: Store>(
     alloc: Global,
     store: &S,
     partition: &Partition,
@@ -173,7 +158,7 @@ fn of_want<S: Store>(
     let active = active(alloc, store)?;
     let facts = facts(alloc, store, &rule.options.minimum, &active, name)?;
     let change = build(alloc, partition, want, &facts)?;
-    Ok(drafted(alloc, name, entry, topic, change)?)
+    Ok(draft_of(alloc, name, entry, topic, change)?)
 }
 
 impl<'a> ItemRule<Text, ReassignablePartition, ReassignablePartitionResponse>
@@ -206,7 +191,7 @@ impl<'a> ItemRule<Text, ReassignablePartition, ReassignablePartitionResponse>
         let Some(partition) = tip::partition(store, &topic.id, &item.index) else {
             return Err(Refusal::Error(3));
         };
-        let want = wanted(alloc, store, partition, &item.replicas)?;
+        let want = want_of(alloc, store, partition, &item.replicas)?;
         of_want(alloc, store, self, key, item, &topic.id, partition, &want)
     }
 }

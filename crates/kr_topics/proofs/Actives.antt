@@ -1,9 +1,9 @@
 -- Active brokers: in a walk, and by their ids.
-use Rattle.std.proofs.Common.{◌≡◌, ◌∙◌, ℤ, Bool, true, false, cond, List, [], ◌∷◌, ◌++◌, refl, sym, ap, subst}
-use Rattle.std.specs.Prelude.{Some, None, filter, map}
+use Rattle.std.proofs.Common.{◌≡◌, ◌∙◌, ℤ, true, false, cond, List, [], ◌∷◌, refl, sym, ap, subst}
+use Rattle.std.specs.Prelude.{Some, filter, map, if◌then◌else◌}
 use Rattle.std.specs.declared.cmp.Ordering.TheVariants.{Less}
 use Rattle.std.specs.Ordering.{int_cmp, int_eq, is_eq}
-use Rattle.std.specs.List.{AllByRecursion}
+use Rattle.std.specs.List.{AllByRecursion, flat_map}
 use Rattle.std.specs.List.Sorted.{IsStrictlySortedBy}
 use Rattle.std.specs.Map.{keys_of}
 use Rattle.std.specs.Option.{option_map_or}
@@ -12,12 +12,14 @@ use Rattle.std.proofs.lemmas.Cmp.{int_eq_equiv}
 use Rattle.kr_defs.specs.declared.broker.Broker.{Broker}
 use Rattle.kr_defs.specs.Brokers.{is_active, active_of}
 use Rattle.kr_defs.specs.Ids.{has}
+use Rattle.kr_defs.specs.Image.{Image}
 use Rattle.kr_defs.specs.Map.{IsMap, get}
-use Rattle.kr_topics.specs.Racked.{racked_of}
+use Rattle.kr_defs.specs.Placed.{Rack}
+use Rattle.kr_calls.specs.NewPartitions.{racked}
+use Rattle.kr_gather.proofs.Parts.{given_parts}
 
-pub racked_in_parts : (e : ℤ × Broker) (es : List (ℤ × Broker)) → racked_of (e ∷ es) ≡ racked_of (e ∷ []) ++ racked_of es
-racked_in_parts e es =
-    elim (is_active e.1) as (λ b. map (λ (e : ℤ × Broker). (e.0, e.1.rack)) (cond b (e ∷ filter (λ e. is_active e.1) es) (filter (λ e. is_active e.1) es)) ≡ map (λ (e : ℤ × Broker). (e.0, e.1.rack)) (cond b (e ∷ []) []) ++ racked_of es) [ true ↦ refl | false ↦ refl ]
+pub racks : (image : Image) (rows : List (ℤ × Rack)) → rows ≡ flat_map (λ (e : ℤ × Broker). if is_active e.1 then (e.0, e.1.rack) ∷ [] else []) image.brokers → rows ≡ racked image
+racks image rows is = is ∙ given_parts (λ (e : ℤ × Broker). is_active e.1) (λ e. (e.0, e.1.rack)) image.brokers
 
 -- an id below all keys is that of no active broker
 none_active : (id : ℤ) (es : List (ℤ × Broker)) → AllByRecursion (λ z. int_cmp id z ≡ Less) (keys_of es) → has (active_of es) id ≡ false

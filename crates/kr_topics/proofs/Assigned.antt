@@ -1,7 +1,7 @@
 -- Assignments by their indexes.
-use Rattle.std.proofs.Common.{◌≡◌, ◌∙◌, ◌<◌, ◌≤◌, ◌+◌, ◌-◌, ℕ, ℤ, pos, Bool, true, false, cond, List, [], ◌∷◌, ◌++◌, length, get_or, drop, refl, sym, ap, append_assoc, arith}
+use Rattle.std.proofs.Common.{◌≡◌, ◌∙◌, ◌<◌, ◌≤◌, ◌+◌, ◌-◌, ℕ, ℤ, Bool, true, false, cond, List, [], ◌∷◌, ◌++◌, length, get_or, drop, refl, sym, ap, append_assoc, arith}
 use Rattle.std.specs.Prelude.{Option, Some, None, find, is_some, nat_le, nat_lt, ◌&&◌, ◌==◌, option_map, filter_map}
-use Rattle.std.specs.Ordering.{int_cmp, int_eq, is_eq}
+use Rattle.std.specs.Ordering.{int_cmp, int_eq}
 use Rattle.std.specs.List.{cons_option, list_all, list_any, range_with_len}
 use Rattle.std.proofs.lemmas.Bool.Decides.{nat_tests}
 use Rattle.std.proofs.lemmas.Cmp.{int_cmp_total, int_eq_equiv}
@@ -14,7 +14,7 @@ use Rattle.kr_defs.specs.Map.{contains, get, insert}
 use Rattle.kr_defs.specs.Partition.{are_targets}
 use Rattle.kr_defs.proofs.Tests.{both}
 use Rattle.kr_calls.specs.declared.topics.CreatableReplicaAssignment.{CreatableReplicaAssignment}
-use Rattle.kr_calls.specs.CreateTopics.{assigned_at, are_whole, are_assignable, first_size, indexes_of}
+use Rattle.kr_calls.specs.CreateTopics.{assigned_at, are_assignable, first_size}
 use Rattle.kr_calls.specs.NewPartitions.{is_assignable}
 use Rattle.kr_rules.proofs.Ones.{here_of}
 use Rattle.kr_topics.proofs.Given.{get_inserted}

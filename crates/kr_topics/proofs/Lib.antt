@@ -5,3 +5,4 @@ pub mod Given
 pub mod Names
 pub mod Placements
 pub mod Room
+pub mod Shown

@@ -1,6 +1,6 @@
 -- What is refused early for want of room would be refused by Apply.
-use Rattle.std.proofs.Common.{◌≡◌, ◌∙◌, ◌<◌, ◌≤◌, ◌+◌, ◌-◌, ℕ, suc, ℤ, pos, Bool, true, false, cond, not, List, [], ◌∷◌, ◌++◌, length, refl, sym, ap, subst, arith}
-use Rattle.std.specs.Prelude.{Option, Some, None, Result, Ok, Err, IsErr, filter, nat_le, nat_lt, int_le, is_some, unsigned_abs, unwrap_or, bytes_eq, ◌==◌, ◌||◌}
+use Rattle.std.proofs.Common.{◌≡◌, ◌∙◌, ◌<◌, ◌+◌, ◌-◌, ℕ, suc, ℤ, pos, Bool, true, false, cond, not, List, [], ◌∷◌, ◌++◌, length, refl, sym, ap, subst, arith}
+use Rattle.std.specs.Prelude.{Option, Some, None, Result, Ok, Err, IsErr, filter, map, nat_le, nat_lt, int_le, is_some, unsigned_abs, unwrap_or, bytes_eq, ◌==◌, ◌||◌}
 use Rattle.std.specs.Option.{option_map_or}
 use Rattle.std.specs.declared.cmp.Ordering.{Ordering}
 use Rattle.std.specs.declared.cmp.Ordering.TheVariants.{Less, Equal, Greater}
@@ -45,7 +45,6 @@ use Rattle.kr_calls.proofs.BrokersLeft.{AreBrokerless, all_leave, creates, grows
 use Rattle.kr_calls.proofs.KeptByRequests.{Keeps, one_keeps}
 use Rattle.kr_calls.proofs.Standing.{applied_in_two}
 use Rattle.kr_place.specs.Placing.{Grouped, grouped}
-use Rattle.kr_topics.specs.Racked.{racked_of}
 use Rattle.kr_topics.specs.Room as room
 use Rattle.kr_topics.specs.Room.{has_room}
 
@@ -215,7 +214,7 @@ creation_alike those options validate_only w entry is =
 -- a rule on grouped brokers, and one that says the same and leaves the brokers
 module _ {E A : Type 0} (refused : ℤ → E → A) (rule other : Image → ℤ → E → Result (Draft A) ℤ) (those : Grouped) (alike : (w : Work) (entry : E) → IsOf those w.image → one refused rule w entry ≡ one refused other w entry) (are : AreBrokerless other) where
   keeps : Keeps refused other (λ w. IsOf those w.image) (λ _. Unit {0})
-  keeps w entry is so_far draft gives after by = so_far ∙ ap (λ (bs : List (ℤ × Broker)). grouped (racked_of bs)) (sym (all_leave w.image draft.records (are w.image w.place entry draft gives) after.image by.applied))
+  keeps w entry is so_far draft gives after by = so_far ∙ ap (λ (bs : List (ℤ × Broker)). grouped (map (λ (e : ℤ × Broker). (e.0, e.1.rack)) (filter (λ (e : ℤ × Broker). is_active e.1) bs))) (sym (all_leave w.image draft.records (are w.image w.place entry draft gives) after.image by.applied))
 
   stays : (w : Work) (entry : E) → IsOf those w.image → IsOf those (one refused other w entry).0.image
   stays w entry is = one_keeps refused other (λ w. IsOf those w.image) (λ _. Unit {0}) keeps w entry tt is

@@ -1,3 +1,3 @@
 pub mod Given
-pub mod Racked
 pub mod Room
+pub mod Shown

@@ -1,6 +1,6 @@
 //! Assignments of replicas to the partitions of a new topic.
 
-ghost use Rattle.std.specs.Prelude.{◌≡◌, ◌<◌, ◌^◌, ◌&&◌, ◌==◌, ◌++◌, ◌∷◌, [], ℤ, pos, find, is_some, length, IfOk, IfSome, OnOk};
+ghost use Rattle.std.specs.Prelude.{◌≡◌, ◌<◌, ◌^◌, ◌++◌, ◌∷◌, [], ℤ, pos, find, is_some, length, IfOk, IfSome, OnOk};
 ghost use Rattle.std.specs.List.{filter_map};
 ghost use Rattle.std.specs.Option.{option_copied, option_map};
 ghost use Rattle.std.specs.Ordering.{int_cmp, int_eq};
@@ -8,7 +8,7 @@ ghost use Rattle.kr_defs.specs.Map as entries;
 ghost use Rattle.kr_calls.specs.CreateTopics as creations;
 ghost use Rattle.kr_calls.specs.NewPartitions as partitions;
 
-use crate::partitions::{Lists, is_assignable};
+use crate::partitions::{Lists, is_wide};
 use kr_base::NoMemory;
 use kr_calls::CreatableReplicaAssignment;
 use kr_defs::{Copied, Ids, Rows};
@@ -29,12 +29,6 @@ pub fn first_size(assignments: &[CreatableReplicaAssignment]) -> usize
     }
 }
 
-fn is_wide<S: Store>(store: &S, size: usize, assignment: &CreatableReplicaAssignment) -> bool
-    ensures { result ≡ (partitions.is_assignable (S.images store.now).tip assignment.now.brokers && length assignment.now.brokers == size) }
-{
-    is_assignable(store, &assignment.brokers) && assignment.brokers.len() == size
-}
-
 /// Each may be that of a new partition, with as many replicas as the first.
 pub fn are_assignable<S: Store>(store: &S, assignments: &[CreatableReplicaAssignment]) -> bool
     ensures { result ≡ creations.are_assignable (S.images store.now).tip assignments.now }
@@ -42,7 +36,7 @@ pub fn are_assignable<S: Store>(store: &S, assignments: &[CreatableReplicaAssign
     let size = first_size(assignments);
     assignments
         .iter()
-        .all(|assignment| is_wide(store, size, assignment))
+        .all(|assignment| is_wide(store, size, &assignment.brokers))
 }
 
 fn index_of(assignment: &CreatableReplicaAssignment) -> i64

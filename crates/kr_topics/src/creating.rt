@@ -168,7 +168,7 @@ fn records_of<S: Store>(
     Ok(records)
 }
 
-fn created<S: Store>(
+fn draft_creation<S: Store>(
     alloc: Global,
     store: &S,
     rule: &Creating,
@@ -206,7 +206,7 @@ fn size_of(assignments: &[CreatableReplicaAssignment]) -> i16
 
 // The replicas that were given for each partition.
 #[tactic(auto, using(crate::proofs::Assigned::few_first))]
-fn assigned<S: Store>(
+fn create_as_assigned<S: Store>(
     alloc: Global,
     store: &S,
     rule: &Creating,
@@ -233,7 +233,7 @@ fn assigned<S: Store>(
     }
     let partitions = count_of(&lists);
     let factor = size_of(assignments);
-    Ok(created(
+    Ok(draft_creation(
         alloc,
         store,
         rule,
@@ -275,7 +275,7 @@ fn is_factor(those: &Grouped, factor: i16) -> bool
 
 // The replicas are placed on the active brokers.
 #[tactic(auto, using(crate::proofs::Placements::counts))]
-fn spread<S: Store>(
+fn create_by_placing<S: Store>(
     alloc: Global,
     store: &S,
     rule: &Creating,
@@ -306,7 +306,7 @@ fn spread<S: Store>(
         partitions.unsigned_abs() as u64,
         factor.unsigned_abs() as usize,
     )?;
-    Ok(created(
+    Ok(draft_creation(
         alloc,
         store,
         rule,
@@ -321,7 +321,7 @@ fn spread<S: Store>(
 // ---- the rule
 
 // A topic whose name is a new one.
-fn named<S: Store>(
+fn create_new<S: Store>(
     alloc: Global,
     store: &S,
     rule: &Creating,
@@ -331,9 +331,9 @@ fn named<S: Store>(
     ensures { Judges result (and_then (room.layout rule.now.those rule.now.options.now (S.images store.now).tip (place_of work.now) entry.now) (λ layout. room.of_layout rule.now.options.now rule.now.validate_only (S.images store.now).tip (place_of work.now) entry.now layout)) }
 {
     if entry.assignments.is_empty() {
-        spread(alloc, store, rule, work, entry)
+        create_by_placing(alloc, store, rule, work, entry)
     } else {
-        assigned(alloc, store, rule, work, entry)
+        create_as_assigned(alloc, store, rule, work, entry)
     }
 }
 
@@ -367,7 +367,7 @@ impl<'a> Rule<CreatableTopic, CreatableTopicResult> for Creating<'a> {
         if is_like_another(store, &entry.name) {
             return Err(Refusal::Error(17));
         }
-        named(alloc, store, self, work, entry)
+        create_new(alloc, store, self, work, entry)
     }
 }
 

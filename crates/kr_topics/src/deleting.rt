@@ -2,12 +2,12 @@
 
 ghost use Rattle.std.specs.Prelude.{◌≡◌, ◌≤◌, ◌+◌, pos, ◌≤ℤ◌, Some, IfOk, OnErr, OnOk};
 ghost use Rattle.kr_defs.specs.declared.limits.TheConstants.{PLACES_END as places_end};
-ghost use Rattle.kr_defs.specs.Topics.{is_named_once};
 ghost use Rattle.kr_calls.specs.Deciding.{weights};
 ghost use Rattle.kr_calls.specs.DeleteTopics as deletions;
 ghost use Rattle.kr_calls.specs.Refuse.{refused_deletion};
 ghost use Rattle.kr_store.specs.Images.{last_kept};
 
+use crate::naming::is_named_once;
 use kr_base::{NoMemory, Steps};
 use kr_calls::{
     DeletableTopicResult, DeleteTopicState, DeleteTopics, DeleteTopicsReply, Draft, Effect, Reply,
@@ -23,13 +23,8 @@ use std::sync::ledger::Ledger;
 // What is decided of one topic to delete.
 struct Deleting;
 
-fn is_named_once(name: &Option<Text>, topic: &u128) -> bool
-    ensures { result ≡ is_named_once name.now topic.now }
-{
-    name.is_some() && *topic == 0 || name.is_none() && *topic != 0
-}
-
-fn deleted(
+// The topic's removal, and what is answered.
+fn draft_deletion(
     alloc: Global,
     name: &Text,
     topic: &u128,
@@ -80,11 +75,11 @@ impl Rule<DeleteTopicState, DeletableTopicResult> for Deleting {
         }
         match &entry.name {
             Some(name) => match tip::topic_named(store, name) {
-                Some(topic) => Ok(deleted(alloc, &topic.name, &topic.id)?),
+                Some(topic) => Ok(draft_deletion(alloc, &topic.name, &topic.id)?),
                 None => Err(Refusal::Error(3)),
             },
             None => match tip::topic(store, &entry.topic) {
-                Some(topic) => Ok(deleted(alloc, &topic.name, &topic.id)?),
+                Some(topic) => Ok(draft_deletion(alloc, &topic.name, &topic.id)?),
                 None => Err(Refusal::Error(100)),
             },
         }

@@ -17,7 +17,7 @@ ghost use Rattle.kr_topics.specs.Room as room;
 ghost use Rattle.kr_topics.specs.Room.{has_room};
 
 use crate::partitions::{
-    Lists, add_partitions, has_room, is_assignable, placements, start_of, target_len,
+    Lists, add_partitions, has_room, is_wide, placements, start_of, target_len,
 };
 use crate::racks::active_by_rack;
 use kr_base::{NoMemory, Steps};
@@ -71,18 +71,12 @@ fn new_count(entry: &CreatePartitionsTopic, first: u32) -> u32
     entry.count.unsigned_abs().saturating_sub(first)
 }
 
-fn is_wide<S: Store>(store: &S, size: usize, assignment: &CreatePartitionsAssignment) -> bool
-    ensures { result ≡ (partitions.is_assignable (S.images store.now).tip assignment.now.brokers && length assignment.now.brokers == size) }
-{
-    is_assignable(store, &assignment.brokers) && assignment.brokers.len() == size
-}
-
 fn are_wide<S: Store>(store: &S, size: usize, assignments: &[CreatePartitionsAssignment]) -> bool
     ensures { result ≡ list_all (λ a. partitions.is_assignable (S.images store.now).tip a.brokers && length a.brokers == size) assignments.now }
 {
     assignments
         .iter()
-        .all(|assignment| is_wide(store, size, assignment))
+        .all(|assignment| is_wide(store, size, &assignment.brokers))
 }
 
 fn lists_of(alloc: Global, assignments: &[CreatePartitionsAssignment]) -> Result<Lists, NoMemory>
@@ -97,7 +91,7 @@ fn lists_of(alloc: Global, assignments: &[CreatePartitionsAssignment]) -> Result
 }
 
 // The records of the new partitions over these replicas.
-fn grown<S: Store>(
+fn draft_growth<S: Store>(
     alloc: Global,
     store: &S,
     entry: &CreatePartitionsTopic,
@@ -116,7 +110,7 @@ fn grown<S: Store>(
 
 // The new partitions have the replicas that were given.
 #[tactic(auto, using(crate::proofs::Placements::counts))]
-fn assigned<S: Store>(
+fn grow_as_assigned<S: Store>(
     alloc: Global,
     store: &S,
     entry: &CreatePartitionsTopic,
@@ -138,12 +132,12 @@ fn assigned<S: Store>(
         return Err(Refusal::Error(44));
     }
     let lists = lists_of(alloc, assignments)?;
-    Ok(grown(alloc, store, entry, topic, first, &lists)?)
+    Ok(draft_growth(alloc, store, entry, topic, first, &lists)?)
 }
 
 // The new partitions are placed on the active brokers.
 #[tactic(auto, using(crate::proofs::Placements::counts))]
-fn placed<S: Store>(
+fn grow_by_placing<S: Store>(
     alloc: Global,
     store: &S,
     rule: &Growing,
@@ -172,7 +166,7 @@ fn placed<S: Store>(
         count as u64,
         size,
     )?;
-    Ok(grown(alloc, store, entry, topic, first, &lists)?)
+    Ok(draft_growth(alloc, store, entry, topic, first, &lists)?)
 }
 
 // A topic of so many partitions, of which the first leads to `size` replicas, gets more.
@@ -192,7 +186,7 @@ fn of_size<S: Store>(
 {
     match &entry.assignments {
         Some(assignments) => {
-            assigned(
+            grow_as_assigned(
                 alloc,
                 store,
                 entry,
@@ -202,7 +196,7 @@ fn of_size<S: Store>(
                 assignments.as_slice(),
             )
         }
-        None => placed(alloc, store, rule, work, entry, topic, first, size),
+        None => grow_by_placing(alloc, store, rule, work, entry, topic, first, size),
     }
 }
 

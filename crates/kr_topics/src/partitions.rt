@@ -1,23 +1,22 @@
 //! The replicas of new partitions, and their records.
 
-ghost use Rattle.std.specs.Prelude.{◌≡◌, ◌≤◌, ◌<◌, ◌+◌, ◌^◌, ◌++◌, [], ◌∷◌, pos, ◌&&◌, length, map, filter, unsigned_abs, IfOk, OnOk, IsTrue};
-ghost use Rattle.std.specs.List.{list_all, list_any, range_with_len};
-ghost use Rattle.std.specs.Ordering.{int_cmp};
+ghost use Rattle.std.specs.Prelude.{◌≡◌, ◌≤◌, ◌<◌, ◌+◌, ◌^◌, ◌++◌, [], ◌∷◌, pos, ◌&&◌, ◌==◌, length, map, filter, unsigned_abs, IfOk, OnOk, IsTrue};
+ghost use Rattle.std.specs.List.{list_any, range_with_len};
 ghost use Rattle.kr_defs.specs.declared.limits.TheConstants.{MOST_PARTITIONS as most_partitions};
 ghost use Rattle.kr_defs.specs.declared.record.Record.TheVariants as kinds;
 ghost use Rattle.kr_defs.specs.Brokers.{active};
-ghost use Rattle.kr_defs.specs.Ids.{has, is_distinct, within};
-ghost use Rattle.kr_defs.specs.Map as entries;
+ghost use Rattle.kr_defs.specs.Ids.{has, within};
 ghost use Rattle.kr_defs.specs.NewPartition.{new_partition};
-ghost use Rattle.kr_defs.specs.Partition.{are_targets, target};
+ghost use Rattle.kr_defs.specs.Partition.{target};
 ghost use Rattle.kr_calls.specs.NewPartitions.{is_assignable, new_partitions};
 ghost use Rattle.kr_place.specs.Placing.{placed_in};
 ghost use Rattle.kr_rules.specs.Progress.{place_of};
 ghost use Rattle.kr_topics.specs.Room.{has_room};
 
 use kr_base::NoMemory;
-use kr_defs::limits::{MOST_PARTITIONS, MOST_TARGETS};
+use kr_defs::limits::MOST_PARTITIONS;
 use kr_defs::{Copied, Ids, Partition, Record, Records, Rows};
+use kr_gather::{are_registered, are_targets};
 use kr_place::Grouped;
 use kr_rules::Work;
 use kr_store::Store;
@@ -29,12 +28,6 @@ pub type Lists = Rows<Ids>;
 
 // ---- brokers
 
-fn is_registered<S: Store>(store: &S, id: &i32) -> bool
-    ensures { result ≡ entries.contains int_cmp (S.images store.now).tip.brokers id.now }
-{
-    tip::broker(store, id).is_some()
-}
-
 fn is_active_id<S: Store>(store: &S, id: &i32) -> bool
     ensures { result ≡ has (active (S.images store.now).tip) id.now }
 {
@@ -45,42 +38,25 @@ fn is_active_id<S: Store>(store: &S, id: &i32) -> bool
     }
 }
 
-fn are_registered<S: Store>(store: &S, ids: &[i32]) -> bool
-    ensures { result ≡ list_all (entries.contains int_cmp (S.images store.now).tip.brokers) ids.now }
-{
-    ids.iter().all(|id| is_registered(store, id))
-}
-
 fn has_active<S: Store>(store: &S, ids: &[i32]) -> bool
     ensures { result ≡ list_any (has (active (S.images store.now).tip)) ids.now }
 {
     ids.iter().any(|id| is_active_id(store, id))
 }
 
-fn is_distinct(ids: &[i32]) -> bool
-    ensures { result ≡ is_distinct ids.now }
-{
-    for (at, id) in ids.iter().enumerate() {
-        let (_, later) = ids.split_at(at + 1);
-        if later.contains(id) {
-            return false;
-        }
-    }
-    true
-}
-
-fn are_targets(ids: &[i32]) -> bool
-    ensures { result ≡ are_targets ids.now }
-{
-    !ids.is_empty() && ids.len() <= MOST_TARGETS && is_distinct(ids)
-}
-
-/// The replicas may be those of a new partition: 1 to 32 registered brokers, each once, of which one is active.
-pub fn is_assignable<S: Store>(store: &S, replicas: &Ids) -> bool
+// The replicas may be those of a new partition: 1 to 32 registered brokers, each once, of which one is active.
+fn is_assignable<S: Store>(store: &S, replicas: &Ids) -> bool
     ensures { result ≡ is_assignable (S.images store.now).tip replicas.now }
 {
     let ids = replicas.as_slice();
-    are_targets(ids) && are_registered(store, ids) && has_active(store, ids)
+    are_targets(replicas) && are_registered(store, ids) && has_active(store, ids)
+}
+
+/// The replicas may be those of a new partition, and are so many.
+pub fn is_wide<S: Store>(store: &S, size: usize, replicas: &Ids) -> bool
+    ensures { result ≡ (is_assignable (S.images store.now).tip replicas.now && length replicas.now == size) }
+{
+    is_assignable(store, replicas) && replicas.len() == size
 }
 
 // ---- numbers of partitions

@@ -1,46 +1,53 @@
 //! The active brokers of an image, each with its rack.
 
-ghost use Rattle.std.specs.Prelude.{◌≡◌, ◌++◌, [], ◌∷◌, IfOk, OnOk};
-ghost use Rattle.kr_place.specs.Placing.{grouped};
+ghost use Rattle.std.specs.Prelude.{◌≡◌, [], ◌∷◌, IfOk, if◌then◌else◌};
+ghost use Rattle.kr_defs.specs.Brokers as brokers;
 ghost use Rattle.kr_calls.specs.NewPartitions.{racked};
-ghost use Rattle.kr_topics.specs.Racked.{racked_of};
+ghost use Rattle.kr_place.specs.Placing.{grouped};
 
 use kr_base::NoMemory;
-use kr_defs::{Broker, Copied, Text};
+use kr_defs::{Broker, Copied, Rows, Text};
+use kr_gather::{BrokerPart, gather_brokers};
 use kr_place::Grouped;
-use kr_store::Store;
-use kr_walks::{is_active, tip};
+use kr_store::{At, Store};
+use kr_walks::is_active;
 use std::alloc::Global;
 
-type Racks = Vec<(i32, Option<Text>)>;
+// Brokers, each with its rack.
+type Racks = Rows<(i32, Option<Text>)>;
 
-fn add_active(alloc: Global, racks: &mut Racks, id: &i32, state: &Broker) -> Result<(), NoMemory>
-    ensures { OnOk result (racks.new.items ≡ racks.old.items ++ racked_of ((id.now, state.now) ∷ [])) }
-{
-    if is_active(state) {
-        let rack = Copied::copied(&state.rack, alloc)?;
-        racks.push((*id, rack))?;
+// An active broker with its rack.
+struct ActiveOnes;
+
+impl BrokerPart<(i32, Option<Text>)> for ActiveOnes {
+    ghost part = { λ _ e. if brokers.is_active e.1 then (e.0, e.1.rack) ∷ [] else [] };
+
+    fn add(
+        &self,
+        alloc: Global,
+        id: &i32,
+        state: &Broker,
+        rows: &mut Racks,
+    ) -> Result<(), NoMemory> {
+        if is_active(state) {
+            let rack = Copied::copied(&state.rack, alloc)?;
+            rows.push((*id, rack))?;
+        }
+        Ok(())
     }
-    Ok(())
 }
 
-fn racked<S: Store>(alloc: Global, store: &S) -> Result<Racks, NoMemory>
-    ensures { IfOk result (λ racks. racks.items ≡ racked (S.images store.now).tip) }
+#[tactic(auto, using(crate::proofs::Actives::racks))]
+fn active_racks<S: Store>(alloc: Global, store: &S) -> Result<Racks, NoMemory>
+    ensures { IfOk result (λ racks. racks ≡ racked (S.images store.now).tip) }
 {
-    let _valid = store.counts();
-    let mut racks = Vec::new(alloc);
-    let mut after = None;
-    while let Some((id, state)) = tip::next_broker(store, after) {
-        add_active(alloc, &mut racks, id, state)?;
-        after = Some(id);
-    }
-    Ok(racks)
+    gather_brokers(alloc, store, At::Tip, &ActiveOnes)
 }
 
 /// The active brokers by rack.
 pub fn active_by_rack<S: Store>(alloc: Global, store: &S) -> Result<Grouped, NoMemory>
     ensures { IfOk result (λ those. those ≡ grouped (racked (S.images store.now).tip)) }
 {
-    let racks = racked(alloc, store)?;
+    let racks = active_racks(alloc, store)?;
     Grouped::of(alloc, racks.as_slice())
 }

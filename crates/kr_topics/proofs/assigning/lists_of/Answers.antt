@@ -1,4 +1,4 @@
-use Rattle.std.proofs.Common.{◌≡◌, ◌∙◌, ◌<◌, ◌+◌, ◌++◌, ◌∷◌, [], pos, length, sym, ap, arith, length-append}
+use Rattle.std.proofs.Common.{◌≡◌, ◌∙◌, ◌<◌, ◌∷◌, [], pos, length, sym, ap, arith, length-append}
 use Rattle.std.specs.Prelude.{Some, None}
 use Rattle.kr_calls.specs.CreateTopics.{assigned_at}
 use Rattle.kr_topics.proofs.Assigned.{list_more, whole_more, whole_none, list_all_told, list_all_whole}

@@ -1,0 +1,91 @@
+//! The topics that a reader asks for, by name or by id, each shown once.
+
+ghost use Rattle.std.specs.Prelude.{◌≡◌, ◌∷◌, ◌==◌, [], ℕ, List, Ok, Err, not, IfErr, IfOk, OnOk};
+ghost use Rattle.std.specs.List.{list_any};
+ghost use Rattle.kr_defs.specs.Guard.{and_then};
+ghost use Rattle.kr_calls.specs.Metadata as shows;
+ghost use Rattle.kr_store.specs.Reads.{seen_at};
+ghost use Rattle.kr_topics.specs.Shown.{Marks};
+
+use crate::naming::is_named_once;
+use crate::topic_rows::{refusal_row, topic_row};
+use kr_base::NoMemory;
+use kr_calls::{MetadataRequestTopic, MetadataTopic, MetadataTopics};
+use kr_defs::{Rows, Topic};
+use kr_gather::looking;
+use kr_store::{At, Store};
+use std::alloc::Global;
+use std::collections::BTreeSet;
+
+// The ids that were named so far.
+type Seen = BTreeSet<u128>;
+
+// The topic with this name or this id, or Kafka's error number.
+fn find<'a, S: Store>(store: &'a S, at: At, entry: &MetadataRequestTopic) -> Result<&'a Topic, i16>
+    ensures some { IfOk result (λ topic. shows.named (seen_at (S.images store.now) at) entry.now ≡ Ok (topic.now.name, topic.now.id)) }
+    ensures none { IfErr result (λ error. shows.named (seen_at (S.images store.now) at) entry.now ≡ Err error) }
+{
+    if !is_named_once(&entry.name, &entry.topic) {
+        return Err(42);
+    }
+    match &entry.name {
+        Some(name) => match looking::topic_named(store, at, name) {
+            Some(topic) => Ok(topic),
+            None => Err(3),
+        },
+        None => match looking::topic(store, at, &entry.topic) {
+            Some(topic) => Ok(topic),
+            None => Err(100),
+        },
+    }
+}
+
+// The id is named now; whether it is for the first time.
+#[tactic(auto, using(crate::proofs::Shown::marking))]
+fn mark(seen: &mut Seen, id: &u128) -> Result<bool, NoMemory>
+    ensures new { (ids : List ℕ) → Marks seen.old ids → IfOk result (λ new. new ≡ not (list_any (λ i. i == id.now) ids)) }
+    ensures marks { (ids : List ℕ) → Marks seen.old ids → OnOk result (Marks seen.new (id.now ∷ ids)) }
+{
+    Ok(seen.insert(*id)?)
+}
+
+// What is shown of an entry behind those that named some topics.
+#[tactic(auto, using(crate::proofs::Shown::entries))]
+fn entry_row<S: Store>(
+    alloc: Global,
+    store: &S,
+    at: At,
+    seen: &mut Seen,
+    entry: &MetadataRequestTopic,
+) -> Result<MetadataTopic, NoMemory>
+    ensures row { (ids : List ℕ) → Marks seen.old ids → IfOk result (λ row. row ≡ shows.shown (seen_at (S.images store.now) at) entry.now (and_then (shows.named (seen_at (S.images store.now) at) entry.now) (shows.new_to ids))) }
+    ensures seen { (ids : List ℕ) → Marks seen.old ids → OnOk result (Marks seen.new (shows.seen_with ids (shows.named (seen_at (S.images store.now) at) entry.now))) }
+{
+    match find(store, at, entry) {
+        Ok(topic) => {
+            if mark(seen, &topic.id)? {
+                topic_row(alloc, store, at, &topic.name, &topic.id)
+            } else {
+                refusal_row(alloc, 42, entry)
+            }
+        }
+        Err(error) => refusal_row(alloc, error, entry),
+    }
+}
+
+/// Each entry in its order; a topic that an earlier one named is refused.
+pub fn named_topic_rows<S: Store>(
+    alloc: Global,
+    store: &S,
+    at: At,
+    asked: &[MetadataRequestTopic],
+) -> Result<MetadataTopics, NoMemory>
+    ensures { IfOk result (λ rows. rows ≡ shows.topics_named (seen_at (S.images store.now) at) [] asked.now) }
+{
+    let mut rows = Rows::new(alloc);
+    let mut seen = BTreeSet::new(alloc);
+    for entry in asked {
+        rows.push(entry_row(alloc, store, at, &mut seen, entry)?)?;
+    }
+    Ok(rows)
+}

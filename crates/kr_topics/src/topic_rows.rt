@@ -1,0 +1,181 @@
+//! Topics and their partitions as clients see them.
+
+ghost use Rattle.std.specs.Prelude.{◌≡◌, [], ◌∷◌, IfOk, filter, map};
+ghost use Rattle.kr_defs.specs.Walk.{of_topic};
+ghost use Rattle.kr_calls.specs.Metadata as shows;
+ghost use Rattle.kr_store.specs.Reads.{seen_at};
+
+use kr_base::NoMemory;
+use kr_calls::{
+    MetadataPartition, MetadataPartitions, MetadataRequestTopic, MetadataTopic, MetadataTopics,
+};
+use kr_defs::{Copied, Ids, Partition, Rows, Text};
+use kr_gather::{PartitionPart, TopicPart, gather_partitions, gather_topics, looking};
+use kr_store::{At, Store};
+use std::alloc::{AllocError, Global};
+
+// ---- partitions
+
+fn is_offline<S: Store>(store: &S, at: At, id: &i32) -> bool
+    ensures { result ≡ shows.is_offline (seen_at (S.images store.now) at) id.now }
+{
+    match looking::broker(store, at, id) {
+        Some(state) => state.fenced,
+        None => true,
+    }
+}
+
+// The replicas whose brokers are fenced or not registered.
+fn offline_among<S: Store>(
+    alloc: Global,
+    store: &S,
+    at: At,
+    replicas: &[i32],
+) -> Result<Vec<i32>, AllocError>
+    ensures { IfOk result (λ ids. ids.items ≡ filter (shows.is_offline (seen_at (S.images store.now) at)) replicas.now) }
+{
+    replicas
+        .iter()
+        .copied()
+        .filter(|id| is_offline(store, at, id))
+        .collect(alloc)
+}
+
+// LEADER_NOT_AVAILABLE where nobody leads.
+fn leader_error(partition: &Partition) -> i16
+    ensures { result ≡ shows.leader_error partition.now }
+{
+    if partition.leader == -1 { 5 } else { 0 }
+}
+
+fn partition_row<S: Store>(
+    alloc: Global,
+    store: &S,
+    at: At,
+    key: &(u128, i32),
+    partition: &Partition,
+) -> Result<MetadataPartition, NoMemory>
+    ensures { IfOk result (λ row. row ≡ shows.partition_of (seen_at (S.images store.now) at) (key.now, partition.now)) }
+{
+    let replicas = partition.replicas.copied(alloc)?;
+    let in_sync = partition.in_sync.copied(alloc)?;
+    let offline = offline_among(alloc, store, at, partition.replicas.as_slice())?;
+    Ok(MetadataPartition {
+        error: leader_error(partition),
+        index: key.1,
+        leader: partition.leader,
+        leader_epoch: partition.leader_epoch,
+        replicas,
+        in_sync,
+        offline: Ids::from_vec(offline),
+    })
+}
+
+// A partition, by the brokers at the place.
+#[derive(Drop)]
+struct ShownPartitions<'a, S> {
+    store: &'a S,
+    at: At,
+}
+
+impl<'a, S: Store> PartitionPart<MetadataPartition> for ShownPartitions<'a, S> {
+    ghost part = { λ s e. shows.partition_of (seen_at (S.images s.store.now) s.at) e ∷ [] };
+
+    fn add(
+        &self,
+        alloc: Global,
+        key: &(u128, i32),
+        partition: &Partition,
+        rows: &mut MetadataPartitions,
+    ) -> Result<(), NoMemory> {
+        rows.push(partition_row(alloc, self.store, self.at, key, partition)?)?;
+        Ok(())
+    }
+}
+
+#[tactic(auto, using(crate::proofs::Shown::partitions))]
+fn partition_rows<S: Store>(
+    alloc: Global,
+    store: &S,
+    at: At,
+    id: &u128,
+) -> Result<MetadataPartitions, NoMemory>
+    ensures { IfOk result (λ rows. rows ≡ map (shows.partition_of (seen_at (S.images store.now) at)) (of_topic id.now (seen_at (S.images store.now) at).partitions)) }
+{
+    gather_partitions(alloc, store, at, &ShownPartitions { store, at }, id)
+}
+
+// ---- topics
+
+/// A topic that stands, with its partitions.
+pub fn topic_row<S: Store>(
+    alloc: Global,
+    store: &S,
+    at: At,
+    name: &Text,
+    id: &u128,
+) -> Result<MetadataTopic, NoMemory>
+    ensures { IfOk result (λ row. row ≡ shows.topic_of (seen_at (S.images store.now) at) (name.now, id.now)) }
+{
+    let partitions = partition_rows(alloc, store, at, id)?;
+    let name = name.copied(alloc)?;
+    Ok(MetadataTopic {
+        error: 0,
+        name: Some(name),
+        topic: *id,
+        internal: false,
+        partitions,
+        operations: i32::MIN,
+    })
+}
+
+/// An entry that is refused, as it was given.
+pub fn refusal_row(
+    alloc: Global,
+    error: i16,
+    entry: &MetadataRequestTopic,
+) -> Result<MetadataTopic, NoMemory>
+    ensures { IfOk result (λ row. row ≡ shows.refused error entry.now) }
+{
+    let name = Copied::copied(&entry.name, alloc)?;
+    Ok(MetadataTopic {
+        error,
+        name,
+        topic: entry.topic,
+        internal: false,
+        partitions: Rows::new(alloc),
+        operations: i32::MIN,
+    })
+}
+
+// Any topic.
+struct ShownTopics;
+
+impl TopicPart<MetadataTopic> for ShownTopics {
+    ghost part = { λ _ image topic. shows.topic_of image topic ∷ [] };
+
+    fn add<S: Store>(
+        &self,
+        alloc: Global,
+        store: &S,
+        at: At,
+        name: &Text,
+        id: &u128,
+        rows: &mut MetadataTopics,
+    ) -> Result<(), NoMemory> {
+        rows.push(topic_row(alloc, store, at, name, id)?)?;
+        Ok(())
+    }
+}
+
+/// All topics by name.
+#[tactic(auto, using(crate::proofs::Shown::topics))]
+pub fn all_topic_rows<S: Store>(
+    alloc: Global,
+    store: &S,
+    at: At,
+) -> Result<MetadataTopics, NoMemory>
+    ensures { IfOk result (λ rows. rows ≡ map (shows.topic_of (seen_at (S.images store.now) at)) (seen_at (S.images store.now) at).topics) }
+{
+    gather_topics(alloc, store, at, &ShownTopics)
+}
