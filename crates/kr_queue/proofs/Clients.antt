@@ -1,5 +1,5 @@
 -- The passes of clients, one after the other.
-use Rattle.std.proofs.Common.{◌≡◌, ◌<◌, ◌≤◌, ◌+◌, ℕ, suc, List, [], ◌∷◌, ◌++◌, length, slice_index_or, refl, sym, ap, ◌∙◌, subst, ⊎_elim, length-append, arith}
+use Rattle.std.proofs.Common.{◌≡◌, ◌<◌, ◌≤◌, ◌+◌, ℕ, suc, List, [], ◌∷◌, ◌++◌, length, slice_index_or, sym, ap, ◌∙◌, subst, ⊎_elim, length-append, arith}
 use Rattle.std.proofs.Math.Seq.{get_or-append_seam}
 use Rattle.std.proofs.lemmas.Bool.{cases_lt}
 use Rattle.std.proofs.lemmas.List.{get_or_append_left}
@@ -17,11 +17,11 @@ pub one_more : (queue : Queue) (passes : List Pass) (p : Pass) (n : ℕ) → len
 one_more queue passes p n count clients own new k d lt =
     let Fits : ℕ → Pass → Type 0 = λ k q. IsPassOf queue q × (view q ≡ a_pass (roles.Client (k + 1)) 0) in
     ⊎_elim
-        (λ (before : k < length passes). subst (Fits k) (sym (get_or_append_left passes (p ∷ []) d k before)) (clients k d before))
-        (λ (behind : length passes ≤ k). let sum = length-append passes (p ∷ []) in let last : length passes ≡ k = omega (arith, lt, sum, behind) in
-            subst (λ k. Fits k (slice_index_or (passes ++ p ∷ []) k d)) last
-                (subst (Fits (length passes)) (sym (get_or-append_seam passes p [] d)) (own, new ∙ ap (λ role. a_pass role 0) (client_at n ∙ ap (λ m. roles.Client (m + 1)) (sym count)))))
-        (cases_lt k (length passes))
+    (λ (before : k < length passes). subst (Fits k) (sym (get_or_append_left passes (p ∷ []) d k before)) (clients k d before))
+    (λ (behind : length passes ≤ k). let sum = length-append passes (p ∷ []) in let last : length passes ≡ k = omega (arith, lt, sum, behind) in
+    subst (λ k. Fits k (slice_index_or (passes ++ p ∷ []) k d)) last
+    (subst (Fits (length passes)) (sym (get_or-append_seam passes p [] d)) (own, new ∙ ap (λ role. a_pass role 0) (client_at n ∙ ap (λ m. roles.Client (m + 1)) (sym count)))))
+    (cases_lt k (length passes))
 
 -- the last one by itself
 pub one_less : (queue : Queue) (passes : List Pass) (p : Pass) → AreClients queue (passes ++ p ∷ []) → AreClients queue passes × IsPassOf queue p × (view p ≡ a_pass (roles.Client (length passes + 1)) 0)

@@ -1,14 +1,13 @@
 -- Each step keeps the queue rule.
-use Rattle.std.proofs.Common.{◌≡◌, ◌≢◌, ◌<◌, ◌+◌, ℕ, zero, suc, true, List, [], ◌∷◌, ◌++◌, length, set, All, IsTrue, slice_index_or, refl, sym, ap, ◌∙◌, subst, ◌⊎◌, inl, inr, ⊎_elim, append_assoc, length-append, length-set, arith}
+use Rattle.std.proofs.Common.{◌≡◌, ◌≢◌, ◌<◌, ◌+◌, ℕ, zero, suc, true, List, [], ◌∷◌, ◌++◌, length, set, All, IsTrue, refl, sym, ap, ◌∙◌, subst, ◌⊎◌, inl, inr, ⊎_elim, append_assoc, length-append, length-set, arith}
 use mathlib.Core.Option.{some, some-injective, some-ne-none}
 use lib.ListN.{get_elem?}
 use Rattle.std.proofs.Math.Seq.{get_or-append_seam}
 use Rattle.std.proofs.lemmas.Bool.{and_parts}
 use Rattle.std.proofs.lemmas.List.Elements.{All-nil, All-cons, All-append}
 use Rattle.crossbeam_queue.specs.Fifo.{Pushes, Pops, Forks, Learns}
-use Rattle.crossbeam_queue.proofs.Lists.{at_set, at_snoc}
+use Rattle.crossbeam_queue.proofs.Lists.{at_set}
 use Rattle.kr_queue.specs.declared.jobs.Job.{Job}
-use Rattle.kr_queue.specs.declared.passes.Role.{Role}
 use Rattle.kr_queue.specs.declared.passes.Role.TheVariants as roles
 use Rattle.kr_queue.specs.declared.passes.View.{View}
 use Rattle.kr_queue.specs.Jobs.{is_of, of, may_push}
@@ -47,11 +46,13 @@ pushed_kept number v job items views may kept at =
     let After : ℕ → View → Type 0 = Knows popped (items ++ job ∷ []) passes in
     let mine_after : After number w = (mine.0, ap (λ l. l ++ job ∷ []) mine.1 ∙ sym (of_more v.role all job own) ∙ ap (of v.role) joined, mine.2) in
     let others_after : (j : ℕ) (u : View) → j ≢ number → get_elem? views j ≡ some u → After j u = λ j u other e.
-        let theirs = kept.2 j u e in
-        let not_own = of_no_other v.role u.role job (λ same. other (at_once j number (sym theirs.0 ∙ sym same ∙ mine.0))) own in
-        (theirs.0, theirs.1 ∙ sym (of_as_many u.role all job not_own) ∙ ap (of u.role) joined, theirs.2) in
-    (popped, subst (λ n. All (IsAllowed n) (popped ++ (items ++ job ∷ []))) (sym as_many) (subst (All (IsAllowed passes)) joined allowed),
-      λ j u e. subst (λ n. Knows popped (items ++ job ∷ []) n j u) (sym as_many) (known After views number w mine_after others_after j u e))
+    let theirs = kept.2 j u e in
+    let not_own = of_no_other v.role u.role job (λ same. other (at_once j number (sym theirs.0 ∙ sym same ∙ mine.0))) own in
+    (theirs.0, theirs.1 ∙ sym (of_as_many u.role all job not_own) ∙ ap (of u.role) joined, theirs.2) in (
+      popped,
+      subst (λ n. All (IsAllowed n) (popped ++ (items ++ job ∷ []))) (sym as_many) (subst (All (IsAllowed passes)) joined allowed),
+      λ j u e. subst (λ n. Knows popped (items ++ job ∷ []) n j u) (sym as_many) (known After views number w mine_after others_after j u e),
+    )
 
 pub pushes : (n number : ℕ) (v : View) (job : Job) → IsTrue (may_push v.role job) → Pushes IsKept n number v job (IsPush v job)
 pushes n number v job may = λ items views _ kept at.
@@ -69,10 +70,12 @@ popped_kept number v job items views is_worker kept at =
     let After : ℕ → View → Type 0 = Knows more items passes in
     let mine_after : After number w = (mine.0, mine.1 ∙ ap (of v.role) joined, λ worker. (ap (λ l. l ++ job ∷ []) (mine.2 worker).0, (mine.2 worker).1)) in
     let others_after : (j : ℕ) (u : View) → j ≢ number → get_elem? views j ≡ some u → After j u = λ j u other e.
-        let theirs = kept.2 j u e in
-        (theirs.0, theirs.1 ∙ ap (of u.role) joined, λ worker. absurd (other (at_once j number (sym theirs.0 ∙ worker ∙ sym is_worker ∙ mine.0)))) in
-    (more, subst (λ n. All (IsAllowed n) (more ++ items)) (sym as_many) (subst (All (IsAllowed passes)) joined kept.1),
-      λ j u e. subst (λ n. Knows more items n j u) (sym as_many) (known After views number w mine_after others_after j u e))
+    let theirs = kept.2 j u e in
+    (theirs.0, theirs.1 ∙ ap (of u.role) joined, λ worker. absurd (other (at_once j number (sym theirs.0 ∙ worker ∙ sym is_worker ∙ mine.0)))) in (
+      more,
+      subst (λ n. All (IsAllowed n) (more ++ items)) (sym as_many) (subst (All (IsAllowed passes)) joined kept.1),
+      λ j u e. subst (λ n. Knows more items n j u) (sym as_many) (known After views number w mine_after others_after j u e),
+    )
 
 front_allowed : (passes : ℕ) (popped items : List Job) (job : Job) → All (IsAllowed passes) (popped ++ job ∷ items) → IsAllowed passes job
 front_allowed passes popped items job allowed =
@@ -101,13 +104,16 @@ forks number v is_worker = λ items views kept at.
     let After : ℕ → View → Type 0 = Knows popped items (passes + 1) in
     let left_after : After number left = (mine.0, mine.1, λ worker. ((mine.2 worker).0, ap (λ n. n + 1) made)) in
     let others_after : (j : ℕ) (u : View) → j ≢ number → get_elem? views j ≡ some u → After j u = λ j u other e.
-        let theirs = kept.2 j u e in
-        (theirs.0, theirs.1, λ worker. absurd (other (at_once j number (sym theirs.0 ∙ worker ∙ sym is_worker ∙ mine.0)))) in
+    let theirs = kept.2 j u e in
+    (theirs.0, theirs.1, λ worker. absurd (other (at_once j number (sym theirs.0 ∙ worker ∙ sym is_worker ∙ mine.0)))) in
     let below : number < passes = at_below views number v at in
     let right_after : (j : ℕ) → j ≡ passes → After j right = λ j new. (
-        ap role_at (made ∙ sym new),
-        sym (ap (λ n. of (role_at n) all) made ∙ of_later passes all kept.1),
-        λ worker. let none : v.passes ≡ 0 = at_once v.passes 0 worker in absurd (omega (arith, none, made, below))) in
-    (popped, subst (λ n. All (IsAllowed n) all) (sym one_more) (more_allowed passes all kept.1),
+      ap role_at (made ∙ sym new),
+      sym (ap (λ n. of (role_at n) all) made ∙ of_later passes all kept.1),
+      λ worker. let none : v.passes ≡ 0 = at_once v.passes 0 worker in absurd (omega (arith, none, made, below)),
+    ) in (
+      popped,
+      subst (λ n. All (IsAllowed n) all) (sym one_more) (more_allowed passes all kept.1),
       λ j u e. subst (λ n. Knows popped items n j u) (sym one_more) (⊎_elim (known After views number left left_after others_after j u)
-          (λ new. subst (After j) new.1 (right_after j (new.0 ∙ as_many))) (at_more rest right u j e)))
+          (λ new. subst (After j) new.1 (right_after j (new.0 ∙ as_many))) (at_more rest right u j e)),
+    )

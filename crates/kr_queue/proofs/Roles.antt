@@ -1,12 +1,12 @@
 -- Each job is of one role at most, and each role stands at one number.
-use Rattle.std.proofs.Common.{◌≡◌, ◌≢◌, ◌<◌, ◌+◌, ℕ, zero, suc, true, false, true≢false, cond, Bool, List, [], ◌∷◌, ◌++◌, length, filter, slice_index_or, All, IsTrue, refl, sym, ap, ◌∙◌, append-nil, arith}
+use Rattle.std.proofs.Common.{◌≡◌, ◌≢◌, ◌<◌, ◌+◌, ℕ, zero, suc, true, false, true≢false, cond, List, [], ◌∷◌, ◌++◌, slice_index_or, All, refl, sym, ap, ◌∙◌, append-nil, arith}
 use Rattle.std.proofs.lemmas.Bool.{and_parts, eqb-true, false_from_ne_true}
 use Rattle.std.proofs.lemmas.List.Elements.{All-tail, All-head, filter-append}
 use Rattle.kr_queue.specs.declared.jobs.Job.{Job}
 use Rattle.kr_queue.specs.declared.jobs.Job.TheVariants as jobs
 use Rattle.kr_queue.specs.declared.passes.Role.{Role}
 use Rattle.kr_queue.specs.declared.passes.Role.TheVariants as roles
-use Rattle.kr_queue.specs.Jobs.{is_of, of, may_push}
+use Rattle.kr_queue.specs.Jobs.{is_of, of}
 use Rattle.kr_queue.specs.QueueRule.{role_at, IsAllowed}
 
 abbrev number_of : Role → ℕ
@@ -59,7 +59,7 @@ of_as_many role jobs job not_own = filter-append (is_of role) jobs (job ∷ []) 
 pub of_later : (passes : ℕ) (jobs : List Job) → All (IsAllowed passes) jobs → of (role_at passes) jobs ≡ []
 of_later passes jobs allowed = of_none (role_at passes) jobs (λ k d lt. let a = allowed k d lt in
     of_no_other (role_at a.0) (role_at passes) (slice_index_or jobs k d) (λ same. let e : a.0 ≡ passes = at_once a.0 passes same in let less : a.0 < passes = a.1 in absurd (omega (arith, e, less)))
-        (and_parts _ _ a.2).0)
+    (and_parts _ _ a.2).0)
 
 pub more_allowed : (passes : ℕ) (jobs : List Job) → All (IsAllowed passes) jobs → All (IsAllowed (passes + 1)) jobs
 more_allowed passes jobs allowed = λ k d lt. let a = allowed k d lt in let less : a.0 < passes = a.1 in (a.0, omega (arith, less), a.2)

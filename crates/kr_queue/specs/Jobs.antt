@@ -1,5 +1,5 @@
 -- Whose a job is, and which jobs may be pushed. This project's own.
-use Rattle.std.specs.Prelude.{◌&&◌, ◌==◌, ℕ, Bool, true, false, not, List, filter}
+use Rattle.std.specs.Prelude.{◌&&◌, ◌==◌, Bool, true, false, not, List, filter}
 use Rattle.kr_calls.specs.declared.events.Event.{Event}
 use Rattle.kr_calls.specs.declared.events.Event.TheVariants as events
 use Rattle.kr_calls.specs.Decide.{is_read}

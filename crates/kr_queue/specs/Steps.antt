@@ -25,8 +25,8 @@ abbrev pub IsPush : View → Job → View → Type 0
 IsPush v job w =
     (w ≡ with_pushed v job)
     × ((items : List Job) × (views : List View) × (number : ℕ)
-        × IsMoment items views number v
-        × IsKept (items ++ job ∷ []) (slice_set views number w))
+    × IsMoment items views number v
+    × IsKept (items ++ job ∷ []) (slice_set views number w))
 
 -- the job left the front of what the queue held, and one of the passes was allowed to push it
 abbrev pub IsPop : View → Job → View → Type 0
@@ -34,5 +34,5 @@ IsPop v job w =
     (w ≡ with_popped v job)
     × IsAllowed v.passes job
     × ((items : List Job) × (views : List View) × (number : ℕ)
-        × IsMoment (job ∷ items) views number v
-        × IsKept items (slice_set views number w))
+    × IsMoment (job ∷ items) views number v
+    × IsKept items (slice_set views number w))

@@ -5,8 +5,6 @@ mod jobs;
 mod passes;
 mod queue;
 mod rule;
-#[cfg(test)]
-mod tests;
 
 pub use jobs::Job;
 pub use passes::{ClientPasses, Pass, Passes, Role, View};

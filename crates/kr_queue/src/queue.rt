@@ -93,12 +93,7 @@ pub fn open(alloc: Global, clients: u32) -> Result<(Arc<Queue, Global>, Passes),
 impl Queue {
     /// Adds the job behind all that the queue holds. It comes back where there is no memory for it, and the queue takes
     /// no more than nearly 2^62 jobs. The pass is of this queue, and the job is one that its user may push.
-    pub fn push<R: Wait>(
-        &self,
-        rt: &R,
-        pass: &mut Pass,
-        job: Job,
-    ) -> Result<(), (NoMemory, Job)>
+    pub fn push<R: Wait>(&self, rt: &R, pass: &mut Pass, job: Job) -> Result<(), (NoMemory, Job)>
         requires pass { IsPassOf self.now pass.old }
         requires job { IsTrue (may_push (view pass.old).role job) }
         ensures pass { IsPassOf self.now pass.new }
