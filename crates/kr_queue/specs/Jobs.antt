@@ -1,0 +1,36 @@
+-- Whose a job is, and which jobs may be pushed. This project's own.
+use Rattle.std.specs.Prelude.{◌&&◌, ◌==◌, Bool, true, false, not, List, filter}
+use Rattle.kr_calls.specs.declared.events.Event.{Event}
+use Rattle.kr_calls.specs.declared.events.Event.TheVariants as events
+use Rattle.kr_calls.specs.Decide.{is_read}
+use Rattle.kr_queue.specs.declared.jobs.Job.{Job}
+use Rattle.kr_queue.specs.declared.jobs.Job.TheVariants as jobs
+use Rattle.kr_queue.specs.declared.passes.Role.{Role}
+use Rattle.kr_queue.specs.declared.passes.Role.TheVariants as roles
+
+-- events and stops are the link's jobs, a write is that of the client with its seat
+abbrev pub is_of : Role → Job → Bool
+is_of roles.Link (jobs.Link event) = true
+is_of roles.Link (jobs.Stop number) = true
+is_of (roles.Client seat) (jobs.Write own ticket floor call) = own == seat
+is_of role job = false
+
+-- the jobs of the role, in order
+abbrev pub of : Role → List Job → List Job
+of role jobs = filter (is_of role) jobs
+
+-- requests come as writes, and the image isn't asked for through the queue
+abbrev pub is_link_event : Event → Bool
+is_link_event (events.Request client now ask) = false
+is_link_event events.Image = false
+is_link_event event = true
+
+-- what the link brings is no request, and what a client brings is no read
+abbrev pub is_fit : Job → Bool
+is_fit (jobs.Link event) = is_link_event event
+is_fit (jobs.Stop number) = true
+is_fit (jobs.Write seat ticket floor call) = not (is_read call.request)
+
+-- the job may be pushed under a pass of the role
+abbrev pub may_push : Role → Job → Bool
+may_push role job = is_of role job && is_fit job

@@ -1,0 +1,4 @@
+pub mod Jobs
+pub mod QueueRule
+pub mod Steps
+pub mod Passes
