@@ -1,1 +1,4 @@
 pub mod Changes
+pub mod Numbered
+pub mod Placements
+pub mod Settings

@@ -4,82 +4,50 @@ ghost use Rattle.std.specs.Prelude.{◌≡◌, ◌++◌, length, vec_len, Ok, If
 ghost use Rattle.kr_batch.specs.Answers.{Gives};
 ghost use Rattle.kr_batch.specs.Crc as crc;
 ghost use Rattle.kr_batch.specs.Reading.{batch_of};
-ghost use Rattle.kr_batch.specs.Written.{batch_bytes};
-ghost use Rattle.kr_bench.specs.Changes.{changed};
-ghost use Rattle.kr_bench.specs.declared.load.TheConstants.{RECORDS};
+ghost use Rattle.kr_batch.specs.Written.{IsRegular, batch_bytes};
+ghost use Rattle.kr_req.specs.Messages.{IsAsk};
 
 use crate::changes::changes;
+use crate::placing::brokers;
+use crate::request::{TOPICS, message_of};
+use crate::settings::settings;
 use kr_base::NoMemory;
 use kr_batch::{Batch, BatchFault, crc32c, round_trip};
+use kr_calls::Ask;
+use kr_defs::Text;
 use kr_defs::limits::MOST_RECORDS;
 use std::alloc::{AllocError, Global};
-
-/// What is measured.
-#[derive(Clone, Copy, Debug, PartialEq, Eq)]
-pub enum Job {
-    Checksum,
-    Encode,
-    Decode,
-}
-
-impl Job {
-    pub fn name(self) -> &'static str {
-        match self {
-            Job::Checksum => "crc32c",
-            Job::Encode => "encode",
-            Job::Decode => "decode",
-        }
-    }
-}
 
 /// How many bytes the checksum is over.
 const SUMMED: u32 = 8 << 20;
 
-/// How many records the batch has: as many as a batch may have.
+/// How many records a batch has: as many as a batch may have.
 const RECORDS: u32 = MOST_RECORDS as u32;
 
-/// What the jobs work on.
+/// A batch, and the bytes that it is encoded as.
 #[derive(Drop)]
-pub struct Load {
-    summed: Vec<u8>,
-    // The checksum of those bytes.
-    sum: u32,
+pub struct Encoded {
     batch: Batch,
-    // The bytes of the batch.
-    encoded: Vec<u8>,
-    ghost changes: { batch.items ≡ changed RECORDS },
-    ghost is_sum: { sum ≡ crc.crc32c summed.items },
-    ghost written: { encoded.items ≡ batch_bytes batch },
-    ghost read: { batch_of encoded.items ≡ Ok batch },
+    bytes: Vec<u8>,
+    ghost regular: { IsRegular batch },
+    ghost written: { bytes.items ≡ batch_bytes batch },
+    ghost read: { batch_of bytes.items ≡ Ok batch },
 }
 
-impl Load {
-    /// Bytes, and a batch of records with what it is encoded as.
-    pub fn new(alloc: Global) -> Result<Load, AllocError> {
-        let batch = Batch {
-            base: 0,
-            epoch: 1,
-            time: 1_700_000_000_000,
-            items: changes(alloc, RECORDS)?,
-        };
-        let mut encoded = Vec::new(alloc);
-        encode(&batch, &mut encoded)?;
+impl Encoded {
+    fn new(alloc: Global, batch: Batch) -> Result<Encoded, AllocError>
+        requires { IsRegular batch }
+    {
+        let mut bytes = Vec::new(alloc);
+        encode(&batch, &mut bytes)?;
         round_trip();
-        let summed = numbers(alloc)?;
-        Ok(Load {
-            sum: crc32c(&summed),
-            summed,
-            batch,
-            encoded,
-        })
+        Ok(Encoded { batch, bytes })
     }
 
-    /// The bytes that the job reads or writes.
-    pub fn bytes_of(&self, job: Job) -> &[u8] {
-        match job {
-            Job::Checksum => &self.summed,
-            Job::Encode | Job::Decode => &self.encoded,
-        }
+    pub fn as_bytes(&self) -> &[u8]
+        ensures { result.now ≡ self.now.bytes.items }
+    {
+        &self.bytes
     }
 
     /// How many records the batch has.
@@ -97,6 +65,54 @@ impl Load {
             && batch.items == self.batch.items
     }
 
+    /// Appends the bytes of the batch.
+    pub fn encode(&self, out: &mut Vec<u8>) -> Result<(), AllocError>
+        ensures { OnOk result (out.new.items ≡ out.old.items ++ batch_bytes self.now.batch) }
+    {
+        encode(&self.batch, out)
+    }
+
+    /// The batch, from its bytes: the very one, unless memory runs out.
+    pub fn decode(&self, alloc: Global) -> Result<Batch, BatchFault>
+        ensures { Gives result (Ok self.now.batch) }
+    {
+        kr_batch::decode(alloc, &self.bytes)
+    }
+}
+
+/// What the jobs work on.
+#[derive(Drop)]
+pub struct Load {
+    /// What the checksum is over.
+    pub summed: Vec<u8>,
+    // The checksum of those bytes.
+    sum: u32,
+    pub changes: Encoded,
+    pub settings: Encoded,
+    /// The longest message, one of half its size, and one that promises more topics than it has.
+    pub message: Vec<u8>,
+    pub half: Vec<u8>,
+    pub promising: Vec<u8>,
+    /// The brokers that partitions are placed over, each with its rack.
+    pub brokers: Vec<(i32, Option<Text>)>,
+    ghost is_sum: { sum ≡ crc.crc32c summed.items },
+}
+
+impl Load {
+    pub fn new(alloc: Global) -> Result<Load, AllocError> {
+        let summed = numbers(alloc)?;
+        Ok(Load {
+            sum: crc32c(&summed),
+            summed,
+            changes: Encoded::new(alloc, changes_batch(alloc)?)?,
+            settings: Encoded::new(alloc, settings_batch(alloc)?)?,
+            message: message_of(alloc, TOPICS, TOPICS)?,
+            half: message_of(alloc, TOPICS / 2, TOPICS / 2)?,
+            promising: message_of(alloc, TOPICS, 3 * TOPICS)?,
+            brokers: brokers(alloc)?,
+        })
+    }
+
     /// The checksum, as it was counted at first.
     pub fn sum(&self) -> u32
         ensures { result ≡ crc.crc32c self.now.summed.items }
@@ -110,25 +126,44 @@ impl Load {
     {
         crc32c(&self.summed)
     }
+}
 
-    /// Appends the bytes of the batch.
-    pub fn encode(&self, out: &mut Vec<u8>) -> Result<(), AllocError>
-        ensures { OnOk result (out.new.items ≡ out.old.items ++ batch_bytes self.now.batch) }
-    {
-        encode(&self.batch, out)
-    }
-
-    /// The batch, from its bytes: the very one, unless memory runs out.
-    pub fn decode(&self, alloc: Global) -> Result<Batch, BatchFault>
-        ensures { Gives result (Ok self.now.batch) }
-    {
-        kr_batch::decode(alloc, &self.encoded)
+/// What the message asks.
+pub fn ask(alloc: Global, message: &[u8]) -> Result<Ask, AllocError>
+    ensures { IfOk result (λ ask. IsAsk ask message.now) }
+{
+    match kr_req::decode(alloc, message) {
+        Ok(ask) => Ok(ask),
+        Err(NoMemory) => Err(AllocError),
     }
 }
 
-// Appends the bytes of a batch of the changes.
+fn changes_batch(alloc: Global) -> Result<Batch, AllocError>
+    ensures { IfOk result IsRegular }
+{
+    let items = changes(alloc, RECORDS)?;
+    Ok(Batch {
+        base: 0,
+        epoch: 1,
+        time: 1_700_000_000_000,
+        items,
+    })
+}
+
+fn settings_batch(alloc: Global) -> Result<Batch, AllocError>
+    ensures { IfOk result IsRegular }
+{
+    let items = settings(alloc, RECORDS)?;
+    Ok(Batch {
+        base: 0,
+        epoch: 1,
+        time: 1_700_000_000_000,
+        items,
+    })
+}
+
 fn encode(batch: &Batch, out: &mut Vec<u8>) -> Result<(), AllocError>
-    requires { batch.now.items ≡ changed RECORDS }
+    requires { IsRegular batch.now }
     ensures { OnOk result (out.new.items ≡ out.old.items ++ batch_bytes batch.now) }
 {
     match kr_batch::encode(batch, out) {
