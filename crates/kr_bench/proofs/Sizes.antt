@@ -1,9 +1,11 @@
 -- Batches of changes and of settings have a written form.
-use Rattle.std.proofs.Common.{◌≡◌, ℕ, zero, suc, ℤ, pos, ◌*◌, ◌^◌, ◌<◌, ◌≤◌, List, [], ◌∷◌, length, FitsSigned, w32, w64, refl, rules, arith, length-append}
+use Rattle.std.proofs.Common.{◌≡◌, ℕ, zero, suc, ℤ, pos, ◌*◌, ◌^◌, ◌<◌, ◌≤◌, List, [], ◌∷◌, length, FitsSigned, w32, w64, refl, rules, arith, length-append, codes, IsUtf8}
 use Rattle.std.specs.List.{All}
 use Rattle.std.proofs.lemmas.List.Elements.{All-nil, All-push}
 use Rattle.std.proofs.lemmas.List.Sums.{sum_by-append}
 use Rattle.std.proofs.lemmas.Str.{IsUtf8-from_is_utf8}
+use Rattle.std.specs.Str.{is_utf8, chars}
+use lib.Utf8.{encode}
 use Rattle.kr_wire.specs.Spelling.{uvarint, signed, id}
 use Rattle.kr_defs.specs.declared.record.Record.{Record}
 use Rattle.kr_defs.specs.declared.record.Item.{Item}
@@ -13,6 +15,9 @@ use Rattle.kr_record.specs.Held.{IsHeld}
 use Rattle.kr_record.specs.Spelling.{record_value, framed, change, change_tags, config, no_tags}
 use Rattle.kr_batch.specs.declared.Batch.{Batch}
 use Rattle.kr_batch.specs.Written.{value_bytes, values_size, IsHeldItem, IsRegular, IsWritable}
+use Rattle.kr_bench.specs.Batches.{batch_of}
+use Rattle.kr_bench.specs.declared.batches.Kind.{Kind}
+use Rattle.kr_bench.specs.declared.batches.Kind.TheVariants as kinds
 use Rattle.kr_bench.specs.Changes.{change_at}
 use Rattle.kr_bench.specs.Numbered.{numbered}
 use Rattle.kr_bench.specs.Settings.{setting_at}
@@ -69,21 +74,30 @@ setting_length index = refl
 setting_writable : (index : ℤ) → IsEncodable (setting_at index)
 setting_writable index = search (rules, arith)
 
+orders : IsUtf8 (codes "orders")
+unfolding is_utf8 chars encode
+orders = IsUtf8-from_is_utf8 (codes "orders") refl
+
+retention : IsUtf8 (codes "retention.ms")
+unfolding is_utf8 chars encode
+retention = IsUtf8-from_is_utf8 (codes "retention.ms") refl
+
+week : IsUtf8 (codes "604800000")
+unfolding is_utf8 chars encode
+week = IsUtf8-from_is_utf8 (codes "604800000") refl
+
 setting_held : (n : ℕ) → n < 10000 → IsHeld (setting_at (pos n))
 setting_held n lt = record {
   held_kind = search rules;
-  held_name = IsUtf8-from_is_utf8 _ refl;
-  held_key = IsUtf8-from_is_utf8 _ refl;
-  held_value = IsUtf8-from_is_utf8 _ refl;
+  held_name = orders;
+  held_key = retention;
+  held_value = week;
 }
 
--- ---- batches of 10,000
+-- ---- both
 
-abbrev batch_of : List Item → Batch
-batch_of all = record { base = pos 0; epoch = pos 1; time = pos 1700000000000; items = all }
-
-pub changes_regular : (all : List Item) → all ≡ numbered change_at 10000 → IsRegular (batch_of all)
-changes_regular all is =
+changes_regular : IsRegular (batch_of kinds.Changes)
+changes_regular =
     let size = values_length change_at 41 change_length 10000 in
     let count = numbered_length change_at 41 10000 in
     record {
@@ -91,15 +105,15 @@ changes_regular all is =
       base = search rules;
       epoch = search rules;
       time = search rules;
-      some = rw is (omega (arith, count));
-      few = rw is (omega (arith, count));
-      each = rw is (all_writable change_at 41 change_writable 10000);
-      held = rw is (all_held change_at 41 change_held 10000 (omega arith));
-      small = rw is (omega (arith, size));
+      some = omega (arith, count);
+      few = omega (arith, count);
+      each = all_writable change_at 41 change_writable 10000;
+      held = all_held change_at 41 change_held 10000 (omega arith);
+      small = omega (arith, size);
     }
 
-pub settings_regular : (all : List Item) → all ≡ numbered setting_at 10000 → IsRegular (batch_of all)
-settings_regular all is =
+settings_regular : IsRegular (batch_of kinds.Settings)
+settings_regular =
     let size = values_length setting_at 35 setting_length 10000 in
     let count = numbered_length setting_at 35 10000 in
     record {
@@ -107,9 +121,16 @@ settings_regular all is =
       base = search rules;
       epoch = search rules;
       time = search rules;
-      some = rw is (omega (arith, count));
-      few = rw is (omega (arith, count));
-      each = rw is (all_writable setting_at 35 setting_writable 10000);
-      held = rw is (all_held setting_at 35 setting_held 10000 (omega arith));
-      small = rw is (omega (arith, size));
+      some = omega (arith, count);
+      few = omega (arith, count);
+      each = all_writable setting_at 35 setting_writable 10000;
+      held = all_held setting_at 35 setting_held 10000 (omega arith);
+      small = omega (arith, size);
     }
+
+regular_of : (kind : Kind) → IsRegular (batch_of kind)
+regular_of kinds.Changes = changes_regular
+regular_of kinds.Settings = settings_regular
+
+pub regular : (batch : Batch) (kind : Kind) → batch ≡ batch_of kind → IsRegular batch
+regular batch kind is = rw is (regular_of kind)

@@ -1,3 +1,4 @@
+pub mod Batches
 pub mod Changes
 pub mod Numbered
 pub mod Placements

@@ -1,6 +1,7 @@
 //! What is measured.
 
-use crate::load::{Encoded, Load};
+use crate::batches::{Encoded, Kind};
+use crate::load::Load;
 
 /// What is measured.
 #[derive(Clone, Copy, Debug, PartialEq, Eq)]
@@ -9,13 +10,6 @@ pub enum Job {
     Encode(Kind),
     Decode(Kind),
     Request(Form),
-}
-
-/// What the records of a batch are.
-#[derive(Clone, Copy, Debug, PartialEq, Eq)]
-pub enum Kind {
-    Changes,
-    Settings,
 }
 
 /// What a request message is.
@@ -57,17 +51,8 @@ impl Job {
     pub fn bytes(self, load: &Load) -> &[u8] {
         match self {
             Job::Checksum => &load.summed,
-            Job::Encode(kind) | Job::Decode(kind) => kind.encoded(load).as_bytes(),
+            Job::Encode(kind) | Job::Decode(kind) => encoded(load, kind).as_bytes(),
             Job::Request(form) => form.message(load),
-        }
-    }
-}
-
-impl Kind {
-    pub fn encoded(self, load: &Load) -> &Encoded {
-        match self {
-            Kind::Changes => &load.changes,
-            Kind::Settings => &load.settings,
         }
     }
 }
@@ -79,5 +64,13 @@ impl Form {
             Form::Half => &load.half,
             Form::Promising => &load.promising,
         }
+    }
+}
+
+/// The batch of that kind.
+pub fn encoded(load: &Load, kind: Kind) -> &Encoded {
+    match kind {
+        Kind::Changes => &load.changes,
+        Kind::Settings => &load.settings,
     }
 }

@@ -1,84 +1,20 @@
 //! What the jobs work on, and the jobs.
 
-ghost use Rattle.std.specs.Prelude.{◌≡◌, ◌++◌, length, vec_len, Ok, IfOk, OnOk};
-ghost use Rattle.kr_batch.specs.Answers.{Gives};
+ghost use Rattle.std.specs.Prelude.{◌≡◌, vec_len, IfOk};
 ghost use Rattle.kr_batch.specs.Crc as crc;
-ghost use Rattle.kr_batch.specs.Reading.{batch_of};
-ghost use Rattle.kr_batch.specs.Written.{IsRegular, batch_bytes};
 ghost use Rattle.kr_req.specs.Messages.{IsAsk};
 
-use crate::changes::changes;
+use crate::batches::{Encoded, Kind};
 use crate::placing::brokers;
 use crate::request::{TOPICS, message_of};
-use crate::settings::settings;
 use kr_base::NoMemory;
-use kr_batch::{Batch, BatchFault, crc32c, round_trip};
+use kr_batch::crc32c;
 use kr_calls::Ask;
 use kr_defs::Text;
-use kr_defs::limits::MOST_RECORDS;
 use std::alloc::{AllocError, Global};
 
 /// How many bytes the checksum is over.
 const SUMMED: u32 = 8 << 20;
-
-/// How many records a batch has: as many as a batch may have.
-const RECORDS: u32 = MOST_RECORDS as u32;
-
-/// A batch, and the bytes that it is encoded as.
-#[derive(Drop)]
-pub struct Encoded {
-    batch: Batch,
-    bytes: Vec<u8>,
-    ghost regular: { IsRegular batch },
-    ghost written: { bytes.items ≡ batch_bytes batch },
-    ghost read: { batch_of bytes.items ≡ Ok batch },
-}
-
-impl Encoded {
-    fn new(alloc: Global, batch: Batch) -> Result<Encoded, AllocError>
-        requires { IsRegular batch }
-    {
-        let mut bytes = Vec::new(alloc);
-        encode(&batch, &mut bytes)?;
-        round_trip();
-        Ok(Encoded { batch, bytes })
-    }
-
-    pub fn as_bytes(&self) -> &[u8]
-        ensures { result.now ≡ self.now.bytes.items }
-    {
-        &self.bytes
-    }
-
-    /// How many records the batch has.
-    pub fn records(&self) -> usize
-        ensures { result ≡ length self.now.batch.items }
-    {
-        self.batch.items.len()
-    }
-
-    /// The batch is this one.
-    pub fn has(&self, batch: &Batch) -> bool {
-        batch.base == self.batch.base
-            && batch.epoch == self.batch.epoch
-            && batch.time == self.batch.time
-            && batch.items == self.batch.items
-    }
-
-    /// Appends the bytes of the batch.
-    pub fn encode(&self, out: &mut Vec<u8>) -> Result<(), AllocError>
-        ensures { OnOk result (out.new.items ≡ out.old.items ++ batch_bytes self.now.batch) }
-    {
-        encode(&self.batch, out)
-    }
-
-    /// The batch, from its bytes: the very one, unless memory runs out.
-    pub fn decode(&self, alloc: Global) -> Result<Batch, BatchFault>
-        ensures { Gives result (Ok self.now.batch) }
-    {
-        kr_batch::decode(alloc, &self.bytes)
-    }
-}
 
 /// What the jobs work on.
 #[derive(Drop)]
@@ -104,8 +40,8 @@ impl Load {
         Ok(Load {
             sum: crc32c(&summed),
             summed,
-            changes: Encoded::new(alloc, changes_batch(alloc)?)?,
-            settings: Encoded::new(alloc, settings_batch(alloc)?)?,
+            changes: Encoded::new(alloc, Kind::Changes)?,
+            settings: Encoded::new(alloc, Kind::Settings)?,
             message: message_of(alloc, TOPICS, TOPICS)?,
             half: message_of(alloc, TOPICS / 2, TOPICS / 2)?,
             promising: message_of(alloc, TOPICS, 3 * TOPICS)?,
@@ -134,40 +70,6 @@ pub fn ask(alloc: Global, message: &[u8]) -> Result<Ask, AllocError>
 {
     match kr_req::decode(alloc, message) {
         Ok(ask) => Ok(ask),
-        Err(NoMemory) => Err(AllocError),
-    }
-}
-
-fn changes_batch(alloc: Global) -> Result<Batch, AllocError>
-    ensures { IfOk result IsRegular }
-{
-    let items = changes(alloc, RECORDS)?;
-    Ok(Batch {
-        base: 0,
-        epoch: 1,
-        time: 1_700_000_000_000,
-        items,
-    })
-}
-
-fn settings_batch(alloc: Global) -> Result<Batch, AllocError>
-    ensures { IfOk result IsRegular }
-{
-    let items = settings(alloc, RECORDS)?;
-    Ok(Batch {
-        base: 0,
-        epoch: 1,
-        time: 1_700_000_000_000,
-        items,
-    })
-}
-
-fn encode(batch: &Batch, out: &mut Vec<u8>) -> Result<(), AllocError>
-    requires { IsRegular batch.now }
-    ensures { OnOk result (out.new.items ≡ out.old.items ++ batch_bytes batch.now) }
-{
-    match kr_batch::encode(batch, out) {
-        Ok(()) => Ok(()),
         Err(NoMemory) => Err(AllocError),
     }
 }

@@ -2,6 +2,7 @@
 //! `time` each is measured. With the word `message` one message is read from standard input.
 #![tactic(auto)]
 
+mod batches;
 mod changes;
 mod job;
 mod load;

@@ -1,6 +1,7 @@
 //! Each job once, and what came of it: the same lines in each run.
 
-use crate::job::{Form, JOBS, Job, Kind};
+use crate::batches::Kind;
+use crate::job::{Form, JOBS, Job, encoded};
 use crate::load::{Load, ask};
 use crate::placing::place_all;
 use crate::request::topics_of;
@@ -27,7 +28,7 @@ fn print_checksum<R: Print + AllocGlobal>(rt: &R, load: &Load) -> anyhow::Result
 }
 
 fn print_encoded<R: Print + AllocGlobal>(rt: &R, load: &Load, kind: Kind) -> anyhow::Result<()> {
-    let encoded = kind.encoded(load);
+    let encoded = encoded(load, kind);
     let mut bytes = Vec::new(rt.alloc());
     encoded.encode(&mut bytes)?;
     let (records, size, sum) = (encoded.records(), bytes.len(), crc32c(&bytes));
@@ -39,7 +40,7 @@ fn print_encoded<R: Print + AllocGlobal>(rt: &R, load: &Load, kind: Kind) -> any
 }
 
 fn print_decoded<R: Print + AllocGlobal>(rt: &R, load: &Load, kind: Kind) -> anyhow::Result<()> {
-    let encoded = kind.encoded(load);
+    let encoded = encoded(load, kind);
     let batch = encoded.decode(rt.alloc())?;
     let (size, records) = (encoded.as_bytes().len(), batch.items.len());
     let is = if encoded.has(&batch) {

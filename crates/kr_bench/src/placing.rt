@@ -36,20 +36,28 @@ pub fn brokers(alloc: Global) -> Result<Vec<(i32, Option<Text>)>, AllocError>
 pub fn place_all(alloc: Global, brokers: &[(i32, Option<Text>)]) -> Result<Vec<Ids>, AllocError>
     ensures { IfOk result (λ placed. placed.items ≡ placements (grouped brokers.now) PARTITIONS) }
 {
-    match place_each(alloc, brokers) {
+    match group_and_place(alloc, brokers) {
         Ok(placed) => Ok(placed),
         Err(NoMemory) => Err(AllocError),
     }
 }
 
-#[tactic(auto, unfolding(crate::specs::Placements::placements))]
-fn place_each(alloc: Global, brokers: &[(i32, Option<Text>)]) -> Result<Vec<Ids>, NoMemory>
+fn group_and_place(alloc: Global, brokers: &[(i32, Option<Text>)]) -> Result<Vec<Ids>, NoMemory>
     ensures { IfOk result (λ placed. placed.items ≡ placements (grouped brokers.now) PARTITIONS) }
 {
     let those = Grouped::of(alloc, brokers)?;
-    let mut placed = Vec::with_capacity(alloc, PARTITIONS as usize)?;
-    for number in 0..PARTITIONS {
-        placed.push(those.place(alloc, u64::from(number), FACTOR)?)?;
+    place_each(alloc, &those, PARTITIONS)
+}
+
+// The replicas of so many partitions.
+#[tactic(auto, unfolding(crate::specs::Placements::placements))]
+fn place_each(alloc: Global, those: &Grouped, count: u32) -> Result<Vec<Ids>, NoMemory>
+    ensures { IfOk result (λ placed. placed.items ≡ placements those.now count) }
+{
+    let mut placed = Vec::with_capacity(alloc, count as usize)?;
+    for number in 0..count {
+        let ids = those.place(alloc, u64::from(number), FACTOR)?;
+        placed.push(ids)?;
     }
     Ok(placed)
 }

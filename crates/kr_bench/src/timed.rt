@@ -3,7 +3,8 @@
 ghost use Rattle.std.specs.Prelude.{◌≡◌, ◌*◌, ◌/◌, max};
 ghost use Rattle.std.specs.Duration.{as_nanos};
 
-use crate::job::{Form, JOBS, Job, Kind};
+use crate::batches::Kind;
+use crate::job::{Form, JOBS, Job, encoded};
 use crate::load::{Load, ask};
 use crate::placing::{PARTITIONS, place_all};
 use crate::request::{TOPICS, topics_of};
@@ -125,7 +126,7 @@ fn checksum_round(rt: &impl Clock, load: &Load) -> Result<Duration> {
 }
 
 fn encode_round(rt: &impl Clock, load: &Load, kind: Kind, room: &mut Vec<u8>) -> Result<Duration> {
-    let encoded = kind.encoded(load);
+    let encoded = encoded(load, kind);
     room.clear();
     let start = Instant::now(rt)?;
     encoded.encode(room)?;
@@ -139,7 +140,7 @@ fn encode_round(rt: &impl Clock, load: &Load, kind: Kind, room: &mut Vec<u8>) ->
 
 // The batch that was decoded is dropped behind the time.
 fn decode_round(rt: &impl Clock, alloc: Global, load: &Load, kind: Kind) -> Result<Duration> {
-    let encoded = kind.encoded(load);
+    let encoded = encoded(load, kind);
     let start = Instant::now(rt)?;
     let batch = encoded.decode(alloc)?;
     let time = start.elapsed(rt)?;

@@ -3,5 +3,5 @@ use Rattle.kr_bench.specs.Numbered.{numbered}
 use Rattle.kr_bench.specs.Settings.{setting_at}
 use Rattle.kr_bench.proofs.settings.settings.Given as goal
 
-abbrev pub invariant-loop-_index : goal.invariant-loop-_index
-invariant-loop-_index l = l.items ≡ numbered setting_at l._index
+abbrev pub invariant-loop-index : goal.invariant-loop-index
+invariant-loop-index l = l.items ≡ numbered setting_at l._index
