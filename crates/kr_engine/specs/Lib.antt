@@ -1,0 +1,9 @@
+pub mod Commits
+pub mod Events
+pub mod Leaderships
+pub mod Outputs
+pub mod Reasons
+pub mod Replicas
+pub mod Requests
+pub mod Ticks
+pub mod World

@@ -1,0 +1,73 @@
+-- All that is kept of past events: the log and what of it is committed (Raft's commit index, KIP-595), and whom a leading
+-- controller hears of (KIP-631).
+use Rattle.std.specs.Prelude.{ℕ, ℤ, pos, negsuc, ◌+◌, ◌==◌, int_lt, List, [], ◌∷◌, ◌++◌, length, Bool, Option, None, Result, if◌then◌else◌}
+use Rattle.std.specs.Result.{result_unwrap_or}
+use Rattle.kr_defs.specs.declared.basis.Basis.{Basis}
+use Rattle.kr_defs.specs.declared.limits.TheConstants.{GREATEST_TIP}
+use Rattle.kr_defs.specs.declared.record.Item.{Item}
+use Rattle.kr_defs.specs.declared.record.Record.{Record}
+use Rattle.kr_defs.specs.Heartbeats.{Heartbeats}
+use Rattle.kr_defs.specs.Image.{Image, empty}
+use Rattle.kr_defs.specs.ImageLaws.{as_items}
+use Rattle.kr_defs.specs.Log.{Log, first, image_at, tip}
+
+pub record World : Type 0 where
+  pub log : Log
+  -- the committed end: all places below it are committed
+  pub committed : ℕ
+  -- the ends of the batches above it
+  pub batch_ends : List ℕ
+  -- the epoch in which this node leads, or none on standby
+  pub leading : Option ℤ
+  -- the greatest epoch in which it led, at first -1
+  pub greatest : ℤ
+  -- the number of events
+  pub count : ℕ
+
+-- the world, and what decisions rest on besides its image
+pub record State : Type 0 where
+  pub world : World
+  pub basis : Basis
+
+abbrev pub start : State
+start = record {
+  world = record { log = first; committed = 0; batch_ends = []; leading = None; greatest = negsuc 0; count = 0 };
+  basis = record { time = pos 0; led = pos 0; contacts = []; stopping = [] };
+}
+
+-- ---- what is seen of them
+
+-- the image of the items below the place
+abbrev pub seen_at : Log → ℕ → Image
+seen_at log place = result_unwrap_or (image_at log place) empty
+
+abbrev pub tip_of : State → ℕ
+tip_of s = tip s.world.log
+
+abbrev pub image_of_tip : State → Image
+image_of_tip s = seen_at s.world.log (tip_of s)
+
+abbrev pub image_of_end : State → Image
+image_of_end s = seen_at s.world.log s.world.committed
+
+-- nothing may begin above the last place
+abbrev pub is_far : ℤ → Bool
+is_far place = int_lt GREATEST_TIP place
+
+-- ---- what changes them
+
+-- the items are written at the tip
+abbrev pub written : Log → List Item → Log
+written log items = record log { items = log.items ++ items }
+
+-- as one batch, where there are any
+abbrev pub with_batch : World → List Item → World
+with_batch w items =
+    if length items == 0 then w else
+    record w { log = written w.log items; batch_ends = w.batch_ends ++ (tip w.log + length items) ∷ [] }
+
+abbrev pub with_records : World → List Record → World
+with_records w records = with_batch w (as_items records)
+
+abbrev pub hearing : Basis → Heartbeats → Basis
+hearing basis heard = record basis { contacts = heard.contacts; stopping = heard.stopping }
