@@ -1,17 +1,23 @@
 -- What is kept at the place of the tip, and behind more records.
-use Rattle.std.proofs.Common.{◌≡◌, ℤ, ℕ, ◌-◌, Bool, true, false, cond, List, [], ◌∷◌, ◌++◌, refl, sym, ap, subst, ◌∙◌, map, filter, find, length, arith}
+use Rattle.std.proofs.Common.{◌≡◌, ℤ, ℕ, ◌-◌, Bool, true, false, ◌||◌, cond, List, [], ◌∷◌, ◌++◌, refl, sym, ap, subst, ◌∙◌, map, filter, find, length, arith}
 use Rattle.std.specs.Prelude.{Option, Some, None, IsSome, IsTrue, int_lt, not, ◌≤ℤ◌, pos, slice_get, unwrap_or}
 use Rattle.std.specs.List.{get_or}
 use Rattle.std.specs.Option.{option_map}
 use Rattle.std.specs.Ordering.{int_eq}
 use Rattle.std.proofs.lemmas.Int.{ints}
+use Rattle.std.proofs.lemmas.Bool.{and_parts}
 use Rattle.std.proofs.lemmas.Bool.Decides.{Decides-int_eq}
+use Rattle.kr_defs.specs.declared.basis.Stopping.{Stopping}
+use Rattle.kr_defs.specs.Heartbeats.{Heartbeats, stopping_brokers}
+use Rattle.kr_defs.specs.Ids.{has}
 use Rattle.kr_defs.specs.Image.{Image}
 use Rattle.kr_defs.proofs.Tests.{some_is}
-use Rattle.kr_store.specs.Images.{Images, IsAbove, no_images, marked, forgotten, reverted, last_kept}
+use Rattle.kr_calls.specs.NextBasis.{is_stopping}
+use Rattle.kr_store.specs.Images.{Images, IsAbove, no_images, marked, forgotten, reverted, kept_at, last_kept}
 use Rattle.kr_rows_rules.specs.Histories.{AreEpochs}
 use Rattle.kr_rows_rules.proofs.Kept.{is_above, some_kept}
-use Rattle.kr_requests.specs.Led.{IsLed}
+use Rattle.kr_rules.specs.Progress.{base_of}
+use Rattle.kr_requests.specs.Led.{IsLed, are_stopping}
 
 not_below : (x : ℤ) → int_lt x x ≡ false
 not_below x = elim (int_lt x x) as (λ b. int_lt x x ≡ b → b ≡ false) [ true ↦ λ is. grind (arith, ints) | false ↦ λ is. refl ] refl
@@ -81,4 +87,38 @@ epochs_led images place led = ap (λ (ks : List (ℤ × Image)). map (λ (k : �
 pub epochs_same : (images after : Images) (epochs : List ℤ) → AreEpochs images.kept epochs → after.kept ≡ images.kept → AreEpochs after.kept epochs
 epochs_same images after epochs are same = ap (λ (ks : List (ℤ × Image)). map (λ (k : ℤ × Image). k.0) ks) same ∙ are
 
-pub ruleset leading = (begun, last_is_place, epochs_of, epochs_led, epochs_same, one_is_kept, is_above_place, led_on, led_again)
+last_of_one : (kept : List (ℤ × Image)) (tip : Image) (made : ℕ) (place : ℤ) → AreEpochs kept (place ∷ [])
+    → last_kept (record { kept = kept; tip = tip; made = made }) ≡ Some (place, base_of (record { kept = kept; tip = tip; made = made }))
+last_of_one [] tip made place are = absurd cc
+last_of_one (k ∷ j ∷ ks) tip made place are = absurd cc
+last_of_one (k ∷ []) tip made place are = ap (λ p. Some (p, k.1)) (first_is k place are)
+
+-- the image that is kept under the place is where a request begins
+pub last_of : (images : Images) (place : ℤ) → AreEpochs images.kept (place ∷ []) → last_kept images ≡ Some (place, base_of images)
+last_of images place are = last_of_one images.kept images.tip images.made place are
+
+found_of_one : (kept : List (ℤ × Image)) (tip : Image) (made : ℕ) (place : ℤ) → AreEpochs kept (place ∷ [])
+    → kept_at (record { kept = kept; tip = tip; made = made }) place ≡ Some (base_of (record { kept = kept; tip = tip; made = made }))
+found_of_one [] tip made place are = absurd cc
+found_of_one (k ∷ j ∷ ks) tip made place are = absurd cc
+found_of_one (k ∷ []) tip made place are =
+    ap (λ b. option_map (λ (e : ℤ × Image). e.1) (cond b (Some k) None)) (ap (λ p. int_eq p place) (first_is k place are) ∙ same_place place)
+
+pub base_found : (images : Images) (place : ℤ) → AreEpochs images.kept (place ∷ []) → kept_at images place ≡ Some (base_of images)
+base_found images place are = found_of_one images.kept images.tip images.made place are
+
+stopping_among : (image : Image) (stops : List Stopping) → are_stopping image stops ≡ true
+    → (id : ℤ) → has (map (λ s. s.broker) stops) id ≡ true → is_stopping image id ≡ true
+stopping_among image [] all id is = absurd cc
+stopping_among image (s ∷ ss) all id is =
+    let parts = and_parts (is_stopping image s.broker) (are_stopping image ss) all in
+    elim (int_eq s.broker id) as (λ b. int_eq s.broker id ≡ b → is_stopping image id ≡ true) [
+      | true ↦ λ same. subst (λ x. is_stopping image x ≡ true) ((Decides-int_eq s.broker id).0 same) parts.0
+      | false ↦ λ other. stopping_among image ss parts.1 id (sym (ap (λ b. b || has (map (λ t. t.broker) ss) id) other) ∙ is)
+    ] refl
+
+pub all_stopping : (image : Image) (h : Heartbeats) → are_stopping image h.stopping ≡ true
+    → (id : ℤ) → IsTrue (has (stopping_brokers h) id) → IsTrue (is_stopping image id)
+all_stopping image h all id is = stopping_among image h.stopping all id is
+
+pub ruleset leading = (last_of, all_stopping, begun, last_is_place, epochs_of, epochs_led, epochs_same, one_is_kept, is_above_place, led_on, led_again)

@@ -5,17 +5,15 @@ ghost use Rattle.kr_rows_rules.specs.Histories.{AreEpochs};
 ghost use Rattle.kr_requests.specs.Led.{IsLed};
 
 use crate::expected::{Expected, Fenced, record_difference};
+use crate::hearing::hear;
 use crate::serving::{serve, serve_fencing};
 use kr_base::{NoMemory, Steps};
-use kr_calls::{
-    Ask, AskFault, BrokerHeartbeat, BrokerHeartbeatReply, Call, Effect, Reply, Request,
-};
+use kr_calls::{Ask, AskFault, Call, Effect, Reply, Request};
 use kr_defs::limits::PLACES_END;
 use kr_defs::{Options, Record, Records};
 use kr_image::ImageStore;
 use kr_req::{decode, encode_reply};
 use kr_rows::RowFault;
-use kr_rows_rules::{beat, stop};
 use kr_sessions::{Context, Sessions};
 use kr_store::{ApplyFault, Store};
 use std::alloc::{AllocError, Global};
@@ -156,7 +154,8 @@ impl Controller {
         };
         let answer = decide_fencing(alloc, &mut store, &context, &expected.broker, steps)?;
         let outcome = fencing_outcome(alloc, records, &answer)?;
-        let next = go_on(&mut store, place, records, &outcome, steps)?;
+        settle(&mut store, place, records, &outcome, steps)?;
+        let next = keep(&mut store, place, records.len(), steps)?;
         sessions.leave(expected.broker);
         let controller = Controller {
             options,
@@ -210,10 +209,11 @@ impl Controller {
         let answer = decide(alloc, &mut store, &context, request, steps)?;
         let outcome = answer_outcome(alloc, expected, call.correlation, &answer)?;
         let records = expected.records.as_slice();
-        let next = go_on(&mut store, place, records, &outcome, steps)?;
+        settle(&mut store, place, records, &outcome, steps)?;
         if let Some(answer) = answer {
-            hear(&mut sessions, request, &answer, &time, &place)?;
+            hear(&mut sessions, &store, time, place, request, &answer.reply)?;
         }
+        let next = keep(&mut store, place, records.len(), steps)?;
         let controller = Controller {
             options,
             store,
@@ -287,25 +287,24 @@ fn error_of(fault: AskFault) -> i16 {
     }
 }
 
-// The image after the expected records is kept under the place behind them. Where the answer holds it is already that
-// image.
+// The present image is the one after the expected records. Where the answer holds it is that already.
 #[tactic(auto, using(crate::proofs::Leading::leading))]
-fn go_on<L: Ledger>(
+fn settle<L: Ledger>(
     store: &mut ImageStore,
     place: i64,
     records: &[Record],
     outcome: &Outcome,
     steps: &mut Steps<L>,
-) -> Result<i64, RowFault>
+) -> Result<(), RowFault>
     requires epochs { AreEpochs store.old.kept (place ∷ []) }
     requires natural { pos 0 ≤ℤ place }
-    ensures { IfOk result (λ next. IsLed store.new next) }
+    ensures { OnOk result (AreEpochs store.new.kept (place ∷ [])) }
 {
-    if !matches!(outcome, Outcome::Holds) {
-        go_back(store, place, steps)?;
-        take(store, place, records, steps)?;
+    if matches!(outcome, Outcome::Holds) {
+        return Ok(());
     }
-    keep(store, place, records.len(), steps)
+    go_back(store, place, steps)?;
+    take(store, place, records, steps)
 }
 
 // Makes the image that is kept under the place the present one.
@@ -429,65 +428,4 @@ fn behind(place: &i64, count: usize) -> Result<i64, RowFault>
         Some(next) if *place < next => Ok(next),
         _ => Err(RowFault::Fields),
     }
-}
-
-// Whom the controller hears of after the request, which was decided at this time and place.
-fn hear(
-    sessions: &mut Sessions,
-    request: &Request,
-    effect: &Effect,
-    now: &i64,
-    place: &i64,
-) -> Result<(), RowFault> {
-    match (request, &effect.reply) {
-        (Request::BrokerRegistration(request), Reply::BrokerRegistration(reply)) => {
-            if reply.error == 0 {
-                sessions.leave(request.broker);
-            }
-            Ok(())
-        }
-        (Request::UnregisterBroker(request), Reply::UnregisterBroker(reply)) => {
-            if reply.error == 0 {
-                sessions.leave(request.broker);
-            }
-            Ok(())
-        }
-        (Request::BrokerHeartbeat(request), Reply::BrokerHeartbeat(reply)) => {
-            hear_heartbeat(
-                sessions,
-                request,
-                reply,
-                effect.records.as_slice(),
-                now,
-                place,
-            )
-        }
-        _ => Ok(()),
-    }
-}
-
-fn hear_heartbeat(
-    sessions: &mut Sessions,
-    request: &BrokerHeartbeat,
-    reply: &BrokerHeartbeatReply,
-    records: &[Record],
-    now: &i64,
-    place: &i64,
-) -> Result<(), RowFault> {
-    if reply.error != 0 {
-        return Ok(());
-    }
-    if reply.fenced {
-        sessions.leave(request.broker);
-        return Ok(());
-    }
-    if records.iter().any(stops) {
-        stop(sessions, &request.broker, place)?;
-    }
-    beat(sessions, &request.broker, now, &request.offset)
-}
-
-// The record says that a broker begins to stop.
-fn stops(record: &Record) -> bool {
-    matches!(record, Record::BrokerRegistrationChange { stopping: 1, .. })
 }

@@ -5,6 +5,7 @@
 
 mod controller;
 mod expected;
+mod hearing;
 mod rows;
 mod serving;
 

@@ -81,7 +81,8 @@ fn is_up_to(first: &Contact, others: &[Contact], now: &i64) -> bool
     }
 }
 
-fn is_not_before(contacts: &[Contact], now: &i64) -> bool
+/// The time isn't before that of the last contact.
+pub fn is_not_before(contacts: &[Contact], now: &i64) -> bool
     ensures { result ≡ option_map_or (λ c. int_le c.time now.now) (last_or None contacts.now) true }
 {
     match contacts.split_first() {
@@ -111,9 +112,8 @@ fn begin(
     Ok(())
 }
 
-/// The broker was heard of now, which isn't before the last contact.
 #[tactic(auto, using(crate::proofs::Spare::spare))]
-pub fn beat(sessions: &mut Sessions, broker: &i32, now: &i64, offset: &i64) -> Result<(), RowFault>
+fn beat(sessions: &mut Sessions, broker: &i32, now: &i64, offset: &i64) -> Result<(), RowFault>
     ensures { OnOk result (sessions.new.heartbeats ≡ heartbeats.beat sessions.old.heartbeats broker.now now.now offset.now) }
 {
     sessions.reserve()?;
@@ -125,8 +125,7 @@ pub fn beat(sessions: &mut Sessions, broker: &i32, now: &i64, offset: &i64) -> R
     Ok(())
 }
 
-/// The broker, a contact, begins to stop at the tip.
-pub fn stop(sessions: &mut Sessions, broker: &i32, tip: &i64) -> Result<(), RowFault>
+fn stop(sessions: &mut Sessions, broker: &i32, tip: &i64) -> Result<(), RowFault>
     ensures { OnOk result (sessions.new.heartbeats ≡ heartbeats.stop sessions.old.heartbeats broker.now tip.now) }
 {
     sessions.reserve()?;

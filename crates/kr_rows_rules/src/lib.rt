@@ -10,6 +10,6 @@ pub use changes::{
     build_answer, completes_answer, elect_answer, eligible_answer, merge_answer, partition_text,
     target_answer,
 };
-pub use heartbeats::{Operation, beat, heartbeats_answer, stop};
+pub use heartbeats::{Operation, heartbeats_answer, is_not_before};
 pub use history::History;
 pub use places::place_answer;

@@ -36,10 +36,10 @@ pub(crate) fn store_answer<L: Ledger>(
     let mut steps: Steps<L> = Steps::new(blank);
     let mut history = History::new(alloc);
     let mut answers = Answers::new(alloc);
-    let mut place = 0;
+    let mut place = 0_i64;
     for call in calls {
         if answer_to(alloc, &mut history, place, call, &mut answers, &mut steps)? {
-            place += 1;
+            place = place.saturating_add(1);
         }
     }
     Ok(answers.text(alloc)?)
