@@ -1,6 +1,7 @@
 //! Compares what a leading controller's rules answer, one request after the other, with rows of expected answers. A row
-//! that differs is printed, and at the end how many rows hold and how many ask for what isn't built. Behind either kind
-//! the expected records are taken for the row's.
+//! that differs is printed, and at the end how many rows hold and how many aren't built. Behind a row that differs the
+//! expected records are taken for the row's; behind one that asks for what isn't built none is answered up to the next
+//! `open`.
 #![tactic(auto)]
 
 mod controller;
@@ -15,7 +16,7 @@ use controller::{Controller, Outcome};
 use expected::{Expected, fenced_of};
 use kr_base::Steps;
 use kr_rows::RowFault;
-use rows::{Row, row_of};
+use rows::{Event, Row, row_of};
 use std::alloc::{AllocError, Global};
 use std::io;
 use std::io::{BufRead, BufReader, Input, Print};
@@ -119,23 +120,34 @@ fn outcome_of<L: Ledger>(
             *controller = Some(Controller::new(alloc, options)?);
             Ok(Outcome::Holds)
         }
-        Row::Ask { now, message } => {
-            let expected = Expected::new(alloc, expected)?;
+        Row::Event(event) => {
             let Some(current) = controller.take() else {
                 return Ok(Outcome::NotBuilt);
             };
-            let (after, outcome) = current.ask(alloc, now, &message, &expected, steps)?;
-            *controller = Some(after);
+            let (after, outcome) = answer(alloc, current, &event, expected, steps)?;
+            if !matches!(outcome, Outcome::NotBuilt) {
+                *controller = Some(after);
+            }
             Ok(outcome)
         }
-        Row::Tick { now } => {
+    }
+}
+
+fn answer<L: Ledger>(
+    alloc: Global,
+    controller: Controller,
+    event: &Event,
+    expected: &str,
+    steps: &mut Steps<L>,
+) -> Result<(Controller, Outcome), RowFault> {
+    match event {
+        Event::Ask { now, message } => {
+            let expected = Expected::new(alloc, expected)?;
+            controller.ask(alloc, *now, message, &expected, steps)
+        }
+        Event::Tick { now } => {
             let fenced = fenced_of(alloc, expected)?;
-            let Some(current) = controller.take() else {
-                return Ok(Outcome::NotBuilt);
-            };
-            let (after, outcome) = current.tick(alloc, now, &fenced, steps)?;
-            *controller = Some(after);
-            Ok(outcome)
+            controller.tick(alloc, *now, &fenced, steps)
         }
     }
 }

@@ -10,7 +10,15 @@ use std::str::FromStr;
 pub enum Row {
     /// A controller with these options begins to lead at place 0 and time 0, over an empty image.
     Open(Options),
+    Event(Event),
+}
+
+/// What the leading controller is told.
+#[derive(Drop)]
+pub enum Event {
+    /// A message without its size.
     Ask { now: i64, message: Vec<u8> },
+    /// Time has passed: sessions may be over.
     Tick { now: i64 },
 }
 
@@ -23,9 +31,9 @@ pub(crate) fn row_of(alloc: Global, asked: &str) -> Result<Row, RowFault> {
         "open" => Ok(Row::Open(options_of(alloc, fields)?)),
         "ask" => {
             let (now, message) = asked_of(alloc, fields)?;
-            Ok(Row::Ask { now, message })
+            Ok(Row::Event(Event::Ask { now, message }))
         }
-        "tick" => Ok(Row::Tick { now: time(fields)? }),
+        "tick" => Ok(Row::Event(Event::Tick { now: time(fields)? })),
         _ => Err(RowFault::Fields),
     }
 }
