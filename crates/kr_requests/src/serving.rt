@@ -11,7 +11,7 @@ use kr_calls::{Effect, Reply, Request};
 use kr_defs::Records;
 use kr_image::ImageStore;
 use kr_sessions::Context;
-use kr_store::{At, Store};
+use kr_store::{At, ReadFault, Store};
 use std::alloc::Global;
 use std::sync::ledger::Ledger;
 
@@ -58,38 +58,50 @@ fn answer<L: Ledger>(
 {
     match request {
         Request::BrokerRegistration(asked) => {
-            kr_brokers::register(alloc, store, context, asked, out, steps)?
+            built(kr_brokers::register(alloc, store, context, asked, out, steps))
         }
         Request::BrokerHeartbeat(asked) => {
-            kr_brokers::heartbeat(alloc, store, context, asked, out, steps)?
+            built(kr_brokers::heartbeat(alloc, store, context, asked, out, steps))
         }
         Request::UnregisterBroker(asked) => {
-            kr_brokers::unregister(alloc, store, context, asked, out, steps)?
+            built(kr_brokers::unregister(alloc, store, context, asked, out, steps))
         }
         Request::CreateTopics(asked) => {
-            kr_topics::create(alloc, store, context, asked, out, steps)?
+            built(kr_topics::create(alloc, store, context, asked, out, steps))
         }
         Request::DeleteTopics(asked) => {
-            kr_topics::delete(alloc, store, context, asked, out, steps)?
+            built(kr_topics::delete(alloc, store, context, asked, out, steps))
         }
         Request::CreatePartitions(asked) => {
-            kr_topics::grow(alloc, store, context, asked, out, steps)?
+            built(kr_topics::grow(alloc, store, context, asked, out, steps))
         }
         Request::AlterPartition(asked) => {
-            kr_parts::alter(alloc, store, context, asked, out, steps)?
+            built(kr_parts::alter(alloc, store, context, asked, out, steps))
         }
-        Request::ElectLeaders(asked) => kr_parts::elect(alloc, store, context, asked, out, steps)?,
+        Request::ElectLeaders(asked) => {
+            built(kr_parts::elect(alloc, store, context, asked, out, steps))
+        }
         Request::AlterPartitionReassignments(asked) => {
-            kr_reassign::alter(alloc, store, context, asked, out, steps)?
+            built(kr_reassign::alter(alloc, store, context, asked, out, steps))
         }
         Request::ListPartitionReassignments(asked) => {
-            match kr_reassign::list(alloc, store, At::Tip, context.options, asked) {
-                Ok(reply) => out.reply = reply,
-                Err(_) => return Err(NoMemory),
-            }
+            show(out, kr_reassign::list(alloc, store, At::Tip, context.options, asked))
         }
-        _ => return Ok(false),
+        _ => Ok(false),
     }
+}
+
+fn built(answered: Result<(), NoMemory>) -> Result<bool, NoMemory> {
+    answered?;
+    Ok(true)
+}
+
+// At the tip a read wants memory alone.
+fn show(out: &mut Effect, shown: Result<Reply, ReadFault>) -> Result<bool, NoMemory> {
+    let Ok(reply) = shown else {
+        return Err(NoMemory);
+    };
+    out.reply = reply;
     Ok(true)
 }
 
