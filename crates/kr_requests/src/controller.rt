@@ -146,12 +146,7 @@ impl Controller {
             place,
         } = self;
         let records = expected.records.as_slice();
-        let context = Context {
-            options: &options,
-            sessions: &sessions,
-            now: time,
-            place,
-        };
+        let context = context_of(&options, &sessions, time, place);
         let answer = decide_fencing(alloc, &mut store, &context, &expected.broker, steps)?;
         let outcome = fencing_outcome(alloc, records, &answer)?;
         settle(&mut store, place, records, &outcome, steps)?;
@@ -200,12 +195,7 @@ impl Controller {
             place,
         } = self;
         let request = &call.request;
-        let context = Context {
-            options: &options,
-            sessions: &sessions,
-            now: time,
-            place,
-        };
+        let context = context_of(&options, &sessions, time, place);
         let answer = decide(alloc, &mut store, &context, request, steps)?;
         let outcome = answer_outcome(alloc, expected, call.correlation, &answer)?;
         let records = expected.records.as_slice();
@@ -222,6 +212,22 @@ impl Controller {
             place: next,
         };
         Ok((controller, outcome))
+    }
+}
+
+fn context_of<'a>(
+    options: &'a Options,
+    sessions: &'a Sessions,
+    now: i64,
+    place: i64,
+) -> Context<'a>
+    ensures { result.place ≡ place }
+{
+    Context {
+        options,
+        sessions,
+        now,
+        place,
     }
 }
 
@@ -410,22 +416,22 @@ fn keep<L: Ledger>(
         go_back(store, place, steps)?;
         return Ok(place);
     }
-    let next = behind(&place, count)?;
+    let next = behind(place, count)?;
     store.mark(next)?;
     store.forget_below(next, steps);
     Ok(next)
 }
 
 // The place behind so many records, where there is a later one.
-fn behind(place: &i64, count: usize) -> Result<i64, RowFault>
-    ensures later { IfOk result (λ next. IsTrue (int_lt place.now next)) }
-    ensures natural { pos 0 ≤ℤ place.now → IfOk result (λ next. pos 0 ≤ℤ next) }
+fn behind(place: i64, count: usize) -> Result<i64, RowFault>
+    ensures later { IfOk result (λ next. IsTrue (int_lt place next)) }
+    ensures natural { pos 0 ≤ℤ place → IfOk result (λ next. pos 0 ≤ℤ next) }
 {
     let Ok(count) = i64::try_from(count) else {
         return Err(RowFault::Fields);
     };
     match place.checked_add(count) {
-        Some(next) if *place < next => Ok(next),
+        Some(next) if place < next => Ok(next),
         _ => Err(RowFault::Fields),
     }
 }
