@@ -215,12 +215,7 @@ impl Controller {
     }
 }
 
-fn context_of<'a>(
-    options: &'a Options,
-    sessions: &'a Sessions,
-    now: i64,
-    place: i64,
-) -> Context<'a>
+fn context_of<'a>(options: &'a Options, sessions: &'a Sessions, now: i64, place: i64) -> Context<'a>
     ensures { result.place ≡ place }
 {
     Context {

@@ -85,7 +85,10 @@ fn answer<L: Ledger>(
             built(kr_reassign::alter(alloc, store, context, asked, out, steps))
         }
         Request::ListPartitionReassignments(asked) => {
-            show(out, kr_reassign::list(alloc, store, At::Tip, context.options, asked))
+            show(
+                out,
+                kr_reassign::list(alloc, store, At::Tip, context.options, asked),
+            )
         }
         _ => Ok(false),
     }
