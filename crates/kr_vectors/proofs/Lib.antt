@@ -1,3 +1,1 @@
 pub mod Endings
-pub mod Spare
-pub mod Tells

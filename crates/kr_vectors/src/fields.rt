@@ -1,31 +1,14 @@
 //! The fields of a row, with a space between each two.
 
-use crate::heartbeats::Operation;
-use kr_base::NoMemory;
-use kr_defs::{Facts, Ids, Mode, Partition, PartitionChange, Want};
+use crate::store_calls::StoreCall;
+use kr_defs::{Facts, Ids, Mode, Partition, PartitionChange, Record, Want};
+use kr_record::RecordFault;
+use kr_rows::RowFault;
+use kr_rows_rules::Operation;
+use kr_store::At;
 use std::alloc::{AllocError, Global};
 use std::collections::VecDeque;
 use std::str::FromStr;
-
-/// Why a row has no answer.
-#[derive(Clone, Copy, Drop)]
-pub enum RowFault {
-    /// The row doesn't have the fields of its kind.
-    Fields,
-    NoMemory,
-}
-
-impl From<AllocError> for RowFault {
-    fn from(_refused: AllocError) -> RowFault {
-        RowFault::NoMemory
-    }
-}
-
-impl From<NoMemory> for RowFault {
-    fn from(_refused: NoMemory) -> RowFault {
-        RowFault::NoMemory
-    }
-}
 
 /// The fields that are left of a row.
 #[derive(Drop)]
@@ -193,6 +176,39 @@ impl Fields {
             }),
             "end" => Ok(Operation::End),
             _ => Err(RowFault::Fields),
+        }
+    }
+
+    /// What a store is told or asked: a word, and what belongs to it. Records are the hex of their values.
+    pub(crate) fn store_call(&mut self, alloc: Global) -> Result<StoreCall, RowFault> {
+        let word = self.word()?;
+        match word.as_str() {
+            "mark" => Ok(StoreCall::Mark {
+                epoch: self.number()?,
+            }),
+            "record" => Ok(StoreCall::Apply {
+                value: self.record(alloc)?,
+            }),
+            "revert" => Ok(StoreCall::Revert {
+                epoch: self.number()?,
+            }),
+            "forget" => Ok(StoreCall::Forget {
+                epoch: self.number()?,
+            }),
+            "at" => Ok(StoreCall::Look {
+                at: At::Epoch(self.number()?),
+            }),
+            "tip" => Ok(StoreCall::Look { at: At::Tip }),
+            _ => Err(RowFault::Fields),
+        }
+    }
+
+    fn record(&mut self, alloc: Global) -> Result<Record, RowFault> {
+        let bytes = self.bytes(alloc)?;
+        match kr_record::decode(alloc, &bytes) {
+            Ok(record) => Ok(record),
+            Err(RecordFault::NoMemory) => Err(RowFault::NoMemory),
+            Err(_) => Err(RowFault::Fields),
         }
     }
 

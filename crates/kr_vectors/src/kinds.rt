@@ -16,10 +16,11 @@ pub enum Kind {
     Sessions,
     Messages,
     Heartbeats,
+    Apply,
 }
 
 impl Kind {
-    pub const ALL: [Kind; 13] = [
+    pub const ALL: [Kind; 14] = [
         Kind::Primitives,
         Kind::Records,
         Kind::Batches,
@@ -33,6 +34,7 @@ impl Kind {
         Kind::Sessions,
         Kind::Messages,
         Kind::Heartbeats,
+        Kind::Apply,
     ];
 
     /// The word that rows of the kind begin with.
@@ -51,6 +53,7 @@ impl Kind {
             Kind::Sessions => "sessions",
             Kind::Messages => "messages",
             Kind::Heartbeats => "heartbeats",
+            Kind::Apply => "apply",
         }
     }
 

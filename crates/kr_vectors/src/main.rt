@@ -2,21 +2,16 @@
 //! words. A row that differs is printed, and at the end how many rows of each kind hold.
 #![tactic(auto)]
 
-mod batches;
-mod changes;
+mod answers;
 mod fields;
-mod heartbeats;
+mod image_text;
 mod kinds;
-mod messages;
-mod places;
-mod plain;
-mod primitives;
-mod records;
 mod rows;
 mod sessions;
+mod store_calls;
 
-use fields::RowFault;
 use kinds::Kind;
+use kr_rows::RowFault;
 use rows::answer;
 use std::alloc::{AllocError, Global};
 use std::io::{BufRead, BufReader, Input, Print};
@@ -42,7 +37,7 @@ struct Counts {
 // The rows of each kind, and whether each line was a row and held.
 #[derive(Drop)]
 struct Tally {
-    by_kind: [Counts; 13],
+    by_kind: [Counts; 14],
     all_held: bool,
 }
 
@@ -106,7 +101,7 @@ fn form_of<R: Env + AllocGlobal>(rt: &R) -> io::Result<Option<Form>> {
 // Empty lines and those that begin with `#` are no rows.
 fn compare<R: Input + Print + AllocGlobal>(rt: &R, form: Form) -> io::Result<Tally> {
     let mut tally = Tally {
-        by_kind: [Counts { rows: 0, held: 0 }; 13],
+        by_kind: [Counts { rows: 0, held: 0 }; 14],
         all_held: true,
     };
     let mut number = 0_u64;

@@ -1,23 +1,23 @@
 //! What a row asks, read from its fields, and the answer.
 
-use crate::batches::batch_answer;
-use crate::changes::{
-    build_answer, completes_answer, elect_answer, eligible_answer, merge_answer, target_answer,
-};
-use crate::fields::{Fields, RowFault, parsed};
-use crate::heartbeats::heartbeats_answer;
+use crate::fields::{Fields, parsed};
 use crate::kinds::Kind;
-use crate::messages::message_answer;
-use crate::places::place_answer;
-use crate::primitives::primitive_answer;
-use crate::records::record_answer;
 use crate::sessions::session_answer;
+use crate::store_calls::store_answer;
 use kr_defs::Text;
 use kr_place::Racked;
+use kr_rows::RowFault;
+use kr_rows_codec::{Primitive, batch_answer, message_answer, primitive_answer, record_answer};
+use kr_rows_rules::{
+    build_answer, completes_answer, elect_answer, eligible_answer, heartbeats_answer, merge_answer,
+    place_answer, target_answer,
+};
 use std::alloc::{AllocError, Global};
+use std::marker::Brand;
+use std::sync::ledger::Blank;
 
 // A row has at most so many operations.
-const MOST_OPERATIONS: u32 = 1000;
+const MOST_OPERATIONS: u32 = 2_000;
 
 /// The answer to what a row of this kind asks.
 pub(crate) fn answer(alloc: Global, kind: Kind, asked: &str) -> Result<String, RowFault> {
@@ -36,6 +36,7 @@ pub(crate) fn answer(alloc: Global, kind: Kind, asked: &str) -> Result<String, R
         Kind::Sessions => session_row(alloc, &mut fields)?,
         Kind::Messages => message_row(alloc, &mut fields)?,
         Kind::Heartbeats => heartbeats_row(alloc, &mut fields)?,
+        Kind::Apply => apply_row(alloc, &mut fields)?,
     };
     fields.end()?;
     Ok(text)
@@ -45,17 +46,40 @@ pub(crate) fn answer(alloc: Global, kind: Kind, asked: &str) -> Result<String, R
 fn primitive_row(alloc: Global, fields: &mut Fields) -> Result<String, RowFault> {
     let reader = fields.word()?;
     let bytes = fields.bytes(alloc)?;
-    let last = if reader.as_str() == "tag" {
-        fields.number_or_none()?
-    } else {
-        None
-    };
     if bytes.len() >= 1 << 31 {
         return Err(RowFault::Fields);
     }
-    match primitive_answer(alloc, reader.as_str(), &bytes, last)? {
-        Some(answer) => Ok(answer),
-        None => Err(RowFault::Fields),
+    let primitive = if reader.as_str() == "tag" {
+        Primitive::Tag {
+            last: fields.number_or_none()?,
+        }
+    } else {
+        primitive_of(reader.as_str())?
+    };
+    Ok(primitive_answer(alloc, primitive, &bytes)?)
+}
+
+fn primitive_of(reader: &str) -> Result<Primitive, RowFault> {
+    match reader {
+        "uvarint" => Ok(Primitive::Uvarint),
+        "varint" => Ok(Primitive::Varint),
+        "varlong" => Ok(Primitive::Varlong),
+        "i8" => Ok(Primitive::I8),
+        "i16" => Ok(Primitive::I16),
+        "i32" => Ok(Primitive::I32),
+        "i64" => Ok(Primitive::I64),
+        "u16" => Ok(Primitive::U16),
+        "u32" => Ok(Primitive::U32),
+        "u64" => Ok(Primitive::U64),
+        "bool" => Ok(Primitive::Bool),
+        "id" => Ok(Primitive::Id),
+        "str" => Ok(Primitive::Text),
+        "str?" => Ok(Primitive::TextOrNull),
+        "count" => Ok(Primitive::Count),
+        "count?" => Ok(Primitive::CountOrNull),
+        "tags" => Ok(Primitive::Tags),
+        "crc32c" => Ok(Primitive::Crc32c),
+        _ => Err(RowFault::Fields),
     }
 }
 
@@ -187,4 +211,17 @@ fn heartbeats_row(alloc: Global, fields: &mut Fields) -> Result<String, RowFault
         operations.push(operation).map_err(AllocError::from)?;
     }
     heartbeats_answer(alloc, &operations)
+}
+
+// What a store is told and asked, each a word and what belongs to it.
+fn apply_row(alloc: Global, fields: &mut Fields) -> Result<String, RowFault> {
+    let mut calls = Vec::new(alloc);
+    for _call in 0..MOST_OPERATIONS {
+        if fields.is_empty() {
+            break;
+        }
+        let call = fields.store_call(alloc)?;
+        calls.push(call).map_err(AllocError::from)?;
+    }
+    store_answer::<Brand>(alloc, &calls, Blank::new(1))
 }

@@ -3,12 +3,12 @@
 ghost use Rattle.std.specs.Prelude.{◌≡◌, [], Some, length, IfOk, string_bytes};
 ghost use Rattle.std.specs.Fmt.{decimal};
 ghost use Rattle.kr_run.specs.Endings.{EndsWith};
-ghost use Rattle.kr_vectors.specs.Plain.{◌␣◌, hex_words};
+ghost use Rattle.kr_rows.specs.Plain.{◌␣◌, hex_words};
 ghost use Rattle.kr_vectors.specs.SessionWords as words;
 ghost use Rattle.kr_vectors.specs.SessionWords.{TellsSession};
 
-use crate::plain::{hex_text, spaced};
 use kr_base::{MemorySink, MemorySource, NoMemory};
+use kr_rows::{hex_text, spaced};
 use kr_run::{Status, session};
 use std::alloc::{AllocError, Global};
 

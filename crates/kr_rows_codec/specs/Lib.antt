@@ -1,0 +1,3 @@
+pub mod MessageWords
+pub mod PrimitiveWords
+pub mod Words

@@ -1,0 +1,4 @@
+pub mod ChangeWords
+pub mod HeartbeatWords
+pub mod Histories
+pub mod PlaceWords
