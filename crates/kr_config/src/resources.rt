@@ -90,11 +90,11 @@ fn of_resource<S: Store>(
 }
 
 impl<'a> Rule<ConfigResource, ConfigResponse> for ResourceRule<'a> {
-    ghost refused = { λ _. refused_resource };
+    ghost refusal = { λ _. refused_resource };
 
     ghost rule = { λ r. configs.rule r.options.now };
 
-    fn refused(
+    fn refusal(
         &self,
         alloc: Global,
         error: &i16,
