@@ -1,10 +1,8 @@
 -- What a controller writes of a partition when a broker is fenced.
-use Rattle.std.specs.Prelude.{ℕ, zero, suc, ℤ, pos, List, [], ◌∷◌, ◌++◌, Some, None}
+use Rattle.std.specs.Prelude.{ℤ, pos, [], ◌∷◌, Some, None}
 use Rattle.kr_defs.specs.declared.partition.PartitionChange.{PartitionChange}
 use Rattle.kr_defs.specs.declared.record.Record.{Record}
 use Rattle.kr_defs.specs.declared.record.Record.TheVariants as kinds
-use Rattle.kr_defs.specs.declared.record.Item.{Item}
-use Rattle.kr_defs.specs.declared.record.Item.TheVariants as items
 use Rattle.kr_bench.specs.declared.changes.TheConstants.{TOPIC}
 
 -- brokers 1 and 2 are left in sync, and 2 leads
@@ -22,8 +20,3 @@ fenced = record {
 
 abbrev pub change_at : ℤ → Record
 change_at index = kinds.PartitionChange index TOPIC fenced
-
--- the changes of so many partitions, numbered from 0
-unfoldable pub changed : ℕ → List Item
-changed zero = []
-changed (suc n) = changed n ++ items.Record (change_at (pos n)) ∷ []

@@ -1,10 +1,17 @@
-//! A benchmark of record batches: with no word each job is done once, with the word `time` each is measured.
+//! A benchmark of record batches, request messages and placement: with no word each job is done once, with the word
+//! `time` each is measured. With the word `message` one message is read from standard input.
 #![tactic(auto)]
 
+mod batches;
 mod changes;
+mod job;
 mod load;
+mod message;
 mod mode;
 mod once;
+mod placing;
+mod request;
+mod settings;
 mod timed;
 
 pub use mode::Mode;
@@ -15,8 +22,9 @@ fn main(rt: HostRuntime) -> anyhow::Result<ExitCode> {
     match asked(&rt)? {
         Some(Mode::Once) => once::print_jobs(&rt)?,
         Some(Mode::Time) => timed::print_table(&rt)?,
+        Some(Mode::Message) => message::print_message(&rt)?,
         None => {
-            eprintln!(rt; "usage: kr_bench [time]")?;
+            eprintln!(rt; "usage: kr_bench [time | message]")?;
             return Ok(ExitCode::from(2));
         }
     }

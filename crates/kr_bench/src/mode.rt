@@ -13,6 +13,8 @@ pub enum Mode {
     Once,
     /// Each job many times, and how long it took.
     Time,
+    /// The message on standard input, and whether it is a call.
+    Message,
 }
 
 /// The way that the words of this process ask for. Words that aren't all text ask for none.
@@ -24,14 +26,16 @@ pub fn asked<R: Env + AllocGlobal>(rt: &R) -> Result<Option<Mode>, WordsFault> {
     }
 }
 
-// No word, or the one word `time`; all other words ask for nothing.
+// No word, or the one word `time` or `message`; all other words ask for nothing.
 fn mode_of(words: &[Text]) -> Option<Mode>
     ensures once { (result ≡ Some Mode.Once) ↔ (words.now ≡ []) }
     ensures time { (result ≡ Some Mode.Time) ↔ (words.now ≡ codes "time" ∷ []) }
+    ensures message { (result ≡ Some Mode.Message) ↔ (words.now ≡ codes "message" ∷ []) }
 {
     match words {
         [] => Some(Mode::Once),
         [word] if is_time(word) => Some(Mode::Time),
+        [word] if is_message(word) => Some(Mode::Message),
         _ => None,
     }
 }
@@ -40,4 +44,10 @@ fn is_time(word: &Text) -> bool
     ensures { IsTrue result ↔ (word.now ≡ codes "time") }
 {
     word.as_str() == "time"
+}
+
+fn is_message(word: &Text) -> bool
+    ensures { IsTrue result ↔ (word.now ≡ codes "message") }
+{
+    word.as_str() == "message"
 }

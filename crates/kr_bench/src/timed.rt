@@ -3,14 +3,21 @@
 ghost use Rattle.std.specs.Prelude.{◌≡◌, ◌*◌, ◌/◌, max};
 ghost use Rattle.std.specs.Duration.{as_nanos};
 
-use crate::load::{Job, Load};
+use crate::batches::Kind;
+use crate::job::{Form, JOBS, Job, encoded};
+use crate::load::{Load, ask};
+use crate::placing::{PARTITIONS, place_all};
+use crate::request::{TOPICS, topics_of};
 use anyhow::{Result, ensure};
 use std::alloc::Global;
 use std::rt::Clock;
 use std::time::{Duration, Instant};
 
 /// How often each job is done.
-const ROUNDS: u32 = 20;
+const ROUNDS: u32 = 100;
+
+/// How often a message is read, which takes longer.
+const MESSAGE_ROUNDS: u32 = 10;
 
 // How long the shortest round of a job took, and the shortest copy of its bytes.
 #[derive(Clone, Copy)]
@@ -24,22 +31,36 @@ struct Row {
 /// Measures each job and prints a table. Time is the shortest of all rounds, and a MB a million bytes.
 pub fn print_table<R: Print + Clock + AllocGlobal>(rt: &R) -> Result<()> {
     let load = Load::new(rt.alloc())?;
-    println!(rt; "the best of {ROUNDS} rounds")?;
+    println!(rt; "the best of {ROUNDS} rounds, of {MESSAGE_ROUNDS} where a request is read")?;
     println!(rt;
-        "{:<10}{:>10}{:>10}{:>16}",
+        "{:<16}{:>10}{:>10}{:>16}",
         "job", "bytes", "MB/s", "MB/s of a copy"
     )?;
-    for job in [Job::Checksum, Job::Encode, Job::Decode] {
+    for job in JOBS {
         let row = measured(rt, rt.alloc(), &load, job)?;
         print_row(rt, &row)?;
     }
+    print_placing(rt, &load)
+}
+
+// The shortest time in which all partitions are placed, the grouping of the brokers by rack among it.
+fn print_placing<R: Print + Clock + AllocGlobal>(rt: &R, load: &Load) -> Result<()> {
+    let mut work = Duration::MAX;
+    for _ in 0..ROUNDS {
+        work = work.min(placing_round(rt, rt.alloc(), load)?);
+    }
+    println!(rt;
+        "{PARTITIONS} partitions are placed over {} brokers in {} microseconds",
+        load.brokers.len(),
+        work.as_micros()
+    )?;
     Ok(())
 }
 
 fn print_row(rt: &impl Print, row: &Row) -> Result<()> {
     let (work, copy) = (rate(row.bytes, row.work), rate(row.bytes, row.copy));
     println!(rt;
-        "{:<10}{:>10}{:>10}{:>16}",
+        "{:<16}{:>10}{:>10}{:>16}",
         row.job.name(),
         row.bytes,
         work,
@@ -57,7 +78,7 @@ fn rate(bytes: usize, time: Duration) -> u128
 
 // The shortest rounds of the job, and then of the copy.
 fn measured(rt: &impl Clock, alloc: Global, load: &Load, job: Job) -> Result<Row> {
-    let bytes = load.bytes_of(job);
+    let bytes = job.bytes(load);
     let mut room = Vec::with_capacity(alloc, bytes.len())?;
     let mut row = Row {
         job,
@@ -65,13 +86,20 @@ fn measured(rt: &impl Clock, alloc: Global, load: &Load, job: Job) -> Result<Row
         work: Duration::MAX,
         copy: Duration::MAX,
     };
-    for _ in 0..ROUNDS {
+    for _ in 0..rounds(job) {
         row.work = row.work.min(work_round(rt, alloc, load, job, &mut room)?);
     }
-    for _ in 0..ROUNDS {
+    for _ in 0..rounds(job) {
         row.copy = row.copy.min(copy_round(rt, bytes, &mut room)?);
     }
     Ok(row)
+}
+
+fn rounds(job: Job) -> u32 {
+    match job {
+        Job::Request(_) => MESSAGE_ROUNDS,
+        _ => ROUNDS,
+    }
 }
 
 fn work_round(
@@ -83,8 +111,9 @@ fn work_round(
 ) -> Result<Duration> {
     match job {
         Job::Checksum => checksum_round(rt, load),
-        Job::Encode => encode_round(rt, load, room),
-        Job::Decode => decode_round(rt, alloc, load),
+        Job::Encode(kind) => encode_round(rt, load, kind, room),
+        Job::Decode(kind) => decode_round(rt, alloc, load, kind),
+        Job::Request(form) => request_round(rt, alloc, load, form),
     }
 }
 
@@ -96,24 +125,55 @@ fn checksum_round(rt: &impl Clock, load: &Load) -> Result<Duration> {
     Ok(time)
 }
 
-fn encode_round(rt: &impl Clock, load: &Load, room: &mut Vec<u8>) -> Result<Duration> {
+fn encode_round(rt: &impl Clock, load: &Load, kind: Kind, room: &mut Vec<u8>) -> Result<Duration> {
+    let encoded = encoded(load, kind);
     room.clear();
     let start = Instant::now(rt)?;
-    load.encode(room)?;
+    encoded.encode(room)?;
     let time = start.elapsed(rt)?;
     ensure!(
-        room.as_slice() == load.bytes_of(Job::Encode),
+        room.as_slice() == encoded.as_bytes(),
         "other bytes were encoded"
     );
     Ok(time)
 }
 
 // The batch that was decoded is dropped behind the time.
-fn decode_round(rt: &impl Clock, alloc: Global, load: &Load) -> Result<Duration> {
+fn decode_round(rt: &impl Clock, alloc: Global, load: &Load, kind: Kind) -> Result<Duration> {
+    let encoded = encoded(load, kind);
     let start = Instant::now(rt)?;
-    let batch = load.decode(alloc)?;
+    let batch = encoded.decode(alloc)?;
     let time = start.elapsed(rt)?;
-    ensure!(load.has(&batch), "another batch was decoded");
+    ensure!(encoded.has(&batch), "another batch was decoded");
+    Ok(time)
+}
+
+// What was asked is dropped behind the time.
+fn request_round(rt: &impl Clock, alloc: Global, load: &Load, form: Form) -> Result<Duration> {
+    let message = form.message(load);
+    let start = Instant::now(rt)?;
+    let ask = ask(alloc, message)?;
+    let time = start.elapsed(rt)?;
+    ensure!(
+        topics_of(&ask) == topics_in(form),
+        "another request was read"
+    );
+    Ok(time)
+}
+
+fn topics_in(form: Form) -> Option<usize> {
+    match form {
+        Form::Whole => Some(TOPICS as usize),
+        Form::Half => Some(TOPICS as usize / 2),
+        Form::Promising => None,
+    }
+}
+
+fn placing_round(rt: &impl Clock, alloc: Global, load: &Load) -> Result<Duration> {
+    let start = Instant::now(rt)?;
+    let placed = place_all(alloc, &load.brokers)?;
+    let time = start.elapsed(rt)?;
+    ensure!(placed.len() == PARTITIONS as usize, "too few are placed");
     Ok(time)
 }
 

@@ -1,6 +1,7 @@
 use Rattle.std.proofs.Common.{◌≡◌}
-use Rattle.kr_bench.specs.Changes.{changed}
+use Rattle.kr_bench.specs.Changes.{change_at}
+use Rattle.kr_bench.specs.Numbered.{numbered}
 use Rattle.kr_bench.proofs.changes.changes.Given as goal
 
 abbrev pub invariant-loop-index : goal.invariant-loop-index
-invariant-loop-index l = l.items ≡ changed l.index
+invariant-loop-index l = l.items ≡ numbered change_at l.index
