@@ -1,7 +1,6 @@
 -- The abstract controller computed on small logs.
-use Rattle.std.specs.Prelude.{◌≡◌, ℕ, ℤ, pos, false, List, [], ◌∷◌, Some, None, Ok, Err, codes}
+use Rattle.std.specs.Prelude.{◌≡◌, ℕ, ℤ, pos, false, List, [], ◌∷◌, Some, Ok, Err, codes}
 use Rattle.std.proofs.Common.{refl, ap}
-use Rattle.kr_calls.specs.declared.calls.Call.{Call}
 use Rattle.kr_calls.specs.declared.calls.Reply.{Reply}
 use Rattle.kr_calls.specs.declared.calls.Request.{Request}
 use Rattle.kr_calls.specs.declared.calls.Ask.TheVariants as asks
@@ -13,7 +12,7 @@ use Rattle.kr_calls.specs.declared.events.Event.{Event}
 use Rattle.kr_calls.specs.declared.events.Event.TheVariants as events
 use Rattle.kr_calls.specs.declared.events.Output.{Output}
 use Rattle.kr_calls.specs.declared.events.Output.TheVariants as given
-use Rattle.kr_calls.specs.Decide.{query, work_of}
+use Rattle.kr_calls.specs.Decide.{work_of}
 use Rattle.kr_calls.specs.Deciding.{done, taken}
 use Rattle.kr_calls.specs.IncrementalAlterConfigs as configuring
 use Rattle.kr_calls.specs.NextBasis.{heartbeats_after}

@@ -7,7 +7,6 @@ use Rattle.kr_defs.specs.declared.record.Item.TheVariants as items
 use Rattle.kr_defs.specs.Brokers.{stopping, unfenced}
 use Rattle.kr_defs.specs.Guard.{refuse◌when◌else◌}
 use Rattle.kr_defs.specs.Heartbeats.{begin, end}
-use Rattle.kr_defs.specs.Image.{Image}
 use Rattle.kr_defs.specs.Log.{Log}
 use Rattle.kr_engine.specs.Reasons.{already_leading, bad_next, exhausted, not_leading, old_epoch}
 use Rattle.kr_engine.specs.World.{World, State, hearing, image_of_tip, is_far, with_batch}

@@ -12,7 +12,7 @@ use Rattle.kr_batch.specs.Reading.{batch_of}
 use Rattle.kr_snapshot.specs.declared.fault.ImageFault.{ImageFault}
 use Rattle.kr_snapshot.specs.Reading.{image_of}
 use Rattle.kr_engine.specs.Reasons.{already_leading, bad_batch, bad_image, exhausted, gap, ill_formed, older_image}
-use Rattle.kr_engine.specs.World.{World, State, image_of_tip, is_far, tip_of, written}
+use Rattle.kr_engine.specs.World.{State, image_of_tip, is_far, tip_of, written}
 
 -- ---- Batch
 

@@ -1,6 +1,6 @@
 -- All that is kept of past events: the log and what of it is committed (Raft's commit index, KIP-595), and whom a leading
 -- controller hears of (KIP-631).
-use Rattle.std.specs.Prelude.{ℕ, ℤ, pos, negsuc, ◌+◌, ◌==◌, int_lt, List, [], ◌∷◌, ◌++◌, length, Bool, Option, None, Result, if◌then◌else◌}
+use Rattle.std.specs.Prelude.{ℕ, ℤ, pos, negsuc, ◌+◌, ◌==◌, int_lt, List, [], ◌∷◌, ◌++◌, length, Bool, Option, None, if◌then◌else◌}
 use Rattle.std.specs.Result.{result_unwrap_or}
 use Rattle.kr_defs.specs.declared.basis.Basis.{Basis}
 use Rattle.kr_defs.specs.declared.limits.TheConstants.{GREATEST_TIP}
