@@ -10,7 +10,8 @@ use Rattle.kr_batch.specs.Crc.{crc32c}
 use Rattle.kr_batch.specs.Grammar.{IsStart, IsBatch}
 use Rattle.kr_batch.specs.Reading.{start_at, is_short}
 use Rattle.kr_batch.proofs.Heads.{start_law, long}
-use Rattle.kr_snapshot.specs.Reading.{extent, front_at}
+use Rattle.kr_snapshot.specs.Reading.{extent}
+use Rattle.kr_snapshot.proofs.Batchwise.{front_at}
 
 pub start_long : (x : ℤ × ℕ) (bytes : List ℕ) → IsStart x bytes → length bytes ≡ 12
 start_long x bytes is =
