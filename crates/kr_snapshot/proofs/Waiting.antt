@@ -1,6 +1,6 @@
 -- What a reader holds, and how it goes on.
 use Rattle.std.proofs.Common.{◌≡◌, ◌∙◌, ℕ, ℤ, pos, negsuc, ◌+◌, ◌<◌, ◌≤◌, true, false, List, [], ◌∷◌, ◌++◌, length, length-append, append_assoc, Option, Some, None, Result, Ok, Err, refl, sym, ap, subst, arith, inl, inr}
-use Rattle.std.specs.Prelude.{take, drop, nat_lt, int_lt, if◌then◌else◌, IsTrue, ◌≤ℤ◌}
+use Rattle.std.specs.Prelude.{take, drop, nat_lt, int_lt, if◌then◌else◌, IfOk, IsTrue, ◌≤ℤ◌}
 use Rattle.std.proofs.lemmas.Bool.{cases_Bool, lt-ltb, le-ltb, ltb-true, ltb-false, cases_lt}
 use Rattle.std.proofs.lemmas.Int.{ints}
 use Rattle.std.proofs.lemmas.List.{append-nil, take-append-drop, length-take-le}
@@ -8,7 +8,10 @@ use Rattle.std.proofs.lemmas.List.Elements.{All-from_recursion}
 use Rattle.kr_defs.specs.Image.{Image, empty}
 use Rattle.kr_store.specs.Images.{Images, IsAbove, forgotten, marked}
 use Rattle.kr_wire.specs.Reading.{◌>>=◌}
-use Rattle.kr_wire.proofs.Laws.{bind_ok, is_ok}
+use Rattle.kr_wire.proofs.Laws.{IsBytes, bind_ok, is_ok}
+use Rattle.kr_snapshot.specs.Grammar.{IsImage}
+use Rattle.kr_snapshot.proofs.WholeImages.{image_complete, image_sound}
+use Rattle.std.specs.Result.{result_err}
 use Rattle.kr_batch.specs.declared.fault.BatchFault.{BatchFault}
 use Rattle.kr_batch.specs.declared.fault.BatchFault.TheVariants as refusals
 use Rattle.kr_snapshot.specs.declared.fault.ImageFault.{ImageFault}
@@ -17,7 +20,7 @@ use Rattle.kr_snapshot.specs.declared.fault.ImageFault.TheVariants as faults
 use Rattle.kr_snapshot.specs.declared.fault.BatchCause.TheVariants as causes
 use Rattle.kr_snapshot.specs.declared.pieces.Body.{Body}
 use Rattle.kr_snapshot.specs.declared.pieces.Pieces.{Pieces}
-use Rattle.kr_snapshot.specs.Read.{IsFault, IsUnfinished, IsWaiting, Waits, body_in, kept_once, progress_in}
+use Rattle.kr_snapshot.specs.Read.{IsBegun, IsFault, IsUnfinished, IsWaiting, LeadsTo, Restores, StandsFor, Waits, answer_of, body_in, kept_once, progress_in, state_of, taken_in}
 use Rattle.kr_snapshot.proofs.Faults.{through}
 use Rattle.kr_snapshot.proofs.Batchwise.{StartsWith, start_is, size_front, size_bad, batch_waits, head_waits, start_waits, goes_on_append, fills}
 
@@ -257,3 +260,31 @@ ends_short b short = rw (lt-ltb b.1.found b.1.expected short) refl
 
 pub ends_whole : (b : ℤ × Progress) → b.1.expected ≤ b.1.found → ends (Some b) [] ≡ Ok (b.0, b.1.image)
 ends_whole b whole = rw (le-ltb b.1.found b.1.expected whole) refl
+
+-- ---- calls
+
+pub waiting_after : (p after : Pieces) (held : List ℕ) → IsBegun after.body after.store → judged (body_in p.body p.store.tip) held ≡ Ok (taken_in after) → IsWaiting after
+waiting_after p after held begun read = record { begun = begun; waiting = settled (body_in p.body p.store.tip) held (taken_in after) read }
+
+pub fed_more : (t after : Taken) (answer : Result (Unit {0}) ImageFault) (fed piece : List ℕ) → LeadsTo answer after (goes_on t piece) → so_far fed ≡ Ok t
+    → StandsFor (state_of (result_err answer) after) (fed ++ piece)
+fed_more t after (Ok done) fed piece leads stands = sym (stands_on t fed piece stands) ∙ leads
+fed_more t after (Err fault) fed piece leads stands = subst (λ (r : Result Taken ImageFault). IsFault fault r) (stands_on t fed piece stands) leads
+
+pub answers : (answer : Result (Unit {0}) ImageFault) (after : Taken) → answer ≡ answer_of (state_of (result_err answer) after)
+answers (Ok tt) after = refl
+answers (Err fault) after = refl
+
+-- what is given in the end
+restored : (result : Result (ℤ × Images) ImageFault) (read whole : Result (ℤ × Image) ImageFault) → whole ≡ read → Restores result read → Restores result whole
+restored result read whole is given = subst (λ (r : Result (ℤ × Image) ImageFault). Restores result r) (sym is) given
+
+pub given_end : (result : Result (ℤ × Images) ImageFault) (t : Taken) (fed : List ℕ) → so_far fed ≡ Ok t → Restores result (ends t.body t.held) → Restores result (image_of fed)
+given_end result t fed stands given = restored result (ends t.body t.held) (image_of fed) (end_is t fed stands) given
+
+pub given_found : (result : Result (ℤ × Images) ImageFault) (fed : List ℕ) → IsBytes fed → Restores result (image_of fed) → IfOk result (λ (x : ℤ × Images). IsImage x.0 x.1.tip fed)
+given_found (Ok x) fed bytes given = image_sound fed x.0 x.1.tip bytes given.0
+given_found (Err fault) fed bytes given = tt
+
+pub given_only : (result : Result (ℤ × Images) ImageFault) (fed : List ℕ) (offset : ℤ) (image : Image) → IsImage offset image fed → Restores result (image_of fed) → Restores result (Ok (offset, image))
+given_only result fed offset image is given = subst (λ (r : Result (ℤ × Image) ImageFault). Restores result r) (image_complete offset image fed is) given

@@ -179,6 +179,14 @@ impl Pieces {
     }
 
     // Takes bytes of the piece up to where more is judged, and gives those that are left.
+    #[tactic(
+        auto,
+        using(
+            crate::proofs::Waiting::part_taken,
+            crate::proofs::Waiting::part_fault,
+            crate::proofs::Waiting::waiting_after
+        )
+    )]
     fn take_some<'a>(&mut self, piece: &'a [u8]) -> Result<&'a [u8], ImageFault>
         requires waiting { IsWaiting self.old }
         requires some { 1 ≤ length piece.now }
@@ -195,6 +203,10 @@ impl Pieces {
     }
 
     /// Takes a piece.
+    #[tactic(
+        auto,
+        using(crate::proofs::Waiting::all_taken, crate::proofs::Waiting::fault_taken)
+    )]
     pub fn take(&mut self, piece: &[u8]) -> Result<(), ImageFault>
         requires { IsWaiting self.old }
         ensures waiting { OnOk result (IsWaiting self.new) }
@@ -251,6 +263,10 @@ fn close(body: Body, store: ImageStore) -> Result<(i64, ImageStore), ImageFault>
 }
 
 // Keeps the present image under the offset, and nothing else.
+#[tactic(
+    auto,
+    using(crate::proofs::Waiting::alone, crate::proofs::Waiting::above_all)
+)]
 fn keep<L: Ledger>(mut store: ImageStore, offset: i64, blank: Blank) -> Result<ImageStore, NoMemory>
     requires name { blank.name ≡ L.name }
     requires parts { blank.parts ≡ L.parts }
