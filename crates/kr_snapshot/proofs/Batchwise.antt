@@ -386,33 +386,41 @@ numbers_short bytes few = elim (cases_Bool (nat_lt (length bytes) 8)) [
       rw (there, short) refl
 ]
 
+abbrev numbers : Bool → ℤ → ℕ → List ℕ → Result ((ℤ × ℕ) × List ℕ) WireFault
+numbers bad offset count rest = refuse wire.Short when bad else Ok ((offset, count), rest)
+
+abbrev begins_with : Result ((ℤ × ℕ) × List ℕ) WireFault → Result Taken ImageFault
+begins_with r = headed r >>= λ head. waits (Some (head.0.0, begun head.0.1)) []
+
+abbrev whole_with : Result ((ℤ × ℕ) × List ℕ) WireFault → Result (ℤ × Image) ImageFault
+whole_with r = headed r >>= λ head. (batches_read (length head.1) (begun head.0.1) head.1 >>= λ image. Ok (head.0.0, image))
+
+abbrev first_taken : Bool → ℤ → ℕ → Result Taken ImageFault
+first_taken bad offset count = refuse (bad_batch 0 causes.Head) when bad else waits (Some (offset, begun count)) []
+
 head_full : (head : List ℕ) (offset count : ℤ) → length head ≡ 16 → IsNumbers head offset count
-    → head_taken head ≡ (refuse (bad_batch 0 causes.Head) when is_negative offset count else waits (Some (offset, begun (unsigned_abs count))) [])
+    → head_taken head ≡ first_taken (is_negative offset count) offset (unsigned_abs count)
 unfolding head_taken
 head_full head offset count long n =
     let enough : nat_lt (length head) 16 ≡ false = le-ltb (length head) 16 (omega (arith, long)) in
-    let read : numbers_at head ≡ (refuse wire.Short when is_negative offset count else Ok ((offset, unsigned_abs count), [])) = ap numbers_at (sym (append-nil head)) ∙ numbers_front head [] offset count n in
+    let read : numbers_at head ≡ numbers (is_negative offset count) offset (unsigned_abs count) [] = ap numbers_at (sym (append-nil head)) ∙ numbers_front head [] offset count n in
     rw (enough, read)
-    (elim (is_negative offset count) as (λ c. (headed (cond c (Err wire.Short) (Ok ((offset, unsigned_abs count), []))) >>= λ h. waits (Some (h.0.0, begun h.0.1)) []) ≡ cond c (Err (bad_batch 0 causes.Head)) (waits (Some (offset, begun (unsigned_abs count))) [])) [
+    (elim (is_negative offset count) as (λ c. begins_with (numbers c offset (unsigned_abs count) []) ≡ first_taken c offset (unsigned_abs count)) [
       | true ↦ refl
       | false ↦ refl
     ])
 
-abbrev headed_whole : List ℕ → Result (ℤ × Image) ImageFault
-headed_whole bytes = headed (numbers_at bytes) >>= λ head. (batches_read (length head.1) (begun head.0.1) head.1 >>= λ image. Ok (head.0.0, image))
-
 headed_same : (head rest : List ℕ) (offset count : ℤ) → length head ≡ 16 → IsNumbers head offset count
-    → ended_at (goes_on (record { body = None; held = [] }) (head ++ rest)) ≡ headed_whole (head ++ rest)
+    → ended_at (goes_on (record { body = None; held = [] }) (head ++ rest)) ≡ whole_with (numbers_at (head ++ rest))
 headed_same head rest offset count long n =
     let onward : Result Taken ImageFault → Result Taken ImageFault = λ r. r >>= λ next. goes_on next rest in
     ap ended_at (goes_on_append (stage None []) head rest
     ∙ ap onward (fills None [] head 16 (head_waits []) (omega (arith, long)) (omega (arith, long)) ∙ head_full head offset count long n))
-    ∙ (elim (is_negative offset count) as (λ c. ended_at (onward (cond c (Err (bad_batch 0 causes.Head)) (waits (Some (offset, begun (unsigned_abs count))) [])))
-    ≡ (headed (cond c (Err wire.Short) (Ok ((offset, unsigned_abs count), rest))) >>= λ h. (batches_read (length h.1) (begun h.0.1) h.1 >>= λ image. Ok (h.0.0, image)))) [
+    ∙ (elim (is_negative offset count) as (λ c. ended_at (onward (first_taken c offset (unsigned_abs count))) ≡ whole_with (numbers c offset (unsigned_abs count) rest)) [
       | true ↦ refl
       | false ↦ batches_same (length rest) (offset, begun (unsigned_abs count)) rest (omega arith)
     ]
-    ∙ sym (ap (λ r. headed r >>= λ h. (batches_read (length h.1) (begun h.0.1) h.1 >>= λ image. Ok (h.0.0, image))) (numbers_front head rest offset count n)))
+    ∙ sym (ap whole_with (numbers_front head rest offset count n)))
 
 pub pieces_whole : (bytes : List ℕ) → image_of bytes ≡ whole_image bytes
 unfolding image_of whole_image
@@ -426,5 +434,5 @@ pieces_whole bytes = elim (cases_Bool (nat_lt (length bytes) 16)) [
       let rest : List ℕ = drop 16 bytes in
       let long : length head ≡ 16 = length-take-le 16 bytes sixteen in
       let n = numbers_is head long in
-      subst (λ (l : List ℕ). ended_at (so_far l) ≡ headed_whole l) (take-append-drop 16 bytes) (headed_same head rest n.0.0 n.0.1 long n.1)
+      subst (λ (l : List ℕ). ended_at (so_far l) ≡ whole_with (numbers_at l)) (take-append-drop 16 bytes) (headed_same head rest n.0.0 n.0.1 long n.1)
 ]

@@ -110,6 +110,12 @@ abbrev kept_body : Result Taken ImageFault → Option (ℤ × Progress)
 kept_body (Ok t) = t.body
 kept_body (Err fault) = None
 
+abbrev none_yet : Option (ℤ × Progress)
+none_yet = None
+
+not_none : (b : ℤ × Progress) → Some b ≡ none_yet → ⊥
+not_none b e = cc
+
 -- where nothing is judged there are fewer bytes
 pub head_short : (held : List ℕ) → judged None held ≡ waits None held → length held < 16
 unfolding head_taken
@@ -119,8 +125,7 @@ head_short held e = elim (cases_lt (length held) 16) [
       let there : nat_lt (length held) 16 ≡ false = le-ltb (length held) 16 ge in
       let read : (headed (numbers_at held) >>= λ head. waits (Some (head.0.0, begun head.0.1)) []) ≡ waits None held = rw there at e in
       let b = bind_ok (headed (numbers_at held)) (λ head. waits (Some (head.0.0, begun head.0.1)) []) (record { body = None; held = held }) read in
-      let bodies : Some (b.0.0.0, begun b.0.0.1) ≡ None = ap kept_body b.2 in
-      absurd cc
+      absurd (not_none (b.0.0.0, begun b.0.0.1) (ap kept_body b.2))
 ]
 
 pub batch_short : (b : ℤ × Progress) (held : List ℕ) (size : ℕ) → judged (Some b) held ≡ waits (Some b) held → 12 ≤ length held → size_at held ≡ Ok size → length held < extent size
@@ -234,7 +239,7 @@ size_there (Err fault) none = absurd (none fault refl)
 pub unfinished : (b : ℤ × Progress) (held : List ℕ) → judged (Some b) held ≡ waits (Some b) held → IsUnfinished held
 unfinished b held waiting = λ there.
     let s = size_there (size_at held) (λ fault read. batch_sized b held fault waiting there read) in
-    (s.0, (s.1, batch_short b held s.0 waiting there s.1))
+    (s.0, s.1, batch_short b held s.0 waiting there s.1)
 
 pub goal_none : (p : Pieces) → p.body ≡ None → IsWaiting p → (length p.held.items < 16) × Waits (body_in p.body p.store.tip) p.held.items 16
 goal_none p none w =
@@ -274,6 +279,15 @@ fed_more t after (Err fault) fed piece leads stands = subst (λ (r : Result Take
 pub answers : (answer : Result (Unit {0}) ImageFault) (after : Taken) → answer ≡ answer_of (state_of (result_err answer) after)
 answers (Ok tt) after = refl
 answers (Err fault) after = refl
+
+stands_as : (s : Result Taken ImageFault) (f : Option ImageFault) (t : Taken) → state_of f t ≡ s → (g : Option ImageFault) → f ≡ g → (fed : List ℕ) → StandsFor s fed → StandsFor (state_of g t) fed
+stands_as s f t view g is fed stands = subst (λ (x : Result Taken ImageFault). StandsFor x fed) (sym view ∙ ap (λ (o : Option ImageFault). state_of o t) is) stands
+
+pub stands_fault : (s : Result Taken ImageFault) (f : Option ImageFault) (t : Taken) (fault : ImageFault) → state_of f t ≡ s → f ≡ Some fault → (fed : List ℕ) → StandsFor s fed → IsFault fault (so_far fed)
+stands_fault s f t fault view is fed stands = stands_as s f t view (Some fault) is fed stands
+
+pub stands_open : (s : Result Taken ImageFault) (f : Option ImageFault) (t : Taken) → state_of f t ≡ s → f ≡ None → (fed : List ℕ) → StandsFor s fed → so_far fed ≡ Ok t
+stands_open s f t view is fed stands = stands_as s f t view None is fed stands
 
 -- what is given in the end
 restored : (result : Result (ℤ × Images) ImageFault) (read whole : Result (ℤ × Image) ImageFault) → whole ≡ read → Restores result read → Restores result whole

@@ -179,14 +179,7 @@ impl Pieces {
     }
 
     // Takes bytes of the piece up to where more is judged, and gives those that are left.
-    #[tactic(
-        auto,
-        using(
-            crate::proofs::Waiting::part_taken,
-            crate::proofs::Waiting::part_fault,
-            crate::proofs::Waiting::waiting_after
-        )
-    )]
+    #[tactic(auto, using(crate::proofs::Waiting::waiting_after))]
     fn take_some<'a>(&mut self, piece: &'a [u8]) -> Result<&'a [u8], ImageFault>
         requires waiting { IsWaiting self.old }
         requires some { 1 ≤ length piece.now }

@@ -1,7 +1,8 @@
 //! The records of an image are read, batch by batch.
 
-ghost use Rattle.std.specs.Prelude.{◌≡◌, ◌≤◌, ◌<◌, ◌+◌, ◌^◌, length, IsSome, OnOk};
+ghost use Rattle.std.specs.Prelude.{◌≡◌, ◌≤◌, ◌<◌, ◌+◌, ◌^◌, length, IfOk, IsSome, OnOk};
 ghost use Rattle.std.specs.List.{list_any};
+ghost use Rattle.kr_defs.specs.declared.limits.TheConstants.{MOST_RECORDS as most};
 ghost use Rattle.kr_defs.specs.Image.{empty};
 ghost use Rattle.kr_store.specs.Images.{last_kept};
 ghost use Rattle.kr_batch.specs.Reading.{batch_of};
@@ -150,6 +151,7 @@ fn read_batch(
     batch: &Batch,
 ) -> Result<(), ImageFault>
     requires room { HasRoom tally.old }
+    requires few { length batch.now.items ≤ most }
     requires some { IsSome (last_kept store.old) }
     ensures read { LeadsTo result (progress_in tally.new store.new.tip) (reading.batch_read (progress_in tally.old store.old.tip) batch.now) }
     ensures kept { store.new.kept ≡ store.old.kept }
@@ -189,7 +191,8 @@ fn fault_of_batch(found: u64, fault: BatchFault) -> ImageFault
 #[tactic(auto, using(crate::proofs::Faults::refusal))]
 fn decode_batch(alloc: Global, found: u64, bytes: &[u8]) -> Result<Batch, ImageFault>
     requires { found < 2 ^ 63 }
-    ensures { Gives result (reading.refused found (batch_of bytes.now)) }
+    ensures read { Gives result (reading.refused found (batch_of bytes.now)) }
+    ensures few { IfOk result (λ b. length b.items ≤ most) }
 {
     match decode(alloc, bytes) {
         Ok(batch) => Ok(batch),

@@ -3,8 +3,8 @@ use Rattle.kr_snapshot.proofs.Batchwise.{start_waits}
 use Rattle.kr_snapshot.proofs.Waiting.{size_waits, unfinished_size, unfinished_sized}
 use Rattle.kr_snapshot.proofs.pieces.batch_goal.Goals as goal
 
-pub returns-then-len-lt-START-clause-waits : goal.returns-then-len-lt-START-clause-waits
-returns-then-len-lt-START-clause-waits c = λ b. start_waits b c.args.held.now
+pub returns-then-held-lt-START-clause-waits : goal.returns-then-held-lt-START-clause-waits
+returns-then-held-lt-START-clause-waits c = λ b. start_waits b c.args.held.now
 
 pub unreachable-requires : goal.unreachable-requires
 unreachable-requires c =
