@@ -110,7 +110,7 @@ always : (b : Bool) → (b || true) ≡ true
 always true = refl
 always false = refl
 
-never : (b : Bool) → (b || false) ≡ b
+pub never : (b : Bool) → (b || false) ≡ b
 never true = refl
 never false = refl
 

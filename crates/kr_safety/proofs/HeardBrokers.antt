@@ -13,19 +13,15 @@ use Rattle.kr_defs.specs.Image.{Image}
 use Rattle.kr_defs.specs.Map.{IsMap}
 use Rattle.kr_defs.proofs.Hearing.{leaves, beats}
 use Rattle.kr_safety.specs.HearingLaws.{HearsOf}
-use Rattle.kr_safety.proofs.BrokerTests.{OthersStay, passes, all_but, all_and, all_same}
+use Rattle.kr_safety.proofs.BrokerTests.{OthersStay, passes, all_but, all_and, all_same, never}
 
 abbrev pub is_unfenced : Broker → Bool
 is_unfenced state = not state.fenced
 
-whole : (b : Bool) → (b || false) ≡ b
-whole true = refl
-whole false = refl
-
 stops : (h : Heartbeats) (k tip id : ℤ) → has (stopping_brokers (stop h k tip)) id ≡ (has (stopping_brokers h) id || int_eq k id)
 stops h k tip id =
     ap (λ (ids : List ℤ). has ids id) (map-append (λ (s : Stopping). s.broker) h.stopping (new_stopping tip k ∷ []))
-    ∙ (list_any-append (λ x. int_eq x id) (stopping_brokers h) (k ∷ []) ∙ ap (λ b. has (stopping_brokers h) id || b) (whole (int_eq k id)))
+    ∙ (list_any-append (λ x. int_eq x id) (stopping_brokers h) (k ∷ []) ∙ ap (λ b. has (stopping_brokers h) id || b) (never (int_eq k id)))
 
 module _ (h : Heartbeats) (before after : Image) (hears : HearsOf h before) (first : IsMap int_cmp before.brokers) (then : IsMap int_cmp after.brokers) (k : ℤ) (stay : OthersStay before.brokers after.brokers k) where
   -- it is fenced, or gone

@@ -10,21 +10,19 @@ use Rattle.kr_defs.specs.declared.partition.Partition.{Partition}
 use Rattle.kr_defs.specs.Ids.{has, is_distinct, is_within}
 use Rattle.kr_defs.specs.Image.{are_distinct}
 use Rattle.kr_defs.specs.Walk.{Walked, walked, of_topic, walk_topic}
+use Rattle.std.proofs.lemmas.List.{length-map}
+use Rattle.kr_defs.proofs.Maps.{length-filter_le}
 use Rattle.kr_defs.proofs.IdLists.{id_itself, same_id, refutes, all_at, all_from, has_kept}
 use Rattle.kr_defs.proofs.Tests.{both, neither, not_true}
 
 -- ---- distinct ids
-
-no_longer : (p : ℤ → Bool) (ys : List ℤ) → length (filter p ys) ≤ length ys
-no_longer p [] = omega arith
-no_longer p (y ∷ ys) = let rest = no_longer p ys in elim (p y) as (λ b. length (cond b (y ∷ filter p ys) (filter p ys)) ≤ length (y ∷ ys)) [ true ↦ omega (arith, rest) | false ↦ omega (arith, rest) ]
 
 -- without one of its members a list is shorter
 shorter : (ys : List ℤ) (x : ℤ) → has ys x ≡ true → length (filter (λ y. not (int_eq y x)) ys) < length ys
 shorter [] x there = absurd cc
 shorter (y ∷ ys) x there =
     elim (int_eq y x) as (λ b. (b || has ys x) ≡ true → length (cond (not b) (y ∷ filter (λ z. not (int_eq z x)) ys) (filter (λ z. not (int_eq z x)) ys)) < length (y ∷ ys)) [
-      | true ↦ λ there. let rest = no_longer (λ z. not (int_eq z x)) ys in omega (arith, rest)
+      | true ↦ λ there. let rest = length-filter_le (λ z. not (int_eq z x)) ys in omega (arith, rest)
       | false ↦ λ there. let rest = shorter ys x there in omega (arith, rest)
     ] there
 
@@ -77,10 +75,6 @@ all_stay gone ps (t ∷ ts) none =
     let n = neither (t.1 == gone) (list_any (λ x. x == gone) (values_of ts)) none in
     rw (others_stay t.1 gone ps n.0, all_stay gone ps ts n.1) refl
 
-length_mapped : {X Y : Type 0} (f : X → Y) (xs : List X) → length (map f xs) ≡ length xs
-length_mapped f [] = refl
-length_mapped f (x ∷ xs) = ap suc (length_mapped f xs)
-
 pub walk_few : (ps : List Entry) (ts : List (List ℕ × ℕ)) → are_distinct (values_of ts) ≡ true → length (flat_map (walk_topic ps) ts) ≤ length ps
 walk_few ps [] distinct = omega arith
 walk_few ps (t ∷ ts) distinct =
@@ -88,6 +82,6 @@ walk_few ps (t ∷ ts) distinct =
     let rest = walk_few (filter (λ e. not (e.0.0 == t.1)) ps) ts d.1 in
     let stay = ap length (all_stay t.1 ps ts (not_true (list_any (λ x. x == t.1) (values_of ts)) d.0)) in
     let joined = length-append (walk_topic ps t) (flat_map (walk_topic ps) ts) in
-    let own = length_mapped (walked t.0) (of_topic t.1 ps) in
+    let own = length-map (of_topic t.1 ps) (walked t.0) in
     let parts = split_topic t.1 ps in
     omega (arith, rest, stay, joined, own, parts)

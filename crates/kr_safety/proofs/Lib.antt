@@ -5,6 +5,7 @@ pub mod HeardBrokers
 pub mod HearingRequests
 pub mod Lengths
 pub mod NamedTopics
+mod PastLimits
 pub mod SafeRecords
 pub mod SafeRequests
 pub mod SafeRules
