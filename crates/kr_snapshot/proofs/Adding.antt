@@ -21,7 +21,7 @@ use Rattle.kr_defs.specs.Walk.{walked, of_topic}
 use Rattle.kr_defs.proofs.Walks.{walk_next, walk_end}
 use Rattle.kr_defs.proofs.TopicWalks.{group_begin}
 use Rattle.kr_snapshot.specs.Walked.{partition_record}
-use Rattle.kr_snapshot.specs.Written.{groups, batches_bytes}
+use Rattle.kr_snapshot.specs.Written.{chunks, batches_bytes}
 use Rattle.kr_snapshot.specs.Writer.{setting_text, IsLight, texts, IsSound, body_with, count_of, Adds, IsAmid, MayAdd}
 use Rattle.kr_snapshot.specs.declared.writer.BatchWriter.{BatchWriter}
 
@@ -107,7 +107,7 @@ topic_parts name id ps indexes =
 -- ---- all of them
 
 pub all_bytes : (w after : BatchWriter) (records : List Record) → w.body.items ≡ [] → w.group.items ≡ [] → w.before ≡ 0 → Adds w after records
-    → (bytes : List ℕ) → bytes ≡ body_with after [] → bytes ≡ batches_bytes 0 (groups IMAGE_BATCH [] (as_items records))
+    → (bytes : List ℕ) → bytes ≡ body_with after [] → bytes ≡ batches_bytes 0 (chunks IMAGE_BATCH (as_items records))
 all_bytes w after records body group before adds bytes is =
     is ∙ (adds.bytes [] ∙ (ap (body_with w) (append-nil (as_items records)) ∙ rw (body, group, before) refl))
 

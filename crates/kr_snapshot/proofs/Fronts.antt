@@ -3,6 +3,7 @@ use Rattle.std.proofs.Common.{◌≡◌, ◌∙◌, ℕ, ℤ, ◌<◌, ◌≤◌
 use Rattle.std.specs.Prelude.{take, drop, ◌||◌, nat_lt, nat_le}
 use Rattle.std.proofs.lemmas.Bool.Decides.{nat_tests}
 use Rattle.std.proofs.lemmas.List.{take_at, drop_at, take-append-drop, length-take-le}
+use Rattle.kr_defs.specs.declared.limits.TheConstants.{MOST_RECORDS}
 use Rattle.kr_defs.proofs.Tests.{neither}
 use Rattle.kr_wire.proofs.Laws.{IsBytes, bind_ok, guard_ok, is_ok, complete_bind, complete_guard}
 use Rattle.kr_batch.specs.declared.Batch.{Batch}
@@ -10,7 +11,8 @@ use Rattle.kr_batch.specs.Crc.{crc32c}
 use Rattle.kr_batch.specs.Grammar.{IsStart, IsBatch}
 use Rattle.kr_batch.specs.Reading.{start_at, is_short}
 use Rattle.kr_batch.proofs.Heads.{start_law, long}
-use Rattle.kr_snapshot.specs.Reading.{extent, front_at}
+use Rattle.kr_snapshot.specs.Reading.{extent}
+use Rattle.kr_snapshot.proofs.Batchwise.{front_at}
 
 pub start_long : (x : ℤ × ℕ) (bytes : List ℕ) → IsStart x bytes → length bytes ≡ 12
 start_long x bytes is =
@@ -69,3 +71,7 @@ front_sound bytes x fits e =
     let taken : length (take n bytes) ≡ n = length-take-le n bytes (omega (arith, twelve, all, sum, there)) in
     let split : Splits bytes (take n bytes, drop n bytes) = record { parts = sym parts; some = omega (arith, taken) } in
     subst (λ (y : List ℕ × List ℕ). Splits bytes y) (is_ok _ _ g.1) split
+
+-- and not too many records
+pub batch_few : (batch : Batch) (front : List ℕ) → IsBatch batch front → length batch.items ≤ MOST_RECORDS
+batch_few batch front is = is.fixed.first.second.second.second.second.few

@@ -1,8 +1,8 @@
 -- Records in groups, and the batches of them.
-use Rattle.std.proofs.Common.{pos, negsuc, ◌≡◌, ◌∙◌, ℕ, ◌+◌, ◌*◌, ◌<◌, ◌≤◌, ◌^◌, cond, List, [], ◌∷◌, ◌++◌, length, length-append, refl, sym, ap, subst, arith, All}
+use Rattle.std.proofs.Common.{pos, negsuc, ◌≡◌, ◌∙◌, ℕ, ◌+◌, ◌*◌, ◌<◌, ◌≤◌, ◌^◌, List, [], ◌∷◌, ◌++◌, length, length-append, append_assoc, refl, sym, ap, subst, arith, All}
 use Rattle.std.specs.Prelude.{sum_by}
 use Rattle.std.specs.List.{AllByRecursion}
-use Rattle.std.proofs.lemmas.Bool.{lt-ltb}
+use Rattle.std.proofs.lemmas.List.{append-nil}
 use Rattle.std.proofs.lemmas.List.Elements.{All-append, All-from_recursion, recursion_from_All}
 use Rattle.std.proofs.lemmas.List.Sums.{sum_by-append, sum_by-cons}
 use Rattle.kr_defs.specs.declared.limits.TheConstants.{IMAGE_BATCH, MOST_CONFIG_TEXT}
@@ -13,7 +13,8 @@ use Rattle.kr_wire.specs.Spelling.{signed, varint32, varint64}
 use Rattle.kr_batch.specs.Written.{IsWritable, value_bytes, values_size, record_body, record_bytes, records_bytes, fixed_bytes, checked_bytes, head_bytes, batch_bytes}
 use Rattle.kr_batch.specs.Crc.{crc32c}
 use Rattle.std.specs.Int.{w8}
-use Rattle.kr_snapshot.specs.Written.{groups, batch_of_group, batches_bytes}
+use Rattle.kr_snapshot.specs.Written.{chunks, batch_of_group, batches_bytes}
+use Rattle.kr_snapshot.proofs.Chunks.{chunk_first, chunk_last}
 use Rattle.kr_snapshot.specs.Writer.{setting_text, item_text, IsLight, IsLightItem, most_beside, IsSound, MayAdd, Adds, text_of, count_of, body_with}
 use Rattle.kr_snapshot.specs.declared.writer.BatchWriter.{BatchWriter}
 
@@ -110,10 +111,26 @@ push_adds w mid after r may sound room bytes count text same_before same_body pu
       };
       bytes = λ more.
           rw (same_before, same_body, pushed)
-          (sym (ap (λ b. mid.body.items ++ batches_bytes mid.before (cond b (groups IMAGE_BATCH (mid.group.items ++ items.Record r ∷ []) more) (mid.group.items ∷ groups IMAGE_BATCH (items.Record r ∷ []) more))) (lt-ltb (length mid.group.items) IMAGE_BATCH room))
+          (ap (λ (is : List Item). mid.body.items ++ batches_bytes mid.before (chunks IMAGE_BATCH is)) (append_assoc mid.group.items (items.Record r ∷ []) more)
           ∙ bytes (items.Record r) more);
       count = omega (arith, long, count, same_before);
       text = omega (arith, sum, one, text);
     }
+
+-- where a full group was put, or there was room
+pub room_bytes : (w after : BatchWriter) (item : Item) (more : List Item) → length w.group.items ≡ IMAGE_BATCH
+    → after.body.items ≡ w.body.items ++ batch_bytes (batch_of_group w.before w.group.items) → after.before ≡ w.before + length w.group.items → after.group.items ≡ []
+    → body_with after (item ∷ more) ≡ body_with w (item ∷ more)
+room_bytes w after item more full body before group =
+    rw (body, before, group)
+    (append_assoc w.body.items (batch_bytes (batch_of_group w.before w.group.items)) (batches_bytes (w.before + length w.group.items) (chunks IMAGE_BATCH (item ∷ more)))
+    ∙ ap (λ (gs : List (List Item)). w.body.items ++ batches_bytes w.before gs) (sym (chunk_first IMAGE_BATCH w.group.items (item ∷ more) (omega arith) full)))
+
+-- where the last group was put
+pub rest_bytes : (w after : BatchWriter) → 1 ≤ length w.group.items → length w.group.items ≤ IMAGE_BATCH
+    → after.body.items ≡ w.body.items ++ batch_bytes (batch_of_group w.before w.group.items) → after.body.items ≡ body_with w []
+rest_bytes w after some few body =
+    let one : chunks IMAGE_BATCH (w.group.items ++ []) ≡ w.group.items ∷ [] = ap (chunks IMAGE_BATCH) (append-nil w.group.items) ∙ chunk_last IMAGE_BATCH w.group.items some few in
+    body ∙ ap (λ (l : List ℕ). w.body.items ++ l) (sym (ap (batches_bytes w.before) one ∙ append-nil (batch_bytes (batch_of_group w.before w.group.items))))
 
 pub ruleset batches = (group_writable, group_small)

@@ -1,8 +1,12 @@
 pub mod Adding
+pub mod Batchwise
+pub mod Chunks
+pub mod Faults
 pub mod Fronts
 pub mod Groups
 pub mod WholeImages
 pub mod Light
 pub mod Lookups
-pub mod Records
+pub mod Waiting
+pub mod RecordsRead
 pub mod Texts

@@ -1,6 +1,6 @@
 -- What is written for an image stands for it.
 use Rattle.std.proofs.Common.{◌≡◌, ◌∙◌, ℕ, ℤ, pos, ◌+◌, ◌<◌, ◌≤◌, ◌^◌, true, false, cond, List, [], ◌∷◌, ◌++◌, length, length-append, append_assoc, Ok, refl, sym, ap, subst, arith, All}
-use Rattle.std.specs.Prelude.{FitsSigned, ◌≤ℤ◌, map, sum_by, nat_lt}
+use Rattle.std.specs.Prelude.{FitsSigned, ◌≤ℤ◌, map, sum_by, Option, Some, None, IfSome, unwrap_or}
 use Rattle.std.specs.Int.{w64}
 use Rattle.std.specs.List.{AllByRecursion}
 use Rattle.std.proofs.lemmas.Bool.{cases_Bool, ltb-true, ltb-false}
@@ -13,7 +13,7 @@ use Rattle.kr_defs.specs.declared.limits.TheConstants.{IMAGE_BATCH, MOST_CONFIG_
 use Rattle.kr_defs.specs.declared.record.Record.{Record}
 use Rattle.kr_defs.specs.declared.record.Item.{Item}
 use Rattle.kr_defs.specs.declared.record.Item.TheVariants as items
-use Rattle.kr_defs.specs.Image.{Image, IsValid}
+use Rattle.kr_defs.specs.Image.{Image, IsValid, empty}
 use Rattle.kr_defs.specs.ImageLaws.{as_items}
 use Rattle.kr_defs.specs.Records.{records_of}
 use Rattle.kr_defs.proofs.OwnRecords.{own_records}
@@ -28,64 +28,12 @@ use Rattle.kr_batch.proofs.Spelled.{batch_spelled}
 use Rattle.kr_snapshot.specs.Grammar.{IsPart, AreParts, all_of, Makes, IsImage}
 use Rattle.kr_snapshot.specs.Reading.{image_of}
 use Rattle.kr_snapshot.specs.Writer.{setting_text, item_text, texts, IsLight, IsLightItem}
-use Rattle.kr_snapshot.specs.Written.{last_group, groups, batch_of_group, batches_bytes, image_text}
+use Rattle.kr_snapshot.specs.Written.{chunks, batch_of_group, batches_bytes, image_text}
 use Rattle.kr_snapshot.proofs.Adding.{all_front, all_back}
+use Rattle.kr_snapshot.proofs.Chunks.{Sized, chunks_mapped, chunks_all, chunks_sized}
 use Rattle.kr_snapshot.proofs.Groups.{group_writable, group_small}
 use Rattle.kr_snapshot.proofs.WholeImages.{image_complete}
 use Rattle.kr_snapshot.proofs.Light.{own_light, own_text}
-
--- ---- groups of records are groups of items
-
-last_items : (group : List Record) → last_group (as_items group) ≡ map as_items (last_group group)
-last_items [] = refl
-last_items (r ∷ group) = refl
-
-pushed_items : (group : List Record) (r : Record) → as_items group ++ items.Record r ∷ [] ≡ as_items (group ++ r ∷ [])
-pushed_items group r = sym (map-append (λ x. items.Record x) group (r ∷ []))
-
-same_room : (most : ℕ) (group : List Record) → nat_lt (length (as_items group)) most ≡ nat_lt (length group) most
-same_room most group = ap (λ n. nat_lt n most) (length-map group (λ r. items.Record r))
-
-pub group_items : (most : ℕ) (group rs : List Record) → groups most (as_items group) (as_items rs) ≡ map as_items (groups most group rs)
-group_items most group [] = last_items group
-group_items most group (r ∷ rs) =
-    ap (λ b. cond b (groups most (as_items group ++ items.Record r ∷ []) (as_items rs)) (as_items group ∷ groups most (items.Record r ∷ []) (as_items rs))) (same_room most group)
-    ∙ elim (nat_lt (length group) most) as (λ b. cond b (groups most (as_items group ++ items.Record r ∷ []) (as_items rs)) (as_items group ∷ groups most (items.Record r ∷ []) (as_items rs)) ≡ map as_items (cond b (groups most (group ++ r ∷ []) rs) (group ∷ groups most (r ∷ []) rs))) [
-      | true ↦ ap (λ (g : List Item). groups most g (as_items rs)) (pushed_items group r) ∙ group_items most (group ++ r ∷ []) rs
-      | false ↦ ap (λ (gs : List (List Item)). as_items group ∷ gs) (group_items most (r ∷ []) rs)
-    ]
-
--- ---- all groups together, and each
-
-last_all : (group : List Record) → all_of (last_group group) ≡ group
-last_all [] = refl
-last_all (r ∷ group) = append-nil (r ∷ group)
-
-pub groups_all : (most : ℕ) (group rs : List Record) → all_of (groups most group rs) ≡ group ++ rs
-groups_all most group [] = last_all group ∙ sym (append-nil group)
-groups_all most group (r ∷ rs) =
-    elim (nat_lt (length group) most) as (λ b. all_of (cond b (groups most (group ++ r ∷ []) rs) (group ∷ groups most (r ∷ []) rs)) ≡ group ++ r ∷ rs) [
-      | true ↦ groups_all most (group ++ r ∷ []) rs ∙ append_assoc group (r ∷ []) rs
-      | false ↦ ap (λ (xs : List Record). group ++ xs) (groups_all most (r ∷ []) rs)
-    ]
-
--- one record or more, and no more than there is room for
-record Sized (most : ℕ) (group : List Record) : Type 0 where
-  some : 1 ≤ length group
-  few : length group ≤ most
-
-last_sized : (most : ℕ) (group : List Record) → length group ≤ most → AllByRecursion (Sized most) (last_group group)
-last_sized most [] few = tt
-last_sized most (r ∷ group) few = (record { some = omega arith; few = few }, tt)
-
-groups_sized : (most : ℕ) (group rs : List Record) → 1 ≤ most → length group ≤ most → AllByRecursion (Sized most) (groups most group rs)
-groups_sized most group [] room few = last_sized most group few
-groups_sized most group (r ∷ rs) room few =
-    let long = length-append group (r ∷ []) in
-    elim (cases_Bool (nat_lt (length group) most)) [
-      | inl fits ↦ rw fits (groups_sized most (group ++ r ∷ []) rs room (let lt = ltb-true (length group) most fits in omega (arith, long, lt)))
-      | inr full ↦ rw full (record { some = (let ge = ltb-false (length group) most full in omega (arith, ge, room)); few = few }, groups_sized most (r ∷ []) rs room (omega (arith, room)))
-    ]
 
 -- ---- the batches
 
@@ -141,9 +89,9 @@ pub text_stands : (offset : ℤ) (image : Image) → IsValid image → pos 0 ≤
 unfolding image_text
 text_stands offset image valid least fits few held =
     let rs : List Record = records_of image in
-    let gs : List (List Record) = groups IMAGE_BATCH [] rs in
-    let all : all_of gs ≡ rs = groups_all IMAGE_BATCH [] rs in
-    let spelled : AreParts 0 gs (batches_bytes 0 (map as_items gs)) = parts_spelled gs 0 (let l = ap (λ (xs : List Record). length xs) all in omega (arith, few, l)) (groups_sized IMAGE_BATCH [] rs (omega arith) (omega arith))
+    let gs : List (List Record) = chunks IMAGE_BATCH rs in
+    let all : all_of gs ≡ rs = chunks_all IMAGE_BATCH rs (omega arith) in
+    let spelled : AreParts 0 gs (batches_bytes 0 (map as_items gs)) = parts_spelled gs 0 (let l = ap (λ (xs : List Record). length xs) all in omega (arith, few, l)) (chunks_sized IMAGE_BATCH rs (omega arith))
     (subst (λ (xs : List Record). AllByRecursion IsLight xs) (sym all) (recursion_from_All IsLight rs (own_light image valid)))
     (subst (λ (xs : List Record). AllByRecursion IsHeld xs) (sym all) (recursion_from_All IsHeld rs held))
     (subst (λ (xs : List Record). texts xs ≤ MOST_CONFIG_TEXT) (sym all) (own_text image valid)) in
@@ -155,13 +103,19 @@ text_stands offset image valid least fits few held =
       makes = subst (λ (xs : List Record). Makes xs image) (sym all) makes;
       spelled = record {
         left = signed w64 offset;
-        right = signed w64 (pos (length rs)) ++ batches_bytes 0 (groups IMAGE_BATCH [] (as_items rs));
-        is = append_assoc (signed w64 offset) (signed w64 (pos (length rs))) (batches_bytes 0 (groups IMAGE_BATCH [] (as_items rs)));
+        right = signed w64 (pos (length rs)) ++ batches_bytes 0 (chunks IMAGE_BATCH (as_items rs));
+        is = append_assoc (signed w64 offset) (signed w64 (pos (length rs))) (batches_bytes 0 (chunks IMAGE_BATCH (as_items rs)));
         first = signed_spelled w64 offset (omega arith) fits;
-        second = joined _ _ count (subst (λ (is : List (List Item)). AreParts 0 gs (batches_bytes 0 is)) (sym (group_items IMAGE_BATCH [] rs)) spelled);
+        second = joined _ _ count (subst (λ (is : List (List Item)). AreParts 0 gs (batches_bytes 0 is)) (sym (chunks_mapped (λ (r : Record). items.Record r) IMAGE_BATCH rs)) spelled);
       };
     }
 
 pub text_again : (offset : ℤ) (image : Image) → IsValid image → pos 0 ≤ℤ offset → FitsSigned w64 offset → length (records_of image) < 2 ^ 63 → All IsHeld (records_of image)
     → image_of (image_text offset image) ≡ Ok (offset, image)
 text_again offset image valid least fits few held = image_complete offset image (image_text offset image) (text_stands offset image valid least fits few held)
+
+-- the image at a place, where there is one
+pub text_at_stands : (o : Option Image) (offset : ℤ) → IsValid (unwrap_or o empty) → pos 0 ≤ℤ offset → FitsSigned w64 offset → length (records_of (unwrap_or o empty)) < 2 ^ 63
+    → IfSome o (λ (image : Image). All IsHeld (records_of image) → IsImage offset image (image_text offset image))
+text_at_stands None offset valid least fits few = tt
+text_at_stands (Some image) offset valid least fits few = text_stands offset image valid least fits few

@@ -28,8 +28,9 @@ use Rattle.kr_batch.proofs.Batches.{of_sound, of_complete}
 use Rattle.kr_batch.proofs.Frames.{is_true}
 use Rattle.kr_snapshot.specs.declared.fault.ImageFault.{ImageFault}
 use Rattle.kr_snapshot.specs.Grammar.{AreParts, all_of, IsImage}
-use Rattle.kr_snapshot.specs.Reading.{Progress, begun, headed, numbers_at, items_read, is_control, batch_read, refused, front_at, whole_read, ended, batches_read, rest_read, image_of}
-use Rattle.kr_snapshot.proofs.Records.{records_sound, records_complete, items_append, none_control, only_records}
+use Rattle.kr_snapshot.specs.Reading.{Progress, begun, headed, numbers_at, items_read, is_control, batch_read, refused, whole_read, ended, image_of}
+use Rattle.kr_snapshot.proofs.Batchwise.{front_at, batches_read, whole_image, pieces_whole}
+use Rattle.kr_snapshot.proofs.RecordsRead.{records_sound, records_complete, items_append, none_control, only_records}
 use Rattle.kr_snapshot.proofs.Fronts.{front_complete, front_sound, part_some}
 
 -- that it is this image
@@ -243,8 +244,9 @@ head_complete offset count bytes rest least is =
 -- ---- the laws
 
 pub image_complete : (offset : ℤ) (image : Image) (bytes : List ℕ) → IsImage offset image bytes → image_of bytes ≡ Ok (offset, image)
-unfolding image_of rest_read
+unfolding whole_image
 image_complete offset image bytes is =
+    pieces_whole bytes ∙ (
     let rs : List Record = all_of is.parts in
     let behind : List ℕ = is.spelled.second.right in
     let r = records_complete rs (begun (length rs)) image is.makes.ordered is.makes.applied in
@@ -258,12 +260,12 @@ image_complete offset image bytes is =
     let image_is : done r.0.image ≡ Ok image = ap (λ (i : Image). done i) (sym r.2) in
     complete_bind (headed (numbers_at bytes)) _ ((offset, length rs), behind) _ (ap headed head)
     (complete_bind (batches_read (length behind) (begun (length rs)) behind) _ image _
-    (batches_complete is.parts (length behind) (begun (length rs)) r.0 behind (omega arith) is.spelled.second.second (omega arith) r.1 ∙ image_is) refl)
+    (batches_complete is.parts (length behind) (begun (length rs)) r.0 behind (omega arith) is.spelled.second.second (omega arith) r.1 ∙ image_is) refl))
 
 pub image_sound : (bytes : List ℕ) (offset : ℤ) (image : Image) → IsBytes bytes → image_of bytes ≡ Ok (offset, image) → IsImage offset image bytes
-unfolding image_of rest_read
+unfolding whole_image
 image_sound bytes offset image fits e =
-    let a = bind_ok (headed (numbers_at bytes)) _ (offset, image) e in
+    let a = bind_ok (headed (numbers_at bytes)) _ (offset, image) (sym (pieces_whole bytes) ∙ e) in
     let h = head_sound bytes a.0 fits (headed_ok (numbers_at bytes) a.0 a.1) in
     let b = bind_ok (batches_read (length a.0.1) (begun a.0.0.1) a.0.1) _ (offset, image) a.2 in
     let all = batches_sound (length a.0.1) (begun a.0.0.1) a.0.1 b.0 h.small (omega arith) (omega arith) b.1 in

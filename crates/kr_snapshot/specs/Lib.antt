@@ -1,4 +1,5 @@
 pub mod Grammar
+pub mod Read
 pub mod Reading
 pub mod Shown
 pub mod Walked

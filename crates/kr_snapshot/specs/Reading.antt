@@ -1,5 +1,5 @@
 -- Reading an image: what the bytes give, or the first fault. Want of memory is free. This project's own.
-use Rattle.std.specs.Prelude.{ℕ, ℤ, pos, zero, suc, int_lt, unsigned_abs, ◌+◌, ◌||◌, Bool, true, false, not, List, [], ◌∷◌, length, take, drop, Result, Ok, Err, nat_lt}
+use Rattle.std.specs.Prelude.{ℕ, ℤ, pos, int_lt, unsigned_abs, ◌+◌, ◌^◌, ◌||◌, Bool, true, false, not, List, [], ◌∷◌, ◌++◌, length, Option, Some, None, Result, Ok, Err, nat_lt, nat_le, if◌then◌else◌}
 use Rattle.std.specs.Int.{w64}
 use Rattle.std.specs.List.{list_any}
 use Rattle.std.specs.Ordering.{int_eq}
@@ -16,7 +16,7 @@ use Rattle.kr_wire.specs.Reading.{◌>>=◌, refuse◌when◌else◌, Read, sign
 use Rattle.kr_batch.specs.declared.Batch.{Batch}
 use Rattle.kr_batch.specs.declared.fault.BatchFault.{BatchFault}
 use Rattle.kr_batch.specs.declared.fault.BatchFault.TheVariants as refusals
-use Rattle.kr_batch.specs.Reading.{start_at, is_short, batch_of}
+use Rattle.kr_batch.specs.Reading.{start_at, batch_of}
 use Rattle.kr_snapshot.specs.declared.fault.ImageFault.{ImageFault}
 use Rattle.kr_snapshot.specs.declared.fault.ImageFault.TheVariants as faults
 use Rattle.kr_snapshot.specs.declared.fault.BatchCause.{BatchCause}
@@ -86,42 +86,80 @@ abbrev pub refused : {X : Type 0} → ℕ → Result X BatchFault → Result X I
 refused found (Ok x) = Ok x
 refused found (Err fault) = Err (bad_batch found (causes.Refused fault))
 
--- base and size, and as many bytes more as the size says
-abbrev pub extent : ℕ → ℕ
-extent size = size + 12
-
--- the bytes of the batch at the front, as its size says, and those behind
-unfoldable pub front_at : List ℕ → Result (List ℕ × List ℕ) BatchFault
-front_at bytes = do
-  start ← start_at bytes
-  refuse refusals.Short when is_short start.0.1 (length start.1) else Ok (take (extent start.0.1) bytes, drop (extent start.0.1) bytes)
-
 -- all bytes of a batch
 unfoldable pub whole_read : Progress → List ℕ → Result Progress ImageFault
 whole_read p bytes = do
   batch ← refused p.found (batch_of bytes)
   batch_read p batch
 
+-- ---- the bytes as they come, in any pieces
+
+-- what was taken so far: the offset and the records, once the head is there; and the bytes of the head or of the batch
+-- that isn't whole yet
+pub record Taken : Type 0 where
+  pub body : Option (ℤ × Progress)
+  pub held : List ℕ
+
+abbrev pub nothing_taken : Taken
+nothing_taken = record { body = None; held = [] }
+
+abbrev pub waits : Option (ℤ × Progress) → List ℕ → Result Taken ImageFault
+waits body held = Ok (record { body = body; held = held })
+
+-- the head is judged once its two numbers are there
+unfoldable pub head_taken : List ℕ → Result Taken ImageFault
+head_taken held = if nat_lt (length held) 16 then waits None held else do
+  head ← headed (numbers_at held)
+  waits (Some (head.0.0, begun head.0.1)) []
+
+-- base and size, and as many bytes more as the size says
+abbrev pub extent : ℕ → ℕ
+extent size = size + 12
+
+abbrev pub is_no_size : ℕ → Bool
+is_no_size size = nat_lt size 49 || nat_le (2 ^ 31) size
+
+-- the size of the batch at the front
+unfoldable pub size_at : List ℕ → Result ℕ BatchFault
+size_at bytes = do
+  start ← start_at bytes
+  refuse refusals.Short when is_no_size start.0.1 else Ok start.0.1
+
+-- a batch: its size is judged once base and size are there, and all of it once it is whole
+unfoldable pub batch_taken : ℤ × Progress → List ℕ → Result Taken ImageFault
+batch_taken b held = if nat_lt (length held) 12 then waits (Some b) held else do
+  size ← refused b.1.found (size_at held)
+  if nat_lt (length held) (extent size) then waits (Some b) held else do
+    next ← whole_read b.1 held
+    waits (Some (b.0, next)) []
+
+abbrev pub judged : Option (ℤ × Progress) → List ℕ → Result Taken ImageFault
+judged None held = head_taken held
+judged (Some b) held = batch_taken b held
+
+-- one byte after the other
+abbrev pub goes_on : Taken → List ℕ → Result Taken ImageFault
+goes_on t [] = Ok t
+goes_on t (byte ∷ bytes) = judged t.body (t.held ++ byte ∷ []) >>= λ next. goes_on next bytes
+
+-- all bytes that came so far, or the first fault that they show, whatever follows them
+abbrev pub so_far : List ℕ → Result Taken ImageFault
+so_far bytes = goes_on nothing_taken bytes
+
+-- the same once a piece more has come; a fault stays
+abbrev pub with_piece : Result Taken ImageFault → List ℕ → Result Taken ImageFault
+with_piece (Ok taken) piece = goes_on taken piece
+with_piece (Err fault) piece = Err fault
+
 -- the bytes end
 abbrev pub ended : Progress → Result Image ImageFault
 ended p = refuse (faults.NoEnd p.found p.expected) when nat_lt p.found p.expected else Ok p.image
 
--- at most so many batches; each has bytes
-abbrev pub batches_read : ℕ → Progress → List ℕ → Result Image ImageFault
-batches_read most p [] = ended p
-batches_read zero p (byte ∷ bytes) = ended p
-batches_read (suc most) p (byte ∷ bytes) = do
-  front ← refused p.found (front_at (byte ∷ bytes))
-  next ← whole_read p front.0
-  batches_read most next front.1
+abbrev pub ends : Option (ℤ × Progress) → List ℕ → Result (ℤ × Image) ImageFault
+ends None held = Err (bad_batch 0 causes.Head)
+ends (Some b) [] = ended b.1 >>= λ image. Ok (b.0, image)
+ends (Some b) (byte ∷ held) = Err (bad_batch b.1.found (causes.Refused refusals.Short))
 
-unfoldable pub rest_read : Progress → List ℕ → Result Image ImageFault
-rest_read p bytes = batches_read (length bytes) p bytes
-
--- ---- all bytes: the offset and the image
-
+-- all bytes: the offset and the image
 unfoldable pub image_of : List ℕ → Result (ℤ × Image) ImageFault
-image_of bytes = do
-  head ← headed (numbers_at bytes)
-  image ← rest_read (begun head.0.1) head.1
-  Ok (head.0.0, image)
+image_of bytes = so_far bytes >>= λ t. ends t.body t.held

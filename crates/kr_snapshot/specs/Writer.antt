@@ -8,7 +8,7 @@ use Rattle.kr_defs.specs.declared.record.Item.TheVariants as items
 use Rattle.kr_defs.specs.ImageLaws.{as_items}
 use Rattle.kr_record.specs.Encodable.{IsEncodable}
 use Rattle.kr_record.specs.Spelling.{record_value}
-use Rattle.kr_snapshot.specs.Written.{groups, batches_bytes}
+use Rattle.kr_snapshot.specs.Written.{chunks, batches_bytes}
 use Rattle.kr_snapshot.specs.declared.writer.BatchWriter.{BatchWriter}
 
 -- the text of a setting, which is limited over all settings of an image
@@ -49,7 +49,7 @@ pub record IsSound (w : BatchWriter) : Type 0 where
 
 -- the bytes of the batches, once these items come
 abbrev pub body_with : BatchWriter → List Item → List ℕ
-body_with w more = w.body.items ++ batches_bytes w.before (groups IMAGE_BATCH w.group.items more)
+body_with w more = w.body.items ++ batches_bytes w.before (chunks IMAGE_BATCH (w.group.items ++ more))
 
 -- how many records came
 abbrev pub count_of : BatchWriter → ℕ

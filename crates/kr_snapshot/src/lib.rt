@@ -2,6 +2,10 @@
 #![tactic(auto)]
 
 mod fault;
+mod order;
+mod pieces;
+mod reader;
+mod records;
 mod shown;
 mod theorems;
 mod walking;
@@ -9,5 +13,6 @@ mod writer;
 mod writing;
 
 pub use fault::{BatchCause, ImageFault, SnapFault};
-pub use theorems::{images, written_images};
+pub use reader::Reader;
+pub use theorems::{images, read_in_pieces, written_images};
 pub use writing::write;

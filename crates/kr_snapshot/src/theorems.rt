@@ -1,13 +1,14 @@
 //! What holds of all bytes and of all images. The functions do nothing.
 
-ghost use Rattle.std.specs.Prelude.{◌≡◌, ◌≤ℤ◌, ◌<◌, ◌^◌, pos, ℕ, ℤ, List, Ok, All, length, FitsSigned};
+ghost use Rattle.std.specs.Prelude.{◌≡◌, ◌≤ℤ◌, ◌<◌, ◌^◌, ◌++◌, pos, ℕ, ℤ, List, Ok, Err, All, length, FitsSigned};
 ghost use Rattle.std.specs.Int.{w64};
 ghost use Rattle.kr_defs.specs.Image.{Image, IsValid};
 ghost use Rattle.kr_defs.specs.Records.{records_of};
 ghost use Rattle.kr_wire.specs.Laws.{IsBytes};
 ghost use Rattle.kr_record.specs.Held.{IsHeld};
 ghost use Rattle.kr_snapshot.specs.Grammar.{IsImage};
-ghost use Rattle.kr_snapshot.specs.Reading.{image_of};
+ghost use Rattle.kr_snapshot.specs.Reading.{image_of, so_far, with_piece};
+ghost use Rattle.kr_snapshot.specs.declared.fault.ImageFault.{ImageFault as AnyFault};
 ghost use Rattle.kr_snapshot.specs.Written.{image_text};
 
 /// What is read stands for its offset and image, what stands for them is read as them, and bytes stand for one offset
@@ -24,4 +25,10 @@ pub fn images()
 pub fn written_images()
     ensures stands { (offset : ℤ) (image : Image) → IsValid image → pos 0 ≤ℤ offset → FitsSigned w64 offset → length (records_of image) < 2 ^ 63 → All IsHeld (records_of image) → IsImage offset image (image_text offset image) }
     ensures again { (offset : ℤ) (image : Image) → IsValid image → pos 0 ≤ℤ offset → FitsSigned w64 offset → length (records_of image) < 2 ^ 63 → All IsHeld (records_of image) → image_of (image_text offset image) ≡ Ok (offset, image) }
+{}
+
+/// Bytes that come in pieces are read as all of them together, and a fault that they show stays, whatever follows.
+pub fn read_in_pieces()
+    ensures on { (fed piece : List ℕ) → so_far (fed ++ piece) ≡ with_piece (so_far fed) piece }
+    ensures faults { (fed more : List ℕ) (fault : AnyFault) → so_far fed ≡ Err fault → image_of (fed ++ more) ≡ Err fault }
 {}

@@ -68,7 +68,8 @@ impl BatchWriter {
         if self.group.len() < IMAGE_BATCH {
             return Ok(());
         }
-        self.put_group()
+        self.put_group()?;
+        Ok(())
     }
 
     /// Adds a record.
@@ -90,7 +91,8 @@ impl BatchWriter {
         if self.group.is_empty() {
             return Ok(());
         }
-        self.put_group()
+        self.put_group()?;
+        Ok(())
     }
 
     /// The bytes of all batches, and how many records they have.

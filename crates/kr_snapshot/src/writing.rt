@@ -1,14 +1,16 @@
 //! Images to bytes.
 
-ghost use Rattle.std.specs.Prelude.{◌≡◌, ◌↔◌, ◌<◌, ◌^◌, ◌++◌, [], ◌≤ℤ◌, pos, length, None, IsErrOf, IfOk, IfSome, OnOk, OnErr};
+ghost use Rattle.std.specs.Prelude.{◌≡◌, ◌↔◌, ◌<◌, ◌^◌, ◌++◌, [], ◌≤ℤ◌, pos, length, None, All, IsErrOf, IfOk, IfSome, OnOk, OnErr};
 ghost use Rattle.kr_defs.specs.declared.limits.TheConstants.{IMAGE_BATCH as most};
 ghost use Rattle.kr_defs.specs.Image.{IsValid};
 ghost use Rattle.kr_defs.specs.ImageLaws.{as_items};
 ghost use Rattle.kr_defs.specs.Records.{records_of};
+ghost use Rattle.kr_record.specs.Held.{IsHeld};
 ghost use Rattle.kr_store.specs.Images.{image_at};
+ghost use Rattle.kr_snapshot.specs.Grammar.{IsImage};
 ghost use Rattle.kr_snapshot.specs.Shown.{image_or_empty};
 ghost use Rattle.kr_snapshot.specs.Writer.{Adds, MayAdd};
-ghost use Rattle.kr_snapshot.specs.Written.{batches_bytes, groups, head_bytes, image_text};
+ghost use Rattle.kr_snapshot.specs.Written.{batches_bytes, chunks, head_bytes, image_text};
 ghost use Rattle.kr_snapshot.specs.declared.fault.SnapFault.TheVariants as faults;
 
 use crate::fault::SnapFault;
@@ -41,7 +43,7 @@ fn put_records<S: Store>(
 // The batches of all records, and how many records these are.
 fn batches<S: Store>(alloc: Global, store: &S, at: At) -> Result<(Vec<u8>, usize), NoMemory>
     requires { IsValid (image_or_empty (S.images store.now) at) }
-    ensures bytes { IfOk result (λ x. x.0.items ≡ batches_bytes 0 (groups most [] (as_items (records_of (image_or_empty (S.images store.now) at))))) }
+    ensures bytes { IfOk result (λ x. x.0.items ≡ batches_bytes 0 (chunks most (as_items (records_of (image_or_empty (S.images store.now) at))))) }
     ensures count { IfOk result (λ x. x.1 ≡ length (records_of (image_or_empty (S.images store.now) at))) }
     ensures small { IfOk result (λ x. x.1 < 2 ^ 63) }
 {
@@ -68,6 +70,7 @@ fn put_image<S: Store>(
 ) -> Result<(), NoMemory>
     requires { IsValid (image_or_empty (S.images store.now) at) }
     ensures ok { OnOk result (out.new.items ≡ out.old.items ++ image_text offset (image_or_empty (S.images store.now) at)) }
+    ensures few { OnOk result (length (records_of (image_or_empty (S.images store.now) at)) < 2 ^ 63) }
     ensures err { OnErr result (out.new.items ≡ out.old.items) }
 {
     let (body, count) = batches(alloc, store, at)?;
@@ -89,6 +92,8 @@ pub fn write<S: Store>(
 ) -> Result<(), SnapFault>
     requires { pos 0 ≤ℤ offset }
     ensures ok { OnOk result (IfSome (image_at (S.images store.now) at) (λ image. out.new.items ≡ out.old.items ++ image_text offset image)) }
+    // What is appended stands for the image and its offset, where its numbers and texts are those of their types.
+    ensures stands { OnOk result (IfSome (image_at (S.images store.now) at) (λ image. All IsHeld (records_of image) → IsImage offset image (image_text offset image))) }
     ensures err { OnErr result (out.new.items ≡ out.old.items) }
     ensures no_epoch { IsErrOf result faults.NoEpoch ↔ (image_at (S.images store.now) at ≡ None) }
 {

@@ -1,6 +1,7 @@
 -- The records that are read one after the other, against their order and their meaning.
-use Rattle.std.proofs.Common.{◌≡◌, ◌∙◌, ◌+◌, Bool, true, false, cond, List, [], ◌∷◌, ◌++◌, length, Result, Ok, Err, refl, sym, ap, subst, arith}
+use Rattle.std.proofs.Common.{◌≡◌, ◌∙◌, ℕ, suc, ◌+◌, ◌<◌, ◌≤◌, get_or, drop, drop-cons, add-one, Bool, true, false, cond, List, [], ◌∷◌, ◌++◌, length, Result, Ok, Err, refl, sym, ap, subst, arith}
 use Rattle.std.specs.Prelude.{not}
+use Rattle.std.proofs.lemmas.List.{drop_all}
 use Rattle.std.specs.List.{list_any}
 use Rattle.kr_defs.specs.declared.ill.Ill.{Ill}
 use Rattle.kr_defs.specs.declared.record.Record.{Record}
@@ -16,6 +17,8 @@ use Rattle.kr_wire.specs.Reading.{◌>>=◌}
 use Rattle.kr_wire.proofs.Laws.{bind_ok, guard_ok, is_ok, complete_bind, complete_guard}
 use Rattle.kr_batch.proofs.Frames.{is_true}
 use Rattle.kr_snapshot.specs.declared.fault.ImageFault.{ImageFault}
+use Rattle.kr_snapshot.specs.Read.{IsFault}
+use Rattle.kr_snapshot.proofs.Faults.{through}
 use Rattle.kr_snapshot.specs.Reading.{Progress, with_meaning, record_read, item_read, items_read, is_control}
 
 -- what was read, and then the record too
@@ -96,3 +99,23 @@ pub only_records : (all : List Item) → list_any is_control all ≡ false → (
 only_records [] none = ([], refl)
 only_records (items.Record r ∷ all) none = let o = only_records all none in (r ∷ o.0, ap (λ (is : List Item). items.Record r ∷ is) o.1)
 only_records (items.Control ∷ all) none = absurd cc
+
+-- ---- one after the other
+
+here : (items : List Item) (i : ℕ) (item : Item) → i < length items → item ≡ get_or items i item → drop i items ≡ item ∷ drop (i + 1) items
+here items i item within is = rw (add-one, drop-cons items i item) (ap (λ (x : Item). x ∷ drop (suc i) items) (sym is))
+
+module _ (p next : Progress) (items : List Item) (i : ℕ) (item : Item) (within : i < length items) (is : item ≡ get_or items i item) where
+  one : items_read p (drop i items) ≡ (item_read p item >>= λ n. items_read n (drop (i + 1) items))
+  one = ap (items_read p) (here items i item within is)
+
+  pub items_next : item_read p item ≡ Ok next → items_read next (drop (i + 1) items) ≡ items_read p (drop i items)
+  items_next read = sym (one ∙ ap (λ (r : Result Progress ImageFault). r >>= λ n. items_read n (drop (i + 1) items)) read)
+
+module _ (p : Progress) (items : List Item) (i : ℕ) (item : Item) (within : i < length items) (is : item ≡ get_or items i item) (whole : Result Progress ImageFault) (fault : ImageFault) where
+  pub items_fault : items_read p (drop i items) ≡ whole → IsFault fault (item_read p item) → IsFault fault whole
+  items_fault so_far found = through fault (item_read p item) whole
+      (λ read. sym so_far ∙ (one p p items i item within is ∙ ap (λ (r : Result Progress ImageFault). r >>= λ n. items_read n (drop (i + 1) items)) read)) found
+
+pub items_done : (p : Progress) (items : List Item) (i : ℕ) (whole : Result Progress ImageFault) → length items ≤ i → items_read p (drop i items) ≡ whole → whole ≡ Ok p
+items_done p items i whole past so_far = sym so_far ∙ ap (items_read p) (drop_all i items past)

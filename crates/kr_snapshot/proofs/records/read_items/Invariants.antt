@@ -1,0 +1,13 @@
+use Rattle.std.proofs.Common.{◌≡◌, ◌+◌, drop}
+use Rattle.kr_snapshot.specs.Read.{HasRoom, progress_in}
+use Rattle.kr_snapshot.specs.Reading.{items_read}
+use Rattle.kr_snapshot.proofs.records.read_items.Given as goal
+
+abbrev pub invariant-loop-item : goal.invariant-loop-item
+invariant-loop-item g l = record {
+  room : HasRoom l.tally;
+  kept : l.store.kept ≡ l.fn.store.kept;
+  expected : l.tally.expected ≡ l.fn.tally.expected;
+  count : l.tally.found ≡ l.fn.tally.found + l.item-index;
+  read : items_read (progress_in l.tally l.store.tip) (drop l.item-index l.list) ≡ items_read (progress_in l.fn.tally l.fn.store.tip) l.list;
+}
