@@ -90,7 +90,15 @@ fn answer<L: Ledger>(
                 kr_reassign::list(alloc, store, At::Tip, context.options, asked),
             )
         }
-        _ => Ok(false),
+        Request::IncrementalAlterConfigs(asked) => {
+            built(kr_config::alter(alloc, store, context, asked, out, steps))
+        }
+        Request::Metadata(asked) => {
+            show(
+                out,
+                kr_topics::metadata(alloc, store, At::Tip, context.options, asked),
+            )
+        }
     }
 }
 
