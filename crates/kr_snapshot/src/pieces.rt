@@ -196,10 +196,7 @@ impl Pieces {
     }
 
     /// Takes a piece.
-    #[tactic(
-        auto,
-        using(crate::proofs::Waiting::all_taken, crate::proofs::Waiting::fault_taken)
-    )]
+    #[tactic(auto, using(crate::proofs::Waiting::all_taken, crate::proofs::Waiting::fault_taken))]
     pub fn take(&mut self, piece: &[u8]) -> Result<(), ImageFault>
         requires { IsWaiting self.old }
         ensures waiting { OnOk result (IsWaiting self.new) }
@@ -256,10 +253,7 @@ fn close(body: Body, store: ImageStore) -> Result<(i64, ImageStore), ImageFault>
 }
 
 // Keeps the present image under the offset, and nothing else.
-#[tactic(
-    auto,
-    using(crate::proofs::Waiting::alone, crate::proofs::Waiting::above_all)
-)]
+#[tactic(auto, using(crate::proofs::Waiting::alone, crate::proofs::Waiting::above_all))]
 fn keep<L: Ledger>(mut store: ImageStore, offset: i64, blank: Blank) -> Result<ImageStore, NoMemory>
     requires name { blank.name ≡ L.name }
     requires parts { blank.parts ≡ L.parts }
