@@ -1,4 +1,4 @@
 use Rattle.kr_requests.proofs.main.Given as goal
 
 abbrev pub ghosts-compare : goal.ghosts-compare
-ghosts-compare a = record { name = a.blank.name; parts = a.blank.parts }
+ghosts-compare g a = record { name = a.blank.name; parts = a.blank.parts }
