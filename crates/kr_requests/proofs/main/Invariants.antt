@@ -1,4 +1,0 @@
-use Rattle.kr_requests.proofs.main.Given as goal
-
-abbrev pub ghosts-compare : goal.ghosts-compare
-ghosts-compare g a = record { name = a.blank.name; parts = a.blank.parts }
