@@ -108,7 +108,7 @@ not_enough : configuring.rule options (cluster short) (pos 30) (of_brokers (oper
     ≡ Ok (gives (says (codes "min.insync.replicas") (Some (codes "3")) ∷ []))
 not_enough = refl
 
--- ---- a request past a limit: 44, and nothing stands
+-- ---- validate-only: the same answers, and nothing stands
 
 abbrev setting : ConfigResource
 setting = of_brokers (operation (codes "k") (pos 0) (Some (codes "x")) ∷ [])

@@ -22,10 +22,10 @@ use Rattle.kr_calls.specs.Deciding.{begun, done}
 
 -- ---- reports of leaders
 
-abbrev member : ℤ → ℤ → BrokerState
+abbrev pub member : ℤ → ℤ → BrokerState
 member broker epoch = record { broker = broker; epoch = epoch }
 
-abbrev tells : PartitionReport
+abbrev pub tells : PartitionReport
 tells = record {
   index = pos 0;
   leader_epoch = pos 5;

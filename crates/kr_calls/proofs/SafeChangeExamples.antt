@@ -7,6 +7,7 @@ use Rattle.kr_defs.specs.Merge.{merged}
 use Rattle.kr_calls.specs.declared.calls.Request.{Request}
 use Rattle.kr_calls.specs.declared.calls.Request.TheVariants as requests
 use Rattle.kr_calls.proofs.Cluster.{cluster, leaderless, no_change, whole}
+use Rattle.kr_calls.proofs.PartitionExamples.{tells}
 use Rattle.kr_calls.specs.SafeChange.{is_safe}
 
 abbrev named : ℤ → PartitionChange
@@ -38,6 +39,21 @@ asked_for = refl
 preferred_only : safe (Some (requests.ElectLeaders (record { kind = pos 0; topics = None }))) leaderless (named (pos 2)) ≡ false
 unfolding is_safe merged
 preferred_only = refl
+
+-- broker 1 of epoch 10 reports that 2 is in sync, too
+abbrev alone : Partition
+alone = record whole { in_sync = pos 1 ∷ [] }
+
+abbrev reports_of : ℤ → Option Request
+reports_of epoch = Some (requests.AlterPartition (record { broker = pos 1; epoch = epoch; topics = record { topic = 77; partitions = tells ∷ [] } ∷ [] }))
+
+reported_leads : safe (reports_of (pos 10)) alone (named (pos 2)) ≡ true
+unfolding is_safe merged
+reported_leads = refl
+
+stale_report : safe (reports_of (pos 9)) alone (named (pos 2)) ≡ false
+unfolding is_safe merged
+stale_report = refl
 
 abbrev moving : Partition
 moving = record whole { in_sync = pos 1 ∷ pos 2 ∷ []; adding = pos 3 ∷ []; removing = pos 1 ∷ [] }

@@ -1,5 +1,5 @@
--- Kafka's AlterPartition, version 3 (KIP-497, KIP-841, KIP-966): what a leader reports of its partitions. That a report from
--- the future is refused, and the order of refusals, are this project's own.
+-- Kafka's AlterPartition, version 3 (KIP-497, KIP-704, KIP-841, KIP-903, KIP-966): what a leader reports of its partitions.
+-- That a report from the future is refused, and the order of refusals, are this project's own.
 use Rattle.std.specs.Prelude.{ℕ, ℤ, pos, negsuc, int_lt, Bool, true, false, not, ◌&&◌, ◌||◌, ◌==◌, nat_lt, List, [], ◌∷◌, length, map, Option, Some, None, Result, Ok, if◌then◌else◌, is_ok}
 use Rattle.std.specs.List.{list_all}
 use Rattle.std.specs.Option.{option_map_or}

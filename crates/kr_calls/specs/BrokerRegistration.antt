@@ -1,4 +1,4 @@
--- Kafka's BrokerRegistration, version 3 (KIP-631; KIP-841's previous broker epoch). That a registration takes the broker
+-- Kafka's BrokerRegistration, version 3 (KIP-631; KIP-966's previous broker epoch). That a registration takes the broker
 -- out, and what is refused in which order, is this project's own.
 use Rattle.std.specs.Prelude.{ℤ, pos, negsuc, int_lt, Bool, true, false, not, ◌&&◌, ◌||◌, ◌==◌, List, [], ◌∷◌, length, Option, Some, None, Result, Ok, bytes_eq}
 use Rattle.std.specs.Option.{option_map_or}

@@ -16,7 +16,7 @@ use Rattle.kr_calls.specs.declared.calls.Request.{Request}
 use Rattle.kr_calls.specs.declared.partitions.AlterPartitionTopic.{AlterPartitionTopic}
 use Rattle.kr_calls.specs.declared.partitions.ReassignableTopic.{ReassignableTopic}
 use Rattle.kr_calls.specs.declared.calls.Request.TheVariants as requests
-use Rattle.kr_calls.specs.AlterPartition.{is_accepted, members}
+use Rattle.kr_calls.specs.AlterPartition.{is_accepted, is_stale, members}
 
 -- the request asks for an election of any replica
 abbrev pub asks_unclean : Option Request → Bool
@@ -29,8 +29,9 @@ is_reported_in broker image key p leader topic =
     topic.topic == key.0
     && list_any (λ report. int_eq report.index key.1 && is_accepted broker image p report && has (members report) leader) topic.partitions
 
+-- so has one of a request whose broker is registered with the epoch that it gives
 abbrev pub reports : Image → ℕ × ℤ → Partition → ℤ → Option Request → Bool
-reports image key p leader (Some (requests.AlterPartition q)) = list_any (is_reported_in q.broker image key p leader) q.topics
+reports image key p leader (Some (requests.AlterPartition q)) = not (is_stale image q) && list_any (is_reported_in q.broker image key p leader) q.topics
 reports image key p leader other = false
 
 -- the request has an entry for this partition

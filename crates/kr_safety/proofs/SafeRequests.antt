@@ -35,6 +35,8 @@ use Rattle.kr_calls.specs.ElectLeaders as electing
 use Rattle.kr_calls.specs.IncrementalAlterConfigs as configuring
 use Rattle.kr_calls.specs.UnregisterBroker as unregistering
 use Rattle.kr_calls.proofs.KeptByRequests.{TakenBy, Keeps, one_keeps, all_keep, groups_keep, validated_keep, any_entry, any_groups}
+use Rattle.kr_calls.proofs.BrokersLeft.{LeavesBrokers, all_leave}
+use Rattle.kr_calls.proofs.BrokersLeft as leaving
 use Rattle.kr_calls.proofs.Standing.{applied_in_two}
 use Rattle.kr_safety.specs.SafeChangeLaws.{AreSafe, RequestsAreSafe, FencingsAreSafe}
 use Rattle.kr_safety.proofs.SafeRecords.{both_safe}
@@ -82,43 +84,84 @@ own_moves q =
 
 -- ---- the work of a request
 
-module _ (request : Option Request) (start : Image) where
+-- what the images over a request are: `V` of each
+module _ (request : Option Request) (start : Image) (V : Image → Type 0) where
   -- safe so far, and led to by meanings
   pub record IsSafeWork (w : Work) : Type 0 where
     pub safe : AreSafe request start w.records
     pub meaning : HaveMeanings start w
-    pub valid : IsValid w.image
+    pub valid : V w.image
 
-  begun_safe : (place : ℤ) → IsValid start → IsSafeWork (begun place start)
+  begun_safe : (place : ℤ) → V start → IsSafeWork (begun place start)
   begun_safe place valid = record { safe = tt; meaning = refl; valid = valid }
 
   -- a rule that gives safe records for such entries
   abbrev GivesSafe : {E A : Type 0} → (Image → ℤ → E → Result (Draft A) ℤ) → (E → Type 0) → Type 0
-  GivesSafe {E} rule Is = (image : Image) (place : ℤ) (entry : E) → Is entry → IsValid image → Gives (IsSafeDraft request image) (rule image place entry)
+  GivesSafe {E} rule Is = (image : Image) (place : ℤ) (entry : E) → Is entry → V image → Gives (IsSafeDraft request image) (rule image place entry)
 
-  module _ {E A : Type 0} (refused : ℤ → E → A) (rule : Image → ℤ → E → Result (Draft A) ℤ) (Is : E → Type 0) (gives : GivesSafe rule Is) where
+  -- a rule whose records leave such an image
+  abbrev LeavesSuch : {E A : Type 0} → (Image → ℤ → E → Result (Draft A) ℤ) → Type 0
+  LeavesSuch {E} rule = (image : Image) (place : ℤ) (entry : E) → V image → Gives (λ draft. Gives V (apply_records image draft.records)) (rule image place entry)
+
+  module _ {E A : Type 0} (refused : ℤ → E → A) (rule : Image → ℤ → E → Result (Draft A) ℤ) (Is : E → Type 0) (gives : GivesSafe rule Is) (leaves : LeavesSuch rule) where
     keeps : Keeps refused rule IsSafeWork Is
     keeps w entry is so_far draft drafted after by = record {
       safe = subst (AreSafe request start) (sym by.written) (both_safe request start w.records draft.records so_far.safe (λ mid reached.
           subst (λ (i : Image). AreSafe request i draft.records) (ap (ok_or_this w.image) (sym so_far.meaning ∙ reached)) (gives w.image w.place entry is so_far.valid draft drafted)));
       meaning = subst (λ (records : List Record). apply_records start records ≡ Ok after.image) (sym by.written) (applied_in_two start w.records draft.records ∙ (ap (λ r. and_then r (λ i. apply_records i draft.records)) so_far.meaning ∙ by.applied));
-      valid = valid_after w.image draft.records so_far.valid after.image by.applied;
+      valid = leaves w.image w.place entry so_far.valid draft drafted after.image by.applied;
     }
 
-    one : (place : ℤ) (entry : E) → Is entry → IsValid start → IsSafeWork (Rattle.kr_calls.specs.Deciding.one refused rule (begun place start) entry).0
-    one place entry is valid = one_keeps refused rule IsSafeWork Is keeps (begun place start) entry is (begun_safe place valid)
+    one_safe : (place : ℤ) (entry : E) → Is entry → V start → IsSafeWork (Rattle.kr_calls.specs.Deciding.one refused rule (begun place start) entry).0
+    one_safe place entry is valid = one_keeps refused rule IsSafeWork Is keeps (begun place start) entry is (begun_safe place valid)
 
-    all : (place : ℤ) (entries : List E) → AllByRecursion Is entries → IsValid start → IsSafeWork (Rattle.kr_calls.specs.Deciding.after_all refused rule (begun place start) entries)
-    all place entries are valid = all_keep refused rule IsSafeWork Is keeps (begun place start) entries are (begun_safe place valid)
+    all_safe : (place : ℤ) (entries : List E) → AllByRecursion Is entries → V start → IsSafeWork (Rattle.kr_calls.specs.Deciding.after_all refused rule (begun place start) entries)
+    all_safe place entries are valid = all_keep refused rule IsSafeWork Is keeps (begun place start) entries are (begun_safe place valid)
 
-    groups : {G B : Type 0} (entries_of : G → List E) (answer_of : G → List A → B) (place : ℤ) (those : List G) → AllByRecursion (λ group. AllByRecursion Is (entries_of group)) those → IsValid start → IsSafeWork (Rattle.kr_calls.specs.Deciding.after_groups refused rule entries_of answer_of (begun place start) those)
-    groups entries_of answer_of place those are valid = groups_keep refused rule IsSafeWork Is entries_of answer_of keeps (begun place start) those are (begun_safe place valid)
+    groups_safe : {G B : Type 0} (entries_of : G → List E) (answer_of : G → List A → B) (place : ℤ) (those : List G) → AllByRecursion (λ group. AllByRecursion Is (entries_of group)) those → V start → IsSafeWork (Rattle.kr_calls.specs.Deciding.after_groups refused rule entries_of answer_of (begun place start) those)
+    groups_safe entries_of answer_of place those are valid = groups_keep refused rule IsSafeWork Is entries_of answer_of keeps (begun place start) those are (begun_safe place valid)
 
   chosen : {X : Type 0} (test : Bool) (x y : Work × X) → IsSafeWork x.0 → (test ≡ false → IsSafeWork y.0) → IsSafeWork (cond test x y).0
   chosen true x y first then = first
   chosen false x y first then = then refl
 
-safe_work : (options : Options) (basis : Basis) (image : Image) (place : ℤ) (request : Request) → IsValid image → IsSafeWork (Some request) image (work_of options basis image place request).0
+-- ---- valid images alone
+
+module _ (request : Option Request) (start : Image) {E A : Type 0} (refused : ℤ → E → A) (rule : Image → ℤ → E → Result (Draft A) ℤ) (Is : E → Type 0) (gives : GivesSafe request start IsValid rule Is) where
+  valid_left : LeavesSuch request start IsValid rule
+  valid_left image place entry valid draft drafted = valid_after image draft.records valid
+
+  one : (place : ℤ) (entry : E) → Is entry → IsValid start → IsSafeWork request start IsValid (Rattle.kr_calls.specs.Deciding.one refused rule (begun place start) entry).0
+  one = one_safe request start IsValid refused rule Is gives valid_left
+
+  all : (place : ℤ) (entries : List E) → AllByRecursion Is entries → IsValid start → IsSafeWork request start IsValid (Rattle.kr_calls.specs.Deciding.after_all refused rule (begun place start) entries)
+  all = all_safe request start IsValid refused rule Is gives valid_left
+
+  groups : {G B : Type 0} (entries_of : G → List E) (answer_of : G → List A → B) (place : ℤ) (those : List G) → AllByRecursion (λ group. AllByRecursion Is (entries_of group)) those → IsValid start → IsSafeWork request start IsValid (Rattle.kr_calls.specs.Deciding.after_groups refused rule entries_of answer_of (begun place start) those)
+  groups = groups_safe request start IsValid refused rule Is gives valid_left
+
+-- ---- reports: the broker that reports stays registered as it is
+
+module _ (options : Options) (start : Image) (q : AlterPartition) (fresh : reporting.is_stale start q ≡ false) where
+  abbrev r : Option Request
+  r = Some (requests.AlterPartition q)
+
+  abbrev V : Image → Type 0
+  V image = IsValid image × LeavesBrokers start image
+
+  fresh_there : (image : Image) → LeavesBrokers start image → reporting.is_stale image q ≡ false
+  fresh_there image same = ap (λ brokers. reporting.is_stale (record image { brokers = brokers }) q) same ∙ fresh
+
+  reports_leave : LeavesSuch r start V (reporting.rule options q.broker)
+  reports_leave image place entry v draft drafted after is =
+      (valid_after image draft.records v.0 after is, all_leave image draft.records (leaving.reports options q.broker image place entry draft drafted) after is ∙ v.1)
+
+  reported : (place : ℤ) → IsValid start → IsSafeWork r start IsValid (Rattle.kr_calls.specs.Deciding.after_groups reporting.refused (reporting.rule options q.broker) reporting.entries_of reporting.answer_of (begun place start) q.topics)
+  reported place valid =
+      let work = groups_safe r start V reporting.refused (reporting.rule options q.broker) (IsReportOf q) (λ i p e is v. reports i options q (fresh_there i v.1) p e is) reports_leave reporting.entries_of reporting.answer_of place q.topics (own_reports q) (valid, refl) in
+      record { safe = work.safe; meaning = work.meaning; valid = work.valid.0 }
+
+safe_work : (options : Options) (basis : Basis) (image : Image) (place : ℤ) (request : Request) → IsValid image → IsSafeWork (Some request) image IsValid (work_of options basis image place request).0
 unfolding work_of registering.decided heartbeating.decided unregistering.decided creating.decided deleting.decided growing.decided reporting.decided electing.decided reassigning.decided configuring.decided
 safe_work options basis image place (requests.BrokerRegistration q) valid =
     one (Some (requests.BrokerRegistration q)) image registering.refused (registering.rule options basis) (λ _. Unit {0}) (λ i p e is v. registers (Some (requests.BrokerRegistration q)) i v options basis p e) place q tt valid
@@ -128,31 +171,30 @@ safe_work options basis image place (requests.UnregisterBroker q) valid =
     one (Some (requests.UnregisterBroker q)) image unregistering.refused (unregistering.rule options) (λ _. Unit {0}) (λ i p e is v. unregisters (Some (requests.UnregisterBroker q)) i v options p e) place q tt valid
 safe_work options basis image place (requests.CreateTopics q) valid =
     let r = Some (requests.CreateTopics q) in
-    validated_keep (IsSafeWork r image) q.validate_only (begun place image) _ (begun_safe r image place valid)
+    validated_keep (IsSafeWork r image IsValid) q.validate_only (begun place image) _ (begun_safe r image IsValid place valid)
     (all r image refused_creation (creating.rule options q.validate_only) (λ _. Unit {0}) (λ i p e is v. creates r i options q.validate_only p e) place q.topics (any_entry q.topics) valid)
 safe_work options basis image place (requests.DeleteTopics q) valid =
     let r = Some (requests.DeleteTopics q) in all r image refused_deletion deleting.rule (λ _. Unit {0}) (λ i p e is v. deletes r i p e) place q.topics (any_entry q.topics) valid
 safe_work options basis image place (requests.CreatePartitions q) valid =
     let r = Some (requests.CreatePartitions q) in
-    validated_keep (IsSafeWork r image) q.validate_only (begun place image) _ (begun_safe r image place valid)
+    validated_keep (IsSafeWork r image IsValid) q.validate_only (begun place image) _ (begun_safe r image IsValid place valid)
     (all r image refused_growth growing.rule (λ _. Unit {0}) (λ i p e is v. grows r i p e) place q.topics (any_entry q.topics) valid)
 safe_work options basis image place (requests.AlterPartition q) valid =
     let r = Some (requests.AlterPartition q) in
-    chosen r image (reporting.is_stale image q) _ _ (begun_safe r image place valid) (λ _.
-    groups r image reporting.refused (reporting.rule options q.broker) (IsReportOf q) (λ i p e is v. reports i options q p e is) reporting.entries_of reporting.answer_of place q.topics (own_reports q) valid)
+    chosen r image IsValid (reporting.is_stale image q) _ _ (begun_safe r image IsValid place valid) (λ fresh. reported options image q fresh place valid)
 safe_work options basis image place (requests.ElectLeaders q) valid =
     let r = Some (requests.ElectLeaders q) in
-    chosen r image (not (electing.is_kind q.kind)) _ _ (begun_safe r image place valid) (λ kind.
+    chosen r image IsValid (not (electing.is_kind q.kind)) _ _ (begun_safe r image IsValid place valid) (λ kind.
     groups r image electing.answer (electing.rule options q.kind) (λ _. Unit {0}) (λ i p e is v. elects i v options q (not_false (electing.is_kind q.kind) kind) p e) electing.entries_of electing.answer_of place (electing.groups_of image q.topics) (any_groups electing.entries_of (electing.groups_of image q.topics)) valid)
 safe_work options basis image place (requests.AlterPartitionReassignments q) valid =
     let r = Some (requests.AlterPartitionReassignments q) in
     groups r image reassigning.answer (reassigning.rule options) (IsMoveOf q) (λ i p e is v. reassigns i v options q p e is) reassigning.entries_of reassigning.answer_of place q.topics (own_moves q) valid
 safe_work options basis image place (requests.IncrementalAlterConfigs q) valid =
     let r = Some (requests.IncrementalAlterConfigs q) in
-    validated_keep (IsSafeWork r image) q.validate_only (begun place image) _ (begun_safe r image place valid)
+    validated_keep (IsSafeWork r image IsValid) q.validate_only (begun place image) _ (begun_safe r image IsValid place valid)
     (all r image refused_resource (configuring.rule options) (λ _. Unit {0}) (λ i p e is v. configures r i v options p e) place q.resources (any_entry q.resources) valid)
-safe_work options basis image place (requests.ListPartitionReassignments q) valid = begun_safe (Some (requests.ListPartitionReassignments q)) image place valid
-safe_work options basis image place (requests.Metadata q) valid = begun_safe (Some (requests.Metadata q)) image place valid
+safe_work options basis image place (requests.ListPartitionReassignments q) valid = begun_safe (Some (requests.ListPartitionReassignments q)) image IsValid place valid
+safe_work options basis image place (requests.Metadata q) valid = begun_safe (Some (requests.Metadata q)) image IsValid place valid
 
 pub requests_are_safe : RequestsAreSafe
 requests_are_safe options basis image place request valid = (safe_work options basis image place request valid).safe

@@ -5,7 +5,7 @@ use Rattle.std.specs.List.{list_all, list_any, cons_option}
 use Rattle.std.specs.Option.{option_map, option_map_or}
 use Rattle.std.specs.Ordering.{int_cmp, int_eq, is_eq}
 use Rattle.std.specs.Map.{values_of}
-use Rattle.std.proofs.lemmas.Bool.{or_cases}
+use Rattle.std.proofs.lemmas.Bool.{and_from, or_cases}
 use Rattle.kr_defs.specs.declared.basis.Basis.{Basis}
 use Rattle.kr_defs.specs.declared.broker.Broker.{Broker}
 use Rattle.kr_defs.specs.declared.changing.Mode.TheVariants as modes
@@ -183,9 +183,9 @@ drafted_change broker entry p None = refl
 drafted_change broker entry p (Some change) = refl
 
 module _ (image : Image) where
-  pub reports : (options : Options) (q : AlterPartition) (place : ℤ) (entry : reporting.Entry) → IsReportOf q entry → Gives (IsSafeDraft (Some (requests.AlterPartition q)) image) (reporting.rule options q.broker image place entry)
+  pub reports : (options : Options) (q : AlterPartition) → reporting.is_stale image q ≡ false → (place : ℤ) (entry : reporting.Entry) → IsReportOf q entry → Gives (IsSafeDraft (Some (requests.AlterPartition q)) image) (reporting.rule options q.broker image place entry)
   unfolding reporting.of_partition reporting.accepted
-  reports options q place entry is =
+  reports options q fresh place entry is =
       let P = IsSafeDraft (Some (requests.AlterPartition q)) image in
       gives_found P (pos 100) (topic_name image.topics entry.0) _ (λ name named. gives_found P (pos 3) (entries.get partition_order image.partitions (entry.0, entry.1.index)) _ (λ p there.
       gives_refuse P (pos 74) (int_lt entry.1.leader_epoch p.leader_epoch) _ (λ a. gives_refuse P (pos 75) (int_lt p.leader_epoch entry.1.leader_epoch) _ (λ b. gives_refuse P (pos 95) (not (int_eq entry.1.partition_epoch p.partition_epoch)) _ (λ c. gives_refuse P (pos 42) (reporting.is_bad q.broker p entry.1) _ (λ d. gives_refuse P (pos 107) (not (list_all (reporting.is_ready image) entry.1.in_sync)) _ (λ e.
@@ -194,7 +194,7 @@ module _ (image : Image) where
       (change_safe (Some (requests.AlterPartition q)) image name (entry.0, entry.1.index) p (reporting.wanted p entry.1) (facts_of options image name) named there (record {
         unclean = refl;
         mode = λ asked. absurd cc;
-        in_sync = λ id has_it. inr (is (λ report. int_eq report.index entry.1.index && reporting.is_accepted q.broker image p report && has (reporting.members report) id) (rw (id_itself entry.1.index, a, b, c, d, e, has_it) refl));
+        in_sync = λ id has_it. inr (and_from (not (reporting.is_stale image q)) _ (ap not fresh) (is (λ report. int_eq report.index entry.1.index && reporting.is_accepted q.broker image p report && has (reporting.members report) id) (rw (id_itself entry.1.index, a, b, c, d, e, has_it) refl)));
         lists = inl (record { replicas = refl; adding = refl; removing = refl });
       }))))))))))
 
