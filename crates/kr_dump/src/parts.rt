@@ -1,0 +1,74 @@
+//! What each broker, partition and topic gives to the text.
+
+ghost use Rattle.kr_dump.specs.DumpText as texts;
+
+use crate::lines::{put_broker, put_partition, put_topic};
+use crate::texts::put_bytes;
+use kr_base::NoMemory;
+use kr_defs::{Broker, Bytes, Partition, Text};
+use kr_gather::{BrokerPart, PartitionPart, TopicPart, gather_partitions};
+use kr_store::{At, Store};
+use std::alloc::Global;
+
+/// The line of a broker.
+#[derive(Drop)]
+pub(crate) struct BrokerLine;
+
+impl BrokerPart<u8> for BrokerLine {
+    ghost part = { λ _ entry. texts.broker_line entry };
+
+    fn add(
+        &self,
+        alloc: Global,
+        id: &i32,
+        state: &Broker,
+        rows: &mut Bytes,
+    ) -> Result<(), NoMemory> {
+        put_broker(alloc, rows, *id, state)?;
+        Ok(())
+    }
+}
+
+/// The line of a partition of the topic of this name.
+#[derive(Drop)]
+struct PartitionLine<'a> {
+    name: &'a Text,
+}
+
+impl<'a> PartitionPart<u8> for PartitionLine<'a> {
+    ghost part = { λ p entry. texts.partition_line p.name.now entry };
+
+    fn add(
+        &self,
+        alloc: Global,
+        key: &(u128, i32),
+        partition: &Partition,
+        rows: &mut Bytes,
+    ) -> Result<(), NoMemory> {
+        put_partition(alloc, rows, self.name, key, partition)?;
+        Ok(())
+    }
+}
+
+/// The line of a topic, and those of its partitions.
+#[derive(Drop)]
+pub(crate) struct TopicLines;
+
+impl TopicPart<u8> for TopicLines {
+    ghost part = { λ _ image topic. texts.topic_lines image topic };
+
+    fn add<S: Store>(
+        &self,
+        alloc: Global,
+        store: &S,
+        at: At,
+        name: &Text,
+        id: &u128,
+        rows: &mut Bytes,
+    ) -> Result<(), NoMemory> {
+        put_topic(alloc, rows, name, *id)?;
+        let partitions = gather_partitions(alloc, store, at, &PartitionLine { name }, id)?;
+        put_bytes(rows, partitions.as_slice())?;
+        Ok(())
+    }
+}
