@@ -57,7 +57,7 @@ stamped client now Message front rest body parts h message = record {
 request_is : (client : ℕ) (now : ℤ) (event : Event) (front rest body : List ℕ) → body ≡ front ++ rest → (IsNumber w32 client ⌢ IsTime now) front → IsRequestOf client now event rest → IsEventOf kinds.Request event body
 request_is client now event front rest body parts h of =
     let P : Event → Type 0 = λ e. IsEventOf kinds.Request e body in
-    subst P (sym of.request) (record { kind = refl; is = stamped client now (IsMessage of.ask) front rest body parts h of.is })
+    subst P (sym of.request) (record { named = refl; is = stamped client now (IsMessage of.ask) front rest body parts h of.is })
 
 pub request_found : (client : ℕ) (now : ℤ) (at : ℕ) (body rest : List ℕ) (result : Result Event BodyFault) → ((i : ℕ) → Fits w8 (get_or body i 0))
     → stamp_at body ≡ Ok ((client, now), drop at body) → rest ≡ drop at body
@@ -76,13 +76,13 @@ stamp_read (events.Request c n ask) body of =
     let front : (IsNumber w32 c ⌢ IsTime n) (is.left ++ j.left) = joined is.left j.left is.first j.first in
     let parts : body ≡ (is.left ++ j.left) ++ j.right = is.is ∙ (ap (λ (l : List ℕ). is.left ++ l) j.is ∙ sym (append_assoc is.left j.left j.right)) in
     (c, n, j.right, ap stamp_at parts ∙ stamp_law.complete (c, n) (is.left ++ j.left) j.right front, j.second.short)
-stamp_read (events.Lead epoch next now) body of = let k = of.kind in absurd cc
-stamp_read (events.Commit epoch end) body of = let k = of.kind in absurd cc
-stamp_read (events.Lost epoch) body of = let k = of.kind in absurd cc
-stamp_read (events.Batch bytes) body of = let k = of.kind in absurd cc
-stamp_read (events.Load bytes) body of = let k = of.kind in absurd cc
-stamp_read (events.Tick now) body of = let k = of.kind in absurd cc
-stamp_read events.Image body of = let k = of.kind in absurd cc
+stamp_read (events.Lead epoch next now) body of = let k = of.named in absurd cc
+stamp_read (events.Commit epoch end) body of = let k = of.named in absurd cc
+stamp_read (events.Lost epoch) body of = let k = of.named in absurd cc
+stamp_read (events.Batch bytes) body of = let k = of.named in absurd cc
+stamp_read (events.Load bytes) body of = let k = of.named in absurd cc
+stamp_read (events.Tick now) body of = let k = of.named in absurd cc
+stamp_read events.Image body of = let k = of.named in absurd cc
 
 pub request_unstamped : (body : List ℕ) (fault : WireFault) → stamp_at body ≡ Err fault → (event : Event) → IsEventOf kinds.Request event body → ⊥
 request_unstamped body fault e event is = let m = stamp_read event body is in let clash = sym e ∙ m.3 in cc
@@ -137,30 +137,35 @@ options_misfit body cluster p e same wrong o is =
 -- ---- frames
 
 pub open_found : (body : List ℕ) (options : Options) → IsOptions options body → IsBodyOf kinds.Open (frames.Open options) body
-open_found body options is = record { kind = refl; is = is }
+open_found body options is = record { named = refl; is = is }
 
 pub open_misfit : (body : List ℕ) → ((o : Options) → IsOptions o body → ⊥) → (frame : Frame) → IsBodyOf kinds.Open frame body → ⊥
 open_misfit body none (frames.Open options) of = none options of.is
-open_misfit body none (frames.Event event) of = event_not_open event of.kind
-open_misfit body none frames.End of = let k = of.kind in absurd cc
+open_misfit body none (frames.Event event) of = event_not_open event of.named
+open_misfit body none frames.End of = let k = of.named in absurd cc
+
+pub open_misfit_as : (kind : FrameKind) (body slice : List ℕ) → kind ≡ kinds.Open → slice ≡ body → ((o : Options) → IsOptions o slice → ⊥) → (frame : Frame) → IsBodyOf kind frame body → ⊥
+open_misfit_as kind body slice same value none frame of =
+    let P : FrameKind → Type 0 = λ k. IsBodyOf k frame body in
+    open_misfit body (λ o is. none o (subst (IsOptions o) (sym value) is)) frame (subst P same of)
 
 pub event_found : (kind : FrameKind) (body : List ℕ) (event : Event) → IsEventOf kind event body → IsBodyOf kind (frames.Event event) body
-event_found kind body event of = record { kind = of.kind; is = of.is }
+event_found kind body event of = record { named = of.named; is = of.is }
 
 pub event_misfit : (kind : FrameKind) (body : List ℕ) → (kind ≡ kinds.Open → ⊥) → (kind ≡ kinds.End → ⊥) → ((event : Event) → IsEventOf kind event body → ⊥) → (frame : Frame) → IsBodyOf kind frame body → ⊥
-event_misfit kind body no_open no_end none (frames.Open options) of = no_open (sym of.kind)
-event_misfit kind body no_open no_end none (frames.Event event) of = none event (record { kind = of.kind; is = of.is })
-event_misfit kind body no_open no_end none frames.End of = no_end (sym of.kind)
+event_misfit kind body no_open no_end none (frames.Open options) of = no_open (sym of.named)
+event_misfit kind body no_open no_end none (frames.Event event) of = none event (record { named = of.named; is = of.is })
+event_misfit kind body no_open no_end none frames.End of = no_end (sym of.named)
 
 empty : (body : List ℕ) → length body ≤ 0 → body ≡ []
 empty [] le = refl
 empty (b ∷ body) le = absurd (omega (arith, le))
 
 pub end_found : (body : List ℕ) → length body ≤ 0 → IsBodyOf kinds.End frames.End body
-end_found body le = record { kind = refl; is = empty body le }
+end_found body le = record { named = refl; is = empty body le }
 
 pub batch_found : (body : List ℕ) → length body ≤ longest_body kinds.Batch → IsEventOf kinds.Batch (events.Batch body) body
-batch_found body short = record { kind = refl; is = record { short = short; all = refl } }
+batch_found body short = record { named = refl; is = record { short = short; all = refl } }
 
 pub load_found : (body : List ℕ) → length body ≤ longest_body kinds.Load → IsEventOf kinds.Load (events.Load body) body
-load_found body short = record { kind = refl; is = record { short = short; all = refl } }
+load_found body short = record { named = refl; is = record { short = short; all = refl } }

@@ -43,16 +43,16 @@ numbers_sound kinds.Lead e bytes fits =
     sound_then (signed_law w32) (IsEventOf kinds.Lead) _ bytes fits (λ epoch a rest first more.
     sound_then (signed_law w64) _ _ rest more (λ next b rest second more.
     sound_last time_law _ (λ now. events.Lead epoch next now) rest more (λ now c third.
-    record { kind = refl; is = joined a (b ++ c) first (joined b c second third) })))
+    record { named = refl; is = joined a (b ++ c) first (joined b c second third) })))
 numbers_sound kinds.Commit e bytes fits =
     sound_then (signed_law w32) (IsEventOf kinds.Commit) _ bytes fits (λ epoch a rest first more.
     sound_last (signed_law w64) _ (λ end. events.Commit epoch end) rest more (λ end b second.
-    record { kind = refl; is = joined a b first second }))
+    record { named = refl; is = joined a b first second }))
 numbers_sound kinds.Lost e bytes fits =
-    sound_last (signed_law w32) (IsEventOf kinds.Lost) (λ epoch. events.Lost epoch) bytes fits (λ epoch a first. record { kind = refl; is = first })
+    sound_last (signed_law w32) (IsEventOf kinds.Lost) (λ epoch. events.Lost epoch) bytes fits (λ epoch a first. record { named = refl; is = first })
 numbers_sound kinds.Tick e bytes fits =
-    sound_last time_law (IsEventOf kinds.Tick) (λ now. events.Tick now) bytes fits (λ now a first. record { kind = refl; is = first })
-numbers_sound kinds.Image e bytes fits = sound_done (IsEventOf kinds.Image) bytes events.Image (record { kind = refl; is = refl })
+    sound_last time_law (IsEventOf kinds.Tick) (λ now. events.Tick now) bytes fits (λ now a first. record { named = refl; is = first })
+numbers_sound kinds.Image e bytes fits = sound_done (IsEventOf kinds.Image) bytes events.Image (record { named = refl; is = refl })
 numbers_sound kinds.Open e bytes fits = absurd cc
 numbers_sound kinds.Batch e bytes fits = absurd cc
 numbers_sound kinds.Load e bytes fits = absurd cc
@@ -79,7 +79,7 @@ event_complete (events.Request client now ask) e bytes rest is = absurd cc
 numbers_complete : (kind : FrameKind) → has_numbers kind ≡ true → (event : Event) (front rest : List ℕ) → IsEventOf kind event front → numbers_at kind (front ++ rest) ≡ Ok (event, rest)
 numbers_complete kind e event front rest is =
     let P : FrameKind → Type 0 = λ k. numbers_at k (front ++ rest) ≡ Ok (event, rest) in
-    subst P is.kind (event_complete event (ap has_numbers is.kind ∙ e) front rest is.is)
+    subst P is.named (event_complete event (ap has_numbers is.named ∙ e) front rest is.is)
 
 pub numbers_law : (kind : FrameKind) → has_numbers kind ≡ true → Law (IsEventOf kind) (numbers_at kind)
 numbers_law kind e = record { sound = numbers_sound kind e; complete = numbers_complete kind e }

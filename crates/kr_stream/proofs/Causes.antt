@@ -87,10 +87,10 @@ allowed opened kind len place short = record { kind = kind; named = refl; place 
 
 module _ (opened : Bool) (a b : Option (List ℕ)) (start len : ℕ) (kind : FrameKind) (t : Took (IsHead (len + 1) (number_of kind)) a b start (start + 5)) (place : may_stand opened kind ≡ true) (short : len ≤ longest_body kind) where
   -- a body that isn't whole
-  pub stopped_in_body : (c : Option (List ℕ)) (f g h : ℕ) → f ≤ g → (fault : StreamFault) → Short start (start + 5) len b c g h fault → Stopped opened start a c f h fault
-  stopped_in_body c f g h le fault s =
-      stopped_short opened a b c start (start + 5) len f g h t.taken t.took t.place le
-      (λ rest few. in_body (number_of kind) len t.taken rest refl t.is (allowed opened kind len place short) few) fault s
+  pub stopped_in_body : (c : Option (List ℕ)) (n f g h : ℕ) → n ≡ len → f ≤ g → (fault : StreamFault) → Short start (start + 5) n b c g h fault → Stopped opened start a c f h fault
+  stopped_in_body c n f g h same le fault s =
+      stopped_short opened a b c start (start + 5) n f g h t.taken t.took t.place le
+      (λ rest few. in_body (number_of kind) len t.taken rest refl t.is (allowed opened kind len place short) (omega (arith, same, few))) fault s
 
   whole_head : len ≡ 0 → IsFrame (number_of kind) (Exactly []) t.taken
   whole_head none = frame_of (number_of kind) len [] t.taken (sym none) (record { left = t.taken; right = []; is = sym (append-nil t.taken); first = t.is; second = refl })

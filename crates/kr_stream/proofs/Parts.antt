@@ -68,16 +68,16 @@ head_took a b c at size number len kind first second same named =
     subst R named (subst Q same is))
 
 -- the whole frame
-module _ (a b c : Option (List ℕ)) (at len : ℕ) (kind : FrameKind) (body : List ℕ) where
-  pub whole_took : Took (IsHead (len + 1) (number_of kind)) a b at (at + 5) → Took (Exactly body) b c (at + 5) (at + 5 + len) → length body ≡ len
-      → Took (IsFrame (number_of kind) (Exactly body)) a c at (at + 5 + len)
-  whole_took first second long =
-      took_as a c at (at + 5 + len) (took_both a b c at (at + 5) (at + 5 + len) first second) (λ bytes is. frame_of (number_of kind) len body bytes long is)
+pub whole_took : (a b c : Option (List ℕ)) (at len n : ℕ) (kind : FrameKind) (body : List ℕ) → Took (IsHead (len + 1) (number_of kind)) a b at (at + 5) → Took (Exactly body) b c (at + 5) (at + 5 + n)
+    → n ≡ len → length body ≡ n → Took (IsFrame (number_of kind) (Exactly body)) a c at (at + 5 + len)
+whole_took a b c at len n kind body first second same long =
+    let P : ℕ → Type 0 = λ m. Took (Exactly body) b c (at + 5) (at + 5 + m) in
+    took_as a c at (at + 5 + len) (took_both a b c at (at + 5) (at + 5 + len) first (subst P same second)) (λ bytes is. frame_of (number_of kind) len body bytes (long ∙ same) is)
 
 -- with a body that is read it stands for its frame
 pub stands_as : (opened : Bool) (kind : FrameKind) (body bytes : List ℕ) (frame : Frame) → may_stand opened kind ≡ true → IsFrame (number_of kind) (Exactly body) bytes → IsBodyOf kind frame body → Stands opened frame bytes
 stands_as opened kind body bytes frame place f of = record {
-  place = ap (λ (k : FrameKind). may_stand opened k) of.kind ∙ place;
+  place = ap (λ (k : FrameKind). may_stand opened k) of.named ∙ place;
   is = record {
     body = body;
     holds = of.is;
@@ -86,7 +86,7 @@ stands_as opened kind body bytes frame place f of = record {
       right = f.spelled.right;
       is = f.spelled.is;
       first = let P : ℕ → Type 0 = λ n. IsNumber w32 (n + 1) f.spelled.left in subst P (ap length f.holds) f.spelled.first;
-      second = f.spelled.second ∙ (ap (λ (l : List ℕ). number_of kind ∷ l) f.holds ∙ ap (λ (k : FrameKind). number_of k ∷ body) (sym of.kind));
+      second = f.spelled.second ∙ (ap (λ (l : List ℕ). number_of kind ∷ l) f.holds ∙ ap (λ (k : FrameKind). number_of k ∷ body) (sym of.named));
     };
   };
 }
@@ -98,4 +98,4 @@ fits_none opened kind body bytes f none frame stands =
     let g = stands.is in
     let r = frame_form (number_of kind) (number_of (kind_of frame)) (Exactly body) (IsBody frame) bytes bytes [] [] f g refl in
     let same : g.body ≡ body = sym r.1 ∙ f.holds in
-    none frame (record { kind = kind_once (kind_of frame) kind (sym r.0); is = subst (IsBody frame) same g.holds })
+    none frame (record { named = kind_once (kind_of frame) kind (sym r.0); is = subst (IsBody frame) same g.holds })

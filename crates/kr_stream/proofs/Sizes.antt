@@ -1,8 +1,9 @@
 -- The sizes of bodies, and the numbers of kinds.
-use Rattle.kr_defs.specs.declared.limits.TheConstants.{LONGEST_CLUSTER, MOST_MESSAGE_BYTES}
+use Rattle.kr_defs.specs.declared.limits.TheConstants.{LONGEST_CLUSTER, MOST_DEFAULT_PARTITIONS, MOST_MESSAGE_BYTES, MOST_TARGETS}
+use Rattle.kr_defs.specs.Partition.{is_natural}
 use Rattle.std.proofs.Common.{◌≡◌, ℕ, ◌+◌, ◌≤◌, List, length, length-append, refl, sym, ap, ◌∙◌, arith, ◌-◌}
-use Rattle.std.specs.Prelude.{IsTrue}
-use Rattle.std.proofs.lemmas.Bool.{and_parts, leb-le}
+use Rattle.std.specs.Prelude.{IsTrue, pos, ◌==◌, ◌&&◌, nat_lt, nat_le, int_le, if◌then◌else◌}
+use Rattle.std.proofs.lemmas.Bool.{and_parts, leb-true}
 use Rattle.kr_defs.specs.OpenOptions.{are_options}
 use Rattle.kr_defs.specs.declared.options.Options.{Options}
 use Rattle.kr_calls.specs.declared.events.Event.{Event}
@@ -17,16 +18,9 @@ use Rattle.kr_stream.specs.Frames.{IsOptions, IsBody, IsEventBody, kind_of, kind
 -- ---- kinds
 
 abbrev kind_with : ℕ → FrameKind
-kind_with 1 = kinds.Open
-kind_with 2 = kinds.Lead
-kind_with 3 = kinds.Commit
-kind_with 4 = kinds.Lost
-kind_with 5 = kinds.Batch
-kind_with 6 = kinds.Load
-kind_with 7 = kinds.Tick
-kind_with 8 = kinds.Request
-kind_with 9 = kinds.Image
-kind_with _ = kinds.End
+kind_with n =
+    if n == 1 then kinds.Open else (if n == 2 then kinds.Lead else (if n == 3 then kinds.Commit else (if n == 4 then kinds.Lost else (if n == 5 then kinds.Batch
+    else (if n == 6 then kinds.Load else (if n == 7 then kinds.Tick else (if n == 8 then kinds.Request else (if n == 9 then kinds.Image else kinds.End))))))))
 
 back : (kind : FrameKind) → kind_with (number_of kind) ≡ kind
 back kinds.Open = refl
@@ -81,7 +75,15 @@ event_not_end events.Image e = cc
 
 -- the cluster id is the last part of the test
 cluster_short : (o : Options) → IsTrue (are_options o) → length o.cluster ≤ LONGEST_CLUSTER
-cluster_short o fits = leb-le (length o.cluster) LONGEST_CLUSTER (and_parts _ _ (and_parts _ _ (and_parts _ _ (and_parts _ _ (and_parts _ _ fits).1).1).1).1).1
+cluster_short o fits =
+    let a = is_natural o.node in
+    let b = nat_lt 0 o.session_ms in
+    let c = int_le (pos 1) o.partitions && int_le o.partitions MOST_DEFAULT_PARTITIONS in
+    let d = int_le (pos 1) o.factor && int_le o.factor (pos MOST_TARGETS) in
+    let e = int_le (pos 1) o.minimum in
+    let f = nat_le (length o.cluster) LONGEST_CLUSTER in
+    leb-true (length o.cluster) LONGEST_CLUSTER
+    (and_parts e f (and_parts d (e && f) (and_parts c (d && e && f) (and_parts b (c && d && e && f) (and_parts a (b && c && d && e && f) fits).1).1).1).1).1
 
 options_short : (o : Options) (body : List ℕ) → IsOptions o body → length body ≤ 26 + LONGEST_CLUSTER
 options_short o body is =

@@ -56,7 +56,7 @@ given kinds.End body = frames.End
 given kind body = happened (numbers_at kind body)
 
 numbers_given : (event : Event) (body : List ℕ) → has_numbers (kind_of_event event) ≡ true → IsEventBody event body → happened (numbers_at (kind_of_event event) body) ≡ frames.Event event
-numbers_given event body has is = ap happened (whole_complete (numbers_law (kind_of_event event) has) body event (record { kind = refl; is = is }))
+numbers_given event body has is = ap happened (whole_complete (numbers_law (kind_of_event event) has) body event (record { named = refl; is = is }))
 
 event_given : (event : Event) (body : List ℕ) → IsBytes body → IsEventBody event body → given (kind_of_event event) body ≡ frames.Event event
 event_given (events.Lead epoch next now) body fits is = numbers_given (events.Lead epoch next now) body refl is

@@ -1,5 +1,5 @@
 -- The frames of outputs (this project's own): a u32 size of what follows it, the number of the kind, and the body.
-use Rattle.std.specs.Prelude.{ℕ, ◌×◌, List, Option}
+use Rattle.std.specs.Prelude.{ℕ, List, Option}
 use Rattle.std.specs.Int.{w8, w32, w64}
 use Rattle.std.specs.Io.KnownBytes.{Appends}
 use Rattle.kr_base.specs.Written.{AppendsFront}

@@ -1,6 +1,6 @@
 //! Outputs to frames.
 
-ghost use Rattle.std.specs.Prelude.{◌≡◌, ◌∷◌, ◌++◌, ◌≤◌, length, IfOk, OnOk, OnErr, IsErrOf};
+ghost use Rattle.std.specs.Prelude.{◌≡◌, ◌∷◌, ◌++◌, ◌≤◌, length, IfOk, OnOk, OnErr, IsErrOf, FitsSigned};
 ghost use Rattle.std.specs.Int.{w8, w32, w64};
 ghost use Rattle.kr_base.specs.Causes.{Rose};
 ghost use Rattle.kr_wire.specs.Spelling.{number, signed};
@@ -47,7 +47,7 @@ fn frame(alloc: Global, output: &Output) -> Result<Vec<u8>, NoMemory>
             correlation,
             reply,
         } => {
-            let body = reply_body(alloc, *client, *correlation, reply)?;
+            let body = reply_body(alloc, *client, correlation, reply)?;
             sized(alloc, 0x82, body.as_slice())
         }
         Output::Refused { event, reason } => {
@@ -62,15 +62,23 @@ fn frame(alloc: Global, output: &Output) -> Result<Vec<u8>, NoMemory>
 fn reply_body(
     alloc: Global,
     client: u32,
-    correlation: i32,
+    correlation: &i32,
     reply: &Reply,
 ) -> Result<Vec<u8>, NoMemory>
-    ensures { IfOk result (λ body. IsOutputBody (Output.Reply client correlation reply.now) body.items) }
+    ensures { IfOk result (λ body. IsOutputBody (Output.Reply client correlation.now reply.now) body.items) }
 {
     let mut body = Vec::new(alloc);
     put_u32(&mut body, client)?;
-    encode_reply(correlation, reply, &mut body)?;
+    encode_reply(int32(correlation), reply, &mut body)?;
     Ok(body)
+}
+
+// A number behind a reference.
+fn int32(number: &i32) -> i32
+    ensures same { result ≡ number.now }
+    ensures fits { FitsSigned w32 result }
+{
+    *number
 }
 
 // The number of the event, and the reason.
@@ -80,10 +88,18 @@ fn refusal_body(alloc: Global, event: u64, reason: &Reason) -> Result<Vec<u8>, N
     let mut body = Vec::new(alloc);
     put_u64(&mut body, event)?;
     body.push(reason.number)?;
-    put_i64(&mut body, reason.first)?;
-    put_i64(&mut body, reason.second)?;
-    put_i64(&mut body, reason.third)?;
+    put_number(&reason.first, &mut body)?;
+    put_number(&reason.second, &mut body)?;
+    put_number(&reason.third, &mut body)?;
     Ok(body)
+}
+
+fn put_number(number: &i64, out: &mut Vec<u8>) -> Result<(), NoMemory>
+    ensures ok { OnOk result (out.new.items ≡ out.old.items ++ signed w64 number.now) }
+    ensures fits { OnOk result (FitsSigned w64 number.now) }
+{
+    put_i64(out, *number)?;
+    Ok(())
 }
 
 // A kind and a body behind their size, where it fits its field.

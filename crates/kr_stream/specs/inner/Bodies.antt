@@ -15,12 +15,12 @@ use Rattle.kr_stream.specs.Frames.{IsTime, IsMessage, IsBody, IsEventBody, kind_
 
 -- the body of a frame of this kind
 pub record IsBodyOf (kind : FrameKind) (frame : Frame) (body : List ℕ) : Type 0 where
-  pub kind : kind_of frame ≡ kind
+  pub named : kind_of frame ≡ kind
   pub is : IsBody frame body
 
 -- the body of an event of this kind
 pub record IsEventOf (kind : FrameKind) (event : Event) (body : List ℕ) : Type 0 where
-  pub kind : kind_of_event event ≡ kind
+  pub named : kind_of_event event ≡ kind
   pub is : IsEventBody event body
 
 -- ---- numbers alone
