@@ -1,26 +1,25 @@
 -- What the readers of bodies answer.
-use Rattle.kr_defs.specs.declared.limits.TheConstants.{LONGEST_CLUSTER, MOST_MESSAGE_BYTES}
-use Rattle.std.proofs.Common.{Fits, w8, get_or, ◌≡◌, ℕ, ℤ, pos, ◌≤◌, ◌<◌, true, List, [], ◌∷◌, ◌++◌, length, drop, append_assoc, Result, Ok, Err, refl, sym, ap, subst, ◌∙◌, arith}
+use Rattle.kr_defs.specs.declared.limits.TheConstants.{MOST_MESSAGE_BYTES}
+use Rattle.std.proofs.Common.{Fits, w8, get_or, ◌≡◌, ℕ, ℤ, ◌≤◌, ◌<◌, List, [], ◌∷◌, ◌++◌, length, drop, append_assoc, Result, Ok, Err, refl, sym, ap, subst, ◌∙◌, arith}
 use Rattle.std.specs.Prelude.{IfOk, OnErr, MatchResult, IsErrOf, IsUtf8, IsTrue}
-use Rattle.std.specs.Int.{w16, w32, w64}
+use Rattle.std.specs.Int.{w32}
 use Rattle.std.proofs.lemmas.List.{append-nil}
 use Rattle.kr_wire.specs.declared.WireFault.{WireFault}
-use Rattle.kr_wire.specs.Grammar.{◌⌢◌, IsNumber, IsSigned}
-use Rattle.kr_wire.proofs.Laws.{IsBytes, Law, joined, ok_value, ok_rest}
+use Rattle.kr_wire.specs.Grammar.{◌⌢◌, IsNumber}
+use Rattle.kr_wire.proofs.Laws.{Law, joined, ok_value, ok_rest}
 use Rattle.kr_defs.specs.OpenOptions.{are_options}
 use Rattle.kr_defs.specs.declared.options.Options.{Options}
 use Rattle.kr_calls.specs.declared.events.Event.{Event}
 use Rattle.kr_calls.specs.declared.events.Event.TheVariants as events
-use Rattle.kr_calls.specs.declared.calls.Ask.{Ask}
 use Rattle.kr_stream.specs.declared.bodies.BodyFault.{BodyFault}
 use Rattle.kr_stream.specs.declared.frame.Frame.{Frame}
 use Rattle.kr_stream.specs.declared.frame.Frame.TheVariants as frames
 use Rattle.kr_stream.specs.declared.kind.FrameKind.{FrameKind}
 use Rattle.kr_stream.specs.declared.kind.FrameKind.TheVariants as kinds
 use Rattle.kr_stream.specs.Kinds.{longest_body}
-use Rattle.kr_stream.specs.Frames.{IsOptions, IsTextRest, IsTime, IsMessage, IsRestUpTo, IsBody, IsEventBody}
-use Rattle.kr_stream.specs.inner.Bodies.{IsBodyOf, IsEventOf, IsRequestOf, has_numbers, numbers_at, stamp_at, AreSpelled, options_at}
-use Rattle.kr_stream.proofs.Sizes.{event_not_open, event_not_end}
+use Rattle.kr_stream.specs.Frames.{IsOptions, IsTime, IsMessage}
+use Rattle.kr_stream.specs.inner.Bodies.{IsBodyOf, IsEventOf, IsRequestOf, stamp_at, AreSpelled, options_at}
+use Rattle.kr_stream.proofs.Sizes.{event_not_open}
 use Rattle.kr_stream.proofs.BodyLaws.{stamp_law, options_sound, options_whole, all_read, none_read, none_left}
 
 -- ---- numbers alone
@@ -143,6 +142,15 @@ pub open_misfit : (body : List ℕ) → ((o : Options) → IsOptions o body → 
 open_misfit body none (frames.Open options) of = none options of.is
 open_misfit body none (frames.Event event) of = event_not_open event of.named
 open_misfit body none frames.End of = let k = of.named in absurd cc
+
+pub fault_is : {T E : Type 0} (a b : E) → a ≡ b → IsErrOf {T = T} (Err a) b
+fault_is a b same = ap Err same
+
+-- a fault of one result as that of another
+pub fault_as : {T U E : Type 0} (a b : E) → IsErrOf {T = T} (Err a) b → IsErrOf {T = U} (Err a) b
+fault_as a b is =
+    let same : a ≡ b = cc in
+    ap Err same
 
 pub open_misfit_as : (kind : FrameKind) (body slice : List ℕ) → kind ≡ kinds.Open → slice ≡ body → ((o : Options) → IsOptions o slice → ⊥) → (frame : Frame) → IsBodyOf kind frame body → ⊥
 open_misfit_as kind body slice same value none frame of =

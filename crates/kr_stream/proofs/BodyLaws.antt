@@ -1,13 +1,12 @@
 -- The laws of the bodies of frames: what is read stands for its value, and what stands is read.
-use Rattle.std.proofs.Common.{le→leb, zero-le, ◌≡◌, ℕ, ◌-◌, ◌≤◌, Bool, true, false, List, [], ◌∷◌, ◌++◌, length, drop, append_assoc, Result, Ok, Err, refl, sym, ap, subst, ◌∙◌, arith}
+use Rattle.std.proofs.Common.{le→leb, zero-le, ◌≡◌, ℕ, ◌-◌, ◌≤◌, true, false, List, [], ◌++◌, length, drop, Result, Ok, Err, refl, sym, ap, subst, ◌∙◌, arith}
 use Rattle.std.specs.Prelude.{ℤ, pos, negsuc, int_lt, ◌≤ℤ◌}
 use Rattle.std.specs.Int.{w16, w32, w64}
 use Rattle.std.proofs.lemmas.List.{append-nil, length-drop, drop_all}
 use Rattle.std.proofs.lemmas.Bool.Decides.{nat_tests}
-use Rattle.kr_wire.specs.declared.WireFault.{WireFault}
 use Rattle.kr_wire.specs.declared.WireFault.TheVariants.{TooBig}
 use Rattle.kr_wire.specs.Reading.{Read, signed_at}
-use Rattle.kr_wire.specs.Grammar.{◌⌢◌, Exactly, IsNumber, IsSigned}
+use Rattle.kr_wire.specs.Grammar.{◌⌢◌, IsNumber, IsSigned}
 use Rattle.kr_wire.proofs.Laws.{IsBytes, Law, Yields, Front, joined, ok_rest, ok_value, read_ok, sound_then, sound_last, sound_guard, sound_done, complete_then, complete_last, complete_guard, complete_bind, whole_sound, whole_complete}
 use Rattle.kr_wire.proofs.Numbers.{number_law, signed_law}
 use Rattle.kr_defs.specs.declared.options.Options.{Options}

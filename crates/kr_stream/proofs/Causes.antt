@@ -1,13 +1,13 @@
 -- Why no frame is answered, by the bytes that were taken.
-use Rattle.std.proofs.Common.{◌≡◌, ℕ, ◌+◌, ◌-◌, ◌<◌, ◌≤◌, ◌⊎◌, inl, inr, Bool, true, List, [], ◌∷◌, ◌++◌, length, take, Option, Some, None, Result, Ok, Err, append_assoc, length-append, refl, sym, ap, subst, ◌∙◌, arith}
-use Rattle.std.specs.Prelude.{IfErr, OnOk, OnErr, IfOk}
+use Rattle.std.proofs.Common.{◌≡◌, ℕ, ◌+◌, ◌-◌, ◌<◌, ◌≤◌, inl, inr, Bool, true, List, [], ◌∷◌, ◌++◌, length, take, Option, Result, Ok, Err, length-append, refl, sym, ap, subst, ◌∙◌, arith}
+use Rattle.std.specs.Prelude.{IfErr}
 use Rattle.std.specs.Int.{w32}
 use Rattle.std.specs.Io.KnownBytes.{Consumes, IsAtEnd}
 use Rattle.std.proofs.lemmas.List.{length-take-le, append-nil}
 use Rattle.std.proofs.lemmas.Bool.{cases_lt}
 use Rattle.kr_base.specs.Causes.{Rose}
 use Rattle.kr_base.proofs.Pieces.{consumes_more}
-use Rattle.kr_wire.specs.Grammar.{◌⌢◌, Exactly, IsNumber}
+use Rattle.kr_wire.specs.Grammar.{Exactly, IsNumber}
 use Rattle.kr_defs.specs.declared.limits.TheConstants.{MOST_SESSION_BYTES}
 use Rattle.kr_stream.specs.declared.fault.StreamFault.{StreamFault}
 use Rattle.kr_stream.specs.declared.fault.StreamFault.TheVariants as faults
@@ -15,7 +15,7 @@ use Rattle.kr_stream.specs.declared.kind.FrameKind.{FrameKind}
 use Rattle.kr_stream.specs.declared.frame.Frame.{Frame}
 use Rattle.kr_stream.specs.Kinds.{number_of, longest_body, may_stand}
 use Rattle.kr_stream.specs.Frames.{IsFrame}
-use Rattle.kr_stream.specs.Reader.{Took, IsHead, IsAllowed, IsUnfinished, in_size, at_kind, in_body, IsWhole, IsRefused, no_size, no_place, no_fit, Cause, Stopped, Stands}
+use Rattle.kr_stream.specs.Reader.{Took, IsHead, IsAllowed, IsUnfinished, in_size, at_kind, in_body, IsWhole, no_size, no_place, no_fit, Cause, Stopped}
 use Rattle.kr_stream.specs.inner.Bodies.{IsBodyOf}
 use Rattle.kr_stream.specs.inner.Taken.{TakesFewer, Short, ShortCause, IsShortage}
 use Rattle.kr_stream.proofs.Parts.{frame_of, fits_none, consumes_none}

@@ -1,8 +1,6 @@
 -- The grammar of frames on small ones.
-use Rattle.std.proofs.Common.{◌≡◌, ℕ, ℤ, pos, List, [], ◌∷◌, ◌≤◌, refl, lit<, lit≤}
-use Rattle.std.specs.Prelude.{negsuc, codes}
-use Rattle.std.specs.Int.{w32}
-use Rattle.kr_wire.specs.Grammar.{◌⌢◌, Exactly, IsNumber}
+use Rattle.std.proofs.Common.{[], ◌∷◌, refl, lit≤}
+use Rattle.std.specs.Prelude.{negsuc}
 use Rattle.kr_calls.specs.declared.events.Event.TheVariants as events
 use Rattle.kr_calls.specs.declared.events.Output.TheVariants as outputs
 use Rattle.kr_stream.specs.Frames.{IsEvent, IsEnd}

@@ -1,7 +1,7 @@
 -- No frame begins another: its size says where it ends.
-use Rattle.std.proofs.Common.{◌≡◌, ℕ, ◌+◌, List, [], ◌∷◌, ◌++◌, length, length-append, append_assoc, refl, sym, ap, subst, ◌∙◌, arith}
+use Rattle.std.proofs.Common.{◌≡◌, ℕ, ◌+◌, List, [], ◌∷◌, ◌++◌, length, length-append, append_assoc, refl, sym, ap, ◌∙◌, arith}
 use Rattle.std.specs.Int.{w32}
-use Rattle.kr_wire.specs.Grammar.{Exactly, IsNumber}
+use Rattle.kr_wire.specs.Grammar.{IsNumber}
 use Rattle.kr_wire.proofs.Laws.{one_form}
 use Rattle.kr_wire.proofs.Numbers.{number_law}
 use Rattle.kr_stream.specs.Frames.{IsFrame}

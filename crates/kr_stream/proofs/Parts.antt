@@ -1,17 +1,16 @@
 -- A frame that is taken in parts.
-use Rattle.std.proofs.Common.{◌≡◌, ℕ, ◌+◌, ◌≤◌, Bool, true, List, [], ◌∷◌, ◌++◌, length, take, drop, Option, Some, None, append_assoc, length-append, refl, sym, ap, subst, ◌∙◌, arith}
+use Rattle.std.proofs.Common.{◌≡◌, ℕ, ◌+◌, Bool, true, List, [], ◌∷◌, ◌++◌, length, take, drop, Option, Some, None, append_assoc, length-append, refl, sym, ap, subst, ◌∙◌, arith}
 use Rattle.std.specs.Int.{w32}
 use Rattle.std.specs.Io.KnownBytes.{Consumes}
 use Rattle.std.proofs.Math.Seq.{take-add}
 use Rattle.kr_base.proofs.Pieces.{consumes_more}
 use Rattle.kr_wire.specs.Grammar.{◌⌢◌, Exactly, IsNumber}
 use Rattle.kr_wire.proofs.Laws.{joined}
-use Rattle.kr_defs.specs.declared.limits.TheConstants.{MOST_SESSION_BYTES}
 use Rattle.kr_stream.specs.declared.frame.Frame.{Frame}
 use Rattle.kr_stream.specs.declared.kind.FrameKind.{FrameKind}
-use Rattle.kr_stream.specs.Kinds.{number_of, longest_body, may_stand}
-use Rattle.kr_stream.specs.Frames.{IsFrame, IsFrameOf, IsBody, kind_of}
-use Rattle.kr_stream.specs.Reader.{Took, IsHead, IsWhole, Stands}
+use Rattle.kr_stream.specs.Kinds.{number_of, may_stand}
+use Rattle.kr_stream.specs.Frames.{IsFrame, IsBody, kind_of}
+use Rattle.kr_stream.specs.Reader.{Took, IsHead, Stands}
 use Rattle.kr_stream.specs.inner.Bodies.{IsBodyOf}
 use Rattle.kr_stream.proofs.Sizes.{kind_once}
 use Rattle.kr_stream.proofs.FrameForms.{frame_form}

@@ -1,7 +1,7 @@
 -- The sizes of bodies, and the numbers of kinds.
-use Rattle.kr_defs.specs.declared.limits.TheConstants.{LONGEST_CLUSTER, MOST_DEFAULT_PARTITIONS, MOST_MESSAGE_BYTES, MOST_TARGETS}
+use Rattle.kr_defs.specs.declared.limits.TheConstants.{LONGEST_CLUSTER, MOST_DEFAULT_PARTITIONS, MOST_TARGETS}
 use Rattle.kr_defs.specs.Partition.{is_natural}
-use Rattle.std.proofs.Common.{◌≡◌, ℕ, ◌+◌, ◌≤◌, List, length, length-append, refl, sym, ap, ◌∙◌, arith, ◌-◌}
+use Rattle.std.proofs.Common.{◌≡◌, ℕ, ◌+◌, ◌≤◌, List, length, length-append, refl, sym, ap, ◌∙◌, arith}
 use Rattle.std.specs.Prelude.{IsTrue, pos, ◌==◌, ◌&&◌, nat_lt, nat_le, int_le, if◌then◌else◌}
 use Rattle.std.proofs.lemmas.Bool.{and_parts, leb-true}
 use Rattle.kr_defs.specs.OpenOptions.{are_options}
@@ -83,7 +83,7 @@ cluster_short o fits =
     let e = int_le (pos 1) o.minimum in
     let f = nat_le (length o.cluster) LONGEST_CLUSTER in
     leb-true (length o.cluster) LONGEST_CLUSTER
-    (and_parts e f (and_parts d (e && f) (and_parts c (d && e && f) (and_parts b (c && d && e && f) (and_parts a (b && c && d && e && f) fits).1).1).1).1).1
+    (and_parts (a && b && c && d && e) f fits).1
 
 options_short : (o : Options) (body : List ℕ) → IsOptions o body → length body ≤ 26 + LONGEST_CLUSTER
 options_short o body is =

@@ -1,11 +1,10 @@
 -- What bytes tell of the frames at their front.
-use Rattle.std.proofs.Common.{◌≡◌, ℕ, ◌+◌, ◌-◌, ◌<◌, ◌≤◌, Bool, true, List, [], ◌∷◌, ◌++◌, length, append_assoc, length-append, Result, Ok, Err, refl, sym, ap, subst, ◌∙◌, arith}
+use Rattle.std.proofs.Common.{◌≡◌, ℕ, ◌+◌, ◌-◌, ◌≤◌, Bool, true, List, [], ◌∷◌, ◌++◌, length, append_assoc, length-append, Result, Ok, Err, refl, sym, ap, subst, ◌∙◌, arith}
 use Rattle.std.specs.Prelude.{ℤ}
-use Rattle.std.specs.Int.{w8, w16, w32, w64}
-use Rattle.std.proofs.lemmas.List.{append-nil}
+use Rattle.std.specs.Int.{w8, w32, w64}
 use Rattle.kr_wire.specs.Grammar.{◌⌢◌, Exactly, IsNumber, IsSigned}
 use Rattle.kr_wire.specs.Reading.{Read}
-use Rattle.kr_wire.proofs.Laws.{IsBytes, IsBytes-behind, IsBytes-before, Law, one_form, one_value, joined}
+use Rattle.kr_wire.proofs.Laws.{IsBytes, IsBytes-behind, Law, one_form, one_value, joined}
 use Rattle.kr_wire.proofs.Numbers.{number_law, signed_law}
 use Rattle.kr_defs.specs.declared.options.Options.{Options}
 use Rattle.kr_calls.specs.declared.events.Event.{Event}
@@ -14,20 +13,19 @@ use Rattle.kr_calls.specs.declared.events.Event.TheVariants as events
 use Rattle.kr_calls.specs.declared.events.Output.{Output}
 use Rattle.kr_calls.specs.declared.events.Output.TheVariants as outputs
 use Rattle.kr_calls.specs.declared.events.Reason.{Reason}
-use Rattle.kr_req.specs.Messages.{IsReply}
 use Rattle.kr_req.specs.Reading.{ask_of}
 use Rattle.kr_req.proofs.Asks.{ask_is}
 use Rattle.kr_stream.specs.declared.frame.Frame.{Frame}
 use Rattle.kr_stream.specs.declared.frame.Frame.TheVariants as frames
 use Rattle.kr_stream.specs.declared.kind.FrameKind.{FrameKind}
 use Rattle.kr_stream.specs.declared.kind.FrameKind.TheVariants as kinds
-use Rattle.kr_stream.specs.Kinds.{number_of, longest_body}
-use Rattle.kr_stream.specs.Frames.{IsFrame, IsFrameOf, IsBody, IsEventBody, IsTime, kind_of, kind_of_event}
-use Rattle.kr_stream.specs.Reader.{IsAllowed, IsUnfinished, in_size, at_kind, in_body, IsRefused, no_size, no_place, no_fit, Stands}
-use Rattle.kr_stream.specs.Laws.{NoneBegins, FramesAreToldApart, RefusedBytesBeginNone, UnfinishedBytesBeginNone, OutputsAreToldApart, SameOutput}
+use Rattle.kr_stream.specs.Kinds.{number_of}
+use Rattle.kr_stream.specs.Frames.{IsFrame, IsBody, IsEventBody, IsTime, kind_of, kind_of_event}
+use Rattle.kr_stream.specs.Reader.{in_size, at_kind, in_body, no_size, no_place, no_fit, Stands}
+use Rattle.kr_stream.specs.Laws.{FramesAreToldApart, RefusedBytesBeginNone, UnfinishedBytesBeginNone, OutputsAreToldApart, SameOutput}
 use Rattle.kr_stream.specs.Outputs as output
 use Rattle.kr_stream.specs.Outputs.{IsOutput, IsOutputBody, IsReason}
-use Rattle.kr_stream.specs.inner.Bodies.{IsEventOf, has_numbers, lead_at, commit_at, lost_at, tick_at, numbers_at, stamp_at, options_at}
+use Rattle.kr_stream.specs.inner.Bodies.{has_numbers, numbers_at, stamp_at, options_at}
 use Rattle.kr_stream.proofs.Sizes.{kind_once, body_short}
 use Rattle.kr_stream.proofs.FrameForms.{frame_form, frame_length, same_size, same_head}
 use Rattle.kr_stream.proofs.BodyLaws.{numbers_law, stamp_law, options_whole}

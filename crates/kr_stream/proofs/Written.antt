@@ -1,15 +1,14 @@
 -- What is written for an output.
 use Rattle.std.proofs.Common.{◌≡◌, ℕ, ℤ, ◌+◌, ◌<◌, ◌^◌, List, [], ◌∷◌, ◌++◌, length, append_assoc, Vec, Global, Result, Ok, Err, refl, sym, ap, subst, ◌∙◌, arith}
 use Rattle.std.specs.Prelude.{FitsSigned, IfOk}
-use Rattle.std.specs.Int.{w8, w32, w64}
-use Rattle.kr_wire.specs.Grammar.{◌⌢◌, Exactly, IsNumber, IsSigned}
+use Rattle.std.specs.Int.{w32, w64}
+use Rattle.kr_wire.specs.Grammar.{◌⌢◌, Exactly, IsNumber}
 use Rattle.kr_wire.specs.Spelling.{number, signed}
 use Rattle.kr_wire.proofs.Laws.{joined}
 use Rattle.kr_wire.proofs.Spelled.{number_spelled, signed_spelled}
 use Rattle.kr_calls.specs.declared.calls.Reply.{Reply}
 use Rattle.kr_calls.specs.declared.events.Reason.{Reason}
 use Rattle.kr_calls.specs.declared.events.Output.{Output}
-use Rattle.kr_calls.specs.declared.events.Output.TheVariants as outputs
 use Rattle.kr_req.specs.Messages.{IsReply}
 use Rattle.kr_stream.specs.Frames.{IsFrame}
 use Rattle.kr_stream.specs.Outputs.{number_of, IsOutput, IsOutputBody, IsReason}

@@ -1,6 +1,6 @@
 -- What the frames of a session stand for (this project's own): a u32 size of what follows it, the number of the kind, and the body.
 use Rattle.std.specs.Prelude.{◌≡◌, ℕ, ℤ, pos, ◌≤ℤ◌, ◌+◌, ◌≤◌, List, [], ◌∷◌, length, IsUtf8, IsTrue}
-use Rattle.std.specs.Int.{w8, w16, w32, w64}
+use Rattle.std.specs.Int.{w16, w32, w64}
 use Rattle.kr_wire.specs.Grammar.{◌⌢◌, Exactly, IsNumber, IsSigned}
 use Rattle.kr_defs.specs.declared.limits.TheConstants.{MOST_MESSAGE_BYTES}
 use Rattle.kr_defs.specs.OpenOptions.{are_options}

@@ -6,7 +6,7 @@ use Rattle.kr_calls.specs.declared.events.Output.TheVariants as outputs
 use Rattle.kr_stream.specs.declared.frame.Frame.{Frame}
 use Rattle.kr_stream.specs.Frames.{IsFrameOf}
 use Rattle.kr_stream.specs.Reader.{Stands, IsUnfinished, IsRefused}
-use Rattle.kr_stream.specs.Outputs.{IsOutput, number_of}
+use Rattle.kr_stream.specs.Outputs.{IsOutput}
 
 -- no front of the bytes is a frame that may stand here
 abbrev pub NoneBegins : Bool → List ℕ → Type 0

@@ -8,8 +8,8 @@ ghost use Rattle.kr_stream.specs.Kinds as kinds;
 ghost use Rattle.kr_stream.specs.Reader.{Took, IsHead, IsAllowed, Stopped};
 ghost use Rattle.kr_stream.specs.inner.Taken.{Short};
 
-use crate::{FrameKind, StreamFault};
 use crate::filling::take;
+use crate::{FrameKind, StreamFault};
 use kr_base::Source;
 
 /// What stands before a body.

@@ -4,9 +4,7 @@ ghost use Rattle.std.specs.Prelude.{◌≡◌, IfSome, IfNone};
 ghost use Rattle.kr_stream.specs.declared.kind.FrameKind.{FrameKind as Kind};
 ghost use Rattle.kr_stream.specs.Kinds as kinds;
 
-use kr_defs::limits::{
-    LONGEST_CLUSTER, MOST_FRAME_BYTES, MOST_LOAD_BYTES, MOST_MESSAGE_BYTES,
-};
+use kr_defs::limits::{LONGEST_CLUSTER, MOST_FRAME_BYTES, MOST_LOAD_BYTES, MOST_MESSAGE_BYTES};
 
 /// The kind of a frame that is read.
 #[derive(Clone, Copy, Debug, Drop, PartialEq, Eq)]

@@ -1,6 +1,6 @@
 //! Outputs to frames.
 
-ghost use Rattle.std.specs.Prelude.{◌≡◌, ◌∷◌, ◌++◌, ◌≤◌, length, IfOk, OnOk, OnErr, IsErrOf, FitsSigned};
+ghost use Rattle.std.specs.Prelude.{◌≡◌, ◌∷◌, ◌++◌, ◌≤◌, length, IfOk, OnOk, OnErr, IsErrOf, FitsSigned, [], ◌<◌, ◌^◌};
 ghost use Rattle.std.specs.Int.{w8, w32, w64};
 ghost use Rattle.kr_base.specs.Causes.{Rose};
 ghost use Rattle.kr_wire.specs.Spelling.{number, signed};
@@ -87,11 +87,19 @@ fn refusal_body(alloc: Global, event: u64, reason: &Reason) -> Result<Vec<u8>, N
 {
     let mut body = Vec::new(alloc);
     put_u64(&mut body, event)?;
-    body.push(reason.number)?;
+    put_byte(&reason.number, &mut body)?;
     put_number(&reason.first, &mut body)?;
     put_number(&reason.second, &mut body)?;
     put_number(&reason.third, &mut body)?;
     Ok(body)
+}
+
+fn put_byte(byte: &u8, out: &mut Vec<u8>) -> Result<(), NoMemory>
+    ensures ok { OnOk result (out.new.items ≡ out.old.items ++ byte.now ∷ []) }
+    ensures fits { OnOk result (byte.now < 2 ^ 8) }
+{
+    out.push(*byte)?;
+    Ok(())
 }
 
 fn put_number(number: &i64, out: &mut Vec<u8>) -> Result<(), NoMemory>

@@ -13,7 +13,7 @@ use crate::filling::take;
 use crate::head::read_head;
 use crate::stage::Stage;
 use crate::{Frame, StreamFault};
-use kr_base::Source;
+use kr_base::{NoMemory, Source};
 use std::alloc::Global;
 use std::marker::Model;
 
@@ -126,7 +126,7 @@ fn read_frame<S: Source>(
         Err(fault) => return Err(fault),
         Ok(head) => head,
     };
-    let body = match vec![in alloc; 0; head.len] {
+    let body = match body_room(alloc, head.len) {
         Err(_) => return Err(StreamFault::NoMemory),
         Ok(body) => body,
     };
@@ -141,12 +141,16 @@ fn read_frame<S: Source>(
     }
 }
 
+// Room for a body of this length.
+fn body_room(alloc: Global, len: usize) -> Result<Vec<u8>, NoMemory>
+    ensures { IfOk result (λ body. length body.items ≡ len) }
+{
+    let body = vec![in alloc; 0; len]?;
+    Ok(body)
+}
+
 // The body of the frame that begins at `at`, as long as the vector.
-fn read_body<S: Source>(
-    source: &mut S,
-    mut body: Vec<u8>,
-    at: u64,
-) -> Result<Vec<u8>, StreamFault>
+fn read_body<S: Source>(source: &mut S, mut body: Vec<u8>, at: u64) -> Result<Vec<u8>, StreamFault>
     requires { at + 5 ≤ MOST_SESSION_BYTES }
     ensures body { IfOk result (λ read. Took (Exactly read.items) (S.left source.old) (S.left source.new) (at + 5) (at + 5 + length body.items)) }
     ensures len { IfOk result (λ read. length read.items ≡ length body.items) }

@@ -1,5 +1,5 @@
 -- Reading the body of a frame from its front: what is read, or that it doesn't read. The fault says no more than that.
-use Rattle.std.specs.Prelude.{◌≡◌, ℕ, ℤ, pos, Bool, true, false, List, [], int_lt, Ok, Err}
+use Rattle.std.specs.Prelude.{◌≡◌, ℕ, ℤ, pos, Bool, true, false, List, [], int_lt, Ok}
 use Rattle.std.specs.Int.{w16, w32, w64}
 use Rattle.kr_wire.specs.declared.WireFault.TheVariants.{TooBig}
 use Rattle.kr_wire.specs.Grammar.{◌⌢◌, Exactly, IsNumber, IsSigned}
