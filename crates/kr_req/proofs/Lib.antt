@@ -1,5 +1,5 @@
 mod Headers
 mod Bodies
-mod Asks
+pub mod Asks
 mod Replies
 pub mod Examples

@@ -1,0 +1,129 @@
+-- Why no frame is answered, by the bytes that were taken.
+use Rattle.std.proofs.Common.{◌≡◌, ℕ, ◌+◌, ◌-◌, ◌<◌, ◌≤◌, inl, inr, Bool, true, List, [], ◌∷◌, ◌++◌, length, take, Option, Result, Ok, Err, length-append, refl, sym, ap, subst, ◌∙◌, arith}
+use Rattle.std.specs.Prelude.{IfErr}
+use Rattle.std.specs.Int.{w32}
+use Rattle.std.specs.Io.KnownBytes.{Consumes, IsAtEnd}
+use Rattle.std.proofs.lemmas.List.{length-take-le, append-nil}
+use Rattle.std.proofs.lemmas.Bool.{cases_lt}
+use Rattle.kr_base.specs.Causes.{Rose}
+use Rattle.kr_base.proofs.Pieces.{consumes_more}
+use Rattle.kr_wire.specs.Grammar.{Exactly, IsNumber}
+use Rattle.kr_defs.specs.declared.limits.TheConstants.{MOST_SESSION_BYTES}
+use Rattle.kr_stream.specs.declared.fault.StreamFault.{StreamFault}
+use Rattle.kr_stream.specs.declared.fault.StreamFault.TheVariants as faults
+use Rattle.kr_stream.specs.declared.kind.FrameKind.{FrameKind}
+use Rattle.kr_stream.specs.declared.frame.Frame.{Frame}
+use Rattle.kr_stream.specs.Kinds.{number_of, longest_body, may_stand}
+use Rattle.kr_stream.specs.Frames.{IsFrame}
+use Rattle.kr_stream.specs.Reader.{Took, IsHead, IsAllowed, IsUnfinished, in_size, at_kind, in_body, IsWhole, no_size, no_place, no_fit, Cause, Stopped}
+use Rattle.kr_stream.specs.inner.Bodies.{IsBodyOf}
+use Rattle.kr_stream.specs.inner.Taken.{TakesFewer, Short, ShortCause, IsShortage}
+use Rattle.kr_stream.proofs.Parts.{frame_of, fits_none, consumes_none}
+
+-- ---- taking
+
+-- a read that failed
+pub short_by_fault : (a b : Option (List ℕ)) (start at most len f g : ℕ) → TakesFewer a b most → most ≤ len → Rose f g → Short start at len a b f g faults.ReadFault
+short_by_fault a b start at most len f g t within rose = record { taken = t.0; took = t.1; few = let few = t.2 in omega (arith, few, within); cause = rose }
+
+-- so many bytes came, and fewer than are needed
+module _ (a b : Option (List ℕ)) (start at most len count f g : ℕ) (front : List ℕ) (took : Consumes a b (take count front)) (within : count ≤ length front)
+    (long : length front ≡ most) (fits : most ≤ len) (end : count < length front → IsAtEnd b) (room : most < len → at + most ≡ MOST_SESSION_BYTES) where
+  short_by : (fault : StreamFault) → IsShortage start count most len fault → Short start at len a b f g fault
+  short_by (faults.Malformed place) s =
+      let size : length (take count front) ≡ count = length-take-le count front within in
+      let few = s.1 in
+      record { taken = take count front; took = took; few = omega (arith, size, few, fits); cause = (s.0, end (omega (arith, few, long))) }
+  short_by faults.TooLong s =
+      let size : length (take count front) ≡ count = length-take-le count front within in
+      let all = s.0 in
+      let lt = s.1 in
+      let full = room lt in
+      record { taken = take count front; took = took; few = omega (arith, size, lt, all); cause = omega (arith, size, all, full) }
+  short_by faults.ReadFault s = absurd s
+  short_by faults.NoMemory s = absurd s
+
+  pub short_of : (result : Result (Unit {0}) StreamFault) → IfErr result (λ fault. IsShortage start count most len fault) → IfErr result (λ fault. Short start at len a b f g fault)
+  short_of (Ok u) s = tt
+  short_of (Err fault) s = short_by fault s
+
+-- ---- a part of a frame
+
+-- A part that is too short stands behind others, with which it is the beginning of a frame.
+module _ (opened : Bool) (a b c : Option (List ℕ)) (start at most f g h : ℕ) (before : List ℕ) (took : Consumes a b before) (place : at ≡ start + length before) (le : f ≤ g)
+    (begins : (rest : List ℕ) → length rest < most → IsUnfinished opened (before ++ rest)) where
+  cause_of : (fault : StreamFault) (taken : List ℕ) → length taken < most → ShortCause start (at + length taken) c g h fault → Cause opened start (before ++ taken) c f h fault
+  cause_of (faults.Malformed p) taken few s = (s.0, inr (begins taken few, s.1))
+  cause_of faults.ReadFault taken few rose = (begins taken few, omega (arith, le, rose))
+  cause_of faults.TooLong taken few full = (begins taken few, let e : length (before ++ taken) ≡ length before + length taken = length-append before taken in omega (arith, e, place, full))
+  cause_of faults.NoMemory taken few s = absurd s
+
+  pub stopped_short : (fault : StreamFault) → Short start at most b c g h fault → Stopped opened start a c f h fault
+  stopped_short fault s = record {
+    taken = before ++ s.taken;
+    took = consumes_more a b c before s.taken took s.took;
+    cause = cause_of fault s.taken s.few s.cause;
+  }
+
+-- too short at the front
+pub stopped_first : (opened : Bool) (a b : Option (List ℕ)) (start f g : ℕ) (fault : StreamFault) → Short start start 4 a b f g fault → Stopped opened start a b f g fault
+stopped_first opened a b start f g fault s = stopped_short opened a a b start start 4 f f g [] (consumes_none a) (omega arith) (omega arith) (λ rest few. in_size few) fault s
+
+nothing : (rest : List ℕ) → length rest < 1 → rest ≡ []
+nothing [] few = refl
+nothing (b ∷ rest) few = absurd (omega (arith, few))
+
+-- a size, and no kind
+pub stopped_at_kind : (opened : Bool) (a b c : Option (List ℕ)) (start size f g h : ℕ) (t : Took (IsNumber w32 size) a b start (start + 4)) → 0 < size → f ≤ g
+    → (fault : StreamFault) → Short start (start + 4) 1 b c g h fault → Stopped opened start a c f h fault
+stopped_at_kind opened a b c start size f g h t some le fault s =
+    stopped_short opened a b c start (start + 4) 1 f g h t.taken t.took t.place le (λ rest few. at_kind size some
+    (subst (IsNumber w32 size) (sym (append-nil t.taken) ∙ ap (λ (l : List ℕ). t.taken ++ l) (sym (nothing rest few))) t.is)) fault s
+
+-- ---- a head
+
+allowed : (opened : Bool) (kind : FrameKind) (len : ℕ) → may_stand opened kind ≡ true → len ≤ longest_body kind → IsAllowed opened (number_of kind) len
+allowed opened kind len place short = record { kind = kind; named = refl; place = place; short = short }
+
+module _ (opened : Bool) (a b : Option (List ℕ)) (start len : ℕ) (kind : FrameKind) (t : Took (IsHead (len + 1) (number_of kind)) a b start (start + 5)) (place : may_stand opened kind ≡ true) (short : len ≤ longest_body kind) where
+  -- a body that isn't whole
+  pub stopped_in_body : (c : Option (List ℕ)) (n f g h : ℕ) → n ≡ len → f ≤ g → (fault : StreamFault) → Short start (start + 5) n b c g h fault → Stopped opened start a c f h fault
+  stopped_in_body c n f g h same le fault s =
+      stopped_short opened a b c start (start + 5) n f g h t.taken t.took t.place le
+      (λ rest few. in_body (number_of kind) len t.taken rest refl t.is (allowed opened kind len place short) (omega (arith, same, few))) fault s
+
+  whole_head : len ≡ 0 → IsFrame (number_of kind) (Exactly []) t.taken
+  whole_head none = frame_of (number_of kind) len [] t.taken (sym none) (record { left = t.taken; right = []; is = sym (append-nil t.taken); first = t.is; second = refl })
+
+  -- no memory for the body
+  pub stopped_without_memory : (f g : ℕ) → Stopped opened start a b f g faults.NoMemory
+  stopped_without_memory f g = record {
+    taken = t.taken;
+    took = t.took;
+    cause = elim (cases_lt 0 len) [
+      | inl some ↦ inl (in_body (number_of kind) len t.taken [] (sym (append-nil t.taken)) t.is (allowed opened kind len place short) some)
+      | inr none ↦ inr (record { number = number_of kind; body = []; is = whole_head (omega (arith, none)); allowed = allowed opened kind 0 place (omega arith) })
+    ];
+  }
+
+-- a size of 0
+pub stopped_at_zero : (opened : Bool) (a b : Option (List ℕ)) (start f g : ℕ) (four : List ℕ) → Consumes a b four → IsNumber w32 0 four → Stopped opened start a b f g (faults.Malformed start)
+stopped_at_zero opened a b start f g four took is = record { taken = four; took = took; cause = (refl, inl (no_size is)) }
+
+-- a kind and a size that may not stand here
+pub stopped_at_head : (opened : Bool) (a b : Option (List ℕ)) (start size number f g : ℕ) (t : Took (IsHead size number) a b start (start + 5)) → 0 < size → (IsAllowed opened number (size - 1) → ⊥)
+    → Stopped opened start a b f g (faults.Malformed start)
+stopped_at_head opened a b start size number f g t some not_allowed = record { taken = t.taken; took = t.took; cause = (refl, inl (no_place size number some t.is not_allowed)) }
+
+-- ---- a whole frame
+
+module _ (opened : Bool) (a b : Option (List ℕ)) (start next : ℕ) (kind : FrameKind) (body : List ℕ) (t : Took (IsFrame (number_of kind) (Exactly body)) a b start next)
+    (place : may_stand opened kind ≡ true) (short : length body ≤ longest_body kind) where
+  whole : IsWhole opened t.taken
+  whole = record { number = number_of kind; body = body; is = t.is; allowed = allowed opened kind (length body) place short }
+
+  pub stopped_by_body : (f g : ℕ) → ((frame : Frame) → IsBodyOf kind frame body → ⊥) → Stopped opened start a b f g (faults.Malformed start)
+  stopped_by_body f g none = record { taken = t.taken; took = t.took; cause = (refl, inl (no_fit whole (fits_none opened kind body t.taken t.is none))) }
+
+  pub stopped_by_value : (f g : ℕ) → Stopped opened start a b f g faults.NoMemory
+  stopped_by_value f g = record { taken = t.taken; took = t.took; cause = inr whole }

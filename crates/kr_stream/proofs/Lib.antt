@@ -1,0 +1,9 @@
+pub mod Sizes
+pub mod FrameForms
+pub mod BodyLaws
+pub mod BodyAnswers
+pub mod Parts
+pub mod Causes
+pub mod Told
+pub mod Written
+mod Examples

@@ -1,0 +1,8 @@
+use Rattle.std.proofs.Common.{arith}
+use Rattle.kr_stream.proofs.Written.{sized_is}
+use Rattle.kr_stream.proofs.output.sized.Goals as goal
+
+pub returns : goal.returns
+returns c =
+    sized_is c.args.kind _ c.args.body.now c.new-bytes.result.items c.put_u32.new.out.items c.push.new.self.items _ (grind arith) (grind arith)
+    c.new-bytes.ensures.items c.in_ok-put_u32.ensures.ok c.in_ok-push.ensures.items c.in_ok-extend_from_slice.ensures.items

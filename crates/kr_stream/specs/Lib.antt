@@ -1,0 +1,6 @@
+pub mod Kinds
+pub mod Frames
+pub mod Reader
+pub mod Outputs
+pub mod Laws
+pub mod inner

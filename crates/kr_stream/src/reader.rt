@@ -1,0 +1,164 @@
+//! One frame after the other, from a source.
+
+ghost use Rattle.std.specs.Prelude.{◌≡◌, ◌+◌, ◌≤◌, false, true, length, IfOk, IfErr};
+ghost use Rattle.kr_wire.specs.Grammar.{Exactly};
+ghost use Rattle.kr_defs.specs.declared.limits.TheConstants.{MOST_SESSION_BYTES};
+ghost use Rattle.kr_stream.specs.declared.stage.Stage.TheVariants as stages;
+ghost use Rattle.kr_stream.specs.Reader as reader;
+ghost use Rattle.kr_stream.specs.Reader.{IsNext, Took, Stands, Stopped, Stops};
+ghost use Rattle.kr_stream.specs.inner.Taken.{Short};
+
+use crate::bodies::{BodyFault, frame_of};
+use crate::filling::take;
+use crate::head::read_head;
+use crate::stage::Stage;
+use crate::{Frame, StreamFault};
+use kr_base::{NoMemory, Source};
+use std::alloc::Global;
+use std::marker::Model;
+
+/// A reader of frames. It keeps no byte between two calls.
+#[derive(Drop)]
+pub struct Reader {
+    alloc: Global,
+    at: u64,
+    stage: Stage,
+}
+
+impl Model for Reader {
+    ghost use Rattle.std.specs.Prelude.{◌≤◌};
+    ghost use Rattle.kr_defs.specs.declared.limits.TheConstants.{MOST_SESSION_BYTES};
+    ghost use Rattle.kr_stream.specs.Reader.{Position};
+
+    ghost Value = { Position };
+
+    ghost view = { λ r. record { at = r.at; stage = r.stage } };
+
+    ghost invariant = { λ r. r.at ≤ MOST_SESSION_BYTES };
+}
+
+impl Reader {
+    /// A reader at the beginning of a session.
+    pub fn new(alloc: Global) -> Reader
+        ensures { result ≡ record { at = 0; stage = stages.Unopened } }
+    {
+        Reader {
+            alloc,
+            at: 0,
+            stage: Stage::Unopened,
+        }
+    }
+
+    /// A reader at the beginning of a stream that has no Open frame.
+    pub fn link(alloc: Global) -> Reader
+        ensures { result ≡ record { at = 0; stage = stages.Opened } }
+    {
+        Reader {
+            alloc,
+            at: 0,
+            stage: Stage::Opened,
+        }
+    }
+
+    /// The next frame. It takes no byte behind the frame, and keeps nothing longer than the frame's kind allows. After
+    /// End it answers End again, after a fault the fault, and takes nothing.
+    pub fn next<S: Source>(&mut self, source: &mut S) -> Result<Frame, StreamFault>
+        // The bytes that were taken are the frame.
+        ensures frame { IfOk result (λ frame. Took (IsNext self.old.stage frame) (S.left source.old) (S.left source.new) self.old.at self.new.at) }
+        ensures stage { IfOk result (λ frame. self.new.stage ≡ reader.stage_after frame) }
+        // Why there is none, and which bytes were taken.
+        ensures stopped { IfErr result (λ fault. Stops self.old.stage self.old.at (S.left source.old) (S.left source.new) (S.faults source.old) (S.faults source.new) fault) }
+        ensures fault { IfErr result (λ fault. self.new ≡ record { at = self.old.at; stage = stages.Failed fault }) }
+        ensures later { S.faults source.old ≤ S.faults source.new }
+    {
+        match self.stage {
+            Stage::Unopened => self.advance(source, false),
+            Stage::Opened => self.advance(source, true),
+            Stage::Ended => Ok(Frame::End),
+            Stage::Failed(fault) => Err(fault),
+        }
+    }
+
+    // Reads a frame at the beginning of a session or behind its Open frame.
+    fn advance<S: Source>(&mut self, source: &mut S, opened: bool) -> Result<Frame, StreamFault>
+        ensures frame { IfOk result (λ frame. Took (Stands opened frame) (S.left source.old) (S.left source.new) self.old.at self.new.at) }
+        ensures stage { IfOk result (λ frame. self.new.stage ≡ reader.stage_after frame) }
+        ensures stopped { IfErr result (λ fault. Stopped opened self.old.at (S.left source.old) (S.left source.new) (S.faults source.old) (S.faults source.new) fault) }
+        ensures fault { IfErr result (λ fault. self.new ≡ record { at = self.old.at; stage = stages.Failed fault }) }
+        ensures later { S.faults source.old ≤ S.faults source.new }
+    {
+        match read_frame(self.alloc, source, opened, self.at) {
+            Ok((frame, next)) => {
+                self.at = next;
+                self.stage = stage_after(&frame);
+                Ok(frame)
+            }
+            Err(fault) => {
+                self.stage = Stage::Failed(fault);
+                Err(fault)
+            }
+        }
+    }
+}
+
+fn stage_after(frame: &Frame) -> Stage
+    ensures { result ≡ reader.stage_after frame.now }
+{
+    match frame {
+        Frame::End => Stage::Ended,
+        _ => Stage::Opened,
+    }
+}
+
+// The frame that begins at `at`, and the place behind it.
+fn read_frame<S: Source>(
+    alloc: Global,
+    source: &mut S,
+    opened: bool,
+    at: u64,
+) -> Result<(Frame, u64), StreamFault>
+    requires { at ≤ MOST_SESSION_BYTES }
+    ensures frame { IfOk result (λ x. Took (Stands opened x.0) (S.left source.old) (S.left source.new) at x.1) }
+    ensures stopped { IfErr result (λ fault. Stopped opened at (S.left source.old) (S.left source.new) (S.faults source.old) (S.faults source.new) fault) }
+    ensures later { S.faults source.old ≤ S.faults source.new }
+{
+    let head = match read_head(source, opened, at) {
+        Err(fault) => return Err(fault),
+        Ok(head) => head,
+    };
+    let body = match body_room(alloc, head.len) {
+        Err(_) => return Err(StreamFault::NoMemory),
+        Ok(body) => body,
+    };
+    let body = match read_body(source, body, at) {
+        Err(fault) => return Err(fault),
+        Ok(body) => body,
+    };
+    match frame_of(alloc, head.kind, body) {
+        Ok(frame) => Ok((frame, at + 5 + head.len as u64)),
+        Err(BodyFault::Misfit) => Err(StreamFault::Malformed { at }),
+        Err(BodyFault::NoMemory) => Err(StreamFault::NoMemory),
+    }
+}
+
+// Room for a body of this length.
+fn body_room(alloc: Global, len: usize) -> Result<Vec<u8>, NoMemory>
+    ensures { IfOk result (λ body. length body.items ≡ len) }
+{
+    let body = vec![in alloc; 0; len]?;
+    Ok(body)
+}
+
+// The body of the frame that begins at `at`, as long as the vector.
+fn read_body<S: Source>(source: &mut S, mut body: Vec<u8>, at: u64) -> Result<Vec<u8>, StreamFault>
+    requires { at + 5 ≤ MOST_SESSION_BYTES }
+    ensures body { IfOk result (λ read. Took (Exactly read.items) (S.left source.old) (S.left source.new) (at + 5) (at + 5 + length body.items)) }
+    ensures len { IfOk result (λ read. length read.items ≡ length body.items) }
+    ensures short { IfErr result (λ fault. Short at (at + 5) (length body.items) (S.left source.old) (S.left source.new) (S.faults source.old) (S.faults source.new) fault) }
+    ensures later { S.faults source.old ≤ S.faults source.new }
+{
+    match take(source, body.as_mut_slice(), at, at + 5) {
+        Err(fault) => Err(fault),
+        Ok(()) => Ok(body),
+    }
+}

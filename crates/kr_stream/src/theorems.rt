@@ -1,0 +1,19 @@
+//! What holds of all bytes. The functions do nothing.
+
+ghost use Rattle.kr_stream.specs.Laws.{FramesAreToldApart, OutputsAreToldApart, RefusedBytesBeginNone, UnfinishedBytesBeginNone};
+
+/// Bytes stand for one frame at most, and no frame begins another.
+pub fn frames_are_told_apart()
+    ensures { FramesAreToldApart }
+{}
+
+/// Where `next` answers Malformed or TooLong, no frame stands at the front of the stream.
+pub fn no_frame_is_passed_over()
+    ensures refused { RefusedBytesBeginNone }
+    ensures unfinished { UnfinishedBytesBeginNone }
+{}
+
+/// The frames of outputs tell where they end, and what they are.
+pub fn outputs_are_told_apart()
+    ensures { OutputsAreToldApart }
+{}
