@@ -5,7 +5,7 @@ use Rattle.std.specs.declared.cmp.Ordering.{Ordering}
 use Rattle.std.specs.Cmp.{IsTotalOrder}
 use Rattle.std.specs.List.{AllByRecursion}
 use Rattle.std.proofs.lemmas.List.{append-nil, map-append}
-use Rattle.std.proofs.lemmas.List.Elements.{All-from_recursion, recursion_from_All}
+use Rattle.std.proofs.lemmas.List.Elements.{All-nil, All-append, All-from_recursion, recursion_from_All}
 use Rattle.std.proofs.lemmas.List.Sums.{sum_by-append}
 use Rattle.kr_defs.specs.declared.limits.TheConstants.{IMAGE_BATCH}
 use Rattle.kr_defs.specs.declared.partition.Partition.{Partition}
@@ -20,6 +20,7 @@ use Rattle.kr_defs.specs.Records.{topic_records, partition_record as walked_reco
 use Rattle.kr_defs.specs.Walk.{walked, of_topic}
 use Rattle.kr_defs.proofs.Walks.{walk_next, walk_end}
 use Rattle.kr_defs.proofs.TopicWalks.{group_begin}
+use Rattle.kr_record.specs.Held.{IsHeld}
 use Rattle.kr_snapshot.specs.Walked.{partition_record}
 use Rattle.kr_snapshot.specs.Written.{chunks, batches_bytes}
 use Rattle.kr_snapshot.specs.Writer.{setting_text, IsLight, texts, IsSound, body_with, count_of, Adds, IsAmid, MayAdd}
@@ -34,7 +35,7 @@ all_back P [] ys a = a
 all_back P (x ∷ xs) ys a = all_back P xs ys a.1
 
 pub adds_none : (w : BatchWriter) → IsSound w → Adds w w []
-adds_none w sound = record { sound = sound; bytes = λ more. refl; count = omega arith; text = omega arith }
+adds_none w sound = record { sound = sound; bytes = λ more. refl; count = omega arith; text = omega arith; held = All-nil IsHeld }
 
 pub adds_then : (a b c : BatchWriter) (xs ys : List Record) → Adds a b xs → Adds b c ys → Adds a c (xs ++ ys)
 adds_then a b c xs ys first second =
@@ -51,6 +52,7 @@ adds_then a b c xs ys first second =
           ∙ ap (body_with a) (sym (append_assoc (as_items xs) (as_items ys) more) ∙ ap (λ (is : List Item). is ++ more) (sym (map-append (λ r. items.Record r) xs ys))));
       count = omega (arith, long, n, m);
       text = omega (arith, sum, t, u);
+      held = All-append IsHeld xs ys first.held second.held;
     }
 
 pub amid_start : (w : BatchWriter) (all : List Record) → MayAdd w all → IsAmid w w all all

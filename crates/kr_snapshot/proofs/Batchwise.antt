@@ -8,19 +8,17 @@ use Rattle.kr_defs.proofs.Tests.{neither}
 use Rattle.kr_defs.specs.Image.{Image}
 use Rattle.kr_wire.specs.declared.WireFault.{WireFault}
 use Rattle.kr_wire.specs.declared.WireFault.TheVariants as wire
-use Rattle.kr_wire.specs.Reading.{◌>>=◌, refuse◌when◌else◌, signed_at, number_at}
+use Rattle.kr_wire.specs.Reading.{◌>>=◌, refuse◌when◌else◌, signed_at}
 use Rattle.kr_wire.specs.Grammar.{IsNumber, IsSigned}
-use Rattle.kr_wire.proofs.Laws.{complete_bind}
 use Rattle.kr_wire.proofs.Numbers.{signed_law}
 use Rattle.kr_batch.specs.declared.fault.BatchFault.{BatchFault}
 use Rattle.kr_batch.specs.declared.fault.BatchFault.TheVariants as refusals
-use Rattle.kr_batch.specs.Grammar.{IsStart}
 use Rattle.kr_batch.specs.Reading.{start_at, is_short}
 use Rattle.kr_batch.proofs.Heads.{start_law}
 use Rattle.kr_snapshot.specs.declared.fault.ImageFault.{ImageFault}
 use Rattle.kr_snapshot.specs.declared.fault.BatchCause.TheVariants as causes
 use Rattle.kr_snapshot.specs.Read.{Waits}
-use Rattle.kr_snapshot.specs.Reading.{bad_batch, Progress, begun, headed, numbers_at, refused, whole_read, ended, Taken, nothing_taken, waits, head_taken, extent, is_no_size, size_at, batch_taken, judged, goes_on, so_far, ends, image_of}
+use Rattle.kr_snapshot.specs.Reading.{bad_batch, Progress, begun, headed, numbers_at, refused, whole_read, ended, Taken, waits, head_taken, extent, is_no_size, size_at, batch_taken, judged, goes_on, so_far, ends, image_of}
 
 -- ---- all bytes at once
 

@@ -10,12 +10,13 @@ use Rattle.kr_defs.specs.declared.record.Record.{Record}
 use Rattle.kr_defs.specs.declared.record.Item.{Item}
 use Rattle.kr_defs.specs.declared.record.Item.TheVariants as items
 use Rattle.kr_wire.specs.Spelling.{signed, varint32, varint64}
+use Rattle.kr_record.specs.Held.{IsHeld}
 use Rattle.kr_batch.specs.Written.{IsWritable, value_bytes, values_size, record_body, record_bytes, records_bytes, fixed_bytes, checked_bytes, head_bytes, batch_bytes}
 use Rattle.kr_batch.specs.Crc.{crc32c}
 use Rattle.std.specs.Int.{w8}
 use Rattle.kr_snapshot.specs.Written.{chunks, batch_of_group, batches_bytes}
 use Rattle.kr_snapshot.proofs.Chunks.{chunk_first, chunk_last}
-use Rattle.kr_snapshot.specs.Writer.{setting_text, item_text, IsLight, IsLightItem, most_beside, IsSound, MayAdd, Adds, text_of, count_of, body_with}
+use Rattle.kr_snapshot.specs.Writer.{setting_text, item_text, IsLight, IsLightItem, most_beside, IsSound, MayAdd, Puts, Adds, text_of, count_of, body_with}
 use Rattle.kr_snapshot.specs.declared.writer.BatchWriter.{BatchWriter}
 
 -- light items can be written
@@ -91,11 +92,11 @@ sound_empty w empty behind = record {
   behind = behind;
 }
 
-pub push_adds : (w mid after : BatchWriter) (r : Record) → MayAdd w (r ∷ []) → IsSound mid → length mid.group.items < IMAGE_BATCH
+pub push_adds : (w mid after : BatchWriter) (r : Record) → MayAdd w (r ∷ []) → IsHeld r → IsSound mid → length mid.group.items < IMAGE_BATCH
     → ((item : Item) (more : List Item) → body_with mid (item ∷ more) ≡ body_with w (item ∷ more)) → count_of mid ≡ count_of w → text_of mid ≤ text_of w
     → after.before ≡ mid.before → after.body.items ≡ mid.body.items → after.group.items ≡ mid.group.items ++ items.Record r ∷ []
     → Adds w after (r ∷ [])
-push_adds w mid after r may sound room bytes count text same_before same_body pushed =
+push_adds w mid after r may held sound room bytes count text same_before same_body pushed =
     let one : sum_by setting_text (r ∷ []) ≡ setting_text r = (let a = sum_by-cons setting_text r [] in omega (arith, a)) in
     let own : sum_by item_text (items.Record r ∷ []) ≡ setting_text r = (let a = sum_by-cons item_text (items.Record r) [] in omega (arith, a)) in
     let sum : text_of after ≡ text_of mid + setting_text r = ap (λ g. sum_by item_text g) pushed ∙ (sum_by-append item_text mid.group.items (items.Record r ∷ []) ∙ ap (λ n. text_of mid + n) own) in
@@ -115,22 +116,32 @@ push_adds w mid after r may sound room bytes count text same_before same_body pu
           ∙ bytes (items.Record r) more);
       count = omega (arith, long, count, same_before);
       text = omega (arith, sum, one, text);
+      held = All-from_recursion IsHeld (r ∷ []) (held, tt);
     }
 
--- where a full group was put, or there was room
-pub room_bytes : (w after : BatchWriter) (item : Item) (more : List Item) → length w.group.items ≡ IMAGE_BATCH
-    → after.body.items ≡ w.body.items ++ batch_bytes (batch_of_group w.before w.group.items) → after.before ≡ w.before + length w.group.items → after.group.items ≡ []
-    → body_with after (item ∷ more) ≡ body_with w (item ∷ more)
-room_bytes w after item more full body before group =
-    rw (body, before, group)
-    (append_assoc w.body.items (batch_bytes (batch_of_group w.before w.group.items)) (batches_bytes (w.before + length w.group.items) (chunks IMAGE_BATCH (item ∷ more)))
-    ∙ ap (λ (gs : List (List Item)). w.body.items ++ batches_bytes w.before gs) (sym (chunk_first IMAGE_BATCH w.group.items (item ∷ more) (omega arith) full)))
+-- ---- once a group was put
 
--- where the last group was put
-pub rest_bytes : (w after : BatchWriter) → 1 ≤ length w.group.items → length w.group.items ≤ IMAGE_BATCH
-    → after.body.items ≡ w.body.items ++ batch_bytes (batch_of_group w.before w.group.items) → after.body.items ≡ body_with w []
-rest_bytes w after some few body =
-    let one : chunks IMAGE_BATCH (w.group.items ++ []) ≡ w.group.items ∷ [] = ap (chunks IMAGE_BATCH) (append-nil w.group.items) ∙ chunk_last IMAGE_BATCH w.group.items some few in
-    body ∙ ap (λ (l : List ℕ). w.body.items ++ l) (sym (ap (batches_bytes w.before) one ∙ append-nil (batch_bytes (batch_of_group w.before w.group.items))))
+module _ (w after : BatchWriter) (puts : Puts w after) where
+  pub put_room : length after.group.items < IMAGE_BATCH
+  put_room = rw puts.group (omega arith)
+
+  pub put_count : count_of after ≡ count_of w
+  put_count = let g = ap (λ (l : List Item). length l) puts.group in let b = puts.before in omega (arith, g, b)
+
+  pub put_text : text_of after ≤ text_of w
+  put_text = rw puts.group (omega arith)
+
+  -- a full one
+  pub put_full : length w.group.items ≡ IMAGE_BATCH → (item : Item) (more : List Item) → body_with after (item ∷ more) ≡ body_with w (item ∷ more)
+  put_full full item more =
+      rw (puts.body, puts.before, puts.group)
+      (append_assoc w.body.items (batch_bytes (batch_of_group w.before w.group.items)) (batches_bytes (w.before + length w.group.items) (chunks IMAGE_BATCH (item ∷ more)))
+      ∙ ap (λ (gs : List (List Item)). w.body.items ++ batches_bytes w.before gs) (sym (chunk_first IMAGE_BATCH w.group.items (item ∷ more) (omega arith) full)))
+
+  -- the last one
+  pub put_last : 1 ≤ length w.group.items → length w.group.items ≤ IMAGE_BATCH → after.body.items ≡ body_with w []
+  put_last some few =
+      let one : chunks IMAGE_BATCH (w.group.items ++ []) ≡ w.group.items ∷ [] = ap (chunks IMAGE_BATCH) (append-nil w.group.items) ∙ chunk_last IMAGE_BATCH w.group.items some few in
+      puts.body ∙ ap (λ (l : List ℕ). w.body.items ++ l) (sym (ap (batches_bytes w.before) one ∙ append-nil (batch_bytes (batch_of_group w.before w.group.items))))
 
 pub ruleset batches = (group_writable, group_small)

@@ -1,14 +1,12 @@
 -- What is written for an image stands for it.
-use Rattle.std.proofs.Common.{◌≡◌, ◌∙◌, ℕ, ℤ, pos, ◌+◌, ◌<◌, ◌≤◌, ◌^◌, true, false, cond, List, [], ◌∷◌, ◌++◌, length, length-append, append_assoc, Ok, refl, sym, ap, subst, arith, All}
+use Rattle.std.proofs.Common.{◌≡◌, ℕ, ℤ, pos, ◌+◌, ◌<◌, ◌≤◌, ◌^◌, cond, List, [], ◌∷◌, ◌++◌, length, length-append, append_assoc, Ok, refl, sym, ap, subst, arith, All}
 use Rattle.std.specs.Prelude.{FitsSigned, ◌≤ℤ◌, map, sum_by, Option, Some, None, IfSome, unwrap_or}
 use Rattle.std.specs.Int.{w64}
 use Rattle.std.specs.List.{AllByRecursion}
-use Rattle.std.proofs.lemmas.Bool.{cases_Bool, ltb-true, ltb-false}
 use Rattle.std.proofs.lemmas.Int.{ints}
-use Rattle.std.proofs.lemmas.List.{append-nil, length-map, map-append}
+use Rattle.std.proofs.lemmas.List.{length-map}
 use Rattle.std.proofs.lemmas.List.Elements.{All-from_recursion, recursion_from_All}
 use Rattle.std.proofs.lemmas.List.Sums.{sum_by-append, sum_by-cons}
-use Rattle.std.proofs.Common.{inl, inr}
 use Rattle.kr_defs.specs.declared.limits.TheConstants.{IMAGE_BATCH, MOST_CONFIG_TEXT}
 use Rattle.kr_defs.specs.declared.record.Record.{Record}
 use Rattle.kr_defs.specs.declared.record.Item.{Item}
@@ -116,6 +114,6 @@ text_again offset image valid least fits few held = image_complete offset image 
 
 -- the image at a place, where there is one
 pub text_at_stands : (o : Option Image) (offset : ℤ) → IsValid (unwrap_or o empty) → pos 0 ≤ℤ offset → FitsSigned w64 offset → length (records_of (unwrap_or o empty)) < 2 ^ 63
-    → IfSome o (λ (image : Image). All IsHeld (records_of image) → IsImage offset image (image_text offset image))
-text_at_stands None offset valid least fits few = tt
-text_at_stands (Some image) offset valid least fits few = text_stands offset image valid least fits few
+    → All IsHeld (records_of (unwrap_or o empty)) → IfSome o (λ (image : Image). IsImage offset image (image_text offset image))
+text_at_stands None offset valid least fits few held = tt
+text_at_stands (Some image) offset valid least fits few held = text_stands offset image valid least fits few held

@@ -1,9 +1,9 @@
 -- What a reader holds, and how it goes on.
-use Rattle.std.proofs.Common.{◌≡◌, ◌∙◌, ℕ, ℤ, pos, negsuc, ◌+◌, ◌<◌, ◌≤◌, true, false, List, [], ◌∷◌, ◌++◌, length, length-append, append_assoc, Option, Some, None, Result, Ok, Err, refl, sym, ap, subst, arith, inl, inr}
+use Rattle.std.proofs.Common.{◌≡◌, ◌∙◌, ℕ, ℤ, pos, negsuc, ◌+◌, ◌<◌, ◌≤◌, false, List, [], ◌∷◌, ◌++◌, length, Option, Some, None, Result, Ok, Err, refl, sym, ap, subst, arith, inl, inr}
 use Rattle.std.specs.Prelude.{take, drop, nat_lt, int_lt, if◌then◌else◌, IfOk, IsTrue, ◌≤ℤ◌}
-use Rattle.std.proofs.lemmas.Bool.{cases_Bool, lt-ltb, le-ltb, ltb-true, ltb-false, cases_lt}
+use Rattle.std.proofs.lemmas.Bool.{cases_Bool, lt-ltb, le-ltb, cases_lt}
 use Rattle.std.proofs.lemmas.Int.{ints}
-use Rattle.std.proofs.lemmas.List.{append-nil, take-append-drop, length-take-le}
+use Rattle.std.proofs.lemmas.List.{take-append-drop, length-take-le}
 use Rattle.std.proofs.lemmas.List.Elements.{All-from_recursion}
 use Rattle.kr_defs.specs.Image.{Image, empty}
 use Rattle.kr_store.specs.Images.{Images, IsAbove, forgotten, marked}
@@ -22,7 +22,7 @@ use Rattle.kr_snapshot.specs.declared.pieces.Body.{Body}
 use Rattle.kr_snapshot.specs.declared.pieces.Pieces.{Pieces}
 use Rattle.kr_snapshot.specs.Read.{IsBegun, IsFault, IsUnfinished, IsWaiting, LeadsTo, Restores, StandsFor, Waits, answer_of, body_in, kept_once, progress_in, state_of, taken_in}
 use Rattle.kr_snapshot.proofs.Faults.{through}
-use Rattle.kr_snapshot.proofs.Batchwise.{StartsWith, start_is, size_front, size_bad, batch_waits, head_waits, start_waits, goes_on_append, fills}
+use Rattle.kr_snapshot.proofs.Batchwise.{StartsWith, start_is, size_front, size_bad, batch_waits, head_waits, goes_on_append, fills}
 
 -- ---- what is judged leaves nothing to judge
 

@@ -13,6 +13,8 @@ use Rattle.kr_snapshot.specs.declared.fault.BatchCause.TheVariants as causes
 use Rattle.kr_snapshot.specs.Reading.{bad_batch, Progress, Taken, extent, judged, size_at, so_far, waits}
 use Rattle.kr_snapshot.specs.declared.fault.ImageFault.{ImageFault}
 use Rattle.kr_snapshot.specs.declared.fault.ImageFault.TheVariants as faults
+use Rattle.kr_snapshot.specs.declared.order.Section.{Section}
+use Rattle.kr_snapshot.specs.declared.order.Section.TheVariants as sections
 use Rattle.kr_snapshot.specs.declared.order.Rank.{Rank}
 use Rattle.kr_snapshot.specs.declared.order.Order.{Order}
 use Rattle.kr_snapshot.specs.declared.records.Tally.{Tally}
@@ -43,8 +45,14 @@ fault_of_batch found fault = bad_batch found (causes.Refused fault)
 
 -- ---- the order
 
+abbrev pub section_number : Section → ℕ
+section_number sections.Features = 0
+section_number sections.Brokers = 1
+section_number sections.Topics = 2
+section_number sections.Settings = 3
+
 abbrev pub rank_in : Rank → ranks.Rank
-rank_in r = record { section = r.section; kind = r.kind; name = r.name; key = r.key; number = r.number }
+rank_in r = record { section = section_number r.section; kind = r.kind; name = r.name; key = r.key; number = r.number }
 
 abbrev pub topic_in : Option Topic → Option (List ℕ × ℕ)
 topic_in topic = option_map (λ (t : Topic). (t.name, t.id)) topic

@@ -1,5 +1,5 @@
 -- What a writer of batches has, and what is added to it.
-use Rattle.std.specs.Prelude.{◌≡◌, ℕ, ◌+◌, ◌≤◌, List, ◌++◌, length, sum_by, All, Some}
+use Rattle.std.specs.Prelude.{◌≡◌, ℕ, ◌+◌, ◌≤◌, List, [], ◌++◌, length, sum_by, All, Some}
 use Rattle.kr_defs.specs.declared.limits.TheConstants.{IMAGE_BATCH, MOST_CONFIG_TEXT}
 use Rattle.kr_defs.specs.declared.record.Record.{Record}
 use Rattle.kr_defs.specs.declared.record.Record.TheVariants as kinds
@@ -7,8 +7,10 @@ use Rattle.kr_defs.specs.declared.record.Item.{Item}
 use Rattle.kr_defs.specs.declared.record.Item.TheVariants as items
 use Rattle.kr_defs.specs.ImageLaws.{as_items}
 use Rattle.kr_record.specs.Encodable.{IsEncodable}
+use Rattle.kr_record.specs.Held.{IsHeld}
 use Rattle.kr_record.specs.Spelling.{record_value}
-use Rattle.kr_snapshot.specs.Written.{chunks, batches_bytes}
+use Rattle.kr_batch.specs.Written.{batch_bytes}
+use Rattle.kr_snapshot.specs.Written.{batch_of_group, chunks, batches_bytes}
 use Rattle.kr_snapshot.specs.declared.writer.BatchWriter.{BatchWriter}
 
 -- the text of a setting, which is limited over all settings of an image
@@ -55,12 +57,21 @@ body_with w more = w.body.items ++ batches_bytes w.before (chunks IMAGE_BATCH (w
 abbrev pub count_of : BatchWriter → ℕ
 count_of w = w.before + length w.group.items
 
+-- the records in hand were written as a batch
+pub record Puts (w after : BatchWriter) : Type 0 where
+  pub sound : IsSound after
+  pub body : after.body.items ≡ w.body.items ++ batch_bytes (batch_of_group w.before w.group.items)
+  pub before : after.before ≡ w.before + length w.group.items
+  pub group : after.group.items ≡ []
+
 -- the records were added
 pub record Adds (w after : BatchWriter) (records : List Record) : Type 0 where
   pub sound : IsSound after
   pub bytes : (more : List Item) → body_with after more ≡ body_with w (as_items records ++ more)
   pub count : count_of after ≡ count_of w + length records
   pub text : text_of after ≤ text_of w + texts records
+  -- their numbers fit their types, and their texts are UTF-8
+  pub held : All IsHeld records
 
 -- some of all records were added, and these are left
 pub record IsAmid (w after : BatchWriter) (all left : List Record) : Type 0 where

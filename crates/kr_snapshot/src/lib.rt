@@ -2,6 +2,7 @@
 #![tactic(auto)]
 
 mod fault;
+mod held;
 mod order;
 mod pieces;
 mod reader;

@@ -4,17 +4,25 @@ ghost use Rattle.std.specs.Prelude.{◌≡◌, IfOk, IfSome, OnOk, Some, is_some
 ghost use Rattle.std.specs.Option.{option_map, option_map_or};
 ghost use Rattle.std.specs.Ordering.{is_lt};
 ghost use Rattle.kr_defs.specs.ImageOrder as ranks;
-ghost use Rattle.kr_snapshot.specs.Read.{partition_rank, rank_in, seen_in, setting_rank, topic_in};
+ghost use Rattle.kr_snapshot.specs.Read.{partition_rank, rank_in, section_number, seen_in, setting_rank, topic_in};
 
 use kr_base::NoMemory;
 use kr_defs::{Copied, Record, Text, Topic};
 use std::alloc::Global;
 
+/// The sections of an image, in their order. The partitions of a topic stand behind it.
+#[derive(Clone, Copy, Debug, Drop, PartialEq, Eq, PartialOrd, Ord)]
+pub enum Section {
+    Features,
+    Brokers,
+    Topics,
+    Settings,
+}
+
 /// Where a record stands among those of an image; what its kind hasn't is 0, empty or none.
 #[derive(Debug, Drop, PartialEq, Eq, PartialOrd, Ord)]
 pub struct Rank {
-    // 0 features, 1 brokers, 2 topics, 3 settings.
-    section: u8,
+    section: Section,
     kind: i8,
     name: Text,
     key: Text,
@@ -77,8 +85,8 @@ impl Order {
 }
 
 // A name or a number in one of the first three sections.
-fn named(alloc: Global, section: u8, name: Text, number: Option<i32>) -> Rank
-    ensures { rank_in result ≡ ranks.named section name number }
+fn named(alloc: Global, section: Section, name: Text, number: Option<i32>) -> Rank
+    ensures { rank_in result ≡ ranks.named (section_number section) name number }
 {
     Rank {
         section,
@@ -95,7 +103,7 @@ fn setting(alloc: Global, kind: &i8, name: &Text, key: &Text) -> Result<Rank, No
     let name = name.copied(alloc)?;
     let key = key.copied(alloc)?;
     Ok(Rank {
-        section: 3,
+        section: Section::Settings,
         kind: *kind,
         name,
         key,
@@ -116,7 +124,7 @@ fn partition(
         Some(last) => {
             if last.id == *topic {
                 let name = last.name.copied(alloc)?;
-                Ok(Some(named(alloc, 2, name, Some(*index))))
+                Ok(Some(named(alloc, Section::Topics, name, Some(*index))))
             } else {
                 Ok(None)
             }
@@ -132,15 +140,15 @@ fn rank_of(alloc: Global, last: &Option<Topic>, value: &Record) -> Result<Option
     match value {
         Record::FeatureLevel { name, .. } => {
             let name = name.copied(alloc)?;
-            Ok(Some(named(alloc, 0, name, None)))
+            Ok(Some(named(alloc, Section::Features, name, None)))
         }
         Record::RegisterBroker { broker, .. } => {
             let none = Text::new(alloc);
-            Ok(Some(named(alloc, 1, none, Some(*broker))))
+            Ok(Some(named(alloc, Section::Brokers, none, Some(*broker))))
         }
         Record::Topic { name, .. } => {
             let name = name.copied(alloc)?;
-            Ok(Some(named(alloc, 2, name, None)))
+            Ok(Some(named(alloc, Section::Topics, name, None)))
         }
         Record::Partition { index, topic, .. } => partition(alloc, last, topic, index),
         Record::Config {

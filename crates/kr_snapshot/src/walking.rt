@@ -6,10 +6,12 @@ ghost use Rattle.kr_defs.specs.Image.{IsValid};
 ghost use Rattle.kr_defs.specs.Map.{above, partition_order};
 ghost use Rattle.kr_defs.specs.Records.{topic_records};
 ghost use Rattle.kr_defs.specs.Walk.{of_topic};
+ghost use Rattle.kr_record.specs.Held.{IsHeld};
 ghost use Rattle.kr_snapshot.specs.Shown.{image_or_empty};
 ghost use Rattle.kr_snapshot.specs.Walked.{feature_record, broker_record, partition_record, config_record};
 ghost use Rattle.kr_snapshot.specs.Writer.{MayAdd, Adds};
 
+use crate::held::{broker_is_held, partition_is_held, text_is_held};
 use crate::shown;
 use crate::writer::BatchWriter;
 use kr_base::NoMemory;
@@ -18,8 +20,10 @@ use kr_store::{At, Store};
 use std::alloc::Global;
 
 fn feature(alloc: Global, name: &Text, level: &i16) -> Result<Record, NoMemory>
-    ensures { IfOk result (λ r. r ≡ feature_record (name.now, level.now)) }
+    ensures of { IfOk result (λ r. r ≡ feature_record (name.now, level.now)) }
+    ensures held { IfOk result IsHeld }
 {
+    text_is_held(name);
     let name = name.copied(alloc)?;
     Ok(Record::FeatureLevel {
         name,
@@ -28,33 +32,44 @@ fn feature(alloc: Global, name: &Text, level: &i16) -> Result<Record, NoMemory>
 }
 
 fn registration(alloc: Global, id: &i32, state: &Broker) -> Result<Record, NoMemory>
-    ensures { IfOk result (λ r. r ≡ broker_record (id.now, state.now)) }
+    ensures of { IfOk result (λ r. r ≡ broker_record (id.now, state.now)) }
+    ensures held { IfOk result IsHeld }
 {
+    broker_is_held(state);
     let state = state.copied(alloc)?;
     Ok(Record::RegisterBroker { broker: *id, state })
 }
 
 fn topic(alloc: Global, name: &Text, id: &u128) -> Result<Record, NoMemory>
-    ensures { IfOk result (λ r. r ≡ kinds.Topic name.now id.now) }
+    ensures of { IfOk result (λ r. r ≡ kinds.Topic name.now id.now) }
+    ensures held { IfOk result IsHeld }
 {
+    text_is_held(name);
     let name = name.copied(alloc)?;
     Ok(Record::Topic { name, id: *id })
 }
 
 fn partition(alloc: Global, key: &(u128, i32), state: &Partition) -> Result<Record, NoMemory>
-    ensures { IfOk result (λ r. r ≡ partition_record (key.now, state.now)) }
+    ensures of { IfOk result (λ r. r ≡ partition_record (key.now, state.now)) }
+    ensures held { IfOk result IsHeld }
 {
+    partition_is_held(state);
+    let (topic, index) = (key.0, key.1);
     let state = state.copied(alloc)?;
     Ok(Record::Partition {
-        index: key.1,
-        topic: key.0,
+        index,
+        topic,
         state,
     })
 }
 
 fn setting(alloc: Global, key: &ConfigKey, value: &Text) -> Result<Record, NoMemory>
-    ensures { IfOk result (λ r. r ≡ config_record (key.now, value.now)) }
+    ensures of { IfOk result (λ r. r ≡ config_record (key.now, value.now)) }
+    ensures held { IfOk result IsHeld }
 {
+    text_is_held(&key.name);
+    text_is_held(&key.key);
+    text_is_held(value);
     let ConfigKey { kind, name, key } = key.copied(alloc)?;
     let value = value.copied(alloc)?;
     Ok(Record::Config {
@@ -169,8 +184,7 @@ fn put_topic<S: Store>(
 {
     writer.push(topic(alloc, name, id)?)?;
     let first = before_all(id);
-    put_above(alloc, store, at, &first, writer)?;
-    Ok(())
+    put_above(alloc, store, at, &first, writer)
 }
 
 /// The topics by name, each with its partitions behind it.

@@ -1,10 +1,10 @@
 //! Records are gathered into batches.
 
-ghost use Rattle.std.specs.Prelude.{◌≡◌, ◌+◌, ◌<◌, ◌≤◌, ◌^◌, ◌++◌, [], ◌∷◌, length, List, OnOk, IfOk};
+ghost use Rattle.std.specs.Prelude.{◌≡◌, ◌<◌, ◌≤◌, ◌^◌, [], ◌∷◌, length, List, OnOk, IfOk};
 ghost use Rattle.kr_defs.specs.declared.limits.TheConstants.{IMAGE_BATCH as most};
 ghost use Rattle.kr_defs.specs.declared.record.Item.{Item as AnyItem};
-ghost use Rattle.kr_batch.specs.Written.{batch_bytes};
-ghost use Rattle.kr_snapshot.specs.Writer.{IsSound, MayAdd, Adds, body_with, count_of, text_of};
+ghost use Rattle.kr_record.specs.Held.{IsHeld};
+ghost use Rattle.kr_snapshot.specs.Writer.{IsSound, MayAdd, Puts, Adds, body_with, count_of, text_of};
 ghost use Rattle.kr_snapshot.specs.Written.{batch_of_group};
 
 use kr_base::NoMemory;
@@ -42,10 +42,7 @@ impl BatchWriter {
     fn put_group(&mut self) -> Result<(), NoMemory>
         requires sound { IsSound self.old }
         requires some { 1 ≤ length self.old.group.items }
-        ensures sound { OnOk result (IsSound self.new) }
-        ensures body { OnOk result (self.new.body.items ≡ self.old.body.items ++ batch_bytes (batch_of_group self.old.before self.old.group.items)) }
-        ensures before { OnOk result (self.new.before ≡ self.old.before + length self.old.group.items) }
-        ensures group { OnOk result (self.new.group.items ≡ []) }
+        ensures { OnOk result (Puts self.old self.new) }
     {
         let alloc = *self.group.allocator();
         let group = mem::replace(&mut self.group, Vec::new(alloc));
@@ -68,13 +65,13 @@ impl BatchWriter {
         if self.group.len() < IMAGE_BATCH {
             return Ok(());
         }
-        self.put_group()?;
-        Ok(())
+        self.put_group()
     }
 
     /// Adds a record.
     pub fn push(&mut self, value: Record) -> Result<(), NoMemory>
-        requires { MayAdd self.old (value ∷ []) }
+        requires may { MayAdd self.old (value ∷ []) }
+        requires held { IsHeld value }
         ensures { OnOk result (Adds self.old self.new (value ∷ [])) }
     {
         self.make_room()?;
@@ -91,8 +88,7 @@ impl BatchWriter {
         if self.group.is_empty() {
             return Ok(());
         }
-        self.put_group()?;
-        Ok(())
+        self.put_group()
     }
 
     /// The bytes of all batches, and how many records they have.

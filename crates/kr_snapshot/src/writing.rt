@@ -36,8 +36,7 @@ fn put_records<S: Store>(
     put_features(alloc, store, at, writer)?;
     put_brokers(alloc, store, at, writer)?;
     put_topics(alloc, store, at, writer)?;
-    put_configs(alloc, store, at, writer)?;
-    Ok(())
+    put_configs(alloc, store, at, writer)
 }
 
 // The batches of all records, and how many records these are.
@@ -46,6 +45,7 @@ fn batches<S: Store>(alloc: Global, store: &S, at: At) -> Result<(Vec<u8>, usize
     ensures bytes { IfOk result (λ x. x.0.items ≡ batches_bytes 0 (chunks most (as_items (records_of (image_or_empty (S.images store.now) at))))) }
     ensures count { IfOk result (λ x. x.1 ≡ length (records_of (image_or_empty (S.images store.now) at))) }
     ensures small { IfOk result (λ x. x.1 < 2 ^ 63) }
+    ensures held { OnOk result (All IsHeld (records_of (image_or_empty (S.images store.now) at))) }
 {
     let mut writer = BatchWriter::new(alloc);
     put_records(alloc, store, at, &mut writer)?;
@@ -71,6 +71,7 @@ fn put_image<S: Store>(
     requires { IsValid (image_or_empty (S.images store.now) at) }
     ensures ok { OnOk result (out.new.items ≡ out.old.items ++ image_text offset (image_or_empty (S.images store.now) at)) }
     ensures few { OnOk result (length (records_of (image_or_empty (S.images store.now) at)) < 2 ^ 63) }
+    ensures held { OnOk result (All IsHeld (records_of (image_or_empty (S.images store.now) at))) }
     ensures err { OnErr result (out.new.items ≡ out.old.items) }
 {
     let (body, count) = batches(alloc, store, at)?;
@@ -92,8 +93,8 @@ pub fn write<S: Store>(
 ) -> Result<(), SnapFault>
     requires { pos 0 ≤ℤ offset }
     ensures ok { OnOk result (IfSome (image_at (S.images store.now) at) (λ image. out.new.items ≡ out.old.items ++ image_text offset image)) }
-    // What is appended stands for the image and its offset, where its numbers and texts are those of their types.
-    ensures stands { OnOk result (IfSome (image_at (S.images store.now) at) (λ image. All IsHeld (records_of image) → IsImage offset image (image_text offset image))) }
+    // What is appended stands for the image and its offset.
+    ensures stands { OnOk result (IfSome (image_at (S.images store.now) at) (λ image. IsImage offset image (image_text offset image))) }
     ensures err { OnErr result (out.new.items ≡ out.old.items) }
     ensures no_epoch { IsErrOf result faults.NoEpoch ↔ (image_at (S.images store.now) at ≡ None) }
 {

@@ -7,16 +7,16 @@ use Rattle.kr_snapshot.specs.Walked.{config_record}
 use Rattle.kr_snapshot.proofs.Adding.{amid_may, amid_more, amid_end, walk_left, walk_done}
 use Rattle.kr_snapshot.proofs.walking.put_configs.Goals as goal
 
-pub push-requires : goal.push-requires
-push-requires g c =
+pub push-requires-clause-may : goal.push-requires-clause-may
+push-requires-clause-may g c =
     let all = (image_or_empty (g.S.Store.images c.args.store.now) c.args.at).configs in
-    rw c.in_ok-setting.ensures
+    rw c.in_ok-setting.ensures.of
     (amid_may _ _ _ _ c.loop-key.invariant (config_record (c.in-Some.key.now, c.in-Some.value.now) ∷ []) _ (walk_left config_total config_record all (option_copied c.loop-key.after) (c.in-Some.key.now, c.in-Some.value.now) c.requires.valid.configs.ordered c.in-Some.ensures) c.requires.may)
 
 pub loop-key-preserved : goal.loop-key-preserved
 loop-key-preserved g c =
     let all = (image_or_empty (g.S.Store.images c.args.store.now) c.args.at).configs in
-    amid_more _ _ _ _ c.loop-key.invariant _ (config_record (c.in-Some.key.now, c.in-Some.value.now) ∷ []) _ (walk_left config_total config_record all (option_copied c.loop-key.after) (c.in-Some.key.now, c.in-Some.value.now) c.requires.valid.configs.ordered c.in-Some.ensures) (rw c.in_ok-setting.ensures at c.in_ok-push.ensures)
+    amid_more _ _ _ _ c.loop-key.invariant _ (config_record (c.in-Some.key.now, c.in-Some.value.now) ∷ []) _ (walk_left config_total config_record all (option_copied c.loop-key.after) (c.in-Some.key.now, c.in-Some.value.now) c.requires.valid.configs.ordered c.in-Some.ensures) (rw c.in_ok-setting.ensures.of at c.in_ok-push.ensures)
 
 pub loop-key-smaller : goal.loop-key-smaller
 loop-key-smaller g c =

@@ -1,5 +1,6 @@
 use Rattle.std.proofs.Common.{[], ◌++◌, sym, refl}
 use Rattle.std.proofs.lemmas.List.{append-nil}
+use Rattle.std.proofs.lemmas.Result.{on_ok_weaker}
 use Rattle.kr_snapshot.specs.Shown.{image_or_empty}
 use Rattle.kr_snapshot.proofs.Adding.{amid_start, amid_may, amid_more, amid_end}
 use Rattle.kr_snapshot.proofs.Light.{features, brokers, topics, configs, in_sections}
@@ -42,4 +43,4 @@ returns g c =
     let one = amid_more _ _ _ _ (amid_start _ _ c.requires.may) _ (features image v) (brokers image v ++ (topics image v ++ configs image v)) (in_sections image v) c.in_ok-put_features.ensures in
     let two = amid_more _ _ _ _ one _ (brokers image v) (topics image v ++ configs image v) refl c.in_ok-put_brokers.ensures in
     let three = amid_more _ _ _ _ two _ (topics image v) (configs image v) refl c.in_ok-put_topics.ensures in
-    amid_end _ _ _ _ (amid_more _ _ _ _ three _ (configs image v) [] (sym (append-nil (configs image v))) c.in_ok-put_configs.ensures) refl
+    on_ok_weaker c.put_configs.result (λ adds. amid_end _ _ _ _ (amid_more _ _ _ _ three _ (configs image v) [] (sym (append-nil (configs image v))) adds) refl) c.put_configs.ensures

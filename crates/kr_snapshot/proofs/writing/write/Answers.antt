@@ -9,4 +9,4 @@ put_image-requires g c = shown_valid (g.S.Store.images c.args.store.now) c.args.
 pub returns-clause-stands : goal.returns-clause-stands
 returns-clause-stands g c =
     let images = g.S.Store.images c.args.store.now in
-    text_at_stands (image_at images c.args.at) c.args.offset (shown_valid images c.args.at c.empty_is_valid.ensures c.counts-valid.ensures.valid) c.requires c.ranges.offset c.in_ok-put_image.ensures.few
+    text_at_stands (image_at images c.args.at) c.args.offset (shown_valid images c.args.at c.empty_is_valid.ensures c.counts-valid.ensures.valid) c.requires c.ranges.offset c.in_ok-put_image.ensures.few c.in_ok-put_image.ensures.held
