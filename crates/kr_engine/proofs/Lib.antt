@@ -1,1 +1,24 @@
 mod Examples
+pub mod AllEvents
+pub mod Begun
+pub mod Closing
+pub mod CommitSteps
+pub mod Followed
+pub mod Grown
+pub mod HandedOut
+pub mod Happening
+pub mod HeardOf
+pub mod ImageSteps
+pub mod LeadSteps
+pub mod Loaded
+pub mod Logs
+pub mod LossSteps
+pub mod Opening
+pub mod Places
+pub mod Queues
+pub mod ReadyEngines
+pub mod Refusals
+pub mod Settled
+pub mod Standing
+pub mod Stepping
+pub mod Waiting

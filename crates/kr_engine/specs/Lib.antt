@@ -1,9 +1,13 @@
 pub mod Commits
+pub mod Engine
 pub mod Events
 pub mod Leaderships
 pub mod Outputs
+pub mod Ready
 pub mod Reasons
 pub mod Replicas
 pub mod Requests
+pub mod Runs
+pub mod Standby
 pub mod Ticks
 pub mod World

@@ -1,0 +1,263 @@
+-- What a committed batch of another leader makes of an engine.
+use Rattle.std.proofs.Common.{◌≡◌, ◌∙◌, sym, subst, ℕ, ℤ, pos, true, false, cond, ◌+◌, ◌≤◌, List, [], ◌∷◌, ◌++◌, map, length, refl, ap, arith}
+use Rattle.std.proofs.lemmas.Int.{ints}
+use Rattle.std.proofs.lemmas.List.Elements.{All-nil, recursion_from_All}
+use Rattle.std.specs.Prelude.{◌+ℤ◌, Option, Some, None, Result, Ok, Err, not, filter, int_lt, int_le, is_some, option_to_list, unsigned_abs, All, IsTrue, IsSome}
+use Rattle.std.specs.List.{AllByRecursion}
+use Rattle.std.specs.Option.{option_map}
+use Rattle.std.specs.Ordering.{int_eq}
+use Rattle.std.specs.Result.{result_unwrap_or}
+use Rattle.kr_batch.specs.declared.Batch.{Batch}
+use Rattle.kr_batch.specs.declared.fault.BatchFault.{BatchFault}
+use Rattle.kr_batch.specs.Grammar.{IsBatch}
+use Rattle.kr_batch.specs.Reading.{batch_of}
+use Rattle.kr_calls.specs.declared.events.Event.{Event}
+use Rattle.kr_calls.specs.declared.events.Reason.{Reason}
+use Rattle.kr_calls.specs.declared.events.Event.TheVariants as events
+use Rattle.kr_defs.specs.declared.ill.Ill.{Ill}
+use Rattle.kr_defs.specs.declared.limits.TheConstants.{PLACES_END}
+use Rattle.kr_defs.specs.declared.record.Item.{Item}
+use Rattle.kr_defs.specs.Apply.{apply}
+use Rattle.kr_defs.specs.Guard.{and_then}
+use Rattle.kr_defs.specs.Image.{Image, empty}
+use Rattle.kr_defs.specs.Log.{Log, apply_all, first_ill, ill_or, tip}
+use Rattle.kr_defs.proofs.IdLists.{same_id}
+use Rattle.kr_defs.proofs.Tests.{none_is, not_false, some_is}
+use Rattle.kr_snapshot.specs.Read.{kept_once}
+use Rattle.kr_store.specs.Images.{Images, IsAbove, forgotten, last_image, marked}
+use Rattle.kr_engine.specs.declared.writes.Write.{Write}
+use Rattle.kr_engine.specs.Engine as engines
+use Rattle.kr_engine.specs.Engine.{Core, IsEngine, IsState, IsStep, Rise, kept_image, left, refused}
+use Rattle.kr_engine.specs.Events.{counted, next_number, outcome, timed}
+use Rattle.kr_engine.specs.Outputs.{answers, is_open_in}
+use Rattle.kr_engine.specs.Reasons.{already_leading, bad_batch, exhausted, gap, ill_formed}
+use Rattle.kr_engine.specs.Ready.{IsReady}
+use Rattle.kr_engine.specs.Replicas as replicas
+use Rattle.kr_engine.specs.Replicas.{batch_or, end_of, follow, follow_batch, unless_ill}
+use Rattle.kr_engine.specs.Standby.{Follows, Settles, follow_reason, followed, followed_by, items_reason, moved_to, read_batch_reason}
+use Rattle.kr_engine.specs.World.{State, image_of_tip, is_far, seen_at, tip_of, written}
+use Rattle.kr_engine.proofs.Begun.{near, no_writes, none_row}
+use Rattle.kr_engine.proofs.Grown.{present_then, seen_then}
+use Rattle.kr_engine.proofs.Logs.{tip_written}
+use Rattle.kr_engine.proofs.Queues.{IsDrained, drained, never}
+use Rattle.kr_engine.proofs.ReadyEngines.{same_image, tip_only}
+use Rattle.kr_engine.proofs.Settled.{settled_step}
+use Rattle.kr_engine.proofs.Standing.{answers_then, waits_then}
+use Rattle.kr_engine.proofs.Stepping.{IsAccepted, core_of, is_core, row, unless_refused}
+
+-- ---- one image is kept
+
+not_itself : (z : ℤ) → int_lt z z ≡ false
+not_itself z = grind (arith, ints)
+
+none_above : (kept : List (ℤ × Image)) (place : ℤ) (tip : Image) → AllByRecursion (λ (k : ℤ × Image). IsTrue (int_lt k.0 place)) kept
+    → filter (λ (k : ℤ × Image). not (int_lt k.0 place)) (kept ++ (place, tip) ∷ []) ≡ (place, tip) ∷ []
+none_above [] place tip all = ap (λ b. cond (not b) ((place, tip) ∷ []) []) (not_itself place)
+none_above (k ∷ kept) place tip all =
+    ap (λ b. cond (not b) (k ∷ filter (λ (k : ℤ × Image). not (int_lt k.0 place)) (kept ++ (place, tip) ∷ [])) (filter (λ (k : ℤ × Image). not (int_lt k.0 place)) (kept ++ (place, tip) ∷ []))) all.0
+    ∙ none_above kept place tip all.1
+
+abbrev kept_with : Images → List (ℤ × Image) → Images
+kept_with images kept = record { kept = kept; tip = images.tip; made = 0 }
+
+pub alone : (images : Images) (place : ℤ) → IsAbove images.kept place → forgotten (marked images place) place ≡ kept_once place images.tip
+alone images place above =
+    ap (kept_with images) (none_above images.kept place images.tip (recursion_from_All (λ (k : ℤ × Image). IsTrue (int_lt k.0 place)) images.kept above))
+
+-- ---- items that are applied, or not
+
+ill_is : (image : Image) (place : ℤ) (items : List Item) → first_ill image place items ≡ None → apply_all image items ≡ Ok (result_unwrap_or (apply_all image items) empty)
+ill_is image place [] none = refl
+ill_is image place (item ∷ items) none =
+    elim (apply image item) as (λ (r : Result Image Ill). ill_or place r (λ after. first_ill after (place +ℤ pos 1) items) ≡ None → and_then r (λ after. apply_all after items) ≡ Ok (result_unwrap_or (and_then r (λ after. apply_all after items)) empty)) [
+      | Ok after ↦ λ none. ill_is after (place +ℤ pos 1) items none
+      | Err cause ↦ λ none. absurd cc
+    ] none
+
+tip_back : (before : Core) (between : Images) → IsReady before → last_image before.images ≡ Some between.tip → between.tip ≡ before.images.tip
+tip_back before between r back = some_is between.tip before.images.tip (sym back ∙ ap (λ o. option_map (λ (k : ℤ × Image). k.1) o) r.last)
+
+pub item_refused : (before between after : Core) (end place : ℤ) (cause : Ill) (items : List Item) (image : Image) (reason : Reason) → IsReady before
+    → Some (place, cause) ≡ first_ill before.images.tip before.tip items
+    → Follows before.images between.images items (Some (place, cause)) → between.images.kept ≡ before.images.kept → between ≡ record before { images = between.images }
+    → reason ≡ ill_formed place cause → after ≡ refused between reason
+    → Settles before after (items_reason (first_ill before.images.tip before.tip items)) (moved_to before end image)
+item_refused before between after end place cause items image reason r is back kept same says leaves =
+    subst (λ o. Settles before after (items_reason o) (moved_to before end image)) is
+    (subst (λ (i : Images). (after ≡ refused (record before { images = i }) (ill_formed place cause)) × (i.kept ≡ before.images.kept) × (i.tip ≡ before.images.tip))
+    (sym (ap (λ (a : Core). a.images) leaves))
+    (leaves ∙ (ap (λ (c : Core). refused c reason) same ∙ ap (refused (record before { images = between.images })) says), kept, tip_back before between.images r back))
+
+pub items_taken : (before between after : Core) (end : ℤ) (items : List Item) → None ≡ first_ill before.images.tip before.tip items
+    → Follows before.images between.images items None → between ≡ record before { images = between.images }
+    → after ≡ moved_to between end between.images.tip
+    → Settles before after (items_reason (first_ill before.images.tip before.tip items)) (moved_to before end (result_unwrap_or (apply_all before.images.tip items) empty))
+items_taken before between after end items is meaning same leaves = subst (λ o. Settles before after (items_reason o) (moved_to before end (result_unwrap_or (apply_all before.images.tip items) empty))) is
+    (leaves ∙ (ap (λ (c : Core). moved_to c end between.images.tip) same ∙ ap (moved_to before end) (sym (ap (λ r. result_unwrap_or r empty) meaning))))
+
+pub still_above : (before between : Core) (end : ℤ) → between.images.kept ≡ before.images.kept → IsAbove before.images.kept end → IsAbove between.images.kept end
+still_above before between end same above = subst (λ (kept : List (ℤ × Image)). IsAbove kept end) (sym same) above
+
+-- ---- the place behind the items
+
+pub has_items : (batch : Batch) (bytes : List ℕ) → IsBatch batch bytes → 1 ≤ length batch.items
+has_items batch bytes is = is.fixed.first.second.second.second.second.some
+
+pub few_items : (batch : Batch) (bytes : List ℕ) → IsBatch batch bytes → length batch.items ≤ 10000
+few_items batch bytes is = is.fixed.first.second.second.second.second.few
+
+higher_by : (z : ℤ) (n : ℕ) → 1 ≤ n → int_lt z (z +ℤ pos n) ≡ true
+higher_by z n some = grind (arith, ints)
+
+pub ends_above : (e : Core) (batch : Batch) → IsReady e → e.leading ≡ None → batch.base ≡ e.committed → 1 ≤ length batch.items → IsAbove e.images.kept (end_of batch)
+ends_above e batch r none at some =
+    r.above (end_of batch) (ap (λ z. int_lt z (end_of batch)) (sym (at ∙ r.at_standby none)) ∙ higher_by batch.base (length batch.items) some)
+
+-- ---- the step
+
+is_some_reason : (reason : Reason) → Some reason ≡ None → ⊥
+is_some_reason reason is = cc
+
+pub leads_not : (leading : Option ℤ) → leading ≡ None → IsSome leading → ⊥
+leads_not leading none some = never (subst (λ (l : Option ℤ). IsSome l) none some)
+
+same_options : (e : Core) (read : Result Batch BatchFault) → (followed_by e read).options ≡ e.options
+same_options e (Ok batch) = refl
+same_options e (Err fault) = refl
+
+module _ (e : Core) (bytes : List ℕ) (d : IsDrained e) where
+  abbrev event : Event
+  event = events.Batch bytes
+
+  abbrev state_by : Result Batch BatchFault → State → State
+  state_by (Ok batch) s = replicas.followed s batch
+  state_by (Err fault) s = s
+
+  -- ---- the reasons
+
+  -- with the image at the tip of the state
+  abbrev seen_by : State → Image → Core
+  seen_by s image = record (core_of e s) { images = record e.images { tip = image } }
+
+  ill_so : (s : State) (batch : Batch) (o : Option (ℤ × Ill)) → unless_ill o (replicas.followed s batch) ≡ unless_refused (items_reason o) (replicas.followed s batch)
+  ill_so s batch None = refl
+  ill_so s batch (Some (place, cause)) = refl
+
+  read_so : (s : State) (read : Result Batch BatchFault) → and_then (batch_or read) (follow_batch s) ≡ unless_refused (read_batch_reason (seen_by s (image_of_tip s)) read) (state_by read s)
+  read_so s (Ok batch) =
+      row (not (int_eq batch.base (pos s.world.committed))) (gap (pos s.world.committed) batch.base) _ _ (replicas.followed s batch)
+      (row (is_far (end_of batch)) (exhausted (end_of batch)) _ _ (replicas.followed s batch) (ill_so s batch (first_ill (image_of_tip s) (pos (tip_of s)) batch.items)))
+  read_so s (Err fault) = refl
+
+  judged_so : (s : State) → follow s bytes ≡ unless_refused (follow_reason (seen_by s (image_of_tip s)) (batch_of bytes)) (state_by (batch_of bytes) s)
+  judged_so s = row (is_some s.world.leading) (already_leading s.world.leading) _ _ (state_by (batch_of bytes) s) (read_so s (batch_of bytes))
+
+  judged : (s : State) (writes : List Write) → IsEngine e s writes → outcome e.options (timed s event) event ≡ unless_refused (follow_reason e (batch_of bytes)) (state_by (batch_of bytes) s)
+  judged s writes k =
+      judged_so s
+      ∙ (ap (λ i. unless_refused (follow_reason (seen_by s i) (batch_of bytes)) (state_by (batch_of bytes) s)) (same_image e s writes k)
+      ∙ ap (λ (c : Core). unless_refused (follow_reason c (batch_of bytes)) (state_by (batch_of bytes) s)) (sym (is_core e s writes k)))
+
+  -- ---- the engine behind the batch
+
+  module _ (batch : Batch) (s : State) (writes : List Write) (k : IsEngine e s writes) (none : e.leading ≡ None) (at : batch.base ≡ e.committed) (is_near : is_far (end_of batch) ≡ false) (no_ill : first_ill e.images.tip e.tip batch.items ≡ None) where
+    abbrev after : State
+    after = replicas.followed s batch
+
+    abbrev image : Image
+    image = result_unwrap_or (apply_all e.images.tip batch.items) empty
+
+    abbrev longer : Log
+    longer = written s.world.log batch.items
+
+    standby : s.world.leading ≡ None
+    standby = sym k.leading ∙ none
+
+    none_ends : s.world.batch_ends ≡ []
+    none_ends = (k.is_state.at_standby standby).0
+
+    means : apply_all e.images.tip batch.items ≡ Ok image
+    means = ill_is e.images.tip e.tip batch.items no_ill
+
+    at_end : s.world.committed ≡ tip_of s
+    at_end = tip_only s.world.log s.world.committed s.world.batch_ends (tip_of s) k.is_state.ends none_ends
+
+    new_tip : tip_of s + length batch.items ≡ tip longer
+    new_tip = sym (tip_written s.world.log batch.items)
+
+    end_is : end_of batch ≡ pos (tip_of s + length batch.items)
+    end_is = ap (λ b. b +ℤ pos (length batch.items)) (at ∙ (k.committed ∙ ap pos at_end))
+
+    none_waits : writes ≡ []
+    none_waits = no_writes e.leading e.committed e.held writes none k.waits
+
+    is_low : tip_of s + length batch.items ≤ unsigned_abs PLACES_END
+    is_low = near (tip_of s + length batch.items) (ap is_far (sym end_is) ∙ is_near)
+
+    ends_so : Rise (tip_of s + length batch.items) s.world.batch_ends (tip longer)
+    ends_so = subst (λ ns. Rise (tip_of s + length batch.items) ns (tip longer)) (sym none_ends) new_tip
+
+    state_after : IsState (counted after) (filter (is_open_in after.world) (writes ++ []))
+    state_after = record {
+      started = (let low = k.is_state.started in let at = at_end in omega (arith, low, at));
+      ends = ends_so;
+      low = subst (λ n. n ≤ unsigned_abs PLACES_END) new_tip is_low;
+      at_standby = λ _. k.is_state.at_standby standby;
+      hears = λ some. absurd (leads_not s.world.leading standby some);
+      in_time = k.is_state.in_time;
+      natural = k.is_state.natural;
+      reached = (let P : Write → Type 0 = λ write. int_le write.need (pos (tip longer)) ≡ true in
+          subst (λ (ws : List Write). All P (filter (is_open_in after.world) (ws ++ []))) (sym none_waits) (All-nil P));
+    }
+
+    one_kept : (n : ℕ) → n ≡ tip longer → (pos n, image) ∷ [] ≡ kept_image longer n ∷ []
+    one_kept n is = ap (λ i. (pos n, i) ∷ []) (sym (seen_then s.world.log batch.items e.images.tip image k.present means) ∙ ap (seen_at longer) (sym is))
+
+    kept_so : (end_of batch, image) ∷ [] ≡ map (kept_image longer) ((tip_of s + length batch.items) ∷ s.world.batch_ends)
+    kept_so =
+        ap (λ z. (z, image) ∷ []) end_is
+        ∙ (one_kept (tip_of s + length batch.items) new_tip
+        ∙ ap (λ ns. map (kept_image longer) ((tip_of s + length batch.items) ∷ ns)) (sym none_ends))
+
+    accepted : IsAccepted e e.options s writes event (followed e batch) after
+    accepted = record {
+      stands = record {
+        tip = end_is ∙ ap pos new_tip;
+        committed = end_is;
+        leading = k.leading;
+        greatest = k.greatest;
+        count = ap next_number k.count;
+        time = k.time;
+        led = k.led;
+        heard_of = k.heard_of;
+        present = present_then s.world.log batch.items e.images.tip image k.present means;
+        kept = kept_so;
+        waits = waits_then e s writes d k e.leading (end_of batch) after.world k.leading end_is;
+        ordered = k.ordered;
+        is_state = state_after;
+      };
+      outputs =
+          ap (λ g. g ++ option_to_list e.refusal ++ answers e.leading (end_of batch) e.held) d.none_given
+          ∙ (ap (λ o. option_to_list o ++ answers e.leading (end_of batch) e.held) d.none_refused
+          ∙ answers_then e s writes d k e.leading (end_of batch) after.world k.leading end_is);
+    }
+
+  items_none : (o : Option (ℤ × Ill)) → items_reason o ≡ None → o ≡ None
+  items_none None is = refl
+  items_none (Some (place, cause)) is = absurd cc
+
+  allowed_by : (read : Result Batch BatchFault) → follow_reason e read ≡ None → (s : State) (writes : List Write) → IsEngine e s writes → IsAccepted e e.options s writes event (followed_by e read) (state_by read s)
+  allowed_by (Ok batch) none s writes k =
+      let one = none_row (is_some e.leading) (already_leading e.leading) _ none in
+      let two = none_row (not (int_eq batch.base e.committed)) (gap e.committed batch.base) _ one.1 in
+      let three = none_row (is_far (end_of batch)) (exhausted (end_of batch)) _ two.1 in
+      accepted batch s writes k (none_is e.leading one.0) (same_id batch.base e.committed (not_false (int_eq batch.base e.committed) two.0)) three.0 (items_none (first_ill e.images.tip e.tip batch.items) three.1)
+  allowed_by (Err fault) none s writes k =
+      let one = none_row (is_some e.leading) (already_leading e.leading) _ none in absurd (is_some_reason (bad_batch fault) one.1)
+
+pub batch_step : (e between after : Core) (bytes : List ℕ) → left e ≡ []
+    → Settles e between (follow_reason e (batch_of bytes)) (followed_by e (batch_of bytes)) → after ≡ engines.counted between → IsStep e after (events.Batch bytes)
+batch_step e between stepped bytes none settled is =
+    let d = drained e none in
+    subst (λ (a : Core). IsStep e a (events.Batch bytes)) (sym is) (settled_step e (events.Batch bytes) d between (follow_reason e (batch_of bytes)) (followed_by e (batch_of bytes)) (state_by e bytes d (batch_of bytes)) (same_options e (batch_of bytes)) settled
+    (judged e bytes d) (allowed_by e bytes d (batch_of bytes)))

@@ -1,0 +1,55 @@
+-- The committed image is given out.
+use Rattle.std.proofs.Common.{◌≡◌, ◌∙◌, sym, subst, ℤ, pos, List, [], ◌∷◌, ◌++◌, map, refl, ap}
+use Rattle.std.specs.Prelude.{Some, Result, Ok, Err, OnOk, unwrap_or, find, option_to_list}
+use Rattle.std.specs.Ordering.{int_eq}
+use Rattle.kr_calls.specs.declared.events.Event.TheVariants as events
+use Rattle.kr_calls.specs.declared.events.Output.TheVariants as given
+use Rattle.kr_defs.specs.Image.{Image, empty}
+use Rattle.kr_snapshot.specs.Written.{image_text}
+use Rattle.kr_store.specs.Images.{kept_at}
+use Rattle.kr_engine.specs.declared.writes.Write.{Write}
+use Rattle.kr_engine.specs.Engine as engines
+use Rattle.kr_engine.specs.Engine.{Core, IsEngine, IsStep, imaged, kept_image, left}
+use Rattle.kr_engine.specs.Outputs.{answers, answers_in}
+use Rattle.kr_engine.specs.World.{State, image_of_end}
+use Rattle.kr_engine.proofs.Happening.{outputs_accepted, stands_accepted}
+use Rattle.kr_engine.proofs.LossSteps.{first_found}
+use Rattle.kr_engine.proofs.Queues.{IsDrained, drained}
+use Rattle.kr_engine.proofs.Refusals.{passes}
+use Rattle.kr_engine.proofs.Standing.{answers_then}
+
+module _ (e : Core) (d : IsDrained e) where
+  abbrev after : Core
+  after = engines.counted (imaged e)
+
+  module _ (s : State) (writes : List Write) (k : IsEngine e s writes) where
+    committed_found : kept_at e.images e.committed ≡ Some (image_of_end s)
+    committed_found =
+        ap (kept_at e.images) k.committed
+        ∙ (ap (λ (kept : List (ℤ × Image)). kept_at (record { kept = kept; tip = e.images.tip; made = e.images.made }) (pos s.world.committed)) k.kept
+        ∙ first_found s.world.log s.world.committed (find (λ (i : ℤ × Image). int_eq i.0 (pos s.world.committed)) (map (kept_image s.world.log) s.world.batch_ends)))
+
+    left_then : left after ≡ given.Image (image_text (pos s.world.committed) (image_of_end s)) ∷ answers_in s.world (writes ++ [])
+    left_then =
+        ap (λ g. (g ++ given.Image (image_text e.committed (unwrap_or (kept_at e.images e.committed) empty)) ∷ []) ++ option_to_list e.refusal ++ answers e.leading e.committed e.held) d.none_given
+        ∙ (ap (λ o. given.Image (image_text e.committed (unwrap_or o empty)) ∷ option_to_list e.refusal ++ answers e.leading e.committed e.held) committed_found
+        ∙ (ap (λ c. given.Image (image_text c (image_of_end s)) ∷ option_to_list e.refusal ++ answers e.leading e.committed e.held) k.committed
+        ∙ (ap (λ o. given.Image (image_text (pos s.world.committed) (image_of_end s)) ∷ option_to_list o ++ answers e.leading e.committed e.held) d.none_refused
+        ∙ ap (λ due. given.Image (image_text (pos s.world.committed) (image_of_end s)) ∷ due) (answers_then e s writes d k e.leading e.committed s.world k.leading k.committed))))
+
+  step : IsStep e after events.Image
+  step = record {
+    options = refl;
+    stands = λ s writes k. stands_accepted after e.options s writes events.Image s refl (passes e events.Image after.given e.refusal d s writes k);
+    outputs = λ s writes k. left_then s writes k ∙ sym (outputs_accepted e e.options s writes events.Image s refl);
+  }
+
+pub image_step : (e : Core) → left e ≡ [] → IsStep e (engines.counted (imaged e)) events.Image
+image_step e none = step e (drained e none)
+
+pub image_so : (e after : Core) → left e ≡ [] → after ≡ engines.counted (imaged e) → IsStep e after events.Image
+image_so e stepped none is = subst (λ (a : Core). IsStep e a events.Image) (sym is) (image_step e none)
+
+pub image_ok : {X E : Type 0} (e after : Core) (r : Result X E) → left e ≡ [] → OnOk r (after ≡ engines.counted (imaged e)) → OnOk r (IsStep e after events.Image)
+image_ok e stepped (Ok x) none is = image_so e stepped none is
+image_ok e stepped (Err fault) none is = tt

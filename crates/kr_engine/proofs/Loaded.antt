@@ -1,0 +1,151 @@
+-- What a committed image in place of batches makes of an engine.
+use Rattle.std.proofs.Common.{◌≡◌, ◌∙◌, sym, subst, ℕ, ℤ, pos, negsuc, true, false, zero, suc, ◌-◌, ◌≤◌, List, [], ◌∷◌, ◌++◌, take, refl, ap, arith}
+use Rattle.std.proofs.lemmas.List.Elements.{All-nil}
+use Rattle.std.specs.Prelude.{None, Result, Ok, Err, filter, int_lt, int_le, is_some, option_to_list, unsigned_abs, All}
+use Rattle.kr_calls.specs.declared.events.Event.{Event}
+use Rattle.kr_calls.specs.declared.events.Event.TheVariants as events
+use Rattle.kr_defs.specs.declared.limits.TheConstants.{PLACES_END}
+use Rattle.kr_defs.specs.Guard.{and_then}
+use Rattle.kr_defs.specs.Image.{Image}
+use Rattle.kr_defs.specs.declared.record.Item.{Item}
+use Rattle.kr_defs.specs.Log.{Log, apply_all, image_at, tip}
+use Rattle.kr_defs.proofs.Tests.{none_is}
+use Rattle.kr_snapshot.specs.declared.fault.ImageFault.{ImageFault}
+use Rattle.kr_snapshot.specs.Reading.{image_of}
+use Rattle.kr_engine.specs.declared.writes.Write.{Write}
+use Rattle.kr_engine.specs.Engine as engines
+use Rattle.kr_engine.specs.Engine.{Core, IsEngine, IsState, IsStep, Rise, kept_image, left}
+use Rattle.kr_engine.specs.Events.{counted, next_number, outcome, timed}
+use Rattle.kr_engine.specs.Outputs.{answers, is_open_in}
+use Rattle.kr_engine.specs.Reasons.{already_leading, exhausted, older_image}
+use Rattle.kr_engine.specs.Replicas.{image_or, load, load_image, loaded}
+use Rattle.kr_engine.specs.Standby.{Settles, load_reason, loaded_by, moved_to, read_image_reason}
+use Rattle.kr_engine.specs.World.{State, is_far, seen_at}
+use Rattle.kr_engine.proofs.Begun.{near, no_writes, none_row}
+use Rattle.kr_engine.proofs.Followed.{leads_not}
+use Rattle.kr_engine.proofs.Queues.{IsDrained, drained}
+use Rattle.kr_engine.proofs.Settled.{settled_step}
+use Rattle.kr_engine.proofs.Standing.{answers_then, waits_then}
+use Rattle.kr_engine.proofs.Stepping.{IsAccepted, core_of, is_core, row, unless_refused}
+
+is_natural : (z : ℤ) (n : ℕ) → int_lt z (pos n) ≡ false → z ≡ pos (unsigned_abs z)
+is_natural (pos m) n test = refl
+is_natural (negsuc m) n test = absurd cc
+
+-- the log of an image alone
+abbrev alone : ℕ → Image → Log
+alone offset image = record { offset = offset; image = image; items = [] }
+
+abbrev no_items : List Item
+no_items = []
+
+take_nil : (n : ℕ) → take n no_items ≡ no_items
+take_nil zero = refl
+take_nil (suc n) = refl
+
+at_start : (offset : ℕ) (image : Image) → image_at (alone offset image) (tip (alone offset image)) ≡ Ok image
+unfolding image_at
+at_start offset image = ap (λ (items : List Item). apply_all image items) (take_nil (tip (alone offset image) - offset))
+
+module _ (e : Core) (bytes : List ℕ) (d : IsDrained e) where
+  abbrev event : Event
+  event = events.Load bytes
+
+  abbrev state_by : Result (ℤ × Image) ImageFault → State → State
+  state_by (Ok (offset, image)) s = loaded s (unsigned_abs offset) image
+  state_by (Err fault) s = s
+
+  -- ---- the reasons
+
+  read_so : (s : State) (read : Result (ℤ × Image) ImageFault) → and_then (image_or read) (load_image s) ≡ unless_refused (read_image_reason (core_of e s) read) (state_by read s)
+  read_so s (Ok (offset, image)) =
+      row (int_lt offset (pos s.world.committed)) (older_image offset (pos s.world.committed)) _ _ (loaded s (unsigned_abs offset) image)
+      (row (is_far offset) (exhausted offset) None (Ok (loaded s (unsigned_abs offset) image)) (loaded s (unsigned_abs offset) image) refl)
+  read_so s (Err fault) = refl
+
+  judged_so : (s : State) → load s bytes ≡ unless_refused (load_reason (core_of e s) (image_of bytes)) (state_by (image_of bytes) s)
+  judged_so s = row (is_some s.world.leading) (already_leading s.world.leading) _ _ (state_by (image_of bytes) s) (read_so s (image_of bytes))
+
+  judged : (s : State) (writes : List Write) → IsEngine e s writes → outcome e.options (timed s event) event ≡ unless_refused (load_reason e (image_of bytes)) (state_by (image_of bytes) s)
+  judged s writes k = judged_so s ∙ ap (λ (c : Core). unless_refused (load_reason c (image_of bytes)) (state_by (image_of bytes) s)) (sym (is_core e s writes k))
+
+  -- ---- the engine of the image
+
+  module _ (offset : ℤ) (image : Image) (s : State) (writes : List Write) (k : IsEngine e s writes) (none : e.leading ≡ None) (late : int_lt offset e.committed ≡ false) (is_near : is_far offset ≡ false) where
+    abbrev n : ℕ
+    n = unsigned_abs offset
+
+    abbrev after : State
+    after = loaded s n image
+
+    is : offset ≡ pos n
+    is = is_natural offset s.world.committed (sym (ap (int_lt offset) k.committed) ∙ late)
+
+    standby : s.world.leading ≡ None
+    standby = sym k.leading ∙ none
+
+    none_waits : writes ≡ []
+    none_waits = no_writes e.leading e.committed e.held writes none k.waits
+
+    new_tip : n ≡ tip (alone n image)
+    new_tip = omega arith
+
+    seen : seen_at (alone n image) n ≡ image
+    unfolding image_at
+    seen = ap (λ r. Rattle.std.specs.Result.result_unwrap_or r Rattle.kr_defs.specs.Image.empty) (ap (image_at (alone n image)) new_tip ∙ at_start n image)
+
+    state_after : IsState (counted after) (filter (is_open_in after.world) (writes ++ []))
+    state_after = record {
+      started = omega arith;
+      ends = new_tip;
+      low = subst (λ m. m ≤ unsigned_abs PLACES_END) new_tip (near n (ap is_far (sym is) ∙ is_near));
+      at_standby = λ _. (refl, (k.is_state.at_standby standby).1);
+      hears = λ some. absurd (leads_not s.world.leading standby some);
+      in_time = k.is_state.in_time;
+      natural = k.is_state.natural;
+      reached = (let P : Write → Type 0 = λ write. int_le write.need (pos (tip (alone n image))) ≡ true in
+          subst (λ (ws : List Write). All P (filter (is_open_in after.world) (ws ++ []))) (sym none_waits) (All-nil P));
+    }
+
+    accepted : IsAccepted e e.options s writes event (moved_to e offset image) after
+    accepted = record {
+      stands = record {
+        tip = is ∙ ap pos new_tip;
+        committed = is;
+        leading = k.leading;
+        greatest = k.greatest;
+        count = ap next_number k.count;
+        time = k.time;
+        led = k.led;
+        heard_of = k.heard_of;
+        present = at_start n image;
+        kept = ap (λ z. (z, image) ∷ []) is ∙ ap (λ i. (pos n, i) ∷ []) (sym seen);
+        waits = waits_then e s writes d k e.leading offset after.world k.leading is;
+        ordered = k.ordered;
+        is_state = state_after;
+      };
+      outputs =
+          ap (λ g. g ++ option_to_list e.refusal ++ answers e.leading offset e.held) d.none_given
+          ∙ (ap (λ o. option_to_list o ++ answers e.leading offset e.held) d.none_refused
+          ∙ answers_then e s writes d k e.leading offset after.world k.leading is);
+    }
+
+  allowed_by : (read : Result (ℤ × Image) ImageFault) → load_reason e read ≡ None → (s : State) (writes : List Write) → IsEngine e s writes → IsAccepted e e.options s writes event (loaded_by e read) (state_by read s)
+  allowed_by (Ok (offset, image)) none s writes k =
+      let one = none_row (is_some e.leading) (already_leading e.leading) _ none in
+      let two = none_row (int_lt offset e.committed) (older_image offset e.committed) _ one.1 in
+      let three = none_row (is_far offset) (exhausted offset) None two.1 in
+      accepted offset image s writes k (none_is e.leading one.0) two.0 three.0
+  allowed_by (Err fault) none s writes k =
+      let one = none_row (is_some e.leading) (already_leading e.leading) _ none in absurd cc
+
+same_options : (e : Core) (read : Result (ℤ × Image) ImageFault) → (loaded_by e read).options ≡ e.options
+same_options e (Ok (offset, image)) = refl
+same_options e (Err fault) = refl
+
+pub load_step : (e between after : Core) (bytes : List ℕ) → left e ≡ []
+    → Settles e between (load_reason e (image_of bytes)) (loaded_by e (image_of bytes)) → after ≡ engines.counted between → IsStep e after (events.Load bytes)
+load_step e between stepped bytes none settled is =
+    let d = drained e none in
+    subst (λ (a : Core). IsStep e a (events.Load bytes)) (sym is) (settled_step e (events.Load bytes) d between (load_reason e (image_of bytes)) (loaded_by e (image_of bytes)) (state_by e bytes d (image_of bytes)) (same_options e (image_of bytes)) settled
+    (judged e bytes d) (allowed_by e bytes d (image_of bytes)))

@@ -1,0 +1,190 @@
+-- What a lost leadership makes of an engine.
+use Rattle.std.proofs.Common.{◌≡◌, ◌∙◌, sym, subst, ℕ, ℤ, pos, Bool, true, false, cond, ◌≤◌, ◌-◌, List, [], ◌∷◌, ◌++◌, take, drop, map, refl, ap, arith}
+use Rattle.std.proofs.lemmas.List.{take-append-drop}
+use Rattle.std.proofs.lemmas.List.Elements.{All-nil}
+use Rattle.std.specs.Prelude.{Option, Some, None, Result, Ok, Err, not, filter, find, int_lt, unwrap_or, option_to_list, int_le, All}
+use Rattle.std.specs.Option.{option_map}
+use Rattle.std.specs.Ordering.{int_eq}
+use Rattle.std.specs.Result.{result_unwrap_or}
+use Rattle.kr_calls.specs.declared.events.Event.{Event}
+use Rattle.kr_calls.specs.declared.events.Reason.{Reason}
+use Rattle.kr_calls.specs.declared.events.Event.TheVariants as events
+use Rattle.kr_defs.specs.declared.ill.Ill.{Ill}
+use Rattle.kr_defs.specs.Guard.{and_then}
+use Rattle.kr_defs.specs.Image.{Image, empty}
+use Rattle.kr_defs.specs.Log.{Log, apply_all, image_at, tip}
+use Rattle.kr_defs.proofs.IdLists.{id_itself}
+use Rattle.kr_store.specs.Images.{Images, reverted}
+use Rattle.kr_engine.specs.declared.writes.Write.{Write}
+use Rattle.kr_engine.specs.Engine as engines
+use Rattle.kr_engine.specs.Engine.{Core, IsEngine, IsState, IsStep, Rise, kept_image, left, loss_reason, refused_or}
+use Rattle.kr_engine.specs.Events.{counted, next_number}
+use Rattle.kr_engine.specs.Leaderships.{cut, ended, leads_in, lose}
+use Rattle.kr_engine.specs.Outputs.{answers, answers_in, is_open, is_open_in}
+use Rattle.kr_engine.specs.Reasons.{not_leading}
+use Rattle.kr_engine.specs.World.{State, seen_at, tip_of}
+use Rattle.kr_engine.proofs.CommitSteps.{same_leading}
+use Rattle.kr_engine.proofs.Happening.{outputs_accepted, refuses, stands_accepted}
+use Rattle.kr_engine.proofs.Logs.{apply_append, at_tip, cut_below, cut_tip}
+use Rattle.kr_engine.proofs.Places.{is_below, isnt_below}
+use Rattle.kr_engine.proofs.Queues.{IsDrained, drained, never}
+use Rattle.kr_engine.proofs.Refusals.{refused_step}
+use Rattle.kr_engine.proofs.Standing.{answers_then, waits_then}
+
+-- ---- the image at the end
+
+seen_first : (r : Result Image Ill) (next : Image → Result Image Ill) (after : Image) → and_then r next ≡ Ok after → r ≡ Ok (result_unwrap_or r empty)
+seen_first (Ok image) next after is = refl
+seen_first (Err cause) next after is = absurd cc
+
+-- each place below the tip has an image
+pub seen_below : (log : Log) (place : ℕ) (image : Image) → image_at log (tip log) ≡ Ok image → image_at log place ≡ Ok (seen_at log place)
+unfolding image_at
+seen_below log place image is =
+    let n = place - log.offset in
+    seen_first (apply_all log.image (take n log.items)) (λ i. apply_all i (drop n log.items)) image
+    (sym (apply_append (take n log.items) (drop n log.items) log.image)
+    ∙ (ap (apply_all log.image) (take-append-drop n log.items) ∙ (sym (at_tip log) ∙ is)))
+
+-- ---- what is kept
+
+-- an image under a place
+abbrev pub under : ℕ → Image → ℤ × Image
+under place image = (pos place, image)
+
+-- the images after a revert
+abbrev gone_back : List (ℤ × Image) → Image → Images
+gone_back kept image = record { kept = kept; tip = image; made = 0 }
+
+abbrev tip_in : Images → Result Image Ill
+tip_in images = Ok images.tip
+
+pub not_higher : (from : ℕ) (ns : List ℕ) (to : ℕ) → Rise from ns to → from ≤ to
+not_higher from [] to rise = omega (arith, rise)
+not_higher from (n ∷ ns) to rise = let up = rise.0 in let rest = not_higher n ns to rise.1 in omega (arith, up, rest)
+
+none_left : (log : Log) (least from : ℕ) (ns : List ℕ) (to : ℕ) → least ≤ from → Rise from ns to
+    → filter (λ (k : ℤ × Image). not (int_lt (pos least) k.0)) (map (kept_image log) ns) ≡ []
+none_left log least from [] to low rise = refl
+none_left log least from (n ∷ ns) to low rise =
+    let rest = filter (λ (k : ℤ × Image). not (int_lt (pos least) k.0)) (map (kept_image log) ns) in
+    ap (λ b. cond (not b) (kept_image log n ∷ rest) rest) (is_below least n (let up = rise.0 in omega (arith, up, low)))
+    ∙ none_left log least n ns to (let up = rise.0 in omega (arith, up, low)) rise.1
+
+isnt_itself : (n : ℕ) → int_lt (pos n) (pos n) ≡ false
+isnt_itself n = isnt_below n n (omega arith)
+
+-- the images above the end are dropped
+pub first_left : (log : Log) (from : ℕ) (ns : List ℕ) (to : ℕ) → Rise from ns to
+    → filter (λ (k : ℤ × Image). not (int_lt (pos from) k.0)) (map (kept_image log) (from ∷ ns)) ≡ kept_image log from ∷ []
+first_left log from ns to rise =
+    let rest = filter (λ (k : ℤ × Image). not (int_lt (pos from) k.0)) (map (kept_image log) ns) in
+    ap (λ b. cond (not b) (kept_image log from ∷ rest) rest) (isnt_itself from)
+    ∙ ap (λ rest. kept_image log from ∷ rest) (none_left log from from ns to (omega arith) rise)
+
+-- and that of the end is found
+pub first_found : (log : Log) (from : ℕ) (rest : Option (ℤ × Image)) → option_map (λ (k : ℤ × Image). k.1) (cond (int_eq (pos from) (pos from)) (Some (kept_image log from)) rest) ≡ Some (seen_at log from)
+first_found log from rest = ap (λ b. option_map (λ (k : ℤ × Image). k.1) (cond b (Some (kept_image log from)) rest)) (id_itself (pos from))
+
+pub none_open : (end : ℤ) (writes : List Write) → filter (is_open None end) writes ≡ []
+none_open end [] = refl
+none_open end (write ∷ writes) = none_open end writes
+
+-- ---- the step
+
+module _ (e : Core) (epoch : ℤ) (d : IsDrained e) where
+  abbrev event : Event
+  event = events.Lost epoch
+
+  abbrev after : Core
+  after = engines.counted (engines.ended e)
+
+  abbrev judged : Bool → State → Result State Reason
+  judged b s = cond (not b) (Err (not_leading epoch s.world.leading)) (Ok (ended s))
+
+  judged_so : (b : Bool) → leads_in e.leading epoch ≡ b → (s : State) (writes : List Write) → IsEngine e s writes → lose s epoch ≡ judged b s
+  judged_so b leads s writes k = ap (λ b. judged b s) (same_leading e s writes k epoch ∙ leads)
+
+  module _ (s : State) (writes : List Write) (k : IsEngine e s writes) where
+    abbrev end : ℕ
+    end = s.world.committed
+
+    abbrev back : Images → Images
+    back images = unwrap_or (reverted images (pos end)) images
+
+    abbrev at_end : (kept : List (ℤ × Image)) → Images
+    at_end kept = record { kept = kept; tip = e.images.tip; made = e.images.made }
+
+    below : end ≤ tip_of s
+    below = not_higher end s.world.batch_ends (tip_of s) k.is_state.ends
+
+    new_tip : tip (cut s.world.log end) ≡ end
+    new_tip = cut_tip s.world.log end k.is_state.started below
+
+    reverted_so : unwrap_or (reverted e.images e.committed) e.images ≡ gone_back (kept_image s.world.log end ∷ []) (seen_at s.world.log end)
+    reverted_so =
+        ap (λ c. unwrap_or (reverted e.images c) e.images) k.committed
+        ∙ (ap (λ (kept : List (ℤ × Image)). back (at_end kept)) k.kept
+        ∙ (ap (λ (o : Option Image). unwrap_or (option_map (gone_back (filter (λ (k : ℤ × Image). not (int_lt (pos end) k.0)) (map (kept_image s.world.log) (end ∷ s.world.batch_ends)))) o) (at_end (map (kept_image s.world.log) (end ∷ s.world.batch_ends))))
+        (first_found s.world.log end (find (λ (k : ℤ × Image). int_eq k.0 (pos end)) (map (kept_image s.world.log) s.world.batch_ends)))
+        ∙ ap (λ (kept : List (ℤ × Image)). gone_back kept (seen_at s.world.log end)) (first_left s.world.log end s.world.batch_ends (tip_of s) k.is_state.ends)))
+
+    same_seen : seen_at (cut s.world.log end) end ≡ seen_at s.world.log end
+    same_seen = ap (λ r. result_unwrap_or r empty) (cut_below s.world.log end end (omega arith))
+
+    present : image_at (cut s.world.log end) (tip (cut s.world.log end)) ≡ Ok (seen_at s.world.log end)
+    present =
+        ap (image_at (cut s.world.log end)) new_tip
+        ∙ (cut_below s.world.log end end (omega arith) ∙ seen_below s.world.log end e.images.tip k.present)
+
+    state : IsState (counted (ended s)) (filter (is_open_in (ended s).world) (writes ++ []))
+    state = record {
+      started = k.is_state.started;
+      ends = sym new_tip;
+      low = (let low = k.is_state.low in let under = below in let at = new_tip in omega (arith, low, under, at));
+      at_standby = λ none. (refl, refl);
+      hears = λ some. absurd (never some);
+      in_time = refl;
+      natural = k.is_state.natural;
+      reached = (let P : Write → Type 0 = λ write. int_le write.need (pos (tip_of (ended s))) ≡ true in subst (All P) (sym (none_open (pos end) (writes ++ []))) (All-nil P));
+    }
+
+    stands : IsEngine after (counted (ended s)) (filter (is_open_in (ended s).world) (writes ++ []))
+    stands = record {
+      tip = k.committed ∙ ap pos (sym new_tip);
+      committed = k.committed;
+      leading = refl;
+      greatest = k.greatest;
+      count = ap next_number k.count;
+      time = k.time;
+      led = k.led;
+      heard_of = refl;
+      present = present ∙ ap tip_in (sym reverted_so);
+      kept = ap (λ (images : Images). images.kept) reverted_so ∙ ap (λ (image : Image). under end image ∷ []) (sym same_seen);
+      waits = waits_then e s writes d k None e.committed (ended s).world refl k.committed;
+      ordered = k.ordered;
+      is_state = state;
+    }
+
+    left_then : left after ≡ answers_in (ended s).world (writes ++ [])
+    left_then =
+        ap (λ g. g ++ option_to_list e.refusal ++ answers None e.committed e.held) d.none_given
+        ∙ (ap (λ o. option_to_list o ++ answers None e.committed e.held) d.none_refused
+        ∙ answers_then e s writes d k None e.committed (ended s).world refl k.committed)
+
+  accepted_step : leads_in e.leading epoch ≡ true → IsStep e after event
+  accepted_step leads = record {
+    options = refl;
+    stands = λ s writes k. stands_accepted after e.options s writes event (ended s) (judged_so true leads s writes k) (stands s writes k);
+    outputs = λ s writes k. left_then s writes k ∙ sym (outputs_accepted e e.options s writes event (ended s) (judged_so true leads s writes k));
+  }
+
+  same_reason : (s : State) (writes : List Write) → IsEngine e s writes → refuses (not_leading epoch s.world.leading) ≡ refuses (not_leading epoch e.leading)
+  same_reason s writes k = ap (λ leading. refuses (not_leading epoch leading)) (sym k.leading)
+
+  step_by : (b : Bool) → leads_in e.leading epoch ≡ b → IsStep e (engines.counted (refused_or e (cond (not b) (Some (not_leading epoch e.leading)) None) (engines.ended e))) event
+  step_by false leads = refused_step e event (not_leading epoch e.leading) d (λ s writes k. judged_so false leads s writes k ∙ same_reason s writes k)
+  step_by true leads = accepted_step leads
+
+pub loss_step : (e : Core) (epoch : ℤ) → left e ≡ [] → IsStep e (engines.counted (refused_or e (loss_reason e epoch) (engines.ended e))) (events.Lost epoch)
+loss_step e epoch none = step_by e epoch (drained e none) (leads_in e.leading epoch) refl

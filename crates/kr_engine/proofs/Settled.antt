@@ -1,0 +1,63 @@
+-- An event that is refused once images have been looked through, or accepted.
+use Rattle.std.proofs.Common.{◌≡◌, ◌∙◌, sym, subst, List, refl, ap}
+use Rattle.std.specs.Prelude.{Option, Some, None, Result, Ok, Err}
+use Rattle.kr_calls.specs.declared.events.Event.{Event}
+use Rattle.kr_calls.specs.declared.events.Reason.{Reason}
+use Rattle.kr_defs.specs.declared.ill.Ill.{Ill}
+use Rattle.kr_defs.specs.Image.{Image}
+use Rattle.kr_store.specs.Images.{Images}
+use Rattle.kr_engine.specs.declared.writes.Write.{Write}
+use Rattle.kr_engine.specs.Engine as engines
+use Rattle.kr_engine.specs.Engine.{Core, IsEngine, IsStep}
+use Rattle.kr_engine.specs.Events.{outcome, timed}
+use Rattle.kr_engine.specs.Standby.{Settles}
+use Rattle.kr_engine.specs.World.{State}
+use Rattle.kr_engine.proofs.Queues.{IsDrained}
+use Rattle.kr_engine.proofs.Refusals.{refused_step}
+use Rattle.kr_engine.proofs.Stepping.{IsAccepted, step_by, unless_refused}
+
+abbrev ok : Image → Result Image Ill
+ok image = Ok image
+
+-- images that differ in the calls since the last kept epoch alone
+pub same_images : (e : Core) (images : Images) (s : State) (writes : List Write) → images.kept ≡ e.images.kept → images.tip ≡ e.images.tip → IsEngine e s writes → IsEngine (record e { images = images }) s writes
+same_images e images s writes kept tip k = record {
+  tip = k.tip;
+  committed = k.committed;
+  leading = k.leading;
+  greatest = k.greatest;
+  count = k.count;
+  time = k.time;
+  led = k.led;
+  heard_of = k.heard_of;
+  present = k.present ∙ ap ok (sym tip);
+  kept = kept ∙ k.kept;
+  waits = k.waits;
+  ordered = k.ordered;
+  is_state = k.is_state;
+}
+
+same_drained : (e : Core) (images : Images) → IsDrained e → IsDrained (record e { images = images })
+same_drained e images d = record { none_given = d.none_given; none_refused = d.none_refused; none_due = d.none_due; all_wait = d.all_wait }
+
+module _ (e : Core) (event : Event) (d : IsDrained e) where
+  refused_so : (images : Images) (reason : Reason) → images.kept ≡ e.images.kept → images.tip ≡ e.images.tip
+      → ((s : State) (writes : List Write) → IsEngine e s writes → outcome e.options (timed s event) event ≡ Err reason)
+      → IsStep e (engines.counted (engines.refused (record (engines.timed e event) { images = images }) reason)) event
+  refused_so images reason kept tip judged =
+      let other : Core = record e { images = images } in
+      let step = refused_step other event reason (same_drained e images d) (λ s writes k. judged s writes (same_images other e.images s writes (sym kept) (sym tip) k)) in record {
+        options = refl;
+        stands = λ s writes k. step.stands s writes (same_images e images s writes kept tip k);
+        outputs = λ s writes k. step.outputs s writes (same_images e images s writes kept tip k);
+      }
+
+  pub settled_step : (after : Core) (reason : Option Reason) (core : Core) (state : State → State) → core.options ≡ e.options
+      → Settles (engines.timed e event) after reason core
+      → ((s : State) (writes : List Write) → IsEngine e s writes → outcome e.options (timed s event) event ≡ unless_refused reason (state s))
+      → (reason ≡ None → (s : State) (writes : List Write) → IsEngine e s writes → IsAccepted e e.options s writes event core (state s))
+      → IsStep e (engines.counted after) event
+  settled_step after None core state same is judged accepted =
+      subst (λ (a : Core). IsStep e (engines.counted a) event) (sym is) (step_by e event d core same state None judged accepted)
+  settled_step after (Some reason) core state same settled judged accepted =
+      subst (λ (a : Core). IsStep e (engines.counted a) event) (sym settled.0) (refused_so after.images reason settled.1 settled.2 judged)

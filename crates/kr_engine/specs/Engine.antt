@@ -1,0 +1,201 @@
+-- What a contract sees of an engine, and for which past events it stands.
+use Rattle.std.specs.Prelude.{◌≡◌, ◌≤◌, ◌<◌, ℕ, ℤ, pos, negsuc, ◌+ℤ◌, int_le, int_lt, unsigned_abs, List, [], ◌∷◌, ◌++◌, All, map, filter, option_to_list, Bool, true, not, ◌&&◌, ◌||◌, IsTrue, IsSome, Option, Some, None, Ok, is_some, unwrap_or, if◌then◌else◌}
+use Rattle.std.specs.List.{list_all}
+use Rattle.std.specs.Ordering.{int_eq}
+use Rattle.kr_calls.specs.declared.events.Event.{Event}
+use Rattle.kr_calls.specs.declared.events.Output.{Output}
+use Rattle.kr_calls.specs.declared.events.Reason.{Reason}
+use Rattle.kr_calls.specs.declared.events.Output.TheVariants as given
+use Rattle.kr_defs.specs.declared.basis.Basis.{Basis}
+use Rattle.kr_defs.specs.declared.limits.TheConstants.{PLACES_END}
+use Rattle.kr_defs.specs.declared.options.Options.{Options}
+use Rattle.kr_defs.specs.Brokers.{stopping, unfenced}
+use Rattle.kr_defs.specs.Heartbeats as hearing
+use Rattle.kr_defs.specs.Heartbeats.{Heartbeats}
+use Rattle.kr_defs.specs.Image.{Image, empty}
+use Rattle.kr_defs.specs.Log.{Log, image_at}
+use Rattle.kr_safety.specs.HearingLaws.{HearsOf}
+use Rattle.kr_snapshot.specs.Written.{image_text}
+use Rattle.kr_store.specs.Images.{Images, forgotten, kept_at, marked, no_images, reverted}
+use Rattle.kr_engine.specs.declared.writes.Write.{Write}
+use Rattle.kr_engine.specs.Events.{happens, later, next_number}
+use Rattle.kr_engine.specs.Leaderships.{leads_in}
+use Rattle.kr_engine.specs.Outputs.{answers, is_open, outputs_of, waiting_after}
+use Rattle.kr_engine.specs.Reasons.{already_leading, bad_commit, bad_next, exhausted, not_leading, old_epoch}
+use Rattle.kr_engine.specs.World.{State, image_of_tip, is_far, seen_at, tip_of}
+
+pub record Core : Type 0 where
+  pub options : Options
+  -- the image at the tip; kept are those at the committed end and at the ends of the batches above it
+  pub images : Images
+  pub heard : Heartbeats
+  pub tip : ℤ
+  pub committed : ℤ
+  pub leading : Option ℤ
+  pub greatest : ℤ
+  pub count : ℕ
+  pub time : ℤ
+  pub led : ℤ
+  -- the writes that wait, behind those whose replies are due
+  pub held : List Write
+  -- of the last event what isn't handed out yet, but for due replies
+  pub given : List Output
+  pub refusal : Option Output
+
+-- the outputs of the last event that aren't handed out yet
+abbrev pub left : Core → List Output
+left e = e.given ++ option_to_list e.refusal ++ answers e.leading e.committed e.held
+
+-- a copy of what decisions rest on besides the image
+abbrev pub basis_of : Core → Basis
+basis_of e = record { time = e.time; led = e.led; contacts = e.heard.contacts; stopping = e.heard.stopping }
+
+-- ---- what is true of the state that past events lead to
+
+-- places that rise from one to another
+abbrev pub Rise : ℕ → List ℕ → ℕ → Type 0
+Rise from [] to = from ≡ to
+Rise from (n ∷ ns) to = (from < n) × Rise n ns to
+
+-- no write needs more than a later one, and all are of one leadership
+abbrev pub are_in_order : List Write → Bool
+are_in_order [] = true
+are_in_order (write ∷ writes) =
+    list_all (λ later. int_eq write.epoch later.epoch && int_le write.need later.need) writes && are_in_order writes
+
+pub record IsState (s : State) (writes : List Write) : Type 0 where
+  pub started : s.world.log.offset ≤ s.world.committed
+  -- the last batch ends at the tip
+  pub ends : Rise s.world.committed s.world.batch_ends (tip_of s)
+  pub low : tip_of s ≤ unsigned_abs PLACES_END
+  pub at_standby : s.world.leading ≡ None → (s.world.batch_ends ≡ []) × (hearing.heard s.basis ≡ hearing.end)
+  pub hears : IsSome s.world.leading → HearsOf (hearing.heard s.basis) (image_of_tip s)
+  -- nobody was heard of later than now
+  pub in_time : IsTrue (list_all (λ c. int_le c.time s.basis.time) s.basis.contacts)
+  pub natural : IsTrue (int_le (pos 0) s.basis.time)
+  pub reached : All (λ write. IsTrue (int_le write.need (pos (tip_of s)))) writes
+
+-- ---- for which state and which waiting writes an engine stands
+
+-- the image of the items below the place, under that place
+abbrev pub kept_image : Log → ℕ → ℤ × Image
+kept_image log place = (pos place, seen_at log place)
+
+pub record IsEngine (e : Core) (s : State) (writes : List Write) : Type 0 where
+  pub tip : e.tip ≡ pos (tip_of s)
+  pub committed : e.committed ≡ pos s.world.committed
+  pub leading : e.leading ≡ s.world.leading
+  pub greatest : e.greatest ≡ s.world.greatest
+  pub count : e.count ≡ s.world.count
+  pub time : e.time ≡ s.basis.time
+  pub led : e.led ≡ s.basis.led
+  pub heard_of : e.heard ≡ hearing.heard s.basis
+  pub present : image_at s.world.log (tip_of s) ≡ Ok e.images.tip
+  pub kept : e.images.kept ≡ map (kept_image s.world.log) (s.world.committed ∷ s.world.batch_ends)
+  pub waits : filter (is_open e.leading e.committed) e.held ≡ writes
+  pub ordered : IsTrue (are_in_order e.held)
+  pub is_state : IsState s writes
+
+-- it stands for some
+pub record IsSound (e : Core) : Type 0 where
+  pub state : State
+  pub writes : List Write
+  pub stands : IsEngine e state writes
+
+-- What one call makes of an engine, for an event: it stands for the next state and the writes that wait then, and what is
+-- left to hand out are the outputs of the event.
+pub record IsStep (before after : Core) (event : Event) : Type 0 where
+  pub options : after.options ≡ before.options
+  pub stands : (s : State) (writes : List Write) → IsEngine before s writes → IsEngine after (happens before.options s event) (waiting_after before.options s writes event)
+  pub outputs : (s : State) (writes : List Write) → IsEngine before s writes → left after ≡ outputs_of before.options s writes event
+
+-- What handing out the next output makes of an engine; none where all is handed out.
+pub record Hands (before after : Core) (output : Option Output) : Type 0 where
+  pub options : after.options ≡ before.options
+  pub in_order : left before ≡ option_to_list output ++ left after
+  pub all : output ≡ None → left after ≡ []
+  pub ordered : IsTrue (are_in_order after.held)
+  pub stands : (s : State) (writes : List Write) → IsEngine before s writes → IsEngine after s writes
+
+-- ---- an engine to which nothing has happened
+
+abbrev pub opened : Options → Core
+opened options = record {
+  options = options;
+  images = marked no_images (pos 0);
+  heard = hearing.end;
+  tip = pos 0;
+  committed = pos 0;
+  leading = None;
+  greatest = negsuc 0;
+  count = 0;
+  time = pos 0;
+  led = pos 0;
+  held = [];
+  given = [];
+  refusal = None;
+}
+
+-- ---- what calls make of an engine from which all is handed out
+
+-- the greatest time of any event
+abbrev pub timed : Core → Event → Core
+timed e event = record e { time = later e.time event }
+
+-- one event more
+abbrev pub counted : Core → Core
+counted e = record e { count = next_number e.count }
+
+abbrev pub refused : Core → Reason → Core
+refused e reason = record e { refusal = Some (given.Refused (next_number e.count) reason) }
+
+abbrev pub refused_or : Core → Option Reason → Core → Core
+refused_or e None after = after
+refused_or e (Some reason) after = refused e reason
+
+-- Commit
+abbrev pub commit_reason : Core → ℤ → ℤ → Option Reason
+commit_reason e epoch end =
+    if not (leads_in e.leading epoch) then Some (not_leading epoch e.leading) else
+    if not (is_some (kept_at e.images end)) then Some (bad_commit end e.committed e.tip) else
+    None
+
+abbrev pub committed_to : Core → ℤ → Core
+committed_to e end = record e { images = forgotten e.images end; committed = end }
+
+-- Lost
+abbrev pub loss_reason : Core → ℤ → Option Reason
+loss_reason e epoch = if not (leads_in e.leading epoch) then Some (not_leading epoch e.leading) else None
+
+abbrev pub ended : Core → Core
+ended e = record e {
+  images = unwrap_or (reverted e.images e.committed) e.images;
+  heard = hearing.end;
+  tip = e.committed;
+  leading = None;
+}
+
+-- Image
+abbrev pub imaged : Core → Core
+imaged e = record e { given = e.given ++ given.Image (image_text e.committed (unwrap_or (kept_at e.images e.committed) empty)) ∷ [] }
+
+-- Lead
+abbrev pub lead_reason : Core → ℤ → ℤ → Option Reason
+lead_reason e epoch next =
+    if is_some e.leading then Some (already_leading e.leading) else
+    if not (int_lt e.greatest epoch) then Some (old_epoch epoch e.greatest) else
+    if not (int_eq next e.committed || int_eq next (e.committed +ℤ pos 1)) then Some (bad_next next e.committed) else
+    if is_far next then Some (exhausted next) else
+    None
+
+-- one place above the end stands an item of the quorum's own
+abbrev pub up_to : Core → ℤ → Core
+up_to e next = if int_eq next e.committed then e else record e { images = marked e.images next; tip = next }
+
+abbrev pub begun : Core → ℤ → ℤ → Core
+begun e epoch next = record (up_to e next) {
+  heard = hearing.begin (unfenced e.images.tip) (stopping e.images.tip) e.time next;
+  leading = Some epoch;
+  greatest = epoch;
+  led = next;
+}

@@ -1,0 +1,164 @@
+//! The engine: what it keeps, what it tells, and how its outputs are handed out.
+
+ghost use Rattle.std.specs.Prelude.{◌≡◌, ◌++◌, [], ◌∷◌, option_to_list, IsTrue, IfOk, IfNone, Some};
+ghost use Rattle.kr_defs.specs.OpenOptions.{are_options};
+ghost use Rattle.kr_store.specs.Images.{AreValid};
+ghost use Rattle.kr_engine.specs.Engine.{IsEngine, IsSound, basis_of, counted, left, opened, refused};
+ghost use Rattle.kr_engine.specs.Ready.{IsReady};
+ghost use Rattle.kr_engine.specs.World as worlds;
+
+use crate::writes::Write;
+use kr_base::NoMemory;
+use kr_calls::{Output, Reason};
+use kr_defs::{Basis, Options};
+use kr_image::ImageStore;
+use kr_sessions::Sessions;
+use kr_store::Store;
+use std::alloc::Global;
+use std::collections::VecDeque;
+use std::marker::Model;
+
+/// A controller that takes one event after the other.
+#[derive(Drop)]
+pub struct Engine {
+    pub(crate) alloc: Global,
+    pub(crate) options: Options,
+    pub(crate) store: ImageStore,
+    pub(crate) sessions: Sessions,
+    pub(crate) tip: i64,
+    pub(crate) committed: i64,
+    pub(crate) leading: Option<i32>,
+    pub(crate) greatest: i32,
+    pub(crate) count: u64,
+    pub(crate) time: i64,
+    pub(crate) led: i64,
+    pub(crate) held: VecDeque<Write>,
+    pub(crate) given: VecDeque<Output>,
+    pub(crate) refusal: Option<Output>,
+}
+
+impl Model for Engine {
+    ghost use Rattle.kr_engine.specs.Engine.{Core};
+
+    ghost Value = { Core };
+
+    ghost view = { λ e. record {
+      options = e.options;
+      images = e.store;
+      heard = e.sessions.heartbeats;
+      tip = e.tip;
+      committed = e.committed;
+      leading = e.leading;
+      greatest = e.greatest;
+      count = e.count;
+      time = e.time;
+      led = e.led;
+      held = e.held.items;
+      given = e.given.items;
+      refusal = e.refusal;
+    } };
+}
+
+impl Engine {
+    fn open(alloc: Global, options: Options) -> Result<Engine, NoMemory>
+        ensures { IfOk result (λ e. e ≡ opened options) }
+    {
+        let mut store = ImageStore::new(alloc);
+        store.mark(0)?;
+        Ok(Engine {
+            alloc,
+            options,
+            store,
+            sessions: Sessions::new(alloc),
+            tip: 0,
+            committed: 0,
+            leading: None,
+            greatest: -1,
+            count: 0,
+            time: 0,
+            led: 0,
+            held: VecDeque::new(alloc),
+            given: VecDeque::new(alloc),
+            refusal: None,
+        })
+    }
+
+    /// An engine to which nothing has happened, on standby.
+    #[tactic(auto, using(crate::proofs::Opening::opened_stands, crate::proofs::Opening::opened_drained))]
+    pub fn new(alloc: Global, options: Options) -> Result<Engine, NoMemory>
+        requires { IsTrue (are_options options) }
+        ensures options { IfOk result (λ e. e.options ≡ options) }
+        ensures stands { IfOk result (λ e. IsEngine e worlds.start []) }
+        ensures drained { IfOk result (λ e. left e ≡ []) }
+    {
+        Engine::open(alloc, options)
+    }
+
+    /// The first place of the log that isn't written.
+    pub fn tip(&self) -> i64
+        ensures { result ≡ self.now.tip }
+    {
+        self.tip
+    }
+
+    /// The first place of the log that isn't committed.
+    pub fn committed(&self) -> i64
+        ensures { result ≡ self.now.committed }
+    {
+        self.committed
+    }
+
+    /// The epoch in which this node leads, none on standby.
+    pub fn leading(&self) -> Option<i32>
+        ensures { result ≡ self.now.leading }
+    {
+        self.leading
+    }
+
+    /// The image, with those at the committed end and at the ends of the batches above it.
+    pub fn store(&self) -> &ImageStore
+        ensures { result.now ≡ self.now.images }
+    {
+        &self.store
+    }
+
+    /// A copy of what decisions rest on besides the image.
+    pub fn basis(&self) -> Result<Basis, NoMemory>
+        ensures { IfOk result (λ basis. basis ≡ basis_of self.now) }
+    {
+        Ok(Basis {
+            time: self.time,
+            led: self.led,
+            contacts: self.sessions.contacts()?,
+            stopping: self.sessions.stops()?,
+        })
+    }
+
+    fn look_at_images(&self)
+        ensures { AreValid self.now.images }
+    {
+        let _valid = self.store.counts();
+    }
+
+    // What the calls rest on.
+    pub(crate) fn look_over(&self)
+        requires sound { IsSound self.now }
+        ensures ready { IsReady self.now }
+        ensures valid { AreValid self.now.images }
+    {
+        self.look_at_images();
+    }
+
+    pub(crate) fn count_event(&mut self)
+        ensures { self.new ≡ counted self.old }
+    {
+        self.count = self.count.saturating_add(1);
+    }
+
+    pub(crate) fn refuse(&mut self, reason: Reason)
+        ensures { self.new ≡ refused self.old reason }
+    {
+        let event = self.count.saturating_add(1);
+        self.refusal = Some(Output::Refused { event, reason });
+    }
+}

@@ -1,0 +1,9 @@
+//! What follows over all events. The function says so in its contract, and does nothing.
+
+ghost use Rattle.kr_engine.specs.Runs.{RunsGiveOutputs};
+
+/// An engine that takes one event after the other, and hands out all outputs of each before the next, hands out exactly the
+/// outputs of the events so far, in order, and stands for them in the end.
+pub fn runs_give_outputs()
+    ensures { RunsGiveOutputs }
+{}

@@ -1,0 +1,82 @@
+//! A committed image comes in place of batches.
+
+ghost use Rattle.std.specs.Prelude.{◌≡◌, [], IfOk, OnOk};
+ghost use Rattle.kr_calls.specs.declared.events.Event.TheVariants as events;
+ghost use Rattle.kr_snapshot.specs.Read.{Restores, kept_once};
+ghost use Rattle.kr_snapshot.specs.Reading.{image_of};
+ghost use Rattle.kr_engine.specs.Engine.{IsSound, IsStep, left};
+ghost use Rattle.kr_engine.specs.Standby as standby;
+ghost use Rattle.kr_engine.specs.Standby.{Settles};
+
+use crate::Engine;
+use crate::leads::is_far;
+use crate::reasons::{already_leading, bad_image, exhausted, older_image};
+use kr_base::NoMemory;
+use kr_defs::Bytes;
+use kr_image::ImageStore;
+use kr_snapshot::{ImageFault, Reader};
+use std::alloc::Global;
+
+// The offset and the store of the image that the bytes stand for.
+fn read_image(alloc: Global, bytes: &[u8]) -> Result<(i64, ImageStore), ImageFault>
+    ensures { Restores result (image_of bytes.now) }
+{
+    let mut reader = Reader::new(alloc);
+    // A fault is answered again in the end.
+    let _fault = reader.feed(bytes);
+    reader.finish()
+}
+
+impl Engine {
+    // The image is the new start.
+    fn load_image(&mut self, offset: &i64, store: ImageStore)
+        requires { store ≡ kept_once offset.now store.tip }
+        ensures { Settles self.old self.new (standby.image_reason self.old offset.now) (standby.moved_to self.old offset.now store.tip) }
+    {
+        if *offset < self.committed {
+            let reason = older_image(offset, &self.committed);
+            self.refuse(reason);
+            return;
+        }
+        if is_far(offset) {
+            self.refuse(exhausted(offset));
+            return;
+        }
+        self.store = store;
+        self.tip = *offset;
+        self.committed = *offset;
+    }
+
+    fn settle_image(&mut self, bytes: &Bytes) -> Result<(), NoMemory>
+        ensures { OnOk result (Settles self.old self.new (standby.load_reason self.old (image_of bytes.now)) (standby.loaded_by self.old (image_of bytes.now))) }
+    {
+        if self.leading.is_some() {
+            let reason = already_leading(&self.leading);
+            self.refuse(reason);
+            return Ok(());
+        }
+        match read_image(self.alloc, bytes.as_slice()) {
+            Ok((offset, store)) => {
+                self.load_image(&offset, store);
+                Ok(())
+            }
+            Err(ImageFault::NoMemory) => Err(NoMemory),
+            Err(fault) => {
+                self.refuse(bad_image(&fault));
+                Ok(())
+            }
+        }
+    }
+
+    /// A committed image came in place of batches. All outputs are handed out before. An engine that answered want of memory
+    /// may only be dropped.
+    pub fn load(&mut self, bytes: &Bytes) -> Result<(), NoMemory>
+        requires sound { IsSound self.old }
+        requires drained { left self.old ≡ [] }
+        ensures step { OnOk result (IsStep self.old self.new (events.Load bytes.now)) }
+    {
+        self.settle_image(bytes)?;
+        self.count_event();
+        Ok(())
+    }
+}
