@@ -22,7 +22,7 @@ unfolding range_at
 range_law = structure_law range_of (λ r. (r.name, (r.min, (r.max, tt)))) (λ z. refl) (λ r. refl) (text_law before signed_law w16 before signed_law w16 before no_tags_law)
 
 pub registration_law : (version : ℕ) → Law (IsRegistration version) (registration_at version)
-unfolding registration_at
+unfolding registration_at standing_at
 registration_law version =
     structure_law registration_of (λ t. (t.0, (t.1.incarnation, (t.1.epoch, (t.1.endpoints, (t.1.features, (t.1.rack, (t.1.fenced, (t.1.stopping, tt))))))))) (λ z. refl) (λ t. refl)
     (signed_law w32 before id_law before signed_law w64
@@ -43,7 +43,7 @@ unfolding topic_id_at
 topic_id_law = structure_law topic_id_of (λ id. (id, tt)) (λ z. refl) (λ t. refl) (id_law before no_tags_law)
 
 pub partition_law : (version : ℕ) → Law (IsPartition version) (partition_at version)
-unfolding partition_at
+unfolding partition_at led_at
 partition_law version =
     structure_law partition_of
     (λ t. (t.0, (t.1, (t.2.replicas, (t.2.in_sync, (t.2.removing, (t.2.adding, (t.2.leader, (t.2.leader_epoch, (t.2.partition_epoch, (tt, extras_of t.2))))))))))) (λ z. refl) (λ t. refl)
