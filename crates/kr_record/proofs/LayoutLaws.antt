@@ -6,7 +6,7 @@ use Rattle.kr_wire.proofs.Laws.{Law, ◌before◌, structure_law}
 use Rattle.kr_wire.proofs.Numbers.{number_law, signed_law, bool_law, id_law, text_law, text_or_null_law}
 use Rattle.kr_wire.proofs.Lists.{list_law}
 use Rattle.kr_wire.proofs.Tags.{no_tags_law}
-use Rattle.kr_record.specs.Reading.{endpoint_of, endpoint_at, range_of, range_at, registration_of, registration_at, pair_of, broker_epoch_at, topic_at, topic_id_of, topic_id_at, partition_of, partition_at, config_of, config_at, three_of, change_at, feature_at, registration_change_at}
+use Rattle.kr_record.specs.Reading.{endpoint_of, endpoint_at, range_of, range_at, registration_of, standing_at, registration_at, pair_of, broker_epoch_at, topic_at, topic_id_of, topic_id_at, partition_of, led_at, partition_at, config_of, config_at, three_of, change_at, feature_at, registration_change_at}
 use Rattle.kr_record.specs.Grammar.{IsEndpoint, IsRange, IsRegistration, IsBrokerEpoch, IsTopic, IsTopicId, extras_of, IsPartition, IsConfig, IsChange, IsFeature, IsRegistrationChange}
 use Rattle.kr_record.proofs.Parts.{named, since_law, ids_law, directories_law}
 use Rattle.kr_record.proofs.KnownFields.{changes_law, extras_law, flags_law}

@@ -154,8 +154,9 @@ pub fn read_partition(
     let (in_sync, next) = read_ids(alloc, bytes, next)?;
     let (removing, next) = read_ids(alloc, bytes, next)?;
     let (adding, next) = read_ids(alloc, bytes, next)?;
-    let ((leader, leader_epoch, partition_epoch, extras), end) =
-        read_led(alloc, bytes, next, version)?;
+    let ((leader, leader_epoch, partition_epoch, extras), end) = read_led(
+        alloc, bytes, next, version,
+    )?;
     let state = Partition {
         replicas,
         in_sync,
