@@ -8,11 +8,11 @@ ghost use Rattle.kr_record.specs.Reading.{broker_epoch_at, endpoint_at, range_at
 
 use crate::fault::RecordFault;
 use crate::lists::{Layout, read_list};
-use crate::texts::text_of;
-use kr_defs::{Broker, Endpoint, Range, Rows, Text};
+use crate::texts::{read_text, text_of};
+use kr_defs::{Broker, Endpoint, Range, Rows};
 use kr_wire::{
-    WireFault, read_bool, read_i16, read_i32, read_i64, read_id, read_text, read_text_or_null,
-    read_u16, skip_tags,
+    WireFault, read_bool, read_i16, read_i32, read_i64, read_id, read_text_or_null, read_u16,
+    skip_tags,
 };
 use std::alloc::Global;
 
@@ -21,13 +21,11 @@ impl Layout for Endpoint {
 
     #[tactic(auto, unfolding(crate::specs::Reading::endpoint_at))]
     fn read(alloc: Global, bytes: &[u8], at: usize) -> Result<(Endpoint, usize), RecordFault> {
-        let (name, next) = read_text(bytes, at)?;
-        let (host, next) = read_text(bytes, next)?;
+        let (name, next) = read_text(alloc, bytes, at)?;
+        let (host, next) = read_text(alloc, bytes, next)?;
         let (port, next) = read_u16(bytes, next)?;
         let (protocol, next) = read_i16(bytes, next)?;
         let end = skip_tags(bytes, next)?;
-        let name = Text::from_str(alloc, name)?;
-        let host = Text::from_str(alloc, host)?;
         Ok((
             Endpoint {
                 name,
@@ -50,11 +48,10 @@ impl Layout for Range {
 
     #[tactic(auto, unfolding(crate::specs::Reading::range_at))]
     fn read(alloc: Global, bytes: &[u8], at: usize) -> Result<(Range, usize), RecordFault> {
-        let (name, next) = read_text(bytes, at)?;
+        let (name, next) = read_text(alloc, bytes, at)?;
         let (min, next) = read_i16(bytes, next)?;
         let (max, next) = read_i16(bytes, next)?;
         let end = skip_tags(bytes, next)?;
-        let name = Text::from_str(alloc, name)?;
         Ok((Range { name, min, max }, end))
     }
 

@@ -6,9 +6,9 @@ ghost use Rattle.kr_record.specs.Answers.{ReadsField};
 ghost use Rattle.kr_record.specs.Reading.{config_at, feature_at, topic_at, topic_id_at};
 
 use crate::fault::RecordFault;
-use crate::texts::text_of;
+use crate::texts::{read_text, text_of};
 use kr_defs::Text;
-use kr_wire::{WireFault, read_i8, read_i16, read_id, read_text, read_text_or_null, skip_tags};
+use kr_wire::{WireFault, read_i8, read_i16, read_id, read_text_or_null, skip_tags};
 use std::alloc::Global;
 
 /// The name and the id of a topic.
@@ -21,10 +21,9 @@ pub fn read_topic(
     requires { at ≤ length bytes.now }
     ensures { ReadsField (λ t. (t.0, t.1)) result bytes.now (topic_at (drop at bytes.now)) }
 {
-    let (name, next) = read_text(bytes, at)?;
+    let (name, next) = read_text(alloc, bytes, at)?;
     let (id, next) = read_id(bytes, next)?;
     let end = skip_tags(bytes, next)?;
-    let name = Text::from_str(alloc, name)?;
     Ok(((name, id), end))
 }
 
@@ -50,12 +49,10 @@ pub fn read_config(
     ensures { ReadsField (λ t. (t.0, t.1, t.2, t.3)) result bytes.now (config_at (drop at bytes.now)) }
 {
     let (kind, next) = read_i8(bytes, at)?;
-    let (name, next) = read_text(bytes, next)?;
-    let (key, next) = read_text(bytes, next)?;
+    let (name, next) = read_text(alloc, bytes, next)?;
+    let (key, next) = read_text(alloc, bytes, next)?;
     let (value, next) = read_text_or_null(bytes, next)?;
     let end = skip_tags(bytes, next)?;
-    let name = Text::from_str(alloc, name)?;
-    let key = Text::from_str(alloc, key)?;
     let value = text_of(alloc, value)?;
     Ok(((kind, name, key, value), end))
 }
@@ -70,9 +67,8 @@ pub fn read_feature(
     requires { at ≤ length bytes.now }
     ensures { ReadsField (λ t. (t.0, t.1)) result bytes.now (feature_at (drop at bytes.now)) }
 {
-    let (name, next) = read_text(bytes, at)?;
+    let (name, next) = read_text(alloc, bytes, at)?;
     let (level, next) = read_i16(bytes, next)?;
     let end = skip_tags(bytes, next)?;
-    let name = Text::from_str(alloc, name)?;
     Ok(((name, level), end))
 }
