@@ -6,7 +6,7 @@ use Rattle.kr_wire.proofs.Laws.{Law, ◌before◌, structure_law}
 use Rattle.kr_wire.proofs.Numbers.{number_law, signed_law, bool_law, id_law, text_law, text_or_null_law}
 use Rattle.kr_wire.proofs.Lists.{list_law}
 use Rattle.kr_wire.proofs.Tags.{no_tags_law}
-use Rattle.kr_record.specs.Reading.{endpoint_of, endpoint_at, range_of, range_at, registration_of, registration_at, pair_of, broker_epoch_at, topic_at, topic_id_of, topic_id_at, partition_of, partition_at, config_of, config_at, three_of, change_at, feature_at, registration_change_at}
+use Rattle.kr_record.specs.Reading.{endpoint_of, endpoint_at, range_of, range_at, registration_of, standing_at, registration_at, pair_of, broker_epoch_at, topic_at, topic_id_of, topic_id_at, partition_of, led_at, partition_at, config_of, config_at, three_of, change_at, feature_at, registration_change_at}
 use Rattle.kr_record.specs.Grammar.{IsEndpoint, IsRange, IsRegistration, IsBrokerEpoch, IsTopic, IsTopicId, extras_of, IsPartition, IsConfig, IsChange, IsFeature, IsRegistrationChange}
 use Rattle.kr_record.proofs.Parts.{named, since_law, ids_law, directories_law}
 use Rattle.kr_record.proofs.KnownFields.{changes_law, extras_law, flags_law}
@@ -22,7 +22,7 @@ unfolding range_at
 range_law = structure_law range_of (λ r. (r.name, (r.min, (r.max, tt)))) (λ z. refl) (λ r. refl) (text_law before signed_law w16 before signed_law w16 before no_tags_law)
 
 pub registration_law : (version : ℕ) → Law (IsRegistration version) (registration_at version)
-unfolding registration_at
+unfolding registration_at standing_at
 registration_law version =
     structure_law registration_of (λ t. (t.0, (t.1.incarnation, (t.1.epoch, (t.1.endpoints, (t.1.features, (t.1.rack, (t.1.fenced, (t.1.stopping, tt))))))))) (λ z. refl) (λ t. refl)
     (signed_law w32 before id_law before signed_law w64
@@ -43,7 +43,7 @@ unfolding topic_id_at
 topic_id_law = structure_law topic_id_of (λ id. (id, tt)) (λ z. refl) (λ t. refl) (id_law before no_tags_law)
 
 pub partition_law : (version : ℕ) → Law (IsPartition version) (partition_at version)
-unfolding partition_at
+unfolding partition_at led_at
 partition_law version =
     structure_law partition_of
     (λ t. (t.0, (t.1, (t.2.replicas, (t.2.in_sync, (t.2.removing, (t.2.adding, (t.2.leader, (t.2.leader_epoch, (t.2.partition_epoch, (tt, extras_of t.2))))))))))) (λ z. refl) (λ t. refl)

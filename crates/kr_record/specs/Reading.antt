@@ -60,10 +60,13 @@ abbrev pub registration_of : ℤ × (ℕ × (ℤ × (List Endpoint × (List Rang
 registration_of (broker, (incarnation, (epoch, (endpoints, (features, (rack, (fenced, (stopping, none)))))))) =
     (broker, record { epoch = epoch; incarnation = incarnation; endpoints = endpoints; features = features; rack = rack; fenced = fenced; stopping = stopping })
 
+-- its rack, and whether it is fenced and stopping
+unfoldable pub standing_at : ℕ → List ℕ → Read (Option (List ℕ) × (Bool × (Bool × Unit {0})))
+standing_at version = text_or_null_at followed_by bool_at followed_by since_at (nat_le 1 version) bool_at false followed_by no_tags_at
+
 unfoldable pub registration_at : ℕ → List ℕ → Read (ℤ × Broker)
 registration_at version = structure_at registration_of (
-    signed_at w32 followed_by id_at followed_by signed_at w64 followed_by list_at endpoint_at followed_by list_at range_at
-    followed_by text_or_null_at followed_by bool_at followed_by since_at (nat_le 1 version) bool_at false followed_by no_tags_at)
+    signed_at w32 followed_by id_at followed_by signed_at w64 followed_by list_at endpoint_at followed_by list_at range_at followed_by standing_at version)
 
 -- ---- UnregisterBroker, FenceBroker and UnfenceBroker
 
@@ -121,11 +124,15 @@ partition_of (index, (topic, (replicas, (in_sync, (removing, (adding, (leader, (
   },
 )
 
+-- its leader and epochs, and what is behind them
+unfoldable pub led_at : ℕ → List ℕ → Read (ℤ × (ℤ × (ℤ × (Unit {0} × Extras))))
+led_at version =
+    signed_at w32 followed_by signed_at w32 followed_by signed_at w32
+    followed_by since_at (nat_le 1 version) (dropped_at (list_at id_at)) tt followed_by extras_at version
+
 unfoldable pub partition_at : ℕ → List ℕ → Read (ℤ × ℕ × Partition)
 partition_at version = structure_at partition_of (
-    signed_at w32 followed_by id_at followed_by ids_at followed_by ids_at followed_by ids_at followed_by ids_at
-    followed_by signed_at w32 followed_by signed_at w32 followed_by signed_at w32
-    followed_by since_at (nat_le 1 version) (dropped_at (list_at id_at)) tt followed_by extras_at version)
+    signed_at w32 followed_by id_at followed_by ids_at followed_by ids_at followed_by ids_at followed_by ids_at followed_by led_at version)
 
 -- ---- Config
 

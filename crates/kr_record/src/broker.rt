@@ -1,9 +1,10 @@
 //! Brokers from bytes.
 
 ghost use Rattle.std.specs.Prelude.{◌≤◌, false, nat_le, length, drop};
+ghost use Rattle.std.specs.Option.{option_map};
 ghost use Rattle.kr_wire.specs.Reading.{Reads, bool_at};
 ghost use Rattle.kr_record.specs.Answers.{ReadsField};
-ghost use Rattle.kr_record.specs.Reading.{broker_epoch_at, endpoint_at, range_at, registration_at, since_at};
+ghost use Rattle.kr_record.specs.Reading.{broker_epoch_at, endpoint_at, range_at, registration_at, since_at, standing_at};
 
 use crate::fault::RecordFault;
 use crate::lists::{Layout, read_list};
@@ -60,6 +61,23 @@ impl Layout for Range {
     }
 }
 
+// The rack of a broker, and whether it is fenced and stopping.
+#[tactic(auto, unfolding(crate::specs::Reading::standing_at))]
+fn read_standing(
+    bytes: &[u8],
+    at: usize,
+    version: u32,
+) -> Result<((Option<&str>, bool, bool), usize), WireFault>
+    requires { at ≤ length bytes.now }
+    ensures { Reads (λ t. (option_map (λ s. s.now) t.0, (t.1, (t.2, tt {0})))) result bytes.now (standing_at version (drop at bytes.now)) }
+{
+    let (rack, next) = read_text_or_null(bytes, at)?;
+    let (fenced, next) = read_bool(bytes, next)?;
+    let (stopping, next) = read_stopping(bytes, next, version)?;
+    let end = skip_tags(bytes, next)?;
+    Ok(((rack, fenced, stopping), end))
+}
+
 /// The registration of a broker, and the broker.
 #[tactic(auto, unfolding(crate::specs::Reading::registration_at))]
 pub fn read_registration(
@@ -76,10 +94,7 @@ pub fn read_registration(
     let (epoch, next) = read_i64(bytes, next)?;
     let (endpoints, next) = read_list(alloc, bytes, next)?;
     let (features, next) = read_list(alloc, bytes, next)?;
-    let (rack, next) = read_text_or_null(bytes, next)?;
-    let (fenced, next) = read_bool(bytes, next)?;
-    let (stopping, next) = read_stopping(bytes, next, version)?;
-    let end = skip_tags(bytes, next)?;
+    let ((rack, fenced, stopping), end) = read_standing(bytes, next, version)?;
     let rack = text_of(alloc, rack)?;
     let state = Broker {
         epoch,

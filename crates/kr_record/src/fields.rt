@@ -36,7 +36,8 @@ fn uvarint_len(value: u32) -> u32
 
 // One field, where it is there.
 fn one_if(there: bool) -> u32
-    ensures { result ≡ (if there then 1 else 0) }
+    ensures one { result ≡ (if there then 1 else 0) }
+    ensures small { result ≤ 1 }
 {
     u32::from(there)
 }

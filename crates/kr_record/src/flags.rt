@@ -12,7 +12,7 @@ use kr_wire::{read_i32, read_i64};
 use std::alloc::Global;
 
 /// The tagged fields of a change of a broker's registration.
-#[derive(Clone, Copy, Debug, Drop, PartialEq, Eq)]
+#[derive(Drop)]
 pub struct Flags {
     pub fenced: i8,
     pub stopping: i8,

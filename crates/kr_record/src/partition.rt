@@ -4,7 +4,7 @@ ghost use Rattle.std.specs.Prelude.{◌≡◌, ◌≤◌, [], nat_le, length, dr
 ghost use Rattle.std.specs.Option.{unwrap_or};
 ghost use Rattle.kr_wire.specs.Reading.{field_of, id_at, known_in, list_at};
 ghost use Rattle.kr_record.specs.Answers.{ReadsField, Sets};
-ghost use Rattle.kr_record.specs.Reading.{all_extras, dropped_at, extras_at, first_with_extra, ids_at, known_since, partition_at, since_at};
+ghost use Rattle.kr_record.specs.Reading.{all_extras, dropped_at, extras_at, first_with_extra, ids_at, known_since, led_at, partition_at, since_at};
 
 use crate::fault::RecordFault;
 use crate::lists::read_list;
@@ -118,6 +118,25 @@ fn read_directories(
     Ok(((), next))
 }
 
+// The leader of a partition, its epochs, and what is behind them.
+#[tactic(auto, unfolding(crate::specs::Reading::led_at))]
+fn read_led(
+    alloc: Global,
+    bytes: &[u8],
+    at: usize,
+    version: u32,
+) -> Result<((i32, i32, i32, Extras), usize), RecordFault>
+    requires { at ≤ length bytes.now }
+    ensures { ReadsField (λ t. (t.0, (t.1, (t.2, (tt {0}, t.3))))) result bytes.now (led_at version (drop at bytes.now)) }
+{
+    let (leader, next) = read_i32(bytes, at)?;
+    let (leader_epoch, next) = read_i32(bytes, next)?;
+    let (partition_epoch, next) = read_i32(bytes, next)?;
+    let (_, next) = read_directories(alloc, bytes, next, version)?;
+    let (extras, end) = read_extras(alloc, bytes, next, version)?;
+    Ok(((leader, leader_epoch, partition_epoch, extras), end))
+}
+
 /// The index of a partition, its topic, and its state.
 #[tactic(auto, unfolding(crate::specs::Reading::partition_at))]
 pub fn read_partition(
@@ -135,11 +154,9 @@ pub fn read_partition(
     let (in_sync, next) = read_ids(alloc, bytes, next)?;
     let (removing, next) = read_ids(alloc, bytes, next)?;
     let (adding, next) = read_ids(alloc, bytes, next)?;
-    let (leader, next) = read_i32(bytes, next)?;
-    let (leader_epoch, next) = read_i32(bytes, next)?;
-    let (partition_epoch, next) = read_i32(bytes, next)?;
-    let (_, next) = read_directories(alloc, bytes, next, version)?;
-    let (extras, end) = read_extras(alloc, bytes, next, version)?;
+    let ((leader, leader_epoch, partition_epoch, extras), end) = read_led(
+        alloc, bytes, next, version,
+    )?;
     let state = Partition {
         replicas,
         in_sync,

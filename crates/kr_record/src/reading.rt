@@ -254,7 +254,7 @@ fn read_layout(
 }
 
 // The record, if nothing is behind it.
-fn whole(value: Record, end: usize, len: usize) -> Result<Record, RecordFault>
+fn whole<T: Drop>(value: T, end: usize, len: usize) -> Result<T, RecordFault>
     ensures { result ≡ (if nat_lt end len then Err faults.Trailing else Ok value) }
 {
     if end < len {

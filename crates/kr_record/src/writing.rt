@@ -28,8 +28,9 @@ fn put_frame(out: &mut Vec<u8>, key: u32, version: u32) -> Result<(), AllocError
 #[tactic(auto, unfolding(crate::specs::Spelling::registration))]
 fn put_registration(out: &mut Vec<u8>, broker: &i32, state: &Broker) -> Result<(), AllocError>
     requires { IsShortBroker state.now }
-    ensures { OnOk result (out.new.items ≡ out.old.items ++ registration broker.now state.now) }
+    ensures { OnOk result (out.new.items ≡ out.old.items ++ (framed 0 1 ++ registration broker.now state.now)) }
 {
+    put_frame(out, 0, 1)?;
     broker.put(out)?;
     put_id(out, state.incarnation)?;
     state.epoch.put(out)?;
@@ -42,9 +43,15 @@ fn put_registration(out: &mut Vec<u8>, broker: &i32, state: &Broker) -> Result<(
 }
 
 #[tactic(auto, unfolding(crate::specs::Spelling::broker_epoch))]
-fn put_broker_epoch(out: &mut Vec<u8>, broker: &i32, epoch: &i64) -> Result<(), AllocError>
-    ensures { OnOk result (out.new.items ≡ out.old.items ++ broker_epoch broker.now epoch.now) }
+fn put_broker_epoch(
+    out: &mut Vec<u8>,
+    key: u32,
+    broker: &i32,
+    epoch: &i64,
+) -> Result<(), AllocError>
+    ensures { OnOk result (out.new.items ≡ out.old.items ++ (framed key 0 ++ broker_epoch broker.now epoch.now)) }
 {
+    put_frame(out, key, 0)?;
     broker.put(out)?;
     epoch.put(out)?;
     put_no_tags(out)
@@ -53,8 +60,9 @@ fn put_broker_epoch(out: &mut Vec<u8>, broker: &i32, epoch: &i64) -> Result<(), 
 #[tactic(auto, unfolding(crate::specs::Spelling::topic))]
 fn put_topic(out: &mut Vec<u8>, name: &Text, id: u128) -> Result<(), AllocError>
     requires { IsShort name.now }
-    ensures { OnOk result (out.new.items ≡ out.old.items ++ topic name.now id) }
+    ensures { OnOk result (out.new.items ≡ out.old.items ++ (framed 2 0 ++ topic name.now id)) }
 {
+    put_frame(out, 2, 0)?;
     put_str(out, name.as_str())?;
     put_id(out, id)?;
     put_no_tags(out)
@@ -62,8 +70,9 @@ fn put_topic(out: &mut Vec<u8>, name: &Text, id: u128) -> Result<(), AllocError>
 
 #[tactic(auto, unfolding(crate::specs::Spelling::topic_id))]
 fn put_topic_id(out: &mut Vec<u8>, id: u128) -> Result<(), AllocError>
-    ensures { OnOk result (out.new.items ≡ out.old.items ++ topic_id id) }
+    ensures { OnOk result (out.new.items ≡ out.old.items ++ (framed 9 0 ++ topic_id id)) }
 {
+    put_frame(out, 9, 0)?;
     put_id(out, id)?;
     put_no_tags(out)
 }
@@ -76,8 +85,9 @@ fn put_partition(
     state: &Partition,
 ) -> Result<(), AllocError>
     requires { IsShortPartition state.now }
-    ensures { OnOk result (out.new.items ≡ out.old.items ++ partition index.now topic state.now) }
+    ensures { OnOk result (out.new.items ≡ out.old.items ++ (framed 3 2 ++ partition index.now topic state.now)) }
 {
+    put_frame(out, 3, 2)?;
     put_placed(out, index, topic, state)?;
     put_led(out, state)
 }
@@ -131,8 +141,9 @@ fn put_config(
     value: &Option<Text>,
 ) -> Result<(), AllocError>
     requires { IsShortConfig name.now key.now value.now }
-    ensures { OnOk result (out.new.items ≡ out.old.items ++ config kind.now name.now key.now value.now) }
+    ensures { OnOk result (out.new.items ≡ out.old.items ++ (framed 4 0 ++ config kind.now name.now key.now value.now)) }
 {
+    put_frame(out, 4, 0)?;
     kind.put(out)?;
     put_str(out, name.as_str())?;
     put_str(out, key.as_str())?;
@@ -148,8 +159,9 @@ fn put_change(
     value: &PartitionChange,
 ) -> Result<(), AllocError>
     requires { IsSpelledChange value.now }
-    ensures { OnOk result (out.new.items ≡ out.old.items ++ change index.now topic value.now) }
+    ensures { OnOk result (out.new.items ≡ out.old.items ++ (framed 5 2 ++ change index.now topic value.now)) }
 {
+    put_frame(out, 5, 2)?;
     index.put(out)?;
     put_id(out, topic)?;
     put_change_fields(out, value)
@@ -158,8 +170,9 @@ fn put_change(
 #[tactic(auto, unfolding(crate::specs::Spelling::feature))]
 fn put_feature(out: &mut Vec<u8>, name: &Text, level: &i16) -> Result<(), AllocError>
     requires { IsShort name.now }
-    ensures { OnOk result (out.new.items ≡ out.old.items ++ feature name.now level.now) }
+    ensures { OnOk result (out.new.items ≡ out.old.items ++ (framed 12 0 ++ feature name.now level.now)) }
 {
+    put_frame(out, 12, 0)?;
     put_str(out, name.as_str())?;
     level.put(out)?;
     put_no_tags(out)
@@ -173,8 +186,9 @@ fn put_registration_change(
     fenced: &i8,
     stopping: &i8,
 ) -> Result<(), AllocError>
-    ensures { OnOk result (out.new.items ≡ out.old.items ++ registration_change broker.now epoch.now fenced.now stopping.now) }
+    ensures { OnOk result (out.new.items ≡ out.old.items ++ (framed 17 1 ++ registration_change broker.now epoch.now fenced.now stopping.now)) }
 {
+    put_frame(out, 17, 1)?;
     broker.put(out)?;
     epoch.put(out)?;
     put_flags(out, fenced, stopping)
@@ -186,68 +200,35 @@ fn put_record(out: &mut Vec<u8>, value: &Record) -> Result<(), AllocError>
     ensures { OnOk result (out.new.items ≡ out.old.items ++ record_value value.now) }
 {
     match value {
-        Record::RegisterBroker { broker, state } => {
-            put_frame(out, 0, 1)?;
-            put_registration(out, broker, state)
-        }
-        Record::UnregisterBroker { broker, epoch } => {
-            put_frame(out, 1, 0)?;
-            put_broker_epoch(out, broker, epoch)
-        }
-        Record::Topic { name, id } => {
-            put_frame(out, 2, 0)?;
-            put_topic(out, name, *id)
-        }
+        Record::RegisterBroker { broker, state } => put_registration(out, broker, state),
+        Record::UnregisterBroker { broker, epoch } => put_broker_epoch(out, 1, broker, epoch),
+        Record::Topic { name, id } => put_topic(out, name, *id),
         Record::Partition {
             index,
             topic,
             state,
-        } => {
-            put_frame(out, 3, 2)?;
-            put_partition(out, index, *topic, state)
-        }
+        } => put_partition(out, index, *topic, state),
         Record::Config {
             kind,
             name,
             key,
             value,
-        } => {
-            put_frame(out, 4, 0)?;
-            put_config(out, kind, name, key, value)
-        }
+        } => put_config(out, kind, name, key, value),
         Record::PartitionChange {
             index,
             topic,
             change,
-        } => {
-            put_frame(out, 5, 2)?;
-            put_change(out, index, *topic, change)
-        }
-        Record::FenceBroker { broker, epoch } => {
-            put_frame(out, 7, 0)?;
-            put_broker_epoch(out, broker, epoch)
-        }
-        Record::UnfenceBroker { broker, epoch } => {
-            put_frame(out, 8, 0)?;
-            put_broker_epoch(out, broker, epoch)
-        }
-        Record::RemoveTopic { topic } => {
-            put_frame(out, 9, 0)?;
-            put_topic_id(out, *topic)
-        }
-        Record::FeatureLevel { name, level } => {
-            put_frame(out, 12, 0)?;
-            put_feature(out, name, level)
-        }
+        } => put_change(out, index, *topic, change),
+        Record::FenceBroker { broker, epoch } => put_broker_epoch(out, 7, broker, epoch),
+        Record::UnfenceBroker { broker, epoch } => put_broker_epoch(out, 8, broker, epoch),
+        Record::RemoveTopic { topic } => put_topic_id(out, *topic),
+        Record::FeatureLevel { name, level } => put_feature(out, name, level),
         Record::BrokerRegistrationChange {
             broker,
             epoch,
             fenced,
             stopping,
-        } => {
-            put_frame(out, 17, 1)?;
-            put_registration_change(out, broker, epoch, fenced, stopping)
-        }
+        } => put_registration_change(out, broker, epoch, fenced, stopping),
         Record::NoOp => {
             put_frame(out, 20, 0)?;
             put_no_tags(out)
@@ -265,7 +246,7 @@ pub fn append(value: &Record, out: &mut Vec<u8>) -> Result<(), NoMemory>
 }
 
 /// Appends the record's written form. Without memory nothing is appended.
-#[tactic(auto, using(crate::proofs::Stands::stands, crate::proofs::Lengths::appended))]
+#[tactic(auto, using(crate::proofs::Lengths::appended))]
 pub fn encode(value: &Record, out: &mut Vec<u8>) -> Result<(), NoMemory>
     requires { IsEncodable value.now }
     ensures ok { OnOk result (out.new.items ≡ out.old.items ++ record_value value.now) }

@@ -11,7 +11,7 @@ use mir.Val.{bits, Fits}
 use Rattle.kr_wire.specs.Laws.{IsBytes}
 use Rattle.kr_wire.specs.Grammar.{◌⌢◌, Exactly, IsUvarint, IsNumber, IsSigned, IsBool, IsId, IsText, Each, IsList, NoTags}
 use Rattle.kr_wire.proofs.Laws.{IsBytes-before, IsBytes-behind}
-use Rattle.kr_wire.proofs.Lengths.{uvarint_bytes, uvarint_least, some_uvarint, both_lengths}
+use Rattle.kr_wire.proofs.Lengths.{uvarint_bytes, uvarint_least, some_uvarint, both_lengths, each_long}
 
 -- At most n bytes are written for eight: a structure has at most eight tagged fields that are written, and each of them is
 -- no longer than all that were read.
@@ -123,12 +123,6 @@ text t = record {
   short = λ bytes is few. (sized (length t + 1) (exactly t)).short bytes is.spelled few;
   held = λ bytes is fit. is.utf8;
 }
-
--- elements of k bytes or more
-pub each_long : {X : Type 0} {One : X → List ℕ → Type 0} (k : ℕ) → ((x : X) (bytes : List ℕ) → One x bytes → k ≤ length bytes) → (xs : List X) (bytes : List ℕ) → Each One xs bytes
-    → k * length xs ≤ length bytes
-each_long k long [] bytes is = omega arith
-each_long k long (x ∷ xs) bytes is = omega (arith, long x is.left is.first, each_long k long xs is.right is.second, both_lengths bytes is)
 
 module _ {X : Type 0} {One : X → List ℕ → Type 0} {size : X → ℕ} {P Q : X → Type 0} (each : (x : X) → Follows (One x) (size x) (P x) (Q x)) where
   elements : (xs : List X) → Follows (Each One xs) (sum_by size xs) (All P xs) (All Q xs)

@@ -5,7 +5,7 @@ use Rattle.std.specs.List.{flat_map}
 use Rattle.std.specs.Int.{Width, w8, w16, w32, w64, byte_len, bytes_high_first, cast_unsigned}
 use Rattle.std.proofs.lemmas.Bool.{lt-ltb, le-ltb, cases_lt}
 use Rattle.std.proofs.lemmas.List.{length-append}
-use Rattle.kr_wire.specs.Grammar.{◌⌢◌, IsVarint, IsUvarint}
+use Rattle.kr_wire.specs.Grammar.{◌⌢◌, Each, IsVarint, IsUvarint}
 use Rattle.kr_wire.specs.Spelling.{groups, uvarint, number, signed, bool, id, text, count, list}
 
 -- ---- numbers of a fixed length
@@ -126,6 +126,12 @@ some_uvarint n (b ∷ bytes) is = omega arith
 
 pub both_lengths : {First Second : List ℕ → Type 0} (bytes : List ℕ) (is : (First ⌢ Second) bytes) → length bytes ≡ length is.left + length is.right
 both_lengths bytes is = ap (λ (l : List ℕ). length l) is.is ∙ length-append is.left is.right
+
+-- elements of k bytes or more
+pub each_long : {X : Type 0} {One : X → List ℕ → Type 0} (k : ℕ) → ((x : X) (bytes : List ℕ) → One x bytes → k ≤ length bytes) → (xs : List X) (bytes : List ℕ) → Each One xs bytes
+    → k * length xs ≤ length bytes
+each_long k long [] bytes is = omega arith
+each_long k long (x ∷ xs) bytes is = omega (arith, long x is.left is.first, each_long k long xs is.right is.second, both_lengths bytes is)
 
 -- ---- texts and lists
 

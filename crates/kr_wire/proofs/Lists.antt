@@ -1,5 +1,5 @@
 -- The law of lists, from that of the element.
-use Rattle.std.proofs.Common.{◌≡◌, ℕ, zero, suc, ◌+◌, ◌-◌, ◌<◌, ◌≤◌, Bool, true, false, cond, eqb, ltb, List, [], ◌∷◌, ◌++◌, length, Option, Some, None, Ok, Err, refl, sym, ap, subst, arith}
+use Rattle.std.proofs.Common.{◌≡◌, ℕ, zero, suc, ◌+◌, ◌-◌, ◌<◌, Bool, true, false, cond, eqb, ltb, List, [], ◌∷◌, ◌++◌, length, Option, Some, None, Ok, Err, refl, sym, ap, subst, arith}
 use Rattle.std.proofs.lemmas.Bool.{le-ltb}
 use Rattle.std.proofs.lemmas.Bool.Decides.{nat_tests}
 use Rattle.std.proofs.lemmas.List.{length-append, append-nil}
@@ -8,6 +8,7 @@ use Rattle.kr_wire.specs.declared.WireFault.{WireFault}
 use Rattle.kr_wire.specs.Reading.{◌>>=◌, Read, uvarint_at, room_at, count_at, count_or_null_at, elements_at, elements_or_null_at, list_at, list_or_null_at}
 use Rattle.kr_wire.specs.Grammar.{IsUvarint, Each, IsList, IsListOrNull}
 use Rattle.kr_wire.proofs.Laws.{Law, law_as, sound_then, sound_last, sound_guard, sound_if, sound_as, sound_done, complete_then, complete_last, complete_guard, complete_if_not}
+use Rattle.kr_wire.proofs.Lengths.{each_long}
 use Rattle.kr_wire.proofs.Numbers.{not_zero, some, uvarint_law}
 
 -- what comes after a count, under the tests of the count
@@ -98,15 +99,8 @@ module _ {X : Type 0} {One : X → List ℕ → Type 0} {one : List ℕ → Read
 
   -- an element takes at least a byte
   module _ (long : (x : X) (bytes : List ℕ) → One x bytes → 0 < length bytes) where
-    each_long : (xs : List X) (bytes : List ℕ) → Each One xs bytes → length xs ≤ length bytes
-    each_long [] bytes is = omega arith
-    each_long (x ∷ xs) bytes is =
-        let first = long x is.left is.first in
-        let others = each_long xs is.right is.second in
-        omega (arith, ap length is.is, length-append is.left is.right)
-
     enough : (count : ℕ) (xs : List X) (tail rest : List ℕ) → count ≡ length xs → Each One xs tail → ltb (length (tail ++ rest)) count ≡ false
-    enough count xs tail rest same is = le-ltb _ _ (omega (arith, length-append tail rest, each_long xs tail is))
+    enough count xs tail rest same is = le-ltb _ _ (omega (arith, length-append tail rest, each_long 1 long xs tail is))
 
     tested_law : Law (IsList One) (λ bytes. uvarint_at bytes >>= tested one)
     tested_law = record {

@@ -1,6 +1,6 @@
 use Rattle.std.proofs.Common.{◌≡◌, ◌-◌, ◌≤◌, length, drop}
 use Rattle.kr_wire.specs.Reading.{elements_at}
-use Rattle.kr_record.proofs.Elements.{with_front}
+use Rattle.kr_wire.proofs.Elements.{with_front}
 use Rattle.kr_record.proofs.lists.read_elements.Given as goal
 
 abbrev pub invariant-loop : goal.invariant-loop
