@@ -1,11 +1,14 @@
 //! Records by name.
 
-ghost use Rattle.std.specs.Prelude.{◌≡◌, string_bytes};
+ghost use Rattle.std.specs.Prelude.{◌≡◌};
+ghost use Rattle.kr_inspect.specs.RecordNames.{name_of};
 
 use kr_defs::Record;
 
 /// Kafka's name of the record's kind.
-pub fn record_name(record: &Record) -> &'static str {
+pub fn record_name(record: &Record) -> &'static str
+    ensures { result.now ≡ name_of record.now }
+{
     match record {
         Record::RegisterBroker { .. } => "RegisterBrokerRecord",
         Record::UnregisterBroker { .. } => "UnregisterBrokerRecord",
