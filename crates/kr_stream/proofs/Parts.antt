@@ -5,7 +5,9 @@ use Rattle.std.specs.Io.KnownBytes.{Consumes}
 use Rattle.std.proofs.Math.Seq.{take-add}
 use Rattle.kr_base.proofs.Pieces.{consumes_more}
 use Rattle.kr_wire.specs.Grammar.{◌⌢◌, Exactly, IsNumber}
+use Rattle.kr_wire.specs.Laws.{IsBytes}
 use Rattle.kr_wire.proofs.Laws.{joined}
+use Rattle.kr_wire.proofs.SpelledBytes.{OfBytes, ◌and◌}
 use Rattle.kr_stream.specs.declared.frame.Frame.{Frame}
 use Rattle.kr_stream.specs.declared.kind.FrameKind.{FrameKind}
 use Rattle.kr_stream.specs.Kinds.{number_of, may_stand}
@@ -27,12 +29,20 @@ pub consumes_none : (a : Option (List ℕ)) → Consumes a a []
 consumes_none None = tt
 consumes_none (Some x) = refl
 
+both_bytes : (left right : List ℕ) → IsBytes left → IsBytes right → IsBytes (left ++ right)
+both_bytes left right before behind =
+    let a : OfBytes left = record { each = before } in
+    let b : OfBytes right = record { each = behind } in
+    let both : OfBytes (left ++ right) = a and b in
+    both.each
+
 module _ (a b c : Option (List ℕ)) where
   -- one part behind the other
   pub took_both : {First Second : List ℕ → Type 0} (at mid next : ℕ) → Took First a b at mid → Took Second b c mid next → Took (First ⌢ Second) a c at next
   took_both at mid next t s = record {
     taken = t.taken ++ s.taken;
     is = joined t.taken s.taken t.is s.is;
+    bytes = both_bytes t.taken s.taken t.bytes s.bytes;
     took = consumes_more a b c t.taken s.taken t.took s.took;
     place = let e : length (t.taken ++ s.taken) ≡ length t.taken + length s.taken = length-append t.taken s.taken in omega (arith, e, t.place, s.place);
     within = s.within;
@@ -40,7 +50,7 @@ module _ (a b c : Option (List ℕ)) where
 
 -- bytes of which that holds are such bytes
 pub took_as : {Is As : List ℕ → Type 0} (a b : Option (List ℕ)) (at next : ℕ) → Took Is a b at next → ((bytes : List ℕ) → Is bytes → As bytes) → Took As a b at next
-took_as a b at next t as_ = record { taken = t.taken; is = as_ t.taken t.is; took = t.took; place = t.place; within = t.within }
+took_as a b at next t as_ = record { taken = t.taken; is = as_ t.taken t.is; bytes = t.bytes; took = t.took; place = t.place; within = t.within }
 
 -- the head of a frame, and its body
 pub frame_of : (number len : ℕ) (body bytes : List ℕ) → length body ≡ len → (IsHead (len + 1) number ⌢ Exactly body) bytes → IsFrame number (Exactly body) bytes

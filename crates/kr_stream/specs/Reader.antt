@@ -3,6 +3,7 @@ use Rattle.std.specs.Prelude.{◌≡◌, ℕ, ◌+◌, ◌-◌, ◌<◌, ◌≤�
 use Rattle.std.specs.Int.{w32}
 use Rattle.std.specs.Io.KnownBytes.{Consumes, IsAtEnd, Keeps}
 use Rattle.kr_base.specs.Causes.{Rose}
+use Rattle.kr_wire.specs.Laws.{IsBytes}
 use Rattle.kr_wire.specs.Grammar.{◌⌢◌, Exactly, IsNumber}
 use Rattle.kr_defs.specs.declared.limits.TheConstants.{MOST_SESSION_BYTES}
 use Rattle.kr_stream.specs.declared.fault.StreamFault.{StreamFault}
@@ -43,6 +44,7 @@ stage_after other = stages.Opened
 pub record Took (Is : List ℕ → Type 0) (left left' : Option (List ℕ)) (at at' : ℕ) : Type 0 where
   pub taken : List ℕ
   pub is : Is taken
+  pub bytes : IsBytes taken
   pub took : Consumes left left' taken
   pub place : at' ≡ at + length taken
   pub within : at' ≤ MOST_SESSION_BYTES

@@ -2,6 +2,7 @@
 
 ghost use Rattle.std.specs.Prelude.{◌≡◌, ◌+◌, ◌-◌, ◌<◌, ◌≤◌, take, drop, length, IfOk, IfErr, OnErr, OnOk};
 ghost use Rattle.std.specs.Io.KnownBytes.{Consumes, IsAtEnd, Keeps};
+ghost use Rattle.kr_wire.specs.Laws.{IsBytes};
 ghost use Rattle.kr_base.specs.Causes.{HasCause};
 ghost use Rattle.kr_defs.specs.declared.limits.TheConstants.{MOST_SESSION_BYTES};
 ghost use Rattle.kr_stream.specs.inner.Taken.{TakesFewer, Short, IsShortage};
@@ -54,6 +55,7 @@ pub(crate) fn take<S: Source>(
 ) -> Result<(), StreamFault>
     requires { at ≤ MOST_SESSION_BYTES }
     ensures full { OnOk result (Consumes (S.left source.old) (S.left source.new) into.new) }
+    ensures known { OnOk result (IsBytes into.new) }
     ensures room { OnOk result (at + length into.old ≤ MOST_SESSION_BYTES) }
     ensures short { IfErr result (λ fault. Short start at (length into.old) (S.left source.old) (S.left source.new) (S.faults source.old) (S.faults source.new) fault) }
     ensures later { S.faults source.old ≤ S.faults source.new }
