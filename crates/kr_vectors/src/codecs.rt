@@ -23,7 +23,9 @@ fn primitive_of(reader: &str, fields: &mut Fields) -> Result<Primitive, RowFault
         "tag" => Ok(Primitive::Tag {
             last: fields.number_or_none()?,
         }),
-        _ => number_of(reader).or(other_of(reader)).ok_or(RowFault::Fields),
+        _ => number_of(reader)
+            .or(other_of(reader))
+            .ok_or(RowFault::Fields),
     }
 }
 

@@ -4,9 +4,7 @@ use crate::codecs::{batch_row, message_row, primitive_row, record_row, session_r
 use crate::fields::Fields;
 use crate::heartbeats::heartbeats_row;
 use crate::kinds::Kind;
-use crate::partitions::{
-    build_row, completes_row, elect_row, eligible_row, merge_row, target_row,
-};
+use crate::partitions::{build_row, completes_row, elect_row, eligible_row, merge_row, target_row};
 use crate::places::place_row;
 use crate::stores::apply_row;
 use kr_rows::RowFault;
