@@ -130,24 +130,9 @@ impl Told {
     }
 }
 
+// The cause by its name.
 fn cause_text(alloc: Global, place: i64, cause: Ill) -> Result<String, AllocError> {
-    let word = cause_word(cause);
-    format!(in alloc; "IllFormed {place} {word}")
-}
-
-fn cause_word(cause: Ill) -> &'static str {
-    match cause {
-        Ill::BadNumber => "BadNumber",
-        Ill::NoBroker => "NoBroker",
-        Ill::StaleEpoch => "StaleEpoch",
-        Ill::NoTopic => "NoTopic",
-        Ill::TopicExists => "TopicExists",
-        Ill::BadName => "BadName",
-        Ill::NoPartition => "NoPartition",
-        Ill::PartitionExists => "PartitionExists",
-        Ill::BadPartition => "BadPartition",
-        Ill::Limit => "Limit",
-    }
+    format!(in alloc; "IllFormed {place} {cause:?}")
 }
 
 fn place_text(alloc: Global, store: &ImageStore, at: At) -> Result<String, AllocError> {
