@@ -1,3 +1,4 @@
 pub mod MessageWords
 pub mod PrimitiveWords
+pub mod SessionWords
 pub mod Words

@@ -63,11 +63,16 @@ fn written_text(alloc: Global, written: &[u8], left: usize) -> Result<String, Al
 }
 
 // The value before that.
-fn value_text(alloc: Global, value: &str, written: &[u8], left: usize) -> Result<String, AllocError>
-    ensures { IfOk result (λ text. string_bytes text ≡ (value.now ␣ (encode_lower written.now ␣ decimal left))) }
+fn value_text(
+    alloc: Global,
+    value: String,
+    written: Vec<u8>,
+    left: usize,
+) -> Result<String, AllocError>
+    ensures { IfOk result (λ text. string_bytes text ≡ (string_bytes value ␣ (encode_lower written.items ␣ decimal left))) }
 {
-    let behind = written_text(alloc, written, left)?;
-    spaced(alloc, value, &behind)
+    let behind = written_text(alloc, &written, left)?;
+    spaced(alloc, &value, &behind)
 }
 
 fn uvarint_answer(alloc: Global, bytes: &[u8]) -> Result<String, AllocError>
@@ -75,10 +80,10 @@ fn uvarint_answer(alloc: Global, bytes: &[u8]) -> Result<String, AllocError>
 {
     match read_uvarint(bytes, 0) {
         Ok((number, next)) => {
+            let value = format!(in alloc; "{number}")?;
             let mut out = Vec::new(alloc);
             put_uvarint(&mut out, number)?;
-            let value = format!(in alloc; "{number}")?;
-            value_text(alloc, &value, &out, left(bytes, next))
+            value_text(alloc, value, out, left(bytes, next))
         }
         Err(fault) => String::from_str(alloc, wire_words(fault)),
     }
@@ -89,10 +94,10 @@ fn varint_answer(alloc: Global, bytes: &[u8]) -> Result<String, AllocError>
 {
     match read_varint(bytes, 0) {
         Ok((number, next)) => {
+            let value = format!(in alloc; "{number}")?;
             let mut out = Vec::new(alloc);
             put_varint(&mut out, number)?;
-            let value = format!(in alloc; "{number}")?;
-            value_text(alloc, &value, &out, left(bytes, next))
+            value_text(alloc, value, out, left(bytes, next))
         }
         Err(fault) => String::from_str(alloc, wire_words(fault)),
     }
@@ -103,10 +108,10 @@ fn varlong_answer(alloc: Global, bytes: &[u8]) -> Result<String, AllocError>
 {
     match read_varlong(bytes, 0) {
         Ok((number, next)) => {
+            let value = format!(in alloc; "{number}")?;
             let mut out = Vec::new(alloc);
             put_varlong(&mut out, number)?;
-            let value = format!(in alloc; "{number}")?;
-            value_text(alloc, &value, &out, left(bytes, next))
+            value_text(alloc, value, out, left(bytes, next))
         }
         Err(fault) => String::from_str(alloc, wire_words(fault)),
     }
@@ -117,10 +122,10 @@ fn u16_answer(alloc: Global, bytes: &[u8]) -> Result<String, AllocError>
 {
     match read_u16(bytes, 0) {
         Ok((number, next)) => {
+            let value = format!(in alloc; "{number}")?;
             let mut out = Vec::new(alloc);
             put_u16(&mut out, number)?;
-            let value = format!(in alloc; "{number}")?;
-            value_text(alloc, &value, &out, left(bytes, next))
+            value_text(alloc, value, out, left(bytes, next))
         }
         Err(fault) => String::from_str(alloc, wire_words(fault)),
     }
@@ -131,10 +136,10 @@ fn u32_answer(alloc: Global, bytes: &[u8]) -> Result<String, AllocError>
 {
     match read_u32(bytes, 0) {
         Ok((number, next)) => {
+            let value = format!(in alloc; "{number}")?;
             let mut out = Vec::new(alloc);
             put_u32(&mut out, number)?;
-            let value = format!(in alloc; "{number}")?;
-            value_text(alloc, &value, &out, left(bytes, next))
+            value_text(alloc, value, out, left(bytes, next))
         }
         Err(fault) => String::from_str(alloc, wire_words(fault)),
     }
@@ -145,10 +150,10 @@ fn u64_answer(alloc: Global, bytes: &[u8]) -> Result<String, AllocError>
 {
     match read_u64(bytes, 0) {
         Ok((number, next)) => {
+            let value = format!(in alloc; "{number}")?;
             let mut out = Vec::new(alloc);
             put_u64(&mut out, number)?;
-            let value = format!(in alloc; "{number}")?;
-            value_text(alloc, &value, &out, left(bytes, next))
+            value_text(alloc, value, out, left(bytes, next))
         }
         Err(fault) => String::from_str(alloc, wire_words(fault)),
     }
@@ -159,10 +164,10 @@ fn i8_answer(alloc: Global, bytes: &[u8]) -> Result<String, AllocError>
 {
     match read_i8(bytes, 0) {
         Ok((number, next)) => {
+            let value = format!(in alloc; "{number}")?;
             let mut out = Vec::new(alloc);
             put_i8(&mut out, number)?;
-            let value = format!(in alloc; "{number}")?;
-            value_text(alloc, &value, &out, left(bytes, next))
+            value_text(alloc, value, out, left(bytes, next))
         }
         Err(fault) => String::from_str(alloc, wire_words(fault)),
     }
@@ -173,10 +178,10 @@ fn i16_answer(alloc: Global, bytes: &[u8]) -> Result<String, AllocError>
 {
     match read_i16(bytes, 0) {
         Ok((number, next)) => {
+            let value = format!(in alloc; "{number}")?;
             let mut out = Vec::new(alloc);
             put_i16(&mut out, number)?;
-            let value = format!(in alloc; "{number}")?;
-            value_text(alloc, &value, &out, left(bytes, next))
+            value_text(alloc, value, out, left(bytes, next))
         }
         Err(fault) => String::from_str(alloc, wire_words(fault)),
     }
@@ -187,10 +192,10 @@ fn i32_answer(alloc: Global, bytes: &[u8]) -> Result<String, AllocError>
 {
     match read_i32(bytes, 0) {
         Ok((number, next)) => {
+            let value = format!(in alloc; "{number}")?;
             let mut out = Vec::new(alloc);
             put_i32(&mut out, number)?;
-            let value = format!(in alloc; "{number}")?;
-            value_text(alloc, &value, &out, left(bytes, next))
+            value_text(alloc, value, out, left(bytes, next))
         }
         Err(fault) => String::from_str(alloc, wire_words(fault)),
     }
@@ -201,10 +206,10 @@ fn i64_answer(alloc: Global, bytes: &[u8]) -> Result<String, AllocError>
 {
     match read_i64(bytes, 0) {
         Ok((number, next)) => {
+            let value = format!(in alloc; "{number}")?;
             let mut out = Vec::new(alloc);
             put_i64(&mut out, number)?;
-            let value = format!(in alloc; "{number}")?;
-            value_text(alloc, &value, &out, left(bytes, next))
+            value_text(alloc, value, out, left(bytes, next))
         }
         Err(fault) => String::from_str(alloc, wire_words(fault)),
     }
@@ -216,10 +221,10 @@ fn count_answer(alloc: Global, bytes: &[u8]) -> Result<String, AllocError>
 {
     match read_count(bytes, 0) {
         Ok((number, next)) => {
+            let value = format!(in alloc; "{number}")?;
             let mut out = Vec::new(alloc);
             put_count(&mut out, number)?;
-            let value = format!(in alloc; "{number}")?;
-            value_text(alloc, &value, &out, left(bytes, next))
+            value_text(alloc, value, out, left(bytes, next))
         }
         Err(fault) => String::from_str(alloc, wire_words(fault)),
     }
@@ -230,9 +235,10 @@ fn bool_answer(alloc: Global, bytes: &[u8]) -> Result<String, AllocError>
 {
     match read_bool(bytes, 0) {
         Ok((value, next)) => {
+            let word = String::from_str(alloc, bool_word(value))?;
             let mut out = Vec::new(alloc);
             put_bool(&mut out, value)?;
-            value_text(alloc, bool_word(value), &out, left(bytes, next))
+            value_text(alloc, word, out, left(bytes, next))
         }
         Err(fault) => String::from_str(alloc, wire_words(fault)),
     }
@@ -252,10 +258,10 @@ fn id_answer(alloc: Global, bytes: &[u8]) -> Result<String, AllocError>
 {
     match read_id(bytes, 0) {
         Ok((id, next)) => {
+            let value = halves(alloc, id)?;
             let mut out = Vec::new(alloc);
             put_id(&mut out, id)?;
-            let value = halves(alloc, id)?;
-            value_text(alloc, &value, &out, left(bytes, next))
+            value_text(alloc, value, out, left(bytes, next))
         }
         Err(fault) => String::from_str(alloc, wire_words(fault)),
     }
@@ -287,10 +293,10 @@ fn count_or_null_answer(alloc: Global, bytes: &[u8]) -> Result<String, AllocErro
 {
     match read_count_or_null(bytes, 0) {
         Ok((count, next)) => {
+            let value = count_or_null_text(alloc, count)?;
             let mut out = Vec::new(alloc);
             put_count_or_null(&mut out, count)?;
-            let value = count_or_null_text(alloc, count)?;
-            value_text(alloc, &value, &out, left(bytes, next))
+            value_text(alloc, value, out, left(bytes, next))
         }
         Err(fault) => String::from_str(alloc, wire_words(fault)),
     }
@@ -313,10 +319,10 @@ fn read_text(alloc: Global, text: &Text, left: usize) -> Result<String, AllocErr
     requires { length text.now < 2 ^ 31 }
     ensures { IfOk result (λ said. string_bytes said ≡ ((words.text_words text.now).0 ␣ (encode_lower (words.text_words text.now).1 ␣ decimal left))) }
 {
+    let value = hex_text(alloc, text.as_bytes())?;
     let mut out = Vec::new(alloc);
     put_str(&mut out, text.as_str())?;
-    let value = hex_text(alloc, text.as_bytes())?;
-    value_text(alloc, &value, &out, left)
+    value_text(alloc, value, out, left)
 }
 
 fn str_answer(alloc: Global, bytes: &[u8]) -> Result<String, AllocError>
@@ -336,9 +342,10 @@ fn str_answer(alloc: Global, bytes: &[u8]) -> Result<String, AllocError>
 fn read_null(alloc: Global, left: usize) -> Result<String, AllocError>
     ensures { IfOk result (λ said. string_bytes said ≡ ((words.text_or_null_words None).0 ␣ (encode_lower (words.text_or_null_words None).1 ␣ decimal left))) }
 {
+    let value = String::from_str(alloc, "null")?;
     let mut out = Vec::new(alloc);
     put_str_or_null(&mut out, None)?;
-    value_text(alloc, "null", &out, left)
+    value_text(alloc, value, out, left)
 }
 
 fn str_or_null_answer(alloc: Global, bytes: &[u8]) -> Result<String, AllocError>
@@ -359,10 +366,10 @@ fn str_or_null_answer(alloc: Global, bytes: &[u8]) -> Result<String, AllocError>
 fn read_tag_text(alloc: Global, number: u32, size: u32, left: usize) -> Result<String, AllocError>
     ensures { IfOk result (λ said. string_bytes said ≡ ((words.tag_words (number, size)).0 ␣ (encode_lower (words.tag_words (number, size)).1 ␣ decimal left))) }
 {
+    let value = format!(in alloc; "{number} {size}")?;
     let mut out = Vec::new(alloc);
     put_tag(&mut out, number, size)?;
-    let value = format!(in alloc; "{number} {size}")?;
-    value_text(alloc, &value, &out, left)
+    value_text(alloc, value, out, left)
 }
 
 fn tag_answer(alloc: Global, bytes: &[u8], last: Option<u32>) -> Result<String, AllocError>

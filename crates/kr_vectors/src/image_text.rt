@@ -1,22 +1,14 @@
 //! An image in words: what its walks pass, each entry as it is looked up.
 
 use crate::answers::Answers;
-use kr_defs::{Broker, ConfigKey, Endpoint, Range, Text, Topic};
+use kr_defs::{Broker, ConfigKey, Endpoint, Partition, Range, Text};
 use kr_image::ImageStore;
 use kr_rows_rules::partition_text;
-use kr_store::{At, Counts, Store};
+use kr_store::{At, Store};
 use std::alloc::{AllocError, Global};
 
 // A walk passes at most so many entries.
 const MOST_ENTRIES: u32 = 20_000;
-
-/// How much the present image has: brokers, topics, partitions, bytes of settings and features.
-pub(crate) fn counts_text(alloc: Global, counts: &Counts) -> Result<String, AllocError> {
-    let (brokers, topics, partitions) = (counts.brokers, counts.topics, counts.partitions);
-    let (bytes, features) = (counts.config_bytes, counts.features);
-    let named = format!(in alloc; "{brokers} {topics} {partitions}")?;
-    format!(in alloc; "{named} {bytes} {features}")
-}
 
 /// The entries of the image at this place, in the order of their kinds and keys. Where the place is an epoch that isn't
 /// kept there are none.
@@ -44,12 +36,23 @@ fn tell_features(
         let Ok(Some((name, _))) = store.next_feature(at, after) else {
             break;
         };
-        if let Ok(Some(level)) = store.feature(at, name) {
-            answers.add(&feature_text(alloc, name.as_str(), *level)?)?;
-        }
+        tell_feature(alloc, store, at, name, answers)?;
         after = Some(name);
     }
     Ok(())
+}
+
+fn tell_feature(
+    alloc: Global,
+    store: &ImageStore,
+    at: At,
+    name: &Text,
+    answers: &mut Answers,
+) -> Result<(), AllocError> {
+    match store.feature(at, name) {
+        Ok(Some(level)) => answers.add(&feature_text(alloc, name.as_str(), *level)?),
+        _ => Ok(()),
+    }
 }
 
 fn feature_text(alloc: Global, name: &str, level: i16) -> Result<String, AllocError> {
@@ -67,12 +70,23 @@ fn tell_brokers(
         let Ok(Some((id, _))) = store.next_broker(at, after) else {
             break;
         };
-        if let Ok(Some(broker)) = store.broker(at, *id) {
-            answers.add(&broker_text(alloc, *id, broker)?)?;
-        }
+        tell_broker(alloc, store, at, *id, answers)?;
         after = Some(id);
     }
     Ok(())
+}
+
+fn tell_broker(
+    alloc: Global,
+    store: &ImageStore,
+    at: At,
+    id: i32,
+    answers: &mut Answers,
+) -> Result<(), AllocError> {
+    match store.broker(at, id) {
+        Ok(Some(broker)) => answers.add(&broker_text(alloc, id, broker)?),
+        _ => Ok(()),
+    }
 }
 
 fn broker_text(alloc: Global, id: i32, broker: &Broker) -> Result<String, AllocError> {
@@ -142,21 +156,32 @@ fn tell_topics(
         let Ok(Some((name, topic))) = store.next_topic(at, after) else {
             break;
         };
-        if let (Ok(Some(named)), Ok(Some(by_id))) = (
-            store.topic_named(at, name),
-            store.topic(at, topic.id),
-        ) {
-            answers.add(&topic_text(alloc, named, by_id)?)?;
-        }
+        tell_topic(alloc, store, at, name, topic.id, answers)?;
         after = Some(name);
     }
     Ok(())
 }
 
 // The name by the id, and the id by the name.
-fn topic_text(alloc: Global, named: &Topic, by_id: &Topic) -> Result<String, AllocError> {
-    let id = id_text(alloc, named.id)?;
-    let name = by_id.name.as_str();
+fn tell_topic(
+    alloc: Global,
+    store: &ImageStore,
+    at: At,
+    name: &Text,
+    id: u128,
+    answers: &mut Answers,
+) -> Result<(), AllocError> {
+    let Ok(Some(named)) = store.topic_named(at, name) else {
+        return Ok(());
+    };
+    let Ok(Some(by_id)) = store.topic(at, id) else {
+        return Ok(());
+    };
+    answers.add(&topic_text(alloc, by_id.name.as_str(), named.id)?)
+}
+
+fn topic_text(alloc: Global, name: &str, id: u128) -> Result<String, AllocError> {
+    let id = id_text(alloc, id)?;
     format!(in alloc; "topic \"{name}\" {id}")
 }
 
@@ -171,17 +196,32 @@ fn tell_partitions(
         let Ok(Some((key, _))) = store.next_partition(at, after) else {
             break;
         };
-        if let Ok(Some(partition)) = store.partition(at, key.0, key.1) {
-            let words = partition_text(alloc, partition)?;
-            answers.add(&placed_text(alloc, key, &words)?)?;
-        }
+        tell_partition(alloc, store, at, key, answers)?;
         after = Some(key);
     }
     Ok(())
 }
 
-fn placed_text(alloc: Global, key: &(u128, i32), words: &str) -> Result<String, AllocError> {
+fn tell_partition(
+    alloc: Global,
+    store: &ImageStore,
+    at: At,
+    key: &(u128, i32),
+    answers: &mut Answers,
+) -> Result<(), AllocError> {
+    match store.partition(at, key.0, key.1) {
+        Ok(Some(partition)) => answers.add(&placed_text(alloc, key, partition)?),
+        _ => Ok(()),
+    }
+}
+
+fn placed_text(
+    alloc: Global,
+    key: &(u128, i32),
+    partition: &Partition,
+) -> Result<String, AllocError> {
     let topic = id_text(alloc, key.0)?;
+    let words = partition_text(alloc, partition)?;
     let index = key.1;
     format!(in alloc; "partition {topic} {index} {words}")
 }
@@ -197,12 +237,23 @@ fn tell_configs(
         let Ok(Some((key, _))) = store.next_config(at, after) else {
             break;
         };
-        if let Ok(Some(value)) = store.config(at, key) {
-            answers.add(&config_text(alloc, key, value.as_str())?)?;
-        }
+        tell_config(alloc, store, at, key, answers)?;
         after = Some(key);
     }
     Ok(())
+}
+
+fn tell_config(
+    alloc: Global,
+    store: &ImageStore,
+    at: At,
+    key: &ConfigKey,
+    answers: &mut Answers,
+) -> Result<(), AllocError> {
+    match store.config(at, key) {
+        Ok(Some(value)) => answers.add(&config_text(alloc, key, value.as_str())?),
+        _ => Ok(()),
+    }
 }
 
 fn config_text(alloc: Global, key: &ConfigKey, value: &str) -> Result<String, AllocError> {

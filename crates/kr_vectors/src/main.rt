@@ -3,12 +3,15 @@
 #![tactic(auto)]
 
 mod answers;
+mod codecs;
 mod fields;
+mod heartbeats;
 mod image_text;
 mod kinds;
+mod partitions;
+mod places;
 mod rows;
-mod sessions;
-mod store_calls;
+mod stores;
 
 use kinds::Kind;
 use kr_rows::RowFault;

@@ -4,8 +4,8 @@ ghost use Rattle.std.specs.Prelude.{◌≡◌, [], Some, length, IfOk, string_by
 ghost use Rattle.std.specs.Fmt.{decimal};
 ghost use Rattle.kr_run.specs.Endings.{EndsWith};
 ghost use Rattle.kr_rows.specs.Plain.{◌␣◌, hex_words};
-ghost use Rattle.kr_vectors.specs.SessionWords as words;
-ghost use Rattle.kr_vectors.specs.SessionWords.{TellsSession};
+ghost use Rattle.kr_rows_codec.specs.SessionWords as words;
+ghost use Rattle.kr_rows_codec.specs.SessionWords.{TellsSession};
 
 use kr_base::{MemorySink, MemorySource, NoMemory};
 use kr_rows::{hex_text, spaced};

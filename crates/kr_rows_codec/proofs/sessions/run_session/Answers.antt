@@ -1,5 +1,5 @@
-use Rattle.kr_vectors.proofs.Endings.{ends}
-use Rattle.kr_vectors.proofs.sessions.run_session.Goals as goal
+use Rattle.kr_rows_codec.proofs.Endings.{ends}
+use Rattle.kr_rows_codec.proofs.sessions.run_session.Goals as goal
 
 pub returns : goal.returns
 returns c = ends _ _ _ _ c.session.result c.session.ensures.usage c.session.ensures.done c.session.ensures.malformed c.session.ensures.too_long

@@ -1,0 +1,80 @@
+//! Rows on readers and writers of bytes, and on sessions.
+
+use crate::fields::Fields;
+use kr_rows::RowFault;
+use kr_rows_codec::{
+    Primitive, batch_answer, message_answer, primitive_answer, record_answer, session_answer,
+};
+use std::alloc::Global;
+
+/// A reader and bytes; for `tag` the last tag behind them, `.` for none.
+pub(crate) fn primitive_row(alloc: Global, fields: &mut Fields) -> Result<String, RowFault> {
+    let reader = fields.word()?;
+    let bytes = fields.bytes(alloc)?;
+    let primitive = primitive_of(reader, fields)?;
+    if bytes.len() >= 1 << 31 {
+        return Err(RowFault::Fields);
+    }
+    Ok(primitive_answer(alloc, primitive, &bytes)?)
+}
+
+fn primitive_of(reader: &str, fields: &mut Fields) -> Result<Primitive, RowFault> {
+    match reader {
+        "tag" => Ok(Primitive::Tag {
+            last: fields.number_or_none()?,
+        }),
+        _ => number_of(reader)
+            .or(other_of(reader))
+            .ok_or(RowFault::Fields),
+    }
+}
+
+fn number_of(reader: &str) -> Option<Primitive> {
+    match reader {
+        "uvarint" => Some(Primitive::Uvarint),
+        "varint" => Some(Primitive::Varint),
+        "varlong" => Some(Primitive::Varlong),
+        "i8" => Some(Primitive::I8),
+        "i16" => Some(Primitive::I16),
+        "i32" => Some(Primitive::I32),
+        "i64" => Some(Primitive::I64),
+        "u16" => Some(Primitive::U16),
+        "u32" => Some(Primitive::U32),
+        "u64" => Some(Primitive::U64),
+        _ => None,
+    }
+}
+
+fn other_of(reader: &str) -> Option<Primitive> {
+    match reader {
+        "bool" => Some(Primitive::Bool),
+        "id" => Some(Primitive::Id),
+        "str" => Some(Primitive::Text),
+        "str?" => Some(Primitive::TextOrNull),
+        "count" => Some(Primitive::Count),
+        "count?" => Some(Primitive::CountOrNull),
+        "tags" => Some(Primitive::Tags),
+        "crc32c" => Some(Primitive::Crc32c),
+        _ => None,
+    }
+}
+
+pub(crate) fn record_row(alloc: Global, fields: &mut Fields) -> Result<String, RowFault> {
+    let bytes = fields.bytes(alloc)?;
+    Ok(record_answer(alloc, &bytes)?)
+}
+
+pub(crate) fn batch_row(alloc: Global, fields: &mut Fields) -> Result<String, RowFault> {
+    let bytes = fields.bytes(alloc)?;
+    Ok(batch_answer(alloc, &bytes)?)
+}
+
+pub(crate) fn session_row(alloc: Global, fields: &mut Fields) -> Result<String, RowFault> {
+    let bytes = fields.bytes(alloc)?;
+    Ok(session_answer(alloc, bytes)?)
+}
+
+pub(crate) fn message_row(alloc: Global, fields: &mut Fields) -> Result<String, RowFault> {
+    let bytes = fields.bytes(alloc)?;
+    Ok(message_answer(alloc, &bytes)?)
+}
