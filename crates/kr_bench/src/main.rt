@@ -1,9 +1,11 @@
-//! A benchmark of record batches, request messages and placement: with no word each job is done once, with the word
+//! A benchmark of record batches, request messages, placement and images: with no word each job is done once, with the word
 //! `time` each is measured. With the word `message` one message is read from standard input.
 #![tactic(auto)]
 
 mod batches;
 mod changes;
+mod entries;
+mod image;
 mod job;
 mod load;
 mod message;

@@ -1,11 +1,13 @@
 //! Each job once, and what came of it: the same lines in each run.
 
 use crate::batches::Kind;
+use crate::image::Written;
 use crate::job::{Form, JOBS, Job, encoded};
 use crate::load::{Load, ask};
 use crate::placing::place_all;
 use crate::request::topics_of;
 use kr_batch::crc32c;
+use kr_store::{Counts, Store};
 
 /// Does each job once and prints a line on each.
 pub fn print_jobs<R: Print + AllocGlobal>(rt: &R) -> anyhow::Result<()> {
@@ -18,7 +20,8 @@ pub fn print_jobs<R: Print + AllocGlobal>(rt: &R) -> anyhow::Result<()> {
             Job::Request(form) => print_asked(rt, &load, form)?,
         }
     }
-    print_placed(rt, &load)
+    print_placed(rt, &load)?;
+    print_image(rt)
 }
 
 fn print_checksum<R: Print + AllocGlobal>(rt: &R, load: &Load) -> anyhow::Result<()> {
@@ -76,5 +79,25 @@ fn print_placed<R: Print + AllocGlobal>(rt: &R, load: &Load) -> anyhow::Result<(
         }
     }
     println!(rt; "")?;
+    Ok(())
+}
+
+fn print_image<R: Print + AllocGlobal>(rt: &R) -> anyhow::Result<()> {
+    let image = Written::new(rt.alloc())?;
+    let mut bytes = Vec::new(rt.alloc());
+    image.write(rt.alloc(), &mut bytes)?;
+    let (size, sum) = (bytes.len(), crc32c(&bytes));
+    println!(rt; "write image: {size} bytes, sum {sum:#010x}")?;
+    let (offset, store) = image.read(rt.alloc())?;
+    let Counts {
+        brokers,
+        topics,
+        partitions,
+        config_bytes,
+        ..
+    } = store.counts();
+    println!(rt;
+        "read image: at {offset}, {brokers} brokers, {topics} topics, {partitions} partitions, {config_bytes} bytes of settings"
+    )?;
     Ok(())
 }

@@ -4,11 +4,13 @@ ghost use Rattle.std.specs.Prelude.{◌≡◌, ◌*◌, ◌/◌, max};
 ghost use Rattle.std.specs.Duration.{as_nanos};
 
 use crate::batches::Kind;
+use crate::image::Written;
 use crate::job::{Form, JOBS, Job, encoded};
 use crate::load::{Load, ask};
 use crate::placing::{PARTITIONS, place_all};
 use crate::request::{TOPICS, topics_of};
 use anyhow::{Result, ensure};
+use kr_store::Store;
 use std::alloc::Global;
 use std::rt::Clock;
 use std::time::{Duration, Instant};
@@ -16,13 +18,13 @@ use std::time::{Duration, Instant};
 /// How often each job is done.
 const ROUNDS: u32 = 100;
 
-/// How often a message is read, which takes longer.
-const MESSAGE_ROUNDS: u32 = 10;
+/// How often a message is read and an image is written and read, which takes longer.
+const LONG_ROUNDS: u32 = 10;
 
 // How long the shortest round of a job took, and the shortest copy of its bytes.
 #[derive(Clone, Copy)]
 struct Row {
-    job: Job,
+    name: &'static str,
     bytes: usize,
     work: Duration,
     copy: Duration,
@@ -31,7 +33,7 @@ struct Row {
 /// Measures each job and prints a table. Time is the shortest of all rounds, and a MB a million bytes.
 pub fn print_table<R: Print + Clock + AllocGlobal>(rt: &R) -> Result<()> {
     let load = Load::new(rt.alloc())?;
-    println!(rt; "the best of {ROUNDS} rounds, of {MESSAGE_ROUNDS} where a request is read")?;
+    println!(rt; "the best of {ROUNDS} rounds, of {LONG_ROUNDS} of requests and images")?;
     println!(rt;
         "{:<16}{:>10}{:>10}{:>16}",
         "job", "bytes", "MB/s", "MB/s of a copy"
@@ -40,7 +42,32 @@ pub fn print_table<R: Print + Clock + AllocGlobal>(rt: &R) -> Result<()> {
         let row = measured(rt, rt.alloc(), &load, job)?;
         print_row(rt, &row)?;
     }
+    print_images(rt, rt.alloc())?;
     print_placing(rt, &load)
+}
+
+// An image that is written and read, beside a plain copy of its bytes.
+fn print_images<R: Print + Clock>(rt: &R, alloc: Global) -> Result<()> {
+    let image = Written::new(alloc)?;
+    let bytes = image.as_bytes();
+    let mut room = Vec::with_capacity(alloc, bytes.len())?;
+    let (mut written, mut read, mut copied) = (Duration::MAX, Duration::MAX, Duration::MAX);
+    for _ in 0..LONG_ROUNDS {
+        written = written.min(write_round(rt, alloc, &image, &mut room)?);
+        read = read.min(read_round(rt, alloc, &image)?);
+        copied = copied.min(copy_round(rt, bytes, &mut room)?);
+    }
+    print_row(rt, &image_row("write image", bytes, written, copied))?;
+    print_row(rt, &image_row("read image", bytes, read, copied))
+}
+
+fn image_row(name: &'static str, bytes: &[u8], work: Duration, copy: Duration) -> Row {
+    Row {
+        name,
+        bytes: bytes.len(),
+        work,
+        copy,
+    }
 }
 
 // The shortest time in which all partitions are placed, the grouping of the brokers by rack among it.
@@ -59,13 +86,7 @@ fn print_placing<R: Print + Clock + AllocGlobal>(rt: &R, load: &Load) -> Result<
 
 fn print_row(rt: &impl Print, row: &Row) -> Result<()> {
     let (work, copy) = (rate(row.bytes, row.work), rate(row.bytes, row.copy));
-    println!(rt;
-        "{:<16}{:>10}{:>10}{:>16}",
-        row.job.name(),
-        row.bytes,
-        work,
-        copy
-    )?;
+    println!(rt; "{:<16}{:>10}{:>10}{:>16}", row.name, row.bytes, work, copy)?;
     Ok(())
 }
 
@@ -81,7 +102,7 @@ fn measured(rt: &impl Clock, alloc: Global, load: &Load, job: Job) -> Result<Row
     let bytes = job.bytes(load);
     let mut room = Vec::with_capacity(alloc, bytes.len())?;
     let mut row = Row {
-        job,
+        name: job.name(),
         bytes: bytes.len(),
         work: Duration::MAX,
         copy: Duration::MAX,
@@ -97,7 +118,7 @@ fn measured(rt: &impl Clock, alloc: Global, load: &Load, job: Job) -> Result<Row
 
 fn rounds(job: Job) -> u32 {
     match job {
-        Job::Request(_) => MESSAGE_ROUNDS,
+        Job::Request(_) => LONG_ROUNDS,
         _ => ROUNDS,
     }
 }
@@ -167,6 +188,32 @@ fn topics_in(form: Form) -> Option<usize> {
         Form::Half => Some(TOPICS as usize / 2),
         Form::Promising => None,
     }
+}
+
+fn write_round(
+    rt: &impl Clock,
+    alloc: Global,
+    image: &Written,
+    room: &mut Vec<u8>,
+) -> Result<Duration> {
+    room.clear();
+    let start = Instant::now(rt)?;
+    image.write(alloc, room)?;
+    let time = start.elapsed(rt)?;
+    ensure!(
+        room.as_slice() == image.as_bytes(),
+        "another image was written"
+    );
+    Ok(time)
+}
+
+// The image that was read is dropped behind the time.
+fn read_round(rt: &impl Clock, alloc: Global, image: &Written) -> Result<Duration> {
+    let start = Instant::now(rt)?;
+    let (_offset, store) = image.read(alloc)?;
+    let time = start.elapsed(rt)?;
+    ensure!(store.counts() == image.counts(), "another image was read");
+    Ok(time)
 }
 
 fn placing_round(rt: &impl Clock, alloc: Global, load: &Load) -> Result<Duration> {
