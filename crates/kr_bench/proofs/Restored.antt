@@ -6,7 +6,7 @@ use Rattle.kr_store.specs.Images.{Images}
 use Rattle.kr_snapshot.specs.declared.fault.ImageFault.{ImageFault}
 use Rattle.kr_snapshot.specs.Read.{Restores, kept_once}
 
-found : ℤ × Image → Result (ℤ × Image) ImageFault → ℤ × Image
+abbrev found : ℤ × Image → Result (ℤ × Image) ImageFault → ℤ × Image
 found other (Ok x) = x
 found other (Err fault) = other
 

@@ -87,7 +87,7 @@ fn partition(alloc: Global, topic: u128, index: i32) -> Result<Record, AllocErro
 fn replicas(alloc: Global, index: i32) -> Result<Ids, AllocError> {
     let mut ids = Ids::new(alloc);
     for next in 0..3 {
-        ids.push((index % BROKERS + next) % BROKERS)?;
+        ids.push((index % BROKERS).wrapping_add(next) % BROKERS)?;
     }
     Ok(ids)
 }

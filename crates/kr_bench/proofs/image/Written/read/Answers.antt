@@ -7,6 +7,6 @@ use Rattle.kr_bench.proofs.image.Written.read.Goals as goal
 pub returns : goal.returns
 returns c =
     let image = c.args.self.now in
-    let fed = subst (λ (bytes : List ℕ). StandsFor c.feed.new.self bytes) c.deref.ensures (c.in_ok-feed.ensures.stands [] c.new-reader.ensures) in
+    let fed = subst (λ (bytes : List ℕ). StandsFor c.feed.new.self bytes) c.deref.ensures.value (c.in_ok-feed.ensures.stands [] c.new-reader.ensures) in
     let given = c.finish.ensures.exact image.bytes.items fed in
     restored c.finish.result OFFSET image.store.tip (subst (Restores c.finish.result) image.stands given)
