@@ -1,8 +1,11 @@
 mod Examples
 pub mod AllEvents
+pub mod Appended
 pub mod Begun
+pub mod CanFence
 pub mod Closing
 pub mod CommitSteps
+pub mod Fenced
 pub mod Followed
 pub mod Grown
 pub mod HandedOut
@@ -21,4 +24,6 @@ pub mod Refusals
 pub mod Settled
 pub mod Standing
 pub mod Stepping
+pub mod Ticked
 pub mod Waiting
+pub mod Written

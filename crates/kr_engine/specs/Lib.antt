@@ -9,5 +9,7 @@ pub mod Replicas
 pub mod Requests
 pub mod Runs
 pub mod Standby
+pub mod Ticking
 pub mod Ticks
 pub mod World
+pub mod Writing

@@ -134,7 +134,7 @@ impl Engine {
         })
     }
 
-    fn look_at_images(&self)
+    pub(crate) fn look_at_images(&self)
         ensures { AreValid self.now.images }
     {
         let _valid = self.store.counts();

@@ -1,17 +1,20 @@
 //! The controller: one event after the other, over the image store.
 #![tactic(auto)]
 
+mod appending;
 mod applying;
 mod commits;
 mod engine;
 mod follows;
 mod handing;
 mod images;
+mod judging;
 pub mod laws;
 mod leads;
 mod loads;
 mod losses;
 mod reasons;
+mod ticks;
 mod writes;
 
 pub use engine::Engine;

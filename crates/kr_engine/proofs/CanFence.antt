@@ -1,0 +1,199 @@
+-- Brokers may be fenced, one after the other.
+use Rattle.std.proofs.Common.{◌≡◌, ◌∙◌, sym, subst, ℤ, pos, true, false, cond, ◌+◌, ◌*◌, ◌≤◌, List, [], ◌∷◌, ◌++◌, length, refl, ap, arith}
+use Rattle.std.specs.Prelude.{◌&&◌, ◌==◌, ◌+ℤ◌, ◌-ℤ◌, ◌≤ℤ◌, Option, Some, None, Ok, IsSome, IsTrue, int_lt, is_some, unsigned_abs}
+use Rattle.std.specs.List.{list_all}
+use Rattle.std.specs.Option.{option_map_or}
+use Rattle.std.specs.Ordering.{int_cmp}
+use Rattle.kr_calls.specs.declared.events.Event.TheVariants as events
+use Rattle.kr_batch.specs.Written.{batch_bytes}
+use Rattle.kr_calls.specs.declared.events.Output.TheVariants as given
+use Rattle.kr_calls.specs.Deciding.{apply_records, has_few_targets, is_request}
+use Rattle.kr_calls.specs.TakingOut.{fencing}
+use Rattle.kr_defs.specs.declared.broker.Broker.{Broker}
+use Rattle.kr_defs.specs.declared.limits.TheConstants.{PLACES_END}
+use Rattle.kr_defs.specs.declared.options.Options.{Options}
+use Rattle.kr_defs.specs.declared.record.Record.{Record}
+use Rattle.kr_defs.specs.Heartbeats as hearing
+use Rattle.kr_defs.specs.Heartbeats.{AreHeartbeats, leave}
+use Rattle.kr_defs.specs.Image.{Image, IsValid}
+use Rattle.kr_defs.specs.Map as entries
+use Rattle.kr_defs.proofs.Tests.{both, none_is}
+use Rattle.kr_fitting.specs.Fitting.{FitsBatch}
+use Rattle.kr_fitting.proofs.Fits.{records_fit}
+use Rattle.kr_safety.proofs.FencingSizes.{fencings_fit}
+use Rattle.kr_safety.specs.HearingLaws.{HearsOf}
+use Rattle.kr_store.specs.Images.{AreValid, IsAbove, marked}
+use Rattle.kr_engine.specs.declared.writes.Write.{Write}
+use Rattle.kr_engine.specs.Engine as engines
+use Rattle.kr_engine.specs.Engine.{Core, IsEngine, IsSound, IsStep, left}
+use Rattle.kr_engine.specs.Events.{timed}
+use Rattle.kr_engine.specs.Ready.{IsReady}
+use Rattle.kr_engine.specs.Reasons.{exhausted}
+use Rattle.kr_engine.specs.Ticking.{CanFence, CanFenceAll, FencesAll, SettlesTick, lapsed_in, tick_reason}
+use Rattle.kr_engine.specs.Ticks as worlds
+use Rattle.kr_engine.specs.Ticks.{fencing_of}
+use Rattle.kr_engine.specs.World.{State, is_far, tip_of}
+use Rattle.kr_engine.specs.Writing.{Fences, Writes, appended, batch_at, place_behind}
+use Rattle.kr_engine.proofs.Begun.{none_row}
+use Rattle.kr_engine.proofs.Fenced.{fence_stands, fence_stays}
+use Rattle.kr_engine.proofs.ReadyEngines as engines_ready
+use Rattle.kr_engine.proofs.ReadyEngines.{same_image}
+use Rattle.kr_engine.proofs.Ticked.{few_lapsed, near_enough, timed_as, tick_step}
+use Rattle.kr_engine.proofs.Written.{writes_by}
+
+-- ---- one
+
+fits_by : (minimum : ℤ) (image after : Image) (broker : ℤ) (o : Option Broker) → IsValid image
+    → apply_records image (option_map_or (λ (state : Broker). fencing minimum image broker state.epoch) o []) ≡ Ok after → FitsBatch (option_map_or (λ (state : Broker). fencing minimum image broker state.epoch) o [])
+fits_by minimum image after broker None valid meaning = records_fit image after [] meaning refl
+fits_by minimum image after broker (Some state) valid meaning =
+    let records = fencing minimum image broker state.epoch in
+    records_fit image after records meaning (both (list_all has_few_targets records) (is_request records) (fencings_fit minimum image broker state.epoch valid)).1
+
+pub fencing_fits : (e between : Core) (broker : ℤ) (records : List Record) → AreValid e.images → records ≡ fencing_of e.options e.images.tip broker → apply_records e.images.tip records ≡ Ok between.images.tip → FitsBatch records
+fencing_fits e between broker records valid is meaning =
+    subst FitsBatch (sym is) (fits_by e.options.minimum e.images.tip between.images.tip broker (entries.get int_cmp e.images.tip.brokers broker) valid.tip
+    (subst (λ rs. apply_records e.images.tip rs ≡ Ok between.images.tip) is meaning))
+
+pub fencing_above : (e between : Core) → IsReady e → between.images.kept ≡ e.images.kept → between ≡ record e { images = between.images } → (place : ℤ) → IsTrue (int_lt between.tip place) → IsAbove between.images.kept place
+fencing_above e between r kept same place high =
+    subst (λ (kept : List (ℤ × Image)). IsAbove kept place) (sym kept) (r.above place (sym (ap (λ (a : Core). int_lt a.tip place) same) ∙ high))
+
+heard_apart : (a b : Core) (heard : hearing.Heartbeats) → a ≡ record b { heard = heard } → a ≡ record b { held = a.held; heard = a.heard }
+heard_apart a b heard is =
+    is ∙ (ap (λ hs. record b { held = hs; heard = heard }) (sym (ap (λ (c : Core). c.held) is)) ∙ ap (λ h. record b { held = a.held; heard = h }) (sym (ap (λ (c : Core). c.heard) is)))
+
+-- appending leaves the contacts and the writes that wait
+record Leaves (before after : Core) : Type 0 where
+  heard : after.heard ≡ before.heard
+  held : after.held ≡ before.held
+
+append_leaves : (e : Core) (records : List Record) → Leaves e (appended e records)
+append_leaves e records =
+    elim (length records == 0) as (λ b. Leaves e (cond b e (record e {
+      images = marked e.images (place_behind e records);
+      tip = place_behind e records;
+      given = e.given ++ given.Append (batch_bytes (batch_at e records)) ∷ [];
+    }))) [
+      | true ↦ record { heard = refl; held = refl }
+      | false ↦ record { heard = refl; held = refl }
+    ]
+
+pub fences_by : (e between behind after : Core) (broker : ℤ) (records : List Record) → AreValid e.images → records ≡ fencing_of e.options e.images.tip broker → apply_records e.images.tip records ≡ Ok between.images.tip
+    → between.images.kept ≡ e.images.kept → between ≡ record e { images = between.images } → behind ≡ appended between records → after ≡ record behind { heard = leave behind.heard broker } → Fences e after broker
+fences_by e between behind after broker records valid is meaning kept same appends left =
+    let fits = fencing_fits e between broker records valid is meaning in
+    let own = append_leaves between records in
+    record {
+      writes = subst (λ rs. Writes e after rs) is
+          (writes_by e between after records (same ∙ ap (λ h. record e { images = between.images; heard = h }) (sym (ap (λ (b : Core). b.heard) same))) kept meaning fits.few
+          (heard_apart after behind (leave behind.heard broker) left ∙ ap (λ (b : Core). record b { held = after.held; heard = after.heard }) appends));
+      heard = ap (λ (a : Core). a.heard) left ∙ ap (λ h. leave h broker) (ap (λ (a : Core). a.heard) appends ∙ (own.heard ∙ ap (λ (a : Core). a.heard) same));
+      held = ap (λ (a : Core). a.held) left ∙ (ap (λ (a : Core). a.held) appends ∙ (own.held ∙ ap (λ (a : Core). a.held) same));
+    }
+
+pub fencing_low : (e between : Core) → IsReady e → between ≡ record e { images = between.images } → between.tip ≤ℤ PLACES_END
+fencing_low e between r same = subst (λ t. t ≤ℤ PLACES_END) (sym (ap (λ (a : Core). a.tip) same)) r.low
+
+pub ruleset fence = (fencing_fits, fencing_above, fencing_low, fences_by)
+
+-- ---- the records
+
+pub registered_records : (options : Options) (image : Image) (broker : ℤ) (records : List Record) → is_some (entries.get int_cmp image.brokers broker) ≡ true
+    → ((state : Broker) → entries.get int_cmp image.brokers broker ≡ Some state → records ≡ fencing options.minimum image broker state.epoch) → records ≡ fencing_of options image broker
+registered_records options image broker records there own = by_get (entries.get int_cmp image.brokers broker) refl
+  where
+    by_get : (o : Option Broker) → entries.get int_cmp image.brokers broker ≡ o → records ≡ option_map_or (λ (state : Broker). fencing options.minimum image broker state.epoch) (entries.get int_cmp image.brokers broker) []
+    by_get None absent = let both : false ≡ true = sym (ap (λ (o : Option Broker). is_some o) absent) ∙ there in absurd cc
+    by_get (Some state) is = own state is ∙ ap (λ (o : Option Broker). option_map_or (λ (state : Broker). fencing options.minimum image broker state.epoch) o []) (sym is)
+
+pub absent_records : (options : Options) (image : Image) (broker : ℤ) → is_some (entries.get int_cmp image.brokers broker) ≡ false → [] ≡ fencing_of options image broker
+absent_records options image broker absent = ap (λ (o : Option Broker). option_map_or (λ (state : Broker). fencing options.minimum image broker state.epoch) o []) (sym (none_is (entries.get int_cmp image.brokers broker) absent))
+
+pub ruleset fencing_records = (registered_records, absent_records)
+
+-- ---- all
+
+module _ (e : Core) (brokers : List ℤ) (broker : ℤ) (others : List ℤ) (is : brokers ≡ broker ∷ others) (can : CanFenceAll e brokers) where
+  own_can : CanFence e (length (broker ∷ others))
+  own_can = subst (CanFenceAll e) is can
+
+  pub one_valid : AreValid e.images
+  one_valid = own_can.valid
+
+  pub one_ready : IsReady e
+  one_ready = engines_ready.ready e own_can.sound own_can.valid
+
+  then_room : (s : State) (writes : List Write) → IsEngine e s writes → tip_of s + 10000 * length (broker ∷ others) ≤ unsigned_abs PLACES_END
+  then_room s writes k = subst (λ t. unsigned_abs t + 10000 * length (broker ∷ others) ≤ unsigned_abs PLACES_END) k.tip own_can.room
+
+  can_next : (others' : List ℤ) → others ≡ others' → (between : Core) → Fences e between broker → AreValid between.images → CanFenceAll between others'
+  can_next [] same between f valid = tt
+  can_next (next ∷ rest) same between f valid =
+      let c = own_can in
+      let s = c.sound.state in
+      let k = c.sound.stands in
+      let room = then_room s c.sound.writes k in
+      let leads : IsSome s.world.leading = subst (λ (l : Option ℤ). IsSome l) k.leading c.leads in
+      let few = f.writes.few in
+      let stands = fence_stands e between broker f s c.sound.writes k c.valid.tip leads (omega (arith, room)) in
+      let tip_is = ap unsigned_abs (ap (λ (a : Core). a.tip) f.writes.same ∙ ap (λ t. t +ℤ pos (length (fencing_of e.options e.images.tip broker))) k.tip) in
+      let count = ap (λ (l : List ℤ). length l) same in
+      record {
+        sound = record { state = worlds.fence e.options s broker; writes = c.sound.writes; stands = stands };
+        valid = valid;
+        leads = subst (λ (l : Option ℤ). IsSome l) (sym (fence_stays e between broker f).leading) c.leads;
+        room = omega (arith, room, few, tip_is, count);
+      }
+
+  pub then_can : (between : Core) → Fences e between broker → AreValid between.images → CanFenceAll between others
+  then_can between f valid = can_next others refl between f valid
+
+pub all_more : (e between after : Core) (brokers : List ℤ) (broker : ℤ) (others : List ℤ) → brokers ≡ broker ∷ others → Fences e between broker → FencesAll between after others → FencesAll e after brokers
+all_more e between after brokers broker others is first rest = subst (FencesAll e after) (sym is) (between, first, rest)
+
+pub all_done : (e : Core) (brokers : List ℤ) → brokers ≡ [] → FencesAll e e brokers
+all_done e brokers is = subst (FencesAll e e) (sym is) refl
+
+pub ruleset fence_all = (one_valid, one_ready, then_can, all_more, all_done)
+
+-- ---- those whose session has ended
+
+can_all : (e : Core) (ids : List ℤ) → CanFence e (length ids) → CanFenceAll e ids
+can_all e [] can = tt
+can_all e (id ∷ ids) can = can
+
+pub can_lapse : (e : Core) (now : ℤ) → IsSound e → AreValid e.images → AreHeartbeats e.heard → tick_reason (engines.timed e (events.Tick now)) ≡ None → CanFenceAll (engines.timed e (events.Tick now)) (lapsed_in (engines.timed e (events.Tick now)))
+can_lapse e now sound valid are free = by_leading sound.state.world.leading refl
+  where
+    before : Core
+    before = engines.timed e (events.Tick now)
+
+    k : IsEngine e sound.state sound.writes
+    k = sound.stands
+
+    by_leading : (leading : Option ℤ) → sound.state.world.leading ≡ leading → CanFenceAll before (lapsed_in before)
+    by_leading None none = subst (CanFenceAll before) (sym (ap (λ (h : hearing.Heartbeats). hearing.expired h (before.time -ℤ pos e.options.session_ms)) (k.heard_of ∙ (k.is_state.at_standby none).1))) tt
+    by_leading (Some epoch) leads =
+        let some : IsSome sound.state.world.leading = subst (λ (l : Option ℤ). IsSome l) (sym leads) refl in
+        let one = none_row (is_some e.leading && is_far e.tip) (exhausted e.tip) None free in
+        let near : is_far e.tip ≡ false = sym (ap (λ (l : Option ℤ). is_some l && is_far e.tip) (k.leading ∙ leads)) ∙ one.0 in
+        let hears = subst (HearsOf (hearing.heard sound.state.basis)) (same_image e sound.state sound.writes k) (k.is_state.hears some) in
+        let few = few_lapsed e.heard e.images.tip (before.time -ℤ pos e.options.session_ms) are (subst (λ h. HearsOf h e.images.tip) (sym k.heard_of) hears) valid.tip in
+        can_all before (lapsed_in before) (record {
+          sound = record { state = timed sound.state (events.Tick now); writes = sound.writes; stands = timed_as e now sound.state sound.writes k };
+          valid = valid;
+          leads = subst (λ (l : Option ℤ). IsSome l) (sym k.leading) some;
+          room = subst (λ t. unsigned_abs t + 10000 * length (lapsed_in before) ≤ unsigned_abs PLACES_END) (sym k.tip)
+              (near_enough (tip_of sound.state) (length (lapsed_in before)) (ap is_far (sym k.tip) ∙ near) few);
+        })
+
+pub ready_in_time : (e : Core) (now : ℤ) → IsSound e → AreValid e.images → IsReady (engines.timed e (events.Tick now))
+ready_in_time e now sound valid = engines_ready.timed_ready e now (engines_ready.ready e sound valid)
+
+pub noted_step : (e noted core after : Core) (now : ℤ) → noted ≡ engines.timed e (events.Tick now) → left e ≡ [] → AreValid e.images → AreHeartbeats e.heard
+    → SettlesTick noted core (tick_reason noted) → after ≡ engines.counted core → IsStep e after (events.Tick now)
+noted_step e noted core after now is drained valid are settles counts =
+    tick_step e core after now drained valid are (subst (λ (before : Core). SettlesTick before core (tick_reason before)) is settles) counts
+
+pub ruleset tick = (can_lapse, ready_in_time)

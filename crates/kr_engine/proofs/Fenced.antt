@@ -1,0 +1,191 @@
+-- What it makes of an engine that a broker is fenced.
+use Rattle.std.proofs.Common.{◌≡◌, ◌∙◌, sym, subst, ℕ, ℤ, pos, negsuc, Bool, true, false, cond, ◌+◌, ◌*◌, ◌≤◌, List, [], ◌∷◌, ◌++◌, length, refl, ap, arith, All, not}
+use Rattle.std.proofs.lemmas.Bool.{and_from}
+use Rattle.std.proofs.lemmas.List.{append_assoc, append-nil}
+use Rattle.std.proofs.lemmas.List.Elements.{All-from_recursion, recursion_from_All}
+use Rattle.std.proofs.lemmas.Bool.Decides.{nat_tests}
+use Rattle.std.specs.Prelude.{Option, Some, None, Ok, filter, int_le, unsigned_abs, IsSome, ◌&&◌, ◌+ℤ◌}
+use Rattle.std.specs.List.{AllByRecursion, list_all}
+use Rattle.std.specs.Option.{option_map_or}
+use Rattle.std.specs.Ordering.{int_cmp, int_eq}
+use Rattle.kr_calls.specs.Deciding.{apply_records}
+use Rattle.kr_calls.specs.TakingOut.{fencing}
+use Rattle.kr_defs.specs.declared.basis.Basis.{Basis}
+use Rattle.kr_defs.specs.declared.basis.Contact.{Contact}
+use Rattle.kr_defs.specs.declared.broker.Broker.{Broker}
+use Rattle.kr_defs.specs.declared.limits.TheConstants.{PLACES_END}
+use Rattle.kr_defs.specs.declared.record.Record.{Record}
+use Rattle.kr_defs.specs.Brokers as brokers
+use Rattle.kr_defs.specs.Heartbeats as hearing
+use Rattle.kr_defs.specs.Heartbeats.{Heartbeats, leave}
+use Rattle.kr_defs.specs.Ids.{has}
+use Rattle.kr_defs.specs.Image.{Image, IsValid}
+use Rattle.kr_defs.specs.Map as entries
+use Rattle.kr_defs.proofs.Hearing.{leaves}
+use Rattle.kr_defs.proofs.IdLists.{same_id}
+use Rattle.kr_defs.proofs.Tests.{both}
+use Rattle.kr_safety.specs.HearingLaws.{HearsOf}
+use Rattle.kr_safety.proofs.BrokerTests.{by_get, passing}
+use Rattle.kr_safety.proofs.HearingRequests.{fencings_keep_hearing}
+use Rattle.kr_safety.proofs.SafeRequests.{valid_after}
+use Rattle.kr_engine.specs.declared.writes.Write.{Write}
+use Rattle.kr_engine.specs.Engine.{Core, IsEngine, are_in_order}
+use Rattle.kr_engine.specs.Outputs.{append, append_fencings, is_open}
+use Rattle.kr_engine.specs.Ticking.{FencesAll}
+use Rattle.kr_engine.specs.Ticks.{fence, fence_all, fencing_of}
+use Rattle.kr_engine.specs.World as worlds
+use Rattle.kr_engine.specs.World.{State, image_of_tip, tip_of}
+use Rattle.kr_engine.specs.Writing.{Fences, append_output}
+use Rattle.kr_engine.proofs.ReadyEngines.{same_image}
+use Rattle.kr_engine.proofs.Stepping.{is_core}
+use Rattle.kr_engine.proofs.Written.{engine_behind, ok_is}
+
+-- who is left was heard of in time
+pub left_in_time : (p q : Contact → Bool) (contacts : List Contact) → list_all p contacts ≡ true → list_all p (filter q contacts) ≡ true
+left_in_time p q [] all = refl
+left_in_time p q (c ∷ contacts) all =
+    let parts = both (p c) (list_all p contacts) all in
+    elim (q c) as (λ b. list_all p (cond b (c ∷ filter q contacts) (filter q contacts)) ≡ true) [
+      | true ↦ and_from (p c) (list_all p (filter q contacts)) parts.0 (left_in_time p q contacts parts.1)
+      | false ↦ left_in_time p q contacts parts.1
+    ]
+
+-- ---- whom an engine hears of then
+
+-- a broker that isn't registered passes no test
+without_absent : (test : Broker → Bool) (image : Image) (k id : ℤ) → IsValid image → entries.get int_cmp image.brokers k ≡ None
+    → (has (passing test image.brokers) id && not (int_eq id k)) ≡ has (passing test image.brokers) id
+without_absent test image k id valid absent =
+    let ids = passing test image.brokers in
+    elim (int_eq id k) as (λ b. int_eq id k ≡ b → (has ids id && not b) ≡ has ids id) [
+      | true ↦ λ same.
+          let none : has ids id ≡ false = ap (has ids) (same_id id k same) ∙ (by_get test image.brokers k valid.brokers.ordered ∙ ap (λ o. option_map_or test o false) absent) in
+          ap (λ b. b && false) none ∙ sym none
+      | false ↦ λ other. and_true (has ids id)
+    ] refl
+  where
+    and_true : (b : Bool) → (b && true) ≡ b
+    and_true true = refl
+    and_true false = refl
+
+absent_leaves : (h : Heartbeats) (image : Image) (k : ℤ) → IsValid image → entries.get int_cmp image.brokers k ≡ None → HearsOf h image → HearsOf (leave h k) image
+absent_leaves h image k valid absent hears = record {
+  contacts = λ id. (leaves h k id).contacts ∙ (ap (λ b. b && not (int_eq id k)) (hears.contacts id) ∙ without_absent (λ b. not b.fenced) image k id valid absent);
+  stopping_ones = λ id. (leaves h k id).stopping ∙ (ap (λ b. b && not (int_eq id k)) (hears.stopping_ones id) ∙ without_absent brokers.is_stopping image k id valid absent);
+}
+
+hears_by : (minimum : ℤ) (h : Heartbeats) (image after : Image) (k : ℤ) (o : Option Broker) → IsValid image → entries.get int_cmp image.brokers k ≡ o → HearsOf h image
+    → apply_records image (option_map_or (λ (state : Broker). fencing minimum image k state.epoch) o []) ≡ Ok after → HearsOf (leave h k) after
+hears_by minimum h image after k None valid absent hears is = subst (HearsOf (leave h k)) (sym (ok_is image after is)) (absent_leaves h image k valid absent hears)
+hears_by minimum h image after k (Some state) valid there hears is = fencings_keep_hearing minimum h image after k state valid there hears is
+
+-- ---- one broker
+
+reached_later : (m n : ℕ) (writes : List Write) → m ≤ n → All (λ write. int_le write.need (pos m) ≡ true) writes → All (λ write. int_le write.need (pos n) ≡ true) writes
+reached_later m n writes le all = All-from_recursion (λ write. int_le write.need (pos n) ≡ true) writes (each writes (recursion_from_All (λ write. int_le write.need (pos m) ≡ true) writes all))
+  where
+    le_more : (a : ℤ) → int_le a (pos m) ≡ true → int_le a (pos n) ≡ true
+    le_more (pos a) h = grind (arith, nat_tests)
+    le_more (negsuc a) h = refl
+
+    each : (writes : List Write) → AllByRecursion (λ (write : Write). int_le write.need (pos m) ≡ true) writes → AllByRecursion (λ (write : Write). int_le write.need (pos n) ≡ true) writes
+    each [] all = tt
+    each (write ∷ writes) all = (le_more write.need all.0, each writes all.1)
+
+-- what stays of an engine whose broker was fenced
+pub record Stays (e after : Core) : Type 0 where
+  pub options : after.options ≡ e.options
+  pub leading : after.leading ≡ e.leading
+  pub committed : after.committed ≡ e.committed
+  pub held : after.held ≡ e.held
+  pub refusal : after.refusal ≡ e.refusal
+
+pub fence_stays : (e after : Core) (broker : ℤ) → Fences e after broker → Stays e after
+fence_stays e after broker f =
+    let same = f.writes.same in record {
+      options = ap (λ (a : Core). a.options) same;
+      leading = ap (λ (a : Core). a.leading) same;
+      committed = ap (λ (a : Core). a.committed) same;
+      held = f.held;
+      refusal = ap (λ (a : Core). a.refusal) same;
+    }
+
+module _ (e after : Core) (broker : ℤ) (f : Fences e after broker) (s : State) (writes : List Write) (k : IsEngine e s writes) where
+  abbrev records : List Record
+  records = fencing_of e.options e.images.tip broker
+
+  pub fence_outputs : after.given ≡ e.given ++ append s (fencing_of e.options (image_of_tip s) broker)
+  fence_outputs =
+      ap (λ (a : Core). a.given) f.writes.same
+      ∙ (ap (λ (c : Core). e.given ++ append_output c records) (is_core e s writes k)
+      ∙ ap (λ i. e.given ++ append s (fencing_of e.options i broker)) (sym (same_image e s writes k)))
+
+  pub fence_stands : IsValid e.images.tip → IsSome s.world.leading → tip_of s + 10000 ≤ unsigned_abs PLACES_END → IsEngine after (fence e.options s broker) writes
+  fence_stands valid leads room =
+      let stays = fence_stays e after broker f in
+      let few = f.writes.few in
+      let basis : Basis = worlds.hearing s.basis (leave (hearing.heard s.basis) broker) in
+      subst (λ i. IsEngine after (record { world = worlds.with_records s.world (fencing_of e.options i broker); basis = basis }) writes) (sym (same_image e s writes k))
+      (engine_behind e after s writes writes k records f.writes basis refl refl
+      (f.heard ∙ ap (λ h. leave h broker) k.heard_of)
+      (omega (arith, few, room))
+      leads
+      (hears_by e.options.minimum (hearing.heard s.basis) e.images.tip after.images.tip broker (entries.get int_cmp e.images.tip.brokers broker) valid refl
+      (subst (HearsOf (hearing.heard s.basis)) (same_image e s writes k) (k.is_state.hears leads)) f.writes.meaning)
+      (left_in_time (λ c. int_le c.time s.basis.time) (λ c. not (int_eq c.broker broker)) s.basis.contacts k.is_state.in_time)
+      (ap (λ hs. filter (is_open after.leading after.committed) hs) stays.held
+      ∙ (ap (λ l. filter (is_open l after.committed) e.held) stays.leading ∙ (ap (λ c. filter (is_open e.leading c) e.held) stays.committed ∙ k.waits)))
+      (ap are_in_order stays.held ∙ k.ordered)
+      (reached_later (tip_of s) (tip_of s + length records) writes (omega arith) k.is_state.reached))
+
+-- ---- brokers, one after the other
+
+pub record AllFenced (e after : Core) (s : State) (writes : List Write) (ids : List ℤ) : Type 0 where
+  pub stands : IsEngine after (fence_all e.options s ids) writes
+  pub outputs : after.given ≡ e.given ++ append_fencings e.options s ids
+  pub stays : Stays e after
+
+abbrev place : ℤ → ℕ
+place z = unsigned_abs z
+
+next_tip : (e between : Core) (broker : ℤ) (s : State) (writes : List Write) → Fences e between broker → IsEngine e s writes → IsEngine between (fence e.options s broker) writes
+    → tip_of (fence e.options s broker) ≡ tip_of s + length (fencing_of e.options e.images.tip broker)
+next_tip e between broker s writes f k first =
+    let n = length (fencing_of e.options e.images.tip broker) in
+    ap place (sym first.tip ∙ (ap (λ (a : Core). a.tip) f.writes.same ∙ ap (λ t. t +ℤ pos n) k.tip))
+
+pub leads_still : (e between : Core) (s t : State) → between.leading ≡ e.leading → e.leading ≡ s.world.leading → between.leading ≡ t.world.leading → IsSome s.world.leading → IsSome t.world.leading
+leads_still e between s t stays own then leads = subst (λ (l : Option ℤ). IsSome l) (sym own ∙ (sym stays ∙ then)) leads
+
+stays_then : (a b c : Core) → Stays a b → Stays b c → Stays a c
+stays_then a b c first then = record {
+  options = then.options ∙ first.options;
+  leading = then.leading ∙ first.leading;
+  committed = then.committed ∙ first.committed;
+  held = then.held ∙ first.held;
+  refusal = then.refusal ∙ first.refusal;
+}
+
+pub stays_itself : (e : Core) → Stays e e
+stays_itself e = record { options = refl; leading = refl; committed = refl; held = refl; refusal = refl }
+
+pub all_fenced : (ids : List ℤ) (e after : Core) → FencesAll e after ids → (s : State) (writes : List Write) → IsEngine e s writes → IsValid e.images.tip → IsSome s.world.leading
+    → tip_of s + 10000 * length ids ≤ unsigned_abs PLACES_END → AllFenced e after s writes ids
+all_fenced [] e after is s writes k valid leads room =
+    subst (λ (a : Core). AllFenced e a s writes []) (sym is) (record { stands = k; outputs = sym (append-nil e.given); stays = stays_itself e })
+all_fenced (broker ∷ ids) e after (between, f, rest) s writes k valid leads room =
+    let first = fence_stands e between broker f s writes k valid leads (omega (arith, room)) in
+    let stays = fence_stays e between broker f in
+    let higher = next_tip e between broker s writes f k first in
+    let few = f.writes.few in
+    let later = all_fenced ids between after rest (fence e.options s broker) writes first
+    (valid_after e.images.tip (fencing_of e.options e.images.tip broker) valid between.images.tip f.writes.meaning)
+    (leads_still e between s (fence e.options s broker) stays.leading k.leading first.leading leads)
+    (omega (arith, higher, few, room)) in
+    record {
+      stands = subst (λ o. IsEngine after (fence_all o (fence e.options s broker) ids) writes) stays.options later.stands;
+      outputs = later.outputs ∙ (ap (λ g. g ++ append_fencings between.options (fence e.options s broker) ids) (fence_outputs e between broker f s writes k)
+          ∙ (ap (λ o. (e.given ++ append s (fencing_of e.options (image_of_tip s) broker)) ++ append_fencings o (fence e.options s broker) ids) stays.options
+          ∙ append_assoc e.given (append s (fencing_of e.options (image_of_tip s) broker)) (append_fencings e.options (fence e.options s broker) ids)));
+      stays = stays_then e between after stays later.stays;
+    }
