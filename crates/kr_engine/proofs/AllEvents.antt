@@ -20,9 +20,9 @@ use Rattle.kr_engine.specs.Reasons.{ours}
 use Rattle.kr_engine.specs.Requests.{is_decided}
 use Rattle.kr_engine.specs.Runs.{HandsAll, Runs, RunsGiveOutputs}
 use Rattle.kr_engine.specs.World.{State, World, start}
-use Rattle.kr_engine.proofs.Closing.{Goes, event_goes, stays_closed}
-use Rattle.kr_engine.proofs.Standing.{le_itself, le_through}
-use Rattle.kr_engine.proofs.Waiting.{state_more, waiting_more, writes_more}
+use Rattle.kr_engine.proofs.DueWrites.{Goes, event_goes, stays_closed}
+use Rattle.kr_engine.proofs.EventsWithoutWrites.{le_itself, le_through}
+use Rattle.kr_engine.proofs.WaitingWrites.{state_more, waiting_more, writes_more}
 
 -- ---- the epochs of writes
 

@@ -16,11 +16,11 @@ use Rattle.kr_engine.specs.Leaderships.{leads_in}
 use Rattle.kr_engine.specs.Outputs.{answers, answers_in, is_open_in}
 use Rattle.kr_engine.specs.Reasons.{bad_commit, not_leading}
 use Rattle.kr_engine.specs.World.{State, tip_of}
-use Rattle.kr_engine.proofs.Happening.{outputs_accepted, refuses, stands_accepted}
+use Rattle.kr_engine.proofs.EventOutcomes.{outputs_accepted, refuses, stands_accepted}
 use Rattle.kr_engine.proofs.Places.{Moves, is_kept, moves}
 use Rattle.kr_engine.proofs.Queues.{IsDrained, drained}
 use Rattle.kr_engine.proofs.Refusals.{refused_step}
-use Rattle.kr_engine.proofs.Standing.{answers_then, fewer_wait, waits_then}
+use Rattle.kr_engine.proofs.EventsWithoutWrites.{answers_then, fewer_wait, waits_then}
 
 -- ---- the tests say the same of the engine and of the world
 

@@ -12,11 +12,11 @@ use Rattle.kr_engine.specs.Engine as engines
 use Rattle.kr_engine.specs.Engine.{Core, IsEngine, IsStep, imaged, kept_image, left}
 use Rattle.kr_engine.specs.Outputs.{answers, answers_in}
 use Rattle.kr_engine.specs.World.{State, image_of_end}
-use Rattle.kr_engine.proofs.Happening.{outputs_accepted, stands_accepted}
+use Rattle.kr_engine.proofs.EventOutcomes.{outputs_accepted, stands_accepted}
 use Rattle.kr_engine.proofs.LossSteps.{first_found}
 use Rattle.kr_engine.proofs.Queues.{IsDrained, drained}
 use Rattle.kr_engine.proofs.Refusals.{passes}
-use Rattle.kr_engine.proofs.Standing.{answers_then}
+use Rattle.kr_engine.proofs.EventsWithoutWrites.{answers_then}
 
 module _ (e : Core) (d : IsDrained e) where
   abbrev after : Core

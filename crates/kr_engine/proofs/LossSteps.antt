@@ -24,12 +24,12 @@ use Rattle.kr_engine.specs.Outputs.{answers, answers_in, is_open, is_open_in}
 use Rattle.kr_engine.specs.Reasons.{not_leading}
 use Rattle.kr_engine.specs.World.{State, seen_at, tip_of}
 use Rattle.kr_engine.proofs.CommitSteps.{same_leading}
-use Rattle.kr_engine.proofs.Happening.{outputs_accepted, refuses, stands_accepted}
+use Rattle.kr_engine.proofs.EventOutcomes.{outputs_accepted, refuses, stands_accepted}
 use Rattle.kr_engine.proofs.Logs.{apply_append, at_tip, cut_below, cut_tip}
 use Rattle.kr_engine.proofs.Places.{is_below, isnt_below}
 use Rattle.kr_engine.proofs.Queues.{IsDrained, drained, never}
 use Rattle.kr_engine.proofs.Refusals.{refused_step}
-use Rattle.kr_engine.proofs.Standing.{answers_then, waits_then}
+use Rattle.kr_engine.proofs.EventsWithoutWrites.{answers_then, waits_then}
 
 -- ---- the image at the end
 

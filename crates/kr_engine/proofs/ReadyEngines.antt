@@ -29,7 +29,7 @@ use Rattle.kr_engine.specs.Engine.{Core, IsEngine, IsSound, Rise, kept_image}
 use Rattle.kr_engine.specs.Ready.{IsReady}
 use Rattle.kr_engine.specs.World.{State, image_of_tip, tip_of}
 use Rattle.kr_engine.proofs.LossSteps.{not_higher}
-use Rattle.kr_engine.proofs.Standing.{grown, le_through}
+use Rattle.kr_engine.proofs.EventsWithoutWrites.{grown, le_through}
 
 -- ---- what is kept
 

@@ -11,9 +11,9 @@ use Rattle.kr_engine.specs.Engine.{Core, IsEngine, IsStep, left}
 use Rattle.kr_engine.specs.Events.{counted, later, next_number, outcome, timed}
 use Rattle.kr_engine.specs.Outputs.{answers, is_open_in}
 use Rattle.kr_engine.specs.World.{State, tip_of}
-use Rattle.kr_engine.proofs.Happening.{outputs_refused, stands_refused}
+use Rattle.kr_engine.proofs.EventOutcomes.{outputs_refused, stands_refused}
 use Rattle.kr_engine.proofs.Queues.{IsDrained}
-use Rattle.kr_engine.proofs.Standing.{counted_state, fewer_wait, timed_state, waits_then}
+use Rattle.kr_engine.proofs.EventsWithoutWrites.{counted_state, fewer_wait, timed_state, waits_then}
 
 -- the engine after an event that changes no state, with what it gives out
 abbrev pub passing : Core → Event → List Output → Option Output → Core

@@ -70,7 +70,7 @@ fn behind(tip: &i64, records: &Records) -> i64
 
 impl Engine {
     // The batch of records at the tip.
-    #[tactic(auto, using(crate::proofs::Appended::fits))]
+    #[tactic(auto, using(crate::proofs::EventBatches::fits))]
     fn batch_output(&self, records: Records) -> Result<Output, NoMemory>
         requires some { 1 ≤ length records }
         requires fits { FitsBatch records }
@@ -86,7 +86,7 @@ impl Engine {
     }
 
     // Appends records, behind which the present image is. Nothing is written where there are none.
-    #[tactic(auto, using(crate::proofs::Appended::some_records))]
+    #[tactic(auto, using(crate::proofs::EventBatches::some_records))]
     pub(crate) fn append(&mut self, records: Records) -> Result<(), NoMemory>
         requires low { self.old.tip ≤ℤ places_end }
         requires fits { FitsBatch records }

@@ -84,7 +84,7 @@ impl Engine {
     }
 
     /// An engine to which nothing has happened, on standby.
-    #[tactic(auto, using(crate::proofs::Opening::opened_stands, crate::proofs::Opening::opened_drained))]
+    #[tactic(auto, using(crate::proofs::NewEngines::opened_stands, crate::proofs::NewEngines::opened_drained))]
     pub fn new(alloc: Global, options: Options) -> Result<Engine, NoMemory>
         requires { IsTrue (are_options options) }
         ensures options { IfOk result (λ e. e.options ≡ options) }

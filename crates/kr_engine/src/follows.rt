@@ -35,7 +35,7 @@ fn end_of(batch: &Batch) -> i64
 }
 
 // The present image is kept under the place, and no other is.
-#[tactic(auto, using(crate::proofs::Followed::alone))]
+#[tactic(auto, using(crate::proofs::BatchSteps::alone))]
 fn keep_alone<L: Ledger>(
     store: &mut ImageStore,
     place: &i64,
@@ -80,7 +80,7 @@ impl Engine {
     }
 
     // Each of the items has a meaning, or none stays.
-    #[tactic(auto, using(crate::proofs::Followed::item_refused, crate::proofs::Followed::items_taken, crate::proofs::Followed::still_above))]
+    #[tactic(auto, using(crate::proofs::BatchSteps::item_refused, crate::proofs::BatchSteps::items_taken, crate::proofs::BatchSteps::still_above))]
     fn take_items<L: Ledger>(
         &mut self,
         items: &Items,
@@ -100,7 +100,7 @@ impl Engine {
         Ok(())
     }
 
-    #[tactic(auto, using(crate::proofs::Followed::ends_above))]
+    #[tactic(auto, using(crate::proofs::BatchSteps::ends_above))]
     fn follow_batch<L: Ledger>(
         &mut self,
         batch: &Batch,
@@ -126,7 +126,7 @@ impl Engine {
         self.take_items(&batch.items, &end, steps)
     }
 
-    #[tactic(auto, using(crate::proofs::Followed::has_items))]
+    #[tactic(auto, using(crate::proofs::BatchSteps::has_items))]
     fn settle_batch<L: Ledger>(
         &mut self,
         bytes: &Bytes,

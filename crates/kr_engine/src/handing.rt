@@ -67,7 +67,7 @@ impl Engine {
     }
 
     /// The next output of the last event, in order; none where all are handed out. It takes no memory.
-    #[tactic(auto, using(crate::proofs::HandedOut::hands_refusal, crate::proofs::HandedOut::hands_answer))]
+    #[tactic(auto, using(crate::proofs::OutputsLeft::hands_refusal, crate::proofs::OutputsLeft::hands_answer))]
     pub fn next_output(&mut self) -> Option<Output>
         requires { IsTrue (are_in_order self.old.held) }
         ensures { Hands self.old self.new result }

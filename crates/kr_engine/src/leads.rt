@@ -114,7 +114,7 @@ impl Engine {
     }
 
     // The unfenced brokers count as heard of now.
-    #[tactic(auto, using(crate::proofs::HeardOf::heard_of))]
+    #[tactic(auto, using(crate::proofs::FirstContacts::heard_of))]
     fn hear_of_all(&mut self, next: &i64) -> Result<(), NoMemory>
         ensures { OnOk result (self.new ≡ record self.old { heard = hearing.begin (brokers.unfenced self.old.images.tip) (brokers.stopping self.old.images.tip) self.old.time next.now }) }
     {
@@ -137,7 +137,7 @@ impl Engine {
         Ok(())
     }
 
-    #[tactic(auto, using(crate::proofs::HeardOf::begins_above))]
+    #[tactic(auto, using(crate::proofs::FirstContacts::begins_above))]
     fn take_lead(&mut self, epoch: &i32, next: &i64) -> Result<(), NoMemory>
         requires ready { IsReady self.old }
         ensures { OnOk result (self.new ≡ engines.counted (engines.refused_or self.old (engines.lead_reason self.old epoch.now next.now) (engines.begun self.old epoch.now next.now))) }
@@ -160,7 +160,7 @@ impl Engine {
 
     /// The quorum made this node the leader of the log from a place on, in an epoch. All outputs are handed out before. An
     /// engine that answered want of memory may only be dropped.
-    #[tactic(auto, using(crate::proofs::Begun::lead_step, crate::proofs::ReadyEngines::ready_then))]
+    #[tactic(auto, using(crate::proofs::NewLeaderships::lead_step, crate::proofs::ReadyEngines::ready_then))]
     pub fn lead(&mut self, epoch: &i32, next: &i64, now: &i64) -> Result<(), NoMemory>
         requires sound { IsSound self.old }
         requires drained { left self.old ≡ [] }

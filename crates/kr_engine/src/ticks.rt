@@ -36,7 +36,7 @@ fn is_registered<S: Store>(store: &S, broker: &i32) -> bool
 }
 
 // The records that fence a broker, with the image behind them; none where it isn't registered.
-#[tactic(auto, using(crate::proofs::CanFence::fencing_records))]
+#[tactic(auto, using(crate::proofs::Fencings::fencing_records))]
 fn fencing_of<L: Ledger>(
     alloc: Global,
     store: &mut ImageStore,
@@ -98,7 +98,7 @@ impl Engine {
     }
 
     // The broker is fenced by one batch, and leaves the contacts.
-    #[tactic(auto, using(crate::proofs::CanFence::fence))]
+    #[tactic(auto, using(crate::proofs::Fencings::fence))]
     fn fence<L: Ledger>(&mut self, broker: &i32, steps: &mut Steps<L>) -> Result<(), NoMemory>
         requires ready { IsReady self.old }
         requires valid { AreValid self.old.images }
@@ -113,7 +113,7 @@ impl Engine {
         Ok(())
     }
 
-    #[tactic(auto, using(crate::proofs::CanFence::fence_all))]
+    #[tactic(auto, using(crate::proofs::Fencings::fence_all))]
     fn fence_all<L: Ledger>(
         &mut self,
         brokers: &[i32],
@@ -172,7 +172,7 @@ impl Engine {
 
     /// Time went on: a leading controller fences the contacts whose session has ended, the one first that was heard of
     /// longest ago. All outputs are handed out before. An engine that answered want of memory may only be dropped.
-    #[tactic(auto, using(crate::proofs::CanFence::tick))]
+    #[tactic(auto, using(crate::proofs::Fencings::tick))]
     pub fn tick<L: Ledger>(&mut self, now: &i64, steps: &mut Steps<L>) -> Result<(), NoMemory>
         requires sound { IsSound self.old }
         requires drained { left self.old ≡ [] }

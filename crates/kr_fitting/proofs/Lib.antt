@@ -1,3 +1,3 @@
-pub mod Bounded
-pub mod Fits
-pub mod Light
+pub mod RequestLimits
+pub mod FittingRecords
+pub mod ShortRecords

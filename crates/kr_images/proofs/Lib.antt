@@ -1,2 +1,2 @@
-pub mod Fed
-pub mod Tells
+pub mod Pieces
+pub mod FaultWords

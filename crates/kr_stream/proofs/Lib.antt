@@ -4,6 +4,6 @@ pub mod BodyLaws
 pub mod BodyAnswers
 pub mod Parts
 pub mod Causes
-pub mod Told
-pub mod Written
+pub mod FrameLaws
+pub mod OutputFrames
 mod Examples

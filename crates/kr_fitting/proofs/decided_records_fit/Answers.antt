@@ -1,4 +1,4 @@
-use Rattle.kr_fitting.proofs.Fits.{records_fit, requests_fit}
+use Rattle.kr_fitting.proofs.FittingRecords.{records_fit, requests_fit}
 use Rattle.kr_fitting.proofs.decided_records_fit.Goals as goal
 
 pub returns-clause-requests : goal.returns-clause-requests

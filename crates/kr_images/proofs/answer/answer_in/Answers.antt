@@ -2,7 +2,7 @@ use Rattle.std.proofs.Common.{arith, rules, w64}
 use Rattle.std.specs.Prelude.{string_bytes, FitsSigned}
 use Rattle.std.proofs.lemmas.Int.{to_z-of_z}
 use Rattle.kr_snapshot.specs.Reading.{image_of}
-use Rattle.kr_images.proofs.Tells.{told_fault}
+use Rattle.kr_images.proofs.FaultWords.{told_fault}
 use Rattle.kr_images.proofs.answer.answer_in.Goals as goal
 
 pub image_in_words-requires : goal.image_in_words-requires

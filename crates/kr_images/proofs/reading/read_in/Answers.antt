@@ -1,5 +1,5 @@
 use Rattle.std.proofs.lemmas.Result.{err_from_is_err_and}
-use Rattle.kr_images.proofs.Fed.{fed_more, fed_fault}
+use Rattle.kr_images.proofs.Pieces.{fed_more, fed_fault}
 use Rattle.kr_images.proofs.reading.read_in.Goals as goal
 
 pub loop-rest-preserved : goal.loop-rest-preserved

@@ -1,5 +1,5 @@
 use Rattle.std.proofs.Common.{length}
-use Rattle.kr_images.proofs.Fed.{IsFed}
+use Rattle.kr_images.proofs.Pieces.{IsFed}
 use Rattle.kr_images.proofs.reading.read_in.Given as goal
 
 abbrev pub invariant-loop-rest : goal.invariant-loop-rest

@@ -1,5 +1,5 @@
 use Rattle.kr_calls.specs.declared.events.Output.TheVariants as outputs
-use Rattle.kr_stream.proofs.Written.{output_is}
+use Rattle.kr_stream.proofs.OutputFrames.{output_is}
 use Rattle.kr_stream.proofs.output.frame.Goals as goal
 
 pub returns-in_ok-body-in-Reply : goal.returns-in_ok-body-in-Reply

@@ -1,4 +1,4 @@
-use Rattle.kr_stream.proofs.Written.{refusal_is}
+use Rattle.kr_stream.proofs.OutputFrames.{refusal_is}
 use Rattle.kr_stream.proofs.output.refusal_body.Goals as goal
 
 pub returns : goal.returns

@@ -2,7 +2,7 @@ use Rattle.std.proofs.Common.{ℤ, subst, ◌∙◌}
 use Rattle.std.specs.Int.{w32}
 use Rattle.std.proofs.lemmas.Int.{to_z-of_z}
 use Rattle.kr_req.specs.Messages.{IsReply}
-use Rattle.kr_stream.proofs.Written.{reply_is}
+use Rattle.kr_stream.proofs.OutputFrames.{reply_is}
 use Rattle.kr_stream.proofs.output.reply_body.Goals as goal
 
 pub returns : goal.returns

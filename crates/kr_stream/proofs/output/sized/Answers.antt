@@ -1,5 +1,5 @@
 use Rattle.std.proofs.Common.{arith}
-use Rattle.kr_stream.proofs.Written.{sized_is}
+use Rattle.kr_stream.proofs.OutputFrames.{sized_is}
 use Rattle.kr_stream.proofs.output.sized.Goals as goal
 
 pub returns : goal.returns

@@ -1,4 +1,4 @@
-use Rattle.kr_stream.proofs.Told.{frames_apart}
+use Rattle.kr_stream.proofs.FrameLaws.{frames_apart}
 use Rattle.kr_stream.proofs.theorems.frames_are_told_apart.Goals as goal
 
 pub returns : goal.returns

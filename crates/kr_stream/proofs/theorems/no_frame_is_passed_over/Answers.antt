@@ -1,4 +1,4 @@
-use Rattle.kr_stream.proofs.Told.{refused_none, unfinished_none}
+use Rattle.kr_stream.proofs.FrameLaws.{refused_none, unfinished_none}
 use Rattle.kr_stream.proofs.theorems.no_frame_is_passed_over.Goals as goal
 
 pub returns-clause-refused : goal.returns-clause-refused

@@ -1,4 +1,4 @@
-use Rattle.kr_stream.proofs.Told.{outputs_apart}
+use Rattle.kr_stream.proofs.FrameLaws.{outputs_apart}
 use Rattle.kr_stream.proofs.theorems.outputs_are_told_apart.Goals as goal
 
 pub returns : goal.returns

@@ -1,4 +1,4 @@
-use Rattle.kr_engine.proofs.CanFence.{one_ready}
+use Rattle.kr_engine.proofs.Fencings.{one_ready}
 use Rattle.kr_engine.proofs.engine.Engine.+fence_all.Goals as goal
 
 pub fence-requires-clause-ready : goal.fence-requires-clause-ready

@@ -1,4 +1,4 @@
-use Rattle.kr_engine.proofs.CanFence.{fences_by}
+use Rattle.kr_engine.proofs.Fencings.{fences_by}
 use Rattle.kr_engine.proofs.engine.Engine.fence.Goals as goal
 
 pub returns-clause-fences : goal.returns-clause-fences

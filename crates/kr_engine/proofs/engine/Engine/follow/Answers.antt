@@ -1,4 +1,4 @@
-use Rattle.kr_engine.proofs.Followed.{batch_step}
+use Rattle.kr_engine.proofs.BatchSteps.{batch_step}
 use Rattle.kr_engine.proofs.engine.Engine.follow.Goals as goal
 
 pub returns-clause-step : goal.returns-clause-step

@@ -1,4 +1,4 @@
-use Rattle.kr_engine.proofs.Loaded.{load_step}
+use Rattle.kr_engine.proofs.LoadSteps.{load_step}
 use Rattle.kr_engine.proofs.engine.Engine.load.Goals as goal
 
 pub returns : goal.returns

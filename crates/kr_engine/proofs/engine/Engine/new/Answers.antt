@@ -1,4 +1,4 @@
-use Rattle.kr_engine.proofs.Opening.{all_opened}
+use Rattle.kr_engine.proofs.NewEngines.{all_opened}
 use Rattle.kr_engine.proofs.engine.Engine.new.Goals as goal
 
 -- src/engine.rt:84:5

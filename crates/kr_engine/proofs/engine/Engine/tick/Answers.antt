@@ -1,4 +1,4 @@
-use Rattle.kr_engine.proofs.CanFence.{noted_step}
+use Rattle.kr_engine.proofs.Fencings.{noted_step}
 use Rattle.kr_engine.proofs.engine.Engine.tick.Goals as goal
 
 pub returns-clause-step : goal.returns-clause-step

@@ -19,7 +19,7 @@ use Rattle.kr_defs.specs.Image.{Image, IsValid}
 use Rattle.kr_defs.specs.Map as entries
 use Rattle.kr_defs.proofs.Tests.{both, none_is}
 use Rattle.kr_fitting.specs.Fitting.{FitsBatch}
-use Rattle.kr_fitting.proofs.Fits.{records_fit}
+use Rattle.kr_fitting.proofs.FittingRecords.{records_fit}
 use Rattle.kr_safety.proofs.FencingSizes.{fencings_fit}
 use Rattle.kr_safety.specs.HearingLaws.{HearsOf}
 use Rattle.kr_store.specs.Images.{AreValid, IsAbove, marked}
@@ -34,12 +34,12 @@ use Rattle.kr_engine.specs.Ticks as worlds
 use Rattle.kr_engine.specs.Ticks.{fencing_of}
 use Rattle.kr_engine.specs.World.{State, is_far, tip_of}
 use Rattle.kr_engine.specs.Writing.{Fences, Writes, appended, batch_at, place_behind}
-use Rattle.kr_engine.proofs.Begun.{none_row}
-use Rattle.kr_engine.proofs.Fenced.{fence_stands, fence_stays}
+use Rattle.kr_engine.proofs.NewLeaderships.{none_row}
+use Rattle.kr_engine.proofs.FencingSteps.{fence_stands, fence_stays}
 use Rattle.kr_engine.proofs.ReadyEngines as engines_ready
 use Rattle.kr_engine.proofs.ReadyEngines.{same_image}
-use Rattle.kr_engine.proofs.Ticked.{few_lapsed, near_enough, timed_as, tick_step}
-use Rattle.kr_engine.proofs.Written.{writes_by}
+use Rattle.kr_engine.proofs.TickSteps.{few_lapsed, near_enough, timed_as, tick_step}
+use Rattle.kr_engine.proofs.AppendSteps.{writes_by}
 
 -- ---- one
 

@@ -36,14 +36,14 @@ use Rattle.kr_engine.specs.Replicas as replicas
 use Rattle.kr_engine.specs.Replicas.{batch_or, end_of, follow, follow_batch, unless_ill}
 use Rattle.kr_engine.specs.Standby.{Follows, Settles, follow_reason, followed, followed_by, items_reason, moved_to, read_batch_reason}
 use Rattle.kr_engine.specs.World.{State, image_of_tip, is_far, seen_at, tip_of, written}
-use Rattle.kr_engine.proofs.Begun.{near, no_writes, none_row}
-use Rattle.kr_engine.proofs.Grown.{present_then, seen_then}
+use Rattle.kr_engine.proofs.NewLeaderships.{near, no_writes, none_row}
+use Rattle.kr_engine.proofs.LongerLogs.{present_then, seen_then}
 use Rattle.kr_engine.proofs.Logs.{tip_written}
 use Rattle.kr_engine.proofs.Queues.{IsDrained, drained, never}
 use Rattle.kr_engine.proofs.ReadyEngines.{same_image, tip_only}
-use Rattle.kr_engine.proofs.Settled.{settled_step}
-use Rattle.kr_engine.proofs.Standing.{answers_then, waits_then}
-use Rattle.kr_engine.proofs.Stepping.{IsAccepted, core_of, is_core, row, unless_refused}
+use Rattle.kr_engine.proofs.StandbyOutcomes.{settled_step}
+use Rattle.kr_engine.proofs.EventsWithoutWrites.{answers_then, waits_then}
+use Rattle.kr_engine.proofs.FirstReasons.{IsAccepted, core_of, is_core, row, unless_refused}
 
 -- ---- one image is kept
 

@@ -36,7 +36,7 @@ use Rattle.kr_engine.specs.Ticks.{fence, fence_all, fencing_of, lapsed, tick}
 use Rattle.kr_engine.specs.World.{State, World, image_of_tip, is_far, tip_of, with_batch, written}
 use Rattle.kr_engine.proofs.LossSteps.{not_higher}
 use Rattle.kr_engine.proofs.Places.{moves}
-use Rattle.kr_engine.proofs.Standing.{le_itself, timed_state}
+use Rattle.kr_engine.proofs.EventsWithoutWrites.{le_itself, timed_state}
 
 -- what a batch leaves of a world
 pub record Leaves (w after : World) : Type 0 where

@@ -37,8 +37,8 @@ use Rattle.kr_engine.specs.World as worlds
 use Rattle.kr_engine.specs.World.{State, image_of_tip, tip_of}
 use Rattle.kr_engine.specs.Writing.{Fences, append_output}
 use Rattle.kr_engine.proofs.ReadyEngines.{same_image}
-use Rattle.kr_engine.proofs.Stepping.{is_core}
-use Rattle.kr_engine.proofs.Written.{engine_behind, ok_is}
+use Rattle.kr_engine.proofs.FirstReasons.{is_core}
+use Rattle.kr_engine.proofs.AppendSteps.{engine_behind, ok_is}
 
 -- who is left was heard of in time
 pub left_in_time : (p q : Contact → Bool) (contacts : List Contact) → list_all p contacts ≡ true → list_all p (filter q contacts) ≡ true

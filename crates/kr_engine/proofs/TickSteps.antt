@@ -29,13 +29,13 @@ use Rattle.kr_engine.specs.Reasons.{exhausted}
 use Rattle.kr_engine.specs.Ticking.{FencesAll, SettlesTick, lapsed_in, tick_reason}
 use Rattle.kr_engine.specs.Ticks.{fence_all, lapsed, tick}
 use Rattle.kr_engine.specs.World.{State, is_far, tip_of}
-use Rattle.kr_engine.proofs.Begun.{none_row}
-use Rattle.kr_engine.proofs.Fenced.{AllFenced, all_fenced, stays_itself}
+use Rattle.kr_engine.proofs.NewLeaderships.{none_row}
+use Rattle.kr_engine.proofs.FencingSteps.{AllFenced, all_fenced, stays_itself}
 use Rattle.kr_engine.proofs.Queues.{IsDrained, drained}
 use Rattle.kr_engine.proofs.ReadyEngines.{same_image}
 use Rattle.kr_engine.proofs.Refusals.{refused_step}
-use Rattle.kr_engine.proofs.Standing.{timed_state}
-use Rattle.kr_engine.proofs.Stepping.{IsAccepted, accepted_step, core_of, is_core, row, unless_refused}
+use Rattle.kr_engine.proofs.EventsWithoutWrites.{timed_state}
+use Rattle.kr_engine.proofs.FirstReasons.{IsAccepted, accepted_step, core_of, is_core, row, unless_refused}
 
 -- ---- at most 1,000 sessions end
 

@@ -14,7 +14,7 @@ use Rattle.kr_engine.specs.Standby.{Settles}
 use Rattle.kr_engine.specs.World.{State}
 use Rattle.kr_engine.proofs.Queues.{IsDrained}
 use Rattle.kr_engine.proofs.Refusals.{refused_step}
-use Rattle.kr_engine.proofs.Stepping.{IsAccepted, step_by, unless_refused}
+use Rattle.kr_engine.proofs.FirstReasons.{IsAccepted, step_by, unless_refused}
 
 abbrev ok : Image → Result Image Ill
 ok image = Ok image

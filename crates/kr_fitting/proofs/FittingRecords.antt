@@ -23,8 +23,8 @@ use Rattle.kr_calls.specs.Deciding.{apply_records}
 use Rattle.kr_calls.specs.Decide.{work_of}
 use Rattle.kr_calls.proofs.Standing.{requests_stand}
 use Rattle.kr_fitting.specs.Fitting.{RecordsFit, RequestsFit}
-use Rattle.kr_fitting.proofs.Bounded.{requests_bounded}
-use Rattle.kr_fitting.proofs.Light.{IsFew, written}
+use Rattle.kr_fitting.proofs.RequestLimits.{requests_bounded}
+use Rattle.kr_fitting.proofs.ShortRecords.{IsFew, written}
 
 abbrev item_bytes : Item → ℕ
 item_bytes i = length (value_bytes i)

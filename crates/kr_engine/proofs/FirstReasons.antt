@@ -12,7 +12,7 @@ use Rattle.kr_engine.specs.Engine.{Core, IsEngine, IsStep, left, refused_or}
 use Rattle.kr_engine.specs.Events.{counted, outcome, timed}
 use Rattle.kr_engine.specs.Outputs.{is_open_in, outputs_then, writes_of}
 use Rattle.kr_engine.specs.World.{State, tip_of}
-use Rattle.kr_engine.proofs.Happening.{outputs_accepted, stands_accepted}
+use Rattle.kr_engine.proofs.EventOutcomes.{outputs_accepted, stands_accepted}
 use Rattle.kr_engine.proofs.Queues.{IsDrained}
 use Rattle.kr_engine.proofs.Refusals.{refused_step}
 

@@ -21,12 +21,12 @@ use Rattle.kr_engine.specs.Reasons.{already_leading, exhausted, older_image}
 use Rattle.kr_engine.specs.Replicas.{image_or, load, load_image, loaded}
 use Rattle.kr_engine.specs.Standby.{Settles, load_reason, loaded_by, moved_to, read_image_reason}
 use Rattle.kr_engine.specs.World.{State, is_far, seen_at}
-use Rattle.kr_engine.proofs.Begun.{near, no_writes, none_row}
-use Rattle.kr_engine.proofs.Followed.{leads_not}
+use Rattle.kr_engine.proofs.NewLeaderships.{near, no_writes, none_row}
+use Rattle.kr_engine.proofs.BatchSteps.{leads_not}
 use Rattle.kr_engine.proofs.Queues.{IsDrained, drained}
-use Rattle.kr_engine.proofs.Settled.{settled_step}
-use Rattle.kr_engine.proofs.Standing.{answers_then, waits_then}
-use Rattle.kr_engine.proofs.Stepping.{IsAccepted, core_of, is_core, row, unless_refused}
+use Rattle.kr_engine.proofs.StandbyOutcomes.{settled_step}
+use Rattle.kr_engine.proofs.EventsWithoutWrites.{answers_then, waits_then}
+use Rattle.kr_engine.proofs.FirstReasons.{IsAccepted, core_of, is_core, row, unless_refused}
 
 is_natural : (z : ℤ) (n : ℕ) → int_lt z (pos n) ≡ false → z ≡ pos (unsigned_abs z)
 is_natural (pos m) n test = refl

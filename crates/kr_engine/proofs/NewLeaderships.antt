@@ -28,14 +28,14 @@ use Rattle.kr_engine.specs.Outputs.{answers, answers_in, is_open, is_open_in}
 use Rattle.kr_engine.specs.Reasons.{already_leading, bad_next, exhausted, old_epoch}
 use Rattle.kr_engine.specs.World as worlds
 use Rattle.kr_engine.specs.World.{State, World, image_of_tip, is_far, seen_at, tip_of, with_batch, written}
-use Rattle.kr_engine.proofs.Grown.{kept_then, rise_more, seen_then}
+use Rattle.kr_engine.proofs.LongerLogs.{kept_then, rise_more, seen_then}
 use Rattle.kr_engine.proofs.LeadSteps.{begun_now, control_at_tip}
 use Rattle.kr_engine.proofs.Logs.{tip_written}
 use Rattle.kr_engine.proofs.LossSteps.{none_open}
 use Rattle.kr_engine.proofs.Queues.{IsDrained, drained}
 use Rattle.kr_engine.proofs.ReadyEngines.{same_image, tip_only}
-use Rattle.kr_engine.proofs.Standing.{answers_then, timed_state, waits_then}
-use Rattle.kr_engine.proofs.Stepping.{IsAccepted, core_of, is_core, row, step_by, unless_refused}
+use Rattle.kr_engine.proofs.EventsWithoutWrites.{answers_then, timed_state, waits_then}
+use Rattle.kr_engine.proofs.FirstReasons.{IsAccepted, core_of, is_core, row, step_by, unless_refused}
 
 pub none_row : {X : Type 0} (b : Bool) (x : X) (o : Option X) → cond b (Some x) o ≡ None → (b ≡ false) × (o ≡ None)
 none_row true x o is = absurd cc
