@@ -1,7 +1,7 @@
 //! What a controller is told, and what it gives out.
 
 use crate::{Ask, Reply};
-use kr_defs::Bytes;
+use kr_defs::{Bytes, Item, Records};
 
 /// What happens to a controller.
 #[derive(Drop)]
@@ -78,5 +78,23 @@ pub enum Output {
     /// The committed image.
     Image {
         bytes: Bytes,
+    },
+}
+
+/// What the log gained, with its place.
+#[derive(Drop)]
+pub enum Entry {
+    /// An item of the log.
+    Item {
+        /// The item's offset in the log.
+        place: i64,
+        item: Item,
+    },
+    /// An image in place of all that was before.
+    Load {
+        /// The first place behind the image.
+        offset: i64,
+        /// The image's records, in the order in which an image's text has them.
+        records: Records,
     },
 }

@@ -21,7 +21,7 @@ pub use configs::{
     ConfigResponses, IncrementalAlterConfigs, IncrementalAlterConfigsReply,
 };
 pub use deciding::{Draft, Effect};
-pub use events::{Event, Output, Reason};
+pub use events::{Entry, Event, Output, Reason};
 pub use partitions::{
     AlterPartition, AlterPartitionReassignments, AlterPartitionReassignmentsReply,
     AlterPartitionReply, AlterPartitionResult, AlterPartitionResults, AlterPartitionTopic,
