@@ -15,6 +15,7 @@ ghost use Rattle.kr_brokers.specs.Judged.{basis_of};
 
 use crate::elections::unfencing_records;
 use kr_base::{NoMemory, Steps};
+use kr_calls::errors::STALE_BROKER_EPOCH;
 use kr_calls::{BrokerHeartbeat, BrokerHeartbeatReply, Draft, Effect, Reply};
 use kr_defs::{Broker, Options, Record, Records};
 use kr_rules::{Refusal, Rule, Work, decide_one};
@@ -229,10 +230,10 @@ impl<'a> Rule<BrokerHeartbeat, BrokerHeartbeatReply> for HeartbeatRule<'a> {
         entry: &BrokerHeartbeat,
     ) -> Result<Draft<BrokerHeartbeatReply>, Refusal> {
         let Some(state) = tip::broker(store, &entry.broker) else {
-            return Err(Refusal::Error(77));
+            return Err(Refusal::Error(STALE_BROKER_EPOCH));
         };
         if !is_of_epoch(entry, state) {
-            return Err(Refusal::Error(77));
+            return Err(Refusal::Error(STALE_BROKER_EPOCH));
         }
         Ok(step(
             alloc,

@@ -12,6 +12,7 @@ ghost use Rattle.kr_store.specs.Images.{last_kept};
 ghost use Rattle.kr_brokers.specs.Judged.{basis_of};
 
 use kr_base::{NoMemory, Steps};
+use kr_calls::errors::{DUPLICATE_BROKER_REGISTRATION, INCONSISTENT_CLUSTER_ID, INVALID_REQUEST};
 use kr_calls::{BrokerRegistration, BrokerRegistrationReply, Draft, Effect, Reply};
 use kr_defs::{Broker, Copied, Options, Record, Records};
 use kr_rules::{Refusal, Rule, Work, decide_one};
@@ -184,13 +185,13 @@ impl<'a> Rule<BrokerRegistration, BrokerRegistrationReply> for Registering<'a> {
         entry: &BrokerRegistration,
     ) -> Result<Draft<BrokerRegistrationReply>, Refusal> {
         if !is_of_cluster(self.options, entry) {
-            return Err(Refusal::Error(104));
+            return Err(Refusal::Error(INCONSISTENT_CLUSTER_ID));
         }
         if is_ill(entry) {
-            return Err(Refusal::Error(42));
+            return Err(Refusal::Error(INVALID_REQUEST));
         }
         if is_taken(self, store, entry) {
-            return Err(Refusal::Error(101));
+            return Err(Refusal::Error(DUPLICATE_BROKER_REGISTRATION));
         }
         Ok(registration_draft(alloc, store, self.options, work, entry)?)
     }

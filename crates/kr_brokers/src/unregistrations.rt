@@ -9,6 +9,7 @@ ghost use Rattle.kr_calls.specs.UnregisterBroker as unregistering;
 ghost use Rattle.kr_store.specs.Images.{last_kept};
 
 use kr_base::{NoMemory, Steps};
+use kr_calls::errors::BROKER_ID_NOT_REGISTERED;
 use kr_calls::{Draft, Effect, Reply, UnregisterBroker, UnregisterBrokerReply};
 use kr_defs::{Options, Record, Records};
 use kr_rules::{Refusal, Rule, Work, decide_one};
@@ -65,7 +66,7 @@ impl<'a> Rule<UnregisterBroker, UnregisterBrokerReply> for Unregistering<'a> {
         entry: &UnregisterBroker,
     ) -> Result<Draft<UnregisterBrokerReply>, Refusal> {
         match tip::broker(store, &entry.broker) {
-            None => Err(Refusal::Error(102)),
+            None => Err(Refusal::Error(BROKER_ID_NOT_REGISTERED)),
             Some(old) => Ok(Draft {
                 records: unregistration(
                     alloc,

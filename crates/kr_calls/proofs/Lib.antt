@@ -2,6 +2,7 @@ mod BrokerExamples
 pub mod BrokersLeft
 mod Cluster
 mod ConfigExamples
+mod ErrorExamples
 pub mod KeptByRequests
 pub mod OtherRequests
 mod PartitionExamples

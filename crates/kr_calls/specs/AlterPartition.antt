@@ -21,6 +21,7 @@ use Rattle.kr_defs.specs.Map.{partition_order}
 use Rattle.kr_defs.specs.Merge.{merged}
 use Rattle.kr_defs.specs.Partition.{is_recovery}
 use Rattle.kr_defs.specs.Settings.{facts_of}
+use Rattle.kr_calls.specs.declared.errors.TheConstants.{FENCED_LEADER_EPOCH, INELIGIBLE_REPLICA, INVALID_REQUEST, INVALID_UPDATE_VERSION, STALE_BROKER_EPOCH, UNKNOWN_LEADER_EPOCH, UNKNOWN_TOPIC_ID, UNKNOWN_TOPIC_OR_PARTITION}
 use Rattle.kr_calls.specs.declared.calls.Reply.{Reply}
 use Rattle.kr_calls.specs.declared.deciding.Draft.{Draft}
 use Rattle.kr_calls.specs.declared.partitions.AlterPartition.{AlterPartition}
@@ -109,16 +110,16 @@ accepted options broker image entry name p = drafted broker entry p (built p (wa
 -- the report knows the partition's epochs
 abbrev pub with_epochs : {X : Type 0} → Partition → PartitionReport → Result X ℤ → Result X ℤ
 with_epochs p report rest =
-    refuse pos 74 when int_lt report.leader_epoch p.leader_epoch else
-    refuse pos 75 when int_lt p.leader_epoch report.leader_epoch else
-    refuse pos 95 when not (int_eq report.partition_epoch p.partition_epoch) else
+    refuse FENCED_LEADER_EPOCH when int_lt report.leader_epoch p.leader_epoch else
+    refuse UNKNOWN_LEADER_EPOCH when int_lt p.leader_epoch report.leader_epoch else
+    refuse INVALID_UPDATE_VERSION when not (int_eq report.partition_epoch p.partition_epoch) else
     rest
 
 -- the report is one of the partition's leader, over brokers that may be in sync
 abbrev pub with_members : {X : Type 0} → ℤ → Image → Partition → PartitionReport → Result X ℤ → Result X ℤ
 with_members broker image p report rest =
-    refuse pos 42 when is_bad broker p report else
-    refuse pos 107 when not (list_all (is_ready image) report.in_sync) else
+    refuse INVALID_REQUEST when is_bad broker p report else
+    refuse INELIGIBLE_REPLICA when not (list_all (is_ready image) report.in_sync) else
     rest
 
 unfoldable pub of_partition : Options → ℤ → Image → Entry → List ℕ → Partition → Result (Draft AlterPartitionResult) ℤ
@@ -127,8 +128,8 @@ of_partition options broker image entry name p =
 
 abbrev pub rule : Options → ℤ → Image → ℤ → Entry → Result (Draft AlterPartitionResult) ℤ
 rule options broker image place entry =
-    found (pos 100) (topic_name image.topics entry.0) (λ name.
-    found (pos 3) (entries.get partition_order image.partitions (entry.0, entry.1.index)) (λ p.
+    found UNKNOWN_TOPIC_ID (topic_name image.topics entry.0) (λ name.
+    found UNKNOWN_TOPIC_OR_PARTITION (entries.get partition_order image.partitions (entry.0, entry.1.index)) (λ p.
     of_partition options broker image entry name p))
 
 -- no report is refused that reads so
@@ -154,7 +155,7 @@ reply_of error topics = replies.AlterPartition (record { error = error; topics =
 unfoldable pub decided : Options → Image → ℤ → AlterPartition → Work × Reply
 decided options image place request =
     let start = begun place image in
-    if is_stale image request then (start, reply_of (pos 77) []) else (
+    if is_stale image request then (start, reply_of STALE_BROKER_EPOCH []) else (
       after_groups refused (rule options request.broker) entries_of answer_of start request.topics,
       reply_of (pos 0) (group_answers refused (rule options request.broker) entries_of answer_of start request.topics),
     )

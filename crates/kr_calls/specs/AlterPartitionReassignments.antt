@@ -17,6 +17,7 @@ use Rattle.kr_defs.specs.Partition.{are_targets, is_moving, original, target}
 use Rattle.kr_defs.specs.Reassign.{added, reassigned, removed}
 use Rattle.kr_defs.specs.Settings.{facts_of, is_unclean}
 use Rattle.kr_defs.specs.Walk.{change_records}
+use Rattle.kr_calls.specs.declared.errors.TheConstants.{INVALID_REPLICA_ASSIGNMENT, NO_REASSIGNMENT_IN_PROGRESS, UNKNOWN_TOPIC_OR_PARTITION}
 use Rattle.kr_calls.specs.declared.calls.Reply.{Reply}
 use Rattle.kr_calls.specs.declared.deciding.Draft.{Draft}
 use Rattle.kr_calls.specs.declared.partitions.AlterPartitionReassignments.{AlterPartitionReassignments}
@@ -57,8 +58,8 @@ is_target image ids = are_targets ids && list_all (entries.contains int_cmp imag
 
 -- without replicas the reassignment that runs is cancelled
 abbrev pub wanted : Image → Partition → Option (List ℤ) → Result Want ℤ
-wanted image p None = refuse pos 85 when not (is_moving p) else Ok (leading_back p)
-wanted image p (Some target) = refuse pos 39 when not (is_target image target) else Ok (leading_to p target)
+wanted image p None = refuse NO_REASSIGNMENT_IN_PROGRESS when not (is_moving p) else Ok (leading_back p)
+wanted image p (Some target) = refuse INVALID_REPLICA_ASSIGNMENT when not (is_target image target) else Ok (leading_to p target)
 
 -- all that is in sync would go, and records may not be lost
 abbrev pub loses_all : Image → List ℕ → Partition → Want → Bool
@@ -69,13 +70,13 @@ loses_all image topic p want =
 
 abbrev pub of_want : Options → Image → Entry → ℕ → Partition → Want → Result (Draft ReassignablePartitionResponse) ℤ
 of_want options image entry id p want =
-    refuse pos 39 when loses_all image entry.0 p want else
+    refuse INVALID_REPLICA_ASSIGNMENT when loses_all image entry.0 p want else
     Ok (drafted entry id (built p want (facts_of options image entry.0)))
 
 abbrev pub rule : Options → Image → ℤ → Entry → Result (Draft ReassignablePartitionResponse) ℤ
 rule options image place entry =
-    found (pos 3) (entries.get text_order image.topics entry.0) (λ id.
-    found (pos 3) (entries.get partition_order image.partitions (id, entry.1.index)) (λ p.
+    found UNKNOWN_TOPIC_OR_PARTITION (entries.get text_order image.topics entry.0) (λ id.
+    found UNKNOWN_TOPIC_OR_PARTITION (entries.get partition_order image.partitions (id, entry.1.index)) (λ p.
     and_then (wanted image p entry.1.replicas) (λ want. of_want options image entry id p want)))
 
 -- ---- the whole request

@@ -21,6 +21,7 @@ use Rattle.kr_defs.specs.Ids.{has}
 use Rattle.kr_defs.specs.Image.{Image}
 use Rattle.kr_defs.specs.Settings.{facts_with}
 use Rattle.kr_defs.specs.Walk.{Walked, changes_of, walk}
+use Rattle.kr_calls.specs.declared.errors.TheConstants.{STALE_BROKER_EPOCH}
 use Rattle.kr_calls.specs.declared.brokers.BrokerHeartbeat.{BrokerHeartbeat}
 use Rattle.kr_calls.specs.declared.brokers.BrokerHeartbeatReply.{BrokerHeartbeatReply}
 use Rattle.kr_calls.specs.declared.calls.Reply.{Reply}
@@ -120,8 +121,8 @@ told request step = record {
 }
 
 abbrev pub rule : Options → Basis → Image → ℤ → BrokerHeartbeat → Result (Draft BrokerHeartbeatReply) ℤ
-rule options basis image place request = found (pos 77) (entries.get int_cmp image.brokers request.broker) (λ state.
-    refuse pos 77 when not (int_eq request.epoch state.epoch) else
+rule options basis image place request = found STALE_BROKER_EPOCH (entries.get int_cmp image.brokers request.broker) (λ state.
+    refuse STALE_BROKER_EPOCH when not (int_eq request.epoch state.epoch) else
     Ok (told request (step options.minimum basis image request state)))
 
 unfoldable pub decided : Options → Basis → Image → ℤ → BrokerHeartbeat → Work × Reply

@@ -12,6 +12,7 @@ use Rattle.kr_defs.specs.declared.record.Record.TheVariants as kinds
 use Rattle.kr_defs.specs.Guard.{refuse◌when◌else◌}
 use Rattle.kr_defs.specs.Heartbeats.{heard, valid}
 use Rattle.kr_defs.specs.Image.{Image}
+use Rattle.kr_calls.specs.declared.errors.TheConstants.{DUPLICATE_BROKER_REGISTRATION, INCONSISTENT_CLUSTER_ID, INVALID_REQUEST}
 use Rattle.kr_calls.specs.declared.brokers.BrokerRegistration.{BrokerRegistration}
 use Rattle.kr_calls.specs.declared.brokers.BrokerRegistrationReply.{BrokerRegistrationReply}
 use Rattle.kr_calls.specs.declared.calls.Reply.{Reply}
@@ -62,9 +63,9 @@ registered options image place request = record {
 
 abbrev pub rule : Options → Basis → Image → ℤ → BrokerRegistration → Result (Draft BrokerRegistrationReply) ℤ
 rule options basis image place request =
-    refuse pos 104 when not (bytes_eq request.cluster options.cluster) else
-    refuse pos 42 when int_lt request.broker (pos 0) || request.migrating || length request.listeners == 0 else
-    refuse pos 101 when is_taken options basis image request else
+    refuse INCONSISTENT_CLUSTER_ID when not (bytes_eq request.cluster options.cluster) else
+    refuse INVALID_REQUEST when int_lt request.broker (pos 0) || request.migrating || length request.listeners == 0 else
+    refuse DUPLICATE_BROKER_REGISTRATION when is_taken options basis image request else
     Ok (registered options image place request)
 
 unfoldable pub decided : Options → Basis → Image → ℤ → BrokerRegistration → Work × Reply

@@ -8,6 +8,7 @@ use Rattle.kr_defs.specs.Image.{Image}
 use Rattle.kr_defs.specs.Map.{partition_order, text_order}
 use Rattle.kr_defs.specs.Partition.{target}
 use Rattle.kr_defs.specs.Topics.{count_of}
+use Rattle.kr_calls.specs.declared.errors.TheConstants.{INVALID_PARTITIONS, INVALID_REPLICATION_FACTOR, INVALID_REPLICA_ASSIGNMENT, UNKNOWN_TOPIC_OR_PARTITION}
 use Rattle.kr_calls.specs.declared.calls.Reply.{Reply}
 use Rattle.kr_calls.specs.declared.deciding.Draft.{Draft}
 use Rattle.kr_calls.specs.declared.topics.CreatePartitions.{CreatePartitions}
@@ -27,10 +28,10 @@ are_assignable image count size assignments =
 -- the replicas of the new partitions, by index
 abbrev pub new_replicas : Image → ℤ → ℕ → ℕ → ℕ → Option (List CreatePartitionsAssignment) → Result (List (List ℤ)) ℤ
 new_replicas image place first count size (Some assignments) =
-    refuse pos 39 when not (are_assignable image count size assignments) else
+    refuse INVALID_REPLICA_ASSIGNMENT when not (are_assignable image count size assignments) else
     Ok (map (λ a. a.brokers) assignments)
 new_replicas image place first count size None =
-    refuse pos 38 when nat_lt (length (active image)) size else
+    refuse INVALID_REPLICATION_FACTOR when nat_lt (length (active image)) size else
     Ok (placements image place first count size)
 
 abbrev pub grown : Image → ℕ → ℕ → CreatePartitionsTopic → List (List ℤ) → Draft CreatePartitionsTopicResult
@@ -39,14 +40,14 @@ grown image id first entry lists = record { records = new_partitions image id fi
 -- a topic that has so many partitions; the new ones are as many replicas as its first one leads to
 abbrev pub of_topic : Image → ℤ → CreatePartitionsTopic → ℕ → ℕ → Result (Draft CreatePartitionsTopicResult) ℤ
 of_topic image place entry id first =
-    refuse pos 37 when int_le entry.count (pos first) else
-    found (pos 39) (entries.get partition_order image.partitions (id, pos 0)) (λ p.
+    refuse INVALID_PARTITIONS when int_le entry.count (pos first) else
+    found INVALID_REPLICA_ASSIGNMENT (entries.get partition_order image.partitions (id, pos 0)) (λ p.
     and_then (new_replicas image place first (unsigned_abs entry.count - first) (length (target p)) entry.assignments) (λ lists.
     Ok (grown image id first entry lists)))
 
 abbrev pub rule : Image → ℤ → CreatePartitionsTopic → Result (Draft CreatePartitionsTopicResult) ℤ
 rule image place entry =
-    found (pos 3) (entries.get text_order image.topics entry.name) (λ id. of_topic image place entry id (count_of image id))
+    found UNKNOWN_TOPIC_OR_PARTITION (entries.get text_order image.topics entry.name) (λ id. of_topic image place entry id (count_of image id))
 
 abbrev pub reply_of : List CreatePartitionsTopicResult → Reply
 reply_of results = replies.CreatePartitions (record { results = results })

@@ -16,6 +16,7 @@ use Rattle.kr_defs.specs.Image.{Image, has_topic}
 use Rattle.kr_defs.specs.Map.{config_order, text_order}
 use Rattle.kr_defs.specs.Settings.{is_setting_key, is_setting_value}
 use Rattle.kr_defs.specs.Texts.{is_topic_name, names_agree}
+use Rattle.kr_calls.specs.declared.errors.TheConstants.{INVALID_CONFIG, INVALID_PARTITIONS, INVALID_REPLICATION_FACTOR, INVALID_REPLICA_ASSIGNMENT, INVALID_REQUEST, INVALID_TOPIC_EXCEPTION, TOPIC_ALREADY_EXISTS}
 use Rattle.kr_calls.specs.declared.calls.Reply.{Reply}
 use Rattle.kr_calls.specs.declared.deciding.Draft.{Draft}
 use Rattle.kr_calls.specs.declared.topics.CreatableReplicaAssignment.{CreatableReplicaAssignment}
@@ -59,8 +60,8 @@ are_assignable image assignments =
 
 abbrev pub assigned : Image → CreatableTopic → Result Layout ℤ
 assigned image entry =
-    refuse pos 42 when not (int_eq entry.partitions (negsuc 0)) || not (int_eq entry.factor (negsuc 0)) else
-    refuse pos 39 when not (are_whole entry.assignments) || not (are_assignable image entry.assignments) else
+    refuse INVALID_REQUEST when not (int_eq entry.partitions (negsuc 0)) || not (int_eq entry.factor (negsuc 0)) else
+    refuse INVALID_REPLICA_ASSIGNMENT when not (are_whole entry.assignments) || not (are_assignable image entry.assignments) else
     Ok (record {
       partitions = pos (length entry.assignments);
       factor = pos (first_size entry.assignments);
@@ -80,8 +81,8 @@ is_factor image factor =
 
 abbrev pub spread : Image → ℤ → ℤ → ℤ → Result Layout ℤ
 spread image place partitions factor =
-    refuse pos 37 when int_lt partitions (pos 1) else
-    refuse pos 38 when not (is_factor image factor) else
+    refuse INVALID_PARTITIONS when int_lt partitions (pos 1) else
+    refuse INVALID_REPLICATION_FACTOR when not (is_factor image factor) else
     Ok (record {
       partitions = partitions;
       factor = factor;
@@ -138,15 +139,15 @@ created image validate_only id entry layout = record {
 
 abbrev pub of_layout : Options → Bool → Image → ℤ → CreatableTopic → Layout → Result (Draft CreatableTopicResult) ℤ
 of_layout options validate_only image place entry layout =
-    refuse pos 40 when list_any is_bad_setting entry.configs else
+    refuse INVALID_CONFIG when list_any is_bad_setting entry.configs else
     Ok (created image validate_only (new_id options image place) entry layout)
 
 -- the name is that of no topic, up to `.` and `_`
 abbrev pub rule : Options → Bool → Image → ℤ → CreatableTopic → Result (Draft CreatableTopicResult) ℤ
 rule options validate_only image place entry =
-    refuse pos 17 when not (is_topic_name entry.name) else
-    refuse pos 36 when entries.contains text_order image.topics entry.name else
-    refuse pos 17 when list_any (λ topic. names_agree topic.0 entry.name) image.topics else
+    refuse INVALID_TOPIC_EXCEPTION when not (is_topic_name entry.name) else
+    refuse TOPIC_ALREADY_EXISTS when entries.contains text_order image.topics entry.name else
+    refuse INVALID_TOPIC_EXCEPTION when list_any (λ topic. names_agree topic.0 entry.name) image.topics else
     and_then (layout options image place entry) (λ layout. of_layout options validate_only image place entry layout)
 
 -- ---- the whole request

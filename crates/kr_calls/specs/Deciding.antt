@@ -12,6 +12,7 @@ use Rattle.kr_defs.specs.Image.{Image}
 use Rattle.kr_defs.specs.Partition.{target}
 use Rattle.kr_defs.specs.Sizes.{value_bytes}
 use Rattle.kr_defs.specs.Weight.{weight}
+use Rattle.kr_calls.specs.declared.errors.TheConstants.{POLICY_VIOLATION}
 use Rattle.kr_calls.specs.declared.deciding.Draft.{Draft}
 
 -- the image after the records, one after the other
@@ -57,7 +58,7 @@ taken work records = cond (is_within_limits work.records records) (added work re
 
 -- Kafka's POLICY_VIOLATION, where a limit is passed
 abbrev pub over_a_limit : ℤ
-over_a_limit = pos 44
+over_a_limit = POLICY_VIOLATION
 
 -- A rule says of an entry, on one image at one place, Kafka's error number, or its records and its answer. `refused` is
 -- the answer to an entry with an error number.

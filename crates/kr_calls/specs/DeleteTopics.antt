@@ -6,6 +6,7 @@ use Rattle.kr_defs.specs.Guard.{found, refuse◌when◌else◌}
 use Rattle.kr_defs.specs.Image.{Image, topic_name}
 use Rattle.kr_defs.specs.Map.{text_order}
 use Rattle.kr_defs.specs.Topics.{is_named_once}
+use Rattle.kr_calls.specs.declared.errors.TheConstants.{INVALID_REQUEST, UNKNOWN_TOPIC_ID, UNKNOWN_TOPIC_OR_PARTITION}
 use Rattle.kr_calls.specs.declared.calls.Reply.{Reply}
 use Rattle.kr_calls.specs.declared.deciding.Draft.{Draft}
 use Rattle.kr_calls.specs.declared.topics.DeletableTopicResult.{DeletableTopicResult}
@@ -19,12 +20,12 @@ abbrev pub deleted : List ℕ → ℕ → Draft DeletableTopicResult
 deleted name id = record { records = kinds.RemoveTopic id ∷ []; answer = record { name = Some name; topic = id; error = pos 0 } }
 
 abbrev pub by_name_or_id : Image → Option (List ℕ) → ℕ → Result (Draft DeletableTopicResult) ℤ
-by_name_or_id image (Some name) id = found (pos 3) (entries.get text_order image.topics name) (λ id. Ok (deleted name id))
-by_name_or_id image None id = found (pos 100) (topic_name image.topics id) (λ name. Ok (deleted name id))
+by_name_or_id image (Some name) id = found UNKNOWN_TOPIC_OR_PARTITION (entries.get text_order image.topics name) (λ id. Ok (deleted name id))
+by_name_or_id image None id = found UNKNOWN_TOPIC_ID (topic_name image.topics id) (λ name. Ok (deleted name id))
 
 abbrev pub rule : Image → ℤ → DeleteTopicState → Result (Draft DeletableTopicResult) ℤ
 rule image place entry =
-    refuse pos 42 when not (is_named_once entry.name entry.topic) else
+    refuse INVALID_REQUEST when not (is_named_once entry.name entry.topic) else
     by_name_or_id image entry.name entry.topic
 
 abbrev pub reply_of : List DeletableTopicResult → Reply

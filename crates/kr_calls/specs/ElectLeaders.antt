@@ -17,6 +17,7 @@ use Rattle.kr_defs.specs.Image.{Image}
 use Rattle.kr_defs.specs.Map.{partition_order, text_order}
 use Rattle.kr_defs.specs.Settings.{facts_of}
 use Rattle.kr_defs.specs.Walk.{change_records, of_topic}
+use Rattle.kr_calls.specs.declared.errors.TheConstants.{ELECTION_NOT_NEEDED, ELIGIBLE_LEADERS_NOT_AVAILABLE, INVALID_REQUEST, PREFERRED_LEADER_NOT_AVAILABLE, UNKNOWN_TOPIC_OR_PARTITION}
 use Rattle.kr_calls.specs.declared.calls.Reply.{Reply}
 use Rattle.kr_calls.specs.declared.deciding.Draft.{Draft}
 use Rattle.kr_calls.specs.declared.partitions.ElectLeaders.{ElectLeaders}
@@ -46,8 +47,8 @@ first_replica p = unwrap_or (slice_get p.replicas 0) (negsuc 0)
 
 abbrev pub prefers : Options → Image → Entry → ℕ → Partition → Result (Draft PartitionElectionResult) ℤ
 prefers options image entry id p =
-    refuse pos 84 when int_eq p.leader (first_replica p) else
-    refuse pos 80 when not (has p.in_sync (first_replica p) && has (active image) (first_replica p)) else
+    refuse ELECTION_NOT_NEEDED when int_eq p.leader (first_replica p) else
+    refuse PREFERRED_LEADER_NOT_AVAILABLE when not (has p.in_sync (first_replica p) && has (active image) (first_replica p)) else
     Ok (drafted entry id (built p (in_mode p modes.Preferred) (facts_of options image entry.0)))
 
 -- ---- type 1: where nobody leads, any active replica is to lead
@@ -59,8 +60,8 @@ finds_nobody options image entry p =
 
 abbrev pub elects_any : Options → Image → Entry → ℕ → Partition → Result (Draft PartitionElectionResult) ℤ
 elects_any options image entry id p =
-    refuse pos 84 when not (int_eq p.leader (negsuc 0)) else
-    refuse pos 83 when finds_nobody options image entry p else
+    refuse ELECTION_NOT_NEEDED when not (int_eq p.leader (negsuc 0)) else
+    refuse ELIGIBLE_LEADERS_NOT_AVAILABLE when finds_nobody options image entry p else
     Ok (drafted entry id (built p (in_mode p modes.Unclean) (facts_of options image entry.0)))
 
 -- ---- both types
@@ -77,8 +78,8 @@ of_partition options kind image entry id p =
 
 abbrev pub rule : Options → ℤ → Image → ℤ → Entry → Result (Draft PartitionElectionResult) ℤ
 rule options kind image place entry =
-    found (pos 3) (entries.get text_order image.topics entry.0) (λ id.
-    found (pos 3) (entries.get partition_order image.partitions (id, entry.1)) (λ p.
+    found UNKNOWN_TOPIC_OR_PARTITION (entries.get text_order image.topics entry.0) (λ id.
+    found UNKNOWN_TOPIC_OR_PARTITION (entries.get partition_order image.partitions (id, entry.1)) (λ p.
     of_partition options kind image entry id p))
 
 -- ---- the whole request
@@ -103,7 +104,7 @@ answer_of group partitions = record { topic = group.0; partitions = partitions }
 
 -- without the partitions that needed no election
 abbrev pub needed : ReplicaElectionResult → ReplicaElectionResult
-needed result = record result { partitions = filter (λ p. not (int_eq p.error (pos 84))) result.partitions }
+needed result = record result { partitions = filter (λ p. not (int_eq p.error ELECTION_NOT_NEEDED)) result.partitions }
 
 -- where all partitions were asked for, those that needed no election aren't shown, nor topics with nothing to show
 abbrev pub shown : Option (List ElectLeadersTopic) → List ReplicaElectionResult → List ReplicaElectionResult
@@ -117,7 +118,7 @@ unfoldable pub decided : Options → Image → ℤ → ElectLeaders → Work × 
 decided options image place request =
     let start = begun place image in
     let groups = groups_of image request.topics in
-    if not (is_kind request.kind) then (start, reply_of (pos 42) []) else (
+    if not (is_kind request.kind) then (start, reply_of INVALID_REQUEST []) else (
       after_groups answer (rule options request.kind) entries_of answer_of start groups,
       reply_of (pos 0) (shown request.topics (group_answers answer (rule options request.kind) entries_of answer_of start groups)),
     )

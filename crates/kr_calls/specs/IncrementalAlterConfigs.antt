@@ -19,6 +19,7 @@ use Rattle.kr_defs.specs.NewPartition.{emptying}
 use Rattle.kr_defs.specs.Settings.{is_broker_name, is_list_key, is_setting_key, is_setting_value, minimum_of}
 use Rattle.kr_defs.specs.Texts.{joined, parts}
 use Rattle.kr_defs.specs.Walk.{Walked, changes_of, walk}
+use Rattle.kr_calls.specs.declared.errors.TheConstants.{INVALID_CONFIG, INVALID_REQUEST, UNKNOWN_TOPIC_OR_PARTITION}
 use Rattle.kr_calls.specs.declared.calls.Reply.{Reply}
 use Rattle.kr_calls.specs.declared.configs.ConfigOperation.{ConfigOperation}
 use Rattle.kr_calls.specs.declared.configs.ConfigResource.{ConfigResource}
@@ -93,10 +94,10 @@ may_result key value = option_map_or (is_setting_value key) value true
 abbrev pub after_operation : Image → ConfigResource → Values → ConfigOperation → Result Values ℤ
 after_operation image entry values o =
     let value = operated o (value_now image entry values o.name) in
-    refuse pos 42 when is_bad_operation o else
-    refuse pos 40 when not (is_setting_key o.name) else
-    refuse pos 40 when is_of_parts o && not (is_list_key o.name) else
-    refuse pos 40 when not (may_result o.name value) else
+    refuse INVALID_REQUEST when is_bad_operation o else
+    refuse INVALID_CONFIG when not (is_setting_key o.name) else
+    refuse INVALID_CONFIG when is_of_parts o && not (is_list_key o.name) else
+    refuse INVALID_CONFIG when not (may_result o.name value) else
     Ok (with_value values o.name value)
 
 abbrev pub after_operations : Image → ConfigResource → Values → List ConfigOperation → Result Values ℤ
@@ -155,9 +156,9 @@ of_resource options image entry = and_then (after_operations image entry [] entr
 
 abbrev pub rule : Options → Image → ℤ → ConfigResource → Result (Draft ConfigResponse) ℤ
 rule options image place entry =
-    refuse pos 42 when not (is_topic_kind entry || is_broker_kind entry) else
-    refuse pos 3 when is_topic_kind entry && not (entries.contains text_order image.topics entry.name) else
-    refuse pos 42 when is_broker_kind entry && not (is_broker_name entry.name) else
+    refuse INVALID_REQUEST when not (is_topic_kind entry || is_broker_kind entry) else
+    refuse UNKNOWN_TOPIC_OR_PARTITION when is_topic_kind entry && not (entries.contains text_order image.topics entry.name) else
+    refuse INVALID_REQUEST when is_broker_kind entry && not (is_broker_name entry.name) else
     of_resource options image entry
 
 -- ---- the whole request

@@ -14,6 +14,7 @@ use Rattle.kr_defs.specs.Image.{Image, topic_name}
 use Rattle.kr_defs.specs.Map.{text_order}
 use Rattle.kr_defs.specs.Topics.{is_named_once}
 use Rattle.kr_defs.specs.Walk.{of_topic}
+use Rattle.kr_calls.specs.declared.errors.TheConstants.{INVALID_REQUEST, UNKNOWN_TOPIC_ID, UNKNOWN_TOPIC_OR_PARTITION}
 use Rattle.kr_calls.specs.declared.calls.Reply.{Reply}
 use Rattle.kr_calls.specs.declared.reads.Metadata.{Metadata}
 use Rattle.kr_calls.specs.declared.reads.MetadataBroker.{MetadataBroker}
@@ -93,15 +94,15 @@ refused error entry = record {
 
 -- the topic with this name or id, or the error number for none
 abbrev pub by_name_or_id : Image → Option (List ℕ) → ℕ → Result (List ℕ × ℕ) ℤ
-by_name_or_id image (Some name) id = found (pos 3) (entries.get text_order image.topics name) (λ there. Ok (name, there))
-by_name_or_id image None id = found (pos 100) (topic_name image.topics id) (λ name. Ok (name, id))
+by_name_or_id image (Some name) id = found UNKNOWN_TOPIC_OR_PARTITION (entries.get text_order image.topics name) (λ there. Ok (name, there))
+by_name_or_id image None id = found UNKNOWN_TOPIC_ID (topic_name image.topics id) (λ name. Ok (name, id))
 
 abbrev pub named : Image → MetadataRequestTopic → Result (List ℕ × ℕ) ℤ
-named image entry = refuse pos 42 when not (is_named_once entry.name entry.topic) else by_name_or_id image entry.name entry.topic
+named image entry = refuse INVALID_REQUEST when not (is_named_once entry.name entry.topic) else by_name_or_id image entry.name entry.topic
 
 -- the topic, unless an earlier entry named it
 abbrev pub new_to : List ℕ → List ℕ × ℕ → Result (List ℕ × ℕ) ℤ
-new_to seen topic = refuse pos 42 when list_any (λ id. id == topic.1) seen else Ok topic
+new_to seen topic = refuse INVALID_REQUEST when list_any (λ id. id == topic.1) seen else Ok topic
 
 abbrev pub shown : Image → MetadataRequestTopic → Result (List ℕ × ℕ) ℤ → MetadataTopic
 shown image entry (Ok topic) = topic_of image topic

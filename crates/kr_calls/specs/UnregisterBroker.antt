@@ -6,6 +6,7 @@ use Rattle.kr_defs.specs.Map as entries
 use Rattle.kr_defs.specs.declared.record.Record.TheVariants as kinds
 use Rattle.kr_defs.specs.Guard.{found}
 use Rattle.kr_defs.specs.Image.{Image}
+use Rattle.kr_calls.specs.declared.errors.TheConstants.{BROKER_ID_NOT_REGISTERED}
 use Rattle.kr_calls.specs.declared.brokers.UnregisterBroker.{UnregisterBroker}
 use Rattle.kr_calls.specs.declared.brokers.UnregisterBrokerReply.{UnregisterBrokerReply}
 use Rattle.kr_calls.specs.declared.calls.Reply.{Reply}
@@ -19,7 +20,7 @@ refused error request = record { error = error }
 
 -- the registration goes, and then the broker is taken out as restarted
 abbrev pub rule : Options → Image → ℤ → UnregisterBroker → Result (Draft UnregisterBrokerReply) ℤ
-rule options image place request = found (pos 102) (entries.get int_cmp image.brokers request.broker) (λ old. Ok (record {
+rule options image place request = found BROKER_ID_NOT_REGISTERED (entries.get int_cmp image.brokers request.broker) (λ old. Ok (record {
   records = kinds.UnregisterBroker request.broker old.epoch ∷ taken_out options.minimum image request.broker true;
   answer = record { error = pos 0 };
 }))

@@ -13,34 +13,58 @@ use crate::{
 /// A request's body.
 #[derive(Drop)]
 pub enum Request {
+    /// A broker process starts (API key 62).
     BrokerRegistration(BrokerRegistration),
+    /// A broker is alive (API key 63).
     BrokerHeartbeat(BrokerHeartbeat),
+    /// A broker is taken out (API key 64).
     UnregisterBroker(UnregisterBroker),
+    /// Topics are made (API key 19).
     CreateTopics(CreateTopics),
+    /// Topics go (API key 20).
     DeleteTopics(DeleteTopics),
+    /// Topics grow (API key 37).
     CreatePartitions(CreatePartitions),
+    /// A leader reports who is in sync (API key 56).
     AlterPartition(AlterPartition),
+    /// Leaders are elected (API key 43).
     ElectLeaders(ElectLeaders),
+    /// Partitions get other replicas (API key 45).
     AlterPartitionReassignments(AlterPartitionReassignments),
+    /// Which reassignments go on (API key 46).
     ListPartitionReassignments(ListPartitionReassignments),
+    /// Settings are changed (API key 44).
     IncrementalAlterConfigs(IncrementalAlterConfigs),
+    /// The brokers and topics (API key 3).
     Metadata(Metadata),
 }
 
 /// A reply's body.
 #[derive(Drop)]
 pub enum Reply {
+    /// Of API key 62.
     BrokerRegistration(BrokerRegistrationReply),
+    /// Of API key 63.
     BrokerHeartbeat(BrokerHeartbeatReply),
+    /// Of API key 64.
     UnregisterBroker(UnregisterBrokerReply),
+    /// Of API key 19.
     CreateTopics(CreateTopicsReply),
+    /// Of API key 20.
     DeleteTopics(DeleteTopicsReply),
+    /// Of API key 37.
     CreatePartitions(CreatePartitionsReply),
+    /// Of API key 56.
     AlterPartition(AlterPartitionReply),
+    /// Of API key 43.
     ElectLeaders(ElectLeadersReply),
+    /// Of API key 45.
     AlterPartitionReassignments(AlterPartitionReassignmentsReply),
+    /// Of API key 46.
     ListPartitionReassignments(ListPartitionReassignmentsReply),
+    /// Of API key 44.
     IncrementalAlterConfigs(IncrementalAlterConfigsReply),
+    /// Of API key 3.
     Metadata(MetadataReply),
     /// The error alone, for a message that was no call.
     Bare { error: i16 },
@@ -49,7 +73,9 @@ pub enum Reply {
 /// A request under its correlation id, which its reply repeats.
 #[derive(Drop)]
 pub struct Call {
+    /// Drawn by the client.
     pub correlation: i32,
+    /// What is asked.
     pub request: Request,
 }
 
@@ -67,6 +93,7 @@ pub enum AskFault {
 /// What a message asks.
 #[derive(Drop)]
 pub enum Ask {
+    /// A request that is served.
     Call(Call),
     /// No call: it is answered by an error alone.
     Bare { correlation: i32, fault: AskFault },

@@ -10,6 +10,7 @@ pub struct ConfigOperation {
     pub name: Text,
     /// 0 set, 1 delete, 2 append, 3 subtract.
     pub operation: i8,
+    /// The value of set, the parts of append and subtract.
     pub value: Option<Text>,
 }
 
@@ -23,6 +24,7 @@ pub struct ConfigResource {
     pub kind: i8,
     /// The topic's name, or the broker's id; the empty name is the default of all brokers.
     pub name: Text,
+    /// What is to be done, in order.
     pub configs: ConfigOperations,
 }
 
@@ -32,6 +34,7 @@ pub type ConfigResources = Rows<ConfigResource>;
 /// Settings are to be changed (IncrementalAlterConfigsRequest, version 1).
 #[derive(Drop)]
 pub struct IncrementalAlterConfigs {
+    /// The resources, each judged alone.
     pub resources: ConfigResources,
     /// The request is judged, and nothing is changed.
     pub validate_only: bool,
@@ -42,7 +45,9 @@ pub struct IncrementalAlterConfigs {
 pub struct ConfigResponse {
     /// Kafka's error number, 0 for none.
     pub error: i16,
+    /// The type of the resource, by Kafka's numbers: 2 a topic, 4 a broker.
     pub kind: i8,
+    /// The topic's name, or the broker's id in decimal; empty for the default of all brokers.
     pub name: Text,
 }
 
@@ -52,5 +57,6 @@ pub type ConfigResponses = Rows<ConfigResponse>;
 /// The reply to an IncrementalAlterConfigs (IncrementalAlterConfigsResponse, version 1).
 #[derive(Drop)]
 pub struct IncrementalAlterConfigsReply {
+    /// An answer for each resource.
     pub responses: ConfigResponses,
 }

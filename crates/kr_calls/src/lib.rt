@@ -5,6 +5,7 @@ mod brokers;
 mod calls;
 mod configs;
 mod deciding;
+pub mod errors;
 mod events;
 pub mod laws;
 mod partitions;

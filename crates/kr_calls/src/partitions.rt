@@ -6,7 +6,9 @@ use kr_defs::{Ids, Rows, Text};
 /// A replica that is in sync, with its broker's epoch (BrokerState).
 #[derive(Drop)]
 pub struct BrokerState {
+    /// The broker's id.
     pub broker: i32,
+    /// The epoch of its registration that the leader knows, or -1 where it knows none.
     pub epoch: i64,
 }
 
@@ -16,12 +18,15 @@ pub type BrokerStates = Rows<BrokerState>;
 /// What a leader reports of one partition (PartitionData of AlterPartitionRequest).
 #[derive(Drop)]
 pub struct PartitionReport {
+    /// The partition's index in its topic, from 0.
     pub index: i32,
+    /// The leader epoch in which the broker leads.
     pub leader_epoch: i32,
     /// The replicas that are to be in sync.
     pub in_sync: BrokerStates,
     /// 1 while the leader recovers from an unclean election, else 0.
     pub recovery: i8,
+    /// The partition epoch that the leader knows.
     pub partition_epoch: i32,
 }
 
@@ -31,7 +36,9 @@ pub type PartitionReports = Rows<PartitionReport>;
 /// The reports on one topic's partitions (TopicData of AlterPartitionRequest).
 #[derive(Drop)]
 pub struct AlterPartitionTopic {
+    /// The topic's id, a UUID (KIP-516).
     pub topic: u128,
+    /// A report on each.
     pub partitions: PartitionReports,
 }
 
@@ -41,20 +48,30 @@ pub type AlterPartitionTopics = Rows<AlterPartitionTopic>;
 /// A broker reports which replicas are in sync with it (AlterPartitionRequest, version 3).
 #[derive(Drop)]
 pub struct AlterPartition {
+    /// The id of the reporting broker.
     pub broker: i32,
+    /// The epoch of its registration.
     pub epoch: i64,
+    /// The reports, by topic.
     pub topics: AlterPartitionTopics,
 }
 
 /// The answer to one report (PartitionData of AlterPartitionResponse).
 #[derive(Drop)]
 pub struct AlterPartitionResult {
+    /// The partition's index in its topic, from 0.
     pub index: i32,
+    /// Kafka's error number, 0 for none.
     pub error: i16,
+    /// The leader's id, -1 where there is none.
     pub leader: i32,
+    /// How many leaders there have been: it rises with each new one (KIP-101).
     pub leader_epoch: i32,
+    /// The replicas in sync.
     pub in_sync: Ids,
+    /// `LeaderRecoveryState` (KIP-704): 1 while the leader recovers from an unclean election, else 0.
     pub recovery: i8,
+    /// How many changes there have been: it rises with each of them (KIP-497).
     pub partition_epoch: i32,
 }
 
@@ -64,7 +81,9 @@ pub type AlterPartitionResults = Rows<AlterPartitionResult>;
 /// The answers on one topic's partitions (TopicData of AlterPartitionResponse).
 #[derive(Drop)]
 pub struct AlterPartitionTopicResult {
+    /// The topic's id, a UUID (KIP-516).
     pub topic: u128,
+    /// An answer to each report.
     pub partitions: AlterPartitionResults,
 }
 
@@ -74,14 +93,18 @@ pub type AlterPartitionTopicResults = Rows<AlterPartitionTopicResult>;
 /// The reply to an AlterPartition (AlterPartitionResponse, version 3).
 #[derive(Drop)]
 pub struct AlterPartitionReply {
+    /// Kafka's error number for the whole request, 0 for none.
     pub error: i16,
+    /// The answers, by topic.
     pub topics: AlterPartitionTopicResults,
 }
 
 /// Partitions of a topic that are to get leaders (TopicPartitions of ElectLeadersRequest).
 #[derive(Drop)]
 pub struct ElectLeadersTopic {
+    /// The topic's name.
     pub topic: Text,
+    /// The indices of its partitions.
     pub partitions: Ids,
 }
 
@@ -100,7 +123,9 @@ pub struct ElectLeaders {
 /// The answer for one partition (PartitionResult).
 #[derive(Drop)]
 pub struct PartitionElectionResult {
+    /// The partition's index in its topic, from 0.
     pub index: i32,
+    /// Kafka's error number, 0 for none.
     pub error: i16,
 }
 
@@ -110,7 +135,9 @@ pub type PartitionElectionResults = Rows<PartitionElectionResult>;
 /// The answers for one topic (ReplicaElectionResult).
 #[derive(Drop)]
 pub struct ReplicaElectionResult {
+    /// The topic's name.
     pub topic: Text,
+    /// An answer for each.
     pub partitions: PartitionElectionResults,
 }
 
@@ -120,13 +147,16 @@ pub type ReplicaElectionResults = Rows<ReplicaElectionResult>;
 /// The reply to an ElectLeaders (ElectLeadersResponse, version 2).
 #[derive(Drop)]
 pub struct ElectLeadersReply {
+    /// Kafka's error number for the whole request, 0 for none.
     pub error: i16,
+    /// The answers, by topic.
     pub results: ReplicaElectionResults,
 }
 
 /// A partition whose replicas are to change (ReassignablePartition).
 #[derive(Drop)]
 pub struct ReassignablePartition {
+    /// The partition's index in its topic, from 0.
     pub index: i32,
     /// The replicas that it is to have, or null to give up the present reassignment.
     pub replicas: Option<Ids>,
@@ -138,7 +168,9 @@ pub type ReassignablePartitions = Rows<ReassignablePartition>;
 /// The partitions of one topic that are to be reassigned (ReassignableTopic).
 #[derive(Drop)]
 pub struct ReassignableTopic {
+    /// The topic's name.
     pub name: Text,
+    /// What each is to have.
     pub partitions: ReassignablePartitions,
 }
 
@@ -148,13 +180,16 @@ pub type ReassignableTopics = Rows<ReassignableTopic>;
 /// Partitions are to get other replicas (AlterPartitionReassignmentsRequest, version 0).
 #[derive(Drop)]
 pub struct AlterPartitionReassignments {
+    /// The partitions, by topic.
     pub topics: ReassignableTopics,
 }
 
 /// The answer for one partition (ReassignablePartitionResponse).
 #[derive(Drop)]
 pub struct ReassignablePartitionResponse {
+    /// The partition's index in its topic, from 0.
     pub index: i32,
+    /// Kafka's error number, 0 for none.
     pub error: i16,
 }
 
@@ -164,7 +199,9 @@ pub type ReassignablePartitionResponses = Rows<ReassignablePartitionResponse>;
 /// The answers for one topic (ReassignableTopicResponse).
 #[derive(Drop)]
 pub struct ReassignableTopicResponse {
+    /// The topic's name.
     pub name: Text,
+    /// An answer for each.
     pub partitions: ReassignablePartitionResponses,
 }
 
@@ -174,6 +211,8 @@ pub type ReassignableTopicResponses = Rows<ReassignableTopicResponse>;
 /// The reply to an AlterPartitionReassignments (AlterPartitionReassignmentsResponse, version 0).
 #[derive(Drop)]
 pub struct AlterPartitionReassignmentsReply {
+    /// Kafka's error number for the whole request, 0 for none.
     pub error: i16,
+    /// The answers, by topic.
     pub responses: ReassignableTopicResponses,
 }

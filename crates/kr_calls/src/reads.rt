@@ -6,7 +6,9 @@ use kr_defs::{Ids, Rows, Text};
 /// Partitions of a topic that are asked for (ListPartitionReassignmentsTopics).
 #[derive(Drop)]
 pub struct ListedTopic {
+    /// The topic's name.
     pub name: Text,
+    /// The indices of its partitions.
     pub partitions: Ids,
 }
 
@@ -23,9 +25,13 @@ pub struct ListPartitionReassignments {
 /// A partition that is being reassigned (OngoingPartitionReassignment).
 #[derive(Drop)]
 pub struct OngoingPartitionReassignment {
+    /// The partition's index in its topic, from 0.
     pub index: i32,
+    /// All its replicas, as they are now.
     pub replicas: Ids,
+    /// Those that are being added.
     pub adding: Ids,
+    /// Those that will go.
     pub removing: Ids,
 }
 
@@ -35,7 +41,9 @@ pub type OngoingPartitionReassignments = Rows<OngoingPartitionReassignment>;
 /// The partitions of one topic that are being reassigned (OngoingTopicReassignment).
 #[derive(Drop)]
 pub struct OngoingTopicReassignment {
+    /// The topic's name.
     pub name: Text,
+    /// Those that are being reassigned.
     pub partitions: OngoingPartitionReassignments,
 }
 
@@ -45,14 +53,18 @@ pub type OngoingTopicReassignments = Rows<OngoingTopicReassignment>;
 /// The reply to a ListPartitionReassignments (ListPartitionReassignmentsResponse, version 0).
 #[derive(Drop)]
 pub struct ListPartitionReassignmentsReply {
+    /// Kafka's error number, 0 for none.
     pub error: i16,
+    /// The reassignments, by topic.
     pub topics: OngoingTopicReassignments,
 }
 
 /// A topic that is asked for, by its id or by its name (MetadataRequestTopic).
 #[derive(Drop)]
 pub struct MetadataRequestTopic {
+    /// Its id, 0 where it is given by its name.
     pub topic: u128,
+    /// Its name, or null where it is given by its id.
     pub name: Option<Text>,
 }
 
@@ -69,9 +81,13 @@ pub struct Metadata {
 /// A broker that clients can reach (MetadataResponseBroker).
 #[derive(Drop)]
 pub struct MetadataBroker {
+    /// The broker's id.
     pub id: i32,
+    /// The host of its first endpoint.
     pub host: Text,
+    /// The TCP port of its first endpoint.
     pub port: i32,
+    /// Its rack, where it has one.
     pub rack: Option<Text>,
 }
 
@@ -81,11 +97,17 @@ pub type MetadataBrokers = Rows<MetadataBroker>;
 /// A partition as clients see it (MetadataResponsePartition).
 #[derive(Drop)]
 pub struct MetadataPartition {
+    /// Kafka's error number, 0 for none.
     pub error: i16,
+    /// The partition's index in its topic, from 0.
     pub index: i32,
+    /// The leader's id, -1 where there is none.
     pub leader: i32,
+    /// How many leaders there have been: it rises with each new one (KIP-101).
     pub leader_epoch: i32,
+    /// The brokers that keep a copy.
     pub replicas: Ids,
+    /// The replicas in sync.
     pub in_sync: Ids,
     /// The replicas whose brokers can't be reached.
     pub offline: Ids,
@@ -97,10 +119,15 @@ pub type MetadataPartitions = Rows<MetadataPartition>;
 /// A topic as clients see it (MetadataResponseTopic).
 #[derive(Drop)]
 pub struct MetadataTopic {
+    /// Kafka's error number, 0 for none.
     pub error: i16,
+    /// Its name; of a refused one as it was given.
     pub name: Option<Text>,
+    /// The topic's id, a UUID (KIP-516).
     pub topic: u128,
+    /// A topic of Kafka's own: never here.
     pub internal: bool,
+    /// Its partitions.
     pub partitions: MetadataPartitions,
     /// What the client may do with the topic, as bits.
     pub operations: i32,
@@ -112,9 +139,12 @@ pub type MetadataTopics = Rows<MetadataTopic>;
 /// The reply to a Metadata (MetadataResponse, version 12).
 #[derive(Drop)]
 pub struct MetadataReply {
+    /// The brokers that aren't fenced.
     pub brokers: MetadataBrokers,
+    /// The id of the cluster.
     pub cluster: Option<Text>,
     /// The id of the controller, or -1.
     pub controller: i32,
+    /// The topics that were asked for.
     pub topics: MetadataTopics,
 }

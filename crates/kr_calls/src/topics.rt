@@ -6,7 +6,9 @@ use kr_defs::{Ids, Rows, Text};
 /// Where one partition of a new topic is to be (CreatableReplicaAssignment).
 #[derive(Drop)]
 pub struct CreatableReplicaAssignment {
+    /// The partition's index in its topic, from 0.
     pub index: i32,
+    /// The ids of its replicas' brokers, the preferred leader first.
     pub brokers: Ids,
 }
 
@@ -16,7 +18,9 @@ pub type CreatableReplicaAssignments = Rows<CreatableReplicaAssignment>;
 /// One setting of a new topic (CreatableTopicConfig).
 #[derive(Drop)]
 pub struct CreatableTopicConfig {
+    /// The key, as `min.insync.replicas`.
     pub name: Text,
+    /// Its value; null is refused.
     pub value: Option<Text>,
 }
 
@@ -26,6 +30,7 @@ pub type CreatableTopicConfigs = Rows<CreatableTopicConfig>;
 /// A topic to create (CreatableTopic).
 #[derive(Drop)]
 pub struct CreatableTopic {
+    /// The name that it is to have.
     pub name: Text,
     /// How many partitions, or -1 for the default.
     pub partitions: i32,
@@ -33,6 +38,7 @@ pub struct CreatableTopic {
     pub factor: i16,
     /// Where the partitions are to be, or none where the controller places them.
     pub assignments: CreatableReplicaAssignments,
+    /// Its settings.
     pub configs: CreatableTopicConfigs,
 }
 
@@ -42,6 +48,7 @@ pub type CreatableTopics = Rows<CreatableTopic>;
 /// Topics are to be made (CreateTopicsRequest, version 7).
 #[derive(Drop)]
 pub struct CreateTopics {
+    /// The topics, each judged alone.
     pub topics: CreatableTopics,
     /// The request is judged, and nothing is changed.
     pub validate_only: bool,
@@ -50,11 +57,15 @@ pub struct CreateTopics {
 /// The answer for one topic to create (CreatableTopicResult). A refused one has id 0, -1 and -1.
 #[derive(Drop)]
 pub struct CreatableTopicResult {
+    /// As it was asked for.
     pub name: Text,
     /// The new topic's id.
     pub topic: u128,
+    /// Kafka's error number, 0 for none.
     pub error: i16,
+    /// How many partitions it has.
     pub partitions: i32,
+    /// How many replicas each of them has.
     pub factor: i16,
 }
 
@@ -64,13 +75,16 @@ pub type CreatableTopicResults = Rows<CreatableTopicResult>;
 /// The reply to a CreateTopics (CreateTopicsResponse, version 7).
 #[derive(Drop)]
 pub struct CreateTopicsReply {
+    /// An answer for each topic.
     pub topics: CreatableTopicResults,
 }
 
 /// A topic to delete, by its name or by its id (DeleteTopicState).
 #[derive(Drop)]
 pub struct DeleteTopicState {
+    /// Its name, or null where it is given by its id.
     pub name: Option<Text>,
+    /// Its id, 0 where it is given by its name.
     pub topic: u128,
 }
 
@@ -80,14 +94,18 @@ pub type DeleteTopicStates = Rows<DeleteTopicState>;
 /// Topics are to be deleted (DeleteTopicsRequest, version 6).
 #[derive(Drop)]
 pub struct DeleteTopics {
+    /// The topics, each judged alone.
     pub topics: DeleteTopicStates,
 }
 
 /// The answer for one topic to delete (DeletableTopicResult).
 #[derive(Drop)]
 pub struct DeletableTopicResult {
+    /// Its name; of a refused one as it was given.
     pub name: Option<Text>,
+    /// Its id; of a refused one as it was given.
     pub topic: u128,
+    /// Kafka's error number, 0 for none.
     pub error: i16,
 }
 
@@ -97,12 +115,14 @@ pub type DeletableTopicResults = Rows<DeletableTopicResult>;
 /// The reply to a DeleteTopics (DeleteTopicsResponse, version 6).
 #[derive(Drop)]
 pub struct DeleteTopicsReply {
+    /// An answer for each topic.
     pub responses: DeletableTopicResults,
 }
 
 /// Where one new partition is to be (CreatePartitionsAssignment).
 #[derive(Drop)]
 pub struct CreatePartitionsAssignment {
+    /// The ids of its replicas' brokers, the preferred leader first.
     pub brokers: Ids,
 }
 
@@ -112,6 +132,7 @@ pub type CreatePartitionsAssignments = Rows<CreatePartitionsAssignment>;
 /// A topic to grow (CreatePartitionsTopic).
 #[derive(Drop)]
 pub struct CreatePartitionsTopic {
+    /// The topic's name.
     pub name: Text,
     /// How many partitions there are to be.
     pub count: i32,
@@ -125,6 +146,7 @@ pub type CreatePartitionsTopics = Rows<CreatePartitionsTopic>;
 /// Topics are to get more partitions (CreatePartitionsRequest, version 3).
 #[derive(Drop)]
 pub struct CreatePartitions {
+    /// The topics, each judged alone.
     pub topics: CreatePartitionsTopics,
     /// The request is judged, and nothing is changed.
     pub validate_only: bool,
@@ -133,7 +155,9 @@ pub struct CreatePartitions {
 /// The answer for one topic to grow (CreatePartitionsTopicResult).
 #[derive(Drop)]
 pub struct CreatePartitionsTopicResult {
+    /// The topic's name.
     pub name: Text,
+    /// Kafka's error number, 0 for none.
     pub error: i16,
 }
 
@@ -143,5 +167,6 @@ pub type CreatePartitionsTopicResults = Rows<CreatePartitionsTopicResult>;
 /// The reply to a CreatePartitions (CreatePartitionsResponse, version 3).
 #[derive(Drop)]
 pub struct CreatePartitionsReply {
+    /// An answer for each topic.
     pub results: CreatePartitionsTopicResults,
 }

@@ -8,6 +8,7 @@ ghost use Rattle.kr_rules.specs.Refusals.{IsRefusal, Judges};
 use crate::parts::{append, subtract};
 use crate::values::Values;
 use kr_base::NoMemory;
+use kr_calls::errors::{INVALID_CONFIG, INVALID_REQUEST};
 use kr_calls::{ConfigOperation, ConfigResource};
 use kr_defs::{Copied, Text, is_list_key, is_setting_key, is_setting_value};
 use kr_rules::Refusal;
@@ -138,17 +139,17 @@ fn operate<'k, S: Store>(
     ensures refused { IfErr result (λ refusal. IsRefusal refusal (configs.after_operation (S.images store.now).tip entry.now values.old operation.now)) }
 {
     if is_bad_operation(operation) {
-        return Err(Refusal::Error(42));
+        return Err(Refusal::Error(INVALID_REQUEST));
     }
     if !is_setting_key(&operation.name) {
-        return Err(Refusal::Error(40));
+        return Err(Refusal::Error(INVALID_CONFIG));
     }
     if is_of_parts(operation) && !is_list_key(&operation.name) {
-        return Err(Refusal::Error(40));
+        return Err(Refusal::Error(INVALID_CONFIG));
     }
     let value = result_of(alloc, store, entry, values, operation)?;
     if !may_result(&operation.name, &value) {
-        return Err(Refusal::Error(40));
+        return Err(Refusal::Error(INVALID_CONFIG));
     }
     values.set(operation.name.as_str(), value)?;
     Ok(())

@@ -12,6 +12,7 @@ use crate::records::config_records;
 use crate::reliefs::add_reliefs;
 use crate::values::Values;
 use kr_base::NoMemory;
+use kr_calls::errors::{INVALID_REQUEST, UNKNOWN_TOPIC_OR_PARTITION};
 use kr_calls::{ConfigResource, ConfigResponse, Draft};
 use kr_defs::{Copied, Options, Records, Text, is_broker_name};
 use kr_rules::{Refusal, Rule, Work};
@@ -111,13 +112,13 @@ impl<'a> Rule<ConfigResource, ConfigResponse> for ResourceRule<'a> {
         entry: &ConfigResource,
     ) -> Result<Draft<ConfigResponse>, Refusal> {
         if !is_topic_kind(entry) && !is_broker_kind(entry) {
-            return Err(Refusal::Error(42));
+            return Err(Refusal::Error(INVALID_REQUEST));
         }
         if is_topic_kind(entry) && !is_topic(store, &entry.name) {
-            return Err(Refusal::Error(3));
+            return Err(Refusal::Error(UNKNOWN_TOPIC_OR_PARTITION));
         }
         if is_broker_kind(entry) && !is_broker_name(&entry.name) {
-            return Err(Refusal::Error(42));
+            return Err(Refusal::Error(INVALID_REQUEST));
         }
         of_resource(alloc, store, self.options, entry)
     }

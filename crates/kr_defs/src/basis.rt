@@ -5,6 +5,7 @@ use crate::Rows;
 /// An unfenced broker, as it was heard of last.
 #[derive(Clone, Copy, Debug, Drop, PartialEq, Eq)]
 pub struct Contact {
+    /// The broker's id.
     pub broker: i32,
     /// When it was heard of, in milliseconds.
     pub time: i64,
@@ -18,6 +19,7 @@ pub type Contacts = Rows<Contact>;
 /// A broker that is stopping.
 #[derive(Clone, Copy, Debug, Drop, PartialEq, Eq)]
 pub struct Stopping {
+    /// The broker's id.
     pub broker: i32,
     /// The tip of the log when it began to stop.
     pub tip: i64,
@@ -33,6 +35,8 @@ pub struct Basis {
     pub time: i64,
     /// The place at which this node began to lead, 0 before it ever did.
     pub led: i64,
+    /// Whom it hears of.
     pub contacts: Contacts,
+    /// Of them those that are stopping.
     pub stopping: Stops,
 }

@@ -6,15 +6,25 @@ ghost use Rattle.kr_defs.specs.Causes.{number_of};
 /// Why a record has no meaning.
 #[derive(Clone, Copy, Debug, Drop, PartialEq, Eq)]
 pub enum Ill {
+    /// A number is outside its field's range.
     BadNumber,
+    /// No such broker is registered.
     NoBroker,
+    /// The broker is registered under another epoch, or under a later one.
     StaleEpoch,
+    /// There is no such topic.
     NoTopic,
+    /// The name or the id is a topic's already.
     TopicExists,
+    /// No topic may be named so.
     BadName,
+    /// There is no such partition.
     NoPartition,
+    /// The partition is there already.
     PartitionExists,
+    /// The partition's lists and leader don't go together.
     BadPartition,
+    /// The image would hold more than it may.
     Limit,
 }
 

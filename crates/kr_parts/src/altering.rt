@@ -8,6 +8,7 @@ ghost use Rattle.kr_store.specs.Images.{last_kept};
 
 use crate::reports::ReportRule;
 use kr_base::{NoMemory, Steps};
+use kr_calls::errors::STALE_BROKER_EPOCH;
 use kr_calls::{AlterPartition, AlterPartitionReply, AlterPartitionTopicResults, Effect, Reply};
 use kr_defs::{Options, Records, Rows};
 use kr_rules::decide_groups;
@@ -60,7 +61,7 @@ pub fn alter<S: Store, L: Ledger>(
 {
     if is_stale(store, request) {
         out.records = Records::new(alloc);
-        out.reply = reply_of(&77, Rows::new(alloc));
+        out.reply = reply_of(&STALE_BROKER_EPOCH, Rows::new(alloc));
         return Ok(());
     }
     let rule = ReportRule::new(context.options, &request.broker);

@@ -10,6 +10,7 @@ use crate::elections::{ElectionRule, is_kind};
 use crate::groups::groups_of;
 use crate::showing::show;
 use kr_base::{NoMemory, Steps};
+use kr_calls::errors::INVALID_REQUEST;
 use kr_calls::{Effect, ElectLeaders, ElectLeadersReply, ReplicaElectionResults, Reply};
 use kr_defs::{Records, Rows};
 use kr_rules::decide_groups;
@@ -51,7 +52,7 @@ pub fn elect<S: Store, L: Ledger>(
 {
     if !is_kind(&request.kind) {
         out.records = Records::new(alloc);
-        out.reply = reply_of(&42, Rows::new(alloc));
+        out.reply = reply_of(&INVALID_REQUEST, Rows::new(alloc));
         return Ok(());
     }
     let groups = groups_of(alloc, store, &request.topics)?;

@@ -11,6 +11,10 @@ ghost use Rattle.kr_rules.specs.Refusals.{Judges};
 ghost use Rattle.kr_parts.specs.Named.{names_nobody, with_leader};
 
 use kr_base::NoMemory;
+use kr_calls::errors::{
+    ELECTION_NOT_NEEDED, ELIGIBLE_LEADERS_NOT_AVAILABLE, PREFERRED_LEADER_NOT_AVAILABLE,
+    UNKNOWN_TOPIC_OR_PARTITION,
+};
 use kr_calls::{Draft, PartitionElectionResult, PartitionElectionResults, ReplicaElectionResult};
 use kr_change::{Mode, Want, build};
 use kr_defs::{Copied, Ids, Options, Partition, PartitionChange, Text};
@@ -122,10 +126,10 @@ fn prefers<S: Store>(
 {
     let first = first_replica(partition);
     if partition.leader == first {
-        return Err(Refusal::Error(84));
+        return Err(Refusal::Error(ELECTION_NOT_NEEDED));
     }
     if !is_in_sync_and_active(alloc, store, partition, &first)? {
-        return Err(Refusal::Error(80));
+        return Err(Refusal::Error(PREFERRED_LEADER_NOT_AVAILABLE));
     }
     let change = election_change(alloc, store, options, name, partition, Mode::Preferred)?;
     Ok(draft_of(alloc, name, index, topic, change)?)
@@ -153,7 +157,7 @@ fn with_leader(
     ensures { Judges result (with_leader (name.now, index.now) topic.now change) }
 {
     if names_nobody(&change) {
-        return Err(Refusal::Error(83));
+        return Err(Refusal::Error(ELIGIBLE_LEADERS_NOT_AVAILABLE));
     }
     Ok(draft_of(alloc, name, index, topic, change)?)
 }
@@ -177,7 +181,7 @@ fn elects_any<S: Store>(
     ensures { Judges result (electing.elects_any options.now (S.images store.now).tip (name.now, index.now) topic.now partition.now) }
 {
     if has_leader(partition) {
-        return Err(Refusal::Error(84));
+        return Err(Refusal::Error(ELECTION_NOT_NEEDED));
     }
     let change = election_change(alloc, store, options, name, partition, Mode::Unclean)?;
     with_leader(alloc, name, index, topic, change)
@@ -239,10 +243,10 @@ impl<'a> ItemRule<Text, i32, PartitionElectionResult> for ElectionRule<'a> {
         item: &i32,
     ) -> Result<Draft<PartitionElectionResult>, Refusal> {
         let Some(topic) = tip::topic_named(store, key) else {
-            return Err(Refusal::Error(3));
+            return Err(Refusal::Error(UNKNOWN_TOPIC_OR_PARTITION));
         };
         let Some(partition) = tip::partition(store, &topic.id, item) else {
-            return Err(Refusal::Error(3));
+            return Err(Refusal::Error(UNKNOWN_TOPIC_OR_PARTITION));
         };
         of_partition(alloc, store, self, key, item, &topic.id, partition)
     }

@@ -8,6 +8,10 @@ ghost use Rattle.kr_parts.specs.Reported.{of_members};
 
 use crate::members::{are_bad_members, members};
 use kr_base::NoMemory;
+use kr_calls::errors::{
+    FENCED_LEADER_EPOCH, INELIGIBLE_REPLICA, INVALID_REQUEST, INVALID_UPDATE_VERSION,
+    UNKNOWN_LEADER_EPOCH, UNKNOWN_TOPIC_ID, UNKNOWN_TOPIC_OR_PARTITION,
+};
 use kr_calls::{
     AlterPartitionResult, AlterPartitionResults, AlterPartitionTopic, AlterPartitionTopicResult,
     BrokerState, Draft, PartitionReport,
@@ -209,10 +213,10 @@ fn of_members<S: Store>(
 {
     let members = members(alloc, report)?;
     if is_bad(&rule.broker, partition, report, &members) {
-        return Err(Refusal::Error(42));
+        return Err(Refusal::Error(INVALID_REQUEST));
     }
     if !are_ready(store, report.in_sync.as_slice()) {
-        return Err(Refusal::Error(107));
+        return Err(Refusal::Error(INELIGIBLE_REPLICA));
     }
     Ok(accept(alloc, store, rule, topic, report, name, partition, members)?)
 }
@@ -231,13 +235,13 @@ fn of_partition<S: Store>(
     ensures { Judges result (reporting.of_partition rule.now.options.now rule.now.broker (S.images store.now).tip (topic.now, report.now) name.now partition.now) }
 {
     if report.leader_epoch < partition.leader_epoch {
-        return Err(Refusal::Error(74));
+        return Err(Refusal::Error(FENCED_LEADER_EPOCH));
     }
     if report.leader_epoch > partition.leader_epoch {
-        return Err(Refusal::Error(75));
+        return Err(Refusal::Error(UNKNOWN_LEADER_EPOCH));
     }
     if report.partition_epoch != partition.partition_epoch {
-        return Err(Refusal::Error(95));
+        return Err(Refusal::Error(INVALID_UPDATE_VERSION));
     }
     of_members(alloc, store, rule, topic, report, name, partition)
 }
@@ -266,10 +270,10 @@ impl<'a> ItemRule<u128, PartitionReport, AlterPartitionResult> for ReportRule<'a
         item: &PartitionReport,
     ) -> Result<Draft<AlterPartitionResult>, Refusal> {
         let Some(topic) = tip::topic(store, key) else {
-            return Err(Refusal::Error(100));
+            return Err(Refusal::Error(UNKNOWN_TOPIC_ID));
         };
         let Some(partition) = tip::partition(store, key, &item.index) else {
-            return Err(Refusal::Error(3));
+            return Err(Refusal::Error(UNKNOWN_TOPIC_OR_PARTITION));
         };
         of_partition(alloc, store, self, key, item, &topic.name, partition)
     }

@@ -2,9 +2,11 @@
 
 ghost use Rattle.std.specs.Prelude.{◌≡◌, nat_lt, not, pos, length, map, filter, IfOk};
 ghost use Rattle.std.specs.Ordering.{int_eq};
+ghost use Rattle.kr_calls.specs.declared.errors.TheConstants.{ELECTION_NOT_NEEDED as election_not_needed};
 ghost use Rattle.kr_calls.specs.ElectLeaders as electing;
 
 use kr_base::NoMemory;
+use kr_calls::errors::ELECTION_NOT_NEEDED;
 use kr_calls::{
     ElectLeadersTopics, PartitionElectionResult, ReplicaElectionResult, ReplicaElectionResults,
 };
@@ -12,13 +14,13 @@ use kr_defs::Rows;
 use std::alloc::{AllocError, Global};
 
 fn is_needed(partition: &PartitionElectionResult) -> bool
-    ensures { result ≡ not (int_eq partition.now.error (pos 84)) }
+    ensures { result ≡ not (int_eq partition.now.error election_not_needed) }
 {
-    partition.error != 84
+    partition.error != ELECTION_NOT_NEEDED
 }
 
 fn keep_needed(partitions: &mut Vec<PartitionElectionResult>)
-    ensures { partitions.new.items ≡ filter (λ p. not (int_eq p.error (pos 84))) partitions.old.items }
+    ensures { partitions.new.items ≡ filter (λ p. not (int_eq p.error election_not_needed)) partitions.old.items }
 {
     partitions.retain(|partition| is_needed(partition));
 }

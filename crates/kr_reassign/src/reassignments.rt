@@ -7,6 +7,9 @@ ghost use Rattle.kr_rules.specs.Refusals.{Judges};
 
 use crate::lists::{is_moving, original, reassigned_replicas};
 use kr_base::NoMemory;
+use kr_calls::errors::{
+    INVALID_REPLICA_ASSIGNMENT, NO_REASSIGNMENT_IN_PROGRESS, UNKNOWN_TOPIC_OR_PARTITION,
+};
 use kr_calls::{
     Draft, ReassignablePartition, ReassignablePartitionResponse, ReassignablePartitionResponses,
     ReassignableTopic, ReassignableTopicResponse,
@@ -109,13 +112,13 @@ fn want_of<S: Store>(
     match replicas {
         Some(target) => {
             if !is_target(store, target) {
-                return Err(Refusal::Error(39));
+                return Err(Refusal::Error(INVALID_REPLICA_ASSIGNMENT));
             }
             Ok(leading_to(alloc, partition, target)?)
         }
         None => {
             if !is_moving(partition) {
-                return Err(Refusal::Error(85));
+                return Err(Refusal::Error(NO_REASSIGNMENT_IN_PROGRESS));
             }
             Ok(leading_back(alloc, partition)?)
         }
@@ -153,7 +156,7 @@ fn of_want<S: Store>(
     ensures { Judges result (reassigning.of_want rule.now.options.now (S.images store.now).tip (name.now, entry.now) topic.now partition.now want.now) }
 {
     if loses_all(alloc, store, name, partition, want)? {
-        return Err(Refusal::Error(39));
+        return Err(Refusal::Error(INVALID_REPLICA_ASSIGNMENT));
     }
     let active = active(alloc, store)?;
     let facts = facts(alloc, store, &rule.options.minimum, &active, name)?;
@@ -186,10 +189,10 @@ impl<'a> ItemRule<Text, ReassignablePartition, ReassignablePartitionResponse>
         item: &ReassignablePartition,
     ) -> Result<Draft<ReassignablePartitionResponse>, Refusal> {
         let Some(topic) = tip::topic_named(store, key) else {
-            return Err(Refusal::Error(3));
+            return Err(Refusal::Error(UNKNOWN_TOPIC_OR_PARTITION));
         };
         let Some(partition) = tip::partition(store, &topic.id, &item.index) else {
-            return Err(Refusal::Error(3));
+            return Err(Refusal::Error(UNKNOWN_TOPIC_OR_PARTITION));
         };
         let want = want_of(alloc, store, partition, &item.replicas)?;
         of_want(alloc, store, self, key, item, &topic.id, partition, &want)

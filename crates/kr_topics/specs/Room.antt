@@ -12,6 +12,7 @@ use Rattle.kr_defs.specs.Map.{partition_order, text_order}
 use Rattle.kr_defs.specs.Partition.{target}
 use Rattle.kr_defs.specs.Texts.{is_topic_name, names_agree}
 use Rattle.kr_defs.specs.Topics.{count_of}
+use Rattle.kr_calls.specs.declared.errors.TheConstants.{INVALID_CONFIG, INVALID_PARTITIONS, INVALID_REPLICATION_FACTOR, INVALID_REPLICA_ASSIGNMENT, INVALID_TOPIC_EXCEPTION, TOPIC_ALREADY_EXISTS, UNKNOWN_TOPIC_OR_PARTITION}
 use Rattle.kr_calls.specs.declared.deciding.Draft.{Draft}
 use Rattle.kr_calls.specs.declared.topics.CreatableTopic.{CreatableTopic}
 use Rattle.kr_calls.specs.declared.topics.CreatableTopicResult.{CreatableTopicResult}
@@ -37,7 +38,7 @@ placements_on those place first count factor = map (λ index. placed_in those (u
 abbrev pub new_replicas : Grouped → Image → ℤ → ℕ → ℕ → ℕ → Option (List CreatePartitionsAssignment) → Result (List (List ℤ)) ℤ
 new_replicas those image place first count size (Some assignments) = growing.new_replicas image place first count size (Some assignments)
 new_replicas those image place first count size None =
-    refuse pos 38 when nat_lt those.count size else
+    refuse INVALID_REPLICATION_FACTOR when nat_lt those.count size else
     Ok (placements_on those place first count size)
 
 -- a topic that has so many partitions, of which the first leads to so many replicas
@@ -49,12 +50,12 @@ of_size those image place entry id first size =
 
 abbrev pub of_topic : Grouped → Image → ℤ → CreatePartitionsTopic → ℕ → ℕ → Result (Draft CreatePartitionsTopicResult) ℤ
 of_topic those image place entry id first =
-    refuse pos 37 when int_le entry.count (pos first) else
-    found (pos 39) (entries.get partition_order image.partitions (id, pos 0)) (λ p. of_size those image place entry id first (length (target p)))
+    refuse INVALID_PARTITIONS when int_le entry.count (pos first) else
+    found INVALID_REPLICA_ASSIGNMENT (entries.get partition_order image.partitions (id, pos 0)) (λ p. of_size those image place entry id first (length (target p)))
 
 abbrev pub growth : Grouped → Image → ℤ → CreatePartitionsTopic → Result (Draft CreatePartitionsTopicResult) ℤ
 growth those image place entry =
-    found (pos 3) (entries.get text_order image.topics entry.name) (λ id. of_topic those image place entry id (count_of image id))
+    found UNKNOWN_TOPIC_OR_PARTITION (entries.get text_order image.topics entry.name) (λ id. of_topic those image place entry id (count_of image id))
 
 -- ---- CreateTopics
 
@@ -63,8 +64,8 @@ is_factor those factor = int_le (pos 1) factor && int_le factor (pos MOST_TARGET
 
 abbrev pub spread : Grouped → ℤ → ℤ → ℤ → Result Layout ℤ
 spread those place partitions factor =
-    refuse pos 37 when int_lt partitions (pos 1) else
-    refuse pos 38 when not (is_factor those factor) else
+    refuse INVALID_PARTITIONS when int_lt partitions (pos 1) else
+    refuse INVALID_REPLICATION_FACTOR when not (is_factor those factor) else
     Ok (record {
       partitions = partitions;
       factor = factor;
@@ -79,13 +80,13 @@ layout those options image place entry =
 
 abbrev pub of_layout : Options → Bool → Image → ℤ → CreatableTopic → Layout → Result (Draft CreatableTopicResult) ℤ
 of_layout options validate_only image place entry layout =
-    refuse pos 40 when list_any creating.is_bad_setting entry.configs else
+    refuse INVALID_CONFIG when list_any creating.is_bad_setting entry.configs else
     refuse over_a_limit when not (has_room image (length layout.replicas)) else
     Ok (creating.created image validate_only (creating.new_id options image place) entry layout)
 
 abbrev pub creation : Grouped → Options → Bool → Image → ℤ → CreatableTopic → Result (Draft CreatableTopicResult) ℤ
 creation those options validate_only image place entry =
-    refuse pos 17 when not (is_topic_name entry.name) else
-    refuse pos 36 when entries.contains text_order image.topics entry.name else
-    refuse pos 17 when list_any (λ topic. names_agree topic.0 entry.name) image.topics else
+    refuse INVALID_TOPIC_EXCEPTION when not (is_topic_name entry.name) else
+    refuse TOPIC_ALREADY_EXISTS when entries.contains text_order image.topics entry.name else
+    refuse INVALID_TOPIC_EXCEPTION when list_any (λ topic. names_agree topic.0 entry.name) image.topics else
     and_then (layout those options image place entry) (λ layout. of_layout options validate_only image place entry layout)

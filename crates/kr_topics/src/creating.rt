@@ -24,6 +24,10 @@ use crate::partitions::{Lists, add_partitions, has_room, placements, start_of};
 use crate::racks::active_by_rack;
 use crate::settings::{add_settings, has_bad_setting};
 use kr_base::{NoMemory, Steps};
+use kr_calls::errors::{
+    INVALID_CONFIG, INVALID_PARTITIONS, INVALID_REPLICA_ASSIGNMENT, INVALID_REPLICATION_FACTOR,
+    INVALID_REQUEST, INVALID_TOPIC_EXCEPTION, POLICY_VIOLATION, TOPIC_ALREADY_EXISTS,
+};
 use kr_calls::{
     CreatableReplicaAssignment, CreatableTopic, CreatableTopicResult, CreatableTopicResults,
     CreateTopics, CreateTopicsReply, Draft, Effect, Reply,
@@ -216,20 +220,20 @@ fn create_as_assigned<S: Store>(
     ensures { Judges result (and_then (creations.assigned (S.images store.now).tip entry.now) (λ layout. room.of_layout rule.now.options.now rule.now.validate_only (S.images store.now).tip (place_of work.now) entry.now layout)) }
 {
     if entry.partitions != -1 || entry.factor != -1 {
-        return Err(Refusal::Error(42));
+        return Err(Refusal::Error(INVALID_REQUEST));
     }
     let assignments = entry.assignments.as_slice();
     let Some(lists) = lists_of(alloc, assignments)? else {
-        return Err(Refusal::Error(39));
+        return Err(Refusal::Error(INVALID_REPLICA_ASSIGNMENT));
     };
     if !are_assignable(store, assignments) {
-        return Err(Refusal::Error(39));
+        return Err(Refusal::Error(INVALID_REPLICA_ASSIGNMENT));
     }
     if has_bad_setting(entry.configs.as_slice()) {
-        return Err(Refusal::Error(40));
+        return Err(Refusal::Error(INVALID_CONFIG));
     }
     if !has_room(store, lists.len()) {
-        return Err(Refusal::Error(44));
+        return Err(Refusal::Error(POLICY_VIOLATION));
     }
     let partitions = count_of(&lists);
     let factor = size_of(assignments);
@@ -286,17 +290,17 @@ fn create_by_placing<S: Store>(
 {
     let partitions = partitions_of(rule.options, entry);
     if partitions < 1 {
-        return Err(Refusal::Error(37));
+        return Err(Refusal::Error(INVALID_PARTITIONS));
     }
     let factor = factor_of(rule.options, entry);
     if !is_factor(&rule.those, factor) {
-        return Err(Refusal::Error(38));
+        return Err(Refusal::Error(INVALID_REPLICATION_FACTOR));
     }
     if has_bad_setting(entry.configs.as_slice()) {
-        return Err(Refusal::Error(40));
+        return Err(Refusal::Error(INVALID_CONFIG));
     }
     if !has_room(store, partitions.unsigned_abs() as usize) {
-        return Err(Refusal::Error(44));
+        return Err(Refusal::Error(POLICY_VIOLATION));
     }
     let lists = placements(
         alloc,
@@ -359,13 +363,13 @@ impl<'a> Rule<CreatableTopic, CreatableTopicResult> for Creating<'a> {
         entry: &CreatableTopic,
     ) -> Result<Draft<CreatableTopicResult>, Refusal> {
         if !is_topic_name(&entry.name) {
-            return Err(Refusal::Error(17));
+            return Err(Refusal::Error(INVALID_TOPIC_EXCEPTION));
         }
         if tip::topic_named(store, &entry.name).is_some() {
-            return Err(Refusal::Error(36));
+            return Err(Refusal::Error(TOPIC_ALREADY_EXISTS));
         }
         if is_like_another(store, &entry.name) {
-            return Err(Refusal::Error(17));
+            return Err(Refusal::Error(INVALID_TOPIC_EXCEPTION));
         }
         create_new(alloc, store, self, work, entry)
     }

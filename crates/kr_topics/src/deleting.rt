@@ -9,6 +9,7 @@ ghost use Rattle.kr_store.specs.Images.{last_kept};
 
 use crate::naming::is_named_once;
 use kr_base::{NoMemory, Steps};
+use kr_calls::errors::{INVALID_REQUEST, UNKNOWN_TOPIC_ID, UNKNOWN_TOPIC_OR_PARTITION};
 use kr_calls::{
     DeletableTopicResult, DeleteTopicState, DeleteTopics, DeleteTopicsReply, Draft, Effect, Reply,
 };
@@ -71,16 +72,16 @@ impl Rule<DeleteTopicState, DeletableTopicResult> for Deleting {
         entry: &DeleteTopicState,
     ) -> Result<Draft<DeletableTopicResult>, Refusal> {
         if !is_named_once(&entry.name, &entry.topic) {
-            return Err(Refusal::Error(42));
+            return Err(Refusal::Error(INVALID_REQUEST));
         }
         match &entry.name {
             Some(name) => match tip::topic_named(store, name) {
                 Some(topic) => Ok(draft_deletion(alloc, &topic.name, &topic.id)?),
-                None => Err(Refusal::Error(3)),
+                None => Err(Refusal::Error(UNKNOWN_TOPIC_OR_PARTITION)),
             },
             None => match tip::topic(store, &entry.topic) {
                 Some(topic) => Ok(draft_deletion(alloc, &topic.name, &topic.id)?),
-                None => Err(Refusal::Error(100)),
+                None => Err(Refusal::Error(UNKNOWN_TOPIC_ID)),
             },
         }
     }

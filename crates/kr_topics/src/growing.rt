@@ -5,6 +5,7 @@ ghost use Rattle.std.specs.List.{list_all};
 ghost use Rattle.kr_defs.specs.declared.limits.TheConstants.{PLACES_END as places_end};
 ghost use Rattle.kr_defs.specs.Guard.{refuse◌when◌else◌};
 ghost use Rattle.kr_defs.specs.Topics as topics;
+ghost use Rattle.kr_calls.specs.declared.errors.TheConstants.{INVALID_REPLICATION_FACTOR as invalid_replication_factor, INVALID_REPLICA_ASSIGNMENT as invalid_replica_assignment};
 ghost use Rattle.kr_calls.specs.CreatePartitions as growths;
 ghost use Rattle.kr_calls.specs.Deciding as deciding;
 ghost use Rattle.kr_calls.specs.Deciding.{begun, over_a_limit, unless_validating, weights};
@@ -21,6 +22,10 @@ use crate::partitions::{
 };
 use crate::racks::active_by_rack;
 use kr_base::{NoMemory, Steps};
+use kr_calls::errors::{
+    INVALID_PARTITIONS, INVALID_REPLICA_ASSIGNMENT, INVALID_REPLICATION_FACTOR, POLICY_VIOLATION,
+    UNKNOWN_TOPIC_OR_PARTITION,
+};
 use kr_calls::{
     CreatePartitions, CreatePartitionsAssignment, CreatePartitionsReply, CreatePartitionsTopic,
     CreatePartitionsTopicResult, CreatePartitionsTopicResults, Draft, Effect, Reply,
@@ -120,16 +125,16 @@ fn grow_as_assigned<S: Store>(
     assignments: &[CreatePartitionsAssignment],
 ) -> Result<Draft<CreatePartitionsTopicResult>, Refusal>
     requires { pos first <ℤ entry.now.count }
-    ensures { Judges result (refuse pos 39 when not (growths.are_assignable (S.images store.now).tip (unsigned_abs entry.now.count - first) size assignments.now) else refuse over_a_limit when not (has_room (S.images store.now).tip (length assignments.now)) else Ok (growths.grown (S.images store.now).tip topic.now first entry.now (map (λ a. a.brokers) assignments.now))) }
+    ensures { Judges result (refuse invalid_replica_assignment when not (growths.are_assignable (S.images store.now).tip (unsigned_abs entry.now.count - first) size assignments.now) else refuse over_a_limit when not (has_room (S.images store.now).tip (length assignments.now)) else Ok (growths.grown (S.images store.now).tip topic.now first entry.now (map (λ a. a.brokers) assignments.now))) }
 {
     if assignments.len() != new_count(entry, first) as usize {
-        return Err(Refusal::Error(39));
+        return Err(Refusal::Error(INVALID_REPLICA_ASSIGNMENT));
     }
     if !are_wide(store, size, assignments) {
-        return Err(Refusal::Error(39));
+        return Err(Refusal::Error(INVALID_REPLICA_ASSIGNMENT));
     }
     if !has_room(store, assignments.len()) {
-        return Err(Refusal::Error(44));
+        return Err(Refusal::Error(POLICY_VIOLATION));
     }
     let lists = lists_of(alloc, assignments)?;
     Ok(draft_growth(alloc, store, entry, topic, first, &lists)?)
@@ -148,14 +153,14 @@ fn grow_by_placing<S: Store>(
     size: usize,
 ) -> Result<Draft<CreatePartitionsTopicResult>, Refusal>
     requires { pos first <ℤ entry.now.count }
-    ensures { Judges result (refuse pos 38 when nat_lt rule.now.those.count size else refuse over_a_limit when not (has_room (S.images store.now).tip (unsigned_abs entry.now.count - first)) else Ok (growths.grown (S.images store.now).tip topic.now first entry.now (room.placements_on rule.now.those (place_of work.now) first (unsigned_abs entry.now.count - first) size))) }
+    ensures { Judges result (refuse invalid_replication_factor when nat_lt rule.now.those.count size else refuse over_a_limit when not (has_room (S.images store.now).tip (unsigned_abs entry.now.count - first)) else Ok (growths.grown (S.images store.now).tip topic.now first entry.now (room.placements_on rule.now.those (place_of work.now) first (unsigned_abs entry.now.count - first) size))) }
 {
     if rule.those.count() < size {
-        return Err(Refusal::Error(38));
+        return Err(Refusal::Error(INVALID_REPLICATION_FACTOR));
     }
     let count = new_count(entry, first);
     if !has_room(store, count as usize) {
-        return Err(Refusal::Error(44));
+        return Err(Refusal::Error(POLICY_VIOLATION));
     }
     let those = &rule.those;
     let lists = placements(
@@ -212,14 +217,14 @@ fn of_topic<S: Store>(
 {
     let first = count_of(store, topic);
     if has_as_many(entry, first) {
-        return Err(Refusal::Error(37));
+        return Err(Refusal::Error(INVALID_PARTITIONS));
     }
     match tip::partition(store, topic, &0) {
         Some(partition) => {
             let size = target_len(partition);
             of_size(alloc, store, rule, work, entry, topic, first, size)
         }
-        None => Err(Refusal::Error(39)),
+        None => Err(Refusal::Error(INVALID_REPLICA_ASSIGNMENT)),
     }
 }
 
@@ -246,7 +251,7 @@ impl Rule<CreatePartitionsTopic, CreatePartitionsTopicResult> for Growing {
     ) -> Result<Draft<CreatePartitionsTopicResult>, Refusal> {
         match tip::topic_named(store, &entry.name) {
             Some(topic) => of_topic(alloc, store, self, work, entry, &topic.id),
-            None => Err(Refusal::Error(3)),
+            None => Err(Refusal::Error(UNKNOWN_TOPIC_OR_PARTITION)),
         }
     }
 }

@@ -10,6 +10,7 @@ ghost use Rattle.kr_topics.specs.Shown.{Marks};
 use crate::naming::is_named_once;
 use crate::topic_rows::{refusal_row, topic_row};
 use kr_base::NoMemory;
+use kr_calls::errors::{INVALID_REQUEST, UNKNOWN_TOPIC_ID, UNKNOWN_TOPIC_OR_PARTITION};
 use kr_calls::{MetadataRequestTopic, MetadataTopic, MetadataTopics};
 use kr_defs::{Rows, Topic};
 use kr_gather::looking;
@@ -26,16 +27,16 @@ fn find<'a, S: Store>(store: &'a S, at: At, entry: &MetadataRequestTopic) -> Res
     ensures none { IfErr result (λ error. shows.named (seen_at (S.images store.now) at) entry.now ≡ Err error) }
 {
     if !is_named_once(&entry.name, &entry.topic) {
-        return Err(42);
+        return Err(INVALID_REQUEST);
     }
     match &entry.name {
         Some(name) => match looking::topic_named(store, at, name) {
             Some(topic) => Ok(topic),
-            None => Err(3),
+            None => Err(UNKNOWN_TOPIC_OR_PARTITION),
         },
         None => match looking::topic(store, at, &entry.topic) {
             Some(topic) => Ok(topic),
-            None => Err(100),
+            None => Err(UNKNOWN_TOPIC_ID),
         },
     }
 }
@@ -66,7 +67,7 @@ fn entry_row<S: Store>(
             if mark(seen, &topic.id)? {
                 topic_row(alloc, store, at, &topic.name, &topic.id)
             } else {
-                refusal_row(alloc, 42, entry)
+                refusal_row(alloc, INVALID_REQUEST, entry)
             }
         }
         Err(error) => refusal_row(alloc, error, entry),
