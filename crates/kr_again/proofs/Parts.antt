@@ -8,10 +8,10 @@ use Rattle.std.proofs.lemmas.Bool.Decides.{Decides-int_eq}
 use Rattle.std.proofs.lemmas.List.Elements.{All-nil}
 use Rattle.kr_defs.specs.Sizes.{text_or_null_bytes, list_bytes, number_field, number_field_or, ids_field, ids_field_or}
 use Rattle.kr_wire.specs.Grammar.{IsSigned, IsTextOrNull}
-use Rattle.kr_wire.proofs.Follows.{Follows, then, int8, int32, uvarint, text, int32s}
-use Rattle.kr_wire.proofs.FollowsTagged.{Within, FieldFollows}
+use Rattle.kr_wire.proofs.FormLaws.{Follows, then, int8, int32, uvarint, text, int32s}
+use Rattle.kr_wire.proofs.TaggedForms.{Within, FieldFollows}
 use Rattle.kr_record.specs.Encodable.{IsShort, FitsField}
-use Rattle.kr_record.specs.Held.{AreInts}
+use Rattle.kr_record.specs.RecordRanges.{AreInts}
 use Rattle.kr_record.specs.Grammar.{unless, IsIds, IsIdsOrNull, IsIdsOrEmpty, IsUnless}
 
 pub text_or_null : (o : Option (List ℕ)) → Follows (IsTextOrNull o) (text_or_null_bytes o) (IfSome o IsShort) (IfSome o IsUtf8)

@@ -12,14 +12,14 @@ use Rattle.kr_defs.specs.declared.record.Item.TheVariants as items
 use Rattle.kr_defs.specs.Sizes as sizes
 use Rattle.kr_wire.specs.Laws.{IsBytes}
 use Rattle.kr_wire.specs.Grammar.{◌⌢◌, Exactly}
-use Rattle.kr_wire.proofs.Follows.{Follows, free, ◌and◌, then, int32, int64, exactly}
+use Rattle.kr_wire.proofs.FormLaws.{Follows, free, ◌and◌, then, int32, int64, exactly}
 use Rattle.kr_again.proofs.Layouts.{short, held, cost}
 use Rattle.kr_record.specs.Encodable.{IsEncodable}
-use Rattle.kr_record.specs.Held.{IsHeld}
+use Rattle.kr_record.specs.RecordRanges.{IsHeld}
 use Rattle.kr_record.proofs.Lengths.{size}
 use Rattle.kr_batch.specs.declared.Batch.{Batch}
 use Rattle.kr_batch.specs.Grammar.{IsSized, IsBody, IsEntry, AreEntries, IsStart, IsSum, IsCount, IsFixed, AreItems, IsBatch}
-use Rattle.kr_batch.specs.Written.{IsWritable, IsHeldItem, IsRegular, value_bytes, values_size}
+use Rattle.kr_batch.specs.BatchBytes.{IsWritable, IsHeldItem, IsRegular, value_bytes, values_size}
 use Rattle.kr_again.specs.Items.{HasRecords}
 
 -- ---- a record's value

@@ -4,7 +4,7 @@ ghost use Rattle.std.specs.Prelude.{◌<◌, ◌^◌, List, ℕ, length};
 ghost use Rattle.kr_wire.specs.Laws.{IsBytes};
 ghost use Rattle.kr_batch.specs.declared.Batch.{Batch as AnyBatch};
 ghost use Rattle.kr_batch.specs.Grammar.{IsBatch};
-ghost use Rattle.kr_batch.specs.Written.{IsRegular, batch_bytes};
+ghost use Rattle.kr_batch.specs.BatchBytes.{IsRegular, batch_bytes};
 ghost use Rattle.kr_again.specs.Items.{HasRecords};
 
 /// A batch that stands in fewer than 2^27 bytes, and has records, can be written again, and what is written for it

@@ -6,7 +6,7 @@ ghost use Rattle.kr_defs.specs.declared.record.Record.{Record as AnyRecord};
 ghost use Rattle.kr_wire.specs.Laws.{IsBytes};
 ghost use Rattle.kr_record.specs.Encodable.{IsEncodable};
 ghost use Rattle.kr_record.specs.Grammar.{IsRecord};
-ghost use Rattle.kr_record.specs.Held.{IsHeld};
+ghost use Rattle.kr_record.specs.RecordRanges.{IsHeld};
 ghost use Rattle.kr_record.specs.Spelling.{record_value};
 
 /// A record that stands in fewer than 2^31 bytes has a written form, its numbers and texts are those of their types,

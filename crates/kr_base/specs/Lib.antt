@@ -1,3 +1,3 @@
 pub mod Causes
+pub mod FailedPuts
 pub mod Memory
-pub mod Written

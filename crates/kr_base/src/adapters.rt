@@ -3,7 +3,7 @@
 ghost use Rattle.std.specs.Prelude.{◌≡◌, ◌≤◌, OnOk, OnErr};
 ghost use Rattle.std.specs.Io.KnownBytes.{Appends, Keeps};
 ghost use Rattle.kr_base.specs.Causes.{HasCause, raised};
-ghost use Rattle.kr_base.specs.Written.{AppendsFront};
+ghost use Rattle.kr_base.specs.FailedPuts.{AppendsFront};
 
 use crate::answers::Failed;
 use crate::outside::{Sink, Source};

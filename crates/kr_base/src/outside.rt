@@ -4,7 +4,7 @@ ghost use Rattle.std.specs.Prelude.{◌≡◌, Option, List, ℕ, OnOk, OnErr};
 ghost use Rattle.std.specs.Io.{ReadsAtMost};
 ghost use Rattle.std.specs.Io.KnownBytes.{ReadConsumes, Appends};
 ghost use Rattle.kr_base.specs.Causes.{HasCause};
-ghost use Rattle.kr_base.specs.Written.{AppendsFront};
+ghost use Rattle.kr_base.specs.FailedPuts.{AppendsFront};
 
 use crate::answers::Failed;
 

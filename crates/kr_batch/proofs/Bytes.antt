@@ -7,11 +7,11 @@ use Rattle.std.proofs.lemmas.List.Sums.{sum_by-cons}
 use Rattle.kr_defs.specs.declared.record.Item.{Item}
 use Rattle.kr_defs.specs.declared.record.Item.TheVariants as items
 use Rattle.kr_wire.specs.Spelling.{varint32}
-use Rattle.kr_wire.proofs.SpelledBytes.{OfBytes, ◌and◌, none_fits, number_fits, signed_fits, varint32_fits, varint64_fits}
-use Rattle.kr_record.proofs.Stands.{record_fits as value_fits}
+use Rattle.kr_wire.proofs.WrittenBytes.{OfBytes, ◌and◌, none_fits, number_fits, signed_fits, varint32_fits, varint64_fits}
+use Rattle.kr_record.proofs.RecordForms.{record_fits as value_fits}
 use Rattle.kr_batch.specs.Crc.{crc32c}
 use Rattle.kr_batch.specs.declared.Batch.{Batch}
-use Rattle.kr_batch.specs.Written.{IsWritable, IsHeldItem, value_bytes, values_size, record_body, record_bytes, records_bytes, no_producer, fixed_bytes, checked_bytes, start_bytes, head_bytes, batch_bytes}
+use Rattle.kr_batch.specs.BatchBytes.{IsWritable, IsHeldItem, value_bytes, values_size, record_body, record_bytes, records_bytes, no_producer, fixed_bytes, checked_bytes, start_bytes, head_bytes, batch_bytes}
 use Rattle.kr_batch.proofs.Sizes.{body_short}
 
 -- ---- records

@@ -9,4 +9,4 @@ pub mod Heads
 pub mod Lookups
 pub mod Records
 pub mod Sizes
-pub mod Spelled
+pub mod WrittenBatches

@@ -3,7 +3,7 @@ use Rattle.std.proofs.Common.{◌≡◌, ℕ, suc, ◌+◌, ◌<◌, ◌≤◌, 
 use Rattle.std.proofs.lemmas.List.{append-nil}
 use Rattle.std.proofs.Math.ListN.{drop_of_length-le}
 use Rattle.kr_defs.specs.declared.record.Item.{Item}
-use Rattle.kr_batch.specs.Written.{record_bytes, records_bytes, value_bytes}
+use Rattle.kr_batch.specs.BatchBytes.{record_bytes, records_bytes, value_bytes}
 
 pub goes_on : (old new whole : List ℕ) (items : List Item) (i : ℕ) (item : Item) → i < length items → item ≡ get_or items i item
     → new ≡ old ++ record_bytes i (value_bytes item) → old ++ records_bytes i (drop i items) ≡ whole

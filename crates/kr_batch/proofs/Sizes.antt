@@ -6,7 +6,7 @@ use Rattle.kr_wire.specs.Spelling.{groups, varint32, varint64, number, signed}
 use Rattle.kr_wire.proofs.Lengths.{one_group, more_groups, groups_few}
 use Rattle.kr_defs.specs.declared.record.Item.{Item}
 use Rattle.kr_batch.specs.declared.Batch.{Batch}
-use Rattle.kr_batch.specs.Written.{record_body, record_bytes, records_bytes, no_producer, fixed_bytes, checked_bytes, value_bytes, values_size}
+use Rattle.kr_batch.specs.BatchBytes.{record_body, record_bytes, records_bytes, no_producer, fixed_bytes, checked_bytes, value_bytes, values_size}
 
 pub one : (n : ℕ) → n < 64 → 1 ≡ length (varint32 (pos n))
 unfolding varint32

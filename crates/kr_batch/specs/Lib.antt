@@ -1,5 +1,5 @@
 pub mod Answers
+pub mod BatchBytes
 pub mod Crc
 pub mod Grammar
 pub mod Reading
-pub mod Written

@@ -6,7 +6,7 @@ ghost use Rattle.std.specs.List.{All};
 ghost use Rattle.kr_defs.specs.declared.limits.TheConstants.{MOST_RECORDS};
 ghost use Rattle.kr_wire.specs.Spelling.{varint32};
 ghost use Rattle.kr_batch.specs.Grammar.{IsBatch};
-ghost use Rattle.kr_batch.specs.Written.{IsHeldItem, IsWritable, batch_bytes, checked_bytes, fixed_bytes, head_bytes, no_producer, record_body, record_bytes, records_bytes, start_bytes, value_bytes, values_size};
+ghost use Rattle.kr_batch.specs.BatchBytes.{IsHeldItem, IsWritable, batch_bytes, checked_bytes, fixed_bytes, head_bytes, no_producer, record_body, record_bytes, records_bytes, start_bytes, value_bytes, values_size};
 
 use crate::{Batch, crc32c};
 use kr_base::NoMemory;
@@ -17,7 +17,7 @@ use kr_wire::{
 use std::alloc::AllocError;
 
 /// Appends the batch. Without memory nothing changes.
-#[tactic(auto, unfolding(crate::specs::Written::batch_bytes))]
+#[tactic(auto, unfolding(crate::specs::BatchBytes::batch_bytes))]
 pub fn encode(batch: &Batch, out: &mut Vec<u8>) -> Result<(), NoMemory>
     requires some { 1 ≤ length batch.now.items }
     requires few { length batch.now.items ≤ MOST_RECORDS }
@@ -49,7 +49,7 @@ fn size_with(batch: &Batch, checked: &[u8]) -> u32
 }
 
 // What stands before the bytes that the CRC is over.
-#[tactic(auto, unfolding(crate::specs::Written::head_bytes))]
+#[tactic(auto, unfolding(crate::specs::BatchBytes::head_bytes))]
 fn put_head(base: i64, size: u32, epoch: i32, crc: u32, out: &mut Vec<u8>) -> Result<(), AllocError>
     ensures { OnOk result (out.new.items ≡ out.old.items ++ head_bytes base size epoch crc) }
 {
@@ -58,7 +58,7 @@ fn put_head(base: i64, size: u32, epoch: i32, crc: u32, out: &mut Vec<u8>) -> Re
     put_u32(out, crc)
 }
 
-#[tactic(auto, unfolding(crate::specs::Written::start_bytes))]
+#[tactic(auto, unfolding(crate::specs::BatchBytes::start_bytes))]
 fn put_start(base: i64, size: u32, epoch: i32, out: &mut Vec<u8>) -> Result<(), AllocError>
     ensures { OnOk result (out.new.items ≡ out.old.items ++ start_bytes base size epoch) }
 {
@@ -68,7 +68,7 @@ fn put_start(base: i64, size: u32, epoch: i32, out: &mut Vec<u8>) -> Result<(), 
 }
 
 // What the CRC is over.
-#[tactic(auto, unfolding(crate::specs::Written::checked_bytes))]
+#[tactic(auto, unfolding(crate::specs::BatchBytes::checked_bytes))]
 fn put_checked(batch: &Batch, out: &mut Vec<u8>) -> Result<(), NoMemory>
     requires some { 1 ≤ length batch.now.items }
     requires few { length batch.now.items ≤ MOST_RECORDS }
@@ -81,7 +81,7 @@ fn put_checked(batch: &Batch, out: &mut Vec<u8>) -> Result<(), NoMemory>
     put_records(batch.items.as_slice(), out)
 }
 
-#[tactic(auto, unfolding(crate::specs::Written::fixed_bytes))]
+#[tactic(auto, unfolding(crate::specs::BatchBytes::fixed_bytes))]
 fn put_fixed(count: u32, time: i64, out: &mut Vec<u8>) -> Result<(), AllocError>
     requires { 1 ≤ count }
     ensures { OnOk result (out.new.items ≡ out.old.items ++ fixed_bytes count time) }
@@ -94,7 +94,7 @@ fn put_fixed(count: u32, time: i64, out: &mut Vec<u8>) -> Result<(), AllocError>
     put_u32(out, count)
 }
 
-#[tactic(auto, unfolding(crate::specs::Written::no_producer))]
+#[tactic(auto, unfolding(crate::specs::BatchBytes::no_producer))]
 fn put_no_producer(out: &mut Vec<u8>) -> Result<(), AllocError>
     ensures { OnOk result (out.new.items ≡ out.old.items ++ no_producer) }
 {
@@ -137,7 +137,7 @@ fn put_record(delta: u32, value: &[u8], out: &mut Vec<u8>) -> Result<(), AllocEr
     put_body(delta, value, out)
 }
 
-#[tactic(auto, unfolding(crate::specs::Written::record_body))]
+#[tactic(auto, unfolding(crate::specs::BatchBytes::record_body))]
 fn put_body(delta: u32, value: &[u8], out: &mut Vec<u8>) -> Result<(), AllocError>
     requires delta { delta < MOST_RECORDS }
     requires value { length value.now < 2 ^ 30 }

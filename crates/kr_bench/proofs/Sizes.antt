@@ -11,15 +11,15 @@ use Rattle.kr_defs.specs.declared.record.Record.{Record}
 use Rattle.kr_defs.specs.declared.record.Item.{Item}
 use Rattle.kr_defs.specs.declared.record.Item.TheVariants as items
 use Rattle.kr_record.specs.Encodable.{IsEncodable}
-use Rattle.kr_record.specs.Held.{IsHeld}
+use Rattle.kr_record.specs.RecordRanges.{IsHeld}
 use Rattle.kr_record.specs.Spelling.{record_value, framed, change, change_tags, config, no_tags}
 use Rattle.kr_batch.specs.declared.Batch.{Batch}
-use Rattle.kr_batch.specs.Written.{value_bytes, values_size, IsHeldItem, IsRegular, IsWritable}
+use Rattle.kr_batch.specs.BatchBytes.{value_bytes, values_size, IsHeldItem, IsRegular, IsWritable}
 use Rattle.kr_bench.specs.Batches.{batch_of}
 use Rattle.kr_bench.specs.declared.batches.Kind.{Kind}
 use Rattle.kr_bench.specs.declared.batches.Kind.TheVariants as kinds
 use Rattle.kr_bench.specs.Changes.{change_at}
-use Rattle.kr_bench.specs.Numbered.{numbered}
+use Rattle.kr_bench.specs.NumberedRecords.{numbered}
 use Rattle.kr_bench.specs.Settings.{setting_at}
 
 -- ---- records that differ by a number

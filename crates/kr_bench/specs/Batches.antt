@@ -3,7 +3,7 @@ use Rattle.std.specs.Prelude.{pos, List}
 use Rattle.kr_defs.specs.declared.record.Item.{Item}
 use Rattle.kr_batch.specs.declared.Batch.{Batch}
 use Rattle.kr_bench.specs.Changes.{change_at}
-use Rattle.kr_bench.specs.Numbered.{numbered}
+use Rattle.kr_bench.specs.NumberedRecords.{numbered}
 use Rattle.kr_bench.specs.Settings.{setting_at}
 use Rattle.kr_bench.specs.declared.batches.Kind.{Kind}
 use Rattle.kr_bench.specs.declared.batches.Kind.TheVariants as kinds

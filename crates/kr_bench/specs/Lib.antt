@@ -1,5 +1,5 @@
 pub mod Batches
 pub mod Changes
-pub mod Numbered
+pub mod NumberedRecords
 pub mod Placements
 pub mod Settings

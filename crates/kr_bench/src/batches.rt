@@ -3,7 +3,7 @@
 ghost use Rattle.std.specs.Prelude.{◌≡◌, ◌++◌, length, Ok, IfOk, OnOk};
 ghost use Rattle.kr_batch.specs.Answers.{Gives};
 ghost use Rattle.kr_batch.specs.Reading as reading;
-ghost use Rattle.kr_batch.specs.Written.{IsRegular, batch_bytes};
+ghost use Rattle.kr_batch.specs.BatchBytes.{IsRegular, batch_bytes};
 ghost use Rattle.kr_bench.specs.Batches.{batch_of, items_of};
 
 use crate::changes::changes;

@@ -3,7 +3,7 @@
 ghost use Rattle.std.specs.Prelude.{◌≡◌, ◌≤◌, IfOk};
 ghost use Rattle.kr_defs.specs.declared.limits.TheConstants.{MOST_RECORDS};
 ghost use Rattle.kr_bench.specs.Changes.{change_at};
-ghost use Rattle.kr_bench.specs.Numbered.{numbered};
+ghost use Rattle.kr_bench.specs.NumberedRecords.{numbered};
 
 use kr_defs::{Ids, Item, Items, PartitionChange, Record};
 use std::alloc::{AllocError, Global};
@@ -12,7 +12,7 @@ use std::alloc::{AllocError, Global};
 const TOPIC: u128 = 0x0123_4567_89AB_CDEF_FEDC_BA98_7654_3210;
 
 /// The changes of so many partitions, numbered from 0.
-#[tactic(auto, unfolding(crate::specs::Numbered::numbered))]
+#[tactic(auto, unfolding(crate::specs::NumberedRecords::numbered))]
 pub fn changes(alloc: Global, count: u32) -> Result<Items, AllocError>
     requires { count ≤ MOST_RECORDS }
     ensures { IfOk result (λ items. items ≡ numbered change_at count) }

@@ -2,9 +2,9 @@
 
 ghost use Rattle.std.specs.Prelude.{◌≡◌, ◌<◌, ◌++◌, IfOk, IsSome, Ok, OnOk};
 ghost use Rattle.kr_bench.specs.declared.image.TheConstants.{OFFSET};
-ghost use Rattle.kr_snapshot.specs.Read.{kept_once};
+ghost use Rattle.kr_snapshot.specs.ReaderState.{kept_once};
 ghost use Rattle.kr_snapshot.specs.Reading.{image_of};
-ghost use Rattle.kr_snapshot.specs.Written.{image_text};
+ghost use Rattle.kr_snapshot.specs.ImageText.{image_text};
 ghost use Rattle.kr_store.specs.Images.{last_kept};
 
 use crate::entries::entries;

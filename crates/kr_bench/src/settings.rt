@@ -2,14 +2,14 @@
 
 ghost use Rattle.std.specs.Prelude.{◌≡◌, ◌≤◌, pos, IfOk};
 ghost use Rattle.kr_defs.specs.declared.limits.TheConstants.{MOST_RECORDS};
-ghost use Rattle.kr_bench.specs.Numbered.{numbered};
+ghost use Rattle.kr_bench.specs.NumberedRecords.{numbered};
 ghost use Rattle.kr_bench.specs.Settings.{setting_at};
 
 use kr_defs::{Item, Items, Record, Text};
 use std::alloc::{AllocError, Global};
 
 /// So many settings of one topic.
-#[tactic(auto, unfolding(crate::specs::Numbered::numbered))]
+#[tactic(auto, unfolding(crate::specs::NumberedRecords::numbered))]
 pub fn settings(alloc: Global, count: u32) -> Result<Items, AllocError>
     requires { count ≤ MOST_RECORDS }
     ensures { IfOk result (λ items. items ≡ numbered setting_at count) }

@@ -16,7 +16,7 @@ use Rattle.kr_calls.specs.declared.calls.Reply.TheVariants as replies
 use Rattle.kr_calls.specs.BrokerHeartbeat as heartbeating
 use Rattle.kr_calls.specs.BrokerRegistration as registering
 use Rattle.kr_calls.specs.Deciding.{Work, begun, done, one}
-use Rattle.kr_brokers.specs.Judged.{basis_of}
+use Rattle.kr_brokers.specs.RequestBasis.{basis_of}
 
 module _ (options : Options) (time led : ℤ) (heard : Heartbeats) (image : Image) (place : ℤ) where
   pub registration_decided : (request : BrokerRegistration) → registering.decided options (basis_of time led heard) image place request ≡ registering.decided options (basis_of time (pos 0) heard) image place request

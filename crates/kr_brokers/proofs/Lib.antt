@@ -1,5 +1,5 @@
-pub mod Before
 pub mod Decisions
-pub mod Heard
+pub mod LastImage
 pub mod LastKept
-pub mod Unfenced
+pub mod StoppingBeats
+pub mod UnfencedBrokers

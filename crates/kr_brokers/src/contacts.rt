@@ -64,7 +64,7 @@ fn is_stopping<S: Store>(store: &S, id: &i32) -> bool
 }
 
 // An unfenced broker is the last contact; it began to stop where this request set the flag.
-#[tactic(auto, using(crate::proofs::Heard::contacts))]
+#[tactic(auto, using(crate::proofs::StoppingBeats::contacts))]
 fn hear_contact<S: Store>(
     sessions: &mut Sessions,
     store: &S,

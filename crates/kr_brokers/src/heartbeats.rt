@@ -11,7 +11,7 @@ ghost use Rattle.kr_defs.specs.Map as entries;
 ghost use Rattle.kr_calls.specs.BrokerHeartbeat as heartbeating;
 ghost use Rattle.kr_calls.specs.Deciding.{weights};
 ghost use Rattle.kr_store.specs.Images.{last_kept};
-ghost use Rattle.kr_brokers.specs.Judged.{basis_of};
+ghost use Rattle.kr_brokers.specs.RequestBasis.{basis_of};
 
 use crate::elections::unfencing_records;
 use kr_base::{NoMemory, Steps};

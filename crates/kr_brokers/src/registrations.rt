@@ -9,7 +9,7 @@ ghost use Rattle.kr_calls.specs.BrokerRegistration as registering;
 ghost use Rattle.kr_calls.specs.Deciding.{weights};
 ghost use Rattle.kr_rules.specs.Progress.{place_of};
 ghost use Rattle.kr_store.specs.Images.{last_kept};
-ghost use Rattle.kr_brokers.specs.Judged.{basis_of};
+ghost use Rattle.kr_brokers.specs.RequestBasis.{basis_of};
 
 use kr_base::{NoMemory, Steps};
 use kr_calls::errors::{DUPLICATE_BROKER_REGISTRATION, INCONSISTENT_CLUSTER_ID, INVALID_REQUEST};

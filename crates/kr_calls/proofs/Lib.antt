@@ -2,13 +2,13 @@ mod BrokerExamples
 pub mod BrokersLeft
 mod Cluster
 mod ConfigExamples
+pub mod DecisionMeanings
 mod ErrorExamples
 pub mod KeptByRequests
 pub mod OtherRequests
 mod PartitionExamples
 mod ReadExamples
 mod SafeChangeExamples
-pub mod Standing
-pub mod TakenOut
+pub mod TakingOutSteps
 mod TopicExamples
 pub mod WalkedChanges

@@ -11,7 +11,7 @@ ghost use Rattle.kr_calls.specs.NextBasisLaws.{OtherRequestsLeaveBrokers};
 ghost use Rattle.kr_calls.specs.TakingOutLaws.{TakingOutIsNeverRefused, FencingIsNeverRefused, UnregisteringIsNeverRefused};
 
 /// Each record that a request gives has a meaning at its place, and the last one leaves the image of the decision.
-#[tactic(auto, using(crate::proofs::Standing::standing))]
+#[tactic(auto, using(crate::proofs::DecisionMeanings::standing))]
 pub fn records_have_meanings()
     ensures { (options : AnyOptions) (basis : AnyBasis) (image : Image) (place : ℤ) (request : AnyRequest) → HaveMeanings image (work_of options basis image place request).0 }
 {}

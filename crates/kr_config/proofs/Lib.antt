@@ -1,4 +1,4 @@
-mod Joined
-mod Named
+mod ListParts
+mod OperationKeys
 mod Overlay
-mod Relieved
+mod RelievedPartitions

@@ -18,8 +18,8 @@ use Rattle.kr_defs.proofs.Maps.{IsMap-insert, IsMap-remove}
 use Rattle.kr_defs.proofs.Walks.{get_other}
 use Rattle.kr_calls.specs.declared.configs.ConfigResource.{ConfigResource}
 use Rattle.kr_calls.specs.IncrementalAlterConfigs.{Values, key_of, with_values}
-use Rattle.kr_config.specs.Once.{AreOnce}
-use Rattle.kr_config.proofs.Named.{same_text}
+use Rattle.kr_config.specs.NamedKeys.{AreOnce}
+use Rattle.kr_config.proofs.OperationKeys.{same_text}
 
 equal_is : (r : Ordering) → is_eq r ≡ true → r ≡ Equal
 equal_is Less is = absurd cc

@@ -1,2 +1,2 @@
-pub mod After
-pub mod Once
+pub mod NamedKeys
+pub mod NewSettings

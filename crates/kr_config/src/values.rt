@@ -3,7 +3,7 @@
 ghost use Rattle.std.specs.Prelude.{◌≡◌, [], bytes_eq, find, map, OnOk};
 ghost use Rattle.std.specs.Option.{option_copied, option_map};
 ghost use Rattle.kr_calls.specs.IncrementalAlterConfigs.{with_value};
-ghost use Rattle.kr_config.specs.Once.{AreOnce};
+ghost use Rattle.kr_config.specs.NamedKeys.{AreOnce};
 
 use indexmap::IndexMap;
 use kr_base::NoMemory;
@@ -20,7 +20,7 @@ pub struct Values<'a> {
 
 impl<'a> Model for Values<'a> {
     ghost use Rattle.std.specs.Prelude.{ℕ, List, Option, map};
-    ghost use Rattle.kr_config.specs.Once.{AreOnce};
+    ghost use Rattle.kr_config.specs.NamedKeys.{AreOnce};
 
     ghost Value = { List (List ℕ × Option (List ℕ)) };
 

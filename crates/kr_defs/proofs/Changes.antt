@@ -24,7 +24,7 @@ use Rattle.kr_defs.specs.Eligible.{eligible_after}
 use Rattle.kr_defs.specs.Build.{is_sensible, is_target_in_sync, completes, asked, reached, ended, is_unclean_choice, settled, standing_by, recovery_after, aimed, unless, same_members, difference, is_blank, changed, built}
 use Rattle.kr_defs.specs.PartitionLaws.{IsChoice, StandBy, BuiltChangesKeepPartitions}
 use Rattle.kr_defs.proofs.IdLists.{AreSame, all_at, all_from, has_before, passes_kept, has_kept, distinct_kept, all_kept, few_kept, some_left, first_member, not_within_none, has_only, id_itself, within_same, apart_same}
-use Rattle.kr_defs.proofs.StandingBy.{nobody, stand_by}
+use Rattle.kr_defs.proofs.EligibleLists.{nobody, stand_by}
 use Rattle.kr_defs.proofs.Elections.{sound}
 
 -- replica lists up to a length, part by part

@@ -165,7 +165,7 @@ then_less Less s h = inl refl
 then_less Equal s h = inr (refl, h)
 then_less Greater s h = absurd cc
 
-then_equal : (r s : Ordering) → ordering_then r s ≡ Equal → (r ≡ Equal) × (s ≡ Equal)
+pub then_equal : (r s : Ordering) → ordering_then r s ≡ Equal → (r ≡ Equal) × (s ≡ Equal)
 then_equal Less s h = absurd cc
 then_equal Equal s h = (refl, h)
 then_equal Greater s h = absurd cc

@@ -16,7 +16,7 @@ use Rattle.kr_defs.specs.Build.{unless, built}
 use Rattle.kr_defs.specs.NewPartition.{first_leader, new_partition, emptying}
 use Rattle.kr_defs.specs.BuiltLaws.{DefaultWantsAreSensible, is_sensible_at_length, has_too_many, LongListsAreTheOnlyFault, NewPartitionsAreWellFormed, EmptyingKeeps}
 use Rattle.kr_defs.proofs.IdLists.{id_itself}
-use Rattle.kr_defs.proofs.StandingBy.{nobody, kept_part}
+use Rattle.kr_defs.proofs.EligibleLists.{nobody, kept_part}
 use Rattle.kr_defs.proofs.Changes.{replicas_parts, replicas_from, Sensible, Formed, formed_parts, formed_from, none_runs, next_epochs, built_formed}
 
 pub defaults_sensible : DefaultWantsAreSensible

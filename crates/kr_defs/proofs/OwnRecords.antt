@@ -35,7 +35,7 @@ use Rattle.kr_defs.specs.Walk.{walked, of_topic}
 use Rattle.kr_defs.specs.ImageLaws.{as_items, OwnRecordsMakeImages}
 use Rattle.kr_defs.proofs.Maps.{all_keys-filter, length-filter_le}
 use Rattle.kr_defs.proofs.ImageParts.{text_total, partition_total, config_total}
-use Rattle.kr_defs.proofs.InOrder.{IsBelow, IsBefore, before_push, before_none, has_room, not_full, insert-between, get-between, insert-last, get-last}
+use Rattle.kr_defs.proofs.OrderedInserts.{IsBelow, IsBefore, before_push, before_none, has_room, not_full, insert-between, get-between, insert-last, get-last}
 use Rattle.kr_defs.proofs.Tests.{both, neither, not_true, not_equal}
 use Rattle.kr_defs.proofs.TopicWalks.{same_topic, equal_ids}
 use Rattle.kr_defs.proofs.Walks.{behind_apart}

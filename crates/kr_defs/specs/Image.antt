@@ -57,9 +57,13 @@ has_numbers id state = is_natural id && is_natural state.epoch
 abbrev pub is_index : ℤ → Bool
 is_index index = is_natural index && not (int_lt LAST_INDEX index)
 
--- the bytes of text of all settings
+-- the bytes of text of a setting
+abbrev pub entry_text : ConfigKey → List ℕ → ℕ
+entry_text key value = length key.name + length key.key + length value
+
+-- and of all settings
 abbrev pub config_text : List (ConfigKey × List ℕ) → ℕ
-config_text configs = sum_by (λ e. length e.0.name + length e.0.key + length e.1) configs
+config_text configs = sum_by (λ e. entry_text e.0 e.1) configs
 
 -- each id stands once
 abbrev pub are_distinct : List ℕ → Bool

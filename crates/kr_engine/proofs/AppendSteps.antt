@@ -5,7 +5,7 @@ use Rattle.std.proofs.lemmas.Bool.Decides.{nat_tests}
 use Rattle.std.proofs.lemmas.List.{append-nil, length-map}
 use Rattle.std.specs.Prelude.{◌+ℤ◌, ◌==◌, Option, None, Result, Ok, Err, filter, int_le, unsigned_abs, IsSome}
 use Rattle.std.specs.List.{list_all}
-use Rattle.kr_batch.specs.Written.{batch_bytes}
+use Rattle.kr_batch.specs.BatchBytes.{batch_bytes}
 use Rattle.kr_calls.specs.declared.events.Output.TheVariants as given
 use Rattle.kr_calls.specs.Deciding.{apply_records}
 use Rattle.kr_defs.specs.declared.basis.Basis.{Basis}

@@ -33,7 +33,7 @@ use Rattle.kr_batch.specs.declared.Batch.{Batch}
 use Rattle.kr_batch.specs.declared.fault.BatchFault.{BatchFault}
 use Rattle.kr_batch.specs.declared.fault.BatchFault.TheVariants as batches
 use Rattle.kr_batch.specs.Reading.{batch_of}
-use Rattle.kr_batch.specs.Written.{batch_bytes}
+use Rattle.kr_batch.specs.BatchBytes.{batch_bytes}
 use Rattle.kr_engine.specs.declared.writes.Write.{Write}
 use Rattle.kr_engine.specs.Events.{happens, outcome, timed}
 use Rattle.kr_engine.specs.Leaderships.{begun, lead}

@@ -21,7 +21,7 @@ use Rattle.kr_defs.specs.Heartbeats.{Heartbeats, leave}
 use Rattle.kr_defs.specs.Ids.{has}
 use Rattle.kr_defs.specs.Image.{Image, IsValid}
 use Rattle.kr_defs.specs.Map as entries
-use Rattle.kr_defs.proofs.Hearing.{leaves}
+use Rattle.kr_defs.proofs.HeartbeatLists.{leaves}
 use Rattle.kr_defs.proofs.IdLists.{same_id}
 use Rattle.kr_defs.proofs.Tests.{both}
 use Rattle.kr_safety.specs.HearingLaws.{HearsOf}

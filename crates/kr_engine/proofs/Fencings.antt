@@ -5,7 +5,7 @@ use Rattle.std.specs.List.{list_all}
 use Rattle.std.specs.Option.{option_map_or}
 use Rattle.std.specs.Ordering.{int_cmp}
 use Rattle.kr_calls.specs.declared.events.Event.TheVariants as events
-use Rattle.kr_batch.specs.Written.{batch_bytes}
+use Rattle.kr_batch.specs.BatchBytes.{batch_bytes}
 use Rattle.kr_calls.specs.declared.events.Output.TheVariants as given
 use Rattle.kr_calls.specs.Deciding.{apply_records, has_few_targets, is_request}
 use Rattle.kr_calls.specs.TakingOut.{fencing}

@@ -5,7 +5,7 @@ use Rattle.std.specs.Ordering.{int_eq}
 use Rattle.kr_calls.specs.declared.events.Event.TheVariants as events
 use Rattle.kr_calls.specs.declared.events.Output.TheVariants as given
 use Rattle.kr_defs.specs.Image.{Image, empty}
-use Rattle.kr_snapshot.specs.Written.{image_text}
+use Rattle.kr_snapshot.specs.ImageText.{image_text}
 use Rattle.kr_store.specs.Images.{kept_at}
 use Rattle.kr_engine.specs.declared.writes.Write.{Write}
 use Rattle.kr_engine.specs.Engine as engines

@@ -2,7 +2,7 @@
 -- that it saw or made is committed, or says that the leadership was lost before.
 use Rattle.std.specs.Prelude.{ℕ, ℤ, pos, int_lt, ◌&&◌, ◌==◌, Bool, not, List, [], ◌∷◌, ◌++◌, length, map, filter, option_to_list, is_some, Option, Result, Ok, Err, if◌then◌else◌}
 use Rattle.kr_batch.specs.declared.Batch.{Batch}
-use Rattle.kr_batch.specs.Written.{batch_bytes}
+use Rattle.kr_batch.specs.BatchBytes.{batch_bytes}
 use Rattle.kr_calls.specs.declared.calls.Ask.{Ask}
 use Rattle.kr_calls.specs.declared.calls.AskFault.{AskFault}
 use Rattle.kr_calls.specs.declared.calls.Call.{Call}
@@ -21,7 +21,7 @@ use Rattle.kr_calls.specs.Refuse.{refuse}
 use Rattle.kr_defs.specs.declared.options.Options.{Options}
 use Rattle.kr_defs.specs.declared.record.Record.{Record}
 use Rattle.kr_defs.specs.ImageLaws.{as_items}
-use Rattle.kr_snapshot.specs.Written.{image_text}
+use Rattle.kr_snapshot.specs.ImageText.{image_text}
 use Rattle.kr_engine.specs.declared.writes.Write.{Write}
 use Rattle.kr_engine.specs.Events.{happens, next_number, outcome, state, timed}
 use Rattle.kr_engine.specs.Leaderships.{leads_in}

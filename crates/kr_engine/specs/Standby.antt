@@ -11,7 +11,7 @@ use Rattle.kr_defs.specs.Log.{apply_all, first_ill}
 use Rattle.kr_batch.specs.declared.Batch.{Batch}
 use Rattle.kr_batch.specs.declared.fault.BatchFault.{BatchFault}
 use Rattle.kr_snapshot.specs.declared.fault.ImageFault.{ImageFault}
-use Rattle.kr_snapshot.specs.Read.{kept_once}
+use Rattle.kr_snapshot.specs.ReaderState.{kept_once}
 use Rattle.kr_store.specs.Images.{Images, last_image}
 use Rattle.kr_engine.specs.Engine.{Core, refused}
 use Rattle.kr_engine.specs.Reasons.{already_leading, bad_batch, bad_image, exhausted, gap, ill_formed, older_image}

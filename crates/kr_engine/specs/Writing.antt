@@ -1,7 +1,7 @@
 -- What a leader's records make of an engine: one batch at the tip, where there are any.
 use Rattle.std.specs.Prelude.{◌≡◌, ◌+ℤ◌, ◌==◌, ℤ, pos, List, [], ◌∷◌, ◌++◌, length, Ok, ◌≤◌, if◌then◌else◌}
 use Rattle.kr_batch.specs.declared.Batch.{Batch}
-use Rattle.kr_batch.specs.Written.{batch_bytes}
+use Rattle.kr_batch.specs.BatchBytes.{batch_bytes}
 use Rattle.kr_calls.specs.declared.events.Output.{Output}
 use Rattle.kr_calls.specs.declared.events.Output.TheVariants as given
 use Rattle.kr_calls.specs.Deciding.{apply_records}

@@ -4,7 +4,7 @@ ghost use Rattle.std.specs.Prelude.{◌≡◌, ◌+ℤ◌, ◌≤ℤ◌, ◌≤�
 ghost use Rattle.kr_defs.specs.declared.limits.TheConstants.{MOST_RECORDS as most_records, PLACES_END as places_end};
 ghost use Rattle.kr_defs.specs.declared.record.Item.TheVariants as items;
 ghost use Rattle.kr_defs.specs.ImageLaws.{as_items};
-ghost use Rattle.kr_batch.specs.Written.{IsWritable, batch_bytes, values_size};
+ghost use Rattle.kr_batch.specs.BatchBytes.{IsWritable, batch_bytes, values_size};
 ghost use Rattle.kr_calls.specs.declared.events.Output.TheVariants as given;
 ghost use Rattle.kr_fitting.specs.Fitting.{FitsBatch};
 ghost use Rattle.kr_store.specs.Images.{IsAbove};

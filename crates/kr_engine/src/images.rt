@@ -4,7 +4,7 @@ ghost use Rattle.std.specs.Prelude.{◌≡◌, ◌≤ℤ◌, [], pos, unwrap_or,
 ghost use Rattle.kr_calls.specs.declared.events.Event.TheVariants as events;
 ghost use Rattle.kr_calls.specs.declared.events.Output.TheVariants as given;
 ghost use Rattle.kr_defs.specs.Image.{empty};
-ghost use Rattle.kr_snapshot.specs.Written.{image_text};
+ghost use Rattle.kr_snapshot.specs.ImageText.{image_text};
 ghost use Rattle.kr_store.specs.Images.{kept_at};
 ghost use Rattle.kr_engine.specs.Engine as engines;
 ghost use Rattle.kr_engine.specs.Engine.{IsSound, IsStep, left};

@@ -2,7 +2,7 @@
 
 ghost use Rattle.std.specs.Prelude.{◌≡◌, [], IfOk, OnOk};
 ghost use Rattle.kr_calls.specs.declared.events.Event.TheVariants as events;
-ghost use Rattle.kr_snapshot.specs.Read.{Restores, kept_once};
+ghost use Rattle.kr_snapshot.specs.ReaderState.{Restores, kept_once};
 ghost use Rattle.kr_snapshot.specs.Reading.{image_of};
 ghost use Rattle.kr_engine.specs.Engine.{IsSound, IsStep, left};
 ghost use Rattle.kr_engine.specs.Standby as standby;

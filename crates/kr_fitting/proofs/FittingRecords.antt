@@ -18,10 +18,10 @@ use Rattle.kr_defs.specs.Sizes as sizes
 use Rattle.kr_defs.proofs.Tests.{both}
 use Rattle.kr_record.specs.Encodable.{IsEncodable}
 use Rattle.kr_record.proofs.Lengths.{size}
-use Rattle.kr_batch.specs.Written.{IsWritable, value_bytes, values_size}
+use Rattle.kr_batch.specs.BatchBytes.{IsWritable, value_bytes, values_size}
 use Rattle.kr_calls.specs.Deciding.{apply_records}
 use Rattle.kr_calls.specs.Decide.{work_of}
-use Rattle.kr_calls.proofs.Standing.{requests_stand}
+use Rattle.kr_calls.proofs.DecisionMeanings.{requests_stand}
 use Rattle.kr_fitting.specs.Fitting.{RecordsFit, RequestsFit}
 use Rattle.kr_fitting.proofs.RequestLimits.{requests_bounded}
 use Rattle.kr_fitting.proofs.ShortRecords.{IsFew, written}

@@ -6,7 +6,7 @@ use Rattle.kr_defs.specs.declared.options.Options.{Options}
 use Rattle.kr_defs.specs.declared.record.Record.{Record}
 use Rattle.kr_defs.specs.Image.{Image}
 use Rattle.kr_defs.specs.ImageLaws.{as_items}
-use Rattle.kr_batch.specs.Written.{IsWritable, values_size}
+use Rattle.kr_batch.specs.BatchBytes.{IsWritable, values_size}
 use Rattle.kr_calls.specs.declared.calls.Request.{Request}
 use Rattle.kr_calls.specs.Deciding.{apply_records, is_request}
 use Rattle.kr_calls.specs.Decide.{work_of}

@@ -1,3 +1,3 @@
-pub mod Gathers
 pub mod Parts
-pub mod Seen
+pub mod ShownImages
+pub mod WalkGathering

@@ -21,7 +21,7 @@ use Rattle.kr_defs.proofs.ImageParts.{text_total, has_topic_any}
 use Rattle.kr_defs.proofs.Maps.{IsMap-insert, IsMap-remove}
 use Rattle.kr_defs.proofs.Tests.{both, not_true, some_is}
 use Rattle.kr_store.specs.Images.{topic_of}
-use Rattle.kr_image.specs.Held.{IsIndex}
+use Rattle.kr_image.specs.Timelines.{IsIndex}
 
 eq_is : (q k : ℕ) → is_eq (nat_cmp q k) ≡ (k == q)
 eq_is q k = grind (arith, nat_tests)

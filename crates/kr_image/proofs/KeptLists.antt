@@ -11,7 +11,7 @@ use Rattle.std.proofs.lemmas.Int.{ints}
 use Rattle.std.proofs.lemmas.Bool.Decides.{Decides-int_eq}
 use Rattle.kr_defs.specs.KeptMaps.{Kept, oldest_unmade}
 use Rattle.kr_defs.specs.Map as entries
-use Rattle.kr_image.specs.Held.{map_in}
+use Rattle.kr_image.specs.Timelines.{map_in}
 
 same_epoch : (x : ℤ) → int_eq x x ≡ true
 same_epoch x = (Decides-int_eq x x).1 refl

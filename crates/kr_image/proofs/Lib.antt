@@ -1,9 +1,9 @@
-pub mod Counting
 pub mod Index
 pub mod KeptLists
-pub mod Last
+pub mod LastEpoch
 pub mod Owners
 pub mod Places
 pub mod Removal
 pub mod Rows
 pub mod Stores
+mod TopicCounts

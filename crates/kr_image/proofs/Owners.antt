@@ -19,11 +19,13 @@ use Rattle.kr_defs.specs.Image.{is_index}
 use Rattle.kr_defs.specs.Map as map
 use Rattle.kr_defs.specs.Map.{text_order, partition_order, config_order}
 use Rattle.kr_defs.specs.Partition.{is_natural}
+use Rattle.kr_defs.proofs.EntryCounts.{config_same, is_equal}
 use Rattle.kr_defs.proofs.ImageParts.{text_total}
+use Rattle.kr_defs.proofs.Maps.{then_equal}
 use Rattle.kr_defs.proofs.Tests.{both, some_is}
 use Rattle.kr_image.proofs.Removal.{only_others}
 use Rattle.kr_image.proofs.Index.{self_equal}
-use Rattle.kr_image.specs.Held.{lowest}
+use Rattle.kr_image.specs.Timelines.{lowest}
 
 -- ---- orders by one part and then another
 
@@ -31,11 +33,6 @@ then_cases : (r s : Ordering) → ordering_then r s ≡ Less → (r ≡ Less) �
 then_cases Less s h = inl refl
 then_cases Equal s h = inr (refl, h)
 then_cases Greater s h = absurd cc
-
-then_equal : (r s : Ordering) → ordering_then r s ≡ Equal → (r ≡ Equal) × (s ≡ Equal)
-then_equal Less s h = absurd cc
-then_equal Equal s h = (refl, h)
-then_equal Greater s h = absurd cc
 
 -- where x is neither before nor after y in the first part, it is equal in it
 module _ {K : Type 0} {R : K → K → Ordering} (o : IsTotalOrder R) where
@@ -48,11 +45,6 @@ module _ {K : Type 0} {R : K → K → Ordering} (o : IsTotalOrder R) where
 first_part : {s r : Ordering} → (r ≡ Less) ⊎ ((r ≡ Equal) × (s ≡ Less)) → (r ≡ Less) ⊎ (r ≡ Equal)
 first_part (inl p) = inl p
 first_part (inr p) = inr p.0
-
-is_equal : (r : Ordering) → is_eq r ≡ true → r ≡ Equal
-is_equal Less h = absurd cc
-is_equal Equal h = refl
-is_equal Greater h = absurd cc
 
 below_natural : (n : ℤ) → is_natural n ≡ true → int_cmp (negsuc 0) n ≡ Less
 below_natural (pos n) h = refl
@@ -97,18 +89,6 @@ only_other_partitions ps topic first ordered indexes is other =
     only_others partition_order (λ k. k.0 == topic) (topic, negsuc 0) (λ x y own low high. partitions_between topic x y own low high) ps ordered (partitions_above topic ps (recursion_from_All (λ e. IsTrue (is_index e.0.1)) ps indexes)) (first_is ps topic first is other)
 
 -- ---- settings
-
-abbrev key_of : ℤ → List ℕ → List ℕ → ConfigKey
-key_of kind name key = record { kind = kind; name = name; key = key }
-
-pub config_same : (k x : ConfigKey) → is_eq (config_order k x) ≡ true → k ≡ x
-config_same k x equal =
-    let parts = then_equal (int_cmp k.kind x.kind) (ordering_then (text_order k.name x.name) (text_order k.key x.key)) (is_equal (config_order k x) equal) in
-    let rest = then_equal (text_order k.name x.name) (text_order k.key x.key) parts.1 in
-    let kinds : k.kind ≡ x.kind = (Decides-int_eq k.kind x.kind).0 (ap is_eq parts.0) in
-    let names : k.name ≡ x.name = exact_bytes k.name x.name rest.0 in
-    let keys : k.key ≡ x.key = exact_bytes k.key x.key rest.1 in
-    ap (λ (a : ℤ). key_of a k.name k.key) kinds ∙ (ap (λ (b : List ℕ). key_of x.kind b k.key) names ∙ ap (λ (c : List ℕ). key_of x.kind x.name c) keys)
 
 setting_from : (name : List ℕ) (k : ConfigKey) → (int_cmp topic_kind k.kind ≡ Equal) → (text_order name k.name ≡ Equal) → is_setting_of name k ≡ true
 setting_from name k kinds names =

@@ -20,8 +20,8 @@ use Rattle.kr_store.specs.Images.{Images, AreValid, IsAbove, counts_of, marked, 
 use Rattle.kr_store.specs.declared.places.Counts.{Counts}
 use Rattle.kr_image.specs.declared.kept_counts.KeptCounts.{KeptCounts}
 use Rattle.kr_image.specs.declared.timelines.Timelines.{Timelines}
-use Rattle.kr_image.specs.Held.{Keeps, keeps, no_keeps, map_in, image_in, tip_of, made_of, IsIndex, Agrees}
-use Rattle.kr_image.specs.Kept.{images_in, images_of, HaveEpochs, IsKept, IsRight, IsStore, Same, Marks, Reverts, Forgets}
+use Rattle.kr_image.specs.Timelines.{Keeps, keeps, no_keeps, map_in, image_in, tip_of, made_of, IsIndex, Agrees}
+use Rattle.kr_image.specs.KeptImages.{images_in, images_of, HaveEpochs, IsKept, IsRight, IsStore, Same, Marks, Reverts, Forgets}
 use Rattle.kr_image.proofs.KeptLists.{find_map, filter_map_is, map_push, map_same, all_weaker, all_push, all_map, all_mapped, all_passing, in_more, in_last, in_left, in_unmade, epochs_unmade, rising_push}
 
 abbrev epochs_of : List KeptCounts → List ℤ

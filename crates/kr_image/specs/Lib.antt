@@ -1,4 +1,4 @@
-pub mod Changed
-pub mod Held
-pub mod Kept
-pub mod Looking
+pub mod KeptImages
+pub mod RecordAnswers
+pub mod TimelineMaps
+pub mod Timelines

@@ -53,7 +53,7 @@ pub fn unset<K: Ord + Copied + Drop, V: Copied + Drop>(
 }
 
 /// Gives the key the value, and counts an entry that is new.
-#[tactic(auto, using(crate::proofs::Counting::counting))]
+#[tactic(auto, using(kr_defs::proofs::EntryCounts::counting))]
 pub fn set_counted<K: Ord + Copied + Drop, V: Copied + Drop>(
     timeline: &mut Timeline<K, V>,
     count: &mut u32,
@@ -77,7 +77,7 @@ pub fn set_counted<K: Ord + Copied + Drop, V: Copied + Drop>(
 }
 
 /// Takes the key out, and counts an entry that goes.
-#[tactic(auto, using(crate::proofs::Counting::counting))]
+#[tactic(auto, using(kr_defs::proofs::EntryCounts::counting))]
 pub fn unset_counted<K: Ord + Copied + Drop, V: Copied + Drop>(
     alloc: Global,
     timeline: &mut Timeline<K, V>,

@@ -2,8 +2,8 @@
 
 ghost use Rattle.std.specs.Prelude.{◌≡◌, ◌≤◌, OnOk};
 ghost use Rattle.kr_defs.specs.Image.{empty};
-ghost use Rattle.kr_image.specs.Held.{Agrees, keeps, made_of, no_keeps, tip_of};
-ghost use Rattle.kr_image.specs.Kept.{AreAbove, AreKept, Forgets, HaveRoom, Marks, Reverts, Same};
+ghost use Rattle.kr_image.specs.Timelines.{Agrees, keeps, made_of, no_keeps, tip_of};
+ghost use Rattle.kr_image.specs.KeptImages.{AreAbove, AreKept, Forgets, HaveRoom, Marks, Reverts, Same};
 
 use crate::keeping::{forget_below, mark, revert};
 use crate::timelines::Timelines;

@@ -5,8 +5,8 @@ ghost use Rattle.kr_defs.specs.Apply as apply;
 ghost use Rattle.kr_defs.specs.Image.{IsValid};
 ghost use Rattle.kr_defs.specs.Map as map;
 ghost use Rattle.kr_defs.specs.Map.{text_order};
-ghost use Rattle.kr_image.specs.Changed.{Changes};
-ghost use Rattle.kr_image.specs.Held.{Agrees, keeps, made_of, tip_of};
+ghost use Rattle.kr_image.specs.RecordAnswers.{Changes};
+ghost use Rattle.kr_image.specs.Timelines.{Agrees, keeps, made_of, tip_of};
 
 use crate::entries::{contains, is_full, set_counted, unset_counted};
 use crate::timelines::{ChangeFault, Timelines};

@@ -2,7 +2,7 @@
 
 ghost use Rattle.std.specs.Prelude.{◌≡◌, ◌≤◌, [], ◌∷◌, ◌++◌, IsTrue, IsSome, filter, not, int_lt};
 ghost use Rattle.kr_defs.specs.KeptMaps.{IsAbove, map_at, oldest_unmade};
-ghost use Rattle.kr_image.specs.Held.{map_in};
+ghost use Rattle.kr_image.specs.Timelines.{map_in};
 
 use kr_base::Steps;
 use kr_timeline::Timeline;

@@ -3,13 +3,13 @@
 ghost use Rattle.std.specs.Prelude.{◌≡◌, ◌≤◌, ◌<◌, ◌+◌, OnOk, IfOk, IfSome, IsNone, IsTrue, Some, [], not, filter, count_by, length, unwrap_or, true};
 ghost use Rattle.std.specs.Option.{option_copied, option_map};
 ghost use Rattle.kr_defs.specs.Apply as apply;
-ghost use Rattle.kr_defs.specs.Image.{IsValid, config_text};
+ghost use Rattle.kr_defs.specs.Image.{IsValid, config_text, entry_text};
 ghost use Rattle.kr_defs.specs.Map as map;
 ghost use Rattle.kr_defs.specs.Map.{config_order};
 ghost use Rattle.kr_defs.specs.declared.limits.TheConstants.{MOST_CONFIG_TEXT as most};
-ghost use Rattle.kr_image.specs.Changed.{Changes};
-ghost use Rattle.kr_image.specs.Held.{lowest as lowest_key};
-ghost use Rattle.kr_image.specs.Held.{Agrees, entry_text, keeps, made_of, tip_of};
+ghost use Rattle.kr_image.specs.RecordAnswers.{Changes};
+ghost use Rattle.kr_image.specs.Timelines.{lowest as lowest_key};
+ghost use Rattle.kr_image.specs.Timelines.{Agrees, keeps, made_of, tip_of};
 
 use crate::entries::{contains, set, unset};
 use crate::sums::added_within;
@@ -36,7 +36,7 @@ fn key_of(alloc: Global, kind: &i8, name: &Text, key: &Text) -> Result<ConfigKey
 }
 
 // The bytes of the setting's text, if it is there.
-#[tactic(auto, using(crate::proofs::Counting::texts))]
+#[tactic(auto, using(kr_defs::proofs::EntryCounts::texts))]
 fn text_at(configs: &Timeline<ConfigKey, Text>, key: &ConfigKey) -> usize
     requires { config_text configs.now.maps.present ≤ most }
     ensures text { result ≡ unwrap_or (option_map (λ value. entry_text key.now value) (map.get config_order configs.now.maps.present key.now)) 0 }
@@ -48,7 +48,7 @@ fn text_at(configs: &Timeline<ConfigKey, Text>, key: &ConfigKey) -> usize
 }
 
 // The bytes of the text of all settings once this one has the value, where they aren't above the limit.
-#[tactic(auto, using(crate::proofs::Counting::texts))]
+#[tactic(auto, using(kr_defs::proofs::EntryCounts::texts))]
 fn text_with(
     configs: &Timeline<ConfigKey, Text>,
     bytes: u32,
@@ -68,7 +68,7 @@ fn text_with(
 }
 
 // Takes the setting out, with the bytes of its text.
-#[tactic(auto, using(crate::proofs::Counting::texts))]
+#[tactic(auto, using(kr_defs::proofs::EntryCounts::texts))]
 fn unset_text(
     alloc: Global,
     configs: &mut Timeline<ConfigKey, Text>,

@@ -3,10 +3,10 @@
 ghost use Rattle.std.specs.Prelude.{◌≡◌, ◌↔◌, ◌+◌, ◌≤◌, None, Some, IsErr, IsSome, OnErr, OnOk};
 ghost use Rattle.kr_defs.specs.declared.record.Item.TheVariants as items;
 ghost use Rattle.kr_defs.specs.Weight.{weight};
-ghost use Rattle.kr_store.specs.Applied.{Applies, Ticks};
+ghost use Rattle.kr_store.specs.ItemAnswers.{Applies, Ticks};
 ghost use Rattle.kr_store.specs.Images.{IsAbove, forgotten, kept_at, last_image, last_kept, marked, no_images, reverted};
-ghost use Rattle.kr_image.specs.Held.{keeps, made_of, tip_of};
-ghost use Rattle.kr_image.specs.Kept.{IsKept, IsStore, images_of};
+ghost use Rattle.kr_image.specs.Timelines.{keeps, made_of, tip_of};
+ghost use Rattle.kr_image.specs.KeptImages.{IsKept, IsStore, images_of};
 
 use crate::kept_counts::{KeptCounts, counts_at, keep_from, keep_up_to, kept_under};
 use crate::looking::{found, next};
@@ -31,7 +31,7 @@ impl Model for ImageStore {
 
     ghost Value = { Images };
 
-    ghost use Rattle.kr_image.specs.Kept.{IsStore, images_of};
+    ghost use Rattle.kr_image.specs.KeptImages.{IsStore, images_of};
 
     ghost view = { λ s. images_of s.timelines s.kept.items };
 

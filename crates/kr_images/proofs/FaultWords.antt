@@ -4,7 +4,7 @@ use Rattle.std.specs.Prelude.{IfOk, IsErr}
 use Rattle.kr_defs.specs.Image.{Image}
 use Rattle.kr_snapshot.specs.declared.fault.ImageFault.{ImageFault}
 use Rattle.kr_snapshot.specs.declared.fault.ImageFault.TheVariants as faults
-use Rattle.kr_snapshot.specs.Read.{IsFault}
+use Rattle.kr_snapshot.specs.ReaderState.{IsFault}
 use Rattle.kr_images.specs.Words.{TellsImage, fault_words}
 
 true_not_false : true ≡ false → ⊥

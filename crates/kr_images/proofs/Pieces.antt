@@ -2,9 +2,9 @@
 use Rattle.std.proofs.Common.{◌≡◌, ◌∙◌, ℕ, List, [], ◌∷◌, ◌++◌, length, append_assoc, refl, sym, ap, subst, arith, Result, Ok, Err}
 use Rattle.std.proofs.lemmas.List.{append-nil}
 use Rattle.kr_snapshot.specs.declared.fault.ImageFault.{ImageFault}
-use Rattle.kr_snapshot.specs.Read.{IsFault, StandsFor, answer_of}
+use Rattle.kr_snapshot.specs.ReaderState.{IsFault, StandsFor, answer_of}
 use Rattle.kr_snapshot.specs.Reading.{Taken, image_of}
-use Rattle.kr_snapshot.proofs.Waiting.{faulty_on, fault_stays}
+use Rattle.kr_snapshot.proofs.ReaderSteps.{faulty_on, fault_stays}
 
 pub record IsFed (reader : Result Taken ImageFault) (rest bytes : List ℕ) : Type 0 where
   pub fed : List ℕ

@@ -7,12 +7,12 @@ use Rattle.kr_defs.specs.declared.ill.Ill.TheVariants as ills
 use Rattle.kr_defs.specs.Image.{Image}
 use Rattle.kr_batch.specs.declared.fault.BatchFault.{BatchFault}
 use Rattle.kr_batch.specs.declared.fault.BatchFault.TheVariants as batches
-use Rattle.kr_rows.specs.Plain.{◌␣◌}
+use Rattle.kr_rows.specs.PlainWords.{◌␣◌}
 use Rattle.kr_snapshot.specs.declared.fault.BatchCause.{BatchCause}
 use Rattle.kr_snapshot.specs.declared.fault.BatchCause.TheVariants as causes
 use Rattle.kr_snapshot.specs.declared.fault.ImageFault.{ImageFault}
 use Rattle.kr_snapshot.specs.declared.fault.ImageFault.TheVariants as faults
-use Rattle.kr_snapshot.specs.Written.{image_text}
+use Rattle.kr_snapshot.specs.ImageText.{image_text}
 
 abbrev pub ill_words : Ill → List ℕ
 ill_words ills.BadNumber = codes "BadNumber"

@@ -2,7 +2,7 @@
 
 ghost use Rattle.std.specs.Prelude.{◌≡◌, ◌≤ℤ◌, pos, IfOk, string_bytes};
 ghost use Rattle.kr_snapshot.specs.Reading.{image_of};
-ghost use Rattle.kr_snapshot.specs.Written.{image_text};
+ghost use Rattle.kr_snapshot.specs.ImageText.{image_text};
 ghost use Rattle.kr_images.specs.Words.{TellsImage, image_words};
 
 use crate::reading::{first_byte, read_in};

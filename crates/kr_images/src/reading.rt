@@ -1,7 +1,7 @@
 //! An image is read from bytes in pieces.
 
 ghost use Rattle.std.specs.Prelude.{◌<◌, IfSome, length};
-ghost use Rattle.kr_snapshot.specs.Read.{Restores};
+ghost use Rattle.kr_snapshot.specs.ReaderState.{Restores};
 ghost use Rattle.kr_snapshot.specs.Reading.{image_of};
 
 use kr_image::ImageStore;

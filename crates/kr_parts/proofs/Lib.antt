@@ -1,2 +1,2 @@
-pub mod Nobody
+pub mod LeaderlessElections
 pub mod WholeTopics

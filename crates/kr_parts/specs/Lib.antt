@@ -1,2 +1,2 @@
-pub mod Named
-pub mod Reported
+pub mod EpochReports
+pub mod NamedLeader

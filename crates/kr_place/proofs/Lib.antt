@@ -1,8 +1,8 @@
-pub mod Across
 pub mod Brokers
-pub mod Chosen
+pub mod DistinctBrokers
 pub mod Groups
 pub mod Names
+pub mod RackCoverage
 pub mod Spread
 pub mod Totals
 pub mod Visits

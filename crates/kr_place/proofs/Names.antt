@@ -19,7 +19,7 @@ use Rattle.kr_defs.specs.Map.{IsMap, get}
 use Rattle.kr_defs.specs.Map as entries
 use Rattle.kr_defs.specs.Placed.{Rack, rack_order, by_id, joined, racks_of, placed}
 use Rattle.kr_place.specs.Spread.{ids_of, same_rack, rack_count, with_ids}
-use Rattle.kr_place.proofs.Across.{has, placed-touched}
+use Rattle.kr_place.proofs.RackCoverage.{has, placed-touched}
 use Rattle.kr_place.proofs.Groups.{rack_total, all-other, none-empty, get-gone, joined-map, racks-filled}
 
 -- ---- tests

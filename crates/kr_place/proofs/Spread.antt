@@ -4,7 +4,7 @@ use Rattle.std.specs.List.{IsDistinct}
 use Rattle.std.specs.Ordering.{int_eq}
 use Rattle.kr_defs.specs.Placed.{Rack, placed}
 use Rattle.kr_place.specs.Spread.{ids_of, IsSpread}
-use Rattle.kr_place.proofs.Chosen.{placed-distinct, placed-count, placed-members}
+use Rattle.kr_place.proofs.DistinctBrokers.{placed-distinct, placed-count, placed-members}
 use Rattle.kr_place.proofs.Names.{placed-racks}
 
 pub spread : (brokers : List (ℤ × Rack)) (start factor : ℕ) → IsDistinct int_eq (ids_of brokers) → IsSpread brokers factor (placed brokers start factor)

@@ -1,3 +1,3 @@
-pub mod Roles
-pub mod Keeping
 pub mod Clients
+pub mod Roles
+pub mod RuleSteps

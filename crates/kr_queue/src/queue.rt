@@ -37,7 +37,7 @@ fn new_queue(alloc: Global) -> Result<(Queue, Pass), NoMemory>
 }
 
 // The pass of the next role.
-#[tactic(auto, using(crate::proofs::Keeping::forks))]
+#[tactic(auto, using(crate::proofs::RuleSteps::forks))]
 fn next_pass(queue: &Queue, worker: &mut Pass) -> Pass
     requires pass { IsPassOf queue.now worker.old }
     requires role { (view worker.old).role ≡ Worker }

@@ -84,7 +84,7 @@ impl<'a> PartitionPart<OngoingPartitionReassignment> for AskedPartitions<'a> {
 }
 
 // The partitions of a topic that are asked for and move.
-#[tactic(auto, using(crate::proofs::Gathered::moving))]
+#[tactic(auto, using(crate::proofs::OngoingRows::moving))]
 fn ongoing_of<S: Store>(
     alloc: Global,
     store: &S,
@@ -142,7 +142,7 @@ impl<'a> TopicPart<OngoingTopicReassignment> for AskedTopics<'a> {
     }
 }
 
-#[tactic(auto, using(crate::proofs::Gathered::all_shown))]
+#[tactic(auto, using(crate::proofs::OngoingRows::all_shown))]
 fn all_topic_rows<S: Store>(
     alloc: Global,
     store: &S,

@@ -5,7 +5,7 @@ use Rattle.kr_defs.specs.declared.record.Record.{Record}
 use Rattle.kr_defs.specs.Sizes.{value_bytes}
 use Rattle.kr_record.specs.Encodable.{IsEncodable}
 use Rattle.kr_record.specs.Spelling.{record_value}
-use Rattle.kr_record.proofs.Stands.{record_spells}
+use Rattle.kr_record.proofs.RecordForms.{record_spells}
 
 pub size : (r : Record) → IsEncodable r → length (record_value r) ≡ value_bytes r
 size r fits = (record_spells r).size fits

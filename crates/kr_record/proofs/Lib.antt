@@ -1,11 +1,11 @@
 pub mod Elements
 pub mod FieldSteps
+pub mod KindSpelling
 pub mod KnownFields
 pub mod Laws
 pub mod LayoutLaws
 pub mod Lengths
+pub mod PartSpelling
 pub mod Parts
-pub mod SpellsKinds
-pub mod SpellsParts
-pub mod Stands
-pub mod Written
+pub mod RecordForms
+pub mod RecordWriting

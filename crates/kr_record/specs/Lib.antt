@@ -1,6 +1,6 @@
 pub mod Answers
 pub mod Encodable
 pub mod Grammar
-pub mod Held
 pub mod Reading
+pub mod RecordRanges
 pub mod Spelling

@@ -108,7 +108,7 @@ fn put_i8_data(out: &mut Vec<u8>, tag: u32, number: &i8) -> Result<(), AllocErro
 }
 
 /// The tagged fields of a partition.
-#[tactic(auto, using(crate::proofs::Written::partition_tags_written), unfolding(crate::specs::Spelling::partition_tags))]
+#[tactic(auto, using(crate::proofs::RecordWriting::partition_tags_written), unfolding(crate::specs::Spelling::partition_tags))]
 pub fn put_extras(out: &mut Vec<u8>, state: &Partition) -> Result<(), AllocError>
     requires { IsShortPartition state.now }
     ensures { OnOk result (out.new.items ≡ out.old.items ++ partition_tags state.now) }
@@ -126,7 +126,7 @@ pub fn put_extras(out: &mut Vec<u8>, state: &Partition) -> Result<(), AllocError
 }
 
 /// The tagged fields of a change of a broker's registration.
-#[tactic(auto, using(crate::proofs::Written::flag_tags_written), unfolding(crate::specs::Spelling::flag_tags))]
+#[tactic(auto, using(crate::proofs::RecordWriting::flag_tags_written), unfolding(crate::specs::Spelling::flag_tags))]
 pub fn put_flags(out: &mut Vec<u8>, fenced: &i8, stopping: &i8) -> Result<(), AllocError>
     ensures { OnOk result (out.new.items ≡ out.old.items ++ flag_tags fenced.now stopping.now) }
 {
@@ -170,7 +170,7 @@ fn put_later_changes(out: &mut Vec<u8>, change: &PartitionChange) -> Result<(), 
 }
 
 // How many fields of the change are there.
-#[tactic(auto, using(crate::proofs::Written::change_count))]
+#[tactic(auto, using(crate::proofs::RecordWriting::change_count))]
 fn change_count(change: &PartitionChange) -> u32
     ensures { result ≡ length (change_fields change.now) }
 {

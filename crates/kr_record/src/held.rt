@@ -2,7 +2,7 @@
 
 ghost use Rattle.std.specs.Prelude.{All, FitsSigned, IsUtf8, IfSome};
 ghost use Rattle.std.specs.Int.{w32, w8};
-ghost use Rattle.kr_record.specs.Held.{AreInts, IsHeld, IsHeldBroker, IsHeldChange, IsHeldConfig, IsHeldEndpoint, IsHeldPartition, IsHeldRange};
+ghost use Rattle.kr_record.specs.RecordRanges.{AreInts, IsHeld, IsHeldBroker, IsHeldChange, IsHeldConfig, IsHeldEndpoint, IsHeldPartition, IsHeldRange};
 
 use kr_defs::{
     Broker, Endpoint, Endpoints, Ids, Partition, PartitionChange, Range, Ranges, Record, Text,

@@ -10,7 +10,7 @@ ghost use Rattle.kr_store.specs.Images.{brokers_at};
 ghost use Rattle.kr_store.specs.declared.places.At.TheVariants as places;
 ghost use Rattle.kr_rows_rules.specs.Histories.{AreEpochs};
 ghost use Rattle.kr_rules.specs.Progress.{base_of};
-ghost use Rattle.kr_requests.specs.Led as led;
+ghost use Rattle.kr_requests.specs.StoppingBrokers as led;
 
 use kr_base::{NoEpoch, NoMemory};
 use kr_calls::{Reply, Request};
@@ -22,7 +22,7 @@ use kr_sessions::Sessions;
 use kr_store::{At, Store};
 
 /// Takes note of whom is heard of after the request, which was decided on the image that is kept under the place.
-#[tactic(auto, using(crate::proofs::Leading::hearing))]
+#[tactic(auto, using(crate::proofs::NextPlaces::hearing))]
 pub(crate) fn hear(
     sessions: &mut Sessions,
     store: &ImageStore,

@@ -39,7 +39,7 @@ impl Model for LeaderImage {
 
 impl LeaderImage {
     /// Empty, at place 0.
-    #[tactic(auto, using(crate::proofs::Leading::epochs_begun))]
+    #[tactic(auto, using(crate::proofs::NextPlaces::epochs_begun))]
     pub(crate) fn new(alloc: Global) -> Result<LeaderImage, NoMemory> {
         let mut store = ImageStore::new(alloc);
         store.mark(0)?;
@@ -129,7 +129,7 @@ fn context_of<'a>(options: &'a Options, sessions: &'a Sessions, now: i64, place:
 }
 
 // Makes the kept image the present one.
-#[tactic(auto, using(crate::proofs::Leading::leading))]
+#[tactic(auto, using(crate::proofs::NextPlaces::leading))]
 fn go_back<L: Ledger>(store: &mut ImageStore, place: &i64, steps: &mut Steps<L>)
     requires { AreEpochs store.old.kept (place.now ∷ []) }
     ensures kept { AreEpochs store.new.kept (place.now ∷ []) }
@@ -138,7 +138,7 @@ fn go_back<L: Ledger>(store: &mut ImageStore, place: &i64, steps: &mut Steps<L>)
     store.revert_to_last(steps);
 }
 
-#[tactic(auto, using(crate::proofs::Leading::epochs_same))]
+#[tactic(auto, using(crate::proofs::NextPlaces::epochs_same))]
 fn decide<L: Ledger>(
     alloc: Global,
     store: &mut ImageStore,
@@ -157,7 +157,7 @@ fn decide<L: Ledger>(
     Ok(serve(alloc, store, context, request, answer, steps)?)
 }
 
-#[tactic(auto, using(crate::proofs::Leading::epochs_same))]
+#[tactic(auto, using(crate::proofs::NextPlaces::epochs_same))]
 fn decide_fencing<L: Ledger>(
     alloc: Global,
     store: &mut ImageStore,
@@ -192,7 +192,7 @@ fn apply_all<L: Ledger>(
     Ok(())
 }
 
-#[tactic(auto, using(crate::proofs::Leading::leading))]
+#[tactic(auto, using(crate::proofs::NextPlaces::leading))]
 fn apply<L: Ledger>(
     store: &mut ImageStore,
     place: &i64,
@@ -223,7 +223,7 @@ fn behind(place: i64, count: usize) -> Result<i64, RowFault>
 }
 
 // Keeps the present image under the next place alone.
-#[tactic(auto, using(crate::proofs::Leading::advancing))]
+#[tactic(auto, using(crate::proofs::NextPlaces::advancing))]
 fn advance<L: Ledger>(
     store: &mut ImageStore,
     place: &i64,

@@ -1,8 +1,8 @@
 //! Numbers, lists of ids and what is left out, in plain words.
 
 ghost use Rattle.std.specs.Prelude.{◌≡◌, IfOk, string_bytes};
-ghost use Rattle.kr_rows.specs.Plain as plain;
-ghost use Rattle.kr_rows.specs.Plain.{◌␣◌};
+ghost use Rattle.kr_rows.specs.PlainWords as plain;
+ghost use Rattle.kr_rows.specs.PlainWords.{◌␣◌};
 
 use kr_defs::Ids;
 use std::alloc::{AllocError, Global};

@@ -8,8 +8,8 @@ use Rattle.kr_batch.specs.Crc.{crc32c}
 use Rattle.kr_wire.specs.Reading as reading
 use Rattle.kr_wire.specs.Reading.{Read}
 use Rattle.kr_wire.specs.Spelling as spelling
-use Rattle.kr_rows.specs.Plain as plain
-use Rattle.kr_rows.specs.Plain.{◌␣◌}
+use Rattle.kr_rows.specs.PlainWords as plain
+use Rattle.kr_rows.specs.PlainWords.{◌␣◌}
 use Rattle.kr_rows_codec.specs.declared.primitives.Primitive.{Primitive}
 use Rattle.kr_rows_codec.specs.declared.primitives.Primitive.TheVariants as primitives
 use Rattle.kr_rows_codec.specs.Words.{wire_words}

@@ -4,7 +4,7 @@ use Rattle.std.specs.Fmt.{decimal}
 use Rattle.kr_run.specs.declared.status.Status.{Status}
 use Rattle.kr_run.specs.declared.status.Status.TheVariants as statuses
 use Rattle.kr_run.specs.Endings.{EndsWith}
-use Rattle.kr_rows.specs.Plain.{◌␣◌, hex_words}
+use Rattle.kr_rows.specs.PlainWords.{◌␣◌, hex_words}
 
 abbrev pub status_words : Status → List ℕ
 status_words statuses.Done = codes "done"

@@ -3,7 +3,7 @@
 ghost use Rattle.std.specs.Prelude.{◌≡◌, ◌<◌, ◌^◌, ◌++◌, codes, length, nat_lt, if◌then◌else◌, IfOk, IsErr, string_bytes};
 ghost use Rattle.std.specs.Fmt.{decimal};
 ghost use Rattle.kr_batch.specs.Reading.{batch_of};
-ghost use Rattle.kr_batch.specs.Written.{IsRegular};
+ghost use Rattle.kr_batch.specs.BatchBytes.{IsRegular};
 ghost use Rattle.kr_again.specs.Items;
 ghost use Rattle.kr_again.specs.Items.{HasRecords};
 ghost use Rattle.kr_rows_codec.specs.Words;

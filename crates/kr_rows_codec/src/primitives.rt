@@ -7,7 +7,7 @@ ghost use Rattle.std.specs.Int.{w8, w16, w32, w64};
 ghost use Rattle.hex.specs.Hex.{encode_lower};
 ghost use Rattle.kr_batch.specs.Crc as crc;
 ghost use Rattle.kr_wire.specs.Reading as reading;
-ghost use Rattle.kr_rows.specs.Plain.{◌␣◌};
+ghost use Rattle.kr_rows.specs.PlainWords.{◌␣◌};
 ghost use Rattle.kr_rows_codec.specs.PrimitiveWords as words;
 ghost use Rattle.kr_rows_codec.specs.PrimitiveWords.{Tells, TellsLeft, TellsPrimitive};
 

@@ -3,7 +3,7 @@
 ghost use Rattle.std.specs.Prelude.{◌≡◌, [], Some, length, IfOk, string_bytes};
 ghost use Rattle.std.specs.Fmt.{decimal};
 ghost use Rattle.kr_run.specs.Endings.{EndsWith};
-ghost use Rattle.kr_rows.specs.Plain.{◌␣◌, hex_words};
+ghost use Rattle.kr_rows.specs.PlainWords.{◌␣◌, hex_words};
 ghost use Rattle.kr_rows_codec.specs.SessionWords as words;
 ghost use Rattle.kr_rows_codec.specs.SessionWords.{TellsSession};
 

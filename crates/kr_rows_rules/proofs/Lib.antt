@@ -1,2 +1,2 @@
-pub mod Kept
-pub mod Spare
+pub mod ContactRoom
+pub mod EpochRows

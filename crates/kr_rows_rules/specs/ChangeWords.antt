@@ -5,7 +5,7 @@ use Rattle.kr_defs.specs.declared.partition.Partition.{Partition}
 use Rattle.kr_defs.specs.declared.partition.PartitionChange.{PartitionChange}
 use Rattle.kr_defs.specs.declared.changing.Choice.{Choice}
 use Rattle.kr_defs.specs.declared.changing.Choice.TheVariants as choices
-use Rattle.kr_rows.specs.Plain.{◌␣◌, ids_words, given_words, number_words}
+use Rattle.kr_rows.specs.PlainWords.{◌␣◌, ids_words, given_words, number_words}
 
 abbrev pub list_words : Partition → List ℕ
 list_words p =

@@ -6,7 +6,7 @@ use Rattle.kr_defs.specs.declared.basis.Stopping.{Stopping}
 use Rattle.kr_defs.specs.Heartbeats.{Heartbeats, begin, beat, leave, stop, end}
 use Rattle.kr_rows_rules.specs.declared.heartbeats.Operation.{Operation}
 use Rattle.kr_rows_rules.specs.declared.heartbeats.Operation.TheVariants as operations
-use Rattle.kr_rows.specs.Plain.{◌␣◌}
+use Rattle.kr_rows.specs.PlainWords.{◌␣◌}
 
 -- the lists after one operation more
 abbrev pub operated : Heartbeats → Operation → Heartbeats

@@ -7,7 +7,7 @@ ghost use Rattle.kr_defs.specs.Eligible as eligibles;
 ghost use Rattle.kr_defs.specs.Merge as merges;
 ghost use Rattle.kr_defs.specs.Partition as formed;
 ghost use Rattle.kr_rows_rules.specs.ChangeWords as words;
-ghost use Rattle.kr_rows.specs.Plain as plain;
+ghost use Rattle.kr_rows.specs.PlainWords as plain;
 
 use kr_base::NoMemory;
 use kr_defs::{Choice, Facts, Ids, Mode, Partition, PartitionChange, Want};

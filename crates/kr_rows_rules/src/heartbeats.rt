@@ -112,7 +112,7 @@ fn begin(
     Ok(())
 }
 
-#[tactic(auto, using(crate::proofs::Spare::spare))]
+#[tactic(auto, using(crate::proofs::ContactRoom::spare))]
 fn beat(sessions: &mut Sessions, broker: &i32, now: &i64, offset: &i64) -> Result<(), RowFault>
     ensures { OnOk result (sessions.new.heartbeats ≡ heartbeats.beat sessions.old.heartbeats broker.now now.now offset.now) }
 {

@@ -106,7 +106,7 @@ impl History {
     }
 
     /// Keeps the present image under the epoch, where that is above each kept one.
-    #[tactic(auto, using(crate::proofs::Kept::kept))]
+    #[tactic(auto, using(crate::proofs::EpochRows::kept))]
     pub fn mark(&mut self, epoch: i64) -> Result<(), RowFault>
         ensures ok { OnOk result (self.new ≡ marked self.old epoch) }
     {
@@ -120,7 +120,7 @@ impl History {
     }
 
     /// Makes the record's image the present one, where it has one, or tells why not; an epoch has to be kept.
-    #[tactic(auto, using(crate::proofs::Kept::kept))]
+    #[tactic(auto, using(crate::proofs::EpochRows::kept))]
     pub fn apply<L: Ledger>(
         &mut self,
         place: i64,

@@ -3,7 +3,7 @@
 ghost use Rattle.std.specs.Prelude.{◌≡◌, ◌<◌, ◌≤◌, ◌≤ℤ◌, ◌+◌, pos, length, unsigned_abs, IfOk, string_bytes};
 ghost use Rattle.kr_defs.specs.Placed.{placed};
 ghost use Rattle.kr_rows_rules.specs.PlaceWords as words;
-ghost use Rattle.kr_rows.specs.Plain as plain;
+ghost use Rattle.kr_rows.specs.PlainWords as plain;
 
 use kr_place::{PlaceFault, Racked, place};
 use kr_rows::ids_text;

@@ -1,6 +1,6 @@
-pub mod AtKeys
-pub mod Filled
-pub mod Ones
-pub mod Spent
+pub mod EntryCosts
+pub mod FullImages
+pub mod KeyLookups
+pub mod RecordLists
+pub mod SingleEntries
 pub mod Tags
-pub mod Takes

@@ -8,7 +8,7 @@ use Rattle.kr_defs.specs.declared.limits.TheConstants.{MOST_TOPICS, MOST_PARTITI
 use Rattle.kr_defs.specs.declared.record.ConfigKey.{ConfigKey}
 use Rattle.kr_defs.specs.declared.record.Record.{Record}
 use Rattle.kr_defs.specs.declared.record.Record.TheVariants as kinds
-use Rattle.kr_defs.specs.Image.{Image, is_index}
+use Rattle.kr_defs.specs.Image.{Image, entry_text, is_index}
 use Rattle.kr_defs.specs.Map as entries
 use Rattle.kr_defs.specs.Map.{config_order}
 
@@ -35,11 +35,7 @@ pub record Filling : Type 0 where
   pub text : ℕ
   pub given : List (ConfigKey × ℕ)
 
--- the bytes of a setting's text
-abbrev pub entry_text : ConfigKey → List ℕ → ℕ
-entry_text key value = length key.name + length key.key + length value
-
--- the same where it has a value
+-- the bytes of a setting's text, where it has a value
 abbrev pub value_text : ConfigKey → Option (List ℕ) → ℕ
 value_text key value = unwrap_or (option_map (entry_text key) value) 0
 

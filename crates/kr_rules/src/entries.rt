@@ -97,7 +97,7 @@ pub fn over_entries<E, A: Drop, R: Rule<E, A>, S: Store, L: Ledger>(
 
 /// A request of one entry is decided: its records and its answer. What it costs is said by `cost`, as for the calls below:
 /// each record of a draft is applied once at most, also where the entry is refused.
-#[tactic(auto, using(crate::proofs::Takes::bases))]
+#[tactic(auto, using(crate::proofs::RecordLists::bases))]
 pub fn decide_one<E, A: Drop, R: Rule<E, A>, S: Store, L: Ledger>(
     alloc: Global,
     store: &mut S,
@@ -120,7 +120,7 @@ pub fn decide_one<E, A: Drop, R: Rule<E, A>, S: Store, L: Ledger>(
 }
 
 /// A request of several entries is decided: its records and its answers.
-#[tactic(auto, using(crate::proofs::Takes::bases))]
+#[tactic(auto, using(crate::proofs::RecordLists::bases))]
 pub fn decide_each<E, A: Drop, R: Rule<E, A>, S: Store, L: Ledger>(
     alloc: Global,
     store: &mut S,
@@ -144,7 +144,7 @@ pub fn decide_each<E, A: Drop, R: Rule<E, A>, S: Store, L: Ledger>(
 }
 
 /// A request of several entries is decided, as by `decide_each`; with validate-only no record stands.
-#[tactic(auto, using(crate::proofs::Takes::bases))]
+#[tactic(auto, using(crate::proofs::RecordLists::bases))]
 pub fn decide_or_validate<E, A: Drop, R: Rule<E, A>, S: Store, L: Ledger>(
     alloc: Global,
     store: &mut S,

@@ -115,7 +115,7 @@ pub fn over_groups<
 }
 
 /// A request of entries in groups is decided: its records, and the answer to each group.
-#[tactic(auto, using(crate::proofs::Takes::bases))]
+#[tactic(auto, using(crate::proofs::RecordLists::bases))]
 pub fn decide_groups<
     G,
     K,

@@ -8,7 +8,7 @@ ghost use Rattle.kr_defs.specs.Map as entries;
 ghost use Rattle.kr_defs.specs.Map.{config_order};
 ghost use Rattle.kr_calls.specs.Deciding.{apply_records};
 ghost use Rattle.kr_rules.specs.Room as room;
-ghost use Rattle.kr_rules.specs.Room.{Fills, TellsRoom, entry_text, filled, value_text, with_text};
+ghost use Rattle.kr_rules.specs.Room.{Fills, TellsRoom, filled, value_text, with_text};
 
 use kr_base::NoMemory;
 use kr_defs::limits::{LAST_INDEX, MOST_CONFIG_TEXT, MOST_PARTITIONS, MOST_TOPICS};
@@ -77,7 +77,7 @@ fn key_of(alloc: Global, kind: &i8, name: &Text, key: &Text) -> Result<ConfigKey
 }
 
 fn entry_text(key: &ConfigKey, value: &Text) -> u128
-    ensures value { result ≡ entry_text key.now value.now }
+    ensures value { result ≡ images.entry_text key.now value.now }
     ensures room { result < 2 ^ 66 }
 {
     key.name.len() as u128 + key.key.len() as u128 + value.len() as u128

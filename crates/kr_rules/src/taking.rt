@@ -144,7 +144,7 @@ fn apply_each<S: Store, L: Ledger>(
 }
 
 // The present image is again what the records, of which the first stands at the place, make of the last kept one.
-#[tactic(auto, using(crate::proofs::Takes::bases))]
+#[tactic(auto, using(crate::proofs::RecordLists::bases))]
 fn undo<S: Store, L: Ledger>(
     store: &mut S,
     place: i64,
@@ -241,7 +241,7 @@ impl Work {
 
 /// Adds the records to those of the request and applies them, where each has a meaning and no limit is passed; else
 /// nothing changes. No more steps are taken than there are records, unless some are applied and then undone.
-#[tactic(auto, using(crate::proofs::Takes::takes))]
+#[tactic(auto, using(crate::proofs::RecordLists::takes))]
 pub fn take<S: Store, L: Ledger>(
     alloc: Global,
     store: &mut S,

@@ -4,7 +4,7 @@ use Rattle.std.proofs.Common.{◌≡◌, ℕ, ◌+◌, ◌<◌, ◌≤◌, true,
 use Rattle.std.specs.Io.KnownBytes.{Consumes, Appends}
 use Rattle.std.proofs.KnownBytes.{Consumes-trans, Appends-trans}
 use Rattle.std.proofs.lemmas.List.{take_all}
-use Rattle.kr_base.specs.Written.{AppendsFront}
+use Rattle.kr_base.specs.FailedPuts.{AppendsFront}
 use Rattle.kr_defs.specs.declared.options.Options.{Options}
 use Rattle.kr_run.specs.declared.events.Event.{Event}
 use Rattle.kr_run.specs.declared.frames.Stop.{Stop}

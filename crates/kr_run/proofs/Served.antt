@@ -7,7 +7,7 @@ use Rattle.std.proofs.Math.Seq.{take-append-add}
 use Rattle.kr_run.specs.Reader.{Took}
 use Rattle.std.proofs.lemmas.Grind.{flat_map-append}
 use Rattle.kr_wire.specs.Grammar.{Exactly}
-use Rattle.kr_base.specs.Written.{AppendsFront}
+use Rattle.kr_base.specs.FailedPuts.{AppendsFront}
 use Rattle.kr_run.specs.declared.events.Event.{Event}
 use Rattle.kr_run.specs.declared.events.Event.TheVariants as events
 use Rattle.kr_run.specs.declared.events.Output.{Output}

@@ -7,7 +7,7 @@ use Rattle.kr_calls.specs.declared.calls.Request.TheVariants as requests
 use Rattle.kr_defs.specs.Sizes.{uvarint_bytes, value_bytes as size_of}
 use Rattle.kr_defs.specs.declared.record.Record.TheVariants as kinds
 use Rattle.kr_record.proofs.Lengths.{size}
-use Rattle.kr_batch.specs.Written.{value_bytes, values_size}
+use Rattle.kr_batch.specs.BatchBytes.{value_bytes, values_size}
 use Rattle.kr_defs.specs.Settings.{minimum_key}
 use Rattle.kr_run.specs.World.{value_of}
 use Rattle.kr_run.specs.Kept.{IsShort, item_of}

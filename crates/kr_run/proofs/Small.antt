@@ -17,7 +17,7 @@ use Rattle.kr_run.specs.declared.events.Event.{Event}
 use Rattle.kr_run.specs.declared.events.Event.TheVariants as events
 use Rattle.kr_run.specs.declared.events.Output.{Output}
 use Rattle.kr_run.specs.declared.events.Output.TheVariants as given
-use Rattle.kr_batch.specs.Written.{batch_bytes, head_bytes, start_bytes, checked_bytes}
+use Rattle.kr_batch.specs.BatchBytes.{batch_bytes, head_bytes, start_bytes, checked_bytes}
 use Rattle.kr_batch.specs.Crc.{crc32c}
 use Rattle.kr_batch.specs.declared.Batch.{Batch}
 use Rattle.kr_batch.proofs.Sizes.{checked_length}

@@ -1,6 +1,6 @@
 -- The bytes of a batch that this controller appends.
 use Rattle.std.specs.Prelude.{ℕ, ℤ, List}
-use Rattle.kr_batch.specs.Written.{batch_bytes}
+use Rattle.kr_batch.specs.BatchBytes.{batch_bytes}
 use Rattle.kr_defs.specs.declared.record.Item.{Item}
 
 -- a batch with this base, epoch, time and items (Kafka record batch v2)

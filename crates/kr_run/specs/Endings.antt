@@ -1,7 +1,7 @@
 -- How a session ends: its status, and what was taken and written at each.
 use Rattle.std.specs.Prelude.{◌≡◌, ℕ, ◌<◌, ◌⊎◌, List, ◌++◌, length, Option, IfSome}
 use Rattle.std.specs.Io.KnownBytes.{Consumes, Appends}
-use Rattle.kr_base.specs.Written.{AppendsFront}
+use Rattle.kr_base.specs.FailedPuts.{AppendsFront}
 use Rattle.kr_defs.specs.declared.limits.TheConstants.{MOST_SESSION_BYTES}
 use Rattle.kr_defs.specs.declared.options.Options.{Options}
 use Rattle.kr_run.specs.declared.events.Event.{Event}

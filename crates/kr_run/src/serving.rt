@@ -3,7 +3,7 @@
 ghost use Rattle.std.specs.Prelude.{◌≡◌, [], ◌∷◌, ◌++◌, ◌<◌, ◌≤◌, ◌^◌, ℕ, List, Option, IfOk, IfErr, OnOk, OnErr, IsErrOf, MatchResult, IsTrue, IfSome};
 ghost use Rattle.std.specs.Io.KnownBytes.{Appends};
 ghost use Rattle.kr_base.specs.Causes.{Rose};
-ghost use Rattle.kr_base.specs.Written.{AppendsFront};
+ghost use Rattle.kr_base.specs.FailedPuts.{AppendsFront};
 ghost use Rattle.kr_run.specs.declared.events.Event.{Event as Happening};
 ghost use Rattle.kr_defs.specs.declared.options.Options.{Options as Settings};
 ghost use Rattle.kr_defs.specs.declared.limits.TheConstants.{MOST_SESSION_BYTES};

@@ -6,7 +6,7 @@ ghost use Rattle.kr_wire.specs.Spelling.{number};
 ghost use Rattle.kr_run.specs.Messages.{IsWritable, reply_message};
 ghost use Rattle.std.specs.Io.KnownBytes.{Appends};
 ghost use Rattle.kr_base.specs.Causes.{Rose};
-ghost use Rattle.kr_base.specs.Written.{AppendsFront};
+ghost use Rattle.kr_base.specs.FailedPuts.{AppendsFront};
 ghost use Rattle.kr_run.specs.Fitting.{FitsFrame};
 ghost use Rattle.kr_run.specs.Frames.{frame, output_frame};
 ghost use Rattle.kr_run.specs.declared.writing.WriteFault.TheVariants.{NoMemory as MemoryRanOut};

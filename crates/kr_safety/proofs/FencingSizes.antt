@@ -24,7 +24,7 @@ use Rattle.kr_defs.proofs.Changes.{formed_parts}
 use Rattle.kr_defs.proofs.IdLists.{all_at, all_from, joined_distinct}
 use Rattle.kr_calls.specs.Deciding.{has_few_targets, is_within_limits}
 use Rattle.kr_calls.specs.TakingOut.{fencing, taken_out, taking_out}
-use Rattle.kr_calls.proofs.TakenOut.{taking_sound}
+use Rattle.kr_calls.proofs.TakingOutSteps.{taking_sound}
 use Rattle.kr_calls.proofs.WalkedChanges.{StandApart, walk_stands}
 use Rattle.kr_safety.specs.FencingLaws.{FencingsFit}
 use Rattle.kr_safety.proofs.Lengths.{distinct_few, walk_few}

@@ -11,7 +11,7 @@ use Rattle.kr_defs.specs.Heartbeats.{Heartbeats, beat, contact_brokers, leave, n
 use Rattle.kr_defs.specs.Ids.{has}
 use Rattle.kr_defs.specs.Image.{Image}
 use Rattle.kr_defs.specs.Map.{IsMap}
-use Rattle.kr_defs.proofs.Hearing.{leaves, beats}
+use Rattle.kr_defs.proofs.HeartbeatLists.{leaves, beats}
 use Rattle.kr_safety.specs.HearingLaws.{HearsOf}
 use Rattle.kr_safety.proofs.BrokerTests.{OthersStay, passes, all_but, all_and, all_same, never}
 

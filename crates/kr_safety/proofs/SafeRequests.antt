@@ -37,7 +37,7 @@ use Rattle.kr_calls.specs.UnregisterBroker as unregistering
 use Rattle.kr_calls.proofs.KeptByRequests.{TakenBy, Keeps, one_keeps, all_keep, groups_keep, validated_keep, any_entry, any_groups}
 use Rattle.kr_calls.proofs.BrokersLeft.{LeavesBrokers, all_leave}
 use Rattle.kr_calls.proofs.BrokersLeft as leaving
-use Rattle.kr_calls.proofs.Standing.{applied_in_two}
+use Rattle.kr_calls.proofs.DecisionMeanings.{applied_in_two}
 use Rattle.kr_safety.specs.SafeChangeLaws.{AreSafe, RequestsAreSafe, FencingsAreSafe}
 use Rattle.kr_safety.proofs.SafeRecords.{both_safe}
 use Rattle.kr_safety.proofs.SafeRules.{IsSafeDraft, IsReportOf, IsMoveOf, creates, deletes, grows, configures, unregisters, registers, beats, reports, elects, reassigns}

@@ -40,7 +40,7 @@ use Rattle.kr_calls.specs.Deciding.{apply_records}
 use Rattle.kr_calls.specs.IncrementalAlterConfigs as configuring
 use Rattle.kr_calls.specs.SafeChange.{is_safe}
 use Rattle.kr_calls.specs.TakingOut.{taking_out, taken_out, without_broker, is_held, fencing}
-use Rattle.kr_calls.proofs.TakenOut.{built_sound, taking_sound}
+use Rattle.kr_calls.proofs.TakingOutSteps.{built_sound, taking_sound}
 use Rattle.kr_calls.proofs.WalkedChanges.{IsSound}
 use Rattle.kr_safety.specs.SafeChangeLaws.{AreSafe}
 use Rattle.kr_safety.proofs.CarefulChanges.{built_safe, emptying_safe}

@@ -1,3 +1,3 @@
 pub mod Fronts
-pub mod Lowest
+pub mod LeastNumbers
 pub mod Room

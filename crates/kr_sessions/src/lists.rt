@@ -118,7 +118,7 @@ fn lower_of(lowest: Option<i64>, offset: Option<i64>) -> Option<i64>
 }
 
 // The least offset of those of the brokers that are contacts.
-#[tactic(auto, using(crate::proofs::Lowest::lowest))]
+#[tactic(auto, using(crate::proofs::LeastNumbers::lowest))]
 pub fn lowest_offset(contacts: &[Contact], brokers: &[i32]) -> Option<i64>
     ensures { result ≡ reduce int_min (filter_map (λ broker. option_map (λ c. c.offset) (find (λ c. int_eq c.broker broker) contacts.now)) brokers.now) }
 {

@@ -3,7 +3,7 @@
 ghost use Rattle.std.specs.Prelude.{◌≡◌, ◌==◌, ◌+◌, ◌≤◌, false, length, IfOk, OnOk, OnErr, IsTrue};
 ghost use Rattle.kr_defs.specs.Ids.{has, is_distinct, is_within};
 ghost use Rattle.kr_defs.specs.Heartbeats.{AreHeartbeats, contact_brokers, stopping_brokers, is_not_before, begin, beat, leave, stop, end, valid, lowest_offset, stopped_at, expired};
-ghost use Rattle.kr_sessions.specs.Heard.{may_beat};
+ghost use Rattle.kr_sessions.specs.Sessions.{may_beat};
 
 use crate::lists;
 use kr_base::{NoMemory, Steps};
@@ -23,7 +23,7 @@ pub struct Sessions {
 impl Model for Sessions {
     ghost use Rattle.std.specs.Prelude.{nat_lt, vec_len, vec_capacity};
     ghost use Rattle.kr_defs.specs.Heartbeats.{AreHeartbeats};
-    ghost use Rattle.kr_sessions.specs.Heard.{Heard, heard_of};
+    ghost use Rattle.kr_sessions.specs.Sessions.{Heard, heard_of};
 
     ghost Value = { Heard };
 

@@ -5,7 +5,7 @@ use Rattle.std.specs.List.{AllByRecursion}
 use Rattle.std.proofs.lemmas.List.{append-nil, length-map, take_at, drop_at, take-append-drop, length-take-le, length-drop, take-map, drop-map, take_all}
 use Rattle.std.proofs.lemmas.Bool.{cases_lt}
 use Rattle.std.proofs.Common.{inl, inr}
-use Rattle.kr_snapshot.specs.Written.{chunks_within, chunks}
+use Rattle.kr_snapshot.specs.ImageText.{chunks_within, chunks}
 
 pub no_elements : {X : Type 0} (xs : List X) → length xs ≡ 0 → xs ≡ []
 no_elements [] none = refl

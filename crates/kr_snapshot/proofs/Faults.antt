@@ -8,7 +8,7 @@ use Rattle.kr_batch.specs.declared.fault.BatchFault.TheVariants as refusals
 use Rattle.kr_batch.specs.Answers as batches
 use Rattle.kr_snapshot.specs.declared.fault.BatchCause.TheVariants as causes
 use Rattle.kr_snapshot.specs.Reading.{bad_batch, refused}
-use Rattle.kr_snapshot.specs.Read.{is_free, IsFault, fault_of_batch}
+use Rattle.kr_snapshot.specs.ReaderState.{is_free, IsFault, fault_of_batch}
 
 unless : {P Q : Type 0} (free : Bool) → (P → Q) → Unless free P → Unless free Q
 unless true f p = tt

@@ -12,7 +12,7 @@ use Rattle.kr_batch.specs.Grammar.{IsStart, IsBatch}
 use Rattle.kr_batch.specs.Reading.{start_at, is_short}
 use Rattle.kr_batch.proofs.Heads.{start_law, long}
 use Rattle.kr_snapshot.specs.Reading.{extent}
-use Rattle.kr_snapshot.proofs.Batchwise.{front_at}
+use Rattle.kr_snapshot.proofs.BatchPieces.{front_at}
 
 pub start_long : (x : ℤ × ℕ) (bytes : List ℕ) → IsStart x bytes → length bytes ≡ 12
 start_long x bytes is =

@@ -10,11 +10,11 @@ use Rattle.kr_defs.specs.declared.record.Record.{Record}
 use Rattle.kr_defs.specs.declared.record.Item.{Item}
 use Rattle.kr_defs.specs.declared.record.Item.TheVariants as items
 use Rattle.kr_wire.specs.Spelling.{signed, varint32, varint64}
-use Rattle.kr_record.specs.Held.{IsHeld}
-use Rattle.kr_batch.specs.Written.{IsWritable, value_bytes, values_size, record_body, record_bytes, records_bytes, fixed_bytes, checked_bytes, head_bytes, batch_bytes}
+use Rattle.kr_record.specs.RecordRanges.{IsHeld}
+use Rattle.kr_batch.specs.BatchBytes.{IsWritable, value_bytes, values_size, record_body, record_bytes, records_bytes, fixed_bytes, checked_bytes, head_bytes, batch_bytes}
 use Rattle.kr_batch.specs.Crc.{crc32c}
 use Rattle.std.specs.Int.{w8}
-use Rattle.kr_snapshot.specs.Written.{chunks, batch_of_group, batches_bytes}
+use Rattle.kr_snapshot.specs.ImageText.{chunks, batch_of_group, batches_bytes}
 use Rattle.kr_snapshot.proofs.Chunks.{chunk_first, chunk_last}
 use Rattle.kr_snapshot.specs.Writer.{setting_text, item_text, IsLight, IsLightItem, most_beside, IsSound, MayAdd, Puts, Adds, text_of, count_of, body_with}
 use Rattle.kr_snapshot.specs.declared.writer.BatchWriter.{BatchWriter}

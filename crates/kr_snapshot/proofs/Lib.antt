@@ -1,12 +1,12 @@
-pub mod Adding
-pub mod Batchwise
+pub mod BatchPieces
 pub mod Chunks
 pub mod Faults
 pub mod Fronts
 pub mod Groups
-pub mod WholeImages
-pub mod Light
 pub mod Lookups
-pub mod Waiting
+pub mod ReaderSteps
 pub mod RecordsRead
+pub mod SmallRecords
 pub mod Texts
+pub mod WholeImages
+pub mod WriterRecords

@@ -17,7 +17,7 @@ use Rattle.kr_wire.specs.Reading.{◌>>=◌}
 use Rattle.kr_wire.proofs.Laws.{bind_ok, guard_ok, is_ok, complete_bind, complete_guard}
 use Rattle.kr_batch.proofs.Frames.{is_true}
 use Rattle.kr_snapshot.specs.declared.fault.ImageFault.{ImageFault}
-use Rattle.kr_snapshot.specs.Read.{IsFault}
+use Rattle.kr_snapshot.specs.ReaderState.{IsFault}
 use Rattle.kr_snapshot.proofs.Faults.{through}
 use Rattle.kr_snapshot.specs.Reading.{Progress, with_meaning, record_read, item_read, items_read, is_control}
 

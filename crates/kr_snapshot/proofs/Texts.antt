@@ -19,19 +19,19 @@ use Rattle.kr_defs.proofs.ReadingOrder.{own_order}
 use Rattle.kr_wire.specs.Grammar.{IsSigned}
 use Rattle.kr_wire.specs.Spelling.{signed}
 use Rattle.kr_wire.proofs.Laws.{joined}
-use Rattle.kr_wire.proofs.Spelled.{signed_spelled}
-use Rattle.kr_record.specs.Held.{IsHeld}
-use Rattle.kr_batch.specs.Written.{IsHeldItem, batch_bytes}
-use Rattle.kr_batch.proofs.Spelled.{batch_spelled}
+use Rattle.kr_wire.proofs.WrittenForms.{signed_spelled}
+use Rattle.kr_record.specs.RecordRanges.{IsHeld}
+use Rattle.kr_batch.specs.BatchBytes.{IsHeldItem, batch_bytes}
+use Rattle.kr_batch.proofs.WrittenBatches.{batch_spelled}
 use Rattle.kr_snapshot.specs.Grammar.{IsPart, AreParts, all_of, Makes, IsImage}
 use Rattle.kr_snapshot.specs.Reading.{image_of}
 use Rattle.kr_snapshot.specs.Writer.{setting_text, item_text, texts, IsLight, IsLightItem}
-use Rattle.kr_snapshot.specs.Written.{chunks, batch_of_group, batches_bytes, image_text}
-use Rattle.kr_snapshot.proofs.Adding.{all_front, all_back}
+use Rattle.kr_snapshot.specs.ImageText.{chunks, batch_of_group, batches_bytes, image_text}
+use Rattle.kr_snapshot.proofs.WriterRecords.{all_front, all_back}
 use Rattle.kr_snapshot.proofs.Chunks.{Sized, chunks_mapped, chunks_all, chunks_sized}
 use Rattle.kr_snapshot.proofs.Groups.{group_writable, group_small}
 use Rattle.kr_snapshot.proofs.WholeImages.{image_complete}
-use Rattle.kr_snapshot.proofs.Light.{own_light, own_text}
+use Rattle.kr_snapshot.proofs.SmallRecords.{own_light, own_text}
 
 -- ---- the batches
 

@@ -29,7 +29,7 @@ use Rattle.kr_batch.proofs.Frames.{is_true}
 use Rattle.kr_snapshot.specs.declared.fault.ImageFault.{ImageFault}
 use Rattle.kr_snapshot.specs.Grammar.{AreParts, all_of, IsImage}
 use Rattle.kr_snapshot.specs.Reading.{Progress, begun, headed, numbers_at, items_read, is_control, batch_read, refused, whole_read, ended, image_of}
-use Rattle.kr_snapshot.proofs.Batchwise.{front_at, batches_read, whole_image, pieces_whole}
+use Rattle.kr_snapshot.proofs.BatchPieces.{front_at, batches_read, whole_image, pieces_whole}
 use Rattle.kr_snapshot.proofs.RecordsRead.{records_sound, records_complete, items_append, none_control, only_records}
 use Rattle.kr_snapshot.proofs.Fronts.{front_complete, front_sound, part_some}
 

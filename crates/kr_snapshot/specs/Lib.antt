@@ -1,7 +1,7 @@
+pub mod EntryRecords
 pub mod Grammar
-pub mod Read
+pub mod ImageText
+pub mod ReaderState
 pub mod Reading
-pub mod Shown
-pub mod Walked
+pub mod StoreImage
 pub mod Writer
-pub mod Written

@@ -7,10 +7,10 @@ use Rattle.kr_defs.specs.declared.record.Item.{Item}
 use Rattle.kr_defs.specs.declared.record.Item.TheVariants as items
 use Rattle.kr_defs.specs.ImageLaws.{as_items}
 use Rattle.kr_record.specs.Encodable.{IsEncodable}
-use Rattle.kr_record.specs.Held.{IsHeld}
+use Rattle.kr_record.specs.RecordRanges.{IsHeld}
 use Rattle.kr_record.specs.Spelling.{record_value}
-use Rattle.kr_batch.specs.Written.{batch_bytes}
-use Rattle.kr_snapshot.specs.Written.{batch_of_group, chunks, batches_bytes}
+use Rattle.kr_batch.specs.BatchBytes.{batch_bytes}
+use Rattle.kr_snapshot.specs.ImageText.{batch_of_group, chunks, batches_bytes}
 use Rattle.kr_snapshot.specs.declared.writer.BatchWriter.{BatchWriter}
 
 -- the text of a setting, which is limited over all settings of an image

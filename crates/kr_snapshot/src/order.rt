@@ -4,7 +4,7 @@ ghost use Rattle.std.specs.Prelude.{◌≡◌, IfOk, IfSome, OnOk, Some, is_some
 ghost use Rattle.std.specs.Option.{option_map, option_map_or};
 ghost use Rattle.std.specs.Ordering.{is_lt};
 ghost use Rattle.kr_defs.specs.ImageOrder as ranks;
-ghost use Rattle.kr_snapshot.specs.Read.{partition_rank, rank_in, section_number, seen_in, setting_rank, topic_in};
+ghost use Rattle.kr_snapshot.specs.ReaderState.{partition_rank, rank_in, section_number, seen_in, setting_rank, topic_in};
 
 use kr_base::NoMemory;
 use kr_defs::{Copied, Record, Text, Topic};

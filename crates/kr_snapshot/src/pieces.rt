@@ -3,7 +3,7 @@
 ghost use Rattle.std.specs.Prelude.{◌≡◌, ◌≤◌, ◌<◌, ◌+◌, ◌++◌, length, drop, IfOk, IfErr, MatchResult, OnOk, Ok, Err, pos, negsuc, [], ◌∷◌, ℤ, ◌≤ℤ◌, ◌^◌, Some};
 ghost use Rattle.kr_defs.specs.Image.{empty};
 ghost use Rattle.kr_store.specs.Images.{no_images};
-ghost use Rattle.kr_snapshot.specs.Read.{HasRoom, IsBegun, IsFault, IsUnfinished, IsWaiting, LeadsTo, Restores, Waits, body_in, kept_once, progress_in, taken_in};
+ghost use Rattle.kr_snapshot.specs.ReaderState.{HasRoom, IsBegun, IsFault, IsUnfinished, IsWaiting, LeadsTo, Restores, Waits, body_in, kept_once, progress_in, taken_in};
 ghost use Rattle.kr_snapshot.specs.Reading as reading;
 
 use crate::fault::{BatchCause, ImageFault};
@@ -179,7 +179,7 @@ impl Pieces {
     }
 
     // Takes bytes of the piece up to where more is judged, and gives those that are left.
-    #[tactic(auto, using(crate::proofs::Waiting::waiting_after))]
+    #[tactic(auto, using(crate::proofs::ReaderSteps::waiting_after))]
     fn take_some<'a>(&mut self, piece: &'a [u8]) -> Result<&'a [u8], ImageFault>
         requires waiting { IsWaiting self.old }
         requires some { 1 ≤ length piece.now }
@@ -196,7 +196,7 @@ impl Pieces {
     }
 
     /// Takes a piece.
-    #[tactic(auto, using(crate::proofs::Waiting::all_taken, crate::proofs::Waiting::fault_taken))]
+    #[tactic(auto, using(crate::proofs::ReaderSteps::all_taken, crate::proofs::ReaderSteps::fault_taken))]
     pub fn take(&mut self, piece: &[u8]) -> Result<(), ImageFault>
         requires { IsWaiting self.old }
         ensures waiting { OnOk result (IsWaiting self.new) }
@@ -235,7 +235,7 @@ impl Pieces {
 }
 
 // The bytes end behind a batch, or behind the head.
-#[tactic(auto, using(crate::proofs::Waiting::ends_short, crate::proofs::Waiting::ends_whole))]
+#[tactic(auto, using(crate::proofs::ReaderSteps::ends_short, crate::proofs::ReaderSteps::ends_whole))]
 fn close(body: Body, store: ImageStore) -> Result<(i64, ImageStore), ImageFault>
     requires { IsBegun (Some body) store }
     ensures { Restores result (reading.ends (Some (body.offset, progress_in body.tally store.tip)) []) }
@@ -253,7 +253,7 @@ fn close(body: Body, store: ImageStore) -> Result<(i64, ImageStore), ImageFault>
 }
 
 // Keeps the present image under the offset, and nothing else.
-#[tactic(auto, using(crate::proofs::Waiting::alone, crate::proofs::Waiting::above_all))]
+#[tactic(auto, using(crate::proofs::ReaderSteps::alone, crate::proofs::ReaderSteps::above_all))]
 fn keep<L: Ledger>(mut store: ImageStore, offset: i64, blank: Blank) -> Result<ImageStore, NoMemory>
     requires name { blank.name ≡ L.name }
     requires parts { blank.parts ≡ L.parts }

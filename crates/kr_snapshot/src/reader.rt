@@ -4,7 +4,7 @@ ghost use Rattle.std.specs.Prelude.{◌≡◌, ◌++◌, [], List, ℕ, ℤ, IfO
 ghost use Rattle.kr_defs.specs.Image.{Image};
 ghost use Rattle.kr_wire.specs.Laws.{IsBytes};
 ghost use Rattle.kr_snapshot.specs.Grammar.{IsImage};
-ghost use Rattle.kr_snapshot.specs.Read.{Restores, StandsFor, answer_of};
+ghost use Rattle.kr_snapshot.specs.ReaderState.{Restores, StandsFor, answer_of};
 ghost use Rattle.kr_snapshot.specs.Reading as reading;
 
 use crate::fault::ImageFault;
@@ -28,7 +28,7 @@ impl Model for Reader {
 
     ghost Value = { Result Taken ImageFault };
 
-    ghost use Rattle.kr_snapshot.specs.Read.{IsOpen, state_of, taken_in};
+    ghost use Rattle.kr_snapshot.specs.ReaderState.{IsOpen, state_of, taken_in};
 
     ghost view = { λ r. state_of r.fault (taken_in r.pieces) };
 
@@ -48,7 +48,7 @@ impl Reader {
 
     /// The next bytes. It answers the first fault that all bytes so far show, whatever follows them, as soon as the head,
     /// the size of a batch or a whole batch shows it; and then again at each call.
-    #[tactic(auto, using(crate::proofs::Waiting::fed_more, crate::proofs::Waiting::faulty_on, crate::proofs::Waiting::answers))]
+    #[tactic(auto, using(crate::proofs::ReaderSteps::fed_more, crate::proofs::ReaderSteps::faulty_on, crate::proofs::ReaderSteps::answers))]
     pub fn feed(&mut self, piece: &[u8]) -> Result<(), ImageFault>
         ensures stands { (fed : List ℕ) → StandsFor self.old fed → StandsFor self.new (fed ++ piece.now) }
         ensures answer { result ≡ answer_of self.new }
@@ -64,7 +64,7 @@ impl Reader {
 
     /// The offset and the store of the image that all bytes stand for: the offset is its one kept epoch, and the image its
     /// tip. Otherwise the first fault, or that of an earlier call.
-    #[tactic(auto, using(crate::proofs::Waiting::given_end, crate::proofs::Waiting::given_found, crate::proofs::Waiting::given_only, crate::proofs::Waiting::fault_stays))]
+    #[tactic(auto, using(crate::proofs::ReaderSteps::given_end, crate::proofs::ReaderSteps::given_found, crate::proofs::ReaderSteps::given_only, crate::proofs::ReaderSteps::fault_stays))]
     pub fn finish(self) -> Result<(i64, ImageStore), ImageFault>
         // What is given is what all bytes stand for.
         ensures found { (fed : List ℕ) → IsBytes fed → StandsFor self fed → IfOk result (λ x. IsImage x.0 x.1.tip fed) }

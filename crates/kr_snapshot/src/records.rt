@@ -6,8 +6,8 @@ ghost use Rattle.kr_defs.specs.declared.limits.TheConstants.{MOST_RECORDS as mos
 ghost use Rattle.kr_defs.specs.Image.{empty};
 ghost use Rattle.kr_store.specs.Images.{last_kept};
 ghost use Rattle.kr_batch.specs.Reading.{batch_of};
-ghost use Rattle.kr_snapshot.specs.Read as answers;
-ghost use Rattle.kr_snapshot.specs.Read.{Gives, HasRoom, LeadsTo, progress_in};
+ghost use Rattle.kr_snapshot.specs.ReaderState as answers;
+ghost use Rattle.kr_snapshot.specs.ReaderState.{Gives, HasRoom, LeadsTo, progress_in};
 ghost use Rattle.kr_snapshot.specs.Reading as reading;
 
 use crate::fault::{BatchCause, ImageFault};

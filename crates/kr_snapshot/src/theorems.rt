@@ -5,11 +5,11 @@ ghost use Rattle.std.specs.Int.{w64};
 ghost use Rattle.kr_defs.specs.Image.{Image, IsValid};
 ghost use Rattle.kr_defs.specs.Records.{records_of};
 ghost use Rattle.kr_wire.specs.Laws.{IsBytes};
-ghost use Rattle.kr_record.specs.Held.{IsHeld};
+ghost use Rattle.kr_record.specs.RecordRanges.{IsHeld};
 ghost use Rattle.kr_snapshot.specs.Grammar.{IsImage};
 ghost use Rattle.kr_snapshot.specs.Reading.{image_of, so_far, with_piece};
 ghost use Rattle.kr_snapshot.specs.declared.fault.ImageFault.{ImageFault as AnyFault};
-ghost use Rattle.kr_snapshot.specs.Written.{image_text};
+ghost use Rattle.kr_snapshot.specs.ImageText.{image_text};
 
 /// What is read stands for its offset and image, what stands for them is read as them, and bytes stand for one offset
 /// and one image at most.

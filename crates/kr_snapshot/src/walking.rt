@@ -6,9 +6,9 @@ ghost use Rattle.kr_defs.specs.Image.{IsValid};
 ghost use Rattle.kr_defs.specs.Map.{above, partition_order};
 ghost use Rattle.kr_defs.specs.Records.{topic_records};
 ghost use Rattle.kr_defs.specs.Walk.{of_topic};
-ghost use Rattle.kr_record.specs.Held.{IsHeld};
-ghost use Rattle.kr_snapshot.specs.Shown.{image_or_empty};
-ghost use Rattle.kr_snapshot.specs.Walked.{feature_record, broker_record, partition_record, config_record};
+ghost use Rattle.kr_record.specs.RecordRanges.{IsHeld};
+ghost use Rattle.kr_snapshot.specs.StoreImage.{image_or_empty};
+ghost use Rattle.kr_snapshot.specs.EntryRecords.{feature_record, broker_record, partition_record, config_record};
 ghost use Rattle.kr_snapshot.specs.Writer.{MayAdd, Adds};
 
 use crate::held::{broker_is_held, partition_is_held, text_is_held};
@@ -81,7 +81,7 @@ fn setting(alloc: Global, key: &ConfigKey, value: &Text) -> Result<Record, NoMem
 }
 
 /// The features, by name.
-#[tactic(auto, using(crate::proofs::Adding::adding))]
+#[tactic(auto, using(crate::proofs::WriterRecords::adding))]
 pub fn put_features<S: Store>(
     alloc: Global,
     store: &S,
@@ -101,7 +101,7 @@ pub fn put_features<S: Store>(
 }
 
 /// The brokers, by id.
-#[tactic(auto, using(crate::proofs::Adding::adding))]
+#[tactic(auto, using(crate::proofs::WriterRecords::adding))]
 pub fn put_brokers<S: Store>(
     alloc: Global,
     store: &S,
@@ -149,7 +149,7 @@ fn next_of<'a, S: Store>(
 }
 
 // The partitions of the topic of this key, above it.
-#[tactic(auto, using(crate::proofs::Adding::adding))]
+#[tactic(auto, using(crate::proofs::WriterRecords::adding))]
 fn put_above<S: Store>(
     alloc: Global,
     store: &S,
@@ -188,7 +188,7 @@ fn put_topic<S: Store>(
 }
 
 /// The topics by name, each with its partitions behind it.
-#[tactic(auto, using(crate::proofs::Adding::adding))]
+#[tactic(auto, using(crate::proofs::WriterRecords::adding))]
 pub fn put_topics<S: Store>(
     alloc: Global,
     store: &S,
@@ -208,7 +208,7 @@ pub fn put_topics<S: Store>(
 }
 
 /// The settings, by type, resource name and key.
-#[tactic(auto, using(crate::proofs::Adding::adding))]
+#[tactic(auto, using(crate::proofs::WriterRecords::adding))]
 pub fn put_configs<S: Store>(
     alloc: Global,
     store: &S,

@@ -5,12 +5,12 @@ ghost use Rattle.kr_defs.specs.declared.limits.TheConstants.{IMAGE_BATCH as most
 ghost use Rattle.kr_defs.specs.Image.{IsValid};
 ghost use Rattle.kr_defs.specs.ImageLaws.{as_items};
 ghost use Rattle.kr_defs.specs.Records.{records_of};
-ghost use Rattle.kr_record.specs.Held.{IsHeld};
+ghost use Rattle.kr_record.specs.RecordRanges.{IsHeld};
 ghost use Rattle.kr_store.specs.Images.{image_at};
 ghost use Rattle.kr_snapshot.specs.Grammar.{IsImage};
-ghost use Rattle.kr_snapshot.specs.Shown.{image_or_empty};
+ghost use Rattle.kr_snapshot.specs.StoreImage.{image_or_empty};
 ghost use Rattle.kr_snapshot.specs.Writer.{Adds, MayAdd};
-ghost use Rattle.kr_snapshot.specs.Written.{batches_bytes, chunks, head_bytes, image_text};
+ghost use Rattle.kr_snapshot.specs.ImageText.{batches_bytes, chunks, head_bytes, image_text};
 ghost use Rattle.kr_snapshot.specs.declared.fault.SnapFault.TheVariants as faults;
 
 use crate::fault::SnapFault;
@@ -60,7 +60,7 @@ fn put_head(offset: i64, count: usize, out: &mut Vec<u8>) -> Result<(), AllocErr
     put_i64(out, count as i64)
 }
 
-#[tactic(auto, unfolding(crate::specs::Written::image_text))]
+#[tactic(auto, unfolding(crate::specs::ImageText::image_text))]
 fn put_image<S: Store>(
     alloc: Global,
     store: &S,

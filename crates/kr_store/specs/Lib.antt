@@ -1,3 +1,3 @@
-pub mod Applied
 pub mod Images
+pub mod ItemAnswers
 pub mod Reads

@@ -8,7 +8,7 @@ ghost use Rattle.kr_defs.specs.Image.{topic_name};
 ghost use Rattle.kr_defs.specs.Map as entries;
 ghost use Rattle.kr_defs.specs.Map.{text_order, partition_order, config_order};
 ghost use Rattle.kr_defs.specs.Weight.{weight};
-ghost use Rattle.kr_store.specs.Applied.{Applies, Ticks};
+ghost use Rattle.kr_store.specs.ItemAnswers.{Applies, Ticks};
 ghost use Rattle.kr_store.specs.Images.{Images, AreValid, brokers_at, topics_at, partitions_at, configs_at, features_at, topic_of, topic_entry, last_kept, last_image, counts_of};
 
 use crate::{ApplyFault, At, Counts};

@@ -7,7 +7,7 @@ use Rattle.kr_base.proofs.Pieces.{consumes_more}
 use Rattle.kr_wire.specs.Grammar.{◌⌢◌, Exactly, IsNumber}
 use Rattle.kr_wire.specs.Laws.{IsBytes}
 use Rattle.kr_wire.proofs.Laws.{joined}
-use Rattle.kr_wire.proofs.SpelledBytes.{OfBytes, ◌and◌}
+use Rattle.kr_wire.proofs.WrittenBytes.{OfBytes, ◌and◌}
 use Rattle.kr_stream.specs.declared.frame.Frame.{Frame}
 use Rattle.kr_stream.specs.declared.kind.FrameKind.{FrameKind}
 use Rattle.kr_stream.specs.Kinds.{number_of, may_stand}

@@ -2,7 +2,7 @@
 use Rattle.std.specs.Prelude.{ℕ, List, Option}
 use Rattle.std.specs.Int.{w8, w32, w64}
 use Rattle.std.specs.Io.KnownBytes.{Appends}
-use Rattle.kr_base.specs.Written.{AppendsFront}
+use Rattle.kr_base.specs.FailedPuts.{AppendsFront}
 use Rattle.kr_wire.specs.Grammar.{◌⌢◌, Exactly, IsNumber, IsSigned}
 use Rattle.kr_calls.specs.declared.events.Output.{Output}
 use Rattle.kr_calls.specs.declared.events.Output.TheVariants as outputs

@@ -9,7 +9,7 @@ use Rattle.std.proofs.lemmas.List.Elements.{All-nil, All-cons, All-head, All-tai
 use Rattle.kr_defs.specs.KeptMaps.{Kept, AreRising, IsAbove, oldest_unmade}
 use Rattle.kr_defs.specs.Map.{IsMap}
 use Rattle.kr_timeline.specs.History.{AreMaps}
-use Rattle.kr_timeline.specs.Stored.{later, last_of, kept_of, entries_of, maps_of, EndsAt}
+use Rattle.kr_timeline.specs.StoredMaps.{later, last_of, kept_of, entries_of, maps_of, EndsAt}
 use Rattle.kr_timeline.specs.declared.timeline.Stored.{Stored}
 use Rattle.kr_timeline.proofs.Maps.{kept_of-push, last_of-push, rising-mark}
 

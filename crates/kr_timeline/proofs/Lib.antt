@@ -1,5 +1,5 @@
-mod Appended
-pub mod Forgets
+pub mod DroppedEntries
 pub mod Histories
 pub mod Maps
+mod OrderedEntries
 pub mod Places

@@ -2,9 +2,9 @@
 use Rattle.std.proofs.Common.{◌≡◌, List, [], ◌∷◌, ◌++◌, Option, None, ℕ, suc, ◌+◌, ◌<◌, length, take, get_or, refl, sym, ◌∙◌, ap}
 use Rattle.std.proofs.lemmas.List.{take_more}
 use Rattle.kr_defs.specs.KeptMaps.{Kept, KeptMaps, AreRising, IsAbove, marked}
-use Rattle.kr_timeline.specs.Stored.{later, last_of, kept_of, entries_of}
+use Rattle.kr_timeline.specs.StoredMaps.{later, last_of, kept_of, entries_of}
 use Rattle.kr_timeline.specs.declared.timeline.Stored.{Stored}
-use Rattle.kr_defs.proofs.Kept.{AreRising-nil, AreRising-push}
+use Rattle.kr_defs.proofs.EpochCuts.{AreRising-nil, AreRising-push}
 
 module _ {K V : Type 0} where
   pub last_of-push : (before : Option (List (K × V))) (stored : List (Stored K V)) (s : Stored K V) → last_of before (stored ++ s ∷ []) ≡ later (last_of before stored) s.map

@@ -5,8 +5,8 @@ use Rattle.std.specs.Ordering.{int_eq}
 use Rattle.std.specs.List.{position_from}
 use Rattle.std.proofs.lemmas.Bool.Decides.{Decides-int_eq}
 use Rattle.kr_defs.specs.KeptMaps.{Kept, AreRising}
-use Rattle.kr_defs.proofs.Kept.{AreRising-front, up_to-entry, find-entry}
-use Rattle.kr_timeline.specs.Stored.{later, last_of, kept_of, entries_of, EndsAt}
+use Rattle.kr_defs.proofs.EpochCuts.{AreRising-front, up_to-entry, find-entry}
+use Rattle.kr_timeline.specs.StoredMaps.{later, last_of, kept_of, entries_of, EndsAt}
 use Rattle.kr_timeline.specs.declared.timeline.Stored.{Stored}
 use Rattle.kr_timeline.proofs.Maps.{kept_of-push, last_of-push}
 

@@ -1,2 +1,2 @@
 pub mod History
-pub mod Stored
+pub mod StoredMaps

@@ -7,7 +7,7 @@ ghost use Rattle.std.specs.Ordering.{int_eq};
 ghost use Rattle.std.specs.VecDeque.{deque_len, deque_capacity};
 ghost use Rattle.kr_defs.specs.Map as entries;
 ghost use Rattle.kr_defs.specs.KeptMaps.{AreRising, IsAbove, no_maps, map_at, marked, inserted, removed, reverted, forgotten, oldest_unmade};
-ghost use Rattle.kr_timeline.specs.Stored.{later, last_of, entries_of, kept_of, EndsAt, carried, is_first_below};
+ghost use Rattle.kr_timeline.specs.StoredMaps.{later, last_of, entries_of, kept_of, EndsAt, carried, is_first_below};
 
 use crate::ordered::Ordered;
 use kr_base::{NoEpoch, NoMemory, Steps};
@@ -44,7 +44,7 @@ impl<K: Ord, V> Model for Timeline<K, V> {
     ghost coded = { history_code K.code V.code };
 
     ghost use Rattle.kr_timeline.specs.History.{AreMaps};
-    ghost use Rattle.kr_timeline.specs.Stored.{maps_of};
+    ghost use Rattle.kr_timeline.specs.StoredMaps.{maps_of};
 
     ghost view = { λ t. record { maps = maps_of t.kept.items t.present t.made; has_room = nat_lt (deque_len t.kept) (deque_capacity t.kept) } };
 
@@ -310,7 +310,7 @@ fn carried_on<K: Ord + Drop, V: Drop>(
     }
 }
 
-#[tactic(auto, using(crate::proofs::Forgets::forgets))]
+#[tactic(auto, using(crate::proofs::DroppedEntries::forgets))]
 fn is_first_below<K: Ord + Drop, V: Drop>(kept: &VecDeque<Stored<K, V>>, epoch: &i64) -> bool
     ensures { result ≡ is_first_below epoch.now kept.now.items }
 {
@@ -338,7 +338,7 @@ fn drop_after<K: Ord + Drop, V: Drop, L: Ledger>(
 }
 
 // Drops the entries below the epoch, and gives the last map that they had. A step is one entry.
-#[tactic(auto, using(crate::proofs::Forgets::forgets))]
+#[tactic(auto, using(crate::proofs::DroppedEntries::forgets))]
 fn drop_below<K: Ord + Drop, V: Drop, L: Ledger>(
     kept: &mut VecDeque<Stored<K, V>>,
     epoch: &i64,
@@ -361,7 +361,7 @@ fn drop_below<K: Ord + Drop, V: Drop, L: Ledger>(
 }
 
 // The map goes to the oldest entry, whose calls no longer count. Without an entry it is given back.
-#[tactic(auto, using(crate::proofs::Forgets::forgets))]
+#[tactic(auto, using(crate::proofs::DroppedEntries::forgets))]
 fn settle<K: Ord + Drop, V: Drop>(
     kept: &mut VecDeque<Stored<K, V>>,
     map: Option<Ordered<K, V>>,

@@ -1,8 +1,8 @@
-pub mod Actives
-pub mod Assigned
-pub mod Free
-pub mod Given
+pub mod ActiveBrokers
+pub mod Assignments
+pub mod EarlyRefusals
+pub mod FirstNumbers
+pub mod MetadataRows
 pub mod Names
 pub mod Placements
-pub mod Room
-pub mod Shown
+pub mod TopicSettings

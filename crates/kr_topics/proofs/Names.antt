@@ -9,7 +9,7 @@ use Rattle.kr_defs.specs.Map.{contains, get, text_order}
 use Rattle.kr_defs.specs.Texts.{as_underscore, names_agree}
 use Rattle.kr_defs.proofs.ImageParts.{text_total}
 use Rattle.kr_defs.proofs.Tests.{both, neither}
-use Rattle.kr_topics.proofs.Given.{mirrored}
+use Rattle.kr_topics.proofs.TopicSettings.{mirrored}
 
 -- a byte that stands for itself alone
 plain_byte : (b n : ℕ) → (n == 46) ≡ false → (n == 95) ≡ false → nat_eq (as_underscore b) (as_underscore n) ≡ true → b ≡ n

@@ -1,3 +1,3 @@
-pub mod Given
-pub mod Room
-pub mod Shown
+pub mod EntryRules
+pub mod NamedTopics
+pub mod TopicSettings

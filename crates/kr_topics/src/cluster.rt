@@ -75,7 +75,7 @@ impl BrokerPart<MetadataBroker> for OnlineOnes {
     }
 }
 
-#[tactic(auto, using(crate::proofs::Shown::brokers))]
+#[tactic(auto, using(crate::proofs::MetadataRows::brokers))]
 fn online_brokers<S: Store>(alloc: Global, store: &S, at: At) -> Result<MetadataBrokers, NoMemory>
     ensures { IfOk result (λ rows. rows ≡ shows.brokers_of (seen_at (S.images store.now) at)) }
 {

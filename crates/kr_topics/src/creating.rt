@@ -17,7 +17,7 @@ ghost use Rattle.kr_calls.specs.Refuse.{refused_creation};
 ghost use Rattle.kr_rules.specs.Progress.{place_of, work_at};
 ghost use Rattle.kr_rules.specs.Refusals.{Judges};
 ghost use Rattle.kr_store.specs.Images.{last_image, last_kept};
-ghost use Rattle.kr_topics.specs.Room as room;
+ghost use Rattle.kr_topics.specs.EntryRules as room;
 
 use crate::assigning::{are_assignable, first_size, lists_of};
 use crate::partitions::{Lists, add_partitions, has_room, placements, start_of};
@@ -209,7 +209,7 @@ fn size_of(assignments: &[CreatableReplicaAssignment]) -> i16
 }
 
 // The replicas that were given for each partition.
-#[tactic(auto, using(crate::proofs::Assigned::few_first))]
+#[tactic(auto, using(crate::proofs::Assignments::few_first))]
 fn create_as_assigned<S: Store>(
     alloc: Global,
     store: &S,

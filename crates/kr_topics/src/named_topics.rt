@@ -5,7 +5,7 @@ ghost use Rattle.std.specs.List.{list_any};
 ghost use Rattle.kr_defs.specs.Guard.{and_then};
 ghost use Rattle.kr_calls.specs.Metadata as shows;
 ghost use Rattle.kr_store.specs.Reads.{seen_at};
-ghost use Rattle.kr_topics.specs.Shown.{Marks};
+ghost use Rattle.kr_topics.specs.NamedTopics.{Marks};
 
 use crate::naming::is_named_once;
 use crate::topic_rows::{refusal_row, topic_row};
@@ -42,7 +42,7 @@ fn find<'a, S: Store>(store: &'a S, at: At, entry: &MetadataRequestTopic) -> Res
 }
 
 // The id is named now; whether it is for the first time.
-#[tactic(auto, using(crate::proofs::Shown::marking))]
+#[tactic(auto, using(crate::proofs::MetadataRows::marking))]
 fn mark(seen: &mut Seen, id: &u128) -> Result<bool, NoMemory>
     ensures new { (ids : List ℕ) → Marks seen.old ids → IfOk result (λ new. new ≡ not (list_any (λ i. i == id.now) ids)) }
     ensures marks { (ids : List ℕ) → Marks seen.old ids → OnOk result (Marks seen.new (id.now ∷ ids)) }
@@ -51,7 +51,7 @@ fn mark(seen: &mut Seen, id: &u128) -> Result<bool, NoMemory>
 }
 
 // What is shown of an entry behind those that named some topics.
-#[tactic(auto, using(crate::proofs::Shown::entries))]
+#[tactic(auto, using(crate::proofs::MetadataRows::entries))]
 fn entry_row<S: Store>(
     alloc: Global,
     store: &S,

@@ -37,7 +37,7 @@ impl BrokerPart<(i32, Option<Text>)> for ActiveOnes {
     }
 }
 
-#[tactic(auto, using(crate::proofs::Actives::racks))]
+#[tactic(auto, using(crate::proofs::ActiveBrokers::racks))]
 fn active_racks<S: Store>(alloc: Global, store: &S) -> Result<Racks, NoMemory>
     ensures { IfOk result (λ racks. racks ≡ racked (S.images store.now).tip) }
 {

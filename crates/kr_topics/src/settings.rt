@@ -8,8 +8,8 @@ ghost use Rattle.kr_defs.specs.Apply.{topic_kind};
 ghost use Rattle.kr_defs.specs.Map as entries;
 ghost use Rattle.kr_defs.specs.Map.{text_order};
 ghost use Rattle.kr_calls.specs.CreateTopics as creations;
-ghost use Rattle.kr_topics.specs.Given as given_settings;
-ghost use Rattle.kr_topics.specs.Given.{is_old};
+ghost use Rattle.kr_topics.specs.TopicSettings as given_settings;
+ghost use Rattle.kr_topics.specs.TopicSettings.{is_old};
 
 use kr_base::NoMemory;
 use kr_calls::CreatableTopicConfig;
@@ -150,7 +150,7 @@ fn add_setting<S: Store>(
 }
 
 /// Adds a record for each setting whose value is new where it stands.
-#[tactic(auto, using(crate::proofs::Given::begins))]
+#[tactic(auto, using(crate::proofs::TopicSettings::begins))]
 pub fn add_settings<S: Store>(
     alloc: Global,
     store: &S,

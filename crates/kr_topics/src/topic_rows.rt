@@ -93,7 +93,7 @@ impl<'a, S: Store> PartitionPart<MetadataPartition> for ShownPartitions<'a, S> {
     }
 }
 
-#[tactic(auto, using(crate::proofs::Shown::partitions))]
+#[tactic(auto, using(crate::proofs::MetadataRows::partitions))]
 fn partition_rows<S: Store>(
     alloc: Global,
     store: &S,
@@ -169,7 +169,7 @@ impl TopicPart<MetadataTopic> for ShownTopics {
 }
 
 /// All topics by name.
-#[tactic(auto, using(crate::proofs::Shown::topics))]
+#[tactic(auto, using(crate::proofs::MetadataRows::topics))]
 pub fn all_topic_rows<S: Store>(
     alloc: Global,
     store: &S,

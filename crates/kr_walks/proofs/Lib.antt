@@ -1,4 +1,4 @@
-pub mod Any
 pub mod BrokerIds
 pub mod Changes
 pub mod Counts
+pub mod EntryTests

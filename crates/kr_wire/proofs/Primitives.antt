@@ -10,7 +10,7 @@ use Rattle.kr_wire.specs.Grammar.{IsUvarint, IsVarint32, IsVarint64, IsNumber, I
 use Rattle.kr_wire.specs.Laws.{IsPrimitive}
 use Rattle.kr_wire.proofs.Laws.{primitive}
 use Rattle.kr_wire.proofs.Numbers.{uvarint_law, varint32_law, varint64_law, number_law}
-use Rattle.kr_wire.proofs.Spelled.{uvarint_spelled, varint32_spelled, varint64_spelled, number_spelled}
+use Rattle.kr_wire.proofs.WrittenForms.{uvarint_spelled, varint32_spelled, varint64_spelled, number_spelled}
 
 pub uvarint_is : IsPrimitive IsUvarint uvarint_at uvarint (λ n. n < 2 ^ 32)
 uvarint_is = primitive uvarint_law uvarint (λ n. n < 2 ^ 32) uvarint_spelled

@@ -9,7 +9,7 @@ use Rattle.kr_wire.proofs.Laws.{Law, ◌before◌, structure_law, primitive, joi
 use Rattle.kr_wire.proofs.Numbers.{number_law, signed_law, bool_law, id_law, text_law, text_or_null_law}
 use Rattle.kr_wire.proofs.Lists.{list_law, list_or_null_law}
 use Rattle.kr_wire.proofs.Tags.{no_tags_law}
-use Rattle.kr_wire.proofs.Spelled.{number_spelled, signed_spelled, bool_spelled, id_spelled, text_spelled, text_or_null_spelled, no_tags_spelled, list_stands, list_or_null_stands}
+use Rattle.kr_wire.proofs.WrittenForms.{number_spelled, signed_spelled, bool_spelled, id_spelled, text_spelled, text_or_null_spelled, no_tags_spelled, list_stands, list_or_null_stands}
 
 -- ---- a value takes the least_bytes of its layout at least_bytes, and that is a byte at least_bytes
 

@@ -45,7 +45,7 @@ fn put_groups(out: &mut Vec<u8>, value: u64, room: usize) -> Result<(), AllocErr
 }
 
 // The groups of a number that has two.
-#[tactic(auto, using(crate::proofs::Written::two_groups))]
+#[tactic(auto, using(crate::proofs::GroupWriting::two_groups))]
 fn two_groups(value: u64, room: usize) -> [u8; 2]
     requires some { 1 ≤ room }
     requires big { 128 ≤ value }

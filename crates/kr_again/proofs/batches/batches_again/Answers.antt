@@ -1,4 +1,4 @@
-use Rattle.kr_batch.proofs.Spelled.{regular_spelled}
+use Rattle.kr_batch.proofs.WrittenBatches.{regular_spelled}
 use Rattle.kr_again.proofs.ReadAgain.{read_regular}
 use Rattle.kr_again.proofs.batches.batches_again.Goals as goal
 

@@ -1,4 +1,4 @@
-use Rattle.kr_record.proofs.Stands.{stands}
+use Rattle.kr_record.proofs.RecordForms.{stands}
 use Rattle.kr_again.proofs.Layouts.{short, held, cost}
 use Rattle.kr_again.proofs.records.records_again.Goals as goal
 

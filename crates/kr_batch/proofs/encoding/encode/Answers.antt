@@ -1,5 +1,5 @@
 use Rattle.std.proofs.Common.{rules, FitsSigned, w32, w64}
-use Rattle.kr_batch.proofs.Spelled.{batch_spelled}
+use Rattle.kr_batch.proofs.WrittenBatches.{batch_spelled}
 use Rattle.kr_batch.proofs.encoding.encode.Goals as goal
 
 pub returns-clause-stands : goal.returns-clause-stands

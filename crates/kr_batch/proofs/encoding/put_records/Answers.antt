@@ -1,5 +1,5 @@
 use Rattle.std.proofs.Common.{◌≡◌, ◌++◌, ap, ◌∙◌}
-use Rattle.kr_batch.specs.Written.{record_bytes, value_bytes}
+use Rattle.kr_batch.specs.BatchBytes.{record_bytes, value_bytes}
 use Rattle.kr_batch.proofs.Records.{goes_on, ends}
 use Rattle.kr_batch.proofs.encoding.put_records.Goals as goal
 

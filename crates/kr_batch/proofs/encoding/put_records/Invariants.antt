@@ -1,5 +1,5 @@
 use Rattle.std.proofs.Common.{◌≡◌, ◌++◌, drop}
-use Rattle.kr_batch.specs.Written.{records_bytes}
+use Rattle.kr_batch.specs.BatchBytes.{records_bytes}
 use Rattle.kr_batch.proofs.encoding.put_records.Given as goal
 
 abbrev pub invariant-loop-number : goal.invariant-loop-number

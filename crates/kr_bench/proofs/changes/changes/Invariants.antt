@@ -1,6 +1,6 @@
 use Rattle.std.proofs.Common.{◌≡◌}
 use Rattle.kr_bench.specs.Changes.{change_at}
-use Rattle.kr_bench.specs.Numbered.{numbered}
+use Rattle.kr_bench.specs.NumberedRecords.{numbered}
 use Rattle.kr_bench.proofs.changes.changes.Given as goal
 
 abbrev pub invariant-loop-index : goal.invariant-loop-index

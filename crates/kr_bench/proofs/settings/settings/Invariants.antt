@@ -1,5 +1,5 @@
 use Rattle.std.proofs.Common.{◌≡◌}
-use Rattle.kr_bench.specs.Numbered.{numbered}
+use Rattle.kr_bench.specs.NumberedRecords.{numbered}
 use Rattle.kr_bench.specs.Settings.{setting_at}
 use Rattle.kr_bench.proofs.settings.settings.Given as goal
 

@@ -1,5 +1,5 @@
 use Rattle.kr_rules.specs.Progress.{base_of}
-use Rattle.kr_brokers.proofs.Before.{before_found}
+use Rattle.kr_brokers.proofs.LastImage.{before_found}
 use Rattle.kr_brokers.proofs.contacts.broker_before.Goals as goal
 
 pub returns-in-Ok : goal.returns-in-Ok

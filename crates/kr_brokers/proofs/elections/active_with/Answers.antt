@@ -1,6 +1,6 @@
 use Rattle.std.proofs.Common.{◌≡◌, ◌∙◌, sym}
 use Rattle.std.proofs.lemmas.Result.{IfOk-weaker}
-use Rattle.kr_brokers.proofs.Unfenced.{active_once_unfenced}
+use Rattle.kr_brokers.proofs.UnfencedBrokers.{active_once_unfenced}
 use Rattle.kr_brokers.proofs.elections.active_with.Goals as goal
 
 pub returns : goal.returns

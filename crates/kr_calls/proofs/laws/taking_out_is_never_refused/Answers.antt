@@ -1,4 +1,4 @@
-use Rattle.kr_calls.proofs.TakenOut.{taking_out_stands, fencing_stands, unregistering_stands}
+use Rattle.kr_calls.proofs.TakingOutSteps.{taking_out_stands, fencing_stands, unregistering_stands}
 use Rattle.kr_calls.proofs.laws.taking_out_is_never_refused.Goals as goal
 
 pub returns-clause-taking_out : goal.returns-clause-taking_out

@@ -1,7 +1,7 @@
 use Rattle.std.proofs.Common.{◌≡◌, ◌++◌}
 use Rattle.std.specs.Prelude.{filter_map}
 use Rattle.kr_calls.specs.IncrementalAlterConfigs.{config_record}
-use Rattle.kr_config.proofs.Named.{seen}
+use Rattle.kr_config.proofs.OperationKeys.{seen}
 use Rattle.kr_config.proofs.records.config_records.Given as goal
 
 abbrev pub invariant-loop-key : goal.invariant-loop-key

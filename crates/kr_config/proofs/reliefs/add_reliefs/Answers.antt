@@ -1,5 +1,5 @@
 use Rattle.kr_defs.specs.Walk.{walk}
-use Rattle.kr_config.proofs.Relieved.{none_added}
+use Rattle.kr_config.proofs.RelievedPartitions.{none_added}
 use Rattle.kr_config.proofs.reliefs.add_reliefs.Goals as goal
 
 pub returns-then-branch : goal.returns-then-branch

@@ -1,7 +1,7 @@
 use Rattle.std.proofs.Common.{◌≡◌, ◌∙◌, ap, sym, subst}
 use Rattle.std.specs.Prelude.{IfOk, option_and_then}
 use Rattle.kr_defs.specs.Settings.{read_minimum}
-use Rattle.kr_config.proofs.Relieved.{other_minimum, own_minimum}
+use Rattle.kr_config.proofs.RelievedPartitions.{other_minimum, own_minimum}
 use Rattle.kr_config.proofs.reliefs.minimum_after_at.Goals as goal
 
 pub returns-in_ok-value : goal.returns-in_ok-value

@@ -1,4 +1,4 @@
-use Rattle.kr_defs.proofs.Hearing.{begun, ended, beaten, left, stopped}
+use Rattle.kr_defs.proofs.HeartbeatLists.{begun, ended, beaten, left, stopped}
 use Rattle.kr_defs.proofs.heartbeat_laws.heartbeats_stand.Goals as goal
 
 pub returns-clause-begin : goal.returns-clause-begin

@@ -1,4 +1,4 @@
-use Rattle.kr_defs.proofs.Hearing.{leaves, beats}
+use Rattle.kr_defs.proofs.HeartbeatLists.{leaves, beats}
 use Rattle.kr_defs.proofs.heartbeat_laws.others_stay.Goals as goal
 
 pub returns-clause-leave : goal.returns-clause-leave

@@ -1,4 +1,4 @@
-use Rattle.kr_defs.proofs.Reassigning.{sensible}
+use Rattle.kr_defs.proofs.ReassignmentLists.{sensible}
 use Rattle.kr_defs.proofs.partition_laws.reassignments_are_sensible.Goals as goal
 
 pub returns : goal.returns

@@ -1,4 +1,4 @@
-use Rattle.kr_defs.proofs.Reassigning.{both_ways}
+use Rattle.kr_defs.proofs.ReassignmentLists.{both_ways}
 use Rattle.kr_defs.proofs.partition_laws.reassignments_lead_both_ways.Goals as goal
 
 pub returns : goal.returns

@@ -1,7 +1,7 @@
 use Rattle.std.specs.Option.{option_copied}
 use Rattle.kr_store.specs.Reads.{seen_at}
 use Rattle.kr_defs.proofs.ImageParts.{config_total}
-use Rattle.kr_gather.proofs.Gathers.{entry_more, entry_over, entry_less}
+use Rattle.kr_gather.proofs.WalkGathering.{entry_more, entry_over, entry_less}
 use Rattle.kr_dump.specs.DumpText.{config_line}
 use Rattle.kr_dump.proofs.dumping.put_configs.Goals as goal
 

@@ -1,6 +1,6 @@
 use Rattle.std.proofs.Common.{refl}
 use Rattle.kr_store.specs.Reads.{seen_at}
-use Rattle.kr_gather.proofs.Gathers.{key_more, key_over, key_less}
+use Rattle.kr_gather.proofs.WalkGathering.{key_more, key_over, key_less}
 use Rattle.kr_gather.proofs.gathering.add_above.Goals as goal
 
 pub loop-key-preserved : goal.loop-key-preserved

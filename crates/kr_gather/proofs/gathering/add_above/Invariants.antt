@@ -1,7 +1,7 @@
 use Rattle.std.proofs.Common.{◌≡◌, ◌++◌, length}
 use Rattle.std.specs.List.{flat_map}
 use Rattle.kr_store.specs.Reads.{seen_at}
-use Rattle.kr_gather.proofs.Gathers.{left}
+use Rattle.kr_gather.proofs.WalkGathering.{left}
 use Rattle.kr_gather.proofs.gathering.add_above.Given as goal
 
 abbrev pub invariant-loop-key : goal.invariant-loop-key

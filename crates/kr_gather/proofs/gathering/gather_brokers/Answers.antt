@@ -1,7 +1,7 @@
 use Rattle.std.specs.Option.{option_copied}
 use Rattle.std.proofs.lemmas.Cmp.{int_cmp_total}
 use Rattle.kr_store.specs.Reads.{seen_at}
-use Rattle.kr_gather.proofs.Gathers.{entry_more, entry_over, entry_less}
+use Rattle.kr_gather.proofs.WalkGathering.{entry_more, entry_over, entry_less}
 use Rattle.kr_gather.proofs.gathering.gather_brokers.Goals as goal
 
 pub loop-id-preserved : goal.loop-id-preserved

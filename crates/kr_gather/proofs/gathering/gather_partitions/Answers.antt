@@ -1,6 +1,6 @@
 use Rattle.std.proofs.Common.{◌∙◌}
 use Rattle.kr_store.specs.Reads.{seen_at}
-use Rattle.kr_gather.proofs.Gathers.{key_begin}
+use Rattle.kr_gather.proofs.WalkGathering.{key_begin}
 use Rattle.kr_gather.proofs.gathering.gather_partitions.Goals as goal
 
 pub returns : goal.returns

@@ -1,4 +1,4 @@
-use Rattle.kr_gather.proofs.Seen.{seen_valid}
+use Rattle.kr_gather.proofs.ShownImages.{seen_valid}
 use Rattle.kr_gather.proofs.looking.see.Goals as goal
 
 pub returns : goal.returns

@@ -4,7 +4,7 @@ use Rattle.kr_defs.specs.Image.{is_index}
 use Rattle.kr_defs.specs.Map.{partition_order}
 use Rattle.kr_defs.proofs.ImageParts.{partition_total}
 use Rattle.kr_defs.proofs.Maps.{All-remove, IsMap-remove}
-use Rattle.kr_image.proofs.Counting.{length-gone}
+use Rattle.kr_defs.proofs.EntryCounts.{length-gone}
 use Rattle.kr_image.proofs.Owners.{partition_same}
 use Rattle.kr_image.proofs.Removal.{count-gone, others-gone}
 use Rattle.kr_image.proofs.partitions.remove_partitions.Goals as goal

@@ -4,7 +4,7 @@ use Rattle.kr_defs.specs.Apply.{is_setting_of}
 use Rattle.kr_defs.specs.Map.{config_order}
 use Rattle.kr_defs.proofs.ImageParts.{config_total}
 use Rattle.kr_defs.proofs.Maps.{IsMap-remove}
-use Rattle.kr_image.proofs.Counting.{length-gone, text_gone}
+use Rattle.kr_defs.proofs.EntryCounts.{length-gone, text_gone}
 use Rattle.kr_image.proofs.Owners.{setting_same}
 use Rattle.kr_image.proofs.Removal.{count-gone, others-gone}
 use Rattle.kr_image.proofs.settings.remove_settings.Goals as goal

@@ -1,5 +1,5 @@
 use Rattle.std.proofs.Common.{arith}
-use Rattle.kr_image.proofs.Counting.{text_within}
+use Rattle.kr_defs.proofs.EntryCounts.{text_within}
 use Rattle.kr_image.proofs.settings.text_at.Goals as goal
 
 pub overflow_add-result : goal.overflow_add-result

@@ -1,5 +1,5 @@
 use Rattle.std.proofs.Common.{arith}
-use Rattle.kr_image.proofs.Counting.{text_gone}
+use Rattle.kr_defs.proofs.EntryCounts.{text_gone}
 use Rattle.kr_image.proofs.settings.unset_text.Goals as goal
 
 pub returns-clause-counted : goal.returns-clause-counted

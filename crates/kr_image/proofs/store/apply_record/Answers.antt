@@ -1,6 +1,6 @@
 use Rattle.kr_defs.specs.declared.record.Item.TheVariants as items
 use Rattle.kr_defs.specs.Apply.{apply}
-use Rattle.kr_image.specs.Held.{tip_of}
+use Rattle.kr_image.specs.Timelines.{tip_of}
 use Rattle.kr_image.proofs.Stores.{same_kept}
 use Rattle.kr_image.proofs.store.apply_record.Goals as goal
 

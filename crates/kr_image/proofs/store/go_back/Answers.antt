@@ -1,6 +1,6 @@
 use Rattle.std.proofs.Common.{sym}
-use Rattle.kr_image.specs.Held.{keeps}
-use Rattle.kr_image.proofs.Last.{are_kept, back_image, back_keeps, back_store, last_found}
+use Rattle.kr_image.specs.Timelines.{keeps}
+use Rattle.kr_image.proofs.LastEpoch.{are_kept, back_image, back_keeps, back_store, last_found}
 use Rattle.kr_image.proofs.store.go_back.Goals as goal
 
 pub revert-requires : goal.revert-requires

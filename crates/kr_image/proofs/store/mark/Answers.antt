@@ -1,7 +1,7 @@
 use Rattle.std.proofs.Common.{◌∙◌, ap}
 use Rattle.kr_store.specs.Images.{Images, marked}
-use Rattle.kr_image.specs.Held.{keeps}
-use Rattle.kr_image.proofs.Last.{are_above}
+use Rattle.kr_image.specs.Timelines.{keeps}
+use Rattle.kr_image.proofs.LastEpoch.{are_above}
 use Rattle.kr_image.proofs.Stores.{above_each, marked_images, marked_store, same_images_of, same_kept, same_store}
 use Rattle.kr_image.proofs.store.mark.Goals as goal
 

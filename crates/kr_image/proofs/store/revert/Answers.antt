@@ -1,8 +1,8 @@
 use Rattle.std.proofs.Common.{refl, ap, ℤ}
 use Rattle.std.specs.Option.{option_map}
 use Rattle.kr_defs.specs.Image.{Image}
-use Rattle.kr_image.specs.Held.{keeps}
-use Rattle.kr_image.proofs.Last.{are_kept}
+use Rattle.kr_image.specs.Timelines.{keeps}
+use Rattle.kr_image.proofs.LastEpoch.{are_kept}
 use Rattle.kr_image.proofs.Stores.{counts_none, counts_some, kept_image, not_kept, reverted_images, reverted_store}
 use Rattle.kr_image.proofs.store.revert.Goals as goal
 

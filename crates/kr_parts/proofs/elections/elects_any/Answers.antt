@@ -3,7 +3,7 @@ use Rattle.std.specs.Prelude.{Result}
 use Rattle.kr_calls.specs.declared.deciding.Draft.{Draft}
 use Rattle.kr_calls.specs.declared.partitions.PartitionElectionResult.{PartitionElectionResult}
 use Rattle.kr_rules.specs.Refusals.{Judges}
-use Rattle.kr_parts.proofs.Nobody.{elects_by}
+use Rattle.kr_parts.proofs.LeaderlessElections.{elects_by}
 use Rattle.kr_parts.proofs.elections.elects_any.Goals as goal
 
 pub returns : goal.returns

@@ -1,4 +1,4 @@
-use Rattle.kr_record.proofs.Written.{and_then, and_last, and_same, change_tags_counted}
+use Rattle.kr_record.proofs.RecordWriting.{and_then, and_last, and_same, change_tags_counted}
 use Rattle.kr_record.proofs.fields.put_change_fields.Goals as goal
 
 pub returns : goal.returns

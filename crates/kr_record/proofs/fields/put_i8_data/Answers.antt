@@ -1,4 +1,4 @@
-use Rattle.kr_record.proofs.Written.{and_last, and_same, field_8}
+use Rattle.kr_record.proofs.RecordWriting.{and_last, and_same, field_8}
 use Rattle.kr_record.proofs.fields.put_i8_data.Goals as goal
 
 pub returns : goal.returns

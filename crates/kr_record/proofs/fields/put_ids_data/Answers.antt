@@ -1,4 +1,4 @@
-use Rattle.kr_record.proofs.Written.{and_last, and_same, field_ids}
+use Rattle.kr_record.proofs.RecordWriting.{and_last, and_same, field_ids}
 use Rattle.kr_record.proofs.fields.put_ids_data.Goals as goal
 
 pub returns : goal.returns

@@ -1,6 +1,6 @@
 use Rattle.std.proofs.Common.{take}
 use Rattle.std.specs.Prelude.{All}
-use Rattle.kr_record.specs.Held.{IsHeldRange}
+use Rattle.kr_record.specs.RecordRanges.{IsHeldRange}
 use Rattle.kr_record.proofs.held.ranges_are_held.Given as goal
 
 abbrev pub invariant-loop-range : goal.invariant-loop-range

@@ -1,6 +1,6 @@
 use Rattle.std.proofs.Common.{◌++◌, length}
 use Rattle.kr_wire.specs.Spelling.{count}
-use Rattle.kr_record.proofs.Written.{one_more}
+use Rattle.kr_record.proofs.RecordWriting.{one_more}
 use Rattle.kr_record.proofs.listed.put_list.Goals as goal
 
 pub loop-value-preserved : goal.loop-value-preserved

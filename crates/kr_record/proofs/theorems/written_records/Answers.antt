@@ -1,5 +1,5 @@
 use Rattle.kr_record.proofs.Lengths.{size}
-use Rattle.kr_record.proofs.Stands.{stands, again, bytes}
+use Rattle.kr_record.proofs.RecordForms.{stands, again, bytes}
 use Rattle.kr_record.proofs.theorems.written_records.Goals as goal
 
 pub returns-clause-stands : goal.returns-clause-stands

@@ -1,4 +1,4 @@
-use Rattle.kr_record.proofs.Stands.{stands}
+use Rattle.kr_record.proofs.RecordForms.{stands}
 use Rattle.kr_record.proofs.writing.encode.Goals as goal
 
 pub returns-in_err-before-clause-stands : goal.returns-in_err-before-clause-stands

@@ -1,4 +1,4 @@
-use Rattle.kr_requests.proofs.Leading.{base_found}
+use Rattle.kr_requests.proofs.NextPlaces.{base_found}
 use Rattle.kr_requests.proofs.hearing.broker_before.Goals as goal
 
 pub returns-in-Ok : goal.returns-in-Ok

@@ -1,7 +1,7 @@
 use Rattle.std.proofs.Common.{arith}
 use Rattle.std.specs.Prelude.{length, string_bytes}
 use Rattle.kr_batch.specs.Reading.{batch_of}
-use Rattle.kr_rows_codec.proofs.Tells.{told_batch}
+use Rattle.kr_rows_codec.proofs.FaultWords.{told_batch}
 use Rattle.kr_rows_codec.proofs.batches.batch_answer.Goals as goal
 
 pub returns-in-Err : goal.returns-in-Err

@@ -1,6 +1,6 @@
 use Rattle.std.specs.Prelude.{length, string_bytes}
 use Rattle.kr_record.specs.Reading.{record_of}
-use Rattle.kr_rows_codec.proofs.Tells.{told_record}
+use Rattle.kr_rows_codec.proofs.FaultWords.{told_record}
 use Rattle.kr_rows_codec.proofs.records.record_answer.Goals as goal
 
 pub returns-in-Err : goal.returns-in-Err

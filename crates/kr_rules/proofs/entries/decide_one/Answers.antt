@@ -1,7 +1,7 @@
 use Rattle.std.proofs.Common.{◌≤◌, ◌+◌, arith}
 use Rattle.kr_calls.specs.Deciding.{weights}
 use Rattle.kr_rules.specs.Progress.{base_of}
-use Rattle.kr_rules.proofs.Takes.{kept_base}
+use Rattle.kr_rules.proofs.RecordLists.{kept_base}
 use Rattle.kr_rules.proofs.entries.decide_one.Goals as goal
 
 pub returns-clause-made : goal.returns-clause-made

@@ -1,8 +1,8 @@
 use Rattle.std.proofs.Common.{arith}
 use Rattle.std.proofs.lemmas.Result.{IfOk-weaker}
 use Rattle.kr_rules.specs.Progress.{work_at}
-use Rattle.kr_rules.proofs.Ones.{on_ok, one_taken, one_limited, one_refused}
-use Rattle.kr_rules.proofs.Spent.{if_any, own_draft}
+use Rattle.kr_rules.proofs.SingleEntries.{on_ok, one_taken, one_limited, one_refused}
+use Rattle.kr_rules.proofs.EntryCosts.{if_any, own_draft}
 use Rattle.kr_rules.proofs.entries.one.Goals as goal
 
 pub returns-then-branch-clause-done : goal.returns-then-branch-clause-done

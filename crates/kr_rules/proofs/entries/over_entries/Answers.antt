@@ -1,8 +1,8 @@
 use Rattle.std.proofs.Common.{◌∙◌, arith}
 use Rattle.kr_rules.specs.Progress.{work_at}
 use Rattle.kr_rules.specs.Costs.{cost}
-use Rattle.kr_rules.proofs.Spent.{spend_here}
-use Rattle.kr_rules.proofs.Ones.{answers_more, after_more}
+use Rattle.kr_rules.proofs.EntryCosts.{spend_here}
+use Rattle.kr_rules.proofs.SingleEntries.{answers_more, after_more}
 use Rattle.kr_rules.proofs.entries.over_entries.Goals as goal
 
 pub loop-entry-preserved : goal.loop-entry-preserved

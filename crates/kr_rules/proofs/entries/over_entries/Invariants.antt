@@ -5,7 +5,7 @@ use Rattle.kr_calls.specs.Deciding.{weights}
 use Rattle.kr_store.specs.Images.{last_kept}
 use Rattle.kr_rules.specs.Costs.{cost}
 use Rattle.kr_rules.specs.Progress.{work_at, base_of, Leads}
-use Rattle.kr_rules.proofs.Spent.{Reach}
+use Rattle.kr_rules.proofs.EntryCosts.{Reach}
 use Rattle.kr_rules.proofs.entries.over_entries.Given as goal
 
 abbrev pub invariant-loop-entry : goal.invariant-loop-entry

@@ -3,7 +3,7 @@ use Rattle.std.proofs.lemmas.Int.{to_z-of_z}
 use Rattle.kr_calls.specs.Deciding as deciding
 use Rattle.kr_calls.specs.Deciding.{Work, weights}
 use Rattle.kr_rules.specs.Progress.{base_of}
-use Rattle.kr_rules.proofs.Takes.{begun_at, drawn_from, kept_base}
+use Rattle.kr_rules.proofs.RecordLists.{begun_at, drawn_from, kept_base}
 use Rattle.kr_rules.proofs.groups.decide_groups.Goals as goal
 
 pub returns-clause-answers : goal.returns-clause-answers

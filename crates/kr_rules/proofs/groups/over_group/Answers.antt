@@ -3,8 +3,8 @@ use Rattle.std.proofs.lemmas.Result.{IfOk-weaker}
 use Rattle.kr_calls.specs.Deciding as deciding
 use Rattle.kr_rules.specs.Costs.{cost}
 use Rattle.kr_rules.specs.Progress.{work_at}
-use Rattle.kr_rules.proofs.Ones.{on_ok, answers_mapped, after_mapped}
-use Rattle.kr_rules.proofs.Spent.{cost_mapped, if_same}
+use Rattle.kr_rules.proofs.SingleEntries.{on_ok, answers_mapped, after_mapped}
+use Rattle.kr_rules.proofs.EntryCosts.{cost_mapped, if_same}
 use Rattle.kr_rules.proofs.groups.over_group.Goals as goal
 
 pub returns-clause-answer : goal.returns-clause-answer

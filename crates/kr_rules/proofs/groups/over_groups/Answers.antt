@@ -1,8 +1,8 @@
 use Rattle.std.proofs.Common.{◌∙◌, arith}
 use Rattle.kr_rules.specs.Progress.{work_at}
 use Rattle.kr_rules.specs.Costs.{group_cost}
-use Rattle.kr_rules.proofs.Spent.{spend_group}
-use Rattle.kr_rules.proofs.Ones.{group_answers_more, after_groups_more}
+use Rattle.kr_rules.proofs.EntryCosts.{spend_group}
+use Rattle.kr_rules.proofs.SingleEntries.{group_answers_more, after_groups_more}
 use Rattle.kr_rules.proofs.groups.over_groups.Goals as goal
 
 pub loop-group-preserved : goal.loop-group-preserved

@@ -5,7 +5,7 @@ use Rattle.kr_calls.specs.Deciding.{weights}
 use Rattle.kr_store.specs.Images.{last_kept}
 use Rattle.kr_rules.specs.Costs.{group_cost}
 use Rattle.kr_rules.specs.Progress.{work_at, base_of, Leads}
-use Rattle.kr_rules.proofs.Spent.{Reach}
+use Rattle.kr_rules.proofs.EntryCosts.{Reach}
 use Rattle.kr_rules.proofs.groups.over_groups.Given as goal
 
 abbrev pub invariant-loop-group : goal.invariant-loop-group

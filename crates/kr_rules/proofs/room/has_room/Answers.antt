@@ -1,5 +1,5 @@
 use Rattle.kr_calls.specs.Deciding.{apply_records}
-use Rattle.kr_rules.proofs.Filled.{full_here, more_here}
+use Rattle.kr_rules.proofs.FullImages.{full_here, more_here}
 use Rattle.kr_rules.proofs.room.has_room.Goals as goal
 
 pub returns-then-not-branch : goal.returns-then-not-branch

@@ -2,7 +2,7 @@ use Rattle.std.proofs.Common.{◌≡◌, drop, true}
 use Rattle.std.specs.List.{list_all}
 use Rattle.kr_calls.specs.Deciding.{apply_records}
 use Rattle.kr_rules.specs.Room.{is_plain}
-use Rattle.kr_rules.proofs.Filled.{IsAsFar}
+use Rattle.kr_rules.proofs.FullImages.{IsAsFar}
 use Rattle.kr_rules.proofs.room.has_room.Given as goal
 
 abbrev pub invariant-loop-value : goal.invariant-loop-value

@@ -1,5 +1,5 @@
 use Rattle.kr_rules.specs.Progress.{base_of}
-use Rattle.kr_rules.proofs.Takes.{frugal}
+use Rattle.kr_rules.proofs.RecordLists.{frugal}
 use Rattle.kr_rules.proofs.taking.take.Goals as goal
 
 pub returns-in_ok-add-in-All-clause-made : goal.returns-in_ok-add-in-All-clause-made

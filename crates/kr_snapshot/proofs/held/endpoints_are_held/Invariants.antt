@@ -1,6 +1,6 @@
 use Rattle.std.proofs.Common.{take}
 use Rattle.std.specs.Prelude.{All}
-use Rattle.kr_record.specs.Held.{IsHeldEndpoint}
+use Rattle.kr_record.specs.RecordRanges.{IsHeldEndpoint}
 use Rattle.kr_snapshot.proofs.held.endpoints_are_held.Given as goal
 
 abbrev pub invariant-loop-endpoint : goal.invariant-loop-endpoint

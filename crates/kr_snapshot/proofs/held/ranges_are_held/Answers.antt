@@ -1,6 +1,6 @@
 use Rattle.std.proofs.Common.{subst, ◌∙◌}
 use Rattle.std.specs.Prelude.{All}
-use Rattle.kr_record.specs.Held.{IsHeldRange}
+use Rattle.kr_record.specs.RecordRanges.{IsHeldRange}
 use Rattle.std.proofs.lemmas.List.{take_all}
 use Rattle.std.proofs.lemmas.List.Elements.{All-more}
 use Rattle.kr_snapshot.proofs.held.ranges_are_held.Goals as goal

@@ -1,6 +1,6 @@
 use Rattle.std.proofs.Common.{◌≤◌, length, arith}
-use Rattle.kr_snapshot.proofs.Batchwise.{start_waits}
-use Rattle.kr_snapshot.proofs.Waiting.{size_waits, unfinished_size, unfinished_sized}
+use Rattle.kr_snapshot.proofs.BatchPieces.{start_waits}
+use Rattle.kr_snapshot.proofs.ReaderSteps.{size_waits, unfinished_size, unfinished_sized}
 use Rattle.kr_snapshot.proofs.pieces.batch_goal.Goals as goal
 
 pub returns-then-held-lt-START-clause-waits : goal.returns-then-held-lt-START-clause-waits

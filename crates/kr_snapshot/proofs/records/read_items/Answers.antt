@@ -1,6 +1,6 @@
 use Rattle.std.proofs.Common.{◌≡◌, ◌∙◌, length, ap, arith}
 use Rattle.std.proofs.lemmas.Result.{err_from_is_err_and}
-use Rattle.kr_snapshot.specs.Read.{progress_in}
+use Rattle.kr_snapshot.specs.ReaderState.{progress_in}
 use Rattle.kr_snapshot.specs.Reading.{items_read}
 use Rattle.kr_snapshot.proofs.RecordsRead.{items_fault, items_next}
 use Rattle.kr_snapshot.proofs.records.read_items.Goals as goal

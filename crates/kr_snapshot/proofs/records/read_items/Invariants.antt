@@ -1,5 +1,5 @@
 use Rattle.std.proofs.Common.{◌≡◌, ◌+◌, drop}
-use Rattle.kr_snapshot.specs.Read.{HasRoom, progress_in}
+use Rattle.kr_snapshot.specs.ReaderState.{HasRoom, progress_in}
 use Rattle.kr_snapshot.specs.Reading.{items_read}
 use Rattle.kr_snapshot.proofs.records.read_items.Given as goal
 

@@ -1,4 +1,4 @@
-use Rattle.kr_snapshot.proofs.Waiting.{faults_stay, piece_more}
+use Rattle.kr_snapshot.proofs.ReaderSteps.{faults_stay, piece_more}
 use Rattle.kr_snapshot.proofs.theorems.read_in_pieces.Goals as goal
 
 pub returns-clause-on : goal.returns-clause-on

@@ -2,9 +2,9 @@ use Rattle.std.proofs.Common.{[], ◌∷◌}
 use Rattle.std.specs.Option.{option_copied}
 use Rattle.kr_defs.proofs.ImageParts.{config_total}
 use Rattle.kr_defs.proofs.Walks.{walk_less}
-use Rattle.kr_snapshot.specs.Shown.{image_or_empty}
-use Rattle.kr_snapshot.specs.Walked.{config_record}
-use Rattle.kr_snapshot.proofs.Adding.{amid_may, amid_more, amid_end, walk_left, walk_done}
+use Rattle.kr_snapshot.specs.StoreImage.{image_or_empty}
+use Rattle.kr_snapshot.specs.EntryRecords.{config_record}
+use Rattle.kr_snapshot.proofs.WriterRecords.{amid_may, amid_more, amid_end, walk_left, walk_done}
 use Rattle.kr_snapshot.proofs.walking.put_configs.Goals as goal
 
 pub push-requires-clause-may : goal.push-requires-clause-may

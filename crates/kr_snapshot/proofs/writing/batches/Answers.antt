@@ -1,7 +1,7 @@
 use Rattle.std.proofs.lemmas.Result.{IfOk-weaker}
-use Rattle.kr_snapshot.specs.Shown.{image_or_empty}
-use Rattle.kr_snapshot.proofs.Adding.{all_bytes, all_count}
-use Rattle.kr_snapshot.proofs.Light.{may_begin}
+use Rattle.kr_snapshot.specs.StoreImage.{image_or_empty}
+use Rattle.kr_snapshot.proofs.WriterRecords.{all_bytes, all_count}
+use Rattle.kr_snapshot.proofs.SmallRecords.{may_begin}
 use Rattle.kr_snapshot.proofs.writing.batches.Goals as goal
 
 pub put_records-requires-clause-may : goal.put_records-requires-clause-may

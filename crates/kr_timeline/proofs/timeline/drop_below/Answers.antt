@@ -1,5 +1,5 @@
 use Rattle.std.proofs.Common.{◌∙◌, sym, arith}
-use Rattle.kr_timeline.proofs.Forgets.{dropped, last-dropped, rising-dropped, none_dropped}
+use Rattle.kr_timeline.proofs.DroppedEntries.{dropped, last-dropped, rising-dropped, none_dropped}
 use Rattle.kr_timeline.proofs.timeline.drop_below.Goals as goal
 
 pub loop-steps-preserved : goal.loop-steps-preserved

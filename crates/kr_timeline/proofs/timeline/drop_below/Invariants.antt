@@ -2,7 +2,7 @@ use Rattle.std.proofs.Common.{◌≡◌, ◌≤◌, None, filter, not}
 use Rattle.std.specs.Prelude.{int_lt}
 use Rattle.std.specs.VecDeque.{deque_len, deque_capacity}
 use Rattle.kr_defs.specs.KeptMaps.{AreRising}
-use Rattle.kr_timeline.specs.Stored.{last_of, kept_of}
+use Rattle.kr_timeline.specs.StoredMaps.{last_of, kept_of}
 use Rattle.kr_timeline.proofs.timeline.drop_below.Given as goal
 
 abbrev pub invariant-loop-steps : goal.invariant-loop-steps

@@ -1,5 +1,5 @@
 use Rattle.std.proofs.Common.{◌≡◌, ◌≤◌, take, None}
-use Rattle.kr_timeline.specs.Stored.{last_of}
+use Rattle.kr_timeline.specs.StoredMaps.{last_of}
 use Rattle.kr_timeline.proofs.timeline.latest_of.Given as goal
 
 abbrev pub invariant-loop-left : goal.invariant-loop-left

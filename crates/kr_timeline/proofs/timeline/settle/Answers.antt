@@ -1,5 +1,5 @@
 use Rattle.std.proofs.Common.{◌∙◌, sym}
-use Rattle.kr_timeline.proofs.Forgets.{empty-settled}
+use Rattle.kr_timeline.proofs.DroppedEntries.{empty-settled}
 use Rattle.kr_timeline.proofs.timeline.settle.Goals as goal
 
 pub returns-in-None-clause-kept : goal.returns-in-None-clause-kept

@@ -1,5 +1,5 @@
 use Rattle.std.proofs.Common.{◌≡◌, ◌<◌, ◌-◌, length, arith}
-use Rattle.kr_topics.proofs.Assigned.{index_begin, index_earlier, index_all}
+use Rattle.kr_topics.proofs.Assignments.{index_begin, index_earlier, index_all}
 use Rattle.kr_topics.proofs.assigning.by_index.Goals as goal
 
 pub loop-k-init : goal.loop-k-init

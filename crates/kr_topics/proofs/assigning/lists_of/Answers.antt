@@ -1,7 +1,7 @@
 use Rattle.std.proofs.Common.{◌≡◌, ◌∙◌, ◌<◌, ◌∷◌, [], pos, length, sym, ap, arith, length-append}
 use Rattle.std.specs.Prelude.{Some, None}
 use Rattle.kr_calls.specs.CreateTopics.{assigned_at}
-use Rattle.kr_topics.proofs.Assigned.{list_more, whole_more, whole_none, list_all_told, list_all_whole}
+use Rattle.kr_topics.proofs.Assignments.{list_more, whole_more, whole_none, list_all_told, list_all_whole}
 use Rattle.kr_topics.proofs.assigning.lists_of.Goals as goal
 
 pub loop-index-preserved : goal.loop-index-preserved

@@ -1,6 +1,6 @@
 use Rattle.std.proofs.Common.{◌≡◌, ◌∙◌, ◌<◌, ◌+◌, ℕ, not, sym, arith}
 use Rattle.kr_defs.specs.Image.{has_topic}
-use Rattle.kr_topics.proofs.Free.{find_begin, find_here, find_later, find_none}
+use Rattle.kr_topics.proofs.FirstNumbers.{find_begin, find_here, find_later, find_none}
 use Rattle.kr_topics.proofs.creating.free_id.Goals as goal
 
 pub loop-id-init : goal.loop-id-init

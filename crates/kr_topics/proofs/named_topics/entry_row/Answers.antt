@@ -1,7 +1,7 @@
 use Rattle.std.proofs.Common.{◌∙◌, sym}
 use Rattle.std.proofs.lemmas.Result.{IfOk-weaker}
 use Rattle.kr_store.specs.Reads.{seen_at}
-use Rattle.kr_topics.proofs.Shown.{row-first, row-again}
+use Rattle.kr_topics.proofs.MetadataRows.{row-first, row-again}
 use Rattle.kr_topics.proofs.named_topics.entry_row.Goals as goal
 
 pub returns-then-branch-clause-row : goal.returns-then-branch-clause-row

@@ -1,5 +1,5 @@
 use Rattle.kr_store.specs.Reads.{seen_at}
-use Rattle.kr_topics.proofs.Shown.{shown_at}
+use Rattle.kr_topics.proofs.MetadataRows.{shown_at}
 use Rattle.kr_topics.proofs.named_topics.named_topic_rows.Goals as goal
 
 pub loop-entry-preserved : goal.loop-entry-preserved

@@ -1,7 +1,7 @@
 use Rattle.std.proofs.Common.{drop, []}
 use Rattle.kr_calls.specs.Metadata.{topics_named}
 use Rattle.kr_store.specs.Reads.{seen_at}
-use Rattle.kr_topics.proofs.Shown.{Shows}
+use Rattle.kr_topics.proofs.MetadataRows.{Shows}
 use Rattle.kr_topics.proofs.named_topics.named_topic_rows.Given as goal
 
 abbrev pub invariant-loop-entry : goal.invariant-loop-entry

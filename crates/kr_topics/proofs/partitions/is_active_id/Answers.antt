@@ -1,7 +1,7 @@
 use Rattle.std.proofs.Common.{◌∙◌, ap, false}
 use Rattle.std.specs.Option.{option_map_or}
 use Rattle.kr_defs.specs.Brokers.{is_active}
-use Rattle.kr_topics.proofs.Actives.{active_by_id}
+use Rattle.kr_topics.proofs.ActiveBrokers.{active_by_id}
 use Rattle.kr_topics.proofs.partitions.is_active_id.Goals as goal
 
 pub returns-in-Some : goal.returns-in-Some

@@ -1,4 +1,4 @@
-use Rattle.kr_topics.proofs.Given.{setting_at}
+use Rattle.kr_topics.proofs.TopicSettings.{setting_at}
 use Rattle.kr_topics.proofs.settings.add_settings.Goals as goal
 
 pub loop-setting-preserved : goal.loop-setting-preserved

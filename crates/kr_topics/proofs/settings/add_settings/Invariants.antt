@@ -1,6 +1,6 @@
 use Rattle.std.proofs.Common.{◌++◌, drop}
 use Rattle.kr_calls.specs.CreateTopics.{settings_records}
-use Rattle.kr_topics.proofs.Given.{IsUnder}
+use Rattle.kr_topics.proofs.TopicSettings.{IsUnder}
 use Rattle.kr_topics.proofs.settings.add_settings.Given as goal
 
 abbrev pub invariant-loop-setting : goal.invariant-loop-setting

@@ -5,7 +5,7 @@ use Rattle.std.specs.Prelude.{ℕ, ℤ}
 use Rattle.kr_defs.specs.declared.partition.Partition.{Partition}
 use Rattle.kr_defs.proofs.ImageParts.{partition_total}
 use Rattle.kr_defs.proofs.Walks.{walk_less}
-use Rattle.kr_walks.proofs.Any.{any_here, any_later, any_none}
+use Rattle.kr_walks.proofs.EntryTests.{any_here, any_later, any_none}
 use Rattle.kr_walks.proofs.partitions.leads.Goals as goal
 
 pub loop-key-preserved : goal.loop-key-preserved

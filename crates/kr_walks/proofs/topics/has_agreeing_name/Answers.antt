@@ -3,7 +3,7 @@ use Rattle.std.specs.Option.{option_copied}
 use Rattle.kr_defs.specs.Map.{next, text_order}
 use Rattle.kr_defs.specs.Texts.{names_agree}
 use Rattle.kr_defs.proofs.ImageParts.{text_total}
-use Rattle.kr_walks.proofs.Any.{any_here, any_later, any_none}
+use Rattle.kr_walks.proofs.EntryTests.{any_here, any_later, any_none}
 use Rattle.kr_walks.proofs.Changes.{topic_found, topic_none, topic_less}
 use Rattle.kr_walks.proofs.topics.has_agreeing_name.Goals as goal
 

@@ -1,5 +1,5 @@
 use Rattle.std.proofs.lemmas.Result.{err_from_is_err_and}
-use Rattle.kr_wire.proofs.Skipped.{skips_one, skips_fault, skips_none}
+use Rattle.kr_wire.proofs.SkippedFields.{skips_one, skips_fault, skips_none}
 use Rattle.kr_wire.proofs.reading.skip_fields.Goals as goal
 
 pub loop-preserved : goal.loop-preserved

@@ -1,5 +1,5 @@
 use Rattle.std.proofs.Common.{arith, inl, inr, length-set}
-use Rattle.kr_wire.proofs.Written.{writes_one, writes_last, fewer}
+use Rattle.kr_wire.proofs.GroupWriting.{writes_one, writes_last, fewer}
 use Rattle.kr_wire.proofs.writing.groups_of.Goals as goal
 use Rattle.kr_wire.proofs.writing.groups_of.Goals.{then-loop-len-test+else-rest-ge128, else-loop-len-test}
 

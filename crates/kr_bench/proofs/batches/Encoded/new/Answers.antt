@@ -1,6 +1,6 @@
 use Rattle.std.proofs.Common.{◌≡◌, rules, ap, ◌∙◌}
 use Rattle.kr_batch.specs.Reading as reading
-use Rattle.kr_batch.specs.Written.{batch_bytes}
+use Rattle.kr_batch.specs.BatchBytes.{batch_bytes}
 use Rattle.kr_bench.proofs.Sizes.{regular}
 use Rattle.kr_bench.proofs.batches.Encoded.new.Goals as goal
 

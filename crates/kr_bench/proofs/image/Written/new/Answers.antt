@@ -1,6 +1,6 @@
 use Rattle.std.proofs.Common.{◌≡◌, rules, List, ℕ, Ok, sym, subst}
 use Rattle.kr_snapshot.specs.Reading.{image_of}
-use Rattle.kr_snapshot.specs.Written.{image_text}
+use Rattle.kr_snapshot.specs.ImageText.{image_text}
 use Rattle.kr_bench.specs.declared.image.TheConstants.{OFFSET}
 use Rattle.kr_bench.proofs.image.Written.new.Goals as goal
 

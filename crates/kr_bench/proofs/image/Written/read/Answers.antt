@@ -1,7 +1,7 @@
 use Rattle.std.proofs.Common.{[], List, ℕ, subst}
-use Rattle.kr_snapshot.specs.Read.{Restores, StandsFor}
+use Rattle.kr_snapshot.specs.ReaderState.{Restores, StandsFor}
 use Rattle.kr_bench.specs.declared.image.TheConstants.{OFFSET}
-use Rattle.kr_bench.proofs.Restored.{restored}
+use Rattle.kr_bench.proofs.ImageReading.{restored}
 use Rattle.kr_bench.proofs.image.Written.read.Goals as goal
 
 pub returns : goal.returns

@@ -1,7 +1,7 @@
 use Rattle.std.proofs.Common.{◌∙◌, ap}
 use Rattle.std.specs.Prelude.{bytes_eq}
 use Rattle.std.specs.List.{list_any}
-use Rattle.kr_config.proofs.Joined.{among_seen}
+use Rattle.kr_config.proofs.ListParts.{among_seen}
 use Rattle.kr_config.proofs.parts.Parts.has.Goals as goal
 
 pub returns : goal.returns

@@ -2,7 +2,7 @@ use Rattle.std.proofs.Common.{◌∙◌, ℕ, List, [], ◌∷◌, ap}
 use Rattle.std.specs.Borrow.{Bor}
 use Rattle.std.specs.List.{join_by}
 use Rattle.kr_defs.specs.Texts.{joined}
-use Rattle.kr_config.proofs.Joined.{joined_rows}
+use Rattle.kr_config.proofs.ListParts.{joined_rows}
 use Rattle.kr_config.proofs.parts.Parts.join.Goals as goal
 
 pub returns : goal.returns

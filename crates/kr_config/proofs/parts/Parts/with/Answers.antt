@@ -1,4 +1,4 @@
-use Rattle.kr_config.proofs.Joined.{known_more}
+use Rattle.kr_config.proofs.ListParts.{known_more}
 use Rattle.kr_config.proofs.parts.Parts.with.Goals as goal
 
 pub invariant_of-self : goal.invariant_of-self

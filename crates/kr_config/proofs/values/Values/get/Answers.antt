@@ -2,7 +2,7 @@ use Rattle.std.proofs.Common.{◌∙◌, ap}
 use Rattle.std.specs.Prelude.{bytes_eq, find}
 use Rattle.std.specs.Option.{option_map}
 use Rattle.kr_calls.specs.IncrementalAlterConfigs.{Values}
-use Rattle.kr_config.proofs.Named.{looked_up}
+use Rattle.kr_config.proofs.OperationKeys.{looked_up}
 use Rattle.kr_config.proofs.values.Values.get.Goals as goal
 
 pub returns : goal.returns

@@ -1,4 +1,4 @@
-use Rattle.kr_config.proofs.Named.{once_after, seen, seen_after}
+use Rattle.kr_config.proofs.OperationKeys.{once_after, seen, seen_after}
 use Rattle.kr_config.proofs.values.Values.set.Goals as goal
 
 pub invariant_of-self-2 : goal.invariant_of-self-2

@@ -1,5 +1,5 @@
 use Rattle.std.proofs.Common.{◌∙◌, sym}
-use Rattle.kr_image.specs.Held.{tip_of}
+use Rattle.kr_image.specs.Timelines.{tip_of}
 use Rattle.kr_image.proofs.Rows.{ok_is, partition_changed}
 use Rattle.kr_image.proofs.timelines.Timelines.change_partition.Goals as goal
 

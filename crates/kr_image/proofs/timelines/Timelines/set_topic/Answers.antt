@@ -1,5 +1,5 @@
-use Rattle.kr_image.specs.Held.{tip_of}
-use Rattle.kr_image.proofs.Counting.{topics_counted}
+use Rattle.kr_image.specs.Timelines.{tip_of}
+use Rattle.kr_image.proofs.TopicCounts.{topics_counted}
 use Rattle.kr_image.proofs.Index.{index_set}
 use Rattle.kr_image.proofs.timelines.Timelines.set_topic.Goals as goal
 

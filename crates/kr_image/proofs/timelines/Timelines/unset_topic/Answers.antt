@@ -1,6 +1,6 @@
 use Rattle.std.proofs.Common.{◌∙◌, ap, List, ℕ}
-use Rattle.kr_image.specs.Held.{tip_of}
-use Rattle.kr_image.proofs.Counting.{topics_counted}
+use Rattle.kr_image.specs.Timelines.{tip_of}
+use Rattle.kr_image.proofs.TopicCounts.{topics_counted}
 use Rattle.kr_image.proofs.Index.{index_gone, name_removed}
 use Rattle.kr_image.proofs.timelines.Timelines.unset_topic.Goals as goal
 

@@ -1,4 +1,4 @@
-use Rattle.kr_queue.proofs.Keeping.{pops, learns}
+use Rattle.kr_queue.proofs.RuleSteps.{pops, learns}
 use Rattle.kr_queue.proofs.queue.Queue.pop.Goals as goal
 
 pub pop_as-requires-clause-rule : goal.pop_as-requires-clause-rule

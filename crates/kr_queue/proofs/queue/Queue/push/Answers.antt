@@ -1,4 +1,4 @@
-use Rattle.kr_queue.proofs.Keeping.{pushes}
+use Rattle.kr_queue.proofs.RuleSteps.{pushes}
 use Rattle.kr_queue.proofs.queue.Queue.push.Goals as goal
 
 pub push_as-requires-clause-rule : goal.push_as-requires-clause-rule

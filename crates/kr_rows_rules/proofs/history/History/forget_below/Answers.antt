@@ -1,5 +1,5 @@
 use Rattle.std.proofs.Common.{int_lt, not}
-use Rattle.kr_rows_rules.proofs.Kept.{dropped}
+use Rattle.kr_rows_rules.proofs.EpochRows.{dropped}
 use Rattle.kr_rows_rules.proofs.history.History.forget_below.Goals as goal
 
 pub invariant_of-self : goal.invariant_of-self

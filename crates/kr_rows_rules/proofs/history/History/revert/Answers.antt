@@ -1,4 +1,4 @@
-use Rattle.kr_rows_rules.proofs.Kept.{reverted_epochs}
+use Rattle.kr_rows_rules.proofs.EpochRows.{reverted_epochs}
 use Rattle.kr_rows_rules.proofs.history.History.revert.Goals as goal
 
 pub invariant_of-self-2 : goal.invariant_of-self-2

@@ -1,6 +1,6 @@
 use Rattle.std.proofs.Common.{w64}
 use Rattle.std.proofs.lemmas.Int.{to_z-of_z}
-use Rattle.kr_defs.proofs.Hearing.{begun}
+use Rattle.kr_defs.proofs.HeartbeatLists.{begun}
 use Rattle.kr_sessions.proofs.sessions.Sessions.begin.Goals as goal
 
 pub invariant_of-self : goal.invariant_of-self

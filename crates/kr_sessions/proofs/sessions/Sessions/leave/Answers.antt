@@ -1,6 +1,6 @@
 use Rattle.std.proofs.Common.{w32}
 use Rattle.std.proofs.lemmas.Int.{to_z-of_z}
-use Rattle.kr_defs.proofs.Hearing.{left}
+use Rattle.kr_defs.proofs.HeartbeatLists.{left}
 use Rattle.kr_sessions.proofs.sessions.Sessions.leave.Goals as goal
 
 pub invariant_of-self : goal.invariant_of-self

@@ -1,6 +1,6 @@
 use Rattle.std.proofs.Common.{w32, w64}
 use Rattle.std.proofs.lemmas.Int.{to_z-of_z}
-use Rattle.kr_defs.proofs.Hearing.{stopped}
+use Rattle.kr_defs.proofs.HeartbeatLists.{stopped}
 use Rattle.kr_sessions.proofs.sessions.Sessions.stop.Goals as goal
 
 pub invariant_of-self : goal.invariant_of-self

@@ -1,6 +1,6 @@
 use Rattle.std.proofs.Common.{sym, subst}
-use Rattle.kr_snapshot.specs.Read.{IsUnfinished}
-use Rattle.kr_snapshot.proofs.Waiting.{goal_none, goal_some}
+use Rattle.kr_snapshot.specs.ReaderState.{IsUnfinished}
+use Rattle.kr_snapshot.proofs.ReaderSteps.{goal_none, goal_some}
 use Rattle.kr_snapshot.proofs.pieces.Pieces.goal.Goals as goal
 
 pub batch_goal-requires : goal.batch_goal-requires

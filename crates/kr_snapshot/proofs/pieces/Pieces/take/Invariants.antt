@@ -1,5 +1,5 @@
 use Rattle.std.proofs.Common.{◌≡◌, length}
-use Rattle.kr_snapshot.specs.Read.{IsWaiting, taken_in}
+use Rattle.kr_snapshot.specs.ReaderState.{IsWaiting, taken_in}
 use Rattle.kr_snapshot.specs.Reading.{goes_on}
 use Rattle.kr_snapshot.proofs.pieces.Pieces.take.Given as goal
 

@@ -1,7 +1,7 @@
 use Rattle.std.proofs.Common.{◌+◌, ◌≤◌, length, arith}
 use Rattle.std.proofs.lemmas.Result.{err_from_is_err_and}
-use Rattle.kr_snapshot.specs.Read.{body_in}
-use Rattle.kr_snapshot.proofs.Waiting.{part_fault, part_taken}
+use Rattle.kr_snapshot.specs.ReaderState.{body_in}
+use Rattle.kr_snapshot.proofs.ReaderSteps.{part_fault, part_taken}
 use Rattle.kr_snapshot.proofs.pieces.Pieces.take_some.Goals as goal
 
 pub returns-in_err-judge-clause-fault : goal.returns-in_err-judge-clause-fault

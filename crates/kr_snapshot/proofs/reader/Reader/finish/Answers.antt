@@ -1,6 +1,6 @@
 use Rattle.std.proofs.Common.{Err}
-use Rattle.kr_snapshot.specs.Read.{taken_in}
-use Rattle.kr_snapshot.proofs.Waiting.{fault_stays, given_end, given_found, given_only, stands_fault, stands_open}
+use Rattle.kr_snapshot.specs.ReaderState.{taken_in}
+use Rattle.kr_snapshot.proofs.ReaderSteps.{fault_stays, given_end, given_found, given_only, stands_fault, stands_open}
 use Rattle.kr_snapshot.proofs.reader.Reader.finish.Goals as goal
 
 pub returns-in-Some-clause-only : goal.returns-in-Some-clause-only

@@ -1,6 +1,6 @@
 use Rattle.std.proofs.Common.{rules, ◌≡◌, ◌++◌, length}
-use Rattle.kr_batch.specs.Written.{batch_bytes}
-use Rattle.kr_snapshot.specs.Written.{batch_of_group}
+use Rattle.kr_batch.specs.BatchBytes.{batch_bytes}
+use Rattle.kr_snapshot.specs.ImageText.{batch_of_group}
 use Rattle.kr_snapshot.proofs.Groups.{group_behind, sound_empty}
 use Rattle.kr_snapshot.proofs.writer.BatchWriter.put_group.Goals as goal
 

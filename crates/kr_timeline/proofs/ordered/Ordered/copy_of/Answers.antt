@@ -1,4 +1,4 @@
-use Rattle.kr_timeline.proofs.Appended.{copies_one}
+use Rattle.kr_timeline.proofs.OrderedEntries.{copies_one}
 use Rattle.kr_timeline.proofs.ordered.Ordered.copy_of.Goals as goal
 
 pub loop-key-preserved : goal.loop-key-preserved

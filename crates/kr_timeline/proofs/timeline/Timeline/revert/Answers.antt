@@ -1,7 +1,7 @@
 use Rattle.std.proofs.Common.{◌≡◌, Some, None, refl, take, w64}
 use Rattle.std.proofs.lemmas.Int.{to_z-of_z}
 use Rattle.kr_defs.specs.KeptMaps.{map_at}
-use Rattle.kr_timeline.specs.Stored.{last_of, entries_of}
+use Rattle.kr_timeline.specs.StoredMaps.{last_of, entries_of}
 use Rattle.kr_timeline.proofs.Histories.{maps-ended}
 use Rattle.kr_timeline.proofs.timeline.Timeline.revert.Goals as goal
 
