@@ -17,7 +17,7 @@ use Rattle.kr_defs.specs.Walk.{Walked, changes_of}
 use Rattle.kr_defs.proofs.Tests.{both}
 use Rattle.kr_calls.specs.declared.configs.ConfigResource.{ConfigResource}
 use Rattle.kr_calls.specs.IncrementalAlterConfigs.{Values, is_same_value, relief, value_now}
-use Rattle.kr_config.specs.NewSettings.{after, has_enough, has_standing_by, keeps_minimum}
+use Rattle.kr_config.specs.inner.NewSettings.{after, has_enough, has_standing_by, keeps_minimum}
 use Rattle.kr_config.specs.NamedKeys.{AreOnce}
 use Rattle.kr_config.proofs.OperationKeys.{same_text}
 use Rattle.kr_config.proofs.Overlay.{got_other_key, got_own_key, same_number}

@@ -1,2 +1,2 @@
 pub mod NamedKeys
-pub mod NewSettings
+pub mod inner

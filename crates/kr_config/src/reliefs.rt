@@ -9,8 +9,8 @@ ghost use Rattle.kr_defs.specs.Eligible as eligible;
 ghost use Rattle.kr_defs.specs.NewPartition as partitions;
 ghost use Rattle.kr_defs.specs.Settings as settings;
 ghost use Rattle.kr_defs.specs.Walk.{changes_of, walk};
-ghost use Rattle.kr_config.specs.NewSettings as later;
-ghost use Rattle.kr_config.specs.NewSettings.{after};
+ghost use Rattle.kr_config.specs.inner.NewSettings as later;
+ghost use Rattle.kr_config.specs.inner.NewSettings.{after};
 
 use crate::operations::value_now;
 use crate::records::is_same_value;

@@ -18,7 +18,7 @@ use Rattle.kr_image.specs.declared.kept_counts.KeptCounts.{KeptCounts}
 use Rattle.kr_image.specs.declared.timelines.Timelines.{Timelines}
 use Rattle.kr_image.specs.Timelines.{Keeps, keeps, kept_in, map_in, image_in, IsIndex}
 use Rattle.kr_image.specs.KeptImages.{images_in, images_of, IsRight, IsStore}
-use Rattle.kr_image.specs.TimelineMaps.{entries_at}
+use Rattle.kr_image.specs.inner.TimelineMaps.{entries_at}
 use Rattle.kr_defs.proofs.Tests.{some_is}
 use Rattle.kr_image.proofs.KeptLists.{find_map, all_map}
 use Rattle.kr_image.proofs.Index.{name_of_id, next_named}

@@ -1,4 +1,3 @@
 pub mod KeptImages
-pub mod RecordAnswers
-pub mod TimelineMaps
 pub mod Timelines
+pub mod inner

@@ -4,7 +4,7 @@ ghost use Rattle.std.specs.Prelude.{◌≡◌, ◌≤◌, ◌+◌, OnOk, negsuc,
 ghost use Rattle.kr_defs.specs.Apply as apply;
 ghost use Rattle.kr_defs.specs.Image.{IsValid};
 ghost use Rattle.kr_defs.specs.Weight.{record_weight};
-ghost use Rattle.kr_image.specs.RecordAnswers.{Changes};
+ghost use Rattle.kr_image.specs.inner.RecordAnswers.{Changes};
 ghost use Rattle.kr_image.specs.Timelines.{Agrees, keeps, made_of, tip_of};
 
 use crate::timelines::{ChangeFault, Timelines};

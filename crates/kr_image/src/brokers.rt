@@ -7,7 +7,7 @@ ghost use Rattle.kr_defs.specs.Apply as apply;
 ghost use Rattle.kr_defs.specs.Image as images;
 ghost use Rattle.kr_defs.specs.Image.{IsValid};
 ghost use Rattle.kr_defs.specs.Map as map;
-ghost use Rattle.kr_image.specs.RecordAnswers.{Changes};
+ghost use Rattle.kr_image.specs.inner.RecordAnswers.{Changes};
 ghost use Rattle.kr_image.specs.Timelines.{Agrees, keeps, made_of, tip_of};
 
 use crate::entries::{contains, is_full, set_counted, unset_counted};

@@ -3,7 +3,7 @@
 ghost use Rattle.std.specs.Prelude.{◌≡◌, IsErr, IsOkAnd, MatchOption};
 ghost use Rattle.std.specs.Option.{option_copied, option_map};
 ghost use Rattle.kr_defs.specs.Map as map;
-ghost use Rattle.kr_image.specs.TimelineMaps.{entries_at};
+ghost use Rattle.kr_image.specs.inner.TimelineMaps.{entries_at};
 
 use kr_base::NoEpoch;
 use kr_store::At;

@@ -7,7 +7,7 @@ ghost use Rattle.kr_defs.specs.Image.{IsValid, config_text, entry_text};
 ghost use Rattle.kr_defs.specs.Map as map;
 ghost use Rattle.kr_defs.specs.Map.{config_order};
 ghost use Rattle.kr_defs.specs.declared.limits.TheConstants.{MOST_CONFIG_TEXT as most};
-ghost use Rattle.kr_image.specs.RecordAnswers.{Changes};
+ghost use Rattle.kr_image.specs.inner.RecordAnswers.{Changes};
 ghost use Rattle.kr_image.specs.Timelines.{lowest as lowest_key};
 ghost use Rattle.kr_image.specs.Timelines.{Agrees, keeps, made_of, tip_of};
 

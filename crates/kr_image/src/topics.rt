@@ -8,7 +8,7 @@ ghost use Rattle.kr_defs.specs.Image.{AreConfigs, IsValid, topic_name};
 ghost use Rattle.kr_defs.specs.Map as map;
 ghost use Rattle.kr_defs.specs.Map.{partition_order, text_order};
 ghost use Rattle.kr_defs.specs.Weight.{partitions_removed, settings_removed};
-ghost use Rattle.kr_image.specs.RecordAnswers.{Changes};
+ghost use Rattle.kr_image.specs.inner.RecordAnswers.{Changes};
 ghost use Rattle.kr_image.specs.Timelines.{Agrees, keeps, made_of, tip_of};
 ghost use Rattle.kr_store.specs.Images.{topic_of};
 

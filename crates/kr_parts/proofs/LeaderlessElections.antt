@@ -17,7 +17,7 @@ use Rattle.kr_defs.specs.Guard.{refuse◌when◌else◌}
 use Rattle.kr_defs.specs.Image.{Image}
 use Rattle.kr_defs.specs.Settings.{facts_of}
 use Rattle.kr_calls.specs.ElectLeaders.{Entry, drafted, elects_any, in_mode}
-use Rattle.kr_parts.specs.NamedLeader.{names_nobody, with_leader}
+use Rattle.kr_parts.specs.inner.NamedLeader.{names_nobody, with_leader}
 
 -- the leader that is named where -1 stood
 abbrev leader_named : ℤ → Bool → Option ℤ

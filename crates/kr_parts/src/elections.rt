@@ -8,7 +8,7 @@ ghost use Rattle.kr_defs.specs.Build.{built};
 ghost use Rattle.kr_defs.specs.Settings.{facts_of};
 ghost use Rattle.kr_calls.specs.ElectLeaders as electing;
 ghost use Rattle.kr_rules.specs.Refusals.{Judges};
-ghost use Rattle.kr_parts.specs.NamedLeader.{names_nobody, with_leader};
+ghost use Rattle.kr_parts.specs.inner.NamedLeader.{names_nobody, with_leader};
 
 use kr_base::NoMemory;
 use kr_calls::errors::{
@@ -146,7 +146,7 @@ fn names_nobody(change: &Option<PartitionChange>) -> bool
 }
 
 // What is said of a change, where it names a leader.
-#[tactic(auto, unfolding(crate::specs::NamedLeader::with_leader))]
+#[tactic(auto, unfolding(crate::specs::inner::NamedLeader::with_leader))]
 fn with_leader(
     alloc: Global,
     name: &Text,

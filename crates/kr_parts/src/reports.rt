@@ -4,7 +4,7 @@ ghost use Rattle.std.specs.Prelude.{◌≡◌, IfOk};
 ghost use Rattle.std.specs.List.{list_all};
 ghost use Rattle.kr_calls.specs.AlterPartition as reporting;
 ghost use Rattle.kr_rules.specs.Refusals.{Judges};
-ghost use Rattle.kr_parts.specs.EpochReports.{of_members};
+ghost use Rattle.kr_parts.specs.inner.EpochReports.{of_members};
 
 use crate::members::{are_bad_members, members};
 use kr_base::NoMemory;
@@ -199,7 +199,7 @@ fn accept<S: Store>(
 }
 
 // What is said of a report that knows the partition's epochs.
-#[tactic(auto, unfolding(crate::specs::EpochReports::of_members))]
+#[tactic(auto, unfolding(crate::specs::inner::EpochReports::of_members))]
 fn of_members<S: Store>(
     alloc: Global,
     store: &S,
@@ -222,7 +222,7 @@ fn of_members<S: Store>(
 }
 
 // What is said of a partition that stands.
-#[tactic(auto, unfolding(kr_calls::specs::AlterPartition::of_partition, crate::specs::EpochReports::of_members))]
+#[tactic(auto, unfolding(kr_calls::specs::AlterPartition::of_partition, crate::specs::inner::EpochReports::of_members))]
 fn of_partition<S: Store>(
     alloc: Global,
     store: &S,

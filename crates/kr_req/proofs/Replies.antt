@@ -10,7 +10,7 @@ use Rattle.kr_layout.specs.Answers.{Adds}
 use Rattle.kr_calls.specs.declared.calls.Reply.{Reply}
 use Rattle.kr_calls.specs.declared.calls.Reply.TheVariants as replies
 use Rattle.kr_req.specs.Messages.{IsReply, IsReplyBody}
-use Rattle.kr_req.specs.ReplyBodies.{AddsBody}
+use Rattle.kr_req.specs.inner.ReplyBodies.{AddsBody}
 
 -- the bytes of the body
 body_bytes : (reply : Reply) (before after : List ℕ) → AddsBody reply before after

@@ -1,3 +1,3 @@
 pub mod Messages
 pub mod Reading
-pub mod ReplyBodies
+pub mod inner

@@ -3,7 +3,7 @@
 ghost use Rattle.std.specs.Prelude.{◌≡◌, ◌≤◌, length, drop, OnOk, OnErr};
 ghost use Rattle.kr_layout.specs.Answers.{IsAnswer};
 ghost use Rattle.kr_req.specs.Reading.{body_of};
-ghost use Rattle.kr_req.specs.ReplyBodies.{AddsBody};
+ghost use Rattle.kr_req.specs.inner.ReplyBodies.{AddsBody};
 
 use crate::ApiKey;
 use kr_base::NoMemory;

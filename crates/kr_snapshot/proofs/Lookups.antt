@@ -12,7 +12,7 @@ use Rattle.kr_defs.proofs.Tests.{some_is}
 use Rattle.kr_store.specs.declared.places.At.{At}
 use Rattle.kr_store.specs.declared.places.At.TheVariants as places
 use Rattle.kr_store.specs.Images.{Images, AreValid, topic_entry}
-use Rattle.kr_snapshot.specs.StoreImage.{image_or_empty}
+use Rattle.kr_snapshot.specs.inner.StoreImage.{image_or_empty}
 
 -- a topic that is found has the next name and its id
 pub topic_found : (o : Option (List ℕ × ℕ)) (name : List ℕ) (topic : Topic) → Some (name, topic) ≡ option_map topic_entry o → Some (name, topic.id) ≡ o

@@ -25,8 +25,8 @@ use Rattle.kr_defs.proofs.Changes.{formed_parts}
 use Rattle.kr_defs.proofs.IdLists.{same_id, refutes, refuted, all_at, all_from, has_kept}
 use Rattle.kr_record.specs.Encodable.{IsEncodable, IsShortEndpoint, IsShortRange}
 use Rattle.kr_record.proofs.Lengths.{size}
-use Rattle.kr_snapshot.specs.EntryRecords.{feature_record, broker_record, partition_record, config_record}
-use Rattle.kr_snapshot.specs.Writer.{setting_text, IsLight, most_beside, texts, IsSound, MayAdd}
+use Rattle.kr_snapshot.specs.inner.EntryRecords.{feature_record, broker_record, partition_record, config_record}
+use Rattle.kr_snapshot.specs.inner.Writer.{setting_text, IsLight, most_beside, texts, IsSound, MayAdd}
 use Rattle.kr_snapshot.specs.declared.writer.BatchWriter.{BatchWriter}
 
 -- ---- ids among others

@@ -25,7 +25,7 @@ use Rattle.kr_batch.specs.BatchBytes.{IsHeldItem, batch_bytes}
 use Rattle.kr_batch.proofs.WrittenBatches.{batch_spelled}
 use Rattle.kr_snapshot.specs.Grammar.{IsPart, AreParts, all_of, Makes, IsImage}
 use Rattle.kr_snapshot.specs.Reading.{image_of}
-use Rattle.kr_snapshot.specs.Writer.{setting_text, item_text, texts, IsLight, IsLightItem}
+use Rattle.kr_snapshot.specs.inner.Writer.{setting_text, item_text, texts, IsLight, IsLightItem}
 use Rattle.kr_snapshot.specs.ImageText.{chunks, batch_of_group, batches_bytes, image_text}
 use Rattle.kr_snapshot.proofs.WriterRecords.{all_front, all_back}
 use Rattle.kr_snapshot.proofs.Chunks.{Sized, chunks_mapped, chunks_all, chunks_sized}

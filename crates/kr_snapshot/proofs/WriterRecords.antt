@@ -21,9 +21,9 @@ use Rattle.kr_defs.specs.Walk.{walked, of_topic}
 use Rattle.kr_defs.proofs.Walks.{walk_next, walk_end}
 use Rattle.kr_defs.proofs.TopicWalks.{group_begin}
 use Rattle.kr_record.specs.RecordRanges.{IsHeld}
-use Rattle.kr_snapshot.specs.EntryRecords.{partition_record}
+use Rattle.kr_snapshot.specs.inner.EntryRecords.{partition_record}
 use Rattle.kr_snapshot.specs.ImageText.{chunks, batches_bytes}
-use Rattle.kr_snapshot.specs.Writer.{setting_text, IsLight, texts, IsSound, body_with, count_of, Adds, IsAmid, MayAdd}
+use Rattle.kr_snapshot.specs.inner.Writer.{setting_text, IsLight, texts, IsSound, body_with, count_of, Adds, IsAmid, MayAdd}
 use Rattle.kr_snapshot.specs.declared.writer.BatchWriter.{BatchWriter}
 
 pub all_front : {X : Type 0} (P : X → Type 0) (xs ys : List X) → AllByRecursion P (xs ++ ys) → AllByRecursion P xs

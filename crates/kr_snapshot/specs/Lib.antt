@@ -1,7 +1,5 @@
-pub mod EntryRecords
 pub mod Grammar
 pub mod ImageText
 pub mod ReaderState
 pub mod Reading
-pub mod StoreImage
-pub mod Writer
+pub mod inner

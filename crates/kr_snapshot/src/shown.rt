@@ -6,7 +6,7 @@ ghost use Rattle.std.specs.Ordering.{int_cmp};
 ghost use Rattle.kr_defs.specs.Map as entries;
 ghost use Rattle.kr_defs.specs.Map.{text_order, partition_order, config_order};
 ghost use Rattle.kr_store.specs.Images.{image_at, topic_entry};
-ghost use Rattle.kr_snapshot.specs.StoreImage.{image_or_empty};
+ghost use Rattle.kr_snapshot.specs.inner.StoreImage.{image_or_empty};
 
 use kr_defs::{Broker, ConfigKey, Partition, Text, Topic};
 use kr_store::{At, Store};

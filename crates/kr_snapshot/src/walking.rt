@@ -7,9 +7,9 @@ ghost use Rattle.kr_defs.specs.Map.{above, partition_order};
 ghost use Rattle.kr_defs.specs.Records.{topic_records};
 ghost use Rattle.kr_defs.specs.Walk.{of_topic};
 ghost use Rattle.kr_record.specs.RecordRanges.{IsHeld};
-ghost use Rattle.kr_snapshot.specs.StoreImage.{image_or_empty};
-ghost use Rattle.kr_snapshot.specs.EntryRecords.{feature_record, broker_record, partition_record, config_record};
-ghost use Rattle.kr_snapshot.specs.Writer.{MayAdd, Adds};
+ghost use Rattle.kr_snapshot.specs.inner.StoreImage.{image_or_empty};
+ghost use Rattle.kr_snapshot.specs.inner.EntryRecords.{feature_record, broker_record, partition_record, config_record};
+ghost use Rattle.kr_snapshot.specs.inner.Writer.{MayAdd, Adds};
 
 use crate::held::{broker_is_held, partition_is_held, text_is_held};
 use crate::shown;

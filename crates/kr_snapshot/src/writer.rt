@@ -4,7 +4,7 @@ ghost use Rattle.std.specs.Prelude.{◌≡◌, ◌<◌, ◌≤◌, ◌^◌, [], 
 ghost use Rattle.kr_defs.specs.declared.limits.TheConstants.{IMAGE_BATCH as most};
 ghost use Rattle.kr_defs.specs.declared.record.Item.{Item as AnyItem};
 ghost use Rattle.kr_record.specs.RecordRanges.{IsHeld};
-ghost use Rattle.kr_snapshot.specs.Writer.{IsSound, MayAdd, Puts, Adds, body_with, count_of, text_of};
+ghost use Rattle.kr_snapshot.specs.inner.Writer.{IsSound, MayAdd, Puts, Adds, body_with, count_of, text_of};
 ghost use Rattle.kr_snapshot.specs.ImageText.{batch_of_group};
 
 use kr_base::NoMemory;

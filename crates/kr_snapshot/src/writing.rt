@@ -8,8 +8,8 @@ ghost use Rattle.kr_defs.specs.Records.{records_of};
 ghost use Rattle.kr_record.specs.RecordRanges.{IsHeld};
 ghost use Rattle.kr_store.specs.Images.{image_at};
 ghost use Rattle.kr_snapshot.specs.Grammar.{IsImage};
-ghost use Rattle.kr_snapshot.specs.StoreImage.{image_or_empty};
-ghost use Rattle.kr_snapshot.specs.Writer.{Adds, MayAdd};
+ghost use Rattle.kr_snapshot.specs.inner.StoreImage.{image_or_empty};
+ghost use Rattle.kr_snapshot.specs.inner.Writer.{Adds, MayAdd};
 ghost use Rattle.kr_snapshot.specs.ImageText.{batches_bytes, chunks, head_bytes, image_text};
 ghost use Rattle.kr_snapshot.specs.declared.fault.SnapFault.TheVariants as faults;
 

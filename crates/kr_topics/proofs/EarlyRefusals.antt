@@ -45,8 +45,8 @@ use Rattle.kr_calls.proofs.BrokersLeft.{AreBrokerless, all_leave, creates, grows
 use Rattle.kr_calls.proofs.KeptByRequests.{Keeps, one_keeps}
 use Rattle.kr_calls.proofs.DecisionMeanings.{applied_in_two}
 use Rattle.kr_place.specs.Placing.{Grouped, grouped}
-use Rattle.kr_topics.specs.EntryRules as room
-use Rattle.kr_topics.specs.EntryRules.{has_room}
+use Rattle.kr_topics.specs.inner.EntryRules as room
+use Rattle.kr_topics.specs.inner.EntryRules.{has_room}
 
 -- ---- Apply adds one partition at a time
 

@@ -18,7 +18,7 @@ use Rattle.kr_calls.specs.Metadata.{broker_of, brokers_of, is_online, named, new
 use Rattle.kr_defs.proofs.Tests.{not_false, not_true}
 use Rattle.kr_gather.proofs.Parts.{given_parts}
 use Rattle.kr_rules.proofs.SingleEntries.{here_of}
-use Rattle.kr_topics.specs.NamedTopics.{Marks}
+use Rattle.kr_topics.specs.inner.NamedTopics.{Marks}
 
 -- ---- what was named so far
 

@@ -13,7 +13,7 @@ use Rattle.kr_calls.specs.declared.topics.CreatePartitionsAssignment.{CreatePart
 use Rattle.kr_calls.specs.NewPartitions.{new_partitions}
 use Rattle.kr_place.specs.Placing.{Grouped, placed_in}
 use Rattle.kr_rules.proofs.SingleEntries.{here_of}
-use Rattle.kr_topics.specs.EntryRules.{placements_on}
+use Rattle.kr_topics.specs.inner.EntryRules.{placements_on}
 
 pub range_step : (i end : ℕ) → i < end → range_with_len i (end - i) ≡ i ∷ range_with_len (i + 1) (end - (i + 1))
 range_step i end lt = let e : end - i ≡ suc (end - (i + 1)) = omega arith in ap (range_with_len i) e

@@ -17,7 +17,7 @@ use Rattle.kr_defs.proofs.Walks.{get_other}
 use Rattle.kr_calls.specs.declared.topics.CreatableTopicConfig.{CreatableTopicConfig}
 use Rattle.kr_calls.specs.CreateTopics.{settings_records}
 use Rattle.kr_rules.proofs.SingleEntries.{here_of}
-use Rattle.kr_topics.specs.TopicSettings.{key_of, value_before, value_of, is_old}
+use Rattle.kr_topics.specs.inner.TopicSettings.{key_of, value_before, value_of, is_old}
 
 pub mirrored : (r : Ordering) → r ≡ ordering_reverse r → r ≡ Equal
 mirrored Less e = absurd cc

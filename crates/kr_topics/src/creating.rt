@@ -17,7 +17,7 @@ ghost use Rattle.kr_calls.specs.Refuse.{refused_creation};
 ghost use Rattle.kr_rules.specs.Progress.{place_of, work_at};
 ghost use Rattle.kr_rules.specs.Refusals.{Judges};
 ghost use Rattle.kr_store.specs.Images.{last_image, last_kept};
-ghost use Rattle.kr_topics.specs.EntryRules as room;
+ghost use Rattle.kr_topics.specs.inner.EntryRules as room;
 
 use crate::assigning::{are_assignable, first_size, lists_of};
 use crate::partitions::{Lists, add_partitions, has_room, placements, start_of};

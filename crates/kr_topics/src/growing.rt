@@ -14,8 +14,8 @@ ghost use Rattle.kr_calls.specs.Refuse.{refused_growth};
 ghost use Rattle.kr_rules.specs.Progress.{place_of, work_at};
 ghost use Rattle.kr_rules.specs.Refusals.{Judges};
 ghost use Rattle.kr_store.specs.Images.{last_image, last_kept};
-ghost use Rattle.kr_topics.specs.EntryRules as room;
-ghost use Rattle.kr_topics.specs.EntryRules.{has_room};
+ghost use Rattle.kr_topics.specs.inner.EntryRules as room;
+ghost use Rattle.kr_topics.specs.inner.EntryRules.{has_room};
 
 use crate::partitions::{
     Lists, add_partitions, has_room, is_wide, placements, start_of, target_len,

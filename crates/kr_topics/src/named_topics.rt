@@ -5,7 +5,7 @@ ghost use Rattle.std.specs.List.{list_any};
 ghost use Rattle.kr_defs.specs.Guard.{and_then};
 ghost use Rattle.kr_calls.specs.Metadata as shows;
 ghost use Rattle.kr_store.specs.Reads.{seen_at};
-ghost use Rattle.kr_topics.specs.NamedTopics.{Marks};
+ghost use Rattle.kr_topics.specs.inner.NamedTopics.{Marks};
 
 use crate::naming::is_named_once;
 use crate::topic_rows::{refusal_row, topic_row};

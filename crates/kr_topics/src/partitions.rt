@@ -11,7 +11,7 @@ ghost use Rattle.kr_defs.specs.Partition.{target};
 ghost use Rattle.kr_calls.specs.NewPartitions.{is_assignable, new_partitions};
 ghost use Rattle.kr_place.specs.Placing.{placed_in};
 ghost use Rattle.kr_rules.specs.Progress.{place_of};
-ghost use Rattle.kr_topics.specs.EntryRules.{has_room};
+ghost use Rattle.kr_topics.specs.inner.EntryRules.{has_room};
 
 use kr_base::NoMemory;
 use kr_defs::limits::MOST_PARTITIONS;

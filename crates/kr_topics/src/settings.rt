@@ -8,8 +8,8 @@ ghost use Rattle.kr_defs.specs.Apply.{topic_kind};
 ghost use Rattle.kr_defs.specs.Map as entries;
 ghost use Rattle.kr_defs.specs.Map.{text_order};
 ghost use Rattle.kr_calls.specs.CreateTopics as creations;
-ghost use Rattle.kr_topics.specs.TopicSettings as given_settings;
-ghost use Rattle.kr_topics.specs.TopicSettings.{is_old};
+ghost use Rattle.kr_topics.specs.inner.TopicSettings as given_settings;
+ghost use Rattle.kr_topics.specs.inner.TopicSettings.{is_old};
 
 use kr_base::NoMemory;
 use kr_calls::CreatableTopicConfig;

@@ -1,5 +1,5 @@
 use Rattle.kr_defs.proofs.TopicWalks.{group_next, group_end, group_none}
-use Rattle.kr_snapshot.specs.StoreImage.{image_or_empty}
+use Rattle.kr_snapshot.specs.inner.StoreImage.{image_or_empty}
 use Rattle.kr_snapshot.proofs.walking.next_of.Goals as goal
 
 pub returns-then-key-after-clause-next : goal.returns-then-key-after-clause-next

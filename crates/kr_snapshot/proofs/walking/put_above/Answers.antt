@@ -1,6 +1,6 @@
 use Rattle.std.proofs.Common.{[], ◌∷◌, length, ap, arith, refl}
 use Rattle.std.specs.Prelude.{map}
-use Rattle.kr_snapshot.specs.EntryRecords.{partition_record}
+use Rattle.kr_snapshot.specs.inner.EntryRecords.{partition_record}
 use Rattle.kr_snapshot.proofs.WriterRecords.{amid_may, amid_more, amid_end}
 use Rattle.kr_snapshot.proofs.walking.put_above.Goals as goal
 

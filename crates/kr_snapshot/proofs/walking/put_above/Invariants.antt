@@ -2,9 +2,9 @@ use Rattle.std.proofs.Common.{length, Some}
 use Rattle.std.specs.Prelude.{map}
 use Rattle.kr_defs.specs.Map.{above, partition_order}
 use Rattle.kr_defs.specs.Walk.{of_topic}
-use Rattle.kr_snapshot.specs.StoreImage.{image_or_empty}
-use Rattle.kr_snapshot.specs.EntryRecords.{partition_record}
-use Rattle.kr_snapshot.specs.Writer.{IsAmid}
+use Rattle.kr_snapshot.specs.inner.StoreImage.{image_or_empty}
+use Rattle.kr_snapshot.specs.inner.EntryRecords.{partition_record}
+use Rattle.kr_snapshot.specs.inner.Writer.{IsAmid}
 use Rattle.kr_snapshot.proofs.walking.put_above.Given as goal
 
 abbrev pub invariant-loop-key : goal.invariant-loop-key

@@ -3,9 +3,9 @@ use Rattle.std.specs.Prelude.{map}
 use Rattle.std.specs.Option.{option_copied}
 use Rattle.std.specs.Ordering.{int_cmp}
 use Rattle.kr_defs.specs.Map.{above}
-use Rattle.kr_snapshot.specs.StoreImage.{image_or_empty}
-use Rattle.kr_snapshot.specs.EntryRecords.{broker_record}
-use Rattle.kr_snapshot.specs.Writer.{IsAmid}
+use Rattle.kr_snapshot.specs.inner.StoreImage.{image_or_empty}
+use Rattle.kr_snapshot.specs.inner.EntryRecords.{broker_record}
+use Rattle.kr_snapshot.specs.inner.Writer.{IsAmid}
 use Rattle.kr_snapshot.proofs.walking.put_brokers.Given as goal
 
 abbrev pub invariant-loop-id : goal.invariant-loop-id

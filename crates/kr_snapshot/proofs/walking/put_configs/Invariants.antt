@@ -2,9 +2,9 @@ use Rattle.std.proofs.Common.{length}
 use Rattle.std.specs.Prelude.{map}
 use Rattle.std.specs.Option.{option_copied}
 use Rattle.kr_defs.specs.Map.{above, config_order}
-use Rattle.kr_snapshot.specs.StoreImage.{image_or_empty}
-use Rattle.kr_snapshot.specs.EntryRecords.{config_record}
-use Rattle.kr_snapshot.specs.Writer.{IsAmid}
+use Rattle.kr_snapshot.specs.inner.StoreImage.{image_or_empty}
+use Rattle.kr_snapshot.specs.inner.EntryRecords.{config_record}
+use Rattle.kr_snapshot.specs.inner.Writer.{IsAmid}
 use Rattle.kr_snapshot.proofs.walking.put_configs.Given as goal
 
 abbrev pub invariant-loop-key : goal.invariant-loop-key

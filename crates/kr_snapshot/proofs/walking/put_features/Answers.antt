@@ -2,8 +2,8 @@ use Rattle.std.proofs.Common.{[], ◌∷◌}
 use Rattle.std.specs.Option.{option_copied}
 use Rattle.kr_defs.proofs.ImageParts.{text_total}
 use Rattle.kr_defs.proofs.Walks.{walk_less}
-use Rattle.kr_snapshot.specs.StoreImage.{image_or_empty}
-use Rattle.kr_snapshot.specs.EntryRecords.{feature_record}
+use Rattle.kr_snapshot.specs.inner.StoreImage.{image_or_empty}
+use Rattle.kr_snapshot.specs.inner.EntryRecords.{feature_record}
 use Rattle.kr_snapshot.proofs.WriterRecords.{amid_may, amid_more, amid_end, walk_left, walk_done}
 use Rattle.kr_snapshot.proofs.walking.put_features.Goals as goal
 

@@ -2,9 +2,9 @@ use Rattle.std.proofs.Common.{length}
 use Rattle.std.specs.Prelude.{map}
 use Rattle.std.specs.Option.{option_copied}
 use Rattle.kr_defs.specs.Map.{above, text_order}
-use Rattle.kr_snapshot.specs.StoreImage.{image_or_empty}
-use Rattle.kr_snapshot.specs.EntryRecords.{feature_record}
-use Rattle.kr_snapshot.specs.Writer.{IsAmid}
+use Rattle.kr_snapshot.specs.inner.StoreImage.{image_or_empty}
+use Rattle.kr_snapshot.specs.inner.EntryRecords.{feature_record}
+use Rattle.kr_snapshot.specs.inner.Writer.{IsAmid}
 use Rattle.kr_snapshot.proofs.walking.put_features.Given as goal
 
 abbrev pub invariant-loop-name : goal.invariant-loop-name

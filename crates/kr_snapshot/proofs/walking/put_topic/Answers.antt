@@ -6,8 +6,8 @@ use Rattle.kr_defs.specs.declared.record.Record.{Record}
 use Rattle.kr_defs.specs.declared.record.Record.TheVariants as kinds
 use Rattle.kr_defs.specs.Map.{above, partition_order}
 use Rattle.kr_defs.specs.Walk.{of_topic}
-use Rattle.kr_snapshot.specs.StoreImage.{image_or_empty}
-use Rattle.kr_snapshot.specs.EntryRecords.{partition_record}
+use Rattle.kr_snapshot.specs.inner.StoreImage.{image_or_empty}
+use Rattle.kr_snapshot.specs.inner.EntryRecords.{partition_record}
 use Rattle.kr_snapshot.proofs.WriterRecords.{amid_start, amid_may, amid_more, amid_end, topic_parts}
 use Rattle.kr_snapshot.proofs.walking.put_topic.Goals as goal
 

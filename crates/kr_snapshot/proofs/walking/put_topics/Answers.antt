@@ -5,7 +5,7 @@ use Rattle.kr_defs.specs.Map.{above, text_order}
 use Rattle.kr_defs.specs.Records.{topic_records}
 use Rattle.kr_defs.proofs.ImageParts.{text_total}
 use Rattle.kr_defs.proofs.Walks.{walk_less, walk_next, walk_end}
-use Rattle.kr_snapshot.specs.StoreImage.{image_or_empty}
+use Rattle.kr_snapshot.specs.inner.StoreImage.{image_or_empty}
 use Rattle.kr_snapshot.proofs.WriterRecords.{amid_may, amid_more, amid_end}
 use Rattle.kr_snapshot.proofs.Lookups.{topic_found, no_topic_left}
 use Rattle.kr_snapshot.proofs.walking.put_topics.Goals as goal

@@ -3,8 +3,8 @@ use Rattle.std.specs.Prelude.{flat_map}
 use Rattle.std.specs.Option.{option_copied}
 use Rattle.kr_defs.specs.Map.{above, text_order}
 use Rattle.kr_defs.specs.Records.{topic_records}
-use Rattle.kr_snapshot.specs.StoreImage.{image_or_empty}
-use Rattle.kr_snapshot.specs.Writer.{IsAmid}
+use Rattle.kr_snapshot.specs.inner.StoreImage.{image_or_empty}
+use Rattle.kr_snapshot.specs.inner.Writer.{IsAmid}
 use Rattle.kr_snapshot.proofs.walking.put_topics.Given as goal
 
 abbrev pub invariant-loop-name : goal.invariant-loop-name

@@ -1,5 +1,5 @@
 use Rattle.std.proofs.lemmas.Result.{IfOk-weaker}
-use Rattle.kr_snapshot.specs.StoreImage.{image_or_empty}
+use Rattle.kr_snapshot.specs.inner.StoreImage.{image_or_empty}
 use Rattle.kr_snapshot.proofs.WriterRecords.{all_bytes, all_count}
 use Rattle.kr_snapshot.proofs.SmallRecords.{may_begin}
 use Rattle.kr_snapshot.proofs.writing.batches.Goals as goal

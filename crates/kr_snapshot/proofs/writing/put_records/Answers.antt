@@ -1,7 +1,7 @@
 use Rattle.std.proofs.Common.{[], ◌++◌, sym, refl}
 use Rattle.std.proofs.lemmas.List.{append-nil}
 use Rattle.std.proofs.lemmas.Result.{on_ok_weaker}
-use Rattle.kr_snapshot.specs.StoreImage.{image_or_empty}
+use Rattle.kr_snapshot.specs.inner.StoreImage.{image_or_empty}
 use Rattle.kr_snapshot.proofs.WriterRecords.{amid_start, amid_may, amid_more, amid_end}
 use Rattle.kr_snapshot.proofs.SmallRecords.{features, brokers, topics, configs, in_sections}
 use Rattle.kr_snapshot.proofs.writing.put_records.Goals as goal

@@ -2,7 +2,7 @@ use Rattle.std.proofs.Common.{◌∙◌, ap}
 use Rattle.std.proofs.lemmas.Result.{IfOk-weaker}
 use Rattle.kr_calls.specs.Deciding.{Work, begun, after_all, answers, unless_validating}
 use Rattle.kr_calls.specs.Refuse.{refused_creation}
-use Rattle.kr_topics.specs.EntryRules.{creation}
+use Rattle.kr_topics.specs.inner.EntryRules.{creation}
 use Rattle.kr_topics.proofs.EarlyRefusals.{creations, creation_answers}
 use Rattle.kr_topics.proofs.creating.decide_creations.Goals as goal
 

@@ -2,7 +2,7 @@ use Rattle.std.proofs.Common.{◌∙◌, ap}
 use Rattle.std.proofs.lemmas.Result.{IfOk-weaker}
 use Rattle.kr_calls.specs.Deciding.{Work, begun, after_all, answers, unless_validating}
 use Rattle.kr_calls.specs.Refuse.{refused_growth}
-use Rattle.kr_topics.specs.EntryRules.{growth}
+use Rattle.kr_topics.specs.inner.EntryRules.{growth}
 use Rattle.kr_topics.proofs.EarlyRefusals.{growths, growth_answers}
 use Rattle.kr_topics.proofs.growing.decide_growths.Goals as goal
 

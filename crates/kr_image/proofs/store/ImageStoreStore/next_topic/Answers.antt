@@ -1,7 +1,7 @@
 use Rattle.std.proofs.Common.{◌≡◌, refl, true, false}
 use Rattle.std.specs.Option.{option_copied}
 use Rattle.kr_store.specs.Images.{topics_at}
-use Rattle.kr_image.specs.TimelineMaps.{entries_at}
+use Rattle.kr_image.specs.inner.TimelineMaps.{entries_at}
 use Rattle.kr_image.proofs.Places.{index_seen, names_seen, none_walked, not_walked, walked, walked_nowhere}
 use Rattle.kr_image.proofs.store.ImageStoreStore.next_topic.Goals as goal
 

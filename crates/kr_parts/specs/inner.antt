@@ -1,0 +1,2 @@
+pub mod EpochReports
+pub mod NamedLeader

@@ -1,0 +1,3 @@
+pub mod EntryRecords
+pub mod StoreImage
+pub mod Writer

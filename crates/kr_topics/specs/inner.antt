@@ -1,0 +1,3 @@
+pub mod EntryRules
+pub mod NamedTopics
+pub mod TopicSettings
