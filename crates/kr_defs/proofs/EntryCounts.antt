@@ -77,7 +77,7 @@ module _ {K V : Type 0} {R : K → K → Ordering} (o : IsTotalOrder R) where
       let later = sum_by-cons f e (insert R es k v) in
       let more = sum-set f congr es k v s.1 in
       elim (R k e.0) as (λ r. R k e.0 ≡ r → sum_by f (match_ordering r ((k, v) ∷ e ∷ es) ((e.0, v) ∷ es) (e ∷ insert_entry R es k v)) + unwrap_or (option_map (λ old. f (k, old)) (cond (is_eq r) (Some e.1) (get R es k))) 0 ≡ sum_by f (e ∷ es) + f (k, v)) [
-        | Less ↦ λ is. let none : get R es k ≡ None = none_below es k (below_all o k e.0 (keys_of es) is s.0) in
+        | Less ↦ λ is. let none : get R es k ≡ None = none_below o es k (below_all o k e.0 (keys_of es) is s.0) in
             let nothing : unwrap_or (option_map (λ (old : V). f (k, old)) (get R es k)) 0 ≡ 0 = ap (λ (g : Option V). unwrap_or (option_map (λ old. f (k, old)) g) 0) none in
             omega (arith, all, first, nothing)
         | Equal ↦ λ is. let same = congr k e.0 e.1 is in let same' = congr k e.0 v is in omega (arith, all, there, same, same')

@@ -3,9 +3,7 @@ use Rattle.std.proofs.Common.{◌≡◌, ◌∙◌, ◌<◌, ◌+◌, ℕ, true,
 use Rattle.std.specs.Prelude.{Some, bytes_eq}
 use Rattle.std.specs.declared.cmp.Ordering.{Ordering}
 use Rattle.std.specs.declared.cmp.Ordering.TheVariants.{Less, Equal, Greater}
-use Rattle.std.specs.Ordering.{is_eq, match_ordering, ordering_reverse}
-use Rattle.std.specs.BTreeMap.{insert_entry}
-use Rattle.std.specs.Cmp.{IsTotalOrder}
+use Rattle.std.specs.Ordering.{is_eq, ordering_reverse}
 use Rattle.std.specs.Option.{option_map_or, option_or}
 use Rattle.kr_defs.specs.declared.record.ConfigKey.{ConfigKey}
 use Rattle.kr_defs.specs.declared.record.Record.{Record}
@@ -13,9 +11,9 @@ use Rattle.kr_defs.specs.declared.record.Record.TheVariants as kinds
 use Rattle.kr_defs.specs.Apply.{topic_kind}
 use Rattle.kr_defs.specs.Map.{get, insert, text_order, config_order}
 use Rattle.kr_defs.proofs.ImageParts.{text_total, config_total}
-use Rattle.kr_defs.proofs.Walks.{get_other}
 use Rattle.kr_calls.specs.declared.topics.CreatableTopicConfig.{CreatableTopicConfig}
 use Rattle.kr_calls.specs.CreateTopics.{settings_records}
+use Rattle.kr_rules.proofs.KeyLookups.{get_inserted}
 use Rattle.kr_rules.proofs.SingleEntries.{here_of}
 use Rattle.kr_topics.specs.inner.TopicSettings.{key_of, value_before, value_of, is_old}
 
@@ -23,25 +21,6 @@ pub mirrored : (r : Ordering) → r ≡ ordering_reverse r → r ≡ Equal
 mirrored Less e = absurd cc
 mirrored Equal e = refl
 mirrored Greater e = absurd cc
-
-module _ {K V : Type 0} {R : K → K → Ordering} (o : IsTotalOrder R) where
-  get_own : (es : List (K × V)) (k q : K) (v : V) → R q k ≡ Equal → get R (insert R es k v) q ≡ Some v
-  get_own [] k q v is = rw is refl
-  get_own (e ∷ es) k q v is =
-      elim (R k e.0) as (λ r. R k e.0 ≡ r → get R (match_ordering r ((k, v) ∷ e ∷ es) ((e.0, v) ∷ es) (e ∷ insert_entry R es k v)) q ≡ Some v) [
-        | Less ↦ λ at. rw is refl
-        | Equal ↦ λ at. rw (o.congr q k e.0 is ∙ at) refl
-        | Greater ↦ λ at. rw (o.congr q k e.0 is ∙ at) (get_own es k q v is)
-      ] refl
-
-  -- what stands at a key after an insertion
-  pub get_inserted : (es : List (K × V)) (k q : K) (v : V) → get R (insert R es k v) q ≡ cond (is_eq (R q k)) (Some v) (get R es q)
-  get_inserted es k q v =
-      elim (R q k) as (λ r. R q k ≡ r → get R (insert R es k v) q ≡ cond (is_eq r) (Some v) (get R es q)) [
-        | Less ↦ λ is. get_other o es k q v (ap is_eq is)
-        | Equal ↦ λ is. get_own es k q v is
-        | Greater ↦ λ is. get_other o es k q v (ap is_eq is)
-      ] refl
 
 keys_alike : (topic q k : List ℕ) → config_order (key_of topic q) (key_of topic k) ≡ text_order q k
 keys_alike topic q k = rw (mirrored (text_order topic topic) (text_total.antisymm topic topic)) refl
