@@ -16,8 +16,8 @@ use Rattle.kr_defs.proofs.Tests.{both}
 use Rattle.kr_calls.specs.declared.topics.CreatableReplicaAssignment.{CreatableReplicaAssignment}
 use Rattle.kr_calls.specs.CreateTopics.{assigned_at, are_assignable, first_size}
 use Rattle.kr_calls.specs.NewPartitions.{is_assignable}
+use Rattle.kr_rules.proofs.KeyLookups.{get_inserted}
 use Rattle.kr_rules.proofs.SingleEntries.{here_of}
-use Rattle.kr_topics.proofs.TopicSettings.{get_inserted}
 use Rattle.kr_topics.proofs.Placements.{range_step}
 
 abbrev pub at_index : List CreatableReplicaAssignment → ℤ → Option (List ℤ)
