@@ -1,5 +1,5 @@
 -- Reading a record from the front of some bytes: the value and the bytes after it, or the first fault.
-use Rattle.std.specs.Prelude.{ℕ, ℤ, pos, Bool, false, not, List, [], ◌∷◌, length, Option, None, Result, Ok, Err, ◌==◌, nat_lt, nat_le, if◌then◌else◌, cond}
+use Rattle.std.specs.Prelude.{ℕ, ℤ, pos, Bool, false, not, List, [], ◌∷◌, length, Option, Some, None, Result, Ok, Err, ◌==◌, nat_lt, nat_le, if◌then◌else◌, cond}
 use Rattle.std.specs.Option.{unwrap_or}
 use Rattle.std.specs.Int.{w8, w16, w32, w64}
 use Rattle.kr_defs.specs.declared.broker.Broker.{Broker}
@@ -15,6 +15,7 @@ use Rattle.kr_record.specs.declared.fault.RecordFault.{RecordFault}
 use Rattle.kr_record.specs.declared.fault.RecordFault.TheVariants as faults
 use Rattle.kr_record.specs.declared.flags.Flags.{Flags}
 use Rattle.kr_record.specs.declared.partition.Extras.{Extras}
+use Rattle.kr_record.specs.Answers.{GivesField}
 use Rattle.kr_record.specs.Grammar.{unless, no_leader_change, no_recovery_change}
 
 -- ---- parts
@@ -202,30 +203,46 @@ abbrev pub wired : {X : Type 0} → Result X WireFault → Result X RecordFault
 wired (Ok x) = Ok x
 wired (Err fault) = Err (faults.Wire fault)
 
--- a kind that has the versions up to the newest
-abbrev pub versioned : ℕ → ℕ → ℕ → Read Record → Result (Record × List ℕ) RecordFault
-versioned newest key version read = refuse (faults.UnknownVersion key version) when nat_lt newest version else wired read
-
 -- the record of a layout that was read
 abbrev pub as_record : {X : Type 0} → (X → Record) → Read X → Read Record
 as_record kind read = read >>= λ x. Ok (kind x.0, x.1)
 
+-- what a reader of a kind answers
+abbrev pub ReadsKind : {X : Type 0} → Result (Record × ℕ) RecordFault → List ℕ → (X → Record) → Read X → Type 0
+ReadsKind answer bytes kind read = GivesField answer bytes (wired (as_record kind read))
+
+-- the newest version of the kind with the key
+abbrev pub newest_of : ℕ → Option ℕ
+newest_of key =
+    if key == 0 then Some 1 else if key == 1 then Some 0 else if key == 2 then Some 0 else if key == 3 then Some 2 else
+    if key == 4 then Some 0 else if key == 5 then Some 2 else if key == 7 then Some 0 else if key == 8 then Some 0 else
+    if key == 9 then Some 0 else if key == 12 then Some 0 else if key == 17 then Some 1 else if key == 20 then Some 0 else None
+
+-- the version isn't among those up to the newest
+abbrev pub is_newer : Option ℕ → ℕ → Bool
+is_newer None version = false
+is_newer (Some newest) version = nat_lt newest version
+
+-- the layout of a kind, in a version that it has
+unfoldable pub kind_at : ℕ → ℕ → List ℕ → Result (Record × List ℕ) RecordFault
+kind_at key version bytes =
+    if key == 0 then wired (as_record (λ t. kinds.RegisterBroker t.0 t.1) (registration_at version bytes)) else
+    if key == 1 then wired (as_record (λ t. kinds.UnregisterBroker t.0 t.1) (broker_epoch_at bytes)) else
+    if key == 2 then wired (as_record (λ t. kinds.Topic t.0 t.1) (topic_at bytes)) else
+    if key == 3 then wired (as_record (λ t. kinds.Partition t.0 t.1 t.2) (partition_at version bytes)) else
+    if key == 4 then wired (as_record (λ t. kinds.Config t.0 t.1 t.2 t.3) (config_at bytes)) else
+    if key == 5 then wired (as_record (λ t. kinds.PartitionChange t.0 t.1 t.2) (change_at version bytes)) else
+    if key == 7 then wired (as_record (λ t. kinds.FenceBroker t.0 t.1) (broker_epoch_at bytes)) else
+    if key == 8 then wired (as_record (λ t. kinds.UnfenceBroker t.0 t.1) (broker_epoch_at bytes)) else
+    if key == 9 then wired (as_record (λ t. kinds.RemoveTopic t) (topic_id_at bytes)) else
+    if key == 12 then wired (as_record (λ t. kinds.FeatureLevel t.0 t.1) (feature_at bytes)) else
+    if key == 17 then wired (as_record (λ t. kinds.BrokerRegistrationChange t.0 t.1 t.2.fenced t.2.stopping) (registration_change_at version bytes)) else
+    if key == 20 then wired (as_record (λ t. kinds.NoOp) (no_tags_at bytes)) else
+    Err (faults.UnknownKey key)
+
 -- the layout of a kind and version
 unfoldable pub layout_at : ℕ → ℕ → List ℕ → Result (Record × List ℕ) RecordFault
-layout_at key version bytes =
-    if key == 0 then versioned 1 key version (as_record (λ t. kinds.RegisterBroker t.0 t.1) (registration_at version bytes)) else
-    if key == 1 then versioned 0 key version (as_record (λ t. kinds.UnregisterBroker t.0 t.1) (broker_epoch_at bytes)) else
-    if key == 2 then versioned 0 key version (as_record (λ t. kinds.Topic t.0 t.1) (topic_at bytes)) else
-    if key == 3 then versioned 2 key version (as_record (λ t. kinds.Partition t.0 t.1 t.2) (partition_at version bytes)) else
-    if key == 4 then versioned 0 key version (as_record (λ t. kinds.Config t.0 t.1 t.2 t.3) (config_at bytes)) else
-    if key == 5 then versioned 2 key version (as_record (λ t. kinds.PartitionChange t.0 t.1 t.2) (change_at version bytes)) else
-    if key == 7 then versioned 0 key version (as_record (λ t. kinds.FenceBroker t.0 t.1) (broker_epoch_at bytes)) else
-    if key == 8 then versioned 0 key version (as_record (λ t. kinds.UnfenceBroker t.0 t.1) (broker_epoch_at bytes)) else
-    if key == 9 then versioned 0 key version (as_record (λ t. kinds.RemoveTopic t) (topic_id_at bytes)) else
-    if key == 12 then versioned 0 key version (as_record (λ t. kinds.FeatureLevel t.0 t.1) (feature_at bytes)) else
-    if key == 17 then versioned 1 key version (as_record (λ t. kinds.BrokerRegistrationChange t.0 t.1 t.2.fenced t.2.stopping) (registration_change_at version bytes)) else
-    if key == 20 then versioned 0 key version (as_record (λ t. kinds.NoOp) (no_tags_at bytes)) else
-    Err (faults.UnknownKey key)
+layout_at key version bytes = refuse (faults.UnknownVersion key version) when is_newer (newest_of key) version else kind_at key version bytes
 
 unfoldable pub record_at : List ℕ → Result (Record × List ℕ) RecordFault
 record_at bytes = do

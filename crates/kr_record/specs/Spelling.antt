@@ -143,16 +143,34 @@ registration_change broker epoch fenced stopping = signed w32 broker ++ signed w
 unfoldable pub framed : ℕ → ℕ → List ℕ
 framed key version = uvarint 1 ++ uvarint key ++ uvarint version
 
+-- the key of a record's kind, and the version that is written
+abbrev pub kind_of : Record → ℕ × ℕ
+kind_of (kinds.RegisterBroker broker state) = (0, 1)
+kind_of (kinds.UnregisterBroker broker epoch) = (1, 0)
+kind_of (kinds.Topic name topic_id) = (2, 0)
+kind_of (kinds.Partition index topic state) = (3, 2)
+kind_of (kinds.Config kind name key value) = (4, 0)
+kind_of (kinds.PartitionChange index topic c) = (5, 2)
+kind_of (kinds.FenceBroker broker epoch) = (7, 0)
+kind_of (kinds.UnfenceBroker broker epoch) = (8, 0)
+kind_of (kinds.RemoveTopic topic) = (9, 0)
+kind_of (kinds.FeatureLevel name level) = (12, 0)
+kind_of (kinds.BrokerRegistrationChange broker epoch fenced stopping) = (17, 1)
+kind_of kinds.NoOp = (20, 0)
+
+abbrev pub layout_of : Record → List ℕ
+layout_of (kinds.RegisterBroker broker state) = registration broker state
+layout_of (kinds.UnregisterBroker broker epoch) = broker_epoch broker epoch
+layout_of (kinds.Topic name topic_id) = topic name topic_id
+layout_of (kinds.Partition index topic state) = partition index topic state
+layout_of (kinds.Config kind name key value) = config kind name key value
+layout_of (kinds.PartitionChange index topic c) = change index topic c
+layout_of (kinds.FenceBroker broker epoch) = broker_epoch broker epoch
+layout_of (kinds.UnfenceBroker broker epoch) = broker_epoch broker epoch
+layout_of (kinds.RemoveTopic topic) = topic_id topic
+layout_of (kinds.FeatureLevel name level) = feature name level
+layout_of (kinds.BrokerRegistrationChange broker epoch fenced stopping) = registration_change broker epoch fenced stopping
+layout_of kinds.NoOp = no_tags
+
 unfoldable pub record_value : Record → List ℕ
-record_value (kinds.RegisterBroker broker state) = framed 0 1 ++ registration broker state
-record_value (kinds.UnregisterBroker broker epoch) = framed 1 0 ++ broker_epoch broker epoch
-record_value (kinds.Topic name topic_id) = framed 2 0 ++ topic name topic_id
-record_value (kinds.Partition index topic state) = framed 3 2 ++ partition index topic state
-record_value (kinds.Config kind name key value) = framed 4 0 ++ config kind name key value
-record_value (kinds.PartitionChange index topic c) = framed 5 2 ++ change index topic c
-record_value (kinds.FenceBroker broker epoch) = framed 7 0 ++ broker_epoch broker epoch
-record_value (kinds.UnfenceBroker broker epoch) = framed 8 0 ++ broker_epoch broker epoch
-record_value (kinds.RemoveTopic topic) = framed 9 0 ++ topic_id topic
-record_value (kinds.FeatureLevel name level) = framed 12 0 ++ feature name level
-record_value (kinds.BrokerRegistrationChange broker epoch fenced stopping) = framed 17 1 ++ registration_change broker epoch fenced stopping
-record_value kinds.NoOp = framed 20 0 ++ no_tags
+record_value r = framed (kind_of r).0 (kind_of r).1 ++ layout_of r

@@ -2,14 +2,15 @@
 
 ghost use Rattle.std.specs.Prelude.{◌≤◌, false, nat_le, length, drop};
 ghost use Rattle.std.specs.Option.{option_map};
+ghost use Rattle.kr_defs.specs.declared.record.Record.TheVariants as kinds;
 ghost use Rattle.kr_wire.specs.Reading.{Reads, bool_at};
 ghost use Rattle.kr_record.specs.Answers.{ReadsField};
-ghost use Rattle.kr_record.specs.Reading.{broker_epoch_at, endpoint_at, range_at, registration_at, since_at, standing_at};
+ghost use Rattle.kr_record.specs.Reading.{ReadsKind, broker_epoch_at, endpoint_at, no_tags_at, range_at, registration_at, since_at, standing_at};
 
 use crate::fault::RecordFault;
 use crate::lists::{Layout, read_list};
 use crate::texts::{read_text, text_of};
-use kr_defs::{Broker, Endpoint, Range, Rows};
+use kr_defs::{Broker, Endpoint, Range, Record, Rows};
 use kr_wire::{
     WireFault, read_bool, read_i16, read_i32, read_i64, read_id, read_text_or_null, read_u16,
     skip_tags,
@@ -78,16 +79,16 @@ fn read_standing(
     Ok(((rack, fenced, stopping), end))
 }
 
-/// The registration of a broker, and the broker.
+/// The registration of a broker, as a record.
 #[tactic(auto, unfolding(crate::specs::Reading::registration_at))]
 pub fn read_registration(
     alloc: Global,
     bytes: &[u8],
     at: usize,
     version: u32,
-) -> Result<((i32, Broker), usize), RecordFault>
+) -> Result<(Record, usize), RecordFault>
     requires { at ≤ length bytes.now }
-    ensures { ReadsField (λ t. (t.0, t.1)) result bytes.now (registration_at version (drop at bytes.now)) }
+    ensures { ReadsKind result bytes.now (λ t. kinds.RegisterBroker t.0 t.1) (registration_at version (drop at bytes.now)) }
 {
     let (broker, next) = read_i32(bytes, at)?;
     let (incarnation, next) = read_id(bytes, next)?;
@@ -105,7 +106,7 @@ pub fn read_registration(
         fenced,
         stopping,
     };
-    Ok(((broker, state), end))
+    Ok((Record::RegisterBroker { broker, state }, end))
 }
 
 // Whether the broker is stopping, which version 0 doesn't say.
@@ -119,9 +120,9 @@ fn read_stopping(bytes: &[u8], at: usize, version: u32) -> Result<(bool, usize),
     read_bool(bytes, at)
 }
 
-/// A broker and its epoch.
+// A broker and its epoch.
 #[tactic(auto, unfolding(crate::specs::Reading::broker_epoch_at))]
-pub fn read_broker_epoch(bytes: &[u8], at: usize) -> Result<((i32, i64), usize), WireFault>
+fn read_broker_epoch(bytes: &[u8], at: usize) -> Result<((i32, i64), usize), WireFault>
     requires { at ≤ length bytes.now }
     ensures { Reads (λ t. (t.0, t.1)) result bytes.now (broker_epoch_at (drop at bytes.now)) }
 {
@@ -129,4 +130,37 @@ pub fn read_broker_epoch(bytes: &[u8], at: usize) -> Result<((i32, i64), usize),
     let (epoch, next) = read_i64(bytes, next)?;
     let end = skip_tags(bytes, next)?;
     Ok(((broker, epoch), end))
+}
+
+pub fn read_unregistration(bytes: &[u8], at: usize) -> Result<(Record, usize), RecordFault>
+    requires { at ≤ length bytes.now }
+    ensures { ReadsKind result bytes.now (λ t. kinds.UnregisterBroker t.0 t.1) (broker_epoch_at (drop at bytes.now)) }
+{
+    let ((broker, epoch), end) = read_broker_epoch(bytes, at)?;
+    Ok((Record::UnregisterBroker { broker, epoch }, end))
+}
+
+pub fn read_fencing(bytes: &[u8], at: usize) -> Result<(Record, usize), RecordFault>
+    requires { at ≤ length bytes.now }
+    ensures { ReadsKind result bytes.now (λ t. kinds.FenceBroker t.0 t.1) (broker_epoch_at (drop at bytes.now)) }
+{
+    let ((broker, epoch), end) = read_broker_epoch(bytes, at)?;
+    Ok((Record::FenceBroker { broker, epoch }, end))
+}
+
+pub fn read_unfencing(bytes: &[u8], at: usize) -> Result<(Record, usize), RecordFault>
+    requires { at ≤ length bytes.now }
+    ensures { ReadsKind result bytes.now (λ t. kinds.UnfenceBroker t.0 t.1) (broker_epoch_at (drop at bytes.now)) }
+{
+    let ((broker, epoch), end) = read_broker_epoch(bytes, at)?;
+    Ok((Record::UnfenceBroker { broker, epoch }, end))
+}
+
+/// The record that says nothing.
+pub fn read_no_op(bytes: &[u8], at: usize) -> Result<(Record, usize), RecordFault>
+    requires { at ≤ length bytes.now }
+    ensures { ReadsKind result bytes.now (λ t. kinds.NoOp) (no_tags_at (drop at bytes.now)) }
+{
+    let end = skip_tags(bytes, at)?;
+    Ok((Record::NoOp, end))
 }

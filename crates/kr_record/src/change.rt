@@ -1,15 +1,16 @@
 //! Changes of partitions from bytes.
 
 ghost use Rattle.std.specs.Prelude.{◌≡◌, ◌≤◌, ◌<◌, length, drop};
+ghost use Rattle.kr_defs.specs.declared.record.Record.TheVariants as kinds;
 ghost use Rattle.kr_wire.specs.Reading.{field_of, known_in};
 ghost use Rattle.kr_record.specs.Grammar.{no_leader_change, no_recovery_change, unless};
 ghost use Rattle.kr_record.specs.Answers.{ReadsField, Sets};
-ghost use Rattle.kr_record.specs.Reading.{all_changes, change_at, changes_at, first_with_change, known_since};
+ghost use Rattle.kr_record.specs.Reading.{ReadsKind, all_changes, change_at, changes_at, first_with_change, known_since};
 
 use crate::fault::RecordFault;
 use crate::tagged::{Tagged, read_tags};
 use crate::whole::{whole_directories, whole_i8, whole_i32, whole_ids};
-use kr_defs::PartitionChange;
+use kr_defs::{PartitionChange, Record};
 use kr_wire::{read_i32, read_id};
 use std::alloc::Global;
 
@@ -164,19 +165,26 @@ fn read_changes(
     read_tags(alloc, version, bytes, at, none)
 }
 
-/// The index of a partition, its topic, and what changes.
+/// The index of a partition, its topic, and what changes, as a record.
 #[tactic(auto, unfolding(crate::specs::Reading::change_at))]
 pub fn read_change(
     alloc: Global,
     bytes: &[u8],
     at: usize,
     version: u32,
-) -> Result<((i32, u128, PartitionChange), usize), RecordFault>
+) -> Result<(Record, usize), RecordFault>
     requires { at ≤ length bytes.now }
-    ensures { ReadsField (λ t. (t.0, t.1, t.2)) result bytes.now (change_at version (drop at bytes.now)) }
+    ensures { ReadsKind result bytes.now (λ t. kinds.PartitionChange t.0 t.1 t.2) (change_at version (drop at bytes.now)) }
 {
     let (index, next) = read_i32(bytes, at)?;
     let (topic, next) = read_id(bytes, next)?;
     let (change, end) = read_changes(alloc, bytes, next, version)?;
-    Ok(((index, topic, change), end))
+    Ok((
+        Record::PartitionChange {
+            index,
+            topic,
+            change,
+        },
+        end,
+    ))
 }

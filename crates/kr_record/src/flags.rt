@@ -1,13 +1,15 @@
 //! Changes of a broker's registration.
 
 ghost use Rattle.std.specs.Prelude.{◌≡◌, ◌≤◌, length, drop};
+ghost use Rattle.kr_defs.specs.declared.record.Record.TheVariants as kinds;
 ghost use Rattle.kr_wire.specs.Reading.{field_of, known_in};
 ghost use Rattle.kr_record.specs.Answers.{ReadsField, Sets};
-ghost use Rattle.kr_record.specs.Reading.{all_flags, first_with_flag, flags_at, known_since, registration_change_at};
+ghost use Rattle.kr_record.specs.Reading.{ReadsKind, all_flags, first_with_flag, flags_at, known_since, registration_change_at};
 
 use crate::fault::RecordFault;
 use crate::tagged::{Tagged, read_tags};
 use crate::whole::whole_i8;
+use kr_defs::Record;
 use kr_wire::{read_i32, read_i64};
 use std::alloc::Global;
 
@@ -74,19 +76,27 @@ fn read_flags(
     read_tags(alloc, version, bytes, at, none)
 }
 
-/// A broker, its epoch, and what changes.
+/// A broker, its epoch, and what changes, as a record.
 #[tactic(auto, unfolding(crate::specs::Reading::registration_change_at))]
 pub fn read_registration_change(
     alloc: Global,
     bytes: &[u8],
     at: usize,
     version: u32,
-) -> Result<((i32, i64, Flags), usize), RecordFault>
+) -> Result<(Record, usize), RecordFault>
     requires { at ≤ length bytes.now }
-    ensures { ReadsField (λ t. (t.0, t.1, t.2)) result bytes.now (registration_change_at version (drop at bytes.now)) }
+    ensures { ReadsKind result bytes.now (λ t. kinds.BrokerRegistrationChange t.0 t.1 t.2.fenced t.2.stopping) (registration_change_at version (drop at bytes.now)) }
 {
     let (broker, next) = read_i32(bytes, at)?;
     let (epoch, next) = read_i64(bytes, next)?;
     let (flags, end) = read_flags(alloc, bytes, next, version)?;
-    Ok(((broker, epoch, flags), end))
+    Ok((
+        Record::BrokerRegistrationChange {
+            broker,
+            epoch,
+            fenced: flags.fenced,
+            stopping: flags.stopping,
+        },
+        end,
+    ))
 }

@@ -19,6 +19,7 @@ mod whole;
 mod writing;
 
 pub use fault::RecordFault;
+pub use held::record_is_held;
 pub use reading::decode;
 pub use theorems::{records, written_records};
 pub use writing::{append, encode};

@@ -2,15 +2,16 @@
 
 ghost use Rattle.std.specs.Prelude.{◌≡◌, ◌≤◌, [], nat_le, length, drop};
 ghost use Rattle.std.specs.Option.{unwrap_or};
+ghost use Rattle.kr_defs.specs.declared.record.Record.TheVariants as kinds;
 ghost use Rattle.kr_wire.specs.Reading.{field_of, id_at, known_in, list_at};
 ghost use Rattle.kr_record.specs.Answers.{ReadsField, Sets};
-ghost use Rattle.kr_record.specs.Reading.{all_extras, dropped_at, extras_at, first_with_extra, ids_at, known_since, led_at, partition_at, since_at};
+ghost use Rattle.kr_record.specs.Reading.{ReadsKind, all_extras, dropped_at, extras_at, first_with_extra, ids_at, known_since, led_at, partition_at, since_at};
 
 use crate::fault::RecordFault;
 use crate::lists::read_list;
 use crate::tagged::{Tagged, read_tags};
 use crate::whole::{whole_i8, whole_ids};
-use kr_defs::{Ids, Partition, Rows};
+use kr_defs::{Ids, Partition, Record, Rows};
 use kr_wire::{read_i32, read_id};
 use std::alloc::Global;
 
@@ -137,16 +138,16 @@ fn read_led(
     Ok(((leader, leader_epoch, partition_epoch, extras), end))
 }
 
-/// The index of a partition, its topic, and its state.
+/// The index of a partition, its topic, and its state, as a record.
 #[tactic(auto, unfolding(crate::specs::Reading::partition_at))]
 pub fn read_partition(
     alloc: Global,
     bytes: &[u8],
     at: usize,
     version: u32,
-) -> Result<((i32, u128, Partition), usize), RecordFault>
+) -> Result<(Record, usize), RecordFault>
     requires { at ≤ length bytes.now }
-    ensures { ReadsField (λ t. (t.0, t.1, t.2)) result bytes.now (partition_at version (drop at bytes.now)) }
+    ensures { ReadsKind result bytes.now (λ t. kinds.Partition t.0 t.1 t.2) (partition_at version (drop at bytes.now)) }
 {
     let (index, next) = read_i32(bytes, at)?;
     let (topic, next) = read_id(bytes, next)?;
@@ -169,5 +170,12 @@ pub fn read_partition(
         leader_epoch,
         partition_epoch,
     };
-    Ok(((index, topic, state), end))
+    Ok((
+        Record::Partition {
+            index,
+            topic,
+            state,
+        },
+        end,
+    ))
 }

@@ -6,223 +6,69 @@ ghost use Rattle.kr_wire.specs.Reading.{refuse◌when◌else◌};
 ghost use Rattle.kr_record.specs.declared.fault.RecordFault.TheVariants as faults;
 ghost use Rattle.kr_record.specs.Grammar.{IsRecord};
 ghost use Rattle.kr_record.specs.Answers.{Gives, GivesField};
-ghost use Rattle.kr_record.specs.Reading.{layout_at, record_of};
+ghost use Rattle.kr_record.specs.Reading;
+ghost use Rattle.kr_record.specs.Reading.{is_newer, kind_at, layout_at, record_of};
 
-use crate::broker::{read_broker_epoch, read_registration};
+use crate::broker::{
+    read_fencing, read_no_op, read_registration, read_unfencing, read_unregistration,
+};
 use crate::change::read_change;
 use crate::fault::RecordFault;
 use crate::flags::read_registration_change;
 use crate::partition::read_partition;
-use crate::topic::{read_config, read_feature, read_topic, read_topic_id};
+use crate::topic::{read_config, read_feature, read_removal, read_topic};
 use kr_defs::Record;
-use kr_wire::{read_uvarint, skip_tags};
+use kr_wire::read_uvarint;
 use std::alloc::Global;
 
-// The kind has the version.
-fn has_version(key: u32, version: u32, newest: u32) -> Result<(), RecordFault>
-    ensures { result ≡ (refuse faults.UnknownVersion key version when nat_lt newest version else Ok tt) }
+// The newest version of the kind with the key.
+fn newest_of(key: u32) -> Option<u32>
+    ensures { result ≡ Reading.newest_of key }
 {
-    if newest < version {
-        return Err(RecordFault::UnknownVersion { key, version });
+    match key {
+        3 | 5 => Some(2),
+        0 | 17 => Some(1),
+        1 | 2 | 4 | 7 | 8 | 9 | 12 | 20 => Some(0),
+        _ => None,
     }
-    Ok(())
 }
 
-#[inline(never)]
-#[tactic(auto, unfolding(crate::specs::Reading::layout_at))]
-fn register_broker(
+// A kind that there is has the version.
+fn has_version(key: u32, version: u32) -> Result<(), RecordFault>
+    ensures { result ≡ (refuse faults.UnknownVersion key version when is_newer (Reading.newest_of key) version else Ok tt) }
+{
+    match newest_of(key) {
+        Some(newest) if newest < version => Err(RecordFault::UnknownVersion { key, version }),
+        _ => Ok(()),
+    }
+}
+
+#[tactic(auto, unfolding(crate::specs::Reading::kind_at))]
+fn read_kind(
     alloc: Global,
     bytes: &[u8],
     at: usize,
+    key: u32,
     version: u32,
 ) -> Result<(Record, usize), RecordFault>
     requires { at ≤ length bytes.now }
-    ensures { GivesField result bytes.now (layout_at 0 version (drop at bytes.now)) }
+    ensures { GivesField result bytes.now (kind_at key version (drop at bytes.now)) }
 {
-    has_version(0, version, 1)?;
-    let ((broker, state), end) = read_registration(alloc, bytes, at, version)?;
-    Ok((Record::RegisterBroker { broker, state }, end))
-}
-
-#[inline(never)]
-#[tactic(auto, unfolding(crate::specs::Reading::layout_at))]
-fn unregister_broker(bytes: &[u8], at: usize, version: u32) -> Result<(Record, usize), RecordFault>
-    requires { at ≤ length bytes.now }
-    ensures { GivesField result bytes.now (layout_at 1 version (drop at bytes.now)) }
-{
-    has_version(1, version, 0)?;
-    let ((broker, epoch), end) = read_broker_epoch(bytes, at)?;
-    Ok((Record::UnregisterBroker { broker, epoch }, end))
-}
-
-#[inline(never)]
-#[tactic(auto, unfolding(crate::specs::Reading::layout_at))]
-fn topic(
-    alloc: Global,
-    bytes: &[u8],
-    at: usize,
-    version: u32,
-) -> Result<(Record, usize), RecordFault>
-    requires { at ≤ length bytes.now }
-    ensures { GivesField result bytes.now (layout_at 2 version (drop at bytes.now)) }
-{
-    has_version(2, version, 0)?;
-    let ((name, id), end) = read_topic(alloc, bytes, at)?;
-    Ok((Record::Topic { name, id }, end))
-}
-
-#[inline(never)]
-#[tactic(auto, unfolding(crate::specs::Reading::layout_at))]
-fn partition(
-    alloc: Global,
-    bytes: &[u8],
-    at: usize,
-    version: u32,
-) -> Result<(Record, usize), RecordFault>
-    requires { at ≤ length bytes.now }
-    ensures { GivesField result bytes.now (layout_at 3 version (drop at bytes.now)) }
-{
-    has_version(3, version, 2)?;
-    let ((index, topic, state), end) = read_partition(alloc, bytes, at, version)?;
-    Ok((
-        Record::Partition {
-            index,
-            topic,
-            state,
-        },
-        end,
-    ))
-}
-
-#[inline(never)]
-#[tactic(auto, unfolding(crate::specs::Reading::layout_at))]
-fn config(
-    alloc: Global,
-    bytes: &[u8],
-    at: usize,
-    version: u32,
-) -> Result<(Record, usize), RecordFault>
-    requires { at ≤ length bytes.now }
-    ensures { GivesField result bytes.now (layout_at 4 version (drop at bytes.now)) }
-{
-    has_version(4, version, 0)?;
-    let ((kind, name, key, value), end) = read_config(alloc, bytes, at)?;
-    Ok((
-        Record::Config {
-            kind,
-            name,
-            key,
-            value,
-        },
-        end,
-    ))
-}
-
-#[inline(never)]
-#[tactic(auto, unfolding(crate::specs::Reading::layout_at))]
-fn partition_change(
-    alloc: Global,
-    bytes: &[u8],
-    at: usize,
-    version: u32,
-) -> Result<(Record, usize), RecordFault>
-    requires { at ≤ length bytes.now }
-    ensures { GivesField result bytes.now (layout_at 5 version (drop at bytes.now)) }
-{
-    has_version(5, version, 2)?;
-    let ((index, topic, change), end) = read_change(alloc, bytes, at, version)?;
-    Ok((
-        Record::PartitionChange {
-            index,
-            topic,
-            change,
-        },
-        end,
-    ))
-}
-
-#[inline(never)]
-#[tactic(auto, unfolding(crate::specs::Reading::layout_at))]
-fn fence_broker(bytes: &[u8], at: usize, version: u32) -> Result<(Record, usize), RecordFault>
-    requires { at ≤ length bytes.now }
-    ensures { GivesField result bytes.now (layout_at 7 version (drop at bytes.now)) }
-{
-    has_version(7, version, 0)?;
-    let ((broker, epoch), end) = read_broker_epoch(bytes, at)?;
-    Ok((Record::FenceBroker { broker, epoch }, end))
-}
-
-#[inline(never)]
-#[tactic(auto, unfolding(crate::specs::Reading::layout_at))]
-fn unfence_broker(bytes: &[u8], at: usize, version: u32) -> Result<(Record, usize), RecordFault>
-    requires { at ≤ length bytes.now }
-    ensures { GivesField result bytes.now (layout_at 8 version (drop at bytes.now)) }
-{
-    has_version(8, version, 0)?;
-    let ((broker, epoch), end) = read_broker_epoch(bytes, at)?;
-    Ok((Record::UnfenceBroker { broker, epoch }, end))
-}
-
-#[inline(never)]
-#[tactic(auto, unfolding(crate::specs::Reading::layout_at))]
-fn remove_topic(bytes: &[u8], at: usize, version: u32) -> Result<(Record, usize), RecordFault>
-    requires { at ≤ length bytes.now }
-    ensures { GivesField result bytes.now (layout_at 9 version (drop at bytes.now)) }
-{
-    has_version(9, version, 0)?;
-    let (topic, end) = read_topic_id(bytes, at)?;
-    Ok((Record::RemoveTopic { topic }, end))
-}
-
-#[inline(never)]
-#[tactic(auto, unfolding(crate::specs::Reading::layout_at))]
-fn feature_level(
-    alloc: Global,
-    bytes: &[u8],
-    at: usize,
-    version: u32,
-) -> Result<(Record, usize), RecordFault>
-    requires { at ≤ length bytes.now }
-    ensures { GivesField result bytes.now (layout_at 12 version (drop at bytes.now)) }
-{
-    has_version(12, version, 0)?;
-    let ((name, level), end) = read_feature(alloc, bytes, at)?;
-    Ok((Record::FeatureLevel { name, level }, end))
-}
-
-#[inline(never)]
-#[tactic(auto, unfolding(crate::specs::Reading::layout_at))]
-fn broker_registration_change(
-    alloc: Global,
-    bytes: &[u8],
-    at: usize,
-    version: u32,
-) -> Result<(Record, usize), RecordFault>
-    requires { at ≤ length bytes.now }
-    ensures { GivesField result bytes.now (layout_at 17 version (drop at bytes.now)) }
-{
-    has_version(17, version, 1)?;
-    let ((broker, epoch, flags), end) = read_registration_change(alloc, bytes, at, version)?;
-    Ok((
-        Record::BrokerRegistrationChange {
-            broker,
-            epoch,
-            fenced: flags.fenced,
-            stopping: flags.stopping,
-        },
-        end,
-    ))
-}
-
-#[inline(never)]
-#[tactic(auto, unfolding(crate::specs::Reading::layout_at))]
-fn no_op(bytes: &[u8], at: usize, version: u32) -> Result<(Record, usize), RecordFault>
-    requires { at ≤ length bytes.now }
-    ensures { GivesField result bytes.now (layout_at 20 version (drop at bytes.now)) }
-{
-    has_version(20, version, 0)?;
-    let end = skip_tags(bytes, at)?;
-    Ok((Record::NoOp, end))
+    match key {
+        0 => read_registration(alloc, bytes, at, version),
+        1 => read_unregistration(bytes, at),
+        2 => read_topic(alloc, bytes, at),
+        3 => read_partition(alloc, bytes, at, version),
+        4 => read_config(alloc, bytes, at),
+        5 => read_change(alloc, bytes, at, version),
+        7 => read_fencing(bytes, at),
+        8 => read_unfencing(bytes, at),
+        9 => read_removal(bytes, at),
+        12 => read_feature(alloc, bytes, at),
+        17 => read_registration_change(alloc, bytes, at, version),
+        20 => read_no_op(bytes, at),
+        _ => Err(RecordFault::UnknownKey { key }),
+    }
 }
 
 #[tactic(auto, unfolding(crate::specs::Reading::layout_at))]
@@ -236,21 +82,8 @@ fn read_layout(
     requires { at ≤ length bytes.now }
     ensures { GivesField result bytes.now (layout_at key version (drop at bytes.now)) }
 {
-    match key {
-        0 => register_broker(alloc, bytes, at, version),
-        1 => unregister_broker(bytes, at, version),
-        2 => topic(alloc, bytes, at, version),
-        3 => partition(alloc, bytes, at, version),
-        4 => config(alloc, bytes, at, version),
-        5 => partition_change(alloc, bytes, at, version),
-        7 => fence_broker(bytes, at, version),
-        8 => unfence_broker(bytes, at, version),
-        9 => remove_topic(bytes, at, version),
-        12 => feature_level(alloc, bytes, at, version),
-        17 => broker_registration_change(alloc, bytes, at, version),
-        20 => no_op(bytes, at, version),
-        _ => Err(RecordFault::UnknownKey { key }),
-    }
+    has_version(key, version)?;
+    read_kind(alloc, bytes, at, key, version)
 }
 
 // The record, if nothing is behind it.

@@ -4,7 +4,8 @@ ghost use Rattle.std.specs.Prelude.{◌≡◌, ◌+◌, ◌++◌, length, OnOk, 
 ghost use Rattle.kr_defs.specs.Sizes.{value_bytes};
 ghost use Rattle.kr_record.specs.Encodable.{IsEncodable, IsShort, IsShortBroker, IsShortConfig, IsShortPartition, IsSpelledChange};
 ghost use Rattle.kr_record.specs.Grammar.{IsRecord};
-ghost use Rattle.kr_record.specs.Spelling.{broker_epoch, change, config, feature, framed, led, partition, placed, record_value, registration, registration_change, topic, topic_id, two_ids};
+ghost use Rattle.kr_record.specs.Spelling;
+ghost use Rattle.kr_record.specs.Spelling.{broker_epoch, change, config, feature, framed, layout_of, led, partition, placed, record_value, registration, registration_change, topic, topic_id, two_ids};
 
 use crate::fields::{put_change_fields, put_extras, put_flags};
 use crate::held::record_is_held;
@@ -14,6 +15,26 @@ use kr_defs::{Broker, Ids, Partition, PartitionChange, Record, Text};
 use kr_wire::{put_bool, put_id, put_str, put_uvarint};
 use std::alloc::AllocError;
 use std::mem;
+
+// The key of a record's kind, and the version that is written.
+fn kind_of(value: &Record) -> (u32, u32)
+    ensures { result ≡ Spelling.kind_of value.now }
+{
+    match value {
+        Record::RegisterBroker { .. } => (0, 1),
+        Record::UnregisterBroker { .. } => (1, 0),
+        Record::Topic { .. } => (2, 0),
+        Record::Partition { .. } => (3, 2),
+        Record::Config { .. } => (4, 0),
+        Record::PartitionChange { .. } => (5, 2),
+        Record::FenceBroker { .. } => (7, 0),
+        Record::UnfenceBroker { .. } => (8, 0),
+        Record::RemoveTopic { .. } => (9, 0),
+        Record::FeatureLevel { .. } => (12, 0),
+        Record::BrokerRegistrationChange { .. } => (17, 1),
+        Record::NoOp => (20, 0),
+    }
+}
 
 // The frame version, the key and the version of a record.
 #[tactic(auto, unfolding(crate::specs::Spelling::framed))]
@@ -28,9 +49,8 @@ fn put_frame(out: &mut Vec<u8>, key: u32, version: u32) -> Result<(), AllocError
 #[tactic(auto, unfolding(crate::specs::Spelling::registration))]
 fn put_registration(out: &mut Vec<u8>, broker: &i32, state: &Broker) -> Result<(), AllocError>
     requires { IsShortBroker state.now }
-    ensures { OnOk result (out.new.items ≡ out.old.items ++ (framed 0 1 ++ registration broker.now state.now)) }
+    ensures { OnOk result (out.new.items ≡ out.old.items ++ registration broker.now state.now) }
 {
-    put_frame(out, 0, 1)?;
     broker.put(out)?;
     put_id(out, state.incarnation)?;
     state.epoch.put(out)?;
@@ -43,15 +63,9 @@ fn put_registration(out: &mut Vec<u8>, broker: &i32, state: &Broker) -> Result<(
 }
 
 #[tactic(auto, unfolding(crate::specs::Spelling::broker_epoch))]
-fn put_broker_epoch(
-    out: &mut Vec<u8>,
-    key: u32,
-    broker: &i32,
-    epoch: &i64,
-) -> Result<(), AllocError>
-    ensures { OnOk result (out.new.items ≡ out.old.items ++ (framed key 0 ++ broker_epoch broker.now epoch.now)) }
+fn put_broker_epoch(out: &mut Vec<u8>, broker: &i32, epoch: &i64) -> Result<(), AllocError>
+    ensures { OnOk result (out.new.items ≡ out.old.items ++ broker_epoch broker.now epoch.now) }
 {
-    put_frame(out, key, 0)?;
     broker.put(out)?;
     epoch.put(out)?;
     put_no_tags(out)
@@ -60,9 +74,8 @@ fn put_broker_epoch(
 #[tactic(auto, unfolding(crate::specs::Spelling::topic))]
 fn put_topic(out: &mut Vec<u8>, name: &Text, id: u128) -> Result<(), AllocError>
     requires { IsShort name.now }
-    ensures { OnOk result (out.new.items ≡ out.old.items ++ (framed 2 0 ++ topic name.now id)) }
+    ensures { OnOk result (out.new.items ≡ out.old.items ++ topic name.now id) }
 {
-    put_frame(out, 2, 0)?;
     put_str(out, name.as_str())?;
     put_id(out, id)?;
     put_no_tags(out)
@@ -70,9 +83,8 @@ fn put_topic(out: &mut Vec<u8>, name: &Text, id: u128) -> Result<(), AllocError>
 
 #[tactic(auto, unfolding(crate::specs::Spelling::topic_id))]
 fn put_topic_id(out: &mut Vec<u8>, id: u128) -> Result<(), AllocError>
-    ensures { OnOk result (out.new.items ≡ out.old.items ++ (framed 9 0 ++ topic_id id)) }
+    ensures { OnOk result (out.new.items ≡ out.old.items ++ topic_id id) }
 {
-    put_frame(out, 9, 0)?;
     put_id(out, id)?;
     put_no_tags(out)
 }
@@ -85,9 +97,8 @@ fn put_partition(
     state: &Partition,
 ) -> Result<(), AllocError>
     requires { IsShortPartition state.now }
-    ensures { OnOk result (out.new.items ≡ out.old.items ++ (framed 3 2 ++ partition index.now topic state.now)) }
+    ensures { OnOk result (out.new.items ≡ out.old.items ++ partition index.now topic state.now) }
 {
-    put_frame(out, 3, 2)?;
     put_placed(out, index, topic, state)?;
     put_led(out, state)
 }
@@ -141,9 +152,8 @@ fn put_config(
     value: &Option<Text>,
 ) -> Result<(), AllocError>
     requires { IsShortConfig name.now key.now value.now }
-    ensures { OnOk result (out.new.items ≡ out.old.items ++ (framed 4 0 ++ config kind.now name.now key.now value.now)) }
+    ensures { OnOk result (out.new.items ≡ out.old.items ++ config kind.now name.now key.now value.now) }
 {
-    put_frame(out, 4, 0)?;
     kind.put(out)?;
     put_str(out, name.as_str())?;
     put_str(out, key.as_str())?;
@@ -159,9 +169,8 @@ fn put_change(
     value: &PartitionChange,
 ) -> Result<(), AllocError>
     requires { IsSpelledChange value.now }
-    ensures { OnOk result (out.new.items ≡ out.old.items ++ (framed 5 2 ++ change index.now topic value.now)) }
+    ensures { OnOk result (out.new.items ≡ out.old.items ++ change index.now topic value.now) }
 {
-    put_frame(out, 5, 2)?;
     index.put(out)?;
     put_id(out, topic)?;
     put_change_fields(out, value)
@@ -170,9 +179,8 @@ fn put_change(
 #[tactic(auto, unfolding(crate::specs::Spelling::feature))]
 fn put_feature(out: &mut Vec<u8>, name: &Text, level: &i16) -> Result<(), AllocError>
     requires { IsShort name.now }
-    ensures { OnOk result (out.new.items ≡ out.old.items ++ (framed 12 0 ++ feature name.now level.now)) }
+    ensures { OnOk result (out.new.items ≡ out.old.items ++ feature name.now level.now) }
 {
-    put_frame(out, 12, 0)?;
     put_str(out, name.as_str())?;
     level.put(out)?;
     put_no_tags(out)
@@ -186,22 +194,22 @@ fn put_registration_change(
     fenced: &i8,
     stopping: &i8,
 ) -> Result<(), AllocError>
-    ensures { OnOk result (out.new.items ≡ out.old.items ++ (framed 17 1 ++ registration_change broker.now epoch.now fenced.now stopping.now)) }
+    ensures { OnOk result (out.new.items ≡ out.old.items ++ registration_change broker.now epoch.now fenced.now stopping.now) }
 {
-    put_frame(out, 17, 1)?;
     broker.put(out)?;
     epoch.put(out)?;
     put_flags(out, fenced, stopping)
 }
 
-#[tactic(auto, unfolding(crate::specs::Spelling::record_value))]
-fn put_record(out: &mut Vec<u8>, value: &Record) -> Result<(), AllocError>
+fn put_layout(out: &mut Vec<u8>, value: &Record) -> Result<(), AllocError>
     requires { IsEncodable value.now }
-    ensures { OnOk result (out.new.items ≡ out.old.items ++ record_value value.now) }
+    ensures { OnOk result (out.new.items ≡ out.old.items ++ layout_of value.now) }
 {
     match value {
         Record::RegisterBroker { broker, state } => put_registration(out, broker, state),
-        Record::UnregisterBroker { broker, epoch } => put_broker_epoch(out, 1, broker, epoch),
+        Record::UnregisterBroker { broker, epoch }
+        | Record::FenceBroker { broker, epoch }
+        | Record::UnfenceBroker { broker, epoch } => put_broker_epoch(out, broker, epoch),
         Record::Topic { name, id } => put_topic(out, name, *id),
         Record::Partition {
             index,
@@ -219,8 +227,6 @@ fn put_record(out: &mut Vec<u8>, value: &Record) -> Result<(), AllocError>
             topic,
             change,
         } => put_change(out, index, *topic, change),
-        Record::FenceBroker { broker, epoch } => put_broker_epoch(out, 7, broker, epoch),
-        Record::UnfenceBroker { broker, epoch } => put_broker_epoch(out, 8, broker, epoch),
         Record::RemoveTopic { topic } => put_topic_id(out, *topic),
         Record::FeatureLevel { name, level } => put_feature(out, name, level),
         Record::BrokerRegistrationChange {
@@ -229,11 +235,18 @@ fn put_record(out: &mut Vec<u8>, value: &Record) -> Result<(), AllocError>
             fenced,
             stopping,
         } => put_registration_change(out, broker, epoch, fenced, stopping),
-        Record::NoOp => {
-            put_frame(out, 20, 0)?;
-            put_no_tags(out)
-        }
+        Record::NoOp => put_no_tags(out),
     }
+}
+
+#[tactic(auto, unfolding(crate::specs::Spelling::record_value))]
+fn put_record(out: &mut Vec<u8>, value: &Record) -> Result<(), AllocError>
+    requires { IsEncodable value.now }
+    ensures { OnOk result (out.new.items ≡ out.old.items ++ record_value value.now) }
+{
+    let (key, version) = kind_of(value);
+    put_frame(out, key, version)?;
+    put_layout(out, value)
 }
 
 /// Appends the record's written form. Without memory some front of it may be appended.

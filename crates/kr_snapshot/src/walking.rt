@@ -11,11 +11,11 @@ ghost use Rattle.kr_snapshot.specs.inner.StoreImage.{image_or_empty};
 ghost use Rattle.kr_snapshot.specs.inner.EntryRecords.{feature_record, broker_record, partition_record, config_record};
 ghost use Rattle.kr_snapshot.specs.inner.Writer.{MayAdd, Adds};
 
-use crate::held::{broker_is_held, partition_is_held, text_is_held};
 use crate::shown;
 use crate::writer::BatchWriter;
 use kr_base::NoMemory;
 use kr_defs::{Broker, ConfigKey, Copied, Partition, Record, Text};
+use kr_record::record_is_held;
 use kr_store::{At, Store};
 use std::alloc::Global;
 
@@ -23,61 +23,64 @@ fn feature(alloc: Global, name: &Text, level: &i16) -> Result<Record, NoMemory>
     ensures of { IfOk result (λ r. r ≡ feature_record (name.now, level.now)) }
     ensures held { IfOk result IsHeld }
 {
-    text_is_held(name);
     let name = name.copied(alloc)?;
-    Ok(Record::FeatureLevel {
+    let record = Record::FeatureLevel {
         name,
         level: *level,
-    })
+    };
+    record_is_held(&record);
+    Ok(record)
 }
 
 fn registration(alloc: Global, id: &i32, state: &Broker) -> Result<Record, NoMemory>
     ensures of { IfOk result (λ r. r ≡ broker_record (id.now, state.now)) }
     ensures held { IfOk result IsHeld }
 {
-    broker_is_held(state);
     let state = state.copied(alloc)?;
-    Ok(Record::RegisterBroker { broker: *id, state })
+    let record = Record::RegisterBroker { broker: *id, state };
+    record_is_held(&record);
+    Ok(record)
 }
 
 fn topic(alloc: Global, name: &Text, id: &u128) -> Result<Record, NoMemory>
     ensures of { IfOk result (λ r. r ≡ kinds.Topic name.now id.now) }
     ensures held { IfOk result IsHeld }
 {
-    text_is_held(name);
     let name = name.copied(alloc)?;
-    Ok(Record::Topic { name, id: *id })
+    let record = Record::Topic { name, id: *id };
+    record_is_held(&record);
+    Ok(record)
 }
 
 fn partition(alloc: Global, key: &(u128, i32), state: &Partition) -> Result<Record, NoMemory>
     ensures of { IfOk result (λ r. r ≡ partition_record (key.now, state.now)) }
     ensures held { IfOk result IsHeld }
 {
-    partition_is_held(state);
     let (topic, index) = (key.0, key.1);
     let state = state.copied(alloc)?;
-    Ok(Record::Partition {
+    let record = Record::Partition {
         index,
         topic,
         state,
-    })
+    };
+    record_is_held(&record);
+    Ok(record)
 }
 
 fn setting(alloc: Global, key: &ConfigKey, value: &Text) -> Result<Record, NoMemory>
     ensures of { IfOk result (λ r. r ≡ config_record (key.now, value.now)) }
     ensures held { IfOk result IsHeld }
 {
-    text_is_held(&key.name);
-    text_is_held(&key.key);
-    text_is_held(value);
     let ConfigKey { kind, name, key } = key.copied(alloc)?;
     let value = value.copied(alloc)?;
-    Ok(Record::Config {
+    let record = Record::Config {
         kind,
         name,
         key,
         value: Some(value),
-    })
+    };
+    record_is_held(&record);
+    Ok(record)
 }
 
 /// The features, by name.
