@@ -2,9 +2,6 @@
 
 ghost use Rattle.std.specs.Prelude.{◌≡◌, ◌++◌, IfOk, OnOk};
 ghost use Rattle.std.specs.List.{flat_map};
-ghost use Rattle.std.specs.Option.{option_copied, option_map};
-ghost use Rattle.kr_defs.specs.Map as entries;
-ghost use Rattle.kr_defs.specs.Map.{config_order, text_order};
 ghost use Rattle.kr_store.specs.Reads.{seen_at};
 ghost use Rattle.kr_dump.specs.DumpText as texts;
 
@@ -12,33 +9,11 @@ use crate::lines::{put_config, put_feature, put_offset};
 use crate::parts::{BrokerLine, TopicLines};
 use crate::texts::put_bytes;
 use kr_base::NoMemory;
-use kr_defs::{Bytes, ConfigKey, Text};
-use kr_gather::looking::see;
+use kr_defs::Bytes;
+use kr_gather::looking::{next_config, next_feature, see};
 use kr_gather::{gather_brokers, gather_topics};
 use kr_store::{At, Store};
 use std::alloc::Global;
-
-// The feature with the least name above the given one, or the first.
-fn next_feature<'a, S: Store>(
-    store: &'a S,
-    at: At,
-    after: Option<&Text>,
-) -> Option<(&'a Text, &'a i16)>
-    ensures { option_map (λ e. (e.0.now, e.1.now)) result ≡ entries.next text_order (seen_at (S.images store.now) at).features (option_copied after.entry) }
-{
-    store.next_feature(at, after).unwrap_or(None)
-}
-
-// The setting with the least key above the given one, or the first.
-fn next_config<'a, S: Store>(
-    store: &'a S,
-    at: At,
-    after: Option<&ConfigKey>,
-) -> Option<(&'a ConfigKey, &'a Text)>
-    ensures { option_map (λ e. (e.0.now, e.1.now)) result ≡ entries.next config_order (seen_at (S.images store.now) at).configs (option_copied after.entry) }
-{
-    store.next_config(at, after).unwrap_or(None)
-}
 
 fn put_features<S: Store>(alloc: Global, store: &S, at: At, out: &mut Bytes) -> Result<(), NoMemory>
     ensures { OnOk result (out.new ≡ out.old ++ flat_map texts.feature_line (seen_at (S.images store.now) at).features) }

@@ -5,13 +5,13 @@ ghost use Rattle.std.specs.Option.{option_copied, option_map};
 ghost use Rattle.std.specs.Ordering.{int_cmp};
 ghost use Rattle.kr_defs.specs.Image.{IsValid, topic_name};
 ghost use Rattle.kr_defs.specs.Map as entries;
-ghost use Rattle.kr_defs.specs.Map.{partition_order, text_order};
+ghost use Rattle.kr_defs.specs.Map.{config_order, partition_order, text_order};
 ghost use Rattle.kr_store.specs.Images.{image_at, topic_of};
 ghost use Rattle.kr_store.specs.Reads.{seen_at};
 
 use kr_base::NoEpoch;
 use kr_defs::laws::empty_is_valid;
-use kr_defs::{Broker, Partition, Text, Topic};
+use kr_defs::{Broker, ConfigKey, Partition, Text, Topic};
 use kr_store::{At, Store};
 
 /// NoEpoch exactly where the place is an epoch that isn't kept.
@@ -86,4 +86,26 @@ pub fn next_partition<'a, S: Store>(
     ensures { option_map (λ e. (e.0.now, e.1.now)) result ≡ entries.next partition_order (seen_at (S.images store.now) at).partitions (Some after.now) }
 {
     store.next_partition(at, Some(after)).unwrap_or(None)
+}
+
+/// The setting with the least key above the given one, or the first.
+pub fn next_config<'a, S: Store>(
+    store: &'a S,
+    at: At,
+    after: Option<&ConfigKey>,
+) -> Option<(&'a ConfigKey, &'a Text)>
+    ensures { option_map (λ e. (e.0.now, e.1.now)) result ≡ entries.next config_order (seen_at (S.images store.now) at).configs (option_copied after.entry) }
+{
+    store.next_config(at, after).unwrap_or(None)
+}
+
+/// The feature with the least name above the given one, or the first.
+pub fn next_feature<'a, S: Store>(
+    store: &'a S,
+    at: At,
+    after: Option<&Text>,
+) -> Option<(&'a Text, &'a i16)>
+    ensures { option_map (λ e. (e.0.now, e.1.now)) result ≡ entries.next text_order (seen_at (S.images store.now) at).features (option_copied after.entry) }
+{
+    store.next_feature(at, after).unwrap_or(None)
 }

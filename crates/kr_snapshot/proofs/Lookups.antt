@@ -12,7 +12,7 @@ use Rattle.kr_defs.proofs.Tests.{some_is}
 use Rattle.kr_store.specs.declared.places.At.{At}
 use Rattle.kr_store.specs.declared.places.At.TheVariants as places
 use Rattle.kr_store.specs.Images.{Images, AreValid, topic_entry}
-use Rattle.kr_snapshot.specs.inner.StoreImage.{image_or_empty}
+use Rattle.kr_store.specs.Reads.{seen_at}
 
 -- a topic that is found has the next name and its id
 pub topic_found : (o : Option (List ℕ × ℕ)) (name : List ℕ) (topic : Topic) → Some (name, topic) ≡ option_map topic_entry o → Some (name, topic.id) ≡ o
@@ -35,7 +35,7 @@ kept_valid epoch (k ∷ kept) none a =
       | false ↦ kept_valid epoch kept none a.1
     ]
 
-pub shown_valid : (images : Images) (at : At) → IsValid empty → AreValid images → IsValid (image_or_empty images at)
+pub shown_valid : (images : Images) (at : At) → IsValid empty → AreValid images → IsValid (seen_at images at)
 shown_valid images places.Tip none valid = valid.tip
 shown_valid images (places.Epoch epoch) none valid = kept_valid epoch images.kept none (recursion_from_All (λ (k : ℤ × Image). IsValid k.1) images.kept valid.kept)
 

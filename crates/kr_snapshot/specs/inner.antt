@@ -1,3 +1,2 @@
 pub mod EntryRecords
-pub mod StoreImage
 pub mod Writer

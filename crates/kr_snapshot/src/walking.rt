@@ -7,14 +7,15 @@ ghost use Rattle.kr_defs.specs.Map.{above, partition_order};
 ghost use Rattle.kr_defs.specs.Records.{topic_records};
 ghost use Rattle.kr_defs.specs.Walk.{of_topic};
 ghost use Rattle.kr_record.specs.RecordRanges.{IsHeld};
-ghost use Rattle.kr_snapshot.specs.inner.StoreImage.{image_or_empty};
+ghost use Rattle.kr_store.specs.Reads.{seen_at};
 ghost use Rattle.kr_snapshot.specs.inner.EntryRecords.{feature_record, broker_record, partition_record, config_record};
 ghost use Rattle.kr_snapshot.specs.inner.Writer.{MayAdd, Adds};
 
-use crate::shown;
+use crate::shown::next_topic;
 use crate::writer::BatchWriter;
 use kr_base::NoMemory;
 use kr_defs::{Broker, ConfigKey, Copied, Partition, Record, Text};
+use kr_gather::looking;
 use kr_record::record_is_held;
 use kr_store::{At, Store};
 use std::alloc::Global;
@@ -91,12 +92,12 @@ pub fn put_features<S: Store>(
     at: At,
     writer: &mut BatchWriter,
 ) -> Result<(), NoMemory>
-    requires valid { IsValid (image_or_empty (S.images store.now) at) }
-    requires may { MayAdd writer.old (map feature_record (image_or_empty (S.images store.now) at).features) }
-    ensures { OnOk result (Adds writer.old writer.new (map feature_record (image_or_empty (S.images store.now) at).features)) }
+    requires valid { IsValid (seen_at (S.images store.now) at) }
+    requires may { MayAdd writer.old (map feature_record (seen_at (S.images store.now) at).features) }
+    ensures { OnOk result (Adds writer.old writer.new (map feature_record (seen_at (S.images store.now) at).features)) }
 {
     let mut after = None;
-    while let Some((name, level)) = shown::next_feature(store, at, after) {
+    while let Some((name, level)) = looking::next_feature(store, at, after) {
         writer.push(feature(alloc, name, level)?)?;
         after = Some(name);
     }
@@ -111,12 +112,12 @@ pub fn put_brokers<S: Store>(
     at: At,
     writer: &mut BatchWriter,
 ) -> Result<(), NoMemory>
-    requires valid { IsValid (image_or_empty (S.images store.now) at) }
-    requires may { MayAdd writer.old (map broker_record (image_or_empty (S.images store.now) at).brokers) }
-    ensures { OnOk result (Adds writer.old writer.new (map broker_record (image_or_empty (S.images store.now) at).brokers)) }
+    requires valid { IsValid (seen_at (S.images store.now) at) }
+    requires may { MayAdd writer.old (map broker_record (seen_at (S.images store.now) at).brokers) }
+    ensures { OnOk result (Adds writer.old writer.new (map broker_record (seen_at (S.images store.now) at).brokers)) }
 {
     let mut after = None;
-    while let Some((id, state)) = shown::next_broker(store, at, after) {
+    while let Some((id, state)) = looking::next_broker(store, at, after) {
         writer.push(registration(alloc, id, state)?)?;
         after = Some(id);
     }
@@ -135,11 +136,11 @@ fn next_of<'a, S: Store>(
     at: At,
     after: &(u128, i32),
 ) -> Option<(&'a (u128, i32), &'a Partition)>
-    requires { IsValid (image_or_empty (S.images store.now) at) }
-    ensures next { IfSome result (λ e. of_topic after.now.0 (above partition_order (image_or_empty (S.images store.now) at).partitions (Some after.now)) ≡ (e.0.now, e.1.now) ∷ of_topic e.0.now.0 (above partition_order (image_or_empty (S.images store.now) at).partitions (Some e.0.now))) }
-    ensures none { IsNone result → of_topic after.now.0 (above partition_order (image_or_empty (S.images store.now) at).partitions (Some after.now)) ≡ [] }
+    requires { IsValid (seen_at (S.images store.now) at) }
+    ensures next { IfSome result (λ e. of_topic after.now.0 (above partition_order (seen_at (S.images store.now) at).partitions (Some after.now)) ≡ (e.0.now, e.1.now) ∷ of_topic e.0.now.0 (above partition_order (seen_at (S.images store.now) at).partitions (Some e.0.now))) }
+    ensures none { IsNone result → of_topic after.now.0 (above partition_order (seen_at (S.images store.now) at).partitions (Some after.now)) ≡ [] }
 {
-    match shown::next_partition(store, at, Some(after)) {
+    match looking::next_partition(store, at, after) {
         Some((key, partition)) => {
             if key.0 == after.0 {
                 Some((key, partition))
@@ -160,9 +161,9 @@ fn put_above<S: Store>(
     first: &(u128, i32),
     writer: &mut BatchWriter,
 ) -> Result<(), NoMemory>
-    requires valid { IsValid (image_or_empty (S.images store.now) at) }
-    requires may { MayAdd writer.old (map partition_record (of_topic first.now.0 (above partition_order (image_or_empty (S.images store.now) at).partitions (Some first.now)))) }
-    ensures { OnOk result (Adds writer.old writer.new (map partition_record (of_topic first.now.0 (above partition_order (image_or_empty (S.images store.now) at).partitions (Some first.now))))) }
+    requires valid { IsValid (seen_at (S.images store.now) at) }
+    requires may { MayAdd writer.old (map partition_record (of_topic first.now.0 (above partition_order (seen_at (S.images store.now) at).partitions (Some first.now)))) }
+    ensures { OnOk result (Adds writer.old writer.new (map partition_record (of_topic first.now.0 (above partition_order (seen_at (S.images store.now) at).partitions (Some first.now))))) }
 {
     let mut after = first;
     while let Some((key, state)) = next_of(store, at, after) {
@@ -181,9 +182,9 @@ fn put_topic<S: Store>(
     id: &u128,
     writer: &mut BatchWriter,
 ) -> Result<(), NoMemory>
-    requires valid { IsValid (image_or_empty (S.images store.now) at) }
-    requires may { MayAdd writer.old (topic_records (image_or_empty (S.images store.now) at).partitions (name.now, id.now)) }
-    ensures { OnOk result (Adds writer.old writer.new (topic_records (image_or_empty (S.images store.now) at).partitions (name.now, id.now))) }
+    requires valid { IsValid (seen_at (S.images store.now) at) }
+    requires may { MayAdd writer.old (topic_records (seen_at (S.images store.now) at).partitions (name.now, id.now)) }
+    ensures { OnOk result (Adds writer.old writer.new (topic_records (seen_at (S.images store.now) at).partitions (name.now, id.now))) }
 {
     writer.push(topic(alloc, name, id)?)?;
     let first = before_all(id);
@@ -198,12 +199,12 @@ pub fn put_topics<S: Store>(
     at: At,
     writer: &mut BatchWriter,
 ) -> Result<(), NoMemory>
-    requires valid { IsValid (image_or_empty (S.images store.now) at) }
-    requires may { MayAdd writer.old (flat_map (topic_records (image_or_empty (S.images store.now) at).partitions) (image_or_empty (S.images store.now) at).topics) }
-    ensures { OnOk result (Adds writer.old writer.new (flat_map (topic_records (image_or_empty (S.images store.now) at).partitions) (image_or_empty (S.images store.now) at).topics)) }
+    requires valid { IsValid (seen_at (S.images store.now) at) }
+    requires may { MayAdd writer.old (flat_map (topic_records (seen_at (S.images store.now) at).partitions) (seen_at (S.images store.now) at).topics) }
+    ensures { OnOk result (Adds writer.old writer.new (flat_map (topic_records (seen_at (S.images store.now) at).partitions) (seen_at (S.images store.now) at).topics)) }
 {
     let mut after = None;
-    while let Some((name, topic)) = shown::next_topic(store, at, after) {
+    while let Some((name, topic)) = next_topic(store, at, after) {
         put_topic(alloc, store, at, name, &topic.id, writer)?;
         after = Some(name);
     }
@@ -218,12 +219,12 @@ pub fn put_configs<S: Store>(
     at: At,
     writer: &mut BatchWriter,
 ) -> Result<(), NoMemory>
-    requires valid { IsValid (image_or_empty (S.images store.now) at) }
-    requires may { MayAdd writer.old (map config_record (image_or_empty (S.images store.now) at).configs) }
-    ensures { OnOk result (Adds writer.old writer.new (map config_record (image_or_empty (S.images store.now) at).configs)) }
+    requires valid { IsValid (seen_at (S.images store.now) at) }
+    requires may { MayAdd writer.old (map config_record (seen_at (S.images store.now) at).configs) }
+    ensures { OnOk result (Adds writer.old writer.new (map config_record (seen_at (S.images store.now) at).configs)) }
 {
     let mut after = None;
-    while let Some((key, value)) = shown::next_config(store, at, after) {
+    while let Some((key, value)) = looking::next_config(store, at, after) {
         writer.push(setting(alloc, key, value)?)?;
         after = Some(key);
     }

@@ -8,7 +8,7 @@ ghost use Rattle.kr_defs.specs.Records.{records_of};
 ghost use Rattle.kr_record.specs.RecordRanges.{IsHeld};
 ghost use Rattle.kr_store.specs.Images.{image_at};
 ghost use Rattle.kr_snapshot.specs.Grammar.{IsImage};
-ghost use Rattle.kr_snapshot.specs.inner.StoreImage.{image_or_empty};
+ghost use Rattle.kr_store.specs.Reads.{seen_at};
 ghost use Rattle.kr_snapshot.specs.inner.Writer.{Adds, MayAdd};
 ghost use Rattle.kr_snapshot.specs.ImageText.{batches_bytes, chunks, head_bytes, image_text};
 ghost use Rattle.kr_snapshot.specs.declared.fault.SnapFault.TheVariants as faults;
@@ -29,9 +29,9 @@ fn put_records<S: Store>(
     at: At,
     writer: &mut BatchWriter,
 ) -> Result<(), NoMemory>
-    requires valid { IsValid (image_or_empty (S.images store.now) at) }
-    requires may { MayAdd writer.old (records_of (image_or_empty (S.images store.now) at)) }
-    ensures { OnOk result (Adds writer.old writer.new (records_of (image_or_empty (S.images store.now) at))) }
+    requires valid { IsValid (seen_at (S.images store.now) at) }
+    requires may { MayAdd writer.old (records_of (seen_at (S.images store.now) at)) }
+    ensures { OnOk result (Adds writer.old writer.new (records_of (seen_at (S.images store.now) at))) }
 {
     put_features(alloc, store, at, writer)?;
     put_brokers(alloc, store, at, writer)?;
@@ -41,11 +41,11 @@ fn put_records<S: Store>(
 
 // The batches of all records, and how many records these are.
 fn batches<S: Store>(alloc: Global, store: &S, at: At) -> Result<(Vec<u8>, usize), NoMemory>
-    requires { IsValid (image_or_empty (S.images store.now) at) }
-    ensures bytes { IfOk result (λ x. x.0.items ≡ batches_bytes 0 (chunks most (as_items (records_of (image_or_empty (S.images store.now) at))))) }
-    ensures count { IfOk result (λ x. x.1 ≡ length (records_of (image_or_empty (S.images store.now) at))) }
+    requires { IsValid (seen_at (S.images store.now) at) }
+    ensures bytes { IfOk result (λ x. x.0.items ≡ batches_bytes 0 (chunks most (as_items (records_of (seen_at (S.images store.now) at))))) }
+    ensures count { IfOk result (λ x. x.1 ≡ length (records_of (seen_at (S.images store.now) at))) }
     ensures small { IfOk result (λ x. x.1 < 2 ^ 63) }
-    ensures held { OnOk result (All IsHeld (records_of (image_or_empty (S.images store.now) at))) }
+    ensures held { OnOk result (All IsHeld (records_of (seen_at (S.images store.now) at))) }
 {
     let mut writer = BatchWriter::new(alloc);
     put_records(alloc, store, at, &mut writer)?;
@@ -68,10 +68,10 @@ fn put_image<S: Store>(
     offset: i64,
     out: &mut Vec<u8>,
 ) -> Result<(), NoMemory>
-    requires { IsValid (image_or_empty (S.images store.now) at) }
-    ensures ok { OnOk result (out.new.items ≡ out.old.items ++ image_text offset (image_or_empty (S.images store.now) at)) }
-    ensures few { OnOk result (length (records_of (image_or_empty (S.images store.now) at)) < 2 ^ 63) }
-    ensures held { OnOk result (All IsHeld (records_of (image_or_empty (S.images store.now) at))) }
+    requires { IsValid (seen_at (S.images store.now) at) }
+    ensures ok { OnOk result (out.new.items ≡ out.old.items ++ image_text offset (seen_at (S.images store.now) at)) }
+    ensures few { OnOk result (length (records_of (seen_at (S.images store.now) at)) < 2 ^ 63) }
+    ensures held { OnOk result (All IsHeld (records_of (seen_at (S.images store.now) at))) }
     ensures err { OnErr result (out.new.items ≡ out.old.items) }
 {
     let (body, count) = batches(alloc, store, at)?;

@@ -1,27 +1,27 @@
 use Rattle.std.proofs.Common.{[], ◌++◌, sym, refl}
 use Rattle.std.proofs.lemmas.List.{append-nil}
 use Rattle.std.proofs.lemmas.Result.{on_ok_weaker}
-use Rattle.kr_snapshot.specs.inner.StoreImage.{image_or_empty}
+use Rattle.kr_store.specs.Reads.{seen_at}
 use Rattle.kr_snapshot.proofs.WriterRecords.{amid_start, amid_may, amid_more, amid_end}
 use Rattle.kr_snapshot.proofs.SmallRecords.{features, brokers, topics, configs, in_sections}
 use Rattle.kr_snapshot.proofs.writing.put_records.Goals as goal
 
 pub put_features-requires-clause-may : goal.put_features-requires-clause-may
 put_features-requires-clause-may g c =
-    let image = image_or_empty (g.S.Store.images c.args.store.now) c.args.at in
+    let image = seen_at (g.S.Store.images c.args.store.now) c.args.at in
     let v = c.requires.valid in
     amid_may _ _ _ _ (amid_start _ _ c.requires.may) (features image v) _ (in_sections image v) c.requires.may
 
 pub put_brokers-requires-clause-may : goal.put_brokers-requires-clause-may
 put_brokers-requires-clause-may g c =
-    let image = image_or_empty (g.S.Store.images c.args.store.now) c.args.at in
+    let image = seen_at (g.S.Store.images c.args.store.now) c.args.at in
     let v = c.requires.valid in
     let one = amid_more _ _ _ _ (amid_start _ _ c.requires.may) _ (features image v) (brokers image v ++ (topics image v ++ configs image v)) (in_sections image v) c.in_ok-put_features.ensures in
     amid_may _ _ _ _ one (brokers image v) _ refl c.requires.may
 
 pub put_topics-requires-clause-may : goal.put_topics-requires-clause-may
 put_topics-requires-clause-may g c =
-    let image = image_or_empty (g.S.Store.images c.args.store.now) c.args.at in
+    let image = seen_at (g.S.Store.images c.args.store.now) c.args.at in
     let v = c.requires.valid in
     let one = amid_more _ _ _ _ (amid_start _ _ c.requires.may) _ (features image v) (brokers image v ++ (topics image v ++ configs image v)) (in_sections image v) c.in_ok-put_features.ensures in
     let two = amid_more _ _ _ _ one _ (brokers image v) (topics image v ++ configs image v) refl c.in_ok-put_brokers.ensures in
@@ -29,7 +29,7 @@ put_topics-requires-clause-may g c =
 
 pub put_configs-requires-clause-may : goal.put_configs-requires-clause-may
 put_configs-requires-clause-may g c =
-    let image = image_or_empty (g.S.Store.images c.args.store.now) c.args.at in
+    let image = seen_at (g.S.Store.images c.args.store.now) c.args.at in
     let v = c.requires.valid in
     let one = amid_more _ _ _ _ (amid_start _ _ c.requires.may) _ (features image v) (brokers image v ++ (topics image v ++ configs image v)) (in_sections image v) c.in_ok-put_features.ensures in
     let two = amid_more _ _ _ _ one _ (brokers image v) (topics image v ++ configs image v) refl c.in_ok-put_brokers.ensures in
@@ -38,7 +38,7 @@ put_configs-requires-clause-may g c =
 
 pub returns : goal.returns
 returns g c =
-    let image = image_or_empty (g.S.Store.images c.args.store.now) c.args.at in
+    let image = seen_at (g.S.Store.images c.args.store.now) c.args.at in
     let v = c.requires.valid in
     let one = amid_more _ _ _ _ (amid_start _ _ c.requires.may) _ (features image v) (brokers image v ++ (topics image v ++ configs image v)) (in_sections image v) c.in_ok-put_features.ensures in
     let two = amid_more _ _ _ _ one _ (brokers image v) (topics image v ++ configs image v) refl c.in_ok-put_brokers.ensures in
