@@ -22,6 +22,7 @@ pub enum Filled {
 
 // One read, of at most so many bytes, which get behind the others. It answers how many came; none is the end of the
 // input.
+#[tactic(auto, using(crate::proofs::Pieces::grew_by))]
 fn read_piece<S: Source>(
     source: &mut S,
     bytes: &mut Vec<u8>,
@@ -57,6 +58,7 @@ fn room(len: usize, taken: u64) -> usize
 }
 
 /// Fills bytes, which stand at the place `at` of the input, up to `len` of them. No more are taken than a log may have.
+#[tactic(auto, using(crate::proofs::Pieces::grew_none, crate::proofs::Pieces::grew_more, crate::proofs::Pieces::stops))]
 pub fn fill<S: Source>(
     source: &mut S,
     bytes: &mut Vec<u8>,
@@ -68,6 +70,7 @@ pub fn fill<S: Source>(
     ensures grew { OnOk result (Grew (S.left source.old) (S.left source.new) bytes.old.items bytes.new.items) }
     ensures filled { IfOk result (λ filled. IsFilled filled (S.left source.new) len (length bytes.new.items)) }
     ensures within { OnOk result (at + length bytes.new.items ≤ longest) }
+    ensures ended { IfOk result (λ filled. filled ≡ Filled.Ended → at + length bytes.new.items < longest) }
     ensures fault { IfErr result (λ fault. IsShortage (S.left source.old) (S.left source.new) (S.faults source.old) (S.faults source.new) bytes.old.items bytes.new.items at len fault) }
     ensures later { S.faults source.old ≤ S.faults source.new }
 {
