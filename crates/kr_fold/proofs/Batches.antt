@@ -1,11 +1,16 @@
 -- A batch after the others.
-use Rattle.std.proofs.Common.{◌≡◌, ◌∙◌, ℕ, ◌+◌, ◌≤◌, ◌<◌, arith, length-append, List, [], ◌∷◌, ◌++◌, length, append_assoc, Option, Some, None, refl, sym, ap, subst}
+use Rattle.std.proofs.Common.{◌≡◌, ◌∙◌, ℕ, ◌+◌, ◌≤◌, ◌<◌, arith, length-append, List, [], ◌∷◌, ◌++◌, length, append_assoc, Option, Some, None, Result, Ok, refl, sym, ap, subst}
 use Rattle.std.specs.Option.{option_and_then}
 use Rattle.std.proofs.lemmas.List.{append-nil}
 use Rattle.kr_defs.specs.declared.limits.TheConstants.{MOST_RECORDS}
 use Rattle.kr_wire.specs.Grammar.{Each}
 use Rattle.kr_batch.specs.declared.Batch.{Batch}
+use Rattle.std.specs.Prelude.{IfOk}
+use Rattle.kr_batch.specs.declared.fault.BatchFault.{BatchFault}
+use Rattle.kr_batch.specs.declared.fault.BatchFault.TheVariants as faults
+use Rattle.kr_batch.specs.Answers.{IsFault}
 use Rattle.kr_batch.specs.Grammar.{IsBatch}
+use Rattle.kr_fold.specs.Followed.{IsRead, none_for}
 use Rattle.kr_batch.proofs.Batches.{one_value}
 use Rattle.kr_fold.specs.Logs.{Folded, nothing, followed, folded, IsLog, NoneFollows}
 use Rattle.kr_fold.proofs.Sizes.{batch_sized, sized_front}
@@ -16,8 +21,23 @@ apart a b x y u v is other same =
     let s = sized_front x y u v (batch_sized a x is) (batch_sized b y other) same in
     (one_value x a b is (subst (IsBatch b) (sym s.0) other), s.1)
 
+abbrev batch_read : Batch → Result Batch BatchFault
+batch_read batch = Ok batch
+
 pub batch_few : (batch : Batch) (bytes : List ℕ) → IsBatch batch bytes → length batch.items ≤ MOST_RECORDS
 batch_few batch bytes is = is.fixed.first.second.second.second.second.few
+
+-- where decoding answers a fault there is no batch, but for want of memory
+pub none_read : (bytes : List ℕ) (fault : BatchFault) → ((batch : Batch) → IsBatch batch bytes → IsFault fault (batch_read batch)) → IfOk (none_for fault) (λ o. IsRead bytes o)
+none_read bytes faults.NoMemory only = tt
+none_read bytes faults.Short only = λ batch is. let clash = only batch is in cc
+none_read bytes faults.Trailing only = λ batch is. let clash = only batch is in cc
+none_read bytes (faults.Magic found) only = λ batch is. let clash = only batch is in cc
+none_read bytes (faults.Crc stored counted) only = λ batch is. let clash = only batch is in cc
+none_read bytes (faults.Compressed kind) only = λ batch is. let clash = only batch is in cc
+none_read bytes (faults.BadCount count delta) only = λ batch is. let clash = only batch is in cc
+none_read bytes (faults.BadOffset at) only = λ batch is. let clash = only batch is in cc
+none_read bytes (faults.Record at cause) only = λ batch is. let clash = only batch is in cc
 
 -- ---- a log with a batch more
 

@@ -87,7 +87,7 @@ waits_there b head size twelve waiting least =
 
 pub unfinished_waits : (b : ℤ × Progress) (more : List ℕ) → IsUnfinished more → goes_on (stage (Some b) []) more ≡ waits (Some b) more
 unfinished_waits b more cut = elim (cases_lt (length more) 12) [
-  | inl few ↦ waits_on (Some b) [] more 12 (start_waits b []) few
+  | inl few ↦ waits_on (Some b) [] more 12 (start_waits b []) (omega (arith, few))
   | inr there ↦
       let u = cut there in
       let p = parted more there in
@@ -224,7 +224,7 @@ breaks_end bytes fault has none = record {
 -- ---- the head
 
 few_read : (more : List ℕ) → length more < 16 → so_far more ≡ waits None more
-few_read more few = waits_on None [] more 16 (head_waits []) few
+few_read more few = waits_on None [] more 16 (head_waits []) (omega (arith, few))
 
 not_begun_few : (more : List ℕ) → length more < 16 → HasBegun more → ⊥
 not_begun_few more few has =

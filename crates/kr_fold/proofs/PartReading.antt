@@ -11,7 +11,7 @@ use Rattle.kr_fold.specs.declared.fault.ToolFault.{ToolFault}
 use Rattle.kr_fold.specs.declared.fault.ToolFault.TheVariants as faults
 use Rattle.kr_fold.specs.Taken.{IsNoBatch, no_size, cut_off, IsSized}
 use Rattle.kr_fold.specs.Images.{HasBegun, BreaksAt}
-use Rattle.kr_fold.specs.Parts.{IsFed, IsImageFault, IsPart}
+use Rattle.kr_fold.specs.Parts.{IsFed, IsImageFault, IsPart, fault_as}
 use Rattle.kr_fold.proofs.BatchReading.{few_unfinished}
 use Rattle.kr_fold.proofs.Sizes.{size_same}
 use Rattle.kr_fold.proofs.Fronts.{begun_batch, begun_head, breaks_batch, breaks_cut, breaks_end, breaks_head, breaks_short, breaks_size, stands_of}
@@ -38,13 +38,6 @@ sized_take bytes size len told is within =
 
 -- ---- what a reader answers
 
-known_fault : {X : Type 0} (fault : ImageFault) (read : Result X ImageFault) → (fault ≡ images.NoMemory → ⊥) → IsFault fault read → read ≡ Err fault
-known_fault (images.Batch place cause) read other is = is
-known_fault (images.NoEnd found expected) read other is = is
-known_fault (images.Order place) read other is = is
-known_fault (images.IllFormed place cause) read other is = is
-known_fault images.NoMemory read other is = absurd (other refl)
-
 answer_ok : (s t : Result Taken ImageFault) → s ≡ t → Ok tt ≡ answer_of s → (taken : Taken) × (s ≡ Ok taken)
 answer_ok (Ok taken) t same answer = (taken, refl)
 answer_ok (Err fault) t same answer = absurd cc
@@ -58,18 +51,22 @@ answer_fault (Err other) fault bytes answer stands =
 answer_taken : (s : Result Taken ImageFault) (taken : Taken) (bytes : List ℕ) → s ≡ Ok taken → StandsFor s bytes → so_far bytes ≡ Ok taken
 answer_taken s taken bytes is stands = subst (λ (r : Result Taken ImageFault). StandsFor r bytes) is stands
 
-module _ (fed part : List ℕ) (before after : Result Taken ImageFault) (at : ℕ) (read : so_far fed ≡ before) (stands : (f : List ℕ) → StandsFor before f → StandsFor after (f ++ part)) where
-  fed_so : StandsFor after (fed ++ part)
-  fed_so = stands fed (stands_of fed before read)
+of_fault : (fault : ImageFault) (read reader : Result Taken ImageFault) (at : ℕ) → IsFault fault read → IsFed read reader at (Err (fault_as fault at))
+of_fault (images.Batch place cause) read reader at is = (refl, _, is)
+of_fault (images.NoEnd found expected) read reader at is = (refl, _, is)
+of_fault (images.Order place) read reader at is = (refl, _, is)
+of_fault (images.IllFormed place cause) read reader at is = (refl, _, is)
+of_fault images.NoMemory read reader at is = tt
 
+module _ (fed part : List ℕ) (before after : Result Taken ImageFault) (at : ℕ) (stands : (f : List ℕ) → StandsFor before f → StandsFor after (f ++ part)) (so : StandsFor before fed) where
   pub fed_ok : Ok tt ≡ answer_of after → IsFed (so_far (fed ++ part)) after at (Ok tt)
   fed_ok answer =
       let t = answer_ok after after refl answer in
-      let so = answer_taken after t.0 (fed ++ part) t.1 fed_so in
-      (so ∙ sym t.1, t.0, so)
+      let read = answer_taken after t.0 (fed ++ part) t.1 (stands fed so) in
+      (read ∙ sym t.1, t.0, read)
 
-  pub fed_fault : (fault : ImageFault) → (fault ≡ images.NoMemory → ⊥) → Err fault ≡ answer_of after → IsFed (so_far (fed ++ part)) after at (Err (faults.Malformed at))
-  fed_fault fault other answer = (refl, fault, known_fault fault (so_far (fed ++ part)) other (answer_fault after fault (fed ++ part) answer fed_so))
+  pub fed_fault : (fault : ImageFault) → Err fault ≡ answer_of after → IsFed (so_far (fed ++ part)) after at (Err (fault_as fault at))
+  fed_fault fault answer = of_fault fault (so_far (fed ++ part)) after at (answer_fault after fault (fed ++ part) answer (stands fed so))
 
 -- ---- parts
 
@@ -134,5 +131,9 @@ all_begun bytes reader part =
     let all : take (length bytes) bytes ≡ bytes = take-length bytes in
     (stands_of bytes reader (ap so_far (sym all) ∙ part.read), subst HasBegun all part.begun)
 
-pub end_fault : (bytes : List ℕ) (fault : ImageFault) → HasBegun bytes → (fault ≡ images.NoMemory → ⊥) → IsFault fault (image_of bytes) → IsImageFault bytes (faults.Malformed (length bytes))
-end_fault bytes fault begun other is = breaks_end bytes fault begun (known_fault fault (image_of bytes) other is)
+pub end_fault : (bytes : List ℕ) (fault : ImageFault) → HasBegun bytes → IsFault fault (image_of bytes) → IsImageFault bytes (fault_as fault (length bytes))
+end_fault bytes (images.Batch place cause) begun is = breaks_end bytes _ begun is
+end_fault bytes (images.NoEnd found expected) begun is = breaks_end bytes _ begun is
+end_fault bytes (images.Order place) begun is = breaks_end bytes _ begun is
+end_fault bytes (images.IllFormed place cause) begun is = breaks_end bytes _ begun is
+end_fault bytes images.NoMemory begun is = tt

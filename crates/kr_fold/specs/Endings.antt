@@ -1,5 +1,5 @@
 -- How a fold and a dump end: what was taken and what was written at each answer.
-use Rattle.std.specs.Prelude.{◌≡◌, ℕ, ℤ, ◌+◌, ◌<◌, ◌≤◌, ◌⊎◌, ⊥, Unit, List, ◌++◌, length, Option, IfSome, Result, Ok, Err}
+use Rattle.std.specs.Prelude.{◌≡◌, ℕ, ℤ, ◌+◌, ◌<◌, ◌≤◌, ◌⊎◌, List, ◌++◌, length, Option, IfSome, Result, Ok, Err}
 use Rattle.std.specs.Io.KnownBytes.{Consumes, Appends, IsAtEnd, Keeps}
 use Rattle.kr_base.specs.Written.{AppendsFront}
 use Rattle.kr_defs.specs.declared.limits.TheConstants.{MOST_LOAD_BYTES}

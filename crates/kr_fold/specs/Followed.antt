@@ -1,5 +1,8 @@
 -- A log's next batch, as the code judges it.
-use Rattle.std.specs.Prelude.{◌≡◌, ℕ, ℤ, pos, ◌+ℤ◌, ◌*◌, ◌≤◌, ◌≤ℤ◌, ⊥, Option, Some, None, List, length, Ok, Err}
+use Rattle.std.specs.Prelude.{◌≡◌, ℕ, ℤ, pos, ◌+ℤ◌, ◌*◌, ◌≤◌, ◌≤ℤ◌, Option, Some, None, List, length, Result, Ok, Err}
+use Rattle.kr_base.specs.declared.answers.NoMemory.{NoMemory}
+use Rattle.kr_batch.specs.declared.fault.BatchFault.{BatchFault}
+use Rattle.kr_batch.specs.declared.fault.BatchFault.TheVariants as faults
 use Rattle.kr_defs.specs.declared.ill.Ill.{Ill}
 use Rattle.kr_defs.specs.declared.limits.TheConstants.{MOST_RECORDS}
 use Rattle.kr_defs.specs.declared.record.Item.{Item}
@@ -26,6 +29,11 @@ AreApplied before after items (Some cause) = apply_all before items ≡ Err caus
 abbrev pub IsRead : List ℕ → Option Batch → Type 0
 IsRead bytes (Some batch) = IsBatch batch bytes × (length batch.items ≤ MOST_RECORDS)
 IsRead bytes None = (batch : Batch) → IsBatch batch bytes → ⊥
+
+-- a fault means that there is none, but for want of memory
+abbrev pub none_for : BatchFault → Result (Option Batch) NoMemory
+none_for faults.NoMemory = Err (record {})
+none_for other = Ok None
 
 -- the log with the batch, at its new tip; or that it doesn't follow
 abbrev pub IsFollowed : ℤ → Image → Image → Batch → Option ℤ → Type 0

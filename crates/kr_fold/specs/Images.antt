@@ -1,5 +1,5 @@
 -- How far bytes are an image.
-use Rattle.std.specs.Prelude.{◌≡◌, ℕ, ℤ, ◌<◌, ◌⊎◌, ⊥, List, [], ◌++◌, length, Some, Err}
+use Rattle.std.specs.Prelude.{◌≡◌, ℕ, ℤ, ◌<◌, ◌⊎◌, List, [], ◌++◌, length, Some, Err}
 use Rattle.kr_snapshot.specs.declared.fault.ImageFault.{ImageFault}
 use Rattle.kr_snapshot.specs.Reading.{Progress, image_of, so_far, waits}
 

@@ -1,11 +1,17 @@
 -- An image's bytes, part after part: the head, and then batches.
-use Rattle.std.specs.Prelude.{◌≡◌, ℕ, ◌≤◌, Unit, ⊥, List, take, length, Option, Result, Ok, Err}
+use Rattle.std.specs.Prelude.{◌≡◌, ℕ, ◌≤◌, List, take, length, Option, Result, Ok, Err}
 use Rattle.kr_snapshot.specs.declared.fault.ImageFault.{ImageFault}
+use Rattle.kr_snapshot.specs.declared.fault.ImageFault.TheVariants as images
 use Rattle.kr_snapshot.specs.Reading.{Taken, so_far}
 use Rattle.kr_fold.specs.declared.fault.ToolFault.{ToolFault}
 use Rattle.kr_fold.specs.declared.fault.ToolFault.TheVariants as faults
 use Rattle.kr_fold.specs.Endings.{largest, TookMore}
 use Rattle.kr_fold.specs.Images.{HasBegun, BreaksAt}
+
+-- a fault of the part at this place
+abbrev pub fault_as : ImageFault → ℕ → ToolFault
+fault_as images.NoMemory at = faults.NoMemory
+fault_as other at = faults.Malformed at
 
 -- a reader was fed what is read so far; or that is a fault, of the part at this place
 abbrev pub IsFed : Result Taken ImageFault → Result Taken ImageFault → ℕ → Result (Unit {0}) ToolFault → Type 0

@@ -3,6 +3,9 @@
 ghost use Rattle.std.specs.Prelude.{◌≡◌, ◌≤◌, ◌<◌, ◌++◌, [], length, take, None, IfOk, IfErr, IfSome, List, ℕ};
 ghost use Rattle.kr_snapshot.specs.Grammar.{IsImage};
 ghost use Rattle.kr_snapshot.specs.Reading.{so_far};
+ghost use Rattle.kr_wire.specs.Laws.{IsBytes};
+ghost use Rattle.kr_snapshot.specs.Read.{StandsFor};
+ghost use Rattle.kr_fold.specs.Parts as parts;
 ghost use Rattle.kr_fold.specs.Parts.{IsFed, IsImageFault, IsPart};
 ghost use Rattle.kr_fold.specs.Taken.{IsNoBatch, IsSized};
 
@@ -36,18 +39,34 @@ fn batch_len(bytes: &[u8]) -> Option<usize>
 
 // Feeds a reader a part that begins with the byte at this place.
 fn feed(reader: &mut Reader, part: &[u8], at: usize) -> Result<(), ToolFault>
-    ensures { (fed : List ℕ) → so_far fed ≡ reader.old → IsFed (so_far (fed ++ part.now)) reader.new at result }
+    ensures { (fed : List ℕ) → StandsFor reader.old fed → IsFed (so_far (fed ++ part.now)) reader.new at result }
 {
     match reader.feed(part) {
         Ok(()) => Ok(()),
-        Err(ImageFault::NoMemory) => Err(ToolFault::NoMemory),
-        Err(_) => Err(ToolFault::Malformed { at: at as u64 }),
+        Err(fault) => Err(fault_as(fault, at)),
     }
+}
+
+// A fault of the part at this place.
+fn fault_as(fault: ImageFault, at: usize) -> ToolFault
+    ensures { result ≡ parts.fault_as fault at }
+{
+    match fault {
+        ImageFault::NoMemory => ToolFault::NoMemory,
+        _ => ToolFault::Malformed { at: at as u64 },
+    }
+}
+
+// A byte is below 256.
+fn are_bytes(bytes: &[u8])
+    ensures { IsBytes bytes.now }
+{
+    let _len = bytes.len();
 }
 
 // Feeds the head.
 fn feed_head(reader: &mut Reader, bytes: &[u8]) -> Result<usize, ToolFault>
-    requires { so_far [] ≡ reader.old }
+    requires { StandsFor reader.old [] }
     ensures next { IfOk result (λ next. IsPart bytes.now reader.new next) }
     ensures fault { IfErr result (λ fault. IsImageFault bytes.now fault) }
 {
@@ -70,8 +89,9 @@ fn feed_batch(reader: &mut Reader, bytes: &[u8], at: usize) -> Result<usize, Too
     ensures fault { IfErr result (λ fault. IsImageFault bytes.now fault) }
 {
     let (_, rest) = bytes.split_at(at);
-    let Some(len) = batch_len(rest) else {
-        return Err(ToolFault::Malformed { at: at as u64 });
+    let len = match batch_len(rest) {
+        Some(len) => len,
+        None => return Err(ToolFault::Malformed { at: at as u64 }),
     };
     let (batch, _) = rest.split_at(len);
     match feed(reader, batch, at) {
@@ -86,12 +106,10 @@ fn close(reader: Reader, bytes: &[u8]) -> Result<(i64, ImageStore), ToolFault>
     ensures image { IfOk result (λ x. IsImage x.0 x.1.tip bytes.now) }
     ensures fault { IfErr result (λ fault. IsImageFault bytes.now fault) }
 {
+    are_bytes(bytes);
     match reader.finish() {
         Ok(image) => Ok(image),
-        Err(ImageFault::NoMemory) => Err(ToolFault::NoMemory),
-        Err(_) => Err(ToolFault::Malformed {
-            at: bytes.len() as u64,
-        }),
+        Err(fault) => Err(fault_as(fault, bytes.len())),
     }
 }
 

@@ -6,6 +6,7 @@ ghost use Rattle.kr_defs.specs.declared.limits.TheConstants.{MOST_RECORDS as mos
 ghost use Rattle.kr_base.specs.Causes.{Rose};
 ghost use Rattle.kr_store.specs.Images.{last_kept};
 ghost use Rattle.kr_fold.specs.Endings.{EndsLog, IsLogFault, ReadsLog};
+ghost use Rattle.kr_fold.specs.Followed as followed;
 ghost use Rattle.kr_fold.specs.Followed.{AreApplied, IsApplied, IsFollowed, IsRead, IsReadTo, IsWithin, log_at};
 
 use crate::batch::read_batch;
@@ -60,14 +61,23 @@ fn apply_items<S: Store, L: Ledger>(
 }
 
 // The batch that all of the bytes stand for, if they stand for one.
-#[tactic(auto, using(crate::proofs::Batches::batch_few))]
+#[tactic(auto, using(crate::proofs::Batches::batch_few, crate::proofs::Batches::none_read))]
 fn batch_of(alloc: Global, bytes: &[u8]) -> Result<Option<Batch>, NoMemory>
     ensures { IfOk result (λ batch. IsRead bytes.now batch) }
 {
     match decode(alloc, bytes) {
         Ok(batch) => Ok(Some(batch)),
-        Err(BatchFault::NoMemory) => Err(NoMemory),
-        Err(_) => Ok(None),
+        Err(fault) => none_for(fault),
+    }
+}
+
+// A fault means that there is no batch, but for want of memory.
+fn none_for(fault: BatchFault) -> Result<Option<Batch>, NoMemory>
+    ensures { result ≡ followed.none_for fault }
+{
+    match fault {
+        BatchFault::NoMemory => Err(NoMemory),
+        _ => Ok(None),
     }
 }
 
@@ -139,11 +149,13 @@ fn read_next<S: Source, L: Ledger>(
         Err(fault) => return Err(fault),
     };
     let at = place.at;
-    let Some(batch) = batch_of(alloc, bytes.as_slice())? else {
-        return Err(ToolFault::Malformed { at });
+    let batch = match batch_of(alloc, bytes.as_slice())? {
+        Some(batch) => batch,
+        None => return Err(ToolFault::Malformed { at }),
     };
-    let Some(tip) = follow(store, &place.tip, &batch, steps)? else {
-        return Err(ToolFault::Malformed { at });
+    let tip = match follow(store, &place.tip, &batch, steps)? {
+        Some(tip) => tip,
+        None => return Err(ToolFault::Malformed { at }),
     };
     Ok(Some(Place {
         tip,
