@@ -1,0 +1,106 @@
+-- A log is read batch after batch.
+use Rattle.std.proofs.Common.{◌≡◌, ◌∙◌, ℕ, ◌+◌, ◌<◌, ◌≤◌, List, [], ◌∷◌, ◌++◌, length, length-append, append_assoc, Option, Some, None, refl, sym, ap, subst, arith}
+use Rattle.std.specs.Prelude.{IfSome}
+use Rattle.std.specs.Io.KnownBytes.{Consumes, IsAtEnd}
+use Rattle.std.proofs.lemmas.List.{append-nil}
+use Rattle.kr_base.proofs.Pieces.{consumes_more}
+use Rattle.kr_batch.specs.declared.Batch.{Batch}
+use Rattle.kr_batch.specs.declared.fault.BatchFault.{BatchFault}
+use Rattle.kr_batch.specs.Grammar.{IsBatch}
+use Rattle.kr_snapshot.specs.Read.{IsUnfinished}
+use Rattle.kr_fold.specs.declared.fault.ToolFault.{ToolFault}
+use Rattle.kr_fold.specs.declared.fault.ToolFault.TheVariants as faults
+use Rattle.kr_fold.specs.Taken.{longest, HasNone, IsLongest, IsNext, IsNoBatch, no_size, cut_off, IsSized, Took}
+use Rattle.kr_fold.specs.Logs.{Folded, followed, IsLog, NoneFollows}
+use Rattle.kr_fold.specs.Endings.{ReadsLog, EndsLog, BreaksLog, LongLog, IsLogFault}
+use Rattle.kr_fold.proofs.Sizes.{batch_sized, sized_front, no_size_none, cut_none}
+use Rattle.kr_fold.proofs.Batches.{log_more}
+use Rattle.kr_fold.proofs.Fronts.{without_front}
+
+-- what stands behind a front of known bytes, of which more was taken
+behind_front : (l : List ℕ) (front rest stream behind : List ℕ) → stream ≡ (front ++ rest) ++ l → stream ≡ front ++ behind → behind ≡ rest ++ l
+behind_front l front rest stream behind took parts =
+    without_front front behind (rest ++ l) (sym parts ∙ (took ∙ append_assoc front rest l))
+
+-- what holds of all that stands behind the front
+pub behind_all : (a b : Option (List ℕ)) (front rest : List ℕ) (P : List ℕ → Type 0) → Consumes a b (front ++ rest) → ((l : List ℕ) → b ≡ Some l → P (rest ++ l))
+    → IfSome a (λ stream. (behind : List ℕ) → stream ≡ front ++ behind → P behind)
+behind_all None b front rest P took step = tt
+behind_all (Some stream) None front rest P took step = absurd took
+behind_all (Some stream) (Some l) front rest P took step = λ behind parts. subst P (sym (behind_front l front rest stream behind took parts)) (step l refl)
+
+-- ---- no batch may follow
+
+no_batch_none : (log : Folded) (bytes l : List ℕ) (b : Option (List ℕ)) → b ≡ Some l → IsNoBatch bytes b → NoneFollows log (bytes ++ l)
+no_batch_none log bytes l b is (no_size fault there told) = record {
+  some = let e = length-append bytes l in omega (arith, e, there);
+  none = λ front behind batch next parts spelled follows. no_size_none bytes l front behind fault there told (batch_sized batch front spelled) parts;
+}
+no_batch_none log bytes l b is (cut_off some cut end) =
+    let at_end : IsAtEnd (Some l) = subst IsAtEnd is end in
+    let none : bytes ++ l ≡ bytes = ap (λ (x : List ℕ). bytes ++ x) at_end ∙ append-nil bytes in
+    record {
+      some = let e = length-append bytes l in omega (arith, e, some);
+      none = λ front behind batch next parts spelled follows. cut_none bytes front behind cut (batch_sized batch front spelled) (sym none ∙ parts);
+    }
+
+refused_none : (log : Folded) (bytes l : List ℕ) → IsSized bytes → ((batch : Batch) (next : Folded) → IsBatch batch bytes → followed log batch ≡ Some next → ⊥) → NoneFollows log (bytes ++ l)
+refused_none log bytes l sized refused = record {
+  some = let e = length-append bytes l in let w = sized.whole in omega (arith, e, w);
+  none = λ front behind batch next parts spelled follows.
+      let s = sized_front bytes front l behind sized (batch_sized batch front spelled) parts in
+      refused batch next (subst (IsBatch batch) (sym s.0) spelled) follows;
+}
+
+-- ---- one more step
+
+module _ (left mid left' : Option (List ℕ)) (log : Folded) (at : ℕ) (reads : ReadsLog left mid log at) where
+  pub reads_end : Consumes mid left' [] → IsAtEnd left' → at < longest → EndsLog left left' log
+  reads_end took end short = record {
+    taken = reads.taken;
+    is = reads.is;
+    took = subst (λ (l : List ℕ). Consumes left left' l) (append-nil reads.taken) (consumes_more left mid left' reads.taken [] reads.took took);
+    end = end;
+    short = let p = reads.place in omega (arith, p, short);
+  }
+
+  pub reads_more : (next : Folded) (bytes : List ℕ) (batch : Batch) → Consumes mid left' bytes → IsBatch batch bytes → followed log batch ≡ Some next → ReadsLog left left' next (at + length bytes)
+  reads_more next bytes batch took spelled follows = record {
+    taken = reads.taken ++ bytes;
+    is = log_more log next reads.taken bytes batch reads.is spelled follows;
+    took = consumes_more left mid left' reads.taken bytes reads.took took;
+    place = let p = reads.place in let e = length-append reads.taken bytes in omega (arith, p, e);
+  }
+
+  breaks : (bytes : List ℕ) → Consumes mid left' bytes → ((l : List ℕ) → left' ≡ Some l → NoneFollows log (bytes ++ l)) → BreaksLog left left' at
+  breaks bytes took none =
+      let all = consumes_more left mid left' reads.taken bytes reads.took took in
+      record {
+        log = log;
+        front = reads.taken;
+        rest = bytes;
+        is = reads.is;
+        took = all;
+        place = reads.place;
+        none = behind_all left left' reads.taken bytes (NoneFollows log) all none;
+      }
+
+  pub reads_refused : (bytes : List ℕ) → Consumes mid left' bytes → IsSized bytes → ((batch : Batch) (next : Folded) → IsBatch batch bytes → followed log batch ≡ Some next → ⊥) → BreaksLog left left' at
+  reads_refused bytes took sized refused = breaks bytes took (λ l is. refused_none log bytes l sized refused)
+
+  pub reads_none : (count count' : ℕ) (fault : ToolFault) → HasNone mid left' count count' at fault → IsLogFault left left' fault
+  reads_none count count' (faults.Malformed place) has =
+      let t = has.1 in
+      subst (BreaksLog left left') (sym has.0) (breaks t.taken t.took (λ l is. no_batch_none log t.taken l left' is t.is))
+  reads_none count count' faults.ReadFault has = tt
+  reads_none count count' faults.NoMemory has = tt
+  reads_none count count' faults.WriteFault has = has
+  reads_none count count' faults.TooLong has = record {
+    log = log;
+    front = reads.taken;
+    rest = has.taken;
+    is = reads.is;
+    took = consumes_more left mid left' reads.taken has.taken reads.took has.took;
+    cut = has.is.0;
+    long = let p = reads.place in let e = length-append reads.taken has.taken in let m = has.is.1 in omega (arith, p, e, m);
+  }

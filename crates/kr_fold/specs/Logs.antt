@@ -1,0 +1,43 @@
+-- A log of batches from place 0 on, and the image that its items make (KIP-631).
+use Rattle.std.specs.Prelude.{◌≡◌, ℕ, ℤ, pos, ◌+ℤ◌, ◌<◌, List, [], ◌∷◌, ◌++◌, length, Option, Some, None, Result, Ok, Err, if◌then◌else◌}
+use Rattle.std.specs.Option.{option_and_then}
+use Rattle.std.specs.Ordering.{int_eq}
+use Rattle.kr_defs.specs.declared.ill.Ill.{Ill}
+use Rattle.kr_defs.specs.Image.{Image, empty}
+use Rattle.kr_defs.specs.Log.{apply_all}
+use Rattle.kr_wire.specs.Grammar.{Each}
+use Rattle.kr_batch.specs.declared.Batch.{Batch}
+use Rattle.kr_batch.specs.Grammar.{IsBatch}
+
+-- a log so far: the place behind its last item, and the image that the items make
+pub record Folded : Type 0 where
+  pub tip : ℤ
+  pub image : Image
+
+-- the log of no items
+abbrev pub nothing : Folded
+nothing = record { tip = pos 0; image = empty }
+
+abbrev pub with_image : ℤ → Result Image Ill → Option Folded
+with_image tip (Ok image) = Some (record { tip = tip; image = image })
+with_image tip (Err cause) = None
+
+-- with a batch more: it stands where the log ends, and all its items have a meaning
+abbrev pub followed : Folded → Batch → Option Folded
+followed log batch =
+    if int_eq batch.base log.tip then with_image (log.tip +ℤ pos (length batch.items)) (apply_all log.image batch.items) else None
+
+abbrev pub folded : Folded → List Batch → Option Folded
+folded log [] = Some log
+folded log (batch ∷ batches) = option_and_then (λ next. folded next batches) (followed log batch)
+
+-- the bytes are batches, one after the other, which make this log
+pub record IsLog (log : Folded) (bytes : List ℕ) : Type 0 where
+  pub batches : List Batch
+  pub made : folded nothing batches ≡ Some log
+  pub spelled : Each IsBatch batches bytes
+
+-- there are bytes, and no front of them is a batch that may follow
+pub record NoneFollows (log : Folded) (bytes : List ℕ) : Type 0 where
+  pub some : 0 < length bytes
+  pub none : (front behind : List ℕ) (batch : Batch) (next : Folded) → bytes ≡ front ++ behind → IsBatch batch front → followed log batch ≡ Some next → ⊥

@@ -1,0 +1,151 @@
+//! The two calls.
+
+ghost use Rattle.std.specs.Prelude.{◌≡◌, ◌≤◌, ◌≤ℤ◌, pos, IfOk, IfErr, IsErrOf, OnOk, OnErr};
+ghost use Rattle.std.specs.Io.KnownBytes.{Appends};
+ghost use Rattle.kr_base.specs.Causes.{Rose};
+ghost use Rattle.kr_base.specs.Written.{AppendsFront};
+ghost use Rattle.kr_wire.specs.Grammar.{Exactly};
+ghost use Rattle.kr_snapshot.specs.Written.{image_text};
+ghost use Rattle.kr_fold.specs.Endings.{FoldEnds, FoldsWhole, FoldsNoMore, DumpEnds, DumpsWhole, RefusesBroken, RefusesLonger, TookAll};
+ghost use Rattle.kr_fold.specs.Parts.{IsLongInput};
+
+use crate::fault::ToolFault;
+use crate::image::read_image;
+use crate::log::read_log;
+use crate::piece::{Filled, fill};
+use kr_base::{NoMemory, Sink, Source};
+use kr_defs::limits::MOST_LOAD_BYTES;
+use kr_image::ImageStore;
+use kr_store::At;
+use std::alloc::Global;
+use std::marker::Brand;
+use std::sync::ledger::Blank;
+
+// Writes bytes by one put.
+fn put<K: Sink>(output: &mut K, bytes: &[u8]) -> Result<(), ToolFault>
+    ensures ok { OnOk result (Appends (K.written output.old) (K.written output.new) bytes.now) }
+    ensures err { OnErr result (AppendsFront (K.written output.old) (K.written output.new) bytes.now) }
+    ensures fault { IfErr result (λ fault. fault ≡ ToolFault.WriteFault) }
+    ensures rose { OnErr result (Rose (K.faults output.old) (K.faults output.new)) }
+    ensures later { K.faults output.old ≤ K.faults output.new }
+{
+    match output.put(bytes) {
+        Ok(()) => Ok(()),
+        Err(_failed) => Err(ToolFault::WriteFault),
+    }
+}
+
+// The bytes of the present image of a store, at an offset.
+fn image_bytes(alloc: Global, store: &ImageStore, offset: i64) -> Result<Vec<u8>, NoMemory>
+    requires { pos 0 ≤ℤ offset }
+    ensures { IfOk result (λ bytes. bytes.items ≡ image_text offset store.now.tip) }
+{
+    let mut bytes = Vec::new(alloc);
+    match kr_snapshot::write(alloc, store, At::Tip, offset, &mut bytes) {
+        Ok(()) => Ok(bytes),
+        Err(_) => Err(NoMemory),
+    }
+}
+
+/// Reads batches from place 0 to the end of the input, each at the end of the one before it, and writes the image that
+/// their items make, at their tip. Nothing is written before all of the input is read, and that by one put.
+///
+/// It answers Malformed at the first byte of the first batch that is no batch, stands elsewhere, or has an item without
+/// meaning; ReadFault or WriteFault where a read or the write failed; TooLong where 1,099,511,627,776 bytes were taken that
+/// are neither all of the input nor a batch that is refused; NoMemory where memory ran out.
+pub fn fold<S: Source, K: Sink>(
+    alloc: Global,
+    input: &mut S,
+    output: &mut K,
+) -> Result<(), ToolFault>
+    // What was taken and what was written at each answer.
+    ensures ends { FoldEnds (S.left input.old) (S.left input.new) (K.written output.old) (K.written output.new) result }
+    // A fault is told only where that object's count rose in this call.
+    ensures read { IsErrOf result ToolFault.ReadFault → Rose (S.faults input.old) (S.faults input.new) }
+    ensures write { IsErrOf result ToolFault.WriteFault → Rose (K.faults output.old) (K.faults output.new) }
+    // Where no read and no write failed: a whole log is folded, and a broken one is refused at that batch.
+    ensures complete { (Rose (S.faults input.old) (S.faults input.new) → ⊥) → (Rose (K.faults output.old) (K.faults output.new) → ⊥) → FoldsWhole (S.left input.old) result }
+    ensures broken { (Rose (S.faults input.old) (S.faults input.new) → ⊥) → (Rose (K.faults output.old) (K.faults output.new) → ⊥) → FoldsNoMore (S.left input.old) result }
+{
+    fold_log(alloc, input, output)
+}
+
+fn fold_log<S: Source, K: Sink>(
+    alloc: Global,
+    input: &mut S,
+    output: &mut K,
+) -> Result<(), ToolFault>
+    ensures ends { FoldEnds (S.left input.old) (S.left input.new) (K.written output.old) (K.written output.new) result }
+    ensures read { IsErrOf result ToolFault.ReadFault → Rose (S.faults input.old) (S.faults input.new) }
+    ensures write { IsErrOf result ToolFault.WriteFault → Rose (K.faults output.old) (K.faults output.new) }
+{
+    let (store, tip) = match read_log::<S, Brand>(alloc, input, Blank::new(1)) {
+        Ok(log) => log,
+        Err(fault) => return Err(fault),
+    };
+    let bytes = image_bytes(alloc, &store, tip)?;
+    put(output, bytes.as_slice())
+}
+
+// All bytes of the input, where they are no more than an image may have.
+fn read_all<S: Source>(alloc: Global, input: &mut S) -> Result<Vec<u8>, ToolFault>
+    ensures all { IfOk result (λ bytes. TookAll (Exactly bytes.items) (S.left input.old) (S.left input.new)) }
+    ensures fault { IfErr result (λ fault. IsLongInput (S.left input.old) (S.left input.new) fault) }
+    ensures read { IsErrOf result ToolFault.ReadFault → Rose (S.faults input.old) (S.faults input.new) }
+    ensures later { S.faults input.old ≤ S.faults input.new }
+{
+    let mut bytes = Vec::new(alloc);
+    match fill(input, &mut bytes, MOST_LOAD_BYTES + 1, 0) {
+        Ok(Filled::Ended) => Ok(bytes),
+        Ok(Filled::Full) => Err(ToolFault::Malformed {
+            at: MOST_LOAD_BYTES as u64,
+        }),
+        Err(fault) => Err(fault),
+    }
+}
+
+/// Reads an image to the end of the input, and writes its text, a line an entry. Nothing is written before all of the
+/// input is read, and that by one put.
+///
+/// It answers Malformed at the first byte of the batch at fault, at 0 where that is the head, at the end of the input
+/// where batches are missing, and at 67,108,864 where there are more bytes than that, whatever stands before; ReadFault
+/// or WriteFault where a read or the write failed; NoMemory where memory ran out.
+pub fn dump<S: Source, K: Sink>(
+    alloc: Global,
+    input: &mut S,
+    output: &mut K,
+) -> Result<(), ToolFault>
+    // What was taken and what was written at each answer.
+    ensures ends { DumpEnds (S.left input.old) (S.left input.new) (K.written output.old) (K.written output.new) result }
+    // A fault is told only where that object's count rose in this call.
+    ensures read { IsErrOf result ToolFault.ReadFault → Rose (S.faults input.old) (S.faults input.new) }
+    ensures write { IsErrOf result ToolFault.WriteFault → Rose (K.faults output.old) (K.faults output.new) }
+    // Where no read and no write failed: an image is dumped, a broken one is refused at that batch, and a longer one at
+    // its limit.
+    ensures complete { (Rose (S.faults input.old) (S.faults input.new) → ⊥) → (Rose (K.faults output.old) (K.faults output.new) → ⊥) → DumpsWhole (S.left input.old) result }
+    ensures broken { (Rose (S.faults input.old) (S.faults input.new) → ⊥) → (Rose (K.faults output.old) (K.faults output.new) → ⊥) → RefusesBroken (S.left input.old) result }
+    ensures longer { (Rose (S.faults input.old) (S.faults input.new) → ⊥) → (Rose (K.faults output.old) (K.faults output.new) → ⊥) → RefusesLonger (S.left input.old) result }
+{
+    dump_image(alloc, input, output)
+}
+
+fn dump_image<S: Source, K: Sink>(
+    alloc: Global,
+    input: &mut S,
+    output: &mut K,
+) -> Result<(), ToolFault>
+    ensures ends { DumpEnds (S.left input.old) (S.left input.new) (K.written output.old) (K.written output.new) result }
+    ensures read { IsErrOf result ToolFault.ReadFault → Rose (S.faults input.old) (S.faults input.new) }
+    ensures write { IsErrOf result ToolFault.WriteFault → Rose (K.faults output.old) (K.faults output.new) }
+{
+    let bytes = match read_all(alloc, input) {
+        Ok(bytes) => bytes,
+        Err(fault) => return Err(fault),
+    };
+    let (offset, store) = match read_image(alloc, bytes.as_slice()) {
+        Ok(image) => image,
+        Err(fault) => return Err(fault),
+    };
+    let text = kr_dump::dump(alloc, &store, At::Tip, offset)?;
+    put(output, text.as_slice())
+}

@@ -1,0 +1,12 @@
+//! Batches of a log to the image that they make, and an image to its text: from any source, to any sink.
+#![tactic(auto)]
+
+mod fault;
+mod batch;
+mod calls;
+mod image;
+mod log;
+mod piece;
+
+pub use calls::{dump, fold};
+pub use fault::ToolFault;
