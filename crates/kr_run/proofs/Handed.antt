@@ -1,5 +1,5 @@
 -- Outputs that an engine hands out, and engines that take one event after the other.
-use Rattle.std.proofs.Common.{◌≡◌, List, [], ◌∷◌, ◌++◌, Option, Some, None, refl, sym, ap, subst, ◌∙◌}
+use Rattle.std.proofs.Common.{◌≡◌, ℕ, List, [], ◌∷◌, ◌++◌, Option, Some, None, refl, sym, ap, subst, ◌∙◌}
 use Rattle.kr_calls.specs.declared.events.Event.{Event}
 use Rattle.kr_calls.specs.declared.events.Output.{Output}
 use Rattle.kr_engine.specs.declared.writes.Write.{Write}
@@ -8,7 +8,9 @@ use Rattle.kr_engine.specs.Events.{happens}
 use Rattle.kr_engine.specs.Outputs.{outputs_of, waiting_after}
 use Rattle.kr_engine.specs.Runs.{HandsAll, Runs}
 use Rattle.kr_engine.specs.World.{State}
+use Rattle.kr_run.specs.Endings.{WroteAll, WroteSome}
 use Rattle.kr_run.specs.inner.Serving.{Drains, HandsSome}
+use Rattle.kr_run.proofs.OutputFrames.{some_behind, some_of_more}
 
 -- ---- some outputs of an event
 
@@ -19,6 +21,13 @@ one_more a b c (other ∷ given) output (e, first, rest) next = (e, first, one_m
 pub left_behind : (a b : Core) (given : List Output) → HandsSome a given b → left a ≡ given ++ left b
 left_behind a b [] is = ap left (sym is)
 left_behind a b (output ∷ given) (e, first, rest) = first.in_order ∙ ap (λ (l : List Output). output ∷ l) (left_behind e b given rest)
+
+-- one output isn't written whole
+pub some_written : (before now after : Core) (given : List Output) (output : Output) (a b c : Option (List ℕ)) → HandsSome before given now → Hands now after (Some output) → WroteAll a b given
+    → WroteSome b c (output ∷ []) → WroteSome a c (left before)
+some_written before now after given output a b c some next wrote one =
+    subst (WroteSome a c) (sym (left_behind before now given some ∙ ap (λ (l : List Output). given ++ l) next.in_order))
+    (some_behind a b c given (output ∷ left after) wrote (some_of_more b c (output ∷ []) (left after) one))
 
 -- ---- all of them
 

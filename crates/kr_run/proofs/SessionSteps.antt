@@ -1,9 +1,11 @@
 -- A session goes on by one frame, or ends.
-use Rattle.std.proofs.Common.{◌≡◌, ℕ, ◌+◌, ◌<◌, ◌≤◌, ◌⊎◌, inl, inr, Bool, true, List, [], ◌∷◌, ◌++◌, length, append-nil, length-append, Option, None, refl, sym, ap, subst, ◌∙◌, arith}
+use Rattle.std.proofs.Common.{◌≡◌, ℕ, ◌+◌, ◌<◌, ◌≤◌, ◌⊎◌, inl, inr, Bool, false, true, List, [], ◌∷◌, ◌++◌, length, append-nil, length-append, Option, None, refl, sym, ap, subst, ◌∙◌, arith}
 use Rattle.std.specs.Io.KnownBytes.{Consumes, IsAtEnd}
 use Rattle.std.proofs.KnownBytes.{Consumes-trans}
 use Rattle.kr_wire.specs.Laws.{IsBytes}
+use Rattle.kr_wire.proofs.SpelledBytes.{none_fits}
 use Rattle.kr_calls.specs.declared.events.Event.{Event}
+use Rattle.kr_calls.specs.declared.events.Event.TheVariants as events
 use Rattle.kr_calls.specs.declared.events.Output.{Output}
 use Rattle.kr_defs.specs.declared.limits.TheConstants.{MOST_SESSION_BYTES}
 use Rattle.kr_defs.specs.declared.options.Options.{Options}
@@ -18,17 +20,21 @@ use Rattle.kr_stream.specs.declared.fault.StreamFault.TheVariants as stops
 use Rattle.kr_stream.specs.declared.fault.WriteFault.{WriteFault}
 use Rattle.kr_stream.specs.declared.fault.WriteFault.TheVariants as faults
 use Rattle.kr_stream.specs.declared.frame.Frame.{Frame}
-use Rattle.kr_stream.specs.Frames.{IsOpen, IsEvent, IsEnd, IsFrameOf}
-use Rattle.kr_stream.specs.Reader.{Took, Stopped, IsRefused, IsUnfinished, in_size}
+use Rattle.kr_stream.specs.Frames.{IsOpen, IsEvent, IsEnd, IsFrameOf, kind_of_event}
+use Rattle.kr_stream.specs.Kinds.{may_stand}
+use Rattle.kr_stream.specs.declared.frame.Frame.TheVariants as frames
+use Rattle.kr_stream.specs.declared.stage.Stage.{Stage}
+use Rattle.kr_stream.specs.declared.stage.Stage.TheVariants as stages
+use Rattle.kr_stream.specs.Reader.{Took, IsNext, Stands, Stopped, Stops, IsRefused, IsUnfinished, in_size}
 use Rattle.kr_stream.proofs.FrameForms.{frame_length}
-use Rattle.kr_stream.proofs.Parts.{both_bytes}
+use Rattle.kr_stream.proofs.Parts.{both_bytes, consumes_none, took_as}
 use Rattle.kr_run.specs.declared.status.Status.{Status}
 use Rattle.kr_run.specs.declared.status.Status.TheVariants as statuses
 use Rattle.kr_run.specs.Session.{Progress, Unopened, Opened, HasRead, all_outputs, is_opened, outputs_so_far}
 use Rattle.kr_run.specs.Endings.{EndsWith, IsBreak, IsCut, TookPart, TookWhole, WroteAll, WroteSome}
 use Rattle.kr_run.specs.inner.Serving.{Going, Serves, unread_status, unwritten_status}
 use Rattle.kr_run.proofs.Handed.{run_further, runs_options, step_through}
-use Rattle.kr_run.proofs.OutputFrames.{all_of, both_written, none_of, some_behind}
+use Rattle.kr_run.proofs.OutputFrames.{all_of, both_written, none_written, some_behind}
 use Rattle.kr_run.proofs.PastEvents.{opened_first, read_further, joined, joined_behind, all_behind}
 
 -- a frame takes some bytes
@@ -48,10 +54,13 @@ module _ (progress : Progress) (front : List ℕ) (left mid left' written writte
     bytes = bytes;
     within = s.within;
     took = Consumes-trans left mid left' front s.taken took s.took;
-    behind = (s.cause.0, elim s.cause.1 [
-      | inl refused ↦ inl refused
-      | inr cut ↦ inr ((cut.0, cut.1.1), cut.1.0)
-    ]);
+    behind = (
+      s.cause.0,
+      elim s.cause.1 [
+        | inl refused ↦ inl refused
+        | inr cut ↦ inr ((cut.0, cut.1.1), cut.1.0)
+      ],
+    );
     wrote = wrote;
   }
   unread_at stops.ReadFault s = record {
@@ -224,3 +233,54 @@ module _ (left mid left' written between : Option (List ℕ)) (engine : Core) (a
         behind = inl (in_size (omega arith));
         wrote = some_so;
       }
+
+-- ---- what a reader took behind the first frame
+
+module _ (stage : Stage) (opened_so : stage ≡ stages.Opened) where
+  pub frame_taken : (frame : Frame) (a b : Option (List ℕ)) (at end : ℕ) → Took (IsNext stage frame) a b at end → Took (Stands true frame) a b at end
+  frame_taken frame a b at end t = subst (λ (s : Stage). Took (IsNext s frame) a b at end) opened_so t
+
+  pub stopped_there : (at : ℕ) (a b : Option (List ℕ)) (f g : ℕ) (fault : StreamFault) → Stops stage at a b f g fault → Stopped true at a b f g fault
+  stopped_there at a b f g fault s = subst (λ (s : Stage). Stops s at a b f g fault) opened_so s
+
+  pub never_opens : (options : Options) (a b : Option (List ℕ)) (at end : ℕ) → Took (IsNext stage (frames.Open options)) a b at end → ⊥
+  never_opens options a b at end t =
+      let wrong : false ≡ true = (frame_taken (frames.Open options) a b at end t).is.place in absurd cc
+
+  -- it is this frame
+  pub taken_as : (frame : Frame) (a b : Option (List ℕ)) (at end : ℕ) → Took (IsNext stage frame) a b at end → Took (IsFrameOf frame) a b at end
+  taken_as frame a b at end t = took_as a b at end (frame_taken frame a b at end t) (λ bytes stands. stands.is)
+
+-- ---- what a reader took at the beginning
+
+no_bytes : IsBytes []
+no_bytes = none_fits.each
+
+never_first : (event : Event) → may_stand false (kind_of_event event) ≡ true → ⊥
+never_first (events.Lead epoch next now) wrong = absurd cc
+never_first (events.Commit epoch end) wrong = absurd cc
+never_first (events.Lost epoch) wrong = absurd cc
+never_first (events.Batch bytes) wrong = absurd cc
+never_first (events.Load bytes) wrong = absurd cc
+never_first (events.Tick now) wrong = absurd cc
+never_first (events.Request client now ask) wrong = absurd cc
+never_first events.Image wrong = absurd cc
+
+module _ (stage : Stage) (unopened_so : stage ≡ stages.Unopened) (left left' : Option (List ℕ)) where
+  first_taken : (frame : Frame) (at end : ℕ) → Took (IsNext stage frame) left left' at end → Took (Stands false frame) left left' at end
+  first_taken frame at end t = subst (λ (s : Stage). Took (IsNext s frame) left left' at end) unopened_so t
+
+  pub no_event_first : (event : Event) (at end : ℕ) → Took (IsNext stage (frames.Event event)) left left' at end → ⊥
+  no_event_first event at end t = never_first event (first_taken (frames.Event event) at end t).is.place
+
+  pub no_end_first : (at end : ℕ) → Took (IsNext stage frames.End) left left' at end → ⊥
+  no_end_first at end t = let wrong : false ≡ true = (first_taken frames.End at end t).is.place in absurd cc
+
+  pub open_taken : (options : Options) (at end : ℕ) → at ≡ 0 → Took (IsNext stage (frames.Open options)) left left' at end → Took (IsOpen options) left left' 0 end
+  open_taken options at end zero t =
+      subst (λ (n : ℕ). Took (IsOpen options) left left' n end) zero (took_as left left' at end (first_taken (frames.Open options) at end t) (λ bytes stands. stands.is))
+
+  pub unread_first : (written : Option (List ℕ)) (at f g : ℕ) (fault : StreamFault) → at ≡ 0 → Stops stage at left left' f g fault → EndsWith left left' written written (unread_status fault)
+  unread_first written at f g fault zero s =
+      unread Unopened [] left left left' written written refl no_bytes (consumes_none left) (none_written written) f g at fault zero
+      (subst (λ (s : Stage). Stops s at left left' f g fault) unopened_so s)

@@ -4,10 +4,12 @@ use Rattle.kr_wire.specs.Grammar.{Each}
 use Rattle.kr_wire.specs.Laws.{IsBytes}
 use Rattle.kr_wire.proofs.Laws.{IsBytes-before, IsBytes-behind}
 use Rattle.kr_calls.specs.declared.events.Event.{Event}
+use Rattle.kr_calls.specs.declared.events.Event.TheVariants as events
 use Rattle.kr_defs.specs.declared.options.Options.{Options}
 use Rattle.kr_stream.specs.declared.frame.Frame.{Frame}
 use Rattle.kr_stream.specs.declared.frame.Frame.TheVariants as frames
-use Rattle.kr_stream.specs.Frames.{IsOpen, IsEvent, IsEnd, IsFrameOf}
+use Rattle.kr_stream.specs.Frames.{IsOpen, IsEvent, IsEnd, IsFrameOf, kind_of_event}
+use Rattle.kr_stream.specs.Kinds.{may_stand}
 use Rattle.kr_stream.specs.Laws.{NoneBegins}
 use Rattle.kr_stream.specs.Reader.{Stands}
 use Rattle.kr_stream.proofs.FrameLaws.{frames_apart}
@@ -56,9 +58,19 @@ behind_first a b c x y parts same = sym (append_assoc b c x) ∙ (ap (λ (l : Li
 without_front : (a b x y : List ℕ) → a ≡ [] → a ++ x ≡ b ++ y → x ≡ b ++ y
 without_front a b x y none same = sym (ap (λ (l : List ℕ). l ++ x) none) ∙ same
 
+stands_behind : (event : Event) → may_stand true (kind_of_event event) ≡ true
+stands_behind (events.Lead epoch next now) = refl
+stands_behind (events.Commit epoch end) = refl
+stands_behind (events.Lost epoch) = refl
+stands_behind (events.Batch bytes) = refl
+stands_behind (events.Load bytes) = refl
+stands_behind (events.Tick now) = refl
+stands_behind (events.Request client now ask) = refl
+stands_behind events.Image = refl
+
 -- an event stands at the front of the bytes
 begun : (event : Event) (front behind bytes : List ℕ) → bytes ≡ front ++ behind → IsEvent event front → NoneBegins true bytes → ⊥
-begun event front behind bytes parts is none = none (frames.Event event) front behind parts (record { place = refl; is = is })
+begun event front behind bytes parts is none = none (frames.Event event) front behind parts (record { place = stands_behind event; is = is })
 
 agree : (es fs : List Event) (a b x y : List ℕ) → IsBytes a ⊎ IsBytes b → Each IsEvent es a → Each IsEvent fs b → a ++ x ≡ b ++ y → NoneBegins true y → Beyond es fs b x y
 agree [] fs a b x y bytes first second same none = record { more = fs; tail = b; same = refl; spelled = second; rest = without_front a b x y first same; of_bytes = λ bytes. bytes }
@@ -88,7 +100,7 @@ not_ended [] tail end x y bytes is spelled same none =
 not_ended (m ∷ more) tail end x y bytes is spelled same none =
     let front : end ++ x ≡ spelled.left ++ (spelled.right ++ y) = same ∙ (ap (λ (l : List ℕ). l ++ y) spelled.is ∙ append_assoc spelled.left spelled.right y) in
     let parts = fronts end tail end [] spelled.left spelled.right (sym (append-nil end)) spelled.is bytes in
-    let d = frames_once frames.End (frames.Event m) end spelled.left x (spelled.right ++ y) parts is spelled.first front in
+    let differs : frames.End ≡ frames.Event m = (frames_once frames.End (frames.Event m) end spelled.left x (spelled.right ++ y) parts is spelled.first front).0 in
     absurd cc
 
 -- a stream that begins with a whole session has no place at which no frame stands

@@ -63,7 +63,8 @@ fn read_options<S: Source>(reader: &mut Reader, input: &mut S) -> Result<Options
     match reader.next(input) {
         Err(fault) => Err(unread(fault)),
         Ok(Frame::Open(options)) => Ok(options),
-        Ok(_) => unreachable!(),
+        Ok(Frame::Event(_)) => unreachable!(),
+        Ok(Frame::End) => unreachable!(),
     }
 }
 
