@@ -1,5 +1,6 @@
 -- A session goes on by one frame, or ends.
-use Rattle.std.proofs.Common.{◌≡◌, ℕ, ◌+◌, ◌<◌, ◌≤◌, ◌⊎◌, inl, inr, Bool, false, true, List, [], ◌∷◌, ◌++◌, length, append-nil, length-append, Option, None, refl, sym, ap, subst, ◌∙◌, arith}
+use Rattle.std.proofs.Common.{◌≡◌, ℕ, ◌+◌, ◌<◌, ◌≤◌, ◌⊎◌, inl, inr, Bool, false, true, List, [], ◌∷◌, ◌++◌, length, append-nil, length-append, Option, None, Result, Ok, Err, refl, sym, ap, subst, ◌∙◌, arith}
+use Rattle.std.specs.Prelude.{OnOk}
 use Rattle.std.specs.Io.KnownBytes.{Consumes, IsAtEnd}
 use Rattle.std.proofs.KnownBytes.{Consumes-trans}
 use Rattle.kr_wire.specs.Laws.{IsBytes}
@@ -36,6 +37,11 @@ use Rattle.kr_run.specs.inner.Serving.{Going, Serves, unread_status, unwritten_s
 use Rattle.kr_run.proofs.Handed.{run_further, runs_options, step_through}
 use Rattle.kr_run.proofs.OutputFrames.{all_of, both_written, none_written, some_behind}
 use Rattle.kr_run.proofs.PastEvents.{opened_first, read_further, joined, joined_behind, all_behind}
+
+-- what holds of each result
+pub on_ok : {P : Type 0} (result : Result (Unit {0}) Status) → P → OnOk result P
+on_ok (Ok u) p = p
+on_ok (Err status) p = tt
 
 -- a frame takes some bytes
 pub took_further : (frame : Frame) (a b : Option (List ℕ)) (at end : ℕ) → Took (IsFrameOf frame) a b at end → (at < end) × (end ≤ MOST_SESSION_BYTES)
