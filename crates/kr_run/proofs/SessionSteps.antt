@@ -1,7 +1,7 @@
 -- A session goes on by one frame, or ends.
-use Rattle.std.proofs.Common.{◌≡◌, ℕ, ◌+◌, ◌<◌, ◌≤◌, ◌⊎◌, inl, inr, Bool, false, true, List, [], ◌∷◌, ◌++◌, length, append-nil, length-append, Option, None, Result, Ok, Err, refl, sym, ap, subst, ◌∙◌, arith}
+use Rattle.std.proofs.Common.{◌≡◌, ℕ, ◌+◌, ◌<◌, ◌≤◌, inl, inr, false, true, List, [], ◌∷◌, ◌++◌, length, append-nil, length-append, Option, None, Result, Ok, Err, refl, sym, ap, subst, ◌∙◌, arith}
 use Rattle.std.specs.Prelude.{OnOk}
-use Rattle.std.specs.Io.KnownBytes.{Consumes, IsAtEnd}
+use Rattle.std.specs.Io.KnownBytes.{Consumes}
 use Rattle.std.proofs.KnownBytes.{Consumes-trans}
 use Rattle.kr_wire.specs.Laws.{IsBytes}
 use Rattle.kr_wire.proofs.SpelledBytes.{none_fits}
@@ -26,13 +26,13 @@ use Rattle.kr_stream.specs.Kinds.{may_stand}
 use Rattle.kr_stream.specs.declared.frame.Frame.TheVariants as frames
 use Rattle.kr_stream.specs.declared.stage.Stage.{Stage}
 use Rattle.kr_stream.specs.declared.stage.Stage.TheVariants as stages
-use Rattle.kr_stream.specs.Reader.{Took, IsNext, Stands, Stopped, Stops, IsRefused, IsUnfinished, in_size}
+use Rattle.kr_stream.specs.Reader.{Took, IsNext, Stands, Stopped, Stops, in_size}
 use Rattle.kr_stream.proofs.FrameForms.{frame_length}
 use Rattle.kr_stream.proofs.Parts.{both_bytes, consumes_none, took_as}
 use Rattle.kr_run.specs.declared.status.Status.{Status}
 use Rattle.kr_run.specs.declared.status.Status.TheVariants as statuses
 use Rattle.kr_run.specs.Session.{Progress, Unopened, Opened, HasRead, all_outputs, is_opened, outputs_so_far}
-use Rattle.kr_run.specs.Endings.{EndsWith, IsBreak, IsCut, TookPart, TookWhole, WroteAll, WroteSome}
+use Rattle.kr_run.specs.Endings.{EndsWith, TookWhole, WroteAll, WroteSome}
 use Rattle.kr_run.specs.inner.Serving.{Going, Serves, unread_status, unwritten_status}
 use Rattle.kr_run.proofs.Handed.{run_further, runs_options, step_through}
 use Rattle.kr_run.proofs.OutputFrames.{all_of, both_written, none_written, some_behind}

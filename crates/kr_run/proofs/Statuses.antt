@@ -1,10 +1,10 @@
 -- What a session tells by its status where nothing failed.
-use Rattle.std.proofs.Common.{◌≡◌, ℕ, ◌+◌, ◌<◌, ◌≤◌, ◌⊎◌, inl, inr, Bool, List, [], ◌∷◌, ◌++◌, length, append_assoc, append-nil, length-append, Option, Some, None, refl, sym, ap, subst, ◌∙◌, arith}
+use Rattle.std.proofs.Common.{◌≡◌, ℕ, ◌+◌, ◌≤◌, ◌⊎◌, inl, inr, Bool, List, [], ◌∷◌, ◌++◌, length, append_assoc, append-nil, length-append, Option, Some, None, refl, sym, ap, subst, ◌∙◌, arith}
 use Rattle.std.specs.Io.KnownBytes.{Consumes, IsAtEnd}
 use Rattle.kr_calls.specs.declared.events.Event.{Event}
 use Rattle.kr_defs.specs.declared.options.Options.{Options}
 use Rattle.kr_stream.specs.Laws.{NoneBegins}
-use Rattle.kr_stream.specs.Reader.{IsRefused, IsUnfinished}
+use Rattle.kr_stream.specs.Reader.{IsRefused}
 use Rattle.kr_stream.proofs.FrameLaws.{refused_none, unfinished_none}
 use Rattle.kr_run.specs.declared.status.Status.{Status}
 use Rattle.kr_run.specs.declared.status.Status.TheVariants as statuses

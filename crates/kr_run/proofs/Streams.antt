@@ -1,5 +1,5 @@
 -- Two readings of one stream are one: where no frame follows the one, the other hasn't gone further, and a whole session isn't broken.
-use Rattle.std.proofs.Common.{◌≡◌, ℕ, ◌+◌, ◌⊎◌, inl, inr, true, List, [], ◌∷◌, ◌++◌, length, append_assoc, append-nil, length-append, refl, sym, ap, subst, ◌∙◌, arith}
+use Rattle.std.proofs.Common.{◌≡◌, ℕ, ◌+◌, ◌⊎◌, inl, inr, true, List, [], ◌∷◌, ◌++◌, length, append_assoc, append-nil, length-append, refl, sym, ap, ◌∙◌, arith}
 use Rattle.kr_wire.specs.Grammar.{Each}
 use Rattle.kr_wire.specs.Laws.{IsBytes}
 use Rattle.kr_wire.proofs.Laws.{IsBytes-before, IsBytes-behind}
@@ -11,7 +11,6 @@ use Rattle.kr_stream.specs.declared.frame.Frame.TheVariants as frames
 use Rattle.kr_stream.specs.Frames.{IsOpen, IsEvent, IsEnd, IsFrameOf, kind_of_event}
 use Rattle.kr_stream.specs.Kinds.{may_stand}
 use Rattle.kr_stream.specs.Laws.{NoneBegins}
-use Rattle.kr_stream.specs.Reader.{Stands}
 use Rattle.kr_stream.proofs.FrameLaws.{frames_apart}
 use Rattle.kr_run.specs.Session.{Progress, Unopened, Opened, HasRead, IsSession, is_opened}
 

@@ -1,5 +1,5 @@
 -- How far a stream is a session: Open, then events, then End, one frame after the other.
-use Rattle.std.specs.Prelude.{ℕ, Bool, false, true, List, [], ◌∷◌}
+use Rattle.std.specs.Prelude.{ℕ, Bool, false, true, List, []}
 use Rattle.std.specs.List.{flat_map}
 use Rattle.kr_wire.specs.Grammar.{◌⌢◌, Each, Exactly}
 use Rattle.kr_calls.specs.declared.events.Event.{Event}

@@ -1,11 +1,9 @@
 -- What is told of a session whose line was written: its own status, or NoMemory in place of a bad frame.
 use Rattle.std.proofs.Common.{◌≡◌, ℕ, ◌⊎◌, inl, inr, List, Option, Some, None, sym, subst, ◌∙◌}
-use Rattle.std.specs.Io.KnownBytes.{IsAtEnd}
-use Rattle.kr_stream.specs.Reader.{IsRefused}
 use Rattle.kr_run.specs.declared.status.Status.{Status}
 use Rattle.kr_run.specs.declared.status.Status.TheVariants as statuses
-use Rattle.kr_run.specs.Endings.{BreaksRightly, EndsWith, IsCut, IsFrameAtMost, RefusesBroken, ServesWhole}
-use Rattle.kr_run.specs.Session.{is_opened, outputs_so_far}
+use Rattle.kr_run.specs.Endings.{BreaksRightly, EndsWith, RefusesBroken, ServesWhole}
+use Rattle.kr_run.specs.Session.{outputs_so_far}
 use Rattle.kr_run.proofs.OutputFrames.{all_of}
 use Rattle.kr_tool.specs.Notes.{IsMalformed}
 

@@ -1,6 +1,6 @@
 use Rattle.std.proofs.Common.{sym, subst}
 use Rattle.kr_run.specs.Endings.{EndsWith}
-use Rattle.kr_run.proofs.SessionSteps.{no_end_first, no_event_first, open_taken, unread_first}
+use Rattle.kr_run.proofs.SessionSteps.{unread_first}
 use Rattle.kr_run.proofs.sessions.read_options.Goals as goal
 
 pub returns-in-Err-clause-stopped : goal.returns-in-Err-clause-stopped

@@ -1,7 +1,5 @@
-use Rattle.std.proofs.Common.{[]}
-use Rattle.kr_engine.specs.World.{start}
 use Rattle.kr_run.proofs.OutputFrames.{none_written}
-use Rattle.kr_run.proofs.SessionSteps.{opened, unopened}
+use Rattle.kr_run.proofs.SessionSteps.{opened}
 use Rattle.kr_run.proofs.sessions.serve.Goals as goal
 
 pub returns-clause-ends : goal.returns-clause-ends

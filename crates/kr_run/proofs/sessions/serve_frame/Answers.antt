@@ -1,8 +1,6 @@
 use Rattle.std.proofs.Common.{sym, subst}
-use Rattle.kr_stream.specs.declared.frame.Frame.TheVariants as frames
-use Rattle.kr_run.specs.declared.status.Status.{Status}
 use Rattle.kr_run.specs.Endings.{EndsWith}
-use Rattle.kr_run.proofs.SessionSteps.{ended, never_opens, stopped_there, taken_as, took_further, unread_next}
+use Rattle.kr_run.proofs.SessionSteps.{stopped_there, unread_next}
 use Rattle.kr_run.proofs.sessions.serve_frame.Goals as goal
 
 pub returns-in-Err-clause-goes : goal.returns-in-Err-clause-goes

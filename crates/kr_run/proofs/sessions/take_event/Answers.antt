@@ -1,5 +1,4 @@
 use Rattle.std.proofs.Common.{sym, subst}
-use Rattle.kr_run.specs.declared.status.Status.{Status}
 use Rattle.kr_run.specs.Endings.{EndsWith}
 use Rattle.kr_run.proofs.Handed.{sound_behind}
 use Rattle.kr_run.proofs.SessionSteps.{goes_on, unwritten_event}
