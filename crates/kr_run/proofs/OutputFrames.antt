@@ -36,7 +36,7 @@ none_written written = ([], refl, Appends-nil written)
 module _ (a b c : Option (List ℕ)) where
   pub both_written : (xs ys : List Output) → WroteAll a b xs → WroteAll b c ys → WroteAll a c (xs ++ ys)
   both_written xs ys first second =
-      (first.0 ++ second.0, each_both IsOutput xs ys first.0 second.0 first.1.0 second.1.0, Appends-trans a b c first.0 second.0 first.1.1 second.1.1)
+      (first.0 ++ second.0, each_both IsOutput xs ys first.0 second.0 first.1 second.1, Appends-trans a b c first.0 second.0 first.2 second.2)
 
 -- ---- some of them
 
@@ -47,7 +47,7 @@ pub none_of : (written : Option (List ℕ)) (outputs : List Output) → WroteSom
 none_of written outputs = record { first = []; others = outputs; parts = refl; wrote = ([], refl, 0, Appends-nil written) }
 
 pub all_of : (a b : Option (List ℕ)) (xs : List Output) → WroteAll a b xs → WroteSome a b xs
-all_of a b xs all = record { first = xs; others = []; parts = sym (append-nil xs); wrote = (all.0, all.1.0, all_of_a_piece a b all.0 all.1.1) }
+all_of a b xs all = record { first = xs; others = []; parts = sym (append-nil xs); wrote = (all.0, all.1, all_of_a_piece a b all.0 all.2) }
 
 front_behind : (a b c : Option (List ℕ)) (xs ys : List ℕ) → Appends a b xs → AppendsFront b c ys → AppendsFront a c (xs ++ ys)
 front_behind a b c xs ys first second =
@@ -61,8 +61,8 @@ some_behind a b c xs ys all some = record {
   parts = ap (λ (l : List Output). xs ++ l) some.parts ∙ sym (append_assoc xs some.first some.others);
   wrote = (
     all.0 ++ some.wrote.0,
-    each_both IsOutput xs some.first all.0 some.wrote.0 all.1.0 some.wrote.1.0,
-    front_behind a b c all.0 some.wrote.0 all.1.1 some.wrote.1.1,
+    each_both IsOutput xs some.first all.0 some.wrote.0 all.1 some.wrote.1,
+    front_behind a b c all.0 some.wrote.0 all.2 some.wrote.2,
   );
 }
 
@@ -78,7 +78,7 @@ some_of_more a b xs ys some = record {
 
 module _ (output : Output) (a b : Option (List ℕ)) where
   pub one_written : (result : Result (Unit {0}) WriteFault) → OnOk result (Wrote (IsOutput output) a b) → OnOk result (WroteAll a b (output ∷ []))
-  one_written (Ok u) wrote = (wrote.0, each_one IsOutput output wrote.0 wrote.1.0, wrote.1.1)
+  one_written (Ok u) wrote = (wrote.0, each_one IsOutput output wrote.0 wrote.1, wrote.2)
   one_written (Err fault) wrote = tt
 
   pub one_unwritten : (result : Result (Unit {0}) WriteFault) → (IsErrOf result faults.Failed → WroteFront (IsOutput output) a b) → (IsErrOf result faults.NoMemory → b ≡ a)
@@ -86,5 +86,5 @@ module _ (output : Output) (a b : Option (List ℕ)) where
   one_unwritten (Ok u) front same = tt
   one_unwritten (Err faults.Failed) front same =
       let f = front refl in
-      record { first = output ∷ []; others = []; parts = refl; wrote = (f.0, each_one IsOutput output f.0 f.1.0, f.1.1) }
+      record { first = output ∷ []; others = []; parts = refl; wrote = (f.0, each_one IsOutput output f.0 f.1, f.2) }
   one_unwritten (Err faults.NoMemory) front same = subst (λ (l : Option (List ℕ)). WroteSome a l (output ∷ [])) (sym (same refl)) (none_of a (output ∷ []))

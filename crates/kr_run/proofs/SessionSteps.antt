@@ -64,7 +64,7 @@ module _ (progress : Progress) (front : List ℕ) (left mid left' written writte
       s.cause.0,
       elim s.cause.1 [
         | inl refused ↦ inl refused
-        | inr cut ↦ inr ((cut.0, cut.1.1), cut.1.0)
+        | inr cut ↦ inr ((cut.0, cut.2), cut.1)
       ],
     );
     wrote = wrote;
@@ -77,7 +77,7 @@ module _ (progress : Progress) (front : List ℕ) (left mid left' written writte
     bytes = bytes;
     within = s.within;
     took = Consumes-trans left mid left' front s.taken took s.took;
-    behind = (s.cause.0, s.cause.1.1);
+    behind = (s.cause.0, s.cause.2);
     wrote = wrote;
   }
   unread_at stops.TooLong s = record {

@@ -51,7 +51,7 @@ module _ (stream : List ℕ) (left' written written' : Option (List ℕ)) where
   whole_ends statuses.WriteFault ends usage read write options events session more same is short = absurd (write refl)
   whole_ends (statuses.Malformed at) ends usage read write options events session more same is short =
       let b = break_behind left' (is_opened ends.progress) (length ends.front) ends.front ends.rest ends.took ends.behind.1 in
-      absurd (whole_not_broken options events session more ends.progress ends.front b.0 (inr ends.bytes) is (sym same ∙ b.1.0) ends.read b.1.1)
+      absurd (whole_not_broken options events session more ends.progress ends.front b.0 (inr ends.bytes) is (sym same ∙ b.1) ends.read b.2)
   whole_ends statuses.TooLong ends usage read write options events session more same is short =
       let b = behind_all left' (ends.front ++ ends.rest) ends.took in
       let l = ends.behind.1 in
@@ -72,7 +72,7 @@ module _ (stream : List ℕ) (left' written written' : Option (List ℕ)) where
   broken_ends statuses.WriteFault ends usage read write progress front behind same has none = absurd (write refl)
   broken_ends (statuses.Malformed at) ends usage read write progress front behind same has none =
       let b = break_behind left' (is_opened ends.progress) (length ends.front) ends.front ends.rest ends.took ends.behind.1 in
-      let long = one_break ends.progress progress ends.front b.0 front behind (inl ends.bytes) ends.read b.1.1 has none (sym b.1.0 ∙ same) in
+      let long = one_break ends.progress progress ends.front b.0 front behind (inl ends.bytes) ends.read b.2 has none (sym b.1 ∙ same) in
       inl (ap (λ (n : ℕ). statuses.Malformed n) (ends.behind.0 ∙ long))
   broken_ends statuses.TooLong ends usage read write progress front behind same has none = inr (inl refl)
 
@@ -80,7 +80,7 @@ module _ (stream : List ℕ) (left' written written' : Option (List ℕ)) where
   breaks status ends at is =
       let e = subst (EndsWith (Some stream) left' written written') is ends in
       let b = break_behind left' (is_opened e.progress) (length e.front) e.front e.rest e.took e.behind.1 in
-      (e.progress, e.front, b.0, b.1.0, e.read, e.behind.0, b.1.1)
+      (e.progress, e.front, b.0, b.1, e.read, e.behind.0, b.2)
 
 pub serves_whole : (left left' written written' : Option (List ℕ)) (status : Status) → EndsWith left left' written written' status → (status ≡ statuses.Usage → ⊥) → (status ≡ statuses.ReadFault → ⊥) → (status ≡ statuses.WriteFault → ⊥)
     → ServesWhole left status

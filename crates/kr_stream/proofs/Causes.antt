@@ -50,7 +50,7 @@ module _ (a b : Option (List ℕ)) (start at most len count f g : ℕ) (front : 
   short_of (Err fault) s = short_by fault s
 
 cause_within : (start end : ℕ) (left : Option (List ℕ)) (f g : ℕ) (fault : StreamFault) → ShortCause start end left f g fault → end ≤ MOST_SESSION_BYTES
-cause_within start end left f g (faults.Malformed place) s = let below = s.1.1 in omega (arith, below)
+cause_within start end left f g (faults.Malformed place) s = let below = s.2 in omega (arith, below)
 cause_within start end left f g faults.ReadFault s = let below = s.1 in omega (arith, below)
 cause_within start end left f g faults.TooLong s = omega (arith, s)
 cause_within start end left f g faults.NoMemory s = absurd s
@@ -64,8 +64,8 @@ module _ (opened : Bool) (a b c : Option (List ℕ)) (start at most f g h : ℕ)
   further taken = let e : length (before ++ taken) ≡ length before + length taken = length-append before taken in omega (arith, e, place)
 
   cause_of : (fault : StreamFault) (taken : List ℕ) → length taken < most → ShortCause start (at + length taken) c g h fault → Cause opened start (before ++ taken) c f h fault
-  cause_of (faults.Malformed p) taken few s = let below = s.1.1 in (s.0, inr (begins taken few, s.1.0, omega (arith, further taken, below)))
-  cause_of faults.ReadFault taken few s = let rose = s.0 in let below = s.1 in (begins taken few, omega (arith, le, rose), omega (arith, further taken, below))
+  cause_of (faults.Malformed p) taken few s = let below = s.2 in (s.0, inr (begins taken few, s.1, omega (arith, further taken, below)))
+  cause_of faults.ReadFault taken few s = let rose : Rose g h = s.0 in let below = s.1 in (begins taken few, omega (arith, le, rose), omega (arith, further taken, below))
   cause_of faults.TooLong taken few full = (begins taken few, let e : length (before ++ taken) ≡ length before + length taken = length-append before taken in omega (arith, e, place, full))
   cause_of faults.NoMemory taken few s = absurd s
 

@@ -14,7 +14,7 @@ returns-in-Err-clause-err g c = λ s writes k. none_of _ _
 
 pub returns-clause-ok : goal.returns-clause-ok
 returns-clause-ok g c = on_ok_weaker c.write_outputs.result
-    (λ w. record { stepped = c.step.new.self; given = w.0; step = c.in-Ok.ensures.step; drains = w.1.0; wrote = w.1.1 }) c.write_outputs.ensures.ok
+    (λ w. record { stepped = c.step.new.self; given = w.0; step = c.in-Ok.ensures.step; drains = w.1; wrote = w.2 }) c.write_outputs.ensures.ok
 
 pub returns-clause-err : goal.returns-clause-err
 returns-clause-err g c = on_err_weaker c.write_outputs.result

@@ -6,7 +6,7 @@ use Rattle.kr_run.proofs.outputs.write_outputs.Goals as goal
 pub returns-in-Err-clause-err : goal.returns-in-Err-clause-err
 returns-in-Err-clause-err g c =
     let gone = c.loop-output.invariant.gone in
-    some_written _ _ _ gone.0 c.in-Some.output _ _ _ gone.1.0 c.in-Some.ensures gone.1.1 c.in-Err.ensures.err
+    some_written _ _ _ gone.0 c.in-Some.output _ _ _ gone.1 c.in-Some.ensures gone.2 c.in-Err.ensures.err
 
 pub loop-output-preserved : goal.loop-output-preserved
 loop-output-preserved g c =
@@ -16,12 +16,12 @@ loop-output-preserved g c =
       later = omega (arith, c.write_output.ensures.later);
       gone = (
         gone.0 ++ c.in-Some.output ∷ [],
-        one_more _ _ _ gone.0 c.in-Some.output gone.1.0 c.in-Some.ensures,
-        both_written _ _ _ gone.0 (c.in-Some.output ∷ []) gone.1.1 c.in-Ok.ensures.ok,
+        one_more _ _ _ gone.0 c.in-Some.output gone.1 c.in-Some.ensures,
+        both_written _ _ _ gone.0 (c.in-Some.output ∷ []) gone.2 c.in-Ok.ensures.ok,
       );
     }
 
 pub returns-clause-ok : goal.returns-clause-ok
 returns-clause-ok g c =
     let gone = c.loop-output.invariant.gone in
-    (gone.0, drains _ _ _ gone.0 gone.1.0 c.in_default.ensures, gone.1.1)
+    (gone.0, drains _ _ _ gone.0 gone.1 c.in_default.ensures, gone.2)
