@@ -44,7 +44,7 @@ all_of_a_piece : (a b : Option (List ℕ)) (xs : List ℕ) → Appends a b xs �
 all_of_a_piece a b xs wrote = (length xs, subst (λ (l : List ℕ). Appends a b l) (sym (take_all (length xs) xs (omega arith))) wrote)
 
 pub none_of : (written : Option (List ℕ)) (outputs : List Output) → WroteSome written written outputs
-none_of written outputs = record { first = []; others = outputs; parts = refl; wrote = ([], refl, 0, Appends-nil written) }
+none_of written outputs = record { first = []; others = outputs; parts = refl; wrote = ([], refl, (0, Appends-nil written)) }
 
 pub all_of : (a b : Option (List ℕ)) (xs : List Output) → WroteAll a b xs → WroteSome a b xs
 all_of a b xs all = record { first = xs; others = []; parts = sym (append-nil xs); wrote = (all.0, all.1, all_of_a_piece a b all.0 all.2) }
@@ -53,17 +53,17 @@ front_behind : (a b c : Option (List ℕ)) (xs ys : List ℕ) → Appends a b xs
 front_behind a b c xs ys first second =
     (length xs + second.0, subst (λ (l : List ℕ). Appends a c l) (sym (take-append-add xs ys second.0)) (Appends-trans a b c xs (take second.0 ys) first second.1))
 
+front_of_more : (a b c : Option (List ℕ)) (xs ys : List Output) → WroteAll a b xs → WroteFront (Each IsOutput ys) b c → WroteFront (Each IsOutput (xs ++ ys)) a c
+front_of_more a b c xs ys (first, is, wrote) (second, others, more) =
+    (first ++ second, each_both IsOutput xs ys first second is others, front_behind a b c first second wrote more)
+
 -- some of the outputs behind others, and those all
 pub some_behind : (a b c : Option (List ℕ)) (xs ys : List Output) → WroteAll a b xs → WroteSome b c ys → WroteSome a c (xs ++ ys)
 some_behind a b c xs ys all some = record {
   first = xs ++ some.first;
   others = some.others;
   parts = ap (λ (l : List Output). xs ++ l) some.parts ∙ sym (append_assoc xs some.first some.others);
-  wrote = (
-    all.0 ++ some.wrote.0,
-    each_both IsOutput xs some.first all.0 some.wrote.0 all.1 some.wrote.1,
-    front_behind a b c all.0 some.wrote.0 all.2 some.wrote.2,
-  );
+  wrote = front_of_more a b c xs some.first all some.wrote;
 }
 
 pub some_of_more : (a b : Option (List ℕ)) (xs ys : List Output) → WroteSome a b xs → WroteSome a b (xs ++ ys)
@@ -81,10 +81,11 @@ module _ (output : Output) (a b : Option (List ℕ)) where
   one_written (Ok u) wrote = (wrote.0, each_one IsOutput output wrote.0 wrote.1, wrote.2)
   one_written (Err fault) wrote = tt
 
+  one_front : WroteFront (IsOutput output) a b → WroteFront (Each IsOutput (output ∷ [])) a b
+  one_front (bytes, is, front) = (bytes, each_one IsOutput output bytes is, front)
+
   pub one_unwritten : (result : Result (Unit {0}) WriteFault) → (IsErrOf result faults.Failed → WroteFront (IsOutput output) a b) → (IsErrOf result faults.NoMemory → b ≡ a)
       → OnErr result (WroteSome a b (output ∷ []))
   one_unwritten (Ok u) front same = tt
-  one_unwritten (Err faults.Failed) front same =
-      let f = front refl in
-      record { first = output ∷ []; others = []; parts = refl; wrote = (f.0, each_one IsOutput output f.0 f.1, f.2) }
+  one_unwritten (Err faults.Failed) front same = record { first = output ∷ []; others = []; parts = refl; wrote = one_front (front refl) }
   one_unwritten (Err faults.NoMemory) front same = subst (λ (l : Option (List ℕ)). WroteSome a l (output ∷ [])) (sym (same refl)) (none_of a (output ∷ []))

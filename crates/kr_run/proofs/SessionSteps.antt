@@ -11,7 +11,8 @@ use Rattle.kr_calls.specs.declared.events.Output.{Output}
 use Rattle.kr_defs.specs.declared.limits.TheConstants.{MOST_SESSION_BYTES}
 use Rattle.kr_defs.specs.declared.options.Options.{Options}
 use Rattle.kr_engine.specs.declared.writes.Write.{Write}
-use Rattle.kr_engine.specs.Engine.{Core, Hands, IsEngine, left}
+use Rattle.kr_engine.specs.Engine as engines
+use Rattle.kr_engine.specs.Engine.{Core, Hands, IsEngine}
 use Rattle.kr_engine.specs.Events.{state}
 use Rattle.kr_engine.specs.Outputs.{outputs, outputs_of, waiting}
 use Rattle.kr_engine.specs.World.{State, start}
@@ -112,11 +113,11 @@ module _ (progress : Progress) (front : List ℕ) (left mid left' written writte
 -- ---- the first frame
 
 -- nothing is handed out of a new engine
-drained : (engine : Core) (s : State) (writes : List Write) → IsEngine engine s writes → left engine ≡ [] → Hands engine engine None
+drained : (engine : Core) (s : State) (writes : List Write) → IsEngine engine s writes → engines.left engine ≡ [] → Hands engine engine None
 drained engine s writes stands none = record { options = refl; in_order = refl; all = λ is. none; ordered = stands.ordered; stands = λ s writes k. k }
 
 module _ (left left' written written' : Option (List ℕ)) (options : Options) (at : ℕ) (t : Took (IsOpen options) left left' 0 at) (wrote : WroteAll written written' []) where
-  pub opened : (engine : Core) → engine.options ≡ options → IsEngine engine start [] → left engine ≡ [] → Going left left' written written' engine at
+  pub opened : (engine : Core) → engine.options ≡ options → IsEngine engine start [] → engines.left engine ≡ [] → Going left left' written written' engine at
   opened engine same stands none = record {
     options = options;
     events = [];
@@ -243,19 +244,19 @@ module _ (left mid left' written between : Option (List ℕ)) (engine : Core) (a
 -- ---- what a reader took behind the first frame
 
 module _ (stage : Stage) (opened_so : stage ≡ stages.Opened) where
-  pub frame_taken : (frame : Frame) (a b : Option (List ℕ)) (at end : ℕ) → Took (IsNext stage frame) a b at end → Took (Stands true frame) a b at end
-  frame_taken frame a b at end t = subst (λ (s : Stage). Took (IsNext s frame) a b at end) opened_so t
-
   pub stopped_there : (at : ℕ) (a b : Option (List ℕ)) (f g : ℕ) (fault : StreamFault) → Stops stage at a b f g fault → Stopped true at a b f g fault
   stopped_there at a b f g fault s = subst (λ (s : Stage). Stops s at a b f g fault) opened_so s
 
-  pub never_opens : (options : Options) (a b : Option (List ℕ)) (at end : ℕ) → Took (IsNext stage (frames.Open options)) a b at end → ⊥
-  never_opens options a b at end t =
-      let wrong : false ≡ true = (frame_taken (frames.Open options) a b at end t).is.place in absurd cc
+  module _ (frame : Frame) (a b : Option (List ℕ)) (at end : ℕ) (t : Took (IsNext stage frame) a b at end) where
+    frame_taken : Took (Stands true frame) a b at end
+    frame_taken = subst (λ (s : Stage). Took (IsNext s frame) a b at end) opened_so t
 
-  -- it is this frame
-  pub taken_as : (frame : Frame) (a b : Option (List ℕ)) (at end : ℕ) → Took (IsNext stage frame) a b at end → Took (IsFrameOf frame) a b at end
-  taken_as frame a b at end t = took_as a b at end (frame_taken frame a b at end t) (λ bytes stands. stands.is)
+    pub never_opens : (options : Options) → frame ≡ frames.Open options → ⊥
+    never_opens options is = let wrong : false ≡ true = (subst (λ (f : Frame). Took (Stands true f) a b at end) is frame_taken).is.place in absurd cc
+
+    -- it is this frame
+    pub taken_as : (other : Frame) → frame ≡ other → Took (IsFrameOf other) a b at end
+    taken_as other is = took_as a b at end (subst (λ (f : Frame). Took (Stands true f) a b at end) is frame_taken) (λ bytes stands. stands.is)
 
 -- ---- what a reader took at the beginning
 
@@ -273,18 +274,19 @@ never_first (events.Request client now ask) wrong = absurd cc
 never_first events.Image wrong = absurd cc
 
 module _ (stage : Stage) (unopened_so : stage ≡ stages.Unopened) (left left' : Option (List ℕ)) where
-  first_taken : (frame : Frame) (at end : ℕ) → Took (IsNext stage frame) left left' at end → Took (Stands false frame) left left' at end
-  first_taken frame at end t = subst (λ (s : Stage). Took (IsNext s frame) left left' at end) unopened_so t
+  module _ (frame : Frame) (at end : ℕ) (t : Took (IsNext stage frame) left left' at end) where
+    first_taken : Took (Stands false frame) left left' at end
+    first_taken = subst (λ (s : Stage). Took (IsNext s frame) left left' at end) unopened_so t
 
-  pub no_event_first : (event : Event) (at end : ℕ) → Took (IsNext stage (frames.Event event)) left left' at end → ⊥
-  no_event_first event at end t = never_first event (first_taken (frames.Event event) at end t).is.place
+    pub no_event_first : (event : Event) → frame ≡ frames.Event event → ⊥
+    no_event_first event is = never_first event (subst (λ (f : Frame). Took (Stands false f) left left' at end) is first_taken).is.place
 
-  pub no_end_first : (at end : ℕ) → Took (IsNext stage frames.End) left left' at end → ⊥
-  no_end_first at end t = let wrong : false ≡ true = (first_taken frames.End at end t).is.place in absurd cc
+    pub no_end_first : frame ≡ frames.End → ⊥
+    no_end_first is = let wrong : false ≡ true = (subst (λ (f : Frame). Took (Stands false f) left left' at end) is first_taken).is.place in absurd cc
 
-  pub open_taken : (options : Options) (at end : ℕ) → at ≡ 0 → Took (IsNext stage (frames.Open options)) left left' at end → Took (IsOpen options) left left' 0 end
-  open_taken options at end zero t =
-      subst (λ (n : ℕ). Took (IsOpen options) left left' n end) zero (took_as left left' at end (first_taken (frames.Open options) at end t) (λ bytes stands. stands.is))
+    pub open_taken : (options : Options) → frame ≡ frames.Open options → at ≡ 0 → Took (IsOpen options) left left' 0 end
+    open_taken options is zero = subst (λ (n : ℕ). Took (IsOpen options) left left' n end) zero
+        (took_as left left' at end (subst (λ (f : Frame). Took (Stands false f) left left' at end) is first_taken) (λ bytes stands. stands.is))
 
   pub unread_first : (written : Option (List ℕ)) (at f g : ℕ) (fault : StreamFault) → at ≡ 0 → Stops stage at left left' f g fault → EndsWith left left' written written (unread_status fault)
   unread_first written at f g fault zero s =

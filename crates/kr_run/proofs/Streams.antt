@@ -1,5 +1,5 @@
 -- Two readings of one stream are one: where no frame follows the one, the other hasn't gone further, and a whole session isn't broken.
-use Rattle.std.proofs.Common.{◌≡◌, ℕ, ◌+◌, ◌⊎◌, inl, inr, true, List, [], ◌∷◌, ◌++◌, length, append_assoc, append-nil, length-append, refl, sym, ap, ◌∙◌, arith}
+use Rattle.std.proofs.Common.{◌≡◌, ℕ, ◌+◌, ◌⊎◌, inl, inr, false, true, List, [], ◌∷◌, ◌++◌, length, append_assoc, append-nil, length-append, refl, sym, ap, ◌∙◌, arith}
 use Rattle.kr_wire.specs.Grammar.{Each}
 use Rattle.kr_wire.specs.Laws.{IsBytes}
 use Rattle.kr_wire.proofs.Laws.{IsBytes-before, IsBytes-behind}
@@ -20,7 +20,7 @@ frames_once : (f g : Frame) (a b x y : List ℕ) → IsBytes a ⊎ IsBytes b →
 frames_once f g a b x y (inl bytes) first second same = frames_apart f g a b x y bytes first second same
 frames_once f g a b x y (inr bytes) first second same = let d = frames_apart g f b a y x bytes second first (sym same) in (sym d.0, sym d.1)
 
-event_of : Frame → Event → Event
+abbrev event_of : Frame → Event → Event
 event_of (frames.Event event) other = event
 event_of frame other = other
 

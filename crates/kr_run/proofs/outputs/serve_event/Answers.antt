@@ -12,10 +12,10 @@ write_outputs-requires g c =
 pub returns-in-Err-clause-err : goal.returns-in-Err-clause-err
 returns-in-Err-clause-err g c = λ s writes k. none_of _ _
 
-pub returns-clause-ok : goal.returns-clause-ok
-returns-clause-ok g c = on_ok_weaker c.write_outputs.result
+pub returns-in-Ok-clause-ok : goal.returns-in-Ok-clause-ok
+returns-in-Ok-clause-ok g c = on_ok_weaker c.write_outputs.result
     (λ w. record { stepped = c.step.new.self; given = w.0; step = c.in-Ok.ensures.step; drains = w.1; wrote = w.2 }) c.write_outputs.ensures.ok
 
-pub returns-clause-err : goal.returns-clause-err
-returns-clause-err g c = on_err_weaker c.write_outputs.result
+pub returns-in-Ok-clause-err : goal.returns-in-Ok-clause-err
+returns-in-Ok-clause-err g c = on_err_weaker c.write_outputs.result
     (λ w s writes k. subst (WroteSome _ _) (c.in-Ok.ensures.step.outputs s writes k) w) c.write_outputs.ensures.err
