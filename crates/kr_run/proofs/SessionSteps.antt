@@ -124,7 +124,7 @@ module _ (left left' written written' : Option (List ℕ)) (options : Options) (
     front = t.taken;
     read = opened_first options t.taken t.is;
     bytes = t.bytes;
-    place = t.place;
+    place = omega (arith, t.place);
     took = t.took;
     first = engine;
     opened = same;
