@@ -14,6 +14,7 @@ mod leads;
 mod loads;
 mod losses;
 mod reasons;
+mod steps;
 mod ticks;
 mod writes;
 

@@ -3,7 +3,7 @@ use Rattle.std.proofs.Common.{◌≡◌, ◌∙◌, ℕ, ◌+◌, ◌<◌, ◌�
 use Rattle.std.specs.Io.KnownBytes.{Consumes, IsAtEnd}
 use Rattle.kr_batch.specs.declared.fault.BatchFault.{BatchFault}
 use Rattle.kr_snapshot.specs.Reading.{extent, size_at}
-use Rattle.kr_snapshot.specs.Read.{IsUnfinished}
+use Rattle.kr_snapshot.specs.ReaderState.{IsUnfinished}
 use Rattle.kr_fold.specs.declared.fault.ToolFault.{ToolFault}
 use Rattle.kr_fold.specs.declared.fault.ToolFault.TheVariants as faults
 use Rattle.kr_fold.specs.Taken.{longest, Grew, HasNone, IsEnd, IsLongest, IsNext, IsNoBatch, no_size, cut_off, IsShortage, IsSized, Stops, Took}

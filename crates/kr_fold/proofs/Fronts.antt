@@ -10,10 +10,10 @@ use Rattle.kr_batch.specs.declared.fault.BatchFault.{BatchFault}
 use Rattle.kr_snapshot.specs.declared.fault.ImageFault.{ImageFault}
 use Rattle.kr_snapshot.specs.declared.fault.BatchCause.TheVariants as causes
 use Rattle.kr_snapshot.specs.Reading.{Progress, Taken, bad_batch, begun, headed, numbers_at, refused, whole_read, waits, nothing_taken, head_taken, extent, is_no_size, size_at, batch_taken, judged, goes_on, so_far, with_piece, ends, image_of}
-use Rattle.kr_snapshot.specs.Read.{IsUnfinished, StandsFor, Waits}
+use Rattle.kr_snapshot.specs.ReaderState.{IsUnfinished, StandsFor, Waits}
 use Rattle.kr_snapshot.proofs.Faults.{is_fault}
-use Rattle.kr_snapshot.proofs.Batchwise.{start_is, size_front, size_bad, batch_waits, head_waits, start_waits, goes_on_append, fills, waits_on}
-use Rattle.kr_snapshot.proofs.Waiting.{piece_more, faults_stay, end_is}
+use Rattle.kr_snapshot.proofs.BatchPieces.{start_is, size_front, size_bad, batch_waits, head_waits, start_waits, goes_on_append, fills, waits_on}
+use Rattle.kr_snapshot.proofs.ReaderSteps.{piece_more, faults_stay, end_is}
 use Rattle.kr_fold.specs.Taken.{IsSized}
 use Rattle.kr_fold.specs.Images.{HasBegun, BreaksAt}
 use Rattle.kr_fold.proofs.Sizes.{size_same, one_size, sized_long}

@@ -6,7 +6,7 @@ use Rattle.kr_batch.specs.declared.fault.BatchFault.{BatchFault}
 use Rattle.kr_snapshot.specs.declared.fault.ImageFault.{ImageFault}
 use Rattle.kr_snapshot.specs.declared.fault.ImageFault.TheVariants as images
 use Rattle.kr_snapshot.specs.Reading.{Taken, extent, size_at, so_far, image_of}
-use Rattle.kr_snapshot.specs.Read.{IsFault, StandsFor, answer_of}
+use Rattle.kr_snapshot.specs.ReaderState.{IsFault, StandsFor, answer_of}
 use Rattle.kr_fold.specs.declared.fault.ToolFault.{ToolFault}
 use Rattle.kr_fold.specs.declared.fault.ToolFault.TheVariants as faults
 use Rattle.kr_fold.specs.Taken.{IsNoBatch, no_size, cut_off, IsSized}

@@ -12,8 +12,8 @@ use Rattle.kr_batch.specs.Reading.{start_at}
 use Rattle.kr_batch.specs.Grammar.{IsBatch, IsStart}
 use Rattle.kr_batch.proofs.Heads.{start_law, long}
 use Rattle.kr_snapshot.specs.Reading.{extent, is_no_size, size_at}
-use Rattle.kr_snapshot.specs.Read.{IsUnfinished}
-use Rattle.kr_snapshot.proofs.Batchwise.{start_is, size_front, size_bad}
+use Rattle.kr_snapshot.specs.ReaderState.{IsUnfinished}
+use Rattle.kr_snapshot.proofs.BatchPieces.{start_is, size_front, size_bad}
 use Rattle.kr_fold.specs.Taken.{IsSized}
 
 -- what stands behind the size doesn't change it

@@ -1,13 +1,13 @@
 -- How a fold and a dump end: what was taken and what was written at each answer.
 use Rattle.std.specs.Prelude.{◌≡◌, ℕ, ℤ, ◌+◌, ◌<◌, ◌≤◌, ◌⊎◌, List, ◌++◌, length, Option, IfSome, Result, Ok, Err}
 use Rattle.std.specs.Io.KnownBytes.{Consumes, Appends, IsAtEnd, Keeps}
-use Rattle.kr_base.specs.Written.{AppendsFront}
+use Rattle.kr_base.specs.FailedPuts.{AppendsFront}
 use Rattle.kr_defs.specs.declared.limits.TheConstants.{MOST_LOAD_BYTES}
 use Rattle.kr_defs.specs.Image.{Image}
 use Rattle.kr_dump.specs.DumpText.{dump_text}
 use Rattle.kr_snapshot.specs.Grammar.{IsImage}
-use Rattle.kr_snapshot.specs.Read.{IsUnfinished}
-use Rattle.kr_snapshot.specs.Written.{image_text}
+use Rattle.kr_snapshot.specs.ReaderState.{IsUnfinished}
+use Rattle.kr_snapshot.specs.ImageText.{image_text}
 use Rattle.kr_fold.specs.declared.fault.ToolFault.{ToolFault}
 use Rattle.kr_fold.specs.declared.fault.ToolFault.TheVariants as faults
 use Rattle.kr_fold.specs.Taken.{longest}

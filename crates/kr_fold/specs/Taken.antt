@@ -5,7 +5,7 @@ use Rattle.kr_base.specs.Causes.{Rose}
 use Rattle.kr_defs.specs.declared.limits.TheConstants.{MOST_SESSION_BYTES}
 use Rattle.kr_batch.specs.declared.fault.BatchFault.{BatchFault}
 use Rattle.kr_snapshot.specs.Reading.{extent, size_at}
-use Rattle.kr_snapshot.specs.Read.{IsUnfinished}
+use Rattle.kr_snapshot.specs.ReaderState.{IsUnfinished}
 use Rattle.kr_fold.specs.declared.fault.ToolFault.{ToolFault}
 use Rattle.kr_fold.specs.declared.fault.ToolFault.TheVariants as faults
 use Rattle.kr_fold.specs.declared.piece.Filled.{Filled}

@@ -3,9 +3,9 @@
 ghost use Rattle.std.specs.Prelude.{◌≡◌, ◌≤◌, ◌≤ℤ◌, pos, IfOk, IfErr, IsErrOf, OnOk, OnErr};
 ghost use Rattle.std.specs.Io.KnownBytes.{Appends};
 ghost use Rattle.kr_base.specs.Causes.{Rose};
-ghost use Rattle.kr_base.specs.Written.{AppendsFront};
+ghost use Rattle.kr_base.specs.FailedPuts.{AppendsFront};
 ghost use Rattle.kr_wire.specs.Grammar.{Exactly};
-ghost use Rattle.kr_snapshot.specs.Written.{image_text};
+ghost use Rattle.kr_snapshot.specs.ImageText.{image_text};
 ghost use Rattle.kr_fold.specs.Endings.{FoldEnds, FoldsWhole, FoldsNoMore, DumpEnds, DumpsWhole, RefusesBroken, RefusesLonger, TookAll};
 ghost use Rattle.kr_fold.specs.Parts.{IsLongInput};
 

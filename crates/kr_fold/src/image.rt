@@ -4,7 +4,7 @@ ghost use Rattle.std.specs.Prelude.{◌≡◌, ◌≤◌, ◌<◌, ◌++◌, [],
 ghost use Rattle.kr_snapshot.specs.Grammar.{IsImage};
 ghost use Rattle.kr_snapshot.specs.Reading.{so_far};
 ghost use Rattle.kr_wire.specs.Laws.{IsBytes};
-ghost use Rattle.kr_snapshot.specs.Read.{StandsFor};
+ghost use Rattle.kr_snapshot.specs.ReaderState.{StandsFor};
 ghost use Rattle.kr_fold.specs.Parts as parts;
 ghost use Rattle.kr_fold.specs.Parts.{IsFed, IsImageFault, IsPart};
 ghost use Rattle.kr_fold.specs.Taken.{IsNoBatch, IsSized};

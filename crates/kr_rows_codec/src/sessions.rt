@@ -2,7 +2,6 @@
 
 ghost use Rattle.std.specs.Prelude.{◌≡◌, [], Some, length, IfOk, string_bytes};
 ghost use Rattle.std.specs.Fmt.{decimal};
-ghost use Rattle.kr_run.specs.Endings.{EndsWith};
 ghost use Rattle.kr_rows.specs.PlainWords.{◌␣◌, hex_words};
 ghost use Rattle.kr_rows_codec.specs.SessionWords as words;
 ghost use Rattle.kr_rows_codec.specs.SessionWords.{TellsSession};
@@ -46,18 +45,12 @@ fn session_text(
     spaced(alloc, &bytes, &status)
 }
 
-fn run_session(alloc: Global, input: &mut MemorySource, output: &mut MemorySink) -> Status
-    ensures { EndsWith (Some input.old.left) (Some input.new.left) (Some output.old.written) (Some output.new.written) result }
-{
-    session(alloc, input, output)
-}
-
 /// How the session that begins the bytes ends, and what it writes.
 pub fn session_answer(alloc: Global, bytes: Vec<u8>) -> Result<String, NoMemory>
     ensures { IfOk result (λ text. TellsSession bytes.items (string_bytes text)) }
 {
     let mut input = MemorySource::new(bytes, Vec::new(alloc));
     let mut output = MemorySink::new(alloc, ROOM, PUTS, Vec::new(alloc))?;
-    let status = run_session(alloc, &mut input, &mut output);
+    let status = session(alloc, &mut input, &mut output);
     Ok(session_text(alloc, input.left(), output.written(), status)?)
 }

@@ -1,69 +1,92 @@
 -- How a session ends: its status, and what was taken and written at each.
-use Rattle.std.specs.Prelude.{◌≡◌, ℕ, ◌<◌, ◌⊎◌, List, ◌++◌, length, Option, IfSome}
-use Rattle.std.specs.Io.KnownBytes.{Consumes, Appends}
-use Rattle.kr_base.specs.FailedPuts.{AppendsFront}
+use Rattle.std.specs.Prelude.{◌≡◌, ℕ, ◌+◌, ◌<◌, ◌≤◌, ◌⊎◌, Bool, List, [], ◌++◌, length, Option, IfSome}
+use Rattle.std.specs.Io.KnownBytes.{Appends, Consumes, IsAtEnd}
+use Rattle.kr_wire.specs.Grammar.{Each}
+use Rattle.kr_wire.specs.Laws.{IsBytes}
+use Rattle.kr_calls.specs.declared.events.Event.{Event}
+use Rattle.kr_calls.specs.declared.events.Output.{Output}
 use Rattle.kr_defs.specs.declared.limits.TheConstants.{MOST_SESSION_BYTES}
 use Rattle.kr_defs.specs.declared.options.Options.{Options}
-use Rattle.kr_run.specs.declared.events.Event.{Event}
+use Rattle.kr_stream.specs.Laws.{NoneBegins}
+use Rattle.kr_stream.specs.Outputs.{IsOutput, Wrote, WroteFront}
+use Rattle.kr_stream.specs.Reader.{IsRefused, IsUnfinished, IsWhole}
 use Rattle.kr_run.specs.declared.status.Status.{Status}
 use Rattle.kr_run.specs.declared.status.Status.TheVariants as statuses
-use Rattle.kr_run.specs.Session.{Progress, HasRead, IsSession, NoFrame, answered}
-use Rattle.kr_run.specs.Outputs.{written_for}
+use Rattle.kr_run.specs.Session.{Progress, HasRead, IsSession, all_outputs, is_opened, outputs_so_far}
 
 -- the longest input
 abbrev pub longest : ℕ
 longest = MOST_SESSION_BYTES
 
--- one whole session was taken, nothing behind it, and the frames of its outputs were written
+-- ---- what was written
+
+-- the frames of these outputs, in order
+abbrev pub WroteAll : Option (List ℕ) → Option (List ℕ) → List Output → Type 0
+WroteAll written written' outputs = Wrote (Each IsOutput outputs) written written'
+
+-- the frames of some first of them, and of the last of these perhaps a front alone
+pub record WroteSome (written written' : Option (List ℕ)) (outputs : List Output) : Type 0 where
+  pub first : List Output
+  pub others : List Output
+  pub parts : outputs ≡ first ++ others
+  pub wrote : WroteFront (Each IsOutput first) written written'
+
+-- ---- what was taken
+
+-- one whole session and nothing behind it, and the frames of its outputs were written
 pub record TookWhole (left left' written written' : Option (List ℕ)) : Type 0 where
   pub options : Options
   pub events : List Event
   pub taken : List ℕ
   pub session : IsSession options events taken
+  pub bytes : IsBytes taken
+  pub within : length taken ≤ longest
   pub took : Consumes left left' taken
-  pub wrote : Appends written written' (written_for events)
+  pub wrote : WroteAll written written' (all_outputs options events)
 
--- whole frames were taken, and then some bytes that are no whole frame (yet) or one that isn't accepted
-pub record TookPart (left left' : Option (List ℕ)) : Type 0 where
+-- Whole frames, and behind them bytes of which that holds. Of the outputs of the events among the frames that was written.
+pub record TookPart (Behind : Bool → ℕ → List ℕ → Type 0) (WroteOf : List Output → Type 0) (left left' : Option (List ℕ)) : Type 0 where
   pub progress : Progress
   pub front : List ℕ
   pub rest : List ℕ
   pub read : HasRead progress front
+  pub bytes : IsBytes front
+  pub within : length front + length rest ≤ longest
   pub took : Consumes left left' (front ++ rest)
+  pub behind : Behind (is_opened progress) (length front) rest
+  pub wrote : WroteOf (outputs_so_far progress)
 
--- a first frame that doesn't stand: before it whole frames in order, at it, however the stream goes on, no frame
-pub record StopsAt (left left' written written' : Option (List ℕ)) (at : ℕ) : Type 0 where
-  pub part : TookPart left left'
-  pub place : at ≡ length part.front
-  pub none : IfSome left (λ stream. (behind : List ℕ) → stream ≡ part.front ++ behind → NoFrame part.progress behind)
-  pub wrote : Appends written written' (answered part.progress)
+-- nothing
+abbrev pub Nothing : Bool → ℕ → List ℕ → Type 0
+Nothing opened at rest = rest ≡ []
 
--- a read failed: the outputs of the events that were taken whole are written
-pub record StopsReading (left left' written written' : Option (List ℕ)) : Type 0 where
-  pub part : TookPart left left'
-  pub wrote : Appends written written' (answered part.progress)
+-- no whole frame, nor what tells that none stands here, and a session may have more bytes
+abbrev pub IsCut : Bool → ℕ → List ℕ → Type 0
+IsCut opened at rest = IsUnfinished opened rest × (at + length rest < longest)
 
--- so many bytes were taken, and the last frame isn't whole
-pub record TookLongest (left left' written written' : Option (List ℕ)) : Type 0 where
-  pub part : TookPart left left'
-  pub long : length (part.front ++ part.rest) ≡ longest
-  pub none : NoFrame part.progress part.rest
-  pub wrote : Appends written written' (answered part.progress)
+-- the same, with the last byte that a session may have
+abbrev pub IsLongest : Bool → ℕ → List ℕ → Type 0
+IsLongest opened at rest = IsUnfinished opened rest × (at + length rest ≡ longest)
 
--- a write failed or memory ran out: a front of those outputs is written
-pub record StopsWriting (left left' written written' : Option (List ℕ)) : Type 0 where
-  pub part : TookPart left left'
-  pub wrote : AppendsFront written written' (answered part.progress)
+-- so many bytes tell, and fewer don't, that no frame stands at this place; or the input ends in a frame
+abbrev pub IsBreak : Option (List ℕ) → ℕ → Bool → ℕ → List ℕ → Type 0
+IsBreak left' place opened at rest = (place ≡ at) × (IsRefused opened rest ⊎ (IsCut opened at rest × IsAtEnd left'))
 
--- what each status tells of a session, of the bytes that were taken and of those that were written
+-- no more than one frame, or than tells that none stands here
+abbrev pub IsFrameAtMost : Bool → ℕ → List ℕ → Type 0
+IsFrameAtMost opened at rest = IsUnfinished opened rest ⊎ IsWhole opened rest ⊎ IsRefused opened rest
+
+-- ---- the statuses
+
+-- What each status tells of the bytes that were taken, and of those that were written.
 abbrev pub EndsWith : Option (List ℕ) → Option (List ℕ) → Option (List ℕ) → Option (List ℕ) → Status → Type 0
 EndsWith left left' written written' statuses.Done = TookWhole left left' written written'
-EndsWith left left' written written' statuses.Usage = ⊥
-EndsWith left left' written written' (statuses.Malformed at) = StopsAt left left' written written' at
-EndsWith left left' written written' statuses.ReadFault = StopsReading left left' written written'
-EndsWith left left' written written' statuses.WriteFault = StopsWriting left left' written written'
-EndsWith left left' written written' statuses.NoMemory = StopsWriting left left' written written'
-EndsWith left left' written written' statuses.TooLong = TookLongest left left' written written'
+EndsWith left left' written written' statuses.Usage = Consumes left left' [] × Appends written written' []
+EndsWith left left' written written' (statuses.Malformed at) = TookPart (IsBreak left' at) (WroteAll written written') left left'
+EndsWith left left' written written' statuses.ReadFault = TookPart IsCut (WroteAll written written') left left'
+EndsWith left left' written written' statuses.WriteFault = TookPart Nothing (WroteSome written written') left left'
+EndsWith left left' written written' statuses.NoMemory = TookPart IsFrameAtMost (WroteSome written written') left left'
+EndsWith left left' written written' statuses.TooLong = TookPart IsLongest (WroteAll written written') left left'
 
 -- the number with which the process ends
 abbrev pub number_of : Status → ℕ
@@ -77,14 +100,19 @@ number_of statuses.TooLong = 7
 
 -- ---- where nothing failed
 
--- a stream that begins with a whole session, shorter than the longest input, is served to its end
+-- a stream that begins with a whole session, no longer than the longest input, is served to its end
 abbrev pub ServesWhole : Option (List ℕ) → Status → Type 0
 ServesWhole left status = IfSome left (λ stream. (options : Options) (events : List Event) (session more : List ℕ) →
-    stream ≡ session ++ more → IsSession options events session → length session < longest →
+    stream ≡ session ++ more → IsSession options events session → length session ≤ longest →
     (status ≡ statuses.Done) ⊎ (status ≡ statuses.NoMemory))
 
 -- a stream in which, behind whole frames, no frame stands is refused at that place, if the longest input doesn't end before
 abbrev pub RefusesBroken : Option (List ℕ) → Status → Type 0
 RefusesBroken left status = IfSome left (λ stream. (progress : Progress) (front behind : List ℕ) →
-    stream ≡ front ++ behind → HasRead progress front → NoFrame progress behind →
+    stream ≡ front ++ behind → HasRead progress front → NoneBegins (is_opened progress) behind →
     (status ≡ statuses.Malformed (length front)) ⊎ (status ≡ statuses.TooLong) ⊎ (status ≡ statuses.NoMemory))
+
+-- no frame stands where a stream is refused, however it goes on
+abbrev pub BreaksRightly : Option (List ℕ) → Status → Type 0
+BreaksRightly left status = IfSome left (λ stream. (at : ℕ) → status ≡ statuses.Malformed at →
+    (progress : Progress) × (front : List ℕ) × (behind : List ℕ) × (stream ≡ front ++ behind) × HasRead progress front × (at ≡ length front) × NoneBegins (is_opened progress) behind)

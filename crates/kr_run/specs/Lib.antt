@@ -1,14 +1,3 @@
-pub mod Messages
-pub mod Reading
-pub mod Frames
-pub mod World
-pub mod Batches
-pub mod Outputs
 pub mod Session
 pub mod Endings
-pub mod Taken
-pub mod Bodies
-pub mod Fitting
-pub mod Kept
-pub mod Reader
-pub mod Serving
+pub mod inner

@@ -1,41 +1,36 @@
 -- How far a stream is a session: Open, then events, then End, one frame after the other.
-use Rattle.std.specs.Prelude.{◌≡◌, ℕ, IsTrue, List, [], ◌∷◌, ◌++◌}
-use Rattle.kr_wire.specs.Grammar.{◌⌢◌, Each}
+use Rattle.std.specs.Prelude.{ℕ, Bool, false, true, List, []}
+use Rattle.std.specs.List.{flat_map}
+use Rattle.kr_wire.specs.Grammar.{◌⌢◌, Each, Exactly}
+use Rattle.kr_calls.specs.declared.events.Event.{Event}
+use Rattle.kr_calls.specs.declared.events.Output.{Output}
 use Rattle.kr_defs.specs.declared.options.Options.{Options}
-use Rattle.kr_run.specs.declared.events.Event.{Event}
-use Rattle.kr_run.specs.Frames.{IsOpen, IsEvent, IsEnd}
-use Rattle.kr_run.specs.World.{World, start, world, happens, is_accepted}
-use Rattle.kr_run.specs.Outputs.{written_for}
-
--- each event is accepted in the world after those before it
-abbrev pub AreAccepted : World → List Event → Type 0
-AreAccepted w [] = Unit {0}
-AreAccepted w (event ∷ events) = IsTrue (is_accepted w event) × AreAccepted (happens w event) events
+use Rattle.kr_engine.specs.Outputs.{outputs}
+use Rattle.kr_stream.specs.Frames.{IsOpen, IsEvent, IsEnd}
 
 -- how far a session was read: not even its first frame, or that and these events
 pub data Progress : Type 0 where
   Unopened : Progress
   Opened : (options : Options) (events : List Event) → Progress
 
+abbrev pub is_opened : Progress → Bool
+is_opened Unopened = false
+is_opened (Opened options events) = true
+
 -- these bytes are the frames that were read, whole and in order
 abbrev pub HasRead : Progress → List ℕ → Type 0
-HasRead Unopened bytes = bytes ≡ []
-HasRead (Opened options events) bytes = AreAccepted start events × (IsOpen options ⌢ Each IsEvent events) bytes
+HasRead Unopened = Exactly []
+HasRead (Opened options events) = IsOpen options ⌢ Each IsEvent events
 
 -- a whole session
 abbrev pub IsSession : Options → List Event → List ℕ → Type 0
 IsSession options events = HasRead (Opened options events) ⌢ IsEnd
 
--- no front of the bytes is the next frame: Open at first, then an event that is accepted or End
-abbrev pub NoneBegins : (List ℕ → Type 0) → List ℕ → Type 0
-NoneBegins Is bytes = (front behind : List ℕ) → bytes ≡ front ++ behind → Is front → ⊥
+-- all outputs of events, in order
+abbrev pub all_outputs : Options → List Event → List Output
+all_outputs options events = flat_map (λ given. given) (outputs options events)
 
-abbrev pub NoFrame : Progress → List ℕ → Type 0
-NoFrame Unopened bytes = (options : Options) → NoneBegins (IsOpen options) bytes
-NoFrame (Opened options events) bytes =
-    ((event : Event) → IsTrue (is_accepted (world events) event) → NoneBegins (IsEvent event) bytes) × NoneBegins IsEnd bytes
-
--- the frames of the outputs of the events that were read
-abbrev pub answered : Progress → List ℕ
-answered Unopened = []
-answered (Opened options events) = written_for events
+-- the outputs of the events that were read
+abbrev pub outputs_so_far : Progress → List Output
+outputs_so_far Unopened = []
+outputs_so_far (Opened options events) = all_outputs options events

@@ -23,17 +23,19 @@ use Rattle.kr_stream.proofs.Parts.{frame_of, fits_none, consumes_none}
 -- ---- taking
 
 -- a read that failed
-pub short_by_fault : (a b : Option (List ℕ)) (start at most len f g : ℕ) → TakesFewer a b most → most ≤ len → Rose f g → Short start at len a b f g faults.ReadFault
-short_by_fault a b start at most len f g t within rose = record { taken = t.0; took = t.1; few = let few = t.2 in omega (arith, few, within); cause = rose }
+pub short_by_fault : (a b : Option (List ℕ)) (start at most len f g : ℕ) → TakesFewer a b most → most ≤ len → at + most ≤ MOST_SESSION_BYTES → Rose f g
+    → Short start at len a b f g faults.ReadFault
+short_by_fault a b start at most len f g t within top rose =
+    let few = t.2 in record { taken = t.0; took = t.1; few = omega (arith, few, within); cause = (rose, omega (arith, few, top)) }
 
 -- so many bytes came, and fewer than are needed
 module _ (a b : Option (List ℕ)) (start at most len count f g : ℕ) (front : List ℕ) (took : Consumes a b (take count front)) (within : count ≤ length front)
-    (long : length front ≡ most) (fits : most ≤ len) (end : count < length front → IsAtEnd b) (room : most < len → at + most ≡ MOST_SESSION_BYTES) where
+    (long : length front ≡ most) (fits : most ≤ len) (end : count < length front → IsAtEnd b) (top : at + most ≤ MOST_SESSION_BYTES) (room : most < len → at + most ≡ MOST_SESSION_BYTES) where
   short_by : (fault : StreamFault) → IsShortage start count most len fault → Short start at len a b f g fault
   short_by (faults.Malformed place) s =
       let size : length (take count front) ≡ count = length-take-le count front within in
       let few = s.1 in
-      record { taken = take count front; took = took; few = omega (arith, size, few, fits); cause = (s.0, end (omega (arith, few, long))) }
+      record { taken = take count front; took = took; few = omega (arith, size, few, fits); cause = (s.0, end (omega (arith, few, long)), omega (arith, size, few, top)) }
   short_by faults.TooLong s =
       let size : length (take count front) ≡ count = length-take-le count front within in
       let all = s.0 in
@@ -47,14 +49,23 @@ module _ (a b : Option (List ℕ)) (start at most len count f g : ℕ) (front : 
   short_of (Ok u) s = tt
   short_of (Err fault) s = short_by fault s
 
+cause_within : (start end : ℕ) (left : Option (List ℕ)) (f g : ℕ) (fault : StreamFault) → ShortCause start end left f g fault → end ≤ MOST_SESSION_BYTES
+cause_within start end left f g (faults.Malformed place) s = let below = s.2 in omega (arith, below)
+cause_within start end left f g faults.ReadFault s = let below = s.1 in omega (arith, below)
+cause_within start end left f g faults.TooLong s = omega (arith, s)
+cause_within start end left f g faults.NoMemory s = absurd s
+
 -- ---- a part of a frame
 
 -- A part that is too short stands behind others, with which it is the beginning of a frame.
 module _ (opened : Bool) (a b c : Option (List ℕ)) (start at most f g h : ℕ) (before : List ℕ) (took : Consumes a b before) (place : at ≡ start + length before) (le : f ≤ g)
     (begins : (rest : List ℕ) → length rest < most → IsUnfinished opened (before ++ rest)) where
+  further : (taken : List ℕ) → start + length (before ++ taken) ≡ at + length taken
+  further taken = let e : length (before ++ taken) ≡ length before + length taken = length-append before taken in omega (arith, e, place)
+
   cause_of : (fault : StreamFault) (taken : List ℕ) → length taken < most → ShortCause start (at + length taken) c g h fault → Cause opened start (before ++ taken) c f h fault
-  cause_of (faults.Malformed p) taken few s = (s.0, inr (begins taken few, s.1))
-  cause_of faults.ReadFault taken few rose = (begins taken few, omega (arith, le, rose))
+  cause_of (faults.Malformed p) taken few s = let below = s.2 in (s.0, inr (begins taken few, s.1, omega (arith, further taken, below)))
+  cause_of faults.ReadFault taken few s = let rose : Rose g h = s.0 in let below = s.1 in (begins taken few, omega (arith, le, rose), omega (arith, further taken, below))
   cause_of faults.TooLong taken few full = (begins taken few, let e : length (before ++ taken) ≡ length before + length taken = length-append before taken in omega (arith, e, place, full))
   cause_of faults.NoMemory taken few s = absurd s
 
@@ -62,6 +73,7 @@ module _ (opened : Bool) (a b c : Option (List ℕ)) (start at most f g h : ℕ)
   stopped_short fault s = record {
     taken = before ++ s.taken;
     took = consumes_more a b c before s.taken took s.took;
+    within = let most_ = cause_within start (at + length s.taken) c g h fault s.cause in omega (arith, further s.taken, most_);
     cause = cause_of fault s.taken s.few s.cause;
   }
 
@@ -100,6 +112,7 @@ module _ (opened : Bool) (a b : Option (List ℕ)) (start len : ℕ) (kind : Fra
   stopped_without_memory f g = record {
     taken = t.taken;
     took = t.took;
+    within = omega (arith, t.place, t.within);
     cause = elim (cases_lt 0 len) [
       | inl some ↦ inl (in_body (number_of kind) len t.taken [] (sym (append-nil t.taken)) t.is (allowed opened kind len place short) some)
       | inr none ↦ inr (record { number = number_of kind; body = []; is = whole_head (omega (arith, none)); allowed = allowed opened kind 0 place (omega arith) })
@@ -107,13 +120,14 @@ module _ (opened : Bool) (a b : Option (List ℕ)) (start len : ℕ) (kind : Fra
   }
 
 -- a size of 0
-pub stopped_at_zero : (opened : Bool) (a b : Option (List ℕ)) (start f g : ℕ) (four : List ℕ) → Consumes a b four → IsNumber w32 0 four → Stopped opened start a b f g (faults.Malformed start)
-stopped_at_zero opened a b start f g four took is = record { taken = four; took = took; cause = (refl, inl (no_size is)) }
+pub stopped_at_zero : (opened : Bool) (a b : Option (List ℕ)) (start f g : ℕ) (four : List ℕ) → Consumes a b four → start + 4 ≤ MOST_SESSION_BYTES → IsNumber w32 0 four → Stopped opened start a b f g (faults.Malformed start)
+stopped_at_zero opened a b start f g four took room is =
+    let long : length four ≡ 4 = is.long in record { taken = four; took = took; within = omega (arith, long, room); cause = (refl, inl (no_size is)) }
 
 -- a kind and a size that may not stand here
 pub stopped_at_head : (opened : Bool) (a b : Option (List ℕ)) (start size number f g : ℕ) (t : Took (IsHead size number) a b start (start + 5)) → 0 < size → (IsAllowed opened number (size - 1) → ⊥)
     → Stopped opened start a b f g (faults.Malformed start)
-stopped_at_head opened a b start size number f g t some not_allowed = record { taken = t.taken; took = t.took; cause = (refl, inl (no_place size number some t.is not_allowed)) }
+stopped_at_head opened a b start size number f g t some not_allowed = record { taken = t.taken; took = t.took; within = omega (arith, t.place, t.within); cause = (refl, inl (no_place size number some t.is not_allowed)) }
 
 -- ---- a whole frame
 
@@ -123,7 +137,7 @@ module _ (opened : Bool) (a b : Option (List ℕ)) (start next : ℕ) (kind : Fr
   whole = record { number = number_of kind; body = body; is = t.is; allowed = allowed opened kind (length body) place short }
 
   pub stopped_by_body : (f g : ℕ) → ((frame : Frame) → IsBodyOf kind frame body → ⊥) → Stopped opened start a b f g (faults.Malformed start)
-  stopped_by_body f g none = record { taken = t.taken; took = t.took; cause = (refl, inl (no_fit whole (fits_none opened kind body t.taken t.is none))) }
+  stopped_by_body f g none = record { taken = t.taken; took = t.took; within = omega (arith, t.place, t.within); cause = (refl, inl (no_fit whole (fits_none opened kind body t.taken t.is none))) }
 
   pub stopped_by_value : (f g : ℕ) → Stopped opened start a b f g faults.NoMemory
-  stopped_by_value f g = record { taken = t.taken; took = t.took; cause = inr whole }
+  stopped_by_value f g = record { taken = t.taken; took = t.took; within = omega (arith, t.place, t.within); cause = inr whole }

@@ -29,7 +29,7 @@ pub consumes_none : (a : Option (List ℕ)) → Consumes a a []
 consumes_none None = tt
 consumes_none (Some x) = refl
 
-both_bytes : (left right : List ℕ) → IsBytes left → IsBytes right → IsBytes (left ++ right)
+pub both_bytes : (left right : List ℕ) → IsBytes left → IsBytes right → IsBytes (left ++ right)
 both_bytes left right before behind =
     let a : OfBytes left = record { each = before } in
     let b : OfBytes right = record { each = behind } in

@@ -86,17 +86,18 @@ pub data IsRefused (opened : Bool) (bytes : List ℕ) : Type 0 where
 -- Why no frame is answered, by the bytes that were taken from the place `at` on:
 -- at Malformed, those that tell that none stands there, or all that there are, and they are too few;
 -- at ReadFault, too few, and a read failed;
--- at TooLong, too few, and no more bytes of one stream are taken;
+-- at TooLong, too few, and no more bytes of one stream are taken, which is so at no other fault;
 -- at NoMemory, no more than one frame.
 abbrev pub Cause : Bool → ℕ → List ℕ → Option (List ℕ) → ℕ → ℕ → StreamFault → Type 0
-Cause opened at taken left' count count' (faults.Malformed place) = (place ≡ at) × (IsRefused opened taken ⊎ (IsUnfinished opened taken × IsAtEnd left'))
-Cause opened at taken left' count count' faults.ReadFault = IsUnfinished opened taken × Rose count count'
+Cause opened at taken left' count count' (faults.Malformed place) = (place ≡ at) × (IsRefused opened taken ⊎ (IsUnfinished opened taken × IsAtEnd left' × (at + length taken < MOST_SESSION_BYTES)))
+Cause opened at taken left' count count' faults.ReadFault = IsUnfinished opened taken × Rose count count' × (at + length taken < MOST_SESSION_BYTES)
 Cause opened at taken left' count count' faults.TooLong = IsUnfinished opened taken × (at + length taken ≡ MOST_SESSION_BYTES)
 Cause opened at taken left' count count' faults.NoMemory = IsUnfinished opened taken ⊎ IsWhole opened taken
 
 pub record Stopped (opened : Bool) (at : ℕ) (left left' : Option (List ℕ)) (count count' : ℕ) (fault : StreamFault) : Type 0 where
   pub taken : List ℕ
   pub took : Consumes left left' taken
+  pub within : at + length taken ≤ MOST_SESSION_BYTES
   pub cause : Cause opened at taken left' count count' fault
 
 -- what a fault tells at each stage: behind End there is none, and a fault is answered again, with nothing taken

@@ -1,11 +1,10 @@
 -- What is told of a session whose line was written: its own status, or NoMemory in place of a bad frame.
-use Rattle.std.proofs.Common.{◌≡◌, ℕ, ◌⊎◌, inl, inr, List, Option, Some, None, sym, subst, length, ◌∙◌, arith}
-use Rattle.std.proofs.lemmas.List.{take_all}
-use Rattle.std.specs.Io.KnownBytes.{Appends}
-use Rattle.kr_base.specs.FailedPuts.{AppendsFront}
+use Rattle.std.proofs.Common.{◌≡◌, ℕ, ◌⊎◌, inl, inr, List, Option, Some, None, sym, subst, ◌∙◌}
 use Rattle.kr_run.specs.declared.status.Status.{Status}
 use Rattle.kr_run.specs.declared.status.Status.TheVariants as statuses
-use Rattle.kr_run.specs.Endings.{StopsAt, StopsWriting, ServesWhole, RefusesBroken}
+use Rattle.kr_run.specs.Endings.{BreaksRightly, EndsWith, RefusesBroken, ServesWhole}
+use Rattle.kr_run.specs.Session.{outputs_so_far}
+use Rattle.kr_run.proofs.OutputFrames.{all_of}
 use Rattle.kr_tool.specs.Notes.{IsMalformed}
 
 abbrev pub Same : Status → Status → Type 0
@@ -16,20 +15,30 @@ pub same_but_memory : (told ended status : Status) → Same told ended → told 
 same_but_memory told ended status (inl e) is other = sym e ∙ is
 same_but_memory told ended status (inr p) is other = absurd (other (sym is ∙ p.0))
 
--- all of a piece is a front of it
-appends_all : (a b : Option (List ℕ)) (xs : List ℕ) → Appends a b xs → AppendsFront a b xs
-appends_all a b xs wrote = (length xs, subst (λ (l : List ℕ). Appends a b l) (sym (take_all (length xs) xs (omega arith))) wrote)
+module _ (left left' written written' : Option (List ℕ)) where
+  -- where no line could be written
+  no_line : (at : ℕ) → EndsWith left left' written written' (statuses.Malformed at) → EndsWith left left' written written' statuses.NoMemory
+  no_line at ends = record {
+    progress = ends.progress;
+    front = ends.front;
+    rest = ends.rest;
+    read = ends.read;
+    bytes = ends.bytes;
+    within = ends.within;
+    took = ends.took;
+    behind = elim ends.behind.1 [
+      | inl refused ↦ inr (inr refused)
+      | inr cut ↦ inl cut.0.0
+    ];
+    wrote = all_of written written' (outputs_so_far ends.progress) ends.wrote;
+  }
 
--- where no line could be written, the outputs of a bad frame's session are a front of those outputs
-pub told_no_memory : (left left' written written' : Option (List ℕ)) (told ended : Status) → Same told ended → told ≡ statuses.NoMemory
-    → (ended ≡ statuses.NoMemory → StopsWriting left left' written written') → ((at : ℕ) → ended ≡ statuses.Malformed at → StopsAt left left' written written' at)
-    → StopsWriting left left' written written'
-told_no_memory left left' written written' told ended (inl e) is memory malformed = memory (sym e ∙ is)
-told_no_memory left left' written written' told ended (inr p) is memory malformed =
-    let stops = malformed p.1.0 p.1.1 in
-    record { part = stops.part; wrote = appends_all written written' _ stops.wrote }
+  pub ends_told : (told ended : Status) → Same told ended → EndsWith left left' written written' ended → EndsWith left left' written written' told
+  ends_told told ended (inl e) ends = subst (EndsWith left left' written written') (sym e) ends
+  ends_told told ended (inr p) ends =
+      subst (EndsWith left left' written written') (sym p.0) (no_line p.1.0 (subst (EndsWith left left' written written') p.1.1 ends))
 
--- completeness goes over to the status that is told
+-- where nothing failed
 pub serves_told : (left : Option (List ℕ)) (told ended : Status) → Same told ended → ServesWhole left ended → ServesWhole left told
 serves_told left told ended (inl e) whole = subst (ServesWhole left) (sym e) whole
 serves_told None told ended (inr p) whole = tt
@@ -39,3 +48,8 @@ pub refuses_told : (left : Option (List ℕ)) (told ended : Status) → Same tol
 refuses_told left told ended (inl e) broken = subst (RefusesBroken left) (sym e) broken
 refuses_told None told ended (inr p) broken = tt
 refuses_told (Some stream) told ended (inr p) broken = λ progress front behind parts read none. inr (inr p.0)
+
+pub breaks_told : (left : Option (List ℕ)) (told ended : Status) → Same told ended → BreaksRightly left ended → BreaksRightly left told
+breaks_told left told ended (inl e) breaks = subst (BreaksRightly left) (sym e) breaks
+breaks_told None told ended (inr p) breaks = tt
+breaks_told (Some stream) told ended (inr p) breaks = λ at is. absurd cc

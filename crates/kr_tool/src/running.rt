@@ -1,10 +1,10 @@
 //! The top call: one run of the tool.
 
-ghost use Rattle.std.specs.Prelude.{◌≡◌, ◌⊎◌, ◌↔◌, ℕ, [], ◌++◌, ◌∷◌, IfOk, IsTrue, codes, string_bytes};
+ghost use Rattle.std.specs.Prelude.{◌≡◌, ◌⊎◌, ◌↔◌, [], ◌++◌, ◌∷◌, IfOk, IsTrue, codes, string_bytes};
 ghost use Rattle.std.specs.Fmt.{decimal};
-ghost use Rattle.std.specs.Io.KnownBytes.{Appends, Consumes};
+ghost use Rattle.std.specs.Io.KnownBytes.{Appends};
 ghost use Rattle.kr_base.specs.Causes.{Rose};
-ghost use Rattle.kr_run.specs.Endings.{TookWhole, StopsAt, StopsReading, TookLongest, StopsWriting, ServesWhole, RefusesBroken};
+ghost use Rattle.kr_run.specs.Endings.{BreaksRightly, EndsWith, RefusesBroken, ServesWhole};
 ghost use Rattle.kr_tool.specs.Notes.{AreServed, note_of, line, IsMalformed};
 
 use kr_base::{Sink, Source};
@@ -22,26 +22,23 @@ pub fn run<S: Source, K: Sink, E: Sink>(
     output: &mut K,
     notes: &mut E,
 ) -> Status
-    // Usage is told exactly where the words aren't served, and then nothing is taken or written.
+    // The bytes that were taken and those that were written, at each status.
+    ensures ends { EndsWith (S.left input.old) (S.left input.new) (K.written output.old) (K.written output.new) result }
+
+    // Usage is told exactly where the words aren't served.
     ensures usage { result ≡ Status.Usage → AreServed words.now → ⊥ }
     ensures served { (AreServed words.now → ⊥) → result ≡ Status.Usage }
-    ensures idle { result ≡ Status.Usage → Consumes (S.left input.old) (S.left input.new) [] × Appends (K.written output.old) (K.written output.new) [] }
-
-    // One whole session was taken and nothing behind it, and the frames of its outputs were written.
-    ensures done { result ≡ Status.Done → TookWhole (S.left input.old) (S.left input.new) (K.written output.old) (K.written output.new) }
-
-    // At the first byte of a bad frame: before it whole frames in order, at it no frame; outputs as of the whole frames.
-    ensures malformed { (at : ℕ) → result ≡ Status.Malformed at → StopsAt (S.left input.old) (S.left input.new) (K.written output.old) (K.written output.new) at }
-    ensures too_long { result ≡ Status.TooLong → TookLongest (S.left input.old) (S.left input.new) (K.written output.old) (K.written output.new) }
 
     // A fault is told only where that object's count rose in this call.
-    ensures read { result ≡ Status.ReadFault → StopsReading (S.left input.old) (S.left input.new) (K.written output.old) (K.written output.new) × Rose (S.faults input.old) (S.faults input.new) }
-    ensures write { result ≡ Status.WriteFault → StopsWriting (S.left input.old) (S.left input.new) (K.written output.old) (K.written output.new) × Rose (K.faults output.old) (K.faults output.new) }
-    ensures no_memory { result ≡ Status.NoMemory → StopsWriting (S.left input.old) (S.left input.new) (K.written output.old) (K.written output.new) }
+    ensures read { result ≡ Status.ReadFault → Rose (S.faults input.old) (S.faults input.new) }
+    ensures write { result ≡ Status.WriteFault → Rose (K.faults output.old) (K.faults output.new) }
 
     // Where no read and no write failed: a whole session is served, and a broken one is refused at that frame.
     ensures complete { AreServed words.now → (Rose (S.faults input.old) (S.faults input.new) → ⊥) → (Rose (K.faults output.old) (K.faults output.new) → ⊥) → ServesWhole (S.left input.old) result }
     ensures broken { AreServed words.now → (Rose (S.faults input.old) (S.faults input.new) → ⊥) → (Rose (K.faults output.old) (K.faults output.new) → ⊥) → RefusesBroken (S.left input.old) result }
+
+    // Where it is refused, no frame stands.
+    ensures breaks { BreaksRightly (S.left input.old) result }
 
     // The notes get exactly the status's line.
     ensures notes { (Rose (E.faults notes.old) (E.faults notes.new) → ⊥) → Appends (E.written notes.old) (E.written notes.new) (note_of result) }
@@ -71,17 +68,14 @@ fn serve_words<S: Source, K: Sink>(
     input: &mut S,
     output: &mut K,
 ) -> Status
+    ensures ends { EndsWith (S.left input.old) (S.left input.new) (K.written output.old) (K.written output.new) result }
     ensures usage { result ≡ Status.Usage → AreServed words.now → ⊥ }
     ensures served { (AreServed words.now → ⊥) → result ≡ Status.Usage }
-    ensures idle { result ≡ Status.Usage → Consumes (S.left input.old) (S.left input.new) [] × Appends (K.written output.old) (K.written output.new) [] }
-    ensures done { result ≡ Status.Done → TookWhole (S.left input.old) (S.left input.new) (K.written output.old) (K.written output.new) }
-    ensures malformed { (at : ℕ) → result ≡ Status.Malformed at → StopsAt (S.left input.old) (S.left input.new) (K.written output.old) (K.written output.new) at }
-    ensures too_long { result ≡ Status.TooLong → TookLongest (S.left input.old) (S.left input.new) (K.written output.old) (K.written output.new) }
-    ensures read { result ≡ Status.ReadFault → StopsReading (S.left input.old) (S.left input.new) (K.written output.old) (K.written output.new) × Rose (S.faults input.old) (S.faults input.new) }
-    ensures write { result ≡ Status.WriteFault → StopsWriting (S.left input.old) (S.left input.new) (K.written output.old) (K.written output.new) × Rose (K.faults output.old) (K.faults output.new) }
-    ensures no_memory { result ≡ Status.NoMemory → StopsWriting (S.left input.old) (S.left input.new) (K.written output.old) (K.written output.new) }
+    ensures read { result ≡ Status.ReadFault → Rose (S.faults input.old) (S.faults input.new) }
+    ensures write { result ≡ Status.WriteFault → Rose (K.faults output.old) (K.faults output.new) }
     ensures complete { AreServed words.now → (Rose (S.faults input.old) (S.faults input.new) → ⊥) → (Rose (K.faults output.old) (K.faults output.new) → ⊥) → ServesWhole (S.left input.old) result }
     ensures broken { AreServed words.now → (Rose (S.faults input.old) (S.faults input.new) → ⊥) → (Rose (K.faults output.old) (K.faults output.new) → ⊥) → RefusesBroken (S.left input.old) result }
+    ensures breaks { BreaksRightly (S.left input.old) result }
 {
     if !are_served(words) {
         return Status::Usage;

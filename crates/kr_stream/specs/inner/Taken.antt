@@ -18,8 +18,8 @@ IsShortage start count most len other = ⊥
 
 -- why bytes are too few, of a frame that begins at `start`, where the last one taken stands before `end`
 abbrev pub ShortCause : ℕ → ℕ → Option (List ℕ) → ℕ → ℕ → StreamFault → Type 0
-ShortCause start end left' count count' (faults.Malformed place) = (place ≡ start) × IsAtEnd left'
-ShortCause start end left' count count' faults.ReadFault = Rose count count'
+ShortCause start end left' count count' (faults.Malformed place) = (place ≡ start) × IsAtEnd left' × (end < MOST_SESSION_BYTES)
+ShortCause start end left' count count' faults.ReadFault = Rose count count' × (end < MOST_SESSION_BYTES)
 ShortCause start end left' count count' faults.TooLong = end ≡ MOST_SESSION_BYTES
 ShortCause start end left' count count' faults.NoMemory = ⊥
 

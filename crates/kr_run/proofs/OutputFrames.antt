@@ -1,0 +1,91 @@
+-- Frames of outputs that are written one after the other, and fronts of them.
+use Rattle.std.proofs.Common.{◌≡◌, ℕ, ◌+◌, List, [], ◌∷◌, ◌++◌, length, take, append_assoc, append-nil, Option, Result, Ok, Err, refl, sym, ap, subst, ◌∙◌, arith}
+use Rattle.std.specs.Prelude.{OnOk, OnErr, IsErrOf}
+use Rattle.std.specs.Io.KnownBytes.{Appends}
+use Rattle.std.proofs.KnownBytes.{Appends-trans, Appends-nil}
+use Rattle.std.proofs.lemmas.List.{take_all}
+use Rattle.std.proofs.Math.Seq.{take-append-add}
+use Rattle.kr_base.specs.FailedPuts.{AppendsFront}
+use Rattle.kr_wire.specs.Grammar.{Each}
+use Rattle.kr_calls.specs.declared.events.Output.{Output}
+use Rattle.kr_stream.specs.declared.fault.WriteFault.{WriteFault}
+use Rattle.kr_stream.specs.declared.fault.WriteFault.TheVariants as faults
+use Rattle.kr_stream.specs.Outputs.{IsOutput, Wrote, WroteFront}
+use Rattle.kr_run.specs.Endings.{WroteAll, WroteSome}
+
+-- ---- one after the other
+
+pub each_both : {X : Type 0} (One : X → List ℕ → Type 0) (xs ys : List X) (a b : List ℕ) → Each One xs a → Each One ys b → Each One (xs ++ ys) (a ++ b)
+each_both One [] ys a b none second = subst (Each One ys) (ap (λ (l : List ℕ). l ++ b) (sym none)) second
+each_both One (x ∷ xs) ys a b first second = record {
+  left = first.left;
+  right = first.right ++ b;
+  is = ap (λ (l : List ℕ). l ++ b) first.is ∙ append_assoc first.left first.right b;
+  first = first.first;
+  second = each_both One xs ys first.right b first.second second;
+}
+
+pub each_one : {X : Type 0} (One : X → List ℕ → Type 0) (x : X) (bytes : List ℕ) → One x bytes → Each One (x ∷ []) bytes
+each_one One x bytes is = record { left = bytes; right = []; is = sym (append-nil bytes); first = is; second = refl }
+
+-- ---- all of them
+
+pub none_written : (written : Option (List ℕ)) → WroteAll written written []
+none_written written = ([], refl, Appends-nil written)
+
+module _ (a b c : Option (List ℕ)) where
+  pub both_written : (xs ys : List Output) → WroteAll a b xs → WroteAll b c ys → WroteAll a c (xs ++ ys)
+  both_written xs ys first second =
+      (first.0 ++ second.0, each_both IsOutput xs ys first.0 second.0 first.1 second.1, Appends-trans a b c first.0 second.0 first.2 second.2)
+
+-- ---- some of them
+
+all_of_a_piece : (a b : Option (List ℕ)) (xs : List ℕ) → Appends a b xs → AppendsFront a b xs
+all_of_a_piece a b xs wrote = (length xs, subst (λ (l : List ℕ). Appends a b l) (sym (take_all (length xs) xs (omega arith))) wrote)
+
+pub none_of : (written : Option (List ℕ)) (outputs : List Output) → WroteSome written written outputs
+none_of written outputs = record { first = []; others = outputs; parts = refl; wrote = ([], refl, (0, Appends-nil written)) }
+
+pub all_of : (a b : Option (List ℕ)) (xs : List Output) → WroteAll a b xs → WroteSome a b xs
+all_of a b xs all = record { first = xs; others = []; parts = sym (append-nil xs); wrote = (all.0, all.1, all_of_a_piece a b all.0 all.2) }
+
+front_behind : (a b c : Option (List ℕ)) (xs ys : List ℕ) → Appends a b xs → AppendsFront b c ys → AppendsFront a c (xs ++ ys)
+front_behind a b c xs ys first second =
+    (length xs + second.0, subst (λ (l : List ℕ). Appends a c l) (sym (take-append-add xs ys second.0)) (Appends-trans a b c xs (take second.0 ys) first second.1))
+
+front_of_more : (a b c : Option (List ℕ)) (xs ys : List Output) → WroteAll a b xs → WroteFront (Each IsOutput ys) b c → WroteFront (Each IsOutput (xs ++ ys)) a c
+front_of_more a b c xs ys (first, is, wrote) (second, others, more) =
+    (first ++ second, each_both IsOutput xs ys first second is others, front_behind a b c first second wrote more)
+
+-- some of the outputs behind others, and those all
+pub some_behind : (a b c : Option (List ℕ)) (xs ys : List Output) → WroteAll a b xs → WroteSome b c ys → WroteSome a c (xs ++ ys)
+some_behind a b c xs ys all some = record {
+  first = xs ++ some.first;
+  others = some.others;
+  parts = ap (λ (l : List Output). xs ++ l) some.parts ∙ sym (append_assoc xs some.first some.others);
+  wrote = front_of_more a b c xs some.first all some.wrote;
+}
+
+pub some_of_more : (a b : Option (List ℕ)) (xs ys : List Output) → WroteSome a b xs → WroteSome a b (xs ++ ys)
+some_of_more a b xs ys some = record {
+  first = some.first;
+  others = some.others ++ ys;
+  parts = ap (λ (l : List Output). l ++ ys) some.parts ∙ append_assoc some.first some.others ys;
+  wrote = some.wrote;
+}
+
+-- ---- one output
+
+module _ (output : Output) (a b : Option (List ℕ)) where
+  pub one_written : (result : Result (Unit {0}) WriteFault) → OnOk result (Wrote (IsOutput output) a b) → OnOk result (WroteAll a b (output ∷ []))
+  one_written (Ok u) wrote = (wrote.0, each_one IsOutput output wrote.0 wrote.1, wrote.2)
+  one_written (Err fault) wrote = tt
+
+  one_front : WroteFront (IsOutput output) a b → WroteFront (Each IsOutput (output ∷ [])) a b
+  one_front (bytes, is, front) = (bytes, each_one IsOutput output bytes is, front)
+
+  pub one_unwritten : (result : Result (Unit {0}) WriteFault) → (IsErrOf result faults.Failed → WroteFront (IsOutput output) a b) → (IsErrOf result faults.NoMemory → b ≡ a)
+      → OnErr result (WroteSome a b (output ∷ []))
+  one_unwritten (Ok u) front same = tt
+  one_unwritten (Err faults.Failed) front same = record { first = output ∷ []; others = []; parts = refl; wrote = one_front (front refl) }
+  one_unwritten (Err faults.NoMemory) front same = subst (λ (l : Option (List ℕ)). WroteSome a l (output ∷ [])) (sym (same refl)) (none_of a (output ∷ []))
