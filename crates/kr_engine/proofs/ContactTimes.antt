@@ -49,7 +49,7 @@ of_contact now h before after place q all =
 of_heartbeat : (now : ℤ) (h : Heartbeats) (before after : Image) (place : ℤ) (q : BrokerHeartbeat) (p : BrokerHeartbeatReply) → AreInTime now h → AreInTime now (after_heartbeat h before after now place q p)
 of_heartbeat now h before after place q p all =
     either_in_time now (not (int_eq p.error (pos 0))) h _ all
-      (either_in_time now p.fenced (hearing.leave h q.broker) _ (leaving_in_time now h q.broker all) (of_contact now h before after place q all))
+    (either_in_time now p.fenced (hearing.leave h q.broker) _ (leaving_in_time now h q.broker all) (of_contact now h before after place q all))
 
 of_leaving : (now : ℤ) (h : Heartbeats) (error broker : ℤ) → AreInTime now h → AreInTime now (after_leaving h error broker)
 of_leaving now h error broker all = either_in_time now (int_eq error (pos 0)) (hearing.leave h broker) h (leaving_in_time now h broker all) all

@@ -1,6 +1,5 @@
 -- What a client's message makes of an engine.
 use Rattle.std.proofs.Common.{◌≡◌, ◌∙◌, sym, subst, ℕ, ℤ, pos, Bool, true, false, cond, ◌+◌, ◌≤◌, List, [], ◌∷◌, ◌++◌, map, length, refl, ap, arith, All, not}
-use Rattle.std.proofs.lemmas.Bool.Decides.{nat_tests}
 use Rattle.std.proofs.lemmas.List.{append-nil}
 use Rattle.std.proofs.lemmas.List.Elements.{recursion_from_All}
 use Rattle.std.specs.Prelude.{◌&&◌, Option, Some, None, Result, Ok, Err, filter, find, int_le, unsigned_abs, IsSome, is_some, option_to_list, unwrap_or}
@@ -55,7 +54,6 @@ use Rattle.kr_engine.proofs.FencingSteps.{reached_later}
 use Rattle.kr_engine.proofs.ImageSteps.{committed_found}
 use Rattle.kr_engine.proofs.NewLeaderships.{none_row}
 use Rattle.kr_engine.proofs.Queues.{IsDrained, drained}
-use Rattle.kr_engine.proofs.ReadyEngines as engines_ready
 use Rattle.kr_engine.proofs.ReadyEngines.{same_image}
 use Rattle.kr_engine.proofs.Refusals.{passes, refused_step}
 use Rattle.kr_engine.proofs.TickSteps.{counted_engine, near_enough, timed_engine}
@@ -381,5 +379,3 @@ pub request_step : (e noted core after : Core) (client : ℕ) (now : ℤ) (ask :
 request_step e timed_one core after client now ask none valid is settles counts =
     subst (λ (a : Core). IsStep e a (events.Request client now ask)) (sym counts)
     (settled e core client now ask (drained e none) valid.tip (subst (λ (c : Core). SettlesAsk c core client ask (ask_reason c ask)) is settles))
-
-pub ruleset steps = (request_step, engines_ready.ready_then)

@@ -24,8 +24,8 @@ order_more (write ∷ writes) last ordered behind =
     let parts = both (list_all (is_behind write) writes) (are_in_order writes) ordered in
     let tests = both (is_behind write last) (list_all (λ (write : Write). is_behind write last) writes) behind in
     and_from (list_all (is_behind write) (writes ++ last ∷ [])) (are_in_order (writes ++ last ∷ []))
-      (list_all-append (is_behind write) writes (last ∷ []) ∙ and_from (list_all (is_behind write) writes) (is_behind write last && true) parts.0 (and_from (is_behind write last) true tests.0 refl))
-      (order_more writes last parts.1 tests.1)
+    (list_all-append (is_behind write) writes (last ∷ []) ∙ and_from (list_all (is_behind write) writes) (is_behind write last && true) parts.0 (and_from (is_behind write last) true tests.0 refl))
+    (order_more writes last parts.1 tests.1)
 
 -- what waits passes the test of those that wait
 pub all_open : (p : Write → Bool) (writes : List Write) → list_all p (filter p writes) ≡ true

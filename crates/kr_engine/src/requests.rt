@@ -240,7 +240,7 @@ impl Engine {
     /// that it saw or made is committed; on standby a write is refused at once by Kafka's NOT_CONTROLLER. A read is
     /// answered at once on the committed image, and what is no call by an error alone. All outputs are handed out before.
     /// An engine that answered want of memory may only be dropped.
-    #[tactic(auto, using(crate::proofs::RequestSteps::steps))]
+    #[tactic(auto, using(crate::proofs::ReadyEngines::ready_then))]
     pub fn request<L: Ledger>(
         &mut self,
         client: &u32,
