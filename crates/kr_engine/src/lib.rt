@@ -4,6 +4,7 @@
 mod appending;
 mod applying;
 mod commits;
+mod deciding;
 mod engine;
 mod follows;
 mod handing;
@@ -14,6 +15,7 @@ mod leads;
 mod loads;
 mod losses;
 mod reasons;
+mod requests;
 mod steps;
 mod ticks;
 mod writes;
