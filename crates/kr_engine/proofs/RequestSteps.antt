@@ -6,6 +6,7 @@ use Rattle.std.specs.Prelude.{◌&&◌, Option, Some, None, Result, Ok, Err, fil
 use Rattle.std.specs.List.{AllByRecursion, list_all}
 use Rattle.std.specs.Ordering.{int_eq}
 use Rattle.std.specs.Result.{result_unwrap_or}
+use Rattle.kr_calls.specs.declared.errors.TheConstants.{NOT_CONTROLLER}
 use Rattle.kr_calls.specs.declared.calls.Ask.{Ask}
 use Rattle.kr_calls.specs.declared.calls.AskFault.{AskFault}
 use Rattle.kr_calls.specs.declared.calls.Call.{Call}
@@ -73,7 +74,7 @@ module _ (e after : Core) (client : ℕ) (call : Call) (w : TakesWrite e after c
   request = call.request
 
   abbrev refusal : Reply
-  refusal = refuse call.request (pos 41)
+  refusal = refuse call.request NOT_CONTROLLER
 
   abbrev decision : Decision
   decision = decided_by e call.request
@@ -200,7 +201,7 @@ none_now true false xs ys takes = refl
 none_now false reads xs ys takes = absurd cc
 
 one_now : (options : Options) (image : Image) (led : Bool) (asked : Request) → (led && not (is_read asked)) ≡ false
-    → cond (is_read asked) (option_to_list (query options image asked)) (cond led [] (refuse asked (pos 41) ∷ [])) ≡ unwrap_or (query options image asked) (refuse asked (pos 41)) ∷ []
+    → cond (is_read asked) (option_to_list (query options image asked)) (cond led [] (refuse asked NOT_CONTROLLER ∷ [])) ≡ unwrap_or (query options image asked) (refuse asked NOT_CONTROLLER) ∷ []
 unfolding query
 one_now options image led (requests.ListPartitionReassignments q) free = refl
 one_now options image led (requests.Metadata q) free = refl
@@ -289,7 +290,7 @@ module _ (e : Core) (client : ℕ) (now : ℤ) (call : Call) (d : IsDrained e) w
         appends_none = ap (λ b. cond b (append (timed s asked) (decided e.options (timed s asked) call.request).records) []) is;
         answer =
             ap (map (given.Reply client call.correlation)) (one_now e.options (image_of_end s) (is_some s.world.leading) call.request is)
-            ∙ ap (λ i. given.Reply client call.correlation (unwrap_or (query e.options i call.request) (refuse call.request (pos 41))) ∷ []) (sym (ap (λ o. unwrap_or o empty) (committed_found e d s writes k)));
+            ∙ ap (λ i. given.Reply client call.correlation (unwrap_or (query e.options i call.request) (refuse call.request NOT_CONTROLLER)) ∷ []) (sym (ap (λ o. unwrap_or o empty) (committed_found e d s writes k)));
         writes_none = ap (λ b. cond b (write_of e.options (timed s asked) client call ∷ []) []) is;
       }
 
@@ -331,7 +332,7 @@ module _ (e : Core) (client : ℕ) (now : ℤ) (call : Call) (d : IsDrained e) w
           due = answers_in behind_write.world (writes ++ writes_of e.options before_write asked)
 
           no_answer : answers_now e.options before_write asked ≡ []
-          no_answer = ap (map (given.Reply client call.correlation)) (none_now (is_some s.world.leading) (is_read call.request) (option_to_list (query e.options (image_of_end s) call.request)) (refuse call.request (pos 41) ∷ []) takes_so)
+          no_answer = ap (map (given.Reply client call.correlation)) (none_now (is_some s.world.leading) (is_read call.request) (option_to_list (query e.options (image_of_end s) call.request)) (refuse call.request NOT_CONTROLLER ∷ []) takes_so)
 
       write_accepted : IsAccepted e e.options s writes asked core behind_write
       write_accepted = record {

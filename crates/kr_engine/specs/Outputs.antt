@@ -3,6 +3,7 @@
 use Rattle.std.specs.Prelude.{ℕ, ℤ, pos, int_lt, ◌&&◌, ◌==◌, Bool, not, List, [], ◌∷◌, ◌++◌, length, map, filter, option_to_list, is_some, Option, Result, Ok, Err, if◌then◌else◌}
 use Rattle.kr_batch.specs.declared.Batch.{Batch}
 use Rattle.kr_batch.specs.BatchBytes.{batch_bytes}
+use Rattle.kr_calls.specs.declared.errors.TheConstants.{INVALID_REQUEST, NOT_CONTROLLER, UNSUPPORTED_VERSION}
 use Rattle.kr_calls.specs.declared.calls.Ask.{Ask}
 use Rattle.kr_calls.specs.declared.calls.AskFault.{AskFault}
 use Rattle.kr_calls.specs.declared.calls.Call.{Call}
@@ -66,14 +67,14 @@ images s other = []
 
 -- Kafka's UNSUPPORTED_VERSION, and INVALID_REQUEST
 abbrev pub error_of : AskFault → ℤ
-error_of (faults.Unsupported key version) = pos 35
-error_of other = pos 42
+error_of (faults.Unsupported key version) = UNSUPPORTED_VERSION
+error_of other = INVALID_REQUEST
 
 -- a read is answered on the committed image; a write on standby is refused by NOT_CONTROLLER
 abbrev pub replies_now : Options → State → Request → List Reply
 replies_now options s request =
     if is_read request then option_to_list (query options (image_of_end s) request) else
-    if is_some s.world.leading then [] else refuse request (pos 41) ∷ []
+    if is_some s.world.leading then [] else refuse request NOT_CONTROLLER ∷ []
 
 abbrev pub answers_now : Options → State → Event → List Output
 answers_now options s (events.Request client now (asks.Call call)) =
@@ -92,7 +93,7 @@ write_of options s client call = record {
   epoch = ours s.world.leading;
   need = pos (tip_of (after_ask options s (asks.Call call)));
   reply = (decided options s call.request).reply;
-  refusal = refuse call.request (pos 41);
+  refusal = refuse call.request NOT_CONTROLLER;
 }
 
 -- the write of an accepted event

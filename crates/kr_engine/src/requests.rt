@@ -1,8 +1,9 @@
 //! A client's message comes.
 
-ghost use Rattle.std.specs.Prelude.{◌≡◌, ◌≤◌, ◌++◌, ◌∷◌, [], pos, IfOk, OnOk, Ok};
+ghost use Rattle.std.specs.Prelude.{◌≡◌, ◌≤◌, ◌++◌, ◌∷◌, [], IfOk, OnOk, Ok};
 ghost use Rattle.kr_calls.specs.Decide as rules;
 ghost use Rattle.kr_calls.specs.Refuse as refusals;
+ghost use Rattle.kr_calls.specs.declared.errors.TheConstants.{NOT_CONTROLLER as not_controller};
 ghost use Rattle.kr_calls.specs.declared.calls.Reply.TheVariants as replies;
 ghost use Rattle.kr_calls.specs.declared.events.Event.TheVariants as events;
 ghost use Rattle.kr_calls.specs.declared.events.Output.TheVariants as given;
@@ -19,23 +20,15 @@ use crate::leads::is_far;
 use crate::reasons::exhausted;
 use crate::writes::Write;
 use kr_base::{NoMemory, Steps};
+use kr_calls::errors::{INVALID_REQUEST, NOT_CONTROLLER, UNSUPPORTED_VERSION};
 use kr_calls::{Ask, AskFault, Call, Effect, Output, Reason, Reply, Request};
 use kr_req::refuse;
 use kr_store::ReadFault;
 use std::alloc::Global;
 use std::sync::ledger::Ledger;
 
-/// This node doesn't lead.
-const NOT_CONTROLLER: i16 = 41;
-
-/// The message's key and version aren't served.
-const UNSUPPORTED_VERSION: i16 = 35;
-
-/// The message doesn't read as its layout.
-const INVALID_REQUEST: i16 = 42;
-
 fn refusal_of(alloc: Global, request: &Request) -> Result<Reply, NoMemory>
-    ensures { IfOk result (λ reply. reply ≡ refusals.refuse request.now (pos 41)) }
+    ensures { IfOk result (λ reply. reply ≡ refusals.refuse request.now not_controller) }
 {
     refuse(alloc, request, NOT_CONTROLLER)
 }

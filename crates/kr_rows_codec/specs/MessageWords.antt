@@ -1,6 +1,7 @@
 -- The words in which a row tells what a request message asks, with the message that refuses it (this project's own).
-use Rattle.std.specs.Prelude.{◌≡◌, ℕ, ℤ, pos, List, ◌++◌, codes}
+use Rattle.std.specs.Prelude.{◌≡◌, ℕ, ℤ, List, ◌++◌, codes}
 use Rattle.hex.specs.Hex.{encode_lower}
+use Rattle.kr_calls.specs.declared.errors.TheConstants.{INVALID_REQUEST, NOT_CONTROLLER, UNSUPPORTED_VERSION}
 use Rattle.kr_calls.specs.declared.calls.Ask.{Ask}
 use Rattle.kr_calls.specs.declared.calls.Ask.TheVariants as asks
 use Rattle.kr_calls.specs.declared.calls.AskFault.{AskFault}
@@ -28,12 +29,12 @@ request_words (requests.Metadata q) = codes "Metadata"
 
 -- Kafka's UNSUPPORTED_VERSION, and INVALID_REQUEST
 abbrev pub error_of : AskFault → ℤ
-error_of (faults.Unsupported key version) = pos 35
-error_of other = pos 42
+error_of (faults.Unsupported key version) = UNSUPPORTED_VERSION
+error_of other = INVALID_REQUEST
 
 -- the reply of a node that isn't the controller (Kafka's NOT_CONTROLLER), or to a message that is no call
 abbrev pub reply_to : Ask → Reply
-reply_to (asks.Call call) = refuse call.request (pos 41)
+reply_to (asks.Call call) = refuse call.request NOT_CONTROLLER
 reply_to (asks.Bare correlation fault) = replies.Bare (error_of fault)
 
 abbrev pub correlation_of : Ask → ℤ

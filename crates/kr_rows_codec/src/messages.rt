@@ -7,12 +7,10 @@ ghost use Rattle.kr_rows_codec.specs.MessageWords as words;
 ghost use Rattle.kr_rows_codec.specs.MessageWords.{TellsAsk, TellsMessage};
 
 use kr_base::NoMemory;
+use kr_calls::errors::NOT_CONTROLLER;
 use kr_calls::{Ask, AskFault, Call, Reply, Request};
 use kr_req::{decode, encode_reply, refuse};
 use std::alloc::{AllocError, Global};
-
-// The error of a node that isn't the controller.
-const NOT_CONTROLLER: i16 = 41;
 
 // The message of a reply.
 fn reply_bytes(alloc: Global, correlation: i32, reply: &Reply) -> Result<Vec<u8>, NoMemory>

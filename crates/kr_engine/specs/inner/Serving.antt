@@ -1,5 +1,6 @@
 -- What a client's message makes of an engine.
-use Rattle.std.specs.Prelude.{◌≡◌, ◌&&◌, ℕ, ℤ, pos, Bool, true, false, not, List, [], ◌∷◌, ◌++◌, Option, Some, None, is_some, unwrap_or, if◌then◌else◌}
+use Rattle.std.specs.Prelude.{◌≡◌, ◌&&◌, ℕ, ℤ, Bool, true, false, not, List, [], ◌∷◌, ◌++◌, Option, Some, None, is_some, unwrap_or, if◌then◌else◌}
+use Rattle.kr_calls.specs.declared.errors.TheConstants.{NOT_CONTROLLER}
 use Rattle.kr_calls.specs.declared.calls.Ask.{Ask}
 use Rattle.kr_calls.specs.declared.calls.Call.{Call}
 use Rattle.kr_calls.specs.declared.calls.Request.{Request}
@@ -49,7 +50,7 @@ write_with client call leading need reply refusal = record {
 -- a write that was decided, and whose records are below the place
 abbrev pub waiting_write : Core → ℕ → Call → ℤ → Write
 waiting_write e client call need =
-    write_with client call e.leading need (decided_by e call.request).reply (refuse call.request (pos 41))
+    write_with client call e.leading need (decided_by e call.request).reply (refuse call.request NOT_CONTROLLER)
 
 pub record TakesWrite (before after : Core) (client : ℕ) (call : Call) : Type 0 where
   pub writes : Writes before after (decided_by before call.request).records
@@ -66,7 +67,7 @@ committed_image e = unwrap_or (kept_at e.images e.committed) empty
 
 -- a read is answered on the committed image; a write on standby is refused
 abbrev pub reply_at_once : Core → Request → Reply
-reply_at_once e request = unwrap_or (query e.options (committed_image e) request) (refuse request (pos 41))
+reply_at_once e request = unwrap_or (query e.options (committed_image e) request) (refuse request NOT_CONTROLLER)
 
 -- ---- what is asked
 
