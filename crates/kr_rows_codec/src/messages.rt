@@ -7,7 +7,7 @@ ghost use Rattle.kr_rows_codec.specs.MessageWords as words;
 ghost use Rattle.kr_rows_codec.specs.MessageWords.{TellsAsk, TellsMessage};
 
 use kr_base::NoMemory;
-use kr_calls::errors::NOT_CONTROLLER;
+use kr_calls::errors::{INVALID_REQUEST, NOT_CONTROLLER, UNSUPPORTED_VERSION};
 use kr_calls::{Ask, AskFault, Call, Reply, Request};
 use kr_req::{decode, encode_reply, refuse};
 use std::alloc::{AllocError, Global};
@@ -59,8 +59,8 @@ fn error_of(fault: AskFault) -> i16
     ensures { result ≡ words.error_of fault }
 {
     match fault {
-        AskFault::Unsupported { .. } => 35,
-        AskFault::Wire | AskFault::Trailing => 42,
+        AskFault::Unsupported { .. } => UNSUPPORTED_VERSION,
+        AskFault::Wire | AskFault::Trailing => INVALID_REQUEST,
     }
 }
 
