@@ -13,6 +13,7 @@ use Rattle.kr_calls.specs.BrokerHeartbeat as heartbeating
 use Rattle.kr_calls.specs.BrokerRegistration as registering
 use Rattle.kr_calls.specs.UnregisterBroker as unregistering
 use Rattle.kr_calls.specs.Decide.{decide, work_of}
+use Rattle.kr_calls.specs.Deciding.{begun, one}
 use Rattle.kr_calls.specs.NextBasis.{after_contact, after_heartbeat, after_leaving, heartbeats_after, is_stopping}
 use Rattle.kr_calls.specs.NextBasisLaws.{is_of_a_broker}
 use Rattle.kr_calls.proofs.OtherRequests.{others_leave}
@@ -60,9 +61,9 @@ of_other options b image place request other all = subst (AreInTime b.time) (sym
 
 pub decided_in_time : (options : Options) (b : Basis) (image : Image) (place : ℤ) (request : Request) → AreInTime b.time (hearing.heard b) → AreInTime b.time (decide options image b place request).heartbeats
 unfolding work_of registering.decided heartbeating.decided unregistering.decided heartbeats_after
-decided_in_time options b image place (requests.BrokerRegistration q) all = of_leaving b.time (hearing.heard b) _ q.broker all
-decided_in_time options b image place (requests.BrokerHeartbeat q) all = of_heartbeat b.time (hearing.heard b) image _ place q _ all
-decided_in_time options b image place (requests.UnregisterBroker q) all = of_leaving b.time (hearing.heard b) _ q.broker all
+decided_in_time options b image place (requests.BrokerRegistration q) all = of_leaving b.time (hearing.heard b) (one registering.refused (registering.rule options b) (begun place image) q).1.error q.broker all
+decided_in_time options b image place (requests.BrokerHeartbeat q) all = of_heartbeat b.time (hearing.heard b) image (work_of options b image place (requests.BrokerHeartbeat q)).0.image place q (one heartbeating.refused (heartbeating.rule options b) (begun place image) q).1 all
+decided_in_time options b image place (requests.UnregisterBroker q) all = of_leaving b.time (hearing.heard b) (one unregistering.refused (unregistering.rule options) (begun place image) q).1.error q.broker all
 decided_in_time options b image place (requests.CreateTopics q) all = of_other options b image place (requests.CreateTopics q) refl all
 decided_in_time options b image place (requests.DeleteTopics q) all = of_other options b image place (requests.DeleteTopics q) refl all
 decided_in_time options b image place (requests.CreatePartitions q) all = of_other options b image place (requests.CreatePartitions q) refl all

@@ -1,7 +1,7 @@
 -- What is decided of a write, and what it makes of an engine.
 use Rattle.std.proofs.Common.{◌≡◌, ◌∙◌, sym, subst, ℕ, ℤ, pos, negsuc, true, false, cond, ◌-◌, ◌≤◌, List, [], ◌∷◌, ◌++◌, length, refl, ap, arith}
 use Rattle.std.proofs.lemmas.Int.{ints}
-use Rattle.std.specs.Prelude.{◌==◌, ◌≤ℤ◌, Option, Some, None, Ok, IsTrue, int_lt, slice_get, unwrap_or}
+use Rattle.std.specs.Prelude.{◌==◌, ◌≤ℤ◌, Option, Some, None, Result, Ok, Err, IfOk, OnOk, IsTrue, int_lt, slice_get, unwrap_or}
 use Rattle.std.specs.Option.{option_map}
 use Rattle.kr_brokers.specs.RequestBasis as judged
 use Rattle.kr_calls.specs.declared.calls.Call.{Call}
@@ -87,7 +87,8 @@ append_keeps e records =
     ]
 
 held_apart : (a b : Core) (held : List Write) → a ≡ record b { held = held } → a ≡ record b { held = a.held; heard = a.heard }
-held_apart a b held refl = refl
+held_apart a b held is =
+    is ∙ (ap (λ hs. record b { held = hs }) (sym (ap (λ (c : Core). c.held) is)) ∙ ap (λ h. record b { held = a.held; heard = h }) (sym (ap (λ (c : Core). c.heard) is)))
 
 -- what the rule of a request gives, said clause by clause
 pub decides_by : (before after : Core) (request : Request) (out : Effect) → out.records ≡ (decided_by before request).records → out.reply ≡ (decided_by before request).reply
@@ -109,7 +110,13 @@ tip_natural (negsuc m) tip natural rising = absurd (omega (arith, ints))
 pub ready_natural : (e : Core) → IsReady e → pos 0 ≤ℤ e.tip
 ready_natural e r = tip_natural e.committed e.tip r.natural r.rising
 
-pub ruleset decides = (decides_by, ready_natural)
+pub decides_ok : {E : Type 0} (before after : Core) (request : Request) (r : Result Effect E) → IfOk r (λ (out : Effect). out.records ≡ (decided_by before request).records) → IfOk r (λ (out : Effect). out.reply ≡ (decided_by before request).reply)
+    → OnOk r (after.images.tip ≡ (decided_by before request).image) → OnOk r (after.heard ≡ (decided_by before request).heartbeats) → after.images.kept ≡ before.images.kept
+    → after ≡ record before { images = after.images; heard = after.heard } → IfOk r (λ (out : Effect). Decides before after request out)
+decides_ok before after request (Ok out) records reply image heard kept same = decides_by before after request out records reply image heard kept same
+decides_ok before after request (Err fault) records reply image heard kept same = tt
+
+pub ruleset decides = (ready_natural)
 
 pub write_low : (before after : Core) (request : Request) (out : Effect) → Decides before after request out → IsReady before → after.tip ≤ℤ PLACES_END
 write_low before after request out d r = subst (λ t. t ≤ℤ PLACES_END) (sym (ap (λ (a : Core). a.tip) d.same)) r.low

@@ -11,7 +11,7 @@ ghost use Rattle.kr_calls.specs.NextBasis.{is_stopping};
 ghost use Rattle.kr_calls.specs.declared.calls.Reply.TheVariants as replies;
 ghost use Rattle.kr_store.specs.Images.{last_kept};
 ghost use Rattle.kr_engine.specs.Ready.{IsReady};
-ghost use Rattle.kr_engine.specs.inner.Serving.{Decides};
+ghost use Rattle.kr_engine.specs.inner.Serving.{Decides, decided_by};
 
 use crate::Engine;
 use crate::judging::{context_of, nothing};
@@ -109,16 +109,19 @@ fn decide_write<L: Ledger>(
 }
 
 impl Engine {
-    /// What the rule of a write gives at the tip. Its records are in the present image then, and whom is heard of is
-    /// noted.
     #[tactic(auto, using(crate::proofs::RequestDecisions::decides))]
-    pub(crate) fn decide<L: Ledger>(
+    fn decide_at_tip<L: Ledger>(
         &mut self,
         request: &Request,
         steps: &mut Steps<L>,
     ) -> Result<Effect, NoMemory>
         requires ready { IsReady self.old }
-        ensures decided { IfOk result (λ out. Decides self.old self.new request.now out) }
+        ensures records { IfOk result (λ out. out.records ≡ (decided_by self.old request.now).records) }
+        ensures reply { IfOk result (λ out. out.reply ≡ (decided_by self.old request.now).reply) }
+        ensures image { OnOk result (self.new.images.tip ≡ (decided_by self.old request.now).image) }
+        ensures heard { OnOk result (self.new.heard ≡ (decided_by self.old request.now).heartbeats) }
+        ensures kept { self.new.images.kept ≡ self.old.images.kept }
+        ensures same { self.new ≡ record self.old { images = self.new.images; heard = self.new.heard } }
         ensures later { steps.old ≤ steps.new }
     {
         decide_write(
@@ -131,5 +134,19 @@ impl Engine {
             request,
             steps,
         )
+    }
+
+    /// What the rule of a write gives at the tip. Its records are in the present image then, and whom is heard of is
+    /// noted.
+    pub(crate) fn decide<L: Ledger>(
+        &mut self,
+        request: &Request,
+        steps: &mut Steps<L>,
+    ) -> Result<Effect, NoMemory>
+        requires ready { IsReady self.old }
+        ensures decided { IfOk result (λ out. Decides self.old self.new request.now out) }
+        ensures later { steps.old ≤ steps.new }
+    {
+        self.decide_at_tip(request, steps)
     }
 }
