@@ -25,6 +25,7 @@ use Rattle.kr_safety.specs.HearingLaws.{HearsOf}
 use Rattle.kr_store.specs.Images.{Images, marked}
 use Rattle.kr_engine.specs.declared.writes.Write.{Write}
 use Rattle.kr_engine.specs.Engine.{Core, IsEngine, Rise, are_in_order, kept_image}
+use Rattle.kr_engine.specs.Entries.{placed}
 use Rattle.kr_engine.specs.Outputs.{is_open}
 use Rattle.kr_engine.specs.World.{State, World, image_of_tip, tip_of, with_records, written}
 use Rattle.kr_engine.specs.Writing.{Writes, appended, batch_at, place_behind}
@@ -63,7 +64,8 @@ none_written e images heard heard' held kept meaning = record {
   few = omega arith;
   same =
       ap (λ t. record e { images = images; heard = heard'; held = held; tip = t }) (sym (+ℤ_idr e.tip))
-      ∙ ap (λ g. record e { images = images; heard = heard'; held = held; tip = e.tip +ℤ pos 0; given = g }) (sym (append-nil e.given));
+      ∙ (ap (λ g. record e { images = images; heard = heard'; held = held; tip = e.tip +ℤ pos 0; given = g }) (sym (append-nil e.given))
+      ∙ ap (λ f. record e { images = images; heard = heard'; held = held; tip = e.tip +ℤ pos 0; given = e.given ++ []; fresh = f }) (sym (append-nil e.fresh)));
 }
 
 module _ (e : Core) (images : Images) (heard heard' : Heartbeats) (held : List Write) (r : Record) (records : List Record) where
@@ -75,6 +77,7 @@ module _ (e : Core) (images : Images) (heard heard' : Heartbeats) (held : List W
     images = marked images (place_behind e all);
     tip = place_behind e all;
     given = e.given ++ given.Append (batch_bytes (batch_at e all)) ∷ [];
+    fresh = e.fresh ++ placed e.tip (as_items all);
   })) held heard'
 
   some_written : images.kept ≡ e.images.kept → apply_records e.images.tip all ≡ Ok images.tip → length all ≤ 10000
@@ -89,6 +92,7 @@ module _ (e : Core) (images : Images) (heard heard' : Heartbeats) (held : List W
           images = (after_by b).images;
           tip = place_behind e all;
           given = e.given ++ cond b [] (given.Append (batch_bytes (batch_at e all)) ∷ []);
+          fresh = e.fresh ++ placed e.tip (as_items all);
           heard = (after_by b).heard;
           held = (after_by b).held;
         }) has refl;

@@ -14,6 +14,7 @@ pub mod FirstContacts
 pub mod ImageSteps
 pub mod LeadSteps
 pub mod LoadSteps
+pub mod LogEntries
 pub mod Logs
 pub mod LossSteps
 pub mod NewEngines

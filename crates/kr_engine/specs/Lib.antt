@@ -1,5 +1,6 @@
 pub mod Commits
 pub mod Engine
+pub mod Entries
 pub mod Events
 pub mod Leaderships
 pub mod Outputs

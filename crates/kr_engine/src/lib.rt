@@ -5,6 +5,7 @@ mod appending;
 mod applying;
 mod commits;
 mod engine;
+mod entries;
 mod follows;
 mod handing;
 mod images;
