@@ -22,6 +22,7 @@ pub mod Places
 pub mod Queues
 pub mod ReadyEngines
 pub mod Refusals
+pub mod SafeEntries
 pub mod StandbyOutcomes
 pub mod EventsWithoutWrites
 pub mod FirstReasons

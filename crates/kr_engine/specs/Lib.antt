@@ -9,6 +9,7 @@ pub mod Reasons
 pub mod Replicas
 pub mod Requests
 pub mod Runs
+pub mod SafeSteps
 pub mod Standby
 pub mod Ticking
 pub mod Ticks
