@@ -44,7 +44,7 @@ use Rattle.kr_engine.specs.Ticks.{fence, fence_all, fencing_of, lapsed, tick}
 use Rattle.kr_engine.specs.World.{State, World, image_of_tip, is_far, tip_of, with_batch, with_records, written}
 use Rattle.kr_engine.proofs.AppendSteps.{as_records}
 use Rattle.kr_engine.proofs.LogEntries.{batch_written, behind, cut_behind, none_behind, placed_both}
-use Rattle.kr_engine.proofs.Logs.{tip_written}
+use Rattle.kr_engine.proofs.Logs.{apply_append, tip_written}
 use Rattle.kr_engine.proofs.LongerLogs.{present_then}
 use Rattle.kr_engine.proofs.ReadyEngines.{same_image}
 
@@ -75,14 +75,14 @@ module _ (request : Option Request) where
 
 -- the log is longer by safe items, which make this of the image at its tip
 record Grows (log longer : Log) (image after : Image) : Type 0 where
-  items : List Item
-  writes : longer ≡ written log items
-  safe : AreSafeEntries None image (placed (pos (tip log)) items)
-  means : apply_all image items ≡ Ok after
+  more : List Item
+  writes : longer ≡ written log more
+  safe : AreSafeEntries None image (placed (pos (tip log)) more)
+  means : apply_all image more ≡ Ok after
 
 grows_none : (log : Log) (image : Image) → Grows log log image image
 grows_none log image = record {
-  items = [];
+  more = [];
   writes = ap (λ (is : List Item). record log { items = is }) (sym (append-nil log.items));
   safe = tt;
   means = refl;
@@ -93,16 +93,16 @@ then_apply r mid next is = ap (λ q. and_then q next) is
 
 grows_then : (log longer last : Log) (image mid after : Image) → Grows log longer image mid → Grows longer last mid after → Grows log last image after
 grows_then log longer last image mid after first second =
-    let xs = first.items in
-    let ys = second.items in
+    let xs = first.more in
+    let ys = second.more in
     let place = pos (tip log) in
     let at : pos (tip longer) ≡ place +ℤ pos (length xs) = ap (λ (l : Log). pos (tip l)) first.writes ∙ ap (λ n. pos n) (tip_written log xs) in record {
-      items = xs ++ ys;
+      more = xs ++ ys;
       writes = second.writes ∙ (ap (λ (l : Log). written l ys) first.writes ∙ ap (λ (is : List Item). record log { items = is }) (append_assoc log.items xs ys));
       safe = subst (AreSafeEntries None image) (sym (placed_both place xs ys))
           (both_safe None image mid xs place (placed (place +ℤ pos (length xs)) ys) first.safe first.means
           (subst (λ z. AreSafeEntries None mid (placed z ys)) at second.safe));
-      means = Rattle.kr_engine.proofs.Logs.apply_append xs ys image ∙ (then_apply (apply_all image xs) mid (λ i. apply_all i ys) first.means ∙ second.means);
+      means = apply_append xs ys image ∙ (then_apply (apply_all image xs) mid (λ i. apply_all i ys) first.means ∙ second.means);
     }
 
 -- an image stands at the tip
@@ -110,7 +110,7 @@ abbrev Shows : Log → Image → Type 0
 Shows log image = image_at log (tip log) ≡ Ok image
 
 shows_then : (log longer : Log) (image after : Image) → Shows log image → Grows log longer image after → Shows longer after
-shows_then log longer image after shows g = subst (λ (l : Log). Shows l after) (sym g.writes) (present_then log g.items image after shows g.means)
+shows_then log longer image after shows g = subst (λ (l : Log). Shows l after) (sym g.writes) (present_then log g.more image after shows g.means)
 
 safe_added : (request : Option Request) (log longer : Log) (items : List Item) (image : Image) → longer ≡ written log items → AreSafeEntries request image (placed (pos (tip log)) items)
     → AreSafeEntries request image (placed (pos (tip log)) (items_from longer (tip log)))
@@ -128,30 +128,30 @@ record FencedTo (options : Options) (image : Image) (broker : ℤ) : Type 0 wher
   means : apply_records image (fencing_of options image broker) ≡ Ok after
   safe : AreSafe None image (fencing_of options image broker)
 
+abbrev fencing_by : Options → Image → ℤ → Option Broker → List Record
+fencing_by options image broker o = option_map_or (λ (state : Broker). fencing options.minimum image broker state.epoch) o []
+
 fenced_to : (options : Options) (image : Image) (broker : ℤ) → IsValid image → FencedTo options image broker
 fenced_to options image broker valid = by_get (maps.get int_cmp image.brokers broker) refl
   where
-    abbrev own : Option Broker → List Record
-    own o = option_map_or (λ (state : Broker). fencing options.minimum image broker state.epoch) o []
-
     by_get : (o : Option Broker) → maps.get int_cmp image.brokers broker ≡ o → FencedTo options image broker
     by_get None none = record {
       after = image;
-      means = ap (λ o. apply_records image (own o)) none;
-      safe = subst (λ o. AreSafe None image (own o)) (sym none) tt;
+      means = ap (λ o. apply_records image (fencing_by options image broker o)) none;
+      safe = subst (λ o. AreSafe None image (fencing_by options image broker o)) (sym none) tt;
     }
     by_get (Some state) is =
         let left = fencing_stands options.minimum image broker state valid is in record {
           after = record image { brokers = maps.insert int_cmp image.brokers broker (record state { fenced = true }); partitions = left.0 };
-          means = ap (λ o. apply_records image (own o)) is ∙ left.1;
-          safe = subst (λ o. AreSafe None image (own o)) (sym is) (fencings_are_safe options.minimum image broker state valid is);
+          means = ap (λ o. apply_records image (fencing_by options image broker o)) is ∙ left.1;
+          safe = subst (λ o. AreSafe None image (fencing_by options image broker o)) (sym is) (fencings_are_safe options.minimum image broker state valid is);
         }
 
 module _ (options : Options) where
   fence_grows : (s : State) (image : Image) (broker : ℤ) → Shows s.world.log image → (f : FencedTo options image broker) → Grows s.world.log (fence options s broker).world.log image f.after
   fence_grows s image broker shows f =
       let records = fencing_of options image broker in record {
-        items = as_items records;
+        more = as_items records;
         writes = batch_written s.world (as_items (fencing_of options (image_of_tip s) broker)) ∙ ap (λ i. written s.world.log (as_items (fencing_of options i broker))) (seen_of s image shows);
         safe = records_safe None image records (pos (tip_of s)) f.safe;
         means = as_records image records ∙ f.means;
@@ -218,7 +218,7 @@ module _ (options : Options) (s : State) (image : Image) (valid : IsValid image)
       let ids = lapsed options t in
       let grown = all_grow options ids t image valid shows in
       refused_row s (events.Tick now) image (is_some s.world.leading && is_far (pos (tip_of s))) (exhausted (pos (tip_of s))) _
-      (safe_added None s.world.log (fence_all options t ids).world.log grown.1.items image grown.1.writes grown.1.safe)
+      (safe_added None s.world.log (fence_all options t ids).world.log grown.1.more image grown.1.writes grown.1.safe)
 
   module _ (client : ℕ) (now : ℤ) where
     abbrev served : Ask → State
