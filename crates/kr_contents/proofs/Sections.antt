@@ -1,24 +1,16 @@
 -- The sections of an image, one record after the other.
 use Rattle.std.proofs.Common.{◌≡◌, ◌∙◌, ℕ, ℤ, List, [], ◌∷◌, ◌++◌, map, refl, sym, ap, append_assoc}
-use Rattle.std.proofs.lemmas.List.{append-nil}
 use Rattle.std.specs.List.{flat_map}
+use Rattle.std.specs.Prelude.{Some}
+use Rattle.kr_defs.specs.declared.broker.Broker.{Broker}
 use Rattle.kr_defs.specs.declared.partition.Partition.{Partition}
+use Rattle.kr_defs.specs.declared.record.ConfigKey.{ConfigKey}
 use Rattle.kr_defs.specs.declared.record.Record.{Record}
 use Rattle.kr_defs.specs.declared.record.Record.TheVariants as kinds
 use Rattle.kr_defs.specs.Image.{Image}
 use Rattle.kr_defs.specs.Records.{partition_record, records_of, topic_records}
 use Rattle.kr_defs.specs.Walk.{of_topic, walked}
 use Rattle.kr_contents.specs.Contents.{of_broker, of_config, of_feature, of_partition}
-
--- ---- records that are moved
-
-pub moves_on : (out : List Record) (value : Record) (rest new all : List Record) → new ≡ out ++ value ∷ [] → out ++ value ∷ rest ≡ all → new ++ rest ≡ all
-moves_on out value rest new all is told = ap (λ (rs : List Record). rs ++ rest) is ∙ (append_assoc out (value ∷ []) rest ∙ told)
-
-pub moved_all : (out all : List Record) → out ++ [] ≡ all → out ≡ all
-moved_all out all told = sym (append-nil out) ∙ told
-
-pub ruleset moving = (moves_on, moved_all)
 
 -- ---- the partitions of a topic
 
@@ -38,6 +30,15 @@ pub ruleset topics = (topic_behind)
 
 -- ---- all sections
 
+abbrev feature_record : List ℕ × ℤ → Record
+feature_record e = kinds.FeatureLevel e.0 e.1
+
+abbrev broker_record : ℤ × Broker → Record
+broker_record e = kinds.RegisterBroker e.0 e.1
+
+abbrev config_record : ConfigKey × List ℕ → Record
+config_record e = kinds.Config e.0.kind e.0.name e.0.key (Some e.1)
+
 one_each : {X : Type 0} (f : X → Record) (xs : List X) → flat_map (λ (x : X). f x ∷ []) xs ≡ map f xs
 one_each f [] = refl
 one_each f (x ∷ xs) = ap (λ (rs : List Record). f x ∷ rs) (one_each f xs)
@@ -48,12 +49,15 @@ pub all_sections : (image : Image) (features two brokers three topics four : Lis
 unfolding records_of
 all_sections image features two brokers three topics four a b c d e f =
     let configs = flat_map of_config image.configs in
+    let all = flat_map (topic_records image.partitions) image.topics in
+    let own = map broker_record image.brokers in
+    let first = map feature_record image.features in
     f
     ∙ (ap (λ (rs : List Record). rs ++ configs) e
     ∙ (ap (λ (rs : List Record). (rs ++ topics) ++ configs) c
     ∙ (ap (λ (rs : List Record). ((features ++ brokers) ++ rs) ++ configs) d
-    ∙ (ap (λ (rs : List Record). ((features ++ rs) ++ flat_map (topic_records image.partitions) image.topics) ++ configs) (b ∙ one_each _ image.brokers)
-    ∙ (ap (λ (rs : List Record). ((rs ++ _) ++ flat_map (topic_records image.partitions) image.topics) ++ configs) (a ∙ one_each _ image.features)
-    ∙ ap (λ (rs : List Record). _ ++ rs) (one_each _ image.configs))))))
+    ∙ (ap (λ (rs : List Record). ((features ++ rs) ++ all) ++ configs) (b ∙ one_each broker_record image.brokers)
+    ∙ (ap (λ (rs : List Record). ((rs ++ own) ++ all) ++ configs) (a ∙ one_each feature_record image.features)
+    ∙ ap (λ (rs : List Record). ((first ++ own) ++ all) ++ rs) (one_each config_record image.configs))))))
 
 pub ruleset sections = (all_sections)

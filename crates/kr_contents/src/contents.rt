@@ -118,9 +118,9 @@ pub fn records_of<S: Store>(alloc: Global, store: &S, at: At) -> Result<Records,
     let mut records = Records::new(alloc);
     add_features(alloc, store, at, &mut records)?;
     let brokers = gather_brokers(alloc, store, at, &Registration)?;
-    add_all(&mut records, brokers)?;
+    add_all(alloc, &mut records, brokers)?;
     let topics = gather_topics(alloc, store, at, &TopicRecords)?;
-    add_all(&mut records, topics)?;
+    add_all(alloc, &mut records, topics)?;
     add_configs(alloc, store, at, &mut records)?;
     Ok(records)
 }

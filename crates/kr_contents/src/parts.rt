@@ -75,6 +75,6 @@ impl TopicPart<Record> for TopicRecords {
         let name = name.copied(alloc)?;
         rows.push(Record::Topic { name, id: *id })?;
         let partitions = gather_partitions(alloc, store, at, &Standing, id)?;
-        add_all(rows, partitions)
+        add_all(alloc, rows, partitions)
     }
 }
