@@ -31,7 +31,7 @@ cut_behind log place =
 
 -- ---- items one behind the other
 
-next_place : (place : ℤ) (n : ℕ) → (place +ℤ pos 1) +ℤ pos n ≡ place +ℤ pos (suc n)
+pub next_place : (place : ℤ) (n : ℕ) → (place +ℤ pos 1) +ℤ pos n ≡ place +ℤ pos (suc n)
 next_place place n = grind (arith, ints)
 
 at_itself : (place : ℤ) → place +ℤ pos 0 ≡ place
@@ -51,6 +51,10 @@ placed_on out new all place item rest is told = ap (λ (es : List Entry). es ++ 
 
 pub placed_all : (out all : List Entry) → out ++ [] ≡ all → out ≡ all
 placed_all out all told = sym (append-nil out) ∙ told
+
+pub nothing_left : {X : Type 0} (xs : List X) → length xs ≡ 0 → xs ≡ []
+nothing_left [] none = refl
+nothing_left (x ∷ xs) none = absurd (omega arith)
 
 pub ruleset placing = (placed_on, placed_all, next_place)
 
