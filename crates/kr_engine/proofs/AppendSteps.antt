@@ -1,7 +1,6 @@
 -- What a leader's records make of an engine.
 use Rattle.std.proofs.Common.{◌≡◌, ◌∙◌, sym, subst, ℕ, suc, ℤ, pos, Bool, true, false, cond, ◌+◌, ◌≤◌, List, [], ◌∷◌, ◌++◌, map, length, refl, ap, arith, All}
 use Rattle.std.proofs.Math.IntN.{+ℤ_idr}
-use Rattle.std.proofs.lemmas.Bool.Decides.{nat_tests}
 use Rattle.std.proofs.lemmas.List.{append-nil, length-map}
 use Rattle.std.specs.Prelude.{◌+ℤ◌, ◌==◌, Option, None, Result, Ok, Err, filter, int_le, unsigned_abs, IsSome}
 use Rattle.std.specs.List.{list_all}
@@ -30,6 +29,7 @@ use Rattle.kr_engine.specs.Outputs.{is_open}
 use Rattle.kr_engine.specs.World.{State, World, image_of_tip, tip_of, with_records, written}
 use Rattle.kr_engine.specs.Writing.{Writes, appended, batch_at, place_behind}
 use Rattle.kr_engine.proofs.LongerLogs.{kept_then, present_then, rise_more}
+use Rattle.kr_engine.proofs.LogEntries.{not_none}
 use Rattle.kr_engine.proofs.Logs.{tip_written}
 use Rattle.kr_engine.proofs.Queues.{never}
 
@@ -43,9 +43,6 @@ as_records image (r ∷ records) =
       | Ok after ↦ as_records after records
       | Err cause ↦ refl
     ]
-
-pub not_none : (n : ℕ) → (suc n == 0) ≡ false
-not_none n = grind (arith, nat_tests)
 
 -- ---- the engine
 

@@ -153,7 +153,7 @@ module _ (e : Core) (bytes : List ℕ) (d : IsDrained e) where
 
   -- with the image at the tip of the state
   abbrev seen_by : State → Image → Core
-  seen_by s image = record (core_of e s) { images = record e.images { tip = image } }
+  seen_by s image = engines.timed (record (core_of e s) { images = record e.images { tip = image } }) event
 
   ill_so : (s : State) (batch : Batch) (o : Option (ℤ × Ill)) → unless_ill o (replicas.followed s batch) ≡ unless_refused (items_reason o) (replicas.followed s batch)
   ill_so s batch None = refl
@@ -168,11 +168,11 @@ module _ (e : Core) (bytes : List ℕ) (d : IsDrained e) where
   judged_so : (s : State) → follow s bytes ≡ unless_refused (follow_reason (seen_by s (image_of_tip s)) (batch_of bytes)) (state_by (batch_of bytes) s)
   judged_so s = row (is_some s.world.leading) (already_leading s.world.leading) _ _ (state_by (batch_of bytes) s) (read_so s (batch_of bytes))
 
-  judged : (s : State) (writes : List Write) → IsEngine e s writes → outcome e.options (timed s event) event ≡ unless_refused (follow_reason e (batch_of bytes)) (state_by (batch_of bytes) s)
+  judged : (s : State) (writes : List Write) → IsEngine e s writes → outcome e.options (timed s event) event ≡ unless_refused (follow_reason before (batch_of bytes)) (state_by (batch_of bytes) s)
   judged s writes k =
       judged_so s
       ∙ (ap (λ i. unless_refused (follow_reason (seen_by s i) (batch_of bytes)) (state_by (batch_of bytes) s)) (same_image e s writes k)
-      ∙ ap (λ (c : Core). unless_refused (follow_reason c (batch_of bytes)) (state_by (batch_of bytes) s)) (sym (is_core e s writes k)))
+      ∙ ap (λ (c : Core). unless_refused (follow_reason (engines.timed c event) (batch_of bytes)) (state_by (batch_of bytes) s)) (sym (is_core e s writes k)))
 
   -- ---- the engine behind the batch
 
@@ -277,6 +277,6 @@ pub batch_step : (e noted between after : Core) (bytes : List ℕ) → left e �
 batch_step e noted between stepped bytes none clears settled is =
     let d = drained e none in
     let before = engines.timed e (events.Batch bytes) in
-    subst (λ (a : Core). IsStep e a (events.Batch bytes)) (sym is) (settled_step e (events.Batch bytes) d between (follow_reason e (batch_of bytes)) (followed_by before (batch_of bytes)) (state_by e bytes d (batch_of bytes)) (same_options before (batch_of bytes))
+    subst (λ (a : Core). IsStep e a (events.Batch bytes)) (sym is) (settled_step e (events.Batch bytes) d between (follow_reason before (batch_of bytes)) (followed_by before (batch_of bytes)) (state_by e bytes d (batch_of bytes)) (same_options before (batch_of bytes))
     (subst (λ (c : Core). Settles c between (follow_reason c (batch_of bytes)) (followed_by c (batch_of bytes))) clears settled)
     (judged e bytes d) (allowed_by e bytes d (batch_of bytes)))

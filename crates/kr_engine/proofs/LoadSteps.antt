@@ -62,17 +62,17 @@ module _ (e : Core) (bytes : List ℕ) (d : IsDrained e) where
 
   -- ---- the reasons
 
-  read_so : (s : State) (read : Result (ℤ × Image) ImageFault) → and_then (image_or read) (load_image s) ≡ unless_refused (read_image_reason (core_of e s) read) (state_by read s)
+  read_so : (s : State) (read : Result (ℤ × Image) ImageFault) → and_then (image_or read) (load_image s) ≡ unless_refused (read_image_reason (engines.timed (core_of e s) event) read) (state_by read s)
   read_so s (Ok (offset, image)) =
       row (int_lt offset (pos s.world.committed)) (older_image offset (pos s.world.committed)) _ _ (loaded s (unsigned_abs offset) image)
       (row (is_far offset) (exhausted offset) None (Ok (loaded s (unsigned_abs offset) image)) (loaded s (unsigned_abs offset) image) refl)
   read_so s (Err fault) = refl
 
-  judged_so : (s : State) → load s bytes ≡ unless_refused (load_reason (core_of e s) (image_of bytes)) (state_by (image_of bytes) s)
+  judged_so : (s : State) → load s bytes ≡ unless_refused (load_reason (engines.timed (core_of e s) event) (image_of bytes)) (state_by (image_of bytes) s)
   judged_so s = row (is_some s.world.leading) (already_leading s.world.leading) _ _ (state_by (image_of bytes) s) (read_so s (image_of bytes))
 
-  judged : (s : State) (writes : List Write) → IsEngine e s writes → outcome e.options (timed s event) event ≡ unless_refused (load_reason e (image_of bytes)) (state_by (image_of bytes) s)
-  judged s writes k = judged_so s ∙ ap (λ (c : Core). unless_refused (load_reason c (image_of bytes)) (state_by (image_of bytes) s)) (sym (is_core e s writes k))
+  judged : (s : State) (writes : List Write) → IsEngine e s writes → outcome e.options (timed s event) event ≡ unless_refused (load_reason before (image_of bytes)) (state_by (image_of bytes) s)
+  judged s writes k = judged_so s ∙ ap (λ (c : Core). unless_refused (load_reason (engines.timed c event) (image_of bytes)) (state_by (image_of bytes) s)) (sym (is_core e s writes k))
 
   -- ---- the engine of the image
 
@@ -154,6 +154,6 @@ pub load_step : (e noted between after : Core) (bytes : List ℕ) → left e ≡
 load_step e noted between stepped bytes none clears settled is =
     let d = drained e none in
     let before = engines.timed e (events.Load bytes) in
-    subst (λ (a : Core). IsStep e a (events.Load bytes)) (sym is) (settled_step e (events.Load bytes) d between (load_reason e (image_of bytes)) (loaded_by before (image_of bytes)) (state_by e bytes d (image_of bytes)) (same_options before (image_of bytes))
+    subst (λ (a : Core). IsStep e a (events.Load bytes)) (sym is) (settled_step e (events.Load bytes) d between (load_reason before (image_of bytes)) (loaded_by before (image_of bytes)) (state_by e bytes d (image_of bytes)) (same_options before (image_of bytes))
     (subst (λ (c : Core). Settles c between (load_reason c (image_of bytes)) (loaded_by c (image_of bytes))) clears settled)
     (judged e bytes d) (allowed_by e bytes d (image_of bytes)))

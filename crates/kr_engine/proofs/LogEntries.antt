@@ -1,9 +1,11 @@
 -- The items that an event adds to a log.
-use Rattle.std.proofs.Common.{◌≡◌, ◌∙◌, sym, ℕ, suc, ℤ, pos, cond, ◌+◌, ◌-◌, List, [], ◌∷◌, ◌++◌, take, drop, length, refl, ap, arith}
+use Rattle.std.proofs.Common.{◌≡◌, ◌∙◌, sym, ℕ, suc, ℤ, pos, false, cond, ◌+◌, ◌-◌, List, [], ◌∷◌, ◌++◌, take, drop, length, refl, ap, arith}
+use Rattle.std.proofs.Math.IntN.{+ℤ_idr}
 use Rattle.std.proofs.Math.Seq.{drop-append_seam}
+use Rattle.std.proofs.lemmas.Bool.Decides.{nat_tests}
 use Rattle.std.proofs.lemmas.Int.{ints}
 use Rattle.std.proofs.lemmas.List.{append_assoc, append-nil, drop_all, length-take}
-use Rattle.std.specs.Prelude.{◌+ℤ◌}
+use Rattle.std.specs.Prelude.{◌+ℤ◌, ◌==◌}
 use Rattle.kr_calls.specs.declared.events.Entry.{Entry}
 use Rattle.kr_calls.specs.declared.events.Entry.TheVariants as entries
 use Rattle.kr_defs.specs.declared.record.Item.{Item}
@@ -11,7 +13,6 @@ use Rattle.kr_defs.specs.Log.{Log, tip}
 use Rattle.kr_engine.specs.Entries.{items_from, placed}
 use Rattle.kr_engine.specs.Leaderships.{cut}
 use Rattle.kr_engine.specs.World.{World, with_batch, written}
-use Rattle.kr_engine.proofs.AppendSteps.{not_none}
 use Rattle.kr_engine.proofs.Logs.{tip_written}
 
 -- ---- a log behind a place
@@ -34,11 +35,8 @@ cut_behind log place =
 pub next_place : (place : ℤ) (n : ℕ) → (place +ℤ pos 1) +ℤ pos n ≡ place +ℤ pos (suc n)
 next_place place n = grind (arith, ints)
 
-at_itself : (place : ℤ) → place +ℤ pos 0 ≡ place
-at_itself place = grind (arith, ints)
-
 pub placed_both : (place : ℤ) (xs ys : List Item) → placed place (xs ++ ys) ≡ placed place xs ++ placed (place +ℤ pos (length xs)) ys
-placed_both place [] ys = ap (λ p. placed p ys) (sym (at_itself place))
+placed_both place [] ys = ap (λ p. placed p ys) (sym (+ℤ_idr place))
 placed_both place (x ∷ xs) ys =
     ap (λ (es : List Entry). entries.Item place x ∷ es)
     (placed_both (place +ℤ pos 1) xs ys ∙ ap (λ p. placed (place +ℤ pos 1) xs ++ placed p ys) (next_place place (length xs)))
@@ -92,6 +90,9 @@ gains_then a b c log longer last first second =
 -- where nothing was told before
 pub gained : (after : List Entry) (log longer : Log) → Gains [] after log longer → after ≡ placed (pos (tip log)) (items_from longer (tip log))
 gained after log longer g = g.told ∙ ap (placed (pos (tip log))) (sym (ap (λ (l : Log). items_from l (tip log)) g.writes ∙ behind log g.items))
+
+pub not_none : (n : ℕ) → (suc n == 0) ≡ false
+not_none n = grind (arith, nat_tests)
 
 pub batch_written : (w : World) (items : List Item) → (with_batch w items).log ≡ written w.log items
 batch_written w [] = ap (λ (is : List Item). record w.log { items = is }) (sym (append-nil w.log.items))

@@ -54,22 +54,26 @@ module _ (request : Option Request) where
   pub records_safe : (image : Image) (records : List Record) (place : ℤ) → AreSafe request image records → AreSafeEntries request image (placed place (as_items records))
   unfolding apply
   records_safe image [] place safe = tt
-  records_safe image (r ∷ records) place safe = (safe.0, rest (apply_record image r) safe.1)
-    where
-      rest : (q : Result Image Ill) → IfOk q (λ after. AreSafe request after records) → IfOk q (λ after. AreSafeEntries request after (placed (place +ℤ pos 1) (as_items records)))
-      rest (Ok after) safe = records_safe after records (place +ℤ pos 1) safe
-      rest (Err cause) safe = tt
+  records_safe image (r ∷ records) place safe = (
+    safe.0,
+    elim (apply_record image r) as (λ (q : Result Image Ill). IfOk q (λ after. AreSafe request after records) → IfOk q (λ after. AreSafeEntries request after (placed (place +ℤ pos 1) (as_items records)))) [
+      | Ok after ↦ λ safe. records_safe after records (place +ℤ pos 1) safe
+      | Err cause ↦ λ safe. tt
+    ] safe.1,
+  )
 
   -- items, and then others on the image behind them
   both_safe : (image mid : Image) (xs : List Item) (place : ℤ) (others : List Entry) → AreSafeEntries request image (placed place xs) → apply_all image xs ≡ Ok mid
       → AreSafeEntries request mid others → AreSafeEntries request image (placed place xs ++ others)
   both_safe image mid [] place others safe means then = subst (λ (r : Result Image Ill). AreSafeEntries request (result_unwrap_or r image) others) (sym means) then
-  both_safe image mid (x ∷ xs) place others safe means then = (safe.0, rest (apply image x) safe.1 means)
-    where
-      rest : (q : Result Image Ill) → IfOk q (λ after. AreSafeEntries request after (placed (place +ℤ pos 1) xs)) → and_then q (λ after. apply_all after xs) ≡ Ok mid
-          → IfOk q (λ after. AreSafeEntries request after (placed (place +ℤ pos 1) xs ++ others))
-      rest (Ok after) safe means = both_safe after mid xs (place +ℤ pos 1) others safe means then
-      rest (Err cause) safe means = tt
+  both_safe image mid (x ∷ xs) place others safe means then = (
+    safe.0,
+    elim (apply image x) as (λ (q : Result Image Ill). IfOk q (λ after. AreSafeEntries request after (placed (place +ℤ pos 1) xs)) → and_then q (λ after. apply_all after xs) ≡ Ok mid
+        → IfOk q (λ after. AreSafeEntries request after (placed (place +ℤ pos 1) xs ++ others))) [
+          | Ok after ↦ λ safe means. both_safe after mid xs (place +ℤ pos 1) others safe means then
+          | Err cause ↦ λ safe means. tt
+        ] safe.1 means,
+  )
 
 -- ---- logs that grow safely
 
@@ -183,12 +187,15 @@ module _ (s : State) (event : Event) (image : Image) where
   refused_row true reason r safe = tt
   refused_row false reason r safe = safe
 
+control_safe : (image : Image) (place : ℤ) → AreSafeEntries None image (placed place (items.Control ∷ []))
+unfolding apply
+control_safe image place = (tt, tt)
+
 safe_none : (request : Option Request) (image : Image) (place : ℤ) (items : List Item) → items ≡ [] → AreSafeEntries request image (placed place items)
 safe_none request image place items none = subst (λ (is : List Item). AreSafeEntries request image (placed place is)) (sym none) tt
 
 module _ (options : Options) (s : State) (image : Image) (valid : IsValid image) (shows : Shows s.world.log image) where
   lead_safe : (epoch next now : ℤ) → IsSafeBy s (events.Lead epoch next now) image (lead (timed s (events.Lead epoch next now)) epoch next)
-  unfolding apply
   lead_safe epoch next now =
       let event = events.Lead epoch next now in
       refused_row s event image (is_some s.world.leading) (already_leading s.world.leading) _
@@ -198,7 +205,7 @@ module _ (options : Options) (s : State) (image : Image) (valid : IsValid image)
     where
       begins : (b : Bool) → AreSafeEntries None image (placed (pos (tip_of s)) (items_from (cond b s.world (with_batch s.world (items.Control ∷ []))).log (tip_of s)))
       begins true = safe_none None image (pos (tip_of s)) (items_from s.world.log (tip_of s)) (none_behind s.world.log)
-      begins false = safe_added None s.world.log (with_batch s.world (items.Control ∷ [])).log (items.Control ∷ []) image (batch_written s.world (items.Control ∷ [])) (tt, tt)
+      begins false = safe_added None s.world.log (with_batch s.world (items.Control ∷ [])).log (items.Control ∷ []) image (batch_written s.world (items.Control ∷ [])) (control_safe image (pos (tip_of s)))
 
   commit_safe : (epoch end : ℤ) → IsSafeBy s (events.Commit epoch end) image (commit s epoch end)
   commit_safe epoch end =
