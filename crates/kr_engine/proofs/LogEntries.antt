@@ -1,13 +1,14 @@
 -- The items that an event adds to a log.
-use Rattle.std.proofs.Common.{◌≡◌, ◌∙◌, sym, ℕ, suc, ℤ, pos, false, cond, ◌+◌, ◌-◌, List, [], ◌∷◌, ◌++◌, take, drop, length, refl, ap, arith}
+use Rattle.std.proofs.Common.{◌≡◌, ◌∙◌, sym, ℕ, suc, ℤ, pos, false, cond, ◌+◌, ◌-◌, ◌≤◌, List, [], ◌∷◌, ◌++◌, take, drop, length, refl, ap, arith}
 use Rattle.std.proofs.Math.IntN.{+ℤ_idr}
 use Rattle.std.proofs.Math.Seq.{drop-append_seam}
 use Rattle.std.proofs.lemmas.Bool.Decides.{nat_tests}
 use Rattle.std.proofs.lemmas.Int.{ints}
 use Rattle.std.proofs.lemmas.List.{append_assoc, append-nil, drop_all, length-take}
-use Rattle.std.specs.Prelude.{◌+ℤ◌, ◌==◌}
+use Rattle.std.specs.Prelude.{◌+ℤ◌, ◌≤ℤ◌, ◌==◌}
 use Rattle.kr_calls.specs.declared.events.Entry.{Entry}
 use Rattle.kr_calls.specs.declared.events.Entry.TheVariants as entries
+use Rattle.kr_defs.specs.declared.limits.TheConstants.{MOST_RECORDS, PLACES_END}
 use Rattle.kr_defs.specs.declared.record.Item.{Item}
 use Rattle.kr_defs.specs.Log.{Log, tip}
 use Rattle.kr_engine.specs.Entries.{items_from, placed}
@@ -49,6 +50,9 @@ placed_on out new all place item rest is told = ap (λ (es : List Entry). es ++ 
 
 pub placed_all : (out all : List Entry) → out ++ [] ≡ all → out ≡ all
 placed_all out all told = sym (append-nil out) ∙ told
+
+pub in_room : (at place : ℤ) (n m : ℕ) → at +ℤ pos (suc n) ≡ place +ℤ pos m → place ≤ℤ PLACES_END → m ≤ MOST_RECORDS → at ≤ℤ (PLACES_END +ℤ pos MOST_RECORDS)
+in_room at place n m is low few = grind (arith, ints)
 
 pub nothing_left : {X : Type 0} (xs : List X) → length xs ≡ 0 → xs ≡ []
 nothing_left [] none = refl

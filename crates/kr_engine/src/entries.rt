@@ -1,6 +1,6 @@
 //! What an event adds to the log.
 
-ghost use Rattle.std.specs.Prelude.{◌≡◌, ◌++◌, ◌≤◌, ◌≤ℤ◌, length, OnOk};
+ghost use Rattle.std.specs.Prelude.{◌≡◌, ◌++◌, ◌+ℤ◌, ◌≤◌, ◌≤ℤ◌, pos, length, OnOk};
 ghost use Rattle.kr_calls.specs.declared.events.Entry.TheVariants as entries;
 ghost use Rattle.kr_defs.specs.declared.limits.TheConstants.{MOST_RECORDS as most_records, PLACES_END as places_end};
 ghost use Rattle.kr_engine.specs.Engine.{adding};
@@ -29,6 +29,27 @@ pub(crate) fn image_entry(offset: &i64, records: Records) -> Entry
     }
 }
 
+// The place of the next item.
+#[derive(Drop)]
+struct Next {
+    place: i64,
+}
+
+impl Next {
+    fn at(place: &i64) -> Next
+        ensures { result.place ≡ place.now }
+    {
+        Next { place: *place }
+    }
+
+    fn go_on(&mut self)
+        requires { self.old.place ≤ℤ (places_end +ℤ pos most_records) }
+        ensures { self.new.place ≡ (self.old.place +ℤ pos 1) }
+    {
+        self.place += 1;
+    }
+}
+
 // Adds items one behind the other, of which the first stands at the place.
 #[tactic(auto, using(crate::proofs::LogEntries::placing))]
 fn place_items(out: &mut Vec<Entry>, place: &i64, items: Items) -> Result<(), NoMemory>
@@ -36,10 +57,10 @@ fn place_items(out: &mut Vec<Entry>, place: &i64, items: Items) -> Result<(), No
     requires few { length items ≤ most_records }
     ensures { OnOk result (out.new.items ≡ out.old.items ++ placed place.now items) }
 {
-    let mut at = *place;
+    let mut next = Next::at(place);
     for item in items.into_vec() {
-        out.push(item_entry(&at, item))?;
-        at += 1;
+        out.push(item_entry(&next.place, item))?;
+        next.go_on();
     }
     Ok(())
 }

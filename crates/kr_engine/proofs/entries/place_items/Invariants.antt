@@ -8,7 +8,7 @@ abbrev pub invariant-loop-item : goal.invariant-loop-item
 invariant-loop-item l =
     let all = into_iter_items l.initial.item-iterator in
     let left = into_iter_items l.item-iterator in record {
-      out : l.out.items ++ placed l.at left ≡ l.fn.out.items ++ placed l.place all;
-      at : l.at +ℤ pos (length left) ≡ l.place +ℤ pos (length all);
+      out : l.out.items ++ placed l.next.place left ≡ l.fn.out.items ++ placed l.place all;
+      at : l.next.place +ℤ pos (length left) ≡ l.place +ℤ pos (length all);
       count : into_iter_len l.item-iterator ≡ length left;
     }
