@@ -84,7 +84,7 @@ hears_by minimum h image after k (Some state) valid there hears is = fencings_ke
 
 -- ---- one broker
 
-reached_later : (m n : ℕ) (writes : List Write) → m ≤ n → All (λ write. int_le write.need (pos m) ≡ true) writes → All (λ write. int_le write.need (pos n) ≡ true) writes
+pub reached_later : (m n : ℕ) (writes : List Write) → m ≤ n → All (λ write. int_le write.need (pos m) ≡ true) writes → All (λ write. int_le write.need (pos n) ≡ true) writes
 reached_later m n writes le all = All-from_recursion (λ write. int_le write.need (pos n) ≡ true) writes (each writes (recursion_from_All (λ write. int_le write.need (pos m) ≡ true) writes all))
   where
     le_more : (a : ℤ) → int_le a (pos m) ≡ true → int_le a (pos n) ≡ true

@@ -40,7 +40,7 @@ use Rattle.kr_engine.proofs.NewLeaderships.{none_row}
 use Rattle.kr_engine.proofs.FencingSteps.{fence_stands, fence_stays}
 use Rattle.kr_engine.proofs.ReadyEngines as engines_ready
 use Rattle.kr_engine.proofs.ReadyEngines.{same_image}
-use Rattle.kr_engine.proofs.TickSteps.{few_lapsed, near_enough, timed_as, tick_step}
+use Rattle.kr_engine.proofs.TickSteps.{few_lapsed, near_enough, tick_step, timed_engine}
 use Rattle.kr_engine.proofs.AppendSteps.{writes_by}
 
 -- ---- one
@@ -184,7 +184,7 @@ can_lapse e now sound valid are free = by_leading sound.state.world.leading refl
         let hears = subst (HearsOf (hearing.heard sound.state.basis)) (same_image e sound.state sound.writes k) (k.is_state.hears some) in
         let few = few_lapsed e.heard e.images.tip (before.time -ℤ pos e.options.session_ms) are (subst (λ h. HearsOf h e.images.tip) (sym k.heard_of) hears) valid.tip in
         can_all before (lapsed_in before) (record {
-          sound = record { state = timed sound.state (events.Tick now); writes = sound.writes; stands = timed_as e now sound.state sound.writes k };
+          sound = record { state = timed sound.state (events.Tick now); writes = sound.writes; stands = timed_engine e (events.Tick now) sound.state sound.writes k };
           valid = valid;
           leads = subst (λ (l : Option ℤ). IsSome l) (sym k.leading) some;
           room = subst (λ t. unsigned_abs t + 10000 * length (lapsed_in before) ≤ unsigned_abs PLACES_END) (sym k.tip)

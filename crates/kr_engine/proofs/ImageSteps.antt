@@ -25,7 +25,7 @@ module _ (e : Core) (d : IsDrained e) where
   after = engines.counted (imaged (engines.cleared e))
 
   module _ (s : State) (writes : List Write) (k : IsEngine e s writes) where
-    committed_found : kept_at e.images e.committed ≡ Some (image_of_end s)
+    pub committed_found : kept_at e.images e.committed ≡ Some (image_of_end s)
     committed_found =
         ap (kept_at e.images) k.committed
         ∙ (ap (λ (kept : List (ℤ × Image)). kept_at (record { kept = kept; tip = e.images.tip; made = e.images.made }) (pos s.world.committed)) k.kept

@@ -29,3 +29,7 @@ pub mod FirstReasons
 pub mod TickSteps
 pub mod WaitingWrites
 pub mod AppendSteps
+pub mod ContactTimes
+pub mod RequestDecisions
+pub mod RequestSteps
+pub mod WriteOrders

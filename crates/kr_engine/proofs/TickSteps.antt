@@ -4,7 +4,6 @@ use Rattle.std.proofs.lemmas.Bool.Decides.{nat_tests}
 use Rattle.std.proofs.lemmas.List.{append-nil, length-map, length-take}
 use Rattle.std.proofs.lemmas.List.Sums.{length-filter, count_by-le-length}
 use Rattle.std.specs.Prelude.{◌&&◌, ◌-ℤ◌, Option, Some, None, Ok, filter, int_le, take_while, unsigned_abs, IsSome, is_some, option_to_list}
-use Rattle.std.specs.Int.{int_max}
 use Rattle.kr_calls.specs.declared.events.Event.{Event}
 use Rattle.kr_calls.specs.declared.events.Reason.{Reason}
 use Rattle.kr_calls.specs.declared.events.Event.TheVariants as events
@@ -23,7 +22,7 @@ use Rattle.kr_store.specs.Images.{AreValid}
 use Rattle.kr_engine.specs.declared.writes.Write.{Write}
 use Rattle.kr_engine.specs.Engine as engines
 use Rattle.kr_engine.specs.Engine.{Core, IsEngine, IsState, IsStep, left}
-use Rattle.kr_engine.specs.Events.{counted, next_number, outcome, timed}
+use Rattle.kr_engine.specs.Events.{counted, later, next_number, outcome, timed}
 use Rattle.kr_engine.specs.Outputs.{answers, answers_in, append_fencings, is_open, is_open_in}
 use Rattle.kr_engine.specs.Reasons.{exhausted}
 use Rattle.kr_engine.specs.Ticking.{FencesAll, SettlesTick, lapsed_in, tick_reason}
@@ -35,7 +34,7 @@ use Rattle.kr_engine.proofs.FencingSteps.{AllFenced, all_fenced, stays_itself}
 use Rattle.kr_engine.proofs.Queues.{IsDrained, drained}
 use Rattle.kr_engine.proofs.ReadyEngines.{same_image}
 use Rattle.kr_engine.proofs.Refusals.{refused_step}
-use Rattle.kr_engine.proofs.EventsWithoutWrites.{timed_state}
+use Rattle.kr_engine.proofs.EventsWithoutWrites.{counted_state, timed_state}
 use Rattle.kr_engine.proofs.FirstReasons.{IsAccepted, accepted_step, core_of, is_core, row, unless_refused}
 
 -- ---- at most 1,000 sessions end
@@ -68,21 +67,38 @@ near_enough n m near few = let low : n ≤ 2305843009213693952 = far_not n near 
 -- ---- the step
 
 -- time goes on
-timed_engine : (e : Core) (now : ℤ) (s : State) (writes : List Write) → IsEngine e s writes → IsEngine (engines.timed e (events.Tick now)) (timed s (events.Tick now)) writes
-timed_engine e now s writes k = record {
+pub timed_engine : (e : Core) (event : Event) (s : State) (writes : List Write) → IsEngine e s writes → IsEngine (engines.timed e event) (timed s event) writes
+timed_engine e event s writes k = record {
   tip = k.tip;
   committed = k.committed;
   leading = k.leading;
   greatest = k.greatest;
   count = k.count;
-  time = ap (λ t. int_max t now) k.time;
+  time = ap (λ t. later t event) k.time;
   led = k.led;
   heard_of = k.heard_of;
   present = k.present;
   kept = k.kept;
   waits = k.waits;
   ordered = k.ordered;
-  is_state = timed_state s writes (events.Tick now) k.is_state;
+  is_state = timed_state s writes event k.is_state;
+}
+
+pub counted_engine : (e : Core) (s : State) (writes : List Write) → IsEngine e s writes → IsEngine (engines.counted e) (counted s) writes
+counted_engine e s writes k = record {
+  tip = k.tip;
+  committed = k.committed;
+  leading = k.leading;
+  greatest = k.greatest;
+  count = ap next_number k.count;
+  time = k.time;
+  led = k.led;
+  heard_of = k.heard_of;
+  present = k.present;
+  kept = k.kept;
+  waits = k.waits;
+  ordered = k.ordered;
+  is_state = counted_state s writes k.is_state;
 }
 
 pub all_options : (ids : List ℤ) (e after : Core) → FencesAll e after ids → after.options ≡ e.options
@@ -119,34 +135,6 @@ module _ (e : Core) (now : ℤ) (d : IsDrained e) where
         ∙ (sym (ap (λ c. filter (is_open core.leading c) writes) f.stands.committed)
         ∙ (ap (λ hs. filter (is_open core.leading core.committed) hs) (sym k.waits ∙ (d.all_wait ∙ sym f.stays.held)) ∙ f.stands.waits)))
 
-    counted_engine : IsEngine (engines.counted core) (counted after) writes
-    counted_engine =
-        let g = f.stands in
-        let state = g.is_state in record {
-          tip = g.tip;
-          committed = g.committed;
-          leading = g.leading;
-          greatest = g.greatest;
-          count = ap next_number g.count;
-          time = g.time;
-          led = g.led;
-          heard_of = g.heard_of;
-          present = g.present;
-          kept = g.kept;
-          waits = g.waits;
-          ordered = g.ordered;
-          is_state = record {
-            started = state.started;
-            ends = state.ends;
-            low = state.low;
-            at_standby = state.at_standby;
-            hears = state.hears;
-            in_time = state.in_time;
-            natural = state.natural;
-            reached = state.reached;
-          };
-        }
-
     none_due : answers core.leading core.committed core.held ≡ answers_in after.world (writes ++ [])
     none_due =
         ap (λ l. answers l core.committed core.held) f.stands.leading
@@ -155,7 +143,7 @@ module _ (e : Core) (now : ℤ) (d : IsDrained e) where
 
     accepted_by : IsAccepted e e.options s writes event core after
     accepted_by = record {
-      stands = subst (λ (ws : List Write). IsEngine (engines.counted core) (counted after) ws) (sym still_wait) counted_engine;
+      stands = subst (λ (ws : List Write). IsEngine (engines.counted core) (counted after) ws) (sym still_wait) (counted_engine core after writes f.stands);
       outputs =
           ap (λ g. (g ++ option_to_list core.refusal) ++ answers core.leading core.committed core.held) (f.outputs ∙ ap (λ g. g ++ append_fencings e.options (timed s event) ids) d.none_given)
           ∙ (ap (λ o. (append_fencings e.options (timed s event) ids ++ option_to_list o) ++ answers core.leading core.committed core.held) (f.stays.refusal ∙ d.none_refused)
@@ -183,7 +171,7 @@ module _ (e : Core) (now : ℤ) (d : IsDrained e) where
       let hears = subst (HearsOf (hearing.heard s.basis)) (same_image e s writes k) (k.is_state.hears some) in
       let few = few_lapsed e.heard e.images.tip (before.time -ℤ pos e.options.session_ms) are (subst (λ h. HearsOf h e.images.tip) (sym k.heard_of) hears) valid in
       subst (AllFenced before core (timed s event) writes) (same_lapsed s writes k)
-      (all_fenced (lapsed_in before) before core f (timed s event) writes (timed_engine e now s writes k) valid some
+      (all_fenced (lapsed_in before) before core f (timed s event) writes (timed_engine e event s writes k) valid some
       (near_enough (tip_of s) (length (lapsed_in before)) (ap is_far (sym k.tip) ∙ near) few))
 
   fenced_so : (core : Core) (s : State) (writes : List Write) → IsEngine e s writes → (leading : Option ℤ) → s.world.leading ≡ leading → (is_some leading && is_far e.tip) ≡ false → IsValid e.images.tip → AreHeartbeats e.heard
@@ -193,7 +181,7 @@ module _ (e : Core) (now : ℤ) (d : IsDrained e) where
       subst (AllFenced before core (timed s event) writes) (same_lapsed s writes k)
       (subst (AllFenced before core (timed s event) writes) (sym nobody)
       (subst (λ (c : Core). AllFenced before c (timed s event) writes []) (sym (subst (FencesAll before core) nobody f))
-      (record { stands = timed_engine e now s writes k; outputs = sym (append-nil before.given); gains = gains_none before.fresh s.world.log; stays = stays_itself before })))
+      (record { stands = timed_engine e event s writes k; outputs = sym (append-nil before.given); gains = gains_none before.fresh s.world.log; stays = stays_itself before })))
   fenced_so core s writes k (Some epoch) leads free valid are f = fenced_by core s writes k epoch leads free valid are f
 
   same_options : (core : Core) (ids : List ℤ) → FencesAll before core ids → core.options ≡ e.options
@@ -209,9 +197,6 @@ module _ (e : Core) (now : ℤ) (d : IsDrained e) where
   settled core (Some reason) is valid are refuses =
       subst (λ (c : Core). IsStep e (engines.counted c) event) (sym refuses)
       (refused_step e event reason d (λ s writes k. judged s writes k ∙ ap (λ r. unless_refused r (after_tick s)) is))
-
-pub timed_as : (e : Core) (now : ℤ) (s : State) (writes : List Write) → IsEngine e s writes → IsEngine (engines.timed e (events.Tick now)) (timed s (events.Tick now)) writes
-timed_as e now s writes k = timed_engine e now s writes k
 
 pub tick_step : (e core after : Core) (now : ℤ) → left e ≡ [] → AreValid e.images → AreHeartbeats e.heard
     → SettlesTick (engines.timed e (events.Tick now)) core (tick_reason (engines.timed e (events.Tick now))) → after ≡ engines.counted core → IsStep e after (events.Tick now)

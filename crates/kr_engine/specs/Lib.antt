@@ -15,3 +15,4 @@ pub mod Ticking
 pub mod Ticks
 pub mod World
 pub mod Writing
+pub mod inner

@@ -37,7 +37,7 @@ fn items_of(alloc: Global, records: Records) -> Result<Items, NoMemory>
 }
 
 // The led epoch, -1 on standby.
-fn epoch_of(leading: &Option<i32>) -> i32
+pub(crate) fn epoch_of(leading: &Option<i32>) -> i32
     ensures { result ≡ reasons.ours leading.now }
 {
     match leading {

@@ -4,6 +4,7 @@
 mod appending;
 mod applying;
 mod commits;
+mod deciding;
 mod engine;
 mod entries;
 mod follows;
@@ -15,6 +16,7 @@ mod leads;
 mod loads;
 mod losses;
 mod reasons;
+mod requests;
 mod steps;
 mod ticks;
 mod writes;

@@ -33,7 +33,7 @@ impl Engine {
             Event::Batch { bytes } => self.follow(bytes, steps),
             Event::Load { bytes } => self.load(bytes),
             Event::Tick { now } => self.tick(now, steps),
-            Event::Request { .. } => Err(NoMemory),
+            Event::Request { client, now, ask } => self.request(client, now, ask, steps),
             Event::Image => self.image(),
         }
     }

@@ -1,0 +1,158 @@
+-- What is decided of a write, and what it makes of an engine.
+use Rattle.std.proofs.Common.{◌≡◌, ◌∙◌, sym, subst, ℕ, ℤ, pos, negsuc, true, false, cond, ◌-◌, ◌≤◌, List, [], ◌∷◌, ◌++◌, length, refl, ap, arith}
+use Rattle.std.proofs.lemmas.Int.{ints}
+use Rattle.std.specs.Prelude.{◌==◌, ◌≤ℤ◌, Option, Some, None, Result, Ok, Err, IfOk, OnOk, IsTrue, int_lt, slice_get, unwrap_or}
+use Rattle.std.specs.Option.{option_map}
+use Rattle.kr_brokers.specs.Judged as judged
+use Rattle.kr_calls.specs.declared.calls.Call.{Call}
+use Rattle.kr_calls.specs.declared.calls.Reply.{Reply}
+use Rattle.kr_calls.specs.declared.calls.Request.{Request}
+use Rattle.kr_calls.specs.declared.deciding.Effect.{Effect}
+use Rattle.kr_calls.specs.Decide.{decide, work_of}
+use Rattle.kr_calls.specs.NextBasis.{heartbeats_after, is_stopping}
+use Rattle.kr_calls.specs.Refuse.{refuse}
+use Rattle.kr_calls.proofs.Standing.{requests_stand}
+use Rattle.kr_batch.specs.Written.{batch_bytes}
+use Rattle.kr_calls.specs.declared.events.Output.TheVariants as given
+use Rattle.kr_calls.specs.Deciding.{apply_records}
+use Rattle.kr_defs.specs.declared.limits.TheConstants.{PLACES_END}
+use Rattle.kr_defs.specs.declared.options.Options.{Options}
+use Rattle.kr_defs.specs.declared.record.Record.{Record}
+use Rattle.kr_defs.specs.Heartbeats.{Heartbeats, heard, stopping_brokers}
+use Rattle.kr_defs.specs.Ids.{has}
+use Rattle.kr_defs.specs.Image.{Image, empty}
+use Rattle.kr_fitting.specs.Fitting.{FitsBatch}
+use Rattle.kr_fitting.proofs.FittingRecords.{requests_fit}
+use Rattle.kr_rules.specs.Progress.{base_of}
+use Rattle.kr_store.specs.Images.{Images, IsAbove, last_kept, marked}
+use Rattle.kr_engine.specs.declared.writes.Write.{Write}
+use Rattle.kr_engine.specs.Engine.{Core, basis_of}
+use Rattle.kr_engine.specs.Ready.{IsReady}
+use Rattle.kr_engine.specs.Reasons.{ours}
+use Rattle.kr_engine.specs.inner.Serving.{Decides, TakesWrite, decided_by, waiting_write, write_with}
+use Rattle.kr_engine.specs.Writing.{Writes, appended, batch_at, place_behind}
+use Rattle.kr_engine.proofs.AppendSteps.{writes_by}
+
+-- ---- the image where the request began
+
+abbrev last : List (ℤ × Image) → Option (ℤ × Image)
+last kept = slice_get kept (length kept - 1)
+
+pub base_is : (before after : Images) (place : ℤ) → last_kept before ≡ Some (place, before.tip) → after.kept ≡ before.kept → base_of after ≡ before.tip
+base_is before after place is kept =
+    ap (λ (ks : List (ℤ × Image)). unwrap_or (option_map (λ (k : ℤ × Image). k.1) (last ks)) empty) kept
+    ∙ ap (λ (o : Option (ℤ × Image)). unwrap_or (option_map (λ (k : ℤ × Image). k.1) o) empty) is
+
+pub last_is : (before after : Images) (place : ℤ) → last_kept before ≡ Some (place, before.tip) → after.kept ≡ before.kept → last_kept after ≡ Some (place, base_of after)
+last_is before after place is kept = ap last kept ∙ (is ∙ ap (λ (i : Image). Some (place, i)) (sym (base_is before after place is kept)))
+
+pub among_base : (before after : Images) (place : ℤ) (h : Heartbeats) → last_kept before ≡ Some (place, before.tip) → after.kept ≡ before.kept
+    → ((id : ℤ) → IsTrue (has (stopping_brokers h) id) → IsTrue (is_stopping before.tip id)) → (id : ℤ) → IsTrue (has (stopping_brokers h) id) → IsTrue (is_stopping (base_of after) id)
+among_base before after place h is kept among id there = ap (λ (i : Image). is_stopping i id) (base_is before after place is kept) ∙ among id there
+
+pub heard_so : (options : Options) (before after : Images) (time led place : ℤ) (h : Heartbeats) (request : Request) (reply : Reply) → last_kept before ≡ Some (place, before.tip) → after.kept ≡ before.kept
+    → after.tip ≡ (decide options before.tip (judged.basis_of time led h) place request).image → reply ≡ (decide options before.tip (judged.basis_of time led h) place request).reply
+    → heartbeats_after h (base_of after) after.tip time place request reply ≡ (decide options before.tip (judged.basis_of time led h) place request).heartbeats
+heard_so options before after time led place h request reply is kept image says =
+    ap (λ (i : Image). heartbeats_after h i after.tip time place request reply) (base_is before after place is kept)
+    ∙ (ap (λ (i : Image). heartbeats_after h before.tip i time place request reply) image
+    ∙ ap (heartbeats_after h before.tip (decide options before.tip (judged.basis_of time led h) place request).image time place request) says)
+
+pub ruleset bases = (last_is, among_base, heard_so)
+
+-- ---- the engine
+
+pub write_fits : (before after : Core) (request : Request) (out : Effect) → Decides before after request out → FitsBatch out.records
+write_fits before after request out d = subst FitsBatch (sym d.records) (requests_fit before.options (basis_of before) before.images.tip before.tip request)
+
+pub write_above : (before after : Core) (request : Request) (out : Effect) → Decides before after request out → IsReady before → (place : ℤ) → IsTrue (int_lt after.tip place) → IsAbove after.images.kept place
+write_above before after request out d r place high =
+    subst (λ (kept : List (ℤ × Image)). IsAbove kept place) (sym d.kept) (r.above place (sym (ap (λ (a : Core). int_lt a.tip place) d.same) ∙ high))
+
+-- appending leaves the leadership, the writes that wait and the contacts
+record Keeps (before after : Core) : Type 0 where
+  leading : after.leading ≡ before.leading
+  held : after.held ≡ before.held
+  heard : after.heard ≡ before.heard
+
+append_keeps : (e : Core) (records : List Record) → Keeps e (appended e records)
+append_keeps e records =
+    elim (length records == 0) as (λ b. Keeps e (cond b e (record e {
+      images = marked e.images (place_behind e records);
+      tip = place_behind e records;
+      given = e.given ++ given.Append (batch_bytes (batch_at e records)) ∷ [];
+    }))) [
+      | true ↦ record { leading = refl; held = refl; heard = refl }
+      | false ↦ record { leading = refl; held = refl; heard = refl }
+    ]
+
+held_apart : (a b : Core) (held : List Write) → a ≡ record b { held = held } → a ≡ record b { held = a.held; heard = a.heard }
+held_apart a b held is =
+    is ∙ (ap (λ hs. record b { held = hs }) (sym (ap (λ (c : Core). c.held) is)) ∙ ap (λ h. record b { held = a.held; heard = h }) (sym (ap (λ (c : Core). c.heard) is)))
+
+-- what the rule of a request gives, said clause by clause
+pub decides_by : (before after : Core) (request : Request) (out : Effect) → out.records ≡ (decided_by before request).records → out.reply ≡ (decided_by before request).reply
+    → after.images.tip ≡ (decided_by before request).image → after.heard ≡ (decided_by before request).heartbeats → after.images.kept ≡ before.images.kept
+    → after ≡ record before { images = after.images; heard = after.heard } → Decides before after request out
+decides_by before after request out records reply image heard kept same = record {
+  records = records;
+  reply = reply;
+  same = same ∙ ap (λ h. record before { images = after.images; heard = h }) heard;
+  image = image;
+  kept = kept;
+}
+
+tip_natural : (committed tip : ℤ) → pos 0 ≤ℤ committed → committed ≤ℤ tip → pos 0 ≤ℤ tip
+tip_natural (pos m) (pos n) natural rising = omega (arith, ints)
+tip_natural (pos m) (negsuc n) natural rising = absurd (omega (arith, ints))
+tip_natural (negsuc m) tip natural rising = absurd (omega (arith, ints))
+
+pub ready_natural : (e : Core) → IsReady e → pos 0 ≤ℤ e.tip
+ready_natural e r = tip_natural e.committed e.tip r.natural r.rising
+
+pub decides_ok : {E : Type 0} (before after : Core) (request : Request) (r : Result Effect E) → IfOk r (λ (out : Effect). out.records ≡ (decided_by before request).records) → IfOk r (λ (out : Effect). out.reply ≡ (decided_by before request).reply)
+    → OnOk r (after.images.tip ≡ (decided_by before request).image) → OnOk r (after.heard ≡ (decided_by before request).heartbeats) → after.images.kept ≡ before.images.kept
+    → after ≡ record before { images = after.images; heard = after.heard } → IfOk r (λ (out : Effect). Decides before after request out)
+decides_ok before after request (Ok out) records reply image heard kept same = decides_by before after request out records reply image heard kept same
+decides_ok before after request (Err fault) records reply image heard kept same = tt
+
+pub ruleset decides = (ready_natural)
+
+pub write_low : (before after : Core) (request : Request) (out : Effect) → Decides before after request out → IsReady before → after.tip ≤ℤ PLACES_END
+write_low before after request out d r = subst (λ t. t ≤ℤ PLACES_END) (sym (ap (λ (a : Core). a.tip) d.same)) r.low
+
+module _ (before between appended' after : Core) (client : ℕ) (call : Call) (out : Effect) (refusal : Reply) (d : Decides before between call.request out) (is : appended' ≡ appended between out.records) where
+  leading_same : appended'.leading ≡ before.leading
+  leading_same = ap (λ (a : Core). a.leading) is ∙ ((append_keeps between out.records).leading ∙ ap (λ (a : Core). a.leading) d.same)
+
+  held_same : appended'.held ≡ before.held
+  held_same = ap (λ (a : Core). a.held) is ∙ ((append_keeps between out.records).held ∙ ap (λ (a : Core). a.held) d.same)
+
+  heard_same : appended'.heard ≡ (decided_by before call.request).heartbeats
+  heard_same = ap (λ (a : Core). a.heard) is ∙ ((append_keeps between out.records).heard ∙ ap (λ (a : Core). a.heard) d.same)
+
+  abbrev write_of : Option ℤ → ℤ → Reply → Reply → Write
+  write_of leading need reply refusal = write_with client call leading need reply refusal
+
+  pub takes_write : refusal ≡ refuse call.request (pos 41) → after ≡ record appended' { held = appended'.held ++ write_of appended'.leading appended'.tip out.reply refusal ∷ [] } → TakesWrite before after client call
+  takes_write refuses held =
+      let records = (decided_by before call.request).records in
+      let fits = requests_fit before.options (basis_of before) before.images.tip before.tip call.request in
+      record {
+        writes = writes_by before between after records
+            (d.same ∙ ap (λ h. record before { images = between.images; heard = h }) (sym (ap (λ (b : Core). b.heard) d.same)))
+            d.kept
+            (subst (λ i. apply_records before.images.tip records ≡ Ok i) (sym d.image) (requests_stand before.options (basis_of before) before.images.tip before.tip call.request))
+            fits.few
+            (held_apart after appended' _ held ∙ ap (λ (a : Core). record a { held = after.held; heard = after.heard }) (is ∙ ap (appended between) d.records));
+        heard = ap (λ (a : Core). a.heard) held ∙ heard_same;
+        held =
+            ap (λ (a : Core). a.held) held
+            ∙ (ap (λ hs. hs ++ write_of appended'.leading appended'.tip out.reply refusal ∷ []) held_same
+            ∙ (ap (λ l. before.held ++ write_of l appended'.tip out.reply refusal ∷ []) leading_same
+            ∙ (ap (λ r. before.held ++ write_of before.leading appended'.tip r refusal ∷ []) d.reply
+            ∙ (ap (λ r. before.held ++ write_of before.leading appended'.tip (decided_by before call.request).reply r ∷ []) refuses
+            ∙ ap (λ t. before.held ++ write_of before.leading t (decided_by before call.request).reply (refuse call.request (pos 41)) ∷ []) (sym (ap (λ (a : Core). a.tip) held))))));
+      }
+
+pub ruleset takes = (write_fits, write_above, write_low, takes_write)

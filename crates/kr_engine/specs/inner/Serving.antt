@@ -1,0 +1,94 @@
+-- What a client's message makes of an engine.
+use Rattle.std.specs.Prelude.{◌≡◌, ◌&&◌, ℕ, ℤ, pos, Bool, true, false, not, List, [], ◌∷◌, ◌++◌, Option, Some, None, is_some, unwrap_or, if◌then◌else◌}
+use Rattle.kr_calls.specs.declared.calls.Ask.{Ask}
+use Rattle.kr_calls.specs.declared.calls.Call.{Call}
+use Rattle.kr_calls.specs.declared.calls.Request.{Request}
+use Rattle.kr_calls.specs.declared.deciding.Effect.{Effect}
+use Rattle.kr_calls.specs.declared.calls.Reply.{Reply}
+use Rattle.kr_calls.specs.declared.events.Output.{Output}
+use Rattle.kr_calls.specs.declared.events.Reason.{Reason}
+use Rattle.kr_calls.specs.declared.calls.Ask.TheVariants as asks
+use Rattle.kr_calls.specs.declared.calls.Reply.TheVariants as replies
+use Rattle.kr_calls.specs.declared.events.Output.TheVariants as given
+use Rattle.kr_calls.specs.Decide.{Decision, decide, is_read, query}
+use Rattle.kr_calls.specs.Refuse.{refuse}
+use Rattle.kr_defs.specs.Image.{Image, empty}
+use Rattle.kr_store.specs.Images.{kept_at}
+use Rattle.kr_engine.specs.declared.writes.Write.{Write}
+use Rattle.kr_engine.specs.Engine.{Core, basis_of, refused}
+use Rattle.kr_engine.specs.Outputs.{error_of}
+use Rattle.kr_engine.specs.Reasons.{exhausted, ours}
+use Rattle.kr_engine.specs.World.{is_far}
+use Rattle.kr_engine.specs.Writing.{Writes}
+
+-- ---- a leading controller's write
+
+-- what the rule of the request gives at the tip
+abbrev pub decided_by : Core → Request → Decision
+decided_by e request = decide e.options e.images.tip (basis_of e) e.tip request
+
+-- the request is decided, and nothing is written yet
+pub record Decides (before after : Core) (request : Request) (out : Effect) : Type 0 where
+  pub records : out.records ≡ (decided_by before request).records
+  pub reply : out.reply ≡ (decided_by before request).reply
+  pub same : after ≡ record before { images = after.images; heard = (decided_by before request).heartbeats }
+  pub image : after.images.tip ≡ (decided_by before request).image
+  pub kept : after.images.kept ≡ before.images.kept
+
+-- a write with its replies, which waits for the place
+abbrev pub write_with : ℕ → Call → Option ℤ → ℤ → Reply → Reply → Write
+write_with client call leading need reply refusal = record {
+  client = client;
+  correlation = call.correlation;
+  epoch = ours leading;
+  need = need;
+  reply = reply;
+  refusal = refusal;
+}
+
+-- a write that was decided, and whose records are below the place
+abbrev pub waiting_write : Core → ℕ → Call → ℤ → Write
+waiting_write e client call need =
+    write_with client call e.leading need (decided_by e call.request).reply (refuse call.request (pos 41))
+
+pub record TakesWrite (before after : Core) (client : ℕ) (call : Call) : Type 0 where
+  pub writes : Writes before after (decided_by before call.request).records
+  pub heard : after.heard ≡ (decided_by before call.request).heartbeats
+  pub held : after.held ≡ before.held ++ waiting_write before client call after.tip ∷ []
+
+-- ---- what is answered at once
+
+abbrev pub gives_out : Core → Output → Core
+gives_out e output = record e { given = e.given ++ output ∷ [] }
+
+abbrev pub committed_image : Core → Image
+committed_image e = unwrap_or (kept_at e.images e.committed) empty
+
+-- a read is answered on the committed image; a write on standby is refused
+abbrev pub reply_at_once : Core → Request → Reply
+reply_at_once e request = unwrap_or (query e.options (committed_image e) request) (refuse request (pos 41))
+
+-- ---- what is asked
+
+abbrev pub is_decided : Option ℤ → Request → Bool
+is_decided leading request = is_some leading && not (is_read request)
+
+abbrev pub TakesCall : Bool → Core → Core → ℕ → Call → Type 0
+TakesCall true before after client call = TakesWrite before after client call
+TakesCall false before after client call =
+    after ≡ gives_out before (given.Reply client call.correlation (reply_at_once before call.request))
+
+abbrev pub TakesAsk : Core → Core → ℕ → Ask → Type 0
+TakesAsk before after client (asks.Call call) = TakesCall (is_decided before.leading call.request) before after client call
+TakesAsk before after client (asks.Bare correlation fault) =
+    after ≡ gives_out before (given.Reply client correlation (replies.Bare (error_of fault)))
+
+-- a leading controller's log may be full
+abbrev pub ask_reason : Core → Ask → Option Reason
+ask_reason e (asks.Call call) = if is_decided e.leading call.request && is_far e.tip then Some (exhausted e.tip) else None
+ask_reason e (asks.Bare correlation fault) = None
+
+-- the ask is refused, or taken
+abbrev pub SettlesAsk : Core → Core → ℕ → Ask → Option Reason → Type 0
+SettlesAsk before after client ask None = TakesAsk before after client ask
+SettlesAsk before after client ask (Some reason) = after ≡ refused before reason
