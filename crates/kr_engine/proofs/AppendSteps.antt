@@ -1,7 +1,6 @@
 -- What a leader's records make of an engine.
 use Rattle.std.proofs.Common.{◌≡◌, ◌∙◌, sym, subst, ℕ, suc, ℤ, pos, Bool, true, false, cond, ◌+◌, ◌≤◌, List, [], ◌∷◌, ◌++◌, map, length, refl, ap, arith, All}
 use Rattle.std.proofs.Math.IntN.{+ℤ_idr}
-use Rattle.std.proofs.lemmas.Bool.Decides.{nat_tests}
 use Rattle.std.proofs.lemmas.List.{append-nil, length-map}
 use Rattle.std.specs.Prelude.{◌+ℤ◌, ◌==◌, Option, None, Result, Ok, Err, filter, int_le, unsigned_abs, IsSome}
 use Rattle.std.specs.List.{list_all}
@@ -25,10 +24,12 @@ use Rattle.kr_safety.specs.HearingLaws.{HearsOf}
 use Rattle.kr_store.specs.Images.{Images, marked}
 use Rattle.kr_engine.specs.declared.writes.Write.{Write}
 use Rattle.kr_engine.specs.Engine.{Core, IsEngine, Rise, are_in_order, kept_image}
+use Rattle.kr_engine.specs.Entries.{placed}
 use Rattle.kr_engine.specs.Outputs.{is_open}
 use Rattle.kr_engine.specs.World.{State, World, image_of_tip, tip_of, with_records, written}
 use Rattle.kr_engine.specs.Writing.{Writes, appended, batch_at, place_behind}
 use Rattle.kr_engine.proofs.LongerLogs.{kept_then, present_then, rise_more}
+use Rattle.kr_engine.proofs.LogEntries.{not_none}
 use Rattle.kr_engine.proofs.Logs.{tip_written}
 use Rattle.kr_engine.proofs.Queues.{never}
 
@@ -42,9 +43,6 @@ as_records image (r ∷ records) =
       | Ok after ↦ as_records after records
       | Err cause ↦ refl
     ]
-
-pub not_none : (n : ℕ) → (suc n == 0) ≡ false
-not_none n = grind (arith, nat_tests)
 
 -- ---- the engine
 
@@ -63,7 +61,8 @@ none_written e images heard heard' held kept meaning = record {
   few = omega arith;
   same =
       ap (λ t. record e { images = images; heard = heard'; held = held; tip = t }) (sym (+ℤ_idr e.tip))
-      ∙ ap (λ g. record e { images = images; heard = heard'; held = held; tip = e.tip +ℤ pos 0; given = g }) (sym (append-nil e.given));
+      ∙ (ap (λ g. record e { images = images; heard = heard'; held = held; tip = e.tip +ℤ pos 0; given = g }) (sym (append-nil e.given))
+      ∙ ap (λ f. record e { images = images; heard = heard'; held = held; tip = e.tip +ℤ pos 0; given = e.given ++ []; fresh = f }) (sym (append-nil e.fresh)));
 }
 
 module _ (e : Core) (images : Images) (heard heard' : Heartbeats) (held : List Write) (r : Record) (records : List Record) where
@@ -75,6 +74,7 @@ module _ (e : Core) (images : Images) (heard heard' : Heartbeats) (held : List W
     images = marked images (place_behind e all);
     tip = place_behind e all;
     given = e.given ++ given.Append (batch_bytes (batch_at e all)) ∷ [];
+    fresh = e.fresh ++ placed e.tip (as_items all);
   })) held heard'
 
   some_written : images.kept ≡ e.images.kept → apply_records e.images.tip all ≡ Ok images.tip → length all ≤ 10000
@@ -89,6 +89,7 @@ module _ (e : Core) (images : Images) (heard heard' : Heartbeats) (held : List W
           images = (after_by b).images;
           tip = place_behind e all;
           given = e.given ++ cond b [] (given.Append (batch_bytes (batch_at e all)) ∷ []);
+          fresh = e.fresh ++ placed e.tip (as_items all);
           heard = (after_by b).heard;
           held = (after_by b).held;
         }) has refl;

@@ -2,7 +2,7 @@
 use Rattle.std.proofs.Common.{◌≡◌, ◌∙◌, sym, subst, ℕ, ℤ, pos, true, false, cond, ◌+◌, ◌≤◌, List, [], ◌∷◌, ◌++◌, map, length, refl, ap, arith}
 use Rattle.std.proofs.lemmas.Int.{ints}
 use Rattle.std.proofs.lemmas.List.Elements.{All-nil, recursion_from_All}
-use Rattle.std.specs.Prelude.{◌+ℤ◌, Option, Some, None, Result, Ok, Err, not, filter, int_lt, int_le, is_some, option_to_list, unsigned_abs, All, IsTrue, IsSome}
+use Rattle.std.specs.Prelude.{◌+ℤ◌, ◌≤ℤ◌, Option, Some, None, Result, Ok, Err, not, filter, int_lt, int_le, is_some, option_to_list, unsigned_abs, All, IsTrue, IsSome}
 use Rattle.std.specs.List.{AllByRecursion}
 use Rattle.std.specs.Option.{option_map}
 use Rattle.std.specs.Ordering.{int_eq}
@@ -11,6 +11,7 @@ use Rattle.kr_batch.specs.declared.Batch.{Batch}
 use Rattle.kr_batch.specs.declared.fault.BatchFault.{BatchFault}
 use Rattle.kr_batch.specs.Grammar.{IsBatch}
 use Rattle.kr_batch.specs.Reading.{batch_of}
+use Rattle.kr_calls.specs.declared.events.Entry.{Entry}
 use Rattle.kr_calls.specs.declared.events.Event.{Event}
 use Rattle.kr_calls.specs.declared.events.Reason.{Reason}
 use Rattle.kr_calls.specs.declared.events.Event.TheVariants as events
@@ -27,7 +28,8 @@ use Rattle.kr_snapshot.specs.ReaderState.{kept_once}
 use Rattle.kr_store.specs.Images.{Images, IsAbove, forgotten, last_image, marked}
 use Rattle.kr_engine.specs.declared.writes.Write.{Write}
 use Rattle.kr_engine.specs.Engine as engines
-use Rattle.kr_engine.specs.Engine.{Core, IsEngine, IsState, IsStep, Rise, kept_image, left, refused}
+use Rattle.kr_engine.specs.Engine.{Core, IsEngine, IsState, IsStep, Rise, adding, kept_image, left, refused}
+use Rattle.kr_engine.specs.Entries.{placed}
 use Rattle.kr_engine.specs.Events.{counted, next_number, outcome, timed}
 use Rattle.kr_engine.specs.Outputs.{answers, is_open_in}
 use Rattle.kr_engine.specs.Reasons.{already_leading, bad_batch, exhausted, gap, ill_formed}
@@ -38,6 +40,7 @@ use Rattle.kr_engine.specs.Standby.{Follows, Settles, follow_reason, followed, f
 use Rattle.kr_engine.specs.World.{State, image_of_tip, is_far, seen_at, tip_of, written}
 use Rattle.kr_engine.proofs.NewLeaderships.{near, no_writes, none_row}
 use Rattle.kr_engine.proofs.LongerLogs.{present_then, seen_then}
+use Rattle.kr_engine.proofs.LogEntries.{behind}
 use Rattle.kr_engine.proofs.Logs.{tip_written}
 use Rattle.kr_engine.proofs.Queues.{IsDrained, drained, never}
 use Rattle.kr_engine.proofs.ReadyEngines.{same_image, tip_only}
@@ -88,15 +91,21 @@ item_refused before between after end place cause items image reason r is back k
     (sym (ap (λ (a : Core). a.images) leaves))
     (leaves ∙ (ap (λ (c : Core). refused c reason) same ∙ ap (refused (record before { images = between.images })) says), kept, tip_back before between.images r back))
 
-pub items_taken : (before between after : Core) (end : ℤ) (items : List Item) → None ≡ first_ill before.images.tip before.tip items
+pub items_taken : (before between told after : Core) (end : ℤ) (items : List Item) → None ≡ first_ill before.images.tip before.tip items
     → Follows before.images between.images items None → between ≡ record before { images = between.images }
-    → after ≡ moved_to between end between.images.tip
-    → Settles before after (items_reason (first_ill before.images.tip before.tip items)) (moved_to before end (result_unwrap_or (apply_all before.images.tip items) empty))
-items_taken before between after end items is meaning same leaves = subst (λ o. Settles before after (items_reason o) (moved_to before end (result_unwrap_or (apply_all before.images.tip items) empty))) is
-    (leaves ∙ (ap (λ (c : Core). moved_to c end between.images.tip) same ∙ ap (moved_to before end) (sym (ap (λ r. result_unwrap_or r empty) meaning))))
+    → told ≡ adding between (placed between.tip items) → after ≡ moved_to told end told.images.tip
+    → Settles before after (items_reason (first_ill before.images.tip before.tip items)) (moved_to (adding before (placed before.tip items)) end (result_unwrap_or (apply_all before.images.tip items) empty))
+items_taken before between told after end items is meaning same adds leaves =
+    let own = adding before (placed before.tip items) in
+    subst (λ o. Settles before after (items_reason o) (moved_to own end (result_unwrap_or (apply_all before.images.tip items) empty))) is
+    (leaves
+    ∙ (ap (λ (c : Core). moved_to c end c.images.tip) adds
+    ∙ (ap (λ (c : Core). moved_to (adding c (placed c.tip items)) end between.images.tip) same
+    ∙ ap (moved_to own end) (sym (ap (λ r. result_unwrap_or r empty) meaning)))))
 
-pub still_above : (before between : Core) (end : ℤ) → between.images.kept ≡ before.images.kept → IsAbove before.images.kept end → IsAbove between.images.kept end
-still_above before between end same above = subst (λ (kept : List (ℤ × Image)). IsAbove kept end) (sym same) above
+pub still_above : (before between told : Core) (end : ℤ) (new : List Entry) → between.images.kept ≡ before.images.kept → told ≡ adding between new → IsAbove before.images.kept end → IsAbove told.images.kept end
+still_above before between told end new same adds above =
+    subst (λ (kept : List (ℤ × Image)). IsAbove kept end) (sym (ap (λ (a : Core). a.images.kept) adds ∙ same)) above
 
 -- ---- the place behind the items
 
@@ -112,6 +121,10 @@ higher_by z n some = grind (arith, ints)
 pub ends_above : (e : Core) (batch : Batch) → IsReady e → e.leading ≡ None → batch.base ≡ e.committed → 1 ≤ length batch.items → IsAbove e.images.kept (end_of batch)
 ends_above e batch r none at some =
     r.above (end_of batch) (ap (λ z. int_lt z (end_of batch)) (sym (at ∙ r.at_standby none)) ∙ higher_by batch.base (length batch.items) some)
+
+-- nothing stands above the place once the items are added
+pub still_low : (before between : Core) → IsReady before → between ≡ record before { images = between.images } → between.tip ≤ℤ PLACES_END
+still_low before between r same = subst (λ t. t ≤ℤ PLACES_END) (sym (ap (λ (a : Core). a.tip) same)) r.low
 
 -- ---- the step
 
@@ -129,6 +142,9 @@ module _ (e : Core) (bytes : List ℕ) (d : IsDrained e) where
   abbrev event : Event
   event = events.Batch bytes
 
+  abbrev before : Core
+  before = engines.timed e event
+
   abbrev state_by : Result Batch BatchFault → State → State
   state_by (Ok batch) s = replicas.followed s batch
   state_by (Err fault) s = s
@@ -137,7 +153,7 @@ module _ (e : Core) (bytes : List ℕ) (d : IsDrained e) where
 
   -- with the image at the tip of the state
   abbrev seen_by : State → Image → Core
-  seen_by s image = record (core_of e s) { images = record e.images { tip = image } }
+  seen_by s image = engines.timed (record (core_of e s) { images = record e.images { tip = image } }) event
 
   ill_so : (s : State) (batch : Batch) (o : Option (ℤ × Ill)) → unless_ill o (replicas.followed s batch) ≡ unless_refused (items_reason o) (replicas.followed s batch)
   ill_so s batch None = refl
@@ -152,11 +168,11 @@ module _ (e : Core) (bytes : List ℕ) (d : IsDrained e) where
   judged_so : (s : State) → follow s bytes ≡ unless_refused (follow_reason (seen_by s (image_of_tip s)) (batch_of bytes)) (state_by (batch_of bytes) s)
   judged_so s = row (is_some s.world.leading) (already_leading s.world.leading) _ _ (state_by (batch_of bytes) s) (read_so s (batch_of bytes))
 
-  judged : (s : State) (writes : List Write) → IsEngine e s writes → outcome e.options (timed s event) event ≡ unless_refused (follow_reason e (batch_of bytes)) (state_by (batch_of bytes) s)
+  judged : (s : State) (writes : List Write) → IsEngine e s writes → outcome e.options (timed s event) event ≡ unless_refused (follow_reason before (batch_of bytes)) (state_by (batch_of bytes) s)
   judged s writes k =
       judged_so s
       ∙ (ap (λ i. unless_refused (follow_reason (seen_by s i) (batch_of bytes)) (state_by (batch_of bytes) s)) (same_image e s writes k)
-      ∙ ap (λ (c : Core). unless_refused (follow_reason c (batch_of bytes)) (state_by (batch_of bytes) s)) (sym (is_core e s writes k)))
+      ∙ ap (λ (c : Core). unless_refused (follow_reason (engines.timed c event) (batch_of bytes)) (state_by (batch_of bytes) s)) (sym (is_core e s writes k)))
 
   -- ---- the engine behind the batch
 
@@ -219,7 +235,7 @@ module _ (e : Core) (bytes : List ℕ) (d : IsDrained e) where
         ∙ (one_kept (tip_of s + length batch.items) new_tip
         ∙ ap (λ ns. map (kept_image longer) ((tip_of s + length batch.items) ∷ ns)) (sym none_ends))
 
-    accepted : IsAccepted e e.options s writes event (followed e batch) after
+    accepted : IsAccepted e e.options s writes event (followed before batch) after
     accepted = record {
       stands = record {
         tip = end_is ∙ ap pos new_tip;
@@ -240,13 +256,14 @@ module _ (e : Core) (bytes : List ℕ) (d : IsDrained e) where
           ap (λ g. g ++ option_to_list e.refusal ++ answers e.leading (end_of batch) e.held) d.none_given
           ∙ (ap (λ o. option_to_list o ++ answers e.leading (end_of batch) e.held) d.none_refused
           ∙ answers_then e s writes d k e.leading (end_of batch) after.world k.leading end_is);
+      fresh = ap (λ t. placed t batch.items) k.tip ∙ ap (placed (pos (tip_of s))) (sym (behind s.world.log batch.items));
     }
 
   items_none : (o : Option (ℤ × Ill)) → items_reason o ≡ None → o ≡ None
   items_none None is = refl
   items_none (Some (place, cause)) is = absurd cc
 
-  allowed_by : (read : Result Batch BatchFault) → follow_reason e read ≡ None → (s : State) (writes : List Write) → IsEngine e s writes → IsAccepted e e.options s writes event (followed_by e read) (state_by read s)
+  allowed_by : (read : Result Batch BatchFault) → follow_reason before read ≡ None → (s : State) (writes : List Write) → IsEngine e s writes → IsAccepted e e.options s writes event (followed_by before read) (state_by read s)
   allowed_by (Ok batch) none s writes k =
       let one = none_row (is_some e.leading) (already_leading e.leading) _ none in
       let two = none_row (not (int_eq batch.base e.committed)) (gap e.committed batch.base) _ one.1 in
@@ -255,9 +272,11 @@ module _ (e : Core) (bytes : List ℕ) (d : IsDrained e) where
   allowed_by (Err fault) none s writes k =
       let one = none_row (is_some e.leading) (already_leading e.leading) _ none in absurd (is_some_reason (bad_batch fault) one.1)
 
-pub batch_step : (e between after : Core) (bytes : List ℕ) → left e ≡ []
-    → Settles e between (follow_reason e (batch_of bytes)) (followed_by e (batch_of bytes)) → after ≡ engines.counted between → IsStep e after (events.Batch bytes)
-batch_step e between stepped bytes none settled is =
+pub batch_step : (e noted between after : Core) (bytes : List ℕ) → left e ≡ [] → noted ≡ engines.cleared e
+    → Settles noted between (follow_reason noted (batch_of bytes)) (followed_by noted (batch_of bytes)) → after ≡ engines.counted between → IsStep e after (events.Batch bytes)
+batch_step e noted between stepped bytes none clears settled is =
     let d = drained e none in
-    subst (λ (a : Core). IsStep e a (events.Batch bytes)) (sym is) (settled_step e (events.Batch bytes) d between (follow_reason e (batch_of bytes)) (followed_by e (batch_of bytes)) (state_by e bytes d (batch_of bytes)) (same_options e (batch_of bytes)) settled
+    let before = engines.timed e (events.Batch bytes) in
+    subst (λ (a : Core). IsStep e a (events.Batch bytes)) (sym is) (settled_step e (events.Batch bytes) d between (follow_reason before (batch_of bytes)) (followed_by before (batch_of bytes)) (state_by e bytes d (batch_of bytes)) (same_options before (batch_of bytes))
+    (subst (λ (c : Core). Settles c between (follow_reason c (batch_of bytes)) (followed_by c (batch_of bytes))) clears settled)
     (judged e bytes d) (allowed_by e bytes d (batch_of bytes)))

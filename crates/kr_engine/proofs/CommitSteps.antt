@@ -11,12 +11,14 @@ use Rattle.kr_engine.specs.Commits as commits
 use Rattle.kr_engine.specs.Commits.{commit, is_end}
 use Rattle.kr_engine.specs.Engine as engines
 use Rattle.kr_engine.specs.Engine.{Core, IsEngine, IsState, IsStep, commit_reason, committed_to, kept_image, left, refused_or}
+use Rattle.kr_engine.specs.Entries.{placed}
 use Rattle.kr_engine.specs.Events.{counted, next_number}
 use Rattle.kr_engine.specs.Leaderships.{leads_in}
 use Rattle.kr_engine.specs.Outputs.{answers, answers_in, is_open_in}
 use Rattle.kr_engine.specs.Reasons.{bad_commit, not_leading}
 use Rattle.kr_engine.specs.World.{State, tip_of}
-use Rattle.kr_engine.proofs.EventOutcomes.{outputs_accepted, refuses, stands_accepted}
+use Rattle.kr_engine.proofs.EventOutcomes.{entries_accepted, outputs_accepted, refuses, stands_accepted}
+use Rattle.kr_engine.proofs.LogEntries.{none_behind}
 use Rattle.kr_engine.proofs.Places.{Moves, is_kept, moves}
 use Rattle.kr_engine.proofs.Queues.{IsDrained, drained}
 use Rattle.kr_engine.proofs.Refusals.{refused_step}
@@ -58,7 +60,7 @@ module _ (e : Core) (epoch end : ℤ) (d : IsDrained e) where
   event = events.Commit epoch end
 
   abbrev after : Core
-  after = engines.counted (committed_to e end)
+  after = engines.counted (committed_to (engines.cleared e) end)
 
   -- the commit of a state
   abbrev judged : Bool → Bool → State → Result State Reason
@@ -103,6 +105,9 @@ module _ (e : Core) (epoch end : ℤ) (d : IsDrained e) where
       options = refl;
       stands = λ s writes k. stands_accepted after e.options s writes event (commits.committed_to s end) (judged_so true true leads kept s writes k) (stands s writes k);
       outputs = λ s writes k. left_then s writes k ∙ sym (outputs_accepted e e.options s writes event (commits.committed_to s end) (judged_so true true leads kept s writes k));
+      fresh = λ s writes k.
+          ap (placed (pos (tip_of s))) (sym (none_behind s.world.log))
+          ∙ sym (entries_accepted e e.options s writes event (commits.committed_to s end) (judged_so true true leads kept s writes k));
     }
 
   same_reason : (s : State) (writes : List Write) → IsEngine e s writes → refuses (not_leading epoch s.world.leading) ≡ refuses (not_leading epoch e.leading)
@@ -112,10 +117,10 @@ module _ (e : Core) (epoch end : ℤ) (d : IsDrained e) where
   same_bounds s writes k = ap (λ c. refuses (bad_commit end c (pos (tip_of s)))) (sym k.committed) ∙ ap (λ t. refuses (bad_commit end e.committed t)) (sym k.tip)
 
   step_by : (b c : Bool) → leads_in e.leading epoch ≡ b → is_some (kept_at e.images end) ≡ c
-      → IsStep e (engines.counted (refused_or e (cond (not b) (Some (not_leading epoch e.leading)) (cond (not c) (Some (bad_commit end e.committed e.tip)) None)) (committed_to e end))) event
+      → IsStep e (engines.counted (refused_or (engines.cleared e) (cond (not b) (Some (not_leading epoch e.leading)) (cond (not c) (Some (bad_commit end e.committed e.tip)) None)) (committed_to (engines.cleared e) end))) event
   step_by false c leads kept = refused_step e event (not_leading epoch e.leading) d (λ s writes k. judged_so false c leads kept s writes k ∙ same_reason s writes k)
   step_by true false leads kept = refused_step e event (bad_commit end e.committed e.tip) d (λ s writes k. judged_so true false leads kept s writes k ∙ same_bounds s writes k)
   step_by true true leads kept = accepted_step leads kept
 
-pub commit_step : (e : Core) (epoch end : ℤ) → left e ≡ [] → IsStep e (engines.counted (refused_or e (commit_reason e epoch end) (committed_to e end))) (events.Commit epoch end)
+pub commit_step : (e : Core) (epoch end : ℤ) → left e ≡ [] → IsStep e (engines.counted (refused_or (engines.cleared e) (commit_reason (engines.cleared e) epoch end) (committed_to (engines.cleared e) end))) (events.Commit epoch end)
 commit_step e epoch end none = step_by e epoch end (drained e none) (leads_in e.leading epoch) (is_some (kept_at e.images end)) refl refl

@@ -20,6 +20,7 @@ use Rattle.kr_defs.specs.Heartbeats as hearing
 use Rattle.kr_defs.specs.Heartbeats.{Heartbeats, leave}
 use Rattle.kr_defs.specs.Ids.{has}
 use Rattle.kr_defs.specs.Image.{Image, IsValid}
+use Rattle.kr_defs.specs.ImageLaws.{as_items}
 use Rattle.kr_defs.specs.Map as entries
 use Rattle.kr_defs.proofs.HeartbeatLists.{leaves}
 use Rattle.kr_defs.proofs.IdLists.{same_id}
@@ -30,6 +31,7 @@ use Rattle.kr_safety.proofs.HearingRequests.{fencings_keep_hearing}
 use Rattle.kr_safety.proofs.SafeRequests.{valid_after}
 use Rattle.kr_engine.specs.declared.writes.Write.{Write}
 use Rattle.kr_engine.specs.Engine.{Core, IsEngine, are_in_order}
+use Rattle.kr_engine.specs.Entries.{placed}
 use Rattle.kr_engine.specs.Outputs.{append, append_fencings, is_open}
 use Rattle.kr_engine.specs.Ticking.{FencesAll}
 use Rattle.kr_engine.specs.Ticks.{fence, fence_all, fencing_of}
@@ -39,6 +41,7 @@ use Rattle.kr_engine.specs.Writing.{Fences, append_output}
 use Rattle.kr_engine.proofs.ReadyEngines.{same_image}
 use Rattle.kr_engine.proofs.FirstReasons.{is_core}
 use Rattle.kr_engine.proofs.AppendSteps.{engine_behind, ok_is}
+use Rattle.kr_engine.proofs.LogEntries.{Gains, batch_written, gains_none, gains_then}
 
 -- who is left was heard of in time
 pub left_in_time : (p q : Contact → Bool) (contacts : List Contact) → list_all p contacts ≡ true → list_all p (filter q contacts) ≡ true
@@ -120,6 +123,16 @@ module _ (e after : Core) (broker : ℤ) (f : Fences e after broker) (s : State)
       ∙ (ap (λ (c : Core). e.given ++ append_output c records) (is_core e s writes k)
       ∙ ap (λ i. e.given ++ append s (fencing_of e.options i broker)) (sym (same_image e s writes k)))
 
+  pub fence_gains : Gains e.fresh after.fresh s.world.log (fence e.options s broker).world.log
+  fence_gains = record {
+    items = as_items (fencing_of e.options (image_of_tip s) broker);
+    writes = batch_written s.world (as_items (fencing_of e.options (image_of_tip s) broker));
+    told =
+        ap (λ (a : Core). a.fresh) f.writes.same
+        ∙ (ap (λ t. e.fresh ++ placed t (as_items records)) k.tip
+        ∙ ap (λ i. e.fresh ++ placed (pos (tip_of s)) (as_items (fencing_of e.options i broker))) (sym (same_image e s writes k)));
+  }
+
   pub fence_stands : IsValid e.images.tip → IsSome s.world.leading → tip_of s + 10000 ≤ unsigned_abs PLACES_END → IsEngine after (fence e.options s broker) writes
   fence_stands valid leads room =
       let stays = fence_stays e after broker f in
@@ -143,6 +156,7 @@ module _ (e after : Core) (broker : ℤ) (f : Fences e after broker) (s : State)
 pub record AllFenced (e after : Core) (s : State) (writes : List Write) (ids : List ℤ) : Type 0 where
   pub stands : IsEngine after (fence_all e.options s ids) writes
   pub outputs : after.given ≡ e.given ++ append_fencings e.options s ids
+  pub gains : Gains e.fresh after.fresh s.world.log (fence_all e.options s ids).world.log
   pub stays : Stays e after
 
 abbrev place : ℤ → ℕ
@@ -172,7 +186,7 @@ stays_itself e = record { options = refl; leading = refl; committed = refl; held
 pub all_fenced : (ids : List ℤ) (e after : Core) → FencesAll e after ids → (s : State) (writes : List Write) → IsEngine e s writes → IsValid e.images.tip → IsSome s.world.leading
     → tip_of s + 10000 * length ids ≤ unsigned_abs PLACES_END → AllFenced e after s writes ids
 all_fenced [] e after is s writes k valid leads room =
-    subst (λ (a : Core). AllFenced e a s writes []) (sym is) (record { stands = k; outputs = sym (append-nil e.given); stays = stays_itself e })
+    subst (λ (a : Core). AllFenced e a s writes []) (sym is) (record { stands = k; outputs = sym (append-nil e.given); gains = gains_none e.fresh s.world.log; stays = stays_itself e })
 all_fenced (broker ∷ ids) e after (between, f, rest) s writes k valid leads room =
     let first = fence_stands e between broker f s writes k valid leads (omega (arith, room)) in
     let stays = fence_stays e between broker f in
@@ -187,5 +201,8 @@ all_fenced (broker ∷ ids) e after (between, f, rest) s writes k valid leads ro
       outputs = later.outputs ∙ (ap (λ g. g ++ append_fencings between.options (fence e.options s broker) ids) (fence_outputs e between broker f s writes k)
           ∙ (ap (λ o. (e.given ++ append s (fencing_of e.options (image_of_tip s) broker)) ++ append_fencings o (fence e.options s broker) ids) stays.options
           ∙ append_assoc e.given (append s (fencing_of e.options (image_of_tip s) broker)) (append_fencings e.options (fence e.options s broker) ids)));
+      gains = gains_then e.fresh between.fresh after.fresh s.world.log (fence e.options s broker).world.log (fence_all e.options (fence e.options s broker) ids).world.log
+          (fence_gains e between broker f s writes k)
+          (subst (λ o. Gains between.fresh after.fresh (fence e.options s broker).world.log (fence_all o (fence e.options s broker) ids).world.log) stays.options later.gains);
       stays = stays_then e between after stays later.stays;
     }

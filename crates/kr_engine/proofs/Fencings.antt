@@ -16,6 +16,7 @@ use Rattle.kr_defs.specs.declared.record.Record.{Record}
 use Rattle.kr_defs.specs.Heartbeats as hearing
 use Rattle.kr_defs.specs.Heartbeats.{AreHeartbeats, leave}
 use Rattle.kr_defs.specs.Image.{Image, IsValid}
+use Rattle.kr_defs.specs.ImageLaws.{as_items}
 use Rattle.kr_defs.specs.Map as entries
 use Rattle.kr_defs.proofs.Tests.{both, none_is}
 use Rattle.kr_fitting.specs.Fitting.{FitsBatch}
@@ -26,6 +27,7 @@ use Rattle.kr_store.specs.Images.{AreValid, IsAbove, marked}
 use Rattle.kr_engine.specs.declared.writes.Write.{Write}
 use Rattle.kr_engine.specs.Engine as engines
 use Rattle.kr_engine.specs.Engine.{Core, IsEngine, IsSound, IsStep, left}
+use Rattle.kr_engine.specs.Entries.{placed}
 use Rattle.kr_engine.specs.Events.{timed}
 use Rattle.kr_engine.specs.Ready.{IsReady}
 use Rattle.kr_engine.specs.Reasons.{exhausted}
@@ -74,6 +76,7 @@ append_leaves e records =
       images = marked e.images (place_behind e records);
       tip = place_behind e records;
       given = e.given ++ given.Append (batch_bytes (batch_at e records)) ∷ [];
+      fresh = e.fresh ++ placed e.tip (as_items records);
     }))) [
       | true ↦ record { heard = refl; held = refl }
       | false ↦ record { heard = refl; held = refl }

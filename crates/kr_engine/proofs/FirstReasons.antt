@@ -9,10 +9,11 @@ use Rattle.kr_defs.specs.Heartbeats.{Heartbeats}
 use Rattle.kr_engine.specs.declared.writes.Write.{Write}
 use Rattle.kr_engine.specs.Engine as engines
 use Rattle.kr_engine.specs.Engine.{Core, IsEngine, IsStep, left, refused_or}
+use Rattle.kr_engine.specs.Entries.{added}
 use Rattle.kr_engine.specs.Events.{counted, outcome, timed}
 use Rattle.kr_engine.specs.Outputs.{is_open_in, outputs_then, writes_of}
 use Rattle.kr_engine.specs.World.{State, tip_of}
-use Rattle.kr_engine.proofs.EventOutcomes.{outputs_accepted, stands_accepted}
+use Rattle.kr_engine.proofs.EventOutcomes.{entries_accepted, outputs_accepted, stands_accepted}
 use Rattle.kr_engine.proofs.Queues.{IsDrained}
 use Rattle.kr_engine.proofs.Refusals.{refused_step}
 
@@ -65,6 +66,7 @@ row false reason o r x rest = rest
 pub record IsAccepted (e : Core) (options : Options) (s : State) (writes : List Write) (event : Event) (core : Core) (after : State) : Type 0 where
   pub stands : IsEngine (engines.counted core) (counted after) (filter (is_open_in after.world) (writes ++ writes_of options (timed s event) event))
   pub outputs : left core ≡ outputs_then options (timed s event) writes event after
+  pub fresh : core.fresh ≡ added s event after
 
 module _ (e : Core) (event : Event) (d : IsDrained e) (core : Core) (same : core.options ≡ e.options) (state : State → State) where
   pub accepted_step : ((s : State) (writes : List Write) → IsEngine e s writes → outcome e.options (timed s event) event ≡ Ok (state s))
@@ -74,6 +76,7 @@ module _ (e : Core) (event : Event) (d : IsDrained e) (core : Core) (same : core
     options = same;
     stands = λ s writes k. stands_accepted (engines.counted core) e.options s writes event (state s) (judged s writes k) (accepted s writes k).stands;
     outputs = λ s writes k. (accepted s writes k).outputs ∙ sym (outputs_accepted e e.options s writes event (state s) (judged s writes k));
+    fresh = λ s writes k. (accepted s writes k).fresh ∙ sym (entries_accepted e e.options s writes event (state s) (judged s writes k));
   }
 
   pub step_by : (reason : Option Reason)

@@ -10,9 +10,11 @@ use Rattle.kr_store.specs.Images.{kept_at}
 use Rattle.kr_engine.specs.declared.writes.Write.{Write}
 use Rattle.kr_engine.specs.Engine as engines
 use Rattle.kr_engine.specs.Engine.{Core, IsEngine, IsStep, imaged, kept_image, left}
+use Rattle.kr_engine.specs.Entries.{placed}
 use Rattle.kr_engine.specs.Outputs.{answers, answers_in}
-use Rattle.kr_engine.specs.World.{State, image_of_end}
+use Rattle.kr_engine.specs.World.{State, image_of_end, tip_of}
 use Rattle.kr_engine.proofs.EventOutcomes.{outputs_accepted, stands_accepted}
+use Rattle.kr_engine.proofs.LogEntries.{none_behind}
 use Rattle.kr_engine.proofs.LossSteps.{first_found}
 use Rattle.kr_engine.proofs.Queues.{IsDrained, drained}
 use Rattle.kr_engine.proofs.Refusals.{passes}
@@ -20,7 +22,7 @@ use Rattle.kr_engine.proofs.EventsWithoutWrites.{answers_then}
 
 module _ (e : Core) (d : IsDrained e) where
   abbrev after : Core
-  after = engines.counted (imaged e)
+  after = engines.counted (imaged (engines.cleared e))
 
   module _ (s : State) (writes : List Write) (k : IsEngine e s writes) where
     pub committed_found : kept_at e.images e.committed ≡ Some (image_of_end s)
@@ -42,14 +44,15 @@ module _ (e : Core) (d : IsDrained e) where
     options = refl;
     stands = λ s writes k. stands_accepted after e.options s writes events.Image s refl (passes e events.Image after.given e.refusal d s writes k);
     outputs = λ s writes k. left_then s writes k ∙ sym (outputs_accepted e e.options s writes events.Image s refl);
+    fresh = λ s writes k. ap (placed (pos (tip_of s))) (sym (none_behind s.world.log));
   }
 
-pub image_step : (e : Core) → left e ≡ [] → IsStep e (engines.counted (imaged e)) events.Image
+pub image_step : (e : Core) → left e ≡ [] → IsStep e (engines.counted (imaged (engines.cleared e))) events.Image
 image_step e none = step e (drained e none)
 
-pub image_so : (e after : Core) → left e ≡ [] → after ≡ engines.counted (imaged e) → IsStep e after events.Image
+pub image_so : (e after : Core) → left e ≡ [] → after ≡ engines.counted (imaged (engines.cleared e)) → IsStep e after events.Image
 image_so e stepped none is = subst (λ (a : Core). IsStep e a events.Image) (sym is) (image_step e none)
 
-pub image_ok : {X E : Type 0} (e after : Core) (r : Result X E) → left e ≡ [] → OnOk r (after ≡ engines.counted (imaged e)) → OnOk r (IsStep e after events.Image)
+pub image_ok : {X E : Type 0} (e after : Core) (r : Result X E) → left e ≡ [] → OnOk r (after ≡ engines.counted (imaged (engines.cleared e))) → OnOk r (IsStep e after events.Image)
 image_ok e stepped (Ok x) none is = image_so e stepped none is
 image_ok e stepped (Err fault) none is = tt

@@ -14,6 +14,7 @@ pub mod FirstContacts
 pub mod ImageSteps
 pub mod LeadSteps
 pub mod LoadSteps
+pub mod LogEntries
 pub mod Logs
 pub mod LossSteps
 pub mod NewEngines
@@ -21,6 +22,7 @@ pub mod Places
 pub mod Queues
 pub mod ReadyEngines
 pub mod Refusals
+pub mod SafeEntries
 pub mod StandbyOutcomes
 pub mod EventsWithoutWrites
 pub mod FirstReasons

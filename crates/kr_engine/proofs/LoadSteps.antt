@@ -3,12 +3,14 @@ use Rattle.std.proofs.Common.{◌≡◌, ◌∙◌, sym, subst, ℕ, ℤ, pos, n
 use Rattle.std.proofs.lemmas.List.Elements.{All-nil}
 use Rattle.std.specs.Prelude.{None, Result, Ok, Err, filter, int_lt, int_le, is_some, option_to_list, unsigned_abs, All}
 use Rattle.kr_calls.specs.declared.events.Event.{Event}
+use Rattle.kr_calls.specs.declared.events.Entry.TheVariants as entries
 use Rattle.kr_calls.specs.declared.events.Event.TheVariants as events
 use Rattle.kr_defs.specs.declared.limits.TheConstants.{PLACES_END}
 use Rattle.kr_defs.specs.Guard.{and_then}
 use Rattle.kr_defs.specs.Image.{Image}
 use Rattle.kr_defs.specs.declared.record.Item.{Item}
 use Rattle.kr_defs.specs.Log.{Log, apply_all, image_at, tip}
+use Rattle.kr_defs.specs.Records.{records_of}
 use Rattle.kr_defs.proofs.Tests.{none_is}
 use Rattle.kr_snapshot.specs.declared.fault.ImageFault.{ImageFault}
 use Rattle.kr_snapshot.specs.Reading.{image_of}
@@ -51,23 +53,26 @@ module _ (e : Core) (bytes : List ℕ) (d : IsDrained e) where
   abbrev event : Event
   event = events.Load bytes
 
+  abbrev before : Core
+  before = engines.timed e event
+
   abbrev state_by : Result (ℤ × Image) ImageFault → State → State
   state_by (Ok (offset, image)) s = loaded s (unsigned_abs offset) image
   state_by (Err fault) s = s
 
   -- ---- the reasons
 
-  read_so : (s : State) (read : Result (ℤ × Image) ImageFault) → and_then (image_or read) (load_image s) ≡ unless_refused (read_image_reason (core_of e s) read) (state_by read s)
+  read_so : (s : State) (read : Result (ℤ × Image) ImageFault) → and_then (image_or read) (load_image s) ≡ unless_refused (read_image_reason (engines.timed (core_of e s) event) read) (state_by read s)
   read_so s (Ok (offset, image)) =
       row (int_lt offset (pos s.world.committed)) (older_image offset (pos s.world.committed)) _ _ (loaded s (unsigned_abs offset) image)
       (row (is_far offset) (exhausted offset) None (Ok (loaded s (unsigned_abs offset) image)) (loaded s (unsigned_abs offset) image) refl)
   read_so s (Err fault) = refl
 
-  judged_so : (s : State) → load s bytes ≡ unless_refused (load_reason (core_of e s) (image_of bytes)) (state_by (image_of bytes) s)
+  judged_so : (s : State) → load s bytes ≡ unless_refused (load_reason (engines.timed (core_of e s) event) (image_of bytes)) (state_by (image_of bytes) s)
   judged_so s = row (is_some s.world.leading) (already_leading s.world.leading) _ _ (state_by (image_of bytes) s) (read_so s (image_of bytes))
 
-  judged : (s : State) (writes : List Write) → IsEngine e s writes → outcome e.options (timed s event) event ≡ unless_refused (load_reason e (image_of bytes)) (state_by (image_of bytes) s)
-  judged s writes k = judged_so s ∙ ap (λ (c : Core). unless_refused (load_reason c (image_of bytes)) (state_by (image_of bytes) s)) (sym (is_core e s writes k))
+  judged : (s : State) (writes : List Write) → IsEngine e s writes → outcome e.options (timed s event) event ≡ unless_refused (load_reason before (image_of bytes)) (state_by (image_of bytes) s)
+  judged s writes k = judged_so s ∙ ap (λ (c : Core). unless_refused (load_reason (engines.timed c event) (image_of bytes)) (state_by (image_of bytes) s)) (sym (is_core e s writes k))
 
   -- ---- the engine of the image
 
@@ -107,7 +112,7 @@ module _ (e : Core) (bytes : List ℕ) (d : IsDrained e) where
           subst (λ (ws : List Write). All P (filter (is_open_in after.world) (ws ++ []))) (sym none_waits) (All-nil P));
     }
 
-    accepted : IsAccepted e e.options s writes event (moved_to e offset image) after
+    accepted : IsAccepted e e.options s writes event (moved_to (engines.adding before (entries.Load offset (records_of image) ∷ [])) offset image) after
     accepted = record {
       stands = record {
         tip = is ∙ ap pos new_tip;
@@ -128,9 +133,10 @@ module _ (e : Core) (bytes : List ℕ) (d : IsDrained e) where
           ap (λ g. g ++ option_to_list e.refusal ++ answers e.leading offset e.held) d.none_given
           ∙ (ap (λ o. option_to_list o ++ answers e.leading offset e.held) d.none_refused
           ∙ answers_then e s writes d k e.leading offset after.world k.leading is);
+      fresh = ap (λ z. entries.Load z (records_of image) ∷ []) is;
     }
 
-  allowed_by : (read : Result (ℤ × Image) ImageFault) → load_reason e read ≡ None → (s : State) (writes : List Write) → IsEngine e s writes → IsAccepted e e.options s writes event (loaded_by e read) (state_by read s)
+  allowed_by : (read : Result (ℤ × Image) ImageFault) → load_reason before read ≡ None → (s : State) (writes : List Write) → IsEngine e s writes → IsAccepted e e.options s writes event (loaded_by before read) (state_by read s)
   allowed_by (Ok (offset, image)) none s writes k =
       let one = none_row (is_some e.leading) (already_leading e.leading) _ none in
       let two = none_row (int_lt offset e.committed) (older_image offset e.committed) _ one.1 in
@@ -143,9 +149,11 @@ same_options : (e : Core) (read : Result (ℤ × Image) ImageFault) → (loaded_
 same_options e (Ok (offset, image)) = refl
 same_options e (Err fault) = refl
 
-pub load_step : (e between after : Core) (bytes : List ℕ) → left e ≡ []
-    → Settles e between (load_reason e (image_of bytes)) (loaded_by e (image_of bytes)) → after ≡ engines.counted between → IsStep e after (events.Load bytes)
-load_step e between stepped bytes none settled is =
+pub load_step : (e noted between after : Core) (bytes : List ℕ) → left e ≡ [] → noted ≡ engines.cleared e
+    → Settles noted between (load_reason noted (image_of bytes)) (loaded_by noted (image_of bytes)) → after ≡ engines.counted between → IsStep e after (events.Load bytes)
+load_step e noted between stepped bytes none clears settled is =
     let d = drained e none in
-    subst (λ (a : Core). IsStep e a (events.Load bytes)) (sym is) (settled_step e (events.Load bytes) d between (load_reason e (image_of bytes)) (loaded_by e (image_of bytes)) (state_by e bytes d (image_of bytes)) (same_options e (image_of bytes)) settled
+    let before = engines.timed e (events.Load bytes) in
+    subst (λ (a : Core). IsStep e a (events.Load bytes)) (sym is) (settled_step e (events.Load bytes) d between (load_reason before (image_of bytes)) (loaded_by before (image_of bytes)) (state_by e bytes d (image_of bytes)) (same_options before (image_of bytes))
+    (subst (λ (c : Core). Settles c between (load_reason c (image_of bytes)) (loaded_by c (image_of bytes))) clears settled)
     (judged e bytes d) (allowed_by e bytes d (image_of bytes)))

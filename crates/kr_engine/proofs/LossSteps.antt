@@ -18,13 +18,15 @@ use Rattle.kr_store.specs.Images.{Images, reverted}
 use Rattle.kr_engine.specs.declared.writes.Write.{Write}
 use Rattle.kr_engine.specs.Engine as engines
 use Rattle.kr_engine.specs.Engine.{Core, IsEngine, IsState, IsStep, Rise, kept_image, left, loss_reason, refused_or}
+use Rattle.kr_engine.specs.Entries.{placed}
 use Rattle.kr_engine.specs.Events.{counted, next_number}
 use Rattle.kr_engine.specs.Leaderships.{cut, ended, leads_in, lose}
 use Rattle.kr_engine.specs.Outputs.{answers, answers_in, is_open, is_open_in}
 use Rattle.kr_engine.specs.Reasons.{not_leading}
 use Rattle.kr_engine.specs.World.{State, seen_at, tip_of}
 use Rattle.kr_engine.proofs.CommitSteps.{same_leading}
-use Rattle.kr_engine.proofs.EventOutcomes.{outputs_accepted, refuses, stands_accepted}
+use Rattle.kr_engine.proofs.EventOutcomes.{entries_accepted, outputs_accepted, refuses, stands_accepted}
+use Rattle.kr_engine.proofs.LogEntries.{cut_behind}
 use Rattle.kr_engine.proofs.Logs.{apply_append, at_tip, cut_below, cut_tip}
 use Rattle.kr_engine.proofs.Places.{is_below, isnt_below}
 use Rattle.kr_engine.proofs.Queues.{IsDrained, drained, never}
@@ -97,7 +99,7 @@ module _ (e : Core) (epoch : ℤ) (d : IsDrained e) where
   event = events.Lost epoch
 
   abbrev after : Core
-  after = engines.counted (engines.ended e)
+  after = engines.counted (engines.ended (engines.cleared e))
 
   abbrev judged : Bool → State → Result State Reason
   judged b s = cond (not b) (Err (not_leading epoch s.world.leading)) (Ok (ended s))
@@ -177,14 +179,17 @@ module _ (e : Core) (epoch : ℤ) (d : IsDrained e) where
     options = refl;
     stands = λ s writes k. stands_accepted after e.options s writes event (ended s) (judged_so true leads s writes k) (stands s writes k);
     outputs = λ s writes k. left_then s writes k ∙ sym (outputs_accepted e e.options s writes event (ended s) (judged_so true leads s writes k));
+    fresh = λ s writes k.
+        ap (placed (pos (tip_of s))) (sym (cut_behind s.world.log s.world.committed))
+        ∙ sym (entries_accepted e e.options s writes event (ended s) (judged_so true leads s writes k));
   }
 
   same_reason : (s : State) (writes : List Write) → IsEngine e s writes → refuses (not_leading epoch s.world.leading) ≡ refuses (not_leading epoch e.leading)
   same_reason s writes k = ap (λ leading. refuses (not_leading epoch leading)) (sym k.leading)
 
-  step_by : (b : Bool) → leads_in e.leading epoch ≡ b → IsStep e (engines.counted (refused_or e (cond (not b) (Some (not_leading epoch e.leading)) None) (engines.ended e))) event
+  step_by : (b : Bool) → leads_in e.leading epoch ≡ b → IsStep e (engines.counted (refused_or (engines.cleared e) (cond (not b) (Some (not_leading epoch e.leading)) None) (engines.ended (engines.cleared e)))) event
   step_by false leads = refused_step e event (not_leading epoch e.leading) d (λ s writes k. judged_so false leads s writes k ∙ same_reason s writes k)
   step_by true leads = accepted_step leads
 
-pub loss_step : (e : Core) (epoch : ℤ) → left e ≡ [] → IsStep e (engines.counted (refused_or e (loss_reason e epoch) (engines.ended e))) (events.Lost epoch)
+pub loss_step : (e : Core) (epoch : ℤ) → left e ≡ [] → IsStep e (engines.counted (refused_or (engines.cleared e) (loss_reason (engines.cleared e) epoch) (engines.ended (engines.cleared e)))) (events.Lost epoch)
 loss_step e epoch none = step_by e epoch (drained e none) (leads_in e.leading epoch) refl

@@ -1,5 +1,5 @@
 -- An engine to which nothing has happened.
-use Rattle.std.proofs.Common.{◌≡◌, sym, subst, pos, [], refl, arith}
+use Rattle.std.proofs.Common.{◌≡◌, sym, subst, pos, [], refl, ap, arith}
 use Rattle.std.proofs.lemmas.List.Elements.{All-nil}
 use Rattle.std.specs.Prelude.{int_le, true, IfOk, Result, Ok, Err}
 use Rattle.kr_defs.specs.declared.options.Options.{Options}
@@ -43,6 +43,9 @@ opened_stands options e is = subst (λ (e : Core). IsEngine e start []) (sym is)
 
 pub opened_drained : (options : Options) (e : Core) → e ≡ opened options → left e ≡ []
 opened_drained options e is = subst (λ (e : Core). left e ≡ []) (sym is) refl
+
+pub opened_fresh : (options : Options) (e : Core) → e ≡ opened options → e.fresh ≡ []
+opened_fresh options e is = ap (λ (e : Core). e.fresh) is
 
 pub all_opened : {E : Type 0} (options : Options) (r : Result Core E) → IfOk r (λ e. e ≡ opened options) → IfOk r (λ e. IsEngine e start [])
 all_opened options (Ok e) is = opened_stands options e is

@@ -22,6 +22,7 @@ use Rattle.kr_store.specs.Images.{marked}
 use Rattle.kr_engine.specs.declared.writes.Write.{Write}
 use Rattle.kr_engine.specs.Engine as engines
 use Rattle.kr_engine.specs.Engine.{Core, IsEngine, IsState, IsStep, Rise, kept_image, lead_reason, left, refused_or}
+use Rattle.kr_engine.specs.Entries.{placed}
 use Rattle.kr_engine.specs.Events.{counted, next_number, outcome, timed}
 use Rattle.kr_engine.specs.Leaderships.{begun, lead, may_begin_at}
 use Rattle.kr_engine.specs.Outputs.{answers, answers_in, is_open, is_open_in}
@@ -30,6 +31,7 @@ use Rattle.kr_engine.specs.World as worlds
 use Rattle.kr_engine.specs.World.{State, World, image_of_tip, is_far, seen_at, tip_of, with_batch, written}
 use Rattle.kr_engine.proofs.LongerLogs.{kept_then, rise_more, seen_then}
 use Rattle.kr_engine.proofs.LeadSteps.{begun_now, control_at_tip}
+use Rattle.kr_engine.proofs.LogEntries.{behind, none_behind}
 use Rattle.kr_engine.proofs.Logs.{tip_written}
 use Rattle.kr_engine.proofs.LossSteps.{none_open}
 use Rattle.kr_engine.proofs.Queues.{IsDrained, drained}
@@ -62,7 +64,7 @@ module _ (e : Core) (epoch next now : ℤ) (d : IsDrained e) where
 
   -- the engine where the leadership begins at the end, or one above
   abbrev core_by : Bool → Core
-  core_by b = record (cond b before (record before { images = marked before.images next; tip = next })) {
+  core_by b = record (cond b before (record before { images = marked before.images next; tip = next; fresh = before.fresh ++ placed before.tip (items.Control ∷ []) })) {
     heard = hearing.begin (unfenced before.images.tip) (stopping before.images.tip) before.time next;
     leading = Some epoch;
     greatest = epoch;
@@ -142,6 +144,7 @@ module _ (e : Core) (epoch next now : ℤ) (d : IsDrained e) where
       outputs =
           ap (λ g. g ++ option_to_list e.refusal ++ answers (Some epoch) e.committed e.held) d.none_given
           ∙ (ap (λ o. option_to_list o ++ answers (Some epoch) e.committed e.held) d.none_refused ∙ left_so);
+      fresh = ap (placed (pos (tip_of s))) (sym (none_behind log));
     }
 
     -- ---- one above
@@ -199,6 +202,7 @@ module _ (e : Core) (epoch next now : ℤ) (d : IsDrained e) where
             ap (λ g. g ++ option_to_list e.refusal ++ answers (Some epoch) e.committed e.held) d.none_given
             ∙ (ap (λ o. option_to_list o ++ answers (Some epoch) e.committed e.held) d.none_refused
             ∙ answers_then e s writes d k (Some epoch) e.committed (state_by false).world refl k.committed);
+        fresh = ap (λ t. placed t (items.Control ∷ [])) k.tip ∙ ap (placed (pos (tip_of s))) (sym (behind log (items.Control ∷ [])));
       }
 
     accepted_by : (b : Bool) → int_eq next (pos s.world.committed) ≡ b → IsAccepted e e.options s writes event (core_by b) (state_by b)

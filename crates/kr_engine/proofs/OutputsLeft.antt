@@ -52,6 +52,7 @@ module _ (e : Core) (ordered : are_in_order e.held ≡ true) where
     in_order = ap (λ g. g ++ option_to_list e.refusal ++ due e) is;
     all = λ none. absurd cc;
     ordered = ordered;
+    fresh = refl;
     stands = given_stands e rest e.refusal;
   }
 
@@ -64,6 +65,7 @@ module _ (e : Core) (ordered : are_in_order e.held ≡ true) where
         ∙ sym (ap (λ g. output ∷ ((g ++ []) ++ due e)) none));
     all = λ none. absurd cc;
     ordered = ordered;
+    fresh = refl;
     stands = given_stands e e.given None;
   }
 
@@ -86,6 +88,7 @@ module _ (e : Core) (ordered : are_in_order e.held ≡ true) where
     in_order = only_due e.held none is ∙ (in_order ∙ ap (λ rest. option_to_list output ++ rest) (sym (only_due held none is)));
     all = λ no. only_due held none is ∙ if_none output (answers e.leading e.committed held ≡ []) all no;
     ordered = after;
+    fresh = refl;
     stands = held_stands e held opens after;
   }
 

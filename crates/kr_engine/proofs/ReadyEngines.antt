@@ -25,7 +25,7 @@ use Rattle.kr_safety.specs.HearingLaws.{HearsOf}
 use Rattle.kr_safety.proofs.BrokerTests.{by_get}
 use Rattle.kr_store.specs.Images.{AreValid, IsAbove, last_kept}
 use Rattle.kr_engine.specs.declared.writes.Write.{Write}
-use Rattle.kr_engine.specs.Engine.{Core, IsEngine, IsSound, Rise, kept_image}
+use Rattle.kr_engine.specs.Engine.{Core, IsEngine, IsSound, Rise, cleared, kept_image}
 use Rattle.kr_engine.specs.Ready.{IsReady}
 use Rattle.kr_engine.specs.World.{State, image_of_tip, tip_of}
 use Rattle.kr_engine.proofs.LossSteps.{not_higher}
@@ -146,7 +146,7 @@ pub ready : (e : Core) → IsSound e → AreValid e.images → IsReady e
 ready e sound valid = is_ready e sound.state sound.writes sound.stands valid
 
 -- time goes on
-pub timed_ready : (e : Core) (now : ℤ) → IsReady e → IsReady (record e { time = int_max e.time now })
+pub timed_ready : (e : Core) (now : ℤ) → IsReady e → IsReady (record e { time = int_max e.time now; fresh = [] })
 timed_ready e now r = record {
   natural = r.natural;
   late = greater_of (int_lt now e.time) e.time now refl r.late;
@@ -159,5 +159,18 @@ timed_ready e now r = record {
   among = r.among;
 }
 
-pub ready_then : (e after : Core) (now : ℤ) → after ≡ record e { time = int_max e.time now } → IsReady e → IsReady after
+pub ready_then : (e after : Core) (now : ℤ) → after ≡ record e { time = int_max e.time now; fresh = [] } → IsReady e → IsReady after
 ready_then e after now is r = subst IsReady (sym is) (timed_ready e now r)
+
+pub cleared_ready : (e after : Core) → after ≡ cleared e → IsReady e → IsReady after
+cleared_ready e after is r = subst IsReady (sym is) (record {
+  natural = r.natural;
+  late = r.late;
+  rising = r.rising;
+  low = r.low;
+  last = r.last;
+  above = r.above;
+  at_standby = r.at_standby;
+  in_time = r.in_time;
+  among = r.among;
+})

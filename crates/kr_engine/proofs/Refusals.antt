@@ -11,13 +11,13 @@ use Rattle.kr_engine.specs.Engine.{Core, IsEngine, IsStep, left}
 use Rattle.kr_engine.specs.Events.{counted, later, next_number, outcome, timed}
 use Rattle.kr_engine.specs.Outputs.{answers, is_open_in}
 use Rattle.kr_engine.specs.World.{State, tip_of}
-use Rattle.kr_engine.proofs.EventOutcomes.{outputs_refused, stands_refused}
+use Rattle.kr_engine.proofs.EventOutcomes.{entries_refused, outputs_refused, stands_refused}
 use Rattle.kr_engine.proofs.Queues.{IsDrained}
 use Rattle.kr_engine.proofs.EventsWithoutWrites.{counted_state, fewer_wait, timed_state, waits_then}
 
 -- the engine after an event that changes no state, with what it gives out
 abbrev pub passing : Core → Event → List Output → Option Output → Core
-passing e event outputs refusal = record e { count = next_number e.count; time = later e.time event; given = outputs; refusal = refusal }
+passing e event outputs refusal = record e { count = next_number e.count; time = later e.time event; given = outputs; refusal = refusal; fresh = [] }
 
 module _ (e : Core) (event : Event) (outputs : List Output) (refusal : Option Output) (d : IsDrained e) where
   pub passes : (s : State) (writes : List Write) → IsEngine e s writes → IsEngine (passing e event outputs refusal) (counted (timed s event)) (filter (is_open_in s.world) (writes ++ []))
@@ -48,7 +48,7 @@ module _ (e : Core) (event : Event) (outputs : List Output) (refusal : Option Ou
       }
 
 abbrev pub after : Core → Event → Reason → Core
-after e event reason = engines.counted (engines.refused (record e { time = later e.time event }) reason)
+after e event reason = engines.counted (engines.refused (engines.timed e event) reason)
 
 module _ (e : Core) (event : Event) (reason : Reason) (d : IsDrained e) (is : (s : State) (writes : List Write) → IsEngine e s writes → outcome e.options (timed s event) event ≡ Err reason) where
   abbrev refusal : ℕ → Output
@@ -64,5 +64,6 @@ module _ (e : Core) (event : Event) (reason : Reason) (d : IsDrained e) (is : (s
   refused_step = record {
     options = refl;
     stands = λ s writes k. stands_refused (after e event reason) e.options s writes event reason (is s writes k) (passes e event e.given (Some (refusal e.count)) d s writes k);
+    fresh = λ s writes k. sym (entries_refused e e.options s writes event reason (is s writes k));
     outputs = λ s writes k. one_left ∙ (ap (λ count. refusal count ∷ []) k.count ∙ sym (outputs_refused e e.options s writes event reason (is s writes k)));
   }

@@ -30,6 +30,7 @@ use Rattle.kr_defs.specs.declared.options.Options.{Options}
 use Rattle.kr_defs.specs.declared.record.Record.{Record}
 use Rattle.kr_defs.specs.Heartbeats as hearing
 use Rattle.kr_defs.specs.Heartbeats.{Heartbeats}
+use Rattle.kr_defs.specs.ImageLaws.{as_items}
 use Rattle.kr_defs.specs.Image.{Image, IsValid, empty}
 use Rattle.kr_defs.proofs.Tests.{both}
 use Rattle.kr_safety.specs.HearingLaws.{HearsOf}
@@ -38,6 +39,7 @@ use Rattle.kr_store.specs.Images.{AreValid, kept_at}
 use Rattle.kr_engine.specs.declared.writes.Write.{Write}
 use Rattle.kr_engine.specs.Engine as engines
 use Rattle.kr_engine.specs.Engine.{Core, IsEngine, IsStep, are_in_order, basis_of, kept_image, left}
+use Rattle.kr_engine.specs.Entries.{placed}
 use Rattle.kr_engine.specs.Events.{counted, outcome, timed}
 use Rattle.kr_engine.specs.Outputs.{answers, answers_in, answers_now, append, appends, error_of, is_open, is_open_in, outputs_then, replies_now, write_of, writes_of}
 use Rattle.kr_engine.specs.Reasons.{exhausted, ours}
@@ -47,6 +49,7 @@ use Rattle.kr_engine.specs.World.{State, World, image_of_end, image_of_tip, is_f
 use Rattle.kr_engine.specs.Writing.{append_output}
 use Rattle.kr_engine.specs.inner.Serving as serving
 use Rattle.kr_engine.specs.inner.Serving.{SettlesAsk, TakesCall, TakesWrite, ask_reason, committed_image, decided_by, gives_out, reply_at_once, waiting_write, write_with}
+use Rattle.kr_engine.proofs.LogEntries.{Gains, batch_written, gained, gains_none}
 use Rattle.kr_engine.proofs.AppendSteps.{IsLonger, engine_behind, longer_by}
 use Rattle.kr_engine.proofs.ContactTimes.{AreInTime, decided_in_time}
 use Rattle.kr_engine.proofs.EventsWithoutWrites.{answers_then, le_itself}
@@ -167,6 +170,17 @@ module _ (e after : Core) (client : ℕ) (call : Call) (w : TakesWrite e after c
   pub write_stands : IsValid e.images.tip → is_far e.tip ≡ false → IsEngine after (after_write e.options s call.request) (filter (is_open_in (after_write e.options s call.request).world) (writes ++ write_of e.options s client call ∷ []))
   write_stands valid free = subst (λ d. IsEngine after (state_by d) (then d)) same_decision (stands_by valid free)
 
+  -- what the log gains
+  pub write_gains : Gains e.fresh after.fresh s.world.log (after_write e.options s call.request).world.log
+  write_gains = record {
+    items = as_items (decided e.options s call.request).records;
+    writes = batch_written s.world (as_items (decided e.options s call.request).records);
+    told =
+        ap (λ (a : Core). a.fresh) w.writes.same
+        ∙ (ap (λ t. e.fresh ++ placed t (as_items decision.records)) k.tip
+        ∙ ap (λ (d : Decision). e.fresh ++ placed (pos (tip_of s)) (as_items d.records)) same_decision);
+  }
+
   -- what is left to hand out
   given_is : after.given ≡ e.given ++ append s (decided e.options s request).records
   given_is =
@@ -255,6 +269,7 @@ module _ (e : Core) (client : ℕ) (now : ℤ) (ask : Ask) (d : IsDrained e) whe
       stands = subst (λ (ws : List Write). IsEngine (engines.counted (gives_out before output)) (counted (timed s event)) (filter (is_open_in s.world) (writes ++ ws))) (sym has.writes_none)
           (passes e event (e.given ++ output ∷ []) e.refusal d s writes k);
       outputs = reply_left;
+      fresh = gained [] s.world.log s.world.log (gains_none [] s.world.log);
     }
 
   reply_step : (output : Output) → ((s : State) (writes : List Write) → IsEngine e s writes → HasReply e.options (timed s event) event output) → IsStep e (engines.counted (gives_out before output)) event
@@ -339,6 +354,7 @@ module _ (e : Core) (client : ℕ) (now : ℤ) (call : Call) (d : IsDrained e) w
         stands = subst (λ (ws : List Write). IsEngine (engines.counted core) (counted behind_write) (filter (is_open_in behind_write.world) (writes ++ ws))) one_write
             (counted_engine core behind_write (filter (is_open_in behind_write.world) (writes ++ write_of e.options before_write client call ∷ [])) write_engine);
         outputs = all_left;
+        fresh = gained core.fresh s.world.log behind_write.world.log (write_gains noted core client call w before_write writes (timed_engine e asked s writes k) d.all_wait takes_so);
       }
 
     write_step : IsStep e (engines.counted core) asked

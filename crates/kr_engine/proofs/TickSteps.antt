@@ -29,6 +29,7 @@ use Rattle.kr_engine.specs.Ticking.{FencesAll, SettlesTick, lapsed_in, tick_reas
 use Rattle.kr_engine.specs.Ticks.{fence_all, lapsed, tick}
 use Rattle.kr_engine.specs.World.{State, is_far, tip_of}
 use Rattle.kr_engine.proofs.NewLeaderships.{none_row}
+use Rattle.kr_engine.proofs.LogEntries.{gained, gains_none}
 use Rattle.kr_engine.proofs.FencingSteps.{AllFenced, all_fenced, stays_itself}
 use Rattle.kr_engine.proofs.Queues.{IsDrained, drained}
 use Rattle.kr_engine.proofs.ReadyEngines.{same_image}
@@ -148,6 +149,7 @@ module _ (e : Core) (now : ℤ) (d : IsDrained e) where
           ∙ (ap (λ o. (append_fencings e.options (timed s event) ids ++ option_to_list o) ++ answers core.leading core.committed core.held) (f.stays.refusal ∙ d.none_refused)
           ∙ ap (λ due. (append_fencings e.options (timed s event) ids ++ []) ++ due) none_due
           ∙ ap (λ g. g ++ answers_in after.world (writes ++ [])) (right_nil (append_fencings e.options (timed s event) ids)));
+      fresh = gained core.fresh s.world.log after.world.log f.gains;
     }
       where
         right_nil : {X : Type 0} (xs : List X) → xs ++ [] ≡ (xs ++ []) ++ []
@@ -179,7 +181,7 @@ module _ (e : Core) (now : ℤ) (d : IsDrained e) where
       subst (AllFenced before core (timed s event) writes) (same_lapsed s writes k)
       (subst (AllFenced before core (timed s event) writes) (sym nobody)
       (subst (λ (c : Core). AllFenced before c (timed s event) writes []) (sym (subst (FencesAll before core) nobody f))
-      (record { stands = timed_engine e event s writes k; outputs = sym (append-nil before.given); stays = stays_itself before })))
+      (record { stands = timed_engine e event s writes k; outputs = sym (append-nil before.given); gains = gains_none before.fresh s.world.log; stays = stays_itself before })))
   fenced_so core s writes k (Some epoch) leads free valid are f = fenced_by core s writes k epoch leads free valid are f
 
   same_options : (core : Core) (ids : List ℤ) → FencesAll before core ids → core.options ≡ e.options

@@ -2,6 +2,7 @@
 use Rattle.std.specs.Prelude.{◌≡◌, ◌≤◌, ◌<◌, ℕ, ℤ, pos, negsuc, ◌+ℤ◌, int_le, int_lt, unsigned_abs, List, [], ◌∷◌, ◌++◌, All, map, filter, option_to_list, Bool, true, not, ◌&&◌, ◌||◌, IsTrue, IsSome, Option, Some, None, Ok, is_some, unwrap_or, if◌then◌else◌}
 use Rattle.std.specs.List.{list_all}
 use Rattle.std.specs.Ordering.{int_eq}
+use Rattle.kr_calls.specs.declared.events.Entry.{Entry}
 use Rattle.kr_calls.specs.declared.events.Event.{Event}
 use Rattle.kr_calls.specs.declared.events.Output.{Output}
 use Rattle.kr_calls.specs.declared.events.Reason.{Reason}
@@ -9,6 +10,7 @@ use Rattle.kr_calls.specs.declared.events.Output.TheVariants as given
 use Rattle.kr_defs.specs.declared.basis.Basis.{Basis}
 use Rattle.kr_defs.specs.declared.limits.TheConstants.{PLACES_END}
 use Rattle.kr_defs.specs.declared.options.Options.{Options}
+use Rattle.kr_defs.specs.declared.record.Item.TheVariants as items
 use Rattle.kr_defs.specs.Brokers.{stopping, unfenced}
 use Rattle.kr_defs.specs.Heartbeats as hearing
 use Rattle.kr_defs.specs.Heartbeats.{Heartbeats}
@@ -18,6 +20,7 @@ use Rattle.kr_safety.specs.HearingLaws.{HearsOf}
 use Rattle.kr_snapshot.specs.ImageText.{image_text}
 use Rattle.kr_store.specs.Images.{Images, forgotten, kept_at, marked, no_images, reverted}
 use Rattle.kr_engine.specs.declared.writes.Write.{Write}
+use Rattle.kr_engine.specs.Entries.{entries_of, placed}
 use Rattle.kr_engine.specs.Events.{happens, later, next_number}
 use Rattle.kr_engine.specs.Leaderships.{leads_in}
 use Rattle.kr_engine.specs.Outputs.{answers, is_open, outputs_of, waiting_after}
@@ -41,6 +44,8 @@ pub record Core : Type 0 where
   -- of the last event what isn't handed out yet, but for due replies
   pub given : List Output
   pub refusal : Option Output
+  -- what the last event added to the log
+  pub fresh : List Entry
 
 -- the outputs of the last event that aren't handed out yet
 abbrev pub left : Core → List Output
@@ -103,11 +108,12 @@ pub record IsSound (e : Core) : Type 0 where
   pub stands : IsEngine e state writes
 
 -- What one call makes of an engine, for an event: it stands for the next state and the writes that wait then, and what is
--- left to hand out are the outputs of the event.
+-- left to hand out are the outputs of the event; fresh is what it added to the log.
 pub record IsStep (before after : Core) (event : Event) : Type 0 where
   pub options : after.options ≡ before.options
   pub stands : (s : State) (writes : List Write) → IsEngine before s writes → IsEngine after (happens before.options s event) (waiting_after before.options s writes event)
   pub outputs : (s : State) (writes : List Write) → IsEngine before s writes → left after ≡ outputs_of before.options s writes event
+  pub fresh : (s : State) (writes : List Write) → IsEngine before s writes → after.fresh ≡ entries_of before.options s event
 
 -- What handing out the next output makes of an engine; none where all is handed out.
 pub record Hands (before after : Core) (output : Option Output) : Type 0 where
@@ -115,6 +121,7 @@ pub record Hands (before after : Core) (output : Option Output) : Type 0 where
   pub in_order : left before ≡ option_to_list output ++ left after
   pub all : output ≡ None → left after ≡ []
   pub ordered : IsTrue (are_in_order after.held)
+  pub fresh : after.fresh ≡ before.fresh
   pub stands : (s : State) (writes : List Write) → IsEngine before s writes → IsEngine after s writes
 
 -- ---- an engine to which nothing has happened
@@ -134,13 +141,21 @@ opened options = record {
   held = [];
   given = [];
   refusal = None;
+  fresh = [];
 }
 
 -- ---- what calls make of an engine from which all is handed out
 
--- the greatest time of any event
+-- what the last event added is told no more
+abbrev pub cleared : Core → Core
+cleared e = record e { fresh = [] }
+
+-- at the greatest time of any event, where nothing is added yet
 abbrev pub timed : Core → Event → Core
-timed e event = record e { time = later e.time event }
+timed e event = record e { time = later e.time event; fresh = [] }
+
+abbrev pub adding : Core → List Entry → Core
+adding e new = record e { fresh = e.fresh ++ new }
 
 -- one event more
 abbrev pub counted : Core → Core
@@ -190,7 +205,11 @@ lead_reason e epoch next =
 
 -- one place above the end stands an item of the quorum's own
 abbrev pub up_to : Core → ℤ → Core
-up_to e next = if int_eq next e.committed then e else record e { images = marked e.images next; tip = next }
+up_to e next = if int_eq next e.committed then e else record e {
+  images = marked e.images next;
+  tip = next;
+  fresh = e.fresh ++ placed e.tip (items.Control ∷ []);
+}
 
 abbrev pub begun : Core → ℤ → ℤ → Core
 begun e epoch next = record (up_to e next) {

@@ -1,5 +1,6 @@
 pub mod Commits
 pub mod Engine
+pub mod Entries
 pub mod Events
 pub mod Leaderships
 pub mod Outputs
@@ -8,6 +9,7 @@ pub mod Reasons
 pub mod Replicas
 pub mod Requests
 pub mod Runs
+pub mod SafeSteps
 pub mod Standby
 pub mod Ticking
 pub mod Ticks

@@ -1,19 +1,22 @@
 -- What a committed batch of another leader, or a committed image, makes of an engine.
-use Rattle.std.specs.Prelude.{◌≡◌, ℤ, int_lt, List, not, is_some, Option, Some, None, Result, Ok, Err, if◌then◌else◌}
+use Rattle.std.specs.Prelude.{◌≡◌, ℤ, int_lt, List, [], ◌∷◌, not, is_some, Option, Some, None, Result, Ok, Err, if◌then◌else◌}
 use Rattle.std.specs.Ordering.{int_eq}
 use Rattle.std.specs.Result.{result_unwrap_or}
 use Rattle.kr_calls.specs.declared.events.Reason.{Reason}
+use Rattle.kr_calls.specs.declared.events.Entry.TheVariants as entries
 use Rattle.kr_defs.specs.declared.ill.Ill.{Ill}
 use Rattle.kr_defs.specs.declared.record.Item.{Item}
 use Rattle.kr_defs.specs.Apply.{apply}
 use Rattle.kr_defs.specs.Image.{Image, empty}
 use Rattle.kr_defs.specs.Log.{apply_all, first_ill}
+use Rattle.kr_defs.specs.Records.{records_of}
 use Rattle.kr_batch.specs.declared.Batch.{Batch}
 use Rattle.kr_batch.specs.declared.fault.BatchFault.{BatchFault}
 use Rattle.kr_snapshot.specs.declared.fault.ImageFault.{ImageFault}
 use Rattle.kr_snapshot.specs.ReaderState.{kept_once}
 use Rattle.kr_store.specs.Images.{Images, last_image}
-use Rattle.kr_engine.specs.Engine.{Core, refused}
+use Rattle.kr_engine.specs.Engine.{Core, adding, refused}
+use Rattle.kr_engine.specs.Entries.{placed}
 use Rattle.kr_engine.specs.Reasons.{already_leading, bad_batch, bad_image, exhausted, gap, ill_formed, older_image}
 use Rattle.kr_engine.specs.Replicas.{end_of}
 use Rattle.kr_engine.specs.World.{is_far}
@@ -58,7 +61,7 @@ abbrev pub moved_to : Core → ℤ → Image → Core
 moved_to e place image = record e { images = kept_once place image; tip = place; committed = place }
 
 abbrev pub followed : Core → Batch → Core
-followed e batch = moved_to e (end_of batch) (result_unwrap_or (apply_all e.images.tip batch.items) empty)
+followed e batch = moved_to (adding e (placed e.tip batch.items)) (end_of batch) (result_unwrap_or (apply_all e.images.tip batch.items) empty)
 
 abbrev pub followed_by : Core → Result Batch BatchFault → Core
 followed_by e (Ok batch) = followed e batch
@@ -80,5 +83,5 @@ abbrev pub load_reason : Core → Result (ℤ × Image) ImageFault → Option Re
 load_reason e read = if is_some e.leading then Some (already_leading e.leading) else read_image_reason e read
 
 abbrev pub loaded_by : Core → Result (ℤ × Image) ImageFault → Core
-loaded_by e (Ok (offset, image)) = moved_to e offset image
+loaded_by e (Ok (offset, image)) = moved_to (adding e (entries.Load offset (records_of image) ∷ [])) offset image
 loaded_by e (Err fault) = e

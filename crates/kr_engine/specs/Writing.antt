@@ -11,6 +11,7 @@ use Rattle.kr_defs.specs.Image.{Image}
 use Rattle.kr_defs.specs.ImageLaws.{as_items}
 use Rattle.kr_store.specs.Images.{marked}
 use Rattle.kr_engine.specs.Engine.{Core}
+use Rattle.kr_engine.specs.Entries.{placed}
 use Rattle.kr_engine.specs.Reasons.{ours}
 use Rattle.kr_engine.specs.Ticks.{fencing_of}
 
@@ -27,6 +28,7 @@ appended e records = if length records == 0 then e else record e {
   images = marked e.images (place_behind e records);
   tip = place_behind e records;
   given = e.given ++ given.Append (batch_bytes (batch_at e records)) ∷ [];
+  fresh = e.fresh ++ placed e.tip (as_items records);
 }
 
 abbrev pub append_output : Core → List Record → List Output
@@ -46,6 +48,7 @@ pub record Writes (before after : Core) (records : List Record) : Type 0 where
     images = after.images;
     tip = place_behind before records;
     given = before.given ++ append_output before records;
+    fresh = before.fresh ++ placed before.tip (as_items records);
     heard = after.heard;
     held = after.held;
   }

@@ -69,12 +69,13 @@ fn behind(tip: &i64, records: &Records) -> i64
 }
 
 impl Engine {
-    // The batch of records at the tip.
+    // The batch of records at the tip, and its items.
     #[tactic(auto, using(crate::proofs::EventBatches::fits))]
-    fn batch_output(&self, records: Records) -> Result<Output, NoMemory>
+    fn batch_output(&self, records: Records) -> Result<(Output, Items), NoMemory>
         requires some { 1 ≤ length records }
         requires fits { FitsBatch records }
-        ensures { IfOk result (λ output. output ≡ given.Append (batch_bytes (writing.batch_at self.now records))) }
+        ensures output { IfOk result (λ x. x.0 ≡ given.Append (batch_bytes (writing.batch_at self.now records))) }
+        ensures items { IfOk result (λ x. x.1 ≡ as_items records) }
     {
         let batch = Batch {
             base: self.tip,
@@ -82,11 +83,12 @@ impl Engine {
             time: self.time,
             items: items_of(self.alloc, records)?,
         };
-        append_of(self.alloc, &batch)
+        let output = append_of(self.alloc, &batch)?;
+        Ok((output, batch.items))
     }
 
     // Appends records, behind which the present image is. Nothing is written where there are none.
-    #[tactic(auto, using(crate::proofs::EventBatches::some_records))]
+    #[tactic(auto, using(crate::proofs::EventBatches::some_records, crate::proofs::EventBatches::fits))]
     pub(crate) fn append(&mut self, records: Records) -> Result<(), NoMemory>
         requires low { self.old.tip ≤ℤ places_end }
         requires fits { FitsBatch records }
@@ -97,7 +99,8 @@ impl Engine {
             return Ok(());
         }
         let end = behind(&self.tip, &records);
-        let output = self.batch_output(records)?;
+        let (output, items) = self.batch_output(records)?;
+        self.add_items(items)?;
         self.given.push_back(output)?;
         self.store.mark(end)?;
         self.tip = end;

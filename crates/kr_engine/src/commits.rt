@@ -5,7 +5,7 @@ ghost use Rattle.kr_calls.specs.declared.events.Event.TheVariants as events;
 ghost use Rattle.kr_store.specs.Images.{image_at, kept_at};
 ghost use Rattle.kr_store.specs.declared.places.At.TheVariants as places;
 ghost use Rattle.kr_engine.specs.Engine as engines;
-ghost use Rattle.kr_engine.specs.Engine.{IsStep, committed_to, left};
+ghost use Rattle.kr_engine.specs.Engine.{IsStep, cleared, committed_to, left};
 
 use crate::Engine;
 use crate::reasons::{bad_commit, not_leading};
@@ -62,9 +62,10 @@ impl Engine {
     }
 
     fn take_commit<L: Ledger>(&mut self, epoch: &i32, end: &i64, steps: &mut Steps<L>)
-        ensures taken { self.new ≡ engines.counted (engines.refused_or self.old (engines.commit_reason self.old epoch.now end.now) (committed_to self.old end.now)) }
+        ensures taken { self.new ≡ engines.counted (engines.refused_or (cleared self.old) (engines.commit_reason (cleared self.old) epoch.now end.now) (committed_to (cleared self.old) end.now)) }
         ensures later { steps.old ≤ steps.new }
     {
+        self.clear_fresh();
         match self.commit_reason(epoch, end) {
             Some(reason) => self.refuse(reason),
             None => self.commit_to(end, steps),

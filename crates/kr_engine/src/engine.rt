@@ -3,13 +3,13 @@
 ghost use Rattle.std.specs.Prelude.{◌≡◌, ◌++◌, [], ◌∷◌, option_to_list, IsTrue, IfOk, IfNone, Some};
 ghost use Rattle.kr_defs.specs.OpenOptions.{are_options};
 ghost use Rattle.kr_store.specs.Images.{AreValid};
-ghost use Rattle.kr_engine.specs.Engine.{IsEngine, IsSound, basis_of, counted, left, opened, refused};
+ghost use Rattle.kr_engine.specs.Engine.{IsEngine, IsSound, basis_of, cleared, counted, left, opened, refused};
 ghost use Rattle.kr_engine.specs.Ready.{IsReady};
 ghost use Rattle.kr_engine.specs.World as worlds;
 
 use crate::writes::Write;
 use kr_base::NoMemory;
-use kr_calls::{Output, Reason};
+use kr_calls::{Entry, Output, Reason};
 use kr_defs::{Basis, Options};
 use kr_image::ImageStore;
 use kr_sessions::Sessions;
@@ -35,6 +35,7 @@ pub struct Engine {
     pub(crate) held: VecDeque<Write>,
     pub(crate) given: VecDeque<Output>,
     pub(crate) refusal: Option<Output>,
+    pub(crate) fresh: Vec<Entry>,
 }
 
 impl Model for Engine {
@@ -56,6 +57,7 @@ impl Model for Engine {
       held = e.held.items;
       given = e.given.items;
       refusal = e.refusal;
+      fresh = e.fresh.items;
     } };
 }
 
@@ -80,16 +82,18 @@ impl Engine {
             held: VecDeque::new(alloc),
             given: VecDeque::new(alloc),
             refusal: None,
+            fresh: Vec::new(alloc),
         })
     }
 
     /// An engine to which nothing has happened, on standby.
-    #[tactic(auto, using(crate::proofs::NewEngines::opened_stands, crate::proofs::NewEngines::opened_drained))]
+    #[tactic(auto, using(crate::proofs::NewEngines::opened_stands, crate::proofs::NewEngines::opened_drained, crate::proofs::NewEngines::opened_fresh))]
     pub fn new(alloc: Global, options: Options) -> Result<Engine, NoMemory>
         requires { IsTrue (are_options options) }
         ensures options { IfOk result (λ e. e.options ≡ options) }
         ensures stands { IfOk result (λ e. IsEngine e worlds.start []) }
         ensures drained { IfOk result (λ e. left e ≡ []) }
+        ensures fresh { IfOk result (λ e. e.fresh ≡ []) }
     {
         Engine::open(alloc, options)
     }
@@ -122,6 +126,14 @@ impl Engine {
         &self.store
     }
 
+    /// What the last event added to the log: its items with their places, or the records of an image in place of all that was
+    /// before.
+    pub fn fresh(&self) -> &[Entry]
+        ensures { result.now ≡ self.now.fresh }
+    {
+        &self.fresh
+    }
+
     /// A copy of what decisions rest on besides the image.
     pub fn basis(&self) -> Result<Basis, NoMemory>
         ensures { IfOk result (λ basis. basis ≡ basis_of self.now) }
@@ -147,6 +159,13 @@ impl Engine {
         ensures valid { AreValid self.now.images }
     {
         self.look_at_images();
+    }
+
+    // What the last event added is told no more. It takes no memory.
+    pub(crate) fn clear_fresh(&mut self)
+        ensures { self.new ≡ cleared self.old }
+    {
+        self.fresh.clear();
     }
 
     pub(crate) fn count_event(&mut self)

@@ -9,7 +9,8 @@ ghost use Rattle.kr_batch.specs.Reading.{batch_of};
 ghost use Rattle.kr_calls.specs.declared.events.Event.TheVariants as events;
 ghost use Rattle.kr_snapshot.specs.ReaderState.{kept_once};
 ghost use Rattle.kr_store.specs.Images.{IsAbove};
-ghost use Rattle.kr_engine.specs.Engine.{IsSound, IsStep, left};
+ghost use Rattle.kr_engine.specs.Engine.{IsSound, IsStep, adding, left};
+ghost use Rattle.kr_engine.specs.Entries.{placed};
 ghost use Rattle.kr_engine.specs.Ready.{IsReady};
 ghost use Rattle.kr_engine.specs.Replicas.{end_of};
 ghost use Rattle.kr_engine.specs.Standby as standby;
@@ -80,22 +81,25 @@ impl Engine {
     }
 
     // Each of the items has a meaning, or none stays.
-    #[tactic(auto, using(crate::proofs::BatchSteps::item_refused, crate::proofs::BatchSteps::items_taken, crate::proofs::BatchSteps::still_above))]
+    #[tactic(auto, using(crate::proofs::BatchSteps::item_refused, crate::proofs::BatchSteps::items_taken, crate::proofs::BatchSteps::still_above, crate::proofs::BatchSteps::still_low))]
     fn take_items<L: Ledger>(
         &mut self,
-        items: &Items,
+        items: Items,
         end: &i64,
         steps: &mut Steps<L>,
     ) -> Result<(), NoMemory>
         requires ready { IsReady self.old }
-        requires few { length items.now ≤ most_records }
+        requires few { length items ≤ most_records }
         requires above { IsAbove self.old.images.kept end.now }
-        ensures settled { OnOk result (Settles self.old self.new (standby.items_reason (logs.first_ill self.old.images.tip self.old.tip items.now)) (standby.moved_to self.old end.now (result_unwrap_or (logs.apply_all self.old.images.tip items.now) empty))) }
+        ensures settled { OnOk result (Settles self.old self.new (standby.items_reason (logs.first_ill self.old.images.tip self.old.tip items)) (standby.moved_to (adding self.old (placed self.old.tip items)) end.now (result_unwrap_or (logs.apply_all self.old.images.tip items) empty))) }
         ensures later { steps.old ≤ steps.new }
     {
-        match self.apply_items(items, steps)? {
+        match self.apply_items(&items, steps)? {
             Some((place, cause)) => self.refuse(ill_formed(&place, &cause)),
-            None => self.move_to(end, steps)?,
+            None => {
+                self.add_items(items)?;
+                self.move_to(end, steps)?;
+            }
         }
         Ok(())
     }
@@ -103,14 +107,14 @@ impl Engine {
     #[tactic(auto, using(crate::proofs::BatchSteps::ends_above))]
     fn follow_batch<L: Ledger>(
         &mut self,
-        batch: &Batch,
+        batch: Batch,
         steps: &mut Steps<L>,
     ) -> Result<(), NoMemory>
         requires ready { IsReady self.old }
         requires standby { self.old.leading ≡ None }
-        requires some { 1 ≤ length batch.now.items }
-        requires few { length batch.now.items ≤ most_records }
-        ensures settled { OnOk result (Settles self.old self.new (standby.batch_reason self.old batch.now) (standby.followed self.old batch.now)) }
+        requires some { 1 ≤ length batch.items }
+        requires few { length batch.items ≤ most_records }
+        ensures settled { OnOk result (Settles self.old self.new (standby.batch_reason self.old batch) (standby.followed self.old batch)) }
         ensures later { steps.old ≤ steps.new }
     {
         if batch.base != self.committed {
@@ -118,12 +122,12 @@ impl Engine {
             self.refuse(reason);
             return Ok(());
         }
-        let end = end_of(batch);
+        let end = end_of(&batch);
         if is_far(&end) {
             self.refuse(exhausted(&end));
             return Ok(());
         }
-        self.take_items(&batch.items, &end, steps)
+        self.take_items(batch.items, &end, steps)
     }
 
     #[tactic(auto, using(crate::proofs::BatchSteps::has_items))]
@@ -142,7 +146,7 @@ impl Engine {
             return Ok(());
         }
         match decode(self.alloc, bytes.as_slice()) {
-            Ok(batch) => self.follow_batch(&batch, steps),
+            Ok(batch) => self.follow_batch(batch, steps),
             Err(BatchFault::NoMemory) => Err(NoMemory),
             Err(fault) => {
                 self.refuse(bad_batch(&fault));
@@ -153,6 +157,7 @@ impl Engine {
 
     /// A committed record batch of another leader came. All outputs are handed out before. An engine that answered want of
     /// memory may only be dropped.
+    #[tactic(auto, using(crate::proofs::ReadyEngines::cleared_ready))]
     pub fn follow<L: Ledger>(&mut self, bytes: &Bytes, steps: &mut Steps<L>) -> Result<(), NoMemory>
         requires sound { IsSound self.old }
         requires drained { left self.old ≡ [] }
@@ -160,6 +165,7 @@ impl Engine {
         ensures later { steps.old ≤ steps.new }
     {
         self.look_over();
+        self.clear_fresh();
         self.settle_batch(bytes, steps)?;
         self.count_event();
         Ok(())

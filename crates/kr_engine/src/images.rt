@@ -7,7 +7,7 @@ ghost use Rattle.kr_defs.specs.Image.{empty};
 ghost use Rattle.kr_snapshot.specs.ImageText.{image_text};
 ghost use Rattle.kr_store.specs.Images.{kept_at};
 ghost use Rattle.kr_engine.specs.Engine as engines;
-ghost use Rattle.kr_engine.specs.Engine.{IsSound, IsStep, left};
+ghost use Rattle.kr_engine.specs.Engine.{IsSound, IsStep, cleared, left};
 
 use crate::Engine;
 use crate::commits::at_epoch;
@@ -34,8 +34,9 @@ impl Engine {
 
     fn take_image(&mut self) -> Result<(), NoMemory>
         requires natural { pos 0 ≤ℤ self.old.committed }
-        ensures { OnOk result (self.new ≡ engines.counted (engines.imaged self.old)) }
+        ensures { OnOk result (self.new ≡ engines.counted (engines.imaged (cleared self.old))) }
     {
+        self.clear_fresh();
         let output = self.image_output()?;
         self.given.push_back(output)?;
         self.count_event();

@@ -14,11 +14,12 @@ ghost use Rattle.kr_engine.specs.Ready.{IsReady};
 ghost use Rattle.kr_engine.specs.World.{is_far};
 
 use crate::Engine;
+use crate::entries::item_entry;
 use crate::reasons::{already_leading, bad_next, exhausted, old_epoch};
 use kr_base::NoMemory;
 use kr_calls::Reason;
 use kr_defs::limits::GREATEST_TIP;
-use kr_defs::{Broker, Ids};
+use kr_defs::{Broker, Ids, Item};
 use kr_store::Store;
 use kr_walks::{BrokerTest, brokers_where};
 use std::alloc::Global;
@@ -108,6 +109,7 @@ impl Engine {
         if *next == self.committed {
             return Ok(());
         }
+        self.fresh.push(item_entry(&self.tip, Item::Control))?;
         self.store.mark(*next)?;
         self.tip = *next;
         Ok(())
@@ -150,10 +152,11 @@ impl Engine {
         Ok(())
     }
 
-    // The greatest time is at least this one.
+    // An event comes at a time: the greatest time is at least this one, and nothing is added yet.
     pub(crate) fn note_time(&mut self, now: &i64)
-        ensures { self.new ≡ record self.old { time = int_max self.old.time now.now } }
+        ensures { self.new ≡ record self.old { time = int_max self.old.time now.now; fresh = [] } }
     {
+        self.fresh.clear();
         let now = *now;
         self.time = self.time.max(now);
     }

@@ -6,6 +6,7 @@ mod applying;
 mod commits;
 mod deciding;
 mod engine;
+mod entries;
 mod follows;
 mod handing;
 mod images;

@@ -1,20 +1,25 @@
 //! A committed image comes in place of batches.
 
-ghost use Rattle.std.specs.Prelude.{◌≡◌, [], IfOk, OnOk};
+ghost use Rattle.std.specs.Prelude.{◌≡◌, ◌∷◌, [], IfOk, OnOk};
+ghost use Rattle.kr_calls.specs.declared.events.Entry.TheVariants as entries;
 ghost use Rattle.kr_calls.specs.declared.events.Event.TheVariants as events;
+ghost use Rattle.kr_defs.specs.Records.{records_of};
 ghost use Rattle.kr_snapshot.specs.ReaderState.{Restores, kept_once};
 ghost use Rattle.kr_snapshot.specs.Reading.{image_of};
-ghost use Rattle.kr_engine.specs.Engine.{IsSound, IsStep, left};
+ghost use Rattle.kr_engine.specs.Engine.{IsSound, IsStep, adding, left};
 ghost use Rattle.kr_engine.specs.Standby as standby;
 ghost use Rattle.kr_engine.specs.Standby.{Settles};
 
 use crate::Engine;
+use crate::entries::image_entry;
 use crate::leads::is_far;
 use crate::reasons::{already_leading, bad_image, exhausted, older_image};
 use kr_base::NoMemory;
+use kr_contents::records_of;
 use kr_defs::Bytes;
 use kr_image::ImageStore;
 use kr_snapshot::{ImageFault, Reader};
+use kr_store::At;
 use std::alloc::Global;
 
 // The offset and the store of the image that the bytes stand for.
@@ -28,23 +33,34 @@ fn read_image(alloc: Global, bytes: &[u8]) -> Result<(i64, ImageStore), ImageFau
 }
 
 impl Engine {
+    // The image in place of all that was before.
+    fn add_image(&mut self, offset: &i64, store: &ImageStore) -> Result<(), NoMemory>
+        ensures { OnOk result (self.new ≡ adding self.old (entries.Load offset.now (records_of store.now.tip) ∷ [])) }
+    {
+        let records = records_of(self.alloc, store, At::Tip)?;
+        self.fresh.push(image_entry(offset, records))?;
+        Ok(())
+    }
+
     // The image is the new start.
-    fn load_image(&mut self, offset: &i64, store: ImageStore)
+    fn load_image(&mut self, offset: &i64, store: ImageStore) -> Result<(), NoMemory>
         requires { store ≡ kept_once offset.now store.tip }
-        ensures { Settles self.old self.new (standby.image_reason self.old offset.now) (standby.moved_to self.old offset.now store.tip) }
+        ensures { OnOk result (Settles self.old self.new (standby.image_reason self.old offset.now) (standby.moved_to (adding self.old (entries.Load offset.now (records_of store.tip) ∷ [])) offset.now store.tip)) }
     {
         if *offset < self.committed {
             let reason = older_image(offset, &self.committed);
             self.refuse(reason);
-            return;
+            return Ok(());
         }
         if is_far(offset) {
             self.refuse(exhausted(offset));
-            return;
+            return Ok(());
         }
+        self.add_image(offset, &store)?;
         self.store = store;
         self.tip = *offset;
         self.committed = *offset;
+        Ok(())
     }
 
     fn settle_image(&mut self, bytes: &Bytes) -> Result<(), NoMemory>
@@ -56,10 +72,7 @@ impl Engine {
             return Ok(());
         }
         match read_image(self.alloc, bytes.as_slice()) {
-            Ok((offset, store)) => {
-                self.load_image(&offset, store);
-                Ok(())
-            }
+            Ok((offset, store)) => self.load_image(&offset, store),
             Err(ImageFault::NoMemory) => Err(NoMemory),
             Err(fault) => {
                 self.refuse(bad_image(&fault));
@@ -75,6 +88,7 @@ impl Engine {
         requires drained { left self.old ≡ [] }
         ensures step { OnOk result (IsStep self.old self.new (events.Load bytes.now)) }
     {
+        self.clear_fresh();
         self.settle_image(bytes)?;
         self.count_event();
         Ok(())

@@ -4,7 +4,7 @@ ghost use Rattle.std.specs.Prelude.{◌≡◌, ◌≤◌, [], unwrap_or};
 ghost use Rattle.kr_calls.specs.declared.events.Event.TheVariants as events;
 ghost use Rattle.kr_store.specs.Images.{reverted};
 ghost use Rattle.kr_engine.specs.Engine as engines;
-ghost use Rattle.kr_engine.specs.Engine.{IsStep, left};
+ghost use Rattle.kr_engine.specs.Engine.{IsStep, cleared, left};
 
 use crate::Engine;
 use crate::reasons::not_leading;
@@ -44,9 +44,10 @@ impl Engine {
     }
 
     fn take_loss<L: Ledger>(&mut self, epoch: &i32, steps: &mut Steps<L>)
-        ensures taken { self.new ≡ engines.counted (engines.refused_or self.old (engines.loss_reason self.old epoch.now) (engines.ended self.old)) }
+        ensures taken { self.new ≡ engines.counted (engines.refused_or (cleared self.old) (engines.loss_reason (cleared self.old) epoch.now) (engines.ended (cleared self.old))) }
         ensures later { steps.old ≤ steps.new }
     {
+        self.clear_fresh();
         match self.loss_reason(epoch) {
             Some(reason) => self.refuse(reason),
             None => self.end_leadership(steps),

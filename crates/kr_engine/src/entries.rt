@@ -1,0 +1,77 @@
+//! What an event adds to the log.
+
+ghost use Rattle.std.specs.Prelude.{◌≡◌, ◌++◌, ◌+ℤ◌, ◌≤◌, ◌≤ℤ◌, pos, length, OnOk};
+ghost use Rattle.kr_calls.specs.declared.events.Entry.TheVariants as entries;
+ghost use Rattle.kr_defs.specs.declared.limits.TheConstants.{MOST_RECORDS as most_records, PLACES_END as places_end};
+ghost use Rattle.kr_engine.specs.Engine.{adding};
+ghost use Rattle.kr_engine.specs.Entries.{placed};
+
+use crate::Engine;
+use kr_base::NoMemory;
+use kr_calls::Entry;
+use kr_defs::{Item, Items, Records};
+
+pub(crate) fn item_entry(place: &i64, item: Item) -> Entry
+    ensures { result ≡ entries.Item place.now item }
+{
+    Entry::Item {
+        place: *place,
+        item,
+    }
+}
+
+pub(crate) fn image_entry(offset: &i64, records: Records) -> Entry
+    ensures { result ≡ entries.Load offset.now records }
+{
+    Entry::Load {
+        offset: *offset,
+        records,
+    }
+}
+
+// The place of the next item.
+#[derive(Drop)]
+struct Next {
+    place: i64,
+}
+
+impl Next {
+    fn at(place: &i64) -> Next
+        ensures { result.place ≡ place.now }
+    {
+        Next { place: *place }
+    }
+
+    fn go_on(&mut self)
+        requires { self.old.place ≤ℤ (places_end +ℤ pos most_records) }
+        ensures { self.new.place ≡ (self.old.place +ℤ pos 1) }
+    {
+        self.place += 1;
+    }
+}
+
+// Adds items one behind the other, of which the first stands at the place.
+#[tactic(auto, using(crate::proofs::LogEntries::placing))]
+fn place_items(out: &mut Vec<Entry>, place: &i64, items: Items) -> Result<(), NoMemory>
+    requires low { place.now ≤ℤ places_end }
+    requires few { length items ≤ most_records }
+    ensures { OnOk result (out.new.items ≡ out.old.items ++ placed place.now items) }
+{
+    let mut next = Next::at(place);
+    for item in items.into_vec() {
+        out.push(item_entry(&next.place, item))?;
+        next.go_on();
+    }
+    Ok(())
+}
+
+impl Engine {
+    // The items come at the tip.
+    pub(crate) fn add_items(&mut self, items: Items) -> Result<(), NoMemory>
+        requires low { self.old.tip ≤ℤ places_end }
+        requires few { length items ≤ most_records }
+        ensures { OnOk result (self.new ≡ adding self.old (placed self.old.tip items)) }
+    {
+        place_items(&mut self.fresh, &self.tip, items)
+    }
+}
