@@ -2,9 +2,6 @@
 
 ghost use Rattle.std.specs.Prelude.{◌≡◌, ◌++◌, IfOk, OnOk};
 ghost use Rattle.std.specs.List.{flat_map};
-ghost use Rattle.std.specs.Option.{option_copied, option_map};
-ghost use Rattle.kr_defs.specs.Map as entries;
-ghost use Rattle.kr_defs.specs.Map.{config_order, text_order};
 ghost use Rattle.kr_defs.specs.Records.{records_of};
 ghost use Rattle.kr_store.specs.Reads.{seen_at};
 ghost use Rattle.kr_contents.specs.Contents as contents;
@@ -13,32 +10,10 @@ use crate::lists::add_all;
 use crate::parts::{Registration, TopicRecords};
 use kr_base::NoMemory;
 use kr_defs::{ConfigKey, Copied, Record, Records, Text};
-use kr_gather::looking::see;
+use kr_gather::looking::{next_config, next_feature, see};
 use kr_gather::{gather_brokers, gather_topics};
 use kr_store::{At, Store};
 use std::alloc::Global;
-
-// The feature with the least name above the given one, or the first.
-fn next_feature<'a, S: Store>(
-    store: &'a S,
-    at: At,
-    after: Option<&Text>,
-) -> Option<(&'a Text, &'a i16)>
-    ensures { option_map (λ e. (e.0.now, e.1.now)) result ≡ entries.next text_order (seen_at (S.images store.now) at).features (option_copied after.entry) }
-{
-    store.next_feature(at, after).unwrap_or(None)
-}
-
-// The setting with the least key above the given one, or the first.
-fn next_config<'a, S: Store>(
-    store: &'a S,
-    at: At,
-    after: Option<&ConfigKey>,
-) -> Option<(&'a ConfigKey, &'a Text)>
-    ensures { option_map (λ e. (e.0.now, e.1.now)) result ≡ entries.next config_order (seen_at (S.images store.now) at).configs (option_copied after.entry) }
-{
-    store.next_config(at, after).unwrap_or(None)
-}
 
 fn add_feature(
     alloc: Global,

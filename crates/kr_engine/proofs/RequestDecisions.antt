@@ -4,6 +4,7 @@ use Rattle.std.proofs.lemmas.Int.{ints}
 use Rattle.std.specs.Prelude.{◌==◌, ◌≤ℤ◌, Option, Some, None, Result, Ok, Err, IfOk, OnOk, IsTrue, int_lt, slice_get, unwrap_or}
 use Rattle.std.specs.Option.{option_map}
 use Rattle.kr_brokers.specs.RequestBasis as judged
+use Rattle.kr_calls.specs.declared.errors.TheConstants.{NOT_CONTROLLER}
 use Rattle.kr_calls.specs.declared.calls.Call.{Call}
 use Rattle.kr_calls.specs.declared.calls.Reply.{Reply}
 use Rattle.kr_calls.specs.declared.calls.Request.{Request}
@@ -134,7 +135,7 @@ module _ (before between appended' after : Core) (client : ℕ) (call : Call) (o
   abbrev write_of : Option ℤ → ℤ → Reply → Reply → Write
   write_of leading need reply refusal = write_with client call leading need reply refusal
 
-  pub takes_write : refusal ≡ refuse call.request (pos 41) → after ≡ record appended' { held = appended'.held ++ write_of appended'.leading appended'.tip out.reply refusal ∷ [] } → TakesWrite before after client call
+  pub takes_write : refusal ≡ refuse call.request NOT_CONTROLLER → after ≡ record appended' { held = appended'.held ++ write_of appended'.leading appended'.tip out.reply refusal ∷ [] } → TakesWrite before after client call
   takes_write refuses held =
       let records = (decided_by before call.request).records in
       let fits = requests_fit before.options (basis_of before) before.images.tip before.tip call.request in
@@ -152,7 +153,7 @@ module _ (before between appended' after : Core) (client : ℕ) (call : Call) (o
             ∙ (ap (λ l. before.held ++ write_of l appended'.tip out.reply refusal ∷ []) leading_same
             ∙ (ap (λ r. before.held ++ write_of before.leading appended'.tip r refusal ∷ []) d.reply
             ∙ (ap (λ r. before.held ++ write_of before.leading appended'.tip (decided_by before call.request).reply r ∷ []) refuses
-            ∙ ap (λ t. before.held ++ write_of before.leading t (decided_by before call.request).reply (refuse call.request (pos 41)) ∷ []) (sym (ap (λ (a : Core). a.tip) held))))));
+            ∙ ap (λ t. before.held ++ write_of before.leading t (decided_by before call.request).reply (refuse call.request NOT_CONTROLLER) ∷ []) (sym (ap (λ (a : Core). a.tip) held))))));
       }
 
 pub ruleset takes = (write_fits, write_above, write_low, takes_write)
