@@ -10,7 +10,7 @@ use Rattle.kr_defs.specs.declared.record.Record.TheVariants as kinds
 use Rattle.kr_defs.specs.Image.{Image}
 use Rattle.kr_defs.specs.Records.{partition_record, records_of, topic_records}
 use Rattle.kr_defs.specs.Walk.{of_topic, walked}
-use Rattle.kr_contents.specs.Contents.{of_broker, of_config, of_feature, of_partition}
+use Rattle.kr_contents.specs.inner.Contents.{of_broker, of_config, of_feature, of_partition}
 
 -- ---- the partitions of a topic
 

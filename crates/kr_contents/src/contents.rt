@@ -4,7 +4,7 @@ ghost use Rattle.std.specs.Prelude.{◌≡◌, ◌++◌, IfOk, OnOk};
 ghost use Rattle.std.specs.List.{flat_map};
 ghost use Rattle.kr_defs.specs.Records.{records_of};
 ghost use Rattle.kr_store.specs.Reads.{seen_at};
-ghost use Rattle.kr_contents.specs.Contents as contents;
+ghost use Rattle.kr_contents.specs.inner.Contents as contents;
 
 use crate::lists::add_all;
 use crate::parts::{Registration, TopicRecords};

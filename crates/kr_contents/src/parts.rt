@@ -1,7 +1,7 @@
 //! The records of each broker, partition and topic.
 
 ghost use Rattle.kr_defs.specs.Records.{topic_records};
-ghost use Rattle.kr_contents.specs.Contents as contents;
+ghost use Rattle.kr_contents.specs.inner.Contents as contents;
 
 use crate::lists::add_all;
 use kr_base::NoMemory;

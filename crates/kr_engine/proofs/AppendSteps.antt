@@ -27,7 +27,7 @@ use Rattle.kr_engine.specs.Engine.{Core, IsEngine, Rise, are_in_order, kept_imag
 use Rattle.kr_engine.specs.Entries.{placed}
 use Rattle.kr_engine.specs.Outputs.{is_open}
 use Rattle.kr_engine.specs.World.{State, World, image_of_tip, tip_of, with_records, written}
-use Rattle.kr_engine.specs.Writing.{Writes, appended, batch_at, place_behind}
+use Rattle.kr_engine.specs.inner.Writing.{Writes, appended, batch_at, place_behind}
 use Rattle.kr_engine.proofs.LongerLogs.{kept_then, present_then, rise_more}
 use Rattle.kr_engine.proofs.LogEntries.{not_none}
 use Rattle.kr_engine.proofs.Logs.{tip_written}

@@ -33,10 +33,10 @@ use Rattle.kr_engine.specs.Entries.{placed}
 use Rattle.kr_engine.specs.Events.{counted, next_number, outcome, timed}
 use Rattle.kr_engine.specs.Outputs.{answers, is_open_in}
 use Rattle.kr_engine.specs.Reasons.{already_leading, bad_batch, exhausted, gap, ill_formed}
-use Rattle.kr_engine.specs.Ready.{IsReady}
+use Rattle.kr_engine.specs.inner.Ready.{IsReady}
 use Rattle.kr_engine.specs.Replicas as replicas
 use Rattle.kr_engine.specs.Replicas.{batch_or, end_of, follow, follow_batch, unless_ill}
-use Rattle.kr_engine.specs.Standby.{Follows, Settles, follow_reason, followed, followed_by, items_reason, moved_to, read_batch_reason}
+use Rattle.kr_engine.specs.inner.Standby.{Follows, Settles, follow_reason, followed, followed_by, items_reason, moved_to, read_batch_reason}
 use Rattle.kr_engine.specs.World.{State, image_of_tip, is_far, seen_at, tip_of, written}
 use Rattle.kr_engine.proofs.NewLeaderships.{near, no_writes, none_row}
 use Rattle.kr_engine.proofs.LongerLogs.{present_then, seen_then}

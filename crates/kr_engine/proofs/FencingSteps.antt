@@ -33,11 +33,11 @@ use Rattle.kr_engine.specs.declared.writes.Write.{Write}
 use Rattle.kr_engine.specs.Engine.{Core, IsEngine, are_in_order}
 use Rattle.kr_engine.specs.Entries.{placed}
 use Rattle.kr_engine.specs.Outputs.{append, append_fencings, is_open}
-use Rattle.kr_engine.specs.Ticking.{FencesAll}
+use Rattle.kr_engine.specs.inner.Ticking.{FencesAll}
 use Rattle.kr_engine.specs.Ticks.{fence, fence_all, fencing_of}
 use Rattle.kr_engine.specs.World as worlds
 use Rattle.kr_engine.specs.World.{State, image_of_tip, tip_of}
-use Rattle.kr_engine.specs.Writing.{Fences, append_output}
+use Rattle.kr_engine.specs.inner.Writing.{Fences, append_output}
 use Rattle.kr_engine.proofs.ReadyEngines.{same_image}
 use Rattle.kr_engine.proofs.FirstReasons.{is_core}
 use Rattle.kr_engine.proofs.AppendSteps.{engine_behind, ok_is}

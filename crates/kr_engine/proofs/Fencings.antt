@@ -29,13 +29,13 @@ use Rattle.kr_engine.specs.Engine as engines
 use Rattle.kr_engine.specs.Engine.{Core, IsEngine, IsSound, IsStep, left}
 use Rattle.kr_engine.specs.Entries.{placed}
 use Rattle.kr_engine.specs.Events.{timed}
-use Rattle.kr_engine.specs.Ready.{IsReady}
+use Rattle.kr_engine.specs.inner.Ready.{IsReady}
 use Rattle.kr_engine.specs.Reasons.{exhausted}
-use Rattle.kr_engine.specs.Ticking.{CanFence, CanFenceAll, FencesAll, SettlesTick, lapsed_in, tick_reason}
+use Rattle.kr_engine.specs.inner.Ticking.{CanFence, CanFenceAll, FencesAll, SettlesTick, lapsed_in, tick_reason}
 use Rattle.kr_engine.specs.Ticks as worlds
 use Rattle.kr_engine.specs.Ticks.{fencing_of}
 use Rattle.kr_engine.specs.World.{State, is_far, tip_of}
-use Rattle.kr_engine.specs.Writing.{Fences, Writes, appended, batch_at, place_behind}
+use Rattle.kr_engine.specs.inner.Writing.{Fences, Writes, appended, batch_at, place_behind}
 use Rattle.kr_engine.proofs.NewLeaderships.{none_row}
 use Rattle.kr_engine.proofs.FencingSteps.{fence_stands, fence_stays}
 use Rattle.kr_engine.proofs.ReadyEngines as engines_ready

@@ -20,7 +20,7 @@ use Rattle.kr_safety.proofs.BrokerTests.{Brokers, by_get, passing}
 use Rattle.kr_store.specs.Images.{AreValid, Images, IsAbove}
 use Rattle.kr_engine.specs.Engine.{Core, lead_reason}
 use Rattle.kr_engine.specs.Reasons.{already_leading, bad_next, old_epoch}
-use Rattle.kr_engine.specs.Ready.{IsReady}
+use Rattle.kr_engine.specs.inner.Ready.{IsReady}
 use Rattle.kr_engine.proofs.NewLeaderships.{none_row}
 
 abbrev is_unfenced : Broker → Bool

@@ -21,7 +21,7 @@ use Rattle.kr_engine.specs.Events.{counted, next_number, outcome, timed}
 use Rattle.kr_engine.specs.Outputs.{answers, is_open_in}
 use Rattle.kr_engine.specs.Reasons.{already_leading, exhausted, older_image}
 use Rattle.kr_engine.specs.Replicas.{image_or, load, load_image, loaded}
-use Rattle.kr_engine.specs.Standby.{Settles, load_reason, loaded_by, moved_to, read_image_reason}
+use Rattle.kr_engine.specs.inner.Standby.{Settles, load_reason, loaded_by, moved_to, read_image_reason}
 use Rattle.kr_engine.specs.World.{State, is_far, seen_at}
 use Rattle.kr_engine.proofs.NewLeaderships.{near, no_writes, none_row}
 use Rattle.kr_engine.proofs.BatchSteps.{leads_not}

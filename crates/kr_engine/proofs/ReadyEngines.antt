@@ -26,7 +26,7 @@ use Rattle.kr_safety.proofs.BrokerTests.{by_get}
 use Rattle.kr_store.specs.Images.{AreValid, IsAbove, last_kept}
 use Rattle.kr_engine.specs.declared.writes.Write.{Write}
 use Rattle.kr_engine.specs.Engine.{Core, IsEngine, IsSound, Rise, cleared, kept_image}
-use Rattle.kr_engine.specs.Ready.{IsReady}
+use Rattle.kr_engine.specs.inner.Ready.{IsReady}
 use Rattle.kr_engine.specs.World.{State, image_of_tip, tip_of}
 use Rattle.kr_engine.proofs.LossSteps.{not_higher}
 use Rattle.kr_engine.proofs.EventsWithoutWrites.{grown, le_through}

@@ -28,10 +28,10 @@ use Rattle.kr_rules.specs.Progress.{base_of}
 use Rattle.kr_store.specs.Images.{Images, IsAbove, last_kept, marked}
 use Rattle.kr_engine.specs.declared.writes.Write.{Write}
 use Rattle.kr_engine.specs.Engine.{Core, basis_of}
-use Rattle.kr_engine.specs.Ready.{IsReady}
+use Rattle.kr_engine.specs.inner.Ready.{IsReady}
 use Rattle.kr_engine.specs.Reasons.{ours}
 use Rattle.kr_engine.specs.inner.Serving.{Decides, TakesWrite, decided_by, waiting_write, write_with}
-use Rattle.kr_engine.specs.Writing.{Writes, appended, batch_at, place_behind}
+use Rattle.kr_engine.specs.inner.Writing.{Writes, appended, batch_at, place_behind}
 use Rattle.kr_engine.proofs.AppendSteps.{writes_by}
 
 -- ---- the image where the request began

@@ -46,7 +46,7 @@ use Rattle.kr_engine.specs.Reasons.{exhausted, ours}
 use Rattle.kr_engine.specs.Requests.{after_ask, after_write, decided, is_decided}
 use Rattle.kr_engine.specs.World as worlds
 use Rattle.kr_engine.specs.World.{State, World, image_of_end, image_of_tip, is_far, tip_of, with_records}
-use Rattle.kr_engine.specs.Writing.{append_output}
+use Rattle.kr_engine.specs.inner.Writing.{append_output}
 use Rattle.kr_engine.specs.inner.Serving as serving
 use Rattle.kr_engine.specs.inner.Serving.{SettlesAsk, TakesCall, TakesWrite, ask_reason, committed_image, decided_by, gives_out, reply_at_once, waiting_write, write_with}
 use Rattle.kr_engine.proofs.LogEntries.{Gains, batch_written, gained, gains_none}

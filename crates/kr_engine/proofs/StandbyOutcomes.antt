@@ -10,7 +10,7 @@ use Rattle.kr_engine.specs.declared.writes.Write.{Write}
 use Rattle.kr_engine.specs.Engine as engines
 use Rattle.kr_engine.specs.Engine.{Core, IsEngine, IsStep}
 use Rattle.kr_engine.specs.Events.{outcome, timed}
-use Rattle.kr_engine.specs.Standby.{Settles}
+use Rattle.kr_engine.specs.inner.Standby.{Settles}
 use Rattle.kr_engine.specs.World.{State}
 use Rattle.kr_engine.proofs.Queues.{IsDrained}
 use Rattle.kr_engine.proofs.Refusals.{refused_step}

@@ -25,7 +25,7 @@ use Rattle.kr_engine.specs.Engine.{Core, IsEngine, IsState, IsStep, left}
 use Rattle.kr_engine.specs.Events.{counted, later, next_number, outcome, timed}
 use Rattle.kr_engine.specs.Outputs.{answers, answers_in, append_fencings, is_open, is_open_in}
 use Rattle.kr_engine.specs.Reasons.{exhausted}
-use Rattle.kr_engine.specs.Ticking.{FencesAll, SettlesTick, lapsed_in, tick_reason}
+use Rattle.kr_engine.specs.inner.Ticking.{FencesAll, SettlesTick, lapsed_in, tick_reason}
 use Rattle.kr_engine.specs.Ticks.{fence_all, lapsed, tick}
 use Rattle.kr_engine.specs.World.{State, is_far, tip_of}
 use Rattle.kr_engine.proofs.NewLeaderships.{none_row}

@@ -4,15 +4,11 @@ pub mod Entries
 pub mod Events
 pub mod Leaderships
 pub mod Outputs
-pub mod Ready
 pub mod Reasons
 pub mod Replicas
 pub mod Requests
 pub mod Runs
 pub mod SafeSteps
-pub mod Standby
-pub mod Ticking
 pub mod Ticks
 pub mod World
-pub mod Writing
 pub mod inner

@@ -1,1 +1,5 @@
+pub mod Ready
 pub mod Serving
+pub mod Standby
+pub mod Ticking
+pub mod Writing

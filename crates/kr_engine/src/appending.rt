@@ -9,7 +9,7 @@ ghost use Rattle.kr_calls.specs.declared.events.Output.TheVariants as given;
 ghost use Rattle.kr_fitting.specs.Fitting.{FitsBatch};
 ghost use Rattle.kr_store.specs.Images.{IsAbove};
 ghost use Rattle.kr_engine.specs.Reasons as reasons;
-ghost use Rattle.kr_engine.specs.Writing as writing;
+ghost use Rattle.kr_engine.specs.inner.Writing as writing;
 
 use crate::Engine;
 use kr_base::NoMemory;

@@ -4,7 +4,7 @@ ghost use Rattle.std.specs.Prelude.{◌≡◌, ◌≤◌, ◌≤ℤ◌, length, 
 ghost use Rattle.kr_defs.specs.declared.limits.TheConstants.{MOST_RECORDS as most_records, PLACES_END as places_end};
 ghost use Rattle.kr_defs.specs.Log as logs;
 ghost use Rattle.kr_store.specs.Images.{last_kept};
-ghost use Rattle.kr_engine.specs.Standby.{Follows, IsTaken};
+ghost use Rattle.kr_engine.specs.inner.Standby.{Follows, IsTaken};
 
 use kr_base::{NoMemory, Steps};
 use kr_defs::{Ill, Item};

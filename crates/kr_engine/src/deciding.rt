@@ -10,7 +10,7 @@ ghost use Rattle.kr_calls.specs.Decide.{work_of};
 ghost use Rattle.kr_calls.specs.NextBasis.{is_stopping};
 ghost use Rattle.kr_calls.specs.declared.calls.Reply.TheVariants as replies;
 ghost use Rattle.kr_store.specs.Images.{last_kept};
-ghost use Rattle.kr_engine.specs.Ready.{IsReady};
+ghost use Rattle.kr_engine.specs.inner.Ready.{IsReady};
 ghost use Rattle.kr_engine.specs.inner.Serving.{Decides, decided_by};
 
 use crate::Engine;

@@ -4,7 +4,7 @@ ghost use Rattle.std.specs.Prelude.{◌≡◌, ◌++◌, [], ◌∷◌, option_t
 ghost use Rattle.kr_defs.specs.OpenOptions.{are_options};
 ghost use Rattle.kr_store.specs.Images.{AreValid};
 ghost use Rattle.kr_engine.specs.Engine.{IsEngine, IsSound, basis_of, cleared, counted, left, opened, refused};
-ghost use Rattle.kr_engine.specs.Ready.{IsReady};
+ghost use Rattle.kr_engine.specs.inner.Ready.{IsReady};
 ghost use Rattle.kr_engine.specs.World as worlds;
 
 use crate::writes::Write;

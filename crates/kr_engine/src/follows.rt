@@ -11,10 +11,10 @@ ghost use Rattle.kr_snapshot.specs.ReaderState.{kept_once};
 ghost use Rattle.kr_store.specs.Images.{IsAbove};
 ghost use Rattle.kr_engine.specs.Engine.{IsSound, IsStep, adding, left};
 ghost use Rattle.kr_engine.specs.Entries.{placed};
-ghost use Rattle.kr_engine.specs.Ready.{IsReady};
+ghost use Rattle.kr_engine.specs.inner.Ready.{IsReady};
 ghost use Rattle.kr_engine.specs.Replicas.{end_of};
-ghost use Rattle.kr_engine.specs.Standby as standby;
-ghost use Rattle.kr_engine.specs.Standby.{Follows, Settles};
+ghost use Rattle.kr_engine.specs.inner.Standby as standby;
+ghost use Rattle.kr_engine.specs.inner.Standby.{Follows, Settles};
 
 use crate::Engine;
 use crate::applying::follow_items;

@@ -10,7 +10,7 @@ ghost use Rattle.kr_defs.specs.Heartbeats as hearing;
 ghost use Rattle.kr_store.specs.Images.{IsAbove};
 ghost use Rattle.kr_engine.specs.Engine as engines;
 ghost use Rattle.kr_engine.specs.Engine.{IsSound, IsStep, left};
-ghost use Rattle.kr_engine.specs.Ready.{IsReady};
+ghost use Rattle.kr_engine.specs.inner.Ready.{IsReady};
 ghost use Rattle.kr_engine.specs.World.{is_far};
 
 use crate::Engine;

@@ -7,8 +7,8 @@ ghost use Rattle.kr_defs.specs.Records.{records_of};
 ghost use Rattle.kr_snapshot.specs.ReaderState.{Restores, kept_once};
 ghost use Rattle.kr_snapshot.specs.Reading.{image_of};
 ghost use Rattle.kr_engine.specs.Engine.{IsSound, IsStep, adding, left};
-ghost use Rattle.kr_engine.specs.Standby as standby;
-ghost use Rattle.kr_engine.specs.Standby.{Settles};
+ghost use Rattle.kr_engine.specs.inner.Standby as standby;
+ghost use Rattle.kr_engine.specs.inner.Standby.{Settles};
 
 use crate::Engine;
 use crate::entries::image_entry;

@@ -9,7 +9,7 @@ ghost use Rattle.kr_calls.specs.declared.events.Event.TheVariants as events;
 ghost use Rattle.kr_calls.specs.declared.events.Output.TheVariants as given;
 ghost use Rattle.kr_engine.specs.Engine.{IsSound, IsStep, left};
 ghost use Rattle.kr_engine.specs.Outputs as outputs;
-ghost use Rattle.kr_engine.specs.Ready.{IsReady};
+ghost use Rattle.kr_engine.specs.inner.Ready.{IsReady};
 ghost use Rattle.kr_engine.specs.inner.Serving as serving;
 ghost use Rattle.kr_engine.specs.inner.Serving.{SettlesAsk, TakesAsk, TakesCall, TakesWrite};
 

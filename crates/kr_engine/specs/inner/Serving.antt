@@ -20,7 +20,7 @@ use Rattle.kr_engine.specs.Engine.{Core, basis_of, refused}
 use Rattle.kr_engine.specs.Outputs.{error_of}
 use Rattle.kr_engine.specs.Reasons.{exhausted, ours}
 use Rattle.kr_engine.specs.World.{is_far}
-use Rattle.kr_engine.specs.Writing.{Writes}
+use Rattle.kr_engine.specs.inner.Writing.{Writes}
 
 -- ---- a leading controller's write
 

@@ -2,7 +2,7 @@ use Rattle.std.specs.Option.{option_copied}
 use Rattle.kr_store.specs.Reads.{seen_at}
 use Rattle.kr_defs.proofs.ImageParts.{config_total}
 use Rattle.kr_gather.proofs.WalkGathering.{entry_more, entry_over, entry_less}
-use Rattle.kr_contents.specs.Contents.{of_config}
+use Rattle.kr_contents.specs.inner.Contents.{of_config}
 use Rattle.kr_contents.proofs.contents.add_configs.Goals as goal
 
 pub loop-key-preserved : goal.loop-key-preserved

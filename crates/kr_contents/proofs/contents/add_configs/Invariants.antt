@@ -3,7 +3,7 @@ use Rattle.std.specs.List.{flat_map}
 use Rattle.std.specs.Option.{option_copied}
 use Rattle.kr_defs.specs.Map.{above, config_order}
 use Rattle.kr_store.specs.Reads.{seen_at}
-use Rattle.kr_contents.specs.Contents.{of_config}
+use Rattle.kr_contents.specs.inner.Contents.{of_config}
 use Rattle.kr_contents.proofs.contents.add_configs.Given as goal
 
 abbrev pub invariant-loop-key : goal.invariant-loop-key

@@ -2,7 +2,7 @@ use Rattle.std.specs.Option.{option_copied}
 use Rattle.kr_store.specs.Reads.{seen_at}
 use Rattle.kr_defs.proofs.ImageParts.{text_total}
 use Rattle.kr_gather.proofs.WalkGathering.{entry_more, entry_over, entry_less}
-use Rattle.kr_contents.specs.Contents.{of_feature}
+use Rattle.kr_contents.specs.inner.Contents.{of_feature}
 use Rattle.kr_contents.proofs.contents.add_features.Goals as goal
 
 pub loop-name-preserved : goal.loop-name-preserved

@@ -3,7 +3,7 @@ use Rattle.std.specs.List.{flat_map}
 use Rattle.std.specs.Option.{option_copied}
 use Rattle.kr_defs.specs.Map.{above, text_order}
 use Rattle.kr_store.specs.Reads.{seen_at}
-use Rattle.kr_contents.specs.Contents.{of_feature}
+use Rattle.kr_contents.specs.inner.Contents.{of_feature}
 use Rattle.kr_contents.proofs.contents.add_features.Given as goal
 
 abbrev pub invariant-loop-name : goal.invariant-loop-name

@@ -7,7 +7,7 @@ use Rattle.kr_store.specs.Images.{AreValid}
 use Rattle.kr_engine.specs.Engine.{Core, IsSound, refused}
 use Rattle.kr_engine.specs.Reasons.{exhausted}
 use Rattle.kr_engine.specs.World.{is_far}
-use Rattle.kr_engine.specs.Writing.{Fences}
+use Rattle.kr_engine.specs.inner.Writing.{Fences}
 
 abbrev pub tick_reason : Core → Option Reason
 tick_reason e = if is_some e.leading && is_far e.tip then Some (exhausted e.tip) else None
