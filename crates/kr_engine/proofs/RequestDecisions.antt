@@ -21,11 +21,13 @@ use Rattle.kr_defs.specs.declared.options.Options.{Options}
 use Rattle.kr_defs.specs.declared.record.Record.{Record}
 use Rattle.kr_defs.specs.Heartbeats.{Heartbeats, heard, stopping_brokers}
 use Rattle.kr_defs.specs.Ids.{has}
+use Rattle.kr_defs.specs.ImageLaws.{as_items}
 use Rattle.kr_defs.specs.Image.{Image, empty}
 use Rattle.kr_fitting.specs.Fitting.{FitsBatch}
 use Rattle.kr_fitting.proofs.FittingRecords.{requests_fit}
 use Rattle.kr_rules.specs.Progress.{base_of}
 use Rattle.kr_store.specs.Images.{Images, IsAbove, last_kept, marked}
+use Rattle.kr_engine.specs.Entries.{placed}
 use Rattle.kr_engine.specs.declared.writes.Write.{Write}
 use Rattle.kr_engine.specs.Engine.{Core, basis_of}
 use Rattle.kr_engine.specs.inner.Ready.{IsReady}
@@ -82,6 +84,7 @@ append_keeps e records =
       images = marked e.images (place_behind e records);
       tip = place_behind e records;
       given = e.given ++ given.Append (batch_bytes (batch_at e records)) ∷ [];
+      fresh = e.fresh ++ placed e.tip (as_items records);
     }))) [
       | true ↦ record { leading = refl; held = refl; heard = refl }
       | false ↦ record { leading = refl; held = refl; heard = refl }
