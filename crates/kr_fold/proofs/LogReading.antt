@@ -1,6 +1,6 @@
 -- A log is read batch after batch.
 use Rattle.std.proofs.Common.{◌≡◌, ◌∙◌, ℕ, ◌+◌, ◌<◌, ◌≤◌, List, [], ◌∷◌, ◌++◌, length, length-append, append_assoc, ℤ, Option, Some, None, refl, sym, ap, subst, arith}
-use Rattle.std.specs.Prelude.{IfSome, pos, ◌+ℤ◌}
+use Rattle.std.specs.Prelude.{IfSome, IsSome, pos, negsuc, ◌+ℤ◌}
 use Rattle.std.proofs.lemmas.Int.{ints}
 use Rattle.kr_defs.specs.declared.limits.TheConstants.{MOST_RECORDS}
 use Rattle.std.specs.Io.KnownBytes.{Consumes, IsAtEnd}
@@ -15,12 +15,14 @@ use Rattle.kr_fold.specs.declared.fault.ToolFault.TheVariants as faults
 use Rattle.kr_fold.specs.Taken.{longest, HasNone, IsLongest, IsNext, IsNoBatch, no_size, cut_off, IsSized, Took}
 use Rattle.kr_fold.specs.Logs.{Folded, followed, IsLog, NoneFollows}
 use Rattle.kr_fold.specs.Endings.{ReadsLog, EndsLog, BreaksLog, LongLog, IsLogFault}
-use Rattle.kr_defs.specs.Image.{Image}
+use Rattle.kr_defs.specs.Image.{Image, empty}
+use Rattle.kr_store.specs.Images.{Images, last_kept, marked, no_images}
 use Rattle.kr_batch.proofs.Batches.{one_value}
 use Rattle.kr_fold.specs.declared.log.Place.{Place}
 use Rattle.kr_fold.specs.Followed.{IsFollowed, IsWithin, log_at}
 use Rattle.kr_fold.proofs.Sizes.{batch_sized, sized_front, no_size_none, cut_none}
-use Rattle.kr_fold.proofs.Batches.{log_more}
+use Rattle.kr_fold.proofs.Batches.{log_more, log_of_none}
+use Rattle.kr_fold.proofs.Pieces.{consumes_none}
 use Rattle.kr_fold.proofs.Fronts.{without_front}
 
 -- what stands behind a front of known bytes, of which more was taken
@@ -142,3 +144,19 @@ within_beyond place next bytes count tip len within tip_is few sized end at_tip 
       few = omega (arith, ints, items, tip_is, at_tip, few, size, at, whole);
       bytes = omega (arith, end, at, whole);
     }, omega (arith, size, at, whole))
+
+-- ---- at the start
+
+-- a new store with an epoch kept is empty
+pub marked_new : (new store : Images) → new ≡ no_images → store ≡ marked new (negsuc 0) → IsSome (last_kept store) × (store.tip ≡ empty)
+marked_new new store is kept =
+    let whole : store ≡ marked no_images (negsuc 0) = kept ∙ ap (λ (i : Images). marked i (negsuc 0)) is in
+    (subst (λ (i : Images). IsSome (last_kept i)) (sym whole) refl, ap (λ (i : Images). i.tip) whole)
+
+pub reads_nothing : (left : Option (List ℕ)) (place : Place) (image : Image) → place.tip ≡ pos 0 → place.at ≡ 0 → image ≡ empty → ReadsLog left left (log_at place image) place.at
+reads_nothing left place image tip at is = record {
+  taken = [];
+  is = subst (λ (log : Folded). IsLog log []) (sym (ap (λ (t : ℤ). let log : Folded = record { tip = t; image = image } in log) tip ∙ ap (λ (i : Image). let log : Folded = record { tip = pos 0; image = i } in log) is)) log_of_none;
+  took = consumes_none left;
+  place = at;
+}
