@@ -1,13 +1,11 @@
-use Rattle.std.proofs.Common.{rules, ◌≡◌, ◌≤◌, ◌≤ℤ◌, pos, IfOk, IfErr, IsErrOf, OnOk, OnErr, ℕ, ◌+◌, ◌-◌, ◌*◌, ◌<◌, length, ◌/◌, ◌%◌, Bool, true, false, nat_eq, nat_lt, List, [], ◌∷◌, ◌++◌, slice_index_or, slice_set, bit_and, bit_or, Fits, w8, w32, w64, Bor, MutBor, ℤ, ◌+ℤ◌, ◌-ℤ◌, ◌*ℤ◌, ◌<ℤ◌, FitsSigned, to_z, of_z}
-use Rattle.std.specs.Io.KnownBytes.{Appends}
-use Rattle.kr_base.specs.Causes.{Rose}
-use Rattle.kr_base.specs.Written.{AppendsFront}
-use Rattle.kr_wire.specs.Grammar.{Exactly}
-use Rattle.kr_snapshot.specs.Written.{image_text}
-use Rattle.kr_fold.specs.Endings.{FoldEnds, FoldsWhole, FoldsNoMore, DumpEnds, Dumps, DumpsWhole, IsInputFault, RefusesBroken, RefusesLonger, TookAll}
-use Rattle.kr_fold.specs.Parts.{IsLongInput}
+use Rattle.std.proofs.Common.{rules, w64}
+use Rattle.std.specs.Prelude.{FitsSigned}
+use Rattle.std.proofs.lemmas.Int.{to_z-of_z}
+use Rattle.kr_fold.proofs.CallEnds.{dumps_of}
 use Rattle.kr_fold.proofs.calls.read_text.Goals as goal
 
--- src/calls.rt:134:1
 pub returns-clause-text : goal.returns-clause-text
-returns-clause-text g c = ?
+returns-clause-text g c =
+    let fits : FitsSigned w64 c.in-Ok-read_image.image.0 = search rules in
+    dumps_of _ _ c.in-Ok.bytes.items c.in_ok-dump.field-0 c.in-Ok-read_image.image.0 c.in-Ok-read_image.image.1.tip
+    c.in-Ok.ensures.all (rw c.as_slice.ensures.value at c.in-Ok-read_image.ensures.image) (rw (to_z-of_z w64 c.in-Ok-read_image.image.0 fits) at c.in_ok-dump.ensures)
