@@ -138,12 +138,14 @@ pub within_beyond : (place next : Place) (bytes : List ℕ) (count : ℕ) (tip :
 within_beyond place next bytes count tip len within tip_is few sized end at_tip at whole =
     let natural = within.natural in
     let items = within.few in
-    let size = sized.whole in
-    (record {
-      natural = omega (arith, ints, natural, tip_is, at_tip);
-      few = omega (arith, ints, items, tip_is, at_tip, few, size, at, whole);
-      bytes = omega (arith, end, at, whole);
-    }, omega (arith, size, at, whole))
+    let size = sized.whole in (
+      record {
+        natural = omega (arith, ints, natural, tip_is, at_tip);
+        few = omega (arith, ints, items, tip_is, at_tip, few, size, at, whole);
+        bytes = omega (arith, end, at, whole);
+      },
+      omega (arith, size, at, whole),
+    )
 
 -- ---- at the start
 
