@@ -1,5 +1,5 @@
 -- A batch is read from a source: its base and size, and then as many bytes as the size says.
-use Rattle.std.proofs.Common.{◌≡◌, ◌∙◌, ℕ, ◌+◌, ◌<◌, ◌≤◌, List, [], ◌++◌, length, Option, Some, None, Ok, Err, refl, sym, ap, subst, arith}
+use Rattle.std.proofs.Common.{◌≡◌, ◌∙◌, ℕ, ◌+◌, ◌<◌, ◌≤◌, List, [], ◌++◌, length, length-append, Option, Some, None, Ok, Err, refl, sym, ap, subst, arith}
 use Rattle.std.specs.Io.KnownBytes.{Consumes, IsAtEnd}
 use Rattle.kr_batch.specs.declared.fault.BatchFault.{BatchFault}
 use Rattle.kr_snapshot.specs.Reading.{extent, size_at}
@@ -45,19 +45,27 @@ module _ (a b : Option (List ℕ)) (head bytes : List ℕ) (size : ℕ) (grew : 
 
 -- ---- too few bytes
 
-module _ (a b : Option (List ℕ)) (count count' at len : ℕ) (bytes : List ℕ) (cut : length bytes < len → IsUnfinished bytes) where
-  -- of the first ones
-  pub none_short : (fault : ToolFault) → IsShortage a b count count' [] bytes at len fault → HasNone a b count count' at fault
-  none_short faults.ReadFault is = is
-  none_short faults.NoMemory is = tt
-  none_short faults.TooLong is = took_of a b bytes is.grew (IsLongest at) (cut is.short, is.most)
-  none_short faults.WriteFault is = absurd is
-  none_short (faults.Malformed place) is = absurd is
+-- bytes that grew are not none
+pub grown_some : (a b : Option (List ℕ)) (head bytes : List ℕ) → Grew a b head bytes → 0 < length head → 0 < length bytes
+grown_some a b head bytes grew some =
+    let e = ap (λ (l : List ℕ). length l) grew.grown ∙ length-append head grew.taken in
+    omega (arith, e, some)
 
-  -- of those behind others, which were taken before
-  pub none_shorter : (mid : Option (List ℕ)) (between : ℕ) (head : List ℕ) (fault : ToolFault) → Grew a mid [] head → count ≤ between → IsShortage mid b between count' head bytes at len fault → HasNone a b count count' at fault
-  none_shorter mid between head faults.ReadFault first le is = omega (arith, le, is)
-  none_shorter mid between head faults.NoMemory first le is = tt
-  none_shorter mid between head faults.TooLong first le is = took_of a b bytes (grew_more a mid b [] head bytes first is.grew) (IsLongest at) (cut is.short, is.most)
-  none_shorter mid between head faults.WriteFault first le is = absurd is
-  none_shorter mid between head (faults.Malformed place) first le is = absurd is
+module _ (a b : Option (List ℕ)) (count count' at len : ℕ) (bytes : List ℕ) where
+  -- of the first ones
+  pub none_short : (cut : length bytes < len → IsUnfinished bytes) (fault : ToolFault) → IsShortage a b count count' [] bytes at len fault → HasNone a b count count' at fault
+  none_short cut faults.ReadFault is = is
+  none_short cut faults.NoMemory is = tt
+  none_short cut faults.TooLong is = took_of a b bytes is.grew (IsLongest at) (cut is.short, is.most)
+  none_short cut faults.WriteFault is = absurd is
+  none_short cut (faults.Malformed place) is = absurd is
+
+-- of those behind a base and a size, which were taken before
+module _ (a mid b : Option (List ℕ)) (count between count' at size : ℕ) (head bytes : List ℕ) (first : Grew a mid [] head) (twelve : length head ≡ 12) (told : size_at head ≡ Ok size) where
+  pub none_shorter : (fault : ToolFault) → count ≤ between → IsShortage mid b between count' head bytes at (12 + size) fault → HasNone a b count count' at fault
+  none_shorter faults.ReadFault le is = omega (arith, le, is)
+  none_shorter faults.NoMemory le is = tt
+  none_shorter faults.TooLong le is =
+      took_of a b bytes (grew_more a mid b [] head bytes first is.grew) (IsLongest at) (unfinished_on mid b head bytes size is.grew twelve told is.short, is.most)
+  none_shorter faults.WriteFault le is = absurd is
+  none_shorter (faults.Malformed place) le is = absurd is

@@ -1,6 +1,8 @@
 -- A log is read batch after batch.
-use Rattle.std.proofs.Common.{◌≡◌, ◌∙◌, ℕ, ◌+◌, ◌<◌, ◌≤◌, List, [], ◌∷◌, ◌++◌, length, length-append, append_assoc, Option, Some, None, refl, sym, ap, subst, arith}
-use Rattle.std.specs.Prelude.{IfSome}
+use Rattle.std.proofs.Common.{◌≡◌, ◌∙◌, ℕ, ◌+◌, ◌<◌, ◌≤◌, List, [], ◌∷◌, ◌++◌, length, length-append, append_assoc, ℤ, Option, Some, None, refl, sym, ap, subst, arith}
+use Rattle.std.specs.Prelude.{IfSome, IsSome, pos, negsuc, ◌+ℤ◌}
+use Rattle.std.proofs.lemmas.Int.{ints}
+use Rattle.kr_defs.specs.declared.limits.TheConstants.{MOST_RECORDS}
 use Rattle.std.specs.Io.KnownBytes.{Consumes, IsAtEnd}
 use Rattle.std.proofs.lemmas.List.{append-nil}
 use Rattle.kr_base.proofs.Pieces.{consumes_more}
@@ -13,8 +15,14 @@ use Rattle.kr_fold.specs.declared.fault.ToolFault.TheVariants as faults
 use Rattle.kr_fold.specs.Taken.{longest, HasNone, IsLongest, IsNext, IsNoBatch, no_size, cut_off, IsSized, Took}
 use Rattle.kr_fold.specs.Logs.{Folded, followed, IsLog, NoneFollows}
 use Rattle.kr_fold.specs.Endings.{ReadsLog, EndsLog, BreaksLog, LongLog, IsLogFault}
+use Rattle.kr_defs.specs.Image.{Image, empty}
+use Rattle.kr_store.specs.Images.{Images, last_kept, marked, no_images}
+use Rattle.kr_batch.proofs.Batches.{one_value}
+use Rattle.kr_fold.specs.declared.log.Place.{Place}
+use Rattle.kr_fold.specs.Followed.{IsFollowed, IsWithin, log_at}
 use Rattle.kr_fold.proofs.Sizes.{batch_sized, sized_front, no_size_none, cut_none}
-use Rattle.kr_fold.proofs.Batches.{log_more}
+use Rattle.kr_fold.proofs.Batches.{log_more, log_of_none}
+use Rattle.kr_fold.proofs.Pieces.{consumes_none}
 use Rattle.kr_fold.proofs.Fronts.{without_front}
 
 -- what stands behind a front of known bytes, of which more was taken
@@ -104,3 +112,53 @@ module _ (left mid left' : Option (List ℕ)) (log : Folded) (at : ℕ) (reads :
     cut = has.is.0;
     long = let p = reads.place in let e = length-append reads.taken has.taken in let m = has.is.1 in omega (arith, p, e, m);
   }
+
+-- ---- behind a batch that was read
+
+-- the one batch that the bytes are doesn't follow
+pub one_refused : (log : Folded) (read : Batch) (bytes : List ℕ) → IsBatch read bytes → followed log read ≡ None → (batch : Batch) (next : Folded) → IsBatch batch bytes → followed log batch ≡ Some next → ⊥
+one_refused log read bytes is none batch next other follows =
+    let clash = sym none ∙ (ap (λ (b : Batch). followed log b) (one_value bytes read batch is other) ∙ follows) in cc
+
+pub reads_beyond : (left mid left' : Option (List ℕ)) (place next : Place) (before after : Image) (bytes : List ℕ) (batch : Batch) (tip : ℤ) (len : ℕ)
+    → ReadsLog left mid (log_at place before) place.at → Consumes mid left' bytes → IsBatch batch bytes → IsFollowed place.tip before after batch (Some tip)
+    → next.tip ≡ tip → next.at ≡ place.at + len → len ≡ length bytes → ReadsLog left left' (log_at next after) next.at
+reads_beyond left mid left' place next before after bytes batch tip len reads took spelled follows at_tip at whole =
+    let r = reads_more left mid left' (log_at place before) place.at reads (record { tip = tip; image = after }) bytes batch took spelled follows.0 in
+    record {
+      taken = r.taken;
+      is = subst (λ (t : ℤ). IsLog (record { tip = t; image = after }) r.taken) (sym at_tip) r.is;
+      took = r.took;
+      place = let p = r.place in omega (arith, p, at, whole);
+    }
+
+-- each byte brings few items
+pub within_beyond : (place next : Place) (bytes : List ℕ) (count : ℕ) (tip : ℤ) (len : ℕ) → IsWithin place → tip ≡ place.tip +ℤ pos count → count ≤ MOST_RECORDS → IsSized bytes
+    → place.at + length bytes ≤ longest → next.tip ≡ tip → next.at ≡ place.at + len → len ≡ length bytes → IsWithin next × (place.at < next.at)
+within_beyond place next bytes count tip len within tip_is few sized end at_tip at whole =
+    let natural = within.natural in
+    let items = within.few in
+    let size = sized.whole in (
+      record {
+        natural = omega (arith, ints, natural, tip_is, at_tip);
+        few = omega (arith, ints, items, tip_is, at_tip, few, size, at, whole);
+        bytes = omega (arith, end, at, whole);
+      },
+      omega (arith, size, at, whole),
+    )
+
+-- ---- at the start
+
+-- a new store with an epoch kept is empty
+pub marked_new : (new store : Images) → new ≡ no_images → store ≡ marked new (negsuc 0) → IsSome (last_kept store) × (store.tip ≡ empty)
+marked_new new store is kept =
+    let whole : store ≡ marked no_images (negsuc 0) = kept ∙ ap (λ (i : Images). marked i (negsuc 0)) is in
+    (subst (λ (i : Images). IsSome (last_kept i)) (sym whole) refl, ap (λ (i : Images). i.tip) whole)
+
+pub reads_nothing : (left : Option (List ℕ)) (place : Place) (image : Image) → place.tip ≡ pos 0 → place.at ≡ 0 → image ≡ empty → ReadsLog left left (log_at place image) place.at
+reads_nothing left place image tip at is = record {
+  taken = [];
+  is = subst (λ (log : Folded). IsLog log []) (sym (ap (λ (t : ℤ). let log : Folded = record { tip = t; image = image } in log) tip ∙ ap (λ (i : Image). let log : Folded = record { tip = pos 0; image = i } in log) is)) log_of_none;
+  took = consumes_none left;
+  place = at;
+}

@@ -18,7 +18,7 @@ use Rattle.kr_fold.proofs.Fronts.{begun_batch, begun_head, breaks_batch, breaks_
 
 -- ---- the batch at the front
 
-abbrev no_bytes : Option (List ℕ)
+abbrev pub no_bytes : Option (List ℕ)
 no_bytes = None
 
 pub no_start : (bytes : List ℕ) → 0 < length bytes → length bytes < 12 → IsNoBatch bytes no_bytes

@@ -1,9 +1,11 @@
 -- One read after the other.
 use Rattle.std.proofs.Common.{◌≡◌, ℕ, ◌+◌, ◌<◌, List, [], ◌++◌, length, take, Option, Some, None, append_assoc, sym, ap, subst, refl, ◌∙◌}
-use Rattle.std.specs.Io.KnownBytes.{Consumes}
+use Rattle.std.specs.Io.KnownBytes.{Consumes, IsAtEnd}
 use Rattle.std.proofs.lemmas.List.{append-nil}
 use Rattle.kr_base.proofs.Pieces.{consumes_more}
-use Rattle.kr_fold.specs.Taken.{longest, Grew, Stops}
+use Rattle.kr_fold.specs.Taken.{longest, Grew, IsFilled, Stops}
+use Rattle.kr_fold.specs.declared.piece.Filled.{Filled}
+use Rattle.kr_fold.specs.declared.piece.Filled.TheVariants as fillings
 
 pub grew_more : (a b c : Option (List ℕ)) (xs ys zs : List ℕ) → Grew a b xs ys → Grew b c ys zs → Grew a c xs zs
 grew_more a b c xs ys zs first second = record {
@@ -25,3 +27,10 @@ grew_by a b bytes bytes' piece come count took is grown = record { taken = come;
 
 pub stops : (a b : Option (List ℕ)) (bytes bytes' : List ℕ) (at len : ℕ) → Grew a b bytes bytes' → length bytes' < len → at + length bytes' ≡ longest → Stops a b bytes bytes' at len
 stops a b bytes bytes' at len grew short most = record { grew = grew; short = short; most = most }
+
+-- how far bytes were filled
+pub is_full : (filled : Filled) (left' : Option (List ℕ)) (len len' : ℕ) → filled ≡ fillings.Full → IsFilled filled left' len len' → len' ≡ len
+is_full filled left' len len' is told = subst (λ (f : Filled). IsFilled f left' len len') is told
+
+pub is_ended : (filled : Filled) (left' : Option (List ℕ)) (len len' : ℕ) → filled ≡ fillings.Ended → IsFilled filled left' len len' → (len' < len) × IsAtEnd left'
+is_ended filled left' len len' is told = subst (λ (f : Filled). IsFilled f left' len len') is told

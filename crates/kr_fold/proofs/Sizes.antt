@@ -74,9 +74,10 @@ sized_front a b x y s t same =
     one_size (a ++ x) s.size t.size (size_same a x (sized_long a s) ∙ s.told) (ap size_at same ∙ (size_same b y (sized_long b t) ∙ t.told)) in
     let w = s.whole in
     let v = t.whole in
-    let long_ : length b ≡ length a = omega (arith, w, v, sizes) in
-    (sym (take_at a x (length a) refl) ∙ (ap (take (length a)) same ∙ take_at b y (length a) long_),
-    sym (drop_at a x (length a) refl) ∙ (ap (drop (length a)) same ∙ drop_at b y (length a) long_))
+    let long_ : length b ≡ length a = omega (arith, w, v, sizes) in (
+      sym (take_at a x (length a) refl) ∙ (ap (take (length a)) same ∙ take_at b y (length a) long_),
+      sym (drop_at a x (length a) refl) ∙ (ap (drop (length a)) same ∙ drop_at b y (length a) long_),
+    )
 
 -- ---- where no batch begins
 

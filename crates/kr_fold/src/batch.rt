@@ -44,15 +44,16 @@ pub fn read_batch<S: Source>(
     ensures later { S.faults source.old ≤ S.faults source.new }
 {
     let mut bytes = Vec::new(alloc);
-    let filled = match fill(source, &mut bytes, START, at) {
-        Ok(filled) => filled,
-        Err(fault) => return Err(fault),
-    };
-    if filled == Filled::Ended {
-        if bytes.is_empty() {
-            return Ok(None);
+    match fill(source, &mut bytes, START, at) {
+        Ok(Filled::Full) => {}
+        Ok(Filled::Ended) => {
+            return if bytes.is_empty() {
+                Ok(None)
+            } else {
+                Err(ToolFault::Malformed { at })
+            };
         }
-        return Err(ToolFault::Malformed { at });
+        Err(fault) => return Err(fault),
     }
     let size = match read_size(bytes.as_slice()) {
         Ok(size) => size as usize,

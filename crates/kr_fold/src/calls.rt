@@ -5,8 +5,13 @@ ghost use Rattle.std.specs.Io.KnownBytes.{Appends};
 ghost use Rattle.kr_base.specs.Causes.{Rose};
 ghost use Rattle.kr_base.specs.FailedPuts.{AppendsFront};
 ghost use Rattle.kr_wire.specs.Grammar.{Exactly};
+<<<<<<< HEAD
 ghost use Rattle.kr_snapshot.specs.ImageText.{image_text};
 ghost use Rattle.kr_fold.specs.Endings.{FoldEnds, FoldsWhole, FoldsNoMore, DumpEnds, DumpsWhole, RefusesBroken, RefusesLonger, TookAll};
+=======
+ghost use Rattle.kr_snapshot.specs.ImageText.{image_text};
+ghost use Rattle.kr_fold.specs.Endings.{FoldEnds, FoldsWhole, FoldsNoMore, DumpEnds, Dumps, DumpsWhole, IsInputFault, RefusesBroken, RefusesLonger, TookAll};
+>>>>>>> fold/work
 ghost use Rattle.kr_fold.specs.Parts.{IsLongInput};
 
 use crate::fault::ToolFault;
@@ -14,6 +19,7 @@ use crate::image::read_image;
 use crate::log::read_log;
 use crate::piece::{Filled, fill};
 use kr_base::{NoMemory, Sink, Source};
+use kr_defs::Bytes;
 use kr_defs::limits::MOST_LOAD_BYTES;
 use kr_image::ImageStore;
 use kr_store::At;
@@ -129,14 +135,11 @@ pub fn dump<S: Source, K: Sink>(
     dump_image(alloc, input, output)
 }
 
-fn dump_image<S: Source, K: Sink>(
-    alloc: Global,
-    input: &mut S,
-    output: &mut K,
-) -> Result<(), ToolFault>
-    ensures ends { DumpEnds (S.left input.old) (S.left input.new) (K.written output.old) (K.written output.new) result }
+// The text of the image that all of the input is.
+fn read_text<S: Source>(alloc: Global, input: &mut S) -> Result<Bytes, ToolFault>
+    ensures text { IfOk result (λ text. Dumps (Exactly text) (S.left input.old) (S.left input.new)) }
+    ensures fault { IfErr result (λ fault. IsInputFault (S.left input.old) (S.left input.new) fault) }
     ensures read { IsErrOf result ToolFault.ReadFault → Rose (S.faults input.old) (S.faults input.new) }
-    ensures write { IsErrOf result ToolFault.WriteFault → Rose (K.faults output.old) (K.faults output.new) }
 {
     let bytes = match read_all(alloc, input) {
         Ok(bytes) => bytes,
@@ -146,6 +149,21 @@ fn dump_image<S: Source, K: Sink>(
         Ok(image) => image,
         Err(fault) => return Err(fault),
     };
-    let text = kr_dump::dump(alloc, &store, At::Tip, offset)?;
+    Ok(kr_dump::dump(alloc, &store, At::Tip, offset)?)
+}
+
+fn dump_image<S: Source, K: Sink>(
+    alloc: Global,
+    input: &mut S,
+    output: &mut K,
+) -> Result<(), ToolFault>
+    ensures ends { DumpEnds (S.left input.old) (S.left input.new) (K.written output.old) (K.written output.new) result }
+    ensures read { IsErrOf result ToolFault.ReadFault → Rose (S.faults input.old) (S.faults input.new) }
+    ensures write { IsErrOf result ToolFault.WriteFault → Rose (K.faults output.old) (K.faults output.new) }
+{
+    let text = match read_text(alloc, input) {
+        Ok(text) => text,
+        Err(fault) => return Err(fault),
+    };
     put(output, text.as_slice())
 }

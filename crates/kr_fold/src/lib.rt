@@ -1,9 +1,9 @@
 //! Batches of a log to the image that they make, and an image to its text: from any source, to any sink.
 #![tactic(auto)]
 
-mod fault;
 mod batch;
 mod calls;
+mod fault;
 mod image;
 mod log;
 mod piece;

@@ -1,6 +1,6 @@
 //! A log's batches, one after the other, and the image that their items make.
 
-ghost use Rattle.std.specs.Prelude.{◌≡◌, ◌≤◌, ◌<◌, ◌≤ℤ◌, ◌+ℤ◌, pos, length, IfOk, IfErr, IfSome, IsErrOf, IsSome, MatchResult, Option, List, ℕ};
+ghost use Rattle.std.specs.Prelude.{◌≡◌, ◌+◌, ◌≤◌, ◌<◌, ◌≤ℤ◌, ◌+ℤ◌, pos, length, IfOk, IfErr, IfSome, IsErrOf, IsSome, MatchResult, Option, List, ℕ};
 ghost use Rattle.std.specs.Ordering.{int_eq};
 ghost use Rattle.kr_defs.specs.declared.limits.TheConstants.{MOST_RECORDS as most_records, PLACES_END as places_end};
 ghost use Rattle.kr_base.specs.Causes.{Rose};
@@ -8,6 +8,7 @@ ghost use Rattle.kr_store.specs.Images.{last_kept};
 ghost use Rattle.kr_fold.specs.Endings.{EndsLog, IsLogFault, ReadsLog};
 ghost use Rattle.kr_fold.specs.Followed as followed;
 ghost use Rattle.kr_fold.specs.Followed.{AreApplied, IsApplied, IsFollowed, IsRead, IsReadTo, IsWithin, log_at};
+ghost use Rattle.kr_fold.specs.Taken.{longest};
 
 use crate::batch::read_batch;
 use crate::fault::ToolFault;
@@ -126,6 +127,18 @@ struct Place {
     at: u64,
 }
 
+// The place behind a batch of so many bytes, at the new tip.
+fn beyond(place: &Place, tip: i64, len: usize) -> Place
+    requires { place.now.at + len ≤ longest }
+    ensures tip { result.tip ≡ tip }
+    ensures at { result.at ≡ place.now.at + len }
+{
+    Place {
+        tip,
+        at: place.at + len as u64,
+    }
+}
+
 // Reads the next batch of a log that was read to this place, and answers the place behind it, or none at the end.
 fn read_next<S: Source, L: Ledger>(
     alloc: Global,
@@ -157,10 +170,7 @@ fn read_next<S: Source, L: Ledger>(
         Some(tip) => tip,
         None => return Err(ToolFault::Malformed { at }),
     };
-    Ok(Some(Place {
-        tip,
-        at: at + bytes.len() as u64,
-    }))
+    Ok(Some(beyond(place, tip, bytes.len())))
 }
 
 /// Reads a log from place 0 to the end of the input: the store of its image, and the place behind its last item.

@@ -1,0 +1,28 @@
+use Rattle.std.proofs.Common.{◌≡◌, ◌∙◌, ℤ, pos, ◌≤◌, refl, sym, ap, subst, rules, arith, w64, None, Err}
+use Rattle.std.specs.Prelude.{FitsSigned, IsSome, MatchResult}
+use Rattle.std.proofs.lemmas.Int.{ints, to_z-of_z}
+use Rattle.kr_defs.specs.Image.{Image}
+use Rattle.kr_store.specs.Images.{Images, last_kept, marked}
+use Rattle.kr_fold.specs.Endings.{EndsLog, IsLogFault, ReadsLog}
+use Rattle.kr_fold.specs.Followed.{IsReadTo, IsWithin, log_at}
+use Rattle.kr_fold.proofs.LogReading.{marked_new, reads_nothing}
+use Rattle.kr_fold.proofs.log.read_log.Goals as goal
+
+pub loop-next-init : goal.loop-next-init
+loop-next-init g c =
+    let new = marked_new c.new-store.result c.mark.new.self c.new-store.ensures c.in_ok-mark.ensures.ok in
+    record {
+      kept = new.0;
+      within = record { natural = omega (arith, ints); few = omega (arith, ints); bytes = omega arith };
+      reads = reads_nothing _ (record { tip = pos 0; at = 0 }) c.mark.new.self.tip refl refl new.1;
+      faults = omega arith;
+    }
+
+pub returns-in-Ok-None-clause-log : goal.returns-in-Ok-None-clause-log
+returns-in-Ok-None-clause-log g c =
+    let ends = rw c.in-Ok-None.field-0-is at c.in-Ok-None.ensures.next _ c.loop-next.invariant.reads in
+    let fits : FitsSigned w64 c.loop-next.place.tip = search rules in
+    rw (to_z-of_z w64 c.loop-next.place.tip fits) ends
+
+pub returns-in-Err-clause-fault : goal.returns-in-Err-clause-fault
+returns-in-Err-clause-fault g c = c.in-Err.ensures.next _ c.loop-next.invariant.reads
