@@ -5,13 +5,8 @@ ghost use Rattle.std.specs.Io.KnownBytes.{Appends};
 ghost use Rattle.kr_base.specs.Causes.{Rose};
 ghost use Rattle.kr_base.specs.FailedPuts.{AppendsFront};
 ghost use Rattle.kr_wire.specs.Grammar.{Exactly};
-<<<<<<< HEAD
-ghost use Rattle.kr_snapshot.specs.ImageText.{image_text};
-ghost use Rattle.kr_fold.specs.Endings.{FoldEnds, FoldsWhole, FoldsNoMore, DumpEnds, DumpsWhole, RefusesBroken, RefusesLonger, TookAll};
-=======
 ghost use Rattle.kr_snapshot.specs.ImageText.{image_text};
 ghost use Rattle.kr_fold.specs.Endings.{FoldEnds, FoldsWhole, FoldsNoMore, DumpEnds, Dumps, DumpsWhole, IsInputFault, RefusesBroken, RefusesLonger, TookAll};
->>>>>>> fold/work
 ghost use Rattle.kr_fold.specs.Parts.{IsLongInput};
 
 use crate::fault::ToolFault;
