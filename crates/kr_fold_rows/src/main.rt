@@ -73,9 +73,7 @@ fn difference(alloc: Global, row: &str) -> Result<Option<String>, AllocError> {
     if answer.as_str() == expected {
         return Ok(None);
     }
-    Ok(Some(
-        format!(in alloc; "{expected} was expected, {answer} came")?,
-    ))
+    Ok(Some(format!(in alloc; "{expected} was expected, {answer} came")?))
 }
 
 // Bytes in hex, `-` for none.
