@@ -1,12 +1,38 @@
 -- The words of the tool, and the line of notes of each status (this project's own).
-use Rattle.std.specs.Prelude.{◌≡◌, ℕ, List, [], ◌∷◌, ◌++◌, codes}
+use Rattle.std.specs.Prelude.{◌≡◌, ℕ, ◌⊎◌, Unit, Result, Ok, Err, List, [], ◌∷◌, ◌++◌, codes}
 use Rattle.std.specs.Fmt.{decimal}
+use Rattle.kr_fold.specs.declared.fault.ToolFault.{ToolFault}
+use Rattle.kr_fold.specs.declared.fault.ToolFault.TheVariants as faults
 use Rattle.kr_run.specs.declared.status.Status.{Status}
 use Rattle.kr_run.specs.declared.status.Status.TheVariants as statuses
 
--- the words that are served: so far one of the tool's four forms
+-- the words that are served: so far three of the tool's four forms
+abbrev pub IsSession : List (List ℕ) → Type 0
+IsSession words = words ≡ codes "session" ∷ []
+
+abbrev pub IsFold : List (List ℕ) → Type 0
+IsFold words = words ≡ codes "fold" ∷ []
+
+abbrev pub IsDump : List (List ℕ) → Type 0
+IsDump words = words ≡ codes "dump" ∷ []
+
 abbrev pub AreServed : List (List ℕ) → Type 0
-AreServed words = words ≡ codes "session" ∷ []
+AreServed words = IsSession words ⊎ IsFold words ⊎ IsDump words
+
+-- the status of what `fold` and `dump` answer
+abbrev pub status_of : Result (Unit {0}) ToolFault → Status
+status_of (Ok done) = statuses.Done
+status_of (Err (faults.Malformed at)) = statuses.Malformed at
+status_of (Err faults.ReadFault) = statuses.ReadFault
+status_of (Err faults.WriteFault) = statuses.WriteFault
+status_of (Err faults.NoMemory) = statuses.NoMemory
+status_of (Err faults.TooLong) = statuses.TooLong
+
+-- the status is that of an answer of which this holds
+pub record IsOf (Holds : Result (Unit {0}) ToolFault → Type 0) (status : Status) : Type 0 where
+  pub answer : Result (Unit {0}) ToolFault
+  pub is : status ≡ status_of answer
+  pub holds : Holds answer
 
 abbrev pub line : List ℕ → List ℕ
 line text = text ++ 10 ∷ []

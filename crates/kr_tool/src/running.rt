@@ -1,14 +1,17 @@
 //! The top call: one run of the tool.
 
-ghost use Rattle.std.specs.Prelude.{◌≡◌, ◌⊎◌, ◌↔◌, [], ◌++◌, ◌∷◌, IfOk, IsTrue, codes, string_bytes};
+ghost use Rattle.std.specs.Prelude.{◌≡◌, ◌⊎◌, ◌↔◌, Some, [], ◌++◌, ◌∷◌, IfOk, IsTrue, codes, string_bytes};
 ghost use Rattle.std.specs.Fmt.{decimal};
 ghost use Rattle.std.specs.Io.KnownBytes.{Appends};
 ghost use Rattle.kr_base.specs.Causes.{Rose};
 ghost use Rattle.kr_run.specs.Endings.{BreaksRightly, EndsWith, RefusesBroken, ServesWhole};
-ghost use Rattle.kr_tool.specs.Notes.{AreServed, note_of, line, IsMalformed};
+ghost use Rattle.kr_fold.specs.Endings.{DumpEnds, DumpsWhole, FoldEnds, FoldsNoMore, FoldsWhole, RefusesBroken as RefusesBrokenImage, RefusesLonger};
+ghost use Rattle.kr_tool.specs.Notes as notes;
+ghost use Rattle.kr_tool.specs.Notes.{AreServed, IsDump, IsFold, IsOf, IsSession, note_of, line, IsMalformed};
 
 use kr_base::{Sink, Source};
 use kr_defs::Text;
+use kr_fold::{ToolFault, dump, fold};
 use kr_run::{Status, WordsFault, session};
 use std::alloc::{AllocError, Global};
 
@@ -23,22 +26,32 @@ pub fn run<S: Source, K: Sink, E: Sink>(
     notes: &mut E,
 ) -> Status
     // The bytes that were taken and those that were written, at each status.
-    ensures ends { EndsWith (S.left input.old) (S.left input.new) (K.written output.old) (K.written output.new) result }
+    ensures session { IsSession words.now → EndsWith (S.left input.old) (S.left input.new) (K.written output.old) (K.written output.new) result }
+    ensures fold { IsFold words.now → IsOf (FoldEnds (S.left input.old) (S.left input.new) (K.written output.old) (K.written output.new)) result }
+    ensures dump { IsDump words.now → IsOf (DumpEnds (S.left input.old) (S.left input.new) (K.written output.old) (K.written output.new)) result }
 
-    // Usage is told exactly where the words aren't served.
+    // Usage is told exactly where the words aren't served, and then nothing is taken or written.
     ensures usage { result ≡ Status.Usage → AreServed words.now → ⊥ }
     ensures served { (AreServed words.now → ⊥) → result ≡ Status.Usage }
+    ensures idle { result ≡ Status.Usage → EndsWith (S.left input.old) (S.left input.new) (K.written output.old) (K.written output.new) Status.Usage }
 
     // A fault is told only where that object's count rose in this call.
     ensures read { result ≡ Status.ReadFault → Rose (S.faults input.old) (S.faults input.new) }
     ensures write { result ≡ Status.WriteFault → Rose (K.faults output.old) (K.faults output.new) }
 
     // Where no read and no write failed: a whole session is served, and a broken one is refused at that frame.
-    ensures complete { AreServed words.now → (Rose (S.faults input.old) (S.faults input.new) → ⊥) → (Rose (K.faults output.old) (K.faults output.new) → ⊥) → ServesWhole (S.left input.old) result }
-    ensures broken { AreServed words.now → (Rose (S.faults input.old) (S.faults input.new) → ⊥) → (Rose (K.faults output.old) (K.faults output.new) → ⊥) → RefusesBroken (S.left input.old) result }
+    ensures complete { IsSession words.now → (Rose (S.faults input.old) (S.faults input.new) → ⊥) → (Rose (K.faults output.old) (K.faults output.new) → ⊥) → ServesWhole (S.left input.old) result }
+    ensures broken { IsSession words.now → (Rose (S.faults input.old) (S.faults input.new) → ⊥) → (Rose (K.faults output.old) (K.faults output.new) → ⊥) → RefusesBroken (S.left input.old) result }
 
     // Where it is refused, no frame stands.
-    ensures breaks { BreaksRightly (S.left input.old) result }
+    ensures breaks { IsSession words.now → BreaksRightly (S.left input.old) result }
+
+    // Where no read and no write failed: a log is folded and an image dumped, and what breaks is refused at that batch.
+    ensures fold_complete { IsFold words.now → (Rose (S.faults input.old) (S.faults input.new) → ⊥) → (Rose (K.faults output.old) (K.faults output.new) → ⊥) → IsOf (FoldsWhole (S.left input.old)) result }
+    ensures fold_broken { IsFold words.now → (Rose (S.faults input.old) (S.faults input.new) → ⊥) → (Rose (K.faults output.old) (K.faults output.new) → ⊥) → IsOf (FoldsNoMore (S.left input.old)) result }
+    ensures dump_complete { IsDump words.now → (Rose (S.faults input.old) (S.faults input.new) → ⊥) → (Rose (K.faults output.old) (K.faults output.new) → ⊥) → IsOf (DumpsWhole (S.left input.old)) result }
+    ensures dump_broken { IsDump words.now → (Rose (S.faults input.old) (S.faults input.new) → ⊥) → (Rose (K.faults output.old) (K.faults output.new) → ⊥) → IsOf (RefusesBrokenImage (S.left input.old)) result }
+    ensures dump_longer { IsDump words.now → (Rose (S.faults input.old) (S.faults input.new) → ⊥) → (Rose (K.faults output.old) (K.faults output.new) → ⊥) → IsOf (RefusesLonger (S.left input.old)) result }
 
     // The notes get exactly the status's line.
     ensures notes { (Rose (E.faults notes.old) (E.faults notes.new) → ⊥) → Appends (E.written notes.old) (E.written notes.new) (note_of result) }
@@ -68,35 +81,67 @@ fn serve_words<S: Source, K: Sink>(
     input: &mut S,
     output: &mut K,
 ) -> Status
-    ensures ends { EndsWith (S.left input.old) (S.left input.new) (K.written output.old) (K.written output.new) result }
+    ensures session { IsSession words.now → EndsWith (S.left input.old) (S.left input.new) (K.written output.old) (K.written output.new) result }
+    ensures fold { IsFold words.now → IsOf (FoldEnds (S.left input.old) (S.left input.new) (K.written output.old) (K.written output.new)) result }
+    ensures dump { IsDump words.now → IsOf (DumpEnds (S.left input.old) (S.left input.new) (K.written output.old) (K.written output.new)) result }
     ensures usage { result ≡ Status.Usage → AreServed words.now → ⊥ }
     ensures served { (AreServed words.now → ⊥) → result ≡ Status.Usage }
+    ensures idle { result ≡ Status.Usage → EndsWith (S.left input.old) (S.left input.new) (K.written output.old) (K.written output.new) Status.Usage }
     ensures read { result ≡ Status.ReadFault → Rose (S.faults input.old) (S.faults input.new) }
     ensures write { result ≡ Status.WriteFault → Rose (K.faults output.old) (K.faults output.new) }
-    ensures complete { AreServed words.now → (Rose (S.faults input.old) (S.faults input.new) → ⊥) → (Rose (K.faults output.old) (K.faults output.new) → ⊥) → ServesWhole (S.left input.old) result }
-    ensures broken { AreServed words.now → (Rose (S.faults input.old) (S.faults input.new) → ⊥) → (Rose (K.faults output.old) (K.faults output.new) → ⊥) → RefusesBroken (S.left input.old) result }
-    ensures breaks { BreaksRightly (S.left input.old) result }
+    ensures complete { IsSession words.now → (Rose (S.faults input.old) (S.faults input.new) → ⊥) → (Rose (K.faults output.old) (K.faults output.new) → ⊥) → ServesWhole (S.left input.old) result }
+    ensures broken { IsSession words.now → (Rose (S.faults input.old) (S.faults input.new) → ⊥) → (Rose (K.faults output.old) (K.faults output.new) → ⊥) → RefusesBroken (S.left input.old) result }
+    ensures breaks { IsSession words.now → BreaksRightly (S.left input.old) result }
+    ensures fold_complete { IsFold words.now → (Rose (S.faults input.old) (S.faults input.new) → ⊥) → (Rose (K.faults output.old) (K.faults output.new) → ⊥) → IsOf (FoldsWhole (S.left input.old)) result }
+    ensures fold_broken { IsFold words.now → (Rose (S.faults input.old) (S.faults input.new) → ⊥) → (Rose (K.faults output.old) (K.faults output.new) → ⊥) → IsOf (FoldsNoMore (S.left input.old)) result }
+    ensures dump_complete { IsDump words.now → (Rose (S.faults input.old) (S.faults input.new) → ⊥) → (Rose (K.faults output.old) (K.faults output.new) → ⊥) → IsOf (DumpsWhole (S.left input.old)) result }
+    ensures dump_broken { IsDump words.now → (Rose (S.faults input.old) (S.faults input.new) → ⊥) → (Rose (K.faults output.old) (K.faults output.new) → ⊥) → IsOf (RefusesBrokenImage (S.left input.old)) result }
+    ensures dump_longer { IsDump words.now → (Rose (S.faults input.old) (S.faults input.new) → ⊥) → (Rose (K.faults output.old) (K.faults output.new) → ⊥) → IsOf (RefusesLonger (S.left input.old)) result }
 {
-    if !are_served(words) {
-        return Status::Usage;
-    }
-    session(alloc, input, output)
-}
-
-// The words are one of the forms that are built.
-fn are_served(words: &[Text]) -> bool
-    ensures { IsTrue result ↔ AreServed words.now }
-{
-    match words {
-        [word] => is_session(word),
-        _ => false,
+    match word_of(words) {
+        None => Status::Usage,
+        Some(Word::Session) => session(alloc, input, output),
+        Some(Word::Fold) => status_of(fold(alloc, input, output)),
+        Some(Word::Dump) => status_of(dump(alloc, input, output)),
     }
 }
 
-fn is_session(word: &Text) -> bool
-    ensures { IsTrue result ↔ (word.now ≡ codes "session") }
+// The words that are built.
+#[derive(Clone, Copy, Debug, Drop, PartialEq, Eq)]
+enum Word {
+    Session,
+    Fold,
+    Dump,
+}
+
+// The word that is all of the words.
+fn word_of(words: &[Text]) -> Option<Word>
+    ensures session { (result ≡ Some Word.Session) ↔ IsSession words.now }
+    ensures fold { (result ≡ Some Word.Fold) ↔ IsFold words.now }
+    ensures dump { (result ≡ Some Word.Dump) ↔ IsDump words.now }
 {
-    word.as_str() == "session"
+    let [word] = words else {
+        return None;
+    };
+    match word.as_str() {
+        "session" => Some(Word::Session),
+        "fold" => Some(Word::Fold),
+        "dump" => Some(Word::Dump),
+        _ => None,
+    }
+}
+
+fn status_of(answer: Result<(), ToolFault>) -> Status
+    ensures { result ≡ notes.status_of answer }
+{
+    match answer {
+        Ok(()) => Status::Done,
+        Err(ToolFault::Malformed { at }) => Status::Malformed { at },
+        Err(ToolFault::ReadFault) => Status::ReadFault,
+        Err(ToolFault::WriteFault) => Status::WriteFault,
+        Err(ToolFault::NoMemory) => Status::NoMemory,
+        Err(ToolFault::TooLong) => Status::TooLong,
+    }
 }
 
 // Writes the line of a status, and answers it: or NoMemory, where memory for the line of a bad frame ran out.
