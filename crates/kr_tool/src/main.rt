@@ -1,4 +1,5 @@
-//! The tool: one session of the controller, from standard input to standard output.
+//! The tool: a session of the controller, a log folded to its image, or an image's text, from standard input to standard
+//! output.
 #![tactic(auto)]
 
 mod running;

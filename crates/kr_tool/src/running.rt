@@ -15,9 +15,10 @@ use kr_fold::{ToolFault, dump, fold};
 use kr_run::{Status, WordsFault, session};
 use std::alloc::{AllocError, Global};
 
-/// Runs the tool: serves the session that comes from `input`, writes its output frames to `output`, and the line of a
-/// status other than Done to `notes`. The status says how it ended; a fault of `notes` changes none. So far the one
-/// word `session` is served, and all other words are answered Usage.
+/// Runs the tool by its word: `session` serves the session that comes from `input` and writes its output frames to
+/// `output`; `fold` reads record batches from place 0 to the end of the input and writes the image that they make;
+/// `dump` reads an image and writes its text. The line of a status other than Done goes to `notes`; a fault of `notes`
+/// changes no status. All other words are answered Usage.
 pub fn run<S: Source, K: Sink, E: Sink>(
     alloc: Global,
     words: &[Text],

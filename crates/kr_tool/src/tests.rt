@@ -45,9 +45,13 @@ fn texts(alloc: Global, words: &[&str]) -> Result<Vec<Text>, AllocError> {
 }
 
 fn run_words(alloc: Global, words: &[&str], setup: Setup) -> Result<Ran, Fail> {
-    let words = texts(alloc, words)?;
     let mut bytes = hex::decode(alloc, THIN)?;
     bytes.truncate(setup.bytes);
+    run_over(alloc, words, bytes, setup)
+}
+
+fn run_over(alloc: Global, words: &[&str], bytes: Vec<u8>, setup: Setup) -> Result<Ran, Fail> {
+    let words = texts(alloc, words)?;
     let mut input = MemorySource::new(bytes, vec![in alloc; setup.read]?);
     let mut output = MemorySink::new(alloc, 4096, 100, vec![in alloc; setup.put]?)?;
     let mut notes = MemorySink::new(alloc, 100, 1, vec![in alloc; setup.note]?)?;
@@ -67,7 +71,7 @@ fn other_words(rt: HostRuntime) -> Result<(), Fail> {
         &["sessions"],
         &["Session"],
         &["session", "session"],
-        &["fold"],
+        &["make"],
     ];
     for words in lists {
         let ran = run_words(rt.alloc(), words, WHOLE)?;
@@ -134,4 +138,26 @@ fn lines_of_sessions(rt: HostRuntime) -> Result<(), Fail> {
 #[test]
 fn failing_notes(rt: HostRuntime) -> Result<(), Fail> {
     expect_told(&rt, rt.alloc(), 1)
+}
+
+// A batch that sets a value, the image that it makes, and the image's text.
+const BATCH: &str =
+    "0000000000000000000000540000000502235de38000000000000000000000000003e800000000000003e8ffffffffffffffffffffffffffff000000014400000001380104000401146d696e2e696e73796e632e7265706c6963617302320000";
+
+const IMAGE: &str =
+    "000000000000000100000000000000010000000000000000000000540000000002b051e11100000000000000000000000000000000000000000000ffffffffffffffffffffffffffff000000014400000001380104000401146d696e2e696e73796e632e7265706c6963617302320000";
+
+const TEXT: &str = "offset 1\nconfig 4 "" "min.insync.replicas" "2"\n";
+
+#[test]
+fn a_log_is_folded_and_its_image_dumped(rt: HostRuntime) -> Result<(), Fail> {
+    let alloc = rt.alloc();
+    let image = hex::decode(alloc, IMAGE)?;
+    let folded = run_over(alloc, &["fold"], hex::decode(alloc, BATCH)?, WHOLE)?;
+    assert_eq!(rt; folded.status, Status::Done);
+    assert_eq!(rt; folded.output.written(), image.as_slice());
+    let dumped = run_over(alloc, &["dump"], image, WHOLE)?;
+    assert_eq!(rt; dumped.status, Status::Done);
+    assert_eq!(rt; dumped.output.written(), TEXT.as_bytes());
+    Ok(())
 }
