@@ -147,7 +147,7 @@ const BATCH: &str =
 const IMAGE: &str =
     "000000000000000100000000000000010000000000000000000000540000000002b051e11100000000000000000000000000000000000000000000ffffffffffffffffffffffffffff000000014400000001380104000401146d696e2e696e73796e632e7265706c6963617302320000";
 
-const TEXT: &str = "offset 1\nconfig 4 "" "min.insync.replicas" "2"\n";
+const TEXT: &str = "offset 1\nconfig 4 \"\" \"min.insync.replicas\" \"2\"\n";
 
 #[test]
 fn a_log_is_folded_and_its_image_dumped(rt: HostRuntime) -> Result<(), Fail> {
