@@ -114,7 +114,7 @@ module _ (progress : Progress) (front : List ℕ) (left mid left' written writte
 
 -- nothing is handed out of a new engine
 drained : (engine : Core) (s : State) (writes : List Write) → IsEngine engine s writes → engines.left engine ≡ [] → Hands engine engine None
-drained engine s writes stands none = record { options = refl; in_order = refl; all = λ is. none; ordered = stands.ordered; stands = λ s writes k. k }
+drained engine s writes stands none = record { options = refl; in_order = refl; all = λ is. none; ordered = stands.ordered; fresh = refl; stands = λ s writes k. k }
 
 module _ (left left' written written' : Option (List ℕ)) (options : Options) (at : ℕ) (t : Took (IsOpen options) left left' 0 at) (wrote : WroteAll written written' []) where
   pub opened : (engine : Core) → engine.options ≡ options → IsEngine engine start [] → engines.left engine ≡ [] → Going left left' written written' engine at
