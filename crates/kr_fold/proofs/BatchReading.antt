@@ -6,7 +6,7 @@ use Rattle.kr_snapshot.specs.Reading.{extent, size_at}
 use Rattle.kr_snapshot.specs.ReaderState.{IsUnfinished}
 use Rattle.kr_fold.specs.declared.fault.ToolFault.{ToolFault}
 use Rattle.kr_fold.specs.declared.fault.ToolFault.TheVariants as faults
-use Rattle.kr_fold.specs.Taken.{longest, Grew, HasNone, IsEnd, IsLongest, IsNext, IsNoBatch, no_size, cut_off, IsShortage, IsSized, Stops, Took}
+use Rattle.kr_fold.specs.SourceBytes.{longest, Grew, HasNone, IsEnd, IsLongest, IsNext, IsNoBatch, no_size, cut_off, IsShortage, IsSized, Stops, Took}
 use Rattle.kr_fold.proofs.Pieces.{grew_more}
 use Rattle.kr_fold.proofs.Sizes.{size_same}
 

@@ -10,7 +10,7 @@ use Rattle.kr_batch.specs.declared.fault.BatchFault.{BatchFault}
 use Rattle.kr_batch.specs.declared.fault.BatchFault.TheVariants as faults
 use Rattle.kr_batch.specs.Answers.{IsFault}
 use Rattle.kr_batch.specs.Grammar.{IsBatch}
-use Rattle.kr_fold.specs.Followed.{IsRead, none_for}
+use Rattle.kr_fold.specs.inner.NextBatches.{IsRead, none_for}
 use Rattle.kr_batch.proofs.Batches.{one_value}
 use Rattle.kr_fold.specs.Logs.{Folded, nothing, followed, folded, IsLog, NoneFollows}
 use Rattle.kr_fold.proofs.Sizes.{batch_sized, sized_front}

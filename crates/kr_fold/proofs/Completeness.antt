@@ -9,7 +9,7 @@ use Rattle.kr_snapshot.specs.Reading.{image_of}
 use Rattle.kr_snapshot.proofs.WholeImages.{image_complete}
 use Rattle.kr_fold.specs.declared.fault.ToolFault.{ToolFault}
 use Rattle.kr_fold.specs.declared.fault.ToolFault.TheVariants as faults
-use Rattle.kr_fold.specs.Taken.{longest}
+use Rattle.kr_fold.specs.SourceBytes.{longest}
 use Rattle.kr_fold.specs.Logs.{Folded, IsLog, NoneFollows}
 use Rattle.kr_fold.specs.Images.{BreaksAt}
 use Rattle.kr_fold.specs.Endings.{EndsLog, FoldEnds, FoldsWhole, FoldsNoMore, DumpEnds, DumpsWhole, RefusesBroken, RefusesLonger, TookAll, TookMore, largest}

@@ -14,7 +14,7 @@ use Rattle.kr_snapshot.specs.ReaderState.{IsUnfinished, StandsFor, Waits}
 use Rattle.kr_snapshot.proofs.Faults.{is_fault}
 use Rattle.kr_snapshot.proofs.BatchPieces.{start_is, size_front, size_bad, batch_waits, head_waits, start_waits, goes_on_append, fills, waits_on}
 use Rattle.kr_snapshot.proofs.ReaderSteps.{piece_more, faults_stay, end_is}
-use Rattle.kr_fold.specs.Taken.{IsSized}
+use Rattle.kr_fold.specs.SourceBytes.{IsSized}
 use Rattle.kr_fold.specs.Images.{HasBegun, BreaksAt}
 use Rattle.kr_fold.proofs.Sizes.{size_same, one_size, sized_long}
 

@@ -12,14 +12,14 @@ use Rattle.kr_batch.specs.Grammar.{IsBatch}
 use Rattle.kr_snapshot.specs.ReaderState.{IsUnfinished}
 use Rattle.kr_fold.specs.declared.fault.ToolFault.{ToolFault}
 use Rattle.kr_fold.specs.declared.fault.ToolFault.TheVariants as faults
-use Rattle.kr_fold.specs.Taken.{longest, HasNone, IsLongest, IsNext, IsNoBatch, no_size, cut_off, IsSized, Took}
+use Rattle.kr_fold.specs.SourceBytes.{longest, HasNone, IsLongest, IsNext, IsNoBatch, no_size, cut_off, IsSized, Took}
 use Rattle.kr_fold.specs.Logs.{Folded, followed, IsLog, NoneFollows}
 use Rattle.kr_fold.specs.Endings.{ReadsLog, EndsLog, BreaksLog, LongLog, IsLogFault}
 use Rattle.kr_defs.specs.Image.{Image, empty}
 use Rattle.kr_store.specs.Images.{Images, last_kept, marked, no_images}
 use Rattle.kr_batch.proofs.Batches.{one_value}
 use Rattle.kr_fold.specs.declared.log.Place.{Place}
-use Rattle.kr_fold.specs.Followed.{IsFollowed, IsWithin, log_at}
+use Rattle.kr_fold.specs.inner.NextBatches.{IsFollowed, IsWithin, log_at}
 use Rattle.kr_fold.proofs.Sizes.{batch_sized, sized_front, no_size_none, cut_none}
 use Rattle.kr_fold.proofs.Batches.{log_more, log_of_none}
 use Rattle.kr_fold.proofs.Pieces.{consumes_none}

@@ -9,9 +9,9 @@ use Rattle.kr_snapshot.specs.Reading.{Taken, extent, size_at, so_far, image_of}
 use Rattle.kr_snapshot.specs.ReaderState.{IsFault, StandsFor, answer_of}
 use Rattle.kr_fold.specs.declared.fault.ToolFault.{ToolFault}
 use Rattle.kr_fold.specs.declared.fault.ToolFault.TheVariants as faults
-use Rattle.kr_fold.specs.Taken.{IsNoBatch, no_size, cut_off, IsSized}
+use Rattle.kr_fold.specs.SourceBytes.{IsNoBatch, no_size, cut_off, IsSized}
 use Rattle.kr_fold.specs.Images.{HasBegun, BreaksAt}
-use Rattle.kr_fold.specs.Parts.{IsFed, IsImageFault, IsPart, fault_as}
+use Rattle.kr_fold.specs.inner.ImageParts.{IsFed, IsImageFault, IsPart, fault_as}
 use Rattle.kr_fold.proofs.BatchReading.{few_unfinished}
 use Rattle.kr_fold.proofs.Sizes.{size_same}
 use Rattle.kr_fold.proofs.Fronts.{begun_batch, begun_head, breaks_batch, breaks_cut, breaks_end, breaks_head, breaks_short, breaks_size, stands_of}

@@ -3,7 +3,7 @@ use Rattle.std.proofs.Common.{◌≡◌, ℕ, ◌+◌, ◌<◌, List, [], ◌++�
 use Rattle.std.specs.Io.KnownBytes.{Consumes, IsAtEnd}
 use Rattle.std.proofs.lemmas.List.{append-nil}
 use Rattle.kr_base.proofs.Pieces.{consumes_more}
-use Rattle.kr_fold.specs.Taken.{longest, Grew, IsFilled, Stops}
+use Rattle.kr_fold.specs.SourceBytes.{longest, Grew, IsFilled, Stops}
 use Rattle.kr_fold.specs.declared.piece.Filled.{Filled}
 use Rattle.kr_fold.specs.declared.piece.Filled.TheVariants as fillings
 

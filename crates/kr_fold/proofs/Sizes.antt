@@ -14,7 +14,7 @@ use Rattle.kr_batch.proofs.Heads.{start_law, long}
 use Rattle.kr_snapshot.specs.Reading.{extent, is_no_size, size_at}
 use Rattle.kr_snapshot.specs.ReaderState.{IsUnfinished}
 use Rattle.kr_snapshot.proofs.BatchPieces.{start_is, size_front, size_bad}
-use Rattle.kr_fold.specs.Taken.{IsSized}
+use Rattle.kr_fold.specs.SourceBytes.{IsSized}
 
 -- what stands behind the size doesn't change it
 pub size_same : (bytes more : List ℕ) → 12 ≤ length bytes → size_at (bytes ++ more) ≡ size_at bytes

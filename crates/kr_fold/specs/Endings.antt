@@ -10,7 +10,7 @@ use Rattle.kr_snapshot.specs.ReaderState.{IsUnfinished}
 use Rattle.kr_snapshot.specs.ImageText.{image_text}
 use Rattle.kr_fold.specs.declared.fault.ToolFault.{ToolFault}
 use Rattle.kr_fold.specs.declared.fault.ToolFault.TheVariants as faults
-use Rattle.kr_fold.specs.Taken.{longest}
+use Rattle.kr_fold.specs.SourceBytes.{longest}
 use Rattle.kr_fold.specs.Logs.{Folded, IsLog, NoneFollows}
 use Rattle.kr_fold.specs.Images.{BreaksAt}
 

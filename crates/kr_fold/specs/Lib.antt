@@ -1,6 +1,5 @@
-pub mod Taken
-pub mod Logs
-pub mod Images
 pub mod Endings
-pub mod Followed
-pub mod Parts
+pub mod Images
+pub mod Logs
+pub mod SourceBytes
+pub mod inner

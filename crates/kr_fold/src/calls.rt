@@ -7,7 +7,7 @@ ghost use Rattle.kr_base.specs.FailedPuts.{AppendsFront};
 ghost use Rattle.kr_wire.specs.Grammar.{Exactly};
 ghost use Rattle.kr_snapshot.specs.ImageText.{image_text};
 ghost use Rattle.kr_fold.specs.Endings.{FoldEnds, FoldsWhole, FoldsNoMore, DumpEnds, Dumps, DumpsWhole, IsInputFault, RefusesBroken, RefusesLonger, TookAll};
-ghost use Rattle.kr_fold.specs.Parts.{IsLongInput};
+ghost use Rattle.kr_fold.specs.inner.ImageParts.{IsLongInput};
 
 use crate::fault::ToolFault;
 use crate::image::read_image;

@@ -5,9 +5,9 @@ ghost use Rattle.kr_snapshot.specs.Grammar.{IsImage};
 ghost use Rattle.kr_snapshot.specs.Reading.{so_far};
 ghost use Rattle.kr_wire.specs.Laws.{IsBytes};
 ghost use Rattle.kr_snapshot.specs.ReaderState.{StandsFor};
-ghost use Rattle.kr_fold.specs.Parts as parts;
-ghost use Rattle.kr_fold.specs.Parts.{IsFed, IsImageFault, IsPart};
-ghost use Rattle.kr_fold.specs.Taken.{IsNoBatch, IsSized};
+ghost use Rattle.kr_fold.specs.inner.ImageParts as parts;
+ghost use Rattle.kr_fold.specs.inner.ImageParts.{IsFed, IsImageFault, IsPart};
+ghost use Rattle.kr_fold.specs.SourceBytes.{IsNoBatch, IsSized};
 
 use crate::batch::{START, read_size};
 use crate::fault::ToolFault;

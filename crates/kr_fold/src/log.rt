@@ -6,9 +6,9 @@ ghost use Rattle.kr_defs.specs.declared.limits.TheConstants.{MOST_RECORDS as mos
 ghost use Rattle.kr_base.specs.Causes.{Rose};
 ghost use Rattle.kr_store.specs.Images.{last_kept};
 ghost use Rattle.kr_fold.specs.Endings.{EndsLog, IsLogFault, ReadsLog};
-ghost use Rattle.kr_fold.specs.Followed as followed;
-ghost use Rattle.kr_fold.specs.Followed.{AreApplied, IsApplied, IsFollowed, IsRead, IsReadTo, IsWithin, log_at};
-ghost use Rattle.kr_fold.specs.Taken.{longest};
+ghost use Rattle.kr_fold.specs.inner.NextBatches as followed;
+ghost use Rattle.kr_fold.specs.inner.NextBatches.{AreApplied, IsApplied, IsFollowed, IsRead, IsReadTo, IsWithin, log_at};
+ghost use Rattle.kr_fold.specs.SourceBytes.{longest};
 
 use crate::batch::read_batch;
 use crate::fault::ToolFault;

@@ -2,7 +2,7 @@
 
 ghost use Rattle.std.specs.Prelude.{◌≡◌, ◌+◌, ◌<◌, ◌≤◌, length, IfOk, IfErr, OnOk};
 ghost use Rattle.std.specs.Io.KnownBytes.{IsAtEnd};
-ghost use Rattle.kr_fold.specs.Taken.{longest, Grew, IsFilled, IsReadFault, IsShortage};
+ghost use Rattle.kr_fold.specs.SourceBytes.{longest, Grew, IsFilled, IsReadFault, IsShortage};
 
 use crate::fault::ToolFault;
 use kr_base::Source;

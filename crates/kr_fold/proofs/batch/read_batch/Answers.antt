@@ -1,5 +1,5 @@
 use Rattle.std.proofs.Common.{◌≡◌, ◌≤◌, ◌+◌, [], length, arith}
-use Rattle.kr_fold.specs.Taken.{IsNext}
+use Rattle.kr_fold.specs.SourceBytes.{IsNext}
 use Rattle.kr_fold.proofs.Pieces.{grew_more, is_full, is_ended}
 use Rattle.kr_fold.proofs.BatchReading.{none_sized, none_cut, none_shorter, grown_some, took_all, sized_on, unfinished_on}
 use Rattle.kr_fold.proofs.batch.read_batch.Goals as goal

@@ -1,6 +1,6 @@
 use Rattle.std.proofs.Common.{length, sym, subst}
 use Rattle.kr_fold.specs.declared.fault.ToolFault.{ToolFault}
-use Rattle.kr_fold.specs.Parts.{IsImageFault}
+use Rattle.kr_fold.specs.inner.ImageParts.{IsImageFault}
 use Rattle.kr_fold.proofs.PartReading.{all_begun, end_fault}
 use Rattle.kr_fold.proofs.image.close.Goals as goal
 

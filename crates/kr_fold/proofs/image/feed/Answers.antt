@@ -1,7 +1,7 @@
 use Rattle.std.proofs.Common.{Err, sym, subst, ◌++◌}
 use Rattle.kr_snapshot.specs.Reading.{so_far}
 use Rattle.kr_fold.specs.declared.fault.ToolFault.{ToolFault}
-use Rattle.kr_fold.specs.Parts.{IsFed}
+use Rattle.kr_fold.specs.inner.ImageParts.{IsFed}
 use Rattle.kr_fold.proofs.PartReading.{fed_ok, fed_fault}
 use Rattle.kr_fold.proofs.image.feed.Goals as goal
 

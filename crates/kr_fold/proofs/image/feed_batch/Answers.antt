@@ -1,7 +1,7 @@
 use Rattle.std.proofs.Common.{◌≤◌, Ok, Err, List, ℕ, ◌++◌, take, drop, length, refl, subst, ◌∙◌, ap}
 use Rattle.kr_snapshot.specs.Reading.{so_far}
-use Rattle.kr_fold.specs.Parts.{IsFed}
-use Rattle.kr_fold.specs.Taken.{IsNoBatch, IsSized}
+use Rattle.kr_fold.specs.inner.ImageParts.{IsFed}
+use Rattle.kr_fold.specs.SourceBytes.{IsNoBatch, IsSized}
 use Rattle.kr_fold.proofs.Fronts.{stands_of}
 use Rattle.kr_fold.proofs.PartReading.{no_bytes, no_batch_fault, batch_part, batch_fault}
 use Rattle.kr_fold.proofs.image.feed_batch.Goals as goal

@@ -1,6 +1,6 @@
 use Rattle.std.proofs.Common.{Ok, Err, List, ℕ, [], subst, arith}
 use Rattle.kr_snapshot.specs.Reading.{so_far}
-use Rattle.kr_fold.specs.Parts.{IsFed}
+use Rattle.kr_fold.specs.inner.ImageParts.{IsFed}
 use Rattle.kr_fold.proofs.Fronts.{breaks_short}
 use Rattle.kr_fold.proofs.PartReading.{head_part, head_fault}
 use Rattle.kr_fold.proofs.image.feed_head.Goals as goal

@@ -1,5 +1,5 @@
 use Rattle.std.proofs.Common.{length, ◌-◌}
-use Rattle.kr_fold.specs.Parts.{IsPart}
+use Rattle.kr_fold.specs.inner.ImageParts.{IsPart}
 use Rattle.kr_fold.proofs.image.read_image.Given as goal
 
 abbrev pub invariant-loop-at : goal.invariant-loop-at

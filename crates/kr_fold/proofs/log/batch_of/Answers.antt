@@ -1,6 +1,6 @@
 use Rattle.std.proofs.Common.{sym, subst}
 use Rattle.std.specs.Prelude.{IfOk}
-use Rattle.kr_fold.specs.Followed.{IsRead}
+use Rattle.kr_fold.specs.inner.NextBatches.{IsRead}
 use Rattle.kr_fold.proofs.Batches.{none_read}
 use Rattle.kr_fold.proofs.log.batch_of.Goals as goal
 

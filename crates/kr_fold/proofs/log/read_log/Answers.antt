@@ -4,7 +4,7 @@ use Rattle.std.proofs.lemmas.Int.{ints, to_z-of_z}
 use Rattle.kr_defs.specs.Image.{Image}
 use Rattle.kr_store.specs.Images.{Images, last_kept, marked}
 use Rattle.kr_fold.specs.Endings.{EndsLog, IsLogFault, ReadsLog}
-use Rattle.kr_fold.specs.Followed.{IsReadTo, IsWithin, log_at}
+use Rattle.kr_fold.specs.inner.NextBatches.{IsReadTo, IsWithin, log_at}
 use Rattle.kr_fold.proofs.LogReading.{marked_new, reads_nothing}
 use Rattle.kr_fold.proofs.log.read_log.Goals as goal
 

@@ -2,8 +2,8 @@ use Rattle.std.proofs.Common.{◌≤◌, ◌-◌}
 use Rattle.std.specs.Prelude.{IsSome}
 use Rattle.kr_store.specs.Images.{last_kept}
 use Rattle.kr_fold.specs.Endings.{ReadsLog}
-use Rattle.kr_fold.specs.Followed.{IsWithin, log_at}
-use Rattle.kr_fold.specs.Taken.{longest}
+use Rattle.kr_fold.specs.inner.NextBatches.{IsWithin, log_at}
+use Rattle.kr_fold.specs.SourceBytes.{longest}
 use Rattle.kr_fold.proofs.log.read_log.Given as goal
 
 abbrev pub invariant-loop-next : goal.invariant-loop-next

@@ -2,8 +2,8 @@ use Rattle.std.proofs.Common.{◌≡◌, ◌∙◌, List, ℕ, length, Some, ref
 use Rattle.std.specs.Prelude.{FitsSigned}
 use Rattle.std.proofs.lemmas.Int.{to_z-of_z}
 use Rattle.kr_batch.specs.Grammar.{IsBatch}
-use Rattle.kr_fold.specs.Taken.{IsNext}
-use Rattle.kr_fold.specs.Followed.{IsFollowed, log_at}
+use Rattle.kr_fold.specs.SourceBytes.{IsNext}
+use Rattle.kr_fold.specs.inner.NextBatches.{IsFollowed, log_at}
 use Rattle.kr_fold.proofs.LogReading.{reads_none, reads_refused, reads_beyond, one_refused, within_beyond}
 use Rattle.kr_fold.proofs.log.read_next.Goals as goal
 

@@ -13,7 +13,7 @@ use Rattle.kr_batch.specs.declared.Batch.{Batch}
 use Rattle.kr_batch.specs.Grammar.{IsBatch}
 use Rattle.kr_fold.specs.declared.log.Place.{Place}
 use Rattle.kr_fold.specs.Logs.{Folded, followed}
-use Rattle.kr_fold.specs.Taken.{longest}
+use Rattle.kr_fold.specs.SourceBytes.{longest}
 use Rattle.kr_fold.specs.Endings.{ReadsLog, EndsLog}
 
 -- the image after an item, or why it has no meaning
