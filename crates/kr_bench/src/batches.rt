@@ -36,29 +36,29 @@ pub struct Encoded {
 }
 
 impl Encoded {
-    pub fn new(alloc: Global, kind: Kind) -> Result<Encoded, AllocError> {
-        let batch = made(alloc, kind)?;
+    pub(crate) fn new(alloc: Global, kind: Kind) -> Result<Encoded, AllocError> {
+        let batch = new_batch(alloc, kind)?;
         let mut bytes = Vec::new(alloc);
         encode(&batch, &mut bytes)?;
         round_trip();
         Ok(Encoded { kind, batch, bytes })
     }
 
-    pub fn as_bytes(&self) -> &[u8]
+    pub(crate) fn as_bytes(&self) -> &[u8]
         ensures { result.now ≡ self.now.bytes.items }
     {
         &self.bytes
     }
 
     /// How many records the batch has.
-    pub fn records(&self) -> usize
+    pub(crate) fn records(&self) -> usize
         ensures { result ≡ length self.now.batch.items }
     {
         self.batch.items.len()
     }
 
     /// The batch is this one.
-    pub fn has(&self, batch: &Batch) -> bool {
+    pub(crate) fn has(&self, batch: &Batch) -> bool {
         batch.base == self.batch.base
             && batch.epoch == self.batch.epoch
             && batch.time == self.batch.time
@@ -66,21 +66,21 @@ impl Encoded {
     }
 
     /// Appends the bytes of the batch.
-    pub fn encode(&self, out: &mut Vec<u8>) -> Result<(), AllocError>
+    pub(crate) fn encode(&self, out: &mut Vec<u8>) -> Result<(), AllocError>
         ensures { OnOk result (out.new.items ≡ out.old.items ++ batch_bytes self.now.batch) }
     {
         encode(&self.batch, out)
     }
 
     /// The batch, from its bytes: the very one, unless memory runs out.
-    pub fn decode(&self, alloc: Global) -> Result<Batch, BatchFault>
+    pub(crate) fn decode(&self, alloc: Global) -> Result<Batch, BatchFault>
         ensures { Gives result (Ok self.now.batch) }
     {
         kr_batch::decode(alloc, &self.bytes)
     }
 }
 
-fn made(alloc: Global, kind: Kind) -> Result<Batch, AllocError>
+fn new_batch(alloc: Global, kind: Kind) -> Result<Batch, AllocError>
     ensures { IfOk result (λ batch. batch ≡ batch_of kind) }
 {
     Ok(Batch {

@@ -13,7 +13,7 @@ const TOPIC: u128 = 0x0123_4567_89AB_CDEF_FEDC_BA98_7654_3210;
 
 /// The changes of so many partitions, numbered from 0.
 #[tactic(auto, unfolding(crate::specs::NumberedRecords::numbered))]
-pub fn changes(alloc: Global, count: u32) -> Result<Items, AllocError>
+pub(crate) fn changes(alloc: Global, count: u32) -> Result<Items, AllocError>
     requires { count ≤ MOST_RECORDS }
     ensures { IfOk result (λ items. items ≡ numbered change_at count) }
 {

@@ -13,7 +13,7 @@ const PARTITIONS: i32 = 90;
 const SETTINGS: i32 = 20;
 
 /// A record for each entry: 100 brokers, 100 topics with 90 partitions each, and 20 settings.
-pub fn entries(alloc: Global) -> Result<Vec<Record>, AllocError> {
+pub(crate) fn entries(alloc: Global) -> Result<Vec<Record>, AllocError> {
     let mut records = Vec::new(alloc);
     for id in 0..BROKERS {
         records.push(registration(alloc, id)?)?;

@@ -31,34 +31,34 @@ pub struct Written {
 }
 
 impl Written {
-    pub fn new(alloc: Global) -> Result<Written> {
-        let store = filled::<Brand>(alloc, Blank::new(1))?;
+    pub(crate) fn new(alloc: Global) -> Result<Written> {
+        let store = store_of_entries::<Brand>(alloc, Blank::new(1))?;
         let mut bytes = Vec::new(alloc);
         write(alloc, &store, At::Tip, OFFSET, &mut bytes)?;
         images();
         Ok(Written { store, bytes })
     }
 
-    pub fn as_bytes(&self) -> &[u8]
+    pub(crate) fn as_bytes(&self) -> &[u8]
         ensures { result.now ≡ self.now.bytes.items }
     {
         &self.bytes
     }
 
     /// How much the image has.
-    pub fn counts(&self) -> Counts {
+    pub(crate) fn counts(&self) -> Counts {
         self.store.counts()
     }
 
     /// Appends the bytes of the image.
-    pub fn write(&self, alloc: Global, out: &mut Vec<u8>) -> Result<(), SnapFault>
+    pub(crate) fn write(&self, alloc: Global, out: &mut Vec<u8>) -> Result<(), SnapFault>
         ensures { OnOk result (out.new.items ≡ out.old.items ++ image_text OFFSET self.now.store.tip) }
     {
         write(alloc, &self.store, At::Tip, OFFSET, out)
     }
 
     /// The offset and the image, from the bytes.
-    pub fn read(&self, alloc: Global) -> Result<(i64, ImageStore), ImageFault>
+    pub(crate) fn read(&self, alloc: Global) -> Result<(i64, ImageStore), ImageFault>
         ensures { IfOk result (λ x. (x.0 ≡ OFFSET) × (x.1 ≡ kept_once OFFSET self.now.store.tip)) }
     {
         let mut reader = Reader::new(alloc);
@@ -68,7 +68,7 @@ impl Written {
 }
 
 // A store with these entries.
-fn filled<L: Ledger>(alloc: Global, blank: Blank) -> Result<ImageStore>
+fn store_of_entries<L: Ledger>(alloc: Global, blank: Blank) -> Result<ImageStore>
     requires name { blank.name ≡ L.name }
     requires parts { blank.parts ≡ L.parts }
     requires whole { 0 < L.parts }

@@ -22,7 +22,7 @@ pub enum Form {
 }
 
 /// All jobs.
-pub const JOBS: [Job; 8] = [
+pub(crate) const JOBS: [Job; 8] = [
     Job::Checksum,
     Job::Encode(Kind::Changes),
     Job::Decode(Kind::Changes),
@@ -34,7 +34,7 @@ pub const JOBS: [Job; 8] = [
 ];
 
 impl Job {
-    pub fn name(self) -> &'static str {
+    pub(crate) fn name(self) -> &'static str {
         match self {
             Job::Checksum => "crc32c",
             Job::Encode(Kind::Changes) => "encode changes",
@@ -48,17 +48,17 @@ impl Job {
     }
 
     /// The bytes that the job reads or writes.
-    pub fn bytes(self, load: &Load) -> &[u8] {
+    pub(crate) fn bytes(self, load: &Load) -> &[u8] {
         match self {
             Job::Checksum => &load.summed,
-            Job::Encode(kind) | Job::Decode(kind) => encoded(load, kind).as_bytes(),
+            Job::Encode(kind) | Job::Decode(kind) => batch_of(load, kind).as_bytes(),
             Job::Request(form) => form.message(load),
         }
     }
 }
 
 impl Form {
-    pub fn message(self, load: &Load) -> &[u8] {
+    pub(crate) fn message(self, load: &Load) -> &[u8] {
         match self {
             Form::Whole => &load.message,
             Form::Half => &load.half,
@@ -68,7 +68,7 @@ impl Form {
 }
 
 /// The batch of that kind.
-pub fn encoded(load: &Load, kind: Kind) -> &Encoded {
+pub(crate) fn batch_of(load: &Load, kind: Kind) -> &Encoded {
     match kind {
         Kind::Changes => &load.changes,
         Kind::Settings => &load.settings,

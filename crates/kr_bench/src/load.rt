@@ -35,7 +35,7 @@ pub struct Load {
 }
 
 impl Load {
-    pub fn new(alloc: Global) -> Result<Load, AllocError> {
+    pub(crate) fn new(alloc: Global) -> Result<Load, AllocError> {
         let summed = numbers(alloc)?;
         Ok(Load {
             sum: crc32c(&summed),
@@ -50,14 +50,14 @@ impl Load {
     }
 
     /// The checksum, as it was counted at first.
-    pub fn sum(&self) -> u32
+    pub(crate) fn sum(&self) -> u32
         ensures { result ≡ crc.crc32c self.now.summed.items }
     {
         self.sum
     }
 
     /// The checksum, counted again.
-    pub fn checksum(&self) -> u32
+    pub(crate) fn checksum(&self) -> u32
         ensures { result ≡ crc.crc32c self.now.summed.items }
     {
         crc32c(&self.summed)
@@ -65,7 +65,7 @@ impl Load {
 }
 
 /// What the message asks.
-pub fn ask(alloc: Global, message: &[u8]) -> Result<Ask, AllocError>
+pub(crate) fn ask(alloc: Global, message: &[u8]) -> Result<Ask, AllocError>
     ensures { IfOk result (λ ask. IsAsk ask message.now) }
 {
     match kr_req::decode(alloc, message) {

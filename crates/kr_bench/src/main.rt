@@ -17,11 +17,11 @@ mod settings;
 mod timed;
 
 pub use mode::Mode;
-use mode::asked;
+use mode::read_mode;
 use std::process::ExitCode;
 
 fn main(rt: HostRuntime) -> anyhow::Result<ExitCode> {
-    match asked(&rt)? {
+    match read_mode(&rt)? {
         Some(Mode::Once) => once::print_jobs(&rt)?,
         Some(Mode::Time) => timed::print_table(&rt)?,
         Some(Mode::Message) => message::print_message(&rt)?,

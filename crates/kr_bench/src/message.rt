@@ -8,7 +8,7 @@ use std::io::{Input, Print, Read};
 const ROOM: usize = 1 << 23;
 
 /// Reads all of standard input as one message and prints a line on it. What is measured is how much memory that takes.
-pub fn print_message<R: Input + Print + AllocGlobal>(rt: &R) -> anyhow::Result<()> {
+pub(crate) fn print_message<R: Input + Print + AllocGlobal>(rt: &R) -> anyhow::Result<()> {
     let mut message = Vec::with_capacity(rt.alloc(), ROOM)?;
     rt.reader().read_to_end(&mut message)?;
     let what = match ask(rt.alloc(), &message)? {

@@ -18,7 +18,7 @@ pub enum Mode {
 }
 
 /// The way that the words of this process ask for. Words that aren't all text ask for none.
-pub fn asked<R: Env + AllocGlobal>(rt: &R) -> Result<Option<Mode>, WordsFault> {
+pub(crate) fn read_mode<R: Env + AllocGlobal>(rt: &R) -> Result<Option<Mode>, WordsFault> {
     match words_of(rt) {
         Ok(words) => Ok(mode_of(&words)),
         Err(WordsFault::NotText) => Ok(None),

@@ -2,7 +2,7 @@
 
 use crate::batches::Kind;
 use crate::image::Written;
-use crate::job::{Form, JOBS, Job, encoded};
+use crate::job::{Form, JOBS, Job, batch_of};
 use crate::load::{Load, ask};
 use crate::placing::place_all;
 use crate::request::topics_of;
@@ -10,7 +10,7 @@ use kr_batch::crc32c;
 use kr_store::{Counts, Store};
 
 /// Does each job once and prints a line on each.
-pub fn print_jobs<R: Print + AllocGlobal>(rt: &R) -> anyhow::Result<()> {
+pub(crate) fn print_jobs<R: Print + AllocGlobal>(rt: &R) -> anyhow::Result<()> {
     let load = Load::new(rt.alloc())?;
     for job in JOBS {
         match job {
@@ -31,7 +31,7 @@ fn print_checksum<R: Print + AllocGlobal>(rt: &R, load: &Load) -> anyhow::Result
 }
 
 fn print_encoded<R: Print + AllocGlobal>(rt: &R, load: &Load, kind: Kind) -> anyhow::Result<()> {
-    let encoded = encoded(load, kind);
+    let encoded = batch_of(load, kind);
     let mut bytes = Vec::new(rt.alloc());
     encoded.encode(&mut bytes)?;
     let (records, size, sum) = (encoded.records(), bytes.len(), crc32c(&bytes));
@@ -43,7 +43,7 @@ fn print_encoded<R: Print + AllocGlobal>(rt: &R, load: &Load, kind: Kind) -> any
 }
 
 fn print_decoded<R: Print + AllocGlobal>(rt: &R, load: &Load, kind: Kind) -> anyhow::Result<()> {
-    let encoded = encoded(load, kind);
+    let encoded = batch_of(load, kind);
     let batch = encoded.decode(rt.alloc())?;
     let (size, records) = (encoded.as_bytes().len(), batch.items.len());
     let is = if encoded.has(&batch) {

@@ -10,10 +10,10 @@ use kr_place::Grouped;
 use std::alloc::{AllocError, Global};
 
 /// How many brokers there are.
-pub const BROKERS: u32 = 1_000;
+pub(crate) const BROKERS: u32 = 1_000;
 
 /// How many partitions are placed.
-pub const PARTITIONS: u32 = 9_000;
+pub(crate) const PARTITIONS: u32 = 9_000;
 
 /// How many replicas each partition has.
 const FACTOR: usize = 3;
@@ -21,7 +21,7 @@ const FACTOR: usize = 3;
 const RACKS: [&str; 10] = ["a", "b", "c", "d", "e", "f", "g", "h", "i", "j"];
 
 /// The brokers, numbered from 0, each in the rack of its last digit.
-pub fn brokers(alloc: Global) -> Result<Vec<(i32, Option<Text>)>, AllocError>
+pub(crate) fn brokers(alloc: Global) -> Result<Vec<(i32, Option<Text>)>, AllocError>
     ensures { IfOk result (λ those. vec_len those ≡ BROKERS) }
 {
     let mut those = Vec::with_capacity(alloc, BROKERS as usize)?;
@@ -33,7 +33,10 @@ pub fn brokers(alloc: Global) -> Result<Vec<(i32, Option<Text>)>, AllocError>
 }
 
 /// The replicas of each partition. The racks are grouped once.
-pub fn place_all(alloc: Global, brokers: &[(i32, Option<Text>)]) -> Result<Vec<Ids>, AllocError>
+pub(crate) fn place_all(
+    alloc: Global,
+    brokers: &[(i32, Option<Text>)],
+) -> Result<Vec<Ids>, AllocError>
     ensures { IfOk result (λ placed. placed.items ≡ placements (grouped brokers.now) PARTITIONS) }
 {
     match group_and_place(alloc, brokers) {

@@ -7,7 +7,7 @@ use kr_wire::put_count;
 use std::alloc::{AllocError, Global};
 
 /// How many topics the longest message has: it is of 8,388,608 bytes.
-pub const TOPICS: u32 = 2_796_195;
+pub(crate) const TOPICS: u32 = 2_796_195;
 
 // ElectLeaders (key 43, version 2) under the correlation id 1 from the client `kr`, for type 0.
 const HEAD: [u8; 14] = [0, 43, 0, 2, 0, 0, 0, 1, 0, 2, 0x6B, 0x72, 0, 0];
@@ -19,7 +19,7 @@ const TOPIC: [u8; 3] = [1, 1, 0];
 const TAIL: [u8; 5] = [0; 5];
 
 /// The message that elects leaders in so many topics, and promises `promised` of them.
-pub fn message_of(alloc: Global, topics: u32, promised: u32) -> Result<Vec<u8>, AllocError>
+pub(crate) fn message_of(alloc: Global, topics: u32, promised: u32) -> Result<Vec<u8>, AllocError>
     requires topics { topics ≤ TOPICS }
     requires promised { promised < 2 ^ 31 }
 {
@@ -34,7 +34,7 @@ pub fn message_of(alloc: Global, topics: u32, promised: u32) -> Result<Vec<u8>, 
 }
 
 /// How many topics leaders are to be elected in, where that is asked.
-pub fn topics_of(ask: &Ask) -> Option<usize> {
+pub(crate) fn topics_of(ask: &Ask) -> Option<usize> {
     match ask {
         Ask::Call(call) => match &call.request {
             Request::ElectLeaders(request) => match &request.topics {

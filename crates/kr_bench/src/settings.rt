@@ -10,7 +10,7 @@ use std::alloc::{AllocError, Global};
 
 /// So many settings of one topic.
 #[tactic(auto, unfolding(crate::specs::NumberedRecords::numbered))]
-pub fn settings(alloc: Global, count: u32) -> Result<Items, AllocError>
+pub(crate) fn settings(alloc: Global, count: u32) -> Result<Items, AllocError>
     requires { count ≤ MOST_RECORDS }
     ensures { IfOk result (λ items. items ≡ numbered setting_at count) }
 {

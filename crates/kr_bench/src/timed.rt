@@ -5,7 +5,7 @@ ghost use Rattle.std.specs.Duration.{as_nanos};
 
 use crate::batches::Kind;
 use crate::image::Written;
-use crate::job::{Form, JOBS, Job, encoded};
+use crate::job::{Form, JOBS, Job, batch_of};
 use crate::load::{Load, ask};
 use crate::placing::{PARTITIONS, place_all};
 use crate::request::{TOPICS, topics_of};
@@ -31,7 +31,7 @@ struct Row {
 }
 
 /// Measures each job and prints a table. Time is the shortest of all rounds, and a MB a million bytes.
-pub fn print_table<R: Print + Clock + AllocGlobal>(rt: &R) -> Result<()> {
+pub(crate) fn print_table<R: Print + Clock + AllocGlobal>(rt: &R) -> Result<()> {
     let load = Load::new(rt.alloc())?;
     println!(rt; "the best of {ROUNDS} rounds, of {LONG_ROUNDS} of requests and images")?;
     println!(rt;
@@ -39,7 +39,7 @@ pub fn print_table<R: Print + Clock + AllocGlobal>(rt: &R) -> Result<()> {
         "job", "bytes", "MB/s", "MB/s of a copy"
     )?;
     for job in JOBS {
-        let row = measured(rt, rt.alloc(), &load, job)?;
+        let row = measure(rt, rt.alloc(), &load, job)?;
         print_row(rt, &row)?;
     }
     print_images(rt, rt.alloc())?;
@@ -98,7 +98,7 @@ fn rate(bytes: usize, time: Duration) -> u128
 }
 
 // The shortest rounds of the job, and then of the copy.
-fn measured(rt: &impl Clock, alloc: Global, load: &Load, job: Job) -> Result<Row> {
+fn measure(rt: &impl Clock, alloc: Global, load: &Load, job: Job) -> Result<Row> {
     let bytes = job.bytes(load);
     let mut room = Vec::with_capacity(alloc, bytes.len())?;
     let mut row = Row {
@@ -147,7 +147,7 @@ fn checksum_round(rt: &impl Clock, load: &Load) -> Result<Duration> {
 }
 
 fn encode_round(rt: &impl Clock, load: &Load, kind: Kind, room: &mut Vec<u8>) -> Result<Duration> {
-    let encoded = encoded(load, kind);
+    let encoded = batch_of(load, kind);
     room.clear();
     let start = Instant::now(rt)?;
     encoded.encode(room)?;
@@ -161,7 +161,7 @@ fn encode_round(rt: &impl Clock, load: &Load, kind: Kind, room: &mut Vec<u8>) ->
 
 // The batch that was decoded is dropped behind the time.
 fn decode_round(rt: &impl Clock, alloc: Global, load: &Load, kind: Kind) -> Result<Duration> {
-    let encoded = encoded(load, kind);
+    let encoded = batch_of(load, kind);
     let start = Instant::now(rt)?;
     let batch = encoded.decode(alloc)?;
     let time = start.elapsed(rt)?;

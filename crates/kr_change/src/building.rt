@@ -5,7 +5,7 @@ ghost use Rattle.kr_defs.specs.Build as builds;
 ghost use Rattle.kr_defs.specs.Merge as merges;
 ghost use Rattle.kr_defs.specs.Partition as formed;
 
-use crate::completing::ended;
+use crate::completing::end_reassignment;
 use crate::differing::difference;
 use crate::electing::elect;
 use crate::eligible::eligible_after;
@@ -14,7 +14,7 @@ use kr_base::NoMemory;
 use kr_defs::{Assignment, Choice, Copied, Facts, Ids, Partition, PartitionChange, Want};
 use std::alloc::Global;
 
-fn asked(alloc: Global, want: &Want) -> Result<Assignment, NoMemory>
+fn assignment_asked_for(alloc: Global, want: &Want) -> Result<Assignment, NoMemory>
     ensures { IfOk result (λ lists. lists ≡ builds.asked want.now) }
 {
     let in_sync = within(alloc, &want.replicas, &want.in_sync)?;
@@ -39,7 +39,7 @@ fn alone(alloc: Global, leader: i32) -> Result<Ids, NoMemory>
 
 // A leader that wasn't in sync is then alone in sync.
 #[tactic(auto, unfolding(kr_defs::specs::Build::settled))]
-fn settled(
+fn settle(
     alloc: Global,
     before: Assignment,
     leader: i32,
@@ -50,7 +50,7 @@ fn settled(
     match choice {
         Choice::Eligible | Choice::Unclean => {
             let in_sync = alone(alloc, leader)?;
-            ended(alloc, Assignment { in_sync, ..before })
+            end_reassignment(alloc, Assignment { in_sync, ..before })
         }
         Choice::InSync | Choice::Nobody => Ok(before),
     }
@@ -91,7 +91,7 @@ fn recovery_after(choice: Choice, recovery: i8) -> i8
 
 // The partition that follows, its epochs as before.
 #[tactic(auto, unfolding(kr_defs::specs::Build::aimed))]
-fn aimed(
+fn aim(
     alloc: Global,
     partition: &Partition,
     want: &Want,
@@ -99,8 +99,8 @@ fn aimed(
 ) -> Result<Partition, NoMemory>
     ensures { IfOk result (λ after. after ≡ builds.aimed partition.now want.now facts.now) }
 {
-    let lists = asked(alloc, want)?;
-    let before = ended(alloc, lists)?;
+    let lists = assignment_asked_for(alloc, want)?;
+    let before = end_reassignment(alloc, lists)?;
     let (leader, choice) = elect(
         partition,
         &before.replicas,
@@ -109,7 +109,7 @@ fn aimed(
         want.restarted,
         facts,
     );
-    let after = settled(alloc, before, leader, choice)?;
+    let after = settle(alloc, before, leader, choice)?;
     let (eligible, last_known) = standing_by(
         alloc,
         partition,
@@ -141,7 +141,7 @@ fn change_of(
 ) -> Result<Option<PartitionChange>, NoMemory>
     ensures { IfOk result (λ change. change ≡ builds.built partition.now want.now facts.now) }
 {
-    let after = aimed(alloc, partition, want, facts)?;
+    let after = aim(alloc, partition, want, facts)?;
     Ok(difference(partition, after))
 }
 

@@ -26,7 +26,7 @@ pub fn completes(replicas: &Ids, adding: &Ids, removing: &Ids, in_sync: &Ids) ->
     runs && is_target_in_sync(replicas.as_slice(), removing, in_sync)
 }
 
-fn reached(alloc: Global, before: &Assignment) -> Result<Assignment, NoMemory>
+fn reach_target(alloc: Global, before: &Assignment) -> Result<Assignment, NoMemory>
     ensures { IfOk result (λ after. after ≡ builds.reached before.now) }
 {
     let replicas = without(alloc, &before.replicas, &before.removing)?;
@@ -41,7 +41,7 @@ fn reached(alloc: Global, before: &Assignment) -> Result<Assignment, NoMemory>
 
 /// The lists after a reassignment that completes has ended; the given ones where none completes.
 #[tactic(auto, unfolding(kr_defs::specs::Build::ended))]
-pub fn ended(alloc: Global, before: Assignment) -> Result<Assignment, NoMemory>
+pub fn end_reassignment(alloc: Global, before: Assignment) -> Result<Assignment, NoMemory>
     ensures { IfOk result (λ after. after ≡ builds.ended before) }
 {
     if completes(
@@ -50,7 +50,7 @@ pub fn ended(alloc: Global, before: Assignment) -> Result<Assignment, NoMemory>
         &before.removing,
         &before.in_sync,
     ) {
-        reached(alloc, &before)
+        reach_target(alloc, &before)
     } else {
         Ok(before)
     }

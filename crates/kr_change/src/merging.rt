@@ -10,7 +10,7 @@ use kr_defs::{Copied, Ids, Partition, PartitionChange};
 use std::alloc::Global;
 
 // The new list where there is one, else the old.
-fn chosen(alloc: Global, new: &Option<Ids>, old: &Ids) -> Result<Ids, NoMemory>
+fn newer_list(alloc: Global, new: &Option<Ids>, old: &Ids) -> Result<Ids, NoMemory>
     ensures { IfOk result (λ list. list ≡ unwrap_or new.now old.now) }
 {
     let list = match new {
@@ -45,12 +45,12 @@ pub fn merge(
 ) -> Result<Partition, NoMemory>
     ensures { IfOk result (λ after. after ≡ merges.merged partition.now change.now) }
 {
-    let replicas = chosen(alloc, &change.replicas, &partition.replicas)?;
-    let in_sync = chosen(alloc, &change.in_sync, &partition.in_sync)?;
-    let eligible = chosen(alloc, &change.eligible, &partition.eligible)?;
-    let last_known = chosen(alloc, &change.last_known, &partition.last_known)?;
-    let adding = chosen(alloc, &change.adding, &partition.adding)?;
-    let removing = chosen(alloc, &change.removing, &partition.removing)?;
+    let replicas = newer_list(alloc, &change.replicas, &partition.replicas)?;
+    let in_sync = newer_list(alloc, &change.in_sync, &partition.in_sync)?;
+    let eligible = newer_list(alloc, &change.eligible, &partition.eligible)?;
+    let last_known = newer_list(alloc, &change.last_known, &partition.last_known)?;
+    let adding = newer_list(alloc, &change.adding, &partition.adding)?;
+    let removing = newer_list(alloc, &change.removing, &partition.removing)?;
     Ok(Partition {
         replicas,
         in_sync,

@@ -76,7 +76,7 @@ pub fn config_records<S: Store>(
     ensures { IfOk result (λ records. records ≡ filter_map (configs.config_record (S.images store.now).tip entry.now) values.now) }
 {
     let mut records = Records::new(alloc);
-    for (key, value) in values.named() {
+    for (key, value) in values.entries() {
         add_record(alloc, store, entry, key, value, &mut records)?;
     }
     Ok(records)

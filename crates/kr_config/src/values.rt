@@ -54,7 +54,7 @@ impl<'a> Values<'a> {
     }
 
     /// The keys and their values.
-    pub fn named(&self) -> &IndexMap<&'a str, Option<Text>>
+    pub fn entries(&self) -> &IndexMap<&'a str, Option<Text>>
         ensures { map (λ e. (e.0.now, e.1)) result.now.entries ≡ self.now }
     {
         &self.named

@@ -17,7 +17,7 @@ use Rattle.kr_defs.proofs.IdLists.{same_id, id_itself, refutes, all_at, all_from
 
 -- ---- numbers and tests
 
-le_through : (a b c : ℤ) → int_le a b ≡ true → int_le b c ≡ true → int_le a c ≡ true
+pub le_through : (a b c : ℤ) → int_le a b ≡ true → int_le b c ≡ true → int_le a c ≡ true
 le_through (pos a) (pos b) (pos c) h k = grind (arith, nat_tests)
 le_through (pos a) (pos b) (negsuc c) h k = absurd cc
 le_through (pos a) (negsuc b) c h k = absurd cc
@@ -120,7 +120,7 @@ stopping_begun : (tip : ℤ) (ids : List ℤ) → map (λ (s : Stopping). s.brok
 stopping_begun tip [] = refl
 stopping_begun tip (id ∷ ids) = ap (λ rest. id ∷ rest) (stopping_begun tip ids)
 
-le_itself : (a : ℤ) → int_le a a ≡ true
+pub le_itself : (a : ℤ) → int_le a a ≡ true
 le_itself (pos a) = grind (arith, nat_tests)
 le_itself (negsuc a) = grind (arith, nat_tests)
 

@@ -23,8 +23,8 @@ use Rattle.kr_defs.specs.declared.options.Options.{Options}
 use Rattle.kr_defs.specs.Heartbeats as hearing
 use Rattle.kr_defs.specs.Heartbeats.{Heartbeats}
 use Rattle.kr_defs.specs.Image.{Image}
+use Rattle.kr_defs.proofs.HeartbeatLists.{le_itself}
 use Rattle.kr_engine.proofs.FencingSteps.{left_in_time}
-use Rattle.kr_engine.proofs.EventsWithoutWrites.{le_itself}
 
 abbrev pub AreInTime : ℤ → Heartbeats → Type 0
 AreInTime now h = list_all (λ (c : Contact). int_le c.time now) h.contacts ≡ true

@@ -22,10 +22,11 @@ use Rattle.kr_defs.specs.ImageLaws.{as_items}
 use Rattle.kr_defs.specs.Log.{first_ill, tip}
 use Rattle.kr_defs.proofs.IdLists.{id_itself, same_id}
 use Rattle.kr_defs.proofs.Tests.{Gives, both, gives_done, gives_refuse, gives_then, not_false}
+use Rattle.kr_defs.proofs.HeartbeatLists.{le_itself}
 use Rattle.kr_snapshot.specs.Reading.{image_of}
 use Rattle.kr_engine.specs.declared.writes.Write.{Write}
 use Rattle.kr_engine.specs.Commits.{commit, committed_to, is_end}
-use Rattle.kr_engine.specs.Engine.{IsState}
+use Rattle.kr_engine.specs.Engine.{Rise}
 use Rattle.kr_engine.specs.Events.{counted, happens, outcome, timed}
 use Rattle.kr_engine.specs.Leaderships.{begun, ended, lead, leads_in, lose, may_begin_at, up_to}
 use Rattle.kr_engine.specs.Outputs.{is_open_in}
@@ -36,7 +37,6 @@ use Rattle.kr_engine.specs.Ticks.{fence, fence_all, fencing_of, lapsed, tick}
 use Rattle.kr_engine.specs.World.{State, World, image_of_tip, is_far, tip_of, with_batch, written}
 use Rattle.kr_engine.proofs.LossSteps.{not_higher}
 use Rattle.kr_engine.proofs.Places.{moves}
-use Rattle.kr_engine.proofs.EventsWithoutWrites.{le_itself, timed_state}
 
 -- what a batch leaves of a world
 pub record Leaves (w after : World) : Type 0 where
@@ -118,7 +118,8 @@ far_enough : (committed : ℕ) (offset : ℤ) → int_lt offset (pos committed) 
 far_enough committed (pos n) late = grind (arith, nat_tests)
 far_enough committed (negsuc n) late = absurd cc
 
-module _ (options : Options) (s : State) (writes : List Write) (k : IsState s writes) where
+-- the ends of the batches rise from the committed end to the tip
+module _ (options : Options) (s : State) (rise : Rise s.world.committed s.world.batch_ends (tip_of s)) where
   abbrev P : State → Type 0
   P after = Goes s.world after.world
 
@@ -137,7 +138,7 @@ module _ (options : Options) (s : State) (writes : List Write) (k : IsState s wr
       gives_refuse P (reasons.not_leading epoch s.world.leading) (not (leads_in s.world.leading epoch)) _ (λ _.
       gives_refuse P (reasons.bad_commit end (pos s.world.committed) (pos (tip_of s))) (not (is_end s.world end)) _ (λ ends.
       gives_done P (committed_to s end) (moved_goes s.world (committed_to s end).world refl refl
-      (moves s.world.log (tip_of s) s.world.committed s.world.batch_ends end k.ends (not_false (is_end s.world end) ends)).above)))
+      (moves s.world.log (tip_of s) s.world.committed s.world.batch_ends end rise (not_false (is_end s.world end) ends)).above)))
 
   loses_on : (epoch : ℤ) → Gives P (lose s epoch)
   loses_on epoch =
@@ -145,7 +146,7 @@ module _ (options : Options) (s : State) (writes : List Write) (k : IsState s wr
       gives_done P (ended s) (record { succeeds = record { greatest = le_itself s.world.greatest; leading = λ e is. absurd cc }; committed = omega arith }))
 
   ill_on : (batch : Batch) (o : Option (ℤ × Ill)) → Gives P (unless_ill o (followed s batch))
-  ill_on batch None = gives_done P (followed s batch) (moved_goes s.world (followed s batch).world refl refl (let low = not_higher s.world.committed s.world.batch_ends (tip_of s) k.ends in omega (arith, low)))
+  ill_on batch None = gives_done P (followed s batch) (moved_goes s.world (followed s batch).world refl refl (let low = not_higher s.world.committed s.world.batch_ends (tip_of s) rise in omega (arith, low)))
   ill_on batch (Some (place, cause)) = λ after is. absurd cc
 
   follows_on : (bytes : List ℕ) → Gives P (follow s bytes)
@@ -184,9 +185,9 @@ goes_or : (w : World) (s : State) (r : Result State Reason) → Goes w s.world �
 goes_or w s (Ok after) itself goes = let g = goes after refl in record { succeeds = record { greatest = g.succeeds.greatest; leading = g.succeeds.leading }; committed = g.committed }
 goes_or w s (Err reason) itself goes = record { succeeds = record { greatest = itself.succeeds.greatest; leading = itself.succeeds.leading }; committed = itself.committed }
 
-pub event_goes : (options : Options) (s : State) (writes : List Write) (event : Event) → IsState s writes → Goes s.world (happens options s event).world
-event_goes options s writes event k =
-    goes_or s.world (timed s event) (outcome options (timed s event) event) (goes_leaving s.world s.world (leaves_itself s.world)) (goes_on options (timed s event) writes (timed_state s writes event k) event)
+pub event_goes : (options : Options) (s : State) (event : Event) → Rise s.world.committed s.world.batch_ends (tip_of s) → Goes s.world (happens options s event).world
+event_goes options s event rise =
+    goes_or s.world (timed s event) (outcome options (timed s event) event) (goes_leaving s.world s.world (leaves_itself s.world)) (goes_on options (timed s event) rise event)
 
 -- ---- a write that waits no more
 

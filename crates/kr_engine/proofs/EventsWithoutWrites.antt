@@ -10,6 +10,7 @@ use Rattle.std.specs.List.{list_all}
 use Rattle.kr_calls.specs.declared.events.Event.{Event}
 use Rattle.kr_calls.specs.declared.events.Event.TheVariants as events
 use Rattle.kr_defs.specs.declared.basis.Contact.{Contact}
+use Rattle.kr_defs.proofs.HeartbeatLists.{le_itself, le_through}
 use Rattle.kr_defs.proofs.Tests.{both}
 use Rattle.kr_engine.specs.declared.writes.Write.{Write}
 use Rattle.kr_engine.specs.Engine.{Core, IsEngine, IsState}
@@ -19,19 +20,6 @@ use Rattle.kr_engine.specs.World.{State, World}
 use Rattle.kr_engine.proofs.Queues.{IsDrained}
 
 -- ---- times
-
-pub le_itself : (a : ℤ) → int_le a a ≡ true
-le_itself (pos a) = grind (arith, nat_tests)
-le_itself (negsuc a) = grind (arith, nat_tests)
-
-pub le_through : (a b c : ℤ) → int_le a b ≡ true → int_le b c ≡ true → int_le a c ≡ true
-le_through (pos a) (pos b) (pos c) h k = grind (arith, nat_tests)
-le_through (pos a) (pos b) (negsuc c) h k = absurd cc
-le_through (pos a) (negsuc b) c h k = absurd cc
-le_through (negsuc a) (pos b) (pos c) h k = refl
-le_through (negsuc a) (pos b) (negsuc c) h k = absurd cc
-le_through (negsuc a) (negsuc b) (pos c) h k = refl
-le_through (negsuc a) (negsuc b) (negsuc c) h k = grind (arith, nat_tests)
 
 le_of_not : (a b : ℤ) → int_lt b a ≡ false → int_le a b ≡ true
 le_of_not (pos a) (pos b) h = grind (arith, nat_tests)

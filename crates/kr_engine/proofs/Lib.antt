@@ -32,4 +32,5 @@ pub mod AppendSteps
 pub mod ContactTimes
 pub mod RequestDecisions
 pub mod RequestSteps
+pub mod WriteEpochs
 pub mod WriteOrders

@@ -21,6 +21,7 @@ use Rattle.kr_defs.specs.Log.{Log}
 use Rattle.kr_defs.specs.Map as entries
 use Rattle.kr_defs.proofs.Tests.{both}
 use Rattle.kr_calls.specs.NextBasis.{is_stopping}
+use Rattle.kr_defs.proofs.HeartbeatLists.{le_through}
 use Rattle.kr_safety.specs.HearingLaws.{HearsOf}
 use Rattle.kr_safety.proofs.BrokerTests.{by_get}
 use Rattle.kr_store.specs.Images.{AreValid, IsAbove, last_kept}
@@ -29,7 +30,7 @@ use Rattle.kr_engine.specs.Engine.{Core, IsEngine, IsSound, Rise, cleared, kept_
 use Rattle.kr_engine.specs.inner.Ready.{IsReady}
 use Rattle.kr_engine.specs.World.{State, image_of_tip, tip_of}
 use Rattle.kr_engine.proofs.LossSteps.{not_higher}
-use Rattle.kr_engine.proofs.EventsWithoutWrites.{grown, le_through}
+use Rattle.kr_engine.proofs.EventsWithoutWrites.{grown}
 
 -- ---- what is kept
 

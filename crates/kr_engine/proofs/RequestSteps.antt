@@ -33,6 +33,7 @@ use Rattle.kr_defs.specs.Heartbeats.{Heartbeats}
 use Rattle.kr_defs.specs.ImageLaws.{as_items}
 use Rattle.kr_defs.specs.Image.{Image, IsValid, empty}
 use Rattle.kr_defs.proofs.Tests.{both}
+use Rattle.kr_defs.proofs.HeartbeatLists.{le_itself}
 use Rattle.kr_safety.specs.HearingLaws.{HearsOf}
 use Rattle.kr_safety.proofs.HearingRequests.{requests_keep_hearing}
 use Rattle.kr_store.specs.Images.{AreValid, kept_at}
@@ -52,7 +53,7 @@ use Rattle.kr_engine.specs.inner.Serving.{SettlesAsk, TakesCall, TakesWrite, ask
 use Rattle.kr_engine.proofs.LogEntries.{Gains, batch_written, gained, gains_none}
 use Rattle.kr_engine.proofs.AppendSteps.{IsLonger, engine_behind, longer_by}
 use Rattle.kr_engine.proofs.ContactTimes.{AreInTime, decided_in_time}
-use Rattle.kr_engine.proofs.EventsWithoutWrites.{answers_then, le_itself}
+use Rattle.kr_engine.proofs.EventsWithoutWrites.{answers_then}
 use Rattle.kr_engine.proofs.FirstReasons.{IsAccepted, accepted_step, core_of, is_core, row, unless_refused}
 use Rattle.kr_engine.proofs.FencingSteps.{reached_later}
 use Rattle.kr_engine.proofs.ImageSteps.{committed_found}

@@ -69,7 +69,7 @@ impl BrokerTest for StoppingOnes {
     }
 }
 
-fn unfenced<S: Store>(alloc: Global, store: &S) -> Result<Ids, NoMemory>
+fn unfenced_brokers<S: Store>(alloc: Global, store: &S) -> Result<Ids, NoMemory>
     ensures { IfOk result (λ ids. ids ≡ brokers.unfenced (S.images store.now).tip) }
 {
     brokers_where(alloc, store, &UnfencedOnes)
@@ -121,7 +121,7 @@ impl Engine {
         ensures { OnOk result (self.new ≡ record self.old { heard = hearing.begin (brokers.unfenced self.old.images.tip) (brokers.stopping self.old.images.tip) self.old.time next.now }) }
     {
         let _valid = self.store.counts();
-        let unfenced = unfenced(self.alloc, &self.store)?;
+        let unfenced = unfenced_brokers(self.alloc, &self.store)?;
         let stopping = stopping(self.alloc, &self.store)?;
         self.sessions.begin(&unfenced, &stopping, self.time, *next)?;
         Ok(())

@@ -43,7 +43,7 @@ fn is_fenced_after(was: bool, fenced: &i8) -> bool
 }
 
 // The registration after a change of its two flags.
-fn changed(alloc: Global, old: &Broker, fenced: &i8, stopping: &i8) -> Result<Broker, NoMemory>
+fn with_flags(alloc: Global, old: &Broker, fenced: &i8, stopping: &i8) -> Result<Broker, NoMemory>
     ensures { IfOk result (λ state. state ≡ apply.changed old.now fenced.now stopping.now) }
 {
     let mut state = old.copied(alloc)?;
@@ -155,7 +155,7 @@ impl Timelines {
         if !is_fencing(fenced) || !is_flag(stopping) {
             return Err(ChangeFault::IllFormed(Ill::BadNumber));
         }
-        let state = changed(self.alloc, old, fenced, stopping)?;
+        let state = with_flags(self.alloc, old, fenced, stopping)?;
         self.set_broker(id, state)?;
         Ok(())
     }

@@ -10,7 +10,7 @@ use kr_store::At;
 use kr_timeline::Timeline;
 
 /// The value of the key.
-pub fn found<'a, K: Ord + Drop, V: Drop>(
+pub fn find_at<'a, K: Ord + Drop, V: Drop>(
     timeline: &'a Timeline<K, V>,
     at: At,
     key: &K,

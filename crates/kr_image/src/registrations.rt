@@ -9,7 +9,7 @@ use crate::sums::added_within;
 use kr_defs::limits::{MOST_ENDPOINTS, MOST_RANGES, MOST_REGISTRATION_TEXT};
 use kr_defs::{Broker, Endpoint, Range, Text};
 
-fn added(total: usize, more: usize) -> Option<usize>
+fn add_length(total: usize, more: usize) -> Option<usize>
     requires { total ≤ most }
     ensures some { IfSome result (λ sum. (sum ≡ total + more) × (sum ≤ most)) }
     ensures none { IsNone result → most < total + more }
@@ -24,8 +24,8 @@ fn with_endpoints(endpoints: &[Endpoint]) -> Option<usize>
 {
     let mut total = 0;
     for endpoint in endpoints {
-        let named = added(total, endpoint.name.len())?;
-        total = added(named, endpoint.host.len())?;
+        let named = add_length(total, endpoint.name.len())?;
+        total = add_length(named, endpoint.host.len())?;
     }
     Some(total)
 }
@@ -38,7 +38,7 @@ fn with_features(start: usize, features: &[Range]) -> Option<usize>
 {
     let mut total = start;
     for range in features {
-        total = added(total, range.name.len())?;
+        total = add_length(total, range.name.len())?;
     }
     Some(total)
 }
@@ -58,7 +58,7 @@ fn text_len(state: &Broker) -> Option<usize>
 {
     let named = with_endpoints(state.endpoints.as_slice())?;
     let featured = with_features(named, state.features.as_slice())?;
-    added(featured, rack_len(&state.rack))
+    add_length(featured, rack_len(&state.rack))
 }
 
 fn has_little_text(state: &Broker) -> bool

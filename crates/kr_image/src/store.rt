@@ -9,7 +9,7 @@ ghost use Rattle.kr_image.specs.Timelines.{keeps, made_of, tip_of};
 ghost use Rattle.kr_image.specs.KeptImages.{IsKept, IsStore, images_of};
 
 use crate::kept_counts::{KeptCounts, counts_at, keep_from, keep_up_to, kept_under};
-use crate::looking::{found, next};
+use crate::looking::{find_at, next};
 use crate::timelines::{ChangeFault, Timelines};
 use kr_base::{NoEpoch, NoMemory, Steps};
 use kr_defs::laws::{apply_keeps_valid, empty_is_valid};
@@ -206,31 +206,31 @@ impl Store for ImageStore {
     ghost images = { λ s. s };
 
     fn broker(&self, at: At, id: i32) -> Result<Option<&Broker>, NoEpoch> {
-        found(&self.timelines.brokers, at, &id)
+        find_at(&self.timelines.brokers, at, &id)
     }
 
     fn topic_named(&self, at: At, name: &Text) -> Result<Option<&Topic>, NoEpoch> {
-        match found(&self.timelines.names, at, name) {
-            Ok(Some(id)) => found(&self.timelines.topics, at, id),
+        match find_at(&self.timelines.names, at, name) {
+            Ok(Some(id)) => find_at(&self.timelines.topics, at, id),
             Ok(None) => Ok(None),
             Err(NoEpoch) => Err(NoEpoch),
         }
     }
 
     fn topic(&self, at: At, id: u128) -> Result<Option<&Topic>, NoEpoch> {
-        found(&self.timelines.topics, at, &id)
+        find_at(&self.timelines.topics, at, &id)
     }
 
     fn partition(&self, at: At, id: u128, index: i32) -> Result<Option<&Partition>, NoEpoch> {
-        found(&self.timelines.partitions, at, &(id, index))
+        find_at(&self.timelines.partitions, at, &(id, index))
     }
 
     fn config(&self, at: At, key: &ConfigKey) -> Result<Option<&Text>, NoEpoch> {
-        found(&self.timelines.configs, at, key)
+        find_at(&self.timelines.configs, at, key)
     }
 
     fn feature(&self, at: At, name: &Text) -> Result<Option<&i16>, NoEpoch> {
-        found(&self.timelines.features, at, name)
+        find_at(&self.timelines.features, at, name)
     }
 
     fn next_broker(&self, at: At, after: Option<&i32>) -> Result<Option<(&i32, &Broker)>, NoEpoch> {
@@ -239,7 +239,7 @@ impl Store for ImageStore {
 
     fn next_topic(&self, at: At, after: Option<&Text>) -> Result<Option<(&Text, &Topic)>, NoEpoch> {
         match next(&self.timelines.names, at, after) {
-            Ok(Some((name, id))) => match found(&self.timelines.topics, at, id) {
+            Ok(Some((name, id))) => match find_at(&self.timelines.topics, at, id) {
                 Ok(Some(topic)) => Ok(Some((name, topic))),
                 Ok(None) => Ok(None),
                 Err(NoEpoch) => Err(NoEpoch),

@@ -8,7 +8,7 @@ ghost use Rattle.kr_images.specs.Words.{TellsImage, image_words};
 use crate::reading::{first_byte, read_in};
 use crate::words::fault_text;
 use kr_image::ImageStore;
-use kr_rows::spaced;
+use kr_rows::join_by_space;
 use kr_snapshot::{images, write};
 use kr_store::At;
 use std::alloc::{AllocError, Global};
@@ -62,14 +62,14 @@ fn image_in_words(alloc: Global, offset: i64, store: &ImageStore) -> Result<Stri
     requires { pos 0 ≤ℤ offset }
     ensures { IfOk result (λ text. string_bytes text ≡ image_words offset store.now.tip) }
 {
-    let bytes = written(alloc, offset, store)?;
+    let bytes = write_again(alloc, offset, store)?;
     let digits = hex::encode(alloc, bytes.as_slice())?;
     let head = format!(in alloc; "ok {offset}")?;
-    spaced(alloc, &head, &digits)
+    join_by_space(alloc, &head, &digits)
 }
 
 // What is written for the present image.
-fn written(alloc: Global, offset: i64, store: &ImageStore) -> Result<Vec<u8>, AllocError>
+fn write_again(alloc: Global, offset: i64, store: &ImageStore) -> Result<Vec<u8>, AllocError>
     requires { pos 0 ≤ℤ offset }
     ensures { IfOk result (λ bytes. bytes.items ≡ image_text offset store.now.tip) }
 {

@@ -22,7 +22,7 @@ struct Tally {
 
 fn main(rt: HostRuntime) -> ExitCode {
     match compare(&rt) {
-        Ok(tally) => ended(&rt, tally),
+        Ok(tally) => print_tally(&rt, tally),
         Err(fault) => {
             let _ = eprintln!(rt; "{fault}");
             ExitCode::from(2)
@@ -31,7 +31,7 @@ fn main(rt: HostRuntime) -> ExitCode {
 }
 
 // Status 0 where all rows hold, else 1.
-fn ended(rt: &impl Print, tally: Tally) -> ExitCode {
+fn print_tally(rt: &impl Print, tally: Tally) -> ExitCode {
     let Tally { rows, held } = tally;
     if println!(rt; "images: {held} of {rows} rows hold").is_err() || held < rows {
         return ExitCode::from(1);

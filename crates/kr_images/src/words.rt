@@ -6,7 +6,7 @@ ghost use Rattle.kr_images.specs.Words as words;
 
 use kr_batch::BatchFault;
 use kr_defs::Ill;
-use kr_rows::spaced;
+use kr_rows::join_by_space;
 use kr_snapshot::{BatchCause, ImageFault};
 use std::alloc::{AllocError, Global};
 
@@ -18,17 +18,17 @@ pub fn fault_text(alloc: Global, fault: ImageFault, at: usize) -> Result<String,
     match fault {
         ImageFault::Batch { place, cause } => {
             let head = place_text(alloc, "1 Batch", place, at)?;
-            spaced(alloc, &head, cause_word(cause))
+            join_by_space(alloc, &head, cause_word(cause))
         }
         ImageFault::NoEnd { found, expected } => {
             let head = place_text(alloc, "2 NoEnd", 0, at)?;
             let counts = counts_text(alloc, found, expected)?;
-            spaced(alloc, &head, &counts)
+            join_by_space(alloc, &head, &counts)
         }
         ImageFault::Order { place } => place_text(alloc, "3 Order", place, at),
         ImageFault::IllFormed { place, cause } => {
             let head = place_text(alloc, "4 IllFormed", place, at)?;
-            spaced(alloc, &head, ill_word(cause))
+            join_by_space(alloc, &head, ill_word(cause))
         }
         ImageFault::NoMemory => Err(AllocError),
     }

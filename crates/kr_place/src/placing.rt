@@ -59,12 +59,12 @@ pub fn place(
         });
     }
     let first = start.unsigned_abs() + index.unsigned_abs() as u64;
-    Ok(chosen(alloc, brokers.as_slice(), first, wanted)?)
+    Ok(choose(alloc, brokers.as_slice(), first, wanted)?)
 }
 
 // The first `factor` brokers of all visits.
 #[tactic(auto, unfolding(kr_defs::specs::Placed::placed))]
-fn chosen(
+fn choose(
     alloc: Global,
     brokers: &[(i32, Option<Text>)],
     first: u64,

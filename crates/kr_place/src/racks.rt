@@ -25,7 +25,7 @@ fn add(alloc: Global, sorted: &mut Sorted, id: &i32, rack: &Option<Text>) -> Res
 
 // The brokers by id.
 #[tactic(auto, using(crate::proofs::Walks::walks))]
-fn sorted(alloc: Global, brokers: &[(i32, Option<Text>)]) -> Result<Sorted, NoMemory>
+fn sort_by_id(alloc: Global, brokers: &[(i32, Option<Text>)]) -> Result<Sorted, NoMemory>
     ensures { IfOk result (λ sorted. sorted.entries ≡ by_id brokers.now) }
 {
     let mut sorted = BTreeMap::new(alloc);
@@ -56,7 +56,7 @@ fn join(alloc: Global, racks: &mut Groups, id: &i32, rack: &Option<Text>) -> Res
     Ok(())
 }
 
-fn grouped(alloc: Global, sorted: &Sorted) -> Result<Groups, NoMemory>
+fn group_by_rack(alloc: Global, sorted: &Sorted) -> Result<Groups, NoMemory>
     ensures { IfOk result (λ racks. racks.entries ≡ fold joined [] sorted.now.entries) }
 {
     let mut racks = BTreeMap::new(alloc);
@@ -82,13 +82,13 @@ fn rows(alloc: Global, mut racks: Groups) -> Result<Vec<Ids>, NoMemory>
 pub fn racks_of(alloc: Global, brokers: &[(i32, Option<Text>)]) -> Result<Vec<Ids>, NoMemory>
     ensures { IfOk result (λ racks. racks.items ≡ racks_of brokers.now) }
 {
-    let sorted = sorted(alloc, brokers)?;
-    let groups = grouped(alloc, &sorted)?;
+    let sorted = sort_by_id(alloc, brokers)?;
+    let groups = group_by_rack(alloc, &sorted)?;
     rows(alloc, groups)
 }
 
 // The broker that a rack gives in a round, where it has one left.
-fn taken(rack: &Ids, first: u128, round: u128) -> Option<i32>
+fn pick(rack: &Ids, first: u128, round: u128) -> Option<i32>
     requires first { first < 2 ^ 64 }
     requires round { round < 2 ^ 126 }
     ensures { result ≡ cond (nat_lt round (length rack.now)) (slice_get rack.now ((first + round) % length rack.now)) None }
@@ -111,7 +111,7 @@ fn visit(racks: &[Ids], start: u128, k: u128) -> Option<i32>
 {
     let count = racks.len() as u128;
     match racks.get(((start + k) % count) as usize) {
-        Some(rack) => taken(rack, start / count, k / count),
+        Some(rack) => pick(rack, start / count, k / count),
         None => None,
     }
 }

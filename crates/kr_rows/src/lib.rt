@@ -6,5 +6,5 @@ mod plain;
 
 pub use fault::RowFault;
 pub use plain::{
-    bool_word, given_text, hex_text, ids_text, number_text, spaced, three_given, three_lists,
+    bool_word, given_text, hex_text, ids_text, join_by_space, number_text, three_given, three_lists,
 };

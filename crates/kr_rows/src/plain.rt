@@ -8,7 +8,7 @@ use kr_defs::Ids;
 use std::alloc::{AllocError, Global};
 
 /// Two words, a space between them.
-pub fn spaced(alloc: Global, before: &str, behind: &str) -> Result<String, AllocError>
+pub fn join_by_space(alloc: Global, before: &str, behind: &str) -> Result<String, AllocError>
     ensures { IfOk result (λ text. string_bytes text ≡ (before.now ␣ behind.now)) }
 {
     format!(in alloc; "{before} {behind}")
@@ -51,9 +51,9 @@ pub fn three_lists(
 {
     let first = ids_text(alloc, first.as_slice())?;
     let second = ids_text(alloc, second.as_slice())?;
-    let two = spaced(alloc, &first, &second)?;
+    let two = join_by_space(alloc, &first, &second)?;
     let third = ids_text(alloc, third.as_slice())?;
-    spaced(alloc, &two, &third)
+    join_by_space(alloc, &two, &third)
 }
 
 /// The ids, or `.` where no list is given.
@@ -77,9 +77,9 @@ pub fn three_given(
 {
     let first = given_text(alloc, first)?;
     let second = given_text(alloc, second)?;
-    let two = spaced(alloc, &first, &second)?;
+    let two = join_by_space(alloc, &first, &second)?;
     let third = given_text(alloc, third)?;
-    spaced(alloc, &two, &third)
+    join_by_space(alloc, &two, &third)
 }
 
 /// The number, or `.` where none is given.

@@ -14,7 +14,7 @@ ghost use Rattle.kr_rows_codec.specs.PrimitiveWords.{Tells, TellsLeft, TellsPrim
 use crate::records::wire_words;
 use kr_batch::crc32c;
 use kr_defs::Text;
-use kr_rows::{bool_word, hex_text, spaced};
+use kr_rows::{bool_word, hex_text, join_by_space};
 use kr_wire::*;
 use std::alloc::{AllocError, Global};
 
@@ -46,7 +46,7 @@ pub enum Primitive {
 }
 
 // How many bytes are left from a place on.
-fn left(bytes: &[u8], next: usize) -> usize
+fn bytes_left(bytes: &[u8], next: usize) -> usize
     requires { next ≤ length bytes.now }
     ensures { result ≡ length (drop next bytes.now) }
 {
@@ -72,7 +72,7 @@ fn value_text(
     ensures { IfOk result (λ text. string_bytes text ≡ (string_bytes value ␣ (encode_lower written.items ␣ decimal left))) }
 {
     let behind = written_text(alloc, &written, left)?;
-    spaced(alloc, &value, &behind)
+    join_by_space(alloc, &value, &behind)
 }
 
 fn uvarint_answer(alloc: Global, bytes: &[u8]) -> Result<String, AllocError>
@@ -83,7 +83,7 @@ fn uvarint_answer(alloc: Global, bytes: &[u8]) -> Result<String, AllocError>
             let value = format!(in alloc; "{number}")?;
             let mut out = Vec::new(alloc);
             put_uvarint(&mut out, number)?;
-            value_text(alloc, value, out, left(bytes, next))
+            value_text(alloc, value, out, bytes_left(bytes, next))
         }
         Err(fault) => String::from_str(alloc, wire_words(fault)),
     }
@@ -97,7 +97,7 @@ fn varint_answer(alloc: Global, bytes: &[u8]) -> Result<String, AllocError>
             let value = format!(in alloc; "{number}")?;
             let mut out = Vec::new(alloc);
             put_varint(&mut out, number)?;
-            value_text(alloc, value, out, left(bytes, next))
+            value_text(alloc, value, out, bytes_left(bytes, next))
         }
         Err(fault) => String::from_str(alloc, wire_words(fault)),
     }
@@ -111,7 +111,7 @@ fn varlong_answer(alloc: Global, bytes: &[u8]) -> Result<String, AllocError>
             let value = format!(in alloc; "{number}")?;
             let mut out = Vec::new(alloc);
             put_varlong(&mut out, number)?;
-            value_text(alloc, value, out, left(bytes, next))
+            value_text(alloc, value, out, bytes_left(bytes, next))
         }
         Err(fault) => String::from_str(alloc, wire_words(fault)),
     }
@@ -125,7 +125,7 @@ fn u16_answer(alloc: Global, bytes: &[u8]) -> Result<String, AllocError>
             let value = format!(in alloc; "{number}")?;
             let mut out = Vec::new(alloc);
             put_u16(&mut out, number)?;
-            value_text(alloc, value, out, left(bytes, next))
+            value_text(alloc, value, out, bytes_left(bytes, next))
         }
         Err(fault) => String::from_str(alloc, wire_words(fault)),
     }
@@ -139,7 +139,7 @@ fn u32_answer(alloc: Global, bytes: &[u8]) -> Result<String, AllocError>
             let value = format!(in alloc; "{number}")?;
             let mut out = Vec::new(alloc);
             put_u32(&mut out, number)?;
-            value_text(alloc, value, out, left(bytes, next))
+            value_text(alloc, value, out, bytes_left(bytes, next))
         }
         Err(fault) => String::from_str(alloc, wire_words(fault)),
     }
@@ -153,7 +153,7 @@ fn u64_answer(alloc: Global, bytes: &[u8]) -> Result<String, AllocError>
             let value = format!(in alloc; "{number}")?;
             let mut out = Vec::new(alloc);
             put_u64(&mut out, number)?;
-            value_text(alloc, value, out, left(bytes, next))
+            value_text(alloc, value, out, bytes_left(bytes, next))
         }
         Err(fault) => String::from_str(alloc, wire_words(fault)),
     }
@@ -167,7 +167,7 @@ fn i8_answer(alloc: Global, bytes: &[u8]) -> Result<String, AllocError>
             let value = format!(in alloc; "{number}")?;
             let mut out = Vec::new(alloc);
             put_i8(&mut out, number)?;
-            value_text(alloc, value, out, left(bytes, next))
+            value_text(alloc, value, out, bytes_left(bytes, next))
         }
         Err(fault) => String::from_str(alloc, wire_words(fault)),
     }
@@ -181,7 +181,7 @@ fn i16_answer(alloc: Global, bytes: &[u8]) -> Result<String, AllocError>
             let value = format!(in alloc; "{number}")?;
             let mut out = Vec::new(alloc);
             put_i16(&mut out, number)?;
-            value_text(alloc, value, out, left(bytes, next))
+            value_text(alloc, value, out, bytes_left(bytes, next))
         }
         Err(fault) => String::from_str(alloc, wire_words(fault)),
     }
@@ -195,7 +195,7 @@ fn i32_answer(alloc: Global, bytes: &[u8]) -> Result<String, AllocError>
             let value = format!(in alloc; "{number}")?;
             let mut out = Vec::new(alloc);
             put_i32(&mut out, number)?;
-            value_text(alloc, value, out, left(bytes, next))
+            value_text(alloc, value, out, bytes_left(bytes, next))
         }
         Err(fault) => String::from_str(alloc, wire_words(fault)),
     }
@@ -209,7 +209,7 @@ fn i64_answer(alloc: Global, bytes: &[u8]) -> Result<String, AllocError>
             let value = format!(in alloc; "{number}")?;
             let mut out = Vec::new(alloc);
             put_i64(&mut out, number)?;
-            value_text(alloc, value, out, left(bytes, next))
+            value_text(alloc, value, out, bytes_left(bytes, next))
         }
         Err(fault) => String::from_str(alloc, wire_words(fault)),
     }
@@ -224,7 +224,7 @@ fn count_answer(alloc: Global, bytes: &[u8]) -> Result<String, AllocError>
             let value = format!(in alloc; "{number}")?;
             let mut out = Vec::new(alloc);
             put_count(&mut out, number)?;
-            value_text(alloc, value, out, left(bytes, next))
+            value_text(alloc, value, out, bytes_left(bytes, next))
         }
         Err(fault) => String::from_str(alloc, wire_words(fault)),
     }
@@ -238,7 +238,7 @@ fn bool_answer(alloc: Global, bytes: &[u8]) -> Result<String, AllocError>
             let word = String::from_str(alloc, bool_word(value))?;
             let mut out = Vec::new(alloc);
             put_bool(&mut out, value)?;
-            value_text(alloc, word, out, left(bytes, next))
+            value_text(alloc, word, out, bytes_left(bytes, next))
         }
         Err(fault) => String::from_str(alloc, wire_words(fault)),
     }
@@ -261,7 +261,7 @@ fn id_answer(alloc: Global, bytes: &[u8]) -> Result<String, AllocError>
             let value = halves(alloc, id)?;
             let mut out = Vec::new(alloc);
             put_id(&mut out, id)?;
-            value_text(alloc, value, out, left(bytes, next))
+            value_text(alloc, value, out, bytes_left(bytes, next))
         }
         Err(fault) => String::from_str(alloc, wire_words(fault)),
     }
@@ -296,7 +296,7 @@ fn count_or_null_answer(alloc: Global, bytes: &[u8]) -> Result<String, AllocErro
             let value = count_or_null_text(alloc, count)?;
             let mut out = Vec::new(alloc);
             put_count_or_null(&mut out, count)?;
-            value_text(alloc, value, out, left(bytes, next))
+            value_text(alloc, value, out, bytes_left(bytes, next))
         }
         Err(fault) => String::from_str(alloc, wire_words(fault)),
     }
@@ -332,7 +332,7 @@ fn str_answer(alloc: Global, bytes: &[u8]) -> Result<String, AllocError>
     match read_str(bytes, 0) {
         Ok((span, next)) => {
             let text = text_at(alloc, bytes, span)?;
-            read_text(alloc, &text, left(bytes, next))
+            read_text(alloc, &text, bytes_left(bytes, next))
         }
         Err(fault) => String::from_str(alloc, wire_words(fault)),
     }
@@ -355,9 +355,9 @@ fn str_or_null_answer(alloc: Global, bytes: &[u8]) -> Result<String, AllocError>
     match read_str_or_null(bytes, 0) {
         Ok((Some(span), next)) => {
             let text = text_at(alloc, bytes, span)?;
-            read_text(alloc, &text, left(bytes, next))
+            read_text(alloc, &text, bytes_left(bytes, next))
         }
-        Ok((None, next)) => read_null(alloc, left(bytes, next)),
+        Ok((None, next)) => read_null(alloc, bytes_left(bytes, next)),
         Err(fault) => String::from_str(alloc, wire_words(fault)),
     }
 }
@@ -379,7 +379,7 @@ fn tag_answer(alloc: Global, bytes: &[u8], last: Option<u32>) -> Result<String, 
     match read_tag(bytes, 0, last) {
         Ok((tag, next)) => {
             let size = (tag.end - next) as u32;
-            read_tag_text(alloc, tag.number, size, left(bytes, next))
+            read_tag_text(alloc, tag.number, size, bytes_left(bytes, next))
         }
         Err(fault) => String::from_str(alloc, wire_words(fault)),
     }
@@ -390,7 +390,7 @@ fn tags_answer(alloc: Global, bytes: &[u8]) -> Result<String, AllocError>
 {
     match skip_tags(bytes, 0) {
         Ok(next) => {
-            let left = left(bytes, next);
+            let left = bytes_left(bytes, next);
             format!(in alloc; "{left}")
         }
         Err(fault) => String::from_str(alloc, wire_words(fault)),

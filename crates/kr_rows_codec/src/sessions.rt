@@ -7,7 +7,7 @@ ghost use Rattle.kr_rows_codec.specs.SessionWords as words;
 ghost use Rattle.kr_rows_codec.specs.SessionWords.{TellsSession};
 
 use kr_base::{MemorySink, MemorySource, NoMemory};
-use kr_rows::{hex_text, spaced};
+use kr_rows::{hex_text, join_by_space};
 use kr_run::{Status, session};
 use std::alloc::{AllocError, Global};
 
@@ -42,7 +42,7 @@ fn session_text(
     let digits = hex_text(alloc, written)?;
     let left = left.len();
     let bytes = format!(in alloc; "{left} {digits}")?;
-    spaced(alloc, &bytes, &status)
+    join_by_space(alloc, &bytes, &status)
 }
 
 /// How the session that begins the bytes ends, and what it writes.

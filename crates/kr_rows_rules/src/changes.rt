@@ -11,7 +11,7 @@ ghost use Rattle.kr_rows.specs.PlainWords as plain;
 
 use kr_base::NoMemory;
 use kr_defs::{Choice, Facts, Ids, Mode, Partition, PartitionChange, Want};
-use kr_rows::{bool_word, ids_text, number_text, spaced, three_given, three_lists};
+use kr_rows::{bool_word, ids_text, join_by_space, number_text, three_given, three_lists};
 use std::alloc::{AllocError, Global};
 
 fn lists_text(alloc: Global, p: &Partition) -> Result<String, AllocError>
@@ -19,7 +19,7 @@ fn lists_text(alloc: Global, p: &Partition) -> Result<String, AllocError>
 {
     let present = three_lists(alloc, &p.replicas, &p.in_sync, &p.eligible)?;
     let others = three_lists(alloc, &p.last_known, &p.adding, &p.removing)?;
-    spaced(alloc, &present, &others)
+    join_by_space(alloc, &present, &others)
 }
 
 fn state_text(alloc: Global, p: &Partition) -> Result<String, AllocError>
@@ -29,7 +29,7 @@ fn state_text(alloc: Global, p: &Partition) -> Result<String, AllocError>
     let (leader_epoch, partition_epoch) = (p.leader_epoch, p.partition_epoch);
     let state = format!(in alloc; "{leader} {recovery}")?;
     let epochs = format!(in alloc; "{leader_epoch} {partition_epoch}")?;
-    spaced(alloc, &state, &epochs)
+    join_by_space(alloc, &state, &epochs)
 }
 
 /// The partition's lists, its leader and recovery, and its epochs.
@@ -39,7 +39,7 @@ pub fn partition_text(alloc: Global, p: &Partition) -> Result<String, AllocError
 {
     let lists = lists_text(alloc, p)?;
     let state = state_text(alloc, p)?;
-    spaced(alloc, &lists, &state)
+    join_by_space(alloc, &lists, &state)
 }
 
 fn recovery_text(alloc: Global, recovery: Option<i8>) -> Result<String, AllocError>
@@ -57,11 +57,11 @@ fn change_text(alloc: Global, c: &PartitionChange) -> Result<String, AllocError>
 {
     let standing = three_given(alloc, &c.in_sync, &c.replicas, &c.removing)?;
     let others = three_given(alloc, &c.adding, &c.eligible, &c.last_known)?;
-    let lists = spaced(alloc, &standing, &others)?;
+    let lists = join_by_space(alloc, &standing, &others)?;
     let leader = number_text(alloc, c.leader)?;
     let recovery = recovery_text(alloc, c.recovery)?;
-    let numbers = spaced(alloc, &leader, &recovery)?;
-    spaced(alloc, &lists, &numbers)
+    let numbers = join_by_space(alloc, &leader, &recovery)?;
+    join_by_space(alloc, &lists, &numbers)
 }
 
 /// The partition after the change.
@@ -116,7 +116,7 @@ pub fn eligible_answer(
     )?;
     let eligible = ids_text(alloc, eligible.as_slice())?;
     let last_known = ids_text(alloc, last_known.as_slice())?;
-    Ok(spaced(alloc, &eligible, &last_known)?)
+    Ok(join_by_space(alloc, &eligible, &last_known)?)
 }
 
 fn choice_word(choice: Choice) -> &'static str

@@ -8,7 +8,7 @@ ghost use Rattle.kr_defs.specs.Ids as ids;
 ghost use Rattle.kr_rows_rules.specs.HeartbeatWords as words;
 
 use kr_defs::{Contact, Ids, Stopping};
-use kr_rows::{RowFault, spaced};
+use kr_rows::{RowFault, join_by_space};
 use kr_sessions::Sessions;
 use std::alloc::{AllocError, Global};
 
@@ -241,7 +241,7 @@ fn sessions_text(alloc: Global, sessions: &Sessions) -> Result<String, RowFault>
     let contacts = contacts_text(alloc, contacts.as_slice())?;
     let stops = sessions.stops()?;
     let stops = stops_text(alloc, stops.as_slice())?;
-    Ok(spaced(alloc, &contacts, &stops)?)
+    Ok(join_by_space(alloc, &contacts, &stops)?)
 }
 
 /// The contacts and the stopping brokers after these operations, in words.

@@ -85,7 +85,7 @@ impl Order {
 }
 
 // A name or a number in one of the first three sections.
-fn named(alloc: Global, section: Section, name: Text, number: Option<i32>) -> Rank
+fn rank_of_name(alloc: Global, section: Section, name: Text, number: Option<i32>) -> Rank
     ensures { rank_in result ≡ ranks.named (section_number section) name number }
 {
     Rank {
@@ -124,7 +124,7 @@ fn partition(
         Some(last) => {
             if last.id == *topic {
                 let name = last.name.copied(alloc)?;
-                Ok(Some(named(alloc, Section::Topics, name, Some(*index))))
+                Ok(Some(rank_of_name(alloc, Section::Topics, name, Some(*index))))
             } else {
                 Ok(None)
             }
@@ -140,15 +140,15 @@ fn rank_of(alloc: Global, last: &Option<Topic>, value: &Record) -> Result<Option
     match value {
         Record::FeatureLevel { name, .. } => {
             let name = name.copied(alloc)?;
-            Ok(Some(named(alloc, Section::Features, name, None)))
+            Ok(Some(rank_of_name(alloc, Section::Features, name, None)))
         }
         Record::RegisterBroker { broker, .. } => {
             let none = Text::new(alloc);
-            Ok(Some(named(alloc, Section::Brokers, none, Some(*broker))))
+            Ok(Some(rank_of_name(alloc, Section::Brokers, none, Some(*broker))))
         }
         Record::Topic { name, .. } => {
             let name = name.copied(alloc)?;
-            Ok(Some(named(alloc, Section::Topics, name, None)))
+            Ok(Some(rank_of_name(alloc, Section::Topics, name, None)))
         }
         Record::Partition { index, topic, .. } => partition(alloc, last, topic, index),
         Record::Config {

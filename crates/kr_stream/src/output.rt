@@ -41,20 +41,20 @@ fn frame(alloc: Global, output: &Output) -> Result<Vec<u8>, NoMemory>
     ensures { IfOk result (λ bytes. IsOutput output.now bytes.items) }
 {
     match output {
-        Output::Append { bytes } => sized(alloc, 0x81, bytes.as_slice()),
+        Output::Append { bytes } => sized_frame(alloc, 0x81, bytes.as_slice()),
         Output::Reply {
             client,
             correlation,
             reply,
         } => {
             let body = reply_body(alloc, *client, correlation, reply)?;
-            sized(alloc, 0x82, body.as_slice())
+            sized_frame(alloc, 0x82, body.as_slice())
         }
         Output::Refused { event, reason } => {
             let body = refusal_body(alloc, *event, reason)?;
-            sized(alloc, 0x83, body.as_slice())
+            sized_frame(alloc, 0x83, body.as_slice())
         }
-        Output::Image { bytes } => sized(alloc, 0x84, bytes.as_slice()),
+        Output::Image { bytes } => sized_frame(alloc, 0x84, bytes.as_slice()),
     }
 }
 
@@ -111,7 +111,7 @@ fn put_number(number: &i64, out: &mut Vec<u8>) -> Result<(), NoMemory>
 }
 
 // A kind and a body behind their size, where it fits its field.
-fn sized(alloc: Global, kind: u8, body: &[u8]) -> Result<Vec<u8>, NoMemory>
+fn sized_frame(alloc: Global, kind: u8, body: &[u8]) -> Result<Vec<u8>, NoMemory>
     ensures { IfOk result (λ bytes. IsFrame kind (Exactly body.now) bytes.items) }
 {
     let size = body.len() as u64 + 1;

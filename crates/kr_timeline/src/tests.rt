@@ -14,7 +14,7 @@ fn text(alloc: Global, text: &str) -> Result<Text, NoMemory> {
     Ok(Text::from_str(alloc, text)?)
 }
 
-fn shown(value: Option<&Text>) -> &str {
+fn text_of(value: Option<&Text>) -> &str {
     match value {
         Some(text) => text.as_str(),
         None => "none",
@@ -40,7 +40,7 @@ fn texts<L: Ledger>(rt: &impl Abort, alloc: Global, blank: Blank) -> Result<(), 
     let mut steps: Steps<L> = Steps::new(blank);
     let mut timeline = kept_texts(alloc)?;
     assert_eq!(rt; timeline.remove(7), Ok(true));
-    assert_eq!(rt; shown(timeline.get(&7)), "none");
+    assert_eq!(rt; text_of(timeline.get(&7)), "none");
     assert_eq!(rt; timeline.get_at(7, &7).map(shown), Ok("2"));
     assert_eq!(rt; timeline.get_at(5, &7).map(shown), Ok("1"));
     let first = timeline.next_at(5, None);
@@ -49,11 +49,11 @@ fn texts<L: Ledger>(rt: &impl Abort, alloc: Global, blank: Blank) -> Result<(), 
         Ok(Some((7, "1")))
     );
     assert_eq!(rt; timeline.revert(5, &mut steps), Ok(()));
-    assert_eq!(rt; shown(timeline.get(&7)), "1");
+    assert_eq!(rt; text_of(timeline.get(&7)), "1");
     assert_eq!(rt; timeline.get_at(7, &7).map(shown), Err(NoEpoch));
     timeline.forget_below(6, &mut steps);
     assert_eq!(rt; timeline.get_at(5, &7).map(shown), Err(NoEpoch));
-    assert_eq!(rt; shown(timeline.get(&7)), "1");
+    assert_eq!(rt; text_of(timeline.get(&7)), "1");
     Ok(())
 }
 

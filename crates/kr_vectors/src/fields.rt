@@ -37,7 +37,7 @@ impl<'a> Fields<'a> {
     where
         T::Err: Drop,
     {
-        parsed(self.word()?)
+        parse(self.word()?)
     }
 
     /// A number, or `.` for none.
@@ -49,7 +49,7 @@ impl<'a> Fields<'a> {
         if word == "." {
             return Ok(None);
         }
-        Ok(Some(parsed(word)?))
+        Ok(Some(parse(word)?))
     }
 
     /// Bytes in hex, `-` for none.
@@ -112,7 +112,7 @@ impl<'a> Fields<'a> {
 }
 
 /// A number that a word spells.
-pub(crate) fn parsed<T: FromStr>(word: &str) -> Result<T, RowFault>
+pub(crate) fn parse<T: FromStr>(word: &str) -> Result<T, RowFault>
 where
     T::Err: Drop,
 {
@@ -127,7 +127,7 @@ fn push_ids(word: &str, list: &mut Ids) -> Result<(), RowFault> {
         return Ok(());
     }
     for part in word.split(',') {
-        list.push(parsed(part)?)?;
+        list.push(parse(part)?)?;
     }
     Ok(())
 }

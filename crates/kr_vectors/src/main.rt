@@ -50,7 +50,7 @@ fn main(rt: HostRuntime) -> ExitCode {
         return ExitCode::from(2);
     };
     match compare(&rt, form) {
-        Ok(tally) => ended(&rt, &tally),
+        Ok(tally) => print_tally(&rt, &tally),
         Err(fault) => {
             let _ = eprintln!(rt; "{fault}");
             ExitCode::from(2)
@@ -59,7 +59,7 @@ fn main(rt: HostRuntime) -> ExitCode {
 }
 
 // Status 0 where all rows hold, else 1.
-fn ended(rt: &impl Print, tally: &Tally) -> ExitCode {
+fn print_tally(rt: &impl Print, tally: &Tally) -> ExitCode {
     if tell(rt, tally).is_err() || !tally.all_held {
         return ExitCode::from(1);
     }

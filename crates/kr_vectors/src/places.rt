@@ -1,6 +1,6 @@
 //! Rows on placement.
 
-use crate::fields::{Fields, parsed};
+use crate::fields::{Fields, parse};
 use kr_defs::Text;
 use kr_place::Racked;
 use kr_rows::RowFault;
@@ -35,9 +35,9 @@ fn push_broker(alloc: Global, part: &str, brokers: &mut Racked) -> Result<(), Ro
     match part.split_once(':') {
         Some((id, rack)) => {
             let rack = Text::from_str(alloc, rack)?;
-            push_racked(parsed(id)?, Some(rack), brokers)
+            push_racked(parse(id)?, Some(rack), brokers)
         }
-        None => push_racked(parsed(part)?, None, brokers),
+        None => push_racked(parse(part)?, None, brokers),
     }
 }
 

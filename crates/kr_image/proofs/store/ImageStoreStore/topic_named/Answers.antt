@@ -8,7 +8,7 @@ use Rattle.kr_image.proofs.store.ImageStoreStore.topic_named.Goals as goal
 pub returns-in-Ok-Some : goal.returns-in-Ok-Some
 returns-in-Ok-Some c =
     let names = rw (names_seen c.self.inside.timelines c.self.inside.kept.items c.self.invariant c.args.self.now c.self.view_is c.args.at, c.in-Ok-Some.field-0-is) at c.in-Ok-Some.ensures in
-    named_there (λ topic. IsOkAnd c.found-in-Ok-Some.result (λ value. option_copied value ≡ topic)) (IsErr c.found-in-Ok-Some.result) _ _ _ c.args.name.now c.in-Ok-Some.id.now (index_seen c.self.inside.timelines c.self.inside.kept.items c.self.invariant c.args.self.now c.self.view_is c.args.at) names c.found-in-Ok-Some.ensures
+    named_there (λ topic. IsOkAnd c.find_at-in-Ok-Some.result (λ value. option_copied value ≡ topic)) (IsErr c.find_at-in-Ok-Some.result) _ _ _ c.args.name.now c.in-Ok-Some.id.now (index_seen c.self.inside.timelines c.self.inside.kept.items c.self.invariant c.args.self.now c.self.view_is c.args.at) names c.find_at-in-Ok-Some.ensures
 
 pub returns-in-Ok-None : goal.returns-in-Ok-None
 returns-in-Ok-None c =

@@ -1,6 +1,6 @@
 use Rattle.std.proofs.Common.{arith}
 use Rattle.kr_stream.proofs.OutputFrames.{sized_is}
-use Rattle.kr_stream.proofs.output.sized.Goals as goal
+use Rattle.kr_stream.proofs.output.sized_frame.Goals as goal
 
 pub returns : goal.returns
 returns c =
