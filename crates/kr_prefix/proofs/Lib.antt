@@ -1,0 +1,6 @@
+pub mod AlikeEvents
+pub mod AlikeLogs
+pub mod AlikeOutputs
+pub mod AlikeStates
+pub mod OrderlyStates
+pub mod ReplacedPrefixes
