@@ -3,7 +3,7 @@ use Rattle.std.proofs.Common.{◌≡◌, ◌<◌, ◌∷◌, ◌++◌, [], List,
 use Rattle.std.specs.Prelude.{Option, Some, IsTrue, option_to_list}
 use Rattle.kr_calls.specs.declared.events.Event.{Event}
 use Rattle.kr_calls.specs.declared.events.Output.{Output}
-use Rattle.kr_engine.specs.Engine.{Core, Hands, IsSound, IsStep, are_in_order, left}
+use Rattle.kr_engine.specs.Engine.{Core, Hands, IsSound, IsStep, writes_in_order, left}
 use Rattle.kr_engine.specs.Events.{happens}
 use Rattle.kr_engine.specs.Outputs.{waiting_after}
 
@@ -21,7 +21,7 @@ handed_sound before after output hands sound = record {
   stands = hands.stands sound.state sound.writes sound.stands;
 }
 
-pub sound_order : (e : Core) → IsSound e → IsTrue (are_in_order e.held)
+pub sound_order : (e : Core) → IsSound e → IsTrue (writes_in_order e.held)
 sound_order e sound = sound.stands.ordered
 
 pub fewer_left : (before after : Core) (output : Output) → Hands before after (Some output) → length (left after) < length (left before)

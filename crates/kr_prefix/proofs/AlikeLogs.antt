@@ -10,7 +10,7 @@ use Rattle.kr_defs.specs.Guard.{and_then}
 use Rattle.kr_defs.specs.Image.{Image, empty}
 use Rattle.kr_defs.specs.Log.{Log, apply_all, image_at, tip}
 use Rattle.kr_engine.specs.Leaderships.{cut}
-use Rattle.kr_engine.specs.World.{seen_at, written}
+use Rattle.kr_engine.specs.World.{seen_at, log_with}
 use Rattle.kr_engine.proofs.Logs.{apply_append}
 
 -- the items before the offset of the short log make its image
@@ -52,7 +52,7 @@ module _ (long short : Log) (k : Shortens long short) where
   pub same_seen_at_tip : seen_at long (tip long) ≡ seen_at short (tip short)
   same_seen_at_tip = ap (seen_at long) same_tip ∙ same_seen (tip short) (omega arith)
 
-  pub shortens_written : (items : List Item) → Shortens (written long items) (written short items)
+  pub shortens_written : (items : List Item) → Shortens (log_with long items) (log_with short items)
   shortens_written items = record {
     prefix = k.prefix;
     items = ap (λ before. before ++ items) k.items ∙ append_assoc k.prefix short.items items;

@@ -18,7 +18,7 @@ use Rattle.kr_defs.specs.ImageLaws.{as_items}
 use Rattle.kr_defs.specs.Log.{Log, tip}
 use Rattle.kr_engine.specs.Events.{counted, later, timed}
 use Rattle.kr_engine.specs.Ticks.{fence, fence_all, fencing_of}
-use Rattle.kr_engine.specs.World.{State, World, hearing, image_of_end, image_of_tip, tip_of, with_batch, written}
+use Rattle.kr_engine.specs.World.{State, World, hearing, image_of_end, image_of_tip, tip_of, with_batch, log_with}
 use Rattle.kr_prefix.proofs.AlikeLogs.{Shortens, same_seen, same_seen_at_tip, same_tip, shortens_written}
 use Rattle.kr_prefix.proofs.OrderlyStates.{not_earlier, through}
 
@@ -109,7 +109,7 @@ module _ (before : State) where
 
   module _ (s r : State) (k : Alike before s r) (items : List Item) where
     abbrev longer : State → State
-    longer t = record t { world = record t.world { log = written t.world.log items; batch_ends = t.world.batch_ends ++ (tip t.world.log + length items) ∷ [] } }
+    longer t = record t { world = record t.world { log = log_with t.world.log items; batch_ends = t.world.batch_ends ++ (tip t.world.log + length items) ∷ [] } }
 
     longer_alike : Alike before (longer s) (longer r)
     longer_alike = record {

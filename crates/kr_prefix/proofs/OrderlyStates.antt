@@ -37,7 +37,7 @@ use Rattle.kr_engine.specs.Reasons as reasons
 use Rattle.kr_engine.specs.Replicas.{batch_or, end_of, follow, follow_batch, followed, image_or, load, load_image, loaded, unless_ill}
 use Rattle.kr_engine.specs.Requests.{after_ask, after_write, decided, is_decided, serve}
 use Rattle.kr_engine.specs.Ticks.{fence, fence_all, fencing_of, lapsed, tick}
-use Rattle.kr_engine.specs.World.{State, World, image_of_tip, is_far, start, tip_of, with_batch, written}
+use Rattle.kr_engine.specs.World.{State, World, image_of_tip, is_far, start, tip_of, with_batch, log_with}
 use Rattle.kr_engine.proofs.DueWrites.{Goes, Leaves, batch_leaves, event_goes}
 use Rattle.kr_engine.proofs.Logs.{cut_tip, tip_written}
 use Rattle.kr_engine.proofs.LongerLogs.{rise_more}
@@ -80,7 +80,7 @@ leads leading none some = let both : false ≡ true = sym (ap (λ (l : Option �
 -- ---- what is written
 
 module _ (w : World) (r : Rises w) where
-  longer : (items : List Item) → (length items == 0) ≡ false → Rises (record w { log = written w.log items; batch_ends = w.batch_ends ++ (tip w.log + length items) ∷ [] })
+  longer : (items : List Item) → (length items == 0) ≡ false → Rises (record w { log = log_with w.log items; batch_ends = w.batch_ends ++ (tip w.log + length items) ∷ [] })
   longer items some =
       let n = tip w.log + length items in record {
         started = r.started;
@@ -90,7 +90,7 @@ module _ (w : World) (r : Rises w) where
 
   pub rises_with_batch : (items : List Item) → Rises (with_batch w items)
   rises_with_batch items =
-      elim (length items == 0) as (λ b. (length items == 0) ≡ b → Rises (cond b w (record w { log = written w.log items; batch_ends = w.batch_ends ++ (tip w.log + length items) ∷ [] }))) [
+      elim (length items == 0) as (λ b. (length items == 0) ≡ b → Rises (cond b w (record w { log = log_with w.log items; batch_ends = w.batch_ends ++ (tip w.log + length items) ∷ [] }))) [
         | true ↦ λ _. r
         | false ↦ λ some. longer items some
       ] refl
@@ -163,7 +163,7 @@ module _ (options : Options) (s : State) (k : IsOrderly s) where
   follows_so batch none = record {
     rises = record {
       started = omega arith;
-      ends = subst (λ (ends : List ℕ). Rise (tip_of s + length batch.items) ends (tip (written s.world.log batch.items))) (sym (k.at_standby none).0) (sym (tip_written s.world.log batch.items));
+      ends = subst (λ (ends : List ℕ). Rise (tip_of s + length batch.items) ends (tip (log_with s.world.log batch.items))) (sym (k.at_standby none).0) (sym (tip_written s.world.log batch.items));
     };
     natural = k.natural;
     at_standby = k.at_standby;
