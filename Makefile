@@ -1,4 +1,4 @@
-# `make run` shows a session, by an unproved build; `make build` makes the proved tool; `make test` is the gate; `make bench` measures.
+# `make run` shows a session, and the image that it leaves, by an unproved build; `make build` makes the proved tool; `make test` is the gate; `make bench` measures.
 .PHONY: run build test bench tools
 
 tools:
@@ -14,6 +14,11 @@ run: tools
 	@cd crates/kr_tool && rt try --steps 1000 -- session <out/failover.in >out/failover.out 2>out/failover.log || { cat out/failover.log >&2; exit 1; }
 	@echo "Out:"
 	@tools/show-frames <crates/kr_tool/out/failover.out
+	@tools/batches <crates/kr_tool/out/failover.out >crates/kr_tool/out/failover.batches
+	@echo "The batches that it appended are folded to an image (the tool is built again) ..."
+	@cd crates/kr_tool && rt try --steps 1000 -- fold <out/failover.batches >out/failover.image 2>out/failover.log || { cat out/failover.log >&2; exit 1; }
+	@echo "The image as text (the tool is built again):"
+	@cd crates/kr_tool && rt try --steps 1000 -- dump <out/failover.image 2>out/failover.log || { cat out/failover.log >&2; exit 1; }
 
 # Each crate below the tool, behind those that it stands on: as many at once as there are processors.
 build: tools

@@ -12,7 +12,7 @@ use Rattle.kr_wire.proofs.FormLaws.{Follows, then, int8, int32, uvarint, text, i
 use Rattle.kr_wire.proofs.TaggedForms.{Within, FieldFollows}
 use Rattle.kr_record.specs.Encodable.{IsShort, FitsField}
 use Rattle.kr_record.specs.RecordRanges.{AreInts}
-use Rattle.kr_record.specs.Grammar.{unless, IsIds, IsIdsOrNull, IsIdsOrEmpty, IsUnless}
+use Rattle.kr_record.specs.Grammar.{unless_default, IsIds, IsIdsOrNull, IsIdsOrEmpty, IsUnless}
 
 pub text_or_null : (o : Option (List ℕ)) → Follows (IsTextOrNull o) (text_or_null_bytes o) (IfSome o IsShort) (IfSome o IsUtf8)
 text_or_null None = then (uvarint 0) (lit≤ tt) (λ p. tt) (λ q. tt)
@@ -40,7 +40,7 @@ byte n = record {
 }
 
 -- the number that spells "no change" is none
-never_default : (default n : ℤ) → unless default n ≢ Some default
+never_default : (default n : ℤ) → unless_default default n ≢ Some default
 never_default default n =
     let P : Bool → Type 0 = λ b. int_eq n default ≡ b → cond b None (Some n) ≡ Some default → ⊥ in
     let step : P (int_eq n default) = elim (int_eq n default) as P [
@@ -52,7 +52,7 @@ never_default default n =
 none_spelled : (default : ℤ) (o : Option ℤ) → o ≡ None → o ≢ Some default
 none_spelled default o none same = cc
 
-unless_held : (w : Width) (default n : ℤ) → FitsSigned w n → IfSome (unless default n) (FitsSigned w)
+unless_held : (w : Width) (default n : ℤ) → FitsSigned w n → IfSome (unless_default default n) (FitsSigned w)
 unless_held w default n fits = elim (int_eq n default) as (λ b. IfSome (cond b None (Some n)) (FitsSigned w)) [ true ↦ tt | false ↦ fits ]
 
 module _ (w : Width) (size : ℕ) (number : (n : ℤ) → Follows (IsSigned w n) (8 * size) (Unit {0}) (FitsSigned w n)) (default : ℤ) (o : Option ℤ) where

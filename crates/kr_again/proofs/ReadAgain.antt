@@ -19,7 +19,7 @@ use Rattle.kr_record.specs.RecordRanges.{IsHeld}
 use Rattle.kr_record.proofs.Lengths.{size}
 use Rattle.kr_batch.specs.declared.Batch.{Batch}
 use Rattle.kr_batch.specs.Grammar.{IsSized, IsBody, IsEntry, AreEntries, IsStart, IsSum, IsCount, IsFixed, AreItems, IsBatch}
-use Rattle.kr_batch.specs.BatchBytes.{IsWritable, IsHeldItem, IsRegular, value_bytes, values_size}
+use Rattle.kr_batch.specs.BatchBytes.{IsWritable, IsHeldItem, IsRegular, item_value, values_size}
 use Rattle.kr_again.specs.Items.{HasRecords}
 
 -- ---- a record's value
@@ -61,7 +61,7 @@ values_long (items.Record r ∷ others) fit =
       arith,
       size r (All-head IsWritable (items.Record r) others fit),
       values_long others (All-tail IsWritable (items.Record r) others fit),
-      sum_by-cons (λ x. length (value_bytes x)) (items.Record r) others,
+      sum_by-cons (λ x. length (item_value x)) (items.Record r) others,
       sum_by-cons item_bytes (items.Record r) others,
     )
 values_long (items.Control ∷ others) fit = absurd (All-head IsWritable items.Control others fit)

@@ -23,14 +23,14 @@ use Rattle.kr_batch.specs.declared.Batch.{Batch}
 use Rattle.kr_batch.specs.declared.fault.BatchFault.{BatchFault}
 use Rattle.kr_batch.specs.declared.fault.BatchFault.TheVariants as faults
 use Rattle.kr_batch.specs.Answers.{Gives}
-use Rattle.kr_batch.specs.Reading.{framed, caused, frame_at, entry_at, entries_of, fixed_at, items_of, place_of, sum_of, batch_of}
+use Rattle.kr_batch.specs.Reading.{framing_fault, caused, frame_at, entry_at, records_from, fixed_at, items_of, base_and_rest, sum_of, batch_of}
 use Rattle.kr_batch.specs.Grammar.{IsFrame, IsEntry, AreEntries, IsFixed, AreItems, IsBatch}
 use Rattle.kr_batch.proofs.Frames.{is_true, frame_law, value_fits}
 use Rattle.kr_batch.proofs.Heads.{fixed_law, long, place_sound, place_complete, sum_sound, sum_complete}
 
 -- ---- one record
 
-framed_ok : {X : Type 0} (at : ℕ) (r : Result X WireFault) (x : X) → framed at r ≡ Ok x → r ≡ Ok x
+framed_ok : {X : Type 0} (at : ℕ) (r : Result X WireFault) (x : X) → framing_fault at r ≡ Ok x → r ≡ Ok x
 framed_ok {X} at (Ok y) x e = let same : y ≡ x = cc in ap (λ z. let r : Result X WireFault = Ok z in r) same
 framed_ok at (Err d) x e = absurd cc
 
@@ -48,7 +48,7 @@ record ReadsEntry (at : ℕ) (last : Bool) (bytes : List ℕ) (r : Record) (rest
 entry_sound : (at : ℕ) (last : Bool) (bytes : List ℕ) (r : Record) (rest : List ℕ) → IsBytes bytes → entry_at at last bytes ≡ Ok (r, rest) → ReadsEntry at last bytes r rest
 unfolding entry_at
 entry_sound at last bytes r rest fits e =
-    let b = bind_ok (framed at (frame_at bytes)) _ (r, rest) e in
+    let b = bind_ok (framing_fault at (frame_at bytes)) _ (r, rest) e in
     let g = guard_ok (last && ltb 0 (length b.0.1)) _ _ (r, rest) b.2 in
     let h = guard_ok (not (int_eq b.0.0.0 (pos at))) _ _ (r, rest) g.1 in
     let d = bind_ok (caused at (record_of b.0.0.1)) (λ value. read_ok value b.0.1) (r, rest) h.1 in
@@ -73,7 +73,7 @@ entry_sound at last bytes r rest fits e =
 entry_complete : (at : ℕ) (last : Bool) (r : Record) (front rest : List ℕ) → IsEntry at r front → (last && ltb 0 (length rest)) ≡ false → entry_at at last (front ++ rest) ≡ Ok (r, rest)
 unfolding entry_at
 entry_complete at last r front rest is ended =
-    complete_bind (framed at (frame_at (front ++ rest))) _ ((pos at, is.value), rest) _ (ap (framed at) (frame_law.complete (pos at, is.value) front rest is.spelled))
+    complete_bind (framing_fault at (frame_at (front ++ rest))) _ ((pos at, is.value), rest) _ (ap (framing_fault at) (frame_law.complete (pos at, is.value) front rest is.spelled))
     (complete_guard _ _ _ _ ended (complete_guard _ _ _ _ (ap not (id_itself (pos at)))
     (complete_bind (caused at (record_of is.value)) _ r _ (ap (caused at) (record_complete is.value r is.is)) refl)))
 
@@ -84,15 +84,15 @@ behind_last n rest test none =
     let t : (eqb 0 0 && ltb 0 (length rest)) ≡ false = subst (λ (m : ℕ). (eqb m 0 && ltb 0 (length rest)) ≡ false) none test in
     nothing rest t
 
-entries_sound : (count at : ℕ) (bytes : List ℕ) (all : List Item) → IsBytes bytes → (count ≡ 0 → bytes ≡ []) → entries_of at count bytes ≡ Ok all
+entries_sound : (count at : ℕ) (bytes : List ℕ) (all : List Item) → IsBytes bytes → (count ≡ 0 → bytes ≡ []) → records_from at count bytes ≡ Ok all
     → AreEntries at all bytes × (length all ≡ count)
-unfolding entries_of
+unfolding records_from
 entries_sound zero at bytes all fits ended e =
     let same : [] ≡ all = is_ok _ _ e in
     subst (λ (l : List Item). AreEntries at l bytes × (length l ≡ 0)) same (ended refl, refl)
 entries_sound (suc n) at bytes all fits ended e =
-    let b = bind_ok (entry_at at (eqb n 0) bytes) (λ entry. (entries_of (at + 1) n entry.1 >>= λ others. Ok (items.Record entry.0 ∷ others))) all e in
-    let d = bind_ok (entries_of (at + 1) n b.0.1) (λ others. Ok (items.Record b.0.0 ∷ others)) all b.2 in
+    let b = bind_ok (entry_at at (eqb n 0) bytes) (λ entry. (records_from (at + 1) n entry.1 >>= λ others. Ok (items.Record entry.0 ∷ others))) all e in
+    let d = bind_ok (records_from (at + 1) n b.0.1) (λ others. Ok (items.Record b.0.0 ∷ others)) all b.2 in
     let s = entry_sound at (eqb n 0) bytes b.0.0 b.0.1 fits b.1 in
     let more = entries_sound n (at + 1) b.0.1 d.0 (IsBytes-behind s.front b.0.1 bytes s.parts fits) (behind_last n b.0.1 s.ended) d.1 in
     let same : (items.Record b.0.0 ∷ d.0) ≡ all = is_ok _ _ d.2 in
@@ -103,14 +103,14 @@ none_behind : (at : ℕ) (others : List Item) (right : List ℕ) → AreEntries 
 none_behind at [] right is = rw is refl
 none_behind at (x ∷ others) right is = rw (not_zero (suc (length others)) (omega arith)) refl
 
-entries_complete : (all : List Item) (at : ℕ) (bytes : List ℕ) → AreEntries at all bytes → entries_of at (length all) bytes ≡ Ok all
-unfolding entries_of
+entries_complete : (all : List Item) (at : ℕ) (bytes : List ℕ) → AreEntries at all bytes → records_from at (length all) bytes ≡ Ok all
+unfolding records_from
 entries_complete [] at bytes is = refl
 entries_complete (items.Record r ∷ others) at bytes is =
-    ap (λ b. entries_of at (suc (length others)) b) is.is
+    ap (λ b. records_from at (suc (length others)) b) is.is
     ∙ complete_bind (entry_at at (eqb (length others) 0) (is.left ++ is.right)) _ (r, is.right) _
     (entry_complete at (eqb (length others) 0) r is.left is.right is.first (none_behind (at + 1) others is.right is.second))
-    (complete_bind (entries_of (at + 1) (length others) is.right) _ others _ (entries_complete others (at + 1) is.right is.second) refl)
+    (complete_bind (records_from (at + 1) (length others) is.right) _ others _ (entries_complete others (at + 1) is.right is.second) refl)
 entries_complete (items.Control ∷ others) at bytes is = absurd is
 
 items_sound : (control : Bool) (count : ℕ) (bytes : List ℕ) (all : List Item) → IsBytes bytes → 1 ≤ count → items_of control count bytes ≡ Ok all
@@ -152,7 +152,7 @@ with_place place = sum_of place.1 >>= with_sum place.0
 
 -- what is read in these steps stands for the batch
 batch_there : (bytes : List ℕ) (place sum : ℤ × List ℕ) (fixed : (Bool × ℤ × ℕ) × List ℕ) (all : List Item) (batch : Batch) → IsBytes bytes
-    → place_of bytes ≡ Ok place → sum_of place.1 ≡ Ok sum → fixed_at sum.1 ≡ Ok fixed → int_lt place.0 (pos 0) ≡ false → items_of fixed.0.0 fixed.0.2 fixed.1 ≡ Ok all
+    → base_and_rest bytes ≡ Ok place → sum_of place.1 ≡ Ok sum → fixed_at sum.1 ≡ Ok fixed → int_lt place.0 (pos 0) ≡ false → items_of fixed.0.0 fixed.0.2 fixed.1 ≡ Ok all
     → with_items place.0 sum.0 fixed.0.1 all ≡ Ok batch → IsBatch batch bytes
 batch_there bytes place sum fixed all batch fits of_place of_sum of_fixed based of_items is =
     let p = place_sound bytes place fits of_place in
@@ -178,7 +178,7 @@ batch_there bytes place sum fixed all batch fits of_place of_sum of_fixed based 
 pub of_sound : (bytes : List ℕ) (batch : Batch) → IsBytes bytes → batch_of bytes ≡ Ok batch → IsBatch batch bytes
 unfolding batch_of
 of_sound bytes batch fits e =
-    let p = bind_ok (place_of bytes) with_place batch e in
+    let p = bind_ok (base_and_rest bytes) with_place batch e in
     let s = bind_ok (sum_of p.0.1) (with_sum p.0.0) batch p.2 in
     let f = bind_ok (fixed_at s.0.1) (with_fixed p.0.0 s.0.0) batch s.2 in
     let g = guard_ok (int_lt p.0.0 (pos 0)) (faults.BadOffset 0) (items_of f.0.0.0 f.0.0.2 f.0.1 >>= with_items p.0.0 s.0.0 f.0.0.1) batch f.2 in
@@ -190,7 +190,7 @@ unfolding batch_of
 of_complete bytes batch is =
     let some = long (batch.epoch, crc32c is.checked) (is.control, batch.time, length batch.items) is.checked is.records is.behind is.sum is.fixed in
     let e : is.checked ≡ is.fixed.left ++ is.records = is.fixed.is ∙ ap (λ (l : List ℕ). is.fixed.left ++ l) is.fixed.second in
-    complete_bind (place_of bytes) _ (batch.base, is.behind) _ (place_complete batch.base is.behind bytes some is.fits is.start)
+    complete_bind (base_and_rest bytes) _ (batch.base, is.behind) _ (place_complete batch.base is.behind bytes some is.fits is.start)
     (complete_bind (sum_of is.behind) _ (batch.epoch, is.checked) _ (sum_complete batch.epoch is.checked is.behind is.sum)
     (complete_bind (fixed_at is.checked) _ ((is.control, batch.time, length batch.items), is.records) _
     (ap fixed_at e ∙ fixed_law.complete (is.control, batch.time, length batch.items) is.fixed.left is.records is.fixed.first)

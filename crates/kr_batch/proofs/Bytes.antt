@@ -11,7 +11,7 @@ use Rattle.kr_wire.proofs.WrittenBytes.{OfBytes, ◌and◌, none_fits, number_fi
 use Rattle.kr_record.proofs.RecordForms.{record_fits as value_fits}
 use Rattle.kr_batch.specs.Crc.{crc32c}
 use Rattle.kr_batch.specs.declared.Batch.{Batch}
-use Rattle.kr_batch.specs.BatchBytes.{IsWritable, IsHeldItem, value_bytes, values_size, record_body, record_bytes, records_bytes, no_producer, fixed_bytes, checked_bytes, start_bytes, head_bytes, batch_bytes}
+use Rattle.kr_batch.specs.BatchBytes.{IsWritable, IsHeldItem, item_value, values_size, record_body, record_bytes, records_bytes, no_producer, fixed_bytes, checked_bytes, start_bytes, head_bytes, batch_bytes}
 use Rattle.kr_batch.proofs.Sizes.{body_short}
 
 -- ---- records
@@ -39,7 +39,7 @@ records_fit : (all : List Item) (at : ℕ) → at + length all ≤ 10000 → All
 unfolding records_bytes
 records_fit [] at few each held short = none_fits
 records_fit (items.Record r ∷ others) at few each held short =
-    let e = sum_by-cons (λ x. length (value_bytes x)) (items.Record r) others in
+    let e = sum_by-cons (λ x. length (item_value x)) (items.Record r) others in
     record_fits at _ (omega arith) (omega (arith, e)) (value_fits r each.0 held.0) and records_fit others (at + 1) (omega arith) each.1 held.1 (omega (arith, e))
 records_fit (items.Control ∷ others) at few each held short = absurd each.0
 

@@ -8,7 +8,7 @@ use Rattle.kr_defs.specs.declared.record.Item.TheVariants as items
 use Rattle.kr_wire.specs.Reading.{◌>>=◌}
 use Rattle.kr_batch.specs.declared.fault.BatchFault.{BatchFault}
 use Rattle.kr_batch.specs.Answers.{IsFault}
-use Rattle.kr_batch.specs.Reading.{entry_at, entries_of}
+use Rattle.kr_batch.specs.Reading.{entry_at, records_from}
 use Rattle.kr_batch.proofs.Faults.{through}
 
 -- the items that were read, and then those that are still to be read
@@ -21,9 +21,9 @@ last_of count number lt = grind (arith, nat_tests)
 
 -- the first of the records that are still to be read
 first_of_rest : (count number : ℕ) (bytes : List ℕ) → number < count
-    → entries_of number (count - number) bytes
-    ≡ (entry_at number (eqb (number + 1) count) bytes >>= λ entry. (entries_of (number + 1) (count - (number + 1)) entry.1 >>= λ others. Ok (items.Record entry.0 ∷ others)))
-unfolding entries_of
+    → records_from number (count - number) bytes
+    ≡ (entry_at number (eqb (number + 1) count) bytes >>= λ entry. (records_from (number + 1) (count - (number + 1)) entry.1 >>= λ others. Ok (items.Record entry.0 ∷ others)))
+unfolding records_from
 first_of_rest count number bytes lt =
     let e : count - number ≡ suc (count - (number + 1)) = omega arith in
     rw (e, last_of count number lt) refl
@@ -35,27 +35,27 @@ with_more xs x (Err e) = refl
 
 pub goes_on : (xs : List Item) (count number : ℕ) (bytes : List ℕ) (r : Record) (rest : List ℕ) (whole : Result (List Item) BatchFault) → number < count
     → entry_at number (eqb (number + 1) count) bytes ≡ Ok (r, rest)
-    → with_front xs (entries_of number (count - number) bytes) ≡ whole
-    → with_front (xs ++ items.Record r ∷ []) (entries_of (number + 1) (count - (number + 1)) rest) ≡ whole
+    → with_front xs (records_from number (count - number) bytes) ≡ whole
+    → with_front (xs ++ items.Record r ∷ []) (records_from (number + 1) (count - (number + 1)) rest) ≡ whole
 goes_on xs count number bytes r rest whole lt read so_far =
-    with_more xs (items.Record r) (entries_of (number + 1) (count - (number + 1)) rest)
-    ∙ sym (ap (with_front xs) (first_of_rest count number bytes lt ∙ ap (λ f. f >>= λ entry. (entries_of (number + 1) (count - (number + 1)) entry.1 >>= λ others. Ok (items.Record entry.0 ∷ others))) read))
+    with_more xs (items.Record r) (records_from (number + 1) (count - (number + 1)) rest)
+    ∙ sym (ap (with_front xs) (first_of_rest count number bytes lt ∙ ap (λ f. f >>= λ entry. (records_from (number + 1) (count - (number + 1)) entry.1 >>= λ others. Ok (items.Record entry.0 ∷ others))) read))
     ∙ so_far
 
 stops : (xs : List Item) (count number : ℕ) (bytes : List ℕ) (whole : Result (List Item) BatchFault) (e : BatchFault) → number < count
-    → with_front xs (entries_of number (count - number) bytes) ≡ whole
+    → with_front xs (records_from number (count - number) bytes) ≡ whole
     → entry_at number (eqb (number + 1) count) bytes ≡ Err e → whole ≡ Err e
 stops xs count number bytes whole e lt so_far read =
-    sym so_far ∙ ap (with_front xs) (first_of_rest count number bytes lt ∙ ap (λ f. f >>= λ entry. (entries_of (number + 1) (count - (number + 1)) entry.1 >>= λ others. Ok (items.Record entry.0 ∷ others))) read)
+    sym so_far ∙ ap (with_front xs) (first_of_rest count number bytes lt ∙ ap (λ f. f >>= λ entry. (records_from (number + 1) (count - (number + 1)) entry.1 >>= λ others. Ok (items.Record entry.0 ∷ others))) read)
 
 pub ends : (xs : List Item) (count number : ℕ) (bytes : List ℕ) (whole : Result (List Item) BatchFault) (e : BatchFault) → number < count
     → IsFault e (entry_at number (eqb (number + 1) count) bytes)
-    → with_front xs (entries_of number (count - number) bytes) ≡ whole → IsFault e whole
+    → with_front xs (records_from number (count - number) bytes) ≡ whole → IsFault e whole
 ends xs count number bytes whole e lt is so_far = through e _ whole (λ f read. stops xs count number bytes whole f lt so_far read) is
 
 pub is_done : (xs : List Item) (count number : ℕ) (bytes : List ℕ) (whole : Result (List Item) BatchFault) → count ≤ number
-    → with_front xs (entries_of number (count - number) bytes) ≡ whole → whole ≡ Ok xs
-unfolding entries_of
+    → with_front xs (records_from number (count - number) bytes) ≡ whole → whole ≡ Ok xs
+unfolding records_from
 is_done xs count number bytes whole le so_far =
     let none : count - number ≡ 0 = omega arith in
-    sym so_far ∙ ap (λ n. with_front xs (entries_of number n bytes)) none ∙ ap (λ l. let r : Result (List Item) BatchFault = Ok l in r) (append-nil xs)
+    sym so_far ∙ ap (λ n. with_front xs (records_from number n bytes)) none ∙ ap (λ l. let r : Result (List Item) BatchFault = Ok l in r) (append-nil xs)

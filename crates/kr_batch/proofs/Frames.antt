@@ -11,7 +11,7 @@ use Rattle.kr_wire.specs.Reading.{◌>>=◌, varint32_at}
 use Rattle.kr_wire.specs.Grammar.{◌⌢◌, Exactly, IsVarint32, IsVarint64}
 use Rattle.kr_wire.proofs.Laws.{IsBytes, Law, IsBytes-before, IsBytes-behind, bind_ok, ok_value, ok_rest, read_ok, joined, sound_then, sound_guard, sound_as, sound_done, complete_then, complete_guard, complete_bind, all_sound, all_complete}
 use Rattle.kr_wire.proofs.Numbers.{piece_law, varint32_law, varint64_law}
-use Rattle.kr_batch.specs.Reading.{sized_at, key_at, body_at, body_of, frame_at}
+use Rattle.kr_batch.specs.Reading.{sized_at, key_at, body_at, batch_body, frame_at}
 use Rattle.kr_batch.specs.Grammar.{natural, IsPiece, IsSome, IsSized, IsKey, IsBody, IsFrame}
 
 -- a part whose value is skipped
@@ -87,21 +87,21 @@ body_law = record {
       tail t) tail t) tail t) tail t) bytes is;
 }
 
-pub body_of_sound : (bytes : List ℕ) (x : ℤ × List ℕ) → IsBytes bytes → body_of bytes ≡ Ok x → IsBody x bytes
-unfolding body_of
+pub body_of_sound : (bytes : List ℕ) (x : ℤ × List ℕ) → IsBytes bytes → batch_body bytes ≡ Ok x → IsBody x bytes
+unfolding batch_body
 body_of_sound bytes x fits e = all_sound body_law Short bytes x fits e
 
-pub body_of_complete : (bytes : List ℕ) (x : ℤ × List ℕ) → IsBody x bytes → body_of bytes ≡ Ok x
-unfolding body_of
+pub body_of_complete : (bytes : List ℕ) (x : ℤ × List ℕ) → IsBody x bytes → batch_body bytes ≡ Ok x
+unfolding batch_body
 body_of_complete bytes x is = all_complete body_law Short bytes x is
 
 pub frame_law : Law IsFrame frame_at
 unfolding frame_at
 frame_law = record {
   sound = λ bytes fits y rest e.
-      let b = bind_ok (sized_at bytes) (λ body. (body_of body.0 >>= λ frame. Ok (frame, body.1))) (y, rest) e in
+      let b = bind_ok (sized_at bytes) (λ body. (batch_body body.0 >>= λ frame. Ok (frame, body.1))) (y, rest) e in
       let f = sized_law.sound bytes fits b.0.0 b.0.1 b.1 in
-      let d = bind_ok (body_of b.0.0) (λ frame. read_ok frame b.0.1) (y, rest) b.2 in
+      let d = bind_ok (batch_body b.0.0) (λ frame. read_ok frame b.0.1) (y, rest) b.2 in
       let of_front : IsBytes f.front = IsBytes-before f.front b.0.1 bytes f.parts fits in
       let of_right : IsBytes f.holds.right = IsBytes-behind f.holds.left f.holds.right f.front f.holds.is of_front in
       let of_body : IsBytes b.0.0 = subst IsBytes f.holds.second of_right in

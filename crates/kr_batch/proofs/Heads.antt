@@ -14,7 +14,7 @@ use Rattle.kr_wire.proofs.Laws.{IsBytes, Law, IsBytes-behind, bind_ok, guard_ok,
 use Rattle.kr_wire.proofs.Numbers.{piece_law, number_law, signed_law}
 use Rattle.kr_batch.specs.declared.fault.BatchFault.{BatchFault}
 use Rattle.kr_batch.specs.Crc.{crc32c}
-use Rattle.kr_batch.specs.Reading.{short, start_at, sum_at, fixed_at, is_count, is_short, place_of, sum_of}
+use Rattle.kr_batch.specs.Reading.{short, start_at, sum_at, fixed_at, is_count, is_short, base_and_rest, sum_of}
 use Rattle.kr_batch.specs.Grammar.{compression, is_control, IsPiece, IsSome, IsStart, IsSum, IsCount, IsFixed}
 use Rattle.kr_batch.proofs.Frames.{complete_some, is_true}
 
@@ -165,8 +165,8 @@ pub record IsPlace (x : ℤ × List ℕ) (bytes : List ℕ) : Type 0 where
   pub start : (IsStart (x.0, length x.1) ⌢ Exactly x.1) bytes
   pub small : IsBytes x.1
 
-pub place_sound : (bytes : List ℕ) (x : ℤ × List ℕ) → IsBytes bytes → place_of bytes ≡ Ok x → IsPlace x bytes
-unfolding place_of
+pub place_sound : (bytes : List ℕ) (x : ℤ × List ℕ) → IsBytes bytes → base_and_rest bytes ≡ Ok x → IsPlace x bytes
+unfolding base_and_rest
 place_sound bytes x fits e =
     let a = bind_ok (start_at bytes) _ x e in
     let g = guard_ok (is_short a.0.0.1 (length a.0.1)) _ _ x a.2 in
@@ -181,8 +181,8 @@ place_sound bytes x fits e =
     } in
     subst (λ (y : ℤ × List ℕ). IsPlace y bytes) same there
 
-pub place_complete : (base : ℤ) (behind bytes : List ℕ) → 49 ≤ length behind → length behind < 2 ^ 31 → (IsStart (base, length behind) ⌢ Exactly behind) bytes → place_of bytes ≡ Ok (base, behind)
-unfolding place_of
+pub place_complete : (base : ℤ) (behind bytes : List ℕ) → 49 ≤ length behind → length behind < 2 ^ 31 → (IsStart (base, length behind) ⌢ Exactly behind) bytes → base_and_rest bytes ≡ Ok (base, behind)
+unfolding base_and_rest
 place_complete base behind bytes some few is =
     let e : bytes ≡ is.left ++ behind = is.is ∙ ap (λ (l : List ℕ). is.left ++ l) is.second in
     complete_bind (start_at bytes) _ ((base, length behind), behind) _ (ap start_at e ∙ start_law.complete (base, length behind) is.left behind is.first)

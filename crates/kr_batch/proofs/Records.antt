@@ -3,16 +3,16 @@ use Rattle.std.proofs.Common.{◌≡◌, ℕ, suc, ◌+◌, ◌<◌, ◌≤◌, 
 use Rattle.std.proofs.lemmas.List.{append-nil}
 use Rattle.std.proofs.Math.ListN.{drop_of_length-le}
 use Rattle.kr_defs.specs.declared.record.Item.{Item}
-use Rattle.kr_batch.specs.BatchBytes.{record_bytes, records_bytes, value_bytes}
+use Rattle.kr_batch.specs.BatchBytes.{record_bytes, records_bytes, item_value}
 
 pub goes_on : (old new whole : List ℕ) (items : List Item) (i : ℕ) (item : Item) → i < length items → item ≡ get_or items i item
-    → new ≡ old ++ record_bytes i (value_bytes item) → old ++ records_bytes i (drop i items) ≡ whole
+    → new ≡ old ++ record_bytes i (item_value item) → old ++ records_bytes i (drop i items) ≡ whole
     → new ++ records_bytes (i + 1) (drop (i + 1) items) ≡ whole
 unfolding records_bytes
 goes_on old new whole items i item lt is added so_far =
     let rest : drop i items ≡ item ∷ drop (i + 1) items = rw add-one (drop-cons items i item lt ∙ ap (λ x. x ∷ drop (suc i) items) (sym is)) in
-    let one : records_bytes i (drop i items) ≡ record_bytes i (value_bytes item) ++ records_bytes (i + 1) (drop (i + 1) items) = ap (records_bytes i) rest in
-    ap (λ o. o ++ records_bytes (i + 1) (drop (i + 1) items)) added ∙ append_assoc old (record_bytes i (value_bytes item)) (records_bytes (i + 1) (drop (i + 1) items)) ∙ ap (λ t. old ++ t) (sym one) ∙ so_far
+    let one : records_bytes i (drop i items) ≡ record_bytes i (item_value item) ++ records_bytes (i + 1) (drop (i + 1) items) = ap (records_bytes i) rest in
+    ap (λ o. o ++ records_bytes (i + 1) (drop (i + 1) items)) added ∙ append_assoc old (record_bytes i (item_value item)) (records_bytes (i + 1) (drop (i + 1) items)) ∙ ap (λ t. old ++ t) (sym one) ∙ so_far
 
 pub ends : (old whole : List ℕ) (items : List Item) (i : ℕ) → length items ≤ i → old ++ records_bytes i (drop i items) ≡ whole → old ≡ whole
 unfolding records_bytes

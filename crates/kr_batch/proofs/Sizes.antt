@@ -6,7 +6,7 @@ use Rattle.kr_wire.specs.Spelling.{groups, varint32, varint64, number, signed}
 use Rattle.kr_wire.proofs.Lengths.{one_group, more_groups, groups_few}
 use Rattle.kr_defs.specs.declared.record.Item.{Item}
 use Rattle.kr_batch.specs.declared.Batch.{Batch}
-use Rattle.kr_batch.specs.BatchBytes.{record_body, record_bytes, records_bytes, no_producer, fixed_bytes, checked_bytes, value_bytes, values_size}
+use Rattle.kr_batch.specs.BatchBytes.{record_body, record_bytes, records_bytes, no_producer, fixed_bytes, checked_bytes, item_value, values_size}
 
 pub one : (n : ℕ) → n < 64 → 1 ≡ length (varint32 (pos n))
 unfolding varint32
@@ -86,10 +86,10 @@ records_length : (delta : ℕ) (items : List Item) → length (records_bytes del
 unfolding records_bytes
 records_length delta [] = omega arith
 records_length delta (i ∷ items) =
-    let a = record_length delta (value_bytes i) in
+    let a = record_length delta (item_value i) in
     let b = records_length (delta + 1) items in
-    let d = length-append (record_bytes delta (value_bytes i)) (records_bytes (delta + 1) items) in
-    let e = sum_by-cons (λ x. length (value_bytes x)) i items in
+    let d = length-append (record_bytes delta (item_value i)) (records_bytes (delta + 1) items) in
+    let e = sum_by-cons (λ x. length (item_value x)) i items in
     omega (arith, a, b, d, e)
 
 fixed_length : (count : ℕ) (time : ℤ) → length (fixed_bytes count time) ≡ 40

@@ -20,7 +20,7 @@ use Rattle.kr_record.proofs.RecordForms.{stands}
 use Rattle.kr_batch.specs.Crc.{polynomial, bit_step, bit_steps, byte_step, crc32c}
 use Rattle.kr_batch.specs.declared.Batch.{Batch}
 use Rattle.kr_batch.specs.Grammar.{IsSized, IsKey, IsBody, IsEntry, AreEntries, IsFixed, IsSum, IsBatch}
-use Rattle.kr_batch.specs.BatchBytes.{IsWritable, IsHeldItem, IsRegular, value_bytes, values_size, record_body, record_bytes, records_bytes, no_producer, fixed_bytes, checked_bytes, start_bytes, head_bytes, batch_bytes}
+use Rattle.kr_batch.specs.BatchBytes.{IsWritable, IsHeldItem, IsRegular, item_value, values_size, record_body, record_bytes, records_bytes, no_producer, fixed_bytes, checked_bytes, start_bytes, head_bytes, batch_bytes}
 use Rattle.kr_batch.specs.Reading.{batch_of}
 use Rattle.kr_batch.proofs.Batches.{of_complete}
 use Rattle.kr_batch.proofs.Sizes.{body_short, checked_length}
@@ -77,7 +77,7 @@ entries_spelled : (all : List Item) (at : ℕ) → at + length all ≤ 10000 →
 unfolding records_bytes
 entries_spelled [] at few each held short = refl
 entries_spelled (items.Record r ∷ others) at few each held short =
-    let e = sum_by-cons (λ x. length (value_bytes x)) (items.Record r) others in
+    let e = sum_by-cons (λ x. length (item_value x)) (items.Record r) others in
     joined _ _ (entry_spelled at r (omega arith) (stands r each.0 held.0) (omega (arith, e))) (entries_spelled others (at + 1) (omega arith) each.1 held.1 (omega (arith, e)))
 entries_spelled (items.Control ∷ others) at few each held short = absurd each.0
 

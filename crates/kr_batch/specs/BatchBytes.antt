@@ -13,9 +13,9 @@ use Rattle.kr_batch.specs.Crc.{crc32c}
 use Rattle.kr_batch.specs.declared.Batch.{Batch}
 
 -- the value of a record; a control item has none
-abbrev pub value_bytes : Item → List ℕ
-value_bytes (items.Record value) = record_value value
-value_bytes items.Control = []
+abbrev pub item_value : Item → List ℕ
+item_value (items.Record value) = record_value value
+item_value items.Control = []
 
 -- a record that has a written form
 abbrev pub IsWritable : Item → Type 0
@@ -29,7 +29,7 @@ IsHeldItem items.Control = Unit {0}
 
 -- the bytes of all values together
 abbrev pub values_size : List Item → ℕ
-values_size items = sum_by (λ i. length (value_bytes i)) items
+values_size items = sum_by (λ i. length (item_value i)) items
 
 -- attributes 0, timestamp delta 0, offset delta, no key (-1), the value behind its length, and no headers
 unfoldable pub record_body : ℕ → List ℕ → List ℕ
@@ -44,7 +44,7 @@ record_bytes delta value = varint32 (pos (length (record_body delta value))) ++ 
 -- records, numbered from here on
 unfoldable pub records_bytes : ℕ → List Item → List ℕ
 records_bytes delta [] = []
-records_bytes delta (item ∷ items) = record_bytes delta (value_bytes item) ++ records_bytes (delta + 1) items
+records_bytes delta (item ∷ items) = record_bytes delta (item_value item) ++ records_bytes (delta + 1) items
 
 -- no producer: its id, epoch and base sequence are -1
 unfoldable pub no_producer : List ℕ

@@ -45,8 +45,8 @@ body_at bytes = do
   refuse wire.Short when not (int_eq headers.0 (pos 0)) else Ok ((delta.0, value.0), headers.1)
 
 -- all of a body
-unfoldable pub body_of : List ℕ → Result (ℤ × List ℕ) WireFault
-body_of bytes = do
+unfoldable pub batch_body : List ℕ → Result (ℤ × List ℕ) WireFault
+batch_body bytes = do
   body ← body_at bytes
   refuse wire.Short when nat_lt 0 (length body.1) else Ok body.0
 
@@ -54,14 +54,14 @@ body_of bytes = do
 unfoldable pub frame_at : List ℕ → Read (ℤ × List ℕ)
 frame_at bytes = do
   body ← sized_at bytes
-  frame ← body_of body.0
+  frame ← batch_body body.0
   Ok (frame, body.1)
 
 -- ---- records
 
-abbrev pub framed : {X : Type 0} → ℕ → Result X WireFault → Result X BatchFault
-framed at (Ok x) = Ok x
-framed at (Err fault) = Err (faults.Record at Framing)
+abbrev pub framing_fault : {X : Type 0} → ℕ → Result X WireFault → Result X BatchFault
+framing_fault at (Ok x) = Ok x
+framing_fault at (Err fault) = Err (faults.Record at Framing)
 
 abbrev pub caused : {X : Type 0} → ℕ → Result X RecordFault → Result X BatchFault
 caused at (Ok x) = Ok x
@@ -70,18 +70,18 @@ caused at (Err cause) = Err (faults.Record at (Value cause))
 -- The record at this number: its frame, that nothing is behind the last one, its offset delta, its value.
 unfoldable pub entry_at : ℕ → Bool → List ℕ → Result (Record × List ℕ) BatchFault
 entry_at at last bytes = do
-  frame ← framed at (frame_at bytes)
+  frame ← framing_fault at (frame_at bytes)
   refuse (faults.Record at Framing) when last && nat_lt 0 (length frame.1) else
       refuse (faults.BadOffset at) when not (int_eq frame.0.0 (pos at)) else do
         value ← caused at (record_of frame.0.1)
         Ok (value, frame.1)
 
 -- so many records, numbered from here on
-unfoldable pub entries_of : ℕ → ℕ → List ℕ → Result (List Item) BatchFault
-entries_of at zero bytes = Ok []
-entries_of at (suc count) bytes = do
+unfoldable pub records_from : ℕ → ℕ → List ℕ → Result (List Item) BatchFault
+records_from at zero bytes = Ok []
+records_from at (suc count) bytes = do
   entry ← entry_at at (count == 0) bytes
-  others ← entries_of (at + 1) count entry.1
+  others ← records_from (at + 1) count entry.1
   Ok (items.Record entry.0 ∷ others)
 
 -- ---- the fields before the records
@@ -125,15 +125,15 @@ fixed_at bytes = do
 -- ---- a batch
 
 unfoldable pub items_of : Bool → ℕ → List ℕ → Result (List Item) BatchFault
-items_of control count bytes = if control then Ok (replicate count items.Control) else entries_of 0 count bytes
+items_of control count bytes = if control then Ok (replicate count items.Control) else records_from 0 count bytes
 
 -- The size is that of the bytes behind it, and has room for the fields before the records.
 abbrev pub is_short : ℕ → ℕ → Bool
 is_short size rest = nat_lt size 49 || nat_le (2 ^ 31) size || nat_lt rest size
 
 -- base, and all that follows the size
-unfoldable pub place_of : List ℕ → Result (ℤ × List ℕ) BatchFault
-place_of bytes = do
+unfoldable pub base_and_rest : List ℕ → Result (ℤ × List ℕ) BatchFault
+base_and_rest bytes = do
   start ← start_at bytes
   refuse faults.Short when is_short start.0.1 (length start.1) else
       refuse faults.Trailing when nat_lt start.0.1 (length start.1) else Ok (start.0.0, start.1)
@@ -146,7 +146,7 @@ sum_of bytes = do
 
 unfoldable pub batch_of : List ℕ → Result Batch BatchFault
 batch_of bytes = do
-  place ← place_of bytes
+  place ← base_and_rest bytes
   sum ← sum_of place.1
   fixed ← fixed_at sum.1
   refuse (faults.BadOffset 0) when int_lt place.0 (pos 0) else do

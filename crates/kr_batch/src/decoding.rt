@@ -10,7 +10,7 @@ ghost use Rattle.kr_batch.specs.Answers.{Gives, GivesAt};
 ghost use Rattle.kr_batch.specs.Answers;
 ghost use Rattle.kr_batch.specs.declared.Batch.{Batch as AnyBatch};
 ghost use Rattle.kr_batch.specs.Grammar.{IsBatch};
-ghost use Rattle.kr_batch.specs.Reading.{batch_of, caused, entries_of, entry_at, items_of};
+ghost use Rattle.kr_batch.specs.Reading.{batch_of, caused, records_from, entry_at, items_of};
 
 use crate::Batch;
 use crate::fault::{BatchFault, Cause};
@@ -66,7 +66,7 @@ fn controls(alloc: Global, count: u32) -> Result<Items, BatchFault>
 
 fn read_entries(alloc: Global, bytes: &[u8], count: u32) -> Result<Items, BatchFault>
     requires { count ≤ MOST_RECORDS }
-    ensures { Gives result (entries_of 0 count bytes.now) }
+    ensures { Gives result (records_from 0 count bytes.now) }
 {
     let room = (count as usize).min(bytes.len() / LEAST_RECORD);
     let mut list = Vec::with_capacity(alloc, room)?;

@@ -6,7 +6,7 @@ ghost use Rattle.std.specs.List.{All};
 ghost use Rattle.kr_defs.specs.declared.limits.TheConstants.{MOST_RECORDS};
 ghost use Rattle.kr_wire.specs.Spelling.{varint32};
 ghost use Rattle.kr_batch.specs.Grammar.{IsBatch};
-ghost use Rattle.kr_batch.specs.BatchBytes.{IsHeldItem, IsWritable, batch_bytes, checked_bytes, fixed_bytes, head_bytes, no_producer, record_body, record_bytes, records_bytes, start_bytes, value_bytes, values_size};
+ghost use Rattle.kr_batch.specs.BatchBytes.{IsHeldItem, IsWritable, batch_bytes, checked_bytes, fixed_bytes, head_bytes, no_producer, record_body, record_bytes, records_bytes, start_bytes, item_value, values_size};
 
 use crate::{Batch, crc32c};
 use kr_base::NoMemory;
@@ -120,7 +120,7 @@ fn put_records(items: &[Item], out: &mut Vec<u8>) -> Result<(), NoMemory>
 
 fn put_value(item: &Item, out: &mut Vec<u8>) -> Result<(), NoMemory>
     requires { IsWritable item.now }
-    ensures { OnOk result (out.new.items ≡ out.old.items ++ value_bytes item.now) }
+    ensures { OnOk result (out.new.items ≡ out.old.items ++ item_value item.now) }
 {
     match item {
         Item::Record(record) => kr_record::append(record, out),

@@ -3,7 +3,7 @@
 ghost use Rattle.std.specs.Prelude.{◌≡◌, ◌+◌, ◌≤◌, length, drop, MatchResult, Ok, Err};
 ghost use Rattle.kr_wire.specs.Reading.{Reads};
 ghost use Rattle.kr_batch.specs.Grammar;
-ghost use Rattle.kr_batch.specs.Reading.{body_at, body_of, frame_at, key_at, sized_at};
+ghost use Rattle.kr_batch.specs.Reading.{body_at, batch_body, frame_at, key_at, sized_at};
 
 use kr_wire::{WireFault, piece, read_varint, read_varlong};
 
@@ -52,9 +52,9 @@ fn read_body(bytes: &[u8]) -> Result<((i32, &[u8]), usize), WireFault>
     Ok(((delta, value), next))
 }
 
-#[tactic(auto, unfolding(crate::specs::Reading::body_of))]
+#[tactic(auto, unfolding(crate::specs::Reading::batch_body))]
 fn whole_body(bytes: &[u8]) -> Result<(i32, &[u8]), WireFault>
-    ensures { MatchResult result (λ f. body_of bytes.now ≡ Ok (f.0, f.1.now)) (λ e. body_of bytes.now ≡ Err e) }
+    ensures { MatchResult result (λ f. batch_body bytes.now ≡ Ok (f.0, f.1.now)) (λ e. batch_body bytes.now ≡ Err e) }
 {
     let (frame, next) = read_body(bytes)?;
     if next < bytes.len() {

@@ -4,7 +4,7 @@ ghost use Rattle.std.specs.Prelude.{◌≡◌, ◌≤◌, length, drop, IfOk, Is
 ghost use Rattle.kr_defs.specs.declared.limits.TheConstants.{MOST_RECORDS};
 ghost use Rattle.kr_batch.specs.Grammar;
 ghost use Rattle.kr_batch.specs.Reading;
-ghost use Rattle.kr_batch.specs.Reading.{fixed_at, place_of, start_at, sum_at, sum_of};
+ghost use Rattle.kr_batch.specs.Reading.{fixed_at, base_and_rest, start_at, sum_at, sum_of};
 
 use crate::crc32c;
 use crate::fault::BatchFault;
@@ -12,9 +12,9 @@ use kr_defs::limits::MOST_RECORDS;
 use kr_wire::{piece, read_i8, read_i32, read_i64, read_u16, read_u32};
 
 /// The base, and all that follows the size.
-#[tactic(auto, unfolding(crate::specs::Reading::place_of))]
+#[tactic(auto, unfolding(crate::specs::Reading::base_and_rest))]
 pub fn read_place(bytes: &[u8]) -> Result<(i64, &[u8]), BatchFault>
-    ensures { MatchResult result (λ x. place_of bytes.now ≡ Ok (x.0, x.1.now)) (λ e. place_of bytes.now ≡ Err e) }
+    ensures { MatchResult result (λ x. base_and_rest bytes.now ≡ Ok (x.0, x.1.now)) (λ e. base_and_rest bytes.now ≡ Err e) }
 {
     let ((base, size), next) = read_start(bytes)?;
     let (_start, rest) = bytes.split_at(next);

@@ -14,11 +14,11 @@ use Rattle.kr_record.specs.Encodable.{IsEncodable}
 use Rattle.kr_record.specs.RecordRanges.{IsHeld}
 use Rattle.kr_record.specs.Spelling.{record_value, framed, change, change_tags, config, no_tags}
 use Rattle.kr_batch.specs.declared.Batch.{Batch}
-use Rattle.kr_batch.specs.BatchBytes.{value_bytes, values_size, IsHeldItem, IsRegular, IsWritable}
-use Rattle.kr_bench.specs.Batches.{batch_of}
+use Rattle.kr_batch.specs.BatchBytes.{item_value, values_size, IsHeldItem, IsRegular, IsWritable}
+use Rattle.kr_bench.specs.Batches.{batch_of_kind}
 use Rattle.kr_bench.specs.declared.batches.Kind.{Kind}
 use Rattle.kr_bench.specs.declared.batches.Kind.TheVariants as kinds
-use Rattle.kr_bench.specs.Changes.{change_at}
+use Rattle.kr_bench.specs.Changes.{numbered_change}
 use Rattle.kr_bench.specs.NumberedRecords.{numbered}
 use Rattle.kr_bench.specs.Settings.{setting_at}
 
@@ -29,7 +29,7 @@ module _ (at : ℤ → Record) (size : ℕ) where
   unfolding numbered
   values_length each zero = omega arith
   values_length each (suc n) =
-      let a = sum_by-append (λ x. length (value_bytes x)) (numbered at n) (items.Record (at (pos n)) ∷ []) in
+      let a = sum_by-append (λ x. length (item_value x)) (numbered at n) (items.Record (at (pos n)) ∷ []) in
       let b = each (pos n) in
       let so_far = values_length each n in
       omega (arith, a, b, so_far)
@@ -55,14 +55,14 @@ module _ (at : ℤ → Record) (size : ℕ) where
 
 -- ---- changes
 
-change_length : (index : ℤ) → length (record_value (change_at index)) ≡ 41
+change_length : (index : ℤ) → length (record_value (numbered_change index)) ≡ 41
 unfolding record_value framed change change_tags uvarint signed id
 change_length index = refl
 
-change_writable : (index : ℤ) → IsEncodable (change_at index)
+change_writable : (index : ℤ) → IsEncodable (numbered_change index)
 change_writable index = search rules
 
-change_held : (n : ℕ) → n < 10000 → IsHeld (change_at (pos n))
+change_held : (n : ℕ) → n < 10000 → IsHeld (numbered_change (pos n))
 change_held n lt = search (rules, lt)
 
 -- ---- settings
@@ -96,10 +96,10 @@ setting_held n lt = record {
 
 -- ---- both
 
-changes_regular : IsRegular (batch_of kinds.Changes)
+changes_regular : IsRegular (batch_of_kind kinds.Changes)
 changes_regular =
-    let size = values_length change_at 41 change_length 10000 in
-    let count = numbered_length change_at 41 10000 in
+    let size = values_length numbered_change 41 change_length 10000 in
+    let count = numbered_length numbered_change 41 10000 in
     record {
       based = search rules;
       base = search rules;
@@ -107,12 +107,12 @@ changes_regular =
       time = search rules;
       some = omega (arith, count);
       few = omega (arith, count);
-      each = all_writable change_at 41 change_writable 10000;
-      held = all_held change_at 41 change_held 10000 (omega arith);
+      each = all_writable numbered_change 41 change_writable 10000;
+      held = all_held numbered_change 41 change_held 10000 (omega arith);
       small = omega (arith, size);
     }
 
-settings_regular : IsRegular (batch_of kinds.Settings)
+settings_regular : IsRegular (batch_of_kind kinds.Settings)
 settings_regular =
     let size = values_length setting_at 35 setting_length 10000 in
     let count = numbered_length setting_at 35 10000 in
@@ -128,9 +128,9 @@ settings_regular =
       small = omega (arith, size);
     }
 
-regular_of : (kind : Kind) → IsRegular (batch_of kind)
+regular_of : (kind : Kind) → IsRegular (batch_of_kind kind)
 regular_of kinds.Changes = changes_regular
 regular_of kinds.Settings = settings_regular
 
-pub regular : (batch : Batch) (kind : Kind) → batch ≡ batch_of kind → IsRegular batch
+pub regular : (batch : Batch) (kind : Kind) → batch ≡ batch_of_kind kind → IsRegular batch
 regular batch kind is = rw is (regular_of kind)

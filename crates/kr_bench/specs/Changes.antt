@@ -18,5 +18,5 @@ fenced = record {
   recovery = None;
 }
 
-abbrev pub change_at : ℤ → Record
-change_at index = kinds.PartitionChange index TOPIC fenced
+abbrev pub numbered_change : ℤ → Record
+numbered_change index = kinds.PartitionChange index TOPIC fenced

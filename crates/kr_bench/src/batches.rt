@@ -4,7 +4,7 @@ ghost use Rattle.std.specs.Prelude.{◌≡◌, ◌++◌, length, Ok, IfOk, OnOk}
 ghost use Rattle.kr_batch.specs.Answers.{Gives};
 ghost use Rattle.kr_batch.specs.Reading as reading;
 ghost use Rattle.kr_batch.specs.BatchBytes.{IsRegular, batch_bytes};
-ghost use Rattle.kr_bench.specs.Batches.{batch_of, items_of};
+ghost use Rattle.kr_bench.specs.Batches.{batch_of_kind, items_of_kind};
 
 use crate::changes::changes;
 use crate::settings::settings;
@@ -30,7 +30,7 @@ pub struct Encoded {
     kind: Kind,
     batch: Batch,
     bytes: Vec<u8>,
-    ghost ours: { batch ≡ batch_of kind },
+    ghost ours: { batch ≡ batch_of_kind kind },
     ghost written: { bytes.items ≡ batch_bytes batch },
     ghost read: { reading.batch_of bytes.items ≡ Ok batch },
 }
@@ -81,7 +81,7 @@ impl Encoded {
 }
 
 fn new_batch(alloc: Global, kind: Kind) -> Result<Batch, AllocError>
-    ensures { IfOk result (λ batch. batch ≡ batch_of kind) }
+    ensures { IfOk result (λ batch. batch ≡ batch_of_kind kind) }
 {
     Ok(Batch {
         base: 0,
@@ -92,7 +92,7 @@ fn new_batch(alloc: Global, kind: Kind) -> Result<Batch, AllocError>
 }
 
 fn items_of(alloc: Global, kind: Kind) -> Result<Items, AllocError>
-    ensures { IfOk result (λ items. items ≡ items_of kind) }
+    ensures { IfOk result (λ items. items ≡ items_of_kind kind) }
 {
     match kind {
         Kind::Changes => changes(alloc, RECORDS),

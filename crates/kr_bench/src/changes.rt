@@ -2,7 +2,7 @@
 
 ghost use Rattle.std.specs.Prelude.{◌≡◌, ◌≤◌, IfOk};
 ghost use Rattle.kr_defs.specs.declared.limits.TheConstants.{MOST_RECORDS};
-ghost use Rattle.kr_bench.specs.Changes.{change_at};
+ghost use Rattle.kr_bench.specs.Changes.{numbered_change};
 ghost use Rattle.kr_bench.specs.NumberedRecords.{numbered};
 
 use kr_defs::{Ids, Item, Items, PartitionChange, Record};
@@ -15,7 +15,7 @@ const TOPIC: u128 = 0x0123_4567_89AB_CDEF_FEDC_BA98_7654_3210;
 #[tactic(auto, unfolding(crate::specs::NumberedRecords::numbered))]
 pub(crate) fn changes(alloc: Global, count: u32) -> Result<Items, AllocError>
     requires { count ≤ MOST_RECORDS }
-    ensures { IfOk result (λ items. items ≡ numbered change_at count) }
+    ensures { IfOk result (λ items. items ≡ numbered numbered_change count) }
 {
     let mut items = Items::new(alloc);
     for index in 0..count {
@@ -26,7 +26,7 @@ pub(crate) fn changes(alloc: Global, count: u32) -> Result<Items, AllocError>
 
 // Of brokers 1 to 3, the third was fenced: 1 and 2 are left in sync, and 2 leads.
 fn change(alloc: Global, index: i32) -> Result<Record, AllocError>
-    ensures { IfOk result (λ r. r ≡ change_at index) }
+    ensures { IfOk result (λ r. r ≡ numbered_change index) }
 {
     let mut in_sync = Ids::new(alloc);
     in_sync.push(1)?;

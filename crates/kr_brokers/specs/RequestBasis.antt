@@ -4,5 +4,5 @@ use Rattle.kr_defs.specs.declared.basis.Basis.{Basis}
 use Rattle.kr_defs.specs.Heartbeats.{Heartbeats}
 
 -- the time, the place at which this node began to lead, and whom it hears of
-abbrev pub basis_of : ℤ → ℤ → Heartbeats → Basis
-basis_of time led heard = record { time = time; led = led; contacts = heard.contacts; stopping = heard.stopping }
+abbrev pub basis_with : ℤ → ℤ → Heartbeats → Basis
+basis_with time led heard = record { time = time; led = led; contacts = heard.contacts; stopping = heard.stopping }

@@ -46,7 +46,7 @@ fn broker_before<'a, S: Store>(store: &'a S, place: &i64, id: &i32) -> Option<&'
 
 fn was_stopping<S: Store>(store: &S, place: &i64, id: &i32) -> bool
     requires { last_kept (S.images store.now) ≡ Some (place.now, base_of (S.images store.now)) }
-    ensures { result ≡ following.is_stopping (base_of (S.images store.now)) id.now }
+    ensures { result ≡ following.broker_is_stopping (base_of (S.images store.now)) id.now }
 {
     match broker_before(store, place, id) {
         Some(state) => state.stopping,
@@ -55,7 +55,7 @@ fn was_stopping<S: Store>(store: &S, place: &i64, id: &i32) -> bool
 }
 
 fn is_stopping<S: Store>(store: &S, id: &i32) -> bool
-    ensures { result ≡ following.is_stopping (S.images store.now).tip id.now }
+    ensures { result ≡ following.broker_is_stopping (S.images store.now).tip id.now }
 {
     match tip::broker(store, id) {
         Some(state) => state.stopping,
@@ -76,7 +76,7 @@ fn hear_contact<S: Store>(
     requires time { IsTrue (is_not_before sessions.old.heartbeats now) }
     requires contact_room { IsTrue sessions.old.contact_room }
     requires stopping_room { IsTrue sessions.old.stopping_room }
-    requires among { (id : ℤ) → IsTrue (has (stopping_brokers sessions.old.heartbeats) id) → IsTrue (following.is_stopping (base_of (S.images store.now)) id) }
+    requires among { (id : ℤ) → IsTrue (has (stopping_brokers sessions.old.heartbeats) id) → IsTrue (following.broker_is_stopping (base_of (S.images store.now)) id) }
     ensures { sessions.new.heartbeats ≡ following.after_contact sessions.old.heartbeats (base_of (S.images store.now)) (S.images store.now).tip now place request.now }
 {
     sessions.beat(request.broker, now, request.offset);
@@ -97,7 +97,7 @@ fn hear_heartbeat<S: Store>(
     requires time { IsTrue (is_not_before sessions.old.heartbeats now) }
     requires contact_room { IsTrue sessions.old.contact_room }
     requires stopping_room { IsTrue sessions.old.stopping_room }
-    requires among { (id : ℤ) → IsTrue (has (stopping_brokers sessions.old.heartbeats) id) → IsTrue (following.is_stopping (base_of (S.images store.now)) id) }
+    requires among { (id : ℤ) → IsTrue (has (stopping_brokers sessions.old.heartbeats) id) → IsTrue (following.broker_is_stopping (base_of (S.images store.now)) id) }
     ensures { sessions.new.heartbeats ≡ following.after_heartbeat sessions.old.heartbeats (base_of (S.images store.now)) (S.images store.now).tip now place request.now reply.now }
 {
     if reply.error != 0 {
@@ -134,7 +134,7 @@ pub fn hear<S: Store>(
     requires time { IsTrue (is_not_before sessions.old.heartbeats now) }
     requires contact_room { IsTrue sessions.old.contact_room }
     requires stopping_room { IsTrue sessions.old.stopping_room }
-    requires among { (id : ℤ) → IsTrue (has (stopping_brokers sessions.old.heartbeats) id) → IsTrue (following.is_stopping (base_of (S.images store.now)) id) }
+    requires among { (id : ℤ) → IsTrue (has (stopping_brokers sessions.old.heartbeats) id) → IsTrue (following.broker_is_stopping (base_of (S.images store.now)) id) }
     ensures { sessions.new.heartbeats ≡ following.heartbeats_after sessions.old.heartbeats (base_of (S.images store.now)) (S.images store.now).tip now place request.now reply.now }
 {
     match request {

@@ -11,7 +11,7 @@ ghost use Rattle.kr_defs.specs.Map as entries;
 ghost use Rattle.kr_calls.specs.BrokerHeartbeat as heartbeating;
 ghost use Rattle.kr_calls.specs.Deciding.{weights};
 ghost use Rattle.kr_store.specs.Images.{last_kept};
-ghost use Rattle.kr_brokers.specs.RequestBasis.{basis_of};
+ghost use Rattle.kr_brokers.specs.RequestBasis.{basis_with};
 
 use crate::elections::unfencing_records;
 use kr_base::{NoMemory, Steps};
@@ -115,7 +115,7 @@ fn of_stopping<S: Store>(
     sessions: &Sessions,
     request: &BrokerHeartbeat,
 ) -> Result<Draft<BrokerHeartbeatReply>, NoMemory>
-    ensures { IfOk result (λ draft. draft ≡ heartbeating.told request.now (heartbeating.of_stopping minimum.now (basis_of (pos 0) (pos 0) sessions.now.heartbeats) (S.images store.now).tip request.now)) }
+    ensures { IfOk result (λ draft. draft ≡ heartbeating.told request.now (heartbeating.of_stopping minimum.now (basis_with (pos 0) (pos 0) sessions.now.heartbeats) (S.images store.now).tip request.now)) }
 {
     if is_passed_on(alloc, store, sessions, &request.broker)? {
         let records = fencing_records(alloc, store, minimum, &request.broker, &request.epoch)?;
@@ -186,7 +186,7 @@ fn step<S: Store>(
     state: &Broker,
 ) -> Result<Draft<BrokerHeartbeatReply>, NoMemory>
     requires { entries.get int_cmp (S.images store.now).tip.brokers request.now.broker ≡ Some state.now }
-    ensures { IfOk result (λ draft. draft ≡ heartbeating.told request.now (heartbeating.step minimum.now (basis_of (pos 0) (pos 0) sessions.now.heartbeats) (S.images store.now).tip request.now state.now)) }
+    ensures { IfOk result (λ draft. draft ≡ heartbeating.told request.now (heartbeating.step minimum.now (basis_with (pos 0) (pos 0) sessions.now.heartbeats) (S.images store.now).tip request.now state.now)) }
 {
     if state.fenced {
         of_fenced(alloc, store, minimum, request, state)
@@ -206,7 +206,7 @@ fn is_of_epoch(request: &BrokerHeartbeat, state: &Broker) -> bool
 impl<'a> Rule<BrokerHeartbeat, BrokerHeartbeatReply> for HeartbeatRule<'a> {
     ghost refusal = { λ _. heartbeating.refused };
 
-    ghost rule = { λ r. heartbeating.rule r.options.now (basis_of (pos 0) (pos 0) r.sessions.now.heartbeats) };
+    ghost rule = { λ r. heartbeating.rule r.options.now (basis_with (pos 0) (pos 0) r.sessions.now.heartbeats) };
 
     fn refusal(
         &self,
@@ -259,9 +259,9 @@ fn hear_from<S: Store, L: Ledger>(
     requires natural { pos 0 ≤ℤ context.now.place }
     requires low { context.now.place ≤ℤ places_end }
     requires kept { last_kept (S.images store.old) ≡ Some (context.now.place, (S.images store.old).tip) }
-    ensures records { OnOk result (out.new.records ≡ (heartbeating.decided context.entry.now.options.now (basis_of (pos 0) (pos 0) context.entry.now.sessions.now.heartbeats) (S.images store.old).tip context.entry.now.place request.now).0.records) }
-    ensures reply { OnOk result (out.new.reply ≡ (heartbeating.decided context.entry.now.options.now (basis_of (pos 0) (pos 0) context.entry.now.sessions.now.heartbeats) (S.images store.old).tip context.entry.now.place request.now).1) }
-    ensures image { OnOk result ((S.images store.new).tip ≡ (heartbeating.decided context.entry.now.options.now (basis_of (pos 0) (pos 0) context.entry.now.sessions.now.heartbeats) (S.images store.old).tip context.entry.now.place request.now).0.image) }
+    ensures records { OnOk result (out.new.records ≡ (heartbeating.decided context.entry.now.options.now (basis_with (pos 0) (pos 0) context.entry.now.sessions.now.heartbeats) (S.images store.old).tip context.entry.now.place request.now).0.records) }
+    ensures reply { OnOk result (out.new.reply ≡ (heartbeating.decided context.entry.now.options.now (basis_with (pos 0) (pos 0) context.entry.now.sessions.now.heartbeats) (S.images store.old).tip context.entry.now.place request.now).1) }
+    ensures image { OnOk result ((S.images store.new).tip ≡ (heartbeating.decided context.entry.now.options.now (basis_with (pos 0) (pos 0) context.entry.now.sessions.now.heartbeats) (S.images store.old).tip context.entry.now.place request.now).0.image) }
     ensures same { OnErr result (out.new ≡ out.old) }
     ensures kept { (S.images store.new).kept ≡ (S.images store.old).kept }
     ensures made { OnOk result ((S.images store.new).made ≤ (S.images store.old).made + weights (S.images store.old).tip out.new.records) }
@@ -292,9 +292,9 @@ pub fn heartbeat<S: Store, L: Ledger>(
     requires natural { pos 0 ≤ℤ context.now.place }
     requires low { context.now.place ≤ℤ places_end }
     requires kept { last_kept (S.images store.old) ≡ Some (context.now.place, (S.images store.old).tip) }
-    ensures records { (led : ℤ) → OnOk result (out.new.records ≡ (heartbeating.decided context.entry.now.options.now (basis_of context.entry.now.now led context.entry.now.sessions.now.heartbeats) (S.images store.old).tip context.entry.now.place request.now).0.records) }
-    ensures reply { (led : ℤ) → OnOk result (out.new.reply ≡ (heartbeating.decided context.entry.now.options.now (basis_of context.entry.now.now led context.entry.now.sessions.now.heartbeats) (S.images store.old).tip context.entry.now.place request.now).1) }
-    ensures image { (led : ℤ) → OnOk result ((S.images store.new).tip ≡ (heartbeating.decided context.entry.now.options.now (basis_of context.entry.now.now led context.entry.now.sessions.now.heartbeats) (S.images store.old).tip context.entry.now.place request.now).0.image) }
+    ensures records { (led : ℤ) → OnOk result (out.new.records ≡ (heartbeating.decided context.entry.now.options.now (basis_with context.entry.now.now led context.entry.now.sessions.now.heartbeats) (S.images store.old).tip context.entry.now.place request.now).0.records) }
+    ensures reply { (led : ℤ) → OnOk result (out.new.reply ≡ (heartbeating.decided context.entry.now.options.now (basis_with context.entry.now.now led context.entry.now.sessions.now.heartbeats) (S.images store.old).tip context.entry.now.place request.now).1) }
+    ensures image { (led : ℤ) → OnOk result ((S.images store.new).tip ≡ (heartbeating.decided context.entry.now.options.now (basis_with context.entry.now.now led context.entry.now.sessions.now.heartbeats) (S.images store.old).tip context.entry.now.place request.now).0.image) }
     ensures same { OnErr result (out.new ≡ out.old) }
     ensures kept { (S.images store.new).kept ≡ (S.images store.old).kept }
     ensures made { OnOk result ((S.images store.new).made ≤ (S.images store.old).made + weights (S.images store.old).tip out.new.records) }

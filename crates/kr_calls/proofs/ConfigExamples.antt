@@ -13,7 +13,7 @@ use Rattle.kr_calls.specs.declared.deciding.Draft.{Draft}
 use Rattle.kr_calls.specs.IncrementalAlterConfigs as configuring
 use Rattle.kr_calls.specs.declared.calls.Reply.TheVariants as replies
 use Rattle.kr_calls.proofs.Cluster.{cluster, image, no_change, options, whole}
-use Rattle.kr_calls.specs.Deciding.{begun, done, taken}
+use Rattle.kr_calls.specs.Deciding.{nothing_decided, done, taken}
 
 abbrev operation : List ℕ → ℤ → Option (List ℕ) → ConfigOperation
 operation name kind value = record { name = name; operation = kind; value = value }
@@ -114,6 +114,6 @@ abbrev setting : ConfigResource
 setting = of_brokers (operation (codes "k") (pos 0) (Some (codes "x")) ∷ [])
 
 validated : configuring.decided options image (pos 30) (record { resources = setting ∷ []; validate_only = true })
-    ≡ (begun (pos 30) image, replies.IncrementalAlterConfigs (record { responses = record { error = pos 0; kind = pos 4; name = [] } ∷ [] }))
+    ≡ (nothing_decided (pos 30) image, replies.IncrementalAlterConfigs (record { responses = record { error = pos 0; kind = pos 4; name = [] } ∷ [] }))
 unfolding configuring.decided done taken apply_record value_bytes
 validated = refl

@@ -11,7 +11,7 @@ use Rattle.kr_defs.specs.Image.{Image}
 use Rattle.kr_calls.specs.declared.calls.Request.{Request}
 use Rattle.kr_calls.specs.declared.calls.Request.TheVariants as requests
 use Rattle.kr_calls.specs.declared.deciding.Draft.{Draft}
-use Rattle.kr_calls.specs.Deciding.{Work, apply_records, is_within_limits, begun, added, taken, settled, done, one, after_all, after_groups, unless_validating, HaveMeanings}
+use Rattle.kr_calls.specs.Deciding.{Work, apply_records, is_within_limits, nothing_decided, work_with, taken, settled, done, one, after_all, after_groups, unless_validating, HaveMeanings}
 use Rattle.kr_calls.specs.Decide.{work_of}
 use Rattle.kr_calls.specs.Refuse.{refused_creation, refused_deletion, refused_growth, refused_resource}
 use Rattle.kr_calls.specs.AlterPartition as reporting
@@ -34,7 +34,7 @@ applied_in_two image (x ∷ xs) ys =
     ]
 
 module _ (start : Image) where
-  added_stand : (w : Work) (records : List Record) (b : Bool) (r : Result Image Ill) (after : Work) → HaveMeanings start w → apply_records w.image records ≡ r → cond b (added w records r) None ≡ Some after → HaveMeanings start after
+  added_stand : (w : Work) (records : List Record) (b : Bool) (r : Result Image Ill) (after : Work) → HaveMeanings start w → apply_records w.image records ≡ r → cond b (work_with w records r) None ≡ Some after → HaveMeanings start after
   added_stand w records true (Ok image) after so_far meaning is =
       subst (HaveMeanings start) (ap (λ o. unwrap_or o after) is) (applied_in_two start w.records records ∙ (ap (λ r. and_then r (λ i. apply_records i records)) so_far ∙ meaning))
   added_stand w records true (Err cause) after so_far meaning is = absurd cc
@@ -78,22 +78,22 @@ module _ (start : Image) where
 -- every request, by its rule
 pub requests_stand : (options : Options) (basis : Basis) (image : Image) (place : ℤ) (request : Request) → HaveMeanings image (work_of options basis image place request).0
 unfolding work_of registering.decided heartbeating.decided unregistering.decided creating.decided deleting.decided growing.decided reporting.decided electing.decided reassigning.decided configuring.decided
-requests_stand options basis image place (requests.BrokerRegistration q) = one_stand image registering.refused (registering.rule options basis) (begun place image) q refl
-requests_stand options basis image place (requests.BrokerHeartbeat q) = one_stand image heartbeating.refused (heartbeating.rule options basis) (begun place image) q refl
-requests_stand options basis image place (requests.UnregisterBroker q) = one_stand image unregistering.refused (unregistering.rule options) (begun place image) q refl
+requests_stand options basis image place (requests.BrokerRegistration q) = one_stand image registering.refused (registering.rule options basis) (nothing_decided place image) q refl
+requests_stand options basis image place (requests.BrokerHeartbeat q) = one_stand image heartbeating.refused (heartbeating.rule options basis) (nothing_decided place image) q refl
+requests_stand options basis image place (requests.UnregisterBroker q) = one_stand image unregistering.refused (unregistering.rule options) (nothing_decided place image) q refl
 requests_stand options basis image place (requests.CreateTopics q) =
-    validated_stand image q.validate_only (begun place image) _ refl (all_stand image refused_creation (creating.rule options q.validate_only) (begun place image) q.topics refl)
-requests_stand options basis image place (requests.DeleteTopics q) = all_stand image refused_deletion deleting.rule (begun place image) q.topics refl
+    validated_stand image q.validate_only (nothing_decided place image) _ refl (all_stand image refused_creation (creating.rule options q.validate_only) (nothing_decided place image) q.topics refl)
+requests_stand options basis image place (requests.DeleteTopics q) = all_stand image refused_deletion deleting.rule (nothing_decided place image) q.topics refl
 requests_stand options basis image place (requests.CreatePartitions q) =
-    validated_stand image q.validate_only (begun place image) _ refl (all_stand image refused_growth growing.rule (begun place image) q.topics refl)
+    validated_stand image q.validate_only (nothing_decided place image) _ refl (all_stand image refused_growth growing.rule (nothing_decided place image) q.topics refl)
 requests_stand options basis image place (requests.AlterPartition q) =
-    chosen_stand image (reporting.is_stale image q) _ _ refl (groups_stand image reporting.refused (reporting.rule options q.broker) reporting.entries_of reporting.answer_of (begun place image) q.topics refl)
+    chosen_stand image (reporting.is_stale image q) _ _ refl (groups_stand image reporting.refused (reporting.rule options q.broker) reporting.entries_of reporting.answer_of (nothing_decided place image) q.topics refl)
 requests_stand options basis image place (requests.ElectLeaders q) =
-    chosen_stand image (not (electing.is_kind q.kind)) _ _ refl (groups_stand image electing.answer (electing.rule options q.kind) electing.entries_of electing.answer_of (begun place image) (electing.groups_of image q.topics) refl)
+    chosen_stand image (not (electing.is_kind q.kind)) _ _ refl (groups_stand image electing.answer (electing.rule options q.kind) electing.entries_of electing.answer_of (nothing_decided place image) (electing.groups_of image q.topics) refl)
 requests_stand options basis image place (requests.AlterPartitionReassignments q) =
-    groups_stand image reassigning.answer (reassigning.rule options) reassigning.entries_of reassigning.answer_of (begun place image) q.topics refl
+    groups_stand image reassigning.answer (reassigning.rule options) reassigning.entries_of reassigning.answer_of (nothing_decided place image) q.topics refl
 requests_stand options basis image place (requests.IncrementalAlterConfigs q) =
-    validated_stand image q.validate_only (begun place image) _ refl (all_stand image refused_resource (configuring.rule options) (begun place image) q.resources refl)
+    validated_stand image q.validate_only (nothing_decided place image) _ refl (all_stand image refused_resource (configuring.rule options) (nothing_decided place image) q.resources refl)
 requests_stand options basis image place (requests.ListPartitionReassignments q) = refl
 requests_stand options basis image place (requests.Metadata q) = refl
 

@@ -7,14 +7,14 @@ use Rattle.kr_defs.specs.declared.record.Record.{Record}
 use Rattle.kr_defs.specs.Image.{Image}
 use Rattle.kr_defs.proofs.Tests.{Gives, some_is}
 use Rattle.kr_calls.specs.declared.deciding.Draft.{Draft}
-use Rattle.kr_calls.specs.Deciding.{Work, apply_records, is_within_limits, added, taken, settled, done, one, after_all, after_groups, over_a_limit, unless_validating}
+use Rattle.kr_calls.specs.Deciding.{Work, apply_records, is_within_limits, work_with, taken, settled, done, one, after_all, after_groups, over_a_limit, unless_validating}
 
 -- the work after records that were taken
 pub record TakenBy (w : Work) (records : List Record) (after : Work) : Type 0 where
   pub applied : apply_records w.image records ≡ Ok after.image
   pub written : after.records ≡ w.records ++ records
 
-added_gives : (w : Work) (records : List Record) (b : Bool) (r : Result Image Ill) (after : Work) → apply_records w.image records ≡ r → cond b (added w records r) None ≡ Some after → TakenBy w records after
+added_gives : (w : Work) (records : List Record) (b : Bool) (r : Result Image Ill) (after : Work) → apply_records w.image records ≡ r → cond b (work_with w records r) None ≡ Some after → TakenBy w records after
 added_gives w records true (Ok image) after meaning is =
     let same = some_is _ after is in
     subst (TakenBy w records) same (record { applied = meaning; written = refl })

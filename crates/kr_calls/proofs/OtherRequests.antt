@@ -7,7 +7,7 @@ use Rattle.kr_defs.specs.Image.{Image}
 use Rattle.kr_calls.specs.declared.calls.Request.{Request}
 use Rattle.kr_calls.specs.declared.calls.Request.TheVariants as requests
 use Rattle.kr_calls.specs.declared.deciding.Draft.{Draft}
-use Rattle.kr_calls.specs.Deciding.{Work, begun}
+use Rattle.kr_calls.specs.Deciding.{Work, nothing_decided}
 use Rattle.kr_calls.specs.Decide.{work_of}
 use Rattle.kr_calls.specs.NextBasis.{heartbeats_after}
 use Rattle.kr_calls.specs.NextBasisLaws.{OtherRequestsLeaveBrokers, is_of_a_broker}
@@ -29,12 +29,12 @@ module _ (image : Image) where
   keeps : {E A : Type 0} (refused : ℤ → E → A) (rule : Image → ℤ → E → Result (Draft A) ℤ) → AreBrokerless rule → Keeps refused rule I (λ _. Unit {0})
   keeps refused rule are w entry is so_far draft gives after by = all_leave w.image draft.records (are w.image w.place entry draft gives) after.image by.applied ∙ so_far
 
-  all : {E A : Type 0} (refused : ℤ → E → A) (rule : Image → ℤ → E → Result (Draft A) ℤ) → AreBrokerless rule → (place : ℤ) (entries : List E) → I (Rattle.kr_calls.specs.Deciding.after_all refused rule (begun place image) entries)
-  all refused rule are place entries = all_keep refused rule I (λ _. Unit {0}) (keeps refused rule are) (begun place image) entries (any_entry entries) refl
+  all : {E A : Type 0} (refused : ℤ → E → A) (rule : Image → ℤ → E → Result (Draft A) ℤ) → AreBrokerless rule → (place : ℤ) (entries : List E) → I (Rattle.kr_calls.specs.Deciding.after_all refused rule (nothing_decided place image) entries)
+  all refused rule are place entries = all_keep refused rule I (λ _. Unit {0}) (keeps refused rule are) (nothing_decided place image) entries (any_entry entries) refl
 
-  groups : {E A G B : Type 0} (refused : ℤ → E → A) (rule : Image → ℤ → E → Result (Draft A) ℤ) → AreBrokerless rule → (entries_of : G → List E) (answer_of : G → List A → B) (place : ℤ) (those : List G) → I (Rattle.kr_calls.specs.Deciding.after_groups refused rule entries_of answer_of (begun place image) those)
+  groups : {E A G B : Type 0} (refused : ℤ → E → A) (rule : Image → ℤ → E → Result (Draft A) ℤ) → AreBrokerless rule → (entries_of : G → List E) (answer_of : G → List A → B) (place : ℤ) (those : List G) → I (Rattle.kr_calls.specs.Deciding.after_groups refused rule entries_of answer_of (nothing_decided place image) those)
   groups refused rule are entries_of answer_of place those =
-      groups_keep refused rule I (λ _. Unit {0}) entries_of answer_of (keeps refused rule are) (begun place image) those (any_groups entries_of those) refl
+      groups_keep refused rule I (λ _. Unit {0}) entries_of answer_of (keeps refused rule are) (nothing_decided place image) those (any_groups entries_of those) refl
 
 registered : (options : Options) (basis : Basis) (image : Image) (place : ℤ) (request : Request) → is_of_a_broker request ≡ false → I image (work_of options basis image place request).0
 unfolding work_of creating.decided deleting.decided growing.decided reporting.decided electing.decided reassigning.decided configuring.decided
@@ -42,10 +42,10 @@ registered options basis image place (requests.BrokerRegistration q) other = abs
 registered options basis image place (requests.BrokerHeartbeat q) other = absurd cc
 registered options basis image place (requests.UnregisterBroker q) other = absurd cc
 registered options basis image place (requests.CreateTopics q) other =
-    validated_keep (I image) q.validate_only (begun place image) _ refl (all image refused_creation (creating.rule options q.validate_only) (creates options q.validate_only) place q.topics)
+    validated_keep (I image) q.validate_only (nothing_decided place image) _ refl (all image refused_creation (creating.rule options q.validate_only) (creates options q.validate_only) place q.topics)
 registered options basis image place (requests.DeleteTopics q) other = all image refused_deletion deleting.rule deletes place q.topics
 registered options basis image place (requests.CreatePartitions q) other =
-    validated_keep (I image) q.validate_only (begun place image) _ refl (all image refused_growth growing.rule grows place q.topics)
+    validated_keep (I image) q.validate_only (nothing_decided place image) _ refl (all image refused_growth growing.rule grows place q.topics)
 registered options basis image place (requests.AlterPartition q) other =
     chosen_keep (I image) (reporting.is_stale image q) _ _ refl (groups image reporting.refused (reporting.rule options q.broker) (reports options q.broker) reporting.entries_of reporting.answer_of place q.topics)
 registered options basis image place (requests.ElectLeaders q) other =
@@ -53,7 +53,7 @@ registered options basis image place (requests.ElectLeaders q) other =
 registered options basis image place (requests.AlterPartitionReassignments q) other =
     groups image reassigning.answer (reassigning.rule options) (reassigns options) reassigning.entries_of reassigning.answer_of place q.topics
 registered options basis image place (requests.IncrementalAlterConfigs q) other =
-    validated_keep (I image) q.validate_only (begun place image) _ refl (all image refused_resource (configuring.rule options) (configures options) place q.resources)
+    validated_keep (I image) q.validate_only (nothing_decided place image) _ refl (all image refused_resource (configuring.rule options) (configures options) place q.resources)
 registered options basis image place (requests.ListPartitionReassignments q) other = refl
 registered options basis image place (requests.Metadata q) other = refl
 

@@ -18,7 +18,7 @@ use Rattle.kr_calls.specs.AlterPartitionReassignments as reassigning
 use Rattle.kr_calls.specs.ElectLeaders as electing
 use Rattle.kr_calls.specs.declared.calls.Reply.TheVariants as replies
 use Rattle.kr_calls.proofs.Cluster.{broker, cluster, image, leaderless, no_change, options, whole}
-use Rattle.kr_calls.specs.Deciding.{begun, done}
+use Rattle.kr_calls.specs.Deciding.{nothing_decided, done}
 
 -- ---- reports of leaders
 
@@ -173,18 +173,18 @@ unfolding built aimed ended completes settled standing_by elected eligible_after
 anybody_leads = refl
 
 unknown_type : electing.decided options image (pos 30) (record { kind = pos 2; topics = None })
-    ≡ (begun (pos 30) image, replies.ElectLeaders (record { error = pos 42; results = [] }))
+    ≡ (nothing_decided (pos 30) image, replies.ElectLeaders (record { error = pos 42; results = [] }))
 unfolding electing.decided
 unknown_type = refl
 
 -- where all partitions are asked for, one that needs no election isn't shown, nor is its topic
 nothing_shown : electing.decided options image (pos 30) (record { kind = pos 0; topics = None })
-    ≡ (begun (pos 30) image, replies.ElectLeaders (record { error = pos 0; results = [] }))
+    ≡ (nothing_decided (pos 30) image, replies.ElectLeaders (record { error = pos 0; results = [] }))
 unfolding electing.decided done
 nothing_shown = refl
 
 shown_by_name : electing.decided options image (pos 30) (record { kind = pos 0; topics = Some (record { topic = codes "t.a"; partitions = pos 0 ∷ [] } ∷ []) })
-    ≡ (begun (pos 30) image, replies.ElectLeaders (record { error = pos 0; results = record { topic = codes "t.a"; partitions = record { index = pos 0; error = pos 84 } ∷ [] } ∷ [] }))
+    ≡ (nothing_decided (pos 30) image, replies.ElectLeaders (record { error = pos 0; results = record { topic = codes "t.a"; partitions = record { index = pos 0; error = pos 84 } ∷ [] } ∷ [] }))
 unfolding electing.decided done
 shown_by_name = refl
 

@@ -75,7 +75,7 @@ some_topics : describing.topics_of image (Some (entry (Some (codes "x")) 0 ∷ e
 some_topics = refl
 
 -- nobody leads, and broker 4 is fenced
-offline : describing.partition_of image ((77, pos 0), record leaderless { replicas = pos 3 ∷ pos 4 ∷ pos 9 ∷ [] })
+offline : describing.partition_metadata image ((77, pos 0), record leaderless { replicas = pos 3 ∷ pos 4 ∷ pos 9 ∷ [] })
     ≡ record { error = pos 5; index = pos 0; leader = negsuc 0; leader_epoch = pos 5; replicas = pos 3 ∷ pos 4 ∷ pos 9 ∷ []; in_sync = []; offline = pos 4 ∷ pos 9 ∷ [] }
 offline = refl
 

@@ -31,7 +31,7 @@ use Rattle.kr_calls.specs.declared.partitions.AlterPartitionTopicResult.{AlterPa
 use Rattle.kr_calls.specs.declared.partitions.BrokerState.{BrokerState}
 use Rattle.kr_calls.specs.declared.partitions.PartitionReport.{PartitionReport}
 use Rattle.kr_calls.specs.declared.calls.Reply.TheVariants as replies
-use Rattle.kr_calls.specs.Deciding.{Work, after_groups, begun, group_answers}
+use Rattle.kr_calls.specs.Deciding.{Work, after_groups, nothing_decided, group_answers}
 
 -- a partition of a topic as its leader sees it
 abbrev pub Entry : Type 0
@@ -83,8 +83,8 @@ abbrev pub wanted : Partition → PartitionReport → Want
 wanted p report = record (default_want p) { in_sync = members report; recovery = report.recovery }
 
 -- the partition's new values, where the broker that reported still leads
-abbrev pub told : ℤ → Entry → Partition → AlterPartitionResult
-told broker entry p =
+abbrev pub partition_result : ℤ → Entry → Partition → AlterPartitionResult
+partition_result broker entry p =
     if int_eq p.leader broker
     then record {
       index = entry.1.index;
@@ -98,10 +98,10 @@ told broker entry p =
     else refused (pos 108) entry
 
 abbrev pub drafted : ℤ → Entry → Partition → Option PartitionChange → Draft AlterPartitionResult
-drafted broker entry p None = record { records = []; answer = told broker entry p }
+drafted broker entry p None = record { records = []; answer = partition_result broker entry p }
 drafted broker entry p (Some change) = record {
   records = kinds.PartitionChange entry.1.index entry.0 change ∷ [];
-  answer = told broker entry (merged p change);
+  answer = partition_result broker entry (merged p change);
 }
 
 unfoldable pub accepted : Options → ℤ → Image → Entry → List ℕ → Partition → Draft AlterPartitionResult
@@ -154,7 +154,7 @@ reply_of error topics = replies.AlterPartition (record { error = error; topics =
 
 unfoldable pub decided : Options → Image → ℤ → AlterPartition → Work × Reply
 decided options image place request =
-    let start = begun place image in
+    let start = nothing_decided place image in
     if is_stale image request then (start, reply_of STALE_BROKER_EPOCH []) else (
       after_groups refused (rule options request.broker) entries_of answer_of start request.topics,
       reply_of (pos 0) (group_answers refused (rule options request.broker) entries_of answer_of start request.topics),

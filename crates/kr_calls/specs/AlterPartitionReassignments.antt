@@ -26,7 +26,7 @@ use Rattle.kr_calls.specs.declared.partitions.ReassignablePartitionResponse.{Rea
 use Rattle.kr_calls.specs.declared.partitions.ReassignableTopic.{ReassignableTopic}
 use Rattle.kr_calls.specs.declared.partitions.ReassignableTopicResponse.{ReassignableTopicResponse}
 use Rattle.kr_calls.specs.declared.calls.Reply.TheVariants as replies
-use Rattle.kr_calls.specs.Deciding.{Work, after_groups, begun, group_answers}
+use Rattle.kr_calls.specs.Deciding.{Work, after_groups, nothing_decided, group_answers}
 
 -- a partition of a topic, and the replicas that it is to have
 abbrev pub Entry : Type 0
@@ -92,7 +92,7 @@ reply_of responses = replies.AlterPartitionReassignments (record { error = pos 0
 
 unfoldable pub decided : Options → Image → ℤ → AlterPartitionReassignments → Work × Reply
 decided options image place request =
-    let start = begun place image in (
+    let start = nothing_decided place image in (
       after_groups answer (rule options) entries_of answer_of start request.topics,
       reply_of (group_answers answer (rule options) entries_of answer_of start request.topics),
     )

@@ -27,7 +27,7 @@ use Rattle.kr_calls.specs.declared.brokers.BrokerHeartbeatReply.{BrokerHeartbeat
 use Rattle.kr_calls.specs.declared.calls.Reply.{Reply}
 use Rattle.kr_calls.specs.declared.deciding.Draft.{Draft}
 use Rattle.kr_calls.specs.declared.calls.Reply.TheVariants as replies
-use Rattle.kr_calls.specs.Deciding.{Work, begun, one}
+use Rattle.kr_calls.specs.Deciding.{Work, nothing_decided, one}
 use Rattle.kr_calls.specs.TakingOut.{fencing, taken_out}
 
 -- a refused heartbeat tells the broker that it is fenced
@@ -127,4 +127,4 @@ rule options basis image place request = found STALE_BROKER_EPOCH (entries.get i
 
 unfoldable pub decided : Options → Basis → Image → ℤ → BrokerHeartbeat → Work × Reply
 decided options basis image place request =
-    let d = one refused (rule options basis) (begun place image) request in (d.0, replies.BrokerHeartbeat d.1)
+    let d = one refused (rule options basis) (nothing_decided place image) request in (d.0, replies.BrokerHeartbeat d.1)

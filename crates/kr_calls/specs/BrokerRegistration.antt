@@ -18,7 +18,7 @@ use Rattle.kr_calls.specs.declared.brokers.BrokerRegistrationReply.{BrokerRegist
 use Rattle.kr_calls.specs.declared.calls.Reply.{Reply}
 use Rattle.kr_calls.specs.declared.deciding.Draft.{Draft}
 use Rattle.kr_calls.specs.declared.calls.Reply.TheVariants as replies
-use Rattle.kr_calls.specs.Deciding.{Work, begun, one}
+use Rattle.kr_calls.specs.Deciding.{Work, nothing_decided, one}
 use Rattle.kr_calls.specs.TakingOut.{taken_out}
 
 -- a refused registration has no epoch
@@ -70,4 +70,4 @@ rule options basis image place request =
 
 unfoldable pub decided : Options → Basis → Image → ℤ → BrokerRegistration → Work × Reply
 decided options basis image place request =
-    let d = one refused (rule options basis) (begun place image) request in (d.0, replies.BrokerRegistration d.1)
+    let d = one refused (rule options basis) (nothing_decided place image) request in (d.0, replies.BrokerRegistration d.1)

@@ -16,7 +16,7 @@ use Rattle.kr_calls.specs.declared.topics.CreatePartitionsAssignment.{CreatePart
 use Rattle.kr_calls.specs.declared.topics.CreatePartitionsTopic.{CreatePartitionsTopic}
 use Rattle.kr_calls.specs.declared.topics.CreatePartitionsTopicResult.{CreatePartitionsTopicResult}
 use Rattle.kr_calls.specs.declared.calls.Reply.TheVariants as replies
-use Rattle.kr_calls.specs.Deciding.{Work, after_all, answers, begun, unless_validating}
+use Rattle.kr_calls.specs.Deciding.{Work, after_all, answers, nothing_decided, unless_validating}
 use Rattle.kr_calls.specs.NewPartitions.{is_assignable, new_partitions, placements}
 use Rattle.kr_calls.specs.Refuse.{refused_growth}
 
@@ -54,7 +54,7 @@ reply_of results = replies.CreatePartitions (record { results = results })
 
 unfoldable pub decided : Image → ℤ → CreatePartitions → Work × Reply
 decided image place request =
-    let start = begun place image in (
+    let start = nothing_decided place image in (
       unless_validating request.validate_only start (after_all refused_growth rule start request.topics),
       reply_of (answers refused_growth rule start request.topics),
     )

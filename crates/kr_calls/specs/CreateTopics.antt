@@ -25,7 +25,7 @@ use Rattle.kr_calls.specs.declared.topics.CreatableTopicConfig.{CreatableTopicCo
 use Rattle.kr_calls.specs.declared.topics.CreatableTopicResult.{CreatableTopicResult}
 use Rattle.kr_calls.specs.declared.topics.CreateTopics.{CreateTopics}
 use Rattle.kr_calls.specs.declared.calls.Reply.TheVariants as replies
-use Rattle.kr_calls.specs.Deciding.{Work, after_all, answers, begun, unless_validating}
+use Rattle.kr_calls.specs.Deciding.{Work, after_all, answers, nothing_decided, unless_validating}
 use Rattle.kr_calls.specs.NewPartitions.{is_assignable, new_partitions, placements}
 use Rattle.kr_calls.specs.Refuse.{refused_creation}
 
@@ -157,7 +157,7 @@ reply_of topics = replies.CreateTopics (record { topics = topics })
 
 unfoldable pub decided : Options → Image → ℤ → CreateTopics → Work × Reply
 decided options image place request =
-    let start = begun place image in (
+    let start = nothing_decided place image in (
       unless_validating request.validate_only start (after_all refused_creation (rule options request.validate_only) start request.topics),
       reply_of (answers refused_creation (rule options request.validate_only) start request.topics),
     )

@@ -21,7 +21,7 @@ use Rattle.kr_calls.specs.Metadata as describing
 use Rattle.kr_calls.specs.UnregisterBroker as unregistering
 use Rattle.kr_calls.specs.declared.calls.Reply.TheVariants as replies
 use Rattle.kr_calls.specs.declared.calls.Request.TheVariants as requests
-use Rattle.kr_calls.specs.Deciding.{Work, begun}
+use Rattle.kr_calls.specs.Deciding.{Work, nothing_decided}
 use Rattle.kr_calls.specs.NextBasis.{heartbeats_after}
 
 -- the records, the image after them, the reply, and the brokers that are heard of
@@ -33,7 +33,7 @@ pub record Decision : Type 0 where
 
 -- a read changes nothing; its reply is given by `query`
 abbrev pub no_work : Image → ℤ → Work × Reply
-no_work image place = (begun place image, replies.Bare (pos 0))
+no_work image place = (nothing_decided place image, replies.Bare (pos 0))
 
 unfoldable pub work_of : Options → Basis → Image → ℤ → Request → Work × Reply
 work_of options basis image place (requests.BrokerRegistration q) = registering.decided options basis image place q

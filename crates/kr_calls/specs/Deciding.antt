@@ -27,8 +27,8 @@ pub record Work : Type 0 where
   pub records : List Record
 
 -- nothing is done yet
-abbrev pub begun : ℤ → Image → Work
-begun place image = record { place = place; image = image; records = [] }
+abbrev pub nothing_decided : ℤ → Image → Work
+nothing_decided place image = record { place = place; image = image; records = [] }
 
 -- each record has a meaning on the image after the ones before it, and the last one leaves the image of the work
 abbrev pub HaveMeanings : Image → Work → Type 0
@@ -48,13 +48,13 @@ abbrev pub is_within_limits : List Record → List Record → Bool
 is_within_limits before records = list_all has_few_targets records && is_request (before ++ records)
 
 -- the work with the records, where each has a meaning
-abbrev pub added : Work → List Record → Result Image Ill → Option Work
-added work records (Ok image) = Some (record { place = work.place +ℤ pos (length records); image = image; records = work.records ++ records })
-added work records (Err cause) = None
+abbrev pub work_with : Work → List Record → Result Image Ill → Option Work
+work_with work records (Ok image) = Some (record { place = work.place +ℤ pos (length records); image = image; records = work.records ++ records })
+work_with work records (Err cause) = None
 
 -- the work with the records, where no limit is passed
 unfoldable pub taken : Work → List Record → Option Work
-taken work records = cond (is_within_limits work.records records) (added work records (apply_records work.image records)) None
+taken work records = cond (is_within_limits work.records records) (work_with work records (apply_records work.image records)) None
 
 -- Kafka's POLICY_VIOLATION, where a limit is passed
 abbrev pub over_a_limit : ℤ

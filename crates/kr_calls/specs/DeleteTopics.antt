@@ -13,7 +13,7 @@ use Rattle.kr_calls.specs.declared.topics.DeletableTopicResult.{DeletableTopicRe
 use Rattle.kr_calls.specs.declared.topics.DeleteTopicState.{DeleteTopicState}
 use Rattle.kr_calls.specs.declared.topics.DeleteTopics.{DeleteTopics}
 use Rattle.kr_calls.specs.declared.calls.Reply.TheVariants as replies
-use Rattle.kr_calls.specs.Deciding.{Work, after_all, answers, begun}
+use Rattle.kr_calls.specs.Deciding.{Work, after_all, answers, nothing_decided}
 use Rattle.kr_calls.specs.Refuse.{refused_deletion}
 
 abbrev pub deleted : List ℕ → ℕ → Draft DeletableTopicResult
@@ -33,5 +33,5 @@ reply_of responses = replies.DeleteTopics (record { responses = responses })
 
 unfoldable pub decided : Image → ℤ → DeleteTopics → Work × Reply
 decided image place request =
-    let start = begun place image in
+    let start = nothing_decided place image in
     (after_all refused_deletion rule start request.topics, reply_of (answers refused_deletion rule start request.topics))

@@ -25,7 +25,7 @@ use Rattle.kr_calls.specs.declared.partitions.ElectLeadersTopic.{ElectLeadersTop
 use Rattle.kr_calls.specs.declared.partitions.PartitionElectionResult.{PartitionElectionResult}
 use Rattle.kr_calls.specs.declared.partitions.ReplicaElectionResult.{ReplicaElectionResult}
 use Rattle.kr_calls.specs.declared.calls.Reply.TheVariants as replies
-use Rattle.kr_calls.specs.Deciding.{Work, after_groups, begun, group_answers}
+use Rattle.kr_calls.specs.Deciding.{Work, after_groups, nothing_decided, group_answers}
 
 -- a partition by its topic's name and its index
 abbrev pub Entry : Type 0
@@ -116,7 +116,7 @@ reply_of error results = replies.ElectLeaders (record { error = error; results =
 
 unfoldable pub decided : Options → Image → ℤ → ElectLeaders → Work × Reply
 decided options image place request =
-    let start = begun place image in
+    let start = nothing_decided place image in
     let groups = groups_of image request.topics in
     if not (is_kind request.kind) then (start, reply_of INVALID_REQUEST []) else (
       after_groups answer (rule options request.kind) entries_of answer_of start groups,

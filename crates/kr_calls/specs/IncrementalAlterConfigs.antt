@@ -27,7 +27,7 @@ use Rattle.kr_calls.specs.declared.configs.ConfigResponse.{ConfigResponse}
 use Rattle.kr_calls.specs.declared.configs.IncrementalAlterConfigs.{IncrementalAlterConfigs}
 use Rattle.kr_calls.specs.declared.deciding.Draft.{Draft}
 use Rattle.kr_calls.specs.declared.calls.Reply.TheVariants as replies
-use Rattle.kr_calls.specs.Deciding.{Work, after_all, answers, begun, unless_validating}
+use Rattle.kr_calls.specs.Deciding.{Work, after_all, answers, nothing_decided, unless_validating}
 use Rattle.kr_calls.specs.Refuse.{refused_resource}
 
 -- ---- Kafka's operations, on the value that a key has
@@ -168,7 +168,7 @@ reply_of responses = replies.IncrementalAlterConfigs (record { responses = respo
 
 unfoldable pub decided : Options → Image → ℤ → IncrementalAlterConfigs → Work × Reply
 decided options image place request =
-    let start = begun place image in (
+    let start = nothing_decided place image in (
       unless_validating request.validate_only start (after_all refused_resource (rule options) start request.resources),
       reply_of (answers refused_resource (rule options) start request.resources),
     )

@@ -54,8 +54,8 @@ is_offline image id = option_map_or (λ state. state.fenced) (entries.get int_cm
 abbrev pub leader_error : Partition → ℤ
 leader_error p = if int_eq p.leader (negsuc 0) then pos 5 else pos 0
 
-abbrev pub partition_of : Image → (ℕ × ℤ) × Partition → MetadataPartition
-partition_of image e = record {
+abbrev pub partition_metadata : Image → (ℕ × ℤ) × Partition → MetadataPartition
+partition_metadata image e = record {
   error = leader_error e.1;
   index = e.0.1;
   leader = e.1.leader;
@@ -69,13 +69,13 @@ partition_of image e = record {
 abbrev pub no_operations : ℤ
 no_operations = negsuc 2147483647
 
-abbrev pub topic_of : Image → List ℕ × ℕ → MetadataTopic
-topic_of image topic = record {
+abbrev pub topic_metadata : Image → List ℕ × ℕ → MetadataTopic
+topic_metadata image topic = record {
   error = pos 0;
   name = Some topic.0;
   topic = topic.1;
   internal = false;
-  partitions = map (partition_of image) (of_topic topic.1 image.partitions);
+  partitions = map (partition_metadata image) (of_topic topic.1 image.partitions);
   operations = no_operations;
 }
 
@@ -97,15 +97,15 @@ abbrev pub by_name_or_id : Image → Option (List ℕ) → ℕ → Result (List 
 by_name_or_id image (Some name) id = found UNKNOWN_TOPIC_OR_PARTITION (entries.get text_order image.topics name) (λ there. Ok (name, there))
 by_name_or_id image None id = found UNKNOWN_TOPIC_ID (topic_name image.topics id) (λ name. Ok (name, id))
 
-abbrev pub named : Image → MetadataRequestTopic → Result (List ℕ × ℕ) ℤ
-named image entry = refuse INVALID_REQUEST when not (is_named_once entry.name entry.topic) else by_name_or_id image entry.name entry.topic
+abbrev pub topic_asked_for : Image → MetadataRequestTopic → Result (List ℕ × ℕ) ℤ
+topic_asked_for image entry = refuse INVALID_REQUEST when not (is_named_once entry.name entry.topic) else by_name_or_id image entry.name entry.topic
 
 -- the topic, unless an earlier entry named it
 abbrev pub new_to : List ℕ → List ℕ × ℕ → Result (List ℕ × ℕ) ℤ
 new_to seen topic = refuse INVALID_REQUEST when list_any (λ id. id == topic.1) seen else Ok topic
 
 abbrev pub shown : Image → MetadataRequestTopic → Result (List ℕ × ℕ) ℤ → MetadataTopic
-shown image entry (Ok topic) = topic_of image topic
+shown image entry (Ok topic) = topic_metadata image topic
 shown image entry (Err error) = refused error entry
 
 -- the ids that were named so far
@@ -117,11 +117,11 @@ seen_with seen (Err error) = seen
 abbrev pub topics_named : Image → List ℕ → List MetadataRequestTopic → List MetadataTopic
 topics_named image seen [] = []
 topics_named image seen (entry ∷ others) =
-    shown image entry (and_then (named image entry) (new_to seen)) ∷ topics_named image (seen_with seen (named image entry)) others
+    shown image entry (and_then (topic_asked_for image entry) (new_to seen)) ∷ topics_named image (seen_with seen (topic_asked_for image entry)) others
 
 -- all topics by name, or those that are named
 abbrev pub topics_of : Image → Option (List MetadataRequestTopic) → List MetadataTopic
-topics_of image None = map (topic_of image) image.topics
+topics_of image None = map (topic_metadata image) image.topics
 topics_of image (Some asked) = topics_named image [] asked
 
 unfoldable pub queried : Options → Image → Metadata → Reply

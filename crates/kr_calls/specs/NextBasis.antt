@@ -16,13 +16,13 @@ use Rattle.kr_calls.specs.declared.calls.Request.TheVariants as requests
 abbrev pub after_leaving : Heartbeats → ℤ → ℤ → Heartbeats
 after_leaving h error broker = if int_eq error (pos 0) then leave h broker else h
 
-abbrev pub is_stopping : Image → ℤ → Bool
-is_stopping image broker = option_map_or (λ state. state.stopping) (entries.get int_cmp image.brokers broker) false
+abbrev pub broker_is_stopping : Image → ℤ → Bool
+broker_is_stopping image broker = option_map_or (λ state. state.stopping) (entries.get int_cmp image.brokers broker) false
 
 -- an unfenced broker is the last contact; it began to stop where this request set the flag
 abbrev pub after_contact : Heartbeats → Image → Image → ℤ → ℤ → BrokerHeartbeat → Heartbeats
 after_contact h before after now place request =
-    if is_stopping after request.broker && not (is_stopping before request.broker)
+    if broker_is_stopping after request.broker && not (broker_is_stopping before request.broker)
     then stop (beat h request.broker now request.offset) request.broker place
     else beat h request.broker now request.offset
 

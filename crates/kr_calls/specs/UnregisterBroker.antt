@@ -12,7 +12,7 @@ use Rattle.kr_calls.specs.declared.brokers.UnregisterBrokerReply.{UnregisterBrok
 use Rattle.kr_calls.specs.declared.calls.Reply.{Reply}
 use Rattle.kr_calls.specs.declared.deciding.Draft.{Draft}
 use Rattle.kr_calls.specs.declared.calls.Reply.TheVariants as replies
-use Rattle.kr_calls.specs.Deciding.{Work, begun, one}
+use Rattle.kr_calls.specs.Deciding.{Work, nothing_decided, one}
 use Rattle.kr_calls.specs.TakingOut.{taken_out}
 
 abbrev pub refused : ℤ → UnregisterBroker → UnregisterBrokerReply
@@ -27,4 +27,4 @@ rule options image place request = found BROKER_ID_NOT_REGISTERED (entries.get i
 
 unfoldable pub decided : Options → Image → ℤ → UnregisterBroker → Work × Reply
 decided options image place request =
-    let d = one refused (rule options) (begun place image) request in (d.0, replies.UnregisterBroker d.1)
+    let d = one refused (rule options) (nothing_decided place image) request in (d.0, replies.UnregisterBroker d.1)

@@ -98,7 +98,7 @@ fn is_blank(change: &PartitionChange) -> bool
 
 // The change from the old partition to the new one but for the epochs, None where no field differs.
 pub fn difference(old: &Partition, new: Partition) -> Option<PartitionChange>
-    ensures { result ≡ builds.changed old.now new }
+    ensures { result ≡ builds.change_between old.now new }
 {
     let change = fields(old, new);
     if is_blank(&change) {

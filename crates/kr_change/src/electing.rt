@@ -2,7 +2,7 @@
 
 ghost use Rattle.std.specs.Prelude.{◌≡◌, ◌&&◌, ◌||◌, not, take, find, [], ◌∷◌, if◌then◌else◌};
 ghost use Rattle.kr_defs.specs.Ids.{has};
-ghost use Rattle.kr_defs.specs.Elect.{is_preferred, is_unclean, is_restarted, is_sound, is_electable, in_turn, at_last, elected};
+ghost use Rattle.kr_defs.specs.Elect.{is_preferred, is_unclean_mode, is_restarted, is_sound, is_electable, in_turn, at_last, elected};
 
 use kr_defs::{Choice, Facts, Ids, Mode, Partition};
 
@@ -99,7 +99,7 @@ fn active_replica(replicas: &[i32], facts: &Facts) -> Option<i32>
 }
 
 fn is_unclean_mode(mode: Mode) -> bool
-    ensures { result ≡ is_unclean mode }
+    ensures { result ≡ is_unclean_mode mode }
 {
     match mode {
         Mode::Unclean => true,

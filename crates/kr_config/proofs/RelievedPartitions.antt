@@ -12,7 +12,7 @@ use Rattle.kr_defs.specs.Eligible.{is_enough}
 use Rattle.kr_defs.specs.Image.{Image}
 use Rattle.kr_defs.specs.Map.{IsMap, config_order}
 use Rattle.kr_defs.specs.NewPartition.{emptying}
-use Rattle.kr_defs.specs.Settings.{minimum_key, minimum_of, read_minimum, value_at}
+use Rattle.kr_defs.specs.Settings.{minimum_key, minimum_of, read_minimum, setting_value}
 use Rattle.kr_defs.specs.Walk.{Walked, changes_of}
 use Rattle.kr_defs.proofs.Tests.{both}
 use Rattle.kr_calls.specs.declared.configs.ConfigResource.{ConfigResource}
@@ -37,32 +37,32 @@ same_value (Some v) None is = absurd cc
 same_value (Some v) (Some w) is = ap Some (same_text v w is)
 
 module _ (image : Image) (entry : ConfigResource) (values : Values) (ordered : IsMap config_order image.configs) (once : AreOnce values) where
-  pub own_minimum : (kind : ℤ) (name : List ℕ) → (int_eq kind entry.kind && bytes_eq name entry.name) ≡ true → value_at (after image entry values) kind name minimum_key ≡ value_now image entry values minimum_key
+  pub own_minimum : (kind : ℤ) (name : List ℕ) → (int_eq kind entry.kind && bytes_eq name entry.name) ≡ true → setting_value (after image entry values) kind name minimum_key ≡ value_now image entry values minimum_key
   own_minimum kind name own =
       let parts = both (int_eq kind entry.kind) (bytes_eq name entry.name) own in
-      ap (λ k. value_at (after image entry values) k name minimum_key) (same_number kind entry.kind parts.0)
-      ∙ ap (λ n. value_at (after image entry values) entry.kind n minimum_key) (same_text name entry.name parts.1)
+      ap (λ k. setting_value (after image entry values) k name minimum_key) (same_number kind entry.kind parts.0)
+      ∙ ap (λ n. setting_value (after image entry values) entry.kind n minimum_key) (same_text name entry.name parts.1)
       ∙ got_own_key entry image.configs values minimum_key ordered once
 
-  pub other_minimum : (kind : ℤ) (name : List ℕ) → (int_eq kind entry.kind && bytes_eq name entry.name) ≡ false → value_at (after image entry values) kind name minimum_key ≡ value_at image kind name minimum_key
+  pub other_minimum : (kind : ℤ) (name : List ℕ) → (int_eq kind entry.kind && bytes_eq name entry.name) ≡ false → setting_value (after image entry values) kind name minimum_key ≡ setting_value image kind name minimum_key
   other_minimum kind name other = got_other_key entry image.configs values (record { kind = kind; name = name; key = minimum_key }) ordered other
 
   module _ (keeps : keeps_minimum image entry values ≡ true) where
-    kept_at : (kind : ℤ) (name : List ℕ) → value_at (after image entry values) kind name minimum_key ≡ value_at image kind name minimum_key
+    kept_at : (kind : ℤ) (name : List ℕ) → setting_value (after image entry values) kind name minimum_key ≡ setting_value image kind name minimum_key
     kept_at kind name =
-        elim (int_eq kind entry.kind && bytes_eq name entry.name) as (λ b. (int_eq kind entry.kind && bytes_eq name entry.name) ≡ b → value_at (after image entry values) kind name minimum_key ≡ value_at image kind name minimum_key) [
+        elim (int_eq kind entry.kind && bytes_eq name entry.name) as (λ b. (int_eq kind entry.kind && bytes_eq name entry.name) ≡ b → setting_value (after image entry values) kind name minimum_key ≡ setting_value image kind name minimum_key) [
           | true ↦ λ own.
               let parts = both (int_eq kind entry.kind) (bytes_eq name entry.name) own in
               own_minimum kind name own
-              ∙ same_value (value_now image entry values minimum_key) (value_at image entry.kind entry.name minimum_key) keeps
-              ∙ sym (ap (λ k. value_at image k name minimum_key) (same_number kind entry.kind parts.0) ∙ ap (λ n. value_at image entry.kind n minimum_key) (same_text name entry.name parts.1))
+              ∙ same_value (value_now image entry values minimum_key) (setting_value image entry.kind entry.name minimum_key) keeps
+              ∙ sym (ap (λ k. setting_value image k name minimum_key) (same_number kind entry.kind parts.0) ∙ ap (λ n. setting_value image entry.kind n minimum_key) (same_text name entry.name parts.1))
           | false ↦ λ other. other_minimum kind name other
         ] refl
 
     kept_minimum : (otherwise : ℤ) (topic : List ℕ) → minimum_of otherwise (after image entry values) topic ≡ minimum_of otherwise image topic
     kept_minimum otherwise topic =
-        ap (λ o. unwrap_or (option_or (option_and_then read_minimum o) (option_and_then read_minimum (value_at (after image entry values) broker_kind [] minimum_key))) otherwise) (kept_at topic_kind topic)
-        ∙ ap (λ o. unwrap_or (option_or (option_and_then read_minimum (value_at image topic_kind topic minimum_key)) (option_and_then read_minimum o)) otherwise) (kept_at broker_kind [])
+        ap (λ o. unwrap_or (option_or (option_and_then read_minimum o) (option_and_then read_minimum (setting_value (after image entry values) broker_kind [] minimum_key))) otherwise) (kept_at topic_kind topic)
+        ∙ ap (λ o. unwrap_or (option_or (option_and_then read_minimum (setting_value image topic_kind topic minimum_key)) (option_and_then read_minimum o)) otherwise) (kept_at broker_kind [])
 
     none_relieved : (options : Options) (w : Walked) → relief options image (after image entry values) w ≡ None
     none_relieved options w =

@@ -91,7 +91,7 @@ fn minimum_after_at<S: Store>(
     kind: &i8,
     name: &Text,
 ) -> Result<Option<i32>, NoMemory>
-    ensures { IfOk result (λ minimum. minimum ≡ option_and_then settings.read_minimum (settings.value_at (after (S.images store.now).tip relief.now.entry.now relief.now.values.now) kind.now name.now settings.minimum_key)) }
+    ensures { IfOk result (λ minimum. minimum ≡ option_and_then settings.read_minimum (settings.setting_value (after (S.images store.now).tip relief.now.entry.now relief.now.values.now) kind.now name.now settings.minimum_key)) }
 {
     let _valid = store.counts();
     relief.values.are_once();

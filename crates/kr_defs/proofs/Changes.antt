@@ -21,7 +21,7 @@ use Rattle.kr_defs.specs.Partition.{is_natural, is_part, are_replicas, is_reassi
 use Rattle.kr_defs.specs.Merge.{next_epoch, merged}
 use Rattle.kr_defs.specs.Elect.{elected}
 use Rattle.kr_defs.specs.Eligible.{eligible_after}
-use Rattle.kr_defs.specs.Build.{is_sensible, is_target_in_sync, completes, asked, reached, ended, is_unclean_choice, settled, standing_by, recovery_after, aimed, unless, same_members, difference, is_blank, changed, built}
+use Rattle.kr_defs.specs.Build.{is_sensible, is_target_in_sync, completes, asked, reached, ended, is_unclean_choice, settled, standing_by, recovery_after, aimed, unless, same_members, difference, is_blank, change_between, built}
 use Rattle.kr_defs.specs.PartitionLaws.{IsChoice, StandBy, BuiltChangesKeepPartitions}
 use Rattle.kr_defs.proofs.IdLists.{AreSame, all_at, all_from, has_before, passes_kept, has_kept, distinct_kept, all_kept, few_kept, some_left, first_member, not_within_none, has_only, id_itself, within_same, apart_same}
 use Rattle.kr_defs.proofs.EligibleLists.{nobody, stand_by}
@@ -374,7 +374,7 @@ merged_formed most p q before f =
     }
 
 -- what is true of the change where there is one
-pub changed_told : (p q : Partition) (P : PartitionChange → Type 0) → P (difference p q) → IfSome (changed p q) P
+pub changed_told : (p q : Partition) (P : PartitionChange → Type 0) → P (difference p q) → IfSome (change_between p q) P
 changed_told p q P told =
     elim (is_blank (difference p q)) as (λ b. IfSome (cond b None (Some (difference p q))) P) [ true ↦ tt | false ↦ told ]
 

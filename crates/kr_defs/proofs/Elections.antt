@@ -10,7 +10,7 @@ use Rattle.kr_defs.specs.declared.changing.Choice.TheVariants as choices
 use Rattle.kr_defs.specs.declared.changing.Facts.{Facts}
 use Rattle.kr_defs.specs.declared.changing.Mode.{Mode}
 use Rattle.kr_defs.specs.Ids.{has, is_within}
-use Rattle.kr_defs.specs.Elect.{is_unclean, is_restarted, is_sound, is_electable, in_turn, at_last, first_of, elected}
+use Rattle.kr_defs.specs.Elect.{is_unclean_mode, is_restarted, is_sound, is_electable, in_turn, at_last, first_of, elected}
 use Rattle.kr_defs.specs.PartitionLaws.{IsChoice, LeadsInSync, LeadsEligible, LeadsUncleanly, ElectionsAreSound, CleanElectionsKeepRecords}
 use Rattle.kr_defs.proofs.IdLists.{id_itself, all_at}
 
@@ -58,7 +58,7 @@ module _ (p : Partition) (replicas in_sync : List ℤ) (mode : Mode) (restarted 
 
   tell_unclean : (id : ℤ) → has (at_last p replicas in_sync mode restarted facts) id ≡ true → has facts.active id ≡ true → LeadsUncleanly replicas mode facts id
   tell_unclean id there active =
-      let parts = some_at_last (facts.unclean || is_unclean mode) replicas id there in
+      let parts = some_at_last (facts.unclean || is_unclean_mode mode) replicas id there in
       record { replica = parts.1; active = active; allowed = parts.0 }
 
   third_told : told (first_of third)
@@ -80,10 +80,10 @@ module _ (p : Partition) (replicas in_sync : List ℤ) (mode : Mode) (restarted 
   abbrev kept : ℤ × Choice → Type 0
   kept c = (c.0 ≡ negsuc 0) ⊎ ((has in_sync c.0 || has p.eligible c.0) ≡ true)
 
-  third_kept : facts.unclean || is_unclean mode ≡ false → kept (first_of third)
+  third_kept : facts.unclean || is_unclean_mode mode ≡ false → kept (first_of third)
   third_kept fails = rw fails (inl refl)
 
-  pub elected_kept : facts.unclean || is_unclean mode ≡ false → kept (elected p replicas in_sync mode restarted facts)
+  pub elected_kept : facts.unclean || is_unclean_mode mode ≡ false → kept (elected p replicas in_sync mode restarted facts)
   unfolding elected
   elected_kept fails =
       let P : List (ℤ × Choice) → Type 0 = λ cs. kept (first_of cs) in

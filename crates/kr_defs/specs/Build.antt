@@ -121,8 +121,8 @@ is_blank change =
     && (is_none change.replicas && is_none change.removing && is_none change.adding && is_none change.recovery)
 
 -- no change where no field differs
-abbrev pub changed : Partition → Partition → Option PartitionChange
-changed old new = unless (is_blank (difference old new)) (difference old new)
+abbrev pub change_between : Partition → Partition → Option PartitionChange
+change_between old new = unless (is_blank (difference old new)) (difference old new)
 
 unfoldable pub built : Partition → Want → Facts → Option PartitionChange
-built p want facts = changed p (aimed p want facts)
+built p want facts = change_between p (aimed p want facts)

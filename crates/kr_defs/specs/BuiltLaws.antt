@@ -8,7 +8,7 @@ use Rattle.kr_defs.specs.declared.limits.TheConstants.{MOST_REPLICAS}
 use Rattle.kr_defs.specs.Ids.{has, is_distinct, is_within, within}
 use Rattle.kr_defs.specs.Partition.{is_moving, is_natural, is_part, is_reassignment, is_recovery, target, is_well_formed}
 use Rattle.kr_defs.specs.Merge.{merged}
-use Rattle.kr_defs.specs.Elect.{is_unclean}
+use Rattle.kr_defs.specs.Elect.{is_unclean_mode}
 use Rattle.kr_defs.specs.Build.{is_sensible, built}
 use Rattle.kr_defs.specs.DefaultWant.{default_want}
 use Rattle.kr_defs.specs.NewPartition.{new_partition, emptying}
@@ -25,7 +25,7 @@ pub record LeadersHadRecords (p : Partition) (want : Want) (facts : Facts) : Typ
 
 abbrev pub BuiltLeadersHadRecords : Type 0
 BuiltLeadersHadRecords =
-    (p : Partition) (want : Want) (facts : Facts) → facts.unclean || is_unclean want.mode ≡ false → LeadersHadRecords p want facts
+    (p : Partition) (want : Want) (facts : Facts) → facts.unclean || is_unclean_mode want.mode ≡ false → LeadersHadRecords p want facts
 
 -- the replicas and the reassignment that are asked for are the partition's own
 pub record AsksOwnLists (p : Partition) (want : Want) : Type 0 where

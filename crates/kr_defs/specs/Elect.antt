@@ -13,9 +13,9 @@ abbrev pub is_preferred : Mode → Bool
 is_preferred modes.Preferred = true
 is_preferred other = false
 
-abbrev pub is_unclean : Mode → Bool
-is_unclean modes.Unclean = true
-is_unclean other = false
+abbrev pub is_unclean_mode : Mode → Bool
+is_unclean_mode modes.Unclean = true
+is_unclean_mode other = false
 
 -- the broker has restarted uncleanly
 abbrev pub is_restarted : Option ℤ → ℤ → Bool
@@ -35,7 +35,7 @@ module _ (p : Partition) (replicas in_sync : List ℤ) (mode : Mode) (restarted 
 
   -- all replicas where records may be lost
   abbrev pub at_last : List ℤ
-  at_last = if facts.unclean || is_unclean mode then replicas else []
+  at_last = if facts.unclean || is_unclean_mode mode then replicas else []
 
   abbrev pub candidates : List (ℤ × Choice)
   candidates =

@@ -19,8 +19,8 @@ pub record KeptMaps (K V : Type 0) : Type 0 where
   pub made : ℕ
 
 -- one call more, of which at most the greatest u64 are counted
-abbrev pub counted : ℕ → ℕ
-counted made = min (made + 1) (2 ^ 64 - 1)
+abbrev pub one_call_more : ℕ → ℕ
+one_call_more made = min (made + 1) (2 ^ 64 - 1)
 
 module _ {K V : Type 0} where
   -- each epoch is above the one before
@@ -63,8 +63,8 @@ module _ {K V : Type 0} where
 module _ {K V : Type 0} (order : K → K → Ordering) where
   -- the key has the value in the present map
   unfoldable pub inserted : KeptMaps K V → K → V → KeptMaps K V
-  inserted maps key value = record maps { present = entries.insert order maps.present key value; made = counted maps.made }
+  inserted maps key value = record maps { present = entries.insert order maps.present key value; made = one_call_more maps.made }
 
   -- the key has no value in the present map
   unfoldable pub removed : KeptMaps K V → K → KeptMaps K V
-  removed maps key = record maps { present = entries.remove order maps.present key; made = counted maps.made }
+  removed maps key = record maps { present = entries.remove order maps.present key; made = one_call_more maps.made }

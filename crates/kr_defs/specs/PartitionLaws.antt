@@ -9,7 +9,7 @@ use Rattle.kr_defs.specs.declared.changing.Want.{Want}
 use Rattle.kr_defs.specs.Ids.{has, is_distinct, is_within, are_apart}
 use Rattle.kr_defs.specs.Partition.{is_part, is_well_formed}
 use Rattle.kr_defs.specs.Merge.{merged}
-use Rattle.kr_defs.specs.Elect.{is_unclean, is_restarted, elected}
+use Rattle.kr_defs.specs.Elect.{is_unclean_mode, is_restarted, elected}
 use Rattle.kr_defs.specs.Eligible.{eligible_after}
 use Rattle.kr_defs.specs.Build.{is_sensible, built}
 
@@ -30,7 +30,7 @@ pub record LeadsEligible (p : Partition) (replicas : List ℤ) (restarted : Opti
 pub record LeadsUncleanly (replicas : List ℤ) (mode : Mode) (facts : Facts) (leader : ℤ) : Type 0 where
   pub replica : IsTrue (has replicas leader)
   pub active : IsTrue (has facts.active leader)
-  pub allowed : IsTrue (facts.unclean || is_unclean mode)
+  pub allowed : IsTrue (facts.unclean || is_unclean_mode mode)
 
 -- what a leader is, by among whom it was found
 abbrev pub IsChoice : Partition → List ℤ → List ℤ → Mode → Option ℤ → Facts → ℤ → Choice → Type 0
@@ -51,7 +51,7 @@ ElectionsAreSound =
 abbrev pub CleanElectionsKeepRecords : Type 0
 CleanElectionsKeepRecords =
     (p : Partition) (replicas in_sync : List ℤ) (mode : Mode) (restarted : Option ℤ) (facts : Facts) →
-    facts.unclean || is_unclean mode ≡ false →
+    facts.unclean || is_unclean_mode mode ≡ false →
     let leader = (elected p replicas in_sync mode restarted facts).0 in
     (leader ≡ negsuc 0) ⊎ IsTrue (has in_sync leader || has p.eligible leader)
 

@@ -21,12 +21,12 @@ abbrev pub by_id : List (ℤ × Rack) → List (ℤ × Rack)
 by_id brokers = fold (λ (sorted : List (ℤ × Rack)) (broker : ℤ × Rack). entries.insert int_cmp sorted broker.0 broker.1) [] brokers
 
 -- the broker comes last in its rack
-abbrev pub joined : List (Rack × List ℤ) → ℤ × Rack → List (Rack × List ℤ)
-joined racks (id, rack) = entries.insert rack_order (entries.remove rack_order racks rack) rack (unwrap_or (entries.get rack_order racks rack) [] ++ id ∷ [])
+abbrev pub into_rack : List (Rack × List ℤ) → ℤ × Rack → List (Rack × List ℤ)
+into_rack racks (id, rack) = entries.insert rack_order (entries.remove rack_order racks rack) rack (unwrap_or (entries.get rack_order racks rack) [] ++ id ∷ [])
 
 -- the racks in order, as the ids of their brokers in order
 unfoldable pub racks_of : List (ℤ × Rack) → List (List ℤ)
-racks_of brokers = values_of (fold joined [] (by_id brokers))
+racks_of brokers = values_of (fold into_rack [] (by_id brokers))
 
 -- the broker that visit number k takes, if its rack has one left
 unfoldable pub visit : List (List ℤ) → ℕ → ℕ → Option ℤ

@@ -28,13 +28,13 @@ read_switch value =
     if bytes_eq value (codes "false") then Some false else None
 
 -- the value of a setting
-abbrev pub value_at : Image → ℤ → List ℕ → List ℕ → Option (List ℕ)
-value_at image kind name key = map.get config_order image.configs (record { kind = kind; name = name; key = key })
+abbrev pub setting_value : Image → ℤ → List ℕ → List ℕ → Option (List ℕ)
+setting_value image kind name key = map.get config_order image.configs (record { kind = kind; name = name; key = key })
 
 -- the topic's own setting where it reads, else the default of all brokers where that reads
 abbrev pub setting : {X : Type 0} → (List ℕ → Option X) → List ℕ → Image → List ℕ → Option X
 setting read key image topic =
-    option_or (option_and_then read (value_at image topic_kind topic key)) (option_and_then read (value_at image broker_kind [] key))
+    option_or (option_and_then read (setting_value image topic_kind topic key)) (option_and_then read (setting_value image broker_kind [] key))
 
 -- how many replicas have to be in sync, where the options say the last number
 abbrev pub minimum_of : ℤ → Image → List ℕ → ℤ

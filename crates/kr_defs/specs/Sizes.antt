@@ -46,8 +46,8 @@ field_there (Some _) = 1
 abbrev pub tags_bytes : List (Option ℕ) → ℕ
 tags_bytes fields = uvarint_bytes (sum_by field_there fields) + sum_by field_bytes fields
 
-abbrev pub no_tags : ℕ
-no_tags = 1
+abbrev pub no_tags_bytes : ℕ
+no_tags_bytes = 1
 
 -- a number of so many bytes that is left out at its default
 abbrev pub number_field : ℕ → ℤ → ℤ → Option ℕ
@@ -73,9 +73,9 @@ ids_field_or (Some ids) = Some (list_bytes 4 ids)
 abbrev pub registration_bytes : Broker → ℕ
 registration_bytes state =
     4 + 16 + 8
-    + rows_bytes (λ e. text_bytes e.name + text_bytes e.host + 2 + 2 + no_tags) state.endpoints
-    + rows_bytes (λ r. text_bytes r.name + 2 + 2 + no_tags) state.features
-    + text_or_null_bytes state.rack + 1 + 1 + no_tags
+    + rows_bytes (λ e. text_bytes e.name + text_bytes e.host + 2 + 2 + no_tags_bytes) state.endpoints
+    + rows_bytes (λ r. text_bytes r.name + 2 + 2 + no_tags_bytes) state.features
+    + text_or_null_bytes state.rack + 1 + 1 + no_tags_bytes
 
 -- index, topic, four lists, leader, two epochs, one directory id for each replica, and what is tagged
 abbrev pub partition_bytes : Partition → ℕ
@@ -101,18 +101,18 @@ frame_bytes = 3
 
 abbrev pub layout_bytes : Record → ℕ
 layout_bytes (kinds.RegisterBroker broker state) = registration_bytes state
-layout_bytes (kinds.UnregisterBroker broker epoch) = 4 + 8 + no_tags
-layout_bytes (kinds.Topic name id) = text_bytes name + 16 + no_tags
+layout_bytes (kinds.UnregisterBroker broker epoch) = 4 + 8 + no_tags_bytes
+layout_bytes (kinds.Topic name id) = text_bytes name + 16 + no_tags_bytes
 layout_bytes (kinds.Partition index topic state) = partition_bytes state
-layout_bytes (kinds.Config kind name key value) = 1 + text_bytes name + text_bytes key + text_or_null_bytes value + no_tags
+layout_bytes (kinds.Config kind name key value) = 1 + text_bytes name + text_bytes key + text_or_null_bytes value + no_tags_bytes
 layout_bytes (kinds.PartitionChange index topic change) = change_bytes change
-layout_bytes (kinds.FenceBroker broker epoch) = 4 + 8 + no_tags
-layout_bytes (kinds.UnfenceBroker broker epoch) = 4 + 8 + no_tags
-layout_bytes (kinds.RemoveTopic topic) = 16 + no_tags
-layout_bytes (kinds.FeatureLevel name level) = text_bytes name + 2 + no_tags
+layout_bytes (kinds.FenceBroker broker epoch) = 4 + 8 + no_tags_bytes
+layout_bytes (kinds.UnfenceBroker broker epoch) = 4 + 8 + no_tags_bytes
+layout_bytes (kinds.RemoveTopic topic) = 16 + no_tags_bytes
+layout_bytes (kinds.FeatureLevel name level) = text_bytes name + 2 + no_tags_bytes
 layout_bytes (kinds.BrokerRegistrationChange broker epoch fenced stopping) =
     4 + 8 + tags_bytes (number_field 1 (pos 0) fenced ∷ number_field 1 (pos 0) stopping ∷ [])
-layout_bytes kinds.NoOp = no_tags
+layout_bytes kinds.NoOp = no_tags_bytes
 
 unfoldable pub value_bytes : Record → ℕ
 value_bytes r = frame_bytes + layout_bytes r

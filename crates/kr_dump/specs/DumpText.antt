@@ -55,13 +55,13 @@ abbrev pub state_word : Broker → List ℕ
 state_word b = if b.fenced then codes "fenced" else if b.stopping then codes "stopping" else codes "active"
 
 -- up to the rack
-abbrev pub registration_text : ℤ → Broker → List ℕ
-registration_text id b =
+abbrev pub registration_line : ℤ → Broker → List ℕ
+registration_line id b =
     codes "broker " ++ (signed_decimal id ++ (codes " epoch " ++ (signed_decimal b.epoch ++ (codes " " ++ (state_word b ++ codes " rack ")))))
 
 abbrev pub broker_line : ℤ × Broker → List ℕ
 broker_line (id, b) =
-    registration_text id b ++ (rack_text b.rack ++ (codes " listeners " ++ (decimal (length b.endpoints)
+    registration_line id b ++ (rack_text b.rack ++ (codes " listeners " ++ (decimal (length b.endpoints)
     ++ (codes " features " ++ (decimal (length b.features) ++ codes "\n")))))
 
 abbrev pub topic_line : List ℕ × ℕ → List ℕ

@@ -48,7 +48,7 @@ fn put_registration(
     id: i32,
     broker: &Broker,
 ) -> Result<(), AllocError>
-    ensures { OnOk result (out.new ≡ out.old ++ texts.registration_text id broker.now) }
+    ensures { OnOk result (out.new ≡ out.old ++ texts.registration_line id broker.now) }
 {
     let (epoch, state) = (broker.epoch, state_word(broker));
     let registration = format!(in alloc; "broker {id} epoch {epoch} {state} rack ")?;

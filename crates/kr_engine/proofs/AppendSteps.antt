@@ -23,11 +23,11 @@ use Rattle.kr_defs.specs.Log.{Log, apply_all, image_at, tip}
 use Rattle.kr_safety.specs.HearingLaws.{HearsOf}
 use Rattle.kr_store.specs.Images.{Images, marked}
 use Rattle.kr_engine.specs.declared.writes.Write.{Write}
-use Rattle.kr_engine.specs.Engine.{Core, IsEngine, Rise, are_in_order, kept_image}
-use Rattle.kr_engine.specs.Entries.{placed}
+use Rattle.kr_engine.specs.Engine.{Core, IsEngine, Rise, writes_in_order, kept_image}
+use Rattle.kr_engine.specs.Entries.{item_entries}
 use Rattle.kr_engine.specs.Outputs.{is_open}
-use Rattle.kr_engine.specs.World.{State, World, image_of_tip, tip_of, with_records, written}
-use Rattle.kr_engine.specs.inner.Writing.{Writes, appended, batch_at, place_behind}
+use Rattle.kr_engine.specs.World.{State, World, image_of_tip, tip_of, with_records, log_with}
+use Rattle.kr_engine.specs.inner.Writing.{Writes, with_appended, batch_at, place_behind}
 use Rattle.kr_engine.proofs.LongerLogs.{kept_then, present_then, rise_more}
 use Rattle.kr_engine.proofs.LogEntries.{not_none}
 use Rattle.kr_engine.proofs.Logs.{tip_written}
@@ -54,7 +54,7 @@ abbrev behind : Core → List Write → Heartbeats → Core
 behind e held heard = record e { held = held; heard = heard }
 
 none_written : (e : Core) (images : Images) (heard heard' : Heartbeats) (held : List Write) → images.kept ≡ e.images.kept → apply_records e.images.tip [] ≡ Ok images.tip
-    → Writes e (behind (appended (between e images heard) []) held heard') []
+    → Writes e (behind (with_appended (between e images heard) []) held heard') []
 none_written e images heard heard' held kept meaning = record {
   meaning = meaning;
   kept = kept;
@@ -74,11 +74,11 @@ module _ (e : Core) (images : Images) (heard heard' : Heartbeats) (held : List W
     images = marked images (place_behind e all);
     tip = place_behind e all;
     given = e.given ++ given.Append (batch_bytes (batch_at e all)) ∷ [];
-    fresh = e.fresh ++ placed e.tip (as_items all);
+    fresh = e.fresh ++ item_entries e.tip (as_items all);
   })) held heard'
 
   some_written : images.kept ≡ e.images.kept → apply_records e.images.tip all ≡ Ok images.tip → length all ≤ 10000
-      → Writes e (behind (appended (between e images heard) all) held heard') all
+      → Writes e (behind (with_appended (between e images heard) all) held heard') all
   some_written kept meaning few =
       let has = sym (not_none (length records)) in record {
         meaning = subst (λ b. apply_records e.images.tip all ≡ Ok (after_by b).images.tip) has meaning;
@@ -89,7 +89,7 @@ module _ (e : Core) (images : Images) (heard heard' : Heartbeats) (held : List W
           images = (after_by b).images;
           tip = place_behind e all;
           given = e.given ++ cond b [] (given.Append (batch_bytes (batch_at e all)) ∷ []);
-          fresh = e.fresh ++ placed e.tip (as_items all);
+          fresh = e.fresh ++ item_entries e.tip (as_items all);
           heard = (after_by b).heard;
           held = (after_by b).held;
         }) has refl;
@@ -97,12 +97,12 @@ module _ (e : Core) (images : Images) (heard heard' : Heartbeats) (held : List W
 
 pub writes_by : (e between' after : Core) (records : List Record) → between' ≡ record e { images = between'.images; heard = between'.heard } → between'.images.kept ≡ e.images.kept
     → apply_records e.images.tip records ≡ Ok between'.images.tip → length records ≤ 10000
-    → after ≡ record (appended between' records) { held = after.held; heard = after.heard } → Writes e after records
+    → after ≡ record (with_appended between' records) { held = after.held; heard = after.heard } → Writes e after records
 writes_by e between' after [] same kept meaning few is =
-    subst (λ (a : Core). Writes e a []) (sym (is ∙ ap (λ (b : Core). record (appended b []) { held = after.held; heard = after.heard }) same))
+    subst (λ (a : Core). Writes e a []) (sym (is ∙ ap (λ (b : Core). record (with_appended b []) { held = after.held; heard = after.heard }) same))
     (none_written e between'.images between'.heard after.heard after.held kept meaning)
 writes_by e between' after (r ∷ records) same kept meaning few is =
-    subst (λ (a : Core). Writes e a (r ∷ records)) (sym (is ∙ ap (λ (b : Core). record (appended b (r ∷ records)) { held = after.held; heard = after.heard }) same))
+    subst (λ (a : Core). Writes e a (r ∷ records)) (sym (is ∙ ap (λ (b : Core). record (with_appended b (r ∷ records)) { held = after.held; heard = after.heard }) same))
     (some_written e between'.images between'.heard after.heard after.held r records kept meaning few)
 
 -- ---- the state
@@ -146,7 +146,7 @@ module _ (e after : Core) (s : State) (writes : List Write) (k : IsEngine e s wr
     own = as_items (r ∷ records)
 
     abbrev longer : Log
-    longer = written s.world.log own
+    longer = log_with s.world.log own
 
     abbrev world_by : Bool → World
     world_by b = cond b s.world (record s.world { log = longer; batch_ends = s.world.batch_ends ++ (tip s.world.log + length own) ∷ [] })
@@ -225,7 +225,7 @@ module _ (e after : Core) (s : State) (writes then : List Write) (k : IsEngine e
       → HearsOf (hearing.heard basis) after.images.tip
       → list_all (λ c. int_le c.time s.basis.time) basis.contacts ≡ true
       → filter (is_open after.leading after.committed) after.held ≡ then
-      → are_in_order after.held ≡ true
+      → writes_in_order after.held ≡ true
       → All (λ write. int_le write.need (pos (tip_of s + length records)) ≡ true) then
       → IsEngine after state_behind then
   engine_behind same_time same_led heard low leads hears in_time waits ordered reached =

@@ -29,7 +29,7 @@ use Rattle.kr_store.specs.Images.{Images, IsAbove, forgotten, last_image, marked
 use Rattle.kr_engine.specs.declared.writes.Write.{Write}
 use Rattle.kr_engine.specs.Engine as engines
 use Rattle.kr_engine.specs.Engine.{Core, IsEngine, IsState, IsStep, Rise, adding, kept_image, left, refused}
-use Rattle.kr_engine.specs.Entries.{placed}
+use Rattle.kr_engine.specs.Entries.{item_entries}
 use Rattle.kr_engine.specs.Events.{counted, next_number, outcome, timed}
 use Rattle.kr_engine.specs.Outputs.{answers, is_open_in}
 use Rattle.kr_engine.specs.Reasons.{already_leading, bad_batch, exhausted, gap, ill_formed}
@@ -37,7 +37,7 @@ use Rattle.kr_engine.specs.inner.Ready.{IsReady}
 use Rattle.kr_engine.specs.Replicas as replicas
 use Rattle.kr_engine.specs.Replicas.{batch_or, end_of, follow, follow_batch, unless_ill}
 use Rattle.kr_engine.specs.inner.Standby.{Follows, Settles, follow_reason, followed, followed_by, items_reason, moved_to, read_batch_reason}
-use Rattle.kr_engine.specs.World.{State, image_of_tip, is_far, seen_at, tip_of, written}
+use Rattle.kr_engine.specs.World.{State, image_of_tip, is_far, seen_at, tip_of, log_with}
 use Rattle.kr_engine.proofs.NewLeaderships.{near, no_writes, none_row}
 use Rattle.kr_engine.proofs.LongerLogs.{present_then, seen_then}
 use Rattle.kr_engine.proofs.LogEntries.{behind}
@@ -93,14 +93,14 @@ item_refused before between after end place cause items image reason r is back k
 
 pub items_taken : (before between told after : Core) (end : ℤ) (items : List Item) → None ≡ first_ill before.images.tip before.tip items
     → Follows before.images between.images items None → between ≡ record before { images = between.images }
-    → told ≡ adding between (placed between.tip items) → after ≡ moved_to told end told.images.tip
-    → Settles before after (items_reason (first_ill before.images.tip before.tip items)) (moved_to (adding before (placed before.tip items)) end (result_unwrap_or (apply_all before.images.tip items) empty))
+    → told ≡ adding between (item_entries between.tip items) → after ≡ moved_to told end told.images.tip
+    → Settles before after (items_reason (first_ill before.images.tip before.tip items)) (moved_to (adding before (item_entries before.tip items)) end (result_unwrap_or (apply_all before.images.tip items) empty))
 items_taken before between told after end items is meaning same adds leaves =
-    let own = adding before (placed before.tip items) in
+    let own = adding before (item_entries before.tip items) in
     subst (λ o. Settles before after (items_reason o) (moved_to own end (result_unwrap_or (apply_all before.images.tip items) empty))) is
     (leaves
     ∙ (ap (λ (c : Core). moved_to c end c.images.tip) adds
-    ∙ (ap (λ (c : Core). moved_to (adding c (placed c.tip items)) end between.images.tip) same
+    ∙ (ap (λ (c : Core). moved_to (adding c (item_entries c.tip items)) end between.images.tip) same
     ∙ ap (moved_to own end) (sym (ap (λ r. result_unwrap_or r empty) meaning)))))
 
 pub still_above : (before between told : Core) (end : ℤ) (new : List Entry) → between.images.kept ≡ before.images.kept → told ≡ adding between new → IsAbove before.images.kept end → IsAbove told.images.kept end
@@ -184,7 +184,7 @@ module _ (e : Core) (bytes : List ℕ) (d : IsDrained e) where
     image = result_unwrap_or (apply_all e.images.tip batch.items) empty
 
     abbrev longer : Log
-    longer = written s.world.log batch.items
+    longer = log_with s.world.log batch.items
 
     standby : s.world.leading ≡ None
     standby = sym k.leading ∙ none
@@ -256,7 +256,7 @@ module _ (e : Core) (bytes : List ℕ) (d : IsDrained e) where
           ap (λ g. g ++ option_to_list e.refusal ++ answers e.leading (end_of batch) e.held) d.none_given
           ∙ (ap (λ o. option_to_list o ++ answers e.leading (end_of batch) e.held) d.none_refused
           ∙ answers_then e s writes d k e.leading (end_of batch) after.world k.leading end_is);
-      fresh = ap (λ t. placed t batch.items) k.tip ∙ ap (placed (pos (tip_of s))) (sym (behind s.world.log batch.items));
+      fresh = ap (λ t. item_entries t batch.items) k.tip ∙ ap (item_entries (pos (tip_of s))) (sym (behind s.world.log batch.items));
     }
 
   items_none : (o : Option (ℤ × Ill)) → items_reason o ≡ None → o ≡ None

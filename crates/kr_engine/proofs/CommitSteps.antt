@@ -11,7 +11,7 @@ use Rattle.kr_engine.specs.Commits as commits
 use Rattle.kr_engine.specs.Commits.{commit, is_end}
 use Rattle.kr_engine.specs.Engine as engines
 use Rattle.kr_engine.specs.Engine.{Core, IsEngine, IsState, IsStep, commit_reason, committed_to, kept_image, left, refused_or}
-use Rattle.kr_engine.specs.Entries.{placed}
+use Rattle.kr_engine.specs.Entries.{item_entries}
 use Rattle.kr_engine.specs.Events.{counted, next_number}
 use Rattle.kr_engine.specs.Leaderships.{leads_in}
 use Rattle.kr_engine.specs.Outputs.{answers, answers_in, is_open_in}
@@ -106,7 +106,7 @@ module _ (e : Core) (epoch end : ℤ) (d : IsDrained e) where
       stands = λ s writes k. stands_accepted after e.options s writes event (commits.committed_to s end) (judged_so true true leads kept s writes k) (stands s writes k);
       outputs = λ s writes k. left_then s writes k ∙ sym (outputs_accepted e e.options s writes event (commits.committed_to s end) (judged_so true true leads kept s writes k));
       fresh = λ s writes k.
-          ap (placed (pos (tip_of s))) (sym (none_behind s.world.log))
+          ap (item_entries (pos (tip_of s))) (sym (none_behind s.world.log))
           ∙ sym (entries_accepted e e.options s writes event (commits.committed_to s end) (judged_so true true leads kept s writes k));
     }
 

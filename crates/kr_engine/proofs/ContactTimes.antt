@@ -13,8 +13,8 @@ use Rattle.kr_calls.specs.BrokerHeartbeat as heartbeating
 use Rattle.kr_calls.specs.BrokerRegistration as registering
 use Rattle.kr_calls.specs.UnregisterBroker as unregistering
 use Rattle.kr_calls.specs.Decide.{decide, work_of}
-use Rattle.kr_calls.specs.Deciding.{begun, one}
-use Rattle.kr_calls.specs.NextBasis.{after_contact, after_heartbeat, after_leaving, heartbeats_after, is_stopping}
+use Rattle.kr_calls.specs.Deciding.{nothing_decided, one}
+use Rattle.kr_calls.specs.NextBasis.{after_contact, after_heartbeat, after_leaving, heartbeats_after, broker_is_stopping}
 use Rattle.kr_calls.specs.NextBasisLaws.{is_of_a_broker}
 use Rattle.kr_calls.proofs.OtherRequests.{others_leave}
 use Rattle.kr_defs.specs.declared.basis.Basis.{Basis}
@@ -45,7 +45,7 @@ either_in_time now false g h first then = then
 of_contact : (now : ℤ) (h : Heartbeats) (before after : Image) (place : ℤ) (q : BrokerHeartbeat) → AreInTime now h → AreInTime now (after_contact h before after now place q)
 of_contact now h before after place q all =
     let beaten = beating_in_time now h q.broker q.offset all in
-    either_in_time now (is_stopping after q.broker && not (is_stopping before q.broker)) (hearing.stop (hearing.beat h q.broker now q.offset) q.broker place) (hearing.beat h q.broker now q.offset) beaten beaten
+    either_in_time now (broker_is_stopping after q.broker && not (broker_is_stopping before q.broker)) (hearing.stop (hearing.beat h q.broker now q.offset) q.broker place) (hearing.beat h q.broker now q.offset) beaten beaten
 
 of_heartbeat : (now : ℤ) (h : Heartbeats) (before after : Image) (place : ℤ) (q : BrokerHeartbeat) (p : BrokerHeartbeatReply) → AreInTime now h → AreInTime now (after_heartbeat h before after now place q p)
 of_heartbeat now h before after place q p all =
@@ -61,9 +61,9 @@ of_other options b image place request other all = subst (AreInTime b.time) (sym
 
 pub decided_in_time : (options : Options) (b : Basis) (image : Image) (place : ℤ) (request : Request) → AreInTime b.time (hearing.heard b) → AreInTime b.time (decide options image b place request).heartbeats
 unfolding work_of registering.decided heartbeating.decided unregistering.decided heartbeats_after
-decided_in_time options b image place (requests.BrokerRegistration q) all = of_leaving b.time (hearing.heard b) (one registering.refused (registering.rule options b) (begun place image) q).1.error q.broker all
-decided_in_time options b image place (requests.BrokerHeartbeat q) all = of_heartbeat b.time (hearing.heard b) image (work_of options b image place (requests.BrokerHeartbeat q)).0.image place q (one heartbeating.refused (heartbeating.rule options b) (begun place image) q).1 all
-decided_in_time options b image place (requests.UnregisterBroker q) all = of_leaving b.time (hearing.heard b) (one unregistering.refused (unregistering.rule options) (begun place image) q).1.error q.broker all
+decided_in_time options b image place (requests.BrokerRegistration q) all = of_leaving b.time (hearing.heard b) (one registering.refused (registering.rule options b) (nothing_decided place image) q).1.error q.broker all
+decided_in_time options b image place (requests.BrokerHeartbeat q) all = of_heartbeat b.time (hearing.heard b) image (work_of options b image place (requests.BrokerHeartbeat q)).0.image place q (one heartbeating.refused (heartbeating.rule options b) (nothing_decided place image) q).1 all
+decided_in_time options b image place (requests.UnregisterBroker q) all = of_leaving b.time (hearing.heard b) (one unregistering.refused (unregistering.rule options) (nothing_decided place image) q).1.error q.broker all
 decided_in_time options b image place (requests.CreateTopics q) all = of_other options b image place (requests.CreateTopics q) refl all
 decided_in_time options b image place (requests.DeleteTopics q) all = of_other options b image place (requests.DeleteTopics q) refl all
 decided_in_time options b image place (requests.CreatePartitions q) all = of_other options b image place (requests.CreatePartitions q) refl all

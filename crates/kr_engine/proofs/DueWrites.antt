@@ -34,7 +34,7 @@ use Rattle.kr_engine.specs.Reasons as reasons
 use Rattle.kr_engine.specs.Replicas.{batch_or, end_of, follow, follow_batch, followed, image_or, load, load_image, loaded, unless_ill}
 use Rattle.kr_engine.specs.Requests.{after_ask, after_write, decided, is_decided, serve}
 use Rattle.kr_engine.specs.Ticks.{fence, fence_all, fencing_of, lapsed, tick}
-use Rattle.kr_engine.specs.World.{State, World, image_of_tip, is_far, tip_of, with_batch, written}
+use Rattle.kr_engine.specs.World.{State, World, image_of_tip, is_far, tip_of, with_batch, log_with}
 use Rattle.kr_engine.proofs.LossSteps.{not_higher}
 use Rattle.kr_engine.proofs.Places.{moves}
 
@@ -53,7 +53,7 @@ leaves_if false w after l = l
 
 pub batch_leaves : (w : World) (items : List Item) → Leaves w (with_batch w items)
 batch_leaves w items =
-    leaves_if (length items == 0) w (record w { log = written w.log items; batch_ends = w.batch_ends ++ (tip w.log + length items) ∷ [] })
+    leaves_if (length items == 0) w (record w { log = log_with w.log items; batch_ends = w.batch_ends ++ (tip w.log + length items) ∷ [] })
     (record { leading = refl; greatest = refl; committed = refl })
 
 leaves_then : (u v w : World) → Leaves u v → Leaves v w → Leaves u w

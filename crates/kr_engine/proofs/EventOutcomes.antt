@@ -8,7 +8,7 @@ use Rattle.kr_calls.specs.declared.events.Output.TheVariants as given
 use Rattle.kr_defs.specs.declared.options.Options.{Options}
 use Rattle.kr_engine.specs.declared.writes.Write.{Write}
 use Rattle.kr_engine.specs.Engine.{Core, IsEngine}
-use Rattle.kr_engine.specs.Entries.{added, entries_by, entries_of}
+use Rattle.kr_engine.specs.Entries.{entries_added, entries_by, log_entries}
 use Rattle.kr_engine.specs.Events.{counted, happens, next_number, outcome, timed}
 use Rattle.kr_engine.specs.Outputs.{if_accepted, is_open_in, outputs_by, outputs_of, outputs_then, waiting_after, writes_of}
 use Rattle.kr_engine.specs.World.{State}
@@ -40,8 +40,8 @@ module _ (e : Core) (options : Options) (s : State) (writes : List Write) (event
       → outputs_of options s writes event ≡ given.Refused (next_number s.world.count) reason ∷ []
   outputs_refused reason is = ap (outputs_by options (timed s event) writes event) is
 
-  pub entries_accepted : (after : State) → outcome options (timed s event) event ≡ Ok after → entries_of options s event ≡ added s event after
+  pub entries_accepted : (after : State) → outcome options (timed s event) event ≡ Ok after → log_entries options s event ≡ entries_added s event after
   entries_accepted after is = ap (entries_by s event) is
 
-  pub entries_refused : (reason : Reason) → outcome options (timed s event) event ≡ Err reason → entries_of options s event ≡ []
+  pub entries_refused : (reason : Reason) → outcome options (timed s event) event ≡ Err reason → log_entries options s event ≡ []
   entries_refused reason is = ap (entries_by s event) is

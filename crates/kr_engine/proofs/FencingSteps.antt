@@ -30,8 +30,8 @@ use Rattle.kr_safety.proofs.BrokerTests.{by_get, passing}
 use Rattle.kr_safety.proofs.HearingRequests.{fencings_keep_hearing}
 use Rattle.kr_safety.proofs.SafeRequests.{valid_after}
 use Rattle.kr_engine.specs.declared.writes.Write.{Write}
-use Rattle.kr_engine.specs.Engine.{Core, IsEngine, are_in_order}
-use Rattle.kr_engine.specs.Entries.{placed}
+use Rattle.kr_engine.specs.Engine.{Core, IsEngine, writes_in_order}
+use Rattle.kr_engine.specs.Entries.{item_entries}
 use Rattle.kr_engine.specs.Outputs.{append, append_fencings, is_open}
 use Rattle.kr_engine.specs.inner.Ticking.{FencesAll}
 use Rattle.kr_engine.specs.Ticks.{fence, fence_all, fencing_of}
@@ -129,8 +129,8 @@ module _ (e after : Core) (broker : ℤ) (f : Fences e after broker) (s : State)
     writes = batch_written s.world (as_items (fencing_of e.options (image_of_tip s) broker));
     told =
         ap (λ (a : Core). a.fresh) f.writes.same
-        ∙ (ap (λ t. e.fresh ++ placed t (as_items records)) k.tip
-        ∙ ap (λ i. e.fresh ++ placed (pos (tip_of s)) (as_items (fencing_of e.options i broker))) (sym (same_image e s writes k)));
+        ∙ (ap (λ t. e.fresh ++ item_entries t (as_items records)) k.tip
+        ∙ ap (λ i. e.fresh ++ item_entries (pos (tip_of s)) (as_items (fencing_of e.options i broker))) (sym (same_image e s writes k)));
   }
 
   pub fence_stands : IsValid e.images.tip → IsSome s.world.leading → tip_of s + 10000 ≤ unsigned_abs PLACES_END → IsEngine after (fence e.options s broker) writes
@@ -148,7 +148,7 @@ module _ (e after : Core) (broker : ℤ) (f : Fences e after broker) (s : State)
       (left_in_time (λ c. int_le c.time s.basis.time) (λ c. not (int_eq c.broker broker)) s.basis.contacts k.is_state.in_time)
       (ap (λ hs. filter (is_open after.leading after.committed) hs) stays.held
       ∙ (ap (λ l. filter (is_open l after.committed) e.held) stays.leading ∙ (ap (λ c. filter (is_open e.leading c) e.held) stays.committed ∙ k.waits)))
-      (ap are_in_order stays.held ∙ k.ordered)
+      (ap writes_in_order stays.held ∙ k.ordered)
       (reached_later (tip_of s) (tip_of s + length records) writes (omega arith) k.is_state.reached))
 
 -- ---- brokers, one after the other

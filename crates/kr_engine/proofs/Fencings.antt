@@ -27,7 +27,7 @@ use Rattle.kr_store.specs.Images.{AreValid, IsAbove, marked}
 use Rattle.kr_engine.specs.declared.writes.Write.{Write}
 use Rattle.kr_engine.specs.Engine as engines
 use Rattle.kr_engine.specs.Engine.{Core, IsEngine, IsSound, IsStep, left}
-use Rattle.kr_engine.specs.Entries.{placed}
+use Rattle.kr_engine.specs.Entries.{item_entries}
 use Rattle.kr_engine.specs.Events.{timed}
 use Rattle.kr_engine.specs.inner.Ready.{IsReady}
 use Rattle.kr_engine.specs.Reasons.{exhausted}
@@ -35,7 +35,7 @@ use Rattle.kr_engine.specs.inner.Ticking.{CanFence, CanFenceAll, FencesAll, Sett
 use Rattle.kr_engine.specs.Ticks as worlds
 use Rattle.kr_engine.specs.Ticks.{fencing_of}
 use Rattle.kr_engine.specs.World.{State, is_far, tip_of}
-use Rattle.kr_engine.specs.inner.Writing.{Fences, Writes, appended, batch_at, place_behind}
+use Rattle.kr_engine.specs.inner.Writing.{Fences, Writes, with_appended, batch_at, place_behind}
 use Rattle.kr_engine.proofs.NewLeaderships.{none_row}
 use Rattle.kr_engine.proofs.FencingSteps.{fence_stands, fence_stays}
 use Rattle.kr_engine.proofs.ReadyEngines as engines_ready
@@ -70,20 +70,20 @@ record Leaves (before after : Core) : Type 0 where
   heard : after.heard ≡ before.heard
   held : after.held ≡ before.held
 
-append_leaves : (e : Core) (records : List Record) → Leaves e (appended e records)
+append_leaves : (e : Core) (records : List Record) → Leaves e (with_appended e records)
 append_leaves e records =
     elim (length records == 0) as (λ b. Leaves e (cond b e (record e {
       images = marked e.images (place_behind e records);
       tip = place_behind e records;
       given = e.given ++ given.Append (batch_bytes (batch_at e records)) ∷ [];
-      fresh = e.fresh ++ placed e.tip (as_items records);
+      fresh = e.fresh ++ item_entries e.tip (as_items records);
     }))) [
       | true ↦ record { heard = refl; held = refl }
       | false ↦ record { heard = refl; held = refl }
     ]
 
 pub fences_by : (e between behind after : Core) (broker : ℤ) (records : List Record) → AreValid e.images → records ≡ fencing_of e.options e.images.tip broker → apply_records e.images.tip records ≡ Ok between.images.tip
-    → between.images.kept ≡ e.images.kept → between ≡ record e { images = between.images } → behind ≡ appended between records → after ≡ record behind { heard = leave behind.heard broker } → Fences e after broker
+    → between.images.kept ≡ e.images.kept → between ≡ record e { images = between.images } → behind ≡ with_appended between records → after ≡ record behind { heard = leave behind.heard broker } → Fences e after broker
 fences_by e between behind after broker records valid is meaning kept same appends left =
     let fits = fencing_fits e between broker records valid is meaning in
     let own = append_leaves between records in

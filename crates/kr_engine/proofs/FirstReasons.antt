@@ -9,7 +9,7 @@ use Rattle.kr_defs.specs.Heartbeats.{Heartbeats}
 use Rattle.kr_engine.specs.declared.writes.Write.{Write}
 use Rattle.kr_engine.specs.Engine as engines
 use Rattle.kr_engine.specs.Engine.{Core, IsEngine, IsStep, left, refused_or}
-use Rattle.kr_engine.specs.Entries.{added}
+use Rattle.kr_engine.specs.Entries.{entries_added}
 use Rattle.kr_engine.specs.Events.{counted, outcome, timed}
 use Rattle.kr_engine.specs.Outputs.{is_open_in, outputs_then, writes_of}
 use Rattle.kr_engine.specs.World.{State, tip_of}
@@ -66,7 +66,7 @@ row false reason o r x rest = rest
 pub record IsAccepted (e : Core) (options : Options) (s : State) (writes : List Write) (event : Event) (core : Core) (after : State) : Type 0 where
   pub stands : IsEngine (engines.counted core) (counted after) (filter (is_open_in after.world) (writes ++ writes_of options (timed s event) event))
   pub outputs : left core ≡ outputs_then options (timed s event) writes event after
-  pub fresh : core.fresh ≡ added s event after
+  pub fresh : core.fresh ≡ entries_added s event after
 
 module _ (e : Core) (event : Event) (d : IsDrained e) (core : Core) (same : core.options ≡ e.options) (state : State → State) where
   pub accepted_step : ((s : State) (writes : List Write) → IsEngine e s writes → outcome e.options (timed s event) event ≡ Ok (state s))

@@ -10,7 +10,7 @@ use Rattle.kr_store.specs.Images.{kept_at}
 use Rattle.kr_engine.specs.declared.writes.Write.{Write}
 use Rattle.kr_engine.specs.Engine as engines
 use Rattle.kr_engine.specs.Engine.{Core, IsEngine, IsStep, imaged, kept_image, left}
-use Rattle.kr_engine.specs.Entries.{placed}
+use Rattle.kr_engine.specs.Entries.{item_entries}
 use Rattle.kr_engine.specs.Outputs.{answers, answers_in}
 use Rattle.kr_engine.specs.World.{State, image_of_end, tip_of}
 use Rattle.kr_engine.proofs.EventOutcomes.{outputs_accepted, stands_accepted}
@@ -44,7 +44,7 @@ module _ (e : Core) (d : IsDrained e) where
     options = refl;
     stands = λ s writes k. stands_accepted after e.options s writes events.Image s refl (passes e events.Image after.given e.refusal d s writes k);
     outputs = λ s writes k. left_then s writes k ∙ sym (outputs_accepted e e.options s writes events.Image s refl);
-    fresh = λ s writes k. ap (placed (pos (tip_of s))) (sym (none_behind s.world.log));
+    fresh = λ s writes k. ap (item_entries (pos (tip_of s))) (sym (none_behind s.world.log));
   }
 
 pub image_step : (e : Core) → left e ≡ [] → IsStep e (engines.counted (imaged (engines.cleared e))) events.Image

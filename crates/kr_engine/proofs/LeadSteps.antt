@@ -14,7 +14,7 @@ use Rattle.kr_defs.specs.Heartbeats as hearing
 use Rattle.kr_defs.specs.Image.{Image, empty}
 use Rattle.kr_defs.specs.Log.{Log, image_at, tip}
 use Rattle.kr_engine.specs.Engine.{Rise, kept_image}
-use Rattle.kr_engine.specs.World.{written}
+use Rattle.kr_engine.specs.World.{log_with}
 use Rattle.kr_engine.proofs.Logs.{written_at_tip, written_below}
 use Rattle.kr_engine.proofs.LossSteps.{not_higher, under}
 
@@ -30,13 +30,13 @@ begun_now now (id ∷ ids) = and_from (int_le now now) (list_all (λ (c : Contac
 
 -- ---- an item of the quorum's own has no meaning
 
-pub control_at_tip : (log : Log) (image : Image) → image_at log (tip log) ≡ Ok image → image_at (written log (items.Control ∷ [])) (tip (written log (items.Control ∷ []))) ≡ Ok image
+pub control_at_tip : (log : Log) (image : Image) → image_at log (tip log) ≡ Ok image → image_at (log_with log (items.Control ∷ [])) (tip (log_with log (items.Control ∷ []))) ≡ Ok image
 unfolding apply
 control_at_tip log image is = written_at_tip log (items.Control ∷ []) image is
 
 -- what is kept below the tip is seen as before
-pub kept_before : (log : Log) (items : List Item) (from : ℕ) (ns : List ℕ) → from ≤ tip log → Rise from ns (tip log) → map (kept_image (written log items)) (from ∷ ns) ≡ map (kept_image log) (from ∷ ns)
+pub kept_before : (log : Log) (items : List Item) (from : ℕ) (ns : List ℕ) → from ≤ tip log → Rise from ns (tip log) → map (kept_image (log_with log items)) (from ∷ ns) ≡ map (kept_image log) (from ∷ ns)
 kept_before log items from [] low rise = ap (λ (r : Result Image Ill). under from (result_unwrap_or r empty) ∷ []) (written_below log items from low)
 kept_before log items from (n ∷ ns) low rise =
-    ap (λ (r : Result Image Ill). under from (result_unwrap_or r empty) ∷ map (kept_image (written log items)) (n ∷ ns)) (written_below log items from low)
+    ap (λ (r : Result Image Ill). under from (result_unwrap_or r empty) ∷ map (kept_image (log_with log items)) (n ∷ ns)) (written_below log items from low)
     ∙ ap (λ rest. kept_image log from ∷ rest) (kept_before log items n ns (not_higher n ns (tip log) rise.1) rise.1)

@@ -11,14 +11,14 @@ use Rattle.kr_calls.specs.declared.events.Entry.TheVariants as entries
 use Rattle.kr_defs.specs.declared.limits.TheConstants.{MOST_RECORDS, PLACES_END}
 use Rattle.kr_defs.specs.declared.record.Item.{Item}
 use Rattle.kr_defs.specs.Log.{Log, tip}
-use Rattle.kr_engine.specs.Entries.{items_from, placed}
+use Rattle.kr_engine.specs.Entries.{items_from, item_entries}
 use Rattle.kr_engine.specs.Leaderships.{cut}
-use Rattle.kr_engine.specs.World.{World, with_batch, written}
+use Rattle.kr_engine.specs.World.{World, with_batch, log_with}
 use Rattle.kr_engine.proofs.Logs.{tip_written}
 
 -- ---- a log behind a place
 
-pub behind : (log : Log) (items : List Item) → items_from (written log items) (tip log) ≡ items
+pub behind : (log : Log) (items : List Item) → items_from (log_with log items) (tip log) ≡ items
 behind log items =
     let n : tip log - log.offset ≡ length log.items = omega arith in
     ap (λ n. drop n (log.items ++ items)) n ∙ drop-append_seam log.items items
@@ -36,17 +36,17 @@ cut_behind log place =
 pub next_place : (place : ℤ) (n : ℕ) → (place +ℤ pos 1) +ℤ pos n ≡ place +ℤ pos (suc n)
 next_place place n = grind (arith, ints)
 
-pub placed_both : (place : ℤ) (xs ys : List Item) → placed place (xs ++ ys) ≡ placed place xs ++ placed (place +ℤ pos (length xs)) ys
-placed_both place [] ys = ap (λ p. placed p ys) (sym (+ℤ_idr place))
+pub placed_both : (place : ℤ) (xs ys : List Item) → item_entries place (xs ++ ys) ≡ item_entries place xs ++ item_entries (place +ℤ pos (length xs)) ys
+placed_both place [] ys = ap (λ p. item_entries p ys) (sym (+ℤ_idr place))
 placed_both place (x ∷ xs) ys =
     ap (λ (es : List Entry). entries.Item place x ∷ es)
-    (placed_both (place +ℤ pos 1) xs ys ∙ ap (λ p. placed (place +ℤ pos 1) xs ++ placed p ys) (next_place place (length xs)))
+    (placed_both (place +ℤ pos 1) xs ys ∙ ap (λ p. item_entries (place +ℤ pos 1) xs ++ item_entries p ys) (next_place place (length xs)))
 
 -- ---- a list that is filled item by item
 
-pub placed_on : (out new all : List Entry) (place : ℤ) (item : Item) (rest : List Item) → new ≡ out ++ entries.Item place item ∷ [] → out ++ entries.Item place item ∷ placed (place +ℤ pos 1) rest ≡ all
-    → new ++ placed (place +ℤ pos 1) rest ≡ all
-placed_on out new all place item rest is told = ap (λ (es : List Entry). es ++ placed (place +ℤ pos 1) rest) is ∙ (append_assoc out (entries.Item place item ∷ []) (placed (place +ℤ pos 1) rest) ∙ told)
+pub placed_on : (out new all : List Entry) (place : ℤ) (item : Item) (rest : List Item) → new ≡ out ++ entries.Item place item ∷ [] → out ++ entries.Item place item ∷ item_entries (place +ℤ pos 1) rest ≡ all
+    → new ++ item_entries (place +ℤ pos 1) rest ≡ all
+placed_on out new all place item rest is told = ap (λ (es : List Entry). es ++ item_entries (place +ℤ pos 1) rest) is ∙ (append_assoc out (entries.Item place item ∷ []) (item_entries (place +ℤ pos 1) rest) ∙ told)
 
 pub placed_all : (out all : List Entry) → out ++ [] ≡ all → out ≡ all
 placed_all out all told = sym (append-nil out) ∙ told
@@ -65,8 +65,8 @@ pub ruleset placing = (placed_on, placed_all, next_place)
 -- the log is longer by items, which are told behind what was told before
 pub record Gains (before after : List Entry) (log longer : Log) : Type 0 where
   pub items : List Item
-  pub writes : longer ≡ written log items
-  pub told : after ≡ before ++ placed (pos (tip log)) items
+  pub writes : longer ≡ log_with log items
+  pub told : after ≡ before ++ item_entries (pos (tip log)) items
 
 pub gains_none : (before : List Entry) (log : Log) → Gains before before log log
 gains_none before log = record {
@@ -81,25 +81,25 @@ gains_then a b c log longer last first second =
     let ys = second.items in
     let place = pos (tip log) in record {
       items = xs ++ ys;
-      writes = second.writes ∙ (ap (λ (l : Log). written l ys) first.writes ∙ ap (λ (is : List Item). record log { items = is }) (append_assoc log.items xs ys));
+      writes = second.writes ∙ (ap (λ (l : Log). log_with l ys) first.writes ∙ ap (λ (is : List Item). record log { items = is }) (append_assoc log.items xs ys));
       told =
           second.told
-          ∙ (ap (λ (l : Log). b ++ placed (pos (tip l)) ys) first.writes
-          ∙ (ap (λ n. b ++ placed (pos n) ys) (tip_written log xs)
-          ∙ (ap (λ (es : List Entry). es ++ placed (place +ℤ pos (length xs)) ys) first.told
-          ∙ (append_assoc a (placed place xs) (placed (place +ℤ pos (length xs)) ys)
+          ∙ (ap (λ (l : Log). b ++ item_entries (pos (tip l)) ys) first.writes
+          ∙ (ap (λ n. b ++ item_entries (pos n) ys) (tip_written log xs)
+          ∙ (ap (λ (es : List Entry). es ++ item_entries (place +ℤ pos (length xs)) ys) first.told
+          ∙ (append_assoc a (item_entries place xs) (item_entries (place +ℤ pos (length xs)) ys)
           ∙ ap (λ (es : List Entry). a ++ es) (sym (placed_both place xs ys))))));
     }
 
 -- where nothing was told before
-pub gained : (after : List Entry) (log longer : Log) → Gains [] after log longer → after ≡ placed (pos (tip log)) (items_from longer (tip log))
-gained after log longer g = g.told ∙ ap (placed (pos (tip log))) (sym (ap (λ (l : Log). items_from l (tip log)) g.writes ∙ behind log g.items))
+pub gained : (after : List Entry) (log longer : Log) → Gains [] after log longer → after ≡ item_entries (pos (tip log)) (items_from longer (tip log))
+gained after log longer g = g.told ∙ ap (item_entries (pos (tip log))) (sym (ap (λ (l : Log). items_from l (tip log)) g.writes ∙ behind log g.items))
 
 pub not_none : (n : ℕ) → (suc n == 0) ≡ false
 not_none n = grind (arith, nat_tests)
 
-pub batch_written : (w : World) (items : List Item) → (with_batch w items).log ≡ written w.log items
+pub batch_written : (w : World) (items : List Item) → (with_batch w items).log ≡ log_with w.log items
 batch_written w [] = ap (λ (is : List Item). record w.log { items = is }) (sym (append-nil w.log.items))
 batch_written w (item ∷ items) =
     let own = item ∷ items in
-    ap (λ b. (cond b w (record w { log = written w.log own; batch_ends = w.batch_ends ++ (tip w.log + length own) ∷ [] })).log) (not_none (length items))
+    ap (λ b. (cond b w (record w { log = log_with w.log own; batch_ends = w.batch_ends ++ (tip w.log + length own) ∷ [] })).log) (not_none (length items))

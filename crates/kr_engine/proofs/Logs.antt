@@ -9,7 +9,7 @@ use Rattle.kr_defs.specs.Guard.{and_then}
 use Rattle.kr_defs.specs.Image.{Image}
 use Rattle.kr_defs.specs.Log.{Log, tip, apply_all, image_at}
 use Rattle.kr_engine.specs.Leaderships.{cut}
-use Rattle.kr_engine.specs.World.{written}
+use Rattle.kr_engine.specs.World.{log_with}
 
 then_append : (r : Result Image Ill) (items more : List Item) → ((after : Image) → apply_all after (items ++ more) ≡ and_then (apply_all after items) (λ i. apply_all i more))
     → and_then r (λ after. apply_all after (items ++ more)) ≡ and_then (and_then r (λ after. apply_all after items)) (λ i. apply_all i more)
@@ -24,16 +24,16 @@ pub at_tip : (log : Log) → image_at log (tip log) ≡ apply_all log.image log.
 unfolding image_at
 at_tip log = ap (λ (items : List Item). apply_all log.image items) (take_all (tip log - log.offset) log.items (omega arith))
 
-pub tip_written : (log : Log) (items : List Item) → tip (written log items) ≡ tip log + length items
+pub tip_written : (log : Log) (items : List Item) → tip (log_with log items) ≡ tip log + length items
 tip_written log items = let long : length (log.items ++ items) ≡ length log.items + length items = length-append log.items items in omega (arith, long)
 
-pub written_below : (log : Log) (items : List Item) (place : ℕ) → place ≤ tip log → image_at (written log items) place ≡ image_at log place
+pub written_below : (log : Log) (items : List Item) (place : ℕ) → place ≤ tip log → image_at (log_with log items) place ≡ image_at log place
 unfolding image_at
 written_below log items place below = ap (λ (xs : List Item). apply_all log.image xs) (take-append-le (place - log.offset) log.items items (omega arith))
 
-pub written_at_tip : (log : Log) (items : List Item) (image : Image) → image_at log (tip log) ≡ Ok image → image_at (written log items) (tip (written log items)) ≡ apply_all image items
+pub written_at_tip : (log : Log) (items : List Item) (image : Image) → image_at log (tip log) ≡ Ok image → image_at (log_with log items) (tip (log_with log items)) ≡ apply_all image items
 written_at_tip log items image is =
-    at_tip (written log items) ∙ (apply_append log.items items log.image ∙ ap (λ r. and_then r (λ i. apply_all i items)) (sym (at_tip log) ∙ is))
+    at_tip (log_with log items) ∙ (apply_append log.items items log.image ∙ ap (λ r. and_then r (λ i. apply_all i items)) (sym (at_tip log) ∙ is))
 
 pub cut_tip : (log : Log) (place : ℕ) → log.offset ≤ place → place ≤ tip log → tip (cut log place) ≡ place
 cut_tip log place started below = let long = length-take (place - log.offset) log.items in omega (arith, long)

@@ -8,7 +8,7 @@ use Rattle.kr_defs.specs.declared.record.Item.{Item}
 use Rattle.kr_defs.specs.Image.{Image, empty}
 use Rattle.kr_defs.specs.Log.{Log, apply_all, image_at, tip}
 use Rattle.kr_engine.specs.Engine.{Rise, kept_image}
-use Rattle.kr_engine.specs.World.{seen_at, written}
+use Rattle.kr_engine.specs.World.{seen_at, log_with}
 use Rattle.kr_engine.proofs.LeadSteps.{kept_before}
 use Rattle.kr_engine.proofs.Logs.{written_at_tip}
 use Rattle.kr_engine.proofs.LossSteps.{not_higher}
@@ -19,7 +19,7 @@ rise_more from (m ∷ ns) to n rise up = (rise.0, rise_more m ns to n rise.1 up)
 
 module _ (log : Log) (items : List Item) (before image : Image) (seen : image_at log (tip log) ≡ Ok before) (means : apply_all before items ≡ Ok image) where
   abbrev longer : Log
-  longer = written log items
+  longer = log_with log items
 
   pub present_then : image_at longer (tip longer) ≡ Ok image
   present_then = written_at_tip log items before seen ∙ means

@@ -18,7 +18,7 @@ use Rattle.kr_store.specs.Images.{Images, reverted}
 use Rattle.kr_engine.specs.declared.writes.Write.{Write}
 use Rattle.kr_engine.specs.Engine as engines
 use Rattle.kr_engine.specs.Engine.{Core, IsEngine, IsState, IsStep, Rise, kept_image, left, loss_reason, refused_or}
-use Rattle.kr_engine.specs.Entries.{placed}
+use Rattle.kr_engine.specs.Entries.{item_entries}
 use Rattle.kr_engine.specs.Events.{counted, next_number}
 use Rattle.kr_engine.specs.Leaderships.{cut, ended, leads_in, lose}
 use Rattle.kr_engine.specs.Outputs.{answers, answers_in, is_open, is_open_in}
@@ -180,7 +180,7 @@ module _ (e : Core) (epoch : ℤ) (d : IsDrained e) where
     stands = λ s writes k. stands_accepted after e.options s writes event (ended s) (judged_so true leads s writes k) (stands s writes k);
     outputs = λ s writes k. left_then s writes k ∙ sym (outputs_accepted e e.options s writes event (ended s) (judged_so true leads s writes k));
     fresh = λ s writes k.
-        ap (placed (pos (tip_of s))) (sym (cut_behind s.world.log s.world.committed))
+        ap (item_entries (pos (tip_of s))) (sym (cut_behind s.world.log s.world.committed))
         ∙ sym (entries_accepted e e.options s writes event (ended s) (judged_so true leads s writes k));
   }
 

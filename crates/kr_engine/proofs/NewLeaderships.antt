@@ -22,13 +22,13 @@ use Rattle.kr_store.specs.Images.{marked}
 use Rattle.kr_engine.specs.declared.writes.Write.{Write}
 use Rattle.kr_engine.specs.Engine as engines
 use Rattle.kr_engine.specs.Engine.{Core, IsEngine, IsState, IsStep, Rise, kept_image, lead_reason, left, refused_or}
-use Rattle.kr_engine.specs.Entries.{placed}
+use Rattle.kr_engine.specs.Entries.{item_entries}
 use Rattle.kr_engine.specs.Events.{counted, next_number, outcome, timed}
 use Rattle.kr_engine.specs.Leaderships.{begun, lead, may_begin_at}
 use Rattle.kr_engine.specs.Outputs.{answers, answers_in, is_open, is_open_in}
 use Rattle.kr_engine.specs.Reasons.{already_leading, bad_next, exhausted, old_epoch}
 use Rattle.kr_engine.specs.World as worlds
-use Rattle.kr_engine.specs.World.{State, World, image_of_tip, is_far, seen_at, tip_of, with_batch, written}
+use Rattle.kr_engine.specs.World.{State, World, image_of_tip, is_far, seen_at, tip_of, with_batch, log_with}
 use Rattle.kr_engine.proofs.LongerLogs.{kept_then, rise_more, seen_then}
 use Rattle.kr_engine.proofs.LeadSteps.{begun_now, control_at_tip}
 use Rattle.kr_engine.proofs.LogEntries.{behind, none_behind}
@@ -64,7 +64,7 @@ module _ (e : Core) (epoch next now : ℤ) (d : IsDrained e) where
 
   -- the engine where the leadership begins at the end, or one above
   abbrev core_by : Bool → Core
-  core_by b = record (cond b before (record before { images = marked before.images next; tip = next; fresh = before.fresh ++ placed before.tip (items.Control ∷ []) })) {
+  core_by b = record (cond b before (record before { images = marked before.images next; tip = next; fresh = before.fresh ++ item_entries before.tip (items.Control ∷ []) })) {
     heard = hearing.begin (unfenced before.images.tip) (stopping before.images.tip) before.time next;
     leading = Some epoch;
     greatest = epoch;
@@ -88,7 +88,7 @@ module _ (e : Core) (epoch next now : ℤ) (d : IsDrained e) where
     log = s.world.log
 
     abbrev longer : Log
-    longer = written log (items.Control ∷ [])
+    longer = log_with log (items.Control ∷ [])
 
     ends : s.world.committed ≡ tip_of s
     ends = tip_only log s.world.committed s.world.batch_ends (tip_of s) k.is_state.ends (k.is_state.at_standby standby).0
@@ -144,7 +144,7 @@ module _ (e : Core) (epoch next now : ℤ) (d : IsDrained e) where
       outputs =
           ap (λ g. g ++ option_to_list e.refusal ++ answers (Some epoch) e.committed e.held) d.none_given
           ∙ (ap (λ o. option_to_list o ++ answers (Some epoch) e.committed e.held) d.none_refused ∙ left_so);
-      fresh = ap (placed (pos (tip_of s))) (sym (none_behind log));
+      fresh = ap (item_entries (pos (tip_of s))) (sym (none_behind log));
     }
 
     -- ---- one above
@@ -202,7 +202,7 @@ module _ (e : Core) (epoch next now : ℤ) (d : IsDrained e) where
             ap (λ g. g ++ option_to_list e.refusal ++ answers (Some epoch) e.committed e.held) d.none_given
             ∙ (ap (λ o. option_to_list o ++ answers (Some epoch) e.committed e.held) d.none_refused
             ∙ answers_then e s writes d k (Some epoch) e.committed (state_by false).world refl k.committed);
-        fresh = ap (λ t. placed t (items.Control ∷ [])) k.tip ∙ ap (placed (pos (tip_of s))) (sym (behind log (items.Control ∷ [])));
+        fresh = ap (λ t. item_entries t (items.Control ∷ [])) k.tip ∙ ap (item_entries (pos (tip_of s))) (sym (behind log (items.Control ∷ [])));
       }
 
     accepted_by : (b : Bool) → int_eq next (pos s.world.committed) ≡ b → IsAccepted e e.options s writes event (core_by b) (state_by b)

@@ -3,7 +3,7 @@ use Rattle.std.proofs.Common.{◌≡◌, ◌∙◌, sym, subst, true, List, [], 
 use Rattle.std.specs.Prelude.{Option, Some, None, IfNone, filter, option_to_list}
 use Rattle.kr_calls.specs.declared.events.Output.{Output}
 use Rattle.kr_engine.specs.declared.writes.Write.{Write}
-use Rattle.kr_engine.specs.Engine.{Core, Hands, IsEngine, are_in_order, left}
+use Rattle.kr_engine.specs.Engine.{Core, Hands, IsEngine, writes_in_order, left}
 use Rattle.kr_engine.specs.Outputs.{answers, is_open}
 use Rattle.kr_engine.specs.World.{State}
 
@@ -27,7 +27,7 @@ given_stands e outputs refusal s writes k = record {
   is_state = k.is_state;
 }
 
-held_stands : (e : Core) (held : List Write) → filter (is_open e.leading e.committed) held ≡ filter (is_open e.leading e.committed) e.held → are_in_order held ≡ true
+held_stands : (e : Core) (held : List Write) → filter (is_open e.leading e.committed) held ≡ filter (is_open e.leading e.committed) e.held → writes_in_order held ≡ true
     → (s : State) (writes : List Write) → IsEngine e s writes → IsEngine (record e { held = held }) s writes
 held_stands e held opens ordered s writes k = record {
   tip = k.tip;
@@ -45,7 +45,7 @@ held_stands e held opens ordered s writes k = record {
   is_state = k.is_state;
 }
 
-module _ (e : Core) (ordered : are_in_order e.held ≡ true) where
+module _ (e : Core) (ordered : writes_in_order e.held ≡ true) where
   first_given : (output : Output) (rest : List Output) → e.given ≡ output ∷ rest → Hands e (record e { given = rest }) (Some output)
   first_given output rest is = record {
     options = refl;
@@ -81,7 +81,7 @@ module _ (e : Core) (ordered : are_in_order e.held ≡ true) where
   then_due : (held : List Write) (output : Option Output) → e.given ≡ [] → e.refusal ≡ None
       → due e ≡ option_to_list output ++ answers e.leading e.committed held
       → IfNone output (answers e.leading e.committed held ≡ [])
-      → filter (is_open e.leading e.committed) held ≡ filter (is_open e.leading e.committed) e.held → are_in_order held ≡ true
+      → filter (is_open e.leading e.committed) held ≡ filter (is_open e.leading e.committed) e.held → writes_in_order held ≡ true
       → Hands e (record e { held = held }) output
   then_due held output none is in_order all opens after = record {
     options = refl;
@@ -101,18 +101,18 @@ same_given e after is same = same ∙ ap (λ g. record e { given = g }) (sym is)
 same_refusal : (e after : Core) → e.refusal ≡ None → after ≡ record e { refusal = None } → after ≡ e
 same_refusal e after is same = same ∙ ap (λ r. record e { refusal = r }) (sym is)
 
-pub hands_refusal : (e between after : Core) (output : Output) → are_in_order e.held ≡ true → e.given ≡ between.given → between.given ≡ [] → between ≡ record e { given = between.given }
+pub hands_refusal : (e between after : Core) (output : Output) → writes_in_order e.held ≡ true → e.given ≡ between.given → between.given ≡ [] → between ≡ record e { given = between.given }
     → Some output ≡ between.refusal → after ≡ record between { refusal = None } → Hands e after (Some output)
 hands_refusal e between after output ordered given none same is left =
     let b = same_given e between given same in
     subst (λ (a : Core). Hands e a (Some output)) (sym (left ∙ ap (λ (b : Core). record b { refusal = None }) b)) (then_refusal e ordered output (given ∙ none) (sym (is ∙ ap (λ (b : Core). b.refusal) b)))
 
-pub hands_answer : (e given_out between after : Core) (output : Option Output) → are_in_order e.held ≡ true → e.given ≡ given_out.given → given_out.given ≡ [] → given_out ≡ record e { given = given_out.given }
+pub hands_answer : (e given_out between after : Core) (output : Option Output) → writes_in_order e.held ≡ true → e.given ≡ given_out.given → given_out.given ≡ [] → given_out ≡ record e { given = given_out.given }
     → None ≡ given_out.refusal → between ≡ record given_out { refusal = None }
     → answers between.leading between.committed between.held ≡ option_to_list output ++ answers between.leading between.committed after.held
     → IfNone output (answers between.leading between.committed after.held ≡ [])
     → filter (is_open between.leading between.committed) after.held ≡ filter (is_open between.leading between.committed) between.held
-    → are_in_order after.held ≡ true → after ≡ record between { held = after.held } → Hands e after output
+    → writes_in_order after.held ≡ true → after ≡ record between { held = after.held } → Hands e after output
 hands_answer e given_out between after output ordered given none same no_refusal left in_order all waits then is =
     let first = same_given e given_out given same in
     let both = same_refusal given_out between (sym no_refusal) left ∙ first in

@@ -8,9 +8,9 @@ use Rattle.std.specs.Ordering.{int_eq}
 use Rattle.kr_defs.proofs.IdLists.{same_id}
 use Rattle.kr_defs.proofs.Tests.{both, not_false, not_true}
 use Rattle.kr_engine.specs.declared.writes.Write.{Write}
-use Rattle.kr_engine.specs.Engine.{Core, are_in_order, left}
+use Rattle.kr_engine.specs.Engine.{Core, writes_in_order, left}
 use Rattle.kr_engine.specs.Leaderships.{leads_in}
-use Rattle.kr_engine.specs.Outputs.{answer, answers, is_open}
+use Rattle.kr_engine.specs.Outputs.{due_reply, answers, is_open}
 
 pub never : false ≡ true → ⊥
 never both = cc
@@ -65,7 +65,7 @@ drained e none =
       none_given = nil_left e.given (option_to_list e.refusal) before;
       none_refused = no_option e.refusal (nil_right e.given (option_to_list e.refusal) before);
       none_due = none_due;
-      all_wait = all_pass (answer e.committed) (is_open e.leading e.committed) e.held none_due;
+      all_wait = all_pass (due_reply e.committed) (is_open e.leading e.committed) e.held none_due;
     }
 
 -- ---- order
@@ -100,18 +100,18 @@ module _ (leading : Option ℤ) (end : ℤ) where
       (waits_behind write later waits tests.0) (all_wait_behind write writes waits tests.1)
 
   -- where the first waits, no reply is due
-  pub none_is_due : (write : Write) (writes : List Write) → is_open leading end write ≡ true → are_in_order (write ∷ writes) ≡ true → answers leading end (write ∷ writes) ≡ []
+  pub none_is_due : (write : Write) (writes : List Write) → is_open leading end write ≡ true → writes_in_order (write ∷ writes) ≡ true → answers leading end (write ∷ writes) ≡ []
   none_is_due write writes waits ordered =
-      let tests = both (list_all (is_behind write) writes) (are_in_order writes) ordered in
-      none_fails (answer end) (is_open leading end) (write ∷ writes)
+      let tests = both (list_all (is_behind write) writes) (writes_in_order writes) ordered in
+      none_fails (due_reply end) (is_open leading end) (write ∷ writes)
       (and_from (is_open leading end write) (list_all (is_open leading end) writes) waits (all_wait_behind write writes waits tests.0))
 
-  due_first : (b : Bool) (write : Write) (rest : List Write) → b ≡ false → map (answer end) (cond (not b) (write ∷ rest) rest) ≡ answer end write ∷ map (answer end) rest
+  due_first : (b : Bool) (write : Write) (rest : List Write) → b ≡ false → map (due_reply end) (cond (not b) (write ∷ rest) rest) ≡ due_reply end write ∷ map (due_reply end) rest
   due_first true write rest is = absurd cc
   due_first false write rest is = refl
 
   -- where the first waits no more, its reply is the first that is due
-  pub first_is_due : (write : Write) (writes : List Write) → is_open leading end write ≡ false → answers leading end (write ∷ writes) ≡ answer end write ∷ answers leading end writes
+  pub first_is_due : (write : Write) (writes : List Write) → is_open leading end write ≡ false → answers leading end (write ∷ writes) ≡ due_reply end write ∷ answers leading end writes
   first_is_due write writes is = due_first (is_open leading end write) write (filter (λ later. not (is_open leading end later)) writes) is
 
   not_first : (b : Bool) (write : Write) (rest : List Write) → b ≡ false → cond b (write ∷ rest) rest ≡ rest
@@ -121,21 +121,21 @@ module _ (leading : Option ℤ) (end : ℤ) where
   pub first_waits_not : (write : Write) (writes : List Write) → is_open leading end write ≡ false → filter (is_open leading end) (write ∷ writes) ≡ filter (is_open leading end) writes
   first_waits_not write writes is = not_first (is_open leading end write) write (filter (is_open leading end) writes) is
 
-pub order_behind : (write : Write) (writes : List Write) → are_in_order (write ∷ writes) ≡ true → are_in_order writes ≡ true
-order_behind write writes ordered = (both (list_all (is_behind write) writes) (are_in_order writes) ordered).1
+pub order_behind : (write : Write) (writes : List Write) → writes_in_order (write ∷ writes) ≡ true → writes_in_order writes ≡ true
+order_behind write writes ordered = (both (list_all (is_behind write) writes) (writes_in_order writes) ordered).1
 
 -- ---- the first of a queue
 
 module _ (leading : Option ℤ) (end : ℤ) where
-  pub not_due : (items : List Write) → are_in_order items ≡ true → ((write : Write) (rest : List Write) → items ≡ write ∷ rest → false ≡ not (is_open leading end write)) → answers leading end items ≡ []
+  pub not_due : (items : List Write) → writes_in_order items ≡ true → ((write : Write) (rest : List Write) → items ≡ write ∷ rest → false ≡ not (is_open leading end write)) → answers leading end items ≡ []
   not_due [] ordered waits = refl
   not_due (write ∷ rest) ordered waits = none_is_due leading end write rest (not_false (is_open leading end write) (sym (waits write rest refl))) ordered
 
-  pub due : (items : List Write) (write : Write) (rest : List Write) → items ≡ write ∷ rest → true ≡ not (is_open leading end write) → answers leading end items ≡ answer end write ∷ answers leading end rest
+  pub due : (items : List Write) (write : Write) (rest : List Write) → items ≡ write ∷ rest → true ≡ not (is_open leading end write) → answers leading end items ≡ due_reply end write ∷ answers leading end rest
   due items write rest is closed = ap (answers leading end) is ∙ first_is_due leading end write rest (not_true (is_open leading end write) (sym closed))
 
   pub still_waits : (items : List Write) (write : Write) (rest : List Write) → items ≡ write ∷ rest → true ≡ not (is_open leading end write) → filter (is_open leading end) rest ≡ filter (is_open leading end) items
   still_waits items write rest is closed = sym (ap (filter (is_open leading end)) is ∙ first_waits_not leading end write rest (not_true (is_open leading end write) (sym closed)))
 
-pub still_ordered : (items : List Write) (write : Write) (rest : List Write) → items ≡ write ∷ rest → are_in_order items ≡ true → are_in_order rest ≡ true
-still_ordered items write rest is ordered = order_behind write rest (sym (ap are_in_order is) ∙ ordered)
+pub still_ordered : (items : List Write) (write : Write) (rest : List Write) → items ≡ write ∷ rest → writes_in_order items ≡ true → writes_in_order rest ≡ true
+still_ordered items write rest is ordered = order_behind write rest (sym (ap writes_in_order is) ∙ ordered)

@@ -20,7 +20,7 @@ use Rattle.kr_defs.specs.Image.{Image, IsValid}
 use Rattle.kr_defs.specs.Log.{Log}
 use Rattle.kr_defs.specs.Map as entries
 use Rattle.kr_defs.proofs.Tests.{both}
-use Rattle.kr_calls.specs.NextBasis.{is_stopping}
+use Rattle.kr_calls.specs.NextBasis.{broker_is_stopping}
 use Rattle.kr_defs.proofs.HeartbeatLists.{le_through}
 use Rattle.kr_safety.specs.HearingLaws.{HearsOf}
 use Rattle.kr_safety.proofs.BrokerTests.{by_get}
@@ -66,7 +66,7 @@ none_stops : (h : Heartbeats) (id : ℤ) → h ≡ hearing.end → has (hearing.
 none_stops h id is there = let both : false ≡ true = ap (λ (h : Heartbeats). has (hearing.stopping_brokers h) id) (sym is) ∙ there in cc
 
 are_stopping : (leading : Option ℤ) (h : Heartbeats) (image : Image) → IsValid image → (leading ≡ None → h ≡ hearing.end) → (IsSome leading → HearsOf h image)
-    → (id : ℤ) → has (hearing.stopping_brokers h) id ≡ true → is_stopping image id ≡ true
+    → (id : ℤ) → has (hearing.stopping_brokers h) id ≡ true → broker_is_stopping image id ≡ true
 are_stopping None h image valid standby hears id there = absurd (none_stops h id (standby refl) there)
 are_stopping (Some epoch) h image valid standby hears id there =
     stops_or (entries.get int_cmp image.brokers id)

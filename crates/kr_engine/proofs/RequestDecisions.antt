@@ -10,7 +10,7 @@ use Rattle.kr_calls.specs.declared.calls.Reply.{Reply}
 use Rattle.kr_calls.specs.declared.calls.Request.{Request}
 use Rattle.kr_calls.specs.declared.deciding.Effect.{Effect}
 use Rattle.kr_calls.specs.Decide.{decide, work_of}
-use Rattle.kr_calls.specs.NextBasis.{heartbeats_after, is_stopping}
+use Rattle.kr_calls.specs.NextBasis.{heartbeats_after, broker_is_stopping}
 use Rattle.kr_calls.specs.Refuse.{refuse}
 use Rattle.kr_calls.proofs.DecisionMeanings.{requests_stand}
 use Rattle.kr_batch.specs.BatchBytes.{batch_bytes}
@@ -27,13 +27,13 @@ use Rattle.kr_fitting.specs.Fitting.{FitsBatch}
 use Rattle.kr_fitting.proofs.FittingRecords.{requests_fit}
 use Rattle.kr_rules.specs.Progress.{base_of}
 use Rattle.kr_store.specs.Images.{Images, IsAbove, last_kept, marked}
-use Rattle.kr_engine.specs.Entries.{placed}
+use Rattle.kr_engine.specs.Entries.{item_entries}
 use Rattle.kr_engine.specs.declared.writes.Write.{Write}
 use Rattle.kr_engine.specs.Engine.{Core, basis_of}
 use Rattle.kr_engine.specs.inner.Ready.{IsReady}
 use Rattle.kr_engine.specs.Reasons.{ours}
 use Rattle.kr_engine.specs.inner.Serving.{Decides, TakesWrite, decided_by, waiting_write, write_with}
-use Rattle.kr_engine.specs.inner.Writing.{Writes, appended, batch_at, place_behind}
+use Rattle.kr_engine.specs.inner.Writing.{Writes, with_appended, batch_at, place_behind}
 use Rattle.kr_engine.proofs.AppendSteps.{writes_by}
 
 -- ---- the image where the request began
@@ -50,16 +50,16 @@ pub last_is : (before after : Images) (place : ℤ) → last_kept before ≡ Som
 last_is before after place is kept = ap last kept ∙ (is ∙ ap (λ (i : Image). Some (place, i)) (sym (base_is before after place is kept)))
 
 pub among_base : (before after : Images) (place : ℤ) (h : Heartbeats) → last_kept before ≡ Some (place, before.tip) → after.kept ≡ before.kept
-    → ((id : ℤ) → IsTrue (has (stopping_brokers h) id) → IsTrue (is_stopping before.tip id)) → (id : ℤ) → IsTrue (has (stopping_brokers h) id) → IsTrue (is_stopping (base_of after) id)
-among_base before after place h is kept among id there = ap (λ (i : Image). is_stopping i id) (base_is before after place is kept) ∙ among id there
+    → ((id : ℤ) → IsTrue (has (stopping_brokers h) id) → IsTrue (broker_is_stopping before.tip id)) → (id : ℤ) → IsTrue (has (stopping_brokers h) id) → IsTrue (broker_is_stopping (base_of after) id)
+among_base before after place h is kept among id there = ap (λ (i : Image). broker_is_stopping i id) (base_is before after place is kept) ∙ among id there
 
 pub heard_so : (options : Options) (before after : Images) (time led place : ℤ) (h : Heartbeats) (request : Request) (reply : Reply) → last_kept before ≡ Some (place, before.tip) → after.kept ≡ before.kept
-    → after.tip ≡ (decide options before.tip (judged.basis_of time led h) place request).image → reply ≡ (decide options before.tip (judged.basis_of time led h) place request).reply
-    → heartbeats_after h (base_of after) after.tip time place request reply ≡ (decide options before.tip (judged.basis_of time led h) place request).heartbeats
+    → after.tip ≡ (decide options before.tip (judged.basis_with time led h) place request).image → reply ≡ (decide options before.tip (judged.basis_with time led h) place request).reply
+    → heartbeats_after h (base_of after) after.tip time place request reply ≡ (decide options before.tip (judged.basis_with time led h) place request).heartbeats
 heard_so options before after time led place h request reply is kept image says =
     ap (λ (i : Image). heartbeats_after h i after.tip time place request reply) (base_is before after place is kept)
     ∙ (ap (λ (i : Image). heartbeats_after h before.tip i time place request reply) image
-    ∙ ap (heartbeats_after h before.tip (decide options before.tip (judged.basis_of time led h) place request).image time place request) says)
+    ∙ ap (heartbeats_after h before.tip (decide options before.tip (judged.basis_with time led h) place request).image time place request) says)
 
 pub ruleset bases = (last_is, among_base, heard_so)
 
@@ -78,13 +78,13 @@ record Keeps (before after : Core) : Type 0 where
   held : after.held ≡ before.held
   heard : after.heard ≡ before.heard
 
-append_keeps : (e : Core) (records : List Record) → Keeps e (appended e records)
+append_keeps : (e : Core) (records : List Record) → Keeps e (with_appended e records)
 append_keeps e records =
     elim (length records == 0) as (λ b. Keeps e (cond b e (record e {
       images = marked e.images (place_behind e records);
       tip = place_behind e records;
       given = e.given ++ given.Append (batch_bytes (batch_at e records)) ∷ [];
-      fresh = e.fresh ++ placed e.tip (as_items records);
+      fresh = e.fresh ++ item_entries e.tip (as_items records);
     }))) [
       | true ↦ record { leading = refl; held = refl; heard = refl }
       | false ↦ record { leading = refl; held = refl; heard = refl }
@@ -125,20 +125,20 @@ pub ruleset decides = (ready_natural)
 pub write_low : (before after : Core) (request : Request) (out : Effect) → Decides before after request out → IsReady before → after.tip ≤ℤ PLACES_END
 write_low before after request out d r = subst (λ t. t ≤ℤ PLACES_END) (sym (ap (λ (a : Core). a.tip) d.same)) r.low
 
-module _ (before between appended' after : Core) (client : ℕ) (call : Call) (out : Effect) (refusal : Reply) (d : Decides before between call.request out) (is : appended' ≡ appended between out.records) where
-  leading_same : appended'.leading ≡ before.leading
+module _ (before between with_appended' after : Core) (client : ℕ) (call : Call) (out : Effect) (refusal : Reply) (d : Decides before between call.request out) (is : with_appended' ≡ with_appended between out.records) where
+  leading_same : with_appended'.leading ≡ before.leading
   leading_same = ap (λ (a : Core). a.leading) is ∙ ((append_keeps between out.records).leading ∙ ap (λ (a : Core). a.leading) d.same)
 
-  held_same : appended'.held ≡ before.held
+  held_same : with_appended'.held ≡ before.held
   held_same = ap (λ (a : Core). a.held) is ∙ ((append_keeps between out.records).held ∙ ap (λ (a : Core). a.held) d.same)
 
-  heard_same : appended'.heard ≡ (decided_by before call.request).heartbeats
+  heard_same : with_appended'.heard ≡ (decided_by before call.request).heartbeats
   heard_same = ap (λ (a : Core). a.heard) is ∙ ((append_keeps between out.records).heard ∙ ap (λ (a : Core). a.heard) d.same)
 
   abbrev write_of : Option ℤ → ℤ → Reply → Reply → Write
   write_of leading need reply refusal = write_with client call leading need reply refusal
 
-  pub takes_write : refusal ≡ refuse call.request NOT_CONTROLLER → after ≡ record appended' { held = appended'.held ++ write_of appended'.leading appended'.tip out.reply refusal ∷ [] } → TakesWrite before after client call
+  pub takes_write : refusal ≡ refuse call.request NOT_CONTROLLER → after ≡ record with_appended' { held = with_appended'.held ++ write_of with_appended'.leading with_appended'.tip out.reply refusal ∷ [] } → TakesWrite before after client call
   takes_write refuses held =
       let records = (decided_by before call.request).records in
       let fits = requests_fit before.options (basis_of before) before.images.tip before.tip call.request in
@@ -148,14 +148,14 @@ module _ (before between appended' after : Core) (client : ℕ) (call : Call) (o
             d.kept
             (subst (λ i. apply_records before.images.tip records ≡ Ok i) (sym d.image) (requests_stand before.options (basis_of before) before.images.tip before.tip call.request))
             fits.few
-            (held_apart after appended' _ held ∙ ap (λ (a : Core). record a { held = after.held; heard = after.heard }) (is ∙ ap (appended between) d.records));
+            (held_apart after with_appended' _ held ∙ ap (λ (a : Core). record a { held = after.held; heard = after.heard }) (is ∙ ap (with_appended between) d.records));
         heard = ap (λ (a : Core). a.heard) held ∙ heard_same;
         held =
             ap (λ (a : Core). a.held) held
-            ∙ (ap (λ hs. hs ++ write_of appended'.leading appended'.tip out.reply refusal ∷ []) held_same
-            ∙ (ap (λ l. before.held ++ write_of l appended'.tip out.reply refusal ∷ []) leading_same
-            ∙ (ap (λ r. before.held ++ write_of before.leading appended'.tip r refusal ∷ []) d.reply
-            ∙ (ap (λ r. before.held ++ write_of before.leading appended'.tip (decided_by before call.request).reply r ∷ []) refuses
+            ∙ (ap (λ hs. hs ++ write_of with_appended'.leading with_appended'.tip out.reply refusal ∷ []) held_same
+            ∙ (ap (λ l. before.held ++ write_of l with_appended'.tip out.reply refusal ∷ []) leading_same
+            ∙ (ap (λ r. before.held ++ write_of before.leading with_appended'.tip r refusal ∷ []) d.reply
+            ∙ (ap (λ r. before.held ++ write_of before.leading with_appended'.tip (decided_by before call.request).reply r ∷ []) refuses
             ∙ ap (λ t. before.held ++ write_of before.leading t (decided_by before call.request).reply (refuse call.request NOT_CONTROLLER) ∷ []) (sym (ap (λ (a : Core). a.tip) held))))));
       }
 

@@ -39,8 +39,8 @@ use Rattle.kr_safety.proofs.HearingRequests.{requests_keep_hearing}
 use Rattle.kr_store.specs.Images.{AreValid, kept_at}
 use Rattle.kr_engine.specs.declared.writes.Write.{Write}
 use Rattle.kr_engine.specs.Engine as engines
-use Rattle.kr_engine.specs.Engine.{Core, IsEngine, IsStep, are_in_order, basis_of, kept_image, left}
-use Rattle.kr_engine.specs.Entries.{placed}
+use Rattle.kr_engine.specs.Engine.{Core, IsEngine, IsStep, writes_in_order, basis_of, kept_image, left}
+use Rattle.kr_engine.specs.Entries.{item_entries}
 use Rattle.kr_engine.specs.Events.{counted, outcome, timed}
 use Rattle.kr_engine.specs.Outputs.{answers, answers_in, answers_now, append, appends, error_of, is_open, is_open_in, outputs_then, replies_now, write_of, writes_of}
 use Rattle.kr_engine.specs.Reasons.{exhausted, ours}
@@ -135,9 +135,9 @@ module _ (e after : Core) (client : ℕ) (call : Call) (w : TakesWrite e after c
   last_needs : last.need ≡ pos (tip_of s + length decision.records)
   last_needs = sym (ap (λ (x : Write). x.need) write_is) ∙ (longer.tip_is ∙ ap pos longer.higher)
 
-  ordered : are_in_order after.held ≡ true
+  ordered : writes_in_order after.held ≡ true
   ordered =
-      ap are_in_order w.held
+      ap writes_in_order w.held
       ∙ order_more e.held (waiting_write e client call after.tip) k.ordered
       (all_behind e.leading e.committed (tip_of s) (tip_of s + length decision.records) (waiting_write e client call after.tip) (omega arith) refl (ap (λ (x : Write). x.need) write_is ∙ last_needs) e.held
       (subst (λ hs. list_all (is_open e.leading e.committed) hs ≡ true) all_wait (all_open (is_open e.leading e.committed) e.held))
@@ -178,8 +178,8 @@ module _ (e after : Core) (client : ℕ) (call : Call) (w : TakesWrite e after c
     writes = batch_written s.world (as_items (decided e.options s call.request).records);
     told =
         ap (λ (a : Core). a.fresh) w.writes.same
-        ∙ (ap (λ t. e.fresh ++ placed t (as_items decision.records)) k.tip
-        ∙ ap (λ (d : Decision). e.fresh ++ placed (pos (tip_of s)) (as_items d.records)) same_decision);
+        ∙ (ap (λ t. e.fresh ++ item_entries t (as_items decision.records)) k.tip
+        ∙ ap (λ (d : Decision). e.fresh ++ item_entries (pos (tip_of s)) (as_items d.records)) same_decision);
   }
 
   -- what is left to hand out

@@ -34,14 +34,14 @@ use Rattle.kr_engine.specs.declared.writes.Write.{Write}
 use Rattle.kr_engine.specs.Commits as commits
 use Rattle.kr_engine.specs.Commits.{commit, is_end}
 use Rattle.kr_engine.specs.Engine.{Core, IsEngine, IsStep}
-use Rattle.kr_engine.specs.Entries.{added, entries_by, items_from, placed}
+use Rattle.kr_engine.specs.Entries.{entries_added, entries_by, items_from, item_entries}
 use Rattle.kr_engine.specs.Events.{outcome, timed}
 use Rattle.kr_engine.specs.Leaderships.{begun, ended, lead, leads_in, lose, may_begin_at, up_to}
 use Rattle.kr_engine.specs.Reasons.{already_leading, bad_commit, bad_next, exhausted, not_leading, old_epoch}
 use Rattle.kr_engine.specs.Requests.{after_ask, after_write, decided, is_decided, serve}
-use Rattle.kr_engine.specs.SafeSteps.{AreSafeEntries, StepsAreSafe, asked, is_anothers}
+use Rattle.kr_engine.specs.SafeSteps.{AreSafeEntries, StepsAreSafe, request_in, is_anothers}
 use Rattle.kr_engine.specs.Ticks.{fence, fence_all, fencing_of, lapsed, tick}
-use Rattle.kr_engine.specs.World.{State, World, image_of_tip, is_far, tip_of, with_batch, with_records, written}
+use Rattle.kr_engine.specs.World.{State, World, image_of_tip, is_far, tip_of, with_batch, with_records, log_with}
 use Rattle.kr_engine.proofs.AppendSteps.{as_records}
 use Rattle.kr_engine.proofs.LogEntries.{batch_written, behind, cut_behind, none_behind, placed_both}
 use Rattle.kr_engine.proofs.Logs.{apply_append, tip_written}
@@ -51,25 +51,25 @@ use Rattle.kr_engine.proofs.ReadyEngines.{same_image}
 -- ---- records as entries
 
 module _ (request : Option Request) where
-  pub records_safe : (image : Image) (records : List Record) (place : ℤ) → AreSafe request image records → AreSafeEntries request image (placed place (as_items records))
+  pub records_safe : (image : Image) (records : List Record) (place : ℤ) → AreSafe request image records → AreSafeEntries request image (item_entries place (as_items records))
   unfolding apply
   records_safe image [] place safe = tt
   records_safe image (r ∷ records) place safe = (
     safe.0,
-    elim (apply_record image r) as (λ (q : Result Image Ill). IfOk q (λ after. AreSafe request after records) → IfOk q (λ after. AreSafeEntries request after (placed (place +ℤ pos 1) (as_items records)))) [
+    elim (apply_record image r) as (λ (q : Result Image Ill). IfOk q (λ after. AreSafe request after records) → IfOk q (λ after. AreSafeEntries request after (item_entries (place +ℤ pos 1) (as_items records)))) [
       | Ok after ↦ λ safe. records_safe after records (place +ℤ pos 1) safe
       | Err cause ↦ λ safe. tt
     ] safe.1,
   )
 
   -- items, and then others on the image behind them
-  both_safe : (image mid : Image) (xs : List Item) (place : ℤ) (others : List Entry) → AreSafeEntries request image (placed place xs) → apply_all image xs ≡ Ok mid
-      → AreSafeEntries request mid others → AreSafeEntries request image (placed place xs ++ others)
+  both_safe : (image mid : Image) (xs : List Item) (place : ℤ) (others : List Entry) → AreSafeEntries request image (item_entries place xs) → apply_all image xs ≡ Ok mid
+      → AreSafeEntries request mid others → AreSafeEntries request image (item_entries place xs ++ others)
   both_safe image mid [] place others safe means then = subst (λ (r : Result Image Ill). AreSafeEntries request (result_unwrap_or r image) others) (sym means) then
   both_safe image mid (x ∷ xs) place others safe means then = (
     safe.0,
-    elim (apply image x) as (λ (q : Result Image Ill). IfOk q (λ after. AreSafeEntries request after (placed (place +ℤ pos 1) xs)) → and_then q (λ after. apply_all after xs) ≡ Ok mid
-        → IfOk q (λ after. AreSafeEntries request after (placed (place +ℤ pos 1) xs ++ others))) [
+    elim (apply image x) as (λ (q : Result Image Ill). IfOk q (λ after. AreSafeEntries request after (item_entries (place +ℤ pos 1) xs)) → and_then q (λ after. apply_all after xs) ≡ Ok mid
+        → IfOk q (λ after. AreSafeEntries request after (item_entries (place +ℤ pos 1) xs ++ others))) [
           | Ok after ↦ λ safe means. both_safe after mid xs (place +ℤ pos 1) others safe means then
           | Err cause ↦ λ safe means. tt
         ] safe.1 means,
@@ -80,8 +80,8 @@ module _ (request : Option Request) where
 -- the log is longer by safe items, which make this of the image at its tip
 record Grows (log longer : Log) (image after : Image) : Type 0 where
   more : List Item
-  writes : longer ≡ written log more
-  safe : AreSafeEntries None image (placed (pos (tip log)) more)
+  writes : longer ≡ log_with log more
+  safe : AreSafeEntries None image (item_entries (pos (tip log)) more)
   means : apply_all image more ≡ Ok after
 
 grows_none : (log : Log) (image : Image) → Grows log log image image
@@ -102,10 +102,10 @@ grows_then log longer last image mid after first second =
     let place = pos (tip log) in
     let at : pos (tip longer) ≡ place +ℤ pos (length xs) = ap (λ (l : Log). pos (tip l)) first.writes ∙ ap (λ n. pos n) (tip_written log xs) in record {
       more = xs ++ ys;
-      writes = second.writes ∙ (ap (λ (l : Log). written l ys) first.writes ∙ ap (λ (is : List Item). record log { items = is }) (append_assoc log.items xs ys));
+      writes = second.writes ∙ (ap (λ (l : Log). log_with l ys) first.writes ∙ ap (λ (is : List Item). record log { items = is }) (append_assoc log.items xs ys));
       safe = subst (AreSafeEntries None image) (sym (placed_both place xs ys))
-          (both_safe None image mid xs place (placed (place +ℤ pos (length xs)) ys) first.safe first.means
-          (subst (λ z. AreSafeEntries None mid (placed z ys)) at second.safe));
+          (both_safe None image mid xs place (item_entries (place +ℤ pos (length xs)) ys) first.safe first.means
+          (subst (λ z. AreSafeEntries None mid (item_entries z ys)) at second.safe));
       means = apply_append xs ys image ∙ (then_apply (apply_all image xs) mid (λ i. apply_all i ys) first.means ∙ second.means);
     }
 
@@ -116,10 +116,10 @@ Shows log image = image_at log (tip log) ≡ Ok image
 shows_then : (log longer : Log) (image after : Image) → Shows log image → Grows log longer image after → Shows longer after
 shows_then log longer image after shows g = subst (λ (l : Log). Shows l after) (sym g.writes) (present_then log g.more image after shows g.means)
 
-safe_added : (request : Option Request) (log longer : Log) (items : List Item) (image : Image) → longer ≡ written log items → AreSafeEntries request image (placed (pos (tip log)) items)
-    → AreSafeEntries request image (placed (pos (tip log)) (items_from longer (tip log)))
+safe_added : (request : Option Request) (log longer : Log) (items : List Item) (image : Image) → longer ≡ log_with log items → AreSafeEntries request image (item_entries (pos (tip log)) items)
+    → AreSafeEntries request image (item_entries (pos (tip log)) (items_from longer (tip log)))
 safe_added request log longer items image is safe =
-    subst (λ (xs : List Item). AreSafeEntries request image (placed (pos (tip log)) xs)) (sym (ap (λ (l : Log). items_from l (tip log)) is ∙ behind log items)) safe
+    subst (λ (xs : List Item). AreSafeEntries request image (item_entries (pos (tip log)) xs)) (sym (ap (λ (l : Log). items_from l (tip log)) is ∙ behind log items)) safe
 
 seen_of : (s : State) (image : Image) → Shows s.world.log image → image_of_tip s ≡ image
 seen_of s image shows = ap (λ (r : Result Image Ill). result_unwrap_or r empty) shows
@@ -156,7 +156,7 @@ module _ (options : Options) where
   fence_grows s image broker shows f =
       let records = fencing_of options image broker in record {
         more = as_items records;
-        writes = batch_written s.world (as_items (fencing_of options (image_of_tip s) broker)) ∙ ap (λ i. written s.world.log (as_items (fencing_of options i broker))) (seen_of s image shows);
+        writes = batch_written s.world (as_items (fencing_of options (image_of_tip s) broker)) ∙ ap (λ i. log_with s.world.log (as_items (fencing_of options i broker))) (seen_of s image shows);
         safe = records_safe None image records (pos (tip_of s)) f.safe;
         means = as_records image records ∙ f.means;
       }
@@ -178,21 +178,21 @@ module _ (options : Options) where
 module _ (s : State) (event : Event) (image : Image) where
   -- where the event is accepted
   abbrev IsSafeFor : State → Type 0
-  IsSafeFor after = AreSafeEntries (asked event) image (added s event after)
+  IsSafeFor after = AreSafeEntries (request_in event) image (entries_added s event after)
 
   abbrev IsSafeBy : Result State Reason → Type 0
-  IsSafeBy r = AreSafeEntries (asked event) image (entries_by s event r)
+  IsSafeBy r = AreSafeEntries (request_in event) image (entries_by s event r)
 
   refused_row : (b : Bool) (reason : Reason) (r : Result State Reason) → IsSafeBy r → IsSafeBy (cond b (Err reason) r)
   refused_row true reason r safe = tt
   refused_row false reason r safe = safe
 
-control_safe : (image : Image) (place : ℤ) → AreSafeEntries None image (placed place (items.Control ∷ []))
+control_safe : (image : Image) (place : ℤ) → AreSafeEntries None image (item_entries place (items.Control ∷ []))
 unfolding apply
 control_safe image place = (tt, tt)
 
-safe_none : (request : Option Request) (image : Image) (place : ℤ) (items : List Item) → items ≡ [] → AreSafeEntries request image (placed place items)
-safe_none request image place items none = subst (λ (is : List Item). AreSafeEntries request image (placed place is)) (sym none) tt
+safe_none : (request : Option Request) (image : Image) (place : ℤ) (items : List Item) → items ≡ [] → AreSafeEntries request image (item_entries place items)
+safe_none request image place items none = subst (λ (is : List Item). AreSafeEntries request image (item_entries place is)) (sym none) tt
 
 module _ (options : Options) (s : State) (image : Image) (valid : IsValid image) (shows : Shows s.world.log image) where
   lead_safe : (epoch next now : ℤ) → IsSafeBy s (events.Lead epoch next now) image (lead (timed s (events.Lead epoch next now)) epoch next)
@@ -203,7 +203,7 @@ module _ (options : Options) (s : State) (image : Image) (valid : IsValid image)
       (refused_row s event image (not (may_begin_at s.world next)) (bad_next next (pos s.world.committed)) _
       (refused_row s event image (is_far next) (exhausted next) _ (begins (int_eq next (pos s.world.committed))))))
     where
-      begins : (b : Bool) → AreSafeEntries None image (placed (pos (tip_of s)) (items_from (cond b s.world (with_batch s.world (items.Control ∷ []))).log (tip_of s)))
+      begins : (b : Bool) → AreSafeEntries None image (item_entries (pos (tip_of s)) (items_from (cond b s.world (with_batch s.world (items.Control ∷ []))).log (tip_of s)))
       begins true = safe_none None image (pos (tip_of s)) (items_from s.world.log (tip_of s)) (none_behind s.world.log)
       begins false = safe_added None s.world.log (with_batch s.world (items.Control ∷ [])).log (items.Control ∷ []) image (batch_written s.world (items.Control ∷ [])) (control_safe image (pos (tip_of s)))
 
@@ -240,7 +240,7 @@ module _ (options : Options) (s : State) (image : Image) (valid : IsValid image)
         (requests_are_safe options (served ask).basis (image_of_tip s) (pos (tip_of s)) request (subst IsValid (sym (seen_of s image shows)) valid))
 
     write_safe : (b : Bool) (ask : Ask) (request : Request)
-        → AreSafeEntries (Some request) image (placed (pos (tip_of s)) (items_from (cond b (after_write options (served ask) request) (served ask)).world.log (tip_of s)))
+        → AreSafeEntries (Some request) image (item_entries (pos (tip_of s)) (items_from (cond b (after_write options (served ask) request) (served ask)).world.log (tip_of s)))
     write_safe true ask request =
         let own = as_items (records_for ask request) in
         safe_added (Some request) s.world.log (with_batch s.world own).log own image (batch_written s.world own)
@@ -267,5 +267,5 @@ module _ (options : Options) (s : State) (image : Image) (valid : IsValid image)
 
 pub steps_are_safe : StepsAreSafe
 steps_are_safe before after event s writes k valid step own =
-    subst (AreSafeEntries (asked event) before.images.tip) (sym (step.fresh s writes k))
+    subst (AreSafeEntries (request_in event) before.images.tip) (sym (step.fresh s writes k))
     (event_safe before.options s before.images.tip valid k.present event own)

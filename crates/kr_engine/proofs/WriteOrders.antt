@@ -10,7 +10,7 @@ use Rattle.std.specs.Ordering.{int_eq}
 use Rattle.kr_defs.proofs.IdLists.{id_itself, same_id}
 use Rattle.kr_defs.proofs.Tests.{both}
 use Rattle.kr_engine.specs.declared.writes.Write.{Write}
-use Rattle.kr_engine.specs.Engine.{are_in_order}
+use Rattle.kr_engine.specs.Engine.{writes_in_order}
 use Rattle.kr_engine.specs.Leaderships.{leads_in}
 use Rattle.kr_engine.specs.Outputs.{is_open}
 use Rattle.kr_engine.specs.Reasons.{ours}
@@ -18,12 +18,12 @@ use Rattle.kr_engine.specs.Reasons.{ours}
 abbrev pub is_behind : Write → Write → Bool
 is_behind write later = int_eq write.epoch later.epoch && int_le write.need later.need
 
-pub order_more : (writes : List Write) (last : Write) → are_in_order writes ≡ true → list_all (λ (write : Write). is_behind write last) writes ≡ true → are_in_order (writes ++ last ∷ []) ≡ true
+pub order_more : (writes : List Write) (last : Write) → writes_in_order writes ≡ true → list_all (λ (write : Write). is_behind write last) writes ≡ true → writes_in_order (writes ++ last ∷ []) ≡ true
 order_more [] last ordered behind = refl
 order_more (write ∷ writes) last ordered behind =
-    let parts = both (list_all (is_behind write) writes) (are_in_order writes) ordered in
+    let parts = both (list_all (is_behind write) writes) (writes_in_order writes) ordered in
     let tests = both (is_behind write last) (list_all (λ (write : Write). is_behind write last) writes) behind in
-    and_from (list_all (is_behind write) (writes ++ last ∷ [])) (are_in_order (writes ++ last ∷ []))
+    and_from (list_all (is_behind write) (writes ++ last ∷ [])) (writes_in_order (writes ++ last ∷ []))
     (list_all-append (is_behind write) writes (last ∷ []) ∙ and_from (list_all (is_behind write) writes) (is_behind write last && true) parts.0 (and_from (is_behind write last) true tests.0 refl))
     (order_more writes last parts.1 tests.1)
 

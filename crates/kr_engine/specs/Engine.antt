@@ -20,7 +20,7 @@ use Rattle.kr_safety.specs.HearingLaws.{HearsOf}
 use Rattle.kr_snapshot.specs.ImageText.{image_text}
 use Rattle.kr_store.specs.Images.{Images, forgotten, kept_at, marked, no_images, reverted}
 use Rattle.kr_engine.specs.declared.writes.Write.{Write}
-use Rattle.kr_engine.specs.Entries.{entries_of, placed}
+use Rattle.kr_engine.specs.Entries.{log_entries, item_entries}
 use Rattle.kr_engine.specs.Events.{happens, later, next_number}
 use Rattle.kr_engine.specs.Leaderships.{leads_in}
 use Rattle.kr_engine.specs.Outputs.{answers, is_open, outputs_of, waiting_after}
@@ -63,10 +63,10 @@ Rise from [] to = from ≡ to
 Rise from (n ∷ ns) to = (from < n) × Rise n ns to
 
 -- no write needs more than a later one, and all are of one leadership
-abbrev pub are_in_order : List Write → Bool
-are_in_order [] = true
-are_in_order (write ∷ writes) =
-    list_all (λ later. int_eq write.epoch later.epoch && int_le write.need later.need) writes && are_in_order writes
+abbrev pub writes_in_order : List Write → Bool
+writes_in_order [] = true
+writes_in_order (write ∷ writes) =
+    list_all (λ later. int_eq write.epoch later.epoch && int_le write.need later.need) writes && writes_in_order writes
 
 pub record IsState (s : State) (writes : List Write) : Type 0 where
   pub started : s.world.log.offset ≤ s.world.committed
@@ -98,7 +98,7 @@ pub record IsEngine (e : Core) (s : State) (writes : List Write) : Type 0 where
   pub present : image_at s.world.log (tip_of s) ≡ Ok e.images.tip
   pub kept : e.images.kept ≡ map (kept_image s.world.log) (s.world.committed ∷ s.world.batch_ends)
   pub waits : filter (is_open e.leading e.committed) e.held ≡ writes
-  pub ordered : IsTrue (are_in_order e.held)
+  pub ordered : IsTrue (writes_in_order e.held)
   pub is_state : IsState s writes
 
 -- it stands for some
@@ -113,14 +113,14 @@ pub record IsStep (before after : Core) (event : Event) : Type 0 where
   pub options : after.options ≡ before.options
   pub stands : (s : State) (writes : List Write) → IsEngine before s writes → IsEngine after (happens before.options s event) (waiting_after before.options s writes event)
   pub outputs : (s : State) (writes : List Write) → IsEngine before s writes → left after ≡ outputs_of before.options s writes event
-  pub fresh : (s : State) (writes : List Write) → IsEngine before s writes → after.fresh ≡ entries_of before.options s event
+  pub fresh : (s : State) (writes : List Write) → IsEngine before s writes → after.fresh ≡ log_entries before.options s event
 
 -- What handing out the next output makes of an engine; none where all is handed out.
 pub record Hands (before after : Core) (output : Option Output) : Type 0 where
   pub options : after.options ≡ before.options
   pub in_order : left before ≡ option_to_list output ++ left after
   pub all : output ≡ None → left after ≡ []
-  pub ordered : IsTrue (are_in_order after.held)
+  pub ordered : IsTrue (writes_in_order after.held)
   pub fresh : after.fresh ≡ before.fresh
   pub stands : (s : State) (writes : List Write) → IsEngine before s writes → IsEngine after s writes
 
@@ -208,7 +208,7 @@ abbrev pub up_to : Core → ℤ → Core
 up_to e next = if int_eq next e.committed then e else record e {
   images = marked e.images next;
   tip = next;
-  fresh = e.fresh ++ placed e.tip (items.Control ∷ []);
+  fresh = e.fresh ++ item_entries e.tip (items.Control ∷ []);
 }
 
 abbrev pub begun : Core → ℤ → ℤ → Core

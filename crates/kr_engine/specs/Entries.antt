@@ -14,23 +14,23 @@ use Rattle.kr_engine.specs.Events.{outcome, timed}
 use Rattle.kr_engine.specs.World.{State, tip_of}
 
 -- items one behind the other, of which the first stands at the place
-abbrev pub placed : ℤ → List Item → List Entry
-placed place [] = []
-placed place (item ∷ items) = entries.Item place item ∷ placed (place +ℤ pos 1) items
+abbrev pub item_entries : ℤ → List Item → List Entry
+item_entries place [] = []
+item_entries place (item ∷ items) = entries.Item place item ∷ item_entries (place +ℤ pos 1) items
 
 -- the items of a log at the place and above
 abbrev pub items_from : Log → ℕ → List Item
 items_from log place = drop (place - log.offset) log.items
 
 -- an image has its records in the order in which it is written
-abbrev pub added : State → Event → State → List Entry
-added s (events.Load bytes) after = entries.Load (pos after.world.log.offset) (records_of after.world.log.image) ∷ []
-added s other after = placed (pos (tip_of s)) (items_from after.world.log (tip_of s))
+abbrev pub entries_added : State → Event → State → List Entry
+entries_added s (events.Load bytes) after = entries.Load (pos after.world.log.offset) (records_of after.world.log.image) ∷ []
+entries_added s other after = item_entries (pos (tip_of s)) (items_from after.world.log (tip_of s))
 
 -- a refused event adds nothing
 abbrev pub entries_by : State → Event → Result State Reason → List Entry
-entries_by s event (Ok after) = added s event after
+entries_by s event (Ok after) = entries_added s event after
 entries_by s event (Err reason) = []
 
-abbrev pub entries_of : Options → State → Event → List Entry
-entries_of options s event = entries_by s event (outcome options (timed s event) event)
+abbrev pub log_entries : Options → State → Event → List Entry
+log_entries options s event = entries_by s event (outcome options (timed s event) event)

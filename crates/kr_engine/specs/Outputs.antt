@@ -126,12 +126,12 @@ abbrev pub waiting : Options → List Event → List Write
 waiting options past = filter (is_open_in (state options past).world) (writes_from options start past)
 
 -- the reply of a write that waits no more: its own where what it needs is committed, else the leadership was lost before
-abbrev pub answer : ℤ → Write → Output
-answer end write = given.Reply write.client write.correlation (if int_lt end write.need then write.refusal else write.reply)
+abbrev pub due_reply : ℤ → Write → Output
+due_reply end write = given.Reply write.client write.correlation (if int_lt end write.need then write.refusal else write.reply)
 
 -- in order of their requests
 abbrev pub answers : Option ℤ → ℤ → List Write → List Output
-answers leading end writes = map (answer end) (filter (λ write. not (is_open leading end write)) writes)
+answers leading end writes = map (due_reply end) (filter (λ write. not (is_open leading end write)) writes)
 
 abbrev pub answers_in : World → List Write → List Output
 answers_in w writes = answers w.leading (pos w.committed) writes

@@ -12,7 +12,7 @@ use Rattle.kr_batch.specs.Reading.{batch_of}
 use Rattle.kr_snapshot.specs.declared.fault.ImageFault.{ImageFault}
 use Rattle.kr_snapshot.specs.Reading.{image_of}
 use Rattle.kr_engine.specs.Reasons.{already_leading, bad_batch, bad_image, exhausted, gap, ill_formed, older_image}
-use Rattle.kr_engine.specs.World.{State, image_of_tip, is_far, tip_of, written}
+use Rattle.kr_engine.specs.World.{State, image_of_tip, is_far, tip_of, log_with}
 
 -- ---- Batch
 
@@ -32,7 +32,7 @@ end_of batch = batch.base +ℤ pos (length batch.items)
 -- what comes is committed
 abbrev pub followed : State → Batch → State
 followed s batch = record s {
-  world = record s.world { log = written s.world.log batch.items; committed = tip_of s + length batch.items };
+  world = record s.world { log = log_with s.world.log batch.items; committed = tip_of s + length batch.items };
 }
 
 abbrev pub follow_batch : State → Batch → Result State Reason

@@ -17,9 +17,9 @@ use Rattle.kr_engine.specs.Engine.{Core, IsEngine, IsStep}
 use Rattle.kr_engine.specs.World.{State}
 
 -- the request that came
-abbrev pub asked : Event → Option Request
-asked (events.Request client now (asks.Call call)) = Some call.request
-asked other = None
+abbrev pub request_in : Event → Option Request
+request_in (events.Request client now (asks.Call call)) = Some call.request
+request_in other = None
 
 -- what it brings was appended by another leader
 abbrev pub is_anothers : Event → Bool
@@ -42,4 +42,4 @@ AreSafeEntries request image (entries.Load offset records ∷ others) = ⊥
 abbrev pub StepsAreSafe : Type 0
 StepsAreSafe =
     (before after : Core) (event : Event) (s : State) (writes : List Write) → IsEngine before s writes → IsValid before.images.tip →
-    IsStep before after event → is_anothers event ≡ false → AreSafeEntries (asked event) before.images.tip after.fresh
+    IsStep before after event → is_anothers event ≡ false → AreSafeEntries (request_in event) before.images.tip after.fresh

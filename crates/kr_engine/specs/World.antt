@@ -57,14 +57,14 @@ is_far place = int_lt GREATEST_TIP place
 -- ---- what changes them
 
 -- the items are written at the tip
-abbrev pub written : Log → List Item → Log
-written log items = record log { items = log.items ++ items }
+abbrev pub log_with : Log → List Item → Log
+log_with log items = record log { items = log.items ++ items }
 
 -- as one batch, where there are any
 abbrev pub with_batch : World → List Item → World
 with_batch w items =
     if length items == 0 then w else
-    record w { log = written w.log items; batch_ends = w.batch_ends ++ (tip w.log + length items) ∷ [] }
+    record w { log = log_with w.log items; batch_ends = w.batch_ends ++ (tip w.log + length items) ∷ [] }
 
 abbrev pub with_records : World → List Record → World
 with_records w records = with_batch w (as_items records)

@@ -93,7 +93,7 @@ impl Engine {
         requires low { self.old.tip ≤ℤ places_end }
         requires fits { FitsBatch records }
         requires above { (place : ℤ) → IsTrue (int_lt self.old.tip place) → IsAbove self.old.images.kept place }
-        ensures { OnOk result (self.new ≡ writing.appended self.old records) }
+        ensures { OnOk result (self.new ≡ writing.with_appended self.old records) }
     {
         if records.is_empty() {
             return Ok(());

@@ -2,7 +2,7 @@
 
 ghost use Rattle.std.specs.Prelude.{◌≡◌, ◌≤◌, [], is_some};
 ghost use Rattle.kr_calls.specs.declared.events.Event.TheVariants as events;
-ghost use Rattle.kr_store.specs.Images.{image_at, kept_at};
+ghost use Rattle.kr_store.specs.Images.{image_of_place, kept_at};
 ghost use Rattle.kr_store.specs.declared.places.At.TheVariants as places;
 ghost use Rattle.kr_engine.specs.Engine as engines;
 ghost use Rattle.kr_engine.specs.Engine.{IsStep, cleared, committed_to, left};
@@ -22,7 +22,7 @@ pub(crate) fn at_epoch(epoch: &i64) -> At
 }
 
 fn has_image<S: Store>(store: &S, at: At) -> bool
-    ensures { result ≡ is_some (image_at (S.images store.now) at) }
+    ensures { result ≡ is_some (image_of_place (S.images store.now) at) }
 {
     store.next_feature(at, None).is_ok()
 }

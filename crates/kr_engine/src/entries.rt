@@ -4,7 +4,7 @@ ghost use Rattle.std.specs.Prelude.{◌≡◌, ◌++◌, ◌+ℤ◌, ◌≤◌, 
 ghost use Rattle.kr_calls.specs.declared.events.Entry.TheVariants as entries;
 ghost use Rattle.kr_defs.specs.declared.limits.TheConstants.{MOST_RECORDS as most_records, PLACES_END as places_end};
 ghost use Rattle.kr_engine.specs.Engine.{adding};
-ghost use Rattle.kr_engine.specs.Entries.{placed};
+ghost use Rattle.kr_engine.specs.Entries.{item_entries};
 
 use crate::Engine;
 use kr_base::NoMemory;
@@ -55,7 +55,7 @@ impl Next {
 fn place_items(out: &mut Vec<Entry>, place: &i64, items: Items) -> Result<(), NoMemory>
     requires low { place.now ≤ℤ places_end }
     requires few { length items ≤ most_records }
-    ensures { OnOk result (out.new.items ≡ out.old.items ++ placed place.now items) }
+    ensures { OnOk result (out.new.items ≡ out.old.items ++ item_entries place.now items) }
 {
     let mut next = Next::at(place);
     for item in items.into_vec() {
@@ -70,7 +70,7 @@ impl Engine {
     pub(crate) fn add_items(&mut self, items: Items) -> Result<(), NoMemory>
         requires low { self.old.tip ≤ℤ places_end }
         requires few { length items ≤ most_records }
-        ensures { OnOk result (self.new ≡ adding self.old (placed self.old.tip items)) }
+        ensures { OnOk result (self.new ≡ adding self.old (item_entries self.old.tip items)) }
     {
         place_items(&mut self.fresh, &self.tip, items)
     }

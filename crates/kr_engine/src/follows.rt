@@ -10,7 +10,7 @@ ghost use Rattle.kr_calls.specs.declared.events.Event.TheVariants as events;
 ghost use Rattle.kr_snapshot.specs.ReaderState.{kept_once};
 ghost use Rattle.kr_store.specs.Images.{IsAbove};
 ghost use Rattle.kr_engine.specs.Engine.{IsSound, IsStep, adding, left};
-ghost use Rattle.kr_engine.specs.Entries.{placed};
+ghost use Rattle.kr_engine.specs.Entries.{item_entries};
 ghost use Rattle.kr_engine.specs.inner.Ready.{IsReady};
 ghost use Rattle.kr_engine.specs.Replicas.{end_of};
 ghost use Rattle.kr_engine.specs.inner.Standby as standby;
@@ -91,7 +91,7 @@ impl Engine {
         requires ready { IsReady self.old }
         requires few { length items ≤ most_records }
         requires above { IsAbove self.old.images.kept end.now }
-        ensures settled { OnOk result (Settles self.old self.new (standby.items_reason (logs.first_ill self.old.images.tip self.old.tip items)) (standby.moved_to (adding self.old (placed self.old.tip items)) end.now (result_unwrap_or (logs.apply_all self.old.images.tip items) empty))) }
+        ensures settled { OnOk result (Settles self.old self.new (standby.items_reason (logs.first_ill self.old.images.tip self.old.tip items)) (standby.moved_to (adding self.old (item_entries self.old.tip items)) end.now (result_unwrap_or (logs.apply_all self.old.images.tip items) empty))) }
         ensures later { steps.old ≤ steps.new }
     {
         match self.apply_items(&items, steps)? {

@@ -2,7 +2,7 @@
 
 ghost use Rattle.std.specs.Prelude.{◌≡◌, ◌++◌, ◌∷◌, [], option_to_list, filter, not, false, None, IsTrue, IfNone, List};
 ghost use Rattle.kr_engine.specs.declared.writes.Write.{Write as AnyWrite};
-ghost use Rattle.kr_engine.specs.Engine.{Hands, are_in_order};
+ghost use Rattle.kr_engine.specs.Engine.{Hands, writes_in_order};
 ghost use Rattle.kr_engine.specs.Outputs as outputs;
 
 use crate::Engine;
@@ -24,11 +24,11 @@ fn is_first_due(leading: &Option<i32>, end: &i64, held: &VecDeque<Write>) -> boo
 // The first write's reply, where it waits no more.
 #[tactic(auto, using(crate::proofs::Queues::not_due, crate::proofs::Queues::due, crate::proofs::Queues::still_waits, crate::proofs::Queues::still_ordered))]
 fn next_due(leading: &Option<i32>, end: &i64, held: &mut VecDeque<Write>) -> Option<Output>
-    requires ordered { IsTrue (are_in_order held.old.items) }
+    requires ordered { IsTrue (writes_in_order held.old.items) }
     ensures in_order { outputs.answers leading.now end.now held.old.items ≡ option_to_list result ++ outputs.answers leading.now end.now held.new.items }
     ensures none { IfNone result (outputs.answers leading.now end.now held.new.items ≡ []) }
     ensures waits { filter (outputs.is_open leading.now end.now) held.new.items ≡ filter (outputs.is_open leading.now end.now) held.old.items }
-    ensures ordered { IsTrue (are_in_order held.new.items) }
+    ensures ordered { IsTrue (writes_in_order held.new.items) }
 {
     if !is_first_due(leading, end, held) {
         return None;
@@ -56,11 +56,11 @@ impl Engine {
     }
 
     fn next_answer(&mut self) -> Option<Output>
-        requires ordered { IsTrue (are_in_order self.old.held) }
+        requires ordered { IsTrue (writes_in_order self.old.held) }
         ensures in_order { outputs.answers self.old.leading self.old.committed self.old.held ≡ option_to_list result ++ outputs.answers self.old.leading self.old.committed self.new.held }
         ensures none { IfNone result (outputs.answers self.old.leading self.old.committed self.new.held ≡ []) }
         ensures waits { filter (outputs.is_open self.old.leading self.old.committed) self.new.held ≡ filter (outputs.is_open self.old.leading self.old.committed) self.old.held }
-        ensures ordered { IsTrue (are_in_order self.new.held) }
+        ensures ordered { IsTrue (writes_in_order self.new.held) }
         ensures same { self.new ≡ record self.old { held = self.new.held } }
     {
         next_due(&self.leading, &self.committed, &mut self.held)
@@ -69,7 +69,7 @@ impl Engine {
     /// The next output of the last event, in order; none where all are handed out. It takes no memory.
     #[tactic(auto, using(crate::proofs::OutputsLeft::hands_refusal, crate::proofs::OutputsLeft::hands_answer))]
     pub fn next_output(&mut self) -> Option<Output>
-        requires { IsTrue (are_in_order self.old.held) }
+        requires { IsTrue (writes_in_order self.old.held) }
         ensures { Hands self.old self.new result }
     {
         if let Some(output) = self.next_given() {

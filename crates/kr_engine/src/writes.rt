@@ -40,7 +40,7 @@ pub fn is_open(leading: &Option<i32>, end: &i64, write: &Write) -> bool
 
 /// The reply of a write that waits no more.
 pub fn answer(end: &i64, write: Write) -> Output
-    ensures { result ≡ outputs.answer end.now write }
+    ensures { result ≡ outputs.due_reply end.now write }
 {
     let is_lost = *end < write.need;
     let Write {

@@ -18,7 +18,7 @@ use Rattle.kr_defs.specs.Sizes as sizes
 use Rattle.kr_defs.proofs.Tests.{both}
 use Rattle.kr_record.specs.Encodable.{IsEncodable}
 use Rattle.kr_record.proofs.Lengths.{size}
-use Rattle.kr_batch.specs.BatchBytes.{IsWritable, value_bytes, values_size}
+use Rattle.kr_batch.specs.BatchBytes.{IsWritable, item_value, values_size}
 use Rattle.kr_calls.specs.Deciding.{apply_records}
 use Rattle.kr_calls.specs.Decide.{work_of}
 use Rattle.kr_calls.proofs.DecisionMeanings.{requests_stand}
@@ -27,7 +27,7 @@ use Rattle.kr_fitting.proofs.RequestLimits.{requests_bounded}
 use Rattle.kr_fitting.proofs.ShortRecords.{IsFew, written}
 
 abbrev item_bytes : Item → ℕ
-item_bytes i = length (value_bytes i)
+item_bytes i = length (item_value i)
 
 -- each of the records, and their sizes
 pub record AreLight (records : List Record) : Type 0 where

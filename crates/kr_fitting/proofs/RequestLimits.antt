@@ -11,7 +11,7 @@ use Rattle.kr_defs.proofs.Tests.{both}
 use Rattle.kr_calls.specs.declared.calls.Request.{Request}
 use Rattle.kr_calls.specs.declared.calls.Request.TheVariants as requests
 use Rattle.kr_calls.specs.declared.deciding.Draft.{Draft}
-use Rattle.kr_calls.specs.Deciding.{Work, apply_records, has_few_targets, is_request, is_within_limits, begun, added, taken, settled, done, one, after_all, after_groups, unless_validating}
+use Rattle.kr_calls.specs.Deciding.{Work, apply_records, has_few_targets, is_request, is_within_limits, nothing_decided, work_with, taken, settled, done, one, after_all, after_groups, unless_validating}
 use Rattle.kr_calls.specs.Decide.{work_of}
 use Rattle.kr_calls.specs.Refuse.{refused_creation, refused_deletion, refused_growth, refused_resource}
 use Rattle.kr_calls.specs.AlterPartition as reporting
@@ -28,7 +28,7 @@ use Rattle.kr_calls.specs.UnregisterBroker as unregistering
 abbrev IsBounded : Work → Type 0
 IsBounded w = is_request w.records ≡ true
 
-added_bounded : (w : Work) (records : List Record) (b : Bool) (r : Result Image Ill) (after : Work) → is_within_limits w.records records ≡ b → cond b (added w records r) None ≡ Some after → IsBounded after
+added_bounded : (w : Work) (records : List Record) (b : Bool) (r : Result Image Ill) (after : Work) → is_within_limits w.records records ≡ b → cond b (work_with w records r) None ≡ Some after → IsBounded after
 added_bounded w records true (Ok image) after within is =
     subst IsBounded (ap (λ o. unwrap_or o after) is) (both (list_all has_few_targets records) (is_request (w.records ++ records)) within).1
 added_bounded w records true (Err cause) after within is = absurd cc
@@ -72,21 +72,21 @@ chosen_bounded false x y first then = then
 -- every request, by its rule
 pub requests_bounded : (options : Options) (basis : Basis) (image : Image) (place : ℤ) (request : Request) → is_request (work_of options basis image place request).0.records ≡ true
 unfolding work_of registering.decided heartbeating.decided unregistering.decided creating.decided deleting.decided growing.decided reporting.decided electing.decided reassigning.decided configuring.decided
-requests_bounded options basis image place (requests.BrokerRegistration q) = one_bounded registering.refused (registering.rule options basis) (begun place image) q refl
-requests_bounded options basis image place (requests.BrokerHeartbeat q) = one_bounded heartbeating.refused (heartbeating.rule options basis) (begun place image) q refl
-requests_bounded options basis image place (requests.UnregisterBroker q) = one_bounded unregistering.refused (unregistering.rule options) (begun place image) q refl
+requests_bounded options basis image place (requests.BrokerRegistration q) = one_bounded registering.refused (registering.rule options basis) (nothing_decided place image) q refl
+requests_bounded options basis image place (requests.BrokerHeartbeat q) = one_bounded heartbeating.refused (heartbeating.rule options basis) (nothing_decided place image) q refl
+requests_bounded options basis image place (requests.UnregisterBroker q) = one_bounded unregistering.refused (unregistering.rule options) (nothing_decided place image) q refl
 requests_bounded options basis image place (requests.CreateTopics q) =
-    validated_bounded q.validate_only (begun place image) _ refl (all_bounded refused_creation (creating.rule options q.validate_only) (begun place image) q.topics refl)
-requests_bounded options basis image place (requests.DeleteTopics q) = all_bounded refused_deletion deleting.rule (begun place image) q.topics refl
+    validated_bounded q.validate_only (nothing_decided place image) _ refl (all_bounded refused_creation (creating.rule options q.validate_only) (nothing_decided place image) q.topics refl)
+requests_bounded options basis image place (requests.DeleteTopics q) = all_bounded refused_deletion deleting.rule (nothing_decided place image) q.topics refl
 requests_bounded options basis image place (requests.CreatePartitions q) =
-    validated_bounded q.validate_only (begun place image) _ refl (all_bounded refused_growth growing.rule (begun place image) q.topics refl)
+    validated_bounded q.validate_only (nothing_decided place image) _ refl (all_bounded refused_growth growing.rule (nothing_decided place image) q.topics refl)
 requests_bounded options basis image place (requests.AlterPartition q) =
-    chosen_bounded (reporting.is_stale image q) _ _ refl (groups_bounded reporting.refused (reporting.rule options q.broker) reporting.entries_of reporting.answer_of (begun place image) q.topics refl)
+    chosen_bounded (reporting.is_stale image q) _ _ refl (groups_bounded reporting.refused (reporting.rule options q.broker) reporting.entries_of reporting.answer_of (nothing_decided place image) q.topics refl)
 requests_bounded options basis image place (requests.ElectLeaders q) =
-    chosen_bounded (not (electing.is_kind q.kind)) _ _ refl (groups_bounded electing.answer (electing.rule options q.kind) electing.entries_of electing.answer_of (begun place image) (electing.groups_of image q.topics) refl)
+    chosen_bounded (not (electing.is_kind q.kind)) _ _ refl (groups_bounded electing.answer (electing.rule options q.kind) electing.entries_of electing.answer_of (nothing_decided place image) (electing.groups_of image q.topics) refl)
 requests_bounded options basis image place (requests.AlterPartitionReassignments q) =
-    groups_bounded reassigning.answer (reassigning.rule options) reassigning.entries_of reassigning.answer_of (begun place image) q.topics refl
+    groups_bounded reassigning.answer (reassigning.rule options) reassigning.entries_of reassigning.answer_of (nothing_decided place image) q.topics refl
 requests_bounded options basis image place (requests.IncrementalAlterConfigs q) =
-    validated_bounded q.validate_only (begun place image) _ refl (all_bounded refused_resource (configuring.rule options) (begun place image) q.resources refl)
+    validated_bounded q.validate_only (nothing_decided place image) _ refl (all_bounded refused_resource (configuring.rule options) (nothing_decided place image) q.resources refl)
 requests_bounded options basis image place (requests.ListPartitionReassignments q) = refl
 requests_bounded options basis image place (requests.Metadata q) = refl

@@ -18,7 +18,7 @@ use Rattle.kr_defs.specs.Map as entries
 use Rattle.kr_defs.specs.Map.{partition_order}
 use Rattle.kr_defs.specs.Merge.{merged}
 use Rattle.kr_defs.specs.Partition.{is_leader, is_natural, is_recovery, is_well_formed}
-use Rattle.kr_defs.specs.Sizes.{uvarint_bytes, text_bytes, text_or_null_bytes, list_bytes, rows_bytes, field_bytes, field_there, tags_bytes, no_tags, number_field, number_field_or, ids_field, ids_field_or, value_bytes}
+use Rattle.kr_defs.specs.Sizes.{uvarint_bytes, text_bytes, text_or_null_bytes, list_bytes, rows_bytes, field_bytes, field_there, tags_bytes, no_tags_bytes, number_field, number_field_or, ids_field, ids_field_or, value_bytes}
 use Rattle.kr_defs.proofs.Changes.{formed_parts}
 use Rattle.kr_defs.proofs.IdLists.{all_at}
 use Rattle.kr_defs.proofs.Tests.{gives_done, gives_found, gives_refuse, not_false}
@@ -83,10 +83,10 @@ fields_few f fs few = let sum = sum_by-cons field_bytes f fs in (omega (arith, s
 -- ---- rows
 
 abbrev endpoint_bytes : Endpoint → ℕ
-endpoint_bytes e = text_bytes e.name + text_bytes e.host + 2 + 2 + no_tags
+endpoint_bytes e = text_bytes e.name + text_bytes e.host + 2 + 2 + no_tags_bytes
 
 abbrev range_bytes : Range → ℕ
-range_bytes r = text_bytes r.name + 2 + 2 + no_tags
+range_bytes r = text_bytes r.name + 2 + 2 + no_tags_bytes
 
 in_endpoint : (a b rest all : ℕ) → all ≡ a + b + 2 + 2 + 1 + rest → IsFew all → IsFew a × IsFew b × IsFew rest
 in_endpoint a b rest all is few = (omega (arith, is, few), omega (arith, is, few), omega (arith, is, few))

@@ -10,9 +10,9 @@ use Rattle.kr_batch.specs.declared.fault.BatchFault.{BatchFault}
 use Rattle.kr_batch.specs.declared.fault.BatchFault.TheVariants as faults
 use Rattle.kr_batch.specs.Answers.{IsFault}
 use Rattle.kr_batch.specs.Grammar.{IsBatch}
-use Rattle.kr_fold.specs.inner.NextBatches.{IsRead, none_for}
+use Rattle.kr_fold.specs.inner.NextBatches.{IsBatchOrNone, none_for}
 use Rattle.kr_batch.proofs.Batches.{one_value}
-use Rattle.kr_fold.specs.Logs.{Folded, nothing, followed, folded, IsLog, NoneFollows}
+use Rattle.kr_fold.specs.Logs.{Folded, nothing, folded_with, folded, IsLog, NoneFollows}
 use Rattle.kr_fold.proofs.Sizes.{batch_sized, sized_front}
 
 -- no batch begins another
@@ -28,7 +28,7 @@ pub batch_few : (batch : Batch) (bytes : List ℕ) → IsBatch batch bytes → l
 batch_few batch bytes is = is.fixed.first.second.second.second.second.few
 
 -- where decoding answers a fault there is no batch, but for want of memory
-pub none_read : (bytes : List ℕ) (fault : BatchFault) → ((batch : Batch) → IsBatch batch bytes → IsFault fault (batch_read batch)) → IfOk (none_for fault) (λ o. IsRead bytes o)
+pub none_read : (bytes : List ℕ) (fault : BatchFault) → ((batch : Batch) → IsBatch batch bytes → IsFault fault (batch_read batch)) → IfOk (none_for fault) (λ o. IsBatchOrNone bytes o)
 none_read bytes faults.NoMemory only = tt
 none_read bytes faults.Short only = λ batch is. let clash = only batch is in cc
 none_read bytes faults.Trailing only = λ batch is. let clash = only batch is in cc
@@ -45,10 +45,10 @@ then_some : (o : Option Folded) → option_and_then (λ next. folded next []) o 
 then_some None = refl
 then_some (Some log) = refl
 
-folded_more : (batches : List Batch) (batch : Batch) (log : Folded) → folded log (batches ++ batch ∷ []) ≡ option_and_then (λ next. followed next batch) (folded log batches)
-folded_more [] batch log = then_some (followed log batch)
+folded_more : (batches : List Batch) (batch : Batch) (log : Folded) → folded log (batches ++ batch ∷ []) ≡ option_and_then (λ next. folded_with next batch) (folded log batches)
+folded_more [] batch log = then_some (folded_with log batch)
 folded_more (first ∷ batches) batch log =
-    elim (followed log first) as (λ o. option_and_then (λ next. folded next (batches ++ batch ∷ [])) o ≡ option_and_then (λ next. followed next batch) (option_and_then (λ next. folded next batches) o)) [
+    elim (folded_with log first) as (λ o. option_and_then (λ next. folded next (batches ++ batch ∷ [])) o ≡ option_and_then (λ next. folded_with next batch) (option_and_then (λ next. folded next batches) o)) [
       | None ↦ refl
       | Some next ↦ folded_more batches batch next
     ]
@@ -64,10 +64,10 @@ each_more (other ∷ batches) batch front bytes first is = record {
   second = each_more batches batch first.right bytes first.second is;
 }
 
-pub log_more : (log next : Folded) (front bytes : List ℕ) (batch : Batch) → IsLog log front → IsBatch batch bytes → followed log batch ≡ Some next → IsLog next (front ++ bytes)
+pub log_more : (log next : Folded) (front bytes : List ℕ) (batch : Batch) → IsLog log front → IsBatch batch bytes → folded_with log batch ≡ Some next → IsLog next (front ++ bytes)
 log_more log next front bytes batch is spelled follows = record {
   batches = is.batches ++ batch ∷ [];
-  made = folded_more is.batches batch nothing ∙ (ap (λ o. option_and_then (λ n. followed n batch) o) is.made ∙ follows);
+  made = folded_more is.batches batch nothing ∙ (ap (λ o. option_and_then (λ n. folded_with n batch) o) is.made ∙ follows);
   spelled = each_more is.batches batch front bytes is.spelled spelled;
 }
 
@@ -86,7 +86,7 @@ middle (Some next) batches log made = (next, refl, made)
 
 -- no front of the bytes is a batch that may follow
 abbrev NoBatch : Folded → List ℕ → Type 0
-NoBatch log bytes = (front behind : List ℕ) (batch : Batch) (next : Folded) → bytes ≡ front ++ behind → IsBatch batch front → followed log batch ≡ Some next → ⊥
+NoBatch log bytes = (front behind : List ℕ) (batch : Batch) (next : Folded) → bytes ≡ front ++ behind → IsBatch batch front → folded_with log batch ≡ Some next → ⊥
 
 -- the batches that the one reading has beyond the other, with their bytes
 record Beyond (f g : Folded) (x y : List ℕ) : Type 0 where
@@ -109,24 +109,24 @@ agree log f g [] ds a b x y first second made other same none = record {
   rest = sym (ap (λ (l : List ℕ). l ++ x) first) ∙ same;
 }
 agree log f g (e ∷ es) [] a b x y first second made other same none =
-    let m = middle (followed log e) es f made in
+    let m = middle (folded_with log e) es f made in
     let whole : b ++ y ≡ y = ap (λ (l : List ℕ). l ++ y) second in
-    let stands : followed g e ≡ Some m.0 = subst (λ (l : Folded). followed l e ≡ Some m.0) (some_value log g other) m.1 in
+    let stands : folded_with g e ≡ Some m.0 = subst (λ (l : Folded). folded_with l e ≡ Some m.0) (some_value log g other) m.1 in
     absurd (none first.left (first.right ++ x) e m.0 (sym (behind_first a first.left first.right x y first.is (same ∙ whole))) first.first stands)
 agree log f g (e ∷ es) (d ∷ ds) a b x y first second made other same none =
-    let m = middle (followed log e) es f made in
-    let n = middle (followed log d) ds g other in
+    let m = middle (folded_with log e) es f made in
+    let n = middle (folded_with log d) ds g other in
     let front : first.left ++ (first.right ++ x) ≡ second.left ++ (second.right ++ y) =
     behind_first a first.left first.right x _ first.is (same ∙ (ap (λ (l : List ℕ). l ++ y) second.is ∙ append_assoc second.left second.right y)) in
     let p = apart e d first.left second.left (first.right ++ x) (second.right ++ y) first.first second.first front in
-    let one : m.0 ≡ n.0 = some_value m.0 n.0 (sym m.1 ∙ (ap (λ (c : Batch). followed log c) p.0 ∙ n.1)) in
+    let one : m.0 ≡ n.0 = some_value m.0 n.0 (sym m.1 ∙ (ap (λ (c : Batch). folded_with log c) p.0 ∙ n.1)) in
     agree m.0 f g es ds first.right second.right x y first.second second.second m.2 (subst (λ (l : Folded). folded l ds ≡ Some g) (sym one) n.2) p.1 none
 
 -- nothing more was read where no batch follows
 nothing_beyond : (f g : Folded) (more : List Batch) (tail x y : List ℕ) → folded f more ≡ Some g → Each IsBatch more tail → x ≡ tail ++ y → NoBatch f x → x ≡ y
 nothing_beyond f g [] tail x y made spelled same none = same ∙ ap (λ (l : List ℕ). l ++ y) spelled
 nothing_beyond f g (e ∷ more) tail x y made spelled same none =
-    let m = middle (followed f e) more g made in
+    let m = middle (folded_with f e) more g made in
     absurd (none spelled.left (spelled.right ++ y) e m.0 (sym (behind_first tail spelled.left spelled.right y x spelled.is (sym same))) spelled.first m.1)
 
 -- the place at which no batch follows is one

@@ -9,7 +9,7 @@ use Rattle.kr_wire.proofs.Laws.{bind_ok, is_ok}
 use Rattle.kr_batch.specs.declared.fault.BatchFault.{BatchFault}
 use Rattle.kr_snapshot.specs.declared.fault.ImageFault.{ImageFault}
 use Rattle.kr_snapshot.specs.declared.fault.BatchCause.TheVariants as causes
-use Rattle.kr_snapshot.specs.Reading.{Progress, Taken, bad_batch, begun, headed, numbers_at, refused, whole_read, waits, nothing_taken, head_taken, extent, is_no_size, size_at, batch_taken, judged, goes_on, so_far, with_piece, ends, image_of}
+use Rattle.kr_snapshot.specs.Reading.{Progress, Taken, batch_fault_behind, nothing_found, headed, numbers_at, batch_refused, whole_read, waits, nothing_taken, head_taken, extent, is_no_size, size_at, batch_taken, judged, goes_on, so_far, with_piece, ends, image_of}
 use Rattle.kr_snapshot.specs.ReaderState.{IsUnfinished, StandsFor, Waits}
 use Rattle.kr_snapshot.proofs.Faults.{is_fault}
 use Rattle.kr_snapshot.proofs.BatchPieces.{start_is, size_front, size_bad, batch_waits, head_waits, start_waits, goes_on_append, fills, waits_on}
@@ -154,13 +154,13 @@ breaks_cut front rest has cut some =
     }
 
 -- a size that no batch has
-no_size_read : (b : ℤ × Progress) (head : List ℕ) (fault : BatchFault) → length head ≡ 12 → size_at head ≡ Err fault → judged (Some b) head ≡ Err (bad_batch b.1.found (causes.Refused fault))
+no_size_read : (b : ℤ × Progress) (head : List ℕ) (fault : BatchFault) → length head ≡ 12 → size_at head ≡ Err fault → judged (Some b) head ≡ Err (batch_fault_behind b.1.found (causes.Refused fault))
 unfolding batch_taken
 no_size_read b head fault twelve told =
     let there : nat_lt (length head) 12 ≡ false = le-ltb (length head) 12 (omega (arith, twelve)) in
     rw (there, told) refl
 
-no_size_faulty : (front more : List ℕ) (fault : BatchFault) (has : HasBegun front) → 12 ≤ length more → size_at more ≡ Err fault → so_far (front ++ more) ≡ Err (bad_batch has.body.1.found (causes.Refused fault))
+no_size_faulty : (front more : List ℕ) (fault : BatchFault) (has : HasBegun front) → 12 ≤ length more → size_at more ≡ Err fault → so_far (front ++ more) ≡ Err (batch_fault_behind has.body.1.found (causes.Refused fault))
 no_size_faulty front more fault has there told =
     let p = parted more there in
     let of_head : size_at p.head ≡ Err fault = sym (head_size more p) ∙ told in
@@ -182,7 +182,7 @@ breaks_size front rest fault has there told =
             let clash = sym (no_size_faulty front more fault has long (sym (size_same more behind long) ∙ (ap size_at (sym parts) ∙ told))) ∙ other.read in
             cc
       ];
-      fault = bad_batch has.body.1.found (causes.Refused fault);
+      fault = batch_fault_behind has.body.1.found (causes.Refused fault);
       none = ap image_of (sym (append-nil (front ++ rest))) ∙ faults_stay (front ++ rest) [] _ read;
     }
 
@@ -241,7 +241,7 @@ breaks_short bytes few = record {
   last = λ more behind parts some other.
       let long = ap (λ (l : List ℕ). length l) parts ∙ length-append more behind in
       not_begun_few more (omega (arith, few, long)) other;
-  fault = bad_batch 0 causes.Head;
+  fault = batch_fault_behind 0 causes.Head;
   none = end_is (stage None bytes) bytes (few_read bytes few);
 }
 
@@ -270,9 +270,9 @@ begun_head head t sixteen read =
     let filled : so_far head ≡ head_taken head = fills None [] head 16 (head_waits []) (omega (arith, sixteen)) (omega (arith, sixteen)) in
     let there : nat_lt (length head) 16 ≡ false = le-ltb (length head) 16 (omega (arith, sixteen)) in
     let taken : head_taken head ≡ Ok t = sym filled ∙ read in
-    let numbers : (headed (numbers_at head) >>= λ h. waits (Some (h.0.0, begun h.0.1)) []) ≡ Ok t = rw there at taken in
-    let b = bind_ok (headed (numbers_at head)) (λ h. waits (Some (h.0.0, begun h.0.1)) []) t numbers in
-    record { body = (b.0.0.0, begun b.0.0.1); read = read ∙ sym b.2 }
+    let numbers : (headed (numbers_at head) >>= λ h. waits (Some (h.0.0, nothing_found h.0.1)) []) ≡ Ok t = rw there at taken in
+    let b = bind_ok (headed (numbers_at head)) (λ h. waits (Some (h.0.0, nothing_found h.0.1)) []) t numbers in
+    record { body = (b.0.0.0, nothing_found b.0.0.1); read = read ∙ sym b.2 }
 
 whole_taken : (b : ℤ × Progress) (held : List ℕ) (size : ℕ) (t : Taken) → 12 ≤ length held → size_at held ≡ Ok size → length held ≡ extent size → judged (Some b) held ≡ Ok t
     → (body : ℤ × Progress) × (waits (Some body) [] ≡ Ok t)

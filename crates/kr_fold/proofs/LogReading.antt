@@ -13,7 +13,7 @@ use Rattle.kr_snapshot.specs.ReaderState.{IsUnfinished}
 use Rattle.kr_fold.specs.declared.fault.ToolFault.{ToolFault}
 use Rattle.kr_fold.specs.declared.fault.ToolFault.TheVariants as faults
 use Rattle.kr_fold.specs.SourceBytes.{longest, HasNone, IsLongest, IsNext, IsNoBatch, no_size, cut_off, IsSized, Took}
-use Rattle.kr_fold.specs.Logs.{Folded, followed, IsLog, NoneFollows}
+use Rattle.kr_fold.specs.Logs.{Folded, folded_with, IsLog, NoneFollows}
 use Rattle.kr_fold.specs.Endings.{ReadsLog, EndsLog, BreaksLog, LongLog, IsLogFault}
 use Rattle.kr_defs.specs.Image.{Image, empty}
 use Rattle.kr_store.specs.Images.{Images, last_kept, marked, no_images}
@@ -52,7 +52,7 @@ no_batch_none log bytes l b is (cut_off some cut end) =
       none = λ front behind batch next parts spelled follows. cut_none bytes front behind cut (batch_sized batch front spelled) (sym none ∙ parts);
     }
 
-refused_none : (log : Folded) (bytes l : List ℕ) → IsSized bytes → ((batch : Batch) (next : Folded) → IsBatch batch bytes → followed log batch ≡ Some next → ⊥) → NoneFollows log (bytes ++ l)
+refused_none : (log : Folded) (bytes l : List ℕ) → IsSized bytes → ((batch : Batch) (next : Folded) → IsBatch batch bytes → folded_with log batch ≡ Some next → ⊥) → NoneFollows log (bytes ++ l)
 refused_none log bytes l sized refused = record {
   some = let e = length-append bytes l in let w = sized.whole in omega (arith, e, w);
   none = λ front behind batch next parts spelled follows.
@@ -72,7 +72,7 @@ module _ (left mid left' : Option (List ℕ)) (log : Folded) (at : ℕ) (reads :
     short = let p = reads.place in omega (arith, p, short);
   }
 
-  pub reads_more : (next : Folded) (bytes : List ℕ) (batch : Batch) → Consumes mid left' bytes → IsBatch batch bytes → followed log batch ≡ Some next → ReadsLog left left' next (at + length bytes)
+  pub reads_more : (next : Folded) (bytes : List ℕ) (batch : Batch) → Consumes mid left' bytes → IsBatch batch bytes → folded_with log batch ≡ Some next → ReadsLog left left' next (at + length bytes)
   reads_more next bytes batch took spelled follows = record {
     taken = reads.taken ++ bytes;
     is = log_more log next reads.taken bytes batch reads.is spelled follows;
@@ -93,7 +93,7 @@ module _ (left mid left' : Option (List ℕ)) (log : Folded) (at : ℕ) (reads :
         none = behind_all left left' reads.taken bytes (NoneFollows log) all none;
       }
 
-  pub reads_refused : (bytes : List ℕ) → Consumes mid left' bytes → IsSized bytes → ((batch : Batch) (next : Folded) → IsBatch batch bytes → followed log batch ≡ Some next → ⊥) → BreaksLog left left' at
+  pub reads_refused : (bytes : List ℕ) → Consumes mid left' bytes → IsSized bytes → ((batch : Batch) (next : Folded) → IsBatch batch bytes → folded_with log batch ≡ Some next → ⊥) → BreaksLog left left' at
   reads_refused bytes took sized refused = breaks bytes took (λ l is. refused_none log bytes l sized refused)
 
   pub reads_none : (count count' : ℕ) (fault : ToolFault) → HasNone mid left' count count' at fault → IsLogFault left left' fault
@@ -116,9 +116,9 @@ module _ (left mid left' : Option (List ℕ)) (log : Folded) (at : ℕ) (reads :
 -- ---- behind a batch that was read
 
 -- the one batch that the bytes are doesn't follow
-pub one_refused : (log : Folded) (read : Batch) (bytes : List ℕ) → IsBatch read bytes → followed log read ≡ None → (batch : Batch) (next : Folded) → IsBatch batch bytes → followed log batch ≡ Some next → ⊥
+pub one_refused : (log : Folded) (read : Batch) (bytes : List ℕ) → IsBatch read bytes → folded_with log read ≡ None → (batch : Batch) (next : Folded) → IsBatch batch bytes → folded_with log batch ≡ Some next → ⊥
 one_refused log read bytes is none batch next other follows =
-    let clash = sym none ∙ (ap (λ (b : Batch). followed log b) (one_value bytes read batch is other) ∙ follows) in cc
+    let clash = sym none ∙ (ap (λ (b : Batch). folded_with log b) (one_value bytes read batch is other) ∙ follows) in cc
 
 pub reads_beyond : (left mid left' : Option (List ℕ)) (place next : Place) (before after : Image) (bytes : List ℕ) (batch : Batch) (tip : ℤ) (len : ℕ)
     → ReadsLog left mid (log_at place before) place.at → Consumes mid left' bytes → IsBatch batch bytes → IsFollowed place.tip before after batch (Some tip)

@@ -6,7 +6,7 @@ use Rattle.kr_batch.specs.declared.fault.BatchFault.{BatchFault}
 use Rattle.kr_snapshot.specs.declared.fault.ImageFault.{ImageFault}
 use Rattle.kr_snapshot.specs.declared.fault.ImageFault.TheVariants as images
 use Rattle.kr_snapshot.specs.Reading.{Taken, extent, size_at, so_far, image_of}
-use Rattle.kr_snapshot.specs.ReaderState.{IsFault, StandsFor, answer_of}
+use Rattle.kr_snapshot.specs.ReaderState.{IsFault, StandsFor, feed_answer}
 use Rattle.kr_fold.specs.declared.fault.ToolFault.{ToolFault}
 use Rattle.kr_fold.specs.declared.fault.ToolFault.TheVariants as faults
 use Rattle.kr_fold.specs.SourceBytes.{IsNoBatch, no_size, cut_off, IsSized}
@@ -38,11 +38,11 @@ sized_take bytes size len told is within =
 
 -- ---- what a reader answers
 
-answer_ok : (s t : Result Taken ImageFault) → s ≡ t → Ok tt ≡ answer_of s → (taken : Taken) × (s ≡ Ok taken)
+answer_ok : (s t : Result Taken ImageFault) → s ≡ t → Ok tt ≡ feed_answer s → (taken : Taken) × (s ≡ Ok taken)
 answer_ok (Ok taken) t same answer = (taken, refl)
 answer_ok (Err fault) t same answer = absurd cc
 
-answer_fault : (s : Result Taken ImageFault) (fault : ImageFault) (bytes : List ℕ) → Err fault ≡ answer_of s → StandsFor s bytes → IsFault fault (so_far bytes)
+answer_fault : (s : Result Taken ImageFault) (fault : ImageFault) (bytes : List ℕ) → Err fault ≡ feed_answer s → StandsFor s bytes → IsFault fault (so_far bytes)
 answer_fault (Ok taken) fault bytes answer stands = absurd cc
 answer_fault (Err other) fault bytes answer stands =
     let same : other ≡ fault = cc in
@@ -59,13 +59,13 @@ of_fault (images.IllFormed place cause) read reader at is = (refl, _, is)
 of_fault images.NoMemory read reader at is = tt
 
 module _ (fed part : List ℕ) (before after : Result Taken ImageFault) (at : ℕ) (stands : (f : List ℕ) → StandsFor before f → StandsFor after (f ++ part)) (so : StandsFor before fed) where
-  pub fed_ok : Ok tt ≡ answer_of after → IsFed (so_far (fed ++ part)) after at (Ok tt)
+  pub fed_ok : Ok tt ≡ feed_answer after → IsFed (so_far (fed ++ part)) after at (Ok tt)
   fed_ok answer =
       let t = answer_ok after after refl answer in
       let read = answer_taken after t.0 (fed ++ part) t.1 (stands fed so) in
       (read ∙ sym t.1, t.0, read)
 
-  pub fed_fault : (fault : ImageFault) → Err fault ≡ answer_of after → IsFed (so_far (fed ++ part)) after at (Err (fault_as fault at))
+  pub fed_fault : (fault : ImageFault) → Err fault ≡ feed_answer after → IsFed (so_far (fed ++ part)) after at (Err (fault_as fault at))
   fed_fault fault answer = of_fault fault (so_far (fed ++ part)) after at (answer_fault after fault (fed ++ part) answer (stands fed so))
 
 -- ---- parts

@@ -23,13 +23,13 @@ with_image tip (Ok image) = Some (record { tip = tip; image = image })
 with_image tip (Err cause) = None
 
 -- with a batch more: it stands where the log ends, and all its items have a meaning
-abbrev pub followed : Folded → Batch → Option Folded
-followed log batch =
+abbrev pub folded_with : Folded → Batch → Option Folded
+folded_with log batch =
     if int_eq batch.base log.tip then with_image (log.tip +ℤ pos (length batch.items)) (apply_all log.image batch.items) else None
 
 abbrev pub folded : Folded → List Batch → Option Folded
 folded log [] = Some log
-folded log (batch ∷ batches) = option_and_then (λ next. folded next batches) (followed log batch)
+folded log (batch ∷ batches) = option_and_then (λ next. folded next batches) (folded_with log batch)
 
 -- the bytes are batches, one after the other, which make this log
 pub record IsLog (log : Folded) (bytes : List ℕ) : Type 0 where
@@ -40,4 +40,4 @@ pub record IsLog (log : Folded) (bytes : List ℕ) : Type 0 where
 -- there are bytes, and no front of them is a batch that may follow
 pub record NoneFollows (log : Folded) (bytes : List ℕ) : Type 0 where
   pub some : 0 < length bytes
-  pub none : (front behind : List ℕ) (batch : Batch) (next : Folded) → bytes ≡ front ++ behind → IsBatch batch front → followed log batch ≡ Some next → ⊥
+  pub none : (front behind : List ℕ) (batch : Batch) (next : Folded) → bytes ≡ front ++ behind → IsBatch batch front → folded_with log batch ≡ Some next → ⊥

@@ -7,7 +7,7 @@ ghost use Rattle.kr_base.specs.Causes.{Rose};
 ghost use Rattle.kr_store.specs.Images.{last_kept};
 ghost use Rattle.kr_fold.specs.Endings.{EndsLog, IsLogFault, ReadsLog};
 ghost use Rattle.kr_fold.specs.inner.NextBatches as followed;
-ghost use Rattle.kr_fold.specs.inner.NextBatches.{AreApplied, IsApplied, IsFollowed, IsRead, IsReadTo, IsWithin, log_at};
+ghost use Rattle.kr_fold.specs.inner.NextBatches.{AreApplied, IsItemApplied, IsFollowed, IsBatchOrNone, IsReadTo, IsWithin, log_at};
 ghost use Rattle.kr_fold.specs.SourceBytes.{longest};
 
 use crate::batch::read_batch;
@@ -28,7 +28,7 @@ fn apply_one<S: Store, L: Ledger>(
     steps: &mut Steps<L>,
 ) -> Result<Option<Ill>, NoMemory>
     requires kept { IsSome (last_kept (S.images store.old)) }
-    ensures applied { IfOk result (λ ill. IsApplied (S.images store.old).tip (S.images store.new).tip item.now ill) }
+    ensures applied { IfOk result (λ ill. IsItemApplied (S.images store.old).tip (S.images store.new).tip item.now ill) }
     ensures kept { (S.images store.new).kept ≡ (S.images store.old).kept }
 {
     match store.apply(*place, item, steps) {
@@ -64,7 +64,7 @@ fn apply_items<S: Store, L: Ledger>(
 // The batch that all of the bytes stand for, if they stand for one.
 #[tactic(auto, using(crate::proofs::Batches::batch_few, crate::proofs::Batches::none_read))]
 fn batch_of(alloc: Global, bytes: &[u8]) -> Result<Option<Batch>, NoMemory>
-    ensures { IfOk result (λ batch. IsRead bytes.now batch) }
+    ensures { IfOk result (λ batch. IsBatchOrNone bytes.now batch) }
 {
     match decode(alloc, bytes) {
         Ok(batch) => Ok(Some(batch)),

@@ -6,7 +6,7 @@ ghost use Rattle.std.specs.Ordering.{int_cmp};
 ghost use Rattle.kr_defs.specs.Image.{IsValid, topic_name};
 ghost use Rattle.kr_defs.specs.Map as entries;
 ghost use Rattle.kr_defs.specs.Map.{config_order, partition_order, text_order};
-ghost use Rattle.kr_store.specs.Images.{image_at, topic_of};
+ghost use Rattle.kr_store.specs.Images.{image_of_place, topic_of};
 ghost use Rattle.kr_store.specs.Reads.{seen_at};
 
 use kr_base::NoEpoch;
@@ -16,7 +16,7 @@ use kr_store::{At, Store};
 
 /// NoEpoch exactly where the place is an epoch that isn't kept.
 pub fn look<S: Store>(store: &S, at: At) -> Result<(), NoEpoch>
-    ensures { MatchOption (image_at (S.images store.now) at) (IsErr result) (λ image. IsOk result) }
+    ensures { MatchOption (image_of_place (S.images store.now) at) (IsErr result) (λ image. IsOk result) }
 {
     store.next_broker(at, None)?;
     Ok(())

@@ -16,7 +16,7 @@ use Rattle.kr_defs.specs.Map.{IsMap}
 use Rattle.kr_store.specs.Images.{last_image}
 use Rattle.kr_image.specs.declared.kept_counts.KeptCounts.{KeptCounts}
 use Rattle.kr_image.specs.declared.timelines.Timelines.{Timelines}
-use Rattle.kr_image.specs.Timelines.{Keeps, keeps, kept_in, image_in, tip_of}
+use Rattle.kr_image.specs.Timelines.{Keeps, keeps_of, kept_in, image_in, present_image}
 use Rattle.kr_image.specs.KeptImages.{images_in, images_of, HaveEpochs, IsKept, IsStore, Reverts, AreAbove, AreKept}
 use Rattle.kr_image.proofs.KeptLists.{apart_before, find_last, find_map, map_push, all_weaker, all_push, all_map, all_mapped}
 use Rattle.kr_image.proofs.Stores.{reverted_store}
@@ -107,22 +107,22 @@ module _ (kept : Keeps) (list : List KeptCounts) (k : KeptCounts) (rising : IsMa
 
 -- ---- back to the last epoch
 
-module _ (t after : Timelines) (list : List KeptCounts) (k : KeptCounts) (is_last : last list ≡ Some k) (is : IsKept (keeps t) list) (reverts : Reverts t after k.epoch) (counts : after.counts ≡ k.counts) where
-  pub back_keeps : keeps after ≡ keeps t
+module _ (t after : Timelines) (list : List KeptCounts) (k : KeptCounts) (is_last : last list ≡ Some k) (is : IsKept (keeps_of t) list) (reverts : Reverts t after k.epoch) (counts : after.counts ≡ k.counts) where
+  pub back_keeps : keeps_of after ≡ keeps_of t
   back_keeps =
-      let brokers : after.brokers.maps.kept ≡ t.brokers.maps.kept = reverts.brokers ∙ maps_left (keeps t) list k is.rising is_last t.brokers.maps.kept is.epochs.brokers in
-      let names : after.names.maps.kept ≡ t.names.maps.kept = reverts.names ∙ maps_left (keeps t) list k is.rising is_last t.names.maps.kept is.epochs.names in
-      let topics : after.topics.maps.kept ≡ t.topics.maps.kept = reverts.topics ∙ maps_left (keeps t) list k is.rising is_last t.topics.maps.kept is.epochs.topics in
-      let partitions : after.partitions.maps.kept ≡ t.partitions.maps.kept = reverts.partitions ∙ maps_left (keeps t) list k is.rising is_last t.partitions.maps.kept is.epochs.partitions in
-      let configs : after.configs.maps.kept ≡ t.configs.maps.kept = reverts.configs ∙ maps_left (keeps t) list k is.rising is_last t.configs.maps.kept is.epochs.configs in
-      let features : after.features.maps.kept ≡ t.features.maps.kept = reverts.features ∙ maps_left (keeps t) list k is.rising is_last t.features.maps.kept is.epochs.features in
+      let brokers : after.brokers.maps.kept ≡ t.brokers.maps.kept = reverts.brokers ∙ maps_left (keeps_of t) list k is.rising is_last t.brokers.maps.kept is.epochs.brokers in
+      let names : after.names.maps.kept ≡ t.names.maps.kept = reverts.names ∙ maps_left (keeps_of t) list k is.rising is_last t.names.maps.kept is.epochs.names in
+      let topics : after.topics.maps.kept ≡ t.topics.maps.kept = reverts.topics ∙ maps_left (keeps_of t) list k is.rising is_last t.topics.maps.kept is.epochs.topics in
+      let partitions : after.partitions.maps.kept ≡ t.partitions.maps.kept = reverts.partitions ∙ maps_left (keeps_of t) list k is.rising is_last t.partitions.maps.kept is.epochs.partitions in
+      let configs : after.configs.maps.kept ≡ t.configs.maps.kept = reverts.configs ∙ maps_left (keeps_of t) list k is.rising is_last t.configs.maps.kept is.epochs.configs in
+      let features : after.features.maps.kept ≡ t.features.maps.kept = reverts.features ∙ maps_left (keeps_of t) list k is.rising is_last t.features.maps.kept is.epochs.features in
       cc
 
   pub back_store : IsStore after list
-  back_store = subst (IsStore after) (all_left (keeps t) list k is.rising is_last) (reverted_store t after k.epoch reverts list k (last_found (keeps t) list k is.rising is_last) counts is)
+  back_store = subst (IsStore after) (all_left (keeps_of t) list k is.rising is_last) (reverted_store t after k.epoch reverts list k (last_found (keeps_of t) list k is.rising is_last) counts is)
 
-  pub back_image : last_image (images_of t list) ≡ Some (tip_of after)
-  back_image = ap (option_map (λ (e : ℤ × Image). e.1)) (last_map (λ (x : KeptCounts). (x.epoch, image_in (keeps t) x.epoch)) list ∙ ap (option_map (λ (x : KeptCounts). (x.epoch, image_in (keeps t) x.epoch))) is_last) ∙ ap (λ (i : Image). Some i) (sym reverts.tip)
+  pub back_image : last_image (images_of t list) ≡ Some (present_image after)
+  back_image = ap (option_map (λ (e : ℤ × Image). e.1)) (last_map (λ (x : KeptCounts). (x.epoch, image_in (keeps_of t) x.epoch)) list ∙ ap (option_map (λ (x : KeptCounts). (x.epoch, image_in (keeps_of t) x.epoch))) is_last) ∙ ap (λ (i : Image). Some i) (sym reverts.tip)
 
 -- ---- what the timelines need for a mark and a revert
 

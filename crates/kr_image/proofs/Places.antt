@@ -16,7 +16,7 @@ use Rattle.kr_store.specs.declared.places.At.{At}
 use Rattle.kr_store.specs.declared.places.At.TheVariants as places
 use Rattle.kr_image.specs.declared.kept_counts.KeptCounts.{KeptCounts}
 use Rattle.kr_image.specs.declared.timelines.Timelines.{Timelines}
-use Rattle.kr_image.specs.Timelines.{Keeps, keeps, kept_in, map_in, image_in, IsIndex}
+use Rattle.kr_image.specs.Timelines.{Keeps, keeps_of, kept_in, map_in, image_in, IsIndex}
 use Rattle.kr_image.specs.KeptImages.{images_in, images_of, IsRight, IsStore}
 use Rattle.kr_image.specs.inner.TimelineMaps.{entries_at}
 use Rattle.kr_defs.proofs.Tests.{some_is}
@@ -48,23 +48,23 @@ module _ {K V : Type 0} where
 module _ (t : Timelines) (list : List KeptCounts) (is : IsStore t list) where
   brokers_there : (place : At) → entries_at t.brokers.maps place ≡ brokers_at (images_of t list) place
   brokers_there places.Tip = refl
-  brokers_there (places.Epoch epoch) = kept_there (λ (i : Image). i.brokers) (keeps t) t.brokers.maps.kept list is.kept.epochs.brokers (λ x. refl) epoch
+  brokers_there (places.Epoch epoch) = kept_there (λ (i : Image). i.brokers) (keeps_of t) t.brokers.maps.kept list is.kept.epochs.brokers (λ x. refl) epoch
 
   names_there : (place : At) → entries_at t.names.maps place ≡ topics_at (images_of t list) place
   names_there places.Tip = refl
-  names_there (places.Epoch epoch) = kept_there (λ (i : Image). i.topics) (keeps t) t.names.maps.kept list is.kept.epochs.names (λ x. refl) epoch
+  names_there (places.Epoch epoch) = kept_there (λ (i : Image). i.topics) (keeps_of t) t.names.maps.kept list is.kept.epochs.names (λ x. refl) epoch
 
   partitions_there : (place : At) → entries_at t.partitions.maps place ≡ partitions_at (images_of t list) place
   partitions_there places.Tip = refl
-  partitions_there (places.Epoch epoch) = kept_there (λ (i : Image). i.partitions) (keeps t) t.partitions.maps.kept list is.kept.epochs.partitions (λ x. refl) epoch
+  partitions_there (places.Epoch epoch) = kept_there (λ (i : Image). i.partitions) (keeps_of t) t.partitions.maps.kept list is.kept.epochs.partitions (λ x. refl) epoch
 
   configs_there : (place : At) → entries_at t.configs.maps place ≡ configs_at (images_of t list) place
   configs_there places.Tip = refl
-  configs_there (places.Epoch epoch) = kept_there (λ (i : Image). i.configs) (keeps t) t.configs.maps.kept list is.kept.epochs.configs (λ x. refl) epoch
+  configs_there (places.Epoch epoch) = kept_there (λ (i : Image). i.configs) (keeps_of t) t.configs.maps.kept list is.kept.epochs.configs (λ x. refl) epoch
 
   features_there : (place : At) → entries_at t.features.maps place ≡ features_at (images_of t list) place
   features_there places.Tip = refl
-  features_there (places.Epoch epoch) = kept_there (λ (i : Image). i.features) (keeps t) t.features.maps.kept list is.kept.epochs.features (λ x. refl) epoch
+  features_there (places.Epoch epoch) = kept_there (λ (i : Image). i.features) (keeps_of t) t.features.maps.kept list is.kept.epochs.features (λ x. refl) epoch
 
 -- ---- what a contract sees
 
@@ -99,14 +99,14 @@ index_there t list is (places.Epoch epoch) =
     let by_id : kept_in t.topics.maps.kept epoch ≡ option_map (λ (k : KeptCounts). map_in t.topics.maps.kept epoch) (find (λ (k : KeptCounts). int_eq k.epoch epoch) list) =
     alike_cases (find (λ (k : KeptMap ℕ Topic). int_eq k.epoch epoch) t.topics.maps.kept) (find (λ (k : KeptCounts). int_eq k.epoch epoch) list) (map_in t.topics.maps.kept epoch)
     (alike t.topics.maps.kept list is.kept.epochs.topics epoch) refl in
-    let by_name = image_there (λ (i : Image). i.topics) (keeps t) list epoch in
+    let by_name = image_there (λ (i : Image). i.topics) (keeps_of t) list epoch in
     subst (λ (o : Option (List (ℕ × Topic))). Indexed (topics_at (images_of t list) (places.Epoch epoch)) o) (sym by_id)
     (subst (λ (o : Option (List (List ℕ × ℕ))). Indexed o (option_map (λ (k : KeptCounts). map_in t.topics.maps.kept epoch) (find (λ (k : KeptCounts). int_eq k.epoch epoch) list))) (sym by_name)
     (elim (find (λ (k : KeptCounts). int_eq k.epoch epoch) list) as (λ o. find (λ (k : KeptCounts). int_eq k.epoch epoch) list ≡ o → Indexed (option_map (λ (k : KeptCounts). map_in t.names.maps.kept epoch) o) (option_map (λ (k : KeptCounts). map_in t.topics.maps.kept epoch) o)) [
       | None ↦ λ none. tt
       | Some k ↦ λ found.
-          let right : IsRight (keeps t) k = found_has (IsRight (keeps t)) (λ (k : KeptCounts). int_eq k.epoch epoch) list k (recursion_from_All (IsRight (keeps t)) list is.kept.right) found in
-          let valid : IsValid (image_in (keeps t) k.epoch) = found_has (λ (k : KeptCounts). IsValid (image_in (keeps t) k.epoch)) (λ (k : KeptCounts). int_eq k.epoch epoch) list k (all_map (λ (k : KeptCounts). (k.epoch, image_in (keeps t) k.epoch)) (λ (e : ℤ × Image). IsValid e.1) list (recursion_from_All (λ (e : ℤ × Image). IsValid e.1) (images_in (keeps t) list) is.kept.valid)) found in
+          let right : IsRight (keeps_of t) k = found_has (IsRight (keeps_of t)) (λ (k : KeptCounts). int_eq k.epoch epoch) list k (recursion_from_All (IsRight (keeps_of t)) list is.kept.right) found in
+          let valid : IsValid (image_in (keeps_of t) k.epoch) = found_has (λ (k : KeptCounts). IsValid (image_in (keeps_of t) k.epoch)) (λ (k : KeptCounts). int_eq k.epoch epoch) list k (all_map (λ (k : KeptCounts). (k.epoch, image_in (keeps_of t) k.epoch)) (λ (e : ℤ × Image). IsValid e.1) list (recursion_from_All (λ (e : ℤ × Image). IsValid e.1) (images_in (keeps_of t) list) is.kept.valid)) found in
           let same : k.epoch ≡ epoch = (Decides-int_eq k.epoch epoch).0 (found_passes (λ (k : KeptCounts). int_eq k.epoch epoch) list k found) in
           subst (λ (x : ℤ). IsIndex (map_in t.names.maps.kept x) (map_in t.topics.maps.kept x) × (are_distinct (values_of (map_in t.names.maps.kept x)) ≡ true)) same (right.index, valid.topics.distinct)
     ] refl))

@@ -20,7 +20,7 @@ use Rattle.kr_store.specs.Images.{Images, AreValid, IsAbove, counts_of, marked, 
 use Rattle.kr_store.specs.declared.places.Counts.{Counts}
 use Rattle.kr_image.specs.declared.kept_counts.KeptCounts.{KeptCounts}
 use Rattle.kr_image.specs.declared.timelines.Timelines.{Timelines}
-use Rattle.kr_image.specs.Timelines.{Keeps, keeps, no_keeps, map_in, image_in, tip_of, made_of, IsIndex, Agrees}
+use Rattle.kr_image.specs.Timelines.{Keeps, keeps_of, no_keeps, map_in, image_in, present_image, made_of, IsIndex, Agrees}
 use Rattle.kr_image.specs.KeptImages.{images_in, images_of, HaveEpochs, IsKept, IsRight, IsStore, Same, Marks, Reverts, Forgets}
 use Rattle.kr_image.proofs.KeptLists.{find_map, filter_map_is, map_push, map_same, all_weaker, all_push, all_map, all_mapped, all_passing, in_more, in_last, in_left, in_unmade, epochs_unmade, rising_push}
 
@@ -33,29 +33,29 @@ same_images kept kept' tip tip' made made' a b c = rw (a, b, c) refl
 -- ---- the present image alone
 
 -- where the present image, its counts and the topics by id are as before, or as they stood at an epoch
-agrees_again : (t : Timelines) (image : Image) (topics : List (ℕ × Topic)) → tip_of t ≡ image → t.topics.maps.present ≡ topics → t.counts ≡ counts_of image → IsIndex image.topics topics → Agrees t
+agrees_again : (t : Timelines) (image : Image) (topics : List (ℕ × Topic)) → present_image t ≡ image → t.topics.maps.present ≡ topics → t.counts ≡ counts_of image → IsIndex image.topics topics → Agrees t
 agrees_again t image topics tip by_id counts index = record {
   counts = counts ∙ ap counts_of (sym tip);
   index = subst (λ (i : Image). IsIndex i.topics t.topics.maps.present) (sym tip) (subst (λ (ts : List (ℕ × Topic)). IsIndex image.topics ts) (sym by_id) index);
 }
 
 -- the kept epochs are the same
-pub same_kept : (t after : Timelines) (kept : List KeptCounts) → keeps after ≡ keeps t → IsKept (keeps t) kept → IsKept (keeps after) kept
+pub same_kept : (t after : Timelines) (kept : List KeptCounts) → keeps_of after ≡ keeps_of t → IsKept (keeps_of t) kept → IsKept (keeps_of after) kept
 same_kept t after kept same is = subst (λ (k : Keeps). IsKept k kept) (sym same) is
 
-pub same_list : (t after : Timelines) (kept : List KeptCounts) → keeps after ≡ keeps t → images_in (keeps after) kept ≡ images_in (keeps t) kept
+pub same_list : (t after : Timelines) (kept : List KeptCounts) → keeps_of after ≡ keeps_of t → images_in (keeps_of after) kept ≡ images_in (keeps_of t) kept
 same_list t after kept same = ap (λ (k : Keeps). images_in k kept) same
 
 -- nothing has changed
 pub same_store : (t after : Timelines) (kept : List KeptCounts) → Same t after → IsStore t kept → IsStore after kept
 same_store t after kept same is = record {
   kept = same_kept t after kept same.kept is.kept;
-  present = agrees_again after (tip_of t) t.topics.maps.present same.tip same.by_id (same.counts ∙ is.present.counts) is.present.index;
+  present = agrees_again after (present_image t) t.topics.maps.present same.tip same.by_id (same.counts ∙ is.present.counts) is.present.index;
   valid = subst IsValid (sym same.tip) is.valid;
 }
 
 pub same_images_of : (t after : Timelines) (kept : List KeptCounts) → Same t after → images_of after kept ≡ images_of t kept
-same_images_of t after kept same = same_images (images_in (keeps after) kept) (images_in (keeps t) kept) (tip_of after) (tip_of t) (made_of after) (made_of t) (same_list t after kept same.kept) same.tip same.made
+same_images_of t after kept same = same_images (images_in (keeps_of after) kept) (images_in (keeps_of t) kept) (present_image after) (present_image t) (made_of after) (made_of t) (same_list t after kept same.kept) same.tip same.made
 
 pub are_valid : (t : Timelines) (kept : List KeptCounts) → IsStore t kept → AreValid (images_of t kept)
 are_valid t kept is = record { rising = is.kept.rising; kept = is.kept.valid; tip = is.valid }
@@ -66,7 +66,7 @@ no_index : IsIndex [] []
 unfolding IsStrictlySortedBy
 no_index = record { ordered = tt; found = λ id. refl }
 
-pub new_agrees : (t : Timelines) → tip_of t ≡ empty → t.topics.maps.present ≡ [] → t.counts ≡ record { brokers = 0; topics = 0; partitions = 0; config_bytes = 0; features = 0 } → Agrees t
+pub new_agrees : (t : Timelines) → present_image t ≡ empty → t.topics.maps.present ≡ [] → t.counts ≡ record { brokers = 0; topics = 0; partitions = 0; config_bytes = 0; features = 0 } → Agrees t
 new_agrees t tip by_id counts = agrees_again t empty [] tip by_id counts no_index
 
 none_kept : IsKept no_keeps []
@@ -78,7 +78,7 @@ none_kept = record {
   valid = All-from_recursion (λ (e : ℤ × Image). IsValid e.1) [] tt;
 }
 
-pub new_store : (t : Timelines) (list : List KeptCounts) → tip_of t ≡ empty → keeps t ≡ no_keeps → Agrees t → list ≡ [] → IsValid empty → IsStore t list
+pub new_store : (t : Timelines) (list : List KeptCounts) → present_image t ≡ empty → keeps_of t ≡ no_keeps → Agrees t → list ≡ [] → IsValid empty → IsStore t list
 new_store t list tip kept agrees none valid = record {
   kept = subst (λ (k : Keeps). IsKept k list) (sym kept) (subst (IsKept no_keeps) (sym none) none_kept);
   present = agrees;
@@ -88,7 +88,7 @@ new_store t list tip kept agrees none valid = record {
 -- ---- one more epoch
 
 module _ (t after : Timelines) (epoch : ℤ) (marks : Marks t after epoch) where
-  image_more : (x : ℤ) → int_lt x epoch ≡ true → image_in (keeps after) x ≡ image_in (keeps t) x
+  image_more : (x : ℤ) → int_lt x epoch ≡ true → image_in (keeps_of after) x ≡ image_in (keeps_of t) x
   image_more x below =
       let brokers : map_in after.brokers.maps.kept x ≡ map_in t.brokers.maps.kept x = ap (λ (ks : List (KeptMap ℤ Broker)). map_in ks x) marks.brokers ∙ in_more t.brokers.maps.kept _ x below in
       let topics : map_in after.names.maps.kept x ≡ map_in t.names.maps.kept x = ap (λ (ks : List (KeptMap (List ℕ) ℕ)). map_in ks x) marks.names ∙ in_more t.names.maps.kept _ x below in
@@ -100,11 +100,11 @@ module _ (t after : Timelines) (epoch : ℤ) (marks : Marks t after epoch) where
   by_id_more : (x : ℤ) → int_lt x epoch ≡ true → map_in after.topics.maps.kept x ≡ map_in t.topics.maps.kept x
   by_id_more x below = ap (λ (ks : List (KeptMap ℕ Topic)). map_in ks x) marks.topics ∙ in_more t.topics.maps.kept _ x below
 
-  module _ (kept : List KeptCounts) (have : HaveEpochs (keeps t) (epochs_of kept)) (above : AllByRecursion (λ (k : KeptCounts). int_lt k.epoch epoch ≡ true) kept) where
+  module _ (kept : List KeptCounts) (have : HaveEpochs (keeps_of t) (epochs_of kept)) (above : AllByRecursion (λ (k : KeptCounts). int_lt k.epoch epoch ≡ true) kept) where
     epochs_above : AllByRecursion (λ x. int_lt x epoch ≡ true) (epochs_of kept)
     epochs_above = all_mapped (λ (k : KeptCounts). k.epoch) (λ x. int_lt x epoch ≡ true) kept above
 
-    image_last : image_in (keeps after) epoch ≡ tip_of t
+    image_last : image_in (keeps_of after) epoch ≡ present_image t
     image_last =
         let brokers : map_in after.brokers.maps.kept epoch ≡ t.brokers.maps.present = ap (λ (ks : List (KeptMap ℤ Broker)). map_in ks epoch) marks.brokers ∙ in_last t.brokers.maps.kept (record { epoch = epoch; map = t.brokers.maps.present; made = t.brokers.maps.made }) (subst (λ (es : List ℤ). AllByRecursion (λ x. int_lt x epoch ≡ true) es) (sym have.brokers) epochs_above) in
         let topics : map_in after.names.maps.kept epoch ≡ t.names.maps.present = ap (λ (ks : List (KeptMap (List ℕ) ℕ)). map_in ks epoch) marks.names ∙ in_last t.names.maps.kept (record { epoch = epoch; map = t.names.maps.present; made = t.names.maps.made }) (subst (λ (es : List ℤ). AllByRecursion (λ x. int_lt x epoch ≡ true) es) (sym have.names) epochs_above) in
@@ -116,24 +116,24 @@ module _ (t after : Timelines) (epoch : ℤ) (marks : Marks t after epoch) where
     by_id_last : map_in after.topics.maps.kept epoch ≡ t.topics.maps.present
     by_id_last = ap (λ (ks : List (KeptMap ℕ Topic)). map_in ks epoch) marks.topics ∙ in_last t.topics.maps.kept (record { epoch = epoch; map = t.topics.maps.present; made = t.topics.maps.made }) (subst (λ (es : List ℤ). AllByRecursion (λ x. int_lt x epoch ≡ true) es) (sym have.topics) epochs_above)
 
-    images_more : (counts : Counts) → images_in (keeps after) (kept ++ record { epoch = epoch; counts = counts } ∷ []) ≡ images_in (keeps t) kept ++ (epoch, tip_of t) ∷ []
+    images_more : (counts : Counts) → images_in (keeps_of after) (kept ++ record { epoch = epoch; counts = counts } ∷ []) ≡ images_in (keeps_of t) kept ++ (epoch, present_image t) ∷ []
     images_more counts =
-        map_push (λ (k : KeptCounts). (k.epoch, image_in (keeps after) k.epoch)) kept (record { epoch = epoch; counts = counts })
-        ∙ (ap (λ (i : Image). map (λ (k : KeptCounts). (k.epoch, image_in (keeps after) k.epoch)) kept ++ (epoch, i) ∷ []) image_last
-        ∙ ap (λ (es : List (ℤ × Image)). es ++ (epoch, tip_of t) ∷ []) (map_same (λ (k : KeptCounts). (k.epoch, image_in (keeps after) k.epoch)) (λ (k : KeptCounts). (k.epoch, image_in (keeps t) k.epoch)) kept
-        (all_weaker (λ (k : KeptCounts). int_lt k.epoch epoch ≡ true) (λ (k : KeptCounts). ◌≡◌ {A = ℤ × Image} (k.epoch, image_in (keeps after) k.epoch) (k.epoch, image_in (keeps t) k.epoch)) (λ k below. ap (λ (i : Image). (k.epoch, i)) (image_more k.epoch below)) kept above)))
+        map_push (λ (k : KeptCounts). (k.epoch, image_in (keeps_of after) k.epoch)) kept (record { epoch = epoch; counts = counts })
+        ∙ (ap (λ (i : Image). map (λ (k : KeptCounts). (k.epoch, image_in (keeps_of after) k.epoch)) kept ++ (epoch, i) ∷ []) image_last
+        ∙ ap (λ (es : List (ℤ × Image)). es ++ (epoch, present_image t) ∷ []) (map_same (λ (k : KeptCounts). (k.epoch, image_in (keeps_of after) k.epoch)) (λ (k : KeptCounts). (k.epoch, image_in (keeps_of t) k.epoch)) kept
+        (all_weaker (λ (k : KeptCounts). int_lt k.epoch epoch ≡ true) (λ (k : KeptCounts). ◌≡◌ {A = ℤ × Image} (k.epoch, image_in (keeps_of after) k.epoch) (k.epoch, image_in (keeps_of t) k.epoch)) (λ k below. ap (λ (i : Image). (k.epoch, i)) (image_more k.epoch below)) kept above)))
 
     pub marked_images : images_of after (kept ++ record { epoch = epoch; counts = t.counts } ∷ []) ≡ marked (images_of t kept) epoch
     marked_images =
-        same_images (images_in (keeps after) (kept ++ record { epoch = epoch; counts = t.counts } ∷ [])) (images_in (keeps t) kept ++ (epoch, tip_of t) ∷ []) (tip_of after) (tip_of t) (made_of after) 0 (images_more t.counts) marks.tip marks.unmade
+        same_images (images_in (keeps_of after) (kept ++ record { epoch = epoch; counts = t.counts } ∷ [])) (images_in (keeps_of t) kept ++ (epoch, present_image t) ∷ []) (present_image after) (present_image t) (made_of after) 0 (images_more t.counts) marks.tip marks.unmade
 
-    right_more : (k : KeptCounts) → IsRight (keeps t) k → int_lt k.epoch epoch ≡ true → IsRight (keeps after) k
+    right_more : (k : KeptCounts) → IsRight (keeps_of t) k → int_lt k.epoch epoch ≡ true → IsRight (keeps_of after) k
     right_more k is below = record {
       counts = is.counts ∙ ap counts_of (sym (image_more k.epoch below));
       index = subst (λ (i : Image). IsIndex i.topics (map_in after.topics.maps.kept k.epoch)) (sym (image_more k.epoch below)) (subst (λ (ts : List (ℕ × Topic)). IsIndex (map_in t.names.maps.kept k.epoch) ts) (sym (by_id_more k.epoch below)) is.index);
     }
 
-    right_all : (ks : List KeptCounts) → AllByRecursion (IsRight (keeps t)) ks → AllByRecursion (λ (k : KeptCounts). int_lt k.epoch epoch ≡ true) ks → AllByRecursion (IsRight (keeps after)) ks
+    right_all : (ks : List KeptCounts) → AllByRecursion (IsRight (keeps_of t)) ks → AllByRecursion (λ (k : KeptCounts). int_lt k.epoch epoch ≡ true) ks → AllByRecursion (IsRight (keeps_of after)) ks
     right_all [] a b = tt
     right_all (k ∷ ks) a b = (right_more k a.0 b.0, right_all ks a.1 b.1)
 
@@ -149,14 +149,14 @@ module _ (t after : Timelines) (epoch : ℤ) (marks : Marks t after epoch) where
               configs = ap (map (λ (k : KeptMap ConfigKey (List ℕ)). k.epoch)) marks.configs ∙ (map_push (λ (k : KeptMap ConfigKey (List ℕ)). k.epoch) t.configs.maps.kept _ ∙ (ap (λ (es : List ℤ). es ++ epoch ∷ []) have.configs ∙ sym (map_push (λ (k : KeptCounts). k.epoch) kept _)));
               features = ap (map (λ (k : KeptMap (List ℕ) ℤ). k.epoch)) marks.features ∙ (map_push (λ (k : KeptMap (List ℕ) ℤ). k.epoch) t.features.maps.kept _ ∙ (ap (λ (es : List ℤ). es ++ epoch ∷ []) have.features ∙ sym (map_push (λ (k : KeptCounts). k.epoch) kept _)));
             };
-            right = All-from_recursion (IsRight (keeps after)) (kept ++ record { epoch = epoch; counts = t.counts } ∷ []) (all_push (IsRight (keeps after)) kept (record { epoch = epoch; counts = t.counts }) (right_all kept (recursion_from_All (IsRight (keeps t)) kept is.kept.right) above) (record {
+            right = All-from_recursion (IsRight (keeps_of after)) (kept ++ record { epoch = epoch; counts = t.counts } ∷ []) (all_push (IsRight (keeps_of after)) kept (record { epoch = epoch; counts = t.counts }) (right_all kept (recursion_from_All (IsRight (keeps_of t)) kept is.kept.right) above) (record {
               counts = is.present.counts ∙ ap counts_of (sym image_last);
               index = subst (λ (i : Image). IsIndex i.topics (map_in after.topics.maps.kept epoch)) (sym image_last) (subst (λ (ts : List (ℕ × Topic)). IsIndex t.names.maps.present ts) (sym by_id_last) is.present.index);
             }));
-            rising = subst (IsMap int_cmp) (sym (images_more t.counts)) (rising_push (images_in (keeps t) kept) (epoch, tip_of t) is.kept.rising (all_mapped (λ (k : KeptCounts). (k.epoch, image_in (keeps t) k.epoch)) (λ (e : ℤ × Image). int_lt e.0 epoch ≡ true) kept above));
-            valid = subst (All (λ (e : ℤ × Image). IsValid e.1)) (sym (images_more t.counts)) (All-from_recursion (λ (e : ℤ × Image). IsValid e.1) (images_in (keeps t) kept ++ (epoch, tip_of t) ∷ []) (all_push (λ (e : ℤ × Image). IsValid e.1) (images_in (keeps t) kept) (epoch, tip_of t) (recursion_from_All (λ (e : ℤ × Image). IsValid e.1) (images_in (keeps t) kept) is.kept.valid) is.valid));
+            rising = subst (IsMap int_cmp) (sym (images_more t.counts)) (rising_push (images_in (keeps_of t) kept) (epoch, present_image t) is.kept.rising (all_mapped (λ (k : KeptCounts). (k.epoch, image_in (keeps_of t) k.epoch)) (λ (e : ℤ × Image). int_lt e.0 epoch ≡ true) kept above));
+            valid = subst (All (λ (e : ℤ × Image). IsValid e.1)) (sym (images_more t.counts)) (All-from_recursion (λ (e : ℤ × Image). IsValid e.1) (images_in (keeps_of t) kept ++ (epoch, present_image t) ∷ []) (all_push (λ (e : ℤ × Image). IsValid e.1) (images_in (keeps_of t) kept) (epoch, present_image t) (recursion_from_All (λ (e : ℤ × Image). IsValid e.1) (images_in (keeps_of t) kept) is.kept.valid) is.valid));
           };
-          present = agrees_again after (tip_of t) t.topics.maps.present marks.tip marks.by_id (marks.counts ∙ is.present.counts) is.present.index;
+          present = agrees_again after (present_image t) t.topics.maps.present marks.tip marks.by_id (marks.counts ∙ is.present.counts) is.present.index;
           valid = subst IsValid (sym marks.tip) is.valid;
         }
 
@@ -171,28 +171,28 @@ all_unit [] = tt
 all_unit (k ∷ kept) = (tt, all_unit kept)
 
 -- the epochs that pass a test are left
-module _ (q : ℤ → Bool) (t after : Timelines) (fewer : (x : ℤ) → q x ≡ true → image_in (keeps after) x ≡ image_in (keeps t) x) (fewer_by_id : (x : ℤ) → q x ≡ true → map_in after.topics.maps.kept x ≡ map_in t.topics.maps.kept x) (kept : List KeptCounts) where
+module _ (q : ℤ → Bool) (t after : Timelines) (fewer : (x : ℤ) → q x ≡ true → image_in (keeps_of after) x ≡ image_in (keeps_of t) x) (fewer_by_id : (x : ℤ) → q x ≡ true → map_in after.topics.maps.kept x ≡ map_in t.topics.maps.kept x) (kept : List KeptCounts) where
   abbrev left : List KeptCounts
   left = filter (λ (k : KeptCounts). q k.epoch) kept
 
-  images_left : images_in (keeps after) left ≡ filter (λ (e : ℤ × Image). q e.0) (images_in (keeps t) kept)
+  images_left : images_in (keeps_of after) left ≡ filter (λ (e : ℤ × Image). q e.0) (images_in (keeps_of t) kept)
   images_left =
-      map_same (λ (k : KeptCounts). (k.epoch, image_in (keeps after) k.epoch)) (λ (k : KeptCounts). (k.epoch, image_in (keeps t) k.epoch)) left
-      (all_weaker (λ (k : KeptCounts). Unit {0} × (q k.epoch ≡ true)) (λ (k : KeptCounts). ◌≡◌ {A = ℤ × Image} (k.epoch, image_in (keeps after) k.epoch) (k.epoch, image_in (keeps t) k.epoch)) (λ k is. ap (λ (i : Image). (k.epoch, i)) (fewer k.epoch is.1)) left (all_passing (λ (k : KeptCounts). Unit {0}) (λ (k : KeptCounts). q k.epoch) kept (all_unit kept)))
-      ∙ sym (filter_map_is (λ (k : KeptCounts). (k.epoch, image_in (keeps t) k.epoch)) (λ (e : ℤ × Image). q e.0) kept)
+      map_same (λ (k : KeptCounts). (k.epoch, image_in (keeps_of after) k.epoch)) (λ (k : KeptCounts). (k.epoch, image_in (keeps_of t) k.epoch)) left
+      (all_weaker (λ (k : KeptCounts). Unit {0} × (q k.epoch ≡ true)) (λ (k : KeptCounts). ◌≡◌ {A = ℤ × Image} (k.epoch, image_in (keeps_of after) k.epoch) (k.epoch, image_in (keeps_of t) k.epoch)) (λ k is. ap (λ (i : Image). (k.epoch, i)) (fewer k.epoch is.1)) left (all_passing (λ (k : KeptCounts). Unit {0}) (λ (k : KeptCounts). q k.epoch) kept (all_unit kept)))
+      ∙ sym (filter_map_is (λ (k : KeptCounts). (k.epoch, image_in (keeps_of t) k.epoch)) (λ (e : ℤ × Image). q e.0) kept)
 
-  right_left : All (IsRight (keeps t)) kept → All (IsRight (keeps after)) left
-  right_left right = All-from_recursion (IsRight (keeps after)) left (all_weaker (λ (k : KeptCounts). IsRight (keeps t) k × (q k.epoch ≡ true)) (IsRight (keeps after)) (λ k is. record {
+  right_left : All (IsRight (keeps_of t)) kept → All (IsRight (keeps_of after)) left
+  right_left right = All-from_recursion (IsRight (keeps_of after)) left (all_weaker (λ (k : KeptCounts). IsRight (keeps_of t) k × (q k.epoch ≡ true)) (IsRight (keeps_of after)) (λ k is. record {
     counts = is.0.counts ∙ ap counts_of (sym (fewer k.epoch is.1));
     index = subst (λ (i : Image). IsIndex i.topics (map_in after.topics.maps.kept k.epoch)) (sym (fewer k.epoch is.1)) (subst (λ (ts : List (ℕ × Topic)). IsIndex (map_in t.names.maps.kept k.epoch) ts) (sym (fewer_by_id k.epoch is.1)) is.0.index);
-  }) left (all_passing (IsRight (keeps t)) (λ (k : KeptCounts). q k.epoch) kept (recursion_from_All (IsRight (keeps t)) kept right)))
+  }) left (all_passing (IsRight (keeps_of t)) (λ (k : KeptCounts). q k.epoch) kept (recursion_from_All (IsRight (keeps_of t)) kept right)))
 
-  pub left_kept : HaveEpochs (keeps after) (epochs_of left) → IsKept (keeps t) kept → IsKept (keeps after) left
+  pub left_kept : HaveEpochs (keeps_of after) (epochs_of left) → IsKept (keeps_of t) kept → IsKept (keeps_of after) left
   left_kept have is = record {
     epochs = have;
     right = right_left is.right;
-    rising = subst (IsMap int_cmp) (sym images_left) (IsMap-filter int_cmp (λ (e : ℤ × Image). q e.0) (images_in (keeps t) kept) is.rising);
-    valid = subst (All (λ (e : ℤ × Image). IsValid e.1)) (sym images_left) (All-filter (λ (e : ℤ × Image). q e.0) (λ (e : ℤ × Image). IsValid e.1) (images_in (keeps t) kept) is.valid);
+    rising = subst (IsMap int_cmp) (sym images_left) (IsMap-filter int_cmp (λ (e : ℤ × Image). q e.0) (images_in (keeps_of t) kept) is.rising);
+    valid = subst (All (λ (e : ℤ × Image). IsValid e.1)) (sym images_left) (All-filter (λ (e : ℤ × Image). q e.0) (λ (e : ℤ × Image). IsValid e.1) (images_in (keeps_of t) kept) is.valid);
   }
 
 -- ---- back to an epoch
@@ -238,7 +238,7 @@ module _ (t after : Timelines) (epoch : ℤ) (reverts : Reverts t after epoch) (
   abbrev up_to : ℤ → Bool
   up_to x = not (int_lt epoch x)
 
-  image_up_to : (x : ℤ) → up_to x ≡ true → image_in (keeps after) x ≡ image_in (keeps t) x
+  image_up_to : (x : ℤ) → up_to x ≡ true → image_in (keeps_of after) x ≡ image_in (keeps_of t) x
   image_up_to x passes =
       let brokers : map_in after.brokers.maps.kept x ≡ map_in t.brokers.maps.kept x = ap (λ (ks : List (KeptMap ℤ Broker)). map_in ks x) reverts.brokers ∙ in_left up_to t.brokers.maps.kept x passes in
       let topics : map_in after.names.maps.kept x ≡ map_in t.names.maps.kept x = ap (λ (ks : List (KeptMap (List ℕ) ℕ)). map_in ks x) reverts.names ∙ in_left up_to t.names.maps.kept x passes in
@@ -250,7 +250,7 @@ module _ (t after : Timelines) (epoch : ℤ) (reverts : Reverts t after epoch) (
   by_id_up_to : (x : ℤ) → up_to x ≡ true → map_in after.topics.maps.kept x ≡ map_in t.topics.maps.kept x
   by_id_up_to x passes = ap (λ (ks : List (KeptMap ℕ Topic)). map_in ks x) reverts.topics ∙ in_left up_to t.topics.maps.kept x passes
 
-  have_up_to : HaveEpochs (keeps t) (epochs_of kept) → HaveEpochs (keeps after) (epochs_of (filter (λ (k : KeptCounts). up_to k.epoch) kept))
+  have_up_to : HaveEpochs (keeps_of t) (epochs_of kept) → HaveEpochs (keeps_of after) (epochs_of (filter (λ (k : KeptCounts). up_to k.epoch) kept))
   have_up_to have = record {
     brokers = ap (map (λ (k : KeptMap ℤ Broker). k.epoch)) reverts.brokers ∙ (sym (filter_map_is (λ (k : KeptMap ℤ Broker). k.epoch) up_to t.brokers.maps.kept) ∙ (ap (filter up_to) have.brokers ∙ filter_map_is (λ (k : KeptCounts). k.epoch) up_to kept));
     names = ap (map (λ (k : KeptMap (List ℕ) ℕ). k.epoch)) reverts.names ∙ (sym (filter_map_is (λ (k : KeptMap (List ℕ) ℕ). k.epoch) up_to t.names.maps.kept) ∙ (ap (filter up_to) have.names ∙ filter_map_is (λ (k : KeptCounts). k.epoch) up_to kept));
@@ -260,19 +260,19 @@ module _ (t after : Timelines) (epoch : ℤ) (reverts : Reverts t after epoch) (
     features = ap (map (λ (k : KeptMap (List ℕ) ℤ). k.epoch)) reverts.features ∙ (sym (filter_map_is (λ (k : KeptMap (List ℕ) ℤ). k.epoch) up_to t.features.maps.kept) ∙ (ap (filter up_to) have.features ∙ filter_map_is (λ (k : KeptCounts). k.epoch) up_to kept));
   }
 
-  module _ (k : KeptCounts) (found : find (λ (k : KeptCounts). int_eq k.epoch epoch) kept ≡ Some k) (counts : after.counts ≡ k.counts) (is : IsKept (keeps t) kept) where
+  module _ (k : KeptCounts) (found : find (λ (k : KeptCounts). int_eq k.epoch epoch) kept ≡ Some k) (counts : after.counts ≡ k.counts) (is : IsKept (keeps_of t) kept) where
     epoch_is : k.epoch ≡ epoch
     epoch_is = (Decides-int_eq k.epoch epoch).0 (found_passes (λ (k : KeptCounts). int_eq k.epoch epoch) kept k found)
 
-    right_there : IsRight (keeps t) k
-    right_there = found_has (IsRight (keeps t)) (λ (k : KeptCounts). int_eq k.epoch epoch) kept k (recursion_from_All (IsRight (keeps t)) kept is.right) found
+    right_there : IsRight (keeps_of t) k
+    right_there = found_has (IsRight (keeps_of t)) (λ (k : KeptCounts). int_eq k.epoch epoch) kept k (recursion_from_All (IsRight (keeps_of t)) kept is.right) found
 
-    valid_there : IsValid (image_in (keeps t) epoch)
-    valid_there = subst (λ (x : ℤ). IsValid (image_in (keeps t) x)) epoch_is (found_has (λ (k : KeptCounts). IsValid (image_in (keeps t) k.epoch)) (λ (k : KeptCounts). int_eq k.epoch epoch) kept k (all_map (λ (k : KeptCounts). (k.epoch, image_in (keeps t) k.epoch)) (λ (e : ℤ × Image). IsValid e.1) kept (recursion_from_All (λ (e : ℤ × Image). IsValid e.1) (images_in (keeps t) kept) is.valid)) found)
+    valid_there : IsValid (image_in (keeps_of t) epoch)
+    valid_there = subst (λ (x : ℤ). IsValid (image_in (keeps_of t) x)) epoch_is (found_has (λ (k : KeptCounts). IsValid (image_in (keeps_of t) k.epoch)) (λ (k : KeptCounts). int_eq k.epoch epoch) kept k (all_map (λ (k : KeptCounts). (k.epoch, image_in (keeps_of t) k.epoch)) (λ (e : ℤ × Image). IsValid e.1) kept (recursion_from_All (λ (e : ℤ × Image). IsValid e.1) (images_in (keeps_of t) kept) is.valid)) found)
 
     agrees_there : Agrees after
-    agrees_there = agrees_again after (image_in (keeps t) epoch) (map_in t.topics.maps.kept epoch) reverts.tip reverts.by_id
-        (counts ∙ (right_there.counts ∙ ap (λ (x : ℤ). counts_of (image_in (keeps t) x)) epoch_is))
+    agrees_there = agrees_again after (image_in (keeps_of t) epoch) (map_in t.topics.maps.kept epoch) reverts.tip reverts.by_id
+        (counts ∙ (right_there.counts ∙ ap (λ (x : ℤ). counts_of (image_in (keeps_of t) x)) epoch_is))
         (subst (λ (x : ℤ). IsIndex (map_in t.names.maps.kept x) (map_in t.topics.maps.kept x)) epoch_is right_there.index)
 
     pub reverted_store : IsStore after (filter (λ (k : KeptCounts). not (int_lt epoch k.epoch)) kept)
@@ -285,9 +285,9 @@ module _ (t after : Timelines) (epoch : ℤ) (reverts : Reverts t after epoch) (
     pub reverted_images : reverted (images_of t kept) epoch ≡ Some (images_of after (filter (λ (k : KeptCounts). not (int_lt epoch k.epoch)) kept))
     reverted_images =
         let list = images_left up_to t after image_up_to by_id_up_to kept in
-        let there = kept_image (keeps t) kept k epoch found in
-        ap (λ (o : Option (ℤ × Image)). option_map (λ (tip : Image). record { kept = filter (λ (e : ℤ × Image). not (int_lt epoch e.0)) (images_in (keeps t) kept); tip = tip; made = 0 }) (option_map (λ (e : ℤ × Image). e.1) o)) there
-        ∙ ap (λ (i : Images). Some i) (same_images (filter (λ (e : ℤ × Image). not (int_lt epoch e.0)) (images_in (keeps t) kept)) (images_in (keeps after) (filter (λ (k : KeptCounts). up_to k.epoch) kept)) (image_in (keeps t) epoch) (tip_of after) 0 (made_of after) (sym list) (sym reverts.tip) (sym reverts.unmade))
+        let there = kept_image (keeps_of t) kept k epoch found in
+        ap (λ (o : Option (ℤ × Image)). option_map (λ (tip : Image). record { kept = filter (λ (e : ℤ × Image). not (int_lt epoch e.0)) (images_in (keeps_of t) kept); tip = tip; made = 0 }) (option_map (λ (e : ℤ × Image). e.1) o)) there
+        ∙ ap (λ (i : Images). Some i) (same_images (filter (λ (e : ℤ × Image). not (int_lt epoch e.0)) (images_in (keeps_of t) kept)) (images_in (keeps_of after) (filter (λ (k : KeptCounts). up_to k.epoch) kept)) (image_in (keeps_of t) epoch) (present_image after) 0 (made_of after) (sym list) (sym reverts.tip) (sym reverts.unmade))
 
 -- ---- the epochs from one on
 
@@ -295,7 +295,7 @@ module _ (t after : Timelines) (epoch : ℤ) (forgets : Forgets t after epoch) (
   abbrev from : ℤ → Bool
   from x = not (int_lt x epoch)
 
-  image_from : (x : ℤ) → from x ≡ true → image_in (keeps after) x ≡ image_in (keeps t) x
+  image_from : (x : ℤ) → from x ≡ true → image_in (keeps_of after) x ≡ image_in (keeps_of t) x
   image_from x passes =
       let brokers : map_in after.brokers.maps.kept x ≡ map_in t.brokers.maps.kept x = ap (λ (ks : List (KeptMap ℤ Broker)). map_in ks x) forgets.brokers ∙ (in_unmade _ x ∙ in_left from t.brokers.maps.kept x passes) in
       let topics : map_in after.names.maps.kept x ≡ map_in t.names.maps.kept x = ap (λ (ks : List (KeptMap (List ℕ) ℕ)). map_in ks x) forgets.names ∙ (in_unmade _ x ∙ in_left from t.names.maps.kept x passes) in
@@ -307,7 +307,7 @@ module _ (t after : Timelines) (epoch : ℤ) (forgets : Forgets t after epoch) (
   by_id_from : (x : ℤ) → from x ≡ true → map_in after.topics.maps.kept x ≡ map_in t.topics.maps.kept x
   by_id_from x passes = ap (λ (ks : List (KeptMap ℕ Topic)). map_in ks x) forgets.topics ∙ (in_unmade _ x ∙ in_left from t.topics.maps.kept x passes)
 
-  have_from : HaveEpochs (keeps t) (epochs_of kept) → HaveEpochs (keeps after) (epochs_of (filter (λ (k : KeptCounts). from k.epoch) kept))
+  have_from : HaveEpochs (keeps_of t) (epochs_of kept) → HaveEpochs (keeps_of after) (epochs_of (filter (λ (k : KeptCounts). from k.epoch) kept))
   have_from have = record {
     brokers = ap (map (λ (k : KeptMap ℤ Broker). k.epoch)) forgets.brokers ∙ (epochs_unmade _ ∙ (sym (filter_map_is (λ (k : KeptMap ℤ Broker). k.epoch) from t.brokers.maps.kept) ∙ (ap (filter from) have.brokers ∙ filter_map_is (λ (k : KeptCounts). k.epoch) from kept)));
     names = ap (map (λ (k : KeptMap (List ℕ) ℕ). k.epoch)) forgets.names ∙ (epochs_unmade _ ∙ (sym (filter_map_is (λ (k : KeptMap (List ℕ) ℕ). k.epoch) from t.names.maps.kept) ∙ (ap (filter from) have.names ∙ filter_map_is (λ (k : KeptCounts). k.epoch) from kept)));
@@ -320,9 +320,9 @@ module _ (t after : Timelines) (epoch : ℤ) (forgets : Forgets t after epoch) (
   pub forgotten_store : IsStore t kept → IsStore after (filter (λ (k : KeptCounts). not (int_lt k.epoch epoch)) kept)
   forgotten_store is = record {
     kept = left_kept from t after image_from by_id_from kept (have_from is.kept.epochs) is.kept;
-    present = agrees_again after (tip_of t) t.topics.maps.present forgets.tip forgets.by_id (forgets.counts ∙ is.present.counts) is.present.index;
+    present = agrees_again after (present_image t) t.topics.maps.present forgets.tip forgets.by_id (forgets.counts ∙ is.present.counts) is.present.index;
     valid = subst IsValid (sym forgets.tip) is.valid;
   }
 
   pub forgotten_images : images_of after (filter (λ (k : KeptCounts). not (int_lt k.epoch epoch)) kept) ≡ forgotten (images_of t kept) epoch
-  forgotten_images = same_images (images_in (keeps after) (filter (λ (k : KeptCounts). from k.epoch) kept)) (filter (λ (e : ℤ × Image). not (int_lt e.0 epoch)) (images_in (keeps t) kept)) (tip_of after) (tip_of t) (made_of after) (made_of t) (images_left from t after image_from by_id_from kept) forgets.tip forgets.made
+  forgotten_images = same_images (images_in (keeps_of after) (filter (λ (k : KeptCounts). from k.epoch) kept)) (filter (λ (e : ℤ × Image). not (int_lt e.0 epoch)) (images_in (keeps_of t) kept)) (present_image after) (present_image t) (made_of after) (made_of t) (images_left from t after image_from by_id_from kept) forgets.tip forgets.made

@@ -11,14 +11,14 @@ use Rattle.kr_defs.specs.KeptMaps.{Kept as KeptMap, IsAbove, oldest_unmade}
 use Rattle.kr_store.specs.Images.{Images, counts_of}
 use Rattle.kr_image.specs.declared.kept_counts.KeptCounts.{KeptCounts}
 use Rattle.kr_image.specs.declared.timelines.Timelines.{Timelines}
-use Rattle.kr_image.specs.Timelines.{Keeps, keeps, kept_in, map_in, image_in, tip_of, made_of, IsIndex, Agrees}
+use Rattle.kr_image.specs.Timelines.{Keeps, keeps_of, kept_in, map_in, image_in, present_image, made_of, IsIndex, Agrees}
 
 abbrev pub images_in : Keeps → List KeptCounts → List (ℤ × Image)
 images_in kept epochs = map (λ (k : KeptCounts). (k.epoch, image_in kept k.epoch)) epochs
 
 -- what a contract sees of a store
 abbrev pub images_of : Timelines → List KeptCounts → Images
-images_of t epochs = record { kept = images_in (keeps t) epochs; tip = tip_of t; made = made_of t }
+images_of t epochs = record { kept = images_in (keeps_of t) epochs; tip = present_image t; made = made_of t }
 
 -- every timeline keeps these epochs
 pub record HaveEpochs (kept : Keeps) (epochs : List ℤ) : Type 0 where
@@ -43,9 +43,9 @@ pub record IsKept (kept : Keeps) (list : List KeptCounts) : Type 0 where
 
 -- what is true of every store
 pub record IsStore (t : Timelines) (list : List KeptCounts) : Type 0 where
-  pub kept : IsKept (keeps t) list
+  pub kept : IsKept (keeps_of t) list
   pub present : Agrees t
-  pub valid : IsValid (tip_of t)
+  pub valid : IsValid (present_image t)
 
 -- what a mark makes of the timelines
 pub record Marks (t after : Timelines) (epoch : ℤ) : Type 0 where
@@ -55,7 +55,7 @@ pub record Marks (t after : Timelines) (epoch : ℤ) : Type 0 where
   pub partitions : after.partitions.maps.kept ≡ t.partitions.maps.kept ++ record { epoch = epoch; map = t.partitions.maps.present; made = t.partitions.maps.made } ∷ []
   pub configs : after.configs.maps.kept ≡ t.configs.maps.kept ++ record { epoch = epoch; map = t.configs.maps.present; made = t.configs.maps.made } ∷ []
   pub features : after.features.maps.kept ≡ t.features.maps.kept ++ record { epoch = epoch; map = t.features.maps.present; made = t.features.maps.made } ∷ []
-  pub tip : tip_of after ≡ tip_of t
+  pub tip : present_image after ≡ present_image t
   pub by_id : after.topics.maps.present ≡ t.topics.maps.present
   pub counts : after.counts ≡ t.counts
   pub unmade : made_of after ≡ 0
@@ -68,7 +68,7 @@ pub record Reverts (t after : Timelines) (epoch : ℤ) : Type 0 where
   pub partitions : after.partitions.maps.kept ≡ filter (λ (k : KeptMap (ℕ × ℤ) Partition). not (int_lt epoch k.epoch)) t.partitions.maps.kept
   pub configs : after.configs.maps.kept ≡ filter (λ (k : KeptMap ConfigKey (List ℕ)). not (int_lt epoch k.epoch)) t.configs.maps.kept
   pub features : after.features.maps.kept ≡ filter (λ (k : KeptMap (List ℕ) ℤ). not (int_lt epoch k.epoch)) t.features.maps.kept
-  pub tip : tip_of after ≡ image_in (keeps t) epoch
+  pub tip : present_image after ≡ image_in (keeps_of t) epoch
   pub by_id : after.topics.maps.present ≡ map_in t.topics.maps.kept epoch
   pub unmade : made_of after ≡ 0
 
@@ -80,15 +80,15 @@ pub record Forgets (t after : Timelines) (epoch : ℤ) : Type 0 where
   pub partitions : after.partitions.maps.kept ≡ oldest_unmade (filter (λ (k : KeptMap (ℕ × ℤ) Partition). not (int_lt k.epoch epoch)) t.partitions.maps.kept)
   pub configs : after.configs.maps.kept ≡ oldest_unmade (filter (λ (k : KeptMap ConfigKey (List ℕ)). not (int_lt k.epoch epoch)) t.configs.maps.kept)
   pub features : after.features.maps.kept ≡ oldest_unmade (filter (λ (k : KeptMap (List ℕ) ℤ). not (int_lt k.epoch epoch)) t.features.maps.kept)
-  pub tip : tip_of after ≡ tip_of t
+  pub tip : present_image after ≡ present_image t
   pub by_id : after.topics.maps.present ≡ t.topics.maps.present
   pub counts : after.counts ≡ t.counts
   pub made : made_of after ≡ made_of t
 
 -- no map is changed, nor what is kept
 pub record Same (t after : Timelines) : Type 0 where
-  pub kept : keeps after ≡ keeps t
-  pub tip : tip_of after ≡ tip_of t
+  pub kept : keeps_of after ≡ keeps_of t
+  pub tip : present_image after ≡ present_image t
   pub by_id : after.topics.maps.present ≡ t.topics.maps.present
   pub counts : after.counts ≡ t.counts
   pub made : made_of after ≡ made_of t

@@ -18,8 +18,8 @@ abbrev pub lowest : List ℕ → ConfigKey
 lowest name = record { kind = topic_kind; name = name; key = [] }
 
 -- the present image
-abbrev pub tip_of : Timelines → Image
-tip_of t = record {
+abbrev pub present_image : Timelines → Image
+present_image t = record {
   brokers = t.brokers.maps.present;
   topics = t.names.maps.present;
   partitions = t.partitions.maps.present;
@@ -36,8 +36,8 @@ pub record Keeps : Type 0 where
   pub configs : List (Kept ConfigKey (List ℕ))
   pub features : List (Kept (List ℕ) ℤ)
 
-abbrev pub keeps : Timelines → Keeps
-keeps t = record {
+abbrev pub keeps_of : Timelines → Keeps
+keeps_of t = record {
   brokers = t.brokers.maps.kept;
   names = t.names.maps.kept;
   topics = t.topics.maps.kept;
@@ -78,5 +78,5 @@ pub record IsIndex (names : List (List ℕ × ℕ)) (topics : List (ℕ × Topic
 
 -- the counts and the topics by id are those of the present image
 pub record Agrees (t : Timelines) : Type 0 where
-  pub counts : t.counts ≡ counts_of (tip_of t)
+  pub counts : t.counts ≡ counts_of (present_image t)
   pub index : IsIndex t.names.maps.present t.topics.maps.present

@@ -5,7 +5,7 @@ ghost use Rattle.kr_defs.specs.Apply as apply;
 ghost use Rattle.kr_defs.specs.Image.{IsValid};
 ghost use Rattle.kr_defs.specs.Weight.{record_weight};
 ghost use Rattle.kr_image.specs.inner.RecordAnswers.{Changes};
-ghost use Rattle.kr_image.specs.Timelines.{Agrees, keeps, made_of, tip_of};
+ghost use Rattle.kr_image.specs.Timelines.{Agrees, keeps_of, made_of, present_image};
 
 use crate::timelines::{ChangeFault, Timelines};
 use kr_defs::Record;
@@ -14,12 +14,12 @@ impl Timelines {
     /// Changes the present image by the meaning of a record. A record without one changes nothing.
     #[tactic(auto, unfolding(kr_defs::specs::Apply::apply_record))]
     pub fn apply_record(&mut self, value: &Record) -> Result<(), ChangeFault>
-        requires valid { IsValid (tip_of self.old) }
+        requires valid { IsValid (present_image self.old) }
         requires agrees { Agrees self.old }
-        ensures changes { Changes self.old self.new result (apply.apply_record (tip_of self.old) value.now) }
+        ensures changes { Changes self.old self.new result (apply.apply_record (present_image self.old) value.now) }
         ensures agrees { OnOk result (Agrees self.new) }
-        ensures kept { keeps self.new ≡ keeps self.old }
-        ensures made { OnOk result (made_of self.new ≤ made_of self.old + record_weight (tip_of self.old) value.now) }
+        ensures kept { keeps_of self.new ≡ keeps_of self.old }
+        ensures made { OnOk result (made_of self.new ≤ made_of self.old + record_weight (present_image self.old) value.now) }
     {
         match value {
             Record::RegisterBroker { broker, state } => self.register(broker, state),

@@ -8,7 +8,7 @@ ghost use Rattle.kr_defs.specs.Image as images;
 ghost use Rattle.kr_defs.specs.Image.{IsValid};
 ghost use Rattle.kr_defs.specs.Map as map;
 ghost use Rattle.kr_image.specs.inner.RecordAnswers.{Changes};
-ghost use Rattle.kr_image.specs.Timelines.{Agrees, keeps, made_of, tip_of};
+ghost use Rattle.kr_image.specs.Timelines.{Agrees, keeps_of, made_of, present_image};
 
 use crate::entries::{contains, is_full, set_counted, unset_counted};
 use crate::registrations::is_small_registration;
@@ -54,11 +54,11 @@ fn with_flags(alloc: Global, old: &Broker, fenced: &i8, stopping: &i8) -> Result
 
 impl Timelines {
     fn set_broker(&mut self, id: &i32, state: Broker) -> Result<(), NoMemory>
-        requires valid { IsValid (tip_of self.old) }
+        requires valid { IsValid (present_image self.old) }
         requires agrees { Agrees self.old }
-        ensures tip { OnOk result (tip_of self.new ≡ record (tip_of self.old) { brokers = map.insert int_cmp (tip_of self.old).brokers id.now state }) }
+        ensures tip { OnOk result (present_image self.new ≡ record (present_image self.old) { brokers = map.insert int_cmp (present_image self.old).brokers id.now state }) }
         ensures agrees { OnOk result (Agrees self.new) }
-        ensures kept { keeps self.new ≡ keeps self.old }
+        ensures kept { keeps_of self.new ≡ keeps_of self.old }
         ensures made { OnOk result (made_of self.new ≤ made_of self.old + 1) }
     {
         set_counted(&mut self.brokers, &mut self.counts.brokers, *id, state)?;
@@ -67,9 +67,9 @@ impl Timelines {
 
     fn unset_broker(&mut self, id: &i32) -> Result<(), NoMemory>
         requires agrees { Agrees self.old }
-        ensures tip { OnOk result (tip_of self.new ≡ record (tip_of self.old) { brokers = map.remove int_cmp (tip_of self.old).brokers id.now }) }
+        ensures tip { OnOk result (present_image self.new ≡ record (present_image self.old) { brokers = map.remove int_cmp (present_image self.old).brokers id.now }) }
         ensures agrees { OnOk result (Agrees self.new) }
-        ensures kept { keeps self.new ≡ keeps self.old }
+        ensures kept { keeps_of self.new ≡ keeps_of self.old }
         ensures made { OnOk result (made_of self.new ≤ made_of self.old + 1) }
     {
         unset_counted(self.alloc, &mut self.brokers, &mut self.counts.brokers, id)?;
@@ -78,7 +78,7 @@ impl Timelines {
 
     // A registration with a greater epoch stands.
     fn is_stale(&self, id: &i32, epoch: &i64) -> bool
-        ensures { result ≡ option_map_or (λ old. int_lt epoch.now old.epoch) (map.get int_cmp (tip_of self.now).brokers id.now) false }
+        ensures { result ≡ option_map_or (λ old. int_lt epoch.now old.epoch) (map.get int_cmp (present_image self.now).brokers id.now) false }
     {
         match self.brokers.get(id) {
             Some(old) => *epoch < old.epoch,
@@ -88,17 +88,17 @@ impl Timelines {
 
     fn is_full_of_brokers(&self, id: &i32) -> bool
         requires { Agrees self.now }
-        ensures { result ≡ map.is_full int_cmp MOST_BROKERS (tip_of self.now).brokers id.now }
+        ensures { result ≡ map.is_full int_cmp MOST_BROKERS (present_image self.now).brokers id.now }
     {
         !contains(&self.brokers, id) && is_full(self.counts.brokers, MOST_BROKERS)
     }
 
     pub fn register(&mut self, id: &i32, state: &Broker) -> Result<(), ChangeFault>
-        requires valid { IsValid (tip_of self.old) }
+        requires valid { IsValid (present_image self.old) }
         requires agrees { Agrees self.old }
-        ensures changes { Changes self.old self.new result (apply.register (tip_of self.old) id.now state.now) }
+        ensures changes { Changes self.old self.new result (apply.register (present_image self.old) id.now state.now) }
         ensures agrees { OnOk result (Agrees self.new) }
-        ensures kept { keeps self.new ≡ keeps self.old }
+        ensures kept { keeps_of self.new ≡ keeps_of self.old }
         ensures made { OnOk result (made_of self.new ≤ made_of self.old + 1) }
     {
         if !has_numbers(id, state) {
@@ -115,11 +115,11 @@ impl Timelines {
     }
 
     pub fn unregister(&mut self, id: &i32, epoch: &i64) -> Result<(), ChangeFault>
-        requires valid { IsValid (tip_of self.old) }
+        requires valid { IsValid (present_image self.old) }
         requires agrees { Agrees self.old }
-        ensures changes { Changes self.old self.new result (apply.unregister (tip_of self.old) id.now epoch.now) }
+        ensures changes { Changes self.old self.new result (apply.unregister (present_image self.old) id.now epoch.now) }
         ensures agrees { OnOk result (Agrees self.new) }
-        ensures kept { keeps self.new ≡ keeps self.old }
+        ensures kept { keeps_of self.new ≡ keeps_of self.old }
         ensures made { OnOk result (made_of self.new ≤ made_of self.old + 1) }
     {
         let Some(old) = self.brokers.get(id) else {
@@ -139,11 +139,11 @@ impl Timelines {
         fenced: &i8,
         stopping: &i8,
     ) -> Result<(), ChangeFault>
-        requires valid { IsValid (tip_of self.old) }
+        requires valid { IsValid (present_image self.old) }
         requires agrees { Agrees self.old }
-        ensures changes { Changes self.old self.new result (apply.change_registration (tip_of self.old) id.now epoch.now fenced.now stopping.now) }
+        ensures changes { Changes self.old self.new result (apply.change_registration (present_image self.old) id.now epoch.now fenced.now stopping.now) }
         ensures agrees { OnOk result (Agrees self.new) }
-        ensures kept { keeps self.new ≡ keeps self.old }
+        ensures kept { keeps_of self.new ≡ keeps_of self.old }
         ensures made { OnOk result (made_of self.new ≤ made_of self.old + 1) }
     {
         let Some(old) = self.brokers.get(id) else {

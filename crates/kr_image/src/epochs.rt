@@ -2,7 +2,7 @@
 
 ghost use Rattle.std.specs.Prelude.{◌≡◌, ◌≤◌, OnOk};
 ghost use Rattle.kr_defs.specs.Image.{empty};
-ghost use Rattle.kr_image.specs.Timelines.{Agrees, keeps, made_of, no_keeps, tip_of};
+ghost use Rattle.kr_image.specs.Timelines.{Agrees, keeps_of, made_of, no_keeps, present_image};
 ghost use Rattle.kr_image.specs.KeptImages.{AreAbove, AreKept, Forgets, HaveRoom, Marks, Reverts, Same};
 
 use crate::keeping::{forget_below, mark, revert};
@@ -16,8 +16,8 @@ use std::sync::ledger::Ledger;
 impl Timelines {
     /// Empty maps, and no kept epoch.
     pub fn new(alloc: Global) -> Timelines
-        ensures tip { tip_of result ≡ empty }
-        ensures kept { keeps result ≡ no_keeps }
+        ensures tip { present_image result ≡ empty }
+        ensures kept { keeps_of result ≡ no_keeps }
         ensures made { made_of result ≡ 0 }
         ensures agrees { Agrees result }
     {
@@ -56,7 +56,7 @@ impl Timelines {
     /// Keeps the present maps under the epoch. There is room for it.
     pub fn mark(&mut self, epoch: &i64)
         requires room { HaveRoom self.old }
-        requires above { AreAbove (keeps self.old) epoch.now }
+        requires above { AreAbove (keeps_of self.old) epoch.now }
         ensures { Marks self.old self.new epoch.now }
     {
         mark(&mut self.brokers, epoch);
@@ -69,7 +69,7 @@ impl Timelines {
 
     /// Makes the maps of the epoch the present ones, with the counts that were kept with it, and drops the later epochs.
     pub fn revert<L: Ledger>(&mut self, epoch: &i64, counts: Counts, steps: &mut Steps<L>)
-        requires { AreKept (keeps self.old) epoch.now }
+        requires { AreKept (keeps_of self.old) epoch.now }
         ensures back { Reverts self.old self.new epoch.now }
         ensures counts { self.new.counts ≡ counts }
         ensures counted { steps.old ≤ steps.new }

@@ -6,7 +6,7 @@ ghost use Rattle.kr_defs.specs.Image.{IsValid};
 ghost use Rattle.kr_defs.specs.Map as map;
 ghost use Rattle.kr_defs.specs.Map.{text_order};
 ghost use Rattle.kr_image.specs.inner.RecordAnswers.{Changes};
-ghost use Rattle.kr_image.specs.Timelines.{Agrees, keeps, made_of, tip_of};
+ghost use Rattle.kr_image.specs.Timelines.{Agrees, keeps_of, made_of, present_image};
 
 use crate::entries::{contains, is_full, set_counted, unset_counted};
 use crate::timelines::{ChangeFault, Timelines};
@@ -16,11 +16,11 @@ use kr_defs::{Copied, Ill, Text};
 
 impl Timelines {
     fn add_feature(&mut self, name: &Text, level: &i16) -> Result<(), NoMemory>
-        requires valid { IsValid (tip_of self.old) }
+        requires valid { IsValid (present_image self.old) }
         requires agrees { Agrees self.old }
-        ensures tip { OnOk result (tip_of self.new ≡ record (tip_of self.old) { features = map.insert text_order (tip_of self.old).features name.now level.now }) }
+        ensures tip { OnOk result (present_image self.new ≡ record (present_image self.old) { features = map.insert text_order (present_image self.old).features name.now level.now }) }
         ensures agrees { OnOk result (Agrees self.new) }
-        ensures kept { keeps self.new ≡ keeps self.old }
+        ensures kept { keeps_of self.new ≡ keeps_of self.old }
         ensures made { OnOk result (made_of self.new ≤ made_of self.old + 1) }
     {
         let name = name.copied(self.alloc)?;
@@ -30,9 +30,9 @@ impl Timelines {
 
     fn remove_feature(&mut self, name: &Text) -> Result<(), NoMemory>
         requires agrees { Agrees self.old }
-        ensures tip { OnOk result (tip_of self.new ≡ record (tip_of self.old) { features = map.remove text_order (tip_of self.old).features name.now }) }
+        ensures tip { OnOk result (present_image self.new ≡ record (present_image self.old) { features = map.remove text_order (present_image self.old).features name.now }) }
         ensures agrees { OnOk result (Agrees self.new) }
-        ensures kept { keeps self.new ≡ keeps self.old }
+        ensures kept { keeps_of self.new ≡ keeps_of self.old }
         ensures made { OnOk result (made_of self.new ≤ made_of self.old + 1) }
     {
         unset_counted(
@@ -46,18 +46,18 @@ impl Timelines {
 
     fn is_full_of_features(&self, name: &Text) -> bool
         requires { Agrees self.now }
-        ensures { result ≡ map.is_full text_order MOST_FEATURES (tip_of self.now).features name.now }
+        ensures { result ≡ map.is_full text_order MOST_FEATURES (present_image self.now).features name.now }
     {
         !contains(&self.features, name) && is_full(self.counts.features, MOST_FEATURES)
     }
 
     /// Sets the level of a feature, or removes it where the level is 0.
     pub fn set_feature(&mut self, name: &Text, level: &i16) -> Result<(), ChangeFault>
-        requires valid { IsValid (tip_of self.old) }
+        requires valid { IsValid (present_image self.old) }
         requires agrees { Agrees self.old }
-        ensures changes { Changes self.old self.new result (apply.set_feature (tip_of self.old) name.now level.now) }
+        ensures changes { Changes self.old self.new result (apply.set_feature (present_image self.old) name.now level.now) }
         ensures agrees { OnOk result (Agrees self.new) }
-        ensures kept { keeps self.new ≡ keeps self.old }
+        ensures kept { keeps_of self.new ≡ keeps_of self.old }
         ensures made { OnOk result (made_of self.new ≤ made_of self.old + 1) }
     {
         if *level < 0 {

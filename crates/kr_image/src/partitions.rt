@@ -7,7 +7,7 @@ ghost use Rattle.kr_defs.specs.Image.{IsValid};
 ghost use Rattle.kr_defs.specs.Map as map;
 ghost use Rattle.kr_defs.specs.Map.{partition_order};
 ghost use Rattle.kr_image.specs.inner.RecordAnswers.{Changes};
-ghost use Rattle.kr_image.specs.Timelines.{Agrees, keeps, made_of, tip_of};
+ghost use Rattle.kr_image.specs.Timelines.{Agrees, keeps_of, made_of, present_image};
 
 use crate::entries::{contains, is_full, set_counted, unset_counted};
 use crate::timelines::{ChangeFault, Timelines};
@@ -32,11 +32,11 @@ fn key_of(topic: &u128, index: &i32) -> (u128, i32)
 
 impl Timelines {
     fn set_partition(&mut self, key: (u128, i32), state: Partition) -> Result<(), NoMemory>
-        requires valid { IsValid (tip_of self.old) }
+        requires valid { IsValid (present_image self.old) }
         requires agrees { Agrees self.old }
-        ensures tip { OnOk result (tip_of self.new ≡ record (tip_of self.old) { partitions = map.insert partition_order (tip_of self.old).partitions key state }) }
+        ensures tip { OnOk result (present_image self.new ≡ record (present_image self.old) { partitions = map.insert partition_order (present_image self.old).partitions key state }) }
         ensures agrees { OnOk result (Agrees self.new) }
-        ensures kept { keeps self.new ≡ keeps self.old }
+        ensures kept { keeps_of self.new ≡ keeps_of self.old }
         ensures made { OnOk result (made_of self.new ≤ made_of self.old + 1) }
     {
         set_counted(
@@ -55,11 +55,11 @@ impl Timelines {
         topic: &u128,
         state: &Partition,
     ) -> Result<(), ChangeFault>
-        requires valid { IsValid (tip_of self.old) }
+        requires valid { IsValid (present_image self.old) }
         requires agrees { Agrees self.old }
-        ensures changes { Changes self.old self.new result (apply.add_partition (tip_of self.old) index.now topic.now state.now) }
+        ensures changes { Changes self.old self.new result (apply.add_partition (present_image self.old) index.now topic.now state.now) }
         ensures agrees { OnOk result (Agrees self.new) }
-        ensures kept { keeps self.new ≡ keeps self.old }
+        ensures kept { keeps_of self.new ≡ keeps_of self.old }
         ensures made { OnOk result (made_of self.new ≤ made_of self.old + 1) }
     {
         if !self.has_topic(topic) {
@@ -89,11 +89,11 @@ impl Timelines {
         topic: &u128,
         change: &PartitionChange,
     ) -> Result<(), ChangeFault>
-        requires valid { IsValid (tip_of self.old) }
+        requires valid { IsValid (present_image self.old) }
         requires agrees { Agrees self.old }
-        ensures changes { Changes self.old self.new result (apply.change_partition (tip_of self.old) index.now topic.now change.now) }
+        ensures changes { Changes self.old self.new result (apply.change_partition (present_image self.old) index.now topic.now change.now) }
         ensures agrees { OnOk result (Agrees self.new) }
-        ensures kept { keeps self.new ≡ keeps self.old }
+        ensures kept { keeps_of self.new ≡ keeps_of self.old }
         ensures made { OnOk result (made_of self.new ≤ made_of self.old + 1) }
     {
         if !self.has_topic(topic) {

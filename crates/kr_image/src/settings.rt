@@ -9,7 +9,7 @@ ghost use Rattle.kr_defs.specs.Map.{config_order};
 ghost use Rattle.kr_defs.specs.declared.limits.TheConstants.{MOST_CONFIG_TEXT as most};
 ghost use Rattle.kr_image.specs.inner.RecordAnswers.{Changes};
 ghost use Rattle.kr_image.specs.Timelines.{lowest as lowest_key};
-ghost use Rattle.kr_image.specs.Timelines.{Agrees, keeps, made_of, tip_of};
+ghost use Rattle.kr_image.specs.Timelines.{Agrees, keeps_of, made_of, present_image};
 
 use crate::entries::{contains, set, unset};
 use crate::sums::added_within;
@@ -90,11 +90,11 @@ fn unset_text(
 
 impl Timelines {
     fn set_value(&mut self, key: ConfigKey, value: &Text) -> Result<(), ChangeFault>
-        requires valid { IsValid (tip_of self.old) }
+        requires valid { IsValid (present_image self.old) }
         requires agrees { Agrees self.old }
-        ensures changes { Changes self.old self.new result (apply.set_config (tip_of self.old) key (Some value.now)) }
+        ensures changes { Changes self.old self.new result (apply.set_config (present_image self.old) key (Some value.now)) }
         ensures agrees { OnOk result (Agrees self.new) }
-        ensures kept { keeps self.new ≡ keeps self.old }
+        ensures kept { keeps_of self.new ≡ keeps_of self.old }
         ensures made { OnOk result (made_of self.new ≤ made_of self.old + 1) }
     {
         let Some(text) = text_with(&self.configs, self.counts.config_bytes, &key, value) else {
@@ -106,11 +106,11 @@ impl Timelines {
     }
 
     fn unset_value(&mut self, key: &ConfigKey) -> Result<(), NoMemory>
-        requires valid { IsValid (tip_of self.old) }
+        requires valid { IsValid (present_image self.old) }
         requires agrees { Agrees self.old }
-        ensures tip { OnOk result (tip_of self.new ≡ record (tip_of self.old) { configs = map.remove config_order (tip_of self.old).configs key.now }) }
+        ensures tip { OnOk result (present_image self.new ≡ record (present_image self.old) { configs = map.remove config_order (present_image self.old).configs key.now }) }
         ensures agrees { OnOk result (Agrees self.new) }
-        ensures kept { keeps self.new ≡ keeps self.old }
+        ensures kept { keeps_of self.new ≡ keeps_of self.old }
         ensures made { OnOk result (made_of self.new ≤ made_of self.old + 1) }
     {
         unset_text(
@@ -130,11 +130,11 @@ impl Timelines {
         key: &Text,
         value: &Option<Text>,
     ) -> Result<(), ChangeFault>
-        requires valid { IsValid (tip_of self.old) }
+        requires valid { IsValid (present_image self.old) }
         requires agrees { Agrees self.old }
-        ensures changes { Changes self.old self.new result (apply.set_config (tip_of self.old) (record { kind = kind.now; name = name.now; key = key.now }) value.now) }
+        ensures changes { Changes self.old self.new result (apply.set_config (present_image self.old) (record { kind = kind.now; name = name.now; key = key.now }) value.now) }
         ensures agrees { OnOk result (Agrees self.new) }
-        ensures kept { keeps self.new ≡ keeps self.old }
+        ensures kept { keeps_of self.new ≡ keeps_of self.old }
         ensures made { OnOk result (made_of self.new ≤ made_of self.old + 1) }
     {
         let key = key_of(self.alloc, kind, name, key)?;

@@ -5,7 +5,7 @@ ghost use Rattle.kr_defs.specs.declared.record.Item.TheVariants as items;
 ghost use Rattle.kr_defs.specs.Weight.{weight};
 ghost use Rattle.kr_store.specs.ItemAnswers.{Applies, Ticks};
 ghost use Rattle.kr_store.specs.Images.{IsAbove, forgotten, kept_at, last_image, last_kept, marked, no_images, reverted};
-ghost use Rattle.kr_image.specs.Timelines.{keeps, made_of, tip_of};
+ghost use Rattle.kr_image.specs.Timelines.{keeps_of, made_of, present_image};
 ghost use Rattle.kr_image.specs.KeptImages.{IsKept, IsStore, images_of};
 
 use crate::kept_counts::{KeptCounts, counts_at, keep_from, keep_up_to, kept_under};
@@ -60,7 +60,7 @@ fn revert<L: Ledger>(
     epoch: &i64,
     steps: &mut Steps<L>,
 ) -> Result<(), NoEpoch>
-    requires { IsKept (keeps timelines.old) kept.old.items }
+    requires { IsKept (keeps_of timelines.old) kept.old.items }
     ensures store { OnOk result (IsStore timelines.new kept.new.items) }
     ensures ok { OnOk result (reverted (images_of timelines.old kept.old.items) epoch.now ≡ Some (images_of timelines.new kept.new.items)) }
     ensures err { OnErr result ((timelines.new ≡ timelines.old) × (kept.new.items ≡ kept.old.items)) }
@@ -133,11 +133,11 @@ impl ImageStore {
 
 // Makes the image of the last kept epoch the present one, whatever the present maps are.
 fn go_back<L: Ledger>(timelines: &mut Timelines, kept: &[KeptCounts], steps: &mut Steps<L>)
-    requires kept { IsKept (keeps timelines.old) kept.now }
+    requires kept { IsKept (keeps_of timelines.old) kept.now }
     requires some { IsSome (last_kept (images_of timelines.old kept.now)) }
     ensures store { IsStore timelines.new kept.now }
-    ensures same { keeps timelines.new ≡ keeps timelines.old }
-    ensures tip { last_image (images_of timelines.old kept.now) ≡ Some (tip_of timelines.new) }
+    ensures same { keeps_of timelines.new ≡ keeps_of timelines.old }
+    ensures tip { last_image (images_of timelines.old kept.now) ≡ Some (present_image timelines.new) }
     ensures made { made_of timelines.new ≡ 0 }
     ensures counted { steps.old ≤ steps.new }
 {
@@ -160,8 +160,8 @@ fn apply_record<L: Ledger>(
     requires some { IsSome (last_kept (images_of timelines.old kept.now)) }
     ensures store { IsStore timelines.new kept.now }
     ensures applied { Applies (images_of timelines.old kept.now) (images_of timelines.new kept.now) result place (items.Record value.now) }
-    ensures same { keeps timelines.new ≡ keeps timelines.old }
-    ensures made { OnOk result (made_of timelines.new ≤ made_of timelines.old + weight (tip_of timelines.old) (items.Record value.now)) }
+    ensures same { keeps_of timelines.new ≡ keeps_of timelines.old }
+    ensures made { OnOk result (made_of timelines.new ≤ made_of timelines.old + weight (present_image timelines.old) (items.Record value.now)) }
     ensures counted { Ticks steps.old steps.new result }
 {
     apply_keeps_valid();
@@ -189,8 +189,8 @@ fn apply<L: Ledger>(
     requires some { IsSome (last_kept (images_of timelines.old kept.now)) }
     ensures store { IsStore timelines.new kept.now }
     ensures applied { Applies (images_of timelines.old kept.now) (images_of timelines.new kept.now) result place item.now }
-    ensures same { keeps timelines.new ≡ keeps timelines.old }
-    ensures made { OnOk result (made_of timelines.new ≤ made_of timelines.old + weight (tip_of timelines.old) item.now) }
+    ensures same { keeps_of timelines.new ≡ keeps_of timelines.old }
+    ensures made { OnOk result (made_of timelines.new ≤ made_of timelines.old + weight (present_image timelines.old) item.now) }
     ensures counted { Ticks steps.old steps.new result }
 {
     match item {

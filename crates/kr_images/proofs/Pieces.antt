@@ -2,7 +2,7 @@
 use Rattle.std.proofs.Common.{◌≡◌, ◌∙◌, ℕ, List, [], ◌∷◌, ◌++◌, length, append_assoc, refl, sym, ap, subst, arith, Result, Ok, Err}
 use Rattle.std.proofs.lemmas.List.{append-nil}
 use Rattle.kr_snapshot.specs.declared.fault.ImageFault.{ImageFault}
-use Rattle.kr_snapshot.specs.ReaderState.{IsFault, StandsFor, answer_of}
+use Rattle.kr_snapshot.specs.ReaderState.{IsFault, StandsFor, feed_answer}
 use Rattle.kr_snapshot.specs.Reading.{Taken, image_of}
 use Rattle.kr_snapshot.proofs.ReaderSteps.{faulty_on, fault_stays}
 
@@ -27,7 +27,7 @@ fed_all reader [] bytes none was = subst (λ (b : List ℕ). StandsFor reader b)
 fed_all reader (x ∷ rest) bytes none was = absurd (omega (arith, none))
 
 -- the fault that was answered is that of all bytes
-pub fed_fault : (after : Result Taken ImageFault) (behind bytes : List ℕ) (fault : ImageFault) → Err fault ≡ answer_of after → IsFed after behind bytes → IsFault fault (image_of bytes)
+pub fed_fault : (after : Result Taken ImageFault) (behind bytes : List ℕ) (fault : ImageFault) → Err fault ≡ feed_answer after → IsFed after behind bytes → IsFault fault (image_of bytes)
 fed_fault (Ok taken) behind bytes fault is was = absurd cc
 fed_fault (Err found) behind bytes fault is was =
     let same : fault ≡ found = cc in

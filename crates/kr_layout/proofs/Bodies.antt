@@ -7,7 +7,7 @@ use Rattle.kr_wire.specs.Reading.{Read}
 use Rattle.kr_wire.proofs.Laws.{Law, IsBytes, IsBytes-behind, all_sound, all_complete}
 use Rattle.kr_layout.specs.declared.fault.BodyFault.{BodyFault}
 use Rattle.kr_layout.specs.declared.fault.BodyFault.TheVariants as bodies
-use Rattle.kr_wire.specs.Schema.{Schema, Is, is_read}
+use Rattle.kr_wire.specs.Schema.{Schema, Is, is_readable}
 use Rattle.kr_layout.specs.Answers.{wired, whole, IsAnswer, Answers, Puts, Appends}
 use Rattle.kr_wire.proofs.Schemas.{law, stands}
 
@@ -21,7 +21,7 @@ wired_law {X} {Is} {read} law = record {
   complete = λ x front rest is. ap wired (law.complete x front rest is);
 }
 
-module _ {X : Type 0} (s : Schema X) (whole_schema : is_read s ≡ true) (bytes : List ℕ) where
+module _ {X : Type 0} (s : Schema X) (whole_schema : is_readable s ≡ true) (bytes : List ℕ) where
   answer_stands : IsBytes bytes → (answer : Result X BodyFault) → IsAnswer answer (whole s bytes) → IfOk answer (λ x. Is s x bytes)
   unfolding whole
   answer_stands fits (Ok x) e = all_sound (wired_law (law s whole_schema)) bodies.Trailing bytes x fits e

@@ -7,7 +7,7 @@ ghost use Rattle.kr_wire.specs.Reading.{elements_at, list_at, list_or_null_at};
 ghost use Rattle.kr_wire.specs.Spelling.{list, list_or_null};
 ghost use Rattle.kr_layout.specs.Answers.{Answers, IsAnswer, Takes, TakesBy, whole};
 ghost use Rattle.kr_wire.specs.Schema as schemas;
-ghost use Rattle.kr_wire.specs.Schema.{Fits, Is, Schema, is_read, least_bytes, value_at, written};
+ghost use Rattle.kr_wire.specs.Schema.{Fits, Is, Schema, is_readable, least_bytes, value_at, written};
 
 use crate::{BodyFault, ReadFault, Reader};
 use kr_defs::{Rows, Text};
@@ -27,7 +27,7 @@ pub trait Get<M>: Drop {
     fn least() -> usize
         ensures { result ≡ least_bytes schema };
 
-    ghost is_whole: { is_read schema ≡ true };
+    ghost is_whole: { is_readable schema ≡ true };
 }
 
 impl<'a, M> Reader<'a, M> {

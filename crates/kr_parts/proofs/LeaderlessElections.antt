@@ -9,7 +9,7 @@ use Rattle.kr_defs.specs.declared.changing.Facts.{Facts}
 use Rattle.kr_defs.specs.declared.changing.Want.{Want}
 use Rattle.kr_defs.specs.declared.partition.Partition.{Partition}
 use Rattle.kr_defs.specs.declared.partition.PartitionChange.{PartitionChange}
-use Rattle.kr_defs.specs.Build.{aimed, built, changed, difference, is_blank, unless}
+use Rattle.kr_defs.specs.Build.{aimed, built, change_between, difference, is_blank, unless}
 use Rattle.kr_defs.specs.Ids.{is_within}
 use Rattle.kr_defs.specs.declared.changing.Mode.TheVariants as modes
 use Rattle.kr_defs.specs.declared.options.Options.{Options}
@@ -54,7 +54,7 @@ named_by change = elim (cases_Bool (is_blank change)) [
   | inr e ↦ rw e refl
 ]
 
-by_difference : (old new : Partition) → old.leader ≡ negsuc 0 → names_nobody (changed old new) ≡ int_eq new.leader (negsuc 0)
+by_difference : (old new : Partition) → old.leader ≡ negsuc 0 → names_nobody (change_between old new) ≡ int_eq new.leader (negsuc 0)
 unfolding difference
 by_difference old new none = named_by (difference old new) ∙ rw none (named new.leader (is_within old.replicas new.replicas))
 

@@ -134,7 +134,7 @@ fn answer_to_leader(
     report: &PartitionReport,
     partition: &Partition,
 ) -> Result<AlterPartitionResult, NoMemory>
-    ensures { IfOk result (λ answer. answer ≡ reporting.told broker.now (topic.now, report.now) partition.now) }
+    ensures { IfOk result (λ answer. answer ≡ reporting.partition_result broker.now (topic.now, report.now) partition.now) }
 {
     if partition.leader != *broker {
         return Ok(refusal_answer(alloc, &NEW_LEADER, topic, report));

@@ -19,7 +19,7 @@ use Rattle.std.proofs.lemmas.Map.Lookups.{exact_signed}
 use Rattle.kr_defs.proofs.Maps.{IsMap-insert, IsMap-remove, All-insert, All-remove}
 use Rattle.kr_defs.specs.Map.{IsMap, get}
 use Rattle.kr_defs.specs.Map as entries
-use Rattle.kr_defs.specs.Placed.{Rack, rack_order, by_id, joined, racks_of}
+use Rattle.kr_defs.specs.Placed.{Rack, rack_order, by_id, into_rack, racks_of}
 
 pub rack_total : IsTotalOrder rack_order
 rack_total = options_total nat_list_cmp_total
@@ -101,18 +101,18 @@ get-gone racks rack ordered =
 filled-push : (xs : List ℤ) (x : ℤ) → 0 < length (xs ++ x ∷ [])
 filled-push xs x = omega (arith, length-append xs (x ∷ []))
 
-joined-filled : (racks : List (Rack × List ℤ)) (b : ℤ × Rack) → All (λ (e : Rack × List ℤ). 0 < length e.1) racks → All (λ (e : Rack × List ℤ). 0 < length e.1) (joined racks b)
+joined-filled : (racks : List (Rack × List ℤ)) (b : ℤ × Rack) → All (λ (e : Rack × List ℤ). 0 < length e.1) racks → All (λ (e : Rack × List ℤ). 0 < length e.1) (into_rack racks b)
 joined-filled racks (id, rack) filled =
     let new : 0 < length (unwrap_or (get rack_order racks rack) [] ++ id ∷ []) = filled-push (unwrap_or (get rack_order racks rack) []) id in
     All-insert rack_order (λ (e : Rack × List ℤ). 0 < length e.1) (entries.remove rack_order racks rack) rack _ (λ j u was. new) new
     (All-remove rack_order (λ (e : Rack × List ℤ). 0 < length e.1) racks rack filled)
 
-pub joined-map : (racks : List (Rack × List ℤ)) (b : ℤ × Rack) → IsMap rack_order racks → IsMap rack_order (joined racks b)
+pub joined-map : (racks : List (Rack × List ℤ)) (b : ℤ × Rack) → IsMap rack_order racks → IsMap rack_order (into_rack racks b)
 joined-map racks (id, rack) ordered = IsMap-insert rack_total (entries.remove rack_order racks rack) rack _ (IsMap-remove rack_total racks rack ordered)
 
-fold-filled : (bs : List (ℤ × Rack)) (racks : List (Rack × List ℤ)) → All (λ (e : Rack × List ℤ). 0 < length e.1) racks → All (λ (e : Rack × List ℤ). 0 < length e.1) (fold joined racks bs)
+fold-filled : (bs : List (ℤ × Rack)) (racks : List (Rack × List ℤ)) → All (λ (e : Rack × List ℤ). 0 < length e.1) racks → All (λ (e : Rack × List ℤ). 0 < length e.1) (fold into_rack racks bs)
 fold-filled [] racks filled = filled
-fold-filled (b ∷ bs) racks filled = fold-filled bs (joined racks b) (joined-filled racks b filled)
+fold-filled (b ∷ bs) racks filled = fold-filled bs (into_rack racks b) (joined-filled racks b filled)
 
 values-filled : (es : List (Rack × List ℤ)) → AllByRecursion (λ (e : Rack × List ℤ). 0 < length e.1) es → AllByRecursion (λ (r : List ℤ). 0 < length r) (values_of es)
 values-filled [] filled = tt
@@ -129,7 +129,7 @@ module _ (f : ℤ → ℕ) where
   sum-push None id = refl
   sum-push (Some xs) id = sum_by_push f xs id
 
-  joined-sum : (racks : List (Rack × List ℤ)) (b : ℤ × Rack) → IsMap rack_order racks → sum_by (sum_by f) (values_of (joined racks b)) ≡ sum_by (sum_by f) (values_of racks) + f b.0
+  joined-sum : (racks : List (Rack × List ℤ)) (b : ℤ × Rack) → IsMap rack_order racks → sum_by (sum_by f) (values_of (into_rack racks b)) ≡ sum_by (sum_by f) (values_of racks) + f b.0
   joined-sum racks (id, rack) ordered =
       let old : Option (List ℤ) = get rack_order racks rack in
       let less : List (Rack × List ℤ) = entries.remove rack_order racks rack in
@@ -141,11 +141,11 @@ module _ (f : ℤ → ℕ) where
       let pushed = sum-push old id in
       omega (arith, without, gone, with_it, pushed)
 
-  group-sum : (bs : List (ℤ × Rack)) (racks : List (Rack × List ℤ)) → IsMap rack_order racks → sum_by (sum_by f) (values_of (fold joined racks bs)) ≡ sum_by (sum_by f) (values_of racks) + sum_by f (keys_of bs)
+  group-sum : (bs : List (ℤ × Rack)) (racks : List (Rack × List ℤ)) → IsMap rack_order racks → sum_by (sum_by f) (values_of (fold into_rack racks bs)) ≡ sum_by (sum_by f) (values_of racks) + sum_by f (keys_of bs)
   group-sum [] racks ordered = omega arith
   group-sum (b ∷ bs) racks ordered =
       let one = joined-sum racks b ordered in
-      let rest = group-sum bs (joined racks b) (joined-map racks b ordered) in
+      let rest = group-sum bs (into_rack racks b) (joined-map racks b ordered) in
       let all = sum_by-cons f b.0 (keys_of bs) in
       omega (arith, one, rest, all)
 

@@ -17,7 +17,7 @@ use Rattle.std.proofs.lemmas.Map.Keys.{IsDistinct-from_sorted}
 use Rattle.std.proofs.lemmas.Map.Made.{length-from_keys, IsDistinct-keys_filter}
 use Rattle.kr_defs.specs.Map.{IsMap, get}
 use Rattle.kr_defs.specs.Map as entries
-use Rattle.kr_defs.specs.Placed.{Rack, rack_order, by_id, joined, racks_of, placed}
+use Rattle.kr_defs.specs.Placed.{Rack, rack_order, by_id, into_rack, racks_of, placed}
 use Rattle.kr_place.specs.Spread.{ids_of, same_rack, rack_count, with_ids}
 use Rattle.kr_place.proofs.RackCoverage.{has, placed-touched}
 use Rattle.kr_place.proofs.Groups.{rack_total, all-other, none-empty, get-gone, joined-map, racks-filled}
@@ -72,9 +72,9 @@ any-sorted p (b ∷ brokers) sorted distinct none =
     any-sorted p brokers (entries.insert int_cmp sorted b.0 b.1) distinct.1 (all-other sorted b.0 b.1 (map (λ (c : ℤ × Rack). c.0) brokers) distinct.0 none.1)
     ∙ ap (λ t. t || list_any p brokers) (any-insert int_cmp p sorted b.0 b.1 none.0) ∙ or_assoc (list_any p sorted) (p b) (list_any p brokers)
 
-fold-map : (bs : List (ℤ × Rack)) (racks : List (Rack × List ℤ)) → IsMap rack_order racks → IsMap rack_order (fold joined racks bs)
+fold-map : (bs : List (ℤ × Rack)) (racks : List (Rack × List ℤ)) → IsMap rack_order racks → IsMap rack_order (fold into_rack racks bs)
 fold-map [] racks ordered = ordered
-fold-map (b ∷ bs) racks ordered = fold-map bs (joined racks b) (joined-map racks b ordered)
+fold-map (b ∷ bs) racks ordered = fold-map bs (into_rack racks b) (joined-map racks b ordered)
 
 module _ (q : Rack) (sel : ℤ → Bool) where
   -- the rack is q, and one of its brokers passes
@@ -94,7 +94,7 @@ module _ (q : Rack) (sel : ℤ → Bool) where
             ap (λ t. at_q e || t) (any-remove es k) ∙ sym (or_assoc (at_q e) (list_any at_q (entries.remove rack_order es k)) (same_rack q k && list_any sel (unwrap_or (get rack_order es k) [])))
       ] refl
 
-  any-joined : (racks : List (Rack × List ℤ)) (b : ℤ × Rack) → IsMap rack_order racks → list_any at_q (joined racks b) ≡ (list_any at_q racks || (same_rack q b.1 && sel b.0))
+  any-joined : (racks : List (Rack × List ℤ)) (b : ℤ × Rack) → IsMap rack_order racks → list_any at_q (into_rack racks b) ≡ (list_any at_q racks || (same_rack q b.1 && sel b.0))
   any-joined racks (id, rack) ordered =
       let old : List ℤ = unwrap_or (get rack_order racks rack) [] in
       let less : List (Rack × List ℤ) = entries.remove rack_order racks rack in
@@ -104,10 +104,10 @@ module _ (q : Rack) (sel : ℤ → Bool) where
       ∙ regroup (list_any at_q less) (same_rack q rack) (list_any sel old) (sel id)
       ∙ ap (λ t. t || (same_rack q rack && sel id)) (sym (any-remove racks rack))
 
-  any-grouped : (bs : List (ℤ × Rack)) (racks : List (Rack × List ℤ)) → IsMap rack_order racks → list_any at_q (fold joined racks bs) ≡ (list_any at_q racks || list_any (λ (b : ℤ × Rack). same_rack q b.1 && sel b.0) bs)
+  any-grouped : (bs : List (ℤ × Rack)) (racks : List (Rack × List ℤ)) → IsMap rack_order racks → list_any at_q (fold into_rack racks bs) ≡ (list_any at_q racks || list_any (λ (b : ℤ × Rack). same_rack q b.1 && sel b.0) bs)
   any-grouped [] racks ordered = or-none (list_any at_q racks)
   any-grouped (b ∷ bs) racks ordered =
-      any-grouped bs (joined racks b) (joined-map racks b ordered)
+      any-grouped bs (into_rack racks b) (joined-map racks b ordered)
       ∙ ap (λ t. t || list_any (λ (c : ℤ × Rack). same_rack q c.1 && sel c.0) bs) (any-joined racks b ordered)
       ∙ or_assoc (list_any at_q racks) (same_rack q b.1 && sel b.0) (list_any (λ (c : ℤ × Rack). same_rack q c.1 && sel c.0) bs)
 
@@ -123,7 +123,7 @@ sum-map f g (x ∷ xs) =
 rack_count-is : (sel : ℤ → Bool) (brokers : List (ℤ × Rack)) → IsDistinct int_eq (ids_of brokers) → rack_count (filter (λ (b : ℤ × Rack). sel b.0) brokers) ≡ count_by (list_any sel) (racks_of brokers)
 unfolding rack_count racks_of IsStrictlySortedBy
 rack_count-is sel brokers distinct =
-    let es : List (Rack × List ℤ) = fold joined [] (by_id brokers) in
+    let es : List (Rack × List ℤ) = fold into_rack [] (by_id brokers) in
     let ordered : IsMap rack_order es = fold-map (by_id brokers) [] tt in
     let t : Rack × List ℤ → Bool = λ e. list_any sel e.1 in
     let keys : List Rack = keys_of (filter t es) in

@@ -4,7 +4,7 @@ ghost use Rattle.std.specs.Prelude.{◌≡◌, ◌<◌, ◌≤◌, ◌+◌, ◌*
 ghost use Rattle.std.specs.Map.{values_of};
 ghost use Rattle.std.specs.Ordering.{int_cmp};
 ghost use Rattle.kr_defs.specs.Map as entries;
-ghost use Rattle.kr_defs.specs.Placed.{rack_order, by_id, joined, racks_of, visit, visited};
+ghost use Rattle.kr_defs.specs.Placed.{rack_order, by_id, into_rack, racks_of, visit, visited};
 
 use kr_base::NoMemory;
 use kr_defs::{Copied, Ids, Text};
@@ -47,7 +47,7 @@ fn without(alloc: Global, racks: &mut Groups, rack: &Option<Text>) -> Ids
 
 // The broker comes last in its rack.
 fn join(alloc: Global, racks: &mut Groups, id: &i32, rack: &Option<Text>) -> Result<(), NoMemory>
-    ensures { OnOk result (racks.new.entries ≡ joined racks.old.entries (id.now, rack.now)) }
+    ensures { OnOk result (racks.new.entries ≡ into_rack racks.old.entries (id.now, rack.now)) }
 {
     let name = Copied::copied(rack, alloc)?;
     let mut ids = without(alloc, racks, rack);
@@ -57,7 +57,7 @@ fn join(alloc: Global, racks: &mut Groups, id: &i32, rack: &Option<Text>) -> Res
 }
 
 fn group_by_rack(alloc: Global, sorted: &Sorted) -> Result<Groups, NoMemory>
-    ensures { IfOk result (λ racks. racks.entries ≡ fold joined [] sorted.now.entries) }
+    ensures { IfOk result (λ racks. racks.entries ≡ fold into_rack [] sorted.now.entries) }
 {
     let mut racks = BTreeMap::new(alloc);
     for (id, rack) in sorted {

@@ -5,7 +5,7 @@ ghost use Rattle.std.specs.List.{list_any};
 ghost use Rattle.kr_defs.specs.Ids.{has};
 ghost use Rattle.kr_defs.specs.Partition.{is_moving};
 ghost use Rattle.kr_calls.specs.ListPartitionReassignments as listing;
-ghost use Rattle.kr_store.specs.Reads.{Reads, seen_at};
+ghost use Rattle.kr_store.specs.Reads.{LooksUp, seen_at};
 
 use crate::lists::is_moving;
 use kr_base::NoMemory;
@@ -164,7 +164,7 @@ pub fn list<S: Store>(
     _options: &Options,
     request: &ListPartitionReassignments,
 ) -> Result<Reply, ReadFault>
-    ensures { Reads (S.images store.now) at result (λ image. listing.queried image request.now) }
+    ensures { LooksUp (S.images store.now) at result (λ image. listing.queried image request.now) }
 {
     look(store, at)?;
     let topics = all_topic_rows(alloc, store, at, &request.topics)?;

@@ -15,7 +15,7 @@ use Rattle.kr_wire.proofs.TaggedSpelling.{field, no_more, tags}
 use Rattle.kr_record.specs.Encodable.{IsShort, IsShortEndpoint, IsShortRange, IsShortBroker, IsShortPartition, IsSpelledChange, IsShortConfig}
 use Rattle.kr_record.specs.RecordRanges.{IsHeldEndpoint, IsHeldRange, IsHeldBroker, IsHeldPartition, IsHeldChange, IsHeldConfig}
 use Rattle.kr_record.specs.Grammar.{IsEndpoint, IsRange, IsRegistration, IsBrokerEpoch, IsTopic, IsTopicId, AreExtras, extras_of, IsPartition, IsConfig, AreChanges, IsChange, IsFeature, AreFlags, IsRegistrationChange}
-use Rattle.kr_record.specs.Spelling.{no_tags, endpoint, range, registration, broker_epoch, topic, topic_id, two_ids, placed, led, partition, partition_tags, config, change, change_tags, feature, flag_tags, registration_change}
+use Rattle.kr_record.specs.Spelling.{no_tags, endpoint, range, spelled_registration, broker_epoch, topic, topic_id, two_ids, place_and_lists, led, partition, partition_tags, config, change, change_tags, feature, flag_tags, registration_change}
 use Rattle.kr_record.proofs.PartSpelling.{text_or_null, directories, byte, leader, recovery, ids_or_null, ids_or_empty}
 
 pub end : Spells NoTags no_tags 1 (Unit {0}) (Unit {0})
@@ -32,8 +32,8 @@ range_spells : (r : Range) → Spells (IsRange r) (range r) (text_bytes r.name +
 unfolding range
 range_spells r = spells (text r.name plus int16 r.min plus int16 r.max plus end) (simp append_assoc) (omega arith) (λ s. (s, (tt, (tt, tt)))) (λ h. (h.name, (h.min, (h.max, tt))))
 
-pub registration_spells : (broker : ℤ) (b : Broker) → Spells (IsRegistration 1 (broker, b)) (registration broker b) (registration_bytes b) (IsShortBroker b) (FitsSigned w32 broker × IsHeldBroker b)
-unfolding registration
+pub registration_spells : (broker : ℤ) (b : Broker) → Spells (IsRegistration 1 (broker, b)) (spelled_registration broker b) (registration_bytes b) (IsShortBroker b) (FitsSigned w32 broker × IsHeldBroker b)
+unfolding spelled_registration
 registration_spells broker b = spells
     (int32 broker plus id b.incarnation plus int64 b.epoch plus list endpoint_spells b.endpoints plus list range_spells b.features plus text_or_null b.rack plus bool b.fenced plus bool b.stopping plus end)
     (simp append_assoc) (omega arith)
@@ -54,7 +54,7 @@ topic_id_spells n = spells (id n plus end) refl (omega arith) (λ s. (tt, tt)) (
 
 pub partition_spells : (index : ℤ) (n : ℕ) (p : Partition)
     → Spells (IsPartition 2 (index, n, p)) (partition index n p) (partition_bytes p) (IsShortPartition p) (FitsSigned w32 index × (n < 2 ^ 128) × IsHeldPartition p)
-unfolding partition placed led two_ids partition_tags
+unfolding partition place_and_lists led two_ids partition_tags
 partition_spells index n p =
     let fields = field 0 (lit< tt) (byte p.recovery) (field 1 (lit< tt) (ids_or_empty p.eligible) (field 2 (lit< tt) (ids_or_empty p.last_known) no_more)) in
     let extras : Spells (IsTags (AreExtras 2 (extras_of p))) (partition_tags p) _ (IsShortPartition p) (IsHeldPartition p) =

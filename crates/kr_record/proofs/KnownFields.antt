@@ -10,13 +10,13 @@ use Rattle.kr_wire.proofs.Numbers.{signed_law}
 use Rattle.kr_wire.proofs.Tables.{IsPart, part_of, same_part, Fields, NoField, Field, Are, fields_law, absent_as}
 use Rattle.kr_defs.specs.declared.partition.PartitionChange.{PartitionChange}
 use Rattle.kr_record.specs.Reading.{ids_or_null_at, dropped_at, first_with_change, changes_at, first_with_flag, flags_at, first_with_extra, extras_at}
-use Rattle.kr_record.specs.Grammar.{unless, no_leader_change, no_recovery_change, IsIdsOrNull, IsIdsOrEmpty, IsUnless, IsDropped, AreChanges, AreFlags, AreExtras}
+use Rattle.kr_record.specs.Grammar.{unless_default, no_leader_change, no_recovery_change, IsIdsOrNull, IsIdsOrEmpty, IsUnless, IsDropped, AreChanges, AreFlags, AreExtras}
 use Rattle.kr_record.proofs.Parts.{ids_or_null_law, null_directories_law}
 
 -- ---- parts
 
-unless_part : (w : Width) (default : ℤ) → IsPart (signed_at w) (unless default) (IsUnless w default)
-unless_part w default = part_of (signed_law w) (unless default) (IsUnless w default) (λ n d is. record { n = n; is = refl; spelled = is }) (λ o d is. (is.n, is.spelled, sym is.is))
+unless_part : (w : Width) (default : ℤ) → IsPart (signed_at w) (unless_default default) (IsUnless w default)
+unless_part w default = part_of (signed_law w) (unless_default default) (IsUnless w default) (λ n d is. record { n = n; is = refl; spelled = is }) (λ o d is. (is.n, is.spelled, sym is.is))
 
 -- null and none are the same
 abbrev or_empty : Option (List ℤ) → List ℤ

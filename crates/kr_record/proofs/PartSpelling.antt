@@ -16,7 +16,7 @@ use Rattle.kr_wire.proofs.SpellingLaws.{Spells, spells, int8, int32, id, small, 
 use Rattle.kr_wire.proofs.TaggedSpelling.{SpellsField, absent, present}
 use Rattle.kr_record.specs.Encodable.{IsShort, FitsField}
 use Rattle.kr_record.specs.RecordRanges.{AreInts}
-use Rattle.kr_record.specs.Grammar.{unless, IsIdsOrNull, IsIdsOrEmpty, IsUnless, IsDropped}
+use Rattle.kr_record.specs.Grammar.{unless_default, IsIdsOrNull, IsIdsOrEmpty, IsUnless, IsDropped}
 use Rattle.kr_record.specs.Spelling.{ids, unless_empty, no_directories}
 use Rattle.kr_record.proofs.RecordWriting.{length_ids}
 
@@ -44,7 +44,7 @@ directories replicas =
 
 -- ---- a number that is left out at its default
 
-pub byte : (n : ℤ) → SpellsField (IsSigned w8 n) (n ≡ pos 0) (option_map (written.signed w8) (unless (pos 0) n)) (number_field 1 (pos 0) n) (Unit {0}) (FitsSigned w8 n)
+pub byte : (n : ℤ) → SpellsField (IsSigned w8 n) (n ≡ pos 0) (option_map (written.signed w8) (unless_default (pos 0) n)) (number_field 1 (pos 0) n) (Unit {0}) (FitsSigned w8 n)
 byte n =
     let T : Bool → Type 0 = λ b. int_eq n (pos 0) ≡ b → SpellsField (IsSigned w8 n) (n ≡ pos 0) (option_map (written.signed w8) (cond b None (Some n))) (cond b None (Some 1)) (Unit {0}) (FitsSigned w8 n) in
     let step : T (int_eq n (pos 0)) = elim (int_eq n (pos 0)) as T [

@@ -9,7 +9,7 @@ use Rattle.std.proofs.lemmas.Grind.{flat_map-append}
 use Rattle.kr_defs.specs.declared.partition.Partition.{Partition}
 use Rattle.kr_defs.specs.declared.partition.PartitionChange.{PartitionChange}
 use Rattle.kr_wire.specs.Spelling.{uvarint, signed, id, tag, field, tagged, tags}
-use Rattle.kr_record.specs.Grammar.{unless}
+use Rattle.kr_record.specs.Grammar.{unless_default}
 use Rattle.kr_wire.proofs.Lengths.{length_signed_8, length_signed_32, length_list}
 use Rattle.kr_record.specs.Spelling.{ids, no_directories, unless_empty, partition_tags, change_fields, change_tags, first_changes, later_changes, flag_tags}
 
@@ -44,26 +44,26 @@ eight_fields : (a b c d e f g h : List (ℕ × List ℕ)) → tags (a ++ b ++ c 
 eight_fields a b c d e f g h = simp (flat_map-append, append_assoc)
 
 pub partition_tags_written : (p : Partition) → partition_tags p
-    ≡ uvarint (one_if (unless (pos 0) p.recovery) + one_if (unless_empty p.eligible) + one_if (unless_empty p.last_known))
-    ++ flat_map field (tagged 0 (option_map (signed w8) (unless (pos 0) p.recovery)))
+    ≡ uvarint (one_if (unless_default (pos 0) p.recovery) + one_if (unless_empty p.eligible) + one_if (unless_empty p.last_known))
+    ++ flat_map field (tagged 0 (option_map (signed w8) (unless_default (pos 0) p.recovery)))
     ++ flat_map field (tagged 1 (option_map ids (unless_empty p.eligible)))
     ++ flat_map field (tagged 2 (option_map ids (unless_empty p.last_known)))
 unfolding partition_tags
 partition_tags_written p =
-    let n = counted (signed w8) 0 (unless (pos 0) p.recovery) in
+    let n = counted (signed w8) 0 (unless_default (pos 0) p.recovery) in
     let m = counted ids 1 (unless_empty p.eligible) in
     let k = counted ids 2 (unless_empty p.last_known) in
-    three_fields (tagged 0 (option_map (signed w8) (unless (pos 0) p.recovery))) (tagged 1 (option_map ids (unless_empty p.eligible))) (tagged 2 (option_map ids (unless_empty p.last_known))) ∙ rw (n, m, k) refl
+    three_fields (tagged 0 (option_map (signed w8) (unless_default (pos 0) p.recovery))) (tagged 1 (option_map ids (unless_empty p.eligible))) (tagged 2 (option_map ids (unless_empty p.last_known))) ∙ rw (n, m, k) refl
 
 pub flag_tags_written : (fenced stopping : ℤ) → flag_tags fenced stopping
-    ≡ uvarint (one_if (unless (pos 0) fenced) + one_if (unless (pos 0) stopping))
-    ++ flat_map field (tagged 0 (option_map (signed w8) (unless (pos 0) fenced)))
-    ++ flat_map field (tagged 1 (option_map (signed w8) (unless (pos 0) stopping)))
+    ≡ uvarint (one_if (unless_default (pos 0) fenced) + one_if (unless_default (pos 0) stopping))
+    ++ flat_map field (tagged 0 (option_map (signed w8) (unless_default (pos 0) fenced)))
+    ++ flat_map field (tagged 1 (option_map (signed w8) (unless_default (pos 0) stopping)))
 unfolding flag_tags
 flag_tags_written fenced stopping =
-    let n = counted (signed w8) 0 (unless (pos 0) fenced) in
-    let m = counted (signed w8) 1 (unless (pos 0) stopping) in
-    two_fields (tagged 0 (option_map (signed w8) (unless (pos 0) fenced))) (tagged 1 (option_map (signed w8) (unless (pos 0) stopping))) ∙ rw (n, m) refl
+    let n = counted (signed w8) 0 (unless_default (pos 0) fenced) in
+    let m = counted (signed w8) 1 (unless_default (pos 0) stopping) in
+    two_fields (tagged 0 (option_map (signed w8) (unless_default (pos 0) fenced))) (tagged 1 (option_map (signed w8) (unless_default (pos 0) stopping))) ∙ rw (n, m) refl
 
 pub change_count : (c : PartitionChange) → length (change_fields c)
     ≡ one_if c.in_sync + one_if c.leader + one_if c.replicas + one_if c.removing + one_if c.adding + one_if c.recovery + one_if c.eligible + one_if c.last_known

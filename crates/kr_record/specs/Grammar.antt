@@ -29,13 +29,13 @@ pub record IsIdsOrEmpty (ids : List ℤ) (bytes : List ℕ) : Type 0 where
   pub spelled : IsIdsOrNull listed bytes
 
 -- a number that is left out at its default
-abbrev pub unless : ℤ → ℤ → Option ℤ
-unless default n = if int_eq n default then None else Some n
+abbrev pub unless_default : ℤ → ℤ → Option ℤ
+unless_default default n = if int_eq n default then None else Some n
 
 -- a number, none at its default
 pub record IsUnless (w : Width) (default : ℤ) (o : Option ℤ) (bytes : List ℕ) : Type 0 where
   pub n : ℤ
-  pub is : o ≡ unless default n
+  pub is : o ≡ unless_default default n
   pub spelled : IsSigned w n bytes
 
 -- a value that is dropped

@@ -16,7 +16,7 @@ use Rattle.kr_record.specs.declared.fault.RecordFault.TheVariants as faults
 use Rattle.kr_record.specs.declared.flags.Flags.{Flags}
 use Rattle.kr_record.specs.declared.partition.Extras.{Extras}
 use Rattle.kr_record.specs.Answers.{GivesField}
-use Rattle.kr_record.specs.Grammar.{unless, no_leader_change, no_recovery_change}
+use Rattle.kr_record.specs.Grammar.{unless_default, no_leader_change, no_recovery_change}
 
 -- ---- parts
 
@@ -151,11 +151,11 @@ no_change = record { in_sync = None; replicas = None; removing = None; adding = 
 abbrev pub all_changes : List (ℕ × (PartitionChange → List ℕ → Result PartitionChange WireFault))
 all_changes =
     (0, field_as ids_or_null_at (λ c x. record c { in_sync = x })) ∷
-    (1, field_as (signed_at w32) (λ c x. record c { leader = unless no_leader_change x })) ∷
+    (1, field_as (signed_at w32) (λ c x. record c { leader = unless_default no_leader_change x })) ∷
     (2, field_as ids_or_null_at (λ c x. record c { replicas = x })) ∷
     (3, field_as ids_or_null_at (λ c x. record c { removing = x })) ∷
     (4, field_as ids_or_null_at (λ c x. record c { adding = x })) ∷
-    (5, field_as (signed_at w8) (λ c x. record c { recovery = unless no_recovery_change x })) ∷
+    (5, field_as (signed_at w8) (λ c x. record c { recovery = unless_default no_recovery_change x })) ∷
     (6, field_as ids_or_null_at (λ c x. record c { eligible = x })) ∷
     (7, field_as ids_or_null_at (λ c x. record c { last_known = x })) ∷
     (8, field_as (dropped_at (list_or_null_at id_at)) (λ c x. c)) ∷ []

@@ -10,7 +10,7 @@ use Rattle.kr_defs.specs.declared.partition.Partition.{Partition}
 use Rattle.kr_defs.specs.declared.partition.PartitionChange.{PartitionChange}
 use Rattle.kr_defs.specs.declared.record.Record.{Record}
 use Rattle.kr_defs.specs.declared.record.Record.TheVariants as kinds
-use Rattle.kr_record.specs.Grammar.{unless}
+use Rattle.kr_record.specs.Grammar.{unless_default}
 use Rattle.kr_wire.specs.Spelling.{uvarint, number, signed, bool, id, text, text_or_null, list, field, tags, tagged}
 
 -- ---- parts
@@ -37,8 +37,8 @@ endpoint e = text e.name ++ text e.host ++ number w16 e.port ++ signed w16 e.pro
 unfoldable pub range : Range → List ℕ
 range r = text r.name ++ signed w16 r.min ++ signed w16 r.max ++ no_tags
 
-unfoldable pub registration : ℤ → Broker → List ℕ
-registration broker b =
+unfoldable pub spelled_registration : ℤ → Broker → List ℕ
+spelled_registration broker b =
     signed w32 broker ++ id b.incarnation ++ signed w64 b.epoch ++ list endpoint b.endpoints ++ list range b.features
     ++ text_or_null b.rack ++ bool b.fenced ++ bool b.stopping ++ no_tags
 
@@ -63,7 +63,7 @@ no_directories replicas = map (λ r. 0) replicas
 
 abbrev pub partition_fields : Partition → List (ℕ × List ℕ)
 partition_fields p =
-    tagged 0 (option_map (signed w8) (unless (pos 0) p.recovery))
+    tagged 0 (option_map (signed w8) (unless_default (pos 0) p.recovery))
     ++ tagged 1 (option_map ids (unless_empty p.eligible))
     ++ tagged 2 (option_map ids (unless_empty p.last_known))
 
@@ -71,15 +71,15 @@ unfoldable pub partition_tags : Partition → List ℕ
 partition_tags p = tags (partition_fields p)
 
 -- its place, and its lists of replicas
-unfoldable pub placed : ℤ → ℕ → Partition → List ℕ
-placed index topic p = signed w32 index ++ id topic ++ two_ids p.replicas p.in_sync ++ two_ids p.removing p.adding
+unfoldable pub place_and_lists : ℤ → ℕ → Partition → List ℕ
+place_and_lists index topic p = signed w32 index ++ id topic ++ two_ids p.replicas p.in_sync ++ two_ids p.removing p.adding
 
 -- its leader and epochs, and what is behind them
 unfoldable pub led : Partition → List ℕ
 led p = signed w32 p.leader ++ signed w32 p.leader_epoch ++ signed w32 p.partition_epoch ++ list id (no_directories p.replicas) ++ partition_tags p
 
 unfoldable pub partition : ℤ → ℕ → Partition → List ℕ
-partition index topic p = placed index topic p ++ led p
+partition index topic p = place_and_lists index topic p ++ led p
 
 -- ---- Config, version 0 (KIP-631)
 
@@ -129,8 +129,8 @@ feature name level = text name ++ signed w16 level ++ no_tags
 
 abbrev pub flags : ℤ → ℤ → List (ℕ × List ℕ)
 flags fenced stopping =
-    tagged 0 (option_map (signed w8) (unless (pos 0) fenced))
-    ++ tagged 1 (option_map (signed w8) (unless (pos 0) stopping))
+    tagged 0 (option_map (signed w8) (unless_default (pos 0) fenced))
+    ++ tagged 1 (option_map (signed w8) (unless_default (pos 0) stopping))
 
 unfoldable pub flag_tags : ℤ → ℤ → List ℕ
 flag_tags fenced stopping = tags (flags fenced stopping)
@@ -159,7 +159,7 @@ kind_of (kinds.BrokerRegistrationChange broker epoch fenced stopping) = (17, 1)
 kind_of kinds.NoOp = (20, 0)
 
 abbrev pub layout_of : Record → List ℕ
-layout_of (kinds.RegisterBroker broker state) = registration broker state
+layout_of (kinds.RegisterBroker broker state) = spelled_registration broker state
 layout_of (kinds.UnregisterBroker broker epoch) = broker_epoch broker epoch
 layout_of (kinds.Topic name topic_id) = topic name topic_id
 layout_of (kinds.Partition index topic state) = partition index topic state

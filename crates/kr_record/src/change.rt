@@ -3,7 +3,7 @@
 ghost use Rattle.std.specs.Prelude.{◌≡◌, ◌≤◌, ◌<◌, length, drop};
 ghost use Rattle.kr_defs.specs.declared.record.Record.TheVariants as kinds;
 ghost use Rattle.kr_wire.specs.Reading.{field_of, known_in};
-ghost use Rattle.kr_record.specs.Grammar.{no_leader_change, no_recovery_change, unless};
+ghost use Rattle.kr_record.specs.Grammar.{no_leader_change, no_recovery_change, unless_default};
 ghost use Rattle.kr_record.specs.Answers.{ReadsField, Sets};
 ghost use Rattle.kr_record.specs.Reading.{ReadsKind, all_changes, change_at, changes_at, first_with_change, known_since};
 
@@ -51,14 +51,14 @@ fn first_version(tag: u32) -> u32
 
 // A leader, none where the number says that it doesn't change.
 fn leader_of(number: i32) -> Option<i32>
-    ensures { result ≡ unless no_leader_change number }
+    ensures { result ≡ unless_default no_leader_change number }
 {
     if number == -2 { None } else { Some(number) }
 }
 
 // A recovery state, none where the number says that it doesn't change.
 fn recovery_of(number: i8) -> Option<i8>
-    ensures { result ≡ unless no_recovery_change number }
+    ensures { result ≡ unless_default no_recovery_change number }
 {
     if number == -1 { None } else { Some(number) }
 }

@@ -5,7 +5,7 @@ ghost use Rattle.std.specs.Int.{w8, w32};
 ghost use Rattle.std.specs.Option.{option_map};
 ghost use Rattle.std.specs.List.{flat_map};
 ghost use Rattle.kr_wire.specs.Spelling.{field, signed, tagged, uvarint};
-ghost use Rattle.kr_record.specs.Grammar.{unless};
+ghost use Rattle.kr_record.specs.Grammar.{unless_default};
 ghost use Rattle.kr_record.specs.Encodable.{FitsField, IsShortPartition, IsSpelledChange};
 ghost use Rattle.kr_record.specs.Spelling;
 ghost use Rattle.kr_record.specs.Spelling.{change_fields, change_tags, first_changes, flag_tags, ids, later_changes, partition_tags};
@@ -51,7 +51,7 @@ fn unless_empty(list: &Ids) -> Option<&Ids>
 
 // A number, unless it is 0.
 fn unless_zero(number: &i8) -> Option<&i8>
-    ensures { option_map (λ n. n.now) result ≡ unless (pos 0) number.now }
+    ensures { option_map (λ n. n.now) result ≡ unless_default (pos 0) number.now }
 {
     if *number == 0 { None } else { Some(number) }
 }

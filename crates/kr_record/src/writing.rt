@@ -5,7 +5,7 @@ ghost use Rattle.kr_defs.specs.Sizes.{value_bytes};
 ghost use Rattle.kr_record.specs.Encodable.{IsEncodable, IsShort, IsShortBroker, IsShortConfig, IsShortPartition, IsSpelledChange};
 ghost use Rattle.kr_record.specs.Grammar.{IsRecord};
 ghost use Rattle.kr_record.specs.Spelling;
-ghost use Rattle.kr_record.specs.Spelling.{broker_epoch, change, config, feature, framed, layout_of, led, partition, placed, record_value, registration, registration_change, topic, topic_id, two_ids};
+ghost use Rattle.kr_record.specs.Spelling.{broker_epoch, change, config, feature, framed, layout_of, led, partition, place_and_lists, record_value, spelled_registration, registration_change, topic, topic_id, two_ids};
 
 use crate::fields::{put_change_fields, put_extras, put_flags};
 use crate::held::record_is_held;
@@ -46,10 +46,10 @@ fn put_frame(out: &mut Vec<u8>, key: u32, version: u32) -> Result<(), AllocError
     put_uvarint(out, version)
 }
 
-#[tactic(auto, unfolding(crate::specs::Spelling::registration))]
+#[tactic(auto, unfolding(crate::specs::Spelling::spelled_registration))]
 fn put_registration(out: &mut Vec<u8>, broker: &i32, state: &Broker) -> Result<(), AllocError>
     requires { IsShortBroker state.now }
-    ensures { OnOk result (out.new.items ≡ out.old.items ++ registration broker.now state.now) }
+    ensures { OnOk result (out.new.items ≡ out.old.items ++ spelled_registration broker.now state.now) }
 {
     broker.put(out)?;
     put_id(out, state.incarnation)?;
@@ -104,7 +104,7 @@ fn put_partition(
 }
 
 // The place of a partition, and its lists of replicas.
-#[tactic(auto, unfolding(crate::specs::Spelling::placed))]
+#[tactic(auto, unfolding(crate::specs::Spelling::place_and_lists))]
 fn put_placed(
     out: &mut Vec<u8>,
     index: &i32,
@@ -112,7 +112,7 @@ fn put_placed(
     state: &Partition,
 ) -> Result<(), AllocError>
     requires { IsShortPartition state.now }
-    ensures { OnOk result (out.new.items ≡ out.old.items ++ placed index.now topic state.now) }
+    ensures { OnOk result (out.new.items ≡ out.old.items ++ place_and_lists index.now topic state.now) }
 {
     index.put(out)?;
     put_id(out, topic)?;

@@ -20,7 +20,7 @@ use Rattle.kr_calls.specs.declared.calls.Request.{Request}
 use Rattle.kr_req.specs.declared.api.ApiKey.{ApiKey}
 use Rattle.kr_req.specs.declared.api.ApiKey.TheVariants as apis
 use Rattle.kr_req.specs.Messages.{number_of, version_of, api_of, IsServed, IsStart, IsCall, IsAsk, short, unsupported, call, trailing, unread}
-use Rattle.kr_req.specs.Reading.{is_api, served, served_by, start_at, called_ask, known_ask, started_ask, ask_of}
+use Rattle.kr_req.specs.Reading.{is_api, served, served_by, head_at, called_ask, known_ask, started_ask, ask_of}
 use Rattle.kr_req.proofs.Headers.{start_law}
 use Rattle.kr_req.proofs.Bodies.{rest_at, rest_sound, rest_complete, ended, request_is}
 
@@ -62,8 +62,8 @@ serves_key key version s =
 
 -- what begins a message is read first
 starts : (key version correlation : ℤ) (message rest : List ℕ) → Front (IsStart key version correlation) message rest
-    → start_at message ≡ Ok ((key, version, correlation), rest)
-starts key version correlation message rest f = ap start_at f.parts ∙ start_law.complete (key, version, correlation) f.front rest f.holds
+    → head_at message ≡ Ok ((key, version, correlation), rest)
+starts key version correlation message rest f = ap head_at f.parts ∙ start_law.complete (key, version, correlation) f.front rest f.holds
 
 start_long : (key version correlation : ℤ) (bytes : List ℕ) → IsStart key version correlation bytes → length bytes ≡ 8
 start_long key version correlation bytes is =
@@ -78,8 +78,8 @@ start_long key version correlation bytes is =
 signed_whole : (w : Width) (bytes : List ℕ) → byte_len w ≤ length bytes → signed_at w bytes ≡ Ok (cast_signed w (from_be_bytes w (take (byte_len w) bytes)), drop (byte_len w) bytes)
 signed_whole w bytes long = rw (le-ltb (length bytes) (byte_len w) long) refl
 
-no_start : (message : List ℕ) (e : WireFault) → 8 ≤ length message → start_at message ≡ Err e → ⊥
-unfolding start_at
+no_start : (message : List ℕ) (e : WireFault) → 8 ≤ length message → head_at message ≡ Err e → ⊥
+unfolding head_at
 no_start message e long bad =
     let l2 : length (drop 2 message) ≡ length message - 2 = length-drop 2 message in
     let l4 : length (drop 2 (drop 2 message)) ≡ length message - 2 - 2 = length-drop 2 (drop 2 message) ∙ ap (λ n. n - 2) l2 in
@@ -135,7 +135,7 @@ unserved : (key version : ℤ) → (IsServed key version → ⊥) → (found : O
 unserved key version none None e = refl
 unserved key version none (Some api) e = let h = served_is key version api e in absurd (none (record { api = api; number = h.0; at_version = h.1 }))
 
-started_short : (message : List ℕ) → IsBytes message → length message < 8 → (read : Read (ℤ × ℤ × ℤ)) → start_at message ≡ read
+started_short : (message : List ℕ) → IsBytes message → length message < 8 → (read : Read (ℤ × ℤ × ℤ)) → head_at message ≡ read
     → started_ask read ≡ asks.Bare (pos 0) faults.Wire
 started_short message fits lt (Err fault) e = refl
 started_short message fits lt (Ok s) e =
@@ -146,7 +146,7 @@ started_short message fits lt (Ok s) e =
 
 pub ask_is : (ask : Ask) (message : List ℕ) → IsBytes message → IsAsk ask message → ask_of message ≡ ask
 unfolding ask_of
-ask_is _ message fits (short _ lt) = started_short message fits lt (start_at message) refl
+ask_is _ message fits (short _ lt) = started_short message fits lt (head_at message) refl
 ask_is _ message fits (unsupported key version correlation _ begins none) =
     rw (starts key version correlation message begins.0 begins.1, unserved key version none (served_by key version) refl) refl
 ask_is _ message fits (call c _ is) = asks_call c message [] (record { front = message; parts = sym (append-nil message); holds = is })
@@ -200,7 +200,7 @@ known_found key version correlation message rest fits f (Some api) e =
     let h = served_is key version api e in
     rw (request_is api rest) (read_found key version correlation message rest fits f api h.0 h.1 (rest_at api rest) refl)
 
-started_found : (message : List ℕ) → IsBytes message → (read : Read (ℤ × ℤ × ℤ)) → start_at message ≡ read → IsAsk (started_ask read) message
+started_found : (message : List ℕ) → IsBytes message → (read : Read (ℤ × ℤ × ℤ)) → head_at message ≡ read → IsAsk (started_ask read) message
 started_found message fits (Ok s) e =
     known_found s.0.0 s.0.1 s.0.2 message s.1 fits (start_law.sound message fits s.0 s.1 e) (served_by s.0.0 s.0.1) refl
 started_found message fits (Err fault) e = elim (cases_lt (length message) 8) [
@@ -210,7 +210,7 @@ started_found message fits (Err fault) e = elim (cases_lt (length message) 8) [
 
 pub ask_found : (message : List ℕ) → IsBytes message → IsAsk (ask_of message) message
 unfolding ask_of
-ask_found message fits = started_found message fits (start_at message) refl
+ask_found message fits = started_found message fits (head_at message) refl
 
 -- ---- what a decoder's answer says
 

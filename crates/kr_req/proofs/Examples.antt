@@ -11,7 +11,7 @@ use Rattle.kr_calls.specs.declared.calls.AskFault.TheVariants as faults
 use Rattle.kr_calls.specs.declared.calls.Request.TheVariants as requests
 use Rattle.kr_calls.specs.declared.calls.Reply.TheVariants as replies
 use Rattle.kr_calls.specs.Refuse.{refuse}
-use Rattle.kr_req.specs.Reading.{served_by, start_at, client_id_at, client_at, body_of, request_of, ask_of}
+use Rattle.kr_req.specs.Reading.{served_by, head_at, client_id_at, client_at, body_of, request_of, ask_of}
 use Rattle.kr_req_broker.specs.Layouts.{broker_heartbeat_reply}
 
 -- a heartbeat of broker 1 with epoch 0 at offset 4, under the correlation id 2, without client id
@@ -26,22 +26,22 @@ pub heartbeat_asked :
       correlation = pos 2;
       request = requests.BrokerHeartbeat (record { broker = pos 1; epoch = pos 0; offset = pos 4; want_fence = false; want_shutdown = false });
     })
-unfolding ask_of start_at served_by request_of client_at client_id_at body_of whole tags_at fields_at uvarint_at
+unfolding ask_of head_at served_by request_of client_at client_id_at body_of whole tags_at fields_at uvarint_at
 heartbeat_asked = refl
 
 -- one byte is left behind it
 pub heartbeat_and_more : ask_of (heartbeat ++ 0 ∷ []) ≡ asks.Bare (pos 2) faults.Trailing
-unfolding ask_of start_at served_by request_of client_at client_id_at body_of whole tags_at fields_at uvarint_at
+unfolding ask_of head_at served_by request_of client_at client_id_at body_of whole tags_at fields_at uvarint_at
 heartbeat_and_more = refl
 
 -- seven bytes, of a key that isn't served
 pub too_short : ask_of (0 ∷ 18 ∷ 0 ∷ 3 ∷ 0 ∷ 0 ∷ 0 ∷ []) ≡ asks.Bare (pos 0) faults.Wire
-unfolding ask_of start_at
+unfolding ask_of head_at
 too_short = refl
 
 -- ApiVersions isn't served, whatever follows
 pub api_versions : ask_of (0 ∷ 18 ∷ 0 ∷ 3 ∷ 0 ∷ 0 ∷ 0 ∷ 1 ∷ 0xFF ∷ 0xFF ∷ 0 ∷ []) ≡ asks.Bare (pos 1) (faults.Unsupported (pos 18) (pos 3))
-unfolding ask_of start_at served_by
+unfolding ask_of head_at served_by
 api_versions = refl
 
 -- the reply to the heartbeat, which unfences

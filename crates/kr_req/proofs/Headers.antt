@@ -12,7 +12,7 @@ use Rattle.kr_wire.proofs.Laws.{IsBytes, Yields, Law, joined, sound_then, sound_
 use Rattle.kr_wire.proofs.Numbers.{signed_law, utf8_law, IsUtf8Piece}
 use Rattle.kr_wire.proofs.Tags.{no_tags_law}
 use Rattle.kr_req.specs.Messages.{IsSizedText, IsClientId, IsClient, IsStart}
-use Rattle.kr_req.specs.Reading.{sized_text_at, client_id_at, client_at, start_at}
+use Rattle.kr_req.specs.Reading.{sized_text_at, client_id_at, client_at, head_at}
 
 -- ---- client ids
 
@@ -46,8 +46,8 @@ client_id_law = record {
 
 -- ---- the two parts of a header
 
-pub start_law : Law (λ s. IsStart s.0 s.1 s.2) start_at
-unfolding start_at
+pub start_law : Law (λ s. IsStart s.0 s.1 s.2) head_at
+unfolding head_at
 start_law = record {
   sound = λ bytes fits. sound_then (signed_law w16) (λ (s : ℤ × ℤ × ℤ). IsStart s.0 s.1 s.2) _ bytes fits (λ key a rest first more.
       sound_then (signed_law w16) _ _ rest more (λ version b rest second more.

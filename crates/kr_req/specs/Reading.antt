@@ -43,8 +43,8 @@ abbrev pub Passes : Result ℕ WireFault → List ℕ → Read (Unit {0}) → Ty
 Passes result bytes read = MatchResult result (λ next. (read ≡ Ok (tt, drop next bytes)) × (next ≤ length bytes)) (λ e. read ≡ Err e)
 
 -- key, version and correlation id
-unfoldable pub start_at : List ℕ → Read (ℤ × ℤ × ℤ)
-start_at bytes = do
+unfoldable pub head_at : List ℕ → Read (ℤ × ℤ × ℤ)
+head_at bytes = do
   key ← signed_at w16 bytes
   version ← signed_at w16 key.1
   correlation ← signed_at w32 version.1
@@ -107,4 +107,4 @@ started_ask (Err fault) = asks.Bare (pos 0) faults.Wire
 started_ask (Ok (start, rest)) = begun_ask start rest
 
 unfoldable pub ask_of : List ℕ → Ask
-ask_of message = started_ask (start_at message)
+ask_of message = started_ask (head_at message)

@@ -2,7 +2,7 @@
 
 ghost use Rattle.std.specs.Prelude.{◌≤◌, length, drop};
 ghost use Rattle.kr_wire.specs.Reading.{Reads};
-ghost use Rattle.kr_req.specs.Reading.{Passes, client_at, client_id_at, sized_text_at, start_at};
+ghost use Rattle.kr_req.specs.Reading.{Passes, client_at, client_id_at, sized_text_at, head_at};
 
 use kr_wire::{WireFault, read_i16, read_i32, read_utf8, skip_tags};
 
@@ -14,10 +14,10 @@ pub struct Start {
     pub correlation: i32,
 }
 
-#[tactic(auto, unfolding(crate::specs::Reading::start_at))]
+#[tactic(auto, unfolding(crate::specs::Reading::head_at))]
 pub fn read_start(message: &[u8], at: usize) -> Result<(Start, usize), WireFault>
     requires { at ≤ length message.now }
-    ensures { Reads (λ s. (s.key, s.version, s.correlation)) result message.now (start_at (drop at message.now)) }
+    ensures { Reads (λ s. (s.key, s.version, s.correlation)) result message.now (head_at (drop at message.now)) }
 {
     let (key, next) = read_i16(message, at)?;
     let (version, next) = read_i16(message, next)?;

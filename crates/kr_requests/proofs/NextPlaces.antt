@@ -11,7 +11,7 @@ use Rattle.kr_defs.specs.Heartbeats.{Heartbeats, stopping_brokers}
 use Rattle.kr_defs.specs.Ids.{has}
 use Rattle.kr_defs.specs.Image.{Image}
 use Rattle.kr_defs.proofs.Tests.{some_is}
-use Rattle.kr_calls.specs.NextBasis.{is_stopping}
+use Rattle.kr_calls.specs.NextBasis.{broker_is_stopping}
 use Rattle.kr_store.specs.Images.{Images, IsAbove, no_images, marked, forgotten, kept_at, last_kept, last_image}
 use Rattle.kr_rows_rules.specs.Histories.{AreEpochs}
 use Rattle.kr_rows_rules.proofs.EpochRows.{is_above, some_kept}
@@ -88,17 +88,17 @@ pub base_found : (images : Images) (place : ℤ) → AreEpochs images.kept (plac
 base_found images place are = found_of_one images.kept images.tip images.made place are
 
 stopping_among : (image : Image) (stops : List Stopping) → are_stopping image stops ≡ true
-    → (id : ℤ) → has (map (λ s. s.broker) stops) id ≡ true → is_stopping image id ≡ true
+    → (id : ℤ) → has (map (λ s. s.broker) stops) id ≡ true → broker_is_stopping image id ≡ true
 stopping_among image [] all id is = absurd cc
 stopping_among image (s ∷ ss) all id is =
-    let parts = and_parts (is_stopping image s.broker) (are_stopping image ss) all in
-    elim (int_eq s.broker id) as (λ b. int_eq s.broker id ≡ b → is_stopping image id ≡ true) [
-      | true ↦ λ same. subst (λ x. is_stopping image x ≡ true) ((Decides-int_eq s.broker id).0 same) parts.0
+    let parts = and_parts (broker_is_stopping image s.broker) (are_stopping image ss) all in
+    elim (int_eq s.broker id) as (λ b. int_eq s.broker id ≡ b → broker_is_stopping image id ≡ true) [
+      | true ↦ λ same. subst (λ x. broker_is_stopping image x ≡ true) ((Decides-int_eq s.broker id).0 same) parts.0
       | false ↦ λ other. stopping_among image ss parts.1 id (sym (ap (λ b. b || has (map (λ t. t.broker) ss) id) other) ∙ is)
     ] refl
 
 pub all_stopping : (image : Image) (h : Heartbeats) → are_stopping image h.stopping ≡ true
-    → (id : ℤ) → IsTrue (has (stopping_brokers h) id) → IsTrue (is_stopping image id)
+    → (id : ℤ) → IsTrue (has (stopping_brokers h) id) → IsTrue (broker_is_stopping image id)
 all_stopping image h all id is = stopping_among image h.stopping all id is
 
 pub ruleset leading = (epochs_same, one_is_kept, last_after)

@@ -76,7 +76,7 @@ fn are_stopping(store: &ImageStore, place: &i64, stops: &[Stopping]) -> bool
 
 fn was_stopping(store: &ImageStore, place: &i64, id: &i32) -> bool
     requires { AreEpochs store.now.kept (place.now ∷ []) }
-    ensures { result ≡ following.is_stopping (base_of store.now) id.now }
+    ensures { result ≡ following.broker_is_stopping (base_of store.now) id.now }
 {
     match broker_before(store, place, id) {
         Some(state) => state.stopping,

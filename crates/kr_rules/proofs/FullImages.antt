@@ -25,7 +25,7 @@ use Rattle.kr_defs.proofs.Maps.{length-set}
 use Rattle.kr_defs.proofs.Tests.{Gives, gives_refuse, gives_found, gives_done, neither, both, some_is}
 use Rattle.kr_defs.proofs.Validity.{records}
 use Rattle.kr_calls.specs.Deciding.{apply_records}
-use Rattle.kr_rules.specs.Room.{Filling, Fills, is_plain, lacks_room, value_text, text_at, filled}
+use Rattle.kr_rules.specs.Room.{Filling, Fills, takes_room, lacks_room, value_text, text_at, filled}
 use Rattle.kr_rules.proofs.KeyLookups.{get_inserted, get_removed}
 use Rattle.kr_rules.proofs.SingleEntries.{here_of}
 
@@ -271,7 +271,7 @@ module _ (configs : List (ConfigKey × List ℕ)) (mid : Image) (f : Filling) (i
         setting_roomy mid kind name key value room,
       )
 
-  pub goes : (r : Record) → is_plain r ≡ true → Goes r
+  pub goes : (r : Record) → takes_room r ≡ true → Goes r
   goes (kinds.Topic name id) plain = topic_goes name id
   goes (kinds.Partition index topic state) plain = partition_goes index topic state
   goes (kinds.PartitionChange index topic change) plain = change_goes index topic change
@@ -322,7 +322,7 @@ module _ (configs : List (ConfigKey × List ℕ)) (meaning : Result Image Ill) w
         | Err cause ↦ λ e leads. rw (← leads) refl
       ] (stops configs mid f is r none) leads
 
-  far_more : (f h : Filling) (r : Record) (left : List Record) → is_plain r ≡ true → filled configs f r ≡ Some h → IsAsFar configs meaning (r ∷ left) f → IsAsFar configs meaning left h
+  far_more : (f h : Filling) (r : Record) (left : List Record) → takes_room r ≡ true → filled configs f r ≡ Some h → IsAsFar configs meaning (r ∷ left) f → IsAsFar configs meaning left h
   far_more f h r left plain some (inl ended) = inl ended
   far_more f h r left plain some (inr (mid, (is, leads))) =
       let step = goes configs mid f is r plain h some in
@@ -336,7 +336,7 @@ module _ (configs : List (ConfigKey × List ℕ)) (meaning : Result Image Ill) w
     pub full_here : (h : Filling) → Fills (filled configs f r) false h → IsErr meaning
     full_here h none = far_none f r (drop (i + 1) records) none (rw (here_of records i r within at) at far)
 
-    pub more_here : (h : Filling) → list_all is_plain (drop i records) ≡ true → Fills (filled configs f r) true h → (list_all is_plain (drop (i + 1) records) ≡ true) × IsAsFar configs meaning (drop (i + 1) records) h
+    pub more_here : (h : Filling) → list_all takes_room (drop i records) ≡ true → Fills (filled configs f r) true h → (list_all takes_room (drop (i + 1) records) ≡ true) × IsAsFar configs meaning (drop (i + 1) records) h
     more_here h plain some =
-        let parts = both (is_plain r) (list_all is_plain (drop (i + 1) records)) (rw (here_of records i r within at) at plain) in
+        let parts = both (takes_room r) (list_all takes_room (drop (i + 1) records)) (rw (here_of records i r within at) at plain) in
         (parts.1, far_more f h r (drop (i + 1) records) parts.0 some (rw (here_of records i r within at) at far))

@@ -11,12 +11,12 @@ use Rattle.kr_defs.specs.Guard.{and_then}
 use Rattle.kr_defs.specs.Image.{Image, empty}
 use Rattle.kr_store.specs.Images.{Images, last_kept, last_image}
 use Rattle.kr_defs.specs.Weight.{weight}
-use Rattle.kr_calls.specs.Deciding.{begun, apply_records, weights, weight_then, is_within_limits, added, taken}
+use Rattle.kr_calls.specs.Deciding.{nothing_decided, apply_records, weights, weight_then, is_within_limits, work_with, taken}
 use Rattle.kr_calls.proofs.DecisionMeanings.{applied_in_two}
 use Rattle.kr_defs.proofs.Tests.{both, not_false}
 use Rattle.kr_rules.specs.Costs.{is_undone}
 use Rattle.kr_rules.specs.Progress.{Drawn, work_at, base_of, begins}
-use Rattle.kr_rules.specs.Room.{TellsRoom, is_plain, lacks_room}
+use Rattle.kr_rules.specs.Room.{TellsRoom, takes_room, lacks_room}
 
 module _ (d : Drawn) (image : Image) (records : List Record) where
   pub not_within : false ≡ is_within_limits d.records records → taken (work_at d image) records ≡ None
@@ -26,9 +26,9 @@ module _ (d : Drawn) (image : Image) (records : List Record) where
   pub not_applied : IsErr (apply_records image records) → taken (work_at d image) records ≡ None
   unfolding taken
   not_applied e =
-      elim (apply_records image records) as (λ r. IsErr r → cond (is_within_limits d.records records) (added (work_at d image) records r) None ≡ None) [
+      elim (apply_records image records) as (λ r. IsErr r → cond (is_within_limits d.records records) (work_with (work_at d image) records r) None ≡ None) [
         | Ok after ↦ λ e. absurd cc
-        | Err cause ↦ λ e. elim (is_within_limits d.records records) as (λ b. cond b (added (work_at d image) records (Err cause)) None ≡ None) [ true ↦ refl | false ↦ refl ]
+        | Err cause ↦ λ e. elim (is_within_limits d.records records) as (λ b. cond b (work_with (work_at d image) records (Err cause)) None ≡ None) [ true ↦ refl | false ↦ refl ]
       ] e
 
   -- the place behind both
@@ -40,11 +40,11 @@ module _ (d : Drawn) (image : Image) (records : List Record) where
   all_taken after more within meaning is = rw (is, ← within, meaning, place_behind) refl
 
   -- what can be told isn't undone
-  cut : (meaning : Result Image Ill) → IsErr meaning → begins image records ≡ true → TellsRoom records meaning true → (begins image records && is_err meaning && not (list_all is_plain records && lacks_room meaning)) ≡ false → ⊥
+  cut : (meaning : Result Image Ill) → IsErr meaning → begins image records ≡ true → TellsRoom records meaning true → (begins image records && is_err meaning && not (list_all takes_room records && lacks_room meaning)) ≡ false → ⊥
   cut (Ok after) e first told ordinary = absurd cc
   cut (Err cause) e first told ordinary =
-      let rest : not (list_all is_plain records && lacks_room (Err cause)) ≡ false = rw first at ordinary in
-      let lacks = both (list_all is_plain records) (lacks_room (Err cause)) (not_false (list_all is_plain records && lacks_room (Err cause)) rest) in
+      let rest : not (list_all takes_room records && lacks_room (Err cause)) ≡ false = rw first at ordinary in
+      let lacks = both (list_all takes_room records) (lacks_room (Err cause)) (not_false (list_all takes_room records && lacks_room (Err cause)) rest) in
       let has : lacks_room (Err cause) ≡ false = told lacks.0 in
       let lack : lacks_room (Err cause) ≡ true = lacks.1 in
       cc
@@ -92,7 +92,7 @@ kept_base kept old image same last = rw same (base_is old image last)
 abbrev pub drawn_from : ℤ → Drawn
 drawn_from place = record { start = place; records = [] }
 
-pub begun_at : (d : Drawn) (place : ℤ) (image : Image) → d ≡ drawn_from place → work_at d image ≡ begun place image
+pub begun_at : (d : Drawn) (place : ℤ) (image : Image) → d ≡ drawn_from place → work_at d image ≡ nothing_decided place image
 begun_at d place image is = rw (is, +ℤ_idr place) refl
 
 pub ruleset bases = (base_is, is_kept)

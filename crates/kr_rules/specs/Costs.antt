@@ -6,11 +6,11 @@ use Rattle.kr_defs.specs.Image.{Image}
 use Rattle.kr_calls.specs.declared.deciding.Draft.{Draft}
 use Rattle.kr_calls.specs.Deciding.{Work, apply_records, after_all, one}
 use Rattle.kr_rules.specs.Progress.{begins}
-use Rattle.kr_rules.specs.Room.{is_plain, lacks_room}
+use Rattle.kr_rules.specs.Room.{takes_room, lacks_room}
 
 -- plain records for which there is no room: it is told before any of them is applied
 abbrev pub is_told : Image → List Record → Bool
-is_told image records = list_all is_plain records && lacks_room (apply_records image records)
+is_told image records = list_all takes_room records && lacks_room (apply_records image records)
 
 -- a record that isn't the first has no meaning, and it isn't told before: those ahead of it are applied and then undone,
 -- for which all records of the request are applied again

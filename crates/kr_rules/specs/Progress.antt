@@ -61,6 +61,6 @@ Reaches before after records extents.Part = IsErr (apply_records before.tip reco
 Reaches before after records extents.Nothing = IsErr (apply_records before.tip records) × (after ≡ before)
 
 -- the records were taken, or nothing has changed
-abbrev pub Takes : Work → List Record → Bool → Work → Type 0
-Takes before records true after = taken before records ≡ Some after
-Takes before records false after = (taken before records ≡ None) × (after ≡ before)
+abbrev pub TakesRecords : Work → List Record → Bool → Work → Type 0
+TakesRecords before records true after = taken before records ≡ Some after
+TakesRecords before records false after = (taken before records ≡ None) × (after ≡ before)

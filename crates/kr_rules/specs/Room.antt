@@ -13,12 +13,12 @@ use Rattle.kr_defs.specs.Map as entries
 use Rattle.kr_defs.specs.Map.{config_order}
 
 -- a topic, a partition, a change of one, or a setting
-abbrev pub is_plain : Record → Bool
-is_plain (kinds.Topic name id) = true
-is_plain (kinds.Partition index topic state) = true
-is_plain (kinds.PartitionChange index topic change) = true
-is_plain (kinds.Config kind name key value) = true
-is_plain other = false
+abbrev pub takes_room : Record → Bool
+takes_room (kinds.Topic name id) = true
+takes_room (kinds.Partition index topic state) = true
+takes_room (kinds.PartitionChange index topic change) = true
+takes_room (kinds.Config kind name key value) = true
+takes_room other = false
 
 -- there is no room for a record: a limit of images is passed, or an index of a partition is too great
 abbrev pub lacks_room : Result Image Ill → Bool
@@ -65,5 +65,5 @@ Fills more false after = more ≡ None
 
 -- where there is no room, some record has no meaning; where there is, plain records don't lack it
 abbrev pub TellsRoom : List Record → Result Image Ill → Bool → Type 0
-TellsRoom records meaning true = list_all is_plain records ≡ true → lacks_room meaning ≡ false
+TellsRoom records meaning true = list_all takes_room records ≡ true → lacks_room meaning ≡ false
 TellsRoom records meaning false = IsErr meaning

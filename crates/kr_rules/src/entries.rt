@@ -4,7 +4,7 @@ ghost use Rattle.std.specs.Prelude.{◌≡◌, ◌≤◌, ◌+◌, ℕ, ℤ, pos
 ghost use Rattle.kr_defs.specs.declared.limits.TheConstants.{PLACES_END as places_end};
 ghost use Rattle.kr_defs.specs.Image.{Image};
 ghost use Rattle.kr_calls.specs.Deciding as deciding;
-ghost use Rattle.kr_calls.specs.Deciding.{begun, unless_validating, weights};
+ghost use Rattle.kr_calls.specs.Deciding.{nothing_decided, unless_validating, weights};
 ghost use Rattle.kr_store.specs.Images.{last_kept, last_image};
 ghost use Rattle.kr_rules.specs.Costs.{cost, draft_cost};
 ghost use Rattle.kr_rules.specs.Progress.{work_at, base_of, place_of, Leads};
@@ -108,7 +108,7 @@ pub fn decide_one<E, A: Drop, R: Rule<E, A>, S: Store, L: Ledger>(
 ) -> Result<(Records, A), NoMemory>
     requires low { place ≤ℤ places_end }
     requires kept { last_image (S.images store.old) ≡ Some (S.images store.old).tip }
-    ensures decided { IfOk result (λ d. deciding.one (R.refusal rule.now) (R.rule rule.now) (begun place (S.images store.old).tip) entry.now ≡ (work_at (record { start = place; records = d.0 }) (S.images store.new).tip, d.1)) }
+    ensures decided { IfOk result (λ d. deciding.one (R.refusal rule.now) (R.rule rule.now) (nothing_decided place (S.images store.old).tip) entry.now ≡ (work_at (record { start = place; records = d.0 }) (S.images store.new).tip, d.1)) }
     ensures kept { (S.images store.new).kept ≡ (S.images store.old).kept }
     ensures made { IfOk result (λ d. (S.images store.new).made ≤ (S.images store.old).made + weights (S.images store.old).tip d.0) }
     ensures own { IfSome (draft_cost (S.images store.old).tip (R.rule rule.now (S.images store.old).tip place entry.now)) (λ n. OnOk result (steps.new ≤ steps.old + n)) }
@@ -131,11 +131,11 @@ pub fn decide_each<E, A: Drop, R: Rule<E, A>, S: Store, L: Ledger>(
 ) -> Result<(Records, Rows<A>), NoMemory>
     requires low { place ≤ℤ places_end }
     requires kept { last_image (S.images store.old) ≡ Some (S.images store.old).tip }
-    ensures answers { IfOk result (λ d. d.1 ≡ deciding.answers (R.refusal rule.now) (R.rule rule.now) (begun place (S.images store.old).tip) entries.now) }
-    ensures after { IfOk result (λ d. work_at (record { start = place; records = d.0 }) (S.images store.new).tip ≡ deciding.after_all (R.refusal rule.now) (R.rule rule.now) (begun place (S.images store.old).tip) entries.now) }
+    ensures answers { IfOk result (λ d. d.1 ≡ deciding.answers (R.refusal rule.now) (R.rule rule.now) (nothing_decided place (S.images store.old).tip) entries.now) }
+    ensures after { IfOk result (λ d. work_at (record { start = place; records = d.0 }) (S.images store.new).tip ≡ deciding.after_all (R.refusal rule.now) (R.rule rule.now) (nothing_decided place (S.images store.old).tip) entries.now) }
     ensures kept { (S.images store.new).kept ≡ (S.images store.old).kept }
     ensures made { IfOk result (λ d. (S.images store.new).made ≤ (S.images store.old).made + weights (S.images store.old).tip d.0) }
-    ensures own { IfSome (cost (R.refusal rule.now) (R.rule rule.now) (begun place (S.images store.old).tip) entries.now) (λ n. OnOk result (steps.new ≤ steps.old + n)) }
+    ensures own { IfSome (cost (R.refusal rule.now) (R.rule rule.now) (nothing_decided place (S.images store.old).tip) entries.now) (λ n. OnOk result (steps.new ≤ steps.old + n)) }
     ensures later { steps.old ≤ steps.new }
 {
     let mut work = Work::new(alloc, place);
@@ -156,11 +156,11 @@ pub fn decide_or_validate<E, A: Drop, R: Rule<E, A>, S: Store, L: Ledger>(
 ) -> Result<(Records, Rows<A>), NoMemory>
     requires low { place ≤ℤ places_end }
     requires kept { last_image (S.images store.old) ≡ Some (S.images store.old).tip }
-    ensures answers { IfOk result (λ d. d.1 ≡ deciding.answers (R.refusal rule.now) (R.rule rule.now) (begun place (S.images store.old).tip) entries.now) }
-    ensures after { IfOk result (λ d. work_at (record { start = place; records = d.0 }) (S.images store.new).tip ≡ unless_validating validate_only (begun place (S.images store.old).tip) (deciding.after_all (R.refusal rule.now) (R.rule rule.now) (begun place (S.images store.old).tip) entries.now)) }
+    ensures answers { IfOk result (λ d. d.1 ≡ deciding.answers (R.refusal rule.now) (R.rule rule.now) (nothing_decided place (S.images store.old).tip) entries.now) }
+    ensures after { IfOk result (λ d. work_at (record { start = place; records = d.0 }) (S.images store.new).tip ≡ unless_validating validate_only (nothing_decided place (S.images store.old).tip) (deciding.after_all (R.refusal rule.now) (R.rule rule.now) (nothing_decided place (S.images store.old).tip) entries.now)) }
     ensures kept { (S.images store.new).kept ≡ (S.images store.old).kept }
     ensures made { IfOk result (λ d. (S.images store.new).made ≤ (S.images store.old).made + weights (S.images store.old).tip d.0) }
-    ensures own { validate_only ≡ false → IfSome (cost (R.refusal rule.now) (R.rule rule.now) (begun place (S.images store.old).tip) entries.now) (λ n. OnOk result (steps.new ≤ steps.old + n)) }
+    ensures own { validate_only ≡ false → IfSome (cost (R.refusal rule.now) (R.rule rule.now) (nothing_decided place (S.images store.old).tip) entries.now) (λ n. OnOk result (steps.new ≤ steps.old + n)) }
     ensures later { steps.old ≤ steps.new }
 {
     let (records, answers) = decide_each(alloc, store, place, rule, entries, steps)?;

@@ -3,7 +3,7 @@
 ghost use Rattle.std.specs.Prelude.{◌≡◌, ◌≤◌, ◌+◌, ℕ, pos, ◌≤ℤ◌, [], Ok, Some, IfOk, OnOk, IfSome, IsSome};
 ghost use Rattle.kr_defs.specs.declared.limits.TheConstants.{PLACES_END as places_end};
 ghost use Rattle.kr_calls.specs.Deciding as deciding;
-ghost use Rattle.kr_calls.specs.Deciding.{begun, weights};
+ghost use Rattle.kr_calls.specs.Deciding.{nothing_decided, weights};
 ghost use Rattle.kr_store.specs.Images.{last_kept, last_image};
 ghost use Rattle.kr_rules.specs.Costs.{cost, group_cost};
 ghost use Rattle.kr_rules.specs.Progress.{work_at, base_of, Leads};
@@ -135,11 +135,11 @@ pub fn decide_groups<
 ) -> Result<(Records, Rows<B>), NoMemory>
     requires low { place ≤ℤ places_end }
     requires kept { last_image (S.images store.old) ≡ Some (S.images store.old).tip }
-    ensures answers { IfOk result (λ d. d.1 ≡ deciding.group_answers (R.refusal rule.now) (R.rule rule.now) R.entries_of R.answer_of (begun place (S.images store.old).tip) groups.now) }
-    ensures after { IfOk result (λ d. work_at (record { start = place; records = d.0 }) (S.images store.new).tip ≡ deciding.after_groups (R.refusal rule.now) (R.rule rule.now) R.entries_of R.answer_of (begun place (S.images store.old).tip) groups.now) }
+    ensures answers { IfOk result (λ d. d.1 ≡ deciding.group_answers (R.refusal rule.now) (R.rule rule.now) R.entries_of R.answer_of (nothing_decided place (S.images store.old).tip) groups.now) }
+    ensures after { IfOk result (λ d. work_at (record { start = place; records = d.0 }) (S.images store.new).tip ≡ deciding.after_groups (R.refusal rule.now) (R.rule rule.now) R.entries_of R.answer_of (nothing_decided place (S.images store.old).tip) groups.now) }
     ensures kept { (S.images store.new).kept ≡ (S.images store.old).kept }
     ensures made { IfOk result (λ d. (S.images store.new).made ≤ (S.images store.old).made + weights (S.images store.old).tip d.0) }
-    ensures own { IfSome (group_cost (R.refusal rule.now) (R.rule rule.now) R.entries_of (begun place (S.images store.old).tip) groups.now) (λ n. OnOk result (steps.new ≤ steps.old + n)) }
+    ensures own { IfSome (group_cost (R.refusal rule.now) (R.rule rule.now) R.entries_of (nothing_decided place (S.images store.old).tip) groups.now) (λ n. OnOk result (steps.new ≤ steps.old + n)) }
     ensures later { steps.old ≤ steps.new }
 {
     let mut work = Work::new(alloc, place);

@@ -41,7 +41,7 @@ impl Model for Filling {
 }
 
 fn is_plain(value: &Record) -> bool
-    ensures { result ≡ room.is_plain value.now }
+    ensures { result ≡ room.takes_room value.now }
 {
     match value {
         Record::Topic { .. }
@@ -53,7 +53,7 @@ fn is_plain(value: &Record) -> bool
 }
 
 fn are_plain(records: &[Record]) -> bool
-    ensures { result ≡ list_all room.is_plain records.now }
+    ensures { result ≡ list_all room.takes_room records.now }
 {
     records.iter().all(|value| is_plain(value))
 }

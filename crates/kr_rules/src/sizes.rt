@@ -62,14 +62,14 @@ fn directories_bytes(ids: &Ids) -> u128
 }
 
 fn endpoint_bytes(endpoint: &Endpoint) -> u128
-    ensures value { result ≡ sizes.text_bytes endpoint.now.name + sizes.text_bytes endpoint.now.host + 2 + 2 + sizes.no_tags }
+    ensures value { result ≡ sizes.text_bytes endpoint.now.name + sizes.text_bytes endpoint.now.host + 2 + 2 + sizes.no_tags_bytes }
     ensures small { result ≤ 2 ^ 66 }
 {
     text_bytes(&endpoint.name) + text_bytes(&endpoint.host) + 5
 }
 
 fn range_bytes(range: &Range) -> u128
-    ensures value { result ≡ sizes.text_bytes range.now.name + 2 + 2 + sizes.no_tags }
+    ensures value { result ≡ sizes.text_bytes range.now.name + 2 + 2 + sizes.no_tags_bytes }
     ensures small { result ≤ 2 ^ 66 }
 {
     text_bytes(&range.name) + 5
@@ -77,8 +77,8 @@ fn range_bytes(range: &Range) -> u128
 
 // The bytes of all endpoints, where they aren't too many.
 fn endpoints_bytes(endpoints: &[Endpoint]) -> Option<u128>
-    ensures some { IfSome result (λ n. (n ≡ sizes.rows_bytes (λ e. sizes.text_bytes e.name + sizes.text_bytes e.host + 2 + 2 + sizes.no_tags) endpoints.now) × (n ≤ most + 5)) }
-    ensures none { IsNone result → most < sizes.rows_bytes (λ e. sizes.text_bytes e.name + sizes.text_bytes e.host + 2 + 2 + sizes.no_tags) endpoints.now }
+    ensures some { IfSome result (λ n. (n ≡ sizes.rows_bytes (λ e. sizes.text_bytes e.name + sizes.text_bytes e.host + 2 + 2 + sizes.no_tags_bytes) endpoints.now) × (n ≤ most + 5)) }
+    ensures none { IsNone result → most < sizes.rows_bytes (λ e. sizes.text_bytes e.name + sizes.text_bytes e.host + 2 + 2 + sizes.no_tags_bytes) endpoints.now }
 {
     let mut total = 0;
     for endpoint in endpoints {
@@ -92,8 +92,8 @@ fn endpoints_bytes(endpoints: &[Endpoint]) -> Option<u128>
 
 // The bytes of the levels of all features, where they aren't too many.
 fn ranges_bytes(ranges: &[Range]) -> Option<u128>
-    ensures some { IfSome result (λ n. (n ≡ sizes.rows_bytes (λ r. sizes.text_bytes r.name + 2 + 2 + sizes.no_tags) ranges.now) × (n ≤ most + 5)) }
-    ensures none { IsNone result → most < sizes.rows_bytes (λ r. sizes.text_bytes r.name + 2 + 2 + sizes.no_tags) ranges.now }
+    ensures some { IfSome result (λ n. (n ≡ sizes.rows_bytes (λ r. sizes.text_bytes r.name + 2 + 2 + sizes.no_tags_bytes) ranges.now) × (n ≤ most + 5)) }
+    ensures none { IsNone result → most < sizes.rows_bytes (λ r. sizes.text_bytes r.name + 2 + 2 + sizes.no_tags_bytes) ranges.now }
 {
     let mut total = 0;
     for range in ranges {

@@ -12,7 +12,7 @@ ghost use Rattle.kr_calls.specs.Deciding as deciding;
 ghost use Rattle.kr_calls.specs.Deciding.{apply_records, is_within_limits, weights, taken};
 ghost use Rattle.kr_store.specs.Images.{last_kept};
 ghost use Rattle.kr_rules.specs.Costs.{is_undone};
-ghost use Rattle.kr_rules.specs.Progress.{work_at, base_of, Leads, IsApplied, Stands, Reaches, Takes, IsCounted};
+ghost use Rattle.kr_rules.specs.Progress.{work_at, base_of, Leads, IsApplied, Stands, Reaches, TakesRecords, IsCounted};
 
 use crate::room::has_room;
 use crate::sizes::value_bytes;
@@ -251,7 +251,7 @@ pub fn take<S: Store, L: Ledger>(
 ) -> Result<bool, NoMemory>
     requires some { IsSome (last_kept (S.images store.old)) }
     requires leads { Leads (S.images store.old) work.old.records }
-    ensures taken { IfOk result (λ took. Takes (work_at work.old (S.images store.old).tip) records took (work_at work.new (S.images store.new).tip)) }
+    ensures taken { IfOk result (λ took. TakesRecords (work_at work.old (S.images store.old).tip) records took (work_at work.new (S.images store.new).tip)) }
     ensures own { is_undone (S.images store.old).tip records ≡ false → OnOk result (steps.new ≤ steps.old + length records) }
     ensures leads { OnOk result (Leads (S.images store.new) work.new.records) }
     ensures kept { (S.images store.new).kept ≡ (S.images store.old).kept }

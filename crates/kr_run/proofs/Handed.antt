@@ -4,7 +4,7 @@ use Rattle.kr_calls.specs.declared.events.Event.{Event}
 use Rattle.kr_calls.specs.declared.events.Output.{Output}
 use Rattle.kr_engine.specs.declared.writes.Write.{Write}
 use Rattle.kr_engine.specs.Engine.{Core, Hands, IsEngine, IsSound, IsStep, left}
-use Rattle.kr_engine.specs.Entries.{entries_of}
+use Rattle.kr_engine.specs.Entries.{log_entries}
 use Rattle.kr_engine.specs.Events.{happens}
 use Rattle.kr_engine.specs.Outputs.{outputs_of, waiting_after}
 use Rattle.kr_engine.specs.Runs.{HandsAll, Runs}
@@ -55,7 +55,7 @@ step_through a b c event none step = record {
   options = step.options ∙ none.options;
   stands = λ s writes k. subst (λ o. IsEngine c (happens o s event) (waiting_after o s writes event)) none.options (step.stands s writes (none.stands s writes k));
   outputs = λ s writes k. step.outputs s writes (none.stands s writes k) ∙ ap (λ o. outputs_of o s writes event) none.options;
-  fresh = λ s writes k. step.fresh s writes (none.stands s writes k) ∙ ap (λ o. entries_of o s event) none.options;
+  fresh = λ s writes k. step.fresh s writes (none.stands s writes k) ∙ ap (λ o. log_entries o s event) none.options;
 }
 
 pub run_further : (a b stepped c : Core) (events : List Event) (given : List (List Output)) (event : Event) (outputs : List Output) → Runs a events given b → IsStep b stepped event → HandsAll stepped outputs c

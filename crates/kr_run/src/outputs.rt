@@ -4,7 +4,7 @@ ghost use Rattle.std.specs.Prelude.{◌≡◌, [], ◌∷◌, ◌≤◌, List, O
 ghost use Rattle.kr_base.specs.Causes.{Rose};
 ghost use Rattle.kr_calls.specs.declared.events.Output.{Output as AnyOutput};
 ghost use Rattle.kr_engine.specs.declared.writes.Write.{Write};
-ghost use Rattle.kr_engine.specs.Engine.{IsEngine, IsSound, are_in_order, left};
+ghost use Rattle.kr_engine.specs.Engine.{IsEngine, IsSound, writes_in_order, left};
 ghost use Rattle.kr_engine.specs.Outputs.{outputs_of};
 ghost use Rattle.kr_engine.specs.World.{State};
 ghost use Rattle.kr_run.specs.Endings.{WroteAll, WroteSome};
@@ -33,7 +33,7 @@ fn write_outputs<K: Sink>(
     engine: &mut Engine,
     sink: &mut K,
 ) -> Result<(), WriteFault>
-    requires { IsTrue (are_in_order engine.old.held) }
+    requires { IsTrue (writes_in_order engine.old.held) }
     ensures ok { OnOk result ((given : List AnyOutput) × Drains engine.old engine.new given × WroteAll (K.written sink.old) (K.written sink.new) given) }
     ensures err { OnErr result (WroteSome (K.written sink.old) (K.written sink.new) (left engine.old)) }
     ensures failed { IsErrOf result WriteFault.Failed → Rose (K.faults sink.old) (K.faults sink.new) }

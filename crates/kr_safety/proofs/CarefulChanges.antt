@@ -54,7 +54,7 @@ any_of_four false false false false (inr (inr one)) = absurd cc
 -- said to be in sync was, or stands in an accepted report; another reassignment is one that the request asks for.
 pub record IsCareful (request : Option Request) (image : Image) (name : List ℕ) (key : ℕ × ℤ) (p : Partition) (want : Want) (facts : Facts) : Type 0 where
   pub unclean : facts.unclean ≡ settings.is_unclean image name
-  pub mode : electing.is_unclean want.mode ≡ true → asks_unclean request ≡ true
+  pub mode : electing.is_unclean_mode want.mode ≡ true → asks_unclean request ≡ true
   pub in_sync : (id : ℤ) → has want.in_sync id ≡ true → (has p.in_sync id ≡ true) ⊎ (reports image key p id request ≡ true)
   pub lists : AsksOwnLists p want ⊎ (reassigns name key.1 request ≡ true)
 
@@ -83,8 +83,8 @@ module _ (request : Option Request) (image : Image) (name : List ℕ) (key : ℕ
 
   module _ (want : Want) (facts : Facts) (careful : IsCareful request image name key p want facts) (c : PartitionChange) (is : built p want facts ≡ Some c) where
     leader_safe : has_safe_leader image name key p request c.leader ≡ true
-    leader_safe = elim (cases_Bool (facts.unclean || electing.is_unclean want.mode)) [
-      | inl may ↦ elim (or_cases facts.unclean (electing.is_unclean want.mode) may) [
+    leader_safe = elim (cases_Bool (facts.unclean || electing.is_unclean_mode want.mode)) [
+      | inl may ↦ elim (or_cases facts.unclean (electing.is_unclean_mode want.mode) may) [
         | inl on ↦ unclean_leads c.leader (inl (sym careful.unclean ∙ on))
         | inr asked ↦ unclean_leads c.leader (inr (careful.mode asked))
       ]

@@ -35,7 +35,7 @@ use Rattle.kr_calls.specs.declared.calls.Request.{Request}
 use Rattle.kr_calls.specs.declared.calls.Request.TheVariants as requests
 use Rattle.kr_calls.specs.declared.deciding.Draft.{Draft}
 use Rattle.kr_calls.specs.UnregisterBroker as unregistering
-use Rattle.kr_calls.specs.Deciding.{Work, apply_records, begun, one}
+use Rattle.kr_calls.specs.Deciding.{Work, apply_records, nothing_decided, one}
 use Rattle.kr_calls.specs.Decide.{decide, work_of}
 use Rattle.kr_calls.specs.NextBasis.{heartbeats_after}
 use Rattle.kr_calls.specs.NextBasisLaws.{is_of_a_broker}
@@ -123,7 +123,7 @@ module _ (minimum : ℤ) (basis : Basis) (image : Image) (now place : ℤ) (q : 
   stays_unfenced : (shuts_down : Bool) → state.fenced ≡ false → HeardAfter (record { records = []; fenced = false; shuts_down = shuts_down })
   stays_unfenced shuts_down unfenced after good is =
       same_image (λ i. HearsOf (hearing.after_contact h image i now place q) i)
-      (rw (both_stop (hearing.is_stopping image k)) (heard_beating h image image hears valid.brokers.ordered valid.brokers.ordered k (λ id other. refl) now q.offset (at_first is_unfenced ∙ rw unfenced refl) refl)) after is
+      (rw (both_stop (hearing.broker_is_stopping image k)) (heard_beating h image image hears valid.brokers.ordered valid.brokers.ordered k (λ id other. refl) now q.offset (at_first is_unfenced ∙ rw unfenced refl) refl)) after is
 
   fences : (epoch : ℤ) (change : Walked → Option PartitionChange) (shuts_down : Bool) → HeardAfter (record { records = kinds.BrokerRegistrationChange k epoch (pos 1) (pos 0) ∷ changes_of change (walk image); fenced = true; shuts_down = shuts_down })
   fences epoch change shuts_down after good is =
@@ -133,15 +133,15 @@ module _ (minimum : ℤ) (basis : Basis) (image : Image) (now place : ℤ) (q : 
   unfences : (epoch : ℤ) (change : Walked → Option PartitionChange) (shuts_down : Bool) → state.fenced ≡ true → state.stopping ≡ false → HeardAfter (record { records = kinds.BrokerRegistrationChange k epoch (negsuc 0) (pos 0) ∷ changes_of change (walk image); fenced = false; shuts_down = shuts_down })
   unfences epoch change shuts_down fenced going after good is =
       let has = changed_then image k epoch (negsuc 0) (pos 0) state change (walk image) there after is in
-      let then : hearing.is_stopping after k ≡ false = own image after k _ has (λ s. s.stopping) ∙ or_off state.stopping going in
+      let then : hearing.broker_is_stopping after k ≡ false = own image after k _ has (λ s. s.stopping) ∙ or_off state.stopping going in
       rw then (heard_beating h image after hears valid.brokers.ordered good.brokers.ordered k (others image after k _ has) now q.offset (own image after k _ has is_unfenced)
       (at_first is_stopping ∙ (rw fenced (sym (own image after k _ has is_stopping ∙ or_off state.stopping going)))))
 
   stops : (epoch : ℤ) (change : Walked → Option PartitionChange) (shuts_down : Bool) → state.fenced ≡ false → state.stopping ≡ false → HeardAfter (record { records = kinds.BrokerRegistrationChange k epoch (pos 0) (pos 1) ∷ changes_of change (walk image); fenced = false; shuts_down = shuts_down })
   stops epoch change shuts_down unfenced going after good is =
       let has = changed_then image k epoch (pos 0) (pos 1) state change (walk image) there after is in
-      let then : hearing.is_stopping after k ≡ true = own image after k _ has (λ s. s.stopping) ∙ rw going refl in
-      let first : hearing.is_stopping image k ≡ false = at_first (λ s. s.stopping) ∙ going in
+      let then : hearing.broker_is_stopping after k ≡ true = own image after k _ has (λ s. s.stopping) ∙ rw going refl in
+      let first : hearing.broker_is_stopping image k ≡ false = at_first (λ s. s.stopping) ∙ going in
       rw (then, first) (heard_stopping h image after hears valid.brokers.ordered good.brokers.ordered k (others image after k _ has) now q.offset (own image after k _ has is_unfenced ∙ rw unfenced refl) place
       (own image after k _ has is_stopping ∙ rw (unfenced, going) refl))
 
@@ -204,9 +204,9 @@ module _ (options : Options) (b : Basis) (image : Image) (place : ℤ) (valid : 
   registered_hears q None after good is = registered_leaves q (λ _. None) [] after good is
   registered_hears q (Some old) after good is = registered_leaves q (taking_out options.minimum image q.broker (not (int_eq q.previous_epoch old.epoch))) (walk image) after good is
 
-  registration_hears : (q : BrokerRegistration) → let d = one registering.refused (registering.rule options b) (begun place image) q in HearsOf (hearing.after_leaving h d.1.error q.broker) d.0.image
+  registration_hears : (q : BrokerRegistration) → let d = one registering.refused (registering.rule options b) (nothing_decided place image) q in HearsOf (hearing.after_leaving h d.1.error q.broker) d.0.image
   registration_hears q =
-      done_by registering.refused (λ (d : Work × _). HearsOf (hearing.after_leaving h d.1.error q.broker) d.0.image) (begun place image) q (registering.rule options b image place q)
+      done_by registering.refused (λ (d : Work × _). HearsOf (hearing.after_leaving h d.1.error q.broker) d.0.image) (nothing_decided place image) q (registering.rule options b image place q)
       (λ error is. refused_hears error q.broker (refuse_has (pos 104) (not (bytes_eq q.cluster options.cluster)) _ refl (refuse_has (pos 42) (int_lt q.broker (pos 0) || q.migrating || length q.listeners == 0) _ refl (refuse_has (pos 101) (registering.is_taken options b image q) _ refl (done_has (registering.registered options image place q)))) error is))
       (refused_hears (pos 44) q.broker refl)
       (λ draft after is by.
@@ -214,9 +214,9 @@ module _ (options : Options) (b : Basis) (image : Image) (place : ℤ) (valid : 
       let told = gives_refuse P (pos 104) (not (bytes_eq q.cluster options.cluster)) _ (λ _. gives_refuse P (pos 42) (int_lt q.broker (pos 0) || q.migrating || length q.listeners == 0) _ (λ _. gives_refuse P (pos 101) (registering.is_taken options b image q) _ (λ _. gives_done P (registering.registered options image place q) (refl, registered_hears q (entries.get int_cmp image.brokers q.broker))))) draft is in
       rw told.0 (told.1 after.image (valid_after image draft.records valid after.image by.applied) by.applied))
 
-  unregistration_hears : (q : UnregisterBroker) → let d = one unregistering.refused (unregistering.rule options) (begun place image) q in HearsOf (hearing.after_leaving h d.1.error q.broker) d.0.image
+  unregistration_hears : (q : UnregisterBroker) → let d = one unregistering.refused (unregistering.rule options) (nothing_decided place image) q in HearsOf (hearing.after_leaving h d.1.error q.broker) d.0.image
   unregistration_hears q =
-      done_by unregistering.refused (λ (d : Work × _). HearsOf (hearing.after_leaving h d.1.error q.broker) d.0.image) (begun place image) q (unregistering.rule options image place q)
+      done_by unregistering.refused (λ (d : Work × _). HearsOf (hearing.after_leaving h d.1.error q.broker) d.0.image) (nothing_decided place image) q (unregistering.rule options image place q)
       (λ error is. refused_hears error q.broker (found_has (pos 102) (entries.get int_cmp image.brokers q.broker) _ refl (λ old. done_has _) error is))
       (refused_hears (pos 44) q.broker refl)
       (λ draft after is by.
@@ -230,10 +230,10 @@ module _ (options : Options) (b : Basis) (image : Image) (place : ℤ) (valid : 
       )) draft is in
       rw told.0 (told.1 after.image (valid_after image draft.records valid after.image by.applied) by.applied))
 
-  heartbeat_hears : (q : BrokerHeartbeat) → let d = one heartbeating.refused (heartbeating.rule options b) (begun place image) q in HearsOf (hearing.after_heartbeat h image d.0.image b.time place q d.1) d.0.image
+  heartbeat_hears : (q : BrokerHeartbeat) → let d = one heartbeating.refused (heartbeating.rule options b) (nothing_decided place image) q in HearsOf (hearing.after_heartbeat h image d.0.image b.time place q d.1) d.0.image
   heartbeat_hears q =
       let told = λ (state : Broker). heartbeating.told q (heartbeating.step options.minimum b image q state) in
-      done_by heartbeating.refused (λ (d : Work × _). HearsOf (hearing.after_heartbeat h image d.0.image b.time place q d.1) d.0.image) (begun place image) q (heartbeating.rule options b image place q)
+      done_by heartbeating.refused (λ (d : Work × _). HearsOf (hearing.after_heartbeat h image d.0.image b.time place q d.1) d.0.image) (nothing_decided place image) q (heartbeating.rule options b image place q)
       (λ error is. rw (found_has (pos 77) (entries.get int_cmp image.brokers q.broker) _ refl (λ state. refuse_has (pos 77) (not (int_eq q.epoch state.epoch)) _ refl (done_has (told state))) error is) hears)
       hears
       (λ draft after is by.

@@ -21,7 +21,7 @@ use Rattle.kr_calls.specs.declared.partitions.AlterPartition.{AlterPartition}
 use Rattle.kr_calls.specs.declared.partitions.AlterPartitionReassignments.{AlterPartitionReassignments}
 use Rattle.kr_calls.specs.declared.partitions.AlterPartitionTopic.{AlterPartitionTopic}
 use Rattle.kr_calls.specs.declared.partitions.ReassignableTopic.{ReassignableTopic}
-use Rattle.kr_calls.specs.Deciding.{Work, apply_records, begun, HaveMeanings}
+use Rattle.kr_calls.specs.Deciding.{Work, apply_records, nothing_decided, HaveMeanings}
 use Rattle.kr_calls.specs.Decide.{work_of}
 use Rattle.kr_calls.specs.Refuse.{refused_creation, refused_deletion, refused_growth, refused_resource}
 use Rattle.kr_calls.specs.AlterPartition as reporting
@@ -92,7 +92,7 @@ module _ (request : Option Request) (start : Image) (V : Image → Type 0) where
     pub meaning : HaveMeanings start w
     pub valid : V w.image
 
-  begun_safe : (place : ℤ) → V start → IsSafeWork (begun place start)
+  begun_safe : (place : ℤ) → V start → IsSafeWork (nothing_decided place start)
   begun_safe place valid = record { safe = tt; meaning = refl; valid = valid }
 
   -- a rule that gives safe records for such entries
@@ -112,14 +112,14 @@ module _ (request : Option Request) (start : Image) (V : Image → Type 0) where
       valid = leaves w.image w.place entry so_far.valid draft drafted after.image by.applied;
     }
 
-    one_safe : (place : ℤ) (entry : E) → Is entry → V start → IsSafeWork (Rattle.kr_calls.specs.Deciding.one refused rule (begun place start) entry).0
-    one_safe place entry is valid = one_keeps refused rule IsSafeWork Is keeps (begun place start) entry is (begun_safe place valid)
+    one_safe : (place : ℤ) (entry : E) → Is entry → V start → IsSafeWork (Rattle.kr_calls.specs.Deciding.one refused rule (nothing_decided place start) entry).0
+    one_safe place entry is valid = one_keeps refused rule IsSafeWork Is keeps (nothing_decided place start) entry is (begun_safe place valid)
 
-    all_safe : (place : ℤ) (entries : List E) → AllByRecursion Is entries → V start → IsSafeWork (Rattle.kr_calls.specs.Deciding.after_all refused rule (begun place start) entries)
-    all_safe place entries are valid = all_keep refused rule IsSafeWork Is keeps (begun place start) entries are (begun_safe place valid)
+    all_safe : (place : ℤ) (entries : List E) → AllByRecursion Is entries → V start → IsSafeWork (Rattle.kr_calls.specs.Deciding.after_all refused rule (nothing_decided place start) entries)
+    all_safe place entries are valid = all_keep refused rule IsSafeWork Is keeps (nothing_decided place start) entries are (begun_safe place valid)
 
-    groups_safe : {G B : Type 0} (entries_of : G → List E) (answer_of : G → List A → B) (place : ℤ) (those : List G) → AllByRecursion (λ group. AllByRecursion Is (entries_of group)) those → V start → IsSafeWork (Rattle.kr_calls.specs.Deciding.after_groups refused rule entries_of answer_of (begun place start) those)
-    groups_safe entries_of answer_of place those are valid = groups_keep refused rule IsSafeWork Is entries_of answer_of keeps (begun place start) those are (begun_safe place valid)
+    groups_safe : {G B : Type 0} (entries_of : G → List E) (answer_of : G → List A → B) (place : ℤ) (those : List G) → AllByRecursion (λ group. AllByRecursion Is (entries_of group)) those → V start → IsSafeWork (Rattle.kr_calls.specs.Deciding.after_groups refused rule entries_of answer_of (nothing_decided place start) those)
+    groups_safe entries_of answer_of place those are valid = groups_keep refused rule IsSafeWork Is entries_of answer_of keeps (nothing_decided place start) those are (begun_safe place valid)
 
   chosen : {X : Type 0} (test : Bool) (x y : Work × X) → IsSafeWork x.0 → (test ≡ false → IsSafeWork y.0) → IsSafeWork (cond test x y).0
   chosen true x y first then = first
@@ -131,13 +131,13 @@ module _ (request : Option Request) (start : Image) {E A : Type 0} (refused : �
   valid_left : LeavesSuch request start IsValid rule
   valid_left image place entry valid draft drafted = valid_after image draft.records valid
 
-  one : (place : ℤ) (entry : E) → Is entry → IsValid start → IsSafeWork request start IsValid (Rattle.kr_calls.specs.Deciding.one refused rule (begun place start) entry).0
+  one : (place : ℤ) (entry : E) → Is entry → IsValid start → IsSafeWork request start IsValid (Rattle.kr_calls.specs.Deciding.one refused rule (nothing_decided place start) entry).0
   one = one_safe request start IsValid refused rule Is gives valid_left
 
-  all : (place : ℤ) (entries : List E) → AllByRecursion Is entries → IsValid start → IsSafeWork request start IsValid (Rattle.kr_calls.specs.Deciding.after_all refused rule (begun place start) entries)
+  all : (place : ℤ) (entries : List E) → AllByRecursion Is entries → IsValid start → IsSafeWork request start IsValid (Rattle.kr_calls.specs.Deciding.after_all refused rule (nothing_decided place start) entries)
   all = all_safe request start IsValid refused rule Is gives valid_left
 
-  groups : {G B : Type 0} (entries_of : G → List E) (answer_of : G → List A → B) (place : ℤ) (those : List G) → AllByRecursion (λ group. AllByRecursion Is (entries_of group)) those → IsValid start → IsSafeWork request start IsValid (Rattle.kr_calls.specs.Deciding.after_groups refused rule entries_of answer_of (begun place start) those)
+  groups : {G B : Type 0} (entries_of : G → List E) (answer_of : G → List A → B) (place : ℤ) (those : List G) → AllByRecursion (λ group. AllByRecursion Is (entries_of group)) those → IsValid start → IsSafeWork request start IsValid (Rattle.kr_calls.specs.Deciding.after_groups refused rule entries_of answer_of (nothing_decided place start) those)
   groups = groups_safe request start IsValid refused rule Is gives valid_left
 
 -- ---- reports: the broker that reports stays registered as it is
@@ -156,7 +156,7 @@ module _ (options : Options) (start : Image) (q : AlterPartition) (fresh : repor
   reports_leave image place entry v draft drafted after is =
       (valid_after image draft.records v.0 after is, all_leave image draft.records (leaving.reports options q.broker image place entry draft drafted) after is ∙ v.1)
 
-  reported : (place : ℤ) → IsValid start → IsSafeWork r start IsValid (Rattle.kr_calls.specs.Deciding.after_groups reporting.refused (reporting.rule options q.broker) reporting.entries_of reporting.answer_of (begun place start) q.topics)
+  reported : (place : ℤ) → IsValid start → IsSafeWork r start IsValid (Rattle.kr_calls.specs.Deciding.after_groups reporting.refused (reporting.rule options q.broker) reporting.entries_of reporting.answer_of (nothing_decided place start) q.topics)
   reported place valid =
       let work = groups_safe r start V reporting.refused (reporting.rule options q.broker) (IsReportOf q) (λ i p e is v. reports i options q (fresh_there i v.1) p e is) reports_leave reporting.entries_of reporting.answer_of place q.topics (own_reports q) (valid, refl) in
       record { safe = work.safe; meaning = work.meaning; valid = work.valid.0 }
@@ -171,13 +171,13 @@ safe_work options basis image place (requests.UnregisterBroker q) valid =
     one (Some (requests.UnregisterBroker q)) image unregistering.refused (unregistering.rule options) (λ _. Unit {0}) (λ i p e is v. unregisters (Some (requests.UnregisterBroker q)) i v options p e) place q tt valid
 safe_work options basis image place (requests.CreateTopics q) valid =
     let r = Some (requests.CreateTopics q) in
-    validated_keep (IsSafeWork r image IsValid) q.validate_only (begun place image) _ (begun_safe r image IsValid place valid)
+    validated_keep (IsSafeWork r image IsValid) q.validate_only (nothing_decided place image) _ (begun_safe r image IsValid place valid)
     (all r image refused_creation (creating.rule options q.validate_only) (λ _. Unit {0}) (λ i p e is v. creates r i options q.validate_only p e) place q.topics (any_entry q.topics) valid)
 safe_work options basis image place (requests.DeleteTopics q) valid =
     let r = Some (requests.DeleteTopics q) in all r image refused_deletion deleting.rule (λ _. Unit {0}) (λ i p e is v. deletes r i p e) place q.topics (any_entry q.topics) valid
 safe_work options basis image place (requests.CreatePartitions q) valid =
     let r = Some (requests.CreatePartitions q) in
-    validated_keep (IsSafeWork r image IsValid) q.validate_only (begun place image) _ (begun_safe r image IsValid place valid)
+    validated_keep (IsSafeWork r image IsValid) q.validate_only (nothing_decided place image) _ (begun_safe r image IsValid place valid)
     (all r image refused_growth growing.rule (λ _. Unit {0}) (λ i p e is v. grows r i p e) place q.topics (any_entry q.topics) valid)
 safe_work options basis image place (requests.AlterPartition q) valid =
     let r = Some (requests.AlterPartition q) in
@@ -191,7 +191,7 @@ safe_work options basis image place (requests.AlterPartitionReassignments q) val
     groups r image reassigning.answer (reassigning.rule options) (IsMoveOf q) (λ i p e is v. reassigns i v options q p e is) reassigning.entries_of reassigning.answer_of place q.topics (own_moves q) valid
 safe_work options basis image place (requests.IncrementalAlterConfigs q) valid =
     let r = Some (requests.IncrementalAlterConfigs q) in
-    validated_keep (IsSafeWork r image IsValid) q.validate_only (begun place image) _ (begun_safe r image IsValid place valid)
+    validated_keep (IsSafeWork r image IsValid) q.validate_only (nothing_decided place image) _ (begun_safe r image IsValid place valid)
     (all r image refused_resource (configuring.rule options) (λ _. Unit {0}) (λ i p e is v. configures r i v options p e) place q.resources (any_entry q.resources) valid)
 safe_work options basis image place (requests.ListPartitionReassignments q) valid = begun_safe (Some (requests.ListPartitionReassignments q)) image IsValid place valid
 safe_work options basis image place (requests.Metadata q) valid = begun_safe (Some (requests.Metadata q)) image IsValid place valid

@@ -18,7 +18,7 @@ use Rattle.kr_batch.proofs.Heads.{start_law}
 use Rattle.kr_snapshot.specs.declared.fault.ImageFault.{ImageFault}
 use Rattle.kr_snapshot.specs.declared.fault.BatchCause.TheVariants as causes
 use Rattle.kr_snapshot.specs.ReaderState.{Waits}
-use Rattle.kr_snapshot.specs.Reading.{bad_batch, Progress, begun, headed, numbers_at, refused, whole_read, ended, Taken, waits, head_taken, extent, is_no_size, size_at, batch_taken, judged, goes_on, so_far, ends, image_of}
+use Rattle.kr_snapshot.specs.Reading.{batch_fault_behind, Progress, nothing_found, headed, numbers_at, batch_refused, whole_read, image_at_end, Taken, waits, head_taken, extent, is_no_size, size_at, batch_taken, judged, goes_on, so_far, ends, image_of}
 
 -- ---- all bytes at once
 
@@ -30,10 +30,10 @@ front_at bytes = do
 
 -- at most so many batches; each has bytes
 abbrev pub batches_read : ℕ → Progress → List ℕ → Result Image ImageFault
-batches_read most p [] = ended p
-batches_read zero p (byte ∷ bytes) = ended p
+batches_read most p [] = image_at_end p
+batches_read zero p (byte ∷ bytes) = image_at_end p
 batches_read (suc most) p (byte ∷ bytes) = do
-  front ← refused p.found (front_at (byte ∷ bytes))
+  front ← batch_refused p.found (front_at (byte ∷ bytes))
   next ← whole_read p front.0
   batches_read most next front.1
 
@@ -41,7 +41,7 @@ batches_read (suc most) p (byte ∷ bytes) = do
 unfoldable pub whole_image : List ℕ → Result (ℤ × Image) ImageFault
 whole_image bytes = do
   head ← headed (numbers_at bytes)
-  image ← batches_read (length head.1) (begun head.0.1) head.1
+  image ← batches_read (length head.1) (nothing_found head.0.1) head.1
   Ok (head.0.0, image)
 
 -- ---- pieces
@@ -162,13 +162,13 @@ batch_waits b head more size s good others few =
 -- ---- one batch
 
 abbrev cut : ℕ → Result Taken ImageFault
-cut found = Err (bad_batch found (causes.Refused refusals.Short))
+cut found = Err (batch_fault_behind found (causes.Refused refusals.Short))
 
 abbrev cut_image : ℕ → Result Image ImageFault
-cut_image found = Err (bad_batch found (causes.Refused refusals.Short))
+cut_image found = Err (batch_fault_behind found (causes.Refused refusals.Short))
 
 -- the end comes inside a batch
-ends_inside : (b : ℤ × Progress) (held : List ℕ) → 1 ≤ length held → ends (Some b) held ≡ Err (bad_batch b.1.found (causes.Refused refusals.Short))
+ends_inside : (b : ℤ × Progress) (held : List ℕ) → 1 ≤ length held → ends (Some b) held ≡ Err (batch_fault_behind b.1.found (causes.Refused refusals.Short))
 ends_inside b [] some = absurd (omega (arith, some))
 ends_inside b (x ∷ held) some = refl
 
@@ -237,13 +237,13 @@ ended_at r = r >>= λ t. ends t.body t.held
 
 -- the batch at the front, and then the others
 abbrev by_batches : ℕ → Progress → List ℕ → Result Image ImageFault
-by_batches most p bytes = refused p.found (front_at bytes) >>= λ front. (whole_read p front.0 >>= λ next. batches_read most next front.1)
+by_batches most p bytes = batch_refused p.found (front_at bytes) >>= λ front. (whole_read p front.0 >>= λ next. batches_read most next front.1)
 
 first_batch : (most : ℕ) (p : Progress) (bytes : List ℕ) → 1 ≤ length bytes → batches_read (suc most) p bytes ≡ by_batches most p bytes
 first_batch most p [] some = absurd (omega (arith, some))
 first_batch most p (b ∷ bytes) some = refl
 
-no_batch : (most : ℕ) (p : Progress) → batches_read most p [] ≡ ended p
+no_batch : (most : ℕ) (p : Progress) → batches_read most p [] ≡ image_at_end p
 no_batch zero p = refl
 no_batch (suc most) p = refl
 
@@ -388,13 +388,13 @@ abbrev numbers : Bool → ℤ → ℕ → List ℕ → Result ((ℤ × ℕ) × L
 numbers bad offset count rest = refuse wire.Short when bad else Ok ((offset, count), rest)
 
 abbrev begins_with : Result ((ℤ × ℕ) × List ℕ) WireFault → Result Taken ImageFault
-begins_with r = headed r >>= λ head. waits (Some (head.0.0, begun head.0.1)) []
+begins_with r = headed r >>= λ head. waits (Some (head.0.0, nothing_found head.0.1)) []
 
 abbrev whole_with : Result ((ℤ × ℕ) × List ℕ) WireFault → Result (ℤ × Image) ImageFault
-whole_with r = headed r >>= λ head. (batches_read (length head.1) (begun head.0.1) head.1 >>= λ image. Ok (head.0.0, image))
+whole_with r = headed r >>= λ head. (batches_read (length head.1) (nothing_found head.0.1) head.1 >>= λ image. Ok (head.0.0, image))
 
 abbrev first_taken : Bool → ℤ → ℕ → Result Taken ImageFault
-first_taken bad offset count = refuse (bad_batch 0 causes.Head) when bad else waits (Some (offset, begun count)) []
+first_taken bad offset count = refuse (batch_fault_behind 0 causes.Head) when bad else waits (Some (offset, nothing_found count)) []
 
 head_full : (head : List ℕ) (offset count : ℤ) → length head ≡ 16 → IsNumbers head offset count
     → head_taken head ≡ first_taken (is_negative offset count) offset (unsigned_abs count)
@@ -416,7 +416,7 @@ headed_same head rest offset count long n =
     ∙ ap onward (fills None [] head 16 (head_waits []) (omega (arith, long)) (omega (arith, long)) ∙ head_full head offset count long n))
     ∙ (elim (is_negative offset count) as (λ c. ended_at (onward (first_taken c offset (unsigned_abs count))) ≡ whole_with (numbers c offset (unsigned_abs count) rest)) [
       | true ↦ refl
-      | false ↦ batches_same (length rest) (offset, begun (unsigned_abs count)) rest (omega arith)
+      | false ↦ batches_same (length rest) (offset, nothing_found (unsigned_abs count)) rest (omega arith)
     ]
     ∙ sym (ap whole_with (numbers_front head rest offset count n)))
 

@@ -11,12 +11,12 @@ use Rattle.kr_defs.specs.declared.record.Item.{Item}
 use Rattle.kr_defs.specs.declared.record.Item.TheVariants as items
 use Rattle.kr_wire.specs.Spelling.{signed, varint32, varint64}
 use Rattle.kr_record.specs.RecordRanges.{IsHeld}
-use Rattle.kr_batch.specs.BatchBytes.{IsWritable, value_bytes, values_size, record_body, record_bytes, records_bytes, fixed_bytes, checked_bytes, head_bytes, batch_bytes}
+use Rattle.kr_batch.specs.BatchBytes.{IsWritable, item_value, values_size, record_body, record_bytes, records_bytes, fixed_bytes, checked_bytes, head_bytes, batch_bytes}
 use Rattle.kr_batch.specs.Crc.{crc32c}
 use Rattle.std.specs.Int.{w8}
 use Rattle.kr_snapshot.specs.ImageText.{chunks, batch_of_group, batches_bytes}
 use Rattle.kr_snapshot.proofs.Chunks.{chunk_first, chunk_last}
-use Rattle.kr_snapshot.specs.inner.Writer.{setting_text, item_text, IsLight, IsLightItem, most_beside, IsSound, MayAdd, Puts, Adds, text_of, count_of, body_with}
+use Rattle.kr_snapshot.specs.inner.Writer.{setting_text, item_text, IsLight, IsLightItem, most_beside, IsSound, MayAdd, Puts, Adds, text_of, count_so_far, body_with}
 use Rattle.kr_snapshot.specs.declared.writer.BatchWriter.{BatchWriter}
 
 -- light items can be written
@@ -29,7 +29,7 @@ writable (items.Control ∷ group) each = absurd each.0
 weighed : (group : List Item) → AllByRecursion IsLightItem group → values_size group ≤ most_beside * length group + sum_by item_text group
 weighed [] each = omega arith
 weighed (items.Record r ∷ group) each =
-    let a = sum_by-cons (λ i. length (value_bytes i)) (items.Record r) group in
+    let a = sum_by-cons (λ i. length (item_value i)) (items.Record r) group in
     let b = sum_by-cons item_text (items.Record r) group in
     let c = weighed group each.1 in
     let d = each.0.size in
@@ -61,9 +61,9 @@ records_long : (delta : ℕ) (group : List Item) → length group ≤ length (re
 unfolding records_bytes
 records_long delta [] = omega arith
 records_long delta (item ∷ group) =
-    let a = length-append (record_bytes delta (value_bytes item)) (records_bytes (delta + 1) group) in
-    let b = length-append (varint32 (pos (length (record_body delta (value_bytes item))))) (record_body delta (value_bytes item)) in
-    let c = body_long delta (value_bytes item) in
+    let a = length-append (record_bytes delta (item_value item)) (records_bytes (delta + 1) group) in
+    let b = length-append (varint32 (pos (length (record_body delta (item_value item))))) (record_body delta (item_value item)) in
+    let c = body_long delta (item_value item) in
     let d = records_long (delta + 1) group in
     omega (arith, a, b, c, d)
 
@@ -93,7 +93,7 @@ sound_empty w empty behind = record {
 }
 
 pub push_adds : (w mid after : BatchWriter) (r : Record) → MayAdd w (r ∷ []) → IsHeld r → IsSound mid → length mid.group.items < IMAGE_BATCH
-    → ((item : Item) (more : List Item) → body_with mid (item ∷ more) ≡ body_with w (item ∷ more)) → count_of mid ≡ count_of w → text_of mid ≤ text_of w
+    → ((item : Item) (more : List Item) → body_with mid (item ∷ more) ≡ body_with w (item ∷ more)) → count_so_far mid ≡ count_so_far w → text_of mid ≤ text_of w
     → after.before ≡ mid.before → after.body.items ≡ mid.body.items → after.group.items ≡ mid.group.items ++ items.Record r ∷ []
     → Adds w after (r ∷ [])
 push_adds w mid after r may held sound room bytes count text same_before same_body pushed =
@@ -125,7 +125,7 @@ module _ (w after : BatchWriter) (puts : Puts w after) where
   pub put_room : length after.group.items < IMAGE_BATCH
   put_room = rw puts.group (omega arith)
 
-  pub put_count : count_of after ≡ count_of w
+  pub put_count : count_so_far after ≡ count_so_far w
   put_count = let g = ap (λ (l : List Item). length l) puts.group in let b = puts.before in omega (arith, g, b)
 
   pub put_text : text_of after ≤ text_of w

@@ -15,19 +15,19 @@ use Rattle.std.specs.Result.{result_err}
 use Rattle.kr_batch.specs.declared.fault.BatchFault.{BatchFault}
 use Rattle.kr_batch.specs.declared.fault.BatchFault.TheVariants as refusals
 use Rattle.kr_snapshot.specs.declared.fault.ImageFault.{ImageFault}
-use Rattle.kr_snapshot.specs.Reading.{bad_batch, Progress, begun, headed, numbers_at, refused, whole_read, Taken, nothing_taken, waits, head_taken, extent, is_no_size, size_at, batch_taken, judged, goes_on, so_far, with_piece, ends, image_of}
+use Rattle.kr_snapshot.specs.Reading.{batch_fault_behind, Progress, nothing_found, headed, numbers_at, batch_refused, whole_read, Taken, nothing_taken, waits, head_taken, extent, is_no_size, size_at, batch_taken, judged, goes_on, so_far, with_piece, ends, image_of}
 use Rattle.kr_snapshot.specs.declared.fault.ImageFault.TheVariants as faults
 use Rattle.kr_snapshot.specs.declared.fault.BatchCause.TheVariants as causes
 use Rattle.kr_snapshot.specs.declared.pieces.Body.{Body}
 use Rattle.kr_snapshot.specs.declared.pieces.Pieces.{Pieces}
-use Rattle.kr_snapshot.specs.ReaderState.{IsBegun, IsFault, IsUnfinished, IsWaiting, LeadsTo, Restores, StandsFor, Waits, answer_of, body_in, kept_once, progress_in, state_of, taken_in}
+use Rattle.kr_snapshot.specs.ReaderState.{IsBegun, IsFault, IsUnfinished, IsWaiting, LeadsTo, Restores, StandsFor, Waits, feed_answer, body_in, kept_once, progress_in, state_of, taken_in}
 use Rattle.kr_snapshot.proofs.Faults.{through}
 use Rattle.kr_snapshot.proofs.BatchPieces.{StartsWith, start_is, size_front, size_bad, batch_waits, head_waits, goes_on_append, fills}
 
 -- ---- what is judged leaves nothing to judge
 
 abbrev cut : ℕ → BatchFault → Result Taken ImageFault
-cut found fault = Err (bad_batch found (causes.Refused fault))
+cut found fault = Err (batch_fault_behind found (causes.Refused fault))
 
 abbrev taken_ok : Taken → Result Taken ImageFault
 taken_ok t = Ok t
@@ -39,8 +39,8 @@ head_settled held t e = elim (cases_Bool (nat_lt (length held) 16)) [
       let same : taken_ok (record { body = None; held = held }) ≡ taken_ok t = rw short at e in
       subst (λ (x : Taken). judged x.body x.held ≡ Ok x) (is_ok _ _ same) (rw short refl)
   | inr there ↦
-      let read : (headed (numbers_at held) >>= λ head. waits (Some (head.0.0, begun head.0.1)) []) ≡ Ok t = rw there at e in
-      let b = bind_ok (headed (numbers_at held)) (λ head. waits (Some (head.0.0, begun head.0.1)) []) t read in
+      let read : (headed (numbers_at held) >>= λ head. waits (Some (head.0.0, nothing_found head.0.1)) []) ≡ Ok t = rw there at e in
+      let b = bind_ok (headed (numbers_at held)) (λ head. waits (Some (head.0.0, nothing_found head.0.1)) []) t read in
       subst (λ (x : Taken). judged x.body x.held ≡ Ok x) (is_ok _ _ b.2) refl
 ]
 
@@ -55,8 +55,8 @@ batch_settled b held t e = elim (cases_Bool (nat_lt (length held) 12)) [
       let same : taken_ok (record { body = Some b; held = held }) ≡ taken_ok t = rw short at e in
       subst (λ (x : Taken). judged x.body x.held ≡ Ok x) (is_ok _ _ same) (rw short refl)
   | inr there ↦
-      let read : (refused b.1.found (size_at held) >>= λ size. rest_taken b held size) ≡ Ok t = rw there at e in
-      let s = bind_ok (refused b.1.found (size_at held)) (rest_taken b held) t read in
+      let read : (batch_refused b.1.found (size_at held) >>= λ size. rest_taken b held size) ≡ Ok t = rw there at e in
+      let s = bind_ok (batch_refused b.1.found (size_at held)) (rest_taken b held) t read in
       elim (cases_Bool (nat_lt (length held) (extent s.0))) [
         | inl short ↦
             let same : taken_ok (record { body = Some b; held = held }) ≡ taken_ok t = rw short at s.2 in
@@ -123,9 +123,9 @@ head_short held e = elim (cases_lt (length held) 16) [
   | inl lt ↦ lt
   | inr ge ↦
       let there : nat_lt (length held) 16 ≡ false = le-ltb (length held) 16 ge in
-      let read : (headed (numbers_at held) >>= λ head. waits (Some (head.0.0, begun head.0.1)) []) ≡ waits None held = rw there at e in
-      let b = bind_ok (headed (numbers_at held)) (λ head. waits (Some (head.0.0, begun head.0.1)) []) (record { body = None; held = held }) read in
-      absurd (not_none (b.0.0.0, begun b.0.0.1) (ap kept_body b.2))
+      let read : (headed (numbers_at held) >>= λ head. waits (Some (head.0.0, nothing_found head.0.1)) []) ≡ waits None held = rw there at e in
+      let b = bind_ok (headed (numbers_at held)) (λ head. waits (Some (head.0.0, nothing_found head.0.1)) []) (record { body = None; held = held }) read in
+      absurd (not_none (b.0.0.0, nothing_found b.0.0.1) (ap kept_body b.2))
 ]
 
 pub batch_short : (b : ℤ × Progress) (held : List ℕ) (size : ℕ) → judged (Some b) held ≡ waits (Some b) held → 12 ≤ length held → size_at held ≡ Ok size → length held < extent size
@@ -276,7 +276,7 @@ pub fed_more : (t after : Taken) (answer : Result (Unit {0}) ImageFault) (fed pi
 fed_more t after (Ok done) fed piece leads stands = sym (stands_on t fed piece stands) ∙ leads
 fed_more t after (Err fault) fed piece leads stands = subst (λ (r : Result Taken ImageFault). IsFault fault r) (stands_on t fed piece stands) leads
 
-pub answers : (answer : Result (Unit {0}) ImageFault) (after : Taken) → answer ≡ answer_of (state_of (result_err answer) after)
+pub answers : (answer : Result (Unit {0}) ImageFault) (after : Taken) → answer ≡ feed_answer (state_of (result_err answer) after)
 answers (Ok tt) after = refl
 answers (Err fault) after = refl
 

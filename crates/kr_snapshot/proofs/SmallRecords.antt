@@ -19,7 +19,7 @@ use Rattle.kr_defs.specs.Image.{Image, IsValid, config_text, is_small_registrati
 use Rattle.kr_defs.specs.Partition.{is_well_formed, is_part, is_reassignment}
 use Rattle.kr_defs.specs.Texts.{is_topic_name, is_name, are_name_bytes}
 use Rattle.kr_defs.specs.Records.{topic_records, records_of, partition_record as walked_record}
-use Rattle.kr_defs.specs.Sizes.{uvarint_bytes, text_bytes, text_or_null_bytes, list_bytes, field_bytes, field_there, number_field, ids_field, tags_bytes, no_tags, value_bytes}
+use Rattle.kr_defs.specs.Sizes.{uvarint_bytes, text_bytes, text_or_null_bytes, list_bytes, field_bytes, field_there, number_field, ids_field, tags_bytes, no_tags_bytes, value_bytes}
 use Rattle.kr_defs.specs.Walk.{walked, of_topic, walk_topic}
 use Rattle.kr_defs.proofs.Changes.{formed_parts}
 use Rattle.kr_defs.proofs.IdLists.{same_id, refutes, refuted, all_at, all_from, has_kept}
@@ -80,7 +80,7 @@ rack_few None = omega arith
 rack_few (Some text) = text_few text
 
 abbrev endpoint_bytes : Endpoint → ℕ
-endpoint_bytes e = text_bytes e.name + text_bytes e.host + 2 + 2 + no_tags
+endpoint_bytes e = text_bytes e.name + text_bytes e.host + 2 + 2 + no_tags_bytes
 
 abbrev endpoint_text : Endpoint → ℕ
 endpoint_text e = length e.name + length e.host
@@ -96,7 +96,7 @@ endpoints_few (e ∷ es) =
     omega (arith, a, b, c, d, f)
 
 abbrev range_bytes : Range → ℕ
-range_bytes r = text_bytes r.name + 2 + 2 + no_tags
+range_bytes r = text_bytes r.name + 2 + 2 + no_tags_bytes
 
 abbrev range_text : Range → ℕ
 range_text r = length r.name

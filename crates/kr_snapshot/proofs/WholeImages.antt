@@ -28,7 +28,7 @@ use Rattle.kr_batch.proofs.Batches.{of_sound, of_complete}
 use Rattle.kr_batch.proofs.Frames.{is_true}
 use Rattle.kr_snapshot.specs.declared.fault.ImageFault.{ImageFault}
 use Rattle.kr_snapshot.specs.Grammar.{AreParts, all_of, IsImage}
-use Rattle.kr_snapshot.specs.Reading.{Progress, begun, headed, numbers_at, items_read, is_control, batch_read, refused, whole_read, ended, image_of}
+use Rattle.kr_snapshot.specs.Reading.{Progress, nothing_found, headed, numbers_at, items_read, is_control, batch_read, batch_refused, whole_read, image_at_end, image_of}
 use Rattle.kr_snapshot.proofs.BatchPieces.{front_at, batches_read, whole_image, pieces_whole}
 use Rattle.kr_snapshot.proofs.RecordsRead.{records_sound, records_complete, items_append, none_control, only_records}
 use Rattle.kr_snapshot.proofs.Fronts.{front_complete, front_sound, part_some}
@@ -43,7 +43,7 @@ pair_of offset image = (offset, image)
 abbrev meant : Image → Result Image Ill
 meant image = Ok image
 
-refused_ok : {X : Type 0} (found : ℕ) (r : Result X BatchFault) (x : X) → refused found r ≡ Ok x → r ≡ Ok x
+refused_ok : {X : Type 0} (found : ℕ) (r : Result X BatchFault) (x : X) → batch_refused found r ≡ Ok x → r ≡ Ok x
 refused_ok {X} found (Ok y) x e = let same : y ≡ x = is_ok _ _ e in ap (λ z. let r : Result X BatchFault = Ok z in r) same
 refused_ok found (Err d) x e = absurd cc
 
@@ -95,9 +95,9 @@ batch_sound p q batch e =
 
 whole_done : (p q : Progress) (batch : Batch) (front : List ℕ) → IsBatch batch front → batch_read p batch ≡ Ok q → whole_read p front ≡ Ok q
 unfolding whole_read
-whole_done p q batch front is read = complete_bind (refused p.found (batch_of front)) (batch_read p) batch q (ap (refused p.found) (of_complete front batch is)) read
+whole_done p q batch front is read = complete_bind (batch_refused p.found (batch_of front)) (batch_read p) batch q (ap (batch_refused p.found) (of_complete front batch is)) read
 
-ended_is : (most : ℕ) (p : Progress) → batches_read most p [] ≡ ended p
+ended_is : (most : ℕ) (p : Progress) → batches_read most p [] ≡ image_at_end p
 ended_is zero p = refl
 ended_is (suc most) p = refl
 
@@ -105,7 +105,7 @@ first_batch : (most : ℕ) (p next : Progress) (image : Image) (bytes left right
     → front_at (left ++ right) ≡ Ok (left, right) → whole_read p left ≡ Ok next → batches_read most next right ≡ Ok image → batches_read (suc most) p bytes ≡ Ok image
 first_batch most p next image [] left right is some front own behind = absurd (omega (arith, some))
 first_batch most p next image (b ∷ bytes) left right is some front own behind =
-    complete_bind (refused p.found (front_at (b ∷ bytes))) _ (left, right) image (ap (λ (l : List ℕ). refused p.found (front_at l)) is ∙ ap (refused p.found) front)
+    complete_bind (batch_refused p.found (front_at (b ∷ bytes))) _ (left, right) image (ap (λ (l : List ℕ). batch_refused p.found (front_at l)) is ∙ ap (batch_refused p.found) front)
     (complete_bind (whole_read p left) _ next image own behind)
 
 pub batches_complete : (parts : List (List Record)) (most : ℕ) (p q : Progress) (bytes : List ℕ) → length bytes ≤ most → AreParts p.found parts bytes
@@ -152,7 +152,7 @@ record WholeIs (p q : Progress) (front : List ℕ) : Type 0 where
 whole_sound : (p q : Progress) (front : List ℕ) → IsBytes front → whole_read p front ≡ Ok q → WholeIs p q front
 unfolding whole_read
 whole_sound p q front fits e =
-    let a = bind_ok (refused p.found (batch_of front)) (batch_read p) q e in
+    let a = bind_ok (batch_refused p.found (batch_of front)) (batch_read p) q e in
     record { batch = a.0; spelled = of_sound front a.0 fits (refused_ok p.found (batch_of front) a.0 a.1); inner = batch_sound p q a.0 a.2 }
 
 pub batches_sound : (most : ℕ) (p : Progress) (bytes : List ℕ) (image : Image) → IsBytes bytes → length bytes ≤ most → p.found ≤ p.expected
@@ -164,7 +164,7 @@ batches_sound most p [] image fits few within e =
 batches_sound zero p (b ∷ bytes) image fits few within e = absurd (omega (arith, few))
 batches_sound (suc most) p (b ∷ bytes) image fits few within e =
     let whole_bytes : List ℕ = b ∷ bytes in
-    let a = bind_ok (refused p.found (front_at whole_bytes)) (λ front. whole_read p front.0 >>= λ next. batches_read most next front.1) image e in
+    let a = bind_ok (batch_refused p.found (front_at whole_bytes)) (λ front. whole_read p front.0 >>= λ next. batches_read most next front.1) image e in
     let split = front_sound whole_bytes a.0 fits (refused_ok p.found (front_at whole_bytes) a.0 a.1) in
     let w = bind_ok (whole_read p a.0.0) (λ next. batches_read most next a.0.1) image a.2 in
     let t = whole_sound p w.0 a.0.0 (IsBytes-before a.0.0 a.0.1 whole_bytes split.parts fits) w.1 in
@@ -249,7 +249,7 @@ image_complete offset image bytes is =
     pieces_whole bytes ∙ (
     let rs : List Record = all_of is.parts in
     let behind : List ℕ = is.spelled.second.right in
-    let r = records_complete rs (begun (length rs)) image is.makes.ordered is.makes.applied in
+    let r = records_complete rs (nothing_found (length rs)) image is.makes.ordered is.makes.applied in
     let head = head_complete offset (length rs) bytes behind is.natural (record {
       left = is.spelled.left;
       right = is.spelled.right;
@@ -259,17 +259,17 @@ image_complete offset image bytes is =
     }) in
     let image_is : done r.0.image ≡ Ok image = ap (λ (i : Image). done i) (sym r.2) in
     complete_bind (headed (numbers_at bytes)) _ ((offset, length rs), behind) _ (ap headed head)
-    (complete_bind (batches_read (length behind) (begun (length rs)) behind) _ image _
-    (batches_complete is.parts (length behind) (begun (length rs)) r.0 behind (omega arith) is.spelled.second.second (omega arith) r.1 ∙ image_is) refl))
+    (complete_bind (batches_read (length behind) (nothing_found (length rs)) behind) _ image _
+    (batches_complete is.parts (length behind) (nothing_found (length rs)) r.0 behind (omega arith) is.spelled.second.second (omega arith) r.1 ∙ image_is) refl))
 
 pub image_sound : (bytes : List ℕ) (offset : ℤ) (image : Image) → IsBytes bytes → image_of bytes ≡ Ok (offset, image) → IsImage offset image bytes
 unfolding whole_image
 image_sound bytes offset image fits e =
     let a = bind_ok (headed (numbers_at bytes)) _ (offset, image) (sym (pieces_whole bytes) ∙ e) in
     let h = head_sound bytes a.0 fits (headed_ok (numbers_at bytes) a.0 a.1) in
-    let b = bind_ok (batches_read (length a.0.1) (begun a.0.0.1) a.0.1) _ (offset, image) a.2 in
-    let all = batches_sound (length a.0.1) (begun a.0.0.1) a.0.1 b.0 h.small (omega arith) (omega arith) b.1 in
-    let s = records_sound (all_of all.parts) (begun a.0.0.1) all.after all.read in
+    let b = bind_ok (batches_read (length a.0.1) (nothing_found a.0.0.1) a.0.1) _ (offset, image) a.2 in
+    let all = batches_sound (length a.0.1) (nothing_found a.0.0.1) a.0.1 b.0 h.small (omega arith) (omega arith) b.1 in
+    let s = records_sound (all_of all.parts) (nothing_found a.0.0.1) all.after all.read in
     let whole : length (all_of all.parts) ≡ a.0.0.1 = (let w = all.whole in omega (arith, w)) in
     let there : IsImage a.0.0.0 b.0 bytes = record {
       parts = all.parts;

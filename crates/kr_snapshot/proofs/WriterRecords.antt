@@ -23,7 +23,7 @@ use Rattle.kr_defs.proofs.TopicWalks.{group_begin}
 use Rattle.kr_record.specs.RecordRanges.{IsHeld}
 use Rattle.kr_snapshot.specs.inner.EntryRecords.{partition_record}
 use Rattle.kr_snapshot.specs.ImageText.{chunks, batches_bytes}
-use Rattle.kr_snapshot.specs.inner.Writer.{setting_text, IsLight, texts, IsSound, body_with, count_of, Adds, IsAmid, MayAdd}
+use Rattle.kr_snapshot.specs.inner.Writer.{setting_text, IsLight, texts, IsSound, body_with, count_so_far, Adds, IsAmid, MayAdd}
 use Rattle.kr_snapshot.specs.declared.writer.BatchWriter.{BatchWriter}
 
 pub all_front : {X : Type 0} (P : X → Type 0) (xs ys : List X) → AllByRecursion P (xs ++ ys) → AllByRecursion P xs
@@ -113,7 +113,7 @@ pub all_bytes : (w after : BatchWriter) (records : List Record) → w.body.items
 all_bytes w after records body group before adds bytes is =
     is ∙ (adds.bytes [] ∙ (ap (body_with w) (append-nil (as_items records)) ∙ rw (body, group, before) refl))
 
-pub all_count : (w after : BatchWriter) (records : List Record) → w.group.items ≡ [] → w.before ≡ 0 → Adds w after records → (n : ℕ) → n ≡ count_of after → n ≡ length records
+pub all_count : (w after : BatchWriter) (records : List Record) → w.group.items ≡ [] → w.before ≡ 0 → Adds w after records → (n : ℕ) → n ≡ count_so_far after → n ≡ length records
 all_count w after records group before adds n is =
     let c = adds.count in
     let g : length w.group.items ≡ 0 = ap (λ (l : List Item). length l) group in

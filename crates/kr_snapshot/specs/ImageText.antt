@@ -28,10 +28,10 @@ batches_bytes before [] = []
 batches_bytes before (group ∷ others) = batch_bytes (batch_of_group before group) ++ batches_bytes (before + length group) others
 
 -- the offset, and how many records there are
-abbrev pub head_bytes : ℤ → ℕ → List ℕ
-head_bytes offset count = signed w64 offset ++ signed w64 (pos count)
+abbrev pub image_head : ℤ → ℕ → List ℕ
+image_head offset count = signed w64 offset ++ signed w64 (pos count)
 
 -- behind them the records in their order, 1,000 a batch
 unfoldable pub image_text : ℤ → Image → List ℕ
 image_text offset image =
-    head_bytes offset (length (records_of image)) ++ batches_bytes 0 (chunks IMAGE_BATCH (as_items (records_of image)))
+    image_head offset (length (records_of image)) ++ batches_bytes 0 (chunks IMAGE_BATCH (as_items (records_of image)))

@@ -10,7 +10,7 @@ use Rattle.kr_wire.specs.Answers as answers
 use Rattle.kr_batch.specs.declared.fault.BatchFault.{BatchFault}
 use Rattle.kr_batch.specs.declared.fault.BatchFault.TheVariants as refusals
 use Rattle.kr_snapshot.specs.declared.fault.BatchCause.TheVariants as causes
-use Rattle.kr_snapshot.specs.Reading.{bad_batch, Progress, Taken, extent, judged, size_at, so_far, waits}
+use Rattle.kr_snapshot.specs.Reading.{batch_fault_behind, Progress, Taken, extent, judged, size_at, so_far, waits}
 use Rattle.kr_snapshot.specs.declared.fault.ImageFault.{ImageFault}
 use Rattle.kr_snapshot.specs.declared.fault.ImageFault.TheVariants as faults
 use Rattle.kr_snapshot.specs.declared.order.Section.{Section}
@@ -41,7 +41,7 @@ LeadsTo (Err fault) there read = IsFault fault read
 -- the fault of the batch behind so many records
 abbrev pub fault_of_batch : ℕ → BatchFault → ImageFault
 fault_of_batch found refusals.NoMemory = faults.NoMemory
-fault_of_batch found fault = bad_batch found (causes.Refused fault)
+fault_of_batch found fault = batch_fault_behind found (causes.Refused fault)
 
 -- ---- the order
 
@@ -121,14 +121,14 @@ abbrev pub StandsFor : Result Taken ImageFault → List ℕ → Type 0
 StandsFor (Ok taken) fed = so_far fed ≡ Ok taken
 StandsFor (Err fault) fed = IsFault fault (so_far fed)
 
-abbrev pub answer_of : Result Taken ImageFault → Result (Unit {0}) ImageFault
-answer_of (Ok taken) = Ok tt
-answer_of (Err fault) = Err fault
+abbrev pub feed_answer : Result Taken ImageFault → Result (Unit {0}) ImageFault
+feed_answer (Ok taken) = Ok tt
+feed_answer (Err fault) = Err fault
 
 -- without a fault it waits for more bytes
-abbrev pub IsOpen : Option ImageFault → Pieces → Type 0
-IsOpen None p = IsWaiting p
-IsOpen (Some fault) p = Unit {0}
+abbrev pub IsWithoutFault : Option ImageFault → Pieces → Type 0
+IsWithoutFault None p = IsWaiting p
+IsWithoutFault (Some fault) p = Unit {0}
 
 abbrev pub state_of : Option ImageFault → Taken → Result Taken ImageFault
 state_of None taken = Ok taken

@@ -23,8 +23,8 @@ use Rattle.kr_snapshot.specs.declared.fault.BatchCause.{BatchCause}
 use Rattle.kr_snapshot.specs.declared.fault.BatchCause.TheVariants as causes
 
 -- the fault of the batch behind so many records
-abbrev pub bad_batch : ℕ → BatchCause → ImageFault
-bad_batch found cause = faults.Batch (pos found) cause
+abbrev pub batch_fault_behind : ℕ → BatchCause → ImageFault
+batch_fault_behind found cause = faults.Batch (pos found) cause
 
 -- ---- the head: the offset and the count
 
@@ -36,7 +36,7 @@ numbers_at bytes = do
 
 abbrev pub headed : {X : Type 0} → Result X WireFault → Result X ImageFault
 headed (Ok x) = Ok x
-headed (Err fault) = Err (bad_batch 0 causes.Head)
+headed (Err fault) = Err (batch_fault_behind 0 causes.Head)
 
 -- ---- records
 
@@ -47,8 +47,8 @@ pub record Progress : Type 0 where
   pub seen : Seen
   pub image : Image
 
-abbrev pub begun : ℕ → Progress
-begun expected = record { expected = expected; found = 0; seen = nothing_seen; image = empty }
+abbrev pub nothing_found : ℕ → Progress
+nothing_found expected = record { expected = expected; found = 0; seen = nothing_seen; image = empty }
 
 abbrev pub with_meaning : Progress → Record → Result Image Ill → Result Progress ImageFault
 with_meaning p r (Ok image) = Ok (record { expected = p.expected; found = p.found + 1; seen = seen_with p.seen r; image = image })
@@ -62,7 +62,7 @@ record_read p r =
 
 abbrev pub item_read : Progress → Item → Result Progress ImageFault
 item_read p (items.Record r) = record_read p r
-item_read p items.Control = Err (bad_batch p.found causes.Control)
+item_read p items.Control = Err (batch_fault_behind p.found causes.Control)
 
 abbrev pub items_read : Progress → List Item → Result Progress ImageFault
 items_read p [] = Ok p
@@ -77,19 +77,19 @@ is_control (items.Record r) = false
 -- a batch: its base, whether it is one of the quorum's own, its count, and then its records
 unfoldable pub batch_read : Progress → Batch → Result Progress ImageFault
 batch_read p batch =
-    refuse (bad_batch p.found causes.Base) when not (int_eq batch.base (pos p.found)) else
-    refuse (bad_batch p.found causes.Control) when list_any is_control batch.items else
+    refuse (batch_fault_behind p.found causes.Base) when not (int_eq batch.base (pos p.found)) else
+    refuse (batch_fault_behind p.found causes.Control) when list_any is_control batch.items else
     refuse (faults.NoEnd (p.found + length batch.items) p.expected) when nat_lt p.expected (p.found + length batch.items) else
     items_read p batch.items
 
-abbrev pub refused : {X : Type 0} → ℕ → Result X BatchFault → Result X ImageFault
-refused found (Ok x) = Ok x
-refused found (Err fault) = Err (bad_batch found (causes.Refused fault))
+abbrev pub batch_refused : {X : Type 0} → ℕ → Result X BatchFault → Result X ImageFault
+batch_refused found (Ok x) = Ok x
+batch_refused found (Err fault) = Err (batch_fault_behind found (causes.Refused fault))
 
 -- all bytes of a batch
 unfoldable pub whole_read : Progress → List ℕ → Result Progress ImageFault
 whole_read p bytes = do
-  batch ← refused p.found (batch_of bytes)
+  batch ← batch_refused p.found (batch_of bytes)
   batch_read p batch
 
 -- ---- the bytes as they come, in any pieces
@@ -110,7 +110,7 @@ waits body held = Ok (record { body = body; held = held })
 unfoldable pub head_taken : List ℕ → Result Taken ImageFault
 head_taken held = if nat_lt (length held) 16 then waits None held else do
   head ← headed (numbers_at held)
-  waits (Some (head.0.0, begun head.0.1)) []
+  waits (Some (head.0.0, nothing_found head.0.1)) []
 
 -- base and size, and as many bytes more as the size says
 abbrev pub extent : ℕ → ℕ
@@ -128,7 +128,7 @@ size_at bytes = do
 -- a batch: its size is judged once base and size are there, and all of it once it is whole
 unfoldable pub batch_taken : ℤ × Progress → List ℕ → Result Taken ImageFault
 batch_taken b held = if nat_lt (length held) 12 then waits (Some b) held else do
-  size ← refused b.1.found (size_at held)
+  size ← batch_refused b.1.found (size_at held)
   if nat_lt (length held) (extent size) then waits (Some b) held else do
     next ← whole_read b.1 held
     waits (Some (b.0, next)) []
@@ -152,13 +152,13 @@ with_piece (Ok taken) piece = goes_on taken piece
 with_piece (Err fault) piece = Err fault
 
 -- the bytes end
-abbrev pub ended : Progress → Result Image ImageFault
-ended p = refuse (faults.NoEnd p.found p.expected) when nat_lt p.found p.expected else Ok p.image
+abbrev pub image_at_end : Progress → Result Image ImageFault
+image_at_end p = refuse (faults.NoEnd p.found p.expected) when nat_lt p.found p.expected else Ok p.image
 
 abbrev pub ends : Option (ℤ × Progress) → List ℕ → Result (ℤ × Image) ImageFault
-ends None held = Err (bad_batch 0 causes.Head)
-ends (Some b) [] = ended b.1 >>= λ image. Ok (b.0, image)
-ends (Some b) (byte ∷ held) = Err (bad_batch b.1.found (causes.Refused refusals.Short))
+ends None held = Err (batch_fault_behind 0 causes.Head)
+ends (Some b) [] = image_at_end b.1 >>= λ image. Ok (b.0, image)
+ends (Some b) (byte ∷ held) = Err (batch_fault_behind b.1.found (causes.Refused refusals.Short))
 
 -- all bytes: the offset and the image
 unfoldable pub image_of : List ℕ → Result (ℤ × Image) ImageFault

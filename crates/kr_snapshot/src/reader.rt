@@ -4,7 +4,7 @@ ghost use Rattle.std.specs.Prelude.{◌≡◌, ◌++◌, [], List, ℕ, ℤ, IfO
 ghost use Rattle.kr_defs.specs.Image.{Image};
 ghost use Rattle.kr_wire.specs.Laws.{IsBytes};
 ghost use Rattle.kr_snapshot.specs.Grammar.{IsImage};
-ghost use Rattle.kr_snapshot.specs.ReaderState.{Restores, StandsFor, answer_of};
+ghost use Rattle.kr_snapshot.specs.ReaderState.{Restores, StandsFor, feed_answer};
 ghost use Rattle.kr_snapshot.specs.Reading as reading;
 
 use crate::fault::ImageFault;
@@ -28,11 +28,11 @@ impl Model for Reader {
 
     ghost Value = { Result Taken ImageFault };
 
-    ghost use Rattle.kr_snapshot.specs.ReaderState.{IsOpen, state_of, taken_in};
+    ghost use Rattle.kr_snapshot.specs.ReaderState.{IsWithoutFault, state_of, taken_in};
 
     ghost view = { λ r. state_of r.fault (taken_in r.pieces) };
 
-    ghost invariant = { λ r. IsOpen r.fault r.pieces };
+    ghost invariant = { λ r. IsWithoutFault r.fault r.pieces };
 }
 
 impl Reader {
@@ -51,7 +51,7 @@ impl Reader {
     #[tactic(auto, using(crate::proofs::ReaderSteps::fed_more, crate::proofs::ReaderSteps::faulty_on, crate::proofs::ReaderSteps::answers))]
     pub fn feed(&mut self, piece: &[u8]) -> Result<(), ImageFault>
         ensures stands { (fed : List ℕ) → StandsFor self.old fed → StandsFor self.new (fed ++ piece.now) }
-        ensures answer { result ≡ answer_of self.new }
+        ensures answer { result ≡ feed_answer self.new }
         ensures again { IsErr self.old → self.new ≡ self.old }
     {
         if let Some(fault) = self.fault {

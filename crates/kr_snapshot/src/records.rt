@@ -33,7 +33,7 @@ impl Tally {
     /// None of so many was read.
     pub fn begin(expected: u64) -> Tally
         requires { expected < 2 ^ 63 }
-        ensures begun { progress_in result empty ≡ reading.begun expected }
+        ensures begun { progress_in result empty ≡ reading.nothing_found expected }
         ensures room { HasRoom result }
     {
         Tally {
@@ -191,7 +191,7 @@ fn fault_of_batch(found: u64, fault: BatchFault) -> ImageFault
 #[tactic(auto, using(crate::proofs::Faults::refusal))]
 fn decode_batch(alloc: Global, found: u64, bytes: &[u8]) -> Result<Batch, ImageFault>
     requires { found < 2 ^ 63 }
-    ensures read { Gives result (reading.refused found (batch_of bytes.now)) }
+    ensures read { Gives result (reading.batch_refused found (batch_of bytes.now)) }
     ensures few { IfOk result (λ b. length b.items ≤ most) }
 {
     match decode(alloc, bytes) {

@@ -4,7 +4,7 @@ ghost use Rattle.std.specs.Prelude.{◌≡◌, is_some};
 ghost use Rattle.std.specs.Option.{option_copied, option_map};
 ghost use Rattle.kr_defs.specs.Map as entries;
 ghost use Rattle.kr_defs.specs.Map.{text_order};
-ghost use Rattle.kr_store.specs.Images.{image_at, topic_entry};
+ghost use Rattle.kr_store.specs.Images.{image_of_place, topic_entry};
 ghost use Rattle.kr_store.specs.Reads.{seen_at};
 
 use kr_defs::{Text, Topic};
@@ -12,7 +12,7 @@ use kr_store::{At, Store};
 
 /// There is an image at the place.
 pub fn is_kept<S: Store>(store: &S, at: At) -> bool
-    ensures { result ≡ is_some (image_at (S.images store.now) at) }
+    ensures { result ≡ is_some (image_of_place (S.images store.now) at) }
 {
     store.next_feature(at, None).is_ok()
 }

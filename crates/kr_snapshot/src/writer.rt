@@ -4,7 +4,7 @@ ghost use Rattle.std.specs.Prelude.{◌≡◌, ◌<◌, ◌≤◌, ◌^◌, [], 
 ghost use Rattle.kr_defs.specs.declared.limits.TheConstants.{IMAGE_BATCH as most};
 ghost use Rattle.kr_defs.specs.declared.record.Item.{Item as AnyItem};
 ghost use Rattle.kr_record.specs.RecordRanges.{IsHeld};
-ghost use Rattle.kr_snapshot.specs.inner.Writer.{IsSound, MayAdd, Puts, Adds, body_with, count_of, text_of};
+ghost use Rattle.kr_snapshot.specs.inner.Writer.{IsSound, MayAdd, Puts, Adds, body_with, count_so_far, text_of};
 ghost use Rattle.kr_snapshot.specs.ImageText.{batch_of_group};
 
 use kr_base::NoMemory;
@@ -59,7 +59,7 @@ impl BatchWriter {
         ensures sound { OnOk result (IsSound self.new) }
         ensures room { OnOk result (length self.new.group.items < most) }
         ensures bytes { (item : AnyItem) (more : List AnyItem) → OnOk result (body_with self.new (item ∷ more) ≡ body_with self.old (item ∷ more)) }
-        ensures count { OnOk result (count_of self.new ≡ count_of self.old) }
+        ensures count { OnOk result (count_so_far self.new ≡ count_so_far self.old) }
         ensures text { OnOk result (text_of self.new ≤ text_of self.old) }
     {
         if self.group.len() < IMAGE_BATCH {
@@ -83,7 +83,7 @@ impl BatchWriter {
         requires { IsSound self.old }
         ensures sound { OnOk result (IsSound self.new) }
         ensures body { OnOk result (self.new.body.items ≡ body_with self.old []) }
-        ensures count { OnOk result (self.new.before ≡ count_of self.old) }
+        ensures count { OnOk result (self.new.before ≡ count_so_far self.old) }
     {
         if self.group.is_empty() {
             return Ok(());
@@ -95,7 +95,7 @@ impl BatchWriter {
     pub fn finish(mut self) -> Result<(Vec<u8>, usize), NoMemory>
         requires { IsSound self }
         ensures bytes { IfOk result (λ x. x.0.items ≡ body_with self []) }
-        ensures count { IfOk result (λ x. x.1 ≡ count_of self) }
+        ensures count { IfOk result (λ x. x.1 ≡ count_so_far self) }
         ensures small { IfOk result (λ x. x.1 < 2 ^ 63) }
     {
         self.put_rest()?;

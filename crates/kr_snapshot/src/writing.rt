@@ -6,11 +6,11 @@ ghost use Rattle.kr_defs.specs.Image.{IsValid};
 ghost use Rattle.kr_defs.specs.ImageLaws.{as_items};
 ghost use Rattle.kr_defs.specs.Records.{records_of};
 ghost use Rattle.kr_record.specs.RecordRanges.{IsHeld};
-ghost use Rattle.kr_store.specs.Images.{image_at};
+ghost use Rattle.kr_store.specs.Images.{image_of_place};
 ghost use Rattle.kr_snapshot.specs.Grammar.{IsImage};
 ghost use Rattle.kr_store.specs.Reads.{seen_at};
 ghost use Rattle.kr_snapshot.specs.inner.Writer.{Adds, MayAdd};
-ghost use Rattle.kr_snapshot.specs.ImageText.{batches_bytes, chunks, head_bytes, image_text};
+ghost use Rattle.kr_snapshot.specs.ImageText.{batches_bytes, chunks, image_head, image_text};
 ghost use Rattle.kr_snapshot.specs.declared.fault.SnapFault.TheVariants as faults;
 
 use crate::fault::SnapFault;
@@ -54,7 +54,7 @@ fn batches<S: Store>(alloc: Global, store: &S, at: At) -> Result<(Vec<u8>, usize
 
 fn put_head(offset: i64, count: usize, out: &mut Vec<u8>) -> Result<(), AllocError>
     requires { count < 2 ^ 63 }
-    ensures { OnOk result (out.new.items ≡ out.old.items ++ head_bytes offset count) }
+    ensures { OnOk result (out.new.items ≡ out.old.items ++ image_head offset count) }
 {
     put_i64(out, offset)?;
     put_i64(out, count as i64)
@@ -92,11 +92,11 @@ pub fn write<S: Store>(
     out: &mut Vec<u8>,
 ) -> Result<(), SnapFault>
     requires { pos 0 ≤ℤ offset }
-    ensures ok { OnOk result (IfSome (image_at (S.images store.now) at) (λ image. out.new.items ≡ out.old.items ++ image_text offset image)) }
+    ensures ok { OnOk result (IfSome (image_of_place (S.images store.now) at) (λ image. out.new.items ≡ out.old.items ++ image_text offset image)) }
     // What is appended stands for the image and its offset.
-    ensures stands { OnOk result (IfSome (image_at (S.images store.now) at) (λ image. IsImage offset image (image_text offset image))) }
+    ensures stands { OnOk result (IfSome (image_of_place (S.images store.now) at) (λ image. IsImage offset image (image_text offset image))) }
     ensures err { OnErr result (out.new.items ≡ out.old.items) }
-    ensures no_epoch { IsErrOf result faults.NoEpoch ↔ (image_at (S.images store.now) at ≡ None) }
+    ensures no_epoch { IsErrOf result faults.NoEpoch ↔ (image_of_place (S.images store.now) at ≡ None) }
 {
     if !is_kept(store, at) {
         return Err(SnapFault::NoEpoch);

@@ -31,24 +31,24 @@ abbrev pub kept_at : Images → ℤ → Option Image
 kept_at images epoch = option_map (λ (k : ℤ × Image). k.1) (find (λ (k : ℤ × Image). int_eq k.0 epoch) images.kept)
 
 -- the image at a place
-abbrev pub image_at : Images → At → Option Image
-image_at images places.Tip = Some images.tip
-image_at images (places.Epoch epoch) = kept_at images epoch
+abbrev pub image_of_place : Images → At → Option Image
+image_of_place images places.Tip = Some images.tip
+image_of_place images (places.Epoch epoch) = kept_at images epoch
 
 abbrev pub brokers_at : Images → At → Option (List (ℤ × Broker))
-brokers_at images place = option_map (λ (i : Image). i.brokers) (image_at images place)
+brokers_at images place = option_map (λ (i : Image). i.brokers) (image_of_place images place)
 
 abbrev pub topics_at : Images → At → Option (List (List ℕ × ℕ))
-topics_at images place = option_map (λ (i : Image). i.topics) (image_at images place)
+topics_at images place = option_map (λ (i : Image). i.topics) (image_of_place images place)
 
 abbrev pub partitions_at : Images → At → Option (List ((ℕ × ℤ) × Partition))
-partitions_at images place = option_map (λ (i : Image). i.partitions) (image_at images place)
+partitions_at images place = option_map (λ (i : Image). i.partitions) (image_of_place images place)
 
 abbrev pub configs_at : Images → At → Option (List (ConfigKey × List ℕ))
-configs_at images place = option_map (λ (i : Image). i.configs) (image_at images place)
+configs_at images place = option_map (λ (i : Image). i.configs) (image_of_place images place)
 
 abbrev pub features_at : Images → At → Option (List (List ℕ × ℤ))
-features_at images place = option_map (λ (i : Image). i.features) (image_at images place)
+features_at images place = option_map (λ (i : Image). i.features) (image_of_place images place)
 
 -- a topic, of which an image has the name and the id
 abbrev pub topic_of : List ℕ → ℕ → Topic

@@ -4,7 +4,7 @@ use Rattle.kr_defs.specs.Image.{Image, empty}
 use Rattle.kr_store.specs.declared.places.At.{At}
 use Rattle.kr_store.specs.declared.places.ReadFault.{ReadFault}
 use Rattle.kr_store.specs.declared.places.ReadFault.TheVariants as faults
-use Rattle.kr_store.specs.Images.{Images, image_at}
+use Rattle.kr_store.specs.Images.{Images, image_of_place}
 
 -- the answer, where there was memory for it
 abbrev pub IsRead : {X : Type 0} → Result X ReadFault → X → Type 0
@@ -12,9 +12,9 @@ IsRead (Ok answer) meaning = answer ≡ meaning
 IsRead (Err fault) meaning = fault ≡ faults.NoMemory
 
 -- NoEpoch exactly where the place is an epoch that isn't kept
-abbrev pub Reads : {X : Type 0} → Images → At → Result X ReadFault → (Image → X) → Type 0
-Reads images place result meaning = MatchOption (image_at images place) (result ≡ Err faults.NoEpoch) (λ (image : Image). IsRead result (meaning image))
+abbrev pub LooksUp : {X : Type 0} → Images → At → Result X ReadFault → (Image → X) → Type 0
+LooksUp images place result meaning = MatchOption (image_of_place images place) (result ≡ Err faults.NoEpoch) (λ (image : Image). IsRead result (meaning image))
 
 -- the image at a place; the empty one where it is an epoch that isn't kept
 abbrev pub seen_at : Images → At → Image
-seen_at images place = unwrap_or (image_at images place) empty
+seen_at images place = unwrap_or (image_of_place images place) empty

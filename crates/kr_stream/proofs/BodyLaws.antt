@@ -15,7 +15,7 @@ use Rattle.kr_calls.specs.declared.events.Event.TheVariants as events
 use Rattle.kr_stream.specs.declared.kind.FrameKind.{FrameKind}
 use Rattle.kr_stream.specs.declared.kind.FrameKind.TheVariants as kinds
 use Rattle.kr_stream.specs.Frames.{IsTime, IsEventBody, IsOptions, IsTextRest, kind_of_event}
-use Rattle.kr_stream.specs.inner.Bodies.{IsEventOf, has_numbers, time_at, lead_at, commit_at, lost_at, tick_at, numbers_at, IsStamp, stamp_at, AreSpelled, options_at}
+use Rattle.kr_stream.specs.inner.Bodies.{IsEventOf, is_of_numbers, time_at, lead_at, commit_at, lost_at, tick_at, numbers_at, IsStamp, stamp_at, AreSpelled, options_at}
 
 -- ---- numbers
 
@@ -36,7 +36,7 @@ time_law = record {
   complete = λ now front rest is. complete_bind (signed_at w64 (front ++ rest)) _ (now, rest) (now, rest) ((signed_law w64).complete now front rest is.spelled) (complete_guard _ _ _ _ (not_negative now is.natural) refl);
 }
 
-numbers_sound : (kind : FrameKind) → has_numbers kind ≡ true → (bytes : List ℕ) → IsBytes bytes → Yields (IsEventOf kind) bytes (numbers_at kind bytes)
+numbers_sound : (kind : FrameKind) → is_of_numbers kind ≡ true → (bytes : List ℕ) → IsBytes bytes → Yields (IsEventOf kind) bytes (numbers_at kind bytes)
 unfolding lead_at commit_at lost_at tick_at
 numbers_sound kinds.Lead e bytes fits =
     sound_then (signed_law w32) (IsEventOf kinds.Lead) _ bytes fits (λ epoch a rest first more.
@@ -58,7 +58,7 @@ numbers_sound kinds.Load e bytes fits = absurd cc
 numbers_sound kinds.Request e bytes fits = absurd cc
 numbers_sound kinds.End e bytes fits = absurd cc
 
-event_complete : (event : Event) → has_numbers (kind_of_event event) ≡ true → (bytes rest : List ℕ) → IsEventBody event bytes
+event_complete : (event : Event) → is_of_numbers (kind_of_event event) ≡ true → (bytes rest : List ℕ) → IsEventBody event bytes
     → numbers_at (kind_of_event event) (bytes ++ rest) ≡ Ok (event, rest)
 unfolding lead_at commit_at lost_at tick_at
 event_complete (events.Lead epoch next now) e bytes rest is =
@@ -75,12 +75,12 @@ event_complete (events.Batch b) e bytes rest is = absurd cc
 event_complete (events.Load b) e bytes rest is = absurd cc
 event_complete (events.Request client now ask) e bytes rest is = absurd cc
 
-numbers_complete : (kind : FrameKind) → has_numbers kind ≡ true → (event : Event) (front rest : List ℕ) → IsEventOf kind event front → numbers_at kind (front ++ rest) ≡ Ok (event, rest)
+numbers_complete : (kind : FrameKind) → is_of_numbers kind ≡ true → (event : Event) (front rest : List ℕ) → IsEventOf kind event front → numbers_at kind (front ++ rest) ≡ Ok (event, rest)
 numbers_complete kind e event front rest is =
     let P : FrameKind → Type 0 = λ k. numbers_at k (front ++ rest) ≡ Ok (event, rest) in
-    subst P is.named (event_complete event (ap has_numbers is.named ∙ e) front rest is.is)
+    subst P is.named (event_complete event (ap is_of_numbers is.named ∙ e) front rest is.is)
 
-pub numbers_law : (kind : FrameKind) → has_numbers kind ≡ true → Law (IsEventOf kind) (numbers_at kind)
+pub numbers_law : (kind : FrameKind) → is_of_numbers kind ≡ true → Law (IsEventOf kind) (numbers_at kind)
 numbers_law kind e = record { sound = numbers_sound kind e; complete = numbers_complete kind e }
 
 pub stamp_law : Law IsStamp stamp_at

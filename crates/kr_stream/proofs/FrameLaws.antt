@@ -20,12 +20,12 @@ use Rattle.kr_stream.specs.declared.frame.Frame.TheVariants as frames
 use Rattle.kr_stream.specs.declared.kind.FrameKind.{FrameKind}
 use Rattle.kr_stream.specs.declared.kind.FrameKind.TheVariants as kinds
 use Rattle.kr_stream.specs.Kinds.{number_of}
-use Rattle.kr_stream.specs.Frames.{IsFrame, IsBody, IsEventBody, IsTime, kind_of, kind_of_event}
+use Rattle.kr_stream.specs.Frames.{IsFrame, IsBody, IsEventBody, IsTime, frame_kind, kind_of_event}
 use Rattle.kr_stream.specs.Reader.{in_size, at_kind, in_body, no_size, no_place, no_fit, Stands}
 use Rattle.kr_stream.specs.Laws.{FramesAreToldApart, RefusedBytesBeginNone, UnfinishedBytesBeginNone, OutputsAreToldApart, SameOutput}
 use Rattle.kr_stream.specs.Outputs as output
 use Rattle.kr_stream.specs.Outputs.{IsOutput, IsOutputBody, IsReason}
-use Rattle.kr_stream.specs.inner.Bodies.{has_numbers, numbers_at, stamp_at, options_at}
+use Rattle.kr_stream.specs.inner.Bodies.{is_of_numbers, numbers_at, stamp_at, options_at}
 use Rattle.kr_stream.proofs.Sizes.{kind_once, body_short}
 use Rattle.kr_stream.proofs.FrameForms.{frame_form, frame_length, same_size, same_head}
 use Rattle.kr_stream.proofs.BodyLaws.{numbers_law, stamp_law, options_whole}
@@ -53,7 +53,7 @@ given kinds.Request body = requested (stamp_at body)
 given kinds.End body = frames.End
 given kind body = happened (numbers_at kind body)
 
-numbers_given : (event : Event) (body : List ℕ) → has_numbers (kind_of_event event) ≡ true → IsEventBody event body → happened (numbers_at (kind_of_event event) body) ≡ frames.Event event
+numbers_given : (event : Event) (body : List ℕ) → is_of_numbers (kind_of_event event) ≡ true → IsEventBody event body → happened (numbers_at (kind_of_event event) body) ≡ frames.Event event
 numbers_given event body has is = ap happened (whole_complete (numbers_law (kind_of_event event) has) body event (record { named = refl; is = is }))
 
 event_given : (event : Event) (body : List ℕ) → IsBytes body → IsEventBody event body → given (kind_of_event event) body ≡ frames.Event event
@@ -72,7 +72,7 @@ event_given (events.Request client now ask) body fits is =
     let message : IsBytes j.right = IsBytes-behind (is.left ++ j.left) j.right body parts fits in
     ap requested read ∙ ap (λ (a : Ask). frames.Event (events.Request client now a)) (ask_is ask j.right message j.second.is)
 
-body_given : (frame : Frame) (body : List ℕ) → IsBytes body → IsBody frame body → given (kind_of frame) body ≡ frame
+body_given : (frame : Frame) (body : List ℕ) → IsBytes body → IsBody frame body → given (frame_kind frame) body ≡ frame
 body_given (frames.Open options) body fits is = ap opened_with (options_whole options body is)
 body_given (frames.Event event) body fits is = event_given event body fits is
 body_given frames.End body fits is = refl
@@ -85,31 +85,31 @@ body_bytes kind Body bytes f fits =
 
 pub frames_apart : FramesAreToldApart
 frames_apart a b front other behind rest fits f g same =
-    let r = frame_form (number_of (kind_of a)) (number_of (kind_of b)) (IsBody a) (IsBody b) front other behind rest f g same in
-    let body = body_bytes (number_of (kind_of a)) (IsBody a) front f fits in
-    let kind : kind_of a ≡ kind_of b = kind_once (kind_of a) (kind_of b) r.0 in
+    let r = frame_form (number_of (frame_kind a)) (number_of (frame_kind b)) (IsBody a) (IsBody b) front other behind rest f g same in
+    let body = body_bytes (number_of (frame_kind a)) (IsBody a) front f fits in
+    let kind : frame_kind a ≡ frame_kind b = kind_once (frame_kind a) (frame_kind b) r.0 in
     let one = body_given a f.body body f.holds in
     let two = body_given b g.body (subst IsBytes r.1 body) g.holds in
-    (sym one ∙ (ap (λ (k : FrameKind). given k f.body) kind ∙ (ap (λ (l : List ℕ). given (kind_of b) l) r.1 ∙ two)), r.3)
+    (sym one ∙ (ap (λ (k : FrameKind). given k f.body) kind ∙ (ap (λ (l : List ℕ). given (frame_kind b) l) r.1 ∙ two)), r.3)
 
 -- ---- no frame
 
 stands_length : (opened : Bool) (frame : Frame) (front : List ℕ) → Stands opened frame front → 5 ≤ length front
-stands_length opened frame front s = let l = frame_length (number_of (kind_of frame)) (IsBody frame) front s.is in omega (arith, l)
+stands_length opened frame front s = let l = frame_length (number_of (frame_kind frame)) (IsBody frame) front s.is in omega (arith, l)
 
 pub refused_none : RefusedBytesBeginNone
 refused_none opened bytes behind (no_size zero) frame front rest parts s =
-    let r = same_size 0 (number_of (kind_of frame)) (IsBody frame) bytes behind front rest s.is zero parts in
+    let r = same_size 0 (number_of (frame_kind frame)) (IsBody frame) bytes behind front rest s.is zero parts in
     let e = r.0 in
     omega (arith, e)
 refused_none opened bytes behind (no_place size number some head not_allowed) frame front rest parts s =
-    let r = same_head size number (number_of (kind_of frame)) (IsBody frame) bytes behind front rest s.is head parts in
+    let r = same_head size number (number_of (frame_kind frame)) (IsBody frame) bytes behind front rest s.is head parts in
     let e = r.0 in
     let short = body_short frame s.is.body s.is.holds in
     let length_ : size - 1 ≡ length s.is.body = omega (arith, e) in
-    not_allowed (record { kind = kind_of frame; named = r.1; place = s.place; short = omega (arith, length_, short) })
+    not_allowed (record { kind = frame_kind frame; named = r.1; place = s.place; short = omega (arith, length_, short) })
 refused_none opened bytes behind (no_fit whole none) frame front rest parts s =
-    let r = frame_form whole.number (number_of (kind_of frame)) (Exactly whole.body) (IsBody frame) bytes front behind rest whole.is s.is parts in
+    let r = frame_form whole.number (number_of (frame_kind frame)) (Exactly whole.body) (IsBody frame) bytes front behind rest whole.is s.is parts in
     none frame (subst (Stands opened frame) (sym r.2) s)
 
 pub unfinished_none : UnfinishedBytesBeginNone
@@ -123,7 +123,7 @@ unfinished_none opened bytes (at_kind size some number) frame front rest parts s
     let four : length bytes ≡ 4 = number.long in
     omega (arith, four, l, e)
 unfinished_none opened bytes (in_body number len head body is begins allowed few) frame front rest parts s =
-    let r = same_head (len + 1) number (number_of (kind_of frame)) (IsBody frame) head body front rest s.is begins (sym is ∙ parts) in
+    let r = same_head (len + 1) number (number_of (frame_kind frame)) (IsBody frame) head body front rest s.is begins (sym is ∙ parts) in
     let e = r.0 in
     let l = ap length r.2 ∙ length-append s.is.body rest in
     omega (arith, e, l, few)

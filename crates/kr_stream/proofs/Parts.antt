@@ -11,7 +11,7 @@ use Rattle.kr_wire.proofs.WrittenBytes.{OfBytes, ◌and◌}
 use Rattle.kr_stream.specs.declared.frame.Frame.{Frame}
 use Rattle.kr_stream.specs.declared.kind.FrameKind.{FrameKind}
 use Rattle.kr_stream.specs.Kinds.{number_of, may_stand}
-use Rattle.kr_stream.specs.Frames.{IsFrame, IsBody, kind_of}
+use Rattle.kr_stream.specs.Frames.{IsFrame, IsBody, frame_kind}
 use Rattle.kr_stream.specs.Reader.{Took, IsHead, Stands}
 use Rattle.kr_stream.specs.inner.Bodies.{IsBodyOf}
 use Rattle.kr_stream.proofs.Sizes.{kind_once}
@@ -105,6 +105,6 @@ pub fits_none : (opened : Bool) (kind : FrameKind) (body bytes : List ℕ) → I
     → (frame : Frame) → Stands opened frame bytes → ⊥
 fits_none opened kind body bytes f none frame stands =
     let g = stands.is in
-    let r = frame_form (number_of kind) (number_of (kind_of frame)) (Exactly body) (IsBody frame) bytes bytes [] [] f g refl in
+    let r = frame_form (number_of kind) (number_of (frame_kind frame)) (Exactly body) (IsBody frame) bytes bytes [] [] f g refl in
     let same : g.body ≡ body = sym r.1 ∙ f.holds in
-    none frame (record { named = kind_once (kind_of frame) kind (sym r.0); is = subst (IsBody frame) same g.holds })
+    none frame (record { named = kind_once (frame_kind frame) kind (sym r.0); is = subst (IsBody frame) same g.holds })

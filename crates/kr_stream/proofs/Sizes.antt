@@ -13,7 +13,7 @@ use Rattle.kr_stream.specs.declared.frame.Frame.TheVariants as frames
 use Rattle.kr_stream.specs.declared.kind.FrameKind.{FrameKind}
 use Rattle.kr_stream.specs.declared.kind.FrameKind.TheVariants as kinds
 use Rattle.kr_stream.specs.Kinds.{number_of, longest_body}
-use Rattle.kr_stream.specs.Frames.{IsOptions, IsBody, IsEventBody, kind_of, kind_of_event}
+use Rattle.kr_stream.specs.Frames.{IsOptions, IsBody, IsEventBody, frame_kind, kind_of_event}
 
 -- ---- kinds
 
@@ -137,7 +137,7 @@ event_short (events.Request client now ask) body a =
     omega (arith, la, lb, na, nb, short)
 event_short events.Image body is = let e = ap length is in omega (arith, e)
 
-pub body_short : (frame : Frame) (body : List ℕ) → IsBody frame body → length body ≤ longest_body (kind_of frame)
+pub body_short : (frame : Frame) (body : List ℕ) → IsBody frame body → length body ≤ longest_body (frame_kind frame)
 body_short (frames.Open options) body is = options_short options body is
 body_short (frames.Event event) body is = event_short event body is
 body_short frames.End body is = let e = ap length is in omega (arith, e)

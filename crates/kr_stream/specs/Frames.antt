@@ -74,10 +74,10 @@ IsEventBody (events.Tick now) = IsTime now
 IsEventBody (events.Request client now ask) = IsNumber w32 client ⌢ IsTime now ⌢ IsMessage ask
 IsEventBody events.Image = Exactly []
 
-abbrev pub kind_of : Frame → FrameKind
-kind_of (frames.Open options) = kinds.Open
-kind_of (frames.Event event) = kind_of_event event
-kind_of frames.End = kinds.End
+abbrev pub frame_kind : Frame → FrameKind
+frame_kind (frames.Open options) = kinds.Open
+frame_kind (frames.Event event) = kind_of_event event
+frame_kind frames.End = kinds.End
 
 abbrev pub IsBody : Frame → List ℕ → Type 0
 IsBody (frames.Open options) = IsOptions options
@@ -86,7 +86,7 @@ IsBody frames.End = Exactly []
 
 -- the bytes are the frame
 abbrev pub IsFrameOf : Frame → List ℕ → Type 0
-IsFrameOf frame = IsFrame (number_of (kind_of frame)) (IsBody frame)
+IsFrameOf frame = IsFrame (number_of (frame_kind frame)) (IsBody frame)
 
 abbrev pub IsOpen : Options → List ℕ → Type 0
 IsOpen options = IsFrameOf (frames.Open options)

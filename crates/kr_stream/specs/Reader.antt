@@ -14,7 +14,7 @@ use Rattle.kr_stream.specs.declared.stage.Stage.{Stage}
 use Rattle.kr_stream.specs.declared.stage.Stage.TheVariants as stages
 use Rattle.kr_stream.specs.declared.kind.FrameKind.{FrameKind}
 use Rattle.kr_stream.specs.Kinds.{number_of, longest_body, may_stand}
-use Rattle.kr_stream.specs.Frames.{IsFrame, IsFrameOf, kind_of}
+use Rattle.kr_stream.specs.Frames.{IsFrame, IsFrameOf, frame_kind}
 
 -- where a reader stands: the bytes that it took, and what may follow
 pub record Position : Type 0 where
@@ -25,7 +25,7 @@ pub record Position : Type 0 where
 
 -- the frame stands at the beginning of a session, or behind its Open frame
 pub record Stands (opened : Bool) (frame : Frame) (bytes : List ℕ) : Type 0 where
-  pub place : may_stand opened (kind_of frame) ≡ true
+  pub place : may_stand opened (frame_kind frame) ≡ true
   pub is : IsFrameOf frame bytes
 
 -- The next frame of a stream. Behind End nothing is taken, and End is answered again.

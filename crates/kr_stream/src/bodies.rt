@@ -6,7 +6,7 @@ ghost use Rattle.kr_calls.specs.declared.events.Event.{Event as AnyEvent};
 ghost use Rattle.kr_wire.specs.Reading.{Reads};
 ghost use Rattle.kr_stream.specs.declared.frame.Frame.{Frame as AnyFrame};
 ghost use Rattle.kr_stream.specs.Kinds as kinds;
-ghost use Rattle.kr_stream.specs.inner.Bodies.{IsBodyOf, IsEventOf, IsRequestOf, has_numbers, numbers_at, time_at, lead_at, commit_at, lost_at, tick_at, stamp_at};
+ghost use Rattle.kr_stream.specs.inner.Bodies.{IsBodyOf, IsEventOf, IsRequestOf, is_of_numbers, numbers_at, time_at, lead_at, commit_at, lost_at, tick_at, stamp_at};
 
 use crate::opening::options;
 use crate::{Frame, FrameKind};
@@ -68,7 +68,7 @@ fn event(alloc: Global, kind: FrameKind, body: Vec<u8>) -> Result<Event, BodyFau
 
 // The event of a kind that has numbers alone.
 fn numbers(kind: FrameKind, body: &[u8]) -> Result<Event, BodyFault>
-    requires { has_numbers kind ≡ true }
+    requires { is_of_numbers kind ≡ true }
     ensures found { IfOk result (λ event. IsEventOf kind event body.now) }
     ensures misfit { OnErr result ((event : AnyEvent) → IsEventOf kind event body.now → ⊥) }
 {
@@ -79,7 +79,7 @@ fn numbers(kind: FrameKind, body: &[u8]) -> Result<Event, BodyFault>
 }
 
 fn read_numbers(kind: FrameKind, body: &[u8]) -> Result<(Event, usize), WireFault>
-    requires { has_numbers kind ≡ true }
+    requires { is_of_numbers kind ≡ true }
     ensures { Reads (λ x. x) result body.now (numbers_at kind body.now) }
 {
     match kind {

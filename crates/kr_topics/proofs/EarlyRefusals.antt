@@ -38,7 +38,7 @@ use Rattle.kr_calls.specs.declared.topics.CreatePartitionsTopic.{CreatePartition
 use Rattle.kr_calls.specs.CreatePartitions as growing
 use Rattle.kr_calls.specs.CreateTopics as creating
 use Rattle.kr_calls.specs.CreateTopics.{Layout}
-use Rattle.kr_calls.specs.Deciding.{Work, apply_records, is_within_limits, added, taken, done, one, after_all, answers, over_a_limit}
+use Rattle.kr_calls.specs.Deciding.{Work, apply_records, is_within_limits, work_with, taken, done, one, after_all, answers, over_a_limit}
 use Rattle.kr_calls.specs.NewPartitions.{new_partitions, placements, racked}
 use Rattle.kr_calls.specs.Refuse.{refused_creation, refused_growth}
 use Rattle.kr_calls.proofs.BrokersLeft.{AreBrokerless, all_leave, creates, grows}
@@ -142,9 +142,9 @@ no_room image count lacks = grind (arith, nat_tests, lacks)
 not_taken : (w : Work) (records : List Record) → IsErr (apply_records w.image records) → taken w records ≡ None
 unfolding taken
 not_taken w records e =
-    elim (apply_records w.image records) as (λ r. IsErr r → cond (is_within_limits w.records records) (added w records r) None ≡ None) [
+    elim (apply_records w.image records) as (λ r. IsErr r → cond (is_within_limits w.records records) (work_with w records r) None ≡ None) [
       | Ok after ↦ λ e. absurd cc
-      | Err cause ↦ λ e. elim (is_within_limits w.records records) as (λ b. cond b (added w records (Err cause)) None ≡ None) [ true ↦ refl | false ↦ refl ]
+      | Err cause ↦ λ e. elim (is_within_limits w.records records) as (λ b. cond b (work_with w records (Err cause)) None ≡ None) [ true ↦ refl | false ↦ refl ]
     ] e
 
 module _ {E A : Type 0} (refused : ℤ → E → A) (w : Work) (entry : E) where

@@ -14,7 +14,7 @@ use Rattle.kr_calls.specs.declared.reads.MetadataBroker.{MetadataBroker}
 use Rattle.kr_calls.specs.declared.reads.MetadataPartition.{MetadataPartition}
 use Rattle.kr_calls.specs.declared.reads.MetadataRequestTopic.{MetadataRequestTopic}
 use Rattle.kr_calls.specs.declared.reads.MetadataTopic.{MetadataTopic}
-use Rattle.kr_calls.specs.Metadata.{broker_of, brokers_of, is_online, named, new_to, partition_of, refused, seen_with, shown, topic_of, topics_named}
+use Rattle.kr_calls.specs.Metadata.{broker_of, brokers_of, is_online, topic_asked_for, new_to, partition_metadata, refused, seen_with, shown, topic_metadata, topics_named}
 use Rattle.kr_defs.proofs.Tests.{not_false, not_true}
 use Rattle.kr_gather.proofs.Parts.{given_parts}
 use Rattle.kr_rules.proofs.SingleEntries.{here_of}
@@ -39,20 +39,20 @@ marked seen seen' id ids marks updates q =
 pub ruleset marking = (first-time, marked)
 
 module _ (image : Image) (entry : MetadataRequestTopic) (ids : List ℕ) (topic : List ℕ × ℕ) where
-  pub row-first : named image entry ≡ Ok topic → true ≡ not (list_any (λ i. i == topic.1) ids) → topic_of image topic ≡ shown image entry (and_then (named image entry) (new_to ids))
+  pub row-first : topic_asked_for image entry ≡ Ok topic → true ≡ not (list_any (λ i. i == topic.1) ids) → topic_metadata image topic ≡ shown image entry (and_then (topic_asked_for image entry) (new_to ids))
   row-first is new = rw (is, not_true (list_any (λ i. i == topic.1) ids) (sym new)) refl
 
-  pub row-again : named image entry ≡ Ok topic → false ≡ not (list_any (λ i. i == topic.1) ids) → refused (pos 42) entry ≡ shown image entry (and_then (named image entry) (new_to ids))
+  pub row-again : topic_asked_for image entry ≡ Ok topic → false ≡ not (list_any (λ i. i == topic.1) ids) → refused (pos 42) entry ≡ shown image entry (and_then (topic_asked_for image entry) (new_to ids))
   row-again is old = rw (is, not_false (list_any (λ i. i == topic.1) ids) (sym old)) refl
 
-pub row-refused : (image : Image) (entry : MetadataRequestTopic) (ids : List ℕ) (error : ℤ) → named image entry ≡ Err error → refused error entry ≡ shown image entry (and_then (named image entry) (new_to ids))
+pub row-refused : (image : Image) (entry : MetadataRequestTopic) (ids : List ℕ) (error : ℤ) → topic_asked_for image entry ≡ Err error → refused error entry ≡ shown image entry (and_then (topic_asked_for image entry) (new_to ids))
 row-refused image entry ids error is = rw is refl
 
 module _ (image : Image) (entry : MetadataRequestTopic) (ids : List ℕ) (seen : BTreeSet ℕ) where
-  pub seen-more : (topic : List ℕ × ℕ) → named image entry ≡ Ok topic → Marks seen (topic.1 ∷ ids) → Marks seen (seen_with ids (named image entry))
+  pub seen-more : (topic : List ℕ × ℕ) → topic_asked_for image entry ≡ Ok topic → Marks seen (topic.1 ∷ ids) → Marks seen (seen_with ids (topic_asked_for image entry))
   seen-more topic is marks = rw is marks
 
-  pub seen-same : (error : ℤ) → named image entry ≡ Err error → Marks seen ids → Marks seen (seen_with ids (named image entry))
+  pub seen-same : (error : ℤ) → topic_asked_for image entry ≡ Err error → Marks seen ids → Marks seen (seen_with ids (topic_asked_for image entry))
   seen-same error is marks = rw is marks
 
 pub ruleset entries = (row-refused, seen-more, seen-same)
@@ -63,11 +63,11 @@ module _ (image : Image) where
   pub brokers : (rows : List MetadataBroker) → rows ≡ flat_map (λ (e : ℤ × Broker). if is_online e.1 then broker_of e ∷ [] else []) image.brokers → rows ≡ brokers_of image
   brokers rows is = is ∙ given_parts (λ (e : ℤ × Broker). is_online e.1) broker_of image.brokers
 
-  pub partitions : (rows : List MetadataPartition) (es : List ((ℕ × ℤ) × Partition)) → rows ≡ flat_map (λ (e : (ℕ × ℤ) × Partition). partition_of image e ∷ []) es → rows ≡ map (partition_of image) es
-  partitions rows es is = is ∙ flat_map_single (partition_of image) es
+  pub partitions : (rows : List MetadataPartition) (es : List ((ℕ × ℤ) × Partition)) → rows ≡ flat_map (λ (e : (ℕ × ℤ) × Partition). partition_metadata image e ∷ []) es → rows ≡ map (partition_metadata image) es
+  partitions rows es is = is ∙ flat_map_single (partition_metadata image) es
 
-  pub topics : (rows : List MetadataTopic) → rows ≡ flat_map (λ (t : List ℕ × ℕ). topic_of image t ∷ []) image.topics → rows ≡ map (topic_of image) image.topics
-  topics rows is = is ∙ flat_map_single (topic_of image) image.topics
+  pub topics : (rows : List MetadataTopic) → rows ≡ flat_map (λ (t : List ℕ × ℕ). topic_metadata image t ∷ []) image.topics → rows ≡ map (topic_metadata image) image.topics
+  topics rows is = is ∙ flat_map_single (topic_metadata image) image.topics
 
   -- what was named so far, and what is left to show
   pub record Shows (seen : BTreeSet ℕ) (rows : List MetadataTopic) (left : List MetadataRequestTopic) (all : List MetadataTopic) : Type 0 where
@@ -77,17 +77,17 @@ module _ (image : Image) where
 
   -- one entry more
   pub shown_at : (seen seen' : BTreeSet ℕ) (rows rows' : List MetadataTopic) (asked : List MetadataRequestTopic) (i : ℕ) (entry : MetadataRequestTopic) (row : MetadataTopic) (all : List MetadataTopic) → i < length asked → entry ≡ get_or asked i entry → rows' ≡ rows ++ row ∷ []
-      → ((ids : List ℕ) → Marks seen ids → row ≡ shown image entry (and_then (named image entry) (new_to ids)))
-      → ((ids : List ℕ) → Marks seen ids → Marks seen' (seen_with ids (named image entry)))
+      → ((ids : List ℕ) → Marks seen ids → row ≡ shown image entry (and_then (topic_asked_for image entry) (new_to ids)))
+      → ((ids : List ℕ) → Marks seen ids → Marks seen' (seen_with ids (topic_asked_for image entry)))
       → Shows seen rows (drop i asked) all → Shows seen' rows' (drop (i + 1) asked) all
   shown_at seen seen' rows rows' asked i entry row all lt here is_rows is_row is_seen so_far =
       let rest : List MetadataRequestTopic = drop (i + 1) asked in
       let ids : List ℕ = so_far.ids in
       let told : rows ++ topics_named image ids (entry ∷ rest) ≡ all = ap (λ left. rows ++ topics_named image ids left) (sym (here_of asked i entry lt here)) ∙ so_far.told in
       rw is_rows (record {
-        ids = seen_with ids (named image entry);
+        ids = seen_with ids (topic_asked_for image entry);
         marks = is_seen ids so_far.marks;
-        told = append_assoc rows (row ∷ []) (topics_named image (seen_with ids (named image entry)) rest) ∙ ap (λ r. rows ++ r ∷ topics_named image (seen_with ids (named image entry)) rest) (is_row ids so_far.marks) ∙ told;
+        told = append_assoc rows (row ∷ []) (topics_named image (seen_with ids (topic_asked_for image entry)) rest) ∙ ap (λ r. rows ++ r ∷ topics_named image (seen_with ids (topic_asked_for image entry)) rest) (is_row ids so_far.marks) ∙ told;
       })
 
   pub none_shown : (seen : BTreeSet ℕ) (asked : List MetadataRequestTopic) → Marks seen [] → Shows seen [] asked (topics_named image [] asked)

@@ -15,38 +15,38 @@ use Rattle.kr_calls.specs.declared.topics.CreatableTopicConfig.{CreatableTopicCo
 use Rattle.kr_calls.specs.CreateTopics.{settings_records}
 use Rattle.kr_rules.proofs.KeyLookups.{get_inserted}
 use Rattle.kr_rules.proofs.SingleEntries.{here_of}
-use Rattle.kr_topics.specs.inner.TopicSettings.{key_of, value_before, value_of, is_old}
+use Rattle.kr_topics.specs.inner.TopicSettings.{topic_setting_key, value_before, value_of, is_old}
 
 pub mirrored : (r : Ordering) → r ≡ ordering_reverse r → r ≡ Equal
 mirrored Less e = absurd cc
 mirrored Equal e = refl
 mirrored Greater e = absurd cc
 
-keys_alike : (topic q k : List ℕ) → config_order (key_of topic q) (key_of topic k) ≡ text_order q k
+keys_alike : (topic q k : List ℕ) → config_order (topic_setting_key topic q) (topic_setting_key topic k) ≡ text_order q k
 keys_alike topic q k = rw (mirrored (text_order topic topic) (text_total.antisymm topic topic)) refl
 
 -- configurations that have, at the keys of the topic, what was given so far above what stood
 pub record IsUnder (base : List (ConfigKey × List ℕ)) (topic : List ℕ) (given : List (List ℕ × List ℕ)) (records : List Record) (left : List CreatableTopicConfig) (all : List Record) : Type 0 where
   pub configs : List (ConfigKey × List ℕ)
-  pub stands : (q : List ℕ) → get config_order configs (key_of topic q) ≡ value_before base given topic q
+  pub stands : (q : List ℕ) → get config_order configs (topic_setting_key topic q) ≡ value_before base given topic q
   pub told : records ++ settings_records configs topic left ≡ all
 
 module _ (base : List (ConfigKey × List ℕ)) (topic : List ℕ) where
   pub begins : (records : List Record) (settings : List CreatableTopicConfig) → IsUnder base topic [] records settings (records ++ settings_records base topic settings)
   begins records settings = record { configs = base; stands = λ q. refl; told = refl }
 
-  module _ (given : List (List ℕ × List ℕ)) (configs : List (ConfigKey × List ℕ)) (stands : (q : List ℕ) → get config_order configs (key_of topic q) ≡ value_before base given topic q) where
-    stands_more : (k v : List ℕ) (q : List ℕ) → get config_order (insert config_order configs (key_of topic k) v) (key_of topic q) ≡ value_before base (insert text_order given k v) topic q
+  module _ (given : List (List ℕ × List ℕ)) (configs : List (ConfigKey × List ℕ)) (stands : (q : List ℕ) → get config_order configs (topic_setting_key topic q) ≡ value_before base given topic q) where
+    stands_more : (k v : List ℕ) (q : List ℕ) → get config_order (insert config_order configs (topic_setting_key topic k) v) (topic_setting_key topic q) ≡ value_before base (insert text_order given k v) topic q
     stands_more k v q =
-        let first : get config_order (insert config_order configs (key_of topic k) v) (key_of topic q) ≡ cond (is_eq (text_order q k)) (Some v) (get config_order configs (key_of topic q)) =
-        get_inserted config_total configs (key_of topic k) (key_of topic q) v ∙ ap (λ r. cond (is_eq r) (Some v) (get config_order configs (key_of topic q))) (keys_alike topic q k) in
-        let then : value_before base (insert text_order given k v) topic q ≡ option_or (cond (is_eq (text_order q k)) (Some v) (get text_order given q)) (get config_order base (key_of topic q)) =
-        ap (λ o. option_or o (get config_order base (key_of topic q))) (get_inserted text_total given k q v) in
-        first ∙ elim (is_eq (text_order q k)) as (λ b. cond b (Some v) (get config_order configs (key_of topic q)) ≡ option_or (cond b (Some v) (get text_order given q)) (get config_order base (key_of topic q))) [ true ↦ refl | false ↦ stands q ] ∙ sym then
+        let first : get config_order (insert config_order configs (topic_setting_key topic k) v) (topic_setting_key topic q) ≡ cond (is_eq (text_order q k)) (Some v) (get config_order configs (topic_setting_key topic q)) =
+        get_inserted config_total configs (topic_setting_key topic k) (topic_setting_key topic q) v ∙ ap (λ r. cond (is_eq r) (Some v) (get config_order configs (topic_setting_key topic q))) (keys_alike topic q k) in
+        let then : value_before base (insert text_order given k v) topic q ≡ option_or (cond (is_eq (text_order q k)) (Some v) (get text_order given q)) (get config_order base (topic_setting_key topic q)) =
+        ap (λ o. option_or o (get config_order base (topic_setting_key topic q))) (get_inserted text_total given k q v) in
+        first ∙ elim (is_eq (text_order q k)) as (λ b. cond b (Some v) (get config_order configs (topic_setting_key topic q)) ≡ option_or (cond b (Some v) (get text_order given q)) (get config_order base (topic_setting_key topic q))) [ true ↦ refl | false ↦ stands q ] ∙ sym then
 
     -- what the records of a setting and those of others are, by whether its value is old
-    records_by : (s : CreatableTopicConfig) (rest : List CreatableTopicConfig) → settings_records configs topic (s ∷ rest) ≡ cond (is_old base given topic s) (settings_records configs topic rest) (kinds.Config topic_kind topic s.name (Some (value_of s)) ∷ settings_records (insert config_order configs (key_of topic s.name) (value_of s)) topic rest)
-    records_by s rest = ap (λ o. cond (option_map_or (bytes_eq (value_of s)) o false) (settings_records configs topic rest) (kinds.Config topic_kind topic s.name (Some (value_of s)) ∷ settings_records (insert config_order configs (key_of topic s.name) (value_of s)) topic rest)) (stands s.name)
+    records_by : (s : CreatableTopicConfig) (rest : List CreatableTopicConfig) → settings_records configs topic (s ∷ rest) ≡ cond (is_old base given topic s) (settings_records configs topic rest) (kinds.Config topic_kind topic s.name (Some (value_of s)) ∷ settings_records (insert config_order configs (topic_setting_key topic s.name) (value_of s)) topic rest)
+    records_by s rest = ap (λ o. cond (option_map_or (bytes_eq (value_of s)) o false) (settings_records configs topic rest) (kinds.Config topic_kind topic s.name (Some (value_of s)) ∷ settings_records (insert config_order configs (topic_setting_key topic s.name) (value_of s)) topic rest)) (stands s.name)
 
   -- one setting more
   pub setting_more : (given given' : List (List ℕ × List ℕ)) (records records' : List Record) (s : CreatableTopicConfig) (rest : List CreatableTopicConfig) (all : List Record)
@@ -55,12 +55,12 @@ module _ (base : List (ConfigKey × List ℕ)) (topic : List ℕ) where
       → IsUnder base topic given records (s ∷ rest) all → IsUnder base topic given' records' rest all
   setting_more given given' records records' s rest all is_given is_records under =
       let told = ap (λ rs. records ++ rs) (sym (records_by given under.configs under.stands s rest)) ∙ under.told in
-      elim (is_old base given topic s) as (λ b. given' ≡ cond b given (insert text_order given s.name (value_of s)) → records' ≡ cond b records (records ++ kinds.Config topic_kind topic s.name (Some (value_of s)) ∷ []) → records ++ cond b (settings_records under.configs topic rest) (kinds.Config topic_kind topic s.name (Some (value_of s)) ∷ settings_records (insert config_order under.configs (key_of topic s.name) (value_of s)) topic rest) ≡ all → IsUnder base topic given' records' rest all) [
+      elim (is_old base given topic s) as (λ b. given' ≡ cond b given (insert text_order given s.name (value_of s)) → records' ≡ cond b records (records ++ kinds.Config topic_kind topic s.name (Some (value_of s)) ∷ []) → records ++ cond b (settings_records under.configs topic rest) (kinds.Config topic_kind topic s.name (Some (value_of s)) ∷ settings_records (insert config_order under.configs (topic_setting_key topic s.name) (value_of s)) topic rest) ≡ all → IsUnder base topic given' records' rest all) [
         | true ↦ λ is_given is_records told. rw (is_given, is_records) (record { configs = under.configs; stands = under.stands; told = told })
         | false ↦ λ is_given is_records told. rw (is_given, is_records) (record {
-          configs = insert config_order under.configs (key_of topic s.name) (value_of s);
+          configs = insert config_order under.configs (topic_setting_key topic s.name) (value_of s);
           stands = stands_more given under.configs under.stands s.name (value_of s);
-          told = append_assoc records (kinds.Config topic_kind topic s.name (Some (value_of s)) ∷ []) (settings_records (insert config_order under.configs (key_of topic s.name) (value_of s)) topic rest) ∙ told;
+          told = append_assoc records (kinds.Config topic_kind topic s.name (Some (value_of s)) ∷ []) (settings_records (insert config_order under.configs (topic_setting_key topic s.name) (value_of s)) topic rest) ∙ told;
         })
       ] is_given is_records told
 

@@ -4,7 +4,7 @@ ghost use Rattle.std.specs.Prelude.{◌≡◌, [], ◌∷◌, pos, IfOk, if◌th
 ghost use Rattle.std.specs.Option.{option_copied, option_map_or};
 ghost use Rattle.kr_calls.specs.declared.calls.Reply.TheVariants as replies;
 ghost use Rattle.kr_calls.specs.Metadata as shows;
-ghost use Rattle.kr_store.specs.Reads.{Reads, seen_at};
+ghost use Rattle.kr_store.specs.Reads.{LooksUp, seen_at};
 
 use crate::named_topics::named_topic_rows;
 use crate::topic_rows::all_topic_rows;
@@ -130,7 +130,7 @@ pub fn metadata<S: Store>(
     options: &Options,
     request: &Metadata,
 ) -> Result<Reply, ReadFault>
-    ensures { Reads (S.images store.now) at result (λ image. shows.queried options.now image request.now) }
+    ensures { LooksUp (S.images store.now) at result (λ image. shows.queried options.now image request.now) }
 {
     look(store, at)?;
     Ok(Reply::Metadata(reply_of(alloc, store, at, options, request)?))

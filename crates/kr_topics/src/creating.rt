@@ -11,7 +11,7 @@ ghost use Rattle.kr_defs.specs.Map.{text_order};
 ghost use Rattle.kr_defs.specs.Texts as texts;
 ghost use Rattle.kr_calls.specs.CreateTopics as creations;
 ghost use Rattle.kr_calls.specs.Deciding as deciding;
-ghost use Rattle.kr_calls.specs.Deciding.{begun, unless_validating, weights};
+ghost use Rattle.kr_calls.specs.Deciding.{nothing_decided, unless_validating, weights};
 ghost use Rattle.kr_calls.specs.NewPartitions as partitions;
 ghost use Rattle.kr_calls.specs.Refuse.{refused_creation};
 ghost use Rattle.kr_rules.specs.Progress.{place_of, work_at};
@@ -388,8 +388,8 @@ fn decide_on<S: Store, L: Ledger>(
 ) -> Result<(Records, CreatableTopicResults), NoMemory>
     requires low { place.now ≤ℤ places_end }
     requires kept { last_image (S.images store.old) ≡ Some (S.images store.old).tip }
-    ensures answers { IfOk result (λ d. d.1 ≡ deciding.answers refused_creation (room.creation those options.now validate_only) (begun place.now (S.images store.old).tip) topics.now) }
-    ensures after { IfOk result (λ d. work_at (record { start = place.now; records = d.0 }) (S.images store.new).tip ≡ unless_validating validate_only (begun place.now (S.images store.old).tip) (deciding.after_all refused_creation (room.creation those options.now validate_only) (begun place.now (S.images store.old).tip) topics.now)) }
+    ensures answers { IfOk result (λ d. d.1 ≡ deciding.answers refused_creation (room.creation those options.now validate_only) (nothing_decided place.now (S.images store.old).tip) topics.now) }
+    ensures after { IfOk result (λ d. work_at (record { start = place.now; records = d.0 }) (S.images store.new).tip ≡ unless_validating validate_only (nothing_decided place.now (S.images store.old).tip) (deciding.after_all refused_creation (room.creation those options.now validate_only) (nothing_decided place.now (S.images store.old).tip) topics.now)) }
     ensures kept { (S.images store.new).kept ≡ (S.images store.old).kept }
     ensures made { IfOk result (λ d. (S.images store.new).made ≤ (S.images store.old).made + weights (S.images store.old).tip d.0) }
     ensures later { steps.old ≤ steps.new }
@@ -413,8 +413,8 @@ fn decide_creations<S: Store, L: Ledger>(
 ) -> Result<(Records, CreatableTopicResults), NoMemory>
     requires low { place.now ≤ℤ places_end }
     requires kept { last_image (S.images store.old) ≡ Some (S.images store.old).tip }
-    ensures answers { IfOk result (λ d. d.1 ≡ deciding.answers refused_creation (creations.rule options.now request.now.validate_only) (begun place.now (S.images store.old).tip) request.now.topics) }
-    ensures after { IfOk result (λ d. work_at (record { start = place.now; records = d.0 }) (S.images store.new).tip ≡ unless_validating request.now.validate_only (begun place.now (S.images store.old).tip) (deciding.after_all refused_creation (creations.rule options.now request.now.validate_only) (begun place.now (S.images store.old).tip) request.now.topics)) }
+    ensures answers { IfOk result (λ d. d.1 ≡ deciding.answers refused_creation (creations.rule options.now request.now.validate_only) (nothing_decided place.now (S.images store.old).tip) request.now.topics) }
+    ensures after { IfOk result (λ d. work_at (record { start = place.now; records = d.0 }) (S.images store.new).tip ≡ unless_validating request.now.validate_only (nothing_decided place.now (S.images store.old).tip) (deciding.after_all refused_creation (creations.rule options.now request.now.validate_only) (nothing_decided place.now (S.images store.old).tip) request.now.topics)) }
     ensures kept { (S.images store.new).kept ≡ (S.images store.old).kept }
     ensures made { IfOk result (λ d. (S.images store.new).made ≤ (S.images store.old).made + weights (S.images store.old).tip d.0) }
     ensures later { steps.old ≤ steps.new }

@@ -8,7 +8,7 @@ ghost use Rattle.kr_defs.specs.Topics as topics;
 ghost use Rattle.kr_calls.specs.declared.errors.TheConstants.{INVALID_REPLICATION_FACTOR as invalid_replication_factor, INVALID_REPLICA_ASSIGNMENT as invalid_replica_assignment};
 ghost use Rattle.kr_calls.specs.CreatePartitions as growths;
 ghost use Rattle.kr_calls.specs.Deciding as deciding;
-ghost use Rattle.kr_calls.specs.Deciding.{begun, over_a_limit, unless_validating, weights};
+ghost use Rattle.kr_calls.specs.Deciding.{nothing_decided, over_a_limit, unless_validating, weights};
 ghost use Rattle.kr_calls.specs.NewPartitions as partitions;
 ghost use Rattle.kr_calls.specs.Refuse.{refused_growth};
 ghost use Rattle.kr_rules.specs.Progress.{place_of, work_at};
@@ -268,8 +268,8 @@ fn decide_on<S: Store, L: Ledger>(
 ) -> Result<(Records, CreatePartitionsTopicResults), NoMemory>
     requires low { place.now ≤ℤ places_end }
     requires kept { last_image (S.images store.old) ≡ Some (S.images store.old).tip }
-    ensures answers { IfOk result (λ d. d.1 ≡ deciding.answers refused_growth (room.growth those) (begun place.now (S.images store.old).tip) topics.now) }
-    ensures after { IfOk result (λ d. work_at (record { start = place.now; records = d.0 }) (S.images store.new).tip ≡ unless_validating validate_only (begun place.now (S.images store.old).tip) (deciding.after_all refused_growth (room.growth those) (begun place.now (S.images store.old).tip) topics.now)) }
+    ensures answers { IfOk result (λ d. d.1 ≡ deciding.answers refused_growth (room.growth those) (nothing_decided place.now (S.images store.old).tip) topics.now) }
+    ensures after { IfOk result (λ d. work_at (record { start = place.now; records = d.0 }) (S.images store.new).tip ≡ unless_validating validate_only (nothing_decided place.now (S.images store.old).tip) (deciding.after_all refused_growth (room.growth those) (nothing_decided place.now (S.images store.old).tip) topics.now)) }
     ensures kept { (S.images store.new).kept ≡ (S.images store.old).kept }
     ensures made { IfOk result (λ d. (S.images store.new).made ≤ (S.images store.old).made + weights (S.images store.old).tip d.0) }
     ensures later { steps.old ≤ steps.new }
@@ -288,8 +288,8 @@ fn decide_growths<S: Store, L: Ledger>(
 ) -> Result<(Records, CreatePartitionsTopicResults), NoMemory>
     requires low { place.now ≤ℤ places_end }
     requires kept { last_image (S.images store.old) ≡ Some (S.images store.old).tip }
-    ensures answers { IfOk result (λ d. d.1 ≡ deciding.answers refused_growth growths.rule (begun place.now (S.images store.old).tip) request.now.topics) }
-    ensures after { IfOk result (λ d. work_at (record { start = place.now; records = d.0 }) (S.images store.new).tip ≡ unless_validating request.now.validate_only (begun place.now (S.images store.old).tip) (deciding.after_all refused_growth growths.rule (begun place.now (S.images store.old).tip) request.now.topics)) }
+    ensures answers { IfOk result (λ d. d.1 ≡ deciding.answers refused_growth growths.rule (nothing_decided place.now (S.images store.old).tip) request.now.topics) }
+    ensures after { IfOk result (λ d. work_at (record { start = place.now; records = d.0 }) (S.images store.new).tip ≡ unless_validating request.now.validate_only (nothing_decided place.now (S.images store.old).tip) (deciding.after_all refused_growth growths.rule (nothing_decided place.now (S.images store.old).tip) request.now.topics)) }
     ensures kept { (S.images store.new).kept ≡ (S.images store.old).kept }
     ensures made { IfOk result (λ d. (S.images store.new).made ≤ (S.images store.old).made + weights (S.images store.old).tip d.0) }
     ensures later { steps.old ≤ steps.new }

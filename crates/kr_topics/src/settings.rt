@@ -42,7 +42,7 @@ pub fn has_bad_setting(settings: &[CreatableTopicConfig]) -> bool
 }
 
 fn key_of(alloc: Global, topic: &Text, key: &Text) -> Result<ConfigKey, NoMemory>
-    ensures { IfOk result (λ place. place ≡ given_settings.key_of topic.now key.now) }
+    ensures { IfOk result (λ place. place ≡ given_settings.topic_setting_key topic.now key.now) }
 {
     let name = topic.copied(alloc)?;
     let key = key.copied(alloc)?;

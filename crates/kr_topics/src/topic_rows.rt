@@ -55,7 +55,7 @@ fn partition_row<S: Store>(
     key: &(u128, i32),
     partition: &Partition,
 ) -> Result<MetadataPartition, NoMemory>
-    ensures { IfOk result (λ row. row ≡ shows.partition_of (seen_at (S.images store.now) at) (key.now, partition.now)) }
+    ensures { IfOk result (λ row. row ≡ shows.partition_metadata (seen_at (S.images store.now) at) (key.now, partition.now)) }
 {
     let replicas = partition.replicas.copied(alloc)?;
     let in_sync = partition.in_sync.copied(alloc)?;
@@ -79,7 +79,7 @@ struct ShownPartitions<'a, S> {
 }
 
 impl<'a, S: Store> PartitionPart<MetadataPartition> for ShownPartitions<'a, S> {
-    ghost part = { λ s e. shows.partition_of (seen_at (S.images s.store.now) s.at) e ∷ [] };
+    ghost part = { λ s e. shows.partition_metadata (seen_at (S.images s.store.now) s.at) e ∷ [] };
 
     fn add(
         &self,
@@ -100,7 +100,7 @@ fn partition_rows<S: Store>(
     at: At,
     id: &u128,
 ) -> Result<MetadataPartitions, NoMemory>
-    ensures { IfOk result (λ rows. rows ≡ map (shows.partition_of (seen_at (S.images store.now) at)) (of_topic id.now (seen_at (S.images store.now) at).partitions)) }
+    ensures { IfOk result (λ rows. rows ≡ map (shows.partition_metadata (seen_at (S.images store.now) at)) (of_topic id.now (seen_at (S.images store.now) at).partitions)) }
 {
     gather_partitions(alloc, store, at, &ShownPartitions { store, at }, id)
 }
@@ -115,7 +115,7 @@ pub fn topic_row<S: Store>(
     name: &Text,
     id: &u128,
 ) -> Result<MetadataTopic, NoMemory>
-    ensures { IfOk result (λ row. row ≡ shows.topic_of (seen_at (S.images store.now) at) (name.now, id.now)) }
+    ensures { IfOk result (λ row. row ≡ shows.topic_metadata (seen_at (S.images store.now) at) (name.now, id.now)) }
 {
     let partitions = partition_rows(alloc, store, at, id)?;
     let name = name.copied(alloc)?;
@@ -152,7 +152,7 @@ pub fn refusal_row(
 struct ShownTopics;
 
 impl TopicPart<MetadataTopic> for ShownTopics {
-    ghost part = { λ _ image topic. shows.topic_of image topic ∷ [] };
+    ghost part = { λ _ image topic. shows.topic_metadata image topic ∷ [] };
 
     fn add<S: Store>(
         &self,
@@ -175,7 +175,7 @@ pub fn all_topic_rows<S: Store>(
     store: &S,
     at: At,
 ) -> Result<MetadataTopics, NoMemory>
-    ensures { IfOk result (λ rows. rows ≡ map (shows.topic_of (seen_at (S.images store.now) at)) (seen_at (S.images store.now) at).topics) }
+    ensures { IfOk result (λ rows. rows ≡ map (shows.topic_metadata (seen_at (S.images store.now) at)) (seen_at (S.images store.now) at).topics) }
 {
     gather_topics(alloc, store, at, &ShownTopics)
 }

@@ -38,7 +38,7 @@ pub fn value_at<'a, S: Store>(
     name: &Text,
     key: &str,
 ) -> Result<Option<&'a Text>, NoMemory>
-    ensures { IfOk result (λ value. option_copied value ≡ settings.value_at (S.images store.now).tip kind.now name.now key.now) }
+    ensures { IfOk result (λ value. option_copied value ≡ settings.setting_value (S.images store.now).tip kind.now name.now key.now) }
 {
     let key = key_of(alloc, kind, name, key)?;
     Ok(tip::config(store, &key))
@@ -51,7 +51,7 @@ pub fn minimum_at<S: Store>(
     kind: &i8,
     name: &Text,
 ) -> Result<Option<i32>, NoMemory>
-    ensures { IfOk result (λ minimum. minimum ≡ option_and_then settings.read_minimum (settings.value_at (S.images store.now).tip kind.now name.now settings.minimum_key)) }
+    ensures { IfOk result (λ minimum. minimum ≡ option_and_then settings.read_minimum (settings.setting_value (S.images store.now).tip kind.now name.now settings.minimum_key)) }
 {
     match value_at(alloc, store, kind, name, MINIMUM_KEY)? {
         Some(value) => Ok(read_minimum(value.as_bytes())),
@@ -66,7 +66,7 @@ fn switch_at<S: Store>(
     kind: &i8,
     name: &Text,
 ) -> Result<Option<bool>, NoMemory>
-    ensures { IfOk result (λ switch. switch ≡ option_and_then settings.read_switch (settings.value_at (S.images store.now).tip kind.now name.now settings.unclean_key)) }
+    ensures { IfOk result (λ switch. switch ≡ option_and_then settings.read_switch (settings.setting_value (S.images store.now).tip kind.now name.now settings.unclean_key)) }
 {
     match value_at(alloc, store, kind, name, UNCLEAN_KEY)? {
         Some(value) => Ok(read_switch(value)),

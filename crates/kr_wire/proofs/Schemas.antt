@@ -4,7 +4,7 @@ use Rattle.std.specs.Int.{Width, w8, w16, w32, w64, byte_len}
 use Rattle.std.proofs.lemmas.List.{length-append}
 use Rattle.kr_wire.specs.Grammar.{IsVarint, IsNumber, IsText, IsTextOrNull, IsList, IsListOrNull, IsTags}
 use Rattle.kr_wire.specs.Laws.{IsPrimitive}
-use Rattle.kr_wire.specs.Schema.{Schema, Int8, Int16, Int32, Int64, Uint16, Boolean, Uuid, Text, TextOrNull, End, Array, ArrayOrNull, ◌▸◌, Dropped, Constant, Structure, Is, value_at, written, Fits, is_read, least_bytes}
+use Rattle.kr_wire.specs.Schema.{Schema, Int8, Int16, Int32, Int64, Uint16, Boolean, Uuid, Text, TextOrNull, End, Array, ArrayOrNull, ◌▸◌, Dropped, Constant, Structure, Is, value_at, written, Fits, is_readable, least_bytes}
 use Rattle.kr_wire.proofs.Laws.{Law, ◌before◌, structure_law, primitive, joined, sound_last, complete_last}
 use Rattle.kr_wire.proofs.Numbers.{number_law, signed_law, bool_law, id_law, text_law, text_or_null_law}
 use Rattle.kr_wire.proofs.Lists.{list_law, list_or_null_law}
@@ -88,7 +88,7 @@ both : (a b : Bool) → (a && b) ≡ true → (a ≡ true) × (b ≡ true)
 both true b e = (refl, e)
 both false b e = absurd cc
 
-pub law : {X : Type 0} (s : Schema X) → is_read s ≡ true → Law (Is s) (value_at s)
+pub law : {X : Type 0} (s : Schema X) → is_readable s ≡ true → Law (Is s) (value_at s)
 law Int8 e = signed_law w8
 law Int16 e = signed_law w16
 law Int32 e = signed_law w32
@@ -101,7 +101,7 @@ law TextOrNull e = text_or_null_law
 law End e = no_tags_law
 law (Array s) e = list_law (law s e) (not_empty s)
 law (ArrayOrNull s) e = list_or_null_law (law s e) (not_empty s)
-law (a ▸ b) e = let h = both (is_read a) (is_read b) e in law a h.0 before law b h.1
+law (a ▸ b) e = let h = both (is_readable a) (is_readable b) e in law a h.0 before law b h.1
 law (Dropped s) e = record {
   sound = λ bytes fits. sound_last (law s e) (Is (Dropped s)) (λ x. tt {0}) bytes fits (λ x a is. record { value = x; spelled = is });
   complete = λ u front rest is. complete_last (law s e) is.value (λ x. tt {0}) rest front is.spelled;
@@ -131,5 +131,5 @@ stands (Structure s of fields there back) x fits = stands s (fields x) fits
 
 -- ---- all of it
 
-pub laws : {X : Type 0} (s : Schema X) → is_read s ≡ true → IsPrimitive (Is s) (value_at s) (written s) (Fits s)
+pub laws : {X : Type 0} (s : Schema X) → is_readable s ≡ true → IsPrimitive (Is s) (value_at s) (written s) (Fits s)
 laws s e = primitive (law s e) (written s) (Fits s) (stands s)

@@ -111,14 +111,14 @@ Fits (Constant c s) = λ u. Fits s c
 Fits (Structure s of fields there back) = λ y. Fits s (fields y)
 
 -- No constant is in it: nothing says what to answer where another value stands there.
-abbrev pub is_read : {X : Type 0} → Schema X → Bool
-is_read (Array s) = is_read s
-is_read (ArrayOrNull s) = is_read s
-is_read (a ▸ b) = is_read a && is_read b
-is_read (Dropped s) = is_read s
-is_read (Constant c s) = false
-is_read (Structure s of fields there back) = is_read s
-is_read _ = true
+abbrev pub is_readable : {X : Type 0} → Schema X → Bool
+is_readable (Array s) = is_readable s
+is_readable (ArrayOrNull s) = is_readable s
+is_readable (a ▸ b) = is_readable a && is_readable b
+is_readable (Dropped s) = is_readable s
+is_readable (Constant c s) = false
+is_readable (Structure s of fields there back) = is_readable s
+is_readable _ = true
 
 -- the fewest bytes that stand for a value
 abbrev pub least_bytes : {X : Type 0} → Schema X → ℕ

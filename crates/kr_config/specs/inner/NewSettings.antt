@@ -5,7 +5,7 @@ use Rattle.kr_defs.specs.declared.options.Options.{Options}
 use Rattle.kr_defs.specs.declared.partition.Partition.{Partition}
 use Rattle.kr_defs.specs.Eligible.{is_enough}
 use Rattle.kr_defs.specs.Image.{Image}
-use Rattle.kr_defs.specs.Settings.{minimum_key, minimum_of, value_at}
+use Rattle.kr_defs.specs.Settings.{minimum_key, minimum_of, setting_value}
 use Rattle.kr_calls.specs.declared.configs.ConfigResource.{ConfigResource}
 use Rattle.kr_calls.specs.IncrementalAlterConfigs.{Values, is_same_value, value_now, with_values}
 
@@ -21,7 +21,7 @@ has_enough options before after topic p =
 -- the resource's own minimum stays as it is
 abbrev pub keeps_minimum : Image → ConfigResource → Values → Bool
 keeps_minimum image entry values =
-    is_same_value (value_now image entry values minimum_key) (value_at image entry.kind entry.name minimum_key)
+    is_same_value (value_now image entry values minimum_key) (setting_value image entry.kind entry.name minimum_key)
 
 -- a replica stands by
 abbrev pub has_standing_by : Partition → Bool

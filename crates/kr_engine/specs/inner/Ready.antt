@@ -3,7 +3,7 @@ use Rattle.std.specs.Prelude.{◌≡◌, ◌≤ℤ◌, ℤ, pos, int_lt, IsTrue,
 use Rattle.kr_defs.specs.declared.limits.TheConstants.{PLACES_END}
 use Rattle.kr_defs.specs.Heartbeats as hearing
 use Rattle.kr_defs.specs.Ids.{has}
-use Rattle.kr_calls.specs.NextBasis.{is_stopping}
+use Rattle.kr_calls.specs.NextBasis.{broker_is_stopping}
 use Rattle.kr_store.specs.Images.{IsAbove, last_kept}
 use Rattle.kr_engine.specs.Engine.{Core}
 
@@ -17,4 +17,4 @@ pub record IsReady (e : Core) : Type 0 where
   pub above : (place : ℤ) → IsTrue (int_lt e.tip place) → IsAbove e.images.kept place
   pub at_standby : e.leading ≡ None → e.committed ≡ e.tip
   pub in_time : IsTrue (hearing.is_not_before e.heard e.time)
-  pub among : (id : ℤ) → IsTrue (has (hearing.stopping_brokers e.heard) id) → IsTrue (is_stopping e.images.tip id)
+  pub among : (id : ℤ) → IsTrue (has (hearing.stopping_brokers e.heard) id) → IsTrue (broker_is_stopping e.images.tip id)

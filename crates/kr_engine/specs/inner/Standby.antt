@@ -16,7 +16,7 @@ use Rattle.kr_snapshot.specs.declared.fault.ImageFault.{ImageFault}
 use Rattle.kr_snapshot.specs.ReaderState.{kept_once}
 use Rattle.kr_store.specs.Images.{Images, last_image}
 use Rattle.kr_engine.specs.Engine.{Core, adding, refused}
-use Rattle.kr_engine.specs.Entries.{placed}
+use Rattle.kr_engine.specs.Entries.{item_entries}
 use Rattle.kr_engine.specs.Reasons.{already_leading, bad_batch, bad_image, exhausted, gap, ill_formed, older_image}
 use Rattle.kr_engine.specs.Replicas.{end_of}
 use Rattle.kr_engine.specs.World.{is_far}
@@ -61,7 +61,7 @@ abbrev pub moved_to : Core → ℤ → Image → Core
 moved_to e place image = record e { images = kept_once place image; tip = place; committed = place }
 
 abbrev pub followed : Core → Batch → Core
-followed e batch = moved_to (adding e (placed e.tip batch.items)) (end_of batch) (result_unwrap_or (apply_all e.images.tip batch.items) empty)
+followed e batch = moved_to (adding e (item_entries e.tip batch.items)) (end_of batch) (result_unwrap_or (apply_all e.images.tip batch.items) empty)
 
 abbrev pub followed_by : Core → Result Batch BatchFault → Core
 followed_by e (Ok batch) = followed e batch

@@ -11,7 +11,7 @@ use Rattle.kr_defs.specs.Image.{Image}
 use Rattle.kr_defs.specs.ImageLaws.{as_items}
 use Rattle.kr_store.specs.Images.{marked}
 use Rattle.kr_engine.specs.Engine.{Core}
-use Rattle.kr_engine.specs.Entries.{placed}
+use Rattle.kr_engine.specs.Entries.{item_entries}
 use Rattle.kr_engine.specs.Reasons.{ours}
 use Rattle.kr_engine.specs.Ticks.{fencing_of}
 
@@ -23,12 +23,12 @@ abbrev pub place_behind : Core → List Record → ℤ
 place_behind e records = e.tip +ℤ pos (length records)
 
 -- an engine whose present image is the one behind the records
-abbrev pub appended : Core → List Record → Core
-appended e records = if length records == 0 then e else record e {
+abbrev pub with_appended : Core → List Record → Core
+with_appended e records = if length records == 0 then e else record e {
   images = marked e.images (place_behind e records);
   tip = place_behind e records;
   given = e.given ++ given.Append (batch_bytes (batch_at e records)) ∷ [];
-  fresh = e.fresh ++ placed e.tip (as_items records);
+  fresh = e.fresh ++ item_entries e.tip (as_items records);
 }
 
 abbrev pub append_output : Core → List Record → List Output
@@ -48,7 +48,7 @@ pub record Writes (before after : Core) (records : List Record) : Type 0 where
     images = after.images;
     tip = place_behind before records;
     given = before.given ++ append_output before records;
-    fresh = before.fresh ++ placed before.tip (as_items records);
+    fresh = before.fresh ++ item_entries before.tip (as_items records);
     heard = after.heard;
     held = after.held;
   }

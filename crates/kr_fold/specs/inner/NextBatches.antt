@@ -12,23 +12,23 @@ use Rattle.kr_defs.specs.Log.{apply_all}
 use Rattle.kr_batch.specs.declared.Batch.{Batch}
 use Rattle.kr_batch.specs.Grammar.{IsBatch}
 use Rattle.kr_fold.specs.declared.log.Place.{Place}
-use Rattle.kr_fold.specs.Logs.{Folded, followed}
+use Rattle.kr_fold.specs.Logs.{Folded, folded_with}
 use Rattle.kr_fold.specs.SourceBytes.{longest}
 use Rattle.kr_fold.specs.Endings.{ReadsLog, EndsLog}
 
 -- the image after an item, or why it has no meaning
-abbrev pub IsApplied : Image → Image → Item → Option Ill → Type 0
-IsApplied before after item None = apply before item ≡ Ok after
-IsApplied before after item (Some cause) = apply before item ≡ Err cause
+abbrev pub IsItemApplied : Image → Image → Item → Option Ill → Type 0
+IsItemApplied before after item None = apply before item ≡ Ok after
+IsItemApplied before after item (Some cause) = apply before item ≡ Err cause
 
 abbrev pub AreApplied : Image → Image → List Item → Option Ill → Type 0
 AreApplied before after items None = apply_all before items ≡ Ok after
 AreApplied before after items (Some cause) = apply_all before items ≡ Err cause
 
 -- the batch that the bytes stand for, which has few items; or that they stand for none
-abbrev pub IsRead : List ℕ → Option Batch → Type 0
-IsRead bytes (Some batch) = IsBatch batch bytes × (length batch.items ≤ MOST_RECORDS)
-IsRead bytes None = (batch : Batch) → IsBatch batch bytes → ⊥
+abbrev pub IsBatchOrNone : List ℕ → Option Batch → Type 0
+IsBatchOrNone bytes (Some batch) = IsBatch batch bytes × (length batch.items ≤ MOST_RECORDS)
+IsBatchOrNone bytes None = (batch : Batch) → IsBatch batch bytes → ⊥
 
 -- a fault means that there is none, but for want of memory
 abbrev pub none_for : BatchFault → Result (Option Batch) NoMemory
@@ -38,8 +38,8 @@ none_for other = Ok None
 -- the log with the batch, at its new tip; or that it doesn't follow
 abbrev pub IsFollowed : ℤ → Image → Image → Batch → Option ℤ → Type 0
 IsFollowed tip image after batch (Some next) =
-    (followed (record { tip = tip; image = image }) batch ≡ Some (record { tip = next; image = after })) × (next ≡ tip +ℤ pos (length batch.items))
-IsFollowed tip image after batch None = followed (record { tip = tip; image = image }) batch ≡ None
+    (folded_with (record { tip = tip; image = image }) batch ≡ Some (record { tip = next; image = after })) × (next ≡ tip +ℤ pos (length batch.items))
+IsFollowed tip image after batch None = folded_with (record { tip = tip; image = image }) batch ≡ None
 
 -- ---- places
 

@@ -5,7 +5,7 @@ use Rattle.kr_defs.specs.Image.{Image}
 use Rattle.kr_image.specs.declared.timelines.ChangeFault.{ChangeFault}
 use Rattle.kr_image.specs.declared.timelines.ChangeFault.TheVariants as faults
 use Rattle.kr_image.specs.declared.timelines.Timelines.{Timelines}
-use Rattle.kr_image.specs.Timelines.{tip_of}
+use Rattle.kr_image.specs.Timelines.{present_image}
 
 abbrev pub IsFault : Timelines → Timelines → ChangeFault → Result Image Ill → Type 0
 IsFault before after (faults.IllFormed cause) meaning = (meaning ≡ Err cause) × (after ≡ before)
@@ -13,5 +13,5 @@ IsFault before after faults.NoMemory meaning = Unit {0}
 
 -- the present image is the record's meaning, or it has none and nothing has changed
 abbrev pub Changes : Timelines → Timelines → Result (Unit {0}) ChangeFault → Result Image Ill → Type 0
-Changes before after (Ok done) meaning = meaning ≡ Ok (tip_of after)
+Changes before after (Ok done) meaning = meaning ≡ Ok (present_image after)
 Changes before after (Err fault) meaning = IsFault before after fault meaning

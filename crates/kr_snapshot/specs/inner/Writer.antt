@@ -54,8 +54,8 @@ abbrev pub body_with : BatchWriter → List Item → List ℕ
 body_with w more = w.body.items ++ batches_bytes w.before (chunks IMAGE_BATCH (w.group.items ++ more))
 
 -- how many records came
-abbrev pub count_of : BatchWriter → ℕ
-count_of w = w.before + length w.group.items
+abbrev pub count_so_far : BatchWriter → ℕ
+count_so_far w = w.before + length w.group.items
 
 -- the records in hand were written as a batch
 pub record Puts (w after : BatchWriter) : Type 0 where
@@ -68,7 +68,7 @@ pub record Puts (w after : BatchWriter) : Type 0 where
 pub record Adds (w after : BatchWriter) (records : List Record) : Type 0 where
   pub sound : IsSound after
   pub bytes : (more : List Item) → body_with after more ≡ body_with w (as_items records ++ more)
-  pub count : count_of after ≡ count_of w + length records
+  pub count : count_so_far after ≡ count_so_far w + length records
   pub text : text_of after ≤ text_of w + texts records
   -- their numbers fit their types, and their texts are UTF-8
   pub held : All IsHeld records

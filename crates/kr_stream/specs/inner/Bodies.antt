@@ -11,11 +11,11 @@ use Rattle.kr_calls.specs.declared.calls.Ask.{Ask}
 use Rattle.kr_stream.specs.declared.frame.Frame.{Frame}
 use Rattle.kr_stream.specs.declared.kind.FrameKind.{FrameKind}
 use Rattle.kr_stream.specs.declared.kind.FrameKind.TheVariants as kinds
-use Rattle.kr_stream.specs.Frames.{IsTime, IsMessage, IsBody, IsEventBody, kind_of, kind_of_event}
+use Rattle.kr_stream.specs.Frames.{IsTime, IsMessage, IsBody, IsEventBody, frame_kind, kind_of_event}
 
 -- the body of a frame of this kind
 pub record IsBodyOf (kind : FrameKind) (frame : Frame) (body : List ℕ) : Type 0 where
-  pub named : kind_of frame ≡ kind
+  pub named : frame_kind frame ≡ kind
   pub is : IsBody frame body
 
 -- the body of an event of this kind
@@ -26,13 +26,13 @@ pub record IsEventOf (kind : FrameKind) (event : Event) (body : List ℕ) : Type
 -- ---- numbers alone
 
 -- an event of numbers alone
-abbrev pub has_numbers : FrameKind → Bool
-has_numbers kinds.Lead = true
-has_numbers kinds.Commit = true
-has_numbers kinds.Lost = true
-has_numbers kinds.Tick = true
-has_numbers kinds.Image = true
-has_numbers _ = false
+abbrev pub is_of_numbers : FrameKind → Bool
+is_of_numbers kinds.Lead = true
+is_of_numbers kinds.Commit = true
+is_of_numbers kinds.Lost = true
+is_of_numbers kinds.Tick = true
+is_of_numbers kinds.Image = true
+is_of_numbers _ = false
 
 -- milliseconds, at least 0
 unfoldable pub time_at : List ℕ → Read ℤ

@@ -7,12 +7,12 @@ use Rattle.kr_defs.specs.Map.{config_order, get, text_order}
 use Rattle.kr_calls.specs.declared.topics.CreatableTopicConfig.{CreatableTopicConfig}
 
 -- where a topic's setting stands
-abbrev pub key_of : List ℕ → List ℕ → ConfigKey
-key_of topic key = record { kind = topic_kind; name = topic; key = key }
+abbrev pub topic_setting_key : List ℕ → List ℕ → ConfigKey
+topic_setting_key topic key = record { kind = topic_kind; name = topic; key = key }
 
 -- its value among those that were given so far, or else among the configurations
 abbrev pub value_before : List (ConfigKey × List ℕ) → List (List ℕ × List ℕ) → List ℕ → List ℕ → Option (List ℕ)
-value_before configs given topic key = option_or (get text_order given key) (get config_order configs (key_of topic key))
+value_before configs given topic key = option_or (get text_order given key) (get config_order configs (topic_setting_key topic key))
 
 -- the value of a setting, which isn't absent in what is accepted
 abbrev pub value_of : CreatableTopicConfig → List ℕ

@@ -1,6 +1,6 @@
 use Rattle.kr_defs.specs.declared.record.Item.TheVariants as items
 use Rattle.kr_defs.specs.Apply.{apply}
-use Rattle.kr_image.specs.Timelines.{tip_of}
+use Rattle.kr_image.specs.Timelines.{present_image}
 use Rattle.kr_image.proofs.Stores.{same_kept}
 use Rattle.kr_image.proofs.store.apply_record.Goals as goal
 
@@ -9,5 +9,5 @@ unfolding apply
 returns-in-Ok-clause-store g c = record {
   kept = same_kept c.args.timelines.now c.apply_record.new.self c.args.kept.now c.apply_record.ensures.kept c.requires.store.kept;
   present = c.in-Ok.ensures.agrees;
-  valid = c.apply_keeps_valid.ensures (tip_of c.args.timelines.now) (tip_of c.apply_record.new.self) (items.Record c.args.value.now) c.requires.store.valid c.in-Ok.ensures.changes;
+  valid = c.apply_keeps_valid.ensures (present_image c.args.timelines.now) (present_image c.apply_record.new.self) (items.Record c.args.value.now) c.requires.store.valid c.in-Ok.ensures.changes;
 }

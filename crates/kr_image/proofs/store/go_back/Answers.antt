@@ -1,10 +1,10 @@
 use Rattle.std.proofs.Common.{sym}
-use Rattle.kr_image.specs.Timelines.{keeps}
+use Rattle.kr_image.specs.Timelines.{keeps_of}
 use Rattle.kr_image.proofs.LastEpoch.{are_kept, back_image, back_keeps, back_store, last_found}
 use Rattle.kr_image.proofs.store.go_back.Goals as goal
 
 pub revert-requires : goal.revert-requires
-revert-requires g c = are_kept (keeps c.args.timelines.now) c.args.kept.now c.in-Some.k.now c.in-Some.k.now.epoch c.requires.kept.epochs (last_found (keeps c.args.timelines.now) c.args.kept.now c.in-Some.k.now c.requires.kept.rising (sym c.in-Some.ensures.value))
+revert-requires g c = are_kept (keeps_of c.args.timelines.now) c.args.kept.now c.in-Some.k.now c.in-Some.k.now.epoch c.requires.kept.epochs (last_found (keeps_of c.args.timelines.now) c.args.kept.now c.in-Some.k.now c.requires.kept.rising (sym c.in-Some.ensures.value))
 
 pub returns-clause-store : goal.returns-clause-store
 returns-clause-store g c = back_store c.args.timelines.now c.revert.new.self c.args.kept.now c.in-Some.k.now (sym c.in-Some.ensures.value) c.requires.kept c.revert.ensures.back c.revert.ensures.counts

@@ -1,7 +1,7 @@
 use Rattle.std.proofs.Common.{refl, ap, ℤ}
 use Rattle.std.specs.Option.{option_map}
 use Rattle.kr_defs.specs.Image.{Image}
-use Rattle.kr_image.specs.Timelines.{keeps}
+use Rattle.kr_image.specs.Timelines.{keeps_of}
 use Rattle.kr_image.proofs.LastEpoch.{are_kept}
 use Rattle.kr_image.proofs.Stores.{counts_none, counts_some, kept_image, not_kept, reverted_images, reverted_store}
 use Rattle.kr_image.proofs.store.revert.Goals as goal
@@ -9,12 +9,12 @@ use Rattle.kr_image.proofs.store.revert.Goals as goal
 pub returns-in_default-clause-no_epoch : goal.returns-in_default-clause-no_epoch
 returns-in_default-clause-no_epoch g c =
     let none = counts_none _ (rw c.deref.ensures.value at c.in_default.ensures) in
-    (λ _. ap (option_map (λ (e : ℤ × Image). e.1)) (not_kept (keeps c.args.timelines.now) c.args.kept.now.items c.args.epoch.now none), λ _. refl)
+    (λ _. ap (option_map (λ (e : ℤ × Image). e.1)) (not_kept (keeps_of c.args.timelines.now) c.args.kept.now.items c.args.epoch.now none), λ _. refl)
 
 pub revert-requires : goal.revert-requires
 revert-requires g c =
     let there = counts_some _ c.in-Some.counts (rw c.deref.ensures.value at c.in-Some.ensures) in
-    are_kept (keeps c.args.timelines.now) c.args.kept.now.items there.here c.args.epoch.now c.requires.epochs there.found
+    are_kept (keeps_of c.args.timelines.now) c.args.kept.now.items there.here c.args.epoch.now c.requires.epochs there.found
 
 pub returns-clause-store : goal.returns-clause-store
 returns-clause-store g c =
@@ -29,5 +29,5 @@ returns-clause-ok g c =
 pub returns-clause-no_epoch : goal.returns-clause-no_epoch
 returns-clause-no_epoch g c =
     let there = counts_some _ c.in-Some.counts (rw c.deref.ensures.value at c.in-Some.ensures) in
-    let kept = ap (option_map (λ (e : ℤ × Image). e.1)) (kept_image (keeps c.args.timelines.now) c.args.kept.now.items there.here c.args.epoch.now there.found) in
+    let kept = ap (option_map (λ (e : ℤ × Image). e.1)) (kept_image (keeps_of c.args.timelines.now) c.args.kept.now.items there.here c.args.epoch.now there.found) in
     (λ h. absurd cc, λ h. absurd cc)

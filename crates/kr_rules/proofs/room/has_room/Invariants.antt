@@ -1,7 +1,7 @@
 use Rattle.std.proofs.Common.{◌≡◌, drop, true}
 use Rattle.std.specs.List.{list_all}
 use Rattle.kr_calls.specs.Deciding.{apply_records}
-use Rattle.kr_rules.specs.Room.{is_plain}
+use Rattle.kr_rules.specs.Room.{takes_room}
 use Rattle.kr_rules.proofs.FullImages.{IsAsFar}
 use Rattle.kr_rules.proofs.room.has_room.Given as goal
 
@@ -10,6 +10,6 @@ invariant-loop-value g l =
     let tip = (g.S.Store.images l.store).tip in
     let rest = drop l.value-index l.records in
     record {
-      plain : list_all is_plain rest ≡ true;
+      plain : list_all takes_room rest ≡ true;
       far : IsAsFar tip.configs (apply_records tip l.records) rest l.filling;
     }

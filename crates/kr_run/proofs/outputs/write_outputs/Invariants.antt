@@ -1,14 +1,14 @@
 use Rattle.std.proofs.Common.{◌≤◌, List, length}
 use Rattle.std.specs.Prelude.{IsTrue}
 use Rattle.kr_calls.specs.declared.events.Output.{Output}
-use Rattle.kr_engine.specs.Engine.{are_in_order, left}
+use Rattle.kr_engine.specs.Engine.{writes_in_order, left}
 use Rattle.kr_run.specs.Endings.{WroteAll}
 use Rattle.kr_run.specs.inner.Serving.{HandsSome}
 use Rattle.kr_run.proofs.outputs.write_outputs.Given as goal
 
 abbrev pub invariant-loop-output : goal.invariant-loop-output
 invariant-loop-output g l = record {
-  ordered : IsTrue (are_in_order l.engine.held);
+  ordered : IsTrue (writes_in_order l.engine.held);
   later : g.K.Sink.faults l.initial.sink ≤ g.K.Sink.faults l.sink;
   gone : (given : List Output) × HandsSome l.initial.engine given l.engine × WroteAll (g.K.Sink.written l.initial.sink) (g.K.Sink.written l.sink) given;
 }

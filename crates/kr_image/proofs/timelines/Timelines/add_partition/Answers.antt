@@ -1,12 +1,12 @@
 use Rattle.std.proofs.Common.{◌∙◌, sym, ap}
-use Rattle.kr_image.specs.Timelines.{tip_of}
+use Rattle.kr_image.specs.Timelines.{present_image}
 use Rattle.kr_image.proofs.Rows.{ok_is, partition_added}
 use Rattle.kr_image.proofs.timelines.Timelines.add_partition.Goals as goal
 
 pub returns-clause-changes : goal.returns-clause-changes
 returns-clause-changes c =
     let counted = ap (λ n. n.partitions) c.requires.agrees.counts in
-    let row = partition_added (tip_of c.args.self.now) c.args.index.now c.args.topic.now c.args.state.now
+    let row = partition_added (present_image c.args.self.now) c.args.index.now c.args.topic.now c.args.state.now
     (sym c.has_topic.ensures ∙ c.if-not-has_topic.false)
     (sym c.is_index.ensures ∙ c.if-not-is_index.false)
     (rw c.key_of-key.ensures at (sym c.contains.ensures ∙ c.if-contains.false))
