@@ -37,6 +37,7 @@ fn host<L: Ledger, R: Print>(rt: &R, alloc: Global, blank: Blank) -> anyhow::Res
     let mut engine = open_engine(alloc)?;
     take(rt, &mut engine, &lead(), &mut steps)?;
     take(rt, &mut engine, &registration(alloc)?, &mut steps)?;
-    take(rt, &mut engine, &commit_all(&engine), &mut steps)?;
+    let commit = commit_all(&engine);
+    take(rt, &mut engine, &commit, &mut steps)?;
     take(rt, &mut engine, &Event::Image, &mut steps)
 }

@@ -99,9 +99,6 @@ module _ (w : World) (r : Rises w) where
   rises_up_to next true = r
   rises_up_to next false = rises_with_batch (items.Control ∷ [])
 
-same_rises : (v w : World) → w.log ≡ v.log → w.committed ≡ v.committed → w.batch_ends ≡ v.batch_ends → Rises v → Rises w
-same_rises v w logs committed ends r = rw (logs, committed, ends) r
-
 rises_fenced : (options : Options) (s : State) (brokers : List ℤ) → Rises s.world → Rises (fence_all options s brokers).world
 rises_fenced options s [] r = r
 rises_fenced options s (broker ∷ brokers) r =
@@ -133,8 +130,9 @@ module _ (options : Options) (s : State) (k : IsOrderly s) where
   leads_on epoch next =
       gives_refuse P (reasons.already_leading s.world.leading) (is_some s.world.leading) _ (λ _. gives_refuse P (reasons.old_epoch epoch s.world.greatest) (not (int_lt s.world.greatest epoch)) _ (λ _.
       gives_refuse P (reasons.bad_next next (pos s.world.committed)) (not (may_begin_at s.world next)) _ (λ _. gives_refuse P (reasons.exhausted next) (is_far next) _ (λ _.
+      let u : Rises (up_to s.world next) = rises_up_to s.world k.rises next (int_eq next (pos s.world.committed)) in
       gives_done P (begun s epoch next) (record {
-        rises = same_rises (up_to s.world next) (begun s epoch next).world refl refl refl (rises_up_to s.world k.rises next (int_eq next (pos s.world.committed)));
+        rises = record { started = u.started; ends = u.ends };
         natural = k.natural;
         at_standby = λ none. absurd cc;
       })))))
@@ -228,11 +226,8 @@ module _ (options : Options) (s : State) (k : IsOrderly s) where
   goes_on (events.Request client now ask) = serves_on ask
   goes_on events.Image = gives_done P s k
 
-rises_so : (v w : World) → Rises v → w.log ≡ v.log → w.committed ≡ v.committed → w.batch_ends ≡ v.batch_ends → Rises w
-rises_so v w r logs committed ends = same_rises v w logs committed ends r
-
 pub counted_orderly : (s : State) → IsOrderly s → IsOrderly (counted s)
-counted_orderly s k = record { rises = rises_so s.world (counted s).world k.rises refl refl refl; natural = k.natural; at_standby = k.at_standby }
+counted_orderly s k = record { rises = record { started = k.rises.started; ends = k.rises.ends }; natural = k.natural; at_standby = k.at_standby }
 
 pub timed_orderly : (s : State) (event : Event) → IsOrderly s → IsOrderly (timed s event)
 timed_orderly s event k = record { rises = k.rises; natural = through (pos 0) s.basis.time (later s.basis.time event) k.natural (not_earlier s.basis.time event); at_standby = k.at_standby }

@@ -105,7 +105,7 @@ module _ (options : Options) (earlier : List Event) (end : ℕ) (image : Image) 
   abbrev behind : State
   behind = counted (loaded start end image)
 
-  accepts : Result State Reason → State
+  abbrev accepts : Result State Reason → State
   accepts r = counted (result_unwrap_or r start)
 
   behind_load : state options (events.Load bytes ∷ []) ≡ behind
@@ -121,7 +121,7 @@ module _ (options : Options) (earlier : List Event) (end : ℕ) (image : Image) 
   at_standby = h.orderly.at_standby stands.standby
 
   at_end : end ≡ tip before.world.log
-  at_end = sym stands.end ∙ subst (λ (ends : List ℕ). Rise before.world.committed ends (tip before.world.log)) at_standby.0 h.orderly.rises.ends
+  at_end = sym stands.committed ∙ subst (λ (ends : List ℕ). Rise before.world.committed ends (tip before.world.log)) at_standby.0 h.orderly.rises.ends
 
   epochs_by : (b : Bool) → int_eq before.world.greatest (negsuc 0) ≡ b → AlikeEpochs before.world.greatest before.world.greatest (negsuc 0)
   epochs_by true none = inl (same_id before.world.greatest (negsuc 0) none)
@@ -133,9 +133,9 @@ module _ (options : Options) (earlier : List Event) (end : ℕ) (image : Image) 
       prefix = before.world.log.items;
       items = sym (append-nil before.world.log.items);
       offset = at_end;
-      image = sym (at_tip before.world.log) ∙ (ap (image_at before.world.log) (sym at_end) ∙ stands.image);
+      image = sym (at_tip before.world.log) ∙ (ap (image_at before.world.log) (sym at_end) ∙ stands.seen);
     };
-    committed = stands.end;
+    committed = stands.committed;
     ends = at_standby.0;
     leading = stands.standby;
     epochs = epochs_by (int_eq before.world.greatest (negsuc 0)) refl;

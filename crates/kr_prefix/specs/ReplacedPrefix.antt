@@ -1,6 +1,6 @@
 -- KIP-630: a committed prefix of the log may be replaced by its image. That all that is given out stays the same is this
 -- project's own.
-use Rattle.std.specs.Prelude.{◌≡◌, ◌≤ℤ◌, ◌||◌, ℕ, ℤ, pos, negsuc, int_lt, List, [], ◌∷◌, map, None, Ok, IsTrue, not, Unit}
+use Rattle.std.specs.Prelude.{◌≡◌, ◌≤ℤ◌, ◌||◌, ℕ, ℤ, pos, negsuc, int_lt, List, [], ◌∷◌, map, None, Ok, IsTrue, not}
 use Rattle.std.specs.Int.{int_max}
 use Rattle.std.specs.List.{AllByRecursion}
 use Rattle.std.specs.Ordering.{int_eq}
@@ -19,8 +19,8 @@ use Rattle.kr_engine.specs.World.{State, is_far}
 -- on standby, with this committed end and this image of what is committed
 pub record StandsBy (s : State) (end : ℕ) (image : Image) : Type 0 where
   pub standby : s.world.leading ≡ None
-  pub end : s.world.committed ≡ end
-  pub image : image_at s.world.log end ≡ Ok image
+  pub committed : s.world.committed ≡ end
+  pub seen : image_at s.world.log end ≡ Ok image
 
 -- A Lead is of an epoch above all that were led before, where any was (the greatest is -1 where none was), at a time not
 -- before all that were told. Nothing is asked of other events.
