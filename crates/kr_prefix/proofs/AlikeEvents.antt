@@ -1,8 +1,8 @@
 -- An event is accepted by both of two alike nodes, which stay alike, or is refused by both for the same reason.
-use Rattle.std.proofs.Common.{◌≡◌, ◌∙◌, sym, subst, ℕ, ℤ, pos, negsuc, Bool, true, false, cond, ◌+◌, ◌≤◌, List, [], ◌∷◌, ◌++◌, length, map, refl, ap, arith, inl, inr}
+use Rattle.std.proofs.Common.{◌≡◌, ◌∙◌, sym, subst, ℕ, ℤ, pos, negsuc, Bool, true, false, cond, ◌+◌, List, [], ◌∷◌, length, refl, ap, arith, inl, inr}
 use Rattle.std.proofs.lemmas.Int.{ints, clamps}
 use Rattle.std.proofs.lemmas.Bool.Decides.{nat_tests}
-use Rattle.std.specs.Prelude.{◌⊎◌, ◌≤ℤ◌, ◌&&◌, ◌||◌, ◌-ℤ◌, Option, Some, None, Result, Ok, Err, IsTrue, int_le, int_lt, is_some, not, unsigned_abs}
+use Rattle.std.specs.Prelude.{◌≤ℤ◌, ◌&&◌, ◌||◌, ◌-ℤ◌, Option, Some, None, Result, Ok, Err, IsTrue, int_le, int_lt, is_some, not, unsigned_abs}
 use Rattle.std.specs.Int.{int_max}
 use Rattle.std.specs.Ordering.{int_eq}
 use Rattle.std.specs.Result.{result_unwrap_or}
@@ -16,30 +16,28 @@ use Rattle.kr_calls.specs.declared.calls.Ask.TheVariants as asks
 use Rattle.kr_calls.specs.declared.events.Event.TheVariants as events
 use Rattle.kr_calls.specs.Decide.{Decision, decide, is_read}
 use Rattle.kr_defs.specs.declared.basis.Basis.{Basis}
-use Rattle.kr_defs.specs.declared.basis.Contact.{Contact}
 use Rattle.kr_defs.specs.declared.ill.Ill.{Ill}
 use Rattle.kr_defs.specs.declared.options.Options.{Options}
 use Rattle.kr_defs.specs.declared.record.Item.TheVariants as items
 use Rattle.kr_defs.specs.Brokers.{stopping, unfenced}
 use Rattle.kr_defs.specs.Guard.{and_then}
-use Rattle.kr_defs.specs.Heartbeats as hearing
-use Rattle.kr_defs.specs.Heartbeats.{Heartbeats, begin, expired, heard}
+use Rattle.kr_defs.specs.Heartbeats.{begin, expired, heard}
 use Rattle.kr_defs.specs.Image.{Image}
 use Rattle.kr_defs.specs.ImageLaws.{as_items}
 use Rattle.kr_defs.specs.Log.{Log, first_ill}
 use Rattle.kr_defs.proofs.Tests.{both}
 use Rattle.kr_snapshot.specs.Reading.{image_of}
 use Rattle.kr_engine.specs.Commits.{commit, committed_to, is_end}
-use Rattle.kr_engine.specs.Events.{counted, happens, outcome, timed}
+use Rattle.kr_engine.specs.Events.{happens, outcome, timed}
 use Rattle.kr_engine.specs.Leaderships.{begun, ended, lead, leads_in, lose, may_begin_at, up_to}
 use Rattle.kr_engine.specs.Reasons as reasons
 use Rattle.kr_engine.specs.Replicas.{batch_or, end_of, follow, follow_batch, followed, image_or, load, load_image, loaded, unless_ill}
 use Rattle.kr_engine.specs.Requests.{after_ask, after_write, decided, is_decided, serve}
 use Rattle.kr_engine.specs.Ticks.{fence_all, lapsed, tick}
-use Rattle.kr_engine.specs.World.{State, World, hearing, image_of_tip, is_far, tip_of, with_batch}
+use Rattle.kr_engine.specs.World.{State, hearing, image_of_tip, is_far, tip_of, with_batch}
 use Rattle.kr_prefix.specs.ReplacedPrefix.{IsLater}
 use Rattle.kr_prefix.proofs.AlikeLogs.{shortens_cut, shortens_itself, shortens_written}
-use Rattle.kr_prefix.proofs.AlikeStates.{Alike, AlikeEpochs, all_fenced_alike, appended_alike, counted_alike, is_with_past, same_bases, same_heard, same_images, same_times, same_tips, timed_alike, with_past, written_alike}
+use Rattle.kr_prefix.proofs.AlikeStates.{Alike, AlikeEpochs, all_fenced_alike, appended_alike, counted_alike, is_with_past, same_bases, same_images, same_times, same_tips, timed_alike, with_past, written_alike}
 use Rattle.kr_prefix.proofs.OrderlyStates.{IsOrderly, none_lapses, timed_orderly}
 
 module _ (before : State) where

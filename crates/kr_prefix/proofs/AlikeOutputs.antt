@@ -1,6 +1,6 @@
 -- Two alike nodes give out the same, the numbers of events in refusals aside.
 use Rattle.std.proofs.Common.{◌≡◌, ◌∙◌, sym, subst, ℕ, ℤ, pos, Bool, true, false, cond, List, [], ◌∷◌, ◌++◌, length, map, refl, ap}
-use Rattle.std.specs.Prelude.{◌&&◌, ◌==◌, Option, Some, None, Result, Ok, Err, filter, is_some, not, option_to_list}
+use Rattle.std.specs.Prelude.{◌==◌, Option, Some, None, Result, Ok, Err, filter, is_some, not, option_to_list}
 use Rattle.kr_batch.specs.BatchBytes.{batch_bytes}
 use Rattle.kr_calls.specs.declared.calls.Ask.{Ask}
 use Rattle.kr_calls.specs.declared.calls.Call.{Call}
@@ -22,12 +22,12 @@ use Rattle.kr_defs.specs.Log.{Log}
 use Rattle.kr_defs.proofs.Tests.{both}
 use Rattle.kr_snapshot.specs.ImageText.{image_text}
 use Rattle.kr_engine.specs.declared.writes.Write.{Write}
-use Rattle.kr_engine.specs.Events.{happens, next_number, outcome, timed}
-use Rattle.kr_engine.specs.Outputs.{answers, answers_in, answers_now, append, append_fencings, append_for, appends, if_accepted, images, is_open, is_open_in, new_writes, outputs_by, outputs_of, outputs_then, waiting_after, write_of, writes_of}
+use Rattle.kr_engine.specs.Events.{happens, outcome, timed}
+use Rattle.kr_engine.specs.Outputs.{answers, answers_in, answers_now, append, append_fencings, append_for, appends, if_accepted, images, is_open, is_open_in, new_writes, outputs_by, outputs_of, waiting_after, write_of, writes_of}
 use Rattle.kr_engine.specs.Reasons.{ours}
 use Rattle.kr_engine.specs.Requests.{after_ask, decided, is_decided}
 use Rattle.kr_engine.specs.Ticks.{fence, fencing_of, lapsed}
-use Rattle.kr_engine.specs.World.{State, World, image_of_end, image_of_tip, tip_of}
+use Rattle.kr_engine.specs.World.{State, image_of_end, image_of_tip, tip_of}
 use Rattle.kr_prefix.specs.ReplacedPrefix.{IsLater, unnumbered}
 use Rattle.kr_prefix.proofs.AlikeEvents.{AlikeResults, asked_alike, at_time, outcomes, same_decided, same_lapsed, stays_alike}
 use Rattle.kr_prefix.proofs.AlikeStates.{Alike, fenced_alike, is_with_past, same_ends, same_images, same_times, same_tips, with_past}

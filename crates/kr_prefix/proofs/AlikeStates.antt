@@ -1,24 +1,22 @@
 -- Two nodes that give out the same from now on: the one went through a prefix of the log, the other was handed its image.
-use Rattle.std.proofs.Common.{◌≡◌, ◌∙◌, sym, subst, ℕ, ℤ, pos, negsuc, Bool, true, false, cond, ◌+◌, ◌≤◌, List, [], ◌∷◌, ◌++◌, length, refl, ap, arith, inl, inr}
+use Rattle.std.proofs.Common.{◌≡◌, ◌∙◌, sym, subst, ℕ, ℤ, negsuc, true, false, cond, ◌+◌, ◌≤◌, List, [], ◌∷◌, ◌++◌, length, refl, ap, arith}
 use Rattle.std.proofs.lemmas.Int.{ints, clamps}
-use Rattle.std.specs.Prelude.{◌⊎◌, ◌≤ℤ◌, ◌==◌, Option, Some, None, int_le, int_lt, is_some}
+use Rattle.std.specs.Prelude.{◌⊎◌, ◌≤ℤ◌, ◌==◌, Option, int_le, is_some}
 use Rattle.std.specs.Int.{int_max}
 use Rattle.std.specs.Ordering.{int_eq}
 use Rattle.kr_calls.specs.declared.events.Event.{Event}
 use Rattle.kr_calls.specs.declared.events.Event.TheVariants as events
-use Rattle.kr_defs.specs.declared.basis.Basis.{Basis}
 use Rattle.kr_defs.specs.declared.basis.Contact.{Contact}
 use Rattle.kr_defs.specs.declared.basis.Stopping.{Stopping}
 use Rattle.kr_defs.specs.declared.options.Options.{Options}
 use Rattle.kr_defs.specs.declared.record.Item.{Item}
-use Rattle.kr_defs.specs.declared.record.Record.{Record}
 use Rattle.kr_defs.specs.Heartbeats.{Heartbeats, heard, leave}
 use Rattle.kr_defs.specs.Image.{Image}
 use Rattle.kr_defs.specs.ImageLaws.{as_items}
 use Rattle.kr_defs.specs.Log.{Log, tip}
 use Rattle.kr_engine.specs.Events.{counted, later, timed}
 use Rattle.kr_engine.specs.Ticks.{fence, fence_all, fencing_of}
-use Rattle.kr_engine.specs.World.{State, World, hearing, image_of_end, image_of_tip, tip_of, with_batch, log_with}
+use Rattle.kr_engine.specs.World.{State, hearing, image_of_end, image_of_tip, tip_of, with_batch, log_with}
 use Rattle.kr_prefix.proofs.AlikeLogs.{Shortens, same_seen, same_seen_at_tip, same_tip, shortens_written}
 use Rattle.kr_prefix.proofs.OrderlyStates.{not_earlier, through}
 
@@ -121,7 +119,7 @@ module _ (before : State) where
       leading = k.leading;
       epochs = k.epochs;
       time = k.time;
-        led = k.led;
+      led = k.led;
       contacts = k.contacts;
       stopping = k.stopping;
     }

@@ -15,7 +15,6 @@ use Rattle.kr_calls.specs.declared.events.Reason.{Reason}
 use Rattle.kr_calls.specs.declared.calls.Ask.TheVariants as asks
 use Rattle.kr_calls.specs.declared.events.Event.TheVariants as events
 use Rattle.kr_calls.specs.Decide.{is_read}
-use Rattle.kr_defs.specs.declared.basis.Contact.{Contact}
 use Rattle.kr_defs.specs.declared.ill.Ill.{Ill}
 use Rattle.kr_defs.specs.declared.options.Options.{Options}
 use Rattle.kr_defs.specs.declared.record.Item.{Item}
@@ -31,14 +30,14 @@ use Rattle.kr_snapshot.specs.Reading.{image_of}
 use Rattle.kr_engine.specs.Commits.{commit, committed_to, is_end}
 use Rattle.kr_engine.specs.Engine.{Rise}
 use Rattle.kr_engine.specs.Events.{counted, happens, later, outcome, state, timed}
-use Rattle.kr_engine.specs.Leaderships.{begun, cut, ended, lead, leads_in, lose, may_begin_at, up_to}
+use Rattle.kr_engine.specs.Leaderships.{begun, ended, lead, leads_in, lose, may_begin_at, up_to}
 use Rattle.kr_engine.specs.Outputs.{new_writes, waiting, waiting_after, writes_from}
 use Rattle.kr_engine.specs.Reasons as reasons
 use Rattle.kr_engine.specs.Replicas.{batch_or, end_of, follow, follow_batch, followed, image_or, load, load_image, loaded, unless_ill}
 use Rattle.kr_engine.specs.Requests.{after_ask, after_write, decided, is_decided, serve}
 use Rattle.kr_engine.specs.Ticks.{fence, fence_all, fencing_of, lapsed, tick}
 use Rattle.kr_engine.specs.World.{State, World, image_of_tip, is_far, start, tip_of, with_batch, log_with}
-use Rattle.kr_engine.proofs.DueWrites.{Goes, Leaves, batch_leaves, event_goes}
+use Rattle.kr_engine.proofs.DueWrites.{Goes, batch_leaves, event_goes}
 use Rattle.kr_engine.proofs.Logs.{cut_tip, tip_written}
 use Rattle.kr_engine.proofs.LongerLogs.{rise_more}
 use Rattle.kr_engine.proofs.LossSteps.{not_higher}

@@ -1,15 +1,13 @@
 -- What is given out behind a prefix of the log is given out behind its image.
-use Rattle.std.proofs.Common.{◌≡◌, ◌∙◌, sym, subst, ℕ, ℤ, pos, negsuc, Bool, true, false, cond, ◌≤◌, List, [], ◌∷◌, ◌++◌, map, refl, ap, arith, inl, inr}
+use Rattle.std.proofs.Common.{◌≡◌, ◌∙◌, sym, subst, ℕ, ℤ, pos, negsuc, Bool, true, false, cond, List, [], ◌∷◌, ◌++◌, map, refl, ap, arith, inl, inr}
 use Rattle.std.proofs.lemmas.Int.{ints, clamps}
 use Rattle.std.proofs.lemmas.Bool.Decides.{nat_tests}
 use Rattle.std.proofs.lemmas.List.{append-nil}
-use Rattle.std.specs.Prelude.{◌⊎◌, ◌≤ℤ◌, Option, Some, None, Result, Ok, Err, IsTrue, filter, fold, int_lt, int_le, is_some, not, unsigned_abs}
-use Rattle.std.specs.Int.{int_max}
+use Rattle.std.specs.Prelude.{None, Result, Ok, Err, IsTrue, filter, int_lt, not}
 use Rattle.std.specs.List.{AllByRecursion}
 use Rattle.std.specs.Ordering.{int_eq}
 use Rattle.std.specs.Result.{result_unwrap_or}
 use Rattle.kr_calls.specs.declared.events.Event.{Event}
-use Rattle.kr_calls.specs.declared.events.Output.{Output}
 use Rattle.kr_calls.specs.declared.events.Reason.{Reason}
 use Rattle.kr_calls.specs.declared.events.Event.TheVariants as events
 use Rattle.kr_defs.specs.declared.options.Options.{Options}
@@ -17,29 +15,27 @@ use Rattle.kr_defs.specs.Guard.{and_then}
 use Rattle.kr_defs.specs.Heartbeats.{Heartbeats, heard}
 use Rattle.kr_defs.specs.Heartbeats as hearing
 use Rattle.kr_defs.specs.Image.{Image}
-use Rattle.kr_defs.specs.Log.{Log, image_at, tip}
+use Rattle.kr_defs.specs.Log.{image_at, tip}
 use Rattle.kr_defs.proofs.HeartbeatLists.{le_itself}
 use Rattle.kr_defs.proofs.IdLists.{same_id}
 use Rattle.kr_defs.proofs.Tests.{not_true}
 use Rattle.kr_snapshot.specs.Grammar.{IsImage}
 use Rattle.kr_snapshot.specs.declared.fault.ImageFault.{ImageFault}
-use Rattle.kr_snapshot.specs.Reading.{image_of}
 use Rattle.kr_snapshot.proofs.WholeImages.{image_complete}
 use Rattle.kr_engine.specs.declared.writes.Write.{Write}
-use Rattle.kr_engine.specs.Events.{counted, happens, outcome, state, timed}
+use Rattle.kr_engine.specs.Events.{counted, happens, state}
 use Rattle.kr_engine.specs.Engine.{Rise}
-use Rattle.kr_engine.specs.Outputs.{is_open, outputs_after, outputs_of, waiting, waiting_after, writes_from}
+use Rattle.kr_engine.specs.Outputs.{is_open, outputs_of, waiting, waiting_after, writes_from}
 use Rattle.kr_engine.specs.Reasons.{exhausted, older_image}
-use Rattle.kr_engine.specs.Replicas.{image_or, load, load_image, loaded}
-use Rattle.kr_engine.specs.World.{State, World, is_far, start, tip_of}
+use Rattle.kr_engine.specs.Replicas.{image_or, load_image, loaded}
+use Rattle.kr_engine.specs.World.{State, is_far, start}
 use Rattle.kr_engine.proofs.Logs.{at_tip}
 use Rattle.kr_engine.proofs.WaitingWrites.{state_more}
 use Rattle.kr_prefix.specs.ReplacedPrefix.{IsLater, ReplacedPrefix, StandsBy, given_after, unnumbered}
 use Rattle.kr_prefix.proofs.AlikeEvents.{stays_alike}
-use Rattle.kr_prefix.proofs.AlikeLogs.{Shortens}
 use Rattle.kr_prefix.proofs.AlikeOutputs.{outputs_alike, waiting_alike}
 use Rattle.kr_prefix.proofs.AlikeStates.{Alike, AlikeEpochs}
-use Rattle.kr_prefix.proofs.OrderlyStates.{Holds, IsOrderly, holds, holds_more, waiting_then}
+use Rattle.kr_prefix.proofs.OrderlyStates.{Holds, holds, holds_more, waiting_then}
 
 -- ---- from two alike states on
 

@@ -1,6 +1,6 @@
 -- KIP-630: a committed prefix of the log may be replaced by its image. That all that is given out stays the same is this
 -- project's own.
-use Rattle.std.specs.Prelude.{◌≡◌, ◌≤ℤ◌, ◌||◌, ℕ, ℤ, pos, negsuc, int_lt, List, [], ◌∷◌, map, None, Ok, IsTrue, not}
+use Rattle.std.specs.Prelude.{◌≡◌, ◌≤ℤ◌, ◌||◌, ℕ, pos, negsuc, int_lt, List, [], ◌∷◌, map, None, Ok, IsTrue, not}
 use Rattle.std.specs.Int.{int_max}
 use Rattle.std.specs.List.{AllByRecursion}
 use Rattle.std.specs.Ordering.{int_eq}
