@@ -12,12 +12,12 @@ use Rattle.kr_defs.specs.declared.record.Item.{Item}
 use Rattle.kr_defs.specs.declared.record.Item.TheVariants as items
 use Rattle.kr_wire.specs.declared.WireFault.{WireFault}
 use Rattle.kr_wire.specs.Reading.{◌>>=◌, refuse◌when◌else◌}
-use Rattle.kr_wire.proofs.Laws.{IsBytes, IsBytes-before, IsBytes-behind, bind_ok, guard_ok, is_ok, ok_value, ok_rest, read_ok, nothing, complete_guard, complete_bind}
+use Rattle.kr_wire.proofs.ReadingLaws.{IsBytes, IsBytes-before, IsBytes-behind, bind_ok, guard_ok, is_ok, ok_value, ok_rest, read_ok, nothing, complete_guard, complete_bind}
 use Rattle.kr_wire.proofs.Numbers.{not_zero}
 use Rattle.kr_record.specs.declared.fault.RecordFault.{RecordFault}
 use Rattle.kr_record.specs.Reading.{record_of}
 use Rattle.kr_record.specs.Grammar.{IsRecord}
-use Rattle.kr_record.proofs.Laws.{of_sound as record_sound, of_complete as record_complete}
+use Rattle.kr_record.proofs.RecordLaws.{of_sound as record_sound, of_complete as record_complete}
 use Rattle.kr_batch.specs.Crc.{crc32c}
 use Rattle.kr_batch.specs.declared.Batch.{Batch}
 use Rattle.kr_batch.specs.declared.fault.BatchFault.{BatchFault}

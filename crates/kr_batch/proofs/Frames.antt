@@ -9,7 +9,7 @@ use Rattle.kr_wire.specs.declared.WireFault.{WireFault}
 use Rattle.kr_wire.specs.declared.WireFault.TheVariants.{Short}
 use Rattle.kr_wire.specs.Reading.{◌>>=◌, varint32_at}
 use Rattle.kr_wire.specs.Grammar.{◌⌢◌, Exactly, IsVarint32, IsVarint64}
-use Rattle.kr_wire.proofs.Laws.{IsBytes, Law, IsBytes-before, IsBytes-behind, bind_ok, ok_value, ok_rest, read_ok, joined, sound_then, sound_guard, sound_as, sound_done, complete_then, complete_guard, complete_bind, all_sound, all_complete}
+use Rattle.kr_wire.proofs.ReadingLaws.{IsBytes, Law, IsBytes-before, IsBytes-behind, bind_ok, ok_value, ok_rest, read_ok, joined, sound_then, sound_guard, sound_as, sound_done, complete_then, complete_guard, complete_bind, all_sound, all_complete}
 use Rattle.kr_wire.proofs.Numbers.{piece_law, varint32_law, varint64_law}
 use Rattle.kr_batch.specs.Reading.{sized_at, key_at, body_at, batch_body, frame_at}
 use Rattle.kr_batch.specs.Grammar.{natural, IsPiece, IsSome, IsSized, IsKey, IsBody, IsFrame}

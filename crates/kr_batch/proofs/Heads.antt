@@ -10,7 +10,7 @@ use Rattle.kr_defs.proofs.IdLists.{same_id}
 use Rattle.kr_wire.specs.declared.WireFault.{WireFault}
 use Rattle.kr_wire.specs.Reading.{Read, number_at}
 use Rattle.kr_wire.specs.Grammar.{◌⌢◌, Exactly, IsNumber, IsSigned}
-use Rattle.kr_wire.proofs.Laws.{IsBytes, Law, IsBytes-behind, bind_ok, guard_ok, is_ok, joined, sound_then, sound_last, sound_guard, sound_done, complete_then, complete_last, complete_guard, complete_bind}
+use Rattle.kr_wire.proofs.ReadingLaws.{IsBytes, Law, IsBytes-behind, bind_ok, guard_ok, is_ok, joined, sound_then, sound_last, sound_guard, sound_done, complete_then, complete_last, complete_guard, complete_bind}
 use Rattle.kr_wire.proofs.Numbers.{piece_law, number_law, signed_law}
 use Rattle.kr_batch.specs.declared.fault.BatchFault.{BatchFault}
 use Rattle.kr_batch.specs.Crc.{crc32c}

@@ -12,7 +12,7 @@ use Rattle.kr_defs.specs.declared.record.Item.{Item}
 use Rattle.kr_defs.specs.declared.record.Item.TheVariants as items
 use Rattle.kr_wire.specs.Grammar.{◌⌢◌, Exactly, IsNumber, IsVarint32}
 use Rattle.kr_wire.specs.Spelling.{number, signed, varint32, varint64}
-use Rattle.kr_wire.proofs.Laws.{IsBytes, joined}
+use Rattle.kr_wire.proofs.ReadingLaws.{IsBytes, joined}
 use Rattle.kr_wire.proofs.WrittenForms.{varint32_spelled, varint64_spelled, number_spelled, signed_spelled}
 use Rattle.kr_record.specs.Grammar.{IsRecord}
 use Rattle.kr_record.specs.Spelling.{record_value}

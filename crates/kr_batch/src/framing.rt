@@ -64,7 +64,7 @@ fn whole_body(bytes: &[u8]) -> Result<(i32, &[u8]), WireFault>
 }
 
 #[tactic(auto, unfolding(crate::specs::Reading::frame_at))]
-pub fn read_frame(bytes: &[u8], at: usize) -> Result<((i32, &[u8]), usize), WireFault>
+pub(crate) fn read_frame(bytes: &[u8], at: usize) -> Result<((i32, &[u8]), usize), WireFault>
     requires { at ≤ length bytes.now }
     ensures { Reads (λ f. (f.0, f.1.now)) result bytes.now (frame_at (drop at bytes.now)) }
 {

@@ -13,7 +13,7 @@ use kr_wire::{piece, read_i8, read_i32, read_i64, read_u16, read_u32};
 
 /// The base, and all that follows the size.
 #[tactic(auto, unfolding(crate::specs::Reading::base_and_rest))]
-pub fn read_place(bytes: &[u8]) -> Result<(i64, &[u8]), BatchFault>
+pub(crate) fn read_place(bytes: &[u8]) -> Result<(i64, &[u8]), BatchFault>
     ensures { MatchResult result (λ x. base_and_rest bytes.now ≡ Ok (x.0, x.1.now)) (λ e. base_and_rest bytes.now ≡ Err e) }
 {
     let ((base, size), next) = read_start(bytes)?;
@@ -46,7 +46,7 @@ fn read_start(bytes: &[u8]) -> Result<((i64, u32), usize), BatchFault>
 
 /// The epoch, and what the CRC is over.
 #[tactic(auto, unfolding(crate::specs::Reading::sum_of))]
-pub fn read_sum(bytes: &[u8]) -> Result<(i32, &[u8]), BatchFault>
+pub(crate) fn read_sum(bytes: &[u8]) -> Result<(i32, &[u8]), BatchFault>
     ensures { MatchResult result (λ x. sum_of bytes.now ≡ Ok (x.0, x.1.now)) (λ e. sum_of bytes.now ≡ Err e) }
 {
     let ((epoch, stored), next) = read_stored(bytes)?;
@@ -75,7 +75,7 @@ fn read_stored(bytes: &[u8]) -> Result<((i32, u32), usize), BatchFault>
 
 /// Whether it is a control batch, its base timestamp, its count, and the records.
 #[tactic(auto, unfolding(crate::specs::Reading::fixed_at))]
-pub fn read_fixed(bytes: &[u8]) -> Result<((bool, i64, u32), &[u8]), BatchFault>
+pub(crate) fn read_fixed(bytes: &[u8]) -> Result<((bool, i64, u32), &[u8]), BatchFault>
     ensures read { MatchResult result
         (λ x. fixed_at bytes.now ≡ Ok ((x.0.0, x.0.1, x.0.2), x.1.now))
         (λ e. fixed_at bytes.now ≡ Err e) }

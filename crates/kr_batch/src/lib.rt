@@ -7,15 +7,15 @@ mod encoding;
 mod fault;
 mod framing;
 mod heading;
+mod laws;
 mod table;
-mod theorems;
 
 pub use checksum::crc32c;
 pub use decoding::decode;
 pub use encoding::encode;
 pub use fault::{BatchFault, Cause};
 use kr_defs::Items;
-pub use theorems::round_trip;
+pub use laws::round_trip;
 
 /// Records of consecutive offsets.
 #[derive(Debug, Drop)]

@@ -19,14 +19,14 @@ const RECORDS: u32 = MOST_RECORDS as u32;
 
 /// What the records of a batch are.
 #[derive(Clone, Copy, Debug, Drop, PartialEq, Eq)]
-pub enum Kind {
+pub(crate) enum Kind {
     Changes,
     Settings,
 }
 
 /// A batch, and the bytes that it is encoded as.
 #[derive(Drop)]
-pub struct Encoded {
+pub(crate) struct Encoded {
     kind: Kind,
     batch: Batch,
     bytes: Vec<u8>,

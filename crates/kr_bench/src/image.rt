@@ -23,7 +23,7 @@ const OFFSET: i64 = 9_220;
 
 /// A store, and the bytes that its image is written as.
 #[derive(Drop)]
-pub struct Written {
+pub(crate) struct Written {
     store: ImageStore,
     bytes: Vec<u8>,
     ghost text: { bytes.items ≡ image_text OFFSET store.tip },

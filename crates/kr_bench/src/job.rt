@@ -5,7 +5,7 @@ use crate::load::Load;
 
 /// What is measured.
 #[derive(Clone, Copy, Debug, PartialEq, Eq)]
-pub enum Job {
+pub(crate) enum Job {
     Checksum,
     Encode(Kind),
     Decode(Kind),
@@ -14,7 +14,7 @@ pub enum Job {
 
 /// What a request message is.
 #[derive(Clone, Copy, Debug, PartialEq, Eq)]
-pub enum Form {
+pub(crate) enum Form {
     Whole,
     Half,
     /// It promises more topics than it has.

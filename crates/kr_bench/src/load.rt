@@ -18,7 +18,7 @@ const SUMMED: u32 = 8 << 20;
 
 /// What the jobs work on.
 #[derive(Drop)]
-pub struct Load {
+pub(crate) struct Load {
     /// What the checksum is over.
     pub summed: Vec<u8>,
     // The checksum of those bytes.

@@ -126,7 +126,7 @@ fn unfence_record(broker: &i32, epoch: &i64) -> Record
 }
 
 /// The records that unfence a broker, and elect leaders where partitions wait for it.
-pub fn unfencing_records<S: Store>(
+pub(crate) fn unfencing_records<S: Store>(
     alloc: Global,
     store: &S,
     minimum: &i32,

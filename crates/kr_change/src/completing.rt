@@ -41,7 +41,7 @@ fn reach_target(alloc: Global, before: &Assignment) -> Result<Assignment, NoMemo
 
 /// The lists after a reassignment that completes has ended; the given ones where none completes.
 #[tactic(auto, unfolding(kr_defs::specs::Build::ended))]
-pub fn end_reassignment(alloc: Global, before: Assignment) -> Result<Assignment, NoMemory>
+pub(crate) fn end_reassignment(alloc: Global, before: Assignment) -> Result<Assignment, NoMemory>
     ensures { IfOk result (λ after. after ≡ builds.ended before) }
 {
     if completes(

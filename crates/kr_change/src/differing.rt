@@ -97,7 +97,7 @@ fn is_blank(change: &PartitionChange) -> bool
 }
 
 // The change from the old partition to the new one but for the epochs, None where no field differs.
-pub fn difference(old: &Partition, new: Partition) -> Option<PartitionChange>
+pub(crate) fn difference(old: &Partition, new: Partition) -> Option<PartitionChange>
     ensures { result ≡ builds.change_between old.now new }
 {
     let change = fields(old, new);

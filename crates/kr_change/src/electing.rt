@@ -63,7 +63,7 @@ fn sound_candidate(
 }
 
 /// The broker is the one that has restarted uncleanly.
-pub fn has_restarted(restarted: Option<i32>, id: &i32) -> bool
+pub(crate) fn has_restarted(restarted: Option<i32>, id: &i32) -> bool
     ensures { result ≡ is_restarted restarted id.now }
 {
     match restarted {

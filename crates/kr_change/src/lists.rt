@@ -32,7 +32,7 @@ fn members(alloc: Global, list: &[i32], those: &Ids) -> Result<Vec<i32>, AllocEr
 }
 
 // These but for those.
-pub fn without(alloc: Global, list: &Ids, those: &Ids) -> Result<Ids, NoMemory>
+pub(crate) fn without(alloc: Global, list: &Ids, those: &Ids) -> Result<Ids, NoMemory>
     ensures { IfOk result (λ left. left ≡ ids.without list.now those.now) }
 {
     let left = others(alloc, list.as_slice(), those)?;
@@ -40,7 +40,7 @@ pub fn without(alloc: Global, list: &Ids, those: &Ids) -> Result<Ids, NoMemory>
 }
 
 // These that are among those.
-pub fn within(alloc: Global, list: &Ids, those: &Ids) -> Result<Ids, NoMemory>
+pub(crate) fn within(alloc: Global, list: &Ids, those: &Ids) -> Result<Ids, NoMemory>
     ensures { IfOk result (λ left. left ≡ ids.within list.now those.now) }
 {
     let left = members(alloc, list.as_slice(), those)?;

@@ -42,7 +42,7 @@ fn is_bad_operation(operation: &ConfigOperation) -> bool
 }
 
 /// The value of a resource's setting, behind the operations so far.
-pub fn value_now<'v, 'k, S: Store>(
+pub(crate) fn value_now<'v, 'k, S: Store>(
     alloc: Global,
     store: &'v S,
     entry: &ConfigResource,
@@ -156,7 +156,7 @@ fn operate<'k, S: Store>(
 }
 
 /// The values that all operations of a resource leave, in order. The first that can't be done refuses it.
-pub fn operate_all<'k, S: Store>(
+pub(crate) fn operate_all<'k, S: Store>(
     alloc: Global,
     store: &S,
     entry: &'k ConfigResource,

@@ -108,7 +108,7 @@ fn others<'a>(alloc: Global, parts: &'a [Text], those: &Parts) -> Result<Parts<'
 }
 
 /// The list with those parts of another that it hasn't, behind its own.
-pub fn append(alloc: Global, list: &Text, more: &Text) -> Result<Text, NoMemory>
+pub(crate) fn append(alloc: Global, list: &Text, more: &Text) -> Result<Text, NoMemory>
     ensures { IfOk result (λ text. text ≡ configs.appended list.now more.now) }
 {
     let own = parts(alloc, list)?;
@@ -118,7 +118,7 @@ pub fn append(alloc: Global, list: &Text, more: &Text) -> Result<Text, NoMemory>
 }
 
 /// The list without all parts that another has.
-pub fn subtract(alloc: Global, list: &Text, those: &Text) -> Result<Text, NoMemory>
+pub(crate) fn subtract(alloc: Global, list: &Text, those: &Text) -> Result<Text, NoMemory>
     ensures { IfOk result (λ text. text ≡ configs.subtracted list.now those.now) }
 {
     let own = parts(alloc, list)?;

@@ -14,7 +14,7 @@ use kr_walks::value_at;
 use std::alloc::Global;
 
 /// The settings have the same value, or both have none.
-pub fn is_same_value(value: Option<&Text>, other: Option<&Text>) -> bool
+pub(crate) fn is_same_value(value: Option<&Text>, other: Option<&Text>) -> bool
     ensures { result ≡ configs.is_same_value (option_copied value.entry) (option_copied other.entry) }
 {
     match (value, other) {
@@ -67,7 +67,7 @@ fn add_record<S: Store>(
 }
 
 /// The records of the settings whose values differ, in order of first naming.
-pub fn config_records<S: Store>(
+pub(crate) fn config_records<S: Store>(
     alloc: Global,
     store: &S,
     entry: &ConfigResource,

@@ -190,7 +190,7 @@ fn keeps_minimum<S: Store>(
 
 /// Adds a change for each partition of a topic whose minimum is another with these values, where enough are in sync for it:
 /// nobody stands by any more. A minimum that stays needs no walk.
-pub fn add_reliefs<S: Store>(
+pub(crate) fn add_reliefs<S: Store>(
     alloc: Global,
     store: &S,
     options: &Options,

@@ -27,7 +27,7 @@ const BROKER: i8 = 4;
 
 /// The rule for one resource's settings.
 #[derive(Drop)]
-pub struct ResourceRule<'a> {
+pub(crate) struct ResourceRule<'a> {
     pub options: &'a Options,
 }
 

@@ -14,7 +14,7 @@ use std::marker::Model;
 /// The keys that one resource's operations named, in order of first naming, each with its value now; none where the
 /// setting goes.
 #[derive(Drop)]
-pub struct Values<'a> {
+pub(crate) struct Values<'a> {
     named: IndexMap<&'a str, Option<Text>>,
 }
 

@@ -8,7 +8,7 @@ use std::alloc::Global;
 use std::mem;
 
 /// Adds all of the records, which aren't copied.
-pub fn add_all(alloc: Global, out: &mut Records, more: Records) -> Result<(), NoMemory>
+pub(crate) fn add_all(alloc: Global, out: &mut Records, more: Records) -> Result<(), NoMemory>
     ensures { OnOk result (out.new ≡ out.old ++ more) }
 {
     let mut list = mem::replace(out, Records::new(alloc)).into_vec();

@@ -63,7 +63,7 @@ fn apply_items<S: Store, L: Ledger>(
 
 /// Applies items, of which the first stands at the place. Where one has no meaning, it is named with the cause, and the
 /// image that was kept last is the present one.
-pub fn follow_items<S: Store, L: Ledger>(
+pub(crate) fn follow_items<S: Store, L: Ledger>(
     store: &mut S,
     place: &i64,
     items: &[Item],

@@ -8,7 +8,7 @@ use kr_sessions::{Context, Sessions};
 use std::alloc::Global;
 
 /// No records.
-pub fn nothing(alloc: Global) -> Effect
+pub(crate) fn nothing(alloc: Global) -> Effect
     ensures { result.records ≡ [] }
 {
     Effect {
@@ -18,7 +18,7 @@ pub fn nothing(alloc: Global) -> Effect
 }
 
 /// What a request is judged by.
-pub fn context_of<'a>(
+pub(crate) fn context_of<'a>(
     options: &'a Options,
     sessions: &'a Sessions,
     time: &i64,

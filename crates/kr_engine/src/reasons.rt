@@ -26,7 +26,7 @@ fn epoch_of(epoch: &i32) -> i64
 }
 
 // The led epoch, -1 on standby.
-pub fn ours(leading: &Option<i32>) -> i64
+pub(crate) fn ours(leading: &Option<i32>) -> i64
     ensures { result ≡ reasons.ours leading.now }
 {
     match leading {
@@ -35,43 +35,43 @@ pub fn ours(leading: &Option<i32>) -> i64
     }
 }
 
-pub fn not_leading(asked: &i32, leading: &Option<i32>) -> Reason
+pub(crate) fn not_leading(asked: &i32, leading: &Option<i32>) -> Reason
     ensures { result ≡ reasons.not_leading asked.now leading.now }
 {
     reason(2, &epoch_of(asked), &ours(leading), &0)
 }
 
-pub fn bad_commit(asked: &i64, committed: &i64, tip: &i64) -> Reason
+pub(crate) fn bad_commit(asked: &i64, committed: &i64, tip: &i64) -> Reason
     ensures { result ≡ reasons.bad_commit asked.now committed.now tip.now }
 {
     reason(5, asked, committed, tip)
 }
 
-pub fn already_leading(leading: &Option<i32>) -> Reason
+pub(crate) fn already_leading(leading: &Option<i32>) -> Reason
     ensures { result ≡ reasons.already_leading leading.now }
 {
     reason(1, &ours(leading), &0, &0)
 }
 
-pub fn old_epoch(asked: &i32, greatest: &i32) -> Reason
+pub(crate) fn old_epoch(asked: &i32, greatest: &i32) -> Reason
     ensures { result ≡ reasons.old_epoch asked.now greatest.now }
 {
     reason(3, &epoch_of(asked), &epoch_of(greatest), &0)
 }
 
-pub fn bad_next(asked: &i64, end: &i64) -> Reason
+pub(crate) fn bad_next(asked: &i64, end: &i64) -> Reason
     ensures { result ≡ reasons.bad_next asked.now end.now }
 {
     reason(4, asked, end, &0)
 }
 
-pub fn exhausted(place: &i64) -> Reason
+pub(crate) fn exhausted(place: &i64) -> Reason
     ensures { result ≡ reasons.exhausted place.now }
 {
     reason(11, place, &0, &0)
 }
 
-pub fn gap(expected: &i64, found: &i64) -> Reason
+pub(crate) fn gap(expected: &i64, found: &i64) -> Reason
     ensures { result ≡ reasons.gap expected.now found.now }
 {
     reason(6, expected, found, &0)
@@ -102,7 +102,7 @@ fn batch_place(fault: &BatchFault) -> i64
     }
 }
 
-pub fn bad_batch(fault: &BatchFault) -> Reason
+pub(crate) fn bad_batch(fault: &BatchFault) -> Reason
     ensures { result ≡ reasons.bad_batch fault.now }
 {
     let number = batch_fault(fault) as i64;
@@ -132,21 +132,21 @@ fn image_place(fault: &ImageFault) -> i64
     }
 }
 
-pub fn bad_image(fault: &ImageFault) -> Reason
+pub(crate) fn bad_image(fault: &ImageFault) -> Reason
     ensures { result ≡ reasons.bad_image fault.now }
 {
     let number = image_fault(fault) as i64;
     reason(10, &number, &image_place(fault), &0)
 }
 
-pub fn ill_formed(place: &i64, cause: &Ill) -> Reason
+pub(crate) fn ill_formed(place: &i64, cause: &Ill) -> Reason
     ensures { result ≡ reasons.ill_formed place.now cause.now }
 {
     let number = cause.number() as i64;
     reason(8, place, &number, &0)
 }
 
-pub fn older_image(asked: &i64, committed: &i64) -> Reason
+pub(crate) fn older_image(asked: &i64, committed: &i64) -> Reason
     ensures { result ≡ reasons.older_image asked.now committed.now }
 {
     reason(9, asked, committed, &0)

@@ -22,7 +22,7 @@ pub struct Write {
 }
 
 /// This node leads in the epoch.
-pub fn leads_in(leading: &Option<i32>, epoch: &i32) -> bool
+pub(crate) fn leads_in(leading: &Option<i32>, epoch: &i32) -> bool
     ensures { result ≡ leaderships.leads_in leading.now epoch.now }
 {
     match leading {
@@ -32,14 +32,14 @@ pub fn leads_in(leading: &Option<i32>, epoch: &i32) -> bool
 }
 
 /// The leadership that decided the write goes on, and what it needs isn't below the committed end yet.
-pub fn is_open(leading: &Option<i32>, end: &i64, write: &Write) -> bool
+pub(crate) fn is_open(leading: &Option<i32>, end: &i64, write: &Write) -> bool
     ensures { result ≡ outputs.is_open leading.now end.now write.now }
 {
     leads_in(leading, &write.epoch) && *end < write.need
 }
 
 /// The reply of a write that waits no more.
-pub fn answer(end: &i64, write: Write) -> Output
+pub(crate) fn answer(end: &i64, write: Write) -> Output
     ensures { result ≡ outputs.due_reply end.now write }
 {
     let is_lost = *end < write.need;

@@ -5,7 +5,7 @@ use Rattle.std.proofs.lemmas.Bool.{cases_Bool, cases_lt, le-ltb, ltb-false}
 use Rattle.std.proofs.lemmas.List.{append-nil, take-append-drop, length-take-le, length-drop}
 use Rattle.kr_defs.proofs.Tests.{neither}
 use Rattle.kr_wire.specs.Reading.{◌>>=◌}
-use Rattle.kr_wire.proofs.Laws.{bind_ok, is_ok}
+use Rattle.kr_wire.proofs.ReadingLaws.{bind_ok, is_ok}
 use Rattle.kr_batch.specs.declared.fault.BatchFault.{BatchFault}
 use Rattle.kr_snapshot.specs.declared.fault.ImageFault.{ImageFault}
 use Rattle.kr_snapshot.specs.declared.fault.BatchCause.TheVariants as causes

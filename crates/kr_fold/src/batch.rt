@@ -12,14 +12,14 @@ use kr_wire::{read_i64, read_u32};
 use std::alloc::Global;
 
 /// The bytes of a batch's base and size.
-pub const START: usize = 12;
+pub(crate) const START: usize = 12;
 
 // The fewest bytes behind a batch's size.
 const LEAST_SIZE: u32 = 49;
 
 /// How many bytes there are behind the size of the batch at the front.
 #[tactic(auto, unfolding(kr_snapshot::specs::Reading::size_at, kr_batch::specs::Reading::start_at))]
-pub fn read_size(bytes: &[u8]) -> Result<u32, BatchFault>
+pub(crate) fn read_size(bytes: &[u8]) -> Result<u32, BatchFault>
     ensures read { MatchResult result (λ size. size_at bytes.now ≡ Ok size) (λ e. size_at bytes.now ≡ Err e) }
     ensures small { IfOk result (λ size. size < 2 ^ 31) }
 {
@@ -32,7 +32,7 @@ pub fn read_size(bytes: &[u8]) -> Result<u32, BatchFault>
 }
 
 /// The bytes of the batch at the place `at` of the input, as many as its size says, or none where the input ends there.
-pub fn read_batch<S: Source>(
+pub(crate) fn read_batch<S: Source>(
     alloc: Global,
     source: &mut S,
     at: u64,

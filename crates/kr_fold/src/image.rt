@@ -114,7 +114,7 @@ fn close(reader: Reader, bytes: &[u8]) -> Result<(i64, ImageStore), ToolFault>
 }
 
 /// The offset and the store of the image that all of the bytes stand for.
-pub fn read_image(alloc: Global, bytes: &[u8]) -> Result<(i64, ImageStore), ToolFault>
+pub(crate) fn read_image(alloc: Global, bytes: &[u8]) -> Result<(i64, ImageStore), ToolFault>
     ensures image { IfOk result (λ x. IsImage x.0 x.1.tip bytes.now) }
     ensures fault { IfErr result (λ fault. IsImageFault bytes.now fault) }
 {

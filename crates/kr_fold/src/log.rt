@@ -174,7 +174,7 @@ fn read_next<S: Source, L: Ledger>(
 }
 
 /// Reads a log from place 0 to the end of the input: the store of its image, and the place behind its last item.
-pub fn read_log<S: Source, L: Ledger>(
+pub(crate) fn read_log<S: Source, L: Ledger>(
     alloc: Global,
     source: &mut S,
     blank: Blank,

@@ -13,7 +13,7 @@ const PIECE: usize = 4096;
 
 /// How far bytes were filled up.
 #[derive(Clone, Copy, Debug, Drop, PartialEq, Eq)]
-pub enum Filled {
+pub(crate) enum Filled {
     /// To as many as were asked for.
     Full,
     /// To the end of the input, which came before.
@@ -59,7 +59,7 @@ fn room(len: usize, taken: u64) -> usize
 
 /// Fills bytes, which stand at the place `at` of the input, up to `len` of them. No more are taken than a log may have.
 #[tactic(auto, using(crate::proofs::Pieces::grew_none, crate::proofs::Pieces::grew_more, crate::proofs::Pieces::stops))]
-pub fn fill<S: Source>(
+pub(crate) fn fill<S: Source>(
     source: &mut S,
     bytes: &mut Vec<u8>,
     len: usize,

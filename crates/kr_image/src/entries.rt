@@ -9,14 +9,14 @@ use kr_timeline::Timeline;
 use std::alloc::Global;
 
 /// The key has a value in the present map.
-pub fn contains<K: Ord + Drop, V: Drop>(timeline: &Timeline<K, V>, key: &K) -> bool
+pub(crate) fn contains<K: Ord + Drop, V: Drop>(timeline: &Timeline<K, V>, key: &K) -> bool
     ensures { result ≡ map.contains K.cmp timeline.now.maps.present key.now }
 {
     timeline.get(key).is_some()
 }
 
 /// There is no room for one more.
-pub fn is_full(count: u32, most: usize) -> bool
+pub(crate) fn is_full(count: u32, most: usize) -> bool
     ensures { result ≡ nat_le most count }
 {
     most <= count as usize
@@ -24,7 +24,7 @@ pub fn is_full(count: u32, most: usize) -> bool
 
 /// Gives the key the value in the present map.
 #[tactic(auto, unfolding(kr_defs::specs::KeptMaps::inserted))]
-pub fn set<K: Ord + Copied + Drop, V: Copied + Drop>(
+pub(crate) fn set<K: Ord + Copied + Drop, V: Copied + Drop>(
     timeline: &mut Timeline<K, V>,
     key: K,
     value: V,
@@ -38,7 +38,7 @@ pub fn set<K: Ord + Copied + Drop, V: Copied + Drop>(
 
 /// Takes the key out of the present map.
 #[tactic(auto, unfolding(kr_defs::specs::KeptMaps::removed))]
-pub fn unset<K: Ord + Copied + Drop, V: Copied + Drop>(
+pub(crate) fn unset<K: Ord + Copied + Drop, V: Copied + Drop>(
     alloc: Global,
     timeline: &mut Timeline<K, V>,
     key: &K,
@@ -54,7 +54,7 @@ pub fn unset<K: Ord + Copied + Drop, V: Copied + Drop>(
 
 /// Gives the key the value, and counts an entry that is new.
 #[tactic(auto, using(kr_defs::proofs::EntryCounts::counting))]
-pub fn set_counted<K: Ord + Copied + Drop, V: Copied + Drop>(
+pub(crate) fn set_counted<K: Ord + Copied + Drop, V: Copied + Drop>(
     timeline: &mut Timeline<K, V>,
     count: &mut u32,
     key: K,
@@ -78,7 +78,7 @@ pub fn set_counted<K: Ord + Copied + Drop, V: Copied + Drop>(
 
 /// Takes the key out, and counts an entry that goes.
 #[tactic(auto, using(kr_defs::proofs::EntryCounts::counting))]
-pub fn unset_counted<K: Ord + Copied + Drop, V: Copied + Drop>(
+pub(crate) fn unset_counted<K: Ord + Copied + Drop, V: Copied + Drop>(
     alloc: Global,
     timeline: &mut Timeline<K, V>,
     count: &mut u32,

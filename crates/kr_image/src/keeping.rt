@@ -10,7 +10,7 @@ use std::sync::ledger::Ledger;
 
 /// Keeps the present map under the epoch. There is room for it.
 #[tactic(auto, unfolding(kr_defs::specs::KeptMaps::marked))]
-pub fn mark<K: Ord + Drop, V: Drop>(timeline: &mut Timeline<K, V>, epoch: &i64)
+pub(crate) fn mark<K: Ord + Drop, V: Drop>(timeline: &mut Timeline<K, V>, epoch: &i64)
     requires room { IsTrue timeline.old.has_room }
     requires above { IsAbove timeline.old.maps.kept epoch.now }
     ensures kept { timeline.new.maps.kept ≡ timeline.old.maps.kept ++ record { epoch = epoch.now; map = timeline.old.maps.present; made = timeline.old.maps.made } ∷ [] }
@@ -22,7 +22,7 @@ pub fn mark<K: Ord + Drop, V: Drop>(timeline: &mut Timeline<K, V>, epoch: &i64)
 
 /// Makes the map that is kept under the epoch the present one, and drops the later epochs. The epoch is kept.
 #[tactic(auto, unfolding(kr_defs::specs::KeptMaps::reverted))]
-pub fn revert<K: Ord + Drop, V: Drop, L: Ledger>(
+pub(crate) fn revert<K: Ord + Drop, V: Drop, L: Ledger>(
     timeline: &mut Timeline<K, V>,
     epoch: &i64,
     steps: &mut Steps<L>,
@@ -38,7 +38,7 @@ pub fn revert<K: Ord + Drop, V: Drop, L: Ledger>(
 
 /// Drops the kept epochs below this one.
 #[tactic(auto, unfolding(kr_defs::specs::KeptMaps::forgotten))]
-pub fn forget_below<K: Ord + Drop, V: Drop, L: Ledger>(
+pub(crate) fn forget_below<K: Ord + Drop, V: Drop, L: Ledger>(
     timeline: &mut Timeline<K, V>,
     epoch: &i64,
     steps: &mut Steps<L>,

@@ -9,13 +9,13 @@ use kr_store::Counts;
 
 /// An epoch, and how much the image had that is kept under it.
 #[derive(Drop)]
-pub struct KeptCounts {
+pub(crate) struct KeptCounts {
     pub epoch: i64,
     pub counts: Counts,
 }
 
 /// The epoch with its counts.
-pub fn kept_under(epoch: &i64, counts: Counts) -> KeptCounts
+pub(crate) fn kept_under(epoch: &i64, counts: Counts) -> KeptCounts
     ensures { result ≡ record { epoch = epoch.now; counts = counts } }
 {
     KeptCounts {
@@ -25,21 +25,21 @@ pub fn kept_under(epoch: &i64, counts: Counts) -> KeptCounts
 }
 
 /// The counts that are kept under the epoch.
-pub fn counts_at(kept: &[KeptCounts], epoch: &i64) -> Option<Counts>
+pub(crate) fn counts_at(kept: &[KeptCounts], epoch: &i64) -> Option<Counts>
     ensures { result ≡ option_map (λ (k : AnyCounts). k.counts) (find (λ (k : AnyCounts). int_eq k.epoch epoch.now) kept.now) }
 {
     kept.iter().find(|k| k.epoch == *epoch).map(|k| k.counts)
 }
 
 /// Drops the epochs above this one.
-pub fn keep_up_to(kept: &mut Vec<KeptCounts>, epoch: &i64)
+pub(crate) fn keep_up_to(kept: &mut Vec<KeptCounts>, epoch: &i64)
     ensures { kept.new.items ≡ filter (λ (k : AnyCounts). not (int_lt epoch.now k.epoch)) kept.old.items }
 {
     kept.retain(|k| !(*epoch < k.epoch));
 }
 
 /// Drops the epochs below this one.
-pub fn keep_from(kept: &mut Vec<KeptCounts>, epoch: &i64)
+pub(crate) fn keep_from(kept: &mut Vec<KeptCounts>, epoch: &i64)
     ensures { kept.new.items ≡ filter (λ (k : AnyCounts). not (int_lt k.epoch epoch.now)) kept.old.items }
 {
     kept.retain(|k| !(k.epoch < *epoch));

@@ -10,7 +10,7 @@ use kr_store::At;
 use kr_timeline::Timeline;
 
 /// The value of the key.
-pub fn find_at<'a, K: Ord + Drop, V: Drop>(
+pub(crate) fn find_at<'a, K: Ord + Drop, V: Drop>(
     timeline: &'a Timeline<K, V>,
     at: At,
     key: &K,
@@ -24,7 +24,7 @@ pub fn find_at<'a, K: Ord + Drop, V: Drop>(
 }
 
 /// The entry with the least key above the given one, or the first entry.
-pub fn next<'a, K: Ord + Drop, V: Drop>(
+pub(crate) fn next<'a, K: Ord + Drop, V: Drop>(
     timeline: &'a Timeline<K, V>,
     at: At,
     after: Option<&K>,

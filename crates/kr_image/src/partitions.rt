@@ -136,7 +136,7 @@ fn first_partition(
 }
 
 /// Takes out the topic's partitions, one by one.
-pub fn remove_partitions(
+pub(crate) fn remove_partitions(
     alloc: Global,
     partitions: &mut Timeline<(u128, i32), Partition>,
     count: &mut u32,

@@ -68,7 +68,7 @@ fn has_little_text(state: &Broker) -> bool
 }
 
 /// No limit of one registration is passed.
-pub fn is_small_registration(state: &Broker) -> bool
+pub(crate) fn is_small_registration(state: &Broker) -> bool
     ensures { result ≡ images.is_small_registration state.now }
 {
     state.endpoints.len() <= MOST_ENDPOINTS

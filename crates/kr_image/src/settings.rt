@@ -209,7 +209,7 @@ fn next_setting(
 }
 
 /// Takes out the settings of the topic with this name, one by one, with the bytes of their text.
-pub fn remove_settings(
+pub(crate) fn remove_settings(
     alloc: Global,
     configs: &mut Timeline<ConfigKey, Text>,
     bytes: &mut u32,

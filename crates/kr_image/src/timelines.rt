@@ -10,7 +10,7 @@ use std::alloc::{AllocError, Global};
 
 /// Why a record wasn't applied.
 #[derive(Clone, Copy, Debug, Drop, PartialEq, Eq)]
-pub enum ChangeFault {
+pub(crate) enum ChangeFault {
     IllFormed(Ill),
     NoMemory,
 }
@@ -37,7 +37,7 @@ impl From<AllocError> for ChangeFault {
 
 /// One timeline for each kind of entry, topics by name and by id, and the counts of the present maps.
 #[derive(Drop)]
-pub struct Timelines {
+pub(crate) struct Timelines {
     pub alloc: Global,
     pub brokers: Timeline<i32, Broker>,
     pub names: Timeline<Text, u128>,

@@ -18,7 +18,7 @@ const PIECES: [usize; 4] = [1, 7, 61, 1_000];
 
 /// Why a row has no answer.
 #[derive(Clone, Copy, Drop)]
-pub enum Unanswered {
+pub(crate) enum Unanswered {
     /// In pieces of so many bytes the answer is another one.
     Differs { most: usize },
     NoMemory,
@@ -31,7 +31,7 @@ impl From<AllocError> for Unanswered {
 }
 
 /// The offset and what is written for the image that the bytes stand for, or their first fault, in any pieces.
-pub fn image_answer(alloc: Global, bytes: &[u8]) -> Result<String, Unanswered>
+pub(crate) fn image_answer(alloc: Global, bytes: &[u8]) -> Result<String, Unanswered>
     ensures { IfOk result (λ text. TellsImage (string_bytes text) (image_of bytes.now)) }
 {
     let answer = answer_in(alloc, bytes, bytes.len())?;

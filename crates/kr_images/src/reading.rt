@@ -15,7 +15,11 @@ const HEAD: usize = 16;
 const START: usize = 12;
 
 /// What a reader answers that is fed the bytes in pieces of at most so many.
-pub fn read_in(alloc: Global, bytes: &[u8], most: usize) -> Result<(i64, ImageStore), ImageFault>
+pub(crate) fn read_in(
+    alloc: Global,
+    bytes: &[u8],
+    most: usize,
+) -> Result<(i64, ImageStore), ImageFault>
     ensures { Restores result (image_of bytes.now) }
 {
     let mut reader = Reader::new(alloc);
@@ -30,7 +34,7 @@ pub fn read_in(alloc: Global, bytes: &[u8], most: usize) -> Result<(i64, ImageSt
 
 /// The first byte of the batch that a reader refuses: 0 for the head, and the end where batches are missing. The reader
 /// is fed the head and then batch by batch.
-pub fn first_byte(alloc: Global, bytes: &[u8]) -> usize {
+pub(crate) fn first_byte(alloc: Global, bytes: &[u8]) -> usize {
     if bytes.len() < HEAD {
         return 0;
     }

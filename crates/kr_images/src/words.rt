@@ -11,7 +11,7 @@ use kr_snapshot::{BatchCause, ImageFault};
 use std::alloc::{AllocError, Global};
 
 /// The fault's number and name, its place (0 where it has none), the first byte of its batch, and what else it tells.
-pub fn fault_text(alloc: Global, fault: ImageFault, at: usize) -> Result<String, AllocError>
+pub(crate) fn fault_text(alloc: Global, fault: ImageFault, at: usize) -> Result<String, AllocError>
     ensures words { IfOk result (λ text. string_bytes text ≡ words.fault_words fault at) }
     ensures no_memory { fault ≡ faults.NoMemory → IsErr result }
 {

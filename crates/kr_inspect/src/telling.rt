@@ -6,7 +6,7 @@ ghost use Rattle.kr_inspect.specs.RecordNames.{name_of};
 use kr_defs::Record;
 
 /// Kafka's name of the record's kind.
-pub fn record_name(record: &Record) -> &'static str
+pub(crate) fn record_name(record: &Record) -> &'static str
     ensures { result.now ≡ name_of record.now }
 {
     match record {

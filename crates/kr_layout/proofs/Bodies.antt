@@ -4,7 +4,7 @@ use Rattle.std.specs.Prelude.{IfOk, drop, take}
 use Rattle.std.proofs.lemmas.List.{take-append-drop}
 use Rattle.std.proofs.Math.Nat.{mul-le-mul_right, min-le_right, div-mul-le_self}
 use Rattle.kr_wire.specs.Reading.{Read}
-use Rattle.kr_wire.proofs.Laws.{Law, IsBytes, IsBytes-behind, all_sound, all_complete}
+use Rattle.kr_wire.proofs.ReadingLaws.{Law, IsBytes, IsBytes-behind, all_sound, all_complete}
 use Rattle.kr_layout.specs.declared.fault.BodyFault.{BodyFault}
 use Rattle.kr_layout.specs.declared.fault.BodyFault.TheVariants as bodies
 use Rattle.kr_wire.specs.Schema.{Schema, Is, is_readable}

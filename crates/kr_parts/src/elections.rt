@@ -26,7 +26,7 @@ use std::alloc::Global;
 
 /// The rule for elections of one kind: 0 the preferred leaders, 1 any replica where there is no leader.
 #[derive(Drop)]
-pub struct ElectionRule<'a> {
+pub(crate) struct ElectionRule<'a> {
     options: &'a Options,
     kind: i8,
 }
@@ -194,7 +194,7 @@ fn is_preferred_kind(kind: &i8) -> bool
 }
 
 /// There are elections of this kind.
-pub fn is_kind(kind: &i8) -> bool
+pub(crate) fn is_kind(kind: &i8) -> bool
     ensures { result ≡ electing.is_kind kind.now }
 {
     is_preferred_kind(kind) || *kind == 1

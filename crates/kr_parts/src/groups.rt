@@ -12,7 +12,7 @@ use kr_store::{At, Store};
 use std::alloc::Global;
 
 /// The name of a topic, and indexes of its partitions.
-pub type Group = (Text, Ids);
+pub(crate) type Group = (Text, Ids);
 
 fn group_of(alloc: Global, topic: &ElectLeadersTopic) -> Result<Group, NoMemory>
     ensures { IfOk result (λ group. group ≡ (topic.now.topic, topic.now.partitions)) }
@@ -93,7 +93,7 @@ fn all_groups<S: Store>(alloc: Global, store: &S) -> Result<Rows<Group>, NoMemor
 }
 
 /// The partitions that are asked for, all of them at null.
-pub fn groups_of<S: Store>(
+pub(crate) fn groups_of<S: Store>(
     alloc: Global,
     store: &S,
     topics: &Option<ElectLeadersTopics>,

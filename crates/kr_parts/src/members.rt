@@ -20,14 +20,14 @@ fn ids_of(alloc: Global, states: &[BrokerState]) -> Result<Ids, NoMemory>
 }
 
 /// The members that are reported.
-pub fn members(alloc: Global, report: &PartitionReport) -> Result<Ids, NoMemory>
+pub(crate) fn members(alloc: Global, report: &PartitionReport) -> Result<Ids, NoMemory>
     ensures { IfOk result (λ ids. ids ≡ reporting.members report.now) }
 {
     ids_of(alloc, report.in_sync.as_slice())
 }
 
 /// They aren't some of the replicas, each once, with the leader.
-pub fn are_bad_members(partition: &Partition, members: &Ids) -> bool
+pub(crate) fn are_bad_members(partition: &Partition, members: &Ids) -> bool
     ensures { result ≡ reporting.are_bad_members partition.now members.now }
 {
     members.is_empty()

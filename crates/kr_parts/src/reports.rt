@@ -29,7 +29,7 @@ const NEW_LEADER: i16 = 108;
 
 /// The rule for the reports of one broker.
 #[derive(Drop)]
-pub struct ReportRule<'a> {
+pub(crate) struct ReportRule<'a> {
     options: &'a Options,
     broker: i32,
 }

@@ -59,7 +59,7 @@ fn needed_ones(
 
 /// The answers that are shown: where all partitions were asked for, those that needed no election aren't, nor are
 /// topics with nothing to show.
-pub fn show(
+pub(crate) fn show(
     alloc: Global,
     asked: &Option<ElectLeadersTopics>,
     results: ReplicaElectionResults,

@@ -79,7 +79,7 @@ fn rows(alloc: Global, mut racks: Groups) -> Result<Vec<Ids>, NoMemory>
 
 /// The racks in order, as the ids of their brokers in order.
 #[tactic(auto, unfolding(kr_defs::specs::Placed::racks_of))]
-pub fn racks_of(alloc: Global, brokers: &[(i32, Option<Text>)]) -> Result<Vec<Ids>, NoMemory>
+pub(crate) fn racks_of(alloc: Global, brokers: &[(i32, Option<Text>)]) -> Result<Vec<Ids>, NoMemory>
     ensures { IfOk result (λ racks. racks.items ≡ racks_of brokers.now) }
 {
     let sorted = sort_by_id(alloc, brokers)?;
@@ -130,7 +130,7 @@ fn take_visit(chosen: &mut Ids, racks: &[Ids], start: u128, k: u128) -> Result<(
 
 /// The first `factor` brokers of the visits.
 #[tactic(auto, using(crate::proofs::Walks::walks))]
-pub fn walk(
+pub(crate) fn walk(
     alloc: Global,
     racks: &[Ids],
     start: u128,

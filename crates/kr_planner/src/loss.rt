@@ -11,7 +11,7 @@ use std::alloc::{AllocError, Global};
 
 /// The partition once these brokers alone are active: the others aren't in sync any more and lead nothing. No replica
 /// leads that isn't in sync or eligible.
-pub fn with_brokers(
+pub(crate) fn with_brokers(
     alloc: Global,
     partition: &Partition,
     active: Ids,

@@ -13,7 +13,7 @@ const RACKS: [(i32, &str); 4] = [(1, "a"), (2, "a"), (3, "b"), (4, "b")];
 const FACTOR: i16 = 2;
 
 /// Prints the brokers of each of four partitions.
-pub fn print_topic<R: Print + AllocGlobal>(rt: &R) -> anyhow::Result<()> {
+pub(crate) fn print_topic<R: Print + AllocGlobal>(rt: &R) -> anyhow::Result<()> {
     let brokers = brokers_in_racks(rt.alloc())?;
     for index in 0..4_u8 {
         print_replicas(rt, &brokers, index)?;

@@ -5,7 +5,7 @@ use crate::passes::View;
 use crossbeam_queue::protocol::{Lesson, Outcome, Protocol, Split};
 
 // For each pass, what it pushed is its jobs among those that were popped, and then those that the queue holds.
-pub struct QueueRule;
+pub(crate) struct QueueRule;
 
 impl Protocol<Job, View> for QueueRule {
     ghost use Rattle.kr_queue.specs.QueueRule.{IsKept, the_first};
@@ -16,7 +16,7 @@ impl Protocol<Job, View> for QueueRule {
 }
 
 // The worker's pass gives a pass of the next role.
-pub struct NextRole;
+pub(crate) struct NextRole;
 
 impl Split<View> for NextRole {
     ghost use Rattle.kr_queue.specs.QueueRule.{after_next, next};
@@ -26,7 +26,7 @@ impl Split<View> for NextRole {
     ghost right = { next };
 }
 
-pub struct Pushed;
+pub(crate) struct Pushed;
 
 impl Outcome<Job, View> for Pushed {
     ghost use Rattle.kr_queue.specs.Steps.{IsPush};
@@ -34,7 +34,7 @@ impl Outcome<Job, View> for Pushed {
     ghost then = { IsPush };
 }
 
-pub struct Popped;
+pub(crate) struct Popped;
 
 impl Outcome<Job, View> for Popped {
     ghost use Rattle.kr_queue.specs.Steps.{IsPop};

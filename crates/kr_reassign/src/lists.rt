@@ -10,14 +10,18 @@ use kr_gather::without;
 use std::alloc::Global;
 
 /// The replicas before the reassignment that runs.
-pub fn original(alloc: Global, partition: &Partition) -> Result<Ids, NoMemory>
+pub(crate) fn original(alloc: Global, partition: &Partition) -> Result<Ids, NoMemory>
     ensures { IfOk result (λ ids. ids ≡ formed.original partition.now) }
 {
     without(alloc, &partition.replicas, &partition.adding)
 }
 
 /// The target, then the members of the original that it hasn't.
-pub fn reassigned_replicas(alloc: Global, target: &Ids, original: &Ids) -> Result<Ids, NoMemory>
+pub(crate) fn reassigned_replicas(
+    alloc: Global,
+    target: &Ids,
+    original: &Ids,
+) -> Result<Ids, NoMemory>
     ensures { IfOk result (λ ids. ids ≡ reassign.reassigned target.now original.now) }
 {
     let mut replicas = target.copied(alloc)?.into_vec();
@@ -27,7 +31,7 @@ pub fn reassigned_replicas(alloc: Global, target: &Ids, original: &Ids) -> Resul
 }
 
 /// A reassignment runs.
-pub fn is_moving(partition: &Partition) -> bool
+pub(crate) fn is_moving(partition: &Partition) -> bool
     ensures { result ≡ formed.is_moving partition.now }
 {
     !partition.adding.is_empty() || !partition.removing.is_empty()

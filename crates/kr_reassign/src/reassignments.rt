@@ -24,7 +24,7 @@ use std::alloc::Global;
 
 /// The rule for reassignments.
 #[derive(Drop)]
-pub struct ReassignmentRule<'a> {
+pub(crate) struct ReassignmentRule<'a> {
     pub options: &'a Options,
 }
 

@@ -5,7 +5,7 @@ use Rattle.std.specs.Option.{unwrap_or}
 use Rattle.std.specs.Int.{Width, w8, w32}
 use Rattle.kr_wire.specs.Reading.{id_at, list_or_null_at, signed_at}
 use Rattle.kr_wire.specs.Grammar.{IsTags, IsId, IsListOrNull, IsSigned}
-use Rattle.kr_wire.proofs.Laws.{Law}
+use Rattle.kr_wire.proofs.ReadingLaws.{Law}
 use Rattle.kr_wire.proofs.Numbers.{signed_law}
 use Rattle.kr_wire.proofs.Tables.{IsPart, part_of, same_part, Fields, NoField, Field, Are, fields_law, absent_as}
 use Rattle.kr_defs.specs.declared.partition.PartitionChange.{PartitionChange}

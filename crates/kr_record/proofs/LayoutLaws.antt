@@ -2,7 +2,7 @@
 use Rattle.std.proofs.Common.{ℕ, refl}
 use Rattle.std.specs.Prelude.{nat_le, false}
 use Rattle.std.specs.Int.{w8, w16, w32, w64}
-use Rattle.kr_wire.proofs.Laws.{Law, ◌before◌, structure_law}
+use Rattle.kr_wire.proofs.ReadingLaws.{Law, ◌before◌, structure_law}
 use Rattle.kr_wire.proofs.Numbers.{number_law, signed_law, bool_law, id_law, text_law, text_or_null_law}
 use Rattle.kr_wire.proofs.Lists.{list_law}
 use Rattle.kr_wire.proofs.Tags.{no_tags_law}

@@ -2,7 +2,7 @@ pub mod Elements
 pub mod FieldSteps
 pub mod KindSpelling
 pub mod KnownFields
-pub mod Laws
+pub mod RecordLaws
 pub mod LayoutLaws
 pub mod Lengths
 pub mod PartSpelling

@@ -5,7 +5,7 @@ use Rattle.std.specs.Int.{w32}
 use Rattle.kr_wire.specs.Reading.{Read, id_at, list_at, list_or_null_at}
 use Rattle.kr_wire.specs.Grammar.{◌⌢◌, IsSigned, IsText, IsId, IsList, IsListOrNull}
 use Rattle.kr_wire.specs.Schema.{Text}
-use Rattle.kr_wire.proofs.Laws.{Law, sound_last, sound_done, complete_last}
+use Rattle.kr_wire.proofs.ReadingLaws.{Law, sound_last, sound_done, complete_last}
 use Rattle.kr_wire.proofs.Numbers.{signed_law, id_law}
 use Rattle.kr_wire.proofs.Lists.{list_law, list_or_null_law}
 use Rattle.kr_wire.proofs.Lengths.{both_lengths}

@@ -11,7 +11,7 @@ use Rattle.kr_record.specs.Grammar.{IsLayout, IsRecord}
 use Rattle.kr_record.specs.RecordRanges.{IsHeld}
 use Rattle.kr_record.specs.Reading.{record_of}
 use Rattle.kr_record.specs.Spelling.{framed, record_value}
-use Rattle.kr_record.proofs.Laws.{of_complete}
+use Rattle.kr_record.proofs.RecordLaws.{of_complete}
 use Rattle.kr_record.proofs.KindSpelling.{end, registration_spells, broker_epoch_spells, topic_spells, topic_id_spells, partition_spells, config_spells, change_spells, feature_spells, registration_change_spells}
 
 framed_spells : (r : Record) (key version : ℕ) {Is : List ℕ → Type 0} {layout : List ℕ} {n : ℕ} {P Q : Type 0} → key < 128 → version < 128 → ((bytes : List ℕ) → Is bytes → IsLayout key version r bytes)

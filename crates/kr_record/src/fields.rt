@@ -109,7 +109,7 @@ fn put_i8_data(out: &mut Vec<u8>, tag: u32, number: &i8) -> Result<(), AllocErro
 
 /// The tagged fields of a partition.
 #[tactic(auto, using(crate::proofs::RecordWriting::partition_tags_written), unfolding(crate::specs::Spelling::partition_tags))]
-pub fn put_extras(out: &mut Vec<u8>, state: &Partition) -> Result<(), AllocError>
+pub(crate) fn put_extras(out: &mut Vec<u8>, state: &Partition) -> Result<(), AllocError>
     requires { IsShortPartition state.now }
     ensures { OnOk result (out.new.items ≡ out.old.items ++ partition_tags state.now) }
 {
@@ -127,7 +127,7 @@ pub fn put_extras(out: &mut Vec<u8>, state: &Partition) -> Result<(), AllocError
 
 /// The tagged fields of a change of a broker's registration.
 #[tactic(auto, using(crate::proofs::RecordWriting::flag_tags_written), unfolding(crate::specs::Spelling::flag_tags))]
-pub fn put_flags(out: &mut Vec<u8>, fenced: &i8, stopping: &i8) -> Result<(), AllocError>
+pub(crate) fn put_flags(out: &mut Vec<u8>, fenced: &i8, stopping: &i8) -> Result<(), AllocError>
     ensures { OnOk result (out.new.items ≡ out.old.items ++ flag_tags fenced.now stopping.now) }
 {
     let fenced = unless_zero(fenced);
@@ -138,7 +138,10 @@ pub fn put_flags(out: &mut Vec<u8>, fenced: &i8, stopping: &i8) -> Result<(), Al
 }
 
 /// The tagged fields of a partition's change.
-pub fn put_change_fields(out: &mut Vec<u8>, change: &PartitionChange) -> Result<(), AllocError>
+pub(crate) fn put_change_fields(
+    out: &mut Vec<u8>,
+    change: &PartitionChange,
+) -> Result<(), AllocError>
     requires { IsSpelledChange change.now }
     ensures { OnOk result (out.new.items ≡ out.old.items ++ change_tags change.now) }
 {

@@ -14,7 +14,7 @@ use kr_wire::{
 use std::alloc::AllocError;
 
 /// An element of a list that is written.
-pub trait Spelled {
+pub(crate) trait Spelled {
     ghost spelling: { Self → List ℕ };
 
     ghost is_short: { Self → Type 0 };
@@ -94,7 +94,7 @@ impl Spelled for Range {
 }
 
 /// A list with its count in front.
-pub fn put_list<T: Spelled>(out: &mut Vec<u8>, list: &Rows<T>) -> Result<(), AllocError>
+pub(crate) fn put_list<T: Spelled>(out: &mut Vec<u8>, list: &Rows<T>) -> Result<(), AllocError>
     requires short { IsShort list.now }
     requires each { All T.is_short list.now }
     ensures { OnOk result (out.new.items ≡ out.old.items ++ Spelling.list T.spelling list.now) }
@@ -108,7 +108,7 @@ pub fn put_list<T: Spelled>(out: &mut Vec<u8>, list: &Rows<T>) -> Result<(), All
 }
 
 /// One all-zero id per replica.
-pub fn put_directories(out: &mut Vec<u8>, replicas: &Ids) -> Result<(), AllocError>
+pub(crate) fn put_directories(out: &mut Vec<u8>, replicas: &Ids) -> Result<(), AllocError>
     requires { IsShort replicas.now }
     ensures { OnOk result (out.new.items ≡ out.old.items ++ Spelling.list id (no_directories replicas.now)) }
 {
@@ -122,14 +122,14 @@ pub fn put_directories(out: &mut Vec<u8>, replicas: &Ids) -> Result<(), AllocErr
 
 /// No tagged fields.
 #[tactic(auto, unfolding(crate::specs::Spelling::no_tags))]
-pub fn put_no_tags(out: &mut Vec<u8>) -> Result<(), AllocError>
+pub(crate) fn put_no_tags(out: &mut Vec<u8>) -> Result<(), AllocError>
     ensures { OnOk result (out.new.items ≡ out.old.items ++ no_tags) }
 {
     put_uvarint(out, 0)
 }
 
 /// A text, or null.
-pub fn put_optional_text(out: &mut Vec<u8>, value: &Option<Text>) -> Result<(), AllocError>
+pub(crate) fn put_optional_text(out: &mut Vec<u8>, value: &Option<Text>) -> Result<(), AllocError>
     requires { IfSome value.now IsShort }
     ensures { OnOk result (out.new.items ≡ out.old.items ++ text_or_null value.now) }
 {

@@ -11,7 +11,7 @@ use kr_wire::{read_count, read_count_or_null, read_i32, read_id};
 use std::alloc::Global;
 
 /// A type whose values are read from bytes.
-pub trait Layout: Drop {
+pub(crate) trait Layout: Drop {
     ghost layout: { List ℕ → Read Self };
 
     fn read(alloc: Global, bytes: &[u8], at: usize) -> Result<(Self, usize), RecordFault>
@@ -51,7 +51,7 @@ impl Layout for u128 {
 
 /// A list with its count in front.
 #[tactic(auto, unfolding(kr_wire::specs::Reading::list_at))]
-pub fn read_list<T: Layout>(
+pub(crate) fn read_list<T: Layout>(
     alloc: Global,
     bytes: &[u8],
     at: usize,
@@ -85,7 +85,7 @@ fn read_elements<T: Layout>(
 
 /// A list with its count in front, or null.
 #[tactic(auto, unfolding(kr_wire::specs::Reading::list_or_null_at))]
-pub fn read_list_or_null<T: Layout>(
+pub(crate) fn read_list_or_null<T: Layout>(
     alloc: Global,
     bytes: &[u8],
     at: usize,

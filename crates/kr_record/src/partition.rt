@@ -17,7 +17,7 @@ use std::alloc::Global;
 
 /// The fields of a partition that are tagged.
 #[derive(Drop)]
-pub struct Extras {
+pub(crate) struct Extras {
     pub recovery: i8,
     pub eligible: Ids,
     pub last_known: Ids,
@@ -141,7 +141,7 @@ fn read_led(
 /// The index of a partition, its topic, and its state, as a record.
 #[tactic(auto, unfolding(crate::specs::Reading::partition_at))]
 #[inline(never)]
-pub fn read_partition(
+pub(crate) fn read_partition(
     alloc: Global,
     bytes: &[u8],
     at: usize,

@@ -112,7 +112,7 @@ fn record(alloc: Global, value: &[u8]) -> Result<Record, RecordFault>
 
 /// The record that all of the bytes stand for, or the first fault, in the order of reading: the frame
 /// version is judged before the key is read, the key when the version is read, bytes left over last.
-#[tactic(auto, using(crate::proofs::Laws::decoded))]
+#[tactic(auto, using(crate::proofs::RecordLaws::decoded))]
 pub fn decode(alloc: Global, value: &[u8]) -> Result<Record, RecordFault>
     // What is decoded is what the bytes stand for.
     ensures found { IfOk result (λ r. IsRecord r value.now) }

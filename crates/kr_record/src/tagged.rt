@@ -9,7 +9,7 @@ use kr_wire::{read_tag, read_uvarint};
 use std::alloc::Global;
 
 /// A value that is read from tagged fields, one after the other.
-pub trait Tagged: Drop {
+pub(crate) trait Tagged: Drop {
     ghost known: { ℕ → Known Self };
 
     /// Sets what the field with this tag and these data says. After a fault nothing is said of the value.
@@ -24,7 +24,7 @@ pub trait Tagged: Drop {
 }
 
 #[tactic(auto, unfolding(kr_wire::specs::Reading::tags_at))]
-pub fn read_tags<T: Tagged>(
+pub(crate) fn read_tags<T: Tagged>(
     alloc: Global,
     version: u32,
     bytes: &[u8],

@@ -9,7 +9,11 @@ use crate::fault::RecordFault;
 use kr_defs::Text;
 use std::alloc::{AllocError, Global};
 
-pub fn read_text(alloc: Global, bytes: &[u8], at: usize) -> Result<(Text, usize), RecordFault>
+pub(crate) fn read_text(
+    alloc: Global,
+    bytes: &[u8],
+    at: usize,
+) -> Result<(Text, usize), RecordFault>
     requires { at ≤ length bytes.now }
     ensures { ReadsField (λ t. t) result bytes.now (text_at (drop at bytes.now)) }
 {
@@ -19,7 +23,7 @@ pub fn read_text(alloc: Global, bytes: &[u8], at: usize) -> Result<(Text, usize)
 }
 
 /// A copy of the text, or none.
-pub fn text_of(alloc: Global, text: Option<&str>) -> Result<Option<Text>, AllocError>
+pub(crate) fn text_of(alloc: Global, text: Option<&str>) -> Result<Option<Text>, AllocError>
     ensures { IfOk result (λ t. t ≡ option_map (λ s. s.now) text.entry) }
 {
     match text {

@@ -13,7 +13,11 @@ use std::alloc::Global;
 /// The name and the id of a topic, as a record.
 #[tactic(auto, unfolding(crate::specs::Reading::topic_at))]
 #[inline(never)]
-pub fn read_topic(alloc: Global, bytes: &[u8], at: usize) -> Result<(Record, usize), RecordFault>
+pub(crate) fn read_topic(
+    alloc: Global,
+    bytes: &[u8],
+    at: usize,
+) -> Result<(Record, usize), RecordFault>
     requires { at ≤ length bytes.now }
     ensures { ReadsKind result bytes.now (λ t. kinds.Topic t.0 t.1) (topic_at (drop at bytes.now)) }
 {
@@ -26,7 +30,7 @@ pub fn read_topic(alloc: Global, bytes: &[u8], at: usize) -> Result<(Record, usi
 /// The id of a topic that is removed, as a record.
 #[tactic(auto, unfolding(crate::specs::Reading::topic_id_at))]
 #[inline(never)]
-pub fn read_removal(bytes: &[u8], at: usize) -> Result<(Record, usize), RecordFault>
+pub(crate) fn read_removal(bytes: &[u8], at: usize) -> Result<(Record, usize), RecordFault>
     requires { at ≤ length bytes.now }
     ensures { ReadsKind result bytes.now (λ t. kinds.RemoveTopic t) (topic_id_at (drop at bytes.now)) }
 {
@@ -38,7 +42,11 @@ pub fn read_removal(bytes: &[u8], at: usize) -> Result<(Record, usize), RecordFa
 /// The kind and the name of a resource, a key, and its value, as a record.
 #[tactic(auto, unfolding(crate::specs::Reading::config_at))]
 #[inline(never)]
-pub fn read_config(alloc: Global, bytes: &[u8], at: usize) -> Result<(Record, usize), RecordFault>
+pub(crate) fn read_config(
+    alloc: Global,
+    bytes: &[u8],
+    at: usize,
+) -> Result<(Record, usize), RecordFault>
     requires { at ≤ length bytes.now }
     ensures { ReadsKind result bytes.now (λ t. kinds.Config t.0 t.1 t.2 t.3) (config_at (drop at bytes.now)) }
 {
@@ -62,7 +70,11 @@ pub fn read_config(alloc: Global, bytes: &[u8], at: usize) -> Result<(Record, us
 /// The name and the level of a feature, as a record.
 #[tactic(auto, unfolding(crate::specs::Reading::feature_at))]
 #[inline(never)]
-pub fn read_feature(alloc: Global, bytes: &[u8], at: usize) -> Result<(Record, usize), RecordFault>
+pub(crate) fn read_feature(
+    alloc: Global,
+    bytes: &[u8],
+    at: usize,
+) -> Result<(Record, usize), RecordFault>
     requires { at ≤ length bytes.now }
     ensures { ReadsKind result bytes.now (λ t. kinds.FeatureLevel t.0 t.1) (feature_at (drop at bytes.now)) }
 {

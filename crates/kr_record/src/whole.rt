@@ -13,7 +13,7 @@ use kr_wire::{WireFault, read_i8, read_i32};
 use std::alloc::Global;
 
 /// Ids, or null.
-pub fn whole_ids(alloc: Global, bytes: &[u8]) -> Result<Option<Ids>, RecordFault>
+pub(crate) fn whole_ids(alloc: Global, bytes: &[u8]) -> Result<Option<Ids>, RecordFault>
     ensures { GivesWire result (whole_field (ids_or_null_at bytes.now)) }
 {
     match read_list_or_null(alloc, bytes, 0) {
@@ -29,7 +29,7 @@ pub fn whole_ids(alloc: Global, bytes: &[u8]) -> Result<Option<Ids>, RecordFault
 }
 
 /// Directories, which are dropped.
-pub fn whole_directories(alloc: Global, bytes: &[u8]) -> Result<(), RecordFault>
+pub(crate) fn whole_directories(alloc: Global, bytes: &[u8]) -> Result<(), RecordFault>
     ensures { GivesWire result (whole_field (dropped_at (list_or_null_at id_at) bytes.now)) }
 {
     match read_directories_or_null(alloc, bytes) {
@@ -45,7 +45,7 @@ pub fn whole_directories(alloc: Global, bytes: &[u8]) -> Result<(), RecordFault>
 }
 
 /// A number of 32 bits.
-pub fn whole_i32(bytes: &[u8]) -> Result<i32, RecordFault>
+pub(crate) fn whole_i32(bytes: &[u8]) -> Result<i32, RecordFault>
     ensures { GivesWire result (whole_field (signed_at w32 bytes.now)) }
 {
     match read_i32(bytes, 0) {
@@ -61,7 +61,7 @@ pub fn whole_i32(bytes: &[u8]) -> Result<i32, RecordFault>
 }
 
 /// A number of 8 bits.
-pub fn whole_i8(bytes: &[u8]) -> Result<i8, RecordFault>
+pub(crate) fn whole_i8(bytes: &[u8]) -> Result<i8, RecordFault>
     ensures { GivesWire result (whole_field (signed_at w8 bytes.now)) }
 {
     match read_i8(bytes, 0) {

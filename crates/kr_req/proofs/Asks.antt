@@ -10,7 +10,7 @@ use Rattle.kr_base.specs.declared.answers.NoMemory.{NoMemory}
 use Rattle.kr_wire.specs.declared.WireFault.{WireFault}
 use Rattle.kr_wire.specs.Reading.{Read, signed_at}
 use Rattle.kr_wire.specs.Laws.{Front}
-use Rattle.kr_wire.proofs.Laws.{IsBytes, IsBytes-behind, joined, ok_value, ok_rest, nothing}
+use Rattle.kr_wire.proofs.ReadingLaws.{IsBytes, IsBytes-behind, joined, ok_value, ok_rest, nothing}
 use Rattle.kr_layout.specs.declared.fault.BodyFault.TheVariants as bodies
 use Rattle.kr_calls.specs.declared.calls.Ask.{Ask}
 use Rattle.kr_calls.specs.declared.calls.Ask.TheVariants as asks

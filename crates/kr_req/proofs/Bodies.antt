@@ -2,7 +2,7 @@
 use Rattle.std.proofs.Common.{◌≡◌, ℕ, Bool, true, false, cond, ltb, List, ◌++◌, length, Result, Ok, Err, refl, subst}
 use Rattle.kr_wire.specs.Reading.{◌>>=◌, Read, refuse◌when◌else◌}
 use Rattle.kr_wire.specs.Schema.{Schema, value_at}
-use Rattle.kr_wire.proofs.Laws.{IsBytes, Yields, Law, joined, sound_then, sound_last, sound_as, complete_then, complete_last}
+use Rattle.kr_wire.proofs.ReadingLaws.{IsBytes, Yields, Law, joined, sound_then, sound_last, sound_as, complete_then, complete_last}
 use Rattle.kr_wire.proofs.Schemas.{law}
 use Rattle.kr_layout.specs.declared.fault.BodyFault.{BodyFault}
 use Rattle.kr_layout.specs.declared.fault.BodyFault.TheVariants as bodies

@@ -8,7 +8,7 @@ use Rattle.std.proofs.lemmas.Bool.{le-ltb}
 use Rattle.std.proofs.lemmas.Bool.Decides.{Decides-int_eq}
 use Rattle.kr_wire.specs.declared.WireFault.TheVariants.{BadNull}
 use Rattle.kr_wire.specs.Grammar.{◌⌢◌, Exactly, IsSigned, NoTags}
-use Rattle.kr_wire.proofs.Laws.{IsBytes, Yields, Law, joined, sound_then, sound_last, sound_guard, sound_if, sound_as, sound_done, complete_then, complete_last, complete_guard, complete_bind, complete_if_not}
+use Rattle.kr_wire.proofs.ReadingLaws.{IsBytes, Yields, Law, joined, sound_then, sound_last, sound_guard, sound_if, sound_as, sound_done, complete_then, complete_last, complete_guard, complete_bind, complete_if_not}
 use Rattle.kr_wire.proofs.Numbers.{signed_law, utf8_law, IsUtf8Piece}
 use Rattle.kr_wire.proofs.Tags.{no_tags_law}
 use Rattle.kr_req.specs.Messages.{IsSizedText, IsClientId, IsClient, IsStart}

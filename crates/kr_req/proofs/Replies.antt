@@ -4,7 +4,7 @@ use Rattle.std.specs.Prelude.{FitsSigned}
 use Rattle.std.specs.Int.{w32}
 use Rattle.kr_wire.specs.Schema.{Int32, End}
 use Rattle.kr_wire.specs.Spelling.{signed, tags}
-use Rattle.kr_wire.proofs.Laws.{joined}
+use Rattle.kr_wire.proofs.ReadingLaws.{joined}
 use Rattle.kr_wire.proofs.Schemas.{stands}
 use Rattle.kr_layout.specs.Answers.{Adds}
 use Rattle.kr_calls.specs.declared.calls.Reply.{Reply}

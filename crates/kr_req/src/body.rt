@@ -24,7 +24,7 @@ use std::alloc::Global;
 
 /// The request of this key that all of the bytes from a place on stand for, or the first fault.
 #[tactic(auto, unfolding(crate::specs::Reading::body_of))]
-pub fn read_body(
+pub(crate) fn read_body(
     alloc: Global,
     api: ApiKey,
     message: &[u8],
@@ -60,7 +60,7 @@ pub fn read_body(
 }
 
 /// Appends the reply's body. Without memory nothing changes.
-pub fn put_body(reply: &Reply, out: &mut Vec<u8>) -> Result<(), NoMemory>
+pub(crate) fn put_body(reply: &Reply, out: &mut Vec<u8>) -> Result<(), NoMemory>
     ensures ok { OnOk result (AddsBody reply.now out.old.items out.new.items) }
     ensures err { OnErr result (out.new.items ≡ out.old.items) }
 {

@@ -8,14 +8,14 @@ use kr_wire::{WireFault, read_i16, read_i32, read_utf8, skip_tags};
 
 // What every message begins with.
 #[derive(Clone, Copy, Debug, Drop, PartialEq, Eq)]
-pub struct Start {
+pub(crate) struct Start {
     pub key: i16,
     pub version: i16,
     pub correlation: i32,
 }
 
 #[tactic(auto, unfolding(crate::specs::Reading::head_at))]
-pub fn read_start(message: &[u8], at: usize) -> Result<(Start, usize), WireFault>
+pub(crate) fn read_start(message: &[u8], at: usize) -> Result<(Start, usize), WireFault>
     requires { at ≤ length message.now }
     ensures { Reads (λ s. (s.key, s.version, s.correlation)) result message.now (head_at (drop at message.now)) }
 {
@@ -56,7 +56,7 @@ fn read_client_id(message: &[u8], at: usize) -> Result<usize, WireFault>
 
 /// The place behind the client id and the header's tagged fields.
 #[tactic(auto, unfolding(crate::specs::Reading::client_at))]
-pub fn read_client(message: &[u8], at: usize) -> Result<usize, WireFault>
+pub(crate) fn read_client(message: &[u8], at: usize) -> Result<usize, WireFault>
     requires { at ≤ length message.now }
     ensures { Passes result message.now (client_at (drop at message.now)) }
 {

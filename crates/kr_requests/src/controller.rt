@@ -13,7 +13,7 @@ use std::sync::ledger::Ledger;
 
 /// The controller's options and state.
 #[derive(Drop)]
-pub struct Controller {
+pub(crate) struct Controller {
     options: Options,
     image: LeaderImage,
     sessions: Sessions,

@@ -8,7 +8,7 @@ use std::alloc::{AllocError, Global};
 
 /// The expected message of a reply, in hex, and the records.
 #[derive(Drop)]
-pub struct Expected<'a> {
+pub(crate) struct Expected<'a> {
     pub reply: &'a str,
     pub records: Records,
 }
@@ -24,7 +24,7 @@ pub(crate) fn expected_of(alloc: Global, words: &str) -> Result<Expected<'_>, Ro
 
 /// A broker whose session is over, and the expected records.
 #[derive(Drop)]
-pub struct Fenced {
+pub(crate) struct Fenced {
     pub broker: i32,
     pub records: Records,
 }

@@ -20,7 +20,7 @@ use std::sync::ledger::Ledger;
 
 /// An image, and the place of the next record, under which alone it is kept.
 #[derive(Drop)]
-pub struct LeaderImage {
+pub(crate) struct LeaderImage {
     store: ImageStore,
     place: i64,
 }

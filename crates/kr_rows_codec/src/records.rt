@@ -12,7 +12,7 @@ use kr_record::RecordFault;
 use kr_wire::WireFault;
 use std::alloc::{AllocError, Global};
 
-pub const TOO_LONG: &str = "too long to be written";
+pub(crate) const TOO_LONG: &str = "too long to be written";
 
 /// The record that the bytes stand for, by what is written for it, or their first fault.
 pub fn record_answer(alloc: Global, bytes: &[u8]) -> Result<String, AllocError>
@@ -41,7 +41,7 @@ fn written_record(alloc: Global, value: &Record, len: usize) -> Result<String, A
     format!(in alloc; "ok {digits}")
 }
 
-pub fn wire_words(kind: WireFault) -> &'static str
+pub(crate) fn wire_words(kind: WireFault) -> &'static str
     ensures { result.now ≡ Words.wire_words kind }
 {
     match kind {
@@ -54,7 +54,7 @@ pub fn wire_words(kind: WireFault) -> &'static str
     }
 }
 
-pub fn record_fault(alloc: Global, fault: RecordFault) -> Result<String, AllocError>
+pub(crate) fn record_fault(alloc: Global, fault: RecordFault) -> Result<String, AllocError>
     ensures words { IfOk result (λ text. string_bytes text ≡ record_fault_words fault) }
     ensures no_memory { fault ≡ RecordFault.NoMemory → IsErr result }
 {

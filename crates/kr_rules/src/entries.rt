@@ -38,7 +38,7 @@ fn answer_to<E, A: Drop, R: Rule<E, A>>(
 }
 
 /// An entry is done by its rule: its records are taken, all or none. A refused one costs no more than its own records.
-pub fn one<E, A: Drop, R: Rule<E, A>, S: Store, L: Ledger>(
+pub(crate) fn one<E, A: Drop, R: Rule<E, A>, S: Store, L: Ledger>(
     alloc: Global,
     store: &mut S,
     work: &mut Work,

@@ -197,7 +197,11 @@ impl Filling {
 
 /// The present image has room for the records, as far as it is told of plain ones: for their topics, partitions and
 /// settings, one after the other.
-pub fn has_room<S: Store>(alloc: Global, store: &S, records: &[Record]) -> Result<bool, NoMemory>
+pub(crate) fn has_room<S: Store>(
+    alloc: Global,
+    store: &S,
+    records: &[Record],
+) -> Result<bool, NoMemory>
     ensures { IfOk result (λ fits. TellsRoom records.now (apply_records (S.images store.now).tip records.now) fits) }
 {
     if !are_plain(records) {

@@ -2,7 +2,7 @@
 use Rattle.std.proofs.Common.{◌≡◌, ℕ, ◌+◌, ◌⊎◌, inl, inr, false, true, List, [], ◌∷◌, ◌++◌, length, append_assoc, append-nil, length-append, refl, sym, ap, ◌∙◌, arith}
 use Rattle.kr_wire.specs.Grammar.{Each}
 use Rattle.kr_wire.specs.Laws.{IsBytes}
-use Rattle.kr_wire.proofs.Laws.{IsBytes-before, IsBytes-behind}
+use Rattle.kr_wire.proofs.ReadingLaws.{IsBytes-before, IsBytes-behind}
 use Rattle.kr_calls.specs.declared.events.Event.{Event}
 use Rattle.kr_calls.specs.declared.events.Event.TheVariants as events
 use Rattle.kr_defs.specs.declared.options.Options.{Options}

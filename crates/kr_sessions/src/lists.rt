@@ -14,7 +14,11 @@ use std::alloc::Global;
 use std::sync::ledger::Ledger;
 
 // The brokers as contacts that were heard of now.
-pub fn contacts_of(alloc: Global, brokers: &[i32], now: &i64) -> Result<Vec<Contact>, NoMemory>
+pub(crate) fn contacts_of(
+    alloc: Global,
+    brokers: &[i32],
+    now: &i64,
+) -> Result<Vec<Contact>, NoMemory>
     ensures { IfOk result (λ contacts. contacts.items ≡ map (new_contact now.now) brokers.now) }
 {
     let mut contacts = Vec::with_capacity(alloc, brokers.len())?;
@@ -35,7 +39,11 @@ fn new_contact(broker: &i32, now: &i64) -> Contact
 }
 
 // The brokers as stopping ones that began at the tip.
-pub fn stopping_of(alloc: Global, brokers: &[i32], tip: &i64) -> Result<Vec<Stopping>, NoMemory>
+pub(crate) fn stopping_of(
+    alloc: Global,
+    brokers: &[i32],
+    tip: &i64,
+) -> Result<Vec<Stopping>, NoMemory>
     ensures { IfOk result (λ stopping. stopping.items ≡ map (new_stopping tip.now) brokers.now) }
 {
     let mut stopping = Vec::with_capacity(alloc, brokers.len())?;
@@ -55,7 +63,7 @@ fn new_stopping(broker: &i32, tip: &i64) -> Stopping
 }
 
 // Takes the broker out.
-pub fn drop_contact(contacts: &mut Vec<Contact>, broker: &i32)
+pub(crate) fn drop_contact(contacts: &mut Vec<Contact>, broker: &i32)
     ensures items { contacts.new.items ≡ contacts_without contacts.old.items broker.now }
     ensures len { vec_len contacts.new ≤ vec_len contacts.old }
     ensures capacity { vec_capacity contacts.new ≡ vec_capacity contacts.old }
@@ -64,7 +72,7 @@ pub fn drop_contact(contacts: &mut Vec<Contact>, broker: &i32)
     contacts.retain(|contact| contact.broker != *broker);
 }
 
-pub fn drop_stopping(stopping: &mut Vec<Stopping>, broker: &i32)
+pub(crate) fn drop_stopping(stopping: &mut Vec<Stopping>, broker: &i32)
     ensures items { stopping.new.items ≡ stopping_without stopping.old.items broker.now }
     ensures len { vec_len stopping.new ≤ vec_len stopping.old }
     ensures capacity { vec_capacity stopping.new ≡ vec_capacity stopping.old }
@@ -84,14 +92,14 @@ fn is_heard(contact: &Contact, now: &i64, session_ms: &u32) -> bool
 }
 
 // The broker is a contact that is still heard.
-pub fn is_valid(contacts: &[Contact], broker: &i32, now: &i64, session_ms: &u32) -> bool
+pub(crate) fn is_valid(contacts: &[Contact], broker: &i32, now: &i64, session_ms: &u32) -> bool
     ensures { result ≡ list_any (λ c. int_eq c.broker broker.now && int_lt now.now (c.time +ℤ pos session_ms.now)) contacts.now }
 {
     contacts.iter().any(|contact| contact.broker == *broker && is_heard(contact, now, session_ms))
 }
 
 // The offset that the broker reported last.
-pub fn offset_of(contacts: &[Contact], broker: &i32) -> Option<i64>
+pub(crate) fn offset_of(contacts: &[Contact], broker: &i32) -> Option<i64>
     ensures { result ≡ option_map (λ c. c.offset) (find (λ c. int_eq c.broker broker.now) contacts.now) }
 {
     let contact = contacts.iter().find(|contact| contact.broker == *broker)?;
@@ -99,7 +107,7 @@ pub fn offset_of(contacts: &[Contact], broker: &i32) -> Option<i64>
 }
 
 // The tip when the broker began to stop.
-pub fn stopped_at(stopping: &[Stopping], broker: &i32) -> Option<i64>
+pub(crate) fn stopped_at(stopping: &[Stopping], broker: &i32) -> Option<i64>
     ensures { result ≡ option_map (λ s. s.tip) (find (λ s. int_eq s.broker broker.now) stopping.now) }
 {
     let stopping = stopping.iter().find(|stopping| stopping.broker == *broker)?;
@@ -119,7 +127,7 @@ fn lower_of(lowest: Option<i64>, offset: Option<i64>) -> Option<i64>
 
 // The least offset of those of the brokers that are contacts.
 #[tactic(auto, using(crate::proofs::LeastNumbers::lowest))]
-pub fn lowest_offset(contacts: &[Contact], brokers: &[i32]) -> Option<i64>
+pub(crate) fn lowest_offset(contacts: &[Contact], brokers: &[i32]) -> Option<i64>
     ensures { result ≡ reduce int_min (filter_map (λ broker. option_map (λ c. c.offset) (find (λ c. int_eq c.broker broker) contacts.now)) brokers.now) }
 {
     let mut lowest = None;
@@ -143,7 +151,7 @@ fn broker_of(contact: &Contact) -> i32
 }
 
 // The brokers of the front whose time is at most the limit. A step is one contact that is looked at.
-pub fn expired<L: Ledger>(
+pub(crate) fn expired<L: Ledger>(
     alloc: Global,
     contacts: &[Contact],
     limit: &i64,

@@ -5,7 +5,7 @@ use Rattle.std.proofs.lemmas.Bool.Decides.{nat_tests}
 use Rattle.std.proofs.lemmas.List.{take_at, drop_at, take-append-drop, length-take-le}
 use Rattle.kr_defs.specs.declared.limits.TheConstants.{MOST_RECORDS}
 use Rattle.kr_defs.proofs.Tests.{neither}
-use Rattle.kr_wire.proofs.Laws.{IsBytes, bind_ok, guard_ok, is_ok, complete_bind, complete_guard}
+use Rattle.kr_wire.proofs.ReadingLaws.{IsBytes, bind_ok, guard_ok, is_ok, complete_bind, complete_guard}
 use Rattle.kr_batch.specs.declared.Batch.{Batch}
 use Rattle.kr_batch.specs.Crc.{crc32c}
 use Rattle.kr_batch.specs.Grammar.{IsStart, IsBatch}

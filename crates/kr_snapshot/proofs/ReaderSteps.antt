@@ -8,7 +8,7 @@ use Rattle.std.proofs.lemmas.List.Elements.{All-from_recursion}
 use Rattle.kr_defs.specs.Image.{Image, empty}
 use Rattle.kr_store.specs.Images.{Images, IsAbove, forgotten, marked}
 use Rattle.kr_wire.specs.Reading.{◌>>=◌}
-use Rattle.kr_wire.proofs.Laws.{IsBytes, bind_ok, is_ok}
+use Rattle.kr_wire.proofs.ReadingLaws.{IsBytes, bind_ok, is_ok}
 use Rattle.kr_snapshot.specs.Grammar.{IsImage}
 use Rattle.kr_snapshot.proofs.WholeImages.{image_complete, image_sound}
 use Rattle.std.specs.Result.{result_err}

@@ -14,7 +14,7 @@ use Rattle.kr_defs.specs.ImageLaws.{as_items}
 use Rattle.kr_defs.specs.ImageOrder.{is_later, seen_with, are_in_order}
 use Rattle.kr_defs.specs.Log.{apply_all}
 use Rattle.kr_wire.specs.Reading.{◌>>=◌}
-use Rattle.kr_wire.proofs.Laws.{bind_ok, guard_ok, is_ok, complete_bind, complete_guard}
+use Rattle.kr_wire.proofs.ReadingLaws.{bind_ok, guard_ok, is_ok, complete_bind, complete_guard}
 use Rattle.kr_batch.proofs.Frames.{is_true}
 use Rattle.kr_snapshot.specs.declared.fault.ImageFault.{ImageFault}
 use Rattle.kr_snapshot.specs.ReaderState.{IsFault}

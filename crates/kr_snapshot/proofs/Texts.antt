@@ -18,7 +18,7 @@ use Rattle.kr_defs.proofs.OwnRecords.{own_records}
 use Rattle.kr_defs.proofs.ReadingOrder.{own_order}
 use Rattle.kr_wire.specs.Grammar.{IsSigned}
 use Rattle.kr_wire.specs.Spelling.{signed}
-use Rattle.kr_wire.proofs.Laws.{joined}
+use Rattle.kr_wire.proofs.ReadingLaws.{joined}
 use Rattle.kr_wire.proofs.WrittenForms.{signed_spelled}
 use Rattle.kr_record.specs.RecordRanges.{IsHeld}
 use Rattle.kr_batch.specs.BatchBytes.{IsHeldItem, batch_bytes}

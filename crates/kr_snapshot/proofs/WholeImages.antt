@@ -18,7 +18,7 @@ use Rattle.kr_defs.proofs.Tests.{neither}
 use Rattle.kr_wire.specs.declared.WireFault.{WireFault}
 use Rattle.kr_wire.specs.Reading.{◌>>=◌, signed_at}
 use Rattle.kr_wire.specs.Grammar.{◌⌢◌, Exactly, IsSigned}
-use Rattle.kr_wire.proofs.Laws.{IsBytes, IsBytes-before, IsBytes-behind, bind_ok, guard_ok, is_ok, complete_bind, complete_guard}
+use Rattle.kr_wire.proofs.ReadingLaws.{IsBytes, IsBytes-before, IsBytes-behind, bind_ok, guard_ok, is_ok, complete_bind, complete_guard}
 use Rattle.kr_wire.proofs.Numbers.{signed_law}
 use Rattle.kr_batch.specs.declared.Batch.{Batch}
 use Rattle.kr_batch.specs.declared.fault.BatchFault.{BatchFault}

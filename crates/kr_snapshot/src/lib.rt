@@ -2,17 +2,17 @@
 #![tactic(auto)]
 
 mod fault;
+mod laws;
 mod order;
 mod pieces;
 mod reader;
 mod records;
 mod shown;
-mod theorems;
 mod walking;
 mod writer;
 mod writing;
 
 pub use fault::{BatchCause, ImageFault, SnapFault};
+pub use laws::{images, read_in_pieces, written_images};
 pub use reader::Reader;
-pub use theorems::{images, read_in_pieces, written_images};
 pub use writing::write;

@@ -12,7 +12,7 @@ use std::alloc::Global;
 
 /// The sections of an image, in their order. The partitions of a topic stand behind it.
 #[derive(Clone, Copy, Debug, Drop, PartialEq, Eq, PartialOrd, Ord)]
-pub enum Section {
+pub(crate) enum Section {
     Features,
     Brokers,
     Topics,
@@ -21,7 +21,7 @@ pub enum Section {
 
 /// Where a record stands among those of an image; what its kind hasn't is 0, empty or none.
 #[derive(Debug, Drop, PartialEq, Eq, PartialOrd, Ord)]
-pub struct Rank {
+pub(crate) struct Rank {
     section: Section,
     kind: i8,
     name: Text,
@@ -31,7 +31,7 @@ pub struct Rank {
 
 /// What was read so far: the rank of the last record, and the last topic.
 #[derive(Drop)]
-pub struct Order {
+pub(crate) struct Order {
     rank: Option<Rank>,
     topic: Option<Topic>,
 }

@@ -28,14 +28,14 @@ const LEAST_SIZE: u32 = 49;
 
 /// Behind the head: the offset, and how far the records are.
 #[derive(Drop)]
-pub struct Body {
+pub(crate) struct Body {
     pub offset: i64,
     pub tally: Tally,
 }
 
 /// What was taken so far.
 #[derive(Drop)]
-pub struct Pieces {
+pub(crate) struct Pieces {
     pub alloc: Global,
     pub body: Option<Body>,
     // The bytes of the head or of the batch that isn't whole yet.

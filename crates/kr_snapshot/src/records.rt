@@ -23,7 +23,7 @@ use std::sync::ledger::{Blank, Ledger};
 
 /// How many records there are to be, how many were read of them, and the order so far. What they made is in the store.
 #[derive(Drop)]
-pub struct Tally {
+pub(crate) struct Tally {
     pub expected: u64,
     pub found: u64,
     pub order: Order,
@@ -202,7 +202,7 @@ fn decode_batch(alloc: Global, found: u64, bytes: &[u8]) -> Result<Batch, ImageF
 
 /// All bytes of a batch.
 #[tactic(auto, unfolding(crate::specs::Reading::whole_read))]
-pub fn read_whole(
+pub(crate) fn read_whole(
     alloc: Global,
     tally: &mut Tally,
     store: &mut ImageStore,

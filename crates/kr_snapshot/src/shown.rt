@@ -11,14 +11,14 @@ use kr_defs::{Text, Topic};
 use kr_store::{At, Store};
 
 /// There is an image at the place.
-pub fn is_kept<S: Store>(store: &S, at: At) -> bool
+pub(crate) fn is_kept<S: Store>(store: &S, at: At) -> bool
     ensures { result ≡ is_some (image_of_place (S.images store.now) at) }
 {
     store.next_feature(at, None).is_ok()
 }
 
 /// The topic with the least name above the given one, or the first.
-pub fn next_topic<'a, S: Store>(
+pub(crate) fn next_topic<'a, S: Store>(
     store: &'a S,
     at: At,
     after: Option<&Text>,

@@ -86,7 +86,7 @@ fn setting(alloc: Global, key: &ConfigKey, value: &Text) -> Result<Record, NoMem
 
 /// The features, by name.
 #[tactic(auto, using(crate::proofs::WriterRecords::adding))]
-pub fn put_features<S: Store>(
+pub(crate) fn put_features<S: Store>(
     alloc: Global,
     store: &S,
     at: At,
@@ -106,7 +106,7 @@ pub fn put_features<S: Store>(
 
 /// The brokers, by id.
 #[tactic(auto, using(crate::proofs::WriterRecords::adding))]
-pub fn put_brokers<S: Store>(
+pub(crate) fn put_brokers<S: Store>(
     alloc: Global,
     store: &S,
     at: At,
@@ -193,7 +193,7 @@ fn put_topic<S: Store>(
 
 /// The topics by name, each with its partitions behind it.
 #[tactic(auto, using(crate::proofs::WriterRecords::adding))]
-pub fn put_topics<S: Store>(
+pub(crate) fn put_topics<S: Store>(
     alloc: Global,
     store: &S,
     at: At,
@@ -213,7 +213,7 @@ pub fn put_topics<S: Store>(
 
 /// The settings, by type, resource name and key.
 #[tactic(auto, using(crate::proofs::WriterRecords::adding))]
-pub fn put_configs<S: Store>(
+pub(crate) fn put_configs<S: Store>(
     alloc: Global,
     store: &S,
     at: At,

@@ -16,7 +16,7 @@ use std::mem;
 
 /// The batches so far, and the records of the next one.
 #[derive(Drop)]
-pub struct BatchWriter {
+pub(crate) struct BatchWriter {
     // The number of records in the batches.
     before: usize,
     group: Vec<Item>,

@@ -6,7 +6,7 @@ use Rattle.std.specs.Int.{w32}
 use Rattle.std.proofs.lemmas.List.{append-nil}
 use Rattle.kr_wire.specs.declared.WireFault.{WireFault}
 use Rattle.kr_wire.specs.Grammar.{◌⌢◌, IsNumber}
-use Rattle.kr_wire.proofs.Laws.{Law, joined, ok_value, ok_rest}
+use Rattle.kr_wire.proofs.ReadingLaws.{Law, joined, ok_value, ok_rest}
 use Rattle.kr_defs.specs.OpenOptions.{are_options}
 use Rattle.kr_defs.specs.declared.options.Options.{Options}
 use Rattle.kr_calls.specs.declared.events.Event.{Event}

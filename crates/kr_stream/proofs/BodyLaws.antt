@@ -7,7 +7,7 @@ use Rattle.std.proofs.lemmas.Bool.Decides.{nat_tests}
 use Rattle.kr_wire.specs.declared.WireFault.TheVariants.{TooBig}
 use Rattle.kr_wire.specs.Reading.{Read, signed_at}
 use Rattle.kr_wire.specs.Grammar.{◌⌢◌, IsNumber, IsSigned}
-use Rattle.kr_wire.proofs.Laws.{IsBytes, Law, Yields, Front, joined, ok_rest, ok_value, read_ok, sound_then, sound_last, sound_guard, sound_done, complete_then, complete_last, complete_guard, complete_bind, whole_sound, whole_complete}
+use Rattle.kr_wire.proofs.ReadingLaws.{IsBytes, Law, Yields, Front, joined, ok_rest, ok_value, read_ok, sound_then, sound_last, sound_guard, sound_done, complete_then, complete_last, complete_guard, complete_bind, whole_sound, whole_complete}
 use Rattle.kr_wire.proofs.Numbers.{number_law, signed_law}
 use Rattle.kr_defs.specs.declared.options.Options.{Options}
 use Rattle.kr_calls.specs.declared.events.Event.{Event}

@@ -2,7 +2,7 @@
 use Rattle.std.proofs.Common.{◌≡◌, ℕ, ◌+◌, List, [], ◌∷◌, ◌++◌, length, length-append, append_assoc, refl, sym, ap, ◌∙◌, arith}
 use Rattle.std.specs.Int.{w32}
 use Rattle.kr_wire.specs.Grammar.{IsNumber}
-use Rattle.kr_wire.proofs.Laws.{one_form}
+use Rattle.kr_wire.proofs.ReadingLaws.{one_form}
 use Rattle.kr_wire.proofs.Numbers.{number_law}
 use Rattle.kr_stream.specs.Frames.{IsFrame}
 use Rattle.kr_stream.specs.Reader.{IsHead}

@@ -4,7 +4,7 @@ use Rattle.std.specs.Prelude.{FitsSigned, IfOk}
 use Rattle.std.specs.Int.{w32, w64}
 use Rattle.kr_wire.specs.Grammar.{◌⌢◌, Exactly, IsNumber}
 use Rattle.kr_wire.specs.Spelling.{number, signed}
-use Rattle.kr_wire.proofs.Laws.{joined}
+use Rattle.kr_wire.proofs.ReadingLaws.{joined}
 use Rattle.kr_wire.proofs.WrittenForms.{number_spelled, signed_spelled}
 use Rattle.kr_calls.specs.declared.calls.Reply.{Reply}
 use Rattle.kr_calls.specs.declared.events.Reason.{Reason}

@@ -6,7 +6,7 @@ use Rattle.std.proofs.Math.Seq.{take-add}
 use Rattle.kr_base.proofs.Pieces.{consumes_more}
 use Rattle.kr_wire.specs.Grammar.{◌⌢◌, Exactly, IsNumber}
 use Rattle.kr_wire.specs.Laws.{IsBytes}
-use Rattle.kr_wire.proofs.Laws.{joined}
+use Rattle.kr_wire.proofs.ReadingLaws.{joined}
 use Rattle.kr_wire.proofs.WrittenBytes.{OfBytes, ◌and◌}
 use Rattle.kr_stream.specs.declared.frame.Frame.{Frame}
 use Rattle.kr_stream.specs.declared.kind.FrameKind.{FrameKind}

@@ -7,11 +7,11 @@ mod filling;
 mod frame;
 mod head;
 mod kind;
+pub mod laws;
 mod opening;
 mod output;
 mod reader;
 mod stage;
-pub mod theorems;
 
 pub use fault::{StreamFault, WriteFault};
 pub use frame::Frame;

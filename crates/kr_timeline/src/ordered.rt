@@ -11,7 +11,7 @@ use std::marker::Model;
 use std::ops::Bound;
 
 #[derive(Drop)]
-pub struct Ordered<K: Ord, V> {
+pub(crate) struct Ordered<K: Ord, V> {
     map: BTreeMap<K, V>,
 }
 

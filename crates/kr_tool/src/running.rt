@@ -63,7 +63,7 @@ pub fn run<S: Source, K: Sink, E: Sink>(
 
 /// Answers for words that aren't known: Usage where one isn't text, NoMemory where memory for them ran out, each with its
 /// line.
-pub fn refuse<E: Sink>(alloc: Global, fault: WordsFault, notes: &mut E) -> Status
+pub(crate) fn refuse<E: Sink>(alloc: Global, fault: WordsFault, notes: &mut E) -> Status
     ensures usage { fault ≡ WordsFault.NotText → result ≡ Status.Usage }
     ensures no_memory { fault ≡ WordsFault.NoMemory → result ≡ Status.NoMemory }
     ensures notes { (Rose (E.faults notes.old) (E.faults notes.new) → ⊥) → Appends (E.written notes.old) (E.written notes.new) (note_of result) }

@@ -20,7 +20,7 @@ use std::collections::BTreeMap;
 type ByIndex = BTreeMap<i64, Ids>;
 
 /// How many replicas the first assignment has.
-pub fn first_size(assignments: &[CreatableReplicaAssignment]) -> usize
+pub(crate) fn first_size(assignments: &[CreatableReplicaAssignment]) -> usize
     ensures { result ≡ creations.first_size assignments.now }
 {
     match assignments.first() {
@@ -30,7 +30,10 @@ pub fn first_size(assignments: &[CreatableReplicaAssignment]) -> usize
 }
 
 /// Each may be that of a new partition, with as many replicas as the first.
-pub fn are_assignable<S: Store>(store: &S, assignments: &[CreatableReplicaAssignment]) -> bool
+pub(crate) fn are_assignable<S: Store>(
+    store: &S,
+    assignments: &[CreatableReplicaAssignment],
+) -> bool
     ensures { result ≡ creations.are_assignable (S.images store.now).tip assignments.now }
 {
     let size = first_size(assignments);
@@ -99,7 +102,7 @@ fn add_list(alloc: Global, lists: &mut Lists, brokers: &Ids) -> Result<(), NoMem
 }
 
 /// The replicas of each partition, where each index from 0 on is assigned, as many as there are assignments.
-pub fn lists_of(
+pub(crate) fn lists_of(
     alloc: Global,
     assignments: &[CreatableReplicaAssignment],
 ) -> Result<Option<Lists>, NoMemory>

@@ -75,7 +75,7 @@ fn entry_row<S: Store>(
 }
 
 /// Each entry in its order; a topic that an earlier one named is refused.
-pub fn named_topic_rows<S: Store>(
+pub(crate) fn named_topic_rows<S: Store>(
     alloc: Global,
     store: &S,
     at: At,

@@ -24,7 +24,7 @@ use kr_walks::{is_active, tip};
 use std::alloc::Global;
 
 /// The replicas of some partitions, in the order of their indexes.
-pub type Lists = Rows<Ids>;
+pub(crate) type Lists = Rows<Ids>;
 
 // ---- brokers
 
@@ -53,7 +53,7 @@ fn is_assignable<S: Store>(store: &S, replicas: &Ids) -> bool
 }
 
 /// The replicas may be those of a new partition, and are so many.
-pub fn is_wide<S: Store>(store: &S, size: usize, replicas: &Ids) -> bool
+pub(crate) fn is_wide<S: Store>(store: &S, size: usize, replicas: &Ids) -> bool
     ensures { result ≡ (is_assignable (S.images store.now).tip replicas.now && length replicas.now == size) }
 {
     is_assignable(store, replicas) && replicas.len() == size
@@ -62,7 +62,7 @@ pub fn is_wide<S: Store>(store: &S, size: usize, replicas: &Ids) -> bool
 // ---- numbers of partitions
 
 /// There is room for so many more partitions.
-pub fn has_room<S: Store>(store: &S, count: usize) -> bool
+pub(crate) fn has_room<S: Store>(store: &S, count: usize) -> bool
     ensures value { result ≡ has_room (S.images store.now).tip count }
     ensures few { IsTrue result → count ≤ most_partitions }
 {
@@ -71,7 +71,7 @@ pub fn has_room<S: Store>(store: &S, count: usize) -> bool
 }
 
 /// How many replicas the partition leads to.
-pub fn target_len(partition: &Partition) -> usize
+pub(crate) fn target_len(partition: &Partition) -> usize
     ensures { result ≡ length (target partition.now) }
 {
     partition
@@ -85,7 +85,7 @@ pub fn target_len(partition: &Partition) -> usize
 // ---- placement
 
 /// Where the placement of an entry begins: at the place of its first record.
-pub fn start_of(work: &Work) -> u64
+pub(crate) fn start_of(work: &Work) -> u64
     ensures value { result ≡ unsigned_abs (place_of work.now) }
     ensures low { result ≤ 2 ^ 63 }
 {
@@ -106,7 +106,7 @@ fn add_placed(
 }
 
 /// The replicas of so many partitions from an index on.
-pub fn placements(
+pub(crate) fn placements(
     alloc: Global,
     those: &Grouped,
     start: u64,
@@ -195,7 +195,7 @@ fn add_partition<S: Store>(
 }
 
 /// Adds the records of new partitions over these replicas, from an index on.
-pub fn add_partitions<S: Store>(
+pub(crate) fn add_partitions<S: Store>(
     alloc: Global,
     store: &S,
     records: &mut Records,

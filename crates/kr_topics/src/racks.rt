@@ -45,7 +45,7 @@ fn active_racks<S: Store>(alloc: Global, store: &S) -> Result<Racks, NoMemory>
 }
 
 /// The active brokers by rack.
-pub fn active_by_rack<S: Store>(alloc: Global, store: &S) -> Result<Grouped, NoMemory>
+pub(crate) fn active_by_rack<S: Store>(alloc: Global, store: &S) -> Result<Grouped, NoMemory>
     ensures { IfOk result (λ those. those ≡ grouped (racked (S.images store.now).tip)) }
 {
     let racks = active_racks(alloc, store)?;

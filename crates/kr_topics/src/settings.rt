@@ -35,7 +35,7 @@ fn is_bad_setting(setting: &CreatableTopicConfig) -> bool
 }
 
 /// A setting has a key or a value that can't be, or no value.
-pub fn has_bad_setting(settings: &[CreatableTopicConfig]) -> bool
+pub(crate) fn has_bad_setting(settings: &[CreatableTopicConfig]) -> bool
     ensures { result ≡ list_any creations.is_bad_setting settings.now }
 {
     settings.iter().any(|setting| is_bad_setting(setting))
@@ -151,7 +151,7 @@ fn add_setting<S: Store>(
 
 /// Adds a record for each setting whose value is new where it stands.
 #[tactic(auto, using(crate::proofs::TopicSettings::begins))]
-pub fn add_settings<S: Store>(
+pub(crate) fn add_settings<S: Store>(
     alloc: Global,
     store: &S,
     records: &mut Records,

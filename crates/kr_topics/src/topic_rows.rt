@@ -108,7 +108,7 @@ fn partition_rows<S: Store>(
 // ---- topics
 
 /// A topic that stands, with its partitions.
-pub fn topic_row<S: Store>(
+pub(crate) fn topic_row<S: Store>(
     alloc: Global,
     store: &S,
     at: At,
@@ -130,7 +130,7 @@ pub fn topic_row<S: Store>(
 }
 
 /// An entry that is refused, as it was given.
-pub fn refusal_row(
+pub(crate) fn refusal_row(
     alloc: Global,
     error: i16,
     entry: &MetadataRequestTopic,
@@ -170,7 +170,7 @@ impl TopicPart<MetadataTopic> for ShownTopics {
 
 /// All topics by name.
 #[tactic(auto, using(crate::proofs::MetadataRows::topics))]
-pub fn all_topic_rows<S: Store>(
+pub(crate) fn all_topic_rows<S: Store>(
     alloc: Global,
     store: &S,
     at: At,

@@ -4,7 +4,7 @@ use std::alloc::{AllocError, Global};
 
 /// Answers, with `; ` between them.
 #[derive(Drop)]
-pub struct Answers {
+pub(crate) struct Answers {
     text: String,
 }
 

@@ -7,7 +7,7 @@ use std::str::FromStr;
 
 /// The fields that are left of a row.
 #[derive(Drop)]
-pub struct Fields<'a> {
+pub(crate) struct Fields<'a> {
     left: Option<&'a str>,
 }
 

@@ -2,7 +2,7 @@
 
 /// What a row asks.
 #[derive(Clone, Copy, Drop)]
-pub enum Kind {
+pub(crate) enum Kind {
     Primitives,
     Records,
     Batches,

@@ -34,14 +34,14 @@ pub trait Change {
 }
 
 // A key below all partitions of the topic.
-pub fn before_all(id: &u128) -> (u128, i32)
+pub(crate) fn before_all(id: &u128) -> (u128, i32)
     ensures { result ≡ (id.now, negsuc 0) }
 {
     (*id, -1)
 }
 
 // The next partition of the same topic.
-pub fn next_of<'a, S: Store>(
+pub(crate) fn next_of<'a, S: Store>(
     store: &'a S,
     after: &(u128, i32),
 ) -> Option<(&'a (u128, i32), &'a Partition)>

@@ -10,7 +10,7 @@ use Rattle.std.proofs.Math.Facts.{sfits_to_z}
 use mir.Val.{bits, Fits}
 use Rattle.kr_wire.specs.Laws.{IsBytes}
 use Rattle.kr_wire.specs.Grammar.{◌⌢◌, Exactly, IsUvarint, IsNumber, IsSigned, IsBool, IsId, IsText, Each, IsList, NoTags}
-use Rattle.kr_wire.proofs.Laws.{IsBytes-before, IsBytes-behind}
+use Rattle.kr_wire.proofs.ReadingLaws.{IsBytes-before, IsBytes-behind}
 use Rattle.kr_wire.proofs.Lengths.{uvarint_bytes, uvarint_least, some_uvarint, both_lengths, each_long}
 
 -- At most n bytes are written for eight: a structure has at most eight tagged fields that are written, and each of them is

@@ -7,7 +7,7 @@ use Rattle.kr_wire.specs.declared.WireFault.TheVariants.{Short, BadNull}
 use Rattle.kr_wire.specs.declared.WireFault.{WireFault}
 use Rattle.kr_wire.specs.Reading.{◌>>=◌, Read, uvarint_at, room_at, count_at, count_or_null_at, elements_at, elements_or_null_at, list_at, list_or_null_at}
 use Rattle.kr_wire.specs.Grammar.{IsUvarint, Each, IsList, IsListOrNull}
-use Rattle.kr_wire.proofs.Laws.{Law, law_as, sound_then, sound_last, sound_guard, sound_if, sound_as, sound_done, complete_then, complete_last, complete_guard, complete_if_not}
+use Rattle.kr_wire.proofs.ReadingLaws.{Law, law_as, sound_then, sound_last, sound_guard, sound_if, sound_as, sound_done, complete_then, complete_last, complete_guard, complete_if_not}
 use Rattle.kr_wire.proofs.Lengths.{each_long}
 use Rattle.kr_wire.proofs.Numbers.{not_zero, some, uvarint_law}
 

@@ -12,7 +12,7 @@ use Rattle.kr_wire.specs.declared.WireFault.TheVariants.{Short, Overlong, TooBig
 use Rattle.kr_wire.specs.Reading.{groups_at, varint_at, uvarint_at, uvarlong_at, unzigzag, varint32_at, varint64_at, piece_at, number_at, signed_at, bool_at, id_at, utf8_at, text_at, text_or_null_at}
 use Rattle.kr_wire.specs.Grammar.{Exactly, IsVarint, IsUvarint, IsUvarlong, zigzag, IsVarint32, IsVarint64, IsNumber, IsSigned, IsBool, IsId, IsText, IsTextOrNull}
 use Rattle.kr_wire.proofs.Groups.{first_alone, first_more}
-use Rattle.kr_wire.proofs.Laws.{IsBytes, Yields, Law, bind_ok, guard_ok, ok_value, ok_rest, read_ok, sound_then, sound_last, sound_guard, sound_if, sound_as, sound_done, complete_then, complete_last, complete_guard, complete_if_not, complete_bind}
+use Rattle.kr_wire.proofs.ReadingLaws.{IsBytes, Yields, Law, bind_ok, guard_ok, ok_value, ok_rest, read_ok, sound_then, sound_last, sound_guard, sound_if, sound_as, sound_done, complete_then, complete_last, complete_guard, complete_if_not, complete_bind}
 
 pub not_zero : (n : ℕ) → 0 < n → eqb n 0 ≡ false
 not_zero n lt = grind (arith, nat_tests)

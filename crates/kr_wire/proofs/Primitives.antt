@@ -8,7 +8,7 @@ use Rattle.kr_wire.specs.Spelling.{uvarint, varint32, varint64, number}
 use Rattle.kr_wire.specs.Reading.{uvarint_at, varint32_at, varint64_at, number_at}
 use Rattle.kr_wire.specs.Grammar.{IsUvarint, IsVarint32, IsVarint64, IsNumber, IsSigned, IsId}
 use Rattle.kr_wire.specs.Laws.{IsPrimitive}
-use Rattle.kr_wire.proofs.Laws.{primitive}
+use Rattle.kr_wire.proofs.ReadingLaws.{primitive}
 use Rattle.kr_wire.proofs.Numbers.{uvarint_law, varint32_law, varint64_law, number_law}
 use Rattle.kr_wire.proofs.WrittenForms.{uvarint_spelled, varint32_spelled, varint64_spelled, number_spelled}
 

@@ -5,7 +5,7 @@ use Rattle.std.proofs.lemmas.List.{length-append}
 use Rattle.kr_wire.specs.Grammar.{IsVarint, IsNumber, IsText, IsTextOrNull, IsList, IsListOrNull, IsTags}
 use Rattle.kr_wire.specs.Laws.{IsPrimitive}
 use Rattle.kr_wire.specs.Schema.{Schema, Int8, Int16, Int32, Int64, Uint16, Boolean, Uuid, Text, TextOrNull, End, Array, ArrayOrNull, ◌▸◌, Dropped, Constant, Structure, Is, value_at, written, Fits, is_readable, least_bytes}
-use Rattle.kr_wire.proofs.Laws.{Law, ◌before◌, structure_law, primitive, joined, sound_last, complete_last}
+use Rattle.kr_wire.proofs.ReadingLaws.{Law, ◌before◌, structure_law, primitive, joined, sound_last, complete_last}
 use Rattle.kr_wire.proofs.Numbers.{number_law, signed_law, bool_law, id_law, text_law, text_or_null_law}
 use Rattle.kr_wire.proofs.Lists.{list_law, list_or_null_law}
 use Rattle.kr_wire.proofs.Tags.{no_tags_law}

@@ -5,7 +5,7 @@ use Rattle.kr_wire.specs.declared.WireFault.{WireFault}
 use Rattle.kr_wire.specs.declared.WireFault.TheVariants.{Short, Overlong, TooBig, BadTag, BadText, BadNull}
 use Rattle.kr_wire.specs.Reading.{Read, Known, field_of, whole_field}
 use Rattle.kr_wire.specs.Grammar.{AreRising, data_of, given, IfTagged}
-use Rattle.kr_wire.proofs.Laws.{IsBytes, bind_ok, guard_ok, is_ok, nothing}
+use Rattle.kr_wire.proofs.ReadingLaws.{IsBytes, bind_ok, guard_ok, is_ok, nothing}
 use Rattle.kr_wire.proofs.Tags.{run, AreBytes, others_rise}
 
 -- ---- all of the data

@@ -9,7 +9,7 @@ use Rattle.std.proofs.lemmas.List.Elements.{All-head, All-tail}
 use Rattle.std.proofs.lemmas.List.Sums.{sum_by-cons}
 use Rattle.kr_wire.specs.Grammar.{◌⌢◌, Exactly, IsUvarint, IsNumber, IsSigned, IsBool, IsId, IsText, Each, IsList, NoTags}
 use Rattle.kr_wire.specs.Spelling as written
-use Rattle.kr_wire.proofs.Laws.{joined}
+use Rattle.kr_wire.proofs.ReadingLaws.{joined}
 use Rattle.kr_wire.proofs.Lengths.{uvarint_bytes, length_uvarint, length_number_16, length_signed_8, length_signed_16, length_signed_32, length_signed_64, length_id, length_bool, uvarint_one}
 use Rattle.kr_wire.proofs.WrittenForms.{uvarint_spelled, number_spelled, signed_spelled, bool_spelled, id_spelled, text_spelled, no_tags_spelled}
 use Rattle.kr_wire.proofs.WrittenBytes.{OfBytes, ◌and◌, none_fits, number_fits, signed_fits, bool_fits, id_fits, uvarint_fits, utf8_fits, tags_fits}

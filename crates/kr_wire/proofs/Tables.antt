@@ -6,7 +6,7 @@ use Rattle.std.proofs.lemmas.Bool.Decides.{nat_tests}
 use Rattle.kr_wire.specs.declared.WireFault.{WireFault}
 use Rattle.kr_wire.specs.Reading.{Read, Known, field_of, whole_field, field_as, known_in, tags_at}
 use Rattle.kr_wire.specs.Grammar.{AreRising, data_of, given, IfTagged, IfTaggedSince, IsTags}
-use Rattle.kr_wire.proofs.Laws.{IsBytes, Law, bind_ok, is_ok, whole_sound, whole_complete}
+use Rattle.kr_wire.proofs.ReadingLaws.{IsBytes, Law, bind_ok, is_ok, whole_sound, whole_complete}
 use Rattle.kr_wire.proofs.Tags.{run, AreBytes, Makes, tags_law}
 use Rattle.kr_wire.proofs.Slots.{IsSlot, Keeps, Opens, opens_none, opens_if, slot_sound, slot_complete, reads_all, whole_ok}
 

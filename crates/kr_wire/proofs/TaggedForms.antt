@@ -6,7 +6,7 @@ use Rattle.std.proofs.lemmas.List.Sums.{sum_by-cons}
 use Rattle.std.proofs.Math.Nat.{mul-le-mul}
 use Rattle.kr_wire.specs.Laws.{IsBytes}
 use Rattle.kr_wire.specs.Grammar.{Each, IsField, IsTags, data_of, given, IfTaggedSince}
-use Rattle.kr_wire.proofs.Laws.{IsBytes-before, IsBytes-behind}
+use Rattle.kr_wire.proofs.ReadingLaws.{IsBytes-before, IsBytes-behind}
 use Rattle.kr_wire.proofs.Lengths.{uvarint_bytes, uvarint_least, some_uvarint, both_lengths}
 use Rattle.kr_wire.proofs.FormLaws.{Follows}
 

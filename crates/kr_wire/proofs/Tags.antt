@@ -7,7 +7,7 @@ use Rattle.kr_wire.specs.declared.WireFault.{WireFault}
 use Rattle.kr_wire.specs.declared.WireFault.TheVariants.{Short, BadTag}
 use Rattle.kr_wire.specs.Reading.{◌>>=◌, Known, none_known, field_of, is_falling, uvarint_at, tag_at, fields_at, tags_at}
 use Rattle.kr_wire.specs.Grammar.{◌⌢◌, Exactly, IsUvarint, Each, AreRising, IsField, IsTags, NoTags}
-use Rattle.kr_wire.proofs.Laws.{IsBytes, IsBytes-behind, IsBytes-before, Yields, Law, bind_ok, guard_ok, read_ok, ok_value, ok_rest, sound_then, sound_guard, sound_done, complete_then}
+use Rattle.kr_wire.proofs.ReadingLaws.{IsBytes, IsBytes-behind, IsBytes-before, Yields, Law, bind_ok, guard_ok, read_ok, ok_value, ok_rest, sound_then, sound_guard, sound_done, complete_then}
 use Rattle.kr_wire.proofs.Numbers.{uvarint_law}
 
 -- ---- rising tags, as they are tested

@@ -13,7 +13,7 @@ use mir.Val.{bits}
 use Rattle.kr_wire.specs.Spelling.{groups, uvarint, varint32, varint64, number, signed, bool, text, text_or_null, id, list, list_or_null, field, tags}
 use Rattle.kr_wire.specs.Grammar.{IsVarint, IsUvarint, IsVarint32, IsVarint64, IsNumber, IsSigned, IsBool, IsId, IsText, IsTextOrNull, Each, IsList, IsListOrNull, AreRising, IsField, IsTags, NoTags}
 use Rattle.kr_wire.specs.Laws.{IsShortList, IsShortListOrNull}
-use Rattle.kr_wire.proofs.Laws.{joined}
+use Rattle.kr_wire.proofs.ReadingLaws.{joined}
 use Rattle.kr_wire.proofs.Numbers.{more}
 
 groups_spelled : (room n : ℕ) → n < 128 ^ suc room → IsVarint n (groups room n)

@@ -1,4 +1,4 @@
-use Rattle.kr_record.proofs.Laws.{found}
+use Rattle.kr_record.proofs.RecordLaws.{found}
 use Rattle.kr_record.proofs.reading.decode.Goals as goal
 
 pub returns-clause-found : goal.returns-clause-found

@@ -1,5 +1,0 @@
-use Rattle.kr_stream.proofs.FrameLaws.{outputs_apart}
-use Rattle.kr_stream.proofs.theorems.outputs_are_told_apart.Goals as goal
-
-pub returns : goal.returns
-returns c = outputs_apart

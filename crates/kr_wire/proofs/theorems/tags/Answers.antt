@@ -1,5 +1,0 @@
-use Rattle.kr_wire.proofs.Tags.{no_tags_law}
-use Rattle.kr_wire.proofs.theorems.tags.Goals as goal
-
-pub returns : goal.returns
-returns c = no_tags_law
