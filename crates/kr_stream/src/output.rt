@@ -16,6 +16,15 @@ use kr_req::encode_reply;
 use kr_wire::{put_i64, put_u32, put_u64};
 use std::alloc::Global;
 
+// The kinds of frames that are written, by their numbers.
+const APPEND: u8 = 0x81;
+
+const REPLY: u8 = 0x82;
+
+const REFUSED: u8 = 0x83;
+
+const IMAGE: u8 = 0x84;
+
 /// Writes the output as one frame, by one put.
 pub fn write_frame<K: Sink>(alloc: Global, output: &Output, sink: &mut K) -> Result<(), WriteFault>
     ensures ok { OnOk result (Wrote (IsOutput output.now) (K.written sink.old) (K.written sink.new)) }
@@ -41,20 +50,20 @@ fn frame(alloc: Global, output: &Output) -> Result<Vec<u8>, NoMemory>
     ensures { IfOk result (λ bytes. IsOutput output.now bytes.items) }
 {
     match output {
-        Output::Append { bytes } => sized_frame(alloc, 0x81, bytes.as_slice()),
+        Output::Append { bytes } => sized_frame(alloc, APPEND, bytes.as_slice()),
         Output::Reply {
             client,
             correlation,
             reply,
         } => {
             let body = reply_body(alloc, *client, correlation, reply)?;
-            sized_frame(alloc, 0x82, body.as_slice())
+            sized_frame(alloc, REPLY, body.as_slice())
         }
         Output::Refused { event, reason } => {
             let body = refusal_body(alloc, *event, reason)?;
-            sized_frame(alloc, 0x83, body.as_slice())
+            sized_frame(alloc, REFUSED, body.as_slice())
         }
-        Output::Image { bytes } => sized_frame(alloc, 0x84, bytes.as_slice()),
+        Output::Image { bytes } => sized_frame(alloc, IMAGE, bytes.as_slice()),
     }
 }
 
