@@ -1,11 +1,15 @@
 -- An engine that stands for past events stands for more after a step, and after an output is handed out.
-use Rattle.std.proofs.Common.{◌≡◌, ◌<◌, ◌∷◌, ◌++◌, [], List, length, ap, arith}
-use Rattle.std.specs.Prelude.{Option, Some, IsTrue, option_to_list}
+use Rattle.std.proofs.Common.{◌<◌, [], length, ap, arith}
+use Rattle.std.specs.Prelude.{Option, Some, IsTrue}
 use Rattle.kr_calls.specs.declared.events.Event.{Event}
 use Rattle.kr_calls.specs.declared.events.Output.{Output}
-use Rattle.kr_engine.specs.Engine.{Core, Hands, IsSound, IsStep, writes_in_order, left}
+use Rattle.kr_engine.specs.Engine.{Core, Hands, IsEngine, IsSound, IsStep, writes_in_order, left}
 use Rattle.kr_engine.specs.Events.{happens}
 use Rattle.kr_engine.specs.Outputs.{waiting_after}
+use Rattle.kr_engine.specs.World.{start}
+
+pub opened_sound : (e : Core) → IsEngine e start [] → IsSound e
+opened_sound e stands = record { state = start; writes = []; stands = stands }
 
 pub stepped_sound : (before after : Core) (event : Event) → IsStep before after event → IsSound before → IsSound after
 stepped_sound before after event step sound = record {

@@ -5,7 +5,8 @@
 mod events;
 mod hosting;
 
-ghost use Rattle.std.specs.Prelude.{◌≡◌, ◌<◌};
+ghost use Rattle.std.specs.Prelude.{◌≡◌, ◌<◌, [], OnOk, IfOk};
+ghost use Rattle.kr_engine.specs.Engine.{IsSound, left};
 
 use events::{commit_all, lead, options, registration};
 use hosting::take;
@@ -21,11 +22,62 @@ fn main(rt: HostRuntime) -> anyhow::Result<()> {
     host::<Brand, HostRuntime>(&rt, rt.alloc(), Blank::new(1))
 }
 
-fn open_engine(alloc: Global) -> Result<Engine, AllocError> {
+#[tactic(auto, using(crate::proofs::SoundEngines::opened_sound))]
+fn open_engine(alloc: Global) -> Result<Engine, AllocError>
+    ensures sound { IfOk result (λ engine. IsSound engine) }
+    ensures drained { IfOk result (λ engine. left engine ≡ []) }
+{
     match Engine::new(alloc, options(alloc)?) {
         Ok(engine) => Ok(engine),
         Err(_no_memory) => Err(AllocError),
     }
+}
+
+// The node leads, and a broker registers.
+fn begin<L: Ledger, R: Print>(
+    rt: &R,
+    alloc: Global,
+    engine: &mut Engine,
+    steps: &mut Steps<L>,
+) -> anyhow::Result<()>
+    requires sound { IsSound engine.old }
+    requires drained { left engine.old ≡ [] }
+    ensures sound { OnOk result (IsSound engine.new) }
+    ensures drained { OnOk result (left engine.new ≡ []) }
+{
+    take(rt, engine, &lead(), steps)?;
+    take(rt, engine, &registration(alloc)?, steps)
+}
+
+// All that was appended is committed, and the image is asked for.
+fn finish<L: Ledger, R: Print>(
+    rt: &R,
+    engine: &mut Engine,
+    steps: &mut Steps<L>,
+) -> anyhow::Result<()>
+    requires sound { IsSound engine.old }
+    requires drained { left engine.old ≡ [] }
+{
+    let commit = commit_all(engine);
+    take(rt, engine, &commit, steps)?;
+    take(rt, engine, &Event::Image, steps)
+}
+
+fn host_with<L: Ledger, R: Print>(
+    rt: &R,
+    alloc: Global,
+    engine: &mut Engine,
+    blank: Blank,
+) -> anyhow::Result<()>
+    requires name { blank.name ≡ L.name }
+    requires parts { blank.parts ≡ L.parts }
+    requires some { 0 < L.parts }
+    requires sound { IsSound engine.old }
+    requires drained { left engine.old ≡ [] }
+{
+    let mut steps: Steps<L> = Steps::new(blank);
+    begin(rt, alloc, engine, &mut steps)?;
+    finish(rt, engine, &mut steps)
 }
 
 fn host<L: Ledger, R: Print>(rt: &R, alloc: Global, blank: Blank) -> anyhow::Result<()>
@@ -33,11 +85,6 @@ fn host<L: Ledger, R: Print>(rt: &R, alloc: Global, blank: Blank) -> anyhow::Res
     requires parts { blank.parts ≡ L.parts }
     requires some { 0 < L.parts }
 {
-    let mut steps: Steps<L> = Steps::new(blank);
     let mut engine = open_engine(alloc)?;
-    take(rt, &mut engine, &lead(), &mut steps)?;
-    take(rt, &mut engine, &registration(alloc)?, &mut steps)?;
-    let commit = commit_all(&engine);
-    take(rt, &mut engine, &commit, &mut steps)?;
-    take(rt, &mut engine, &Event::Image, &mut steps)
+    host_with::<L, R>(rt, alloc, &mut engine, blank)
 }
