@@ -10,7 +10,7 @@ run: tools
 	@tools/frames <tools/failover.session >crates/kr_tool/out/failover.in
 	@echo "A session, a frame a line. In:"
 	@tools/show-frames <crates/kr_tool/out/failover.in
-	@echo "Building the tool without its proofs (make build is the proved one), which takes about a minute ..."
+	@echo "Building the tool without its proofs (make build is the proved one), which takes somewhat more than a minute ..."
 	@cd crates/kr_tool && rt try --steps 1000 -- session <out/failover.in >out/failover.out 2>out/failover.log || { cat out/failover.log >&2; exit 1; }
 	@echo "Out:"
 	@tools/show-frames <crates/kr_tool/out/failover.out
