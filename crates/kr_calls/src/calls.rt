@@ -11,7 +11,6 @@ use crate::{
 };
 
 /// A request's body.
-#[derive(Drop)]
 pub enum Request {
     /// A broker process starts (API key 62).
     BrokerRegistration(BrokerRegistration),
@@ -39,8 +38,27 @@ pub enum Request {
     Metadata(Metadata),
 }
 
+// By hand: a crate that drops one calls this, where a derived drop is made and proved in each such crate anew.
+impl Drop for Request {
+    fn drop(self) {
+        match self {
+            Request::BrokerRegistration(message) => {}
+            Request::BrokerHeartbeat(message) => {}
+            Request::UnregisterBroker(message) => {}
+            Request::CreateTopics(message) => {}
+            Request::DeleteTopics(message) => {}
+            Request::CreatePartitions(message) => {}
+            Request::AlterPartition(message) => {}
+            Request::ElectLeaders(message) => {}
+            Request::AlterPartitionReassignments(message) => {}
+            Request::ListPartitionReassignments(message) => {}
+            Request::IncrementalAlterConfigs(message) => {}
+            Request::Metadata(message) => {}
+        }
+    }
+}
+
 /// A reply's body.
-#[derive(Drop)]
 pub enum Reply {
     /// Of API key 62.
     BrokerRegistration(BrokerRegistrationReply),
@@ -68,6 +86,27 @@ pub enum Reply {
     Metadata(MetadataReply),
     /// The error alone, for a message that was no call.
     Bare { error: i16 },
+}
+
+// By hand: a crate that drops one calls this, where a derived drop is made and proved in each such crate anew.
+impl Drop for Reply {
+    fn drop(self) {
+        match self {
+            Reply::BrokerRegistration(message) => {}
+            Reply::BrokerHeartbeat(message) => {}
+            Reply::UnregisterBroker(message) => {}
+            Reply::CreateTopics(message) => {}
+            Reply::DeleteTopics(message) => {}
+            Reply::CreatePartitions(message) => {}
+            Reply::AlterPartition(message) => {}
+            Reply::ElectLeaders(message) => {}
+            Reply::AlterPartitionReassignments(message) => {}
+            Reply::ListPartitionReassignments(message) => {}
+            Reply::IncrementalAlterConfigs(message) => {}
+            Reply::Metadata(message) => {}
+            Reply::Bare { error } => {}
+        }
+    }
 }
 
 /// A request under its correlation id, which its reply repeats.

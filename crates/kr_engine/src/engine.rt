@@ -19,7 +19,6 @@ use std::collections::VecDeque;
 use std::marker::Model;
 
 /// A controller that takes one event after the other.
-#[derive(Drop)]
 pub struct Engine {
     pub(crate) alloc: Global,
     pub(crate) options: Options,
@@ -36,6 +35,29 @@ pub struct Engine {
     pub(crate) given: VecDeque<Output>,
     pub(crate) refusal: Option<Output>,
     pub(crate) fresh: Vec<Entry>,
+}
+
+// By hand: a crate that drops one calls this, where a derived drop is made and proved in each such crate anew.
+impl Drop for Engine {
+    fn drop(self) {
+        let Engine {
+            alloc,
+            options,
+            store,
+            sessions,
+            tip,
+            committed,
+            leading,
+            greatest,
+            count,
+            time,
+            led,
+            held,
+            given,
+            refusal,
+            fresh,
+        } = self;
+    }
 }
 
 impl Model for Engine {

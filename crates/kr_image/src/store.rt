@@ -20,10 +20,16 @@ use std::marker::Model;
 use std::sync::ledger::Ledger;
 
 /// An image with kept epochs.
-#[derive(Drop)]
 pub struct ImageStore {
     timelines: Timelines,
     kept: Vec<KeptCounts>,
+}
+
+// By hand: a crate that drops one calls this, where a derived drop is made and proved in each such crate anew.
+impl Drop for ImageStore {
+    fn drop(self) {
+        let ImageStore { timelines, kept } = self;
+    }
 }
 
 impl Model for ImageStore {
