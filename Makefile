@@ -4,21 +4,23 @@
 tools:
 	@command -v rt >/dev/null 2>&1 || { echo "rt, the command of the Rattle toolchain, isn't on the PATH: install the toolchain and run this again" >&2; exit 127; }
 
-# Proving takes its time, a look at a session shouldn't: `rt try` builds without proofs.
+# Proving takes its time, a look at a session shouldn't: `rt try` builds without proofs, and kr_pipe, which is the tool's session call alone, builds sooner than the tool.
+out = $(CURDIR)/crates/kr_tool/out
+
 run: tools
-	@mkdir -p crates/kr_tool/out
-	@tools/frames <tools/failover.session >crates/kr_tool/out/failover.in
+	@mkdir -p $(out)
+	@tools/frames <tools/failover.session >$(out)/failover.in
 	@echo "A session, a frame a line. In:"
-	@tools/show-frames <crates/kr_tool/out/failover.in
-	@echo "Building the tool without its proofs (make build is the proved one), which takes somewhat more than a minute ..."
-	@cd crates/kr_tool && rt try --steps 1000 -- session <out/failover.in >out/failover.out 2>out/failover.log || { cat out/failover.log >&2; exit 1; }
+	@tools/show-frames <$(out)/failover.in
+	@echo "Building the tool's session call (kr_pipe) without its proofs, which takes about a minute; make build makes the proved tool ..."
+	@cd crates/kr_pipe && rt try --steps 1000 <$(out)/failover.in >$(out)/failover.out 2>$(out)/failover.log || { cat $(out)/failover.log >&2; exit 1; }
 	@echo "Out:"
-	@tools/show-frames <crates/kr_tool/out/failover.out
-	@tools/batches <crates/kr_tool/out/failover.out >crates/kr_tool/out/failover.batches
-	@echo "The batches that it appended are folded to an image (the tool is built again) ..."
-	@cd crates/kr_tool && rt try --steps 1000 -- fold <out/failover.batches >out/failover.image 2>out/failover.log || { cat out/failover.log >&2; exit 1; }
+	@tools/show-frames <$(out)/failover.out
+	@tools/batches <$(out)/failover.out >$(out)/failover.batches
+	@echo "The batches that it appended are folded to an image (the tool is built, without its proofs) ..."
+	@cd crates/kr_tool && rt try --steps 1000 -- fold <$(out)/failover.batches >$(out)/failover.image 2>$(out)/failover.log || { cat $(out)/failover.log >&2; exit 1; }
 	@echo "The image as text (the tool is built again):"
-	@cd crates/kr_tool && rt try --steps 1000 -- dump <out/failover.image 2>out/failover.log || { cat out/failover.log >&2; exit 1; }
+	@cd crates/kr_tool && rt try --steps 1000 -- dump <$(out)/failover.image 2>$(out)/failover.log || { cat $(out)/failover.log >&2; exit 1; }
 
 # Each crate below the tool, behind those that it stands on: as many at once as there are processors.
 build: tools
