@@ -22,10 +22,8 @@ run: tools
 	@echo "The image as text (the tool is built again):"
 	@cd crates/kr_tool && rt try --steps 1000 -- dump <$(out)/failover.image 2>$(out)/failover.log || { cat $(out)/failover.log >&2; exit 1; }
 
-# Each crate below the tool, behind those that it stands on: as many at once as there are processors.
 build: tools
-	@awk -F: '/^kr_/ { rule = $$1 ":"; count = split($$2, word, " "); for (n = 1; n <= count; n++) if (word[n] ~ /^kr_/) rule = rule " " word[n]; print rule "\n\t@tools/prove " $$1 }' crates.txt | $(MAKE) -s -j "$$(nproc)" -f - kr_tool
-	@echo "crates/kr_tool/out/kr_tool is the proved tool"
+	@tools/build
 
 test: tools
 	@.ci/run
