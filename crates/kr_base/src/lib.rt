@@ -6,8 +6,6 @@ mod answers;
 mod memory;
 mod outside;
 mod steps;
-#[cfg(test)]
-mod tests;
 
 pub use adapters::{ReadSource, WriteSink};
 pub use answers::{Failed, NoEpoch, NoMemory};

@@ -2,8 +2,14 @@
 #![tactic(auto)]
 
 #[cfg(test)]
+mod commands;
+#[cfg(test)]
 mod copies;
 #[cfg(test)]
 mod encoders;
 #[cfg(test)]
+mod objects;
+#[cfg(test)]
 mod sessions;
+#[cfg(test)]
+mod timelines;

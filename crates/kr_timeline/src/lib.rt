@@ -6,6 +6,3 @@ mod timeline;
 
 pub use kr_base::NoEpoch;
 pub use timeline::Timeline;
-
-#[cfg(test)]
-mod tests;

@@ -2,15 +2,10 @@
 //! output.
 #![tactic(auto)]
 
-mod running;
-#[cfg(test)]
-mod tests;
-
 use kr_base::{ReadSource, WriteSink};
-pub use kr_run::Status;
+use kr_command::refuse;
+pub use kr_command::{Status, run};
 use kr_run::words_of;
-use running::refuse;
-pub use running::run;
 
 fn main(rt: HostRuntime) -> Status {
     let mut notes = WriteSink::new(rt.stderr());

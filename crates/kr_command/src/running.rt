@@ -6,8 +6,8 @@ ghost use Rattle.std.specs.Io.KnownBytes.{Appends};
 ghost use Rattle.kr_base.specs.Causes.{Rose};
 ghost use Rattle.kr_run.specs.Endings.{BreaksRightly, EndsWith, RefusesBroken, ServesWhole};
 ghost use Rattle.kr_fold.specs.Endings.{DumpEnds, DumpsWhole, FoldEnds, FoldsNoMore, FoldsWhole, RefusesBroken as RefusesBrokenImage, RefusesLonger};
-ghost use Rattle.kr_tool.specs.Notes as notes;
-ghost use Rattle.kr_tool.specs.Notes.{AreServed, IsDump, IsFold, IsOf, IsSession, note_of, line, IsMalformed};
+ghost use Rattle.kr_command.specs.Notes as notes;
+ghost use Rattle.kr_command.specs.Notes.{AreServed, IsDump, IsFold, IsOf, IsSession, note_of, line, IsMalformed};
 
 use kr_base::{Sink, Source};
 use kr_defs::Text;
@@ -63,7 +63,7 @@ pub fn run<S: Source, K: Sink, E: Sink>(
 
 /// Answers for words that aren't known: Usage where one isn't text, NoMemory where memory for them ran out, each with its
 /// line.
-pub(crate) fn refuse<E: Sink>(alloc: Global, fault: WordsFault, notes: &mut E) -> Status
+pub fn refuse<E: Sink>(alloc: Global, fault: WordsFault, notes: &mut E) -> Status
     ensures usage { fault ≡ WordsFault.NotText → result ≡ Status.Usage }
     ensures no_memory { fault ≡ WordsFault.NoMemory → result ≡ Status.NoMemory }
     ensures notes { (Rose (E.faults notes.old) (E.faults notes.new) → ⊥) → Appends (E.written notes.old) (E.written notes.new) (note_of result) }

@@ -2,7 +2,7 @@
 
 ghost use Rattle.std.specs.Prelude.{◌≡◌, ◌<◌};
 
-use crate::{
+use kr_base::{
     Failed, MemorySink, MemorySource, NoMemory, ReadSource, Sink, Source, Steps, WriteSink,
 };
 use std::alloc::Global;

@@ -8,7 +8,7 @@ use Rattle.kr_run.proofs.OutputFrames.{all_of}
 use Rattle.kr_fold.specs.declared.fault.ToolFault.{ToolFault}
 use Rattle.kr_fold.specs.declared.fault.ToolFault.TheVariants as faults
 use Rattle.kr_fold.specs.Endings.{DumpEnds, DumpsWhole, FoldEnds, FoldsNoMore, FoldsWhole, RefusesBroken as BrokenImage, RefusesLonger}
-use Rattle.kr_tool.specs.Notes.{IsMalformed, IsOf, status_of}
+use Rattle.kr_command.specs.Notes.{IsMalformed, IsOf, status_of}
 
 abbrev pub Same : Status → Status → Type 0
 Same told ended = (told ≡ ended) ⊎ ((told ≡ statuses.NoMemory) × IsMalformed ended)

@@ -1,7 +1,7 @@
 //! The words and the notes of whole runs over memory.
 
-use crate::{Status, run};
 use kr_base::{MemorySink, MemorySource};
+use kr_command::{Status, run};
 use kr_defs::Text;
 use std::alloc::{AllocError, Global};
 use std::process::Abort;

@@ -1,6 +1,6 @@
 use Rattle.kr_run.specs.declared.status.Status.TheVariants as statuses
-use Rattle.kr_tool.proofs.Statuses.{breaks_told, ends_told, no_dump_line, no_dumps_broken, no_dumps_longer, no_dumps_whole, no_fold_line, no_folds_more, no_folds_whole, of_told, refuses_told, same_but_memory, serves_told}
-use Rattle.kr_tool.proofs.running.run.Goals as goal
+use Rattle.kr_command.proofs.Statuses.{breaks_told, ends_told, no_dump_line, no_dumps_broken, no_dumps_longer, no_dumps_whole, no_fold_line, no_folds_more, no_folds_whole, of_told, refuses_told, same_but_memory, serves_told}
+use Rattle.kr_command.proofs.running.run.Goals as goal
 
 pub returns-clause-session : goal.returns-clause-session
 returns-clause-session g c = λ is. ends_told _ _ _ _ c.tell.result c.serve_words-status.result c.tell.ensures.same (c.serve_words-status.ensures.session is)

@@ -1,0 +1,7 @@
+//! The tool's one call: a command by its words.
+#![tactic(auto)]
+
+mod running;
+
+pub use kr_run::Status;
+pub use running::{refuse, run};
