@@ -24,12 +24,12 @@ use Rattle.kr_defs.specs.Settings.{facts_of}
 use Rattle.kr_calls.specs.declared.errors.TheConstants.{FENCED_LEADER_EPOCH, INELIGIBLE_REPLICA, INVALID_REQUEST, INVALID_UPDATE_VERSION, STALE_BROKER_EPOCH, UNKNOWN_LEADER_EPOCH, UNKNOWN_TOPIC_ID, UNKNOWN_TOPIC_OR_PARTITION}
 use Rattle.kr_calls.specs.declared.calls.Reply.{Reply}
 use Rattle.kr_calls.specs.declared.deciding.Draft.{Draft}
-use Rattle.kr_calls.specs.declared.partitions.AlterPartition.{AlterPartition}
-use Rattle.kr_calls.specs.declared.partitions.AlterPartitionResult.{AlterPartitionResult}
-use Rattle.kr_calls.specs.declared.partitions.AlterPartitionTopic.{AlterPartitionTopic}
-use Rattle.kr_calls.specs.declared.partitions.AlterPartitionTopicResult.{AlterPartitionTopicResult}
-use Rattle.kr_calls.specs.declared.partitions.BrokerState.{BrokerState}
-use Rattle.kr_calls.specs.declared.partitions.PartitionReport.{PartitionReport}
+use Rattle.kr_calls.specs.declared.alter_partition.AlterPartition.{AlterPartition}
+use Rattle.kr_calls.specs.declared.alter_partition.AlterPartitionResult.{AlterPartitionResult}
+use Rattle.kr_calls.specs.declared.alter_partition.AlterPartitionTopic.{AlterPartitionTopic}
+use Rattle.kr_calls.specs.declared.alter_partition.AlterPartitionTopicResult.{AlterPartitionTopicResult}
+use Rattle.kr_calls.specs.declared.alter_partition.BrokerState.{BrokerState}
+use Rattle.kr_calls.specs.declared.alter_partition.PartitionReport.{PartitionReport}
 use Rattle.kr_calls.specs.declared.calls.Reply.TheVariants as replies
 use Rattle.kr_calls.specs.Deciding.{Work, after_groups, nothing_decided, group_answers}
 

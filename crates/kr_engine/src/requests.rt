@@ -136,13 +136,15 @@ impl Engine {
     {
         let at = at_epoch(&self.committed);
         match request {
-            Request::ListPartitionReassignments(q) => reply_of(kr_reassign::list(
-                self.alloc,
-                &self.store,
-                at,
-                &self.options,
-                q,
-            )),
+            Request::ListPartitionReassignments(q) => reply_of(
+                kr_partitions::list_partition_reassignments(
+                    self.alloc,
+                    &self.store,
+                    at,
+                    &self.options,
+                    q,
+                ),
+            ),
             Request::Metadata(q) => reply_of(kr_topics::metadata(
                 self.alloc,
                 &self.store,
