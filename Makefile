@@ -29,4 +29,4 @@ test: tools
 	@.ci/run
 
 bench: tools
-	@cd crates/kr_bench && rt run -- time
+	@cd crates/test_bench && rt run -- time

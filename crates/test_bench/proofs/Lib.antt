@@ -1,0 +1,2 @@
+pub mod ImageReading
+pub mod Sizes
