@@ -8,10 +8,10 @@ use Rattle.kr_defs.specs.Guard.{found, refuse◌when◌else◌}
 use Rattle.kr_defs.specs.Heartbeats.{Heartbeats}
 use Rattle.kr_defs.specs.Image.{Image}
 use Rattle.kr_defs.specs.Map as entries
-use Rattle.kr_calls.specs.declared.brokers.BrokerHeartbeat.{BrokerHeartbeat}
-use Rattle.kr_calls.specs.declared.brokers.BrokerHeartbeatReply.{BrokerHeartbeatReply}
-use Rattle.kr_calls.specs.declared.brokers.BrokerRegistration.{BrokerRegistration}
-use Rattle.kr_calls.specs.declared.brokers.BrokerRegistrationReply.{BrokerRegistrationReply}
+use Rattle.kr_calls.specs.declared.broker_heartbeat.BrokerHeartbeat.{BrokerHeartbeat}
+use Rattle.kr_calls.specs.declared.broker_heartbeat.BrokerHeartbeatReply.{BrokerHeartbeatReply}
+use Rattle.kr_calls.specs.declared.broker_registration.BrokerRegistration.{BrokerRegistration}
+use Rattle.kr_calls.specs.declared.broker_registration.BrokerRegistrationReply.{BrokerRegistrationReply}
 use Rattle.kr_calls.specs.declared.calls.Reply.TheVariants as replies
 use Rattle.kr_calls.specs.BrokerHeartbeat as heartbeating
 use Rattle.kr_calls.specs.BrokerRegistration as registering

@@ -7,9 +7,9 @@ use Rattle.kr_defs.specs.Build.{aimed, built, completes, difference, ended, sett
 use Rattle.kr_defs.specs.Elect.{elected}
 use Rattle.kr_defs.specs.Eligible.{eligible_after}
 use Rattle.kr_defs.specs.Image.{Image}
-use Rattle.kr_calls.specs.declared.brokers.BrokerHeartbeat.{BrokerHeartbeat}
-use Rattle.kr_calls.specs.declared.brokers.BrokerHeartbeatReply.{BrokerHeartbeatReply}
-use Rattle.kr_calls.specs.declared.brokers.BrokerRegistration.{BrokerRegistration}
+use Rattle.kr_calls.specs.declared.broker_heartbeat.BrokerHeartbeat.{BrokerHeartbeat}
+use Rattle.kr_calls.specs.declared.broker_heartbeat.BrokerHeartbeatReply.{BrokerHeartbeatReply}
+use Rattle.kr_calls.specs.declared.broker_registration.BrokerRegistration.{BrokerRegistration}
 use Rattle.kr_calls.specs.BrokerHeartbeat as heartbeating
 use Rattle.kr_calls.specs.BrokerRegistration as registering
 use Rattle.kr_calls.specs.UnregisterBroker as unregistering

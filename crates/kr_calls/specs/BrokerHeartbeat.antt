@@ -22,8 +22,8 @@ use Rattle.kr_defs.specs.Image.{Image}
 use Rattle.kr_defs.specs.Settings.{facts_with}
 use Rattle.kr_defs.specs.Walk.{Walked, changes_of, walk}
 use Rattle.kr_calls.specs.declared.errors.TheConstants.{STALE_BROKER_EPOCH}
-use Rattle.kr_calls.specs.declared.brokers.BrokerHeartbeat.{BrokerHeartbeat}
-use Rattle.kr_calls.specs.declared.brokers.BrokerHeartbeatReply.{BrokerHeartbeatReply}
+use Rattle.kr_calls.specs.declared.broker_heartbeat.BrokerHeartbeat.{BrokerHeartbeat}
+use Rattle.kr_calls.specs.declared.broker_heartbeat.BrokerHeartbeatReply.{BrokerHeartbeatReply}
 use Rattle.kr_calls.specs.declared.calls.Reply.{Reply}
 use Rattle.kr_calls.specs.declared.deciding.Draft.{Draft}
 use Rattle.kr_calls.specs.declared.calls.Reply.TheVariants as replies

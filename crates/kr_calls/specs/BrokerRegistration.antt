@@ -13,8 +13,8 @@ use Rattle.kr_defs.specs.Guard.{refuse◌when◌else◌}
 use Rattle.kr_defs.specs.Heartbeats.{heard, valid}
 use Rattle.kr_defs.specs.Image.{Image}
 use Rattle.kr_calls.specs.declared.errors.TheConstants.{DUPLICATE_BROKER_REGISTRATION, INCONSISTENT_CLUSTER_ID, INVALID_REQUEST}
-use Rattle.kr_calls.specs.declared.brokers.BrokerRegistration.{BrokerRegistration}
-use Rattle.kr_calls.specs.declared.brokers.BrokerRegistrationReply.{BrokerRegistrationReply}
+use Rattle.kr_calls.specs.declared.broker_registration.BrokerRegistration.{BrokerRegistration}
+use Rattle.kr_calls.specs.declared.broker_registration.BrokerRegistrationReply.{BrokerRegistrationReply}
 use Rattle.kr_calls.specs.declared.calls.Reply.{Reply}
 use Rattle.kr_calls.specs.declared.deciding.Draft.{Draft}
 use Rattle.kr_calls.specs.declared.calls.Reply.TheVariants as replies

@@ -25,10 +25,10 @@ use Rattle.kr_defs.specs.Map as entries
 use Rattle.kr_defs.proofs.HeartbeatLists.{leaves}
 use Rattle.kr_defs.proofs.IdLists.{same_id}
 use Rattle.kr_defs.proofs.Tests.{both}
-use Rattle.kr_safety.specs.HearingLaws.{HearsOf}
-use Rattle.kr_safety.proofs.BrokerTests.{by_get, passing}
-use Rattle.kr_safety.proofs.HearingRequests.{fencings_keep_hearing}
-use Rattle.kr_safety.proofs.SafeRequests.{valid_after}
+use Rattle.law_safety.specs.HearingLaws.{HearsOf}
+use Rattle.law_safety.proofs.BrokerTests.{by_get, passing}
+use Rattle.law_safety.proofs.HearingRequests.{fencings_keep_hearing}
+use Rattle.law_safety.proofs.SafeRequests.{valid_after}
 use Rattle.kr_engine.specs.declared.writes.Write.{Write}
 use Rattle.kr_engine.specs.Engine.{Core, IsEngine, writes_in_order}
 use Rattle.kr_engine.specs.Entries.{item_entries}

@@ -19,10 +19,10 @@ use Rattle.kr_defs.specs.Image.{Image, IsValid}
 use Rattle.kr_defs.specs.ImageLaws.{as_items}
 use Rattle.kr_defs.specs.Map as entries
 use Rattle.kr_defs.proofs.Tests.{both, none_is}
-use Rattle.kr_fitting.specs.Fitting.{FitsBatch}
-use Rattle.kr_fitting.proofs.FittingRecords.{records_fit}
-use Rattle.kr_safety.proofs.FencingSizes.{fencings_fit}
-use Rattle.kr_safety.specs.HearingLaws.{HearsOf}
+use Rattle.law_fitting.specs.Fitting.{FitsBatch}
+use Rattle.law_fitting.proofs.FittingRecords.{records_fit}
+use Rattle.law_safety.proofs.FencingSizes.{fencings_fit}
+use Rattle.law_safety.specs.HearingLaws.{HearsOf}
 use Rattle.kr_store.specs.Images.{AreValid, IsAbove, marked}
 use Rattle.kr_engine.specs.declared.writes.Write.{Write}
 use Rattle.kr_engine.specs.Engine as engines

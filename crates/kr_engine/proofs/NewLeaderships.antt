@@ -16,8 +16,8 @@ use Rattle.kr_defs.specs.Image.{Image}
 use Rattle.kr_defs.specs.Log.{Log, apply_all, tip}
 use Rattle.kr_defs.proofs.IdLists.{same_id}
 use Rattle.kr_defs.proofs.Tests.{none_is, not_false}
-use Rattle.kr_safety.specs.HearingLaws.{HearsOf}
-use Rattle.kr_safety.proofs.HearingRequests.{leaders_begin_hearing}
+use Rattle.law_safety.specs.HearingLaws.{HearsOf}
+use Rattle.law_safety.proofs.HearingRequests.{leaders_begin_hearing}
 use Rattle.kr_store.specs.Images.{marked}
 use Rattle.kr_engine.specs.declared.writes.Write.{Write}
 use Rattle.kr_engine.specs.Engine as engines

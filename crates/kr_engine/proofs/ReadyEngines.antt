@@ -22,8 +22,8 @@ use Rattle.kr_defs.specs.Map as entries
 use Rattle.kr_defs.proofs.Tests.{both}
 use Rattle.kr_calls.specs.NextBasis.{broker_is_stopping}
 use Rattle.kr_defs.proofs.HeartbeatLists.{le_through}
-use Rattle.kr_safety.specs.HearingLaws.{HearsOf}
-use Rattle.kr_safety.proofs.BrokerTests.{by_get}
+use Rattle.law_safety.specs.HearingLaws.{HearsOf}
+use Rattle.law_safety.proofs.BrokerTests.{by_get}
 use Rattle.kr_store.specs.Images.{AreValid, IsAbove, last_kept}
 use Rattle.kr_engine.specs.declared.writes.Write.{Write}
 use Rattle.kr_engine.specs.Engine.{Core, IsEngine, IsSound, Rise, cleared, kept_image}

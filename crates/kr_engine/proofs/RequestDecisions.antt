@@ -23,8 +23,8 @@ use Rattle.kr_defs.specs.Heartbeats.{Heartbeats, heard, stopping_brokers}
 use Rattle.kr_defs.specs.Ids.{has}
 use Rattle.kr_defs.specs.ImageLaws.{as_items}
 use Rattle.kr_defs.specs.Image.{Image, empty}
-use Rattle.kr_fitting.specs.Fitting.{FitsBatch}
-use Rattle.kr_fitting.proofs.FittingRecords.{requests_fit}
+use Rattle.law_fitting.specs.Fitting.{FitsBatch}
+use Rattle.law_fitting.proofs.FittingRecords.{requests_fit}
 use Rattle.kr_rules.specs.Progress.{base_of}
 use Rattle.kr_store.specs.Images.{Images, IsAbove, last_kept, marked}
 use Rattle.kr_engine.specs.Entries.{item_entries}

@@ -34,8 +34,8 @@ use Rattle.kr_defs.specs.ImageLaws.{as_items}
 use Rattle.kr_defs.specs.Image.{Image, IsValid, empty}
 use Rattle.kr_defs.proofs.Tests.{both}
 use Rattle.kr_defs.proofs.HeartbeatLists.{le_itself}
-use Rattle.kr_safety.specs.HearingLaws.{HearsOf}
-use Rattle.kr_safety.proofs.HearingRequests.{requests_keep_hearing}
+use Rattle.law_safety.specs.HearingLaws.{HearsOf}
+use Rattle.law_safety.proofs.HearingRequests.{requests_keep_hearing}
 use Rattle.kr_store.specs.Images.{AreValid, kept_at}
 use Rattle.kr_engine.specs.declared.writes.Write.{Write}
 use Rattle.kr_engine.specs.Engine as engines

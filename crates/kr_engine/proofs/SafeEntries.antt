@@ -28,8 +28,8 @@ use Rattle.kr_defs.specs.Image.{Image, IsValid, empty}
 use Rattle.kr_defs.specs.ImageLaws.{as_items}
 use Rattle.kr_defs.specs.Log.{Log, apply_all, image_at, tip}
 use Rattle.kr_defs.specs.Map as maps
-use Rattle.kr_safety.specs.SafeChangeLaws.{AreSafe}
-use Rattle.kr_safety.proofs.SafeRequests.{fencings_are_safe, requests_are_safe, valid_after}
+use Rattle.law_safety.specs.SafeChangeLaws.{AreSafe}
+use Rattle.law_safety.proofs.SafeRequests.{fencings_are_safe, requests_are_safe, valid_after}
 use Rattle.kr_engine.specs.declared.writes.Write.{Write}
 use Rattle.kr_engine.specs.Commits as commits
 use Rattle.kr_engine.specs.Commits.{commit, is_end}

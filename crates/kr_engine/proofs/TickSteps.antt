@@ -16,8 +16,8 @@ use Rattle.kr_defs.specs.Heartbeats.{AreHeartbeats, Heartbeats, contact_brokers,
 use Rattle.kr_defs.specs.Ids.{has, is_within}
 use Rattle.kr_defs.specs.Image.{Image, IsValid}
 use Rattle.kr_defs.proofs.IdLists.{all_from}
-use Rattle.kr_safety.specs.HearingLaws.{HearsOf}
-use Rattle.kr_safety.proofs.Lengths.{distinct_few}
+use Rattle.law_safety.specs.HearingLaws.{HearsOf}
+use Rattle.law_safety.proofs.Lengths.{distinct_few}
 use Rattle.kr_store.specs.Images.{AreValid}
 use Rattle.kr_engine.specs.declared.writes.Write.{Write}
 use Rattle.kr_engine.specs.Engine as engines

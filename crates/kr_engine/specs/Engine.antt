@@ -16,7 +16,7 @@ use Rattle.kr_defs.specs.Heartbeats as hearing
 use Rattle.kr_defs.specs.Heartbeats.{Heartbeats}
 use Rattle.kr_defs.specs.Image.{Image, empty}
 use Rattle.kr_defs.specs.Log.{Log, image_at}
-use Rattle.kr_safety.specs.HearingLaws.{HearsOf}
+use Rattle.law_safety.specs.HearingLaws.{HearsOf}
 use Rattle.kr_snapshot.specs.ImageText.{image_text}
 use Rattle.kr_store.specs.Images.{Images, forgotten, kept_at, marked, no_images, reverted}
 use Rattle.kr_engine.specs.declared.writes.Write.{Write}

@@ -11,7 +11,7 @@ use Rattle.kr_defs.specs.declared.record.Item.{Item}
 use Rattle.kr_defs.specs.declared.record.Item.TheVariants as items
 use Rattle.kr_defs.specs.Apply.{apply}
 use Rattle.kr_defs.specs.Image.{Image, IsValid}
-use Rattle.kr_safety.specs.SafeChangeLaws.{IsSafeRecord}
+use Rattle.law_safety.specs.SafeChangeLaws.{IsSafeRecord}
 use Rattle.kr_engine.specs.declared.writes.Write.{Write}
 use Rattle.kr_engine.specs.Engine.{Core, IsEngine, IsStep}
 use Rattle.kr_engine.specs.World.{State}

@@ -136,14 +136,16 @@ impl Engine {
     {
         let at = at_epoch(&self.committed);
         match request {
-            Request::ListPartitionReassignments(q) => reply_of(kr_reassign::list(
-                self.alloc,
-                &self.store,
-                at,
-                &self.options,
-                q,
-            )),
-            Request::Metadata(q) => reply_of(kr_topics::metadata(
+            Request::ListPartitionReassignments(q) => reply_of(
+                kr_partitions::list_partition_reassignments::answer(
+                    self.alloc,
+                    &self.store,
+                    at,
+                    &self.options,
+                    q,
+                ),
+            ),
+            Request::Metadata(q) => reply_of(kr_topics::metadata::answer(
                 self.alloc,
                 &self.store,
                 at,

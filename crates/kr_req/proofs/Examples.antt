@@ -12,7 +12,7 @@ use Rattle.kr_calls.specs.declared.calls.Request.TheVariants as requests
 use Rattle.kr_calls.specs.declared.calls.Reply.TheVariants as replies
 use Rattle.kr_calls.specs.Refuse.{refuse}
 use Rattle.kr_req.specs.Reading.{served_by, head_at, client_id_at, client_at, body_of, request_of, ask_of}
-use Rattle.kr_req_broker.specs.Layouts.{broker_heartbeat_reply}
+use Rattle.kr_bodies.specs.BrokerHeartbeat.{broker_heartbeat_reply}
 
 -- a heartbeat of broker 1 with epoch 0 at offset 4, under the correlation id 2, without client id
 abbrev heartbeat : List ℕ

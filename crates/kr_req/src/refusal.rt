@@ -16,12 +16,12 @@ use kr_calls::{
 use kr_defs::{Copied, Rows};
 use std::alloc::Global;
 
-fn refused_creation(
+fn refused_topic(
     alloc: Global,
     topic: &CreatableTopic,
     error: i16,
 ) -> Result<CreatableTopicResult, NoMemory>
-    ensures { IfOk result (λ r. r ≡ refusals.refused_creation error topic.now) }
+    ensures { IfOk result (λ r. r ≡ refusals.refused_topic error topic.now) }
 {
     let name = topic.name.copied(alloc)?;
     Ok(CreatableTopicResult {
@@ -33,26 +33,26 @@ fn refused_creation(
     })
 }
 
-fn refused_creations(
+fn refuse_create_topics(
     alloc: Global,
     topics: &[CreatableTopic],
     error: i16,
 ) -> Result<CreatableTopicResults, NoMemory>
-    ensures { IfOk result (λ rows. rows ≡ map (refusals.refused_creation error) topics.now) }
+    ensures { IfOk result (λ rows. rows ≡ map (refusals.refused_topic error) topics.now) }
 {
     let mut results = Rows::new(alloc);
     for topic in topics {
-        results.push(refused_creation(alloc, topic, error)?)?;
+        results.push(refused_topic(alloc, topic, error)?)?;
     }
     Ok(results)
 }
 
-fn refused_deletion(
+fn refused_topic_state(
     alloc: Global,
     topic: &DeleteTopicState,
     error: i16,
 ) -> Result<DeletableTopicResult, NoMemory>
-    ensures { IfOk result (λ r. r ≡ refusals.refused_deletion error topic.now) }
+    ensures { IfOk result (λ r. r ≡ refusals.refused_topic_state error topic.now) }
 {
     let name = Copied::copied(&topic.name, alloc)?;
     Ok(DeletableTopicResult {
@@ -62,41 +62,41 @@ fn refused_deletion(
     })
 }
 
-fn refused_deletions(
+fn refuse_delete_topics(
     alloc: Global,
     topics: &[DeleteTopicState],
     error: i16,
 ) -> Result<DeletableTopicResults, NoMemory>
-    ensures { IfOk result (λ rows. rows ≡ map (refusals.refused_deletion error) topics.now) }
+    ensures { IfOk result (λ rows. rows ≡ map (refusals.refused_topic_state error) topics.now) }
 {
     let mut results = Rows::new(alloc);
     for topic in topics {
-        results.push(refused_deletion(alloc, topic, error)?)?;
+        results.push(refused_topic_state(alloc, topic, error)?)?;
     }
     Ok(results)
 }
 
-fn refused_growth(
+fn refused_topic_partitions(
     alloc: Global,
     topic: &CreatePartitionsTopic,
     error: i16,
 ) -> Result<CreatePartitionsTopicResult, NoMemory>
-    ensures { IfOk result (λ r. r ≡ refusals.refused_growth error topic.now) }
+    ensures { IfOk result (λ r. r ≡ refusals.refused_topic_partitions error topic.now) }
 {
     let name = topic.name.copied(alloc)?;
     Ok(CreatePartitionsTopicResult { name, error })
 }
 
-fn refused_growths(
+fn refuse_create_partitions(
     alloc: Global,
     topics: &[CreatePartitionsTopic],
     error: i16,
 ) -> Result<CreatePartitionsTopicResults, NoMemory>
-    ensures { IfOk result (λ rows. rows ≡ map (refusals.refused_growth error) topics.now) }
+    ensures { IfOk result (λ rows. rows ≡ map (refusals.refused_topic_partitions error) topics.now) }
 {
     let mut results = Rows::new(alloc);
     for topic in topics {
-        results.push(refused_growth(alloc, topic, error)?)?;
+        results.push(refused_topic_partitions(alloc, topic, error)?)?;
     }
     Ok(results)
 }
@@ -116,7 +116,7 @@ fn refused_resource(
     })
 }
 
-fn refused_resources(
+fn refuse_incremental_alter_configs(
     alloc: Global,
     resources: &[ConfigResource],
     error: i16,
@@ -147,15 +147,15 @@ pub fn refuse(alloc: Global, request: &Request, error: i16) -> Result<Reply, NoM
         }),
         Request::UnregisterBroker(_) => Reply::UnregisterBroker(UnregisterBrokerReply { error }),
         Request::CreateTopics(request) => {
-            let topics = refused_creations(alloc, request.topics.as_slice(), error)?;
+            let topics = refuse_create_topics(alloc, request.topics.as_slice(), error)?;
             Reply::CreateTopics(CreateTopicsReply { topics })
         }
         Request::DeleteTopics(request) => {
-            let responses = refused_deletions(alloc, request.topics.as_slice(), error)?;
+            let responses = refuse_delete_topics(alloc, request.topics.as_slice(), error)?;
             Reply::DeleteTopics(DeleteTopicsReply { responses })
         }
         Request::CreatePartitions(request) => {
-            let results = refused_growths(alloc, request.topics.as_slice(), error)?;
+            let results = refuse_create_partitions(alloc, request.topics.as_slice(), error)?;
             Reply::CreatePartitions(CreatePartitionsReply { results })
         }
         Request::AlterPartition(_) => Reply::AlterPartition(AlterPartitionReply {
@@ -179,7 +179,11 @@ pub fn refuse(alloc: Global, request: &Request, error: i16) -> Result<Reply, NoM
             })
         }
         Request::IncrementalAlterConfigs(request) => {
-            let responses = refused_resources(alloc, request.resources.as_slice(), error)?;
+            let responses = refuse_incremental_alter_configs(
+                alloc,
+                request.resources.as_slice(),
+                error,
+            )?;
             Reply::IncrementalAlterConfigs(IncrementalAlterConfigsReply { responses })
         }
         Request::Metadata(_) => Reply::Metadata(MetadataReply {

@@ -31,41 +31,49 @@ pub(crate) fn serve<L: Ledger>(
 {
     match request {
         Request::BrokerRegistration(asked) => {
-            kr_brokers::register(alloc, store, context, asked, out, steps)
+            kr_brokers::broker_registration::decide(alloc, store, context, asked, out, steps)
         }
         Request::BrokerHeartbeat(asked) => {
-            kr_brokers::heartbeat(alloc, store, context, asked, out, steps)
+            kr_brokers::broker_heartbeat::decide(alloc, store, context, asked, out, steps)
         }
         Request::UnregisterBroker(asked) => {
-            kr_brokers::unregister(alloc, store, context, asked, out, steps)
+            kr_brokers::unregister_broker::decide(alloc, store, context, asked, out, steps)
         }
         Request::CreateTopics(asked) => {
-            kr_topics::create(alloc, store, context, asked, out, steps)
+            kr_topics::create_topics::decide(alloc, store, context, asked, out, steps)
         }
         Request::DeleteTopics(asked) => {
-            kr_topics::delete(alloc, store, context, asked, out, steps)
+            kr_topics::delete_topics::decide(alloc, store, context, asked, out, steps)
         }
         Request::CreatePartitions(asked) => {
-            kr_topics::grow(alloc, store, context, asked, out, steps)
+            kr_topics::create_partitions::decide(alloc, store, context, asked, out, steps)
         }
         Request::AlterPartition(asked) => {
-            kr_parts::alter(alloc, store, context, asked, out, steps)
+            kr_partitions::alter_partition::decide(alloc, store, context, asked, out, steps)
         }
         Request::ElectLeaders(asked) => {
-            kr_parts::elect(alloc, store, context, asked, out, steps)
+            kr_partitions::elect_leaders::decide(alloc, store, context, asked, out, steps)
         }
         Request::AlterPartitionReassignments(asked) => {
-            kr_reassign::alter(alloc, store, context, asked, out, steps)
+            kr_partitions::alter_partition_reassignments::decide(
+                alloc, store, context, asked, out, steps,
+            )
         }
         Request::ListPartitionReassignments(asked) => {
-            let shown = kr_reassign::list(alloc, store, At::Tip, context.options, asked);
+            let shown = kr_partitions::list_partition_reassignments::answer(
+                alloc,
+                store,
+                At::Tip,
+                context.options,
+                asked,
+            );
             show(shown, out)
         }
         Request::IncrementalAlterConfigs(asked) => {
-            kr_config::alter(alloc, store, context, asked, out, steps)
+            kr_configs::incremental_alter_configs::decide(alloc, store, context, asked, out, steps)
         }
         Request::Metadata(asked) => {
-            let shown = kr_topics::metadata(alloc, store, At::Tip, context.options, asked);
+            let shown = kr_topics::metadata::answer(alloc, store, At::Tip, context.options, asked);
             show(shown, out)
         }
     }

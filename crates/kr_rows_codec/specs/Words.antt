@@ -14,7 +14,7 @@ use Rattle.kr_batch.specs.declared.fault.BatchFault.TheVariants as batches
 use Rattle.kr_batch.specs.declared.fault.Cause.{Cause}
 use Rattle.kr_batch.specs.declared.fault.Cause.TheVariants as causes
 use Rattle.kr_batch.specs.BatchBytes.{batch_bytes}
-use Rattle.kr_again.specs.Items.{begins_with_control}
+use Rattle.law_reencoding.specs.Items.{begins_with_control}
 
 -- a space, and what is behind it
 abbrev pub spaced : List ℕ → List ℕ

@@ -4,15 +4,15 @@ ghost use Rattle.std.specs.Prelude.{◌≡◌, ◌<◌, ◌^◌, ◌++◌, codes
 ghost use Rattle.std.specs.Fmt.{decimal};
 ghost use Rattle.kr_batch.specs.Reading.{batch_of};
 ghost use Rattle.kr_batch.specs.BatchBytes.{IsRegular};
-ghost use Rattle.kr_again.specs.Items;
-ghost use Rattle.kr_again.specs.Items.{HasRecords};
+ghost use Rattle.law_reencoding.specs.Items;
+ghost use Rattle.law_reencoding.specs.Items.{HasRecords};
 ghost use Rattle.kr_rows_codec.specs.Words;
 ghost use Rattle.kr_rows_codec.specs.Words.{TellsBatch, batch_fault_words, counted_words, head_words, item_words, records_words, too_long, written_words};
 
 use crate::records::{TOO_LONG, record_fault};
-use kr_again::batches_again;
 use kr_batch::{Batch, BatchFault, Cause};
 use kr_defs::Item;
+use law_reencoding::batches_again;
 use std::alloc::{AllocError, Global};
 
 /// The batch that the bytes stand for, by its numbers and what is written for it, or their first fault.

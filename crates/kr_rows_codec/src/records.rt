@@ -6,10 +6,10 @@ ghost use Rattle.kr_record.specs.Encodable.{IsEncodable};
 ghost use Rattle.kr_rows_codec.specs.Words;
 ghost use Rattle.kr_rows_codec.specs.Words.{TellsRecord, record_fault_words, record_words, too_long};
 
-use kr_again::records_again;
 use kr_defs::Record;
 use kr_record::RecordFault;
 use kr_wire::WireFault;
+use law_reencoding::records_again;
 use std::alloc::{AllocError, Global};
 
 pub(crate) const TOO_LONG: &str = "too long to be written";

@@ -4,7 +4,7 @@ use Rattle.std.specs.Prelude.{ℤ}
 use Rattle.std.specs.Int.{w8, w32, w64}
 use Rattle.kr_wire.specs.Grammar.{◌⌢◌, Exactly, IsNumber, IsSigned}
 use Rattle.kr_wire.specs.Reading.{Read}
-use Rattle.kr_wire.proofs.ReadingLaws.{IsBytes, IsBytes-behind, Law, one_form, one_value, joined}
+use Rattle.kr_wire.proofs.ReadingLaws.{IsBytes, IsBytes-behind, Law, one_form, one_value, joined, whole_complete}
 use Rattle.kr_wire.proofs.Numbers.{number_law, signed_law}
 use Rattle.kr_defs.specs.declared.options.Options.{Options}
 use Rattle.kr_calls.specs.declared.events.Event.{Event}
@@ -29,7 +29,6 @@ use Rattle.kr_stream.specs.inner.Bodies.{is_of_numbers, numbers_at, stamp_at, op
 use Rattle.kr_stream.proofs.Sizes.{kind_once, body_short}
 use Rattle.kr_stream.proofs.FrameForms.{frame_form, frame_length, same_size, same_head}
 use Rattle.kr_stream.proofs.BodyLaws.{numbers_law, stamp_law, options_whole}
-use Rattle.kr_wire.proofs.ReadingLaws.{whole_complete}
 
 -- ---- the frame that a body of a kind gives
 

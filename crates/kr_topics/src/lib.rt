@@ -2,18 +2,13 @@
 #![tactic(auto)]
 
 mod assigning;
-mod cluster;
-mod creating;
-mod deleting;
-mod growing;
+pub mod create_partitions;
+pub mod create_topics;
+pub mod delete_topics;
+pub mod metadata;
 mod named_topics;
 mod naming;
 mod partitions;
 mod racks;
 mod settings;
 mod topic_rows;
-
-pub use cluster::metadata;
-pub use creating::create;
-pub use deleting::delete;
-pub use growing::grow;

@@ -5,10 +5,18 @@ use Rattle.kr_wire.specs.Grammar.{IsSigned}
 use Rattle.kr_layout.specs.Answers.{Adds}
 use Rattle.kr_calls.specs.declared.calls.Reply.{Reply}
 use Rattle.kr_calls.specs.declared.calls.Reply.TheVariants as replies
-use Rattle.kr_req_broker.specs.Grammar.{IsBrokerRegistrationReply, IsBrokerHeartbeatReply, IsUnregisterBrokerReply}
-use Rattle.kr_req_conf.specs.Grammar.{IsIncrementalAlterConfigsReply}
-use Rattle.kr_req_part.specs.Grammar.{IsAlterPartitionReply, IsElectLeadersReply, IsAlterPartitionReassignmentsReply, IsListPartitionReassignmentsReply}
-use Rattle.kr_req_topic.specs.Grammar.{IsCreateTopicsReply, IsDeleteTopicsReply, IsCreatePartitionsReply, IsMetadataReply}
+use Rattle.kr_bodies.specs.BrokerHeartbeat.{IsBrokerHeartbeatReply}
+use Rattle.kr_bodies.specs.BrokerRegistration.{IsBrokerRegistrationReply}
+use Rattle.kr_bodies.specs.UnregisterBroker.{IsUnregisterBrokerReply}
+use Rattle.kr_bodies.specs.IncrementalAlterConfigs.{IsIncrementalAlterConfigsReply}
+use Rattle.kr_bodies.specs.AlterPartition.{IsAlterPartitionReply}
+use Rattle.kr_bodies.specs.AlterPartitionReassignments.{IsAlterPartitionReassignmentsReply}
+use Rattle.kr_bodies.specs.ElectLeaders.{IsElectLeadersReply}
+use Rattle.kr_bodies.specs.ListPartitionReassignments.{IsListPartitionReassignmentsReply}
+use Rattle.kr_bodies.specs.CreatePartitions.{IsCreatePartitionsReply}
+use Rattle.kr_bodies.specs.CreateTopics.{IsCreateTopicsReply}
+use Rattle.kr_bodies.specs.DeleteTopics.{IsDeleteTopicsReply}
+use Rattle.kr_bodies.specs.Metadata.{IsMetadataReply}
 
 abbrev pub AddsBody : Reply → List ℕ → List ℕ → Type 0
 AddsBody (replies.BrokerRegistration p) = Adds IsBrokerRegistrationReply p
