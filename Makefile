@@ -33,4 +33,4 @@ edits: tools
 	@tools/edits $(crates)
 
 bench: tools
-	@cd crates/kr_bench && rt run -- time
+	@cd crates/test_bench && rt run -- time
