@@ -7,10 +7,10 @@ mod topic;
 
 use kr_base::NoMemory;
 use kr_defs::{Ids, Partition};
-use kr_rows::ids_text;
 use loss::with_brokers;
 use std::alloc::{AllocError, Global};
 use std::io::Print;
+use test_words::ids_text;
 use topic::print_topic;
 
 // How many replicas have to be in sync.
