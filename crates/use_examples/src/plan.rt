@@ -5,9 +5,9 @@ use crate::loss::with_brokers;
 use crate::topic::print_topic;
 use kr_base::NoMemory;
 use kr_defs::{Ids, Partition};
-use kr_rows::ids_text;
 use std::alloc::{AllocError, Global};
 use std::io::Print;
+use test_words::ids_text;
 
 // How many replicas have to be in sync.
 const MINIMUM: i32 = 2;
@@ -24,6 +24,7 @@ pub(crate) fn print_plan<R: Print + AllocGlobal>(rt: &R) -> anyhow::Result<()> {
     }
     print_topic(rt)
 }
+
 fn left_with(alloc: Global, partition: &Partition, active: Ids) -> Result<Partition, AllocError> {
     match with_brokers(alloc, partition, active, MINIMUM) {
         Ok(after) => Ok(after),
