@@ -146,7 +146,7 @@ module _ (before between with_appended' after : Core) (client : ℕ) (call : Cal
         writes = writes_by before between after records
             (d.same ∙ ap (λ h. record before { images = between.images; heard = h }) (sym (ap (λ (b : Core). b.heard) d.same)))
             d.kept
-            (subst (λ i. apply_records before.images.tip records ≡ Ok i) (sym d.image) (requests_stand before.options (basis_of before) before.images.tip before.tip call.request))
+            (subst (λ i. apply_records before.images.tip records ≡ Ok i) (sym d.image) (requests_stand before.options before.time before.heard before.images.tip before.tip call.request))
             fits.few
             (held_apart after with_appended' _ held ∙ ap (λ (a : Core). record a { held = after.held; heard = after.heard }) (is ∙ ap (with_appended between) d.records));
         heard = ap (λ (a : Core). a.heard) held ∙ heard_same;
