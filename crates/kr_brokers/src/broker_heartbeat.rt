@@ -248,7 +248,7 @@ impl<'a> Rule<BrokerHeartbeat, BrokerHeartbeatReply> for HeartbeatRule<'a> {
 /// one is fenced once every active broker has read up to where it began to stop. 77 where it isn't registered or by
 /// another epoch; 44 past a limit.
 #[tactic(auto, unfolding(kr_calls::specs::BrokerHeartbeat::decided))]
-pub fn broker_heartbeat<S: Store, L: Ledger>(
+pub fn decide<S: Store, L: Ledger>(
     alloc: Global,
     store: &mut S,
     context: &Context,

@@ -200,7 +200,7 @@ impl<'a> Rule<BrokerRegistration, BrokerRegistrationReply> for Registering<'a> {
 /// taken out, as restarted where it wasn't shut down from that one. 104 for another cluster; 42 for a negative id, a
 /// broker that migrates or one without listeners; 101 while another incarnation is in contact; 44 past a limit.
 #[tactic(auto, unfolding(kr_calls::specs::BrokerRegistration::decided))]
-pub fn broker_registration<S: Store, L: Ledger>(
+pub fn decide<S: Store, L: Ledger>(
     alloc: Global,
     store: &mut S,
     context: &Context,

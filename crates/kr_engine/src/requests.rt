@@ -137,7 +137,7 @@ impl Engine {
         let at = at_epoch(&self.committed);
         match request {
             Request::ListPartitionReassignments(q) => reply_of(
-                kr_partitions::list_partition_reassignments(
+                kr_partitions::list_partition_reassignments::answer(
                     self.alloc,
                     &self.store,
                     at,
@@ -145,7 +145,7 @@ impl Engine {
                     q,
                 ),
             ),
-            Request::Metadata(q) => reply_of(kr_topics::metadata(
+            Request::Metadata(q) => reply_of(kr_topics::metadata::answer(
                 self.alloc,
                 &self.store,
                 at,

@@ -8,10 +8,10 @@ ghost use Rattle.kr_gather.specs.inner.Contents as contents;
 
 use crate::lists::add_all;
 use crate::looking::{next_config, next_feature, see};
-use crate::parts::{Registration, TopicRecords};
+use crate::part_records::{Registration, TopicRecords};
+use crate::{gather_brokers, gather_topics};
 use kr_base::NoMemory;
 use kr_defs::{ConfigKey, Copied, Record, Records, Text};
-use kr_gather::{gather_brokers, gather_topics};
 use kr_store::{At, Store};
 use std::alloc::Global;
 

@@ -8,7 +8,7 @@ mod contents;
 mod gathering;
 mod lists;
 pub mod looking;
-mod parts;
+mod part_records;
 mod replicas;
 
 pub use changes::change_records;

@@ -4,9 +4,9 @@ ghost use Rattle.kr_defs.specs.Records.{topic_records};
 ghost use Rattle.kr_gather.specs.inner.Contents as contents;
 
 use crate::lists::add_all;
+use crate::{BrokerPart, PartitionPart, TopicPart, gather_partitions};
 use kr_base::NoMemory;
 use kr_defs::{Broker, Copied, Partition, Record, Records, Text};
-use kr_gather::{BrokerPart, PartitionPart, TopicPart, gather_partitions};
 use kr_store::{At, Store};
 use std::alloc::Global;
 
