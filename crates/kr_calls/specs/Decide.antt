@@ -50,16 +50,20 @@ work_of options time heartbeats image place (requests.IncrementalAlterConfigs q)
 work_of options time heartbeats image place (requests.ListPartitionReassignments q) = no_work image place
 work_of options time heartbeats image place (requests.Metadata q) = no_work image place
 
--- the request is decided on the image at the place, with the basis whose time is the present one
-abbrev pub decide : Options → Image → Basis → ℤ → Request → Decision
-decide options image basis place request =
-    let d = work_of options basis.time (heard basis) image place request in
+-- the same, with whom is heard of then
+abbrev pub decision_of : Options → ℤ → Heartbeats → Image → ℤ → Request → Decision
+decision_of options time heartbeats image place request =
+    let d = work_of options time heartbeats image place request in
     record {
       records = d.0.records;
       image = d.0.image;
       reply = d.1;
-      heartbeats = heartbeats_after (heard basis) image d.0.image basis.time place request d.1;
+      heartbeats = heartbeats_after heartbeats image d.0.image time place request d.1;
     }
+
+-- the request is decided on the image at the place, with the basis whose time is the present one
+abbrev pub decide : Options → Image → Basis → ℤ → Request → Decision
+decide options image basis place request = decision_of options basis.time (heard basis) image place request
 
 -- it changes nothing, whoever leads
 abbrev pub is_read : Request → Bool

@@ -1,12 +1,10 @@
 //! Each write is decided by its rule.
 
-ghost use Rattle.std.specs.Prelude.{◌≡◌, ◌≤◌, ◌≤ℤ◌, ℤ, [], pos, Some, IfOk, OnOk, IsTrue};
+ghost use Rattle.std.specs.Prelude.{◌≡◌, ◌≤◌, ◌≤ℤ◌, [], pos, Some, IfOk, OnOk, IsTrue};
 ghost use Rattle.kr_defs.specs.declared.limits.TheConstants.{PLACES_END as places_end};
 ghost use Rattle.kr_defs.specs.Heartbeats.{is_not_before, stopping_brokers};
 ghost use Rattle.kr_defs.specs.Ids.{has};
-ghost use Rattle.kr_brokers.specs.RequestBasis.{basis_with};
-ghost use Rattle.kr_calls.specs.Decide as rules;
-ghost use Rattle.kr_calls.specs.Decide.{work_of};
+ghost use Rattle.kr_calls.specs.Decide.{decision_of, work_of};
 ghost use Rattle.kr_calls.specs.NextBasis.{broker_is_stopping};
 ghost use Rattle.kr_calls.specs.declared.calls.Reply.TheVariants as replies;
 ghost use Rattle.kr_store.specs.Images.{last_kept};
@@ -47,9 +45,9 @@ fn decide<L: Ledger>(
     requires natural { pos 0 ≤ℤ context.now.place }
     requires low { context.now.place ≤ℤ places_end }
     requires kept { last_kept store.old ≡ Some (context.now.place, store.old.tip) }
-    ensures records { (led : ℤ) → OnOk result (out.new.records ≡ (work_of context.entry.now.options.now (basis_with context.entry.now.now led context.entry.now.sessions.now.heartbeats) store.old.tip context.entry.now.place request.now).0.records) }
-    ensures reply { (led : ℤ) → OnOk result (out.new.reply ≡ (work_of context.entry.now.options.now (basis_with context.entry.now.now led context.entry.now.sessions.now.heartbeats) store.old.tip context.entry.now.place request.now).1) }
-    ensures image { (led : ℤ) → OnOk result (store.new.tip ≡ (work_of context.entry.now.options.now (basis_with context.entry.now.now led context.entry.now.sessions.now.heartbeats) store.old.tip context.entry.now.place request.now).0.image) }
+    ensures records { OnOk result (out.new.records ≡ (work_of context.entry.now.options.now context.entry.now.now context.entry.now.sessions.now.heartbeats store.old.tip context.entry.now.place request.now).0.records) }
+    ensures reply { OnOk result (out.new.reply ≡ (work_of context.entry.now.options.now context.entry.now.now context.entry.now.sessions.now.heartbeats store.old.tip context.entry.now.place request.now).1) }
+    ensures image { OnOk result (store.new.tip ≡ (work_of context.entry.now.options.now context.entry.now.now context.entry.now.sessions.now.heartbeats store.old.tip context.entry.now.place request.now).0.image) }
     ensures kept { store.new.kept ≡ store.old.kept }
     ensures later { steps.old ≤ steps.new }
 {
@@ -107,10 +105,10 @@ fn decide_write<L: Ledger>(
     requires kept { last_kept store.old ≡ Some (tip.now, store.old.tip) }
     requires in_time { IsTrue (is_not_before sessions.old.heartbeats time.now) }
     requires among { (id : ℤ) → IsTrue (has (stopping_brokers sessions.old.heartbeats) id) → IsTrue (broker_is_stopping store.old.tip id) }
-    ensures records { (led : ℤ) → IfOk result (λ out. out.records ≡ (rules.decide options.now store.old.tip (basis_with time.now led sessions.old.heartbeats) tip.now request.now).records) }
-    ensures reply { (led : ℤ) → IfOk result (λ out. out.reply ≡ (rules.decide options.now store.old.tip (basis_with time.now led sessions.old.heartbeats) tip.now request.now).reply) }
-    ensures image { (led : ℤ) → OnOk result (store.new.tip ≡ (rules.decide options.now store.old.tip (basis_with time.now led sessions.old.heartbeats) tip.now request.now).image) }
-    ensures heard { (led : ℤ) → OnOk result (sessions.new.heartbeats ≡ (rules.decide options.now store.old.tip (basis_with time.now led sessions.old.heartbeats) tip.now request.now).heartbeats) }
+    ensures records { IfOk result (λ out. out.records ≡ (decision_of options.now time.now sessions.old.heartbeats store.old.tip tip.now request.now).records) }
+    ensures reply { IfOk result (λ out. out.reply ≡ (decision_of options.now time.now sessions.old.heartbeats store.old.tip tip.now request.now).reply) }
+    ensures image { OnOk result (store.new.tip ≡ (decision_of options.now time.now sessions.old.heartbeats store.old.tip tip.now request.now).image) }
+    ensures heard { OnOk result (sessions.new.heartbeats ≡ (decision_of options.now time.now sessions.old.heartbeats store.old.tip tip.now request.now).heartbeats) }
     ensures kept { store.new.kept ≡ store.old.kept }
     ensures later { steps.old ≤ steps.new }
 {
