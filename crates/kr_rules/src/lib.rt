@@ -3,6 +3,7 @@
 
 mod entries;
 mod groups;
+mod handler;
 mod refusal;
 mod room;
 mod rule;
@@ -11,6 +12,7 @@ mod taking;
 
 pub use entries::{decide_each, decide_one, decide_or_validate, over_entries};
 pub use groups::{decide_groups, over_groups};
+pub use handler::Handler;
 pub use refusal::Refusal;
 pub use rule::{Groups, ItemRule, Rule};
 pub use sizes::value_bytes;
