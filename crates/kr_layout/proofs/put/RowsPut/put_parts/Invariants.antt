@@ -3,7 +3,7 @@ use Rattle.std.specs.Prelude.{All}
 use Rattle.std.specs.List.{flat_map}
 use Rattle.kr_wire.specs.Spelling.{count}
 use Rattle.kr_wire.specs.Schema.{written, Fits}
-use Rattle.kr_layout.proofs.put.RowsPut.put.Given as goal
+use Rattle.kr_layout.proofs.put.RowsPut.put_parts.Given as goal
 
 abbrev pub invariant-loop-value : goal.invariant-loop-value
 invariant-loop-value g l = record {
