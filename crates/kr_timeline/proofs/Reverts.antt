@@ -115,7 +115,7 @@ module _ {K : Type 0} (order : K → K → Ordering) where
 
 module _ {K : Type 0} where
   -- they end with that of the epoch
-  ends_here : (intervals : List (Interval K)) (epoch : ℤ) (place : ℕ) (at : StandsAt intervals epoch place) (left dropped : List (Interval K)) → intervals ≡ left ++ dropped → length left ≡ place + 1 → left ≡ at.front ++ at.here ∷ []
+  ends_here : (intervals : List (Interval K)) (epoch : ℤ) (place : ℕ) (at : StandsAt intervals (λ (i : Interval K). i.epoch) epoch place) (left dropped : List (Interval K)) → intervals ≡ left ++ dropped → length left ≡ place + 1 → left ≡ at.front ++ at.here ∷ []
   ends_here intervals epoch place at left dropped is len =
       let there : place ≡ length at.front = at.at in
       let same : length left ≡ length (at.front ++ at.here ∷ []) = omega (arith, length-append at.front (at.here ∷ [])) in
@@ -126,14 +126,14 @@ module _ {K : Type 0} where
   append_same [] back back' h = h
   append_same (i ∷ front) back back' h = append_same front back back' (ap (drop 1) h)
 
-  behind_here : (intervals : List (Interval K)) (epoch : ℤ) (place : ℕ) (at : StandsAt intervals epoch place) (left dropped : List (Interval K)) → intervals ≡ left ++ dropped → left ≡ at.front ++ at.here ∷ [] → dropped ≡ at.back
+  behind_here : (intervals : List (Interval K)) (epoch : ℤ) (place : ℕ) (at : StandsAt intervals (λ (i : Interval K). i.epoch) epoch place) (left dropped : List (Interval K)) → intervals ≡ left ++ dropped → left ≡ at.front ++ at.here ∷ [] → dropped ≡ at.back
   behind_here intervals epoch place at left dropped is left_is =
       append_same (at.front ++ at.here ∷ []) dropped at.back (ap (λ (is : List (Interval K)). is ++ dropped) (sym left_is) ∙ sym is ∙ at.is ∙ sym (append_assoc at.front (at.here ∷ []) at.back))
 
 number_there : {K : Type 0} (at_place : Option (Interval K)) (here : Interval K) (n : ℕ) → at_place ≡ Some here → IfSome at_place (λ (i : Interval K). n ≡ i.number) → n ≡ here.number
 number_there {K} at_place here n is h = rw is at h
 
-pub number_here : {K : Type 0} (intervals : List (Interval K)) (epoch : ℤ) (place n : ℕ) (at : StandsAt intervals epoch place) → IfSome (slice_get intervals place) (λ (i : Interval K). n ≡ i.number) → n ≡ at.here.number
+pub number_here : {K : Type 0} (intervals : List (Interval K)) (epoch : ℤ) (place n : ℕ) (at : StandsAt intervals (λ (i : Interval K). i.epoch) epoch place) → IfSome (slice_get intervals place) (λ (i : Interval K). n ≡ i.number) → n ≡ at.here.number
 number_here {K} intervals epoch place n at h =
     number_there (slice_get intervals place) at.here n (ap (slice_get intervals) at.at ∙ ap (λ (is : List (Interval K)). slice_get is (length at.front)) at.is ∙ get_length at.front at.here at.back) h
 
@@ -183,7 +183,7 @@ module _ {K V : Type 0} (order : K → K → Ordering) (chains mid after : List 
 
 -- ---- in the words of the contract
 
-module _ {K V : Type 0} {order : K → K → Ordering} (o : IsTotalOrder order) (chains mid after : List (K × List (ℕ × Option V))) (intervals left : List (Interval K)) (now : ℕ) (keys : List K) (made : ℕ) (epoch : ℤ) (place n : ℕ) (at : StandsAt intervals epoch place)
+module _ {K V : Type 0} {order : K → K → Ordering} (o : IsTotalOrder order) (chains mid after : List (K × List (ℕ × Option V))) (intervals left : List (Interval K)) (now : ℕ) (keys : List K) (made : ℕ) (epoch : ℤ) (place n : ℕ) (at : StandsAt intervals (λ (i : Interval K). i.epoch) epoch place)
     (s : IsMap order chains) (n_is : n ≡ at.here.number) (first : mid ≡ all_trimmed order (cut n) keys chains) (then : DropsLast order n intervals left mid after) (len : length left ≡ place + 1) (a : IsTimeline order chains intervals now keys made) where
   left_is : left ≡ at.front ++ at.here ∷ []
   left_is = ends_here intervals epoch place at left then.dropped then.is len

@@ -9,6 +9,16 @@ use Rattle.kr_defs.specs.KeptMaps.{Kept, KeptMaps}
 use Rattle.kr_timeline.specs.Chains.{map_of, cut, settled, Versions, AreFalling, AreTidy, HasVersion, Writes, is_listed, all_trimmed}
 use Rattle.kr_timeline.specs.declared.intervals.Interval.{Interval}
 
+-- where the entry of the epoch stands
+pub record StandsAt {X : Type 0} (list : List X) (epoch_of : X → ℤ) (epoch : ℤ) (place : ℕ) : Type 0 where
+  pub front : List X
+  pub here : X
+  pub back : List X
+  pub is : list ≡ front ++ here ∷ back
+  pub at : place ≡ length front
+  pub epoch_is : epoch_of here ≡ epoch
+  pub found : find (λ x. int_eq (epoch_of x) epoch) list ≡ Some here
+
 module _ {K : Type 0} where
   -- the numbers rise, and are below that of the present interval
   abbrev pub Rise : List (Interval K) → ℕ → Type 0
@@ -39,16 +49,6 @@ module _ {K : Type 0} where
   -- how many intervals and keys in their lists there are
   abbrev pub touches : List (Interval K) → ℕ
   touches intervals = sum_by (λ (i : Interval K). length i.keys.items + 1) intervals
-
-  -- the entry of the epoch
-  pub record StandsAt (intervals : List (Interval K)) (epoch : ℤ) (place : ℕ) : Type 0 where
-    pub front : List (Interval K)
-    pub here : Interval K
-    pub back : List (Interval K)
-    pub is : intervals ≡ front ++ here ∷ back
-    pub at : place ≡ length front
-    pub epoch_is : here.epoch ≡ epoch
-    pub found : find (λ (i : Interval K). int_eq i.epoch epoch) intervals ≡ Some here
 
   -- the first entry is below the epoch
   abbrev pub is_first_below : ℤ → List (Interval K) → Bool

@@ -27,7 +27,7 @@ pub(crate) struct Interval<K> {
 /// Where the entry of the epoch stands.
 pub(crate) fn find_place<K: Drop>(kept: &VecDeque<Interval<K>>, epoch: &i64) -> Option<usize>
     requires { IsStrictlySortedBy int_cmp (map (λ i. i.epoch) kept.now.items) }
-    ensures found { IfSome result (λ place. StandsAt kept.now.items epoch.now place) }
+    ensures found { IfSome result (λ place. StandsAt kept.now.items (λ i. i.epoch) epoch.now place) }
     ensures none { IsNone result → find (λ i. int_eq i.epoch epoch.now) kept.now.items ≡ None }
     ensures within { IfSome result (λ place. place < deque_len kept.now) }
 {
