@@ -24,6 +24,7 @@ use Rattle.kr_calls.specs.declared.alter_partition_reassignments.ReassignableTop
 use Rattle.kr_calls.specs.declared.alter_partition_reassignments.ReassignableTopicResponse.{ReassignableTopicResponse}
 use Rattle.kr_calls.specs.declared.calls.Reply.TheVariants as replies
 use Rattle.kr_calls.specs.declared.calls.Request.TheVariants as requests
+use Rattle.kr_calls.specs.declared.errors.TheConstants.{NEW_LEADER_ELECTED}
 use Rattle.kr_calls.specs.AlterPartition.{is_accepted, is_stale, members}
 
 -- a request, with the reply that its rules give
@@ -39,7 +40,7 @@ asks_unclean other = false
 
 -- the report was taken: Kafka's NONE, or NEW_LEADER_ELECTED where by this very report another broker leads
 abbrev pub is_taken : AlterPartitionResult → Bool
-is_taken answer = int_eq answer.error (pos 0) || int_eq answer.error (pos 108)
+is_taken answer = int_eq answer.error (pos 0) || int_eq answer.error NEW_LEADER_ELECTED
 
 -- a report of the partition was accepted on this image, and taken, and has the broker
 abbrev pub is_report_with : ℤ → Image → ℤ → Partition → ℤ → PartitionReport × AlterPartitionResult → Bool

@@ -49,6 +49,7 @@ use Rattle.kr_calls.specs.declared.alter_partition_reassignments.ReassignablePar
 use Rattle.kr_calls.specs.declared.alter_partition_reassignments.ReassignableTopic.{ReassignableTopic}
 use Rattle.kr_calls.specs.declared.alter_partition_reassignments.ReassignableTopicResponse.{ReassignableTopicResponse}
 use Rattle.kr_calls.specs.declared.create_topics.CreatableTopicConfig.{CreatableTopicConfig}
+use Rattle.kr_calls.specs.declared.errors.TheConstants.{NEW_LEADER_ELECTED}
 use Rattle.kr_calls.specs.AlterPartition as reporting
 use Rattle.kr_calls.specs.AlterPartitionReassignments as reassigning
 use Rattle.kr_calls.specs.BrokerHeartbeat as heartbeating
@@ -196,7 +197,7 @@ drafted_change broker entry p None = refl
 drafted_change broker entry p (Some change) = refl
 
 taken_result : (broker : ℤ) (entry : reporting.Entry) (p : Partition) → is_taken (reporting.partition_result broker entry p) ≡ true
-taken_result broker entry p = elim (int_eq p.leader broker) as (λ b. is_taken (cond b (record { index = entry.1.index; error = pos 0; leader = p.leader; leader_epoch = p.leader_epoch; in_sync = p.in_sync; recovery = p.recovery; partition_epoch = p.partition_epoch }) (reporting.refused (pos 108) entry)) ≡ true) [
+taken_result broker entry p = elim (int_eq p.leader broker) as (λ b. is_taken (cond b (record { index = entry.1.index; error = pos 0; leader = p.leader; leader_epoch = p.leader_epoch; in_sync = p.in_sync; recovery = p.recovery; partition_epoch = p.partition_epoch }) (reporting.refused NEW_LEADER_ELECTED entry)) ≡ true) [
   | true ↦ refl
   | false ↦ refl
 ]
