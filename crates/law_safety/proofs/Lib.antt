@@ -7,8 +7,11 @@ pub mod HearingRequests
 pub mod Lengths
 pub mod NamedTopics
 pub mod NewReplicas
+pub mod NewTopics
 mod PastLimits
 pub mod PlacedReplicas
+pub mod Refusals
+pub mod RefusedRules
 pub mod SafeRecords
 pub mod SafeRequests
 pub mod SafeRules

@@ -1,6 +1,6 @@
 -- The replicas of new partitions may be a partition's, and one of them is active.
 use Rattle.std.proofs.Common.{◌≡◌, refl, sym, subst, inl, inr, Bool, true, false, cond, not, ◌&&◌, ◌||◌, ◌==◌, ℕ, zero, suc, ◌+◌, ℤ, List, [], ◌∷◌, length, map, arith}
-use Rattle.std.specs.Prelude.{IsTrue, Option, Some, None, nat_le, nat_lt, int_le, int_lt, pos, negsuc, find, unsigned_abs, option_map, filter}
+use Rattle.std.specs.Prelude.{IsTrue, MatchResult, Option, Some, None, nat_le, nat_lt, int_le, int_lt, pos, negsuc, find, unsigned_abs, option_map, filter}
 use Rattle.std.specs.List.{AllByRecursion, cons_option, filter_map, list_all, list_any}
 use Rattle.std.specs.Ordering.{int_cmp, int_eq}
 use Rattle.std.proofs.lemmas.Bool.{and_from, and_parts, cases_Bool, leb-true, ltb-false, le-leb, or_cases, or_left, or_right}
@@ -18,15 +18,17 @@ use Rattle.kr_defs.specs.Partition.{are_replicas, are_targets, is_natural, is_pa
 use Rattle.kr_defs.specs.Placed.{placed}
 use Rattle.kr_defs.proofs.Changes.{formed_parts, replicas_from}
 use Rattle.kr_defs.proofs.IdLists.{all_at, all_from, few_kept, first_member, same_id, some_left}
-use Rattle.kr_defs.proofs.Tests.{Gives, gives_done, gives_if, gives_refuse, neither, not_false}
+use Rattle.kr_defs.proofs.Tests.{neither, not_false}
 use Rattle.kr_calls.specs.declared.create_partitions.CreatePartitionsAssignment.{CreatePartitionsAssignment}
 use Rattle.kr_calls.specs.declared.create_topics.CreatableReplicaAssignment.{CreatableReplicaAssignment}
 use Rattle.kr_calls.specs.declared.create_topics.CreatableTopic.{CreatableTopic}
+use Rattle.kr_calls.specs.declared.errors.TheConstants.{INVALID_PARTITIONS, INVALID_REPLICATION_FACTOR, INVALID_REPLICA_ASSIGNMENT, INVALID_REQUEST}
 use Rattle.kr_calls.specs.CreatePartitions as growing
 use Rattle.kr_calls.specs.CreateTopics as creating
 use Rattle.kr_calls.specs.NewPartitions.{is_assignable, placements, racked}
 use Rattle.kr_calls.proofs.WalkedChanges.{value_at}
 use Rattle.law_safety.proofs.PlacedReplicas.{placed_count, placed_distinct, placed_within}
+use Rattle.law_safety.proofs.Refusals.{IsOwn, by_if, by_refuse}
 
 -- they may be those of a new partition
 pub record IsNew (image : Image) (replicas : List ℤ) : Type 0 where
@@ -42,7 +44,7 @@ any_from test (x ∷ ids) id there passes = elim (or_cases (int_eq x id) (has id
 
 -- ---- ids of brokers aren't negative
 
-at_key : (test : ℤ → Bool) (brokers : List (ℤ × Broker)) (id : ℤ) → AllByRecursion (λ e. test e.0 ≡ true) brokers → entries.contains int_cmp brokers id ≡ true → test id ≡ true
+pub at_key : (test : ℤ → Bool) (brokers : List (ℤ × Broker)) (id : ℤ) → AllByRecursion (λ e. test e.0 ≡ true) brokers → entries.contains int_cmp brokers id ≡ true → test id ≡ true
 at_key test [] id all there = absurd cc
 at_key test (e ∷ brokers) id all there = elim (cases_Bool (int_eq id e.0)) [
   | inl same ↦ subst (λ y. test y ≡ true) (sym (same_id id e.0 same)) all.0
@@ -56,11 +58,11 @@ all_active test (e ∷ brokers) all = elim (is_active e.1) as (λ b. list_all te
   | false ↦ all_active test brokers all.1
 ]
 
-more_targets : (n : ℕ) → nat_le n MOST_TARGETS ≡ true → nat_le n MOST_REPLICAS ≡ true
+pub more_targets : (n : ℕ) → nat_le n MOST_TARGETS ≡ true → nat_le n MOST_REPLICAS ≡ true
 more_targets n few = let le = leb-true n MOST_TARGETS few in le-leb n MOST_REPLICAS (omega (arith, le))
 
 module _ (image : Image) (valid : IsValid image) where
-  natural_keys : AllByRecursion (λ e. is_natural e.0 ≡ true) image.brokers
+  pub natural_keys : AllByRecursion (λ e. is_natural e.0 ≡ true) image.brokers
   natural_keys =
       recursion_from_All (λ (e : ℤ × Broker). is_natural e.0 ≡ true) image.brokers
       (All-weaker (λ (e : ℤ × Broker). IsTrue (has_numbers e.0 e.1)) (λ e. is_natural e.0 ≡ true) (λ e numbers. (and_parts (is_natural e.0) (is_natural e.1.epoch) numbers).0) image.brokers valid.brokers.numbers)
@@ -140,28 +142,28 @@ module _ (image : Image) (valid : IsValid image) where
       placements_new n b.0 (more_targets n b.1) a.1 place 0 (unsigned_abs partitions)
 
   -- of new topics
-  pub created_new : (options : Options) (place : ℤ) (entry : CreatableTopic) → Gives (λ (layout : creating.Layout). AllByRecursion (IsNew image) layout.replicas) (creating.layout options image place entry)
+  pub created_new : (options : Options) (place : ℤ) (entry : CreatableTopic) → MatchResult (creating.layout options image place entry) (λ layout. AllByRecursion (IsNew image) layout.replicas) IsOwn
   created_new options place entry =
       let P : creating.Layout → Type 0 = λ layout. AllByRecursion (IsNew image) layout.replicas in
       let partitions = creating.or_default entry.partitions options.partitions in
       let factor = creating.or_default entry.factor options.factor in
-      gives_if P (length entry.assignments == 0) _ _
-      (λ _. gives_refuse P (pos 37) (int_lt partitions (pos 1)) _ (λ _. gives_refuse P (pos 38) (not (creating.is_factor image factor)) _ (λ fits.
-      gives_done P _ (spread_new place partitions factor (not_false (creating.is_factor image factor) fits)))))
-      (λ _. gives_refuse P (pos 42) _ _ (λ _. gives_refuse P (pos 39) (not (creating.are_whole entry.assignments) || not (creating.are_assignable image entry.assignments)) _ (λ fits.
-      gives_done P _ (assigned_all entry.assignments (creating.first_size entry.assignments) (creating.indexes_of entry.assignments)
-      (not_false (creating.are_assignable image entry.assignments) (neither (not (creating.are_whole entry.assignments)) (not (creating.are_assignable image entry.assignments)) fits).1)))))
+      by_if P IsOwn (length entry.assignments == 0) _ _
+      (λ _. by_refuse P IsOwn INVALID_PARTITIONS (int_lt partitions (pos 1)) _ (λ _. refl) (λ _. by_refuse P IsOwn INVALID_REPLICATION_FACTOR (not (creating.is_factor image factor)) _ (λ _. refl) (λ fits.
+      spread_new place partitions factor (not_false (creating.is_factor image factor) fits))))
+      (λ _. by_refuse P IsOwn INVALID_REQUEST (not (int_eq entry.partitions (negsuc 0)) || not (int_eq entry.factor (negsuc 0))) _ (λ _. refl) (λ _. by_refuse P IsOwn INVALID_REPLICA_ASSIGNMENT (not (creating.are_whole entry.assignments) || not (creating.are_assignable image entry.assignments)) _ (λ _. refl) (λ fits.
+      assigned_all entry.assignments (creating.first_size entry.assignments) (creating.indexes_of entry.assignments)
+      (not_false (creating.are_assignable image entry.assignments) (neither (not (creating.are_whole entry.assignments)) (not (creating.are_assignable image entry.assignments)) fits).1))))
 
   -- of a topic that gets more partitions
-  pub grown_new : (place : ℤ) (first count : ℕ) (p : Partition) (assignments : Option (List CreatePartitionsAssignment)) → is_well_formed p ≡ true → Gives (AllByRecursion (IsNew image)) (growing.new_replicas image place first count (length (target p)) assignments)
+  pub grown_new : (place : ℤ) (first count : ℕ) (p : Partition) (assignments : Option (List CreatePartitionsAssignment)) → is_well_formed p ≡ true → MatchResult (growing.new_replicas image place first count (length (target p)) assignments) (AllByRecursion (IsNew image)) IsOwn
   grown_new place first count p (Some assignments) formed =
       let size = length (target p) in
-      gives_refuse (AllByRecursion (IsNew image)) (pos 39) (not (growing.are_assignable image count size assignments)) _ (λ fits.
-      gives_done (AllByRecursion (IsNew image)) _ (assigned_more assignments size (and_parts (length assignments == count) _ (not_false (growing.are_assignable image count size assignments) fits)).1))
+      by_refuse (AllByRecursion (IsNew image)) IsOwn INVALID_REPLICA_ASSIGNMENT (not (growing.are_assignable image count size assignments)) _ (λ _. refl) (λ fits.
+      assigned_more assignments size (and_parts (length assignments == count) _ (not_false (growing.are_assignable image count size assignments) fits)).1)
   grown_new place first count p None formed =
       let size = length (target p) in
       let f = formed_parts p formed in
       let kept = and_parts (is_part p.adding p.replicas && is_part p.removing p.replicas && are_apart p.adding p.removing && not (is_within p.replicas p.adding)) (not (is_within p.replicas p.removing)) f.reassignment in
-      gives_refuse (AllByRecursion (IsNew image)) (pos 38) (nat_lt (length (active image)) size) _ (λ fits.
-      gives_done (AllByRecursion (IsNew image)) _ (placements_new size (some_left p.replicas p.removing kept.1) (few_kept (λ id. not (has p.removing id)) p.replicas MOST_REPLICAS f.replicas.few)
-      (let le = ltb-false (length (active image)) size fits in le-leb size (length (active image)) (omega (arith, le))) place first count))
+      by_refuse (AllByRecursion (IsNew image)) IsOwn INVALID_REPLICATION_FACTOR (nat_lt (length (active image)) size) _ (λ _. refl) (λ fits.
+      placements_new size (some_left p.replicas p.removing kept.1) (few_kept (λ id. not (has p.removing id)) p.replicas MOST_REPLICAS f.replicas.few)
+      (let le = ltb-false (length (active image)) size fits in le-leb size (length (active image)) (omega (arith, le))) place first count)

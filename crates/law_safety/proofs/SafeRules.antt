@@ -68,6 +68,7 @@ use Rattle.law_safety.specs.SafeChangeLaws.{AreSafe}
 use Rattle.law_safety.proofs.CarefulChanges.{change_safe}
 use Rattle.law_safety.proofs.NamedTopics.{named_back}
 use Rattle.law_safety.proofs.NewReplicas.{IsNew, created_new, formed_at, grown_new}
+use Rattle.law_safety.proofs.Refusals.{IsOwn, gives_from}
 use Rattle.law_safety.proofs.SafeRecords.{both_safe, if_ok, is_calm, all_calm_safe, partitions_safe}
 use Rattle.law_safety.proofs.SafeWalks.{registered_safe, unregistered_safe, changed_safe, taken_out_safe, fencing_safe, unfencing_safe, values_calm, values_leave, relieved_safe}
 
@@ -103,7 +104,7 @@ module _ (exchange : Option Exchange) (image : Image) where
   pub creates : IsValid image → (options : Options) (validate_only : Bool) (place : ℤ) (entry : _) → Gives P (creating.rule options validate_only image place entry)
   creates valid options validate_only place entry =
       gives_refuse P (pos 17) (not (is_topic_name entry.name)) _ (λ _. gives_refuse P (pos 36) (entries.contains text_order image.topics entry.name) _ (λ _. gives_refuse P (pos 17) (list_any (λ topic. names_agree topic.0 entry.name) image.topics) _ (λ _.
-      gives_then (λ (layout : creating.Layout). AllByRecursion (IsNew image) layout.replicas) P (creating.layout options image place entry) (creating.of_layout options validate_only image place entry) (created_new image valid options place entry) (λ layout new.
+      gives_then (λ (layout : creating.Layout). AllByRecursion (IsNew image) layout.replicas) P (creating.layout options image place entry) (creating.of_layout options validate_only image place entry) (gives_from (λ (layout : creating.Layout). AllByRecursion (IsNew image) layout.replicas) IsOwn (creating.layout options image place entry) (created_new image valid options place entry)) (λ layout new.
       gives_refuse P (pos 40) (list_any creating.is_bad_setting entry.configs) _ (λ _. gives_done P (creating.created image validate_only (creating.new_id options image place) entry layout)
       (created_safe validate_only (creating.new_id options image place) entry layout new))))))
 
@@ -121,7 +122,7 @@ module _ (exchange : Option Exchange) (image : Image) where
   grows valid place entry =
       gives_found P (pos 3) (entries.get text_order image.topics entry.name) _ (λ id _. let first = count_of image id in
       gives_refuse P (pos 37) (int_le entry.count (pos first)) _ (λ _. gives_found P (pos 39) (entries.get partition_order image.partitions (id, pos 0)) _ (λ p there.
-      gives_then (AllByRecursion (IsNew image)) P (growing.new_replicas image place first (unsigned_abs entry.count - first) (length (target p)) entry.assignments) _ (grown_new image valid place first (unsigned_abs entry.count - first) p entry.assignments (formed_at image valid (id, pos 0) p there)) (λ lists new. gives_done P (growing.grown image id first entry lists) (partitions_safe exchange image image id first lists new)))))
+      gives_then (AllByRecursion (IsNew image)) P (growing.new_replicas image place first (unsigned_abs entry.count - first) (length (target p)) entry.assignments) _ (gives_from (AllByRecursion (IsNew image)) IsOwn _ (grown_new image valid place first (unsigned_abs entry.count - first) p entry.assignments (formed_at image valid (id, pos 0) p there))) (λ lists new. gives_done P (growing.grown image id first entry lists) (partitions_safe exchange image image id first lists new)))))
 
   -- ---- settings
 

@@ -111,7 +111,7 @@ module _ (exchange : Option Exchange) (image : Image) where
     abbrev ids : List ℤ
     ids = active_of (heartbeating.unfenced_brokers image broker state)
 
-    electing_sound : IsSound (heartbeating.electing minimum image broker state)
+    pub electing_sound : IsSound (heartbeating.electing minimum image broker state)
     electing_sound w formed c is = built_sound w.partition (default_want w.partition) (facts_with minimum image ids w.topic) (heartbeating.waits_for broker w.partition) c formed (defaults_sensible w.partition formed) is
 
     electing_safe : IsSafeWalk exchange image.configs (heartbeating.electing minimum image broker state)
@@ -131,7 +131,7 @@ module _ (exchange : Option Exchange) (image : Image) where
       | false ↦ λ is. absurd cc
     ] is
 
-    relief_sound : IsSound (configuring.relief options image next)
+    pub relief_sound : IsSound (configuring.relief options image next)
     relief_sound w formed c is = subst (λ (change : PartitionChange). is_well_formed (merged w.partition change) ≡ true) (emptied w c is) ((emptying_keeps w.partition).well_formed formed)
 
     relief_safe : (configs : List (ConfigKey × List ℕ)) → IsSafeWalk exchange configs (configuring.relief options image next)
@@ -142,7 +142,7 @@ module _ (exchange : Option Exchange) (image : Image) where
 
 -- ---- settings of one resource leave the partitions
 
-setting_leaves : (at : Image) (kind : ℤ) (name key : List ℕ) (value : Option (List ℕ)) → Gives (WithPartitionsOf at) (apply_record at (kinds.Config kind name key value))
+pub setting_leaves : (at : Image) (kind : ℤ) (name key : List ℕ) (value : Option (List ℕ)) → Gives (WithPartitionsOf at) (apply_record at (kinds.Config kind name key value))
 unfolding apply_record
 setting_leaves at kind name key None = gives_done (WithPartitionsOf at) _ (record { topics = refl; partitions = refl })
 setting_leaves at kind name key (Some value) = gives_refuse (WithPartitionsOf at) Limit (let k : ConfigKey = record { kind = kind; name = name; key = key } in nat_lt MOST_CONFIG_TEXT (config_text (entries.insert config_order at.configs k value))) _ (λ _. gives_done (WithPartitionsOf at) _ (record { topics = refl; partitions = refl }))
