@@ -130,21 +130,38 @@ module _ (target original : List ℤ) (wanted : Replicas MOST_REPLICAS target) (
       refuted (is_within all leaving) (λ w. refutes (has leaving first.0) (not_in_target target original first.0 first.1)
       (all_at (has leaving) all first.0 w (in_all first.0 (or_left (has target first.0) (has leaving first.0) first.1))))
 
-  lists_sensible : nat_le (length all) MOST_REPLICAS ≡ true → (are_replicas all && is_reassignment all joining leaving) ≡ true
-  lists_sensible few =
-      and_from (are_replicas all) (is_reassignment all joining leaving)
-      (replicas_from all (record {
-        some = some_joined target leaving wanted.some;
-        few = few;
-        distinct = joined_distinct target leaving wanted.distinct (distinct_kept (λ x. not (has target x)) original were.distinct) (not_in_target target original);
-        natural = list_all-append is_natural target leaving ∙ and_from (list_all is_natural target) (list_all is_natural leaving) wanted.natural (all_kept (λ x. not (has target x)) is_natural original were.natural);
-      }))
-      (and_from (is_part joining all && is_part leaving all && are_apart joining leaving && not (is_within all joining)) (not (is_within all leaving))
+  all_distinct : is_distinct all ≡ true
+  all_distinct = joined_distinct target leaving wanted.distinct (distinct_kept (λ x. not (has target x)) original were.distinct) (not_in_target target original)
+
+  all_natural : list_all is_natural all ≡ true
+  all_natural = list_all-append is_natural target leaving ∙ and_from (list_all is_natural target) (list_all is_natural leaving) wanted.natural (all_kept (λ x. not (has target x)) is_natural original were.natural)
+
+  lists_lead : is_reassignment all joining leaving ≡ true
+  lists_lead =
+      and_from (is_part joining all && is_part leaving all && are_apart joining leaving && not (is_within all joining)) (not (is_within all leaving))
       (and_from (is_part joining all && is_part leaving all && are_apart joining leaving) (not (is_within all joining))
       (and_from (is_part joining all && is_part leaving all) (are_apart joining leaving)
       (and_from (is_part joining all) (is_part leaving all) joining_part leaving_part) separate)
       some_were)
-      some_stay)
+      some_stay
+
+  lists_sensible : nat_le (length all) MOST_REPLICAS ≡ true → (are_replicas all && is_reassignment all joining leaving) ≡ true
+  lists_sensible few =
+      and_from (are_replicas all) (is_reassignment all joining leaving)
+      (replicas_from all (record { some = some_joined target leaving wanted.some; few = few; distinct = all_distinct; natural = all_natural }))
+      lists_lead
+
+  lists_at_length : (nat_lt 0 (length all) && is_distinct all && list_all is_natural all && is_reassignment all joining leaving) ≡ true
+  lists_at_length =
+      and_from (nat_lt 0 (length all) && is_distinct all && list_all is_natural all) (is_reassignment all joining leaving)
+      (and_from (nat_lt 0 (length all) && is_distinct all) (list_all is_natural all)
+      (and_from (nat_lt 0 (length all)) (is_distinct all) (some_joined target leaving wanted.some) all_distinct) all_natural)
+      lists_lead
 
 pub sensible : ReassignmentsAreSensible
 sensible target original wanted were few = lists_sensible target original (replicas_parts target wanted) (replicas_parts original were) few
+
+-- but for how many there are, whatever the two lists are
+pub sensible_at_length : (target original : List ℤ) → are_replicas target ≡ true → are_replicas original ≡ true
+    → (nat_lt 0 (length (reassigned target original)) && is_distinct (reassigned target original) && list_all is_natural (reassigned target original) && is_reassignment (reassigned target original) (added target original) (removed target original)) ≡ true
+sensible_at_length target original wanted were = lists_at_length target original (replicas_parts target wanted) (replicas_parts original were)

@@ -13,6 +13,7 @@ use Rattle.kr_calls.specs.declared.events.Event.{Event}
 use Rattle.kr_calls.specs.declared.events.Reason.{Reason}
 use Rattle.kr_calls.specs.declared.events.Event.TheVariants as events
 use Rattle.kr_calls.specs.Deciding.{apply_records}
+use Rattle.kr_calls.specs.SafeChange.{Exchange}
 use Rattle.kr_calls.specs.TakingOut.{fencing}
 use Rattle.kr_calls.proofs.TakingOutSteps.{fencing_stands}
 use Rattle.kr_defs.specs.declared.broker.Broker.{Broker}
@@ -35,7 +36,7 @@ use Rattle.kr_world.specs.Events.{outcome, timed}
 use Rattle.kr_world.specs.Leaderships.{ended, lead, leads_in, lose, may_begin_at}
 use Rattle.kr_world.specs.Reasons.{already_leading, bad_commit, bad_next, exhausted, not_leading, old_epoch}
 use Rattle.kr_world.specs.Requests.{after_write, decided, is_decided, serve}
-use Rattle.kr_world.specs.SafeSteps.{AreSafeEntries, StepsAreSafe, request_in, is_anothers}
+use Rattle.kr_world.specs.SafeSteps.{AreSafeEntries, StepsAreSafe, exchange_in, is_anothers}
 use Rattle.kr_world.specs.Ticks.{fence, fence_all, fencing_of, lapsed, tick}
 use Rattle.kr_world.specs.World.{State, image_of_tip, is_far, tip_of, with_batch, log_with}
 use Rattle.kr_world.proofs.Logs.{as_records, apply_append, tip_written}
@@ -44,26 +45,26 @@ use Rattle.kr_world.proofs.LongerLogs.{present_then}
 
 -- ---- records as entries
 
-module _ (request : Option Request) where
-  pub records_safe : (image : Image) (records : List Record) (place : ℤ) → AreSafe request image records → AreSafeEntries request image (item_entries place (as_items records))
+module _ (exchange : Option Exchange) where
+  pub records_safe : (image : Image) (records : List Record) (place : ℤ) → AreSafe exchange image records → AreSafeEntries exchange image (item_entries place (as_items records))
   unfolding apply
   records_safe image [] place safe = tt
   records_safe image (r ∷ records) place safe = (
     safe.0,
-    elim (apply_record image r) as (λ (q : Result Image Ill). IfOk q (λ after. AreSafe request after records) → IfOk q (λ after. AreSafeEntries request after (item_entries (place +ℤ pos 1) (as_items records)))) [
+    elim (apply_record image r) as (λ (q : Result Image Ill). IfOk q (λ after. AreSafe exchange after records) → IfOk q (λ after. AreSafeEntries exchange after (item_entries (place +ℤ pos 1) (as_items records)))) [
       | Ok after ↦ λ safe. records_safe after records (place +ℤ pos 1) safe
       | Err cause ↦ λ safe. tt
     ] safe.1,
   )
 
   -- items, and then others on the image behind them
-  both_safe : (image mid : Image) (xs : List Item) (place : ℤ) (others : List Entry) → AreSafeEntries request image (item_entries place xs) → apply_all image xs ≡ Ok mid
-      → AreSafeEntries request mid others → AreSafeEntries request image (item_entries place xs ++ others)
-  both_safe image mid [] place others safe means then = subst (λ (r : Result Image Ill). AreSafeEntries request (result_unwrap_or r image) others) (sym means) then
+  both_safe : (image mid : Image) (xs : List Item) (place : ℤ) (others : List Entry) → AreSafeEntries exchange image (item_entries place xs) → apply_all image xs ≡ Ok mid
+      → AreSafeEntries exchange mid others → AreSafeEntries exchange image (item_entries place xs ++ others)
+  both_safe image mid [] place others safe means then = subst (λ (r : Result Image Ill). AreSafeEntries exchange (result_unwrap_or r image) others) (sym means) then
   both_safe image mid (x ∷ xs) place others safe means then = (
     safe.0,
-    elim (apply image x) as (λ (q : Result Image Ill). IfOk q (λ after. AreSafeEntries request after (item_entries (place +ℤ pos 1) xs)) → and_then q (λ after. apply_all after xs) ≡ Ok mid
-        → IfOk q (λ after. AreSafeEntries request after (item_entries (place +ℤ pos 1) xs ++ others))) [
+    elim (apply image x) as (λ (q : Result Image Ill). IfOk q (λ after. AreSafeEntries exchange after (item_entries (place +ℤ pos 1) xs)) → and_then q (λ after. apply_all after xs) ≡ Ok mid
+        → IfOk q (λ after. AreSafeEntries exchange after (item_entries (place +ℤ pos 1) xs ++ others))) [
           | Ok after ↦ λ safe means. both_safe after mid xs (place +ℤ pos 1) others safe means then
           | Err cause ↦ λ safe means. tt
         ] safe.1 means,
@@ -110,10 +111,10 @@ Shows log image = image_at log (tip log) ≡ Ok image
 shows_then : (log longer : Log) (image after : Image) → Shows log image → Grows log longer image after → Shows longer after
 shows_then log longer image after shows g = subst (λ (l : Log). Shows l after) (sym g.writes) (present_then log g.more image after shows g.means)
 
-safe_added : (request : Option Request) (log longer : Log) (items : List Item) (image : Image) → longer ≡ log_with log items → AreSafeEntries request image (item_entries (pos (tip log)) items)
-    → AreSafeEntries request image (item_entries (pos (tip log)) (items_from longer (tip log)))
-safe_added request log longer items image is safe =
-    subst (λ (xs : List Item). AreSafeEntries request image (item_entries (pos (tip log)) xs)) (sym (ap (λ (l : Log). items_from l (tip log)) is ∙ behind log items)) safe
+safe_added : (exchange : Option Exchange) (log longer : Log) (items : List Item) (image : Image) → longer ≡ log_with log items → AreSafeEntries exchange image (item_entries (pos (tip log)) items)
+    → AreSafeEntries exchange image (item_entries (pos (tip log)) (items_from longer (tip log)))
+safe_added exchange log longer items image is safe =
+    subst (λ (xs : List Item). AreSafeEntries exchange image (item_entries (pos (tip log)) xs)) (sym (ap (λ (l : Log). items_from l (tip log)) is ∙ behind log items)) safe
 
 seen_of : (s : State) (image : Image) → Shows s.world.log image → image_of_tip s ≡ image
 seen_of s image shows = ap (λ (r : Result Image Ill). result_unwrap_or r empty) shows
@@ -169,13 +170,9 @@ module _ (options : Options) where
 
 -- ---- events
 
-module _ (s : State) (event : Event) (image : Image) where
-  -- where the event is accepted
-  abbrev IsSafeFor : State → Type 0
-  IsSafeFor after = AreSafeEntries (request_in event) image (entries_added s event after)
-
+module _ (exchange : Option Exchange) (s : State) (event : Event) (image : Image) where
   abbrev IsSafeBy : Result State Reason → Type 0
-  IsSafeBy r = AreSafeEntries (request_in event) image (entries_by s event r)
+  IsSafeBy r = AreSafeEntries exchange image (entries_by s event r)
 
   refused_row : (b : Bool) (reason : Reason) (r : Result State Reason) → IsSafeBy r → IsSafeBy (cond b (Err reason) r)
   refused_row true reason r safe = tt
@@ -185,40 +182,40 @@ control_safe : (image : Image) (place : ℤ) → AreSafeEntries None image (item
 unfolding apply
 control_safe image place = (tt, tt)
 
-safe_none : (request : Option Request) (image : Image) (place : ℤ) (items : List Item) → items ≡ [] → AreSafeEntries request image (item_entries place items)
-safe_none request image place items none = subst (λ (is : List Item). AreSafeEntries request image (item_entries place is)) (sym none) tt
+safe_none : (exchange : Option Exchange) (image : Image) (place : ℤ) (items : List Item) → items ≡ [] → AreSafeEntries exchange image (item_entries place items)
+safe_none exchange image place items none = subst (λ (is : List Item). AreSafeEntries exchange image (item_entries place is)) (sym none) tt
 
 module _ (options : Options) (s : State) (image : Image) (valid : IsValid image) (shows : Shows s.world.log image) where
-  lead_safe : (epoch next now : ℤ) → IsSafeBy s (events.Lead epoch next now) image (lead (timed s (events.Lead epoch next now)) epoch next)
+  lead_safe : (epoch next now : ℤ) → IsSafeBy None s (events.Lead epoch next now) image (lead (timed s (events.Lead epoch next now)) epoch next)
   lead_safe epoch next now =
       let event = events.Lead epoch next now in
-      refused_row s event image (is_some s.world.leading) (already_leading s.world.leading) _
-      (refused_row s event image (not (int_lt s.world.greatest epoch)) (old_epoch epoch s.world.greatest) _
-      (refused_row s event image (not (may_begin_at s.world next)) (bad_next next (pos s.world.committed)) _
-      (refused_row s event image (is_far next) (exhausted next) _ (begins (int_eq next (pos s.world.committed))))))
+      refused_row None s event image (is_some s.world.leading) (already_leading s.world.leading) _
+      (refused_row None s event image (not (int_lt s.world.greatest epoch)) (old_epoch epoch s.world.greatest) _
+      (refused_row None s event image (not (may_begin_at s.world next)) (bad_next next (pos s.world.committed)) _
+      (refused_row None s event image (is_far next) (exhausted next) _ (begins (int_eq next (pos s.world.committed))))))
     where
       begins : (b : Bool) → AreSafeEntries None image (item_entries (pos (tip_of s)) (items_from (cond b s.world (with_batch s.world (items.Control ∷ []))).log (tip_of s)))
       begins true = safe_none None image (pos (tip_of s)) (items_from s.world.log (tip_of s)) (none_behind s.world.log)
       begins false = safe_added None s.world.log (with_batch s.world (items.Control ∷ [])).log (items.Control ∷ []) image (batch_written s.world (items.Control ∷ [])) (control_safe image (pos (tip_of s)))
 
-  commit_safe : (epoch end : ℤ) → IsSafeBy s (events.Commit epoch end) image (commit s epoch end)
+  commit_safe : (epoch end : ℤ) → IsSafeBy None s (events.Commit epoch end) image (commit s epoch end)
   commit_safe epoch end =
       let event = events.Commit epoch end in
-      refused_row s event image (not (leads_in s.world.leading epoch)) (not_leading epoch s.world.leading) _
-      (refused_row s event image (not (is_end s.world end)) (bad_commit end (pos s.world.committed) (pos (tip_of s))) _
+      refused_row None s event image (not (leads_in s.world.leading epoch)) (not_leading epoch s.world.leading) _
+      (refused_row None s event image (not (is_end s.world end)) (bad_commit end (pos s.world.committed) (pos (tip_of s))) _
       (safe_none None image (pos (tip_of s)) (items_from s.world.log (tip_of s)) (none_behind s.world.log)))
 
-  loss_safe : (epoch : ℤ) → IsSafeBy s (events.Lost epoch) image (lose s epoch)
+  loss_safe : (epoch : ℤ) → IsSafeBy None s (events.Lost epoch) image (lose s epoch)
   loss_safe epoch =
-      refused_row s (events.Lost epoch) image (not (leads_in s.world.leading epoch)) (not_leading epoch s.world.leading) _
+      refused_row None s (events.Lost epoch) image (not (leads_in s.world.leading epoch)) (not_leading epoch s.world.leading) _
       (safe_none None image (pos (tip_of s)) (items_from (ended s).world.log (tip_of s)) (cut_behind s.world.log s.world.committed))
 
-  tick_safe : (now : ℤ) → IsSafeBy s (events.Tick now) image (tick options (timed s (events.Tick now)))
+  tick_safe : (now : ℤ) → IsSafeBy None s (events.Tick now) image (tick options (timed s (events.Tick now)))
   tick_safe now =
       let t = timed s (events.Tick now) in
       let ids = lapsed options t in
       let grown = all_grow options ids t image valid shows in
-      refused_row s (events.Tick now) image (is_some s.world.leading && is_far (pos (tip_of s))) (exhausted (pos (tip_of s))) _
+      refused_row None s (events.Tick now) image (is_some s.world.leading && is_far (pos (tip_of s))) (exhausted (pos (tip_of s))) _
       (safe_added None s.world.log (fence_all options t ids).world.log grown.1.more image grown.1.writes grown.1.safe)
 
   module _ (client : ℕ) (now : ℤ) where
@@ -228,28 +225,31 @@ module _ (options : Options) (s : State) (image : Image) (valid : IsValid image)
     abbrev records_for : Ask → Request → List Record
     records_for ask request = (decided options (served ask) request).records
 
-    request_records : (ask : Ask) (request : Request) → AreSafe (Some request) image (records_for ask request)
+    abbrev exchange_for : Ask → Request → Exchange
+    exchange_for ask request = (request, (decided options (served ask) request).reply)
+
+    request_records : (ask : Ask) (request : Request) → AreSafe (Some (exchange_for ask request)) image (records_for ask request)
     request_records ask request =
-        subst (λ i. AreSafe (Some request) i (records_for ask request)) (seen_of s image shows)
+        subst (λ i. AreSafe (Some (exchange_for ask request)) i (records_for ask request)) (seen_of s image shows)
         (requests_are_safe options (served ask).basis (image_of_tip s) (pos (tip_of s)) request (subst IsValid (sym (seen_of s image shows)) valid))
 
     write_safe : (b : Bool) (ask : Ask) (request : Request)
-        → AreSafeEntries (Some request) image (item_entries (pos (tip_of s)) (items_from (cond b (after_write options (served ask) request) (served ask)).world.log (tip_of s)))
+        → AreSafeEntries (Some (exchange_for ask request)) image (item_entries (pos (tip_of s)) (items_from (cond b (after_write options (served ask) request) (served ask)).world.log (tip_of s)))
     write_safe true ask request =
         let own = as_items (records_for ask request) in
-        safe_added (Some request) s.world.log (with_batch s.world own).log own image (batch_written s.world own)
-        (records_safe (Some request) image (records_for ask request) (pos (tip_of s)) (request_records ask request))
-    write_safe false ask request = safe_none (Some request) image (pos (tip_of s)) (items_from s.world.log (tip_of s)) (none_behind s.world.log)
+        safe_added (Some (exchange_for ask request)) s.world.log (with_batch s.world own).log own image (batch_written s.world own)
+        (records_safe (Some (exchange_for ask request)) image (records_for ask request) (pos (tip_of s)) (request_records ask request))
+    write_safe false ask request = safe_none (Some (exchange_for ask request)) image (pos (tip_of s)) (items_from s.world.log (tip_of s)) (none_behind s.world.log)
 
-    request_safe : (ask : Ask) → IsSafeBy s (events.Request client now ask) image (serve options (served ask) ask)
+    request_safe : (ask : Ask) → let event = events.Request client now ask in IsSafeBy (exchange_in options (timed s event) event) s event image (serve options (served ask) ask)
     request_safe (asks.Call call) =
-        let event = events.Request client now (asks.Call call) in
-        refused_row s event image (is_decided s.world (asks.Call call) && is_far (pos (tip_of s))) (exhausted (pos (tip_of s))) _
-        (write_safe (is_decided s.world (asks.Call call)) (asks.Call call) call.request)
+        let ask = asks.Call call in
+        refused_row (Some (exchange_for ask call.request)) s (events.Request client now ask) image (is_decided s.world ask && is_far (pos (tip_of s))) (exhausted (pos (tip_of s))) _
+        (write_safe (is_decided s.world ask) ask call.request)
     request_safe (asks.Bare correlation fault) =
         safe_none None image (pos (tip_of s)) (items_from s.world.log (tip_of s)) (none_behind s.world.log)
 
-  event_safe : (event : Event) → is_anothers event ≡ false → IsSafeBy s event image (outcome options (timed s event) event)
+  event_safe : (event : Event) → is_anothers event ≡ false → IsSafeBy (exchange_in options (timed s event) event) s event image (outcome options (timed s event) event)
   event_safe (events.Lead epoch next now) own = lead_safe epoch next now
   event_safe (events.Commit epoch end) own = commit_safe epoch end
   event_safe (events.Lost epoch) own = loss_safe epoch
@@ -261,5 +261,5 @@ module _ (options : Options) (s : State) (image : Image) (valid : IsValid image)
 
 pub steps_are_safe : StepsAreSafe
 steps_are_safe before after event s writes k valid step own =
-    subst (AreSafeEntries (request_in event) before.images.tip) (sym (step.fresh s writes k))
+    subst (AreSafeEntries (exchange_in before.options (timed s event) event) before.images.tip) (sym (step.fresh s writes k))
     (event_safe before.options s before.images.tip valid k.present event own)

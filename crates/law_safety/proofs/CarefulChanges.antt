@@ -1,6 +1,6 @@
 -- A change that is built from what may be asked for is safe.
-use Rattle.std.proofs.Common.{◌≡◌, ◌∙◌, ℤ, ℕ, Bool, true, false, cond, List, [], ◌∷◌, refl, sym, ap, subst, not, inl, inr}
-use Rattle.std.specs.Prelude.{◌⊎◌, Option, Some, None, IfSome, IsTrue, ◌&&◌, ◌||◌, negsuc, Ok, Err, IfOk}
+use Rattle.std.proofs.Common.{◌≡◌, ◌∙◌, ℤ, ℕ, Bool, true, false, List, [], refl, sym, subst, not, inl, inr}
+use Rattle.std.specs.Prelude.{◌⊎◌, Option, Some, None, IfSome, ◌||◌, negsuc, Ok, Err, IfOk}
 use Rattle.std.specs.Ordering.{int_eq}
 use Rattle.std.proofs.lemmas.Bool.{and_from, or_cases, cases_Bool}
 use Rattle.kr_defs.specs.declared.changing.Facts.{Facts}
@@ -22,8 +22,7 @@ use Rattle.kr_defs.specs.Partition.{is_moving, target}
 use Rattle.kr_defs.specs.Settings as settings
 use Rattle.kr_defs.specs.Walk.{change_records}
 use Rattle.kr_defs.proofs.BuiltLeaders.{leaders_had_records, end_in_sync}
-use Rattle.kr_calls.specs.declared.calls.Request.{Request}
-use Rattle.kr_calls.specs.SafeChange.{asks_unclean, reports, reassigns, has_safe_leader, has_safe_end, is_safe}
+use Rattle.kr_calls.specs.SafeChange.{Exchange, asks_unclean, reports, reassigns, has_safe_leader, has_safe_end, is_safe}
 use Rattle.law_safety.specs.SafeChangeLaws.{AreSafe}
 
 -- one of six, or of four
@@ -51,25 +50,25 @@ any_of_four false false false false (inr (inl one)) = absurd cc
 any_of_four false false false false (inr (inr one)) = absurd cc
 
 -- What may be asked of a partition: election is unclean only where the topic allows it or the request asks for it; who is
--- said to be in sync was, or stands in an accepted report; another reassignment is one that the request asks for.
-pub record IsCareful (request : Option Request) (image : Image) (name : List ℕ) (key : ℕ × ℤ) (p : Partition) (want : Want) (facts : Facts) : Type 0 where
+-- said to be in sync was, or stands in a report that was taken; another reassignment is one that the request asks for.
+pub record IsCareful (exchange : Option Exchange) (image : Image) (name : List ℕ) (key : ℕ × ℤ) (p : Partition) (want : Want) (facts : Facts) : Type 0 where
   pub unclean : facts.unclean ≡ settings.is_unclean image name
-  pub mode : electing.is_unclean_mode want.mode ≡ true → asks_unclean request ≡ true
-  pub in_sync : (id : ℤ) → has want.in_sync id ≡ true → (has p.in_sync id ≡ true) ⊎ (reports image key p id request ≡ true)
-  pub lists : AsksOwnLists p want ⊎ (reassigns name key.1 request ≡ true)
+  pub mode : electing.is_unclean_mode want.mode ≡ true → asks_unclean exchange ≡ true
+  pub in_sync : (id : ℤ) → has want.in_sync id ≡ true → (has p.in_sync id ≡ true) ⊎ (reports image key p id exchange ≡ true)
+  pub lists : AsksOwnLists p want ⊎ (reassigns name key.1 exchange ≡ true)
 
-module _ (request : Option Request) (image : Image) (name : List ℕ) (key : ℕ × ℤ) (p : Partition) where
+module _ (exchange : Option Exchange) (image : Image) (name : List ℕ) (key : ℕ × ℤ) (p : Partition) where
   -- an unclean election is allowed, or asked for
-  unclean_leads : (o : Option ℤ) → (settings.is_unclean image name ≡ true) ⊎ (asks_unclean request ≡ true) → has_safe_leader image name key p request o ≡ true
+  unclean_leads : (o : Option ℤ) → (settings.is_unclean image name ≡ true) ⊎ (asks_unclean exchange ≡ true) → has_safe_leader image name key p exchange o ≡ true
   unclean_leads None h = refl
-  unclean_leads (Some leader) (inl h) = any_of_six (int_eq leader (negsuc 0)) (has p.in_sync leader) (has p.eligible leader) (settings.is_unclean image name) (asks_unclean request) (reports image key p leader request) (inr (inr (inr (inl h))))
-  unclean_leads (Some leader) (inr h) = any_of_six (int_eq leader (negsuc 0)) (has p.in_sync leader) (has p.eligible leader) (settings.is_unclean image name) (asks_unclean request) (reports image key p leader request) (inr (inr (inr (inr (inl h)))))
+  unclean_leads (Some leader) (inl h) = any_of_six (int_eq leader (negsuc 0)) (has p.in_sync leader) (has p.eligible leader) (settings.is_unclean image name) (asks_unclean exchange) (reports image key p leader exchange) (inr (inr (inr (inl h))))
+  unclean_leads (Some leader) (inr h) = any_of_six (int_eq leader (negsuc 0)) (has p.in_sync leader) (has p.eligible leader) (settings.is_unclean image name) (asks_unclean exchange) (reports image key p leader exchange) (inr (inr (inr (inr (inl h)))))
 
   -- nobody, one that is said to be in sync, or an eligible one
-  clean_leads : (in_sync : List ℤ) → ((id : ℤ) → has in_sync id ≡ true → (has p.in_sync id ≡ true) ⊎ (reports image key p id request ≡ true)) → (o : Option ℤ) → IfSome o (IsAmong in_sync p) → has_safe_leader image name key p request o ≡ true
+  clean_leads : (in_sync : List ℤ) → ((id : ℤ) → has in_sync id ≡ true → (has p.in_sync id ≡ true) ⊎ (reports image key p id exchange ≡ true)) → (o : Option ℤ) → IfSome o (IsAmong in_sync p) → has_safe_leader image name key p exchange o ≡ true
   clean_leads in_sync were None h = refl
   clean_leads in_sync were (Some leader) h =
-      let one = any_of_six (int_eq leader (negsuc 0)) (has p.in_sync leader) (has p.eligible leader) (settings.is_unclean image name) (asks_unclean request) (reports image key p leader request) in
+      let one = any_of_six (int_eq leader (negsuc 0)) (has p.in_sync leader) (has p.eligible leader) (settings.is_unclean image name) (asks_unclean exchange) (reports image key p leader exchange) in
       elim h [
         | inl nobody ↦ one (inl (rw nobody refl))
         | inr somebody ↦ elim (or_cases (has in_sync leader) (has p.eligible leader) somebody) [
@@ -81,8 +80,8 @@ module _ (request : Option Request) (image : Image) (name : List ℕ) (key : ℕ
         ]
       ]
 
-  module _ (want : Want) (facts : Facts) (careful : IsCareful request image name key p want facts) (c : PartitionChange) (is : built p want facts ≡ Some c) where
-    leader_safe : has_safe_leader image name key p request c.leader ≡ true
+  module _ (want : Want) (facts : Facts) (careful : IsCareful exchange image name key p want facts) (c : PartitionChange) (is : built p want facts ≡ Some c) where
+    leader_safe : has_safe_leader image name key p exchange c.leader ≡ true
     leader_safe = elim (cases_Bool (facts.unclean || electing.is_unclean_mode want.mode)) [
       | inl may ↦ elim (or_cases facts.unclean (electing.is_unclean_mode want.mode) may) [
         | inl on ↦ unclean_leads c.leader (inl (sym careful.unclean ∙ on))
@@ -91,9 +90,9 @@ module _ (request : Option Request) (image : Image) (name : List ℕ) (key : ℕ
       | inr may_not ↦ clean_leads want.in_sync careful.in_sync c.leader (subst (λ o. IfSome o (λ (change : PartitionChange). IfSome change.leader (IsAmong want.in_sync p))) is (leaders_had_records p want facts may_not).wanted)
     ]
 
-    end_safe : has_safe_end name key.1 p request (merged p c) ≡ true
+    end_safe : has_safe_end name key.1 p exchange (merged p c) ≡ true
     end_safe =
-        let one = any_of_four (not (is_moving p)) (is_moving (merged p c)) (is_within (target p) (merged p c).in_sync) (reassigns name key.1 request) in
+        let one = any_of_four (not (is_moving p)) (is_moving (merged p c)) (is_within (target p) (merged p c).in_sync) (reassigns name key.1 exchange) in
         elim (cases_Bool (is_moving p)) [
           | inl moves ↦ elim careful.lists [
             | inl own ↦ one (inr (inl (subst (λ o. IfSome o (λ (change : PartitionChange). EndsInSync p (merged p change))) is (end_in_sync p want facts own moves))))
@@ -102,25 +101,25 @@ module _ (request : Option Request) (image : Image) (name : List ℕ) (key : ℕ
           | inr rests ↦ one (inl (rw rests refl))
         ]
 
-    pub built_safe : is_safe image request name key p c ≡ true
+    pub built_safe : is_safe image exchange name key p c ≡ true
     unfolding is_safe
-    built_safe = and_from (has_safe_leader image name key p request c.leader) (has_safe_end name key.1 p request (merged p c)) leader_safe end_safe
+    built_safe = and_from (has_safe_leader image name key p exchange c.leader) (has_safe_end name key.1 p exchange (merged p c)) leader_safe end_safe
 
   -- one partition's change
-  pub change_safe : (want : Want) (facts : Facts) → topic_name image.topics key.0 ≡ Some name → entries.get partition_order image.partitions key ≡ Some p → IsCareful request image name key p want facts → AreSafe request image (change_records key.0 key.1 (built p want facts))
+  pub change_safe : (want : Want) (facts : Facts) → topic_name image.topics key.0 ≡ Some name → entries.get partition_order image.partitions key ≡ Some p → IsCareful exchange image name key p want facts → AreSafe exchange image (change_records key.0 key.1 (built p want facts))
   change_safe want facts named stands careful =
-      elim (built p want facts) as (λ o. built p want facts ≡ o → AreSafe request image (change_records key.0 key.1 o)) [
+      elim (built p want facts) as (λ o. built p want facts ≡ o → AreSafe exchange image (change_records key.0 key.1 o)) [
         | None ↦ λ is. tt
         | Some c ↦ λ is. (
           record { name = name; partition = p; named = named; stands = stands; safe = built_safe want facts careful c is },
-          elim (apply_record image (kinds.PartitionChange key.1 key.0 c)) as (λ r. IfOk r (λ after. AreSafe request after [])) [ Ok after ↦ tt | Err cause ↦ tt ],
+          elim (apply_record image (kinds.PartitionChange key.1 key.0 c)) as (λ r. IfOk r (λ after. AreSafe exchange after [])) [ Ok after ↦ tt | Err cause ↦ tt ],
         )
       ] refl
 
   -- where nobody stands by any more, nobody is elected and no reassignment ends
-  pub emptying_safe : is_safe image request name key p (emptying p) ≡ true
+  pub emptying_safe : is_safe image exchange name key p (emptying p) ≡ true
   unfolding is_safe merged
   emptying_safe = elim (cases_Bool (is_moving p)) [
-    | inl moves ↦ any_of_four (not (is_moving p)) (is_moving p) (is_within (target p) p.in_sync) (reassigns name key.1 request) (inr (inl (rw moves refl)))
-    | inr rests ↦ any_of_four (not (is_moving p)) (is_moving p) (is_within (target p) p.in_sync) (reassigns name key.1 request) (inl (rw rests refl))
+    | inl moves ↦ any_of_four (not (is_moving p)) (is_moving p) (is_within (target p) p.in_sync) (reassigns name key.1 exchange) (inr (inl (rw moves refl)))
+    | inr rests ↦ any_of_four (not (is_moving p)) (is_moving p) (is_within (target p) p.in_sync) (reassigns name key.1 exchange) (inl (rw rests refl))
   ]

@@ -1,3 +1,4 @@
 pub mod FencingLaws
 pub mod HearingLaws
+pub mod RefusalLaws
 pub mod SafeChangeLaws

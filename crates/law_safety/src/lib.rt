@@ -4,6 +4,7 @@
 
 ghost use Rattle.law_safety.specs.FencingLaws.{FencingsFit};
 ghost use Rattle.law_safety.specs.HearingLaws.{LeadersBeginHearing, RequestsKeepHearing, FencingsKeepHearing};
+ghost use Rattle.law_safety.specs.RefusalLaws.{LimitsAloneRefuse};
 ghost use Rattle.law_safety.specs.SafeChangeLaws.{RequestsAreSafe, FencingsAreSafe};
 
 /// Each change of a partition that a request gives on a valid image is safe just below its place, and the first replica in
@@ -25,4 +26,11 @@ pub fn leaders_hear_of_unfenced_brokers()
     ensures begin { LeadersBeginHearing }
     ensures requests { RequestsKeepHearing }
     ensures fencings { FencingsKeepHearing }
+{}
+
+/// On a valid image each record that a request's rule gives is refused for four reasons alone: a limit of the image, a
+/// partition's index above the last, more than 64 replicas, or a registration that stands from above the request's place. No
+/// rule answers POLICY_VIOLATION itself.
+pub fn limits_alone_refuse()
+    ensures { LimitsAloneRefuse }
 {}
