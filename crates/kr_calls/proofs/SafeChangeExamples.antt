@@ -16,7 +16,7 @@ use Rattle.kr_calls.specs.declared.calls.Request.TheVariants as requests
 use Rattle.kr_calls.specs.AlterPartition as reporting
 use Rattle.kr_calls.specs.AlterPartitionReassignments as reassigning
 use Rattle.kr_calls.specs.Deciding.{done, taken}
-use Rattle.kr_calls.specs.Decide.{work_of}
+use Rattle.kr_calls.specs.Decide.{decide, work_of}
 use Rattle.kr_calls.specs.ElectLeaders as electing
 use Rattle.kr_calls.specs.SafeChange.{Exchange, is_safe}
 use Rattle.kr_calls.proofs.Cluster.{basis, cluster, leaderless, no_change, options, whole}
@@ -30,7 +30,7 @@ safe exchange p change = is_safe (cluster p) exchange (codes "t.a") (77, pos 0) 
 
 -- the request is decided where the partition stands so
 abbrev asked : Partition → Request → Option Exchange
-asked p request = Some (request, (work_of options basis (cluster p) (pos 30) request).1)
+asked p request = Some (request, (decide options (cluster p) basis (pos 30) request).reply)
 
 in_sync_leads : safe None whole (named (pos 3)) ≡ true
 unfolding is_safe merged
