@@ -1,8 +1,7 @@
 -- The brokers that pass a test, where one of them changes.
-use Rattle.std.proofs.Common.{◌≡◌, ◌∙◌, ℤ, ℕ, Bool, true, false, cond, List, [], ◌∷◌, refl, sym, ap, subst, inl, inr, not}
+use Rattle.std.proofs.Common.{◌≡◌, ◌∙◌, ℤ, Bool, true, false, cond, List, [], ◌∷◌, refl, sym, ap, subst, inl, inr, not}
 use Rattle.std.specs.Prelude.{◌&&◌, ◌||◌, Option, Some, None, map, filter}
 use Rattle.std.specs.declared.cmp.Ordering.TheVariants.{Less, Equal, Greater}
-use Rattle.std.specs.declared.cmp.Ordering.{Ordering}
 use Rattle.std.specs.BTreeMap.{insert_entry}
 use Rattle.std.specs.List.{AllByRecursion}
 use Rattle.std.specs.List.Sorted.{IsStrictlySortedBy}

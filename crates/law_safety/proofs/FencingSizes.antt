@@ -1,29 +1,26 @@
 -- The records of a fencing are few and small.
-use Rattle.std.proofs.Common.{◌≡◌, ◌∙◌, ◌≤◌, ◌<◌, ◌+◌, ◌*◌, ◌^◌, ℕ, suc, ℤ, Bool, true, false, cond, List, [], ◌∷◌, ◌++◌, length, length-append, refl, sym, ap, subst, arith, inl, inr}
-use Rattle.std.specs.Prelude.{◌==◌, ◌&&◌, ◌||◌, not, pos, negsuc, nat_lt, nat_le, Option, Some, None, IfSome, IsTrue, sum_by, filter_map, unwrap_or}
-use Rattle.std.specs.List.{AllByRecursion, list_any, list_all, cons_option}
+use Rattle.std.proofs.Common.{◌≡◌, ◌∙◌, ◌≤◌, ◌<◌, ◌+◌, ◌*◌, ℕ, ℤ, Bool, true, false, cond, List, [], ◌∷◌, ◌++◌, length, length-append, refl, ap, arith}
+use Rattle.std.specs.Prelude.{◌&&◌, ◌||◌, not, pos, negsuc, nat_le, Option, Some, None, sum_by, unwrap_or}
+use Rattle.std.specs.List.{list_all, cons_option}
 use Rattle.std.specs.Option.{option_map, option_map_or}
 use Rattle.std.specs.Ordering.{int_eq}
-use Rattle.std.proofs.lemmas.Bool.{and_parts, and_from, or_cases, le-leb, leb-true}
-use Rattle.std.proofs.lemmas.Bool.Decides.{nat_tests}
-use Rattle.std.proofs.lemmas.List.Elements.{recursion_from_All}
+use Rattle.std.proofs.lemmas.Bool.{and_parts, and_from, le-leb, leb-true}
 use Rattle.std.proofs.lemmas.List.Folds.{list_any-append, list_all-append}
 use Rattle.std.proofs.lemmas.List.Sums.{sum_by-cons}
-use Rattle.kr_defs.specs.declared.limits.TheConstants.{MOST_PARTITIONS, MOST_REPLICAS, MOST_REQUEST_BYTES, MOST_REQUEST_RECORDS}
+use Rattle.kr_defs.specs.declared.limits.TheConstants.{MOST_REPLICAS, MOST_REQUEST_BYTES, MOST_REQUEST_RECORDS}
 use Rattle.kr_defs.specs.declared.partition.Partition.{Partition}
 use Rattle.kr_defs.specs.declared.partition.PartitionChange.{PartitionChange}
 use Rattle.kr_defs.specs.declared.record.Record.{Record}
 use Rattle.kr_defs.specs.declared.record.Record.TheVariants as kinds
 use Rattle.kr_defs.specs.Ids.{has, is_distinct, is_within, are_apart}
-use Rattle.kr_defs.specs.Image.{Image, IsValid}
 use Rattle.kr_defs.specs.Merge.{merged}
-use Rattle.kr_defs.specs.Partition.{is_well_formed, are_replicas, is_reassignment, are_parts, is_part, is_leader, is_recovery, has_epochs}
-use Rattle.kr_defs.specs.Sizes.{uvarint_bytes, list_bytes, field_bytes, field_there, tags_bytes, number_field, number_field_or, ids_field_or, change_bytes, value_bytes}
+use Rattle.kr_defs.specs.Partition.{is_well_formed, is_part}
+use Rattle.kr_defs.specs.Sizes.{uvarint_bytes, list_bytes, field_bytes, field_there, number_field_or, ids_field_or, change_bytes, value_bytes}
 use Rattle.kr_defs.specs.Walk.{Walked, changes_of, walk}
 use Rattle.kr_defs.proofs.Changes.{formed_parts}
 use Rattle.kr_defs.proofs.IdLists.{all_at, all_from, joined_distinct}
-use Rattle.kr_calls.specs.Deciding.{has_few_targets, is_within_limits}
-use Rattle.kr_calls.specs.TakingOut.{fencing, taken_out, taking_out}
+use Rattle.kr_calls.specs.Deciding.{has_few_targets}
+use Rattle.kr_calls.specs.TakingOut.{taken_out, taking_out}
 use Rattle.kr_calls.proofs.TakingOutSteps.{taking_sound}
 use Rattle.kr_calls.proofs.WalkedChanges.{StandApart, walk_stands}
 use Rattle.law_safety.specs.FencingLaws.{FencingsFit}

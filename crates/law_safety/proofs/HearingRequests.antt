@@ -1,12 +1,8 @@
 -- Whom a leader hears of, after each request.
-use Rattle.std.proofs.Common.{◌≡◌, ◌∙◌, ℤ, Bool, true, false, cond, List, [], ◌∷◌, refl, sym, ap, subst, not, inl, inr}
+use Rattle.std.proofs.Common.{◌≡◌, ◌∙◌, ℤ, Bool, true, false, cond, List, [], ◌∷◌, refl, sym, ap, subst, not}
 use Rattle.std.specs.Prelude.{◌&&◌, ◌||◌, ◌==◌, Option, Some, None, Result, Ok, Err, pos, negsuc, int_lt, length, bytes_eq, map}
 use Rattle.std.specs.Option.{option_map_or}
-use Rattle.std.specs.Ordering.{int_cmp, int_eq, is_eq}
-use Rattle.std.specs.Map.{keys_of}
-use Rattle.std.specs.List.{AllByRecursion}
-use Rattle.std.specs.List.Sorted.{IsStrictlySortedBy}
-use Rattle.std.proofs.lemmas.Bool.{cases_Bool}
+use Rattle.std.specs.Ordering.{int_cmp, int_eq}
 use Rattle.std.proofs.lemmas.Cmp.{int_cmp_total}
 use Rattle.kr_defs.specs.declared.basis.Basis.{Basis}
 use Rattle.kr_defs.specs.declared.broker.Broker.{Broker}
@@ -14,12 +10,11 @@ use Rattle.kr_defs.specs.declared.ill.Ill.TheVariants.{BadNumber, StaleEpoch, No
 use Rattle.kr_defs.specs.declared.limits.TheConstants.{MOST_BROKERS}
 use Rattle.kr_defs.specs.declared.options.Options.{Options}
 use Rattle.kr_defs.specs.declared.partition.PartitionChange.{PartitionChange}
-use Rattle.kr_defs.specs.declared.record.Record.{Record}
 use Rattle.kr_defs.specs.declared.record.Record.TheVariants as kinds
 use Rattle.kr_defs.specs.Apply as apply
 use Rattle.kr_defs.specs.Apply.{apply_record}
 use Rattle.kr_defs.specs.Brokers.{is_stopping, stopping, unfenced}
-use Rattle.kr_defs.specs.Guard.{and_then, found}
+use Rattle.kr_defs.specs.Guard.{found}
 use Rattle.kr_defs.specs.Heartbeats.{Heartbeats, contact_brokers, heard, leave, new_contact, new_stopping, stopping_brokers}
 use Rattle.kr_defs.specs.Image.{Image, IsValid, has_numbers, is_small_registration}
 use Rattle.kr_defs.specs.Map as entries
@@ -40,7 +35,7 @@ use Rattle.kr_calls.specs.Decide.{decide, work_of}
 use Rattle.kr_calls.specs.NextBasis.{heartbeats_after}
 use Rattle.kr_calls.specs.NextBasisLaws.{is_of_a_broker}
 use Rattle.kr_calls.specs.NextBasis as hearing
-use Rattle.kr_calls.specs.TakingOut.{fencing, taken_out, taking_out}
+use Rattle.kr_calls.specs.TakingOut.{fencing, taking_out}
 use Rattle.kr_calls.proofs.BrokersLeft.{all_leave, changes_are}
 use Rattle.kr_calls.proofs.KeptByRequests.{done_by}
 use Rattle.kr_calls.proofs.OtherRequests.{others_leave}

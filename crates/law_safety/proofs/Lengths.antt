@@ -1,7 +1,7 @@
 -- How long lists of distinct ids and walks are.
-use Rattle.std.proofs.Common.{◌≡◌, ◌∙◌, ◌≤◌, ◌<◌, ◌+◌, ℕ, suc, ℤ, Bool, true, false, cond, List, [], ◌∷◌, ◌++◌, length, length-append, refl, sym, ap, subst, arith, inl, inr}
-use Rattle.std.specs.Prelude.{◌==◌, ◌&&◌, ◌||◌, not, filter, map, filter_map, IsTrue}
-use Rattle.std.specs.List.{AllByRecursion, flat_map, list_any, list_all}
+use Rattle.std.proofs.Common.{◌≡◌, ◌≤◌, ◌<◌, ◌+◌, ℕ, suc, ℤ, true, false, cond, List, [], ◌∷◌, length, length-append, refl, ap, subst, arith, inl, inr}
+use Rattle.std.specs.Prelude.{◌==◌, ◌||◌, not, filter}
+use Rattle.std.specs.List.{flat_map, list_any, list_all}
 use Rattle.std.specs.Map.{values_of}
 use Rattle.std.specs.Ordering.{int_eq}
 use Rattle.std.proofs.lemmas.Bool.{and_parts, cases_Bool}
@@ -9,10 +9,10 @@ use Rattle.std.proofs.lemmas.Bool.Decides.{nat_tests}
 use Rattle.kr_defs.specs.declared.partition.Partition.{Partition}
 use Rattle.kr_defs.specs.Ids.{has, is_distinct, is_within}
 use Rattle.kr_defs.specs.Image.{are_distinct}
-use Rattle.kr_defs.specs.Walk.{Walked, walked, of_topic, walk_topic}
+use Rattle.kr_defs.specs.Walk.{walked, of_topic, walk_topic}
 use Rattle.std.proofs.lemmas.List.{length-map}
 use Rattle.kr_defs.proofs.Maps.{length-filter_le}
-use Rattle.kr_defs.proofs.IdLists.{id_itself, same_id, refutes, all_at, all_from, has_kept}
+use Rattle.kr_defs.proofs.IdLists.{same_id, refutes, all_at, all_from, has_kept}
 use Rattle.kr_defs.proofs.Tests.{both, neither, not_true}
 
 -- ---- distinct ids

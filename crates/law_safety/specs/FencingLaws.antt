@@ -1,7 +1,5 @@
 -- Laws of fencing: it passes no limit of requests (this project's own).
-use Rattle.std.specs.Prelude.{◌≡◌, ℤ, true, [], Some}
-use Rattle.std.specs.Ordering.{int_cmp}
-use Rattle.kr_defs.specs.declared.broker.Broker.{Broker}
+use Rattle.std.specs.Prelude.{◌≡◌, ℤ, true, []}
 use Rattle.kr_defs.specs.Image.{Image, IsValid}
 use Rattle.kr_calls.specs.Deciding.{is_within_limits}
 use Rattle.kr_calls.specs.TakingOut.{fencing}

@@ -1,6 +1,6 @@
 -- Whom a leading controller hears of: the unfenced brokers, and of these the stopping ones it keeps apart (after KIP-631's
 -- BrokerHeartbeatManager; the statement is this project's own).
-use Rattle.std.specs.Prelude.{◌≡◌, ℤ, Bool, List, Some, Ok}
+use Rattle.std.specs.Prelude.{◌≡◌, ℤ, Some, Ok}
 use Rattle.std.specs.Ordering.{int_cmp}
 use Rattle.kr_defs.specs.declared.basis.Basis.{Basis}
 use Rattle.kr_defs.specs.declared.broker.Broker.{Broker}
