@@ -11,7 +11,7 @@ ghost use Rattle.kr_calls.specs.NextBasis.{broker_is_stopping};
 ghost use Rattle.kr_calls.specs.declared.calls.Reply.TheVariants as replies;
 ghost use Rattle.kr_store.specs.Images.{last_kept};
 ghost use Rattle.kr_engine.specs.inner.Ready.{IsReady};
-ghost use Rattle.kr_engine.specs.inner.Serving.{Decides, decided_by};
+ghost use Rattle.kr_engine.specs.inner.Request.{Decides, decided_by};
 
 use crate::Engine;
 use crate::judging::{context_of, nothing};

@@ -35,12 +35,13 @@ use Rattle.kr_batch.specs.declared.fault.BatchFault.TheVariants as batches
 use Rattle.kr_batch.specs.Reading.{batch_of}
 use Rattle.kr_batch.specs.BatchBytes.{batch_bytes}
 use Rattle.kr_world.specs.declared.writes.Write.{Write}
-use Rattle.kr_world.specs.Events.{happens, outcome, timed}
-use Rattle.kr_world.specs.Leaderships.{begun, lead}
+use Rattle.kr_world.specs.Events.{happens, outcome, at_time_of}
+use Rattle.kr_world.specs.Lead.{after_lead, lead}
 use Rattle.kr_world.specs.Outputs.{outputs_by, outputs_of, waiting_after}
 use Rattle.kr_world.specs.Reasons.{already_leading, bad_batch, bad_commit, bad_next, exhausted, gap, ill_formed, not_leading, old_epoch, older_image, reason}
-use Rattle.kr_world.specs.Replicas.{batch_or, follow, follow_batch, followed, load_image, loaded}
-use Rattle.kr_world.specs.Ticks.{lapsed}
+use Rattle.kr_world.specs.Batch.{batch_or, batch, take_batch, after_batch}
+use Rattle.kr_world.specs.Load.{take_image, after_load}
+use Rattle.kr_world.specs.Tick.{lapsed_contacts}
 use Rattle.kr_world.specs.World.{State, image_of_tip, start, tip_of}
 
 -- ---- a leader of epoch 1 at place 12, where all is committed
@@ -159,17 +160,17 @@ old_lead = refl
 pub lead_apart : lead standby (pos 2) (pos 14) ≡ Err (bad_next (pos 14) (pos 12))
 lead_apart = refl
 
-pub lead_too_far : lead (loaded start 2305843009213693953 empty) (pos 2) (pos 2305843009213693953) ≡ Err (exhausted (pos 2305843009213693953))
+pub lead_too_far : lead (after_load start 2305843009213693953 empty) (pos 2) (pos 2305843009213693953) ≡ Err (exhausted (pos 2305843009213693953))
 lead_too_far = refl
 
 -- one place above the end the quorum wrote an item of its own, which is a batch
-pub led_above : lead standby (pos 2) (pos 13) ≡ Ok (begun standby (pos 2) (pos 13))
+pub led_above : lead standby (pos 2) (pos 13) ≡ Ok (after_lead standby (pos 2) (pos 13))
 led_above = refl
 
-pub led_behind : tip_of (begun standby (pos 2) (pos 13)) ≡ 13
+pub led_behind : tip_of (after_lead standby (pos 2) (pos 13)) ≡ 13
 led_behind = refl
 
-pub own_batch : (begun standby (pos 2) (pos 13)).world.batch_ends ≡ 13 ∷ []
+pub own_batch : (after_lead standby (pos 2) (pos 13)).world.batch_ends ≡ 13 ∷ []
 own_batch = refl
 
 -- ---- batches of another leader
@@ -177,40 +178,40 @@ own_batch = refl
 -- the batch comes back: it is committed, and nobody is answered
 pub comes_back : (bytes : List ℕ) → batch_of bytes ≡ Ok batch → outputs_of options (after led (asked (pos 1) ∷ lost ∷ [])) [] (events.Batch bytes) ≡ []
 unfolding work_of configuring.decided done taken apply_record apply image_at value_bytes
-comes_back bytes is = ap (λ r. outputs_by options (after led (asked (pos 1) ∷ lost ∷ [])) [] (events.Batch bytes) (and_then (batch_or r) (follow_batch (after led (asked (pos 1) ∷ lost ∷ []))))) is
+comes_back bytes is = ap (λ r. outputs_by options (after led (asked (pos 1) ∷ lost ∷ [])) [] (events.Batch bytes) (and_then (batch_or r) (take_batch (after led (asked (pos 1) ∷ lost ∷ []))))) is
 
-pub ends_behind : tip_of (followed standby batch) ≡ 15
+pub ends_behind : tip_of (after_batch standby batch) ≡ 15
 ends_behind = refl
 
-pub comes_twice : follow_batch (followed standby batch) batch ≡ Err (gap (pos 15) (pos 12))
+pub comes_twice : take_batch (after_batch standby batch) batch ≡ Err (gap (pos 15) (pos 12))
 comes_twice = refl
 
 -- the quorum's own items take places and have no meaning
-pub control : follow_batch start (record { base = pos 0; epoch = pos 3; time = pos 0; items = items.Control ∷ [] }) ≡ Ok (followed start (record { base = pos 0; epoch = pos 3; time = pos 0; items = items.Control ∷ [] }))
+pub control : take_batch start (record { base = pos 0; epoch = pos 3; time = pos 0; items = items.Control ∷ [] }) ≡ Ok (after_batch start (record { base = pos 0; epoch = pos 3; time = pos 0; items = items.Control ∷ [] }))
 unfolding apply image_at
 control = refl
 
-pub ill : follow_batch start (record batch { base = pos 0; items = items.Control ∷ items.Record (kinds.RemoveTopic 5) ∷ [] }) ≡ Err (ill_formed (pos 1) NoTopic)
+pub ill : take_batch start (record batch { base = pos 0; items = items.Control ∷ items.Record (kinds.RemoveTopic 5) ∷ [] }) ≡ Err (ill_formed (pos 1) NoTopic)
 unfolding apply apply_record image_at
 ill = refl
 
 -- a batch is judged whole before its place
-pub damaged : (bytes : List ℕ) (fault : BatchFault) → batch_of bytes ≡ Err fault → follow standby bytes ≡ Err (bad_batch fault)
-damaged bytes fault is = ap (λ r. and_then (batch_or r) (follow_batch standby)) is
+pub damaged : (bytes : List ℕ) (fault : BatchFault) → batch_of bytes ≡ Err fault → batch standby bytes ≡ Err (bad_batch fault)
+damaged bytes fault is = ap (λ r. and_then (batch_or r) (take_batch standby)) is
 
 pub numbered : bad_batch (batches.Crc 5 6) ≡ reason 7 (pos 4) (pos 0) (pos 0)
 numbered = refl
 
-pub older : load_image standby (pos 11, empty) ≡ Err (older_image (pos 11) (pos 12))
+pub older : take_image standby (pos 11, empty) ≡ Err (older_image (pos 11) (pos 12))
 older = refl
 
 -- ---- time
 
 -- the contacts were heard of a second after the start, and a session is nine seconds
-pub lapsed_in_time : lapsed options (timed led (events.Tick (pos 9999))) ≡ []
+pub lapsed_in_time : lapsed_contacts options (at_time_of led (events.Tick (pos 9999))) ≡ []
 lapsed_in_time = refl
 
-pub lapsed_late : lapsed options (timed led (events.Tick (pos 10000))) ≡ pos 1 ∷ pos 2 ∷ pos 3 ∷ []
+pub lapsed_late : lapsed_contacts options (at_time_of led (events.Tick (pos 10000))) ≡ pos 1 ∷ pos 2 ∷ pos 3 ∷ []
 lapsed_late = refl
 
 -- a refused event is counted, and its time counts
