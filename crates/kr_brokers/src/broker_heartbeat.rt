@@ -281,7 +281,7 @@ fn hear_from<S: Store, L: Ledger>(
 /// fenced nor to stop; an active one that wants to stop is told to, and fenced at once where it leads nothing; a stopping
 /// one is fenced once every active broker has read up to where it began to stop. 77 where it isn't registered or by
 /// another epoch; 44 past a limit.
-pub fn broker_heartbeat<S: Store, L: Ledger>(
+pub fn decide<S: Store, L: Ledger>(
     alloc: Global,
     store: &mut S,
     context: &Context,

@@ -228,7 +228,7 @@ fn register_now<S: Store, L: Ledger>(
 /// A broker registers, fenced: its epoch is the place of its registration. The broker of an earlier registration is
 /// taken out, as restarted where it wasn't shut down from that one. 104 for another cluster; 42 for a negative id, a
 /// broker that migrates or one without listeners; 101 while another incarnation is in contact; 44 past a limit.
-pub fn broker_registration<S: Store, L: Ledger>(
+pub fn decide<S: Store, L: Ledger>(
     alloc: Global,
     store: &mut S,
     context: &Context,

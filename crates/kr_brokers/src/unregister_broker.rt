@@ -84,7 +84,7 @@ impl<'a> Rule<UnregisterBroker, UnregisterBrokerReply> for Unregistering<'a> {
 /// A broker is forgotten, and taken out as one that has restarted uncleanly. 102 where it isn't registered; 44 past a
 /// limit.
 #[tactic(auto, unfolding(kr_calls::specs::UnregisterBroker::decided))]
-pub fn unregister_broker<S: Store, L: Ledger>(
+pub fn decide<S: Store, L: Ledger>(
     alloc: Global,
     store: &mut S,
     context: &Context,

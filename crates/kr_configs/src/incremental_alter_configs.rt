@@ -19,7 +19,7 @@ use std::sync::ledger::Ledger;
 /// another afterwards, the replicas that stand by are dropped where enough are in sync. With validate-only the same
 /// answers come, and no record. After an Err the effect is as before.
 #[tactic(auto, unfolding(kr_calls::specs::IncrementalAlterConfigs::decided))]
-pub fn incremental_alter_configs<S: Store, L: Ledger>(
+pub fn decide<S: Store, L: Ledger>(
     alloc: Global,
     store: &mut S,
     context: &Context,

@@ -54,31 +54,37 @@ fn decide<L: Ledger>(
     ensures later { steps.old ≤ steps.new }
 {
     match request {
-        Request::BrokerRegistration(q) => kr_brokers::broker_registration(
+        Request::BrokerRegistration(q) => kr_brokers::broker_registration::decide(
             alloc, store, context, q, out, steps,
         ),
-        Request::BrokerHeartbeat(q) => kr_brokers::broker_heartbeat(
+        Request::BrokerHeartbeat(q) => kr_brokers::broker_heartbeat::decide(
             alloc, store, context, q, out, steps,
         ),
-        Request::UnregisterBroker(q) => kr_brokers::unregister_broker(
+        Request::UnregisterBroker(q) => kr_brokers::unregister_broker::decide(
             alloc, store, context, q, out, steps,
         ),
-        Request::CreateTopics(q) => kr_topics::create_topics(alloc, store, context, q, out, steps),
-        Request::DeleteTopics(q) => kr_topics::delete_topics(alloc, store, context, q, out, steps),
-        Request::CreatePartitions(q) => kr_topics::create_partitions(
+        Request::CreateTopics(q) => kr_topics::create_topics::decide(
             alloc, store, context, q, out, steps,
         ),
-        Request::AlterPartition(q) => kr_partitions::alter_partition(
+        Request::DeleteTopics(q) => kr_topics::delete_topics::decide(
             alloc, store, context, q, out, steps,
         ),
-        Request::ElectLeaders(q) => kr_partitions::elect_leaders(
+        Request::CreatePartitions(q) => kr_topics::create_partitions::decide(
+            alloc, store, context, q, out, steps,
+        ),
+        Request::AlterPartition(q) => kr_partitions::alter_partition::decide(
+            alloc, store, context, q, out, steps,
+        ),
+        Request::ElectLeaders(q) => kr_partitions::elect_leaders::decide(
             alloc, store, context, q, out, steps,
         ),
         Request::AlterPartitionReassignments(q) => {
-            kr_partitions::alter_partition_reassignments(alloc, store, context, q, out, steps)
+            kr_partitions::alter_partition_reassignments::decide(
+                alloc, store, context, q, out, steps,
+            )
         }
         Request::IncrementalAlterConfigs(q) => {
-            kr_configs::incremental_alter_configs(alloc, store, context, q, out, steps)
+            kr_configs::incremental_alter_configs::decide(alloc, store, context, q, out, steps)
         }
         Request::ListPartitionReassignments(_) | Request::Metadata(_) => decide_nothing(alloc, out),
     }

@@ -135,7 +135,7 @@ impl Engine {
         let at = at_epoch(&self.committed);
         match request {
             Request::ListPartitionReassignments(q) => read_reply(
-                kr_partitions::list_partition_reassignments(
+                kr_partitions::list_partition_reassignments::answer(
                     self.alloc,
                     &self.store,
                     at,
@@ -143,7 +143,7 @@ impl Engine {
                     q,
                 ),
             ),
-            Request::Metadata(q) => read_reply(kr_topics::metadata(
+            Request::Metadata(q) => read_reply(kr_topics::metadata::answer(
                 self.alloc,
                 &self.store,
                 at,

@@ -40,7 +40,7 @@ fn reply_of(error: &i16, topics: AlterPartitionTopicResults) -> Reply
 /// Each report is accepted or refused by itself, in order; all are refused where the broker isn't registered with its
 /// epoch. After an Err the effect is as before.
 #[tactic(auto, unfolding(kr_calls::specs::AlterPartition::decided))]
-pub fn alter_partition<S: Store, L: Ledger>(
+pub fn decide<S: Store, L: Ledger>(
     alloc: Global,
     store: &mut S,
     context: &Context,

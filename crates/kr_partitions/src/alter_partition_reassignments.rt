@@ -18,7 +18,7 @@ use std::sync::ledger::Ledger;
 /// Each partition's reassignment begins, is replaced or given up, or is refused by itself, in order. After an Err the
 /// effect is as before.
 #[tactic(auto, unfolding(kr_calls::specs::AlterPartitionReassignments::decided))]
-pub fn alter_partition_reassignments<S: Store, L: Ledger>(
+pub fn decide<S: Store, L: Ledger>(
     alloc: Global,
     store: &mut S,
     context: &Context,

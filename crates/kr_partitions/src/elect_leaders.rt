@@ -31,7 +31,7 @@ fn reply_of(error: &i16, results: ReplicaElectionResults) -> Reply
 /// Each partition that is asked for gets a leader or is refused by itself, in order; all are refused where the type of
 /// election is neither 0 nor 1. After an Err the effect is as before.
 #[tactic(auto, unfolding(kr_calls::specs::ElectLeaders::decided))]
-pub fn elect_leaders<S: Store, L: Ledger>(
+pub fn decide<S: Store, L: Ledger>(
     alloc: Global,
     store: &mut S,
     context: &Context,

@@ -157,7 +157,7 @@ fn all_topic_rows<S: Store>(
 /// The partitions that are being reassigned, all or those that are asked for, at a place of the store. NoEpoch exactly
 /// where the place is an epoch that isn't kept.
 #[tactic(auto, unfolding(kr_calls::specs::ListPartitionReassignments::queried))]
-pub fn list_partition_reassignments<S: Store>(
+pub fn answer<S: Store>(
     alloc: Global,
     store: &S,
     at: At,

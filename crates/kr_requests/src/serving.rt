@@ -31,34 +31,36 @@ pub(crate) fn serve<L: Ledger>(
 {
     match request {
         Request::BrokerRegistration(asked) => {
-            kr_brokers::broker_registration(alloc, store, context, asked, out, steps)
+            kr_brokers::broker_registration::decide(alloc, store, context, asked, out, steps)
         }
         Request::BrokerHeartbeat(asked) => {
-            kr_brokers::broker_heartbeat(alloc, store, context, asked, out, steps)
+            kr_brokers::broker_heartbeat::decide(alloc, store, context, asked, out, steps)
         }
         Request::UnregisterBroker(asked) => {
-            kr_brokers::unregister_broker(alloc, store, context, asked, out, steps)
+            kr_brokers::unregister_broker::decide(alloc, store, context, asked, out, steps)
         }
         Request::CreateTopics(asked) => {
-            kr_topics::create_topics(alloc, store, context, asked, out, steps)
+            kr_topics::create_topics::decide(alloc, store, context, asked, out, steps)
         }
         Request::DeleteTopics(asked) => {
-            kr_topics::delete_topics(alloc, store, context, asked, out, steps)
+            kr_topics::delete_topics::decide(alloc, store, context, asked, out, steps)
         }
         Request::CreatePartitions(asked) => {
-            kr_topics::create_partitions(alloc, store, context, asked, out, steps)
+            kr_topics::create_partitions::decide(alloc, store, context, asked, out, steps)
         }
         Request::AlterPartition(asked) => {
-            kr_partitions::alter_partition(alloc, store, context, asked, out, steps)
+            kr_partitions::alter_partition::decide(alloc, store, context, asked, out, steps)
         }
         Request::ElectLeaders(asked) => {
-            kr_partitions::elect_leaders(alloc, store, context, asked, out, steps)
+            kr_partitions::elect_leaders::decide(alloc, store, context, asked, out, steps)
         }
         Request::AlterPartitionReassignments(asked) => {
-            kr_partitions::alter_partition_reassignments(alloc, store, context, asked, out, steps)
+            kr_partitions::alter_partition_reassignments::decide(
+                alloc, store, context, asked, out, steps,
+            )
         }
         Request::ListPartitionReassignments(asked) => {
-            let shown = kr_partitions::list_partition_reassignments(
+            let shown = kr_partitions::list_partition_reassignments::answer(
                 alloc,
                 store,
                 At::Tip,
@@ -68,10 +70,10 @@ pub(crate) fn serve<L: Ledger>(
             show(shown, out)
         }
         Request::IncrementalAlterConfigs(asked) => {
-            kr_configs::incremental_alter_configs(alloc, store, context, asked, out, steps)
+            kr_configs::incremental_alter_configs::decide(alloc, store, context, asked, out, steps)
         }
         Request::Metadata(asked) => {
-            let shown = kr_topics::metadata(alloc, store, At::Tip, context.options, asked);
+            let shown = kr_topics::metadata::answer(alloc, store, At::Tip, context.options, asked);
             show(shown, out)
         }
     }

@@ -310,7 +310,7 @@ fn decide_growths<S: Store, L: Ledger>(
 /// Each topic that is named gets more partitions: over the replicas that the request gives, or else placed on the active
 /// brokers from the place of the entry's first record on.
 #[tactic(auto, unfolding(kr_calls::specs::CreatePartitions::decided))]
-pub fn create_partitions<S: Store, L: Ledger>(
+pub fn decide<S: Store, L: Ledger>(
     alloc: Global,
     store: &mut S,
     context: &Context,

@@ -436,7 +436,7 @@ fn decide_creations<S: Store, L: Ledger>(
 /// Each topic whose name is new is created, with its settings and its partitions: over the replicas that the request
 /// gives, or else placed on the active brokers from the place of the topic's record on.
 #[tactic(auto, unfolding(kr_calls::specs::CreateTopics::decided))]
-pub fn create_topics<S: Store, L: Ledger>(
+pub fn decide<S: Store, L: Ledger>(
     alloc: Global,
     store: &mut S,
     context: &Context,

@@ -89,7 +89,7 @@ impl Rule<DeleteTopicState, DeletableTopicResult> for Deleting {
 
 /// Each topic that is named, by its name or its id, is removed.
 #[tactic(auto, unfolding(kr_calls::specs::DeleteTopics::decided))]
-pub fn delete_topics<S: Store, L: Ledger>(
+pub fn decide<S: Store, L: Ledger>(
     alloc: Global,
     store: &mut S,
     context: &Context,

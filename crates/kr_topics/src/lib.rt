@@ -2,18 +2,13 @@
 #![tactic(auto)]
 
 mod assigning;
-mod create_partitions;
-mod create_topics;
-mod delete_topics;
-mod metadata;
+pub mod create_partitions;
+pub mod create_topics;
+pub mod delete_topics;
+pub mod metadata;
 mod named_topics;
 mod naming;
 mod partitions;
 mod racks;
 mod settings;
 mod topic_rows;
-
-pub use create_partitions::create_partitions;
-pub use create_topics::create_topics;
-pub use delete_topics::delete_topics;
-pub use metadata::metadata;

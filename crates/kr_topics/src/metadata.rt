@@ -123,7 +123,7 @@ fn reply_of<S: Store>(
 
 /// The brokers that aren't fenced, and all topics or those that are asked for, at a place of the store. NoEpoch exactly
 /// where the place is an epoch that isn't kept.
-pub fn metadata<S: Store>(
+pub fn answer<S: Store>(
     alloc: Global,
     store: &S,
     at: At,

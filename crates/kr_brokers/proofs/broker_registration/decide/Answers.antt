@@ -1,5 +1,5 @@
 use Rattle.kr_brokers.proofs.Decisions.{registration_decided}
-use Rattle.kr_brokers.proofs.broker_registration.broker_registration.Goals as goal
+use Rattle.kr_brokers.proofs.broker_registration.decide.Goals as goal
 
 pub returns-clause-records : goal.returns-clause-records
 returns-clause-records g c led =

@@ -1,5 +1,5 @@
 use Rattle.kr_brokers.proofs.Decisions.{heartbeat_decided}
-use Rattle.kr_brokers.proofs.broker_heartbeat.broker_heartbeat.Goals as goal
+use Rattle.kr_brokers.proofs.broker_heartbeat.decide.Goals as goal
 
 pub returns-clause-records : goal.returns-clause-records
 returns-clause-records g c led =
