@@ -83,8 +83,8 @@ replied correlation error = given.Reply 9 correlation (reply error)
 abbrev config : List ℕ → Record
 config key = kinds.Config (pos 4) [] key (Some (codes "1"))
 
-abbrev batch : Batch
-batch = record { base = pos 12; epoch = pos 1; time = pos 2000; items = items.Record (config (codes "a")) ∷ items.Record (config (codes "b")) ∷ items.Record (config (codes "c")) ∷ [] }
+abbrev settings_batch : Batch
+settings_batch = record { base = pos 12; epoch = pos 1; time = pos 2000; items = items.Record (config (codes "a")) ∷ items.Record (config (codes "b")) ∷ items.Record (config (codes "c")) ∷ [] }
 
 -- the outputs of each event, from a state on
 abbrev outputs_from : State → List Write → List Event → List (List Output)
@@ -96,24 +96,24 @@ abbrev after : State → List Event → State
 after s [] = s
 after s (event ∷ events) = after (happens options s event) events
 
-abbrev commit : ℕ → Event
-commit end = events.Commit (pos 1) (pos end)
+abbrev commit_to : ℕ → Event
+commit_to end = events.Commit (pos 1) (pos end)
 
 -- ---- commits
 
 -- the reply comes with the commit of its batch
 pub commits :
-    outputs_from led [] (asked (pos 1) ∷ commit 12 ∷ commit 15 ∷ [])
-    ≡ (given.Append (batch_bytes batch) ∷ []) ∷ [] ∷ (replied (pos 1) (pos 0) ∷ []) ∷ []
+    outputs_from led [] (asked (pos 1) ∷ commit_to 12 ∷ commit_to 15 ∷ [])
+    ≡ (given.Append (batch_bytes settings_batch) ∷ []) ∷ [] ∷ (replied (pos 1) (pos 0) ∷ []) ∷ []
 unfolding work_of configuring.decided done taken apply_record apply image_at value_bytes heartbeats_after refusals.refuse
 commits = refl
 
 -- a commit ends with a batch, and not above the tip
-pub commit_above : outcome options (after led (asked (pos 1) ∷ [])) (commit 16) ≡ Err (bad_commit (pos 16) (pos 12) (pos 15))
+pub commit_above : outcome options (after led (asked (pos 1) ∷ [])) (commit_to 16) ≡ Err (bad_commit (pos 16) (pos 12) (pos 15))
 unfolding work_of configuring.decided done taken apply_record apply image_at value_bytes
 commit_above = refl
 
-pub commit_between : outcome options (after led (asked (pos 1) ∷ [])) (commit 14) ≡ Err (bad_commit (pos 14) (pos 12) (pos 15))
+pub commit_between : outcome options (after led (asked (pos 1) ∷ [])) (commit_to 14) ≡ Err (bad_commit (pos 14) (pos 12) (pos 15))
 unfolding work_of configuring.decided done taken apply_record apply image_at value_bytes
 commit_between = refl
 
@@ -122,28 +122,28 @@ commit_of_another = refl
 
 -- The same settings again make no record: the reply waits for the batch that it saw. One commit answers both, in order.
 pub without_records :
-    outputs_from led [] (asked (pos 1) ∷ asked (pos 2) ∷ commit 15 ∷ asked (pos 3) ∷ [])
-    ≡ (given.Append (batch_bytes batch) ∷ []) ∷ [] ∷ (replied (pos 1) (pos 0) ∷ replied (pos 2) (pos 0) ∷ []) ∷ (replied (pos 3) (pos 0) ∷ []) ∷ []
+    outputs_from led [] (asked (pos 1) ∷ asked (pos 2) ∷ commit_to 15 ∷ asked (pos 3) ∷ [])
+    ≡ (given.Append (batch_bytes settings_batch) ∷ []) ∷ [] ∷ (replied (pos 1) (pos 0) ∷ replied (pos 2) (pos 0) ∷ []) ∷ (replied (pos 3) (pos 0) ∷ []) ∷ []
 unfolding work_of configuring.decided done taken apply_record apply image_at value_bytes heartbeats_after refusals.refuse
 without_records = refl
 
 -- ---- leaderships
 
-abbrev lost : Event
-lost = events.Lost (pos 1)
+abbrev lost_lead : Event
+lost_lead = events.Lost (pos 1)
 
 abbrev standby : State
-standby = after led (lost ∷ [])
+standby = after led (lost_lead ∷ [])
 
 -- both are answered that this node isn't the controller, in order
 pub leadership_lost :
-    outputs_from led [] (asked (pos 1) ∷ asked (pos 2) ∷ lost ∷ [])
-    ≡ (given.Append (batch_bytes batch) ∷ []) ∷ [] ∷ (replied (pos 1) (pos 41) ∷ replied (pos 2) (pos 41) ∷ []) ∷ []
+    outputs_from led [] (asked (pos 1) ∷ asked (pos 2) ∷ lost_lead ∷ [])
+    ≡ (given.Append (batch_bytes settings_batch) ∷ []) ∷ [] ∷ (replied (pos 1) (pos 41) ∷ replied (pos 2) (pos 41) ∷ []) ∷ []
 unfolding work_of configuring.decided done taken apply_record apply image_at value_bytes heartbeats_after refusals.refuse
 leadership_lost = refl
 
 -- and what wasn't committed is gone
-pub nothing_left : image_of_tip (after led (asked (pos 1) ∷ lost ∷ [])) ≡ empty
+pub nothing_left : image_of_tip (after led (asked (pos 1) ∷ lost_lead ∷ [])) ≡ empty
 unfolding work_of configuring.decided done taken apply_record apply image_at value_bytes
 nothing_left = refl
 
@@ -176,14 +176,14 @@ own_batch = refl
 -- ---- batches of another leader
 
 -- the batch comes back: it is committed, and nobody is answered
-pub comes_back : (bytes : List ℕ) → batch_of bytes ≡ Ok batch → outputs_of options (after led (asked (pos 1) ∷ lost ∷ [])) [] (events.Batch bytes) ≡ []
+pub comes_back : (bytes : List ℕ) → batch_of bytes ≡ Ok settings_batch → outputs_of options (after led (asked (pos 1) ∷ lost_lead ∷ [])) [] (events.Batch bytes) ≡ []
 unfolding work_of configuring.decided done taken apply_record apply image_at value_bytes
-comes_back bytes is = ap (λ r. outputs_by options (after led (asked (pos 1) ∷ lost ∷ [])) [] (events.Batch bytes) (and_then (batch_or r) (take_batch (after led (asked (pos 1) ∷ lost ∷ []))))) is
+comes_back bytes is = ap (λ r. outputs_by options (after led (asked (pos 1) ∷ lost_lead ∷ [])) [] (events.Batch bytes) (and_then (batch_or r) (take_batch (after led (asked (pos 1) ∷ lost_lead ∷ []))))) is
 
-pub ends_behind : tip_of (after_batch standby batch) ≡ 15
+pub ends_behind : tip_of (after_batch standby settings_batch) ≡ 15
 ends_behind = refl
 
-pub comes_twice : take_batch (after_batch standby batch) batch ≡ Err (gap (pos 15) (pos 12))
+pub comes_twice : take_batch (after_batch standby settings_batch) settings_batch ≡ Err (gap (pos 15) (pos 12))
 comes_twice = refl
 
 -- the quorum's own items take places and have no meaning
@@ -191,7 +191,7 @@ pub control : take_batch start (record { base = pos 0; epoch = pos 3; time = pos
 unfolding apply image_at
 control = refl
 
-pub ill : take_batch start (record batch { base = pos 0; items = items.Control ∷ items.Record (kinds.RemoveTopic 5) ∷ [] }) ≡ Err (ill_formed (pos 1) NoTopic)
+pub ill : take_batch start (record settings_batch { base = pos 0; items = items.Control ∷ items.Record (kinds.RemoveTopic 5) ∷ [] }) ≡ Err (ill_formed (pos 1) NoTopic)
 unfolding apply apply_record image_at
 ill = refl
 
