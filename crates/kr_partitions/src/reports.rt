@@ -10,7 +10,7 @@ use crate::members::{are_bad_members, members};
 use kr_base::NoMemory;
 use kr_calls::errors::{
     FENCED_LEADER_EPOCH, INELIGIBLE_REPLICA, INVALID_REQUEST, INVALID_UPDATE_VERSION,
-    UNKNOWN_LEADER_EPOCH, UNKNOWN_TOPIC_ID, UNKNOWN_TOPIC_OR_PARTITION,
+    NEW_LEADER_ELECTED, UNKNOWN_LEADER_EPOCH, UNKNOWN_TOPIC_ID, UNKNOWN_TOPIC_OR_PARTITION,
 };
 use kr_calls::{
     AlterPartitionResult, AlterPartitionResults, AlterPartitionTopic, AlterPartitionTopicResult,
@@ -23,9 +23,6 @@ use kr_rules::{Groups, ItemRule, Refusal, Work};
 use kr_store::Store;
 use kr_walks::{active, default_want, facts, is_active, tip};
 use std::alloc::Global;
-
-// Kafka's NEW_LEADER_ELECTED.
-const NEW_LEADER: i16 = 108;
 
 /// The rule for the reports of one broker.
 #[derive(Drop)]
@@ -137,7 +134,7 @@ fn answer_to_leader(
     ensures { IfOk result (λ answer. answer ≡ reporting.partition_result broker.now (topic.now, report.now) partition.now) }
 {
     if partition.leader != *broker {
-        return Ok(refusal_answer(alloc, &NEW_LEADER, topic, report));
+        return Ok(refusal_answer(alloc, &NEW_LEADER_ELECTED, topic, report));
     }
     let in_sync = partition.in_sync.copied(alloc)?;
     Ok(AlterPartitionResult {
