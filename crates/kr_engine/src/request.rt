@@ -19,7 +19,7 @@ use crate::reasons::exhausted;
 use kr_base::{NoMemory, Steps};
 use kr_calls::errors::{INVALID_REQUEST, NOT_CONTROLLER, UNSUPPORTED_VERSION};
 use kr_calls::{Ask, AskFault, Call, Effect, Output, Reason, Reply, Request};
-use kr_req::refuse;
+use kr_rules::refuse;
 use kr_store::ReadFault;
 use kr_world::Write;
 use std::alloc::Global;

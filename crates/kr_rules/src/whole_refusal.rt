@@ -21,7 +21,7 @@ fn refused_topic(
     topic: &CreatableTopic,
     error: i16,
 ) -> Result<CreatableTopicResult, NoMemory>
-    ensures { IfOk result (λ r. r ≡ refusals.refused_topic error topic.now) }
+    ensures { IfOk result (λ r. r ≡ refusals.refused_creation error topic.now) }
 {
     let name = topic.name.copied(alloc)?;
     Ok(CreatableTopicResult {
@@ -38,7 +38,7 @@ fn refuse_create_topics(
     topics: &[CreatableTopic],
     error: i16,
 ) -> Result<CreatableTopicResults, NoMemory>
-    ensures { IfOk result (λ rows. rows ≡ map (refusals.refused_topic error) topics.now) }
+    ensures { IfOk result (λ rows. rows ≡ map (refusals.refused_creation error) topics.now) }
 {
     let mut results = Rows::new(alloc);
     for topic in topics {
@@ -52,7 +52,7 @@ fn refused_topic_state(
     topic: &DeleteTopicState,
     error: i16,
 ) -> Result<DeletableTopicResult, NoMemory>
-    ensures { IfOk result (λ r. r ≡ refusals.refused_topic_state error topic.now) }
+    ensures { IfOk result (λ r. r ≡ refusals.refused_deletion error topic.now) }
 {
     let name = Copied::copied(&topic.name, alloc)?;
     Ok(DeletableTopicResult {
@@ -67,7 +67,7 @@ fn refuse_delete_topics(
     topics: &[DeleteTopicState],
     error: i16,
 ) -> Result<DeletableTopicResults, NoMemory>
-    ensures { IfOk result (λ rows. rows ≡ map (refusals.refused_topic_state error) topics.now) }
+    ensures { IfOk result (λ rows. rows ≡ map (refusals.refused_deletion error) topics.now) }
 {
     let mut results = Rows::new(alloc);
     for topic in topics {
@@ -81,7 +81,7 @@ fn refused_topic_partitions(
     topic: &CreatePartitionsTopic,
     error: i16,
 ) -> Result<CreatePartitionsTopicResult, NoMemory>
-    ensures { IfOk result (λ r. r ≡ refusals.refused_topic_partitions error topic.now) }
+    ensures { IfOk result (λ r. r ≡ refusals.refused_growth error topic.now) }
 {
     let name = topic.name.copied(alloc)?;
     Ok(CreatePartitionsTopicResult { name, error })
@@ -92,7 +92,7 @@ fn refuse_create_partitions(
     topics: &[CreatePartitionsTopic],
     error: i16,
 ) -> Result<CreatePartitionsTopicResults, NoMemory>
-    ensures { IfOk result (λ rows. rows ≡ map (refusals.refused_topic_partitions error) topics.now) }
+    ensures { IfOk result (λ rows. rows ≡ map (refusals.refused_growth error) topics.now) }
 {
     let mut results = Rows::new(alloc);
     for topic in topics {
