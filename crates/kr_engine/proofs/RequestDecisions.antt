@@ -3,13 +3,12 @@ use Rattle.std.proofs.Common.{◌≡◌, ◌∙◌, sym, subst, ℕ, ℤ, pos, n
 use Rattle.std.proofs.lemmas.Int.{ints}
 use Rattle.std.specs.Prelude.{◌==◌, ◌≤ℤ◌, Option, Some, Result, Ok, Err, IfOk, OnOk, IsTrue, int_lt, slice_get, unwrap_or}
 use Rattle.std.specs.Option.{option_map}
-use Rattle.kr_brokers.specs.RequestBasis as judged
 use Rattle.kr_calls.specs.declared.errors.TheConstants.{NOT_CONTROLLER}
 use Rattle.kr_calls.specs.declared.calls.Call.{Call}
 use Rattle.kr_calls.specs.declared.calls.Reply.{Reply}
 use Rattle.kr_calls.specs.declared.calls.Request.{Request}
 use Rattle.kr_calls.specs.declared.deciding.Effect.{Effect}
-use Rattle.kr_calls.specs.Decide.{decide}
+use Rattle.kr_calls.specs.Decide.{decision_of}
 use Rattle.kr_calls.specs.NextBasis.{heartbeats_after, broker_is_stopping}
 use Rattle.kr_calls.specs.Refuse.{refuse}
 use Rattle.kr_calls.proofs.DecisionMeanings.{requests_stand}
@@ -52,13 +51,13 @@ pub among_base : (before after : Images) (place : ℤ) (h : Heartbeats) → last
     → ((id : ℤ) → IsTrue (has (stopping_brokers h) id) → IsTrue (broker_is_stopping before.tip id)) → (id : ℤ) → IsTrue (has (stopping_brokers h) id) → IsTrue (broker_is_stopping (base_of after) id)
 among_base before after place h is kept among id there = ap (λ (i : Image). broker_is_stopping i id) (base_is before after place is kept) ∙ among id there
 
-pub heard_so : (options : Options) (before after : Images) (time led place : ℤ) (h : Heartbeats) (request : Request) (reply : Reply) → last_kept before ≡ Some (place, before.tip) → after.kept ≡ before.kept
-    → after.tip ≡ (decide options before.tip (judged.basis_with time led h) place request).image → reply ≡ (decide options before.tip (judged.basis_with time led h) place request).reply
-    → heartbeats_after h (base_of after) after.tip time place request reply ≡ (decide options before.tip (judged.basis_with time led h) place request).heartbeats
-heard_so options before after time led place h request reply is kept image says =
+pub heard_so : (options : Options) (before after : Images) (time place : ℤ) (h : Heartbeats) (request : Request) (reply : Reply) → last_kept before ≡ Some (place, before.tip) → after.kept ≡ before.kept
+    → after.tip ≡ (decision_of options time h before.tip place request).image → reply ≡ (decision_of options time h before.tip place request).reply
+    → heartbeats_after h (base_of after) after.tip time place request reply ≡ (decision_of options time h before.tip place request).heartbeats
+heard_so options before after time place h request reply is kept image says =
     ap (λ (i : Image). heartbeats_after h i after.tip time place request reply) (base_is before after place is kept)
     ∙ (ap (λ (i : Image). heartbeats_after h before.tip i time place request reply) image
-    ∙ ap (heartbeats_after h before.tip (decide options before.tip (judged.basis_with time led h) place request).image time place request) says)
+    ∙ ap (heartbeats_after h before.tip (decision_of options time h before.tip place request).image time place request) says)
 
 pub ruleset bases = (last_is, among_base, heard_so)
 
@@ -145,7 +144,7 @@ module _ (before between with_appended' after : Core) (client : ℕ) (call : Cal
         writes = writes_by before between after records
             (d.same ∙ ap (λ h. record before { images = between.images; heard = h }) (sym (ap (λ (b : Core). b.heard) d.same)))
             d.kept
-            (subst (λ i. apply_records before.images.tip records ≡ Ok i) (sym d.image) (requests_stand before.options (basis_of before) before.images.tip before.tip call.request))
+            (subst (λ i. apply_records before.images.tip records ≡ Ok i) (sym d.image) (requests_stand before.options before.time before.heard before.images.tip before.tip call.request))
             fits.few
             (held_apart after with_appended' _ held ∙ ap (λ (a : Core). record a { held = after.held; heard = after.heard }) (is ∙ ap (core_after_append between) d.records));
         heard = ap (λ (a : Core). a.heard) held ∙ heard_same;

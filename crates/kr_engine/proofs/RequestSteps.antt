@@ -94,7 +94,7 @@ module _ (e after : Core) (client : ℕ) (call : Call) (w : TakesWrite e after c
   leads = (both (is_some s.world.leading) (not (is_read request)) takes).0
 
   image_is : after.images.tip ≡ decision.image
-  image_is = same_ok (apply_records e.images.tip decision.records) after.images.tip decision.image w.writes.meaning (requests_stand e.options (basis_of e) e.images.tip e.tip request)
+  image_is = same_ok (apply_records e.images.tip decision.records) after.images.tip decision.image w.writes.meaning (requests_stand e.options e.time e.heard e.images.tip e.tip request)
 
   -- the writes that wait, and the new one
   write_is : waiting_write e client call after.tip ≡ write_of e.options s client call

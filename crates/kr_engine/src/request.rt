@@ -19,6 +19,7 @@ use crate::reasons::exhausted;
 use kr_base::{NoMemory, Steps};
 use kr_calls::errors::{INVALID_REQUEST, NOT_CONTROLLER, UNSUPPORTED_VERSION};
 use kr_calls::{Ask, AskFault, Call, Effect, Output, Reason, Reply, Request};
+use kr_handlers::read;
 use kr_rules::refuse;
 use kr_store::ReadFault;
 use kr_world::Write;
@@ -66,7 +67,7 @@ fn is_led_write(leading: &Option<i32>, request: &Request) -> bool
 }
 
 // The image is kept, so a read wants memory alone.
-fn read_reply(read: Result<Reply, ReadFault>) -> Result<Reply, NoMemory>
+fn read_reply(read: Result<Option<Reply>, ReadFault>) -> Result<Option<Reply>, NoMemory>
     ensures { IfOk result (λ reply. read ≡ Ok reply) }
 {
     match read {
@@ -128,29 +129,13 @@ impl Engine {
     }
 
     // A read is answered on the committed image; a write is refused.
-    #[tactic(auto, unfolding(kr_calls::specs::Decide::query))]
     fn reply_at_once(&self, request: &Request) -> Result<Reply, NoMemory>
         ensures { IfOk result (λ reply. reply ≡ reply_at_once self.now request.now) }
     {
         let at = at_epoch(&self.committed);
-        match request {
-            Request::ListPartitionReassignments(q) => read_reply(
-                kr_partitions::list_partition_reassignments::answer(
-                    self.alloc,
-                    &self.store,
-                    at,
-                    &self.options,
-                    q,
-                ),
-            ),
-            Request::Metadata(q) => read_reply(kr_topics::metadata::answer(
-                self.alloc,
-                &self.store,
-                at,
-                &self.options,
-                q,
-            )),
-            _ => not_controller_reply(self.alloc, request),
+        match read_reply(read(self.alloc, &self.store, at, &self.options, request))? {
+            Some(reply) => Ok(reply),
+            None => not_controller_reply(self.alloc, request),
         }
     }
 

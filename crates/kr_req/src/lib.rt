@@ -4,6 +4,7 @@
 mod api;
 mod body;
 mod header;
+pub mod laws;
 mod message;
 mod reply;
 

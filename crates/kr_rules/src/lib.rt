@@ -4,6 +4,7 @@
 
 mod entries;
 mod groups;
+mod handler;
 mod refusal;
 mod room;
 mod rule;
@@ -13,6 +14,7 @@ mod whole_refusal;
 
 pub use entries::{decide_each, decide_one, decide_or_validate, over_entries};
 pub use groups::{decide_groups, over_groups};
+pub use handler::Handler;
 pub use refusal::Refusal;
 pub use rule::{Groups, ItemRule, Rule};
 pub use sizes::value_bytes;

@@ -76,8 +76,8 @@ of_other options b image place request other all = subst (AreInTime b.time) (sym
 
 pub decided_in_time : (options : Options) (b : Basis) (image : Image) (place : ℤ) (request : Request) → AreInTime b.time (hearing.heard b) → AreInTime b.time (decide options image b place request).heartbeats
 unfolding work_of registering.decided heartbeating.decided unregistering.decided heartbeats_after
-decided_in_time options b image place (requests.BrokerRegistration q) all = of_leaving b.time (hearing.heard b) (one registering.refused (registering.rule options b) (nothing_decided place image) q).1.error q.broker all
-decided_in_time options b image place (requests.BrokerHeartbeat q) all = of_heartbeat b.time (hearing.heard b) image (work_of options b image place (requests.BrokerHeartbeat q)).0.image place q (one heartbeating.refused (heartbeating.rule options b) (nothing_decided place image) q).1 all
+decided_in_time options b image place (requests.BrokerRegistration q) all = of_leaving b.time (hearing.heard b) (one registering.refused (registering.rule options b.time (hearing.heard b)) (nothing_decided place image) q).1.error q.broker all
+decided_in_time options b image place (requests.BrokerHeartbeat q) all = of_heartbeat b.time (hearing.heard b) image (work_of options b.time (hearing.heard b) image place (requests.BrokerHeartbeat q)).0.image place q (one heartbeating.refused (heartbeating.rule options (hearing.heard b)) (nothing_decided place image) q).1 all
 decided_in_time options b image place (requests.UnregisterBroker q) all = of_leaving b.time (hearing.heard b) (one unregistering.refused (unregistering.rule options) (nothing_decided place image) q).1.error q.broker all
 decided_in_time options b image place (requests.CreateTopics q) all = of_other options b image place (requests.CreateTopics q) refl all
 decided_in_time options b image place (requests.DeleteTopics q) all = of_other options b image place (requests.DeleteTopics q) refl all
