@@ -15,11 +15,11 @@ ghost use Rattle.kr_world.specs.Tick.{fencing_of};
 ghost use Rattle.kr_engine.specs.inner.Append.{Fences};
 
 use crate::Engine;
-use crate::judging::{context_of, nothing};
+use crate::context::context_of;
 use crate::places::is_far;
 use crate::reasons::exhausted;
 use kr_base::{NoMemory, Steps};
-use kr_calls::Reason;
+use kr_calls::{Effect, Reason, Reply};
 use kr_defs::{Ids, Records};
 use kr_image::ImageStore;
 use kr_sessions::Context;
@@ -27,6 +27,16 @@ use kr_store::Store;
 use kr_walks::tip;
 use std::alloc::Global;
 use std::sync::ledger::Ledger;
+
+// No records.
+fn no_effect(alloc: Global) -> Effect
+    ensures { result.records ≡ [] }
+{
+    Effect {
+        records: Records::new(alloc),
+        reply: Reply::Bare { error: 0 },
+    }
+}
 
 fn is_registered<S: Store>(store: &S, broker: &i32) -> bool
     ensures { result ≡ is_some (entries.get int_cmp (S.images store.now).tip.brokers broker.now) }
@@ -54,7 +64,7 @@ fn fencing_of<L: Ledger>(
     if !is_registered(store, broker) {
         return Ok(Records::new(alloc));
     }
-    let mut out = nothing(alloc);
+    let mut out = no_effect(alloc);
     kr_brokers::fence(alloc, store, context, broker, &mut out, steps)?;
     Ok(out.records)
 }

@@ -10,7 +10,7 @@ ghost use Rattle.kr_engine.specs.inner.Ready.{IsReady};
 ghost use Rattle.kr_engine.specs.inner.Request.{Decides, decided_by};
 
 use crate::Engine;
-use crate::judging::context_of;
+use crate::context::context_of;
 use kr_base::{NoMemory, Steps};
 use kr_brokers::hear;
 use kr_calls::{Effect, Request};

@@ -1,21 +1,9 @@
-//! What rules judge by, and what they give.
+//! What rules judge by.
 
-ghost use Rattle.std.specs.Prelude.{◌≡◌, []};
+ghost use Rattle.std.specs.Prelude.{◌≡◌};
 
-use kr_calls::{Effect, Reply};
-use kr_defs::{Options, Records};
+use kr_defs::Options;
 use kr_sessions::{Context, Sessions};
-use std::alloc::Global;
-
-/// No records.
-pub(crate) fn nothing(alloc: Global) -> Effect
-    ensures { result.records ≡ [] }
-{
-    Effect {
-        records: Records::new(alloc),
-        reply: Reply::Bare { error: 0 },
-    }
-}
 
 /// What a request is judged by.
 pub(crate) fn context_of<'a>(
