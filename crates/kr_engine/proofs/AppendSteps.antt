@@ -25,7 +25,7 @@ use Rattle.kr_world.specs.Engine.{Core, IsEngine, Rise, writes_in_order, kept_im
 use Rattle.kr_world.specs.Entries.{item_entries}
 use Rattle.kr_world.specs.Outputs.{is_open}
 use Rattle.kr_world.specs.World.{State, World, image_of_tip, tip_of, with_records, log_with}
-use Rattle.kr_engine.specs.inner.Writing.{Writes, with_appended, batch_at, place_behind}
+use Rattle.kr_engine.specs.inner.Append.{Writes, core_after_append, batch_at, place_behind}
 use Rattle.kr_world.proofs.LongerLogs.{kept_then, present_then, rise_more}
 use Rattle.kr_world.proofs.LogEntries.{not_none}
 use Rattle.kr_world.proofs.Logs.{tip_written, as_records}
@@ -41,7 +41,7 @@ abbrev behind : Core → List Write → Heartbeats → Core
 behind e held heard = record e { held = held; heard = heard }
 
 none_written : (e : Core) (images : Images) (heard heard' : Heartbeats) (held : List Write) → images.kept ≡ e.images.kept → apply_records e.images.tip [] ≡ Ok images.tip
-    → Writes e (behind (with_appended (between e images heard) []) held heard') []
+    → Writes e (behind (core_after_append (between e images heard) []) held heard') []
 none_written e images heard heard' held kept meaning = record {
   meaning = meaning;
   kept = kept;
@@ -65,7 +65,7 @@ module _ (e : Core) (images : Images) (heard heard' : Heartbeats) (held : List W
   })) held heard'
 
   some_written : images.kept ≡ e.images.kept → apply_records e.images.tip all ≡ Ok images.tip → length all ≤ 10000
-      → Writes e (behind (with_appended (between e images heard) all) held heard') all
+      → Writes e (behind (core_after_append (between e images heard) all) held heard') all
   some_written kept meaning few =
       let has = sym (not_none (length records)) in record {
         meaning = subst (λ b. apply_records e.images.tip all ≡ Ok (after_by b).images.tip) has meaning;
@@ -84,12 +84,12 @@ module _ (e : Core) (images : Images) (heard heard' : Heartbeats) (held : List W
 
 pub writes_by : (e between' after : Core) (records : List Record) → between' ≡ record e { images = between'.images; heard = between'.heard } → between'.images.kept ≡ e.images.kept
     → apply_records e.images.tip records ≡ Ok between'.images.tip → length records ≤ 10000
-    → after ≡ record (with_appended between' records) { held = after.held; heard = after.heard } → Writes e after records
+    → after ≡ record (core_after_append between' records) { held = after.held; heard = after.heard } → Writes e after records
 writes_by e between' after [] same kept meaning few is =
-    subst (λ (a : Core). Writes e a []) (sym (is ∙ ap (λ (b : Core). record (with_appended b []) { held = after.held; heard = after.heard }) same))
+    subst (λ (a : Core). Writes e a []) (sym (is ∙ ap (λ (b : Core). record (core_after_append b []) { held = after.held; heard = after.heard }) same))
     (none_written e between'.images between'.heard after.heard after.held kept meaning)
 writes_by e between' after (r ∷ records) same kept meaning few is =
-    subst (λ (a : Core). Writes e a (r ∷ records)) (sym (is ∙ ap (λ (b : Core). record (with_appended b (r ∷ records)) { held = after.held; heard = after.heard }) same))
+    subst (λ (a : Core). Writes e a (r ∷ records)) (sym (is ∙ ap (λ (b : Core). record (core_after_append b (r ∷ records)) { held = after.held; heard = after.heard }) same))
     (some_written e between'.images between'.heard after.heard after.held r records kept meaning few)
 
 -- ---- the state

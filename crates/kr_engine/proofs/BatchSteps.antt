@@ -27,20 +27,19 @@ use Rattle.kr_defs.proofs.Tests.{none_is, not_false, some_is}
 use Rattle.kr_snapshot.specs.ReaderState.{kept_once}
 use Rattle.kr_store.specs.Images.{Images, IsAbove, forgotten, last_image, marked}
 use Rattle.kr_world.specs.declared.writes.Write.{Write}
-use Rattle.kr_engine.specs.inner.Changes as engines
-use Rattle.kr_world.specs.Engine.{Core, IsEngine, IsState, IsStep, Rise, kept_image, left}
-use Rattle.kr_engine.specs.inner.Changes.{adding, refused}
+use Rattle.kr_engine.specs.inner.Changes.{cleared_core, counted_core, timed_core, core_with_entries, refused_core, Settles, core_at}
+use Rattle.kr_world.specs.Engine.{Core, IsEngine, IsState, IsStep, Rise, kept_image, outputs_left}
 use Rattle.kr_world.specs.Entries.{item_entries}
-use Rattle.kr_world.specs.Events.{counted, next_number, outcome, timed}
+use Rattle.kr_world.specs.Events.{with_next_number, next_number, outcome, at_time_of}
 use Rattle.kr_world.specs.Outputs.{answers, is_open_in}
 use Rattle.kr_world.specs.Reasons.{already_leading, bad_batch, exhausted, gap, ill_formed}
 use Rattle.kr_engine.specs.inner.Ready.{IsReady}
-use Rattle.kr_world.specs.Replicas as replicas
-use Rattle.kr_world.specs.Replicas.{batch_or, end_of, follow, follow_batch, unless_ill}
-use Rattle.kr_engine.specs.inner.Standby.{Follows, Settles, follow_reason, followed, followed_by, items_reason, moved_to, read_batch_reason}
+use Rattle.kr_world.specs.Batch as replicas
+use Rattle.kr_world.specs.Batch.{batch_or, end_of, batch, take_batch, unless_ill}
+use Rattle.kr_engine.specs.inner.Batch.{AppliesOrReverts, batch_reason, core_after_batch, core_after_read_batch, items_reason, read_batch_reason}
 use Rattle.kr_world.specs.World.{State, image_of_tip, is_far, seen_at, tip_of, log_with}
 use Rattle.kr_world.proofs.Places.{near}
-use Rattle.kr_engine.proofs.NewLeaderships.{no_writes, none_row}
+use Rattle.kr_engine.proofs.LeadSteps.{no_writes, none_row}
 use Rattle.kr_world.proofs.LongerLogs.{present_then, seen_then}
 use Rattle.kr_world.proofs.LogEntries.{behind}
 use Rattle.kr_world.proofs.Logs.{tip_written}
@@ -84,28 +83,28 @@ tip_back before between r back = some_is between.tip before.images.tip (sym back
 
 pub item_refused : (before between after : Core) (end place : ℤ) (cause : Ill) (items : List Item) (image : Image) (reason : Reason) → IsReady before
     → Some (place, cause) ≡ first_ill before.images.tip before.tip items
-    → Follows before.images between.images items (Some (place, cause)) → between.images.kept ≡ before.images.kept → between ≡ record before { images = between.images }
-    → reason ≡ ill_formed place cause → after ≡ refused between reason
-    → Settles before after (items_reason (first_ill before.images.tip before.tip items)) (moved_to before end image)
+    → AppliesOrReverts before.images between.images items (Some (place, cause)) → between.images.kept ≡ before.images.kept → between ≡ record before { images = between.images }
+    → reason ≡ ill_formed place cause → after ≡ refused_core between reason
+    → Settles before after (items_reason (first_ill before.images.tip before.tip items)) (core_at before end image)
 item_refused before between after end place cause items image reason r is back kept same says leaves =
-    subst (λ o. Settles before after (items_reason o) (moved_to before end image)) is
-    (subst (λ (i : Images). (after ≡ refused (record before { images = i }) (ill_formed place cause)) × (i.kept ≡ before.images.kept) × (i.tip ≡ before.images.tip))
+    subst (λ o. Settles before after (items_reason o) (core_at before end image)) is
+    (subst (λ (i : Images). (after ≡ refused_core (record before { images = i }) (ill_formed place cause)) × (i.kept ≡ before.images.kept) × (i.tip ≡ before.images.tip))
     (sym (ap (λ (a : Core). a.images) leaves))
-    (leaves ∙ (ap (λ (c : Core). refused c reason) same ∙ ap (refused (record before { images = between.images })) says), kept, tip_back before between.images r back))
+    (leaves ∙ (ap (λ (c : Core). refused_core c reason) same ∙ ap (refused_core (record before { images = between.images })) says), kept, tip_back before between.images r back))
 
 pub items_taken : (before between told after : Core) (end : ℤ) (items : List Item) → None ≡ first_ill before.images.tip before.tip items
-    → Follows before.images between.images items None → between ≡ record before { images = between.images }
-    → told ≡ adding between (item_entries between.tip items) → after ≡ moved_to told end told.images.tip
-    → Settles before after (items_reason (first_ill before.images.tip before.tip items)) (moved_to (adding before (item_entries before.tip items)) end (result_unwrap_or (apply_all before.images.tip items) empty))
+    → AppliesOrReverts before.images between.images items None → between ≡ record before { images = between.images }
+    → told ≡ core_with_entries between (item_entries between.tip items) → after ≡ core_at told end told.images.tip
+    → Settles before after (items_reason (first_ill before.images.tip before.tip items)) (core_at (core_with_entries before (item_entries before.tip items)) end (result_unwrap_or (apply_all before.images.tip items) empty))
 items_taken before between told after end items is meaning same adds leaves =
-    let own = adding before (item_entries before.tip items) in
-    subst (λ o. Settles before after (items_reason o) (moved_to own end (result_unwrap_or (apply_all before.images.tip items) empty))) is
+    let own = core_with_entries before (item_entries before.tip items) in
+    subst (λ o. Settles before after (items_reason o) (core_at own end (result_unwrap_or (apply_all before.images.tip items) empty))) is
     (leaves
-    ∙ (ap (λ (c : Core). moved_to c end c.images.tip) adds
-    ∙ (ap (λ (c : Core). moved_to (adding c (item_entries c.tip items)) end between.images.tip) same
-    ∙ ap (moved_to own end) (sym (ap (λ r. result_unwrap_or r empty) meaning)))))
+    ∙ (ap (λ (c : Core). core_at c end c.images.tip) adds
+    ∙ (ap (λ (c : Core). core_at (core_with_entries c (item_entries c.tip items)) end between.images.tip) same
+    ∙ ap (core_at own end) (sym (ap (λ r. result_unwrap_or r empty) meaning)))))
 
-pub still_above : (before between told : Core) (end : ℤ) (new : List Entry) → between.images.kept ≡ before.images.kept → told ≡ adding between new → IsAbove before.images.kept end → IsAbove told.images.kept end
+pub still_above : (before between told : Core) (end : ℤ) (new : List Entry) → between.images.kept ≡ before.images.kept → told ≡ core_with_entries between new → IsAbove before.images.kept end → IsAbove told.images.kept end
 still_above before between told end new same adds above =
     subst (λ (kept : List (ℤ × Image)). IsAbove kept end) (sym (ap (λ (a : Core). a.images.kept) adds ∙ same)) above
 
@@ -136,7 +135,7 @@ is_some_reason reason is = cc
 pub leads_not : (leading : Option ℤ) → leading ≡ None → IsSome leading → ⊥
 leads_not leading none some = never (subst (λ (l : Option ℤ). IsSome l) none some)
 
-same_options : (e : Core) (read : Result Batch BatchFault) → (followed_by e read).options ≡ e.options
+same_options : (e : Core) (read : Result Batch BatchFault) → (core_after_read_batch e read).options ≡ e.options
 same_options e (Ok batch) = refl
 same_options e (Err fault) = refl
 
@@ -145,42 +144,42 @@ module _ (e : Core) (bytes : List ℕ) (d : IsDrained e) where
   event = events.Batch bytes
 
   abbrev before : Core
-  before = engines.timed e event
+  before = timed_core e event
 
   abbrev state_by : Result Batch BatchFault → State → State
-  state_by (Ok batch) s = replicas.followed s batch
+  state_by (Ok batch) s = replicas.after_batch s batch
   state_by (Err fault) s = s
 
   -- ---- the reasons
 
   -- with the image at the tip of the state
   abbrev seen_by : State → Image → Core
-  seen_by s image = engines.timed (record (core_of e s) { images = record e.images { tip = image } }) event
+  seen_by s image = timed_core (record (core_of e s) { images = record e.images { tip = image } }) event
 
-  ill_so : (s : State) (batch : Batch) (o : Option (ℤ × Ill)) → unless_ill o (replicas.followed s batch) ≡ unless_refused (items_reason o) (replicas.followed s batch)
+  ill_so : (s : State) (batch : Batch) (o : Option (ℤ × Ill)) → unless_ill o (replicas.after_batch s batch) ≡ unless_refused (items_reason o) (replicas.after_batch s batch)
   ill_so s batch None = refl
   ill_so s batch (Some (place, cause)) = refl
 
-  read_so : (s : State) (read : Result Batch BatchFault) → and_then (batch_or read) (follow_batch s) ≡ unless_refused (read_batch_reason (seen_by s (image_of_tip s)) read) (state_by read s)
+  read_so : (s : State) (read : Result Batch BatchFault) → and_then (batch_or read) (take_batch s) ≡ unless_refused (read_batch_reason (seen_by s (image_of_tip s)) read) (state_by read s)
   read_so s (Ok batch) =
-      row (not (int_eq batch.base (pos s.world.committed))) (gap (pos s.world.committed) batch.base) _ _ (replicas.followed s batch)
-      (row (is_far (end_of batch)) (exhausted (end_of batch)) _ _ (replicas.followed s batch) (ill_so s batch (first_ill (image_of_tip s) (pos (tip_of s)) batch.items)))
+      row (not (int_eq batch.base (pos s.world.committed))) (gap (pos s.world.committed) batch.base) _ _ (replicas.after_batch s batch)
+      (row (is_far (end_of batch)) (exhausted (end_of batch)) _ _ (replicas.after_batch s batch) (ill_so s batch (first_ill (image_of_tip s) (pos (tip_of s)) batch.items)))
   read_so s (Err fault) = refl
 
-  judged_so : (s : State) → follow s bytes ≡ unless_refused (follow_reason (seen_by s (image_of_tip s)) (batch_of bytes)) (state_by (batch_of bytes) s)
+  judged_so : (s : State) → batch s bytes ≡ unless_refused (batch_reason (seen_by s (image_of_tip s)) (batch_of bytes)) (state_by (batch_of bytes) s)
   judged_so s = row (is_some s.world.leading) (already_leading s.world.leading) _ _ (state_by (batch_of bytes) s) (read_so s (batch_of bytes))
 
-  judged : (s : State) (writes : List Write) → IsEngine e s writes → outcome e.options (timed s event) event ≡ unless_refused (follow_reason before (batch_of bytes)) (state_by (batch_of bytes) s)
+  judged : (s : State) (writes : List Write) → IsEngine e s writes → outcome e.options (at_time_of s event) event ≡ unless_refused (batch_reason before (batch_of bytes)) (state_by (batch_of bytes) s)
   judged s writes k =
       judged_so s
-      ∙ (ap (λ i. unless_refused (follow_reason (seen_by s i) (batch_of bytes)) (state_by (batch_of bytes) s)) (same_image e s writes k)
-      ∙ ap (λ (c : Core). unless_refused (follow_reason (engines.timed c event) (batch_of bytes)) (state_by (batch_of bytes) s)) (sym (is_core e s writes k)))
+      ∙ (ap (λ i. unless_refused (batch_reason (seen_by s i) (batch_of bytes)) (state_by (batch_of bytes) s)) (same_image e s writes k)
+      ∙ ap (λ (c : Core). unless_refused (batch_reason (timed_core c event) (batch_of bytes)) (state_by (batch_of bytes) s)) (sym (is_core e s writes k)))
 
   -- ---- the engine behind the batch
 
   module _ (batch : Batch) (s : State) (writes : List Write) (k : IsEngine e s writes) (none : e.leading ≡ None) (at : batch.base ≡ e.committed) (is_near : is_far (end_of batch) ≡ false) (no_ill : first_ill e.images.tip e.tip batch.items ≡ None) where
     abbrev after : State
-    after = replicas.followed s batch
+    after = replicas.after_batch s batch
 
     abbrev image : Image
     image = result_unwrap_or (apply_all e.images.tip batch.items) empty
@@ -215,7 +214,7 @@ module _ (e : Core) (bytes : List ℕ) (d : IsDrained e) where
     ends_so : Rise (tip_of s + length batch.items) s.world.batch_ends (tip longer)
     ends_so = subst (λ ns. Rise (tip_of s + length batch.items) ns (tip longer)) (sym none_ends) new_tip
 
-    state_after : IsState (counted after) (filter (is_open_in after.world) (writes ++ []))
+    state_after : IsState (with_next_number after) (filter (is_open_in after.world) (writes ++ []))
     state_after = record {
       started = (let low = k.is_state.started in let at = at_end in omega (arith, low, at));
       ends = ends_so;
@@ -237,7 +236,7 @@ module _ (e : Core) (bytes : List ℕ) (d : IsDrained e) where
         ∙ (one_kept (tip_of s + length batch.items) new_tip
         ∙ ap (λ ns. map (kept_image longer) ((tip_of s + length batch.items) ∷ ns)) (sym none_ends))
 
-    accepted : IsAccepted e e.options s writes event (followed before batch) after
+    accepted : IsAccepted e e.options s writes event (core_after_batch before batch) after
     accepted = record {
       stands = record {
         tip = end_is ∙ ap pos new_tip;
@@ -265,7 +264,7 @@ module _ (e : Core) (bytes : List ℕ) (d : IsDrained e) where
   items_none None is = refl
   items_none (Some (place, cause)) is = absurd cc
 
-  allowed_by : (read : Result Batch BatchFault) → follow_reason before read ≡ None → (s : State) (writes : List Write) → IsEngine e s writes → IsAccepted e e.options s writes event (followed_by before read) (state_by read s)
+  allowed_by : (read : Result Batch BatchFault) → batch_reason before read ≡ None → (s : State) (writes : List Write) → IsEngine e s writes → IsAccepted e e.options s writes event (core_after_read_batch before read) (state_by read s)
   allowed_by (Ok batch) none s writes k =
       let one = none_row (is_some e.leading) (already_leading e.leading) _ none in
       let two = none_row (not (int_eq batch.base e.committed)) (gap e.committed batch.base) _ one.1 in
@@ -274,11 +273,11 @@ module _ (e : Core) (bytes : List ℕ) (d : IsDrained e) where
   allowed_by (Err fault) none s writes k =
       let one = none_row (is_some e.leading) (already_leading e.leading) _ none in absurd (is_some_reason (bad_batch fault) one.1)
 
-pub batch_step : (e noted between after : Core) (bytes : List ℕ) → left e ≡ [] → noted ≡ engines.cleared e
-    → Settles noted between (follow_reason noted (batch_of bytes)) (followed_by noted (batch_of bytes)) → after ≡ engines.counted between → IsStep e after (events.Batch bytes)
+pub batch_step : (e noted between after : Core) (bytes : List ℕ) → outputs_left e ≡ [] → noted ≡ cleared_core e
+    → Settles noted between (batch_reason noted (batch_of bytes)) (core_after_read_batch noted (batch_of bytes)) → after ≡ counted_core between → IsStep e after (events.Batch bytes)
 batch_step e noted between stepped bytes none clears settled is =
     let d = drained e none in
-    let before = engines.timed e (events.Batch bytes) in
-    subst (λ (a : Core). IsStep e a (events.Batch bytes)) (sym is) (settled_step e (events.Batch bytes) d between (follow_reason before (batch_of bytes)) (followed_by before (batch_of bytes)) (state_by e bytes d (batch_of bytes)) (same_options before (batch_of bytes))
-    (subst (λ (c : Core). Settles c between (follow_reason c (batch_of bytes)) (followed_by c (batch_of bytes))) clears settled)
+    let before = timed_core e (events.Batch bytes) in
+    subst (λ (a : Core). IsStep e a (events.Batch bytes)) (sym is) (settled_step e (events.Batch bytes) d between (batch_reason before (batch_of bytes)) (core_after_read_batch before (batch_of bytes)) (state_by e bytes d (batch_of bytes)) (same_options before (batch_of bytes))
+    (subst (λ (c : Core). Settles c between (batch_reason c (batch_of bytes)) (core_after_read_batch c (batch_of bytes))) clears settled)
     (judged e bytes d) (allowed_by e bytes d (batch_of bytes)))

@@ -7,17 +7,16 @@ use Rattle.kr_calls.specs.declared.events.Event.TheVariants as events
 use Rattle.kr_defs.specs.Image.{Image}
 use Rattle.kr_store.specs.Images.{forgotten, kept_at}
 use Rattle.kr_world.specs.declared.writes.Write.{Write}
-use Rattle.kr_world.specs.Commits as commits
-use Rattle.kr_world.specs.Commits.{commit, is_end}
-use Rattle.kr_engine.specs.inner.Changes as engines
-use Rattle.kr_world.specs.Engine.{Core, IsEngine, IsState, IsStep, left}
-use Rattle.kr_engine.specs.inner.Changes.{commit_reason, committed_to, refused_or}
+use Rattle.kr_world.specs.Commit as commits
+use Rattle.kr_world.specs.Commit.{commit, is_end}
+use Rattle.kr_engine.specs.inner.Changes.{cleared_core, counted_core, refused_core_or}
+use Rattle.kr_world.specs.Engine.{Core, IsEngine, IsState, IsStep, outputs_left}
+use Rattle.kr_engine.specs.inner.Commit.{commit_reason, core_after_commit}
 use Rattle.kr_world.specs.Entries.{item_entries}
-use Rattle.kr_world.specs.Events.{counted, next_number}
-use Rattle.kr_world.specs.Leaderships.{leads_in}
+use Rattle.kr_world.specs.Events.{with_next_number, next_number}
+use Rattle.kr_world.specs.World.{leads_in, State, tip_of}
 use Rattle.kr_world.specs.Outputs.{answers, answers_in, is_open_in}
 use Rattle.kr_world.specs.Reasons.{bad_commit, not_leading}
-use Rattle.kr_world.specs.World.{State, tip_of}
 use Rattle.kr_world.proofs.EventOutcomes.{entries_accepted, outputs_accepted, refuses, stands_accepted}
 use Rattle.kr_world.proofs.LogEntries.{none_behind}
 use Rattle.kr_world.proofs.Places.{Moves, is_kept, moves}
@@ -42,7 +41,7 @@ module _ (s : State) (writes : List Write) (epoch end : ℤ) (k : IsState s writ
   none_leads : s.world.leading ≡ None → ⊥
   none_leads none = let both : false ≡ true = ap (λ leading. leads_in leading epoch) (sym none) ∙ led in cc
 
-  committed_state : IsState (counted (commits.committed_to s end)) (filter (is_open_in (commits.committed_to s end).world) (writes ++ []))
+  committed_state : IsState (with_next_number (commits.after_commit s end)) (filter (is_open_in (commits.after_commit s end).world) (writes ++ []))
   committed_state = record {
     started = (let low = k.started in let high = m.above in omega (arith, low, high));
     ends = m.rise;
@@ -51,7 +50,7 @@ module _ (s : State) (writes : List Write) (epoch end : ℤ) (k : IsState s writ
     hears = k.hears;
     in_time = k.in_time;
     natural = k.natural;
-    reached = fewer_wait (is_open_in (commits.committed_to s end).world) (λ write. int_le write.need (pos (tip_of s)) ≡ true) writes k.reached;
+    reached = fewer_wait (is_open_in (commits.after_commit s end).world) (λ write. int_le write.need (pos (tip_of s)) ≡ true) writes k.reached;
   }
 
 -- ---- the step
@@ -61,11 +60,11 @@ module _ (e : Core) (epoch end : ℤ) (d : IsDrained e) where
   event = events.Commit epoch end
 
   abbrev after : Core
-  after = engines.counted (committed_to (engines.cleared e) end)
+  after = counted_core (core_after_commit (cleared_core e) end)
 
   -- the commit of a state
   abbrev judged : Bool → Bool → State → Result State Reason
-  judged b c s = cond (not b) (Err (not_leading epoch s.world.leading)) (cond (not c) (Err (bad_commit end (pos s.world.committed) (pos (tip_of s)))) (Ok (commits.committed_to s end)))
+  judged b c s = cond (not b) (Err (not_leading epoch s.world.leading)) (cond (not c) (Err (bad_commit end (pos s.world.committed) (pos (tip_of s)))) (Ok (commits.after_commit s end)))
 
   module _ (b c : Bool) (leads : leads_in e.leading epoch ≡ b) (kept : is_some (kept_at e.images end) ≡ c) where
     judged_so : (s : State) (writes : List Write) → IsEngine e s writes → commit s epoch end ≡ judged b c s
@@ -78,7 +77,7 @@ module _ (e : Core) (epoch end : ℤ) (d : IsDrained e) where
       moved : Moves s.world.log s.world.committed s.world.batch_ends (tip_of s) end
       moved = moves s.world.log (tip_of s) s.world.committed s.world.batch_ends end k.is_state.ends (same_end e s writes k end ∙ kept)
 
-      stands : IsEngine after (counted (commits.committed_to s end)) (filter (is_open_in (commits.committed_to s end).world) (writes ++ []))
+      stands : IsEngine after (with_next_number (commits.after_commit s end)) (filter (is_open_in (commits.after_commit s end).world) (writes ++ []))
       stands = record {
         tip = k.tip;
         committed = moved.natural;
@@ -90,25 +89,25 @@ module _ (e : Core) (epoch end : ℤ) (d : IsDrained e) where
         heard_of = k.heard_of;
         present = k.present;
         kept = ap (λ (kept : List (ℤ × Image)). (forgotten (record e.images { kept = kept }) end).kept) k.kept ∙ moved.kept;
-        waits = waits_then e s writes d k e.leading end (commits.committed_to s end).world k.leading moved.natural;
+        waits = waits_then e s writes d k e.leading end (commits.after_commit s end).world k.leading moved.natural;
         ordered = k.ordered;
         is_state = committed_state s writes epoch end k.is_state (same_leading e s writes k epoch ∙ leads) moved;
       }
 
-      left_then : left after ≡ answers_in (commits.committed_to s end).world (writes ++ [])
+      left_then : outputs_left after ≡ answers_in (commits.after_commit s end).world (writes ++ [])
       left_then =
           ap (λ g. g ++ option_to_list e.refusal ++ answers e.leading end e.held) d.none_given
           ∙ (ap (λ o. option_to_list o ++ answers e.leading end e.held) d.none_refused
-          ∙ answers_then e s writes d k e.leading end (commits.committed_to s end).world k.leading moved.natural)
+          ∙ answers_then e s writes d k e.leading end (commits.after_commit s end).world k.leading moved.natural)
 
     accepted_step : IsStep e after event
     accepted_step = record {
       options = refl;
-      stands = λ s writes k. stands_accepted after e.options s writes event (commits.committed_to s end) (judged_so true true leads kept s writes k) (stands s writes k);
-      outputs = λ s writes k. left_then s writes k ∙ sym (outputs_accepted e e.options s writes event (commits.committed_to s end) (judged_so true true leads kept s writes k));
+      stands = λ s writes k. stands_accepted after e.options s writes event (commits.after_commit s end) (judged_so true true leads kept s writes k) (stands s writes k);
+      outputs = λ s writes k. left_then s writes k ∙ sym (outputs_accepted e e.options s writes event (commits.after_commit s end) (judged_so true true leads kept s writes k));
       fresh = λ s writes k.
           ap (item_entries (pos (tip_of s))) (sym (none_behind s.world.log))
-          ∙ sym (entries_accepted e e.options s writes event (commits.committed_to s end) (judged_so true true leads kept s writes k));
+          ∙ sym (entries_accepted e e.options s writes event (commits.after_commit s end) (judged_so true true leads kept s writes k));
     }
 
   same_reason : (s : State) (writes : List Write) → IsEngine e s writes → refuses (not_leading epoch s.world.leading) ≡ refuses (not_leading epoch e.leading)
@@ -118,10 +117,10 @@ module _ (e : Core) (epoch end : ℤ) (d : IsDrained e) where
   same_bounds s writes k = ap (λ c. refuses (bad_commit end c (pos (tip_of s)))) (sym k.committed) ∙ ap (λ t. refuses (bad_commit end e.committed t)) (sym k.tip)
 
   step_by : (b c : Bool) → leads_in e.leading epoch ≡ b → is_some (kept_at e.images end) ≡ c
-      → IsStep e (engines.counted (refused_or (engines.cleared e) (cond (not b) (Some (not_leading epoch e.leading)) (cond (not c) (Some (bad_commit end e.committed e.tip)) None)) (committed_to (engines.cleared e) end))) event
+      → IsStep e (counted_core (refused_core_or (cleared_core e) (cond (not b) (Some (not_leading epoch e.leading)) (cond (not c) (Some (bad_commit end e.committed e.tip)) None)) (core_after_commit (cleared_core e) end))) event
   step_by false c leads kept = refused_step e event (not_leading epoch e.leading) d (λ s writes k. judged_so false c leads kept s writes k ∙ same_reason s writes k)
   step_by true false leads kept = refused_step e event (bad_commit end e.committed e.tip) d (λ s writes k. judged_so true false leads kept s writes k ∙ same_bounds s writes k)
   step_by true true leads kept = accepted_step leads kept
 
-pub commit_step : (e : Core) (epoch end : ℤ) → left e ≡ [] → IsStep e (engines.counted (refused_or (engines.cleared e) (commit_reason (engines.cleared e) epoch end) (committed_to (engines.cleared e) end))) (events.Commit epoch end)
+pub commit_step : (e : Core) (epoch end : ℤ) → outputs_left e ≡ [] → IsStep e (counted_core (refused_core_or (cleared_core e) (commit_reason (cleared_core e) epoch end) (core_after_commit (cleared_core e) end))) (events.Commit epoch end)
 commit_step e epoch end none = step_by e epoch end (drained e none) (leads_in e.leading epoch) (is_some (kept_at e.images end)) refl refl

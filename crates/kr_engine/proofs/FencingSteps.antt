@@ -27,11 +27,11 @@ use Rattle.kr_world.specs.declared.writes.Write.{Write}
 use Rattle.kr_world.specs.Engine.{Core, IsEngine, writes_in_order}
 use Rattle.kr_world.specs.Entries.{item_entries}
 use Rattle.kr_world.specs.Outputs.{append, append_fencings, is_open}
-use Rattle.kr_engine.specs.inner.Ticking.{FencesAll}
-use Rattle.kr_world.specs.Ticks.{fence, fence_all, fencing_of}
+use Rattle.kr_engine.specs.inner.Tick.{FencesAll}
+use Rattle.kr_world.specs.Tick.{fence, fence_all, fencing_of}
 use Rattle.kr_world.specs.World as worlds
 use Rattle.kr_world.specs.World.{State, image_of_tip, tip_of}
-use Rattle.kr_engine.specs.inner.Writing.{Fences, append_output}
+use Rattle.kr_engine.specs.inner.Append.{Fences, append_output}
 use Rattle.kr_world.proofs.StandingEngines.{same_image, is_core}
 use Rattle.kr_engine.proofs.AppendSteps.{engine_behind, ok_is}
 use Rattle.kr_world.proofs.LogEntries.{Gains, batch_written, gains_none, gains_then}
@@ -111,7 +111,7 @@ module _ (e after : Core) (broker : ℤ) (f : Fences e after broker) (s : State)
   fence_stands valid leads room =
       let stays = fence_stays e after broker f in
       let few = f.writes.few in
-      let basis : Basis = worlds.hearing s.basis (leave (hearing.heard s.basis) broker) in
+      let basis : Basis = worlds.with_heartbeats s.basis (leave (hearing.heard s.basis) broker) in
       subst (λ i. IsEngine after (record { world = worlds.with_records s.world (fencing_of e.options i broker); basis = basis }) writes) (sym (same_image e s writes k))
       (engine_behind e after s writes writes k records f.writes basis refl refl
       (f.heard ∙ ap (λ h. leave h broker) k.heard_of)

@@ -25,18 +25,18 @@ use Rattle.law_safety.proofs.FencingSizes.{fencings_fit}
 use Rattle.law_safety.specs.HearingLaws.{HearsOf}
 use Rattle.kr_store.specs.Images.{AreValid, IsAbove, marked}
 use Rattle.kr_world.specs.declared.writes.Write.{Write}
-use Rattle.kr_engine.specs.inner.Changes as engines
-use Rattle.kr_world.specs.Engine.{Core, IsEngine, IsSound, IsStep, left}
+use Rattle.kr_engine.specs.inner.Changes.{counted_core, timed_core}
+use Rattle.kr_world.specs.Engine.{Core, IsEngine, IsSound, IsStep, outputs_left}
 use Rattle.kr_world.specs.Entries.{item_entries}
-use Rattle.kr_world.specs.Events.{timed}
+use Rattle.kr_world.specs.Events.{at_time_of}
 use Rattle.kr_engine.specs.inner.Ready.{IsReady}
 use Rattle.kr_world.specs.Reasons.{exhausted}
-use Rattle.kr_engine.specs.inner.Ticking.{CanFence, CanFenceAll, FencesAll, SettlesTick, lapsed_in, tick_reason}
-use Rattle.kr_world.specs.Ticks as worlds
-use Rattle.kr_world.specs.Ticks.{fencing_of}
+use Rattle.kr_engine.specs.inner.Tick.{CanFence, CanFenceAll, FencesAll, SettlesTick, lapsed_contacts, tick_reason}
+use Rattle.kr_world.specs.Tick as worlds
+use Rattle.kr_world.specs.Tick.{fencing_of}
 use Rattle.kr_world.specs.World.{State, is_far, tip_of}
-use Rattle.kr_engine.specs.inner.Writing.{Fences, Writes, with_appended, batch_at, place_behind}
-use Rattle.kr_engine.proofs.NewLeaderships.{none_row}
+use Rattle.kr_engine.specs.inner.Append.{Fences, Writes, core_after_append, batch_at, place_behind}
+use Rattle.kr_engine.proofs.LeadSteps.{none_row}
 use Rattle.kr_engine.proofs.FencingSteps.{fence_stands, fence_stays}
 use Rattle.kr_engine.proofs.ReadyEngines as engines_ready
 use Rattle.kr_world.proofs.StandingEngines.{same_image}
@@ -71,7 +71,7 @@ record Leaves (before after : Core) : Type 0 where
   heard : after.heard ≡ before.heard
   held : after.held ≡ before.held
 
-append_leaves : (e : Core) (records : List Record) → Leaves e (with_appended e records)
+append_leaves : (e : Core) (records : List Record) → Leaves e (core_after_append e records)
 append_leaves e records =
     elim (length records == 0) as (λ b. Leaves e (cond b e (record e {
       images = marked e.images (place_behind e records);
@@ -84,16 +84,16 @@ append_leaves e records =
     ]
 
 pub fences_by : (e between behind after : Core) (broker : ℤ) (records : List Record) → AreValid e.images → records ≡ fencing_of e.options e.images.tip broker → apply_records e.images.tip records ≡ Ok between.images.tip
-    → between.images.kept ≡ e.images.kept → between ≡ record e { images = between.images } → behind ≡ with_appended between records → after ≡ record behind { heard = leave behind.heard broker } → Fences e after broker
-fences_by e between behind after broker records valid is meaning kept same appends left =
+    → between.images.kept ≡ e.images.kept → between ≡ record e { images = between.images } → behind ≡ core_after_append between records → after ≡ record behind { heard = leave behind.heard broker } → Fences e after broker
+fences_by e between behind after broker records valid is meaning kept same appends outputs_left =
     let fits = fencing_fits e between broker records valid is meaning in
     let own = append_leaves between records in
     record {
       writes = subst (λ rs. Writes e after rs) is
           (writes_by e between after records (same ∙ ap (λ h. record e { images = between.images; heard = h }) (sym (ap (λ (b : Core). b.heard) same))) kept meaning fits.few
-          (heard_apart after behind (leave behind.heard broker) left ∙ ap (λ (b : Core). record b { held = after.held; heard = after.heard }) appends));
-      heard = ap (λ (a : Core). a.heard) left ∙ ap (λ h. leave h broker) (ap (λ (a : Core). a.heard) appends ∙ (own.heard ∙ ap (λ (a : Core). a.heard) same));
-      held = ap (λ (a : Core). a.held) left ∙ (ap (λ (a : Core). a.held) appends ∙ (own.held ∙ ap (λ (a : Core). a.held) same));
+          (heard_apart after behind (leave behind.heard broker) outputs_left ∙ ap (λ (b : Core). record b { held = after.held; heard = after.heard }) appends));
+      heard = ap (λ (a : Core). a.heard) outputs_left ∙ ap (λ h. leave h broker) (ap (λ (a : Core). a.heard) appends ∙ (own.heard ∙ ap (λ (a : Core). a.heard) same));
+      held = ap (λ (a : Core). a.held) outputs_left ∙ (ap (λ (a : Core). a.held) appends ∙ (own.held ∙ ap (λ (a : Core). a.held) same));
     }
 
 pub fencing_low : (e between : Core) → IsReady e → between ≡ record e { images = between.images } → between.tip ≤ℤ PLACES_END
@@ -167,16 +167,16 @@ can_all : (e : Core) (ids : List ℤ) → CanFence e (length ids) → CanFenceAl
 can_all e [] can = tt
 can_all e (id ∷ ids) can = can
 
-pub can_lapse : (e : Core) (now : ℤ) → IsSound e → AreValid e.images → AreHeartbeats e.heard → tick_reason (engines.timed e (events.Tick now)) ≡ None → CanFenceAll (engines.timed e (events.Tick now)) (lapsed_in (engines.timed e (events.Tick now)))
+pub can_lapse : (e : Core) (now : ℤ) → IsSound e → AreValid e.images → AreHeartbeats e.heard → tick_reason (timed_core e (events.Tick now)) ≡ None → CanFenceAll (timed_core e (events.Tick now)) (lapsed_contacts (timed_core e (events.Tick now)))
 can_lapse e now sound valid are free = by_leading sound.state.world.leading refl
   where
     before : Core
-    before = engines.timed e (events.Tick now)
+    before = timed_core e (events.Tick now)
 
     k : IsEngine e sound.state sound.writes
     k = sound.stands
 
-    by_leading : (leading : Option ℤ) → sound.state.world.leading ≡ leading → CanFenceAll before (lapsed_in before)
+    by_leading : (leading : Option ℤ) → sound.state.world.leading ≡ leading → CanFenceAll before (lapsed_contacts before)
     by_leading None none = subst (CanFenceAll before) (sym (ap (λ (h : hearing.Heartbeats). hearing.expired h (before.time -ℤ pos e.options.session_ms)) (k.heard_of ∙ (k.is_state.at_standby none).1))) tt
     by_leading (Some epoch) leads =
         let some : IsSome sound.state.world.leading = subst (λ (l : Option ℤ). IsSome l) (sym leads) refl in
@@ -184,19 +184,19 @@ can_lapse e now sound valid are free = by_leading sound.state.world.leading refl
         let near : is_far e.tip ≡ false = sym (ap (λ (l : Option ℤ). is_some l && is_far e.tip) (k.leading ∙ leads)) ∙ one.0 in
         let hears = subst (HearsOf (hearing.heard sound.state.basis)) (same_image e sound.state sound.writes k) (k.is_state.hears some) in
         let few = few_lapsed e.heard e.images.tip (before.time -ℤ pos e.options.session_ms) are (subst (λ h. HearsOf h e.images.tip) (sym k.heard_of) hears) valid.tip in
-        can_all before (lapsed_in before) (record {
-          sound = record { state = timed sound.state (events.Tick now); writes = sound.writes; stands = timed_engine e (events.Tick now) sound.state sound.writes k };
+        can_all before (lapsed_contacts before) (record {
+          sound = record { state = at_time_of sound.state (events.Tick now); writes = sound.writes; stands = timed_engine e (events.Tick now) sound.state sound.writes k };
           valid = valid;
           leads = subst (λ (l : Option ℤ). IsSome l) (sym k.leading) some;
-          room = subst (λ t. unsigned_abs t + 10000 * length (lapsed_in before) ≤ unsigned_abs PLACES_END) (sym k.tip)
-              (near_enough (tip_of sound.state) (length (lapsed_in before)) (ap is_far (sym k.tip) ∙ near) few);
+          room = subst (λ t. unsigned_abs t + 10000 * length (lapsed_contacts before) ≤ unsigned_abs PLACES_END) (sym k.tip)
+              (near_enough (tip_of sound.state) (length (lapsed_contacts before)) (ap is_far (sym k.tip) ∙ near) few);
         })
 
-pub ready_in_time : (e : Core) (now : ℤ) → IsSound e → AreValid e.images → IsReady (engines.timed e (events.Tick now))
+pub ready_in_time : (e : Core) (now : ℤ) → IsSound e → AreValid e.images → IsReady (timed_core e (events.Tick now))
 ready_in_time e now sound valid = engines_ready.timed_ready e now (engines_ready.ready e sound valid)
 
-pub noted_step : (e noted core after : Core) (now : ℤ) → noted ≡ engines.timed e (events.Tick now) → left e ≡ [] → AreValid e.images → AreHeartbeats e.heard
-    → SettlesTick noted core (tick_reason noted) → after ≡ engines.counted core → IsStep e after (events.Tick now)
+pub noted_step : (e noted core after : Core) (now : ℤ) → noted ≡ timed_core e (events.Tick now) → outputs_left e ≡ [] → AreValid e.images → AreHeartbeats e.heard
+    → SettlesTick noted core (tick_reason noted) → after ≡ counted_core core → IsStep e after (events.Tick now)
 noted_step e noted core after now is drained valid are settles counts =
     tick_step e core after now drained valid are (subst (λ (before : Core). SettlesTick before core (tick_reason before)) is settles) counts
 

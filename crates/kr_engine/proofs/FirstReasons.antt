@@ -5,11 +5,10 @@ use Rattle.kr_calls.specs.declared.events.Event.{Event}
 use Rattle.kr_calls.specs.declared.events.Reason.{Reason}
 use Rattle.kr_defs.specs.declared.options.Options.{Options}
 use Rattle.kr_world.specs.declared.writes.Write.{Write}
-use Rattle.kr_engine.specs.inner.Changes as engines
-use Rattle.kr_world.specs.Engine.{Core, IsEngine, IsStep, left}
-use Rattle.kr_engine.specs.inner.Changes.{refused_or}
+use Rattle.kr_engine.specs.inner.Changes.{counted_core, timed_core, refused_core_or}
+use Rattle.kr_world.specs.Engine.{Core, IsEngine, IsStep, outputs_left}
 use Rattle.kr_world.specs.Entries.{entries_added}
-use Rattle.kr_world.specs.Events.{counted, outcome, timed}
+use Rattle.kr_world.specs.Events.{with_next_number, outcome, at_time_of}
 use Rattle.kr_world.specs.Outputs.{is_open_in, outputs_then, writes_of}
 use Rattle.kr_world.specs.World.{State}
 use Rattle.kr_world.proofs.EventOutcomes.{entries_accepted, outputs_accepted, stands_accepted}
@@ -30,24 +29,24 @@ row false reason o r x rest = rest
 
 -- the engine before the event is counted, and the state where the event is accepted
 pub record IsAccepted (e : Core) (options : Options) (s : State) (writes : List Write) (event : Event) (core : Core) (after : State) : Type 0 where
-  pub stands : IsEngine (engines.counted core) (counted after) (filter (is_open_in after.world) (writes ++ writes_of options (timed s event) event))
-  pub outputs : left core ≡ outputs_then options (timed s event) writes event after
+  pub stands : IsEngine (counted_core core) (with_next_number after) (filter (is_open_in after.world) (writes ++ writes_of options (at_time_of s event) event))
+  pub outputs : outputs_left core ≡ outputs_then options (at_time_of s event) writes event after
   pub fresh : core.fresh ≡ entries_added s event after
 
 module _ (e : Core) (event : Event) (d : IsDrained e) (core : Core) (same : core.options ≡ e.options) (state : State → State) where
-  pub accepted_step : ((s : State) (writes : List Write) → IsEngine e s writes → outcome e.options (timed s event) event ≡ Ok (state s))
+  pub accepted_step : ((s : State) (writes : List Write) → IsEngine e s writes → outcome e.options (at_time_of s event) event ≡ Ok (state s))
       → ((s : State) (writes : List Write) → IsEngine e s writes → IsAccepted e e.options s writes event core (state s))
-      → IsStep e (engines.counted core) event
+      → IsStep e (counted_core core) event
   accepted_step judged accepted = record {
     options = same;
-    stands = λ s writes k. stands_accepted (engines.counted core) e.options s writes event (state s) (judged s writes k) (accepted s writes k).stands;
+    stands = λ s writes k. stands_accepted (counted_core core) e.options s writes event (state s) (judged s writes k) (accepted s writes k).stands;
     outputs = λ s writes k. (accepted s writes k).outputs ∙ sym (outputs_accepted e e.options s writes event (state s) (judged s writes k));
     fresh = λ s writes k. (accepted s writes k).fresh ∙ sym (entries_accepted e e.options s writes event (state s) (judged s writes k));
   }
 
   pub step_by : (reason : Option Reason)
-      → ((s : State) (writes : List Write) → IsEngine e s writes → outcome e.options (timed s event) event ≡ unless_refused reason (state s))
+      → ((s : State) (writes : List Write) → IsEngine e s writes → outcome e.options (at_time_of s event) event ≡ unless_refused reason (state s))
       → (reason ≡ None → (s : State) (writes : List Write) → IsEngine e s writes → IsAccepted e e.options s writes event core (state s))
-      → IsStep e (engines.counted (refused_or (engines.timed e event) reason core)) event
+      → IsStep e (counted_core (refused_core_or (timed_core e event) reason core)) event
   step_by None judged accepted = accepted_step judged (accepted refl)
   step_by (Some reason) judged accepted = refused_step e event reason d judged

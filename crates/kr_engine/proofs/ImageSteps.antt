@@ -8,9 +8,9 @@ use Rattle.kr_defs.specs.Image.{Image, empty}
 use Rattle.kr_snapshot.specs.ImageText.{image_text}
 use Rattle.kr_store.specs.Images.{kept_at}
 use Rattle.kr_world.specs.declared.writes.Write.{Write}
-use Rattle.kr_engine.specs.inner.Changes as engines
-use Rattle.kr_world.specs.Engine.{Core, IsEngine, IsStep, kept_image, left}
-use Rattle.kr_engine.specs.inner.Changes.{imaged}
+use Rattle.kr_engine.specs.inner.Changes.{cleared_core, counted_core}
+use Rattle.kr_world.specs.Engine.{Core, IsEngine, IsStep, kept_image, outputs_left}
+use Rattle.kr_engine.specs.inner.Image.{core_after_image}
 use Rattle.kr_world.specs.Entries.{item_entries}
 use Rattle.kr_world.specs.Outputs.{answers, answers_in}
 use Rattle.kr_world.specs.World.{State, image_of_end, tip_of}
@@ -22,7 +22,7 @@ use Rattle.kr_world.proofs.EventsWithoutWrites.{passes, answers_then}
 
 module _ (e : Core) (d : IsDrained e) where
   abbrev after : Core
-  after = engines.counted (imaged (engines.cleared e))
+  after = counted_core (core_after_image (cleared_core e))
 
   module _ (s : State) (writes : List Write) (k : IsEngine e s writes) where
     pub committed_found : kept_at e.images e.committed ≡ Some (image_of_end s)
@@ -31,7 +31,7 @@ module _ (e : Core) (d : IsDrained e) where
         ∙ (ap (λ (kept : List (ℤ × Image)). kept_at (record { kept = kept; tip = e.images.tip; made = e.images.made }) (pos s.world.committed)) k.kept
         ∙ first_found s.world.log s.world.committed (find (λ (i : ℤ × Image). int_eq i.0 (pos s.world.committed)) (map (kept_image s.world.log) s.world.batch_ends)))
 
-    left_then : left after ≡ given.Image (image_text (pos s.world.committed) (image_of_end s)) ∷ answers_in s.world (writes ++ [])
+    left_then : outputs_left after ≡ given.Image (image_text (pos s.world.committed) (image_of_end s)) ∷ answers_in s.world (writes ++ [])
     left_then =
         ap (λ g. (g ++ given.Image (image_text e.committed (unwrap_or (kept_at e.images e.committed) empty)) ∷ []) ++ option_to_list e.refusal ++ answers e.leading e.committed e.held) d.none_given
         ∙ (ap (λ o. given.Image (image_text e.committed (unwrap_or o empty)) ∷ option_to_list e.refusal ++ answers e.leading e.committed e.held) committed_found
@@ -47,12 +47,12 @@ module _ (e : Core) (d : IsDrained e) where
     fresh = λ s writes k. ap (item_entries (pos (tip_of s))) (sym (none_behind s.world.log));
   }
 
-pub image_step : (e : Core) → left e ≡ [] → IsStep e (engines.counted (imaged (engines.cleared e))) events.Image
+pub image_step : (e : Core) → outputs_left e ≡ [] → IsStep e (counted_core (core_after_image (cleared_core e))) events.Image
 image_step e none = step e (drained e none)
 
-pub image_so : (e after : Core) → left e ≡ [] → after ≡ engines.counted (imaged (engines.cleared e)) → IsStep e after events.Image
+pub image_so : (e after : Core) → outputs_left e ≡ [] → after ≡ counted_core (core_after_image (cleared_core e)) → IsStep e after events.Image
 image_so e stepped none is = subst (λ (a : Core). IsStep e a events.Image) (sym is) (image_step e none)
 
-pub image_ok : {X E : Type 0} (e after : Core) (r : Result X E) → left e ≡ [] → OnOk r (after ≡ engines.counted (imaged (engines.cleared e))) → OnOk r (IsStep e after events.Image)
+pub image_ok : {X E : Type 0} (e after : Core) (r : Result X E) → outputs_left e ≡ [] → OnOk r (after ≡ counted_core (core_after_image (cleared_core e))) → OnOk r (IsStep e after events.Image)
 image_ok e stepped (Ok x) none is = image_so e stepped none is
 image_ok e stepped (Err fault) none is = tt

@@ -7,10 +7,10 @@ pub mod Fencings
 pub mod FirstContacts
 pub mod FirstReasons
 pub mod ImageSteps
+pub mod LeadSteps
 pub mod LoadSteps
-pub mod LossSteps
+pub mod LostSteps
 pub mod NewEngines
-pub mod NewLeaderships
 pub mod ReadyEngines
 pub mod Refusals
 pub mod RequestDecisions

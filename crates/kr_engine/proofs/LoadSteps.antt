@@ -15,16 +15,16 @@ use Rattle.kr_defs.proofs.Tests.{none_is}
 use Rattle.kr_snapshot.specs.declared.fault.ImageFault.{ImageFault}
 use Rattle.kr_snapshot.specs.Reading.{image_of}
 use Rattle.kr_world.specs.declared.writes.Write.{Write}
-use Rattle.kr_engine.specs.inner.Changes as engines
-use Rattle.kr_world.specs.Engine.{Core, IsEngine, IsState, IsStep, left}
-use Rattle.kr_world.specs.Events.{counted, next_number, outcome, timed}
+use Rattle.kr_engine.specs.inner.Changes.{cleared_core, core_with_entries, counted_core, timed_core, Settles, core_at}
+use Rattle.kr_world.specs.Engine.{Core, IsEngine, IsState, IsStep, outputs_left}
+use Rattle.kr_world.specs.Events.{with_next_number, next_number, outcome, at_time_of}
 use Rattle.kr_world.specs.Outputs.{answers, is_open_in}
 use Rattle.kr_world.specs.Reasons.{already_leading, exhausted, older_image}
-use Rattle.kr_world.specs.Replicas.{image_or, load, load_image, loaded}
-use Rattle.kr_engine.specs.inner.Standby.{Settles, load_reason, loaded_by, moved_to, read_image_reason}
+use Rattle.kr_world.specs.Load.{image_or, load, take_image, after_load}
+use Rattle.kr_engine.specs.inner.Load.{load_reason, core_after_read_image, read_image_reason}
 use Rattle.kr_world.specs.World.{State, is_far, seen_at}
 use Rattle.kr_world.proofs.Places.{near}
-use Rattle.kr_engine.proofs.NewLeaderships.{no_writes, none_row}
+use Rattle.kr_engine.proofs.LeadSteps.{no_writes, none_row}
 use Rattle.kr_engine.proofs.BatchSteps.{leads_not}
 use Rattle.kr_world.proofs.Queues.{IsDrained, drained}
 use Rattle.kr_engine.proofs.StandbyOutcomes.{settled_step}
@@ -56,25 +56,25 @@ module _ (e : Core) (bytes : List ℕ) (d : IsDrained e) where
   event = events.Load bytes
 
   abbrev before : Core
-  before = engines.timed e event
+  before = timed_core e event
 
   abbrev state_by : Result (ℤ × Image) ImageFault → State → State
-  state_by (Ok (offset, image)) s = loaded s (unsigned_abs offset) image
+  state_by (Ok (offset, image)) s = after_load s (unsigned_abs offset) image
   state_by (Err fault) s = s
 
   -- ---- the reasons
 
-  read_so : (s : State) (read : Result (ℤ × Image) ImageFault) → and_then (image_or read) (load_image s) ≡ unless_refused (read_image_reason (engines.timed (core_of e s) event) read) (state_by read s)
+  read_so : (s : State) (read : Result (ℤ × Image) ImageFault) → and_then (image_or read) (take_image s) ≡ unless_refused (read_image_reason (timed_core (core_of e s) event) read) (state_by read s)
   read_so s (Ok (offset, image)) =
-      row (int_lt offset (pos s.world.committed)) (older_image offset (pos s.world.committed)) _ _ (loaded s (unsigned_abs offset) image)
-      (row (is_far offset) (exhausted offset) None (Ok (loaded s (unsigned_abs offset) image)) (loaded s (unsigned_abs offset) image) refl)
+      row (int_lt offset (pos s.world.committed)) (older_image offset (pos s.world.committed)) _ _ (after_load s (unsigned_abs offset) image)
+      (row (is_far offset) (exhausted offset) None (Ok (after_load s (unsigned_abs offset) image)) (after_load s (unsigned_abs offset) image) refl)
   read_so s (Err fault) = refl
 
-  judged_so : (s : State) → load s bytes ≡ unless_refused (load_reason (engines.timed (core_of e s) event) (image_of bytes)) (state_by (image_of bytes) s)
+  judged_so : (s : State) → load s bytes ≡ unless_refused (load_reason (timed_core (core_of e s) event) (image_of bytes)) (state_by (image_of bytes) s)
   judged_so s = row (is_some s.world.leading) (already_leading s.world.leading) _ _ (state_by (image_of bytes) s) (read_so s (image_of bytes))
 
-  judged : (s : State) (writes : List Write) → IsEngine e s writes → outcome e.options (timed s event) event ≡ unless_refused (load_reason before (image_of bytes)) (state_by (image_of bytes) s)
-  judged s writes k = judged_so s ∙ ap (λ (c : Core). unless_refused (load_reason (engines.timed c event) (image_of bytes)) (state_by (image_of bytes) s)) (sym (is_core e s writes k))
+  judged : (s : State) (writes : List Write) → IsEngine e s writes → outcome e.options (at_time_of s event) event ≡ unless_refused (load_reason before (image_of bytes)) (state_by (image_of bytes) s)
+  judged s writes k = judged_so s ∙ ap (λ (c : Core). unless_refused (load_reason (timed_core c event) (image_of bytes)) (state_by (image_of bytes) s)) (sym (is_core e s writes k))
 
   -- ---- the engine of the image
 
@@ -83,7 +83,7 @@ module _ (e : Core) (bytes : List ℕ) (d : IsDrained e) where
     n = unsigned_abs offset
 
     abbrev after : State
-    after = loaded s n image
+    after = after_load s n image
 
     is : offset ≡ pos n
     is = is_natural offset s.world.committed (sym (ap (int_lt offset) k.committed) ∙ late)
@@ -101,7 +101,7 @@ module _ (e : Core) (bytes : List ℕ) (d : IsDrained e) where
     unfolding image_at
     seen = ap (λ r. Rattle.std.specs.Result.result_unwrap_or r Rattle.kr_defs.specs.Image.empty) (ap (image_at (alone n image)) new_tip ∙ at_start n image)
 
-    state_after : IsState (counted after) (filter (is_open_in after.world) (writes ++ []))
+    state_after : IsState (with_next_number after) (filter (is_open_in after.world) (writes ++ []))
     state_after = record {
       started = omega arith;
       ends = new_tip;
@@ -114,7 +114,7 @@ module _ (e : Core) (bytes : List ℕ) (d : IsDrained e) where
           subst (λ (ws : List Write). All P (filter (is_open_in after.world) (ws ++ []))) (sym none_waits) (All-nil P));
     }
 
-    accepted : IsAccepted e e.options s writes event (moved_to (engines.adding before (entries.Load offset (records_of image) ∷ [])) offset image) after
+    accepted : IsAccepted e e.options s writes event (core_at (core_with_entries before (entries.Load offset (records_of image) ∷ [])) offset image) after
     accepted = record {
       stands = record {
         tip = is ∙ ap pos new_tip;
@@ -138,7 +138,7 @@ module _ (e : Core) (bytes : List ℕ) (d : IsDrained e) where
       fresh = ap (λ z. entries.Load z (records_of image) ∷ []) is;
     }
 
-  allowed_by : (read : Result (ℤ × Image) ImageFault) → load_reason before read ≡ None → (s : State) (writes : List Write) → IsEngine e s writes → IsAccepted e e.options s writes event (loaded_by before read) (state_by read s)
+  allowed_by : (read : Result (ℤ × Image) ImageFault) → load_reason before read ≡ None → (s : State) (writes : List Write) → IsEngine e s writes → IsAccepted e e.options s writes event (core_after_read_image before read) (state_by read s)
   allowed_by (Ok (offset, image)) none s writes k =
       let one = none_row (is_some e.leading) (already_leading e.leading) _ none in
       let two = none_row (int_lt offset e.committed) (older_image offset e.committed) _ one.1 in
@@ -147,15 +147,15 @@ module _ (e : Core) (bytes : List ℕ) (d : IsDrained e) where
   allowed_by (Err fault) none s writes k =
       let one = none_row (is_some e.leading) (already_leading e.leading) _ none in absurd cc
 
-same_options : (e : Core) (read : Result (ℤ × Image) ImageFault) → (loaded_by e read).options ≡ e.options
+same_options : (e : Core) (read : Result (ℤ × Image) ImageFault) → (core_after_read_image e read).options ≡ e.options
 same_options e (Ok (offset, image)) = refl
 same_options e (Err fault) = refl
 
-pub load_step : (e noted between after : Core) (bytes : List ℕ) → left e ≡ [] → noted ≡ engines.cleared e
-    → Settles noted between (load_reason noted (image_of bytes)) (loaded_by noted (image_of bytes)) → after ≡ engines.counted between → IsStep e after (events.Load bytes)
+pub load_step : (e noted between after : Core) (bytes : List ℕ) → outputs_left e ≡ [] → noted ≡ cleared_core e
+    → Settles noted between (load_reason noted (image_of bytes)) (core_after_read_image noted (image_of bytes)) → after ≡ counted_core between → IsStep e after (events.Load bytes)
 load_step e noted between stepped bytes none clears settled is =
     let d = drained e none in
-    let before = engines.timed e (events.Load bytes) in
-    subst (λ (a : Core). IsStep e a (events.Load bytes)) (sym is) (settled_step e (events.Load bytes) d between (load_reason before (image_of bytes)) (loaded_by before (image_of bytes)) (state_by e bytes d (image_of bytes)) (same_options before (image_of bytes))
-    (subst (λ (c : Core). Settles c between (load_reason c (image_of bytes)) (loaded_by c (image_of bytes))) clears settled)
+    let before = timed_core e (events.Load bytes) in
+    subst (λ (a : Core). IsStep e a (events.Load bytes)) (sym is) (settled_step e (events.Load bytes) d between (load_reason before (image_of bytes)) (core_after_read_image before (image_of bytes)) (state_by e bytes d (image_of bytes)) (same_options before (image_of bytes))
+    (subst (λ (c : Core). Settles c between (load_reason c (image_of bytes)) (core_after_read_image c (image_of bytes))) clears settled)
     (judged e bytes d) (allowed_by e bytes d (image_of bytes)))

@@ -3,12 +3,12 @@ use Rattle.std.proofs.Common.{◌≡◌, sym, subst, [], refl, ap}
 use Rattle.std.specs.Prelude.{IfOk, Result, Ok, Err}
 use Rattle.kr_defs.specs.declared.options.Options.{Options}
 use Rattle.kr_defs.specs.Log.{image_at}
-use Rattle.kr_world.specs.Engine.{Core, IsEngine, left}
-use Rattle.kr_engine.specs.inner.Changes.{opened}
+use Rattle.kr_world.specs.Engine.{Core, IsEngine, outputs_left}
+use Rattle.kr_engine.specs.inner.Changes.{new_core}
 use Rattle.kr_world.specs.World.{start}
 use Rattle.kr_world.proofs.StandingEngines.{start_state}
 
-at_first : (options : Options) → IsEngine (opened options) start []
+at_first : (options : Options) → IsEngine (new_core options) start []
 unfolding image_at
 at_first options = record {
   tip = refl;
@@ -26,15 +26,15 @@ at_first options = record {
   is_state = start_state;
 }
 
-pub opened_stands : (options : Options) (e : Core) → e ≡ opened options → IsEngine e start []
+pub opened_stands : (options : Options) (e : Core) → e ≡ new_core options → IsEngine e start []
 opened_stands options e is = subst (λ (e : Core). IsEngine e start []) (sym is) (at_first options)
 
-pub opened_drained : (options : Options) (e : Core) → e ≡ opened options → left e ≡ []
-opened_drained options e is = subst (λ (e : Core). left e ≡ []) (sym is) refl
+pub opened_drained : (options : Options) (e : Core) → e ≡ new_core options → outputs_left e ≡ []
+opened_drained options e is = subst (λ (e : Core). outputs_left e ≡ []) (sym is) refl
 
-pub opened_fresh : (options : Options) (e : Core) → e ≡ opened options → e.fresh ≡ []
+pub opened_fresh : (options : Options) (e : Core) → e ≡ new_core options → e.fresh ≡ []
 opened_fresh options e is = ap (λ (e : Core). e.fresh) is
 
-pub all_opened : {E : Type 0} (options : Options) (r : Result Core E) → IfOk r (λ e. e ≡ opened options) → IfOk r (λ e. IsEngine e start [])
+pub all_opened : {E : Type 0} (options : Options) (r : Result Core E) → IfOk r (λ e. e ≡ new_core options) → IfOk r (λ e. IsEngine e start [])
 all_opened options (Ok e) is = opened_stands options e is
 all_opened options (Err fault) is = tt

@@ -24,7 +24,7 @@ use Rattle.law_safety.proofs.BrokerTests.{by_get}
 use Rattle.kr_store.specs.Images.{AreValid}
 use Rattle.kr_world.specs.declared.writes.Write.{Write}
 use Rattle.kr_world.specs.Engine.{Core, IsEngine, IsSound}
-use Rattle.kr_engine.specs.inner.Changes.{cleared}
+use Rattle.kr_engine.specs.inner.Changes.{cleared_core}
 use Rattle.kr_engine.specs.inner.Ready.{IsReady}
 use Rattle.kr_world.specs.World.{State, tip_of}
 use Rattle.kr_world.proofs.EventsWithoutWrites.{grown}
@@ -110,7 +110,7 @@ timed_ready e now r = record {
 pub ready_then : (e after : Core) (now : ℤ) → after ≡ record e { time = int_max e.time now; fresh = [] } → IsReady e → IsReady after
 ready_then e after now is r = subst IsReady (sym is) (timed_ready e now r)
 
-pub cleared_ready : (e after : Core) → after ≡ cleared e → IsReady e → IsReady after
+pub cleared_ready : (e after : Core) → after ≡ cleared_core e → IsReady e → IsReady after
 cleared_ready e after is r = subst IsReady (sym is) (record {
   natural = r.natural;
   late = r.late;

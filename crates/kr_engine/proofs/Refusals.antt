@@ -6,9 +6,9 @@ use Rattle.kr_calls.specs.declared.events.Output.{Output}
 use Rattle.kr_calls.specs.declared.events.Reason.{Reason}
 use Rattle.kr_calls.specs.declared.events.Output.TheVariants as given
 use Rattle.kr_world.specs.declared.writes.Write.{Write}
-use Rattle.kr_engine.specs.inner.Changes as engines
-use Rattle.kr_world.specs.Engine.{Core, IsEngine, IsStep, left}
-use Rattle.kr_world.specs.Events.{next_number, outcome, timed}
+use Rattle.kr_engine.specs.inner.Changes.{counted_core, refused_core, timed_core}
+use Rattle.kr_world.specs.Engine.{Core, IsEngine, IsStep, outputs_left}
+use Rattle.kr_world.specs.Events.{next_number, outcome, at_time_of}
 use Rattle.kr_world.specs.Outputs.{answers}
 use Rattle.kr_world.specs.World.{State}
 use Rattle.kr_world.proofs.EventOutcomes.{entries_refused, outputs_refused, stands_refused}
@@ -16,14 +16,14 @@ use Rattle.kr_world.proofs.Queues.{IsDrained}
 use Rattle.kr_world.proofs.EventsWithoutWrites.{passes}
 
 abbrev pub after : Core → Event → Reason → Core
-after e event reason = engines.counted (engines.refused (engines.timed e event) reason)
+after e event reason = counted_core (refused_core (timed_core e event) reason)
 
-module _ (e : Core) (event : Event) (reason : Reason) (d : IsDrained e) (is : (s : State) (writes : List Write) → IsEngine e s writes → outcome e.options (timed s event) event ≡ Err reason) where
+module _ (e : Core) (event : Event) (reason : Reason) (d : IsDrained e) (is : (s : State) (writes : List Write) → IsEngine e s writes → outcome e.options (at_time_of s event) event ≡ Err reason) where
   abbrev refusal : ℕ → Output
   refusal count = given.Refused (next_number count) reason
 
   -- nothing else is left to hand out
-  one_left : left (after e event reason) ≡ refusal e.count ∷ []
+  one_left : outputs_left (after e event reason) ≡ refusal e.count ∷ []
   one_left =
       ap (λ g. (g ++ (refusal e.count ∷ [])) ++ answers e.leading e.committed e.held) d.none_given
       ∙ ap (λ due. refusal e.count ∷ due) d.none_due

@@ -30,8 +30,8 @@ use Rattle.kr_world.specs.Entries.{item_entries}
 use Rattle.kr_world.specs.declared.writes.Write.{Write}
 use Rattle.kr_world.specs.Engine.{Core, basis_of}
 use Rattle.kr_engine.specs.inner.Ready.{IsReady}
-use Rattle.kr_engine.specs.inner.Serving.{Decides, TakesWrite, decided_by, write_with}
-use Rattle.kr_engine.specs.inner.Writing.{with_appended, batch_at, place_behind}
+use Rattle.kr_engine.specs.inner.Request.{Decides, TakesWrite, decided_by, write_with}
+use Rattle.kr_engine.specs.inner.Append.{core_after_append, batch_at, place_behind}
 use Rattle.kr_engine.proofs.AppendSteps.{writes_by}
 
 -- ---- the image where the request began
@@ -76,7 +76,7 @@ record Keeps (before after : Core) : Type 0 where
   held : after.held ≡ before.held
   heard : after.heard ≡ before.heard
 
-append_keeps : (e : Core) (records : List Record) → Keeps e (with_appended e records)
+append_keeps : (e : Core) (records : List Record) → Keeps e (core_after_append e records)
 append_keeps e records =
     elim (length records == 0) as (λ b. Keeps e (cond b e (record e {
       images = marked e.images (place_behind e records);
@@ -123,7 +123,7 @@ pub ruleset decides = (ready_natural)
 pub write_low : (before after : Core) (request : Request) (out : Effect) → Decides before after request out → IsReady before → after.tip ≤ℤ PLACES_END
 write_low before after request out d r = subst (λ t. t ≤ℤ PLACES_END) (sym (ap (λ (a : Core). a.tip) d.same)) r.low
 
-module _ (before between with_appended' after : Core) (client : ℕ) (call : Call) (out : Effect) (refusal : Reply) (d : Decides before between call.request out) (is : with_appended' ≡ with_appended between out.records) where
+module _ (before between with_appended' after : Core) (client : ℕ) (call : Call) (out : Effect) (refusal : Reply) (d : Decides before between call.request out) (is : with_appended' ≡ core_after_append between out.records) where
   leading_same : with_appended'.leading ≡ before.leading
   leading_same = ap (λ (a : Core). a.leading) is ∙ ((append_keeps between out.records).leading ∙ ap (λ (a : Core). a.leading) d.same)
 
@@ -146,7 +146,7 @@ module _ (before between with_appended' after : Core) (client : ℕ) (call : Cal
             d.kept
             (subst (λ i. apply_records before.images.tip records ≡ Ok i) (sym d.image) (requests_stand before.options before.time before.heard before.images.tip before.tip call.request))
             fits.few
-            (held_apart after with_appended' _ held ∙ ap (λ (a : Core). record a { held = after.held; heard = after.heard }) (is ∙ ap (with_appended between) d.records));
+            (held_apart after with_appended' _ held ∙ ap (λ (a : Core). record a { held = after.held; heard = after.heard }) (is ∙ ap (core_after_append between) d.records));
         heard = ap (λ (a : Core). a.heard) held ∙ heard_same;
         held =
             ap (λ (a : Core). a.held) held

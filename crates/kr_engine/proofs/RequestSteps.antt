@@ -35,18 +35,17 @@ use Rattle.law_safety.specs.HearingLaws.{HearsOf}
 use Rattle.law_safety.proofs.HearingRequests.{requests_keep_hearing}
 use Rattle.kr_store.specs.Images.{AreValid}
 use Rattle.kr_world.specs.declared.writes.Write.{Write}
-use Rattle.kr_engine.specs.inner.Changes as engines
-use Rattle.kr_world.specs.Engine.{Core, IsEngine, IsStep, writes_in_order, basis_of, left}
+use Rattle.kr_engine.specs.inner.Changes.{counted_core, timed_core}
+use Rattle.kr_world.specs.Engine.{Core, IsEngine, IsStep, writes_in_order, basis_of, outputs_left}
 use Rattle.kr_world.specs.Entries.{item_entries}
-use Rattle.kr_world.specs.Events.{counted, outcome, timed}
+use Rattle.kr_world.specs.Events.{with_next_number, outcome, at_time_of}
 use Rattle.kr_world.specs.Outputs.{answers, answers_in, answers_now, append, appends, error_of, is_open, is_open_in, outputs_then, write_of, writes_of}
 use Rattle.kr_world.specs.Reasons.{exhausted}
-use Rattle.kr_world.specs.Requests.{after_ask, after_write, decided, is_decided}
+use Rattle.kr_world.specs.Request.{after_ask, after_write, decision, is_decided}
 use Rattle.kr_world.specs.World as worlds
 use Rattle.kr_world.specs.World.{State, image_of_end, is_far, tip_of, with_records}
-use Rattle.kr_engine.specs.inner.Writing.{append_output}
-use Rattle.kr_engine.specs.inner.Serving as serving
-use Rattle.kr_engine.specs.inner.Serving.{SettlesAsk, TakesCall, TakesWrite, ask_reason, decided_by, gives_out, reply_at_once, waiting_write, write_with}
+use Rattle.kr_engine.specs.inner.Append.{append_output}
+use Rattle.kr_engine.specs.inner.Request.{is_led_write, SettlesRequest, TakesCall, TakesWrite, request_reason, decided_by, core_with_output, reply_at_once, waiting_write, write_with}
 use Rattle.kr_world.proofs.LogEntries.{Gains, batch_written, gained, gains_none}
 use Rattle.kr_engine.proofs.AppendSteps.{IsLonger, engine_behind, longer_by}
 use Rattle.kr_world.proofs.ContactTimes.{AreInTime, decided_in_time}
@@ -55,7 +54,7 @@ use Rattle.kr_engine.proofs.FirstReasons.{IsAccepted, accepted_step, row, unless
 use Rattle.kr_world.proofs.StandingEngines.{is_core, same_image}
 use Rattle.kr_world.proofs.WriteOrders.{reached_later, all_behind, all_open, all_reached, order_more}
 use Rattle.kr_engine.proofs.ImageSteps.{committed_found}
-use Rattle.kr_engine.proofs.NewLeaderships.{none_row}
+use Rattle.kr_engine.proofs.LeadSteps.{none_row}
 use Rattle.kr_world.proofs.Queues.{IsDrained, drained}
 use Rattle.kr_engine.proofs.Refusals.{refused_step}
 use Rattle.kr_engine.proofs.TickSteps.{counted_engine, timed_engine}
@@ -81,9 +80,9 @@ module _ (e after : Core) (client : ℕ) (call : Call) (w : TakesWrite e after c
   decision = decided_by e call.request
 
   abbrev state_by : Decision → State
-  state_by d = record { world = with_records s.world d.records; basis = worlds.hearing s.basis d.heartbeats }
+  state_by d = record { world = with_records s.world d.records; basis = worlds.with_heartbeats s.basis d.heartbeats }
 
-  same_decision : decided_by e call.request ≡ decided e.options s call.request
+  same_decision : decided_by e call.request ≡ decision e.options s call.request
   same_decision =
       ap (λ (c : Core). decided_by c request) (is_core e s writes k)
       ∙ ap (λ i. decide e.options i s.basis (pos (tip_of s)) request) (sym (same_image e s writes k))
@@ -103,7 +102,7 @@ module _ (e after : Core) (client : ℕ) (call : Call) (w : TakesWrite e after c
       ap (λ l. write_with client call l after.tip decision.reply refusal) k.leading
       ∙ (ap (λ z. write_with client call s.world.leading z decision.reply refusal) (longer.tip_is ∙ ap (λ d. pos (tip_of (state_by d))) same_decision)
       ∙ (ap (λ (d : Decision). write_with client call s.world.leading (pos (tip_of (after_write e.options s request))) d.reply refusal) same_decision
-      ∙ ap (λ b. write_with client call s.world.leading (pos (tip_of (cond b (after_write e.options s request) s))) (decided e.options s request).reply refusal) (sym takes)))
+      ∙ ap (λ b. write_with client call s.world.leading (pos (tip_of (cond b (after_write e.options s request) s))) (decision e.options s request).reply refusal) (sym takes)))
 
   abbrev last : Write
   last = write_of e.options s client call
@@ -171,8 +170,8 @@ module _ (e after : Core) (client : ℕ) (call : Call) (w : TakesWrite e after c
   -- what the log gains
   pub write_gains : Gains e.fresh after.fresh s.world.log (after_write e.options s call.request).world.log
   write_gains = record {
-    items = as_items (decided e.options s call.request).records;
-    writes = batch_written s.world (as_items (decided e.options s call.request).records);
+    items = as_items (decision e.options s call.request).records;
+    writes = batch_written s.world (as_items (decision e.options s call.request).records);
     told =
         ap (λ (a : Core). a.fresh) w.writes.same
         ∙ (ap (λ t. e.fresh ++ item_entries t (as_items decision.records)) k.tip
@@ -180,7 +179,7 @@ module _ (e after : Core) (client : ℕ) (call : Call) (w : TakesWrite e after c
   }
 
   -- what is left to hand out
-  given_is : after.given ≡ e.given ++ append s (decided e.options s request).records
+  given_is : after.given ≡ e.given ++ append s (decision e.options s request).records
   given_is =
       ap (λ (a : Core). a.given) w.writes.same
       ∙ (ap (λ (c : Core). e.given ++ append_output c decision.records) (is_core e s writes k)
@@ -194,7 +193,7 @@ module _ (e after : Core) (client : ℕ) (call : Call) (w : TakesWrite e after c
       ∙ ap (λ d. answers_in (state_by d).world (writes ++ last ∷ [])) same_decision))
 
   pub write_left : e.given ≡ [] → e.refusal ≡ None
-      → left after ≡ append s (decided e.options s call.request).records ++ answers_in (after_write e.options s call.request).world (writes ++ write_of e.options s client call ∷ [])
+      → outputs_left after ≡ append s (decision e.options s call.request).records ++ answers_in (after_write e.options s call.request).world (writes ++ write_of e.options s client call ∷ [])
   write_left none_given none_refused =
       ap (λ g. (g ++ option_to_list after.refusal) ++ answers after.leading after.committed after.held) (given_is ∙ ap (λ g. g ++ own) none_given)
       ∙ (ap (λ o. (own ++ option_to_list o) ++ answers after.leading after.committed after.held) (ap (λ (a : Core). a.refusal) w.writes.same ∙ none_refused)
@@ -202,7 +201,7 @@ module _ (e after : Core) (client : ℕ) (call : Call) (w : TakesWrite e after c
       ∙ ap (λ due. own ++ due) due_is))
     where
       own : List Output
-      own = append s (decided e.options s request).records
+      own = append s (decision e.options s request).records
 
 -- ---- what is answered at once
 
@@ -250,29 +249,29 @@ module _ (e : Core) (client : ℕ) (now : ℤ) (ask : Ask) (d : IsDrained e) whe
   event = events.Request client now ask
 
   abbrev before : Core
-  before = engines.timed e event
+  before = timed_core e event
 
-  module _ (output : Output) (s : State) (writes : List Write) (k : IsEngine e s writes) (has : HasReply e.options (timed s event) event output) where
-    reply_left : left (gives_out before output) ≡ outputs_then e.options (timed s event) writes event (timed s event)
+  module _ (output : Output) (s : State) (writes : List Write) (k : IsEngine e s writes) (has : HasReply e.options (at_time_of s event) event output) where
+    reply_left : outputs_left (core_with_output before output) ≡ outputs_then e.options (at_time_of s event) writes event (at_time_of s event)
     reply_left =
         ap (λ g. ((g ++ output ∷ []) ++ option_to_list e.refusal) ++ answers e.leading e.committed e.held) d.none_given
         ∙ (ap (λ o. ((output ∷ []) ++ option_to_list o) ++ answers e.leading e.committed e.held) d.none_refused
         ∙ (ap (λ due. output ∷ due) (answers_then e s writes d k e.leading e.committed s.world k.leading k.committed)
         ∙ (sym (ap (λ g. g ++ answers_in s.world (writes ++ [])) has.answer)
-        ∙ (sym (ap (λ xs. ((xs ++ []) ++ answers_now e.options (timed s event) event) ++ answers_in s.world (writes ++ [])) has.appends_none)
-        ∙ sym (ap (λ (ws : List Write). ((appends e.options (timed s event) event ++ []) ++ answers_now e.options (timed s event) event) ++ answers_in s.world (writes ++ ws)) has.writes_none)))))
+        ∙ (sym (ap (λ xs. ((xs ++ []) ++ answers_now e.options (at_time_of s event) event) ++ answers_in s.world (writes ++ [])) has.appends_none)
+        ∙ sym (ap (λ (ws : List Write). ((appends e.options (at_time_of s event) event ++ []) ++ answers_now e.options (at_time_of s event) event) ++ answers_in s.world (writes ++ ws)) has.writes_none)))))
 
-    reply_accepted : IsAccepted e e.options s writes event (gives_out before output) (timed s event)
+    reply_accepted : IsAccepted e e.options s writes event (core_with_output before output) (at_time_of s event)
     reply_accepted = record {
-      stands = subst (λ (ws : List Write). IsEngine (engines.counted (gives_out before output)) (counted (timed s event)) (filter (is_open_in s.world) (writes ++ ws))) (sym has.writes_none)
+      stands = subst (λ (ws : List Write). IsEngine (counted_core (core_with_output before output)) (with_next_number (at_time_of s event)) (filter (is_open_in s.world) (writes ++ ws))) (sym has.writes_none)
           (passes e event (e.given ++ output ∷ []) e.refusal d s writes k);
       outputs = reply_left;
       fresh = gained [] s.world.log s.world.log (gains_none [] s.world.log);
     }
 
-  reply_step : (output : Output) → ((s : State) (writes : List Write) → IsEngine e s writes → HasReply e.options (timed s event) event output) → IsStep e (engines.counted (gives_out before output)) event
+  reply_step : (output : Output) → ((s : State) (writes : List Write) → IsEngine e s writes → HasReply e.options (at_time_of s event) event output) → IsStep e (counted_core (core_with_output before output)) event
   reply_step output has =
-      accepted_step e event d (gives_out before output) refl (λ s. timed s event)
+      accepted_step e event d (core_with_output before output) refl (λ s. at_time_of s event)
       (λ s writes k. (has s writes k).accepted)
       (λ s writes k. reply_accepted output s writes k (has s writes k))
 
@@ -283,34 +282,34 @@ module _ (e : Core) (client : ℕ) (now : ℤ) (call : Call) (d : IsDrained e) w
   asked = events.Request client now (asks.Call call)
 
   abbrev noted : Core
-  noted = engines.timed e asked
+  noted = timed_core e asked
 
   abbrev decides : Option ℤ → Bool
-  decides leading = serving.is_decided leading call.request
+  decides leading = is_led_write leading call.request
 
-  judged : (s : State) (writes : List Write) → IsEngine e s writes → outcome e.options (timed s asked) asked ≡ unless_refused (ask_reason noted (asks.Call call)) (after_ask e.options (timed s asked) (asks.Call call))
+  judged : (s : State) (writes : List Write) → IsEngine e s writes → outcome e.options (at_time_of s asked) asked ≡ unless_refused (request_reason noted (asks.Call call)) (after_ask e.options (at_time_of s asked) (asks.Call call))
   judged s writes k =
-      row (decides s.world.leading && is_far (pos (tip_of s))) (exhausted (pos (tip_of s))) None (Ok (after_ask e.options (timed s asked) (asks.Call call))) (after_ask e.options (timed s asked) (asks.Call call)) refl
-      ∙ ap (λ (c : Core). unless_refused (ask_reason (engines.timed c asked) (asks.Call call)) (after_ask e.options (timed s asked) (asks.Call call))) (sym (is_core e s writes k))
+      row (decides s.world.leading && is_far (pos (tip_of s))) (exhausted (pos (tip_of s))) None (Ok (after_ask e.options (at_time_of s asked) (asks.Call call))) (after_ask e.options (at_time_of s asked) (asks.Call call)) refl
+      ∙ ap (λ (c : Core). unless_refused (request_reason (timed_core c asked) (asks.Call call)) (after_ask e.options (at_time_of s asked) (asks.Call call))) (sym (is_core e s writes k))
 
   -- a read, or a write on standby
   one_reply : decides e.leading ≡ false → (s : State) (writes : List Write) → IsEngine e s writes
-      → HasReply e.options (timed s asked) asked (given.Reply client call.correlation (reply_at_once noted call.request))
+      → HasReply e.options (at_time_of s asked) asked (given.Reply client call.correlation (reply_at_once noted call.request))
   one_reply free s writes k =
       let is : decides s.world.leading ≡ false = sym (ap decides k.leading) ∙ free in record {
         accepted =
-            ap (λ b. cond (b && is_far (pos (tip_of s))) (Err (exhausted (pos (tip_of s)))) (Ok (cond b (after_write e.options (timed s asked) call.request) (timed s asked)))) is;
-        appends_none = ap (λ b. cond b (append (timed s asked) (decided e.options (timed s asked) call.request).records) []) is;
+            ap (λ b. cond (b && is_far (pos (tip_of s))) (Err (exhausted (pos (tip_of s)))) (Ok (cond b (after_write e.options (at_time_of s asked) call.request) (at_time_of s asked)))) is;
+        appends_none = ap (λ b. cond b (append (at_time_of s asked) (decision e.options (at_time_of s asked) call.request).records) []) is;
         answer =
             ap (map (given.Reply client call.correlation)) (one_now e.options (image_of_end s) (is_some s.world.leading) call.request is)
             ∙ ap (λ i. given.Reply client call.correlation (unwrap_or (query e.options i call.request) (refuse call.request NOT_CONTROLLER)) ∷ []) (sym (ap (λ o. unwrap_or o empty) (committed_found e d s writes k)));
-        writes_none = ap (λ b. cond b (write_of e.options (timed s asked) client call ∷ []) []) is;
+        writes_none = ap (λ b. cond b (write_of e.options (at_time_of s asked) client call ∷ []) []) is;
       }
 
   module _ (core : Core) (w : TakesWrite noted core client call) (decides_so : decides e.leading ≡ true) (free : is_far e.tip ≡ false) (valid : IsValid e.images.tip) where
     module _ (s : State) (writes : List Write) (k : IsEngine e s writes) where
       abbrev before_write : State
-      before_write = timed s asked
+      before_write = at_time_of s asked
 
       abbrev behind_write : State
       behind_write = after_write e.options before_write call.request
@@ -329,7 +328,7 @@ module _ (e : Core) (client : ℕ) (now : ℤ) (call : Call) (d : IsDrained e) w
       write_engine : IsEngine core behind_write (filter (is_open_in behind_write.world) (writes ++ write_of e.options before_write client call ∷ []))
       write_engine = write_stands noted core client call w before_write writes (timed_engine e asked s writes k) d.all_wait takes_so valid free
 
-      all_left : left core ≡ outputs_then e.options before_write writes asked behind_write
+      all_left : outputs_left core ≡ outputs_then e.options before_write writes asked behind_write
       all_left =
           write_left noted core client call w before_write writes (timed_engine e asked s writes k) d.all_wait takes_so d.none_given d.none_refused
           ∙ (ap (λ (ws : List Write). own ++ answers_in behind_write.world (writes ++ ws)) one_write
@@ -339,7 +338,7 @@ module _ (e : Core) (client : ℕ) (now : ℤ) (call : Call) (d : IsDrained e) w
           ∙ ap (λ b. ((cond b own [] ++ []) ++ answers_now e.options before_write asked) ++ due) (sym takes_so)))))
         where
           own : List Output
-          own = append before_write (decided e.options before_write call.request).records
+          own = append before_write (decision e.options before_write call.request).records
 
           due : List Output
           due = answers_in behind_write.world (writes ++ writes_of e.options before_write asked)
@@ -349,48 +348,48 @@ module _ (e : Core) (client : ℕ) (now : ℤ) (call : Call) (d : IsDrained e) w
 
       write_accepted : IsAccepted e e.options s writes asked core behind_write
       write_accepted = record {
-        stands = subst (λ (ws : List Write). IsEngine (engines.counted core) (counted behind_write) (filter (is_open_in behind_write.world) (writes ++ ws))) one_write
+        stands = subst (λ (ws : List Write). IsEngine (counted_core core) (with_next_number behind_write) (filter (is_open_in behind_write.world) (writes ++ ws))) one_write
             (counted_engine core behind_write (filter (is_open_in behind_write.world) (writes ++ write_of e.options before_write client call ∷ [])) write_engine);
         outputs = all_left;
         fresh = gained core.fresh s.world.log behind_write.world.log (write_gains noted core client call w before_write writes (timed_engine e asked s writes k) d.all_wait takes_so);
       }
 
-    write_step : IsStep e (engines.counted core) asked
+    write_step : IsStep e (counted_core core) asked
     write_step =
-        accepted_step e asked d core (ap (λ (a : Core). a.options) w.writes.same) (λ s. after_write e.options (timed s asked) call.request)
+        accepted_step e asked d core (ap (λ (a : Core). a.options) w.writes.same) (λ s. after_write e.options (at_time_of s asked) call.request)
         (λ s writes k. write_accepted_so s writes k)
         (λ s writes k. write_accepted s writes k)
 
-  taken_by : (core : Core) (b : Bool) → decides e.leading ≡ b → (b && is_far e.tip) ≡ false → IsValid e.images.tip → TakesCall b noted core client call → IsStep e (engines.counted core) asked
+  taken_by : (core : Core) (b : Bool) → decides e.leading ≡ b → (b && is_far e.tip) ≡ false → IsValid e.images.tip → TakesCall b noted core client call → IsStep e (counted_core core) asked
   taken_by core true is free valid takes = write_step core takes is free valid
   taken_by core false is free valid takes =
-      subst (λ (c : Core). IsStep e (engines.counted c) asked) (sym takes)
+      subst (λ (c : Core). IsStep e (counted_core c) asked) (sym takes)
       (reply_step e client now (asks.Call call) d (given.Reply client call.correlation (reply_at_once noted call.request)) (one_reply is))
 
-  pub call_settled : (core : Core) (reason : Option Reason) → ask_reason noted (asks.Call call) ≡ reason → IsValid e.images.tip → SettlesAsk noted core client (asks.Call call) reason → IsStep e (engines.counted core) asked
+  pub call_settled : (core : Core) (reason : Option Reason) → request_reason noted (asks.Call call) ≡ reason → IsValid e.images.tip → SettlesRequest noted core client (asks.Call call) reason → IsStep e (counted_core core) asked
   call_settled core None is valid takes = taken_by core (decides e.leading) refl (none_row (decides e.leading && is_far e.tip) (exhausted e.tip) None is).0 valid takes
   call_settled core (Some reason) is valid refuses =
-      subst (λ (c : Core). IsStep e (engines.counted c) asked) (sym refuses)
-      (refused_step e asked reason d (λ s writes k. judged s writes k ∙ ap (λ r. unless_refused r (after_ask e.options (timed s asked) (asks.Call call))) is))
+      subst (λ (c : Core). IsStep e (counted_core c) asked) (sym refuses)
+      (refused_step e asked reason d (λ s writes k. judged s writes k ∙ ap (λ r. unless_refused r (after_ask e.options (at_time_of s asked) (asks.Call call))) is))
 
 -- ---- what is no call
 
 pub bare_settled : (e : Core) (client : ℕ) (now correlation : ℤ) (fault : AskFault) → IsDrained e
-    → IsStep e (engines.counted (gives_out (engines.timed e (events.Request client now (asks.Bare correlation fault))) (given.Reply client correlation (replies.Bare (error_of fault))))) (events.Request client now (asks.Bare correlation fault))
+    → IsStep e (counted_core (core_with_output (timed_core e (events.Request client now (asks.Bare correlation fault))) (given.Reply client correlation (replies.Bare (error_of fault))))) (events.Request client now (asks.Bare correlation fault))
 bare_settled e client now correlation fault d =
     reply_step e client now (asks.Bare correlation fault) d (given.Reply client correlation (replies.Bare (error_of fault)))
     (λ s writes k. record { accepted = refl; appends_none = refl; answer = refl; writes_none = refl })
 
 -- ---- the step
 
-settled : (e core : Core) (client : ℕ) (now : ℤ) (ask : Ask) → IsDrained e → IsValid e.images.tip → SettlesAsk (engines.timed e (events.Request client now ask)) core client ask (ask_reason (engines.timed e (events.Request client now ask)) ask)
-    → IsStep e (engines.counted core) (events.Request client now ask)
-settled e core client now (asks.Call call) d valid settles = call_settled e client now call d core (ask_reason (engines.timed e (events.Request client now (asks.Call call))) (asks.Call call)) refl valid settles
+settled : (e core : Core) (client : ℕ) (now : ℤ) (ask : Ask) → IsDrained e → IsValid e.images.tip → SettlesRequest (timed_core e (events.Request client now ask)) core client ask (request_reason (timed_core e (events.Request client now ask)) ask)
+    → IsStep e (counted_core core) (events.Request client now ask)
+settled e core client now (asks.Call call) d valid settles = call_settled e client now call d core (request_reason (timed_core e (events.Request client now (asks.Call call))) (asks.Call call)) refl valid settles
 settled e core client now (asks.Bare correlation fault) d valid settles =
-    subst (λ (c : Core). IsStep e (engines.counted c) (events.Request client now (asks.Bare correlation fault))) (sym settles) (bare_settled e client now correlation fault d)
+    subst (λ (c : Core). IsStep e (counted_core c) (events.Request client now (asks.Bare correlation fault))) (sym settles) (bare_settled e client now correlation fault d)
 
-pub request_step : (e noted core after : Core) (client : ℕ) (now : ℤ) (ask : Ask) → left e ≡ [] → AreValid e.images → noted ≡ engines.timed e (events.Request client now ask)
-    → SettlesAsk noted core client ask (ask_reason noted ask) → after ≡ engines.counted core → IsStep e after (events.Request client now ask)
+pub request_step : (e noted core after : Core) (client : ℕ) (now : ℤ) (ask : Ask) → outputs_left e ≡ [] → AreValid e.images → noted ≡ timed_core e (events.Request client now ask)
+    → SettlesRequest noted core client ask (request_reason noted ask) → after ≡ counted_core core → IsStep e after (events.Request client now ask)
 request_step e timed_one core after client now ask none valid is settles counts =
     subst (λ (a : Core). IsStep e a (events.Request client now ask)) (sym counts)
-    (settled e core client now ask (drained e none) valid.tip (subst (λ (c : Core). SettlesAsk c core client ask (ask_reason c ask)) is settles))
+    (settled e core client now ask (drained e none) valid.tip (subst (λ (c : Core). SettlesRequest c core client ask (request_reason c ask)) is settles))

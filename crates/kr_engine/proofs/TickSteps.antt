@@ -18,15 +18,15 @@ use Rattle.law_safety.specs.HearingLaws.{HearsOf}
 use Rattle.law_safety.proofs.Lengths.{distinct_few}
 use Rattle.kr_store.specs.Images.{AreValid}
 use Rattle.kr_world.specs.declared.writes.Write.{Write}
-use Rattle.kr_engine.specs.inner.Changes as engines
-use Rattle.kr_world.specs.Engine.{Core, IsEngine, IsStep, left}
-use Rattle.kr_world.specs.Events.{counted, later, next_number, outcome, timed}
+use Rattle.kr_engine.specs.inner.Changes.{counted_core, timed_core}
+use Rattle.kr_world.specs.Engine.{Core, IsEngine, IsStep, outputs_left}
+use Rattle.kr_world.specs.Events.{with_next_number, time_after, next_number, outcome, at_time_of}
 use Rattle.kr_world.specs.Outputs.{answers, answers_in, append_fencings, is_open, is_open_in}
 use Rattle.kr_world.specs.Reasons.{exhausted}
-use Rattle.kr_engine.specs.inner.Ticking.{FencesAll, SettlesTick, lapsed_in, tick_reason}
-use Rattle.kr_world.specs.Ticks.{fence_all, lapsed, tick}
+use Rattle.kr_engine.specs.inner.Tick.{FencesAll, SettlesTick, lapsed_contacts, tick_reason}
+use Rattle.kr_world.specs.Tick.{fence_all, lapsed_contacts, tick}
 use Rattle.kr_world.specs.World.{State, is_far, tip_of}
-use Rattle.kr_engine.proofs.NewLeaderships.{none_row}
+use Rattle.kr_engine.proofs.LeadSteps.{none_row}
 use Rattle.kr_world.proofs.LogEntries.{gained, gains_none}
 use Rattle.kr_engine.proofs.FencingSteps.{AllFenced, all_fenced, stays_itself}
 use Rattle.kr_world.proofs.Queues.{IsDrained, drained}
@@ -60,14 +60,14 @@ few_lapsed h image limit are hears valid =
 -- ---- the step
 
 -- time goes on
-pub timed_engine : (e : Core) (event : Event) (s : State) (writes : List Write) → IsEngine e s writes → IsEngine (engines.timed e event) (timed s event) writes
+pub timed_engine : (e : Core) (event : Event) (s : State) (writes : List Write) → IsEngine e s writes → IsEngine (timed_core e event) (at_time_of s event) writes
 timed_engine e event s writes k = record {
   tip = k.tip;
   committed = k.committed;
   leading = k.leading;
   greatest = k.greatest;
   count = k.count;
-  time = ap (λ t. later t event) k.time;
+  time = ap (λ t. time_after t event) k.time;
   led = k.led;
   heard_of = k.heard_of;
   present = k.present;
@@ -77,7 +77,7 @@ timed_engine e event s writes k = record {
   is_state = timed_state s writes event k.is_state;
 }
 
-pub counted_engine : (e : Core) (s : State) (writes : List Write) → IsEngine e s writes → IsEngine (engines.counted e) (counted s) writes
+pub counted_engine : (e : Core) (s : State) (writes : List Write) → IsEngine e s writes → IsEngine (counted_core e) (with_next_number s) writes
 counted_engine e s writes k = record {
   tip = k.tip;
   committed = k.committed;
@@ -103,23 +103,23 @@ module _ (e : Core) (now : ℤ) (d : IsDrained e) where
   event = events.Tick now
 
   abbrev before : Core
-  before = engines.timed e event
+  before = timed_core e event
 
   abbrev after_tick : State → State
-  after_tick s = fence_all e.options (timed s event) (lapsed e.options (timed s event))
+  after_tick s = fence_all e.options (at_time_of s event) (lapsed_contacts e.options (at_time_of s event))
 
-  judged_so : (s : State) → tick e.options (timed s event) ≡ unless_refused (tick_reason (engines.timed (core_of e s) event)) (after_tick s)
+  judged_so : (s : State) → tick e.options (at_time_of s event) ≡ unless_refused (tick_reason (timed_core (core_of e s) event)) (after_tick s)
   judged_so s = row (is_some s.world.leading && is_far (pos (tip_of s))) (exhausted (pos (tip_of s))) None (Ok (after_tick s)) (after_tick s) refl
 
-  judged : (s : State) (writes : List Write) → IsEngine e s writes → outcome e.options (timed s event) event ≡ unless_refused (tick_reason before) (after_tick s)
-  judged s writes k = judged_so s ∙ ap (λ (c : Core). unless_refused (tick_reason (engines.timed c event)) (after_tick s)) (sym (is_core e s writes k))
+  judged : (s : State) (writes : List Write) → IsEngine e s writes → outcome e.options (at_time_of s event) event ≡ unless_refused (tick_reason before) (after_tick s)
+  judged s writes k = judged_so s ∙ ap (λ (c : Core). unless_refused (tick_reason (timed_core c event)) (after_tick s)) (sym (is_core e s writes k))
 
-  module _ (core : Core) (s : State) (writes : List Write) (k : IsEngine e s writes) (f : AllFenced before core (timed s event) writes (lapsed e.options (timed s event))) where
+  module _ (core : Core) (s : State) (writes : List Write) (k : IsEngine e s writes) (f : AllFenced before core (at_time_of s event) writes (lapsed_contacts e.options (at_time_of s event))) where
     abbrev ids : List ℤ
-    ids = lapsed e.options (timed s event)
+    ids = lapsed_contacts e.options (at_time_of s event)
 
     abbrev after : State
-    after = fence_all e.options (timed s event) ids
+    after = fence_all e.options (at_time_of s event) ids
 
     still_wait : filter (is_open_in after.world) (writes ++ []) ≡ writes
     still_wait =
@@ -136,12 +136,12 @@ module _ (e : Core) (now : ℤ) (d : IsDrained e) where
 
     accepted_by : IsAccepted e e.options s writes event core after
     accepted_by = record {
-      stands = subst (λ (ws : List Write). IsEngine (engines.counted core) (counted after) ws) (sym still_wait) (counted_engine core after writes f.stands);
+      stands = subst (λ (ws : List Write). IsEngine (counted_core core) (with_next_number after) ws) (sym still_wait) (counted_engine core after writes f.stands);
       outputs =
-          ap (λ g. (g ++ option_to_list core.refusal) ++ answers core.leading core.committed core.held) (f.outputs ∙ ap (λ g. g ++ append_fencings e.options (timed s event) ids) d.none_given)
-          ∙ (ap (λ o. (append_fencings e.options (timed s event) ids ++ option_to_list o) ++ answers core.leading core.committed core.held) (f.stays.refusal ∙ d.none_refused)
-          ∙ ap (λ due. (append_fencings e.options (timed s event) ids ++ []) ++ due) none_due
-          ∙ ap (λ g. g ++ answers_in after.world (writes ++ [])) (right_nil (append_fencings e.options (timed s event) ids)));
+          ap (λ g. (g ++ option_to_list core.refusal) ++ answers core.leading core.committed core.held) (f.outputs ∙ ap (λ g. g ++ append_fencings e.options (at_time_of s event) ids) d.none_given)
+          ∙ (ap (λ o. (append_fencings e.options (at_time_of s event) ids ++ option_to_list o) ++ answers core.leading core.committed core.held) (f.stays.refusal ∙ d.none_refused)
+          ∙ ap (λ due. (append_fencings e.options (at_time_of s event) ids ++ []) ++ due) none_due
+          ∙ ap (λ g. g ++ answers_in after.world (writes ++ [])) (right_nil (append_fencings e.options (at_time_of s event) ids)));
       fresh = gained core.fresh s.world.log after.world.log f.gains;
     }
       where
@@ -150,49 +150,49 @@ module _ (e : Core) (now : ℤ) (d : IsDrained e) where
 
   -- ---- the contacts that are fenced
 
-  same_lapsed : (s : State) (writes : List Write) → IsEngine e s writes → lapsed_in before ≡ lapsed e.options (timed s event)
-  same_lapsed s writes k = ap (λ (c : Core). lapsed_in (engines.timed c event)) (is_core e s writes k)
+  same_lapsed : (s : State) (writes : List Write) → IsEngine e s writes → lapsed_contacts before ≡ lapsed_contacts e.options (at_time_of s event)
+  same_lapsed s writes k = ap (λ (c : Core). lapsed_contacts (timed_core c event)) (is_core e s writes k)
 
   -- on standby nobody is heard of
-  none_lapsed : (s : State) (writes : List Write) → IsEngine e s writes → s.world.leading ≡ None → lapsed_in before ≡ []
+  none_lapsed : (s : State) (writes : List Write) → IsEngine e s writes → s.world.leading ≡ None → lapsed_contacts before ≡ []
   none_lapsed s writes k none = ap (λ (h : Heartbeats). expired h (before.time -ℤ pos e.options.session_ms)) (k.heard_of ∙ (k.is_state.at_standby none).1)
 
   fenced_by : (core : Core) (s : State) (writes : List Write) → IsEngine e s writes → (epoch : ℤ) → s.world.leading ≡ Some epoch → is_far e.tip ≡ false → IsValid e.images.tip → AreHeartbeats e.heard
-      → FencesAll before core (lapsed_in before) → AllFenced before core (timed s event) writes (lapsed e.options (timed s event))
+      → FencesAll before core (lapsed_contacts before) → AllFenced before core (at_time_of s event) writes (lapsed_contacts e.options (at_time_of s event))
   fenced_by core s writes k epoch leads near valid are f =
       let some : IsSome s.world.leading = subst (λ (l : Option ℤ). IsSome l) (sym leads) refl in
       let hears = subst (HearsOf (hearing.heard s.basis)) (same_image e s writes k) (k.is_state.hears some) in
       let few = few_lapsed e.heard e.images.tip (before.time -ℤ pos e.options.session_ms) are (subst (λ h. HearsOf h e.images.tip) (sym k.heard_of) hears) valid in
-      subst (AllFenced before core (timed s event) writes) (same_lapsed s writes k)
-      (all_fenced (lapsed_in before) before core f (timed s event) writes (timed_engine e event s writes k) valid some
-      (near_enough (tip_of s) (length (lapsed_in before)) (ap is_far (sym k.tip) ∙ near) few))
+      subst (AllFenced before core (at_time_of s event) writes) (same_lapsed s writes k)
+      (all_fenced (lapsed_contacts before) before core f (at_time_of s event) writes (timed_engine e event s writes k) valid some
+      (near_enough (tip_of s) (length (lapsed_contacts before)) (ap is_far (sym k.tip) ∙ near) few))
 
   fenced_so : (core : Core) (s : State) (writes : List Write) → IsEngine e s writes → (leading : Option ℤ) → s.world.leading ≡ leading → (is_some leading && is_far e.tip) ≡ false → IsValid e.images.tip → AreHeartbeats e.heard
-      → FencesAll before core (lapsed_in before) → AllFenced before core (timed s event) writes (lapsed e.options (timed s event))
+      → FencesAll before core (lapsed_contacts before) → AllFenced before core (at_time_of s event) writes (lapsed_contacts e.options (at_time_of s event))
   fenced_so core s writes k None none free valid are f =
       let nobody = none_lapsed s writes k none in
-      subst (AllFenced before core (timed s event) writes) (same_lapsed s writes k)
-      (subst (AllFenced before core (timed s event) writes) (sym nobody)
-      (subst (λ (c : Core). AllFenced before c (timed s event) writes []) (sym (subst (FencesAll before core) nobody f))
+      subst (AllFenced before core (at_time_of s event) writes) (same_lapsed s writes k)
+      (subst (AllFenced before core (at_time_of s event) writes) (sym nobody)
+      (subst (λ (c : Core). AllFenced before c (at_time_of s event) writes []) (sym (subst (FencesAll before core) nobody f))
       (record { stands = timed_engine e event s writes k; outputs = sym (append-nil before.given); gains = gains_none before.fresh s.world.log; stays = stays_itself before })))
   fenced_so core s writes k (Some epoch) leads free valid are f = fenced_by core s writes k epoch leads free valid are f
 
   same_options : (core : Core) (ids : List ℤ) → FencesAll before core ids → core.options ≡ e.options
   same_options core ids f = all_options ids before core f
 
-  settled : (core : Core) (reason : Option Reason) → tick_reason before ≡ reason → IsValid e.images.tip → AreHeartbeats e.heard → SettlesTick before core reason → IsStep e (engines.counted core) event
+  settled : (core : Core) (reason : Option Reason) → tick_reason before ≡ reason → IsValid e.images.tip → AreHeartbeats e.heard → SettlesTick before core reason → IsStep e (counted_core core) event
   settled core None free valid are f =
       let one = none_row (is_some e.leading && is_far e.tip) (exhausted e.tip) None free in
-      accepted_step e event d core (same_options core (lapsed_in before) f) after_tick
+      accepted_step e event d core (same_options core (lapsed_contacts before) f) after_tick
       (λ s writes k. judged s writes k ∙ ap (λ r. unless_refused r (after_tick s)) free)
       (λ s writes k. accepted_by core s writes k
       (fenced_so core s writes k s.world.leading refl (ap (λ l. is_some l && is_far e.tip) (sym k.leading) ∙ one.0) valid are f))
   settled core (Some reason) is valid are refuses =
-      subst (λ (c : Core). IsStep e (engines.counted c) event) (sym refuses)
+      subst (λ (c : Core). IsStep e (counted_core c) event) (sym refuses)
       (refused_step e event reason d (λ s writes k. judged s writes k ∙ ap (λ r. unless_refused r (after_tick s)) is))
 
-pub tick_step : (e core after : Core) (now : ℤ) → left e ≡ [] → AreValid e.images → AreHeartbeats e.heard
-    → SettlesTick (engines.timed e (events.Tick now)) core (tick_reason (engines.timed e (events.Tick now))) → after ≡ engines.counted core → IsStep e after (events.Tick now)
+pub tick_step : (e core after : Core) (now : ℤ) → outputs_left e ≡ [] → AreValid e.images → AreHeartbeats e.heard
+    → SettlesTick (timed_core e (events.Tick now)) core (tick_reason (timed_core e (events.Tick now))) → after ≡ counted_core core → IsStep e after (events.Tick now)
 tick_step e core stepped now none valid are settles is =
     let d = drained e none in
-    subst (λ (a : Core). IsStep e a (events.Tick now)) (sym is) (settled e now d core (tick_reason (engines.timed e (events.Tick now))) refl valid.tip are settles)
+    subst (λ (a : Core). IsStep e a (events.Tick now)) (sym is) (settled e now d core (tick_reason (timed_core e (events.Tick now))) refl valid.tip are settles)

@@ -1,6 +1,11 @@
+pub mod Append
+pub mod Batch
 pub mod Changes
+pub mod Commit
+pub mod Image
+pub mod Lead
+pub mod Load
+pub mod Lost
 pub mod Ready
-pub mod Serving
-pub mod Standby
-pub mod Ticking
-pub mod Writing
+pub mod Request
+pub mod Tick

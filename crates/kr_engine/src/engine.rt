@@ -1,10 +1,11 @@
 //! The engine: what it keeps, what it tells, and how its outputs are handed out.
 
 ghost use Rattle.std.specs.Prelude.{◌≡◌, ◌++◌, [], ◌∷◌, option_to_list, IsTrue, IfOk, IfNone, Some};
+ghost use Rattle.std.specs.Int.{int_max};
 ghost use Rattle.kr_defs.specs.OpenOptions.{are_options};
 ghost use Rattle.kr_store.specs.Images.{AreValid};
-ghost use Rattle.kr_world.specs.Engine.{IsEngine, IsSound, basis_of, left};
-ghost use Rattle.kr_engine.specs.inner.Changes.{cleared, counted, opened, refused};
+ghost use Rattle.kr_world.specs.Engine.{IsEngine, IsSound, basis_of, outputs_left};
+ghost use Rattle.kr_engine.specs.inner.Changes.{cleared_core, counted_core, new_core, refused_core};
 ghost use Rattle.kr_engine.specs.inner.Ready.{IsReady};
 ghost use Rattle.kr_world.specs.World as worlds;
 
@@ -86,7 +87,7 @@ impl Model for Engine {
 
 impl Engine {
     fn open(alloc: Global, options: Options) -> Result<Engine, NoMemory>
-        ensures { IfOk result (λ e. e ≡ opened options) }
+        ensures { IfOk result (λ e. e ≡ new_core options) }
     {
         let mut store = ImageStore::new(alloc);
         store.mark(0)?;
@@ -115,7 +116,7 @@ impl Engine {
         requires { IsTrue (are_options options) }
         ensures options { IfOk result (λ e. e.options ≡ options) }
         ensures stands { IfOk result (λ e. IsEngine e worlds.start []) }
-        ensures drained { IfOk result (λ e. left e ≡ []) }
+        ensures drained { IfOk result (λ e. outputs_left e ≡ []) }
         ensures fresh { IfOk result (λ e. e.fresh ≡ []) }
     {
         Engine::open(alloc, options)
@@ -186,19 +187,28 @@ impl Engine {
 
     // What the last event added is told no more. It takes no memory.
     pub(crate) fn clear_fresh(&mut self)
-        ensures { self.new ≡ cleared self.old }
+        ensures { self.new ≡ cleared_core self.old }
     {
         self.fresh.clear();
     }
 
+    // An event comes at a time: the greatest time is at least this one, and nothing is added yet.
+    pub(crate) fn note_time(&mut self, now: &i64)
+        ensures { self.new ≡ record self.old { time = int_max self.old.time now.now; fresh = [] } }
+    {
+        self.fresh.clear();
+        let now = *now;
+        self.time = self.time.max(now);
+    }
+
     pub(crate) fn count_event(&mut self)
-        ensures { self.new ≡ counted self.old }
+        ensures { self.new ≡ counted_core self.old }
     {
         self.count = self.count.saturating_add(1);
     }
 
     pub(crate) fn refuse(&mut self, reason: Reason)
-        ensures { self.new ≡ refused self.old reason }
+        ensures { self.new ≡ refused_core self.old reason }
     {
         let event = self.count.saturating_add(1);
         self.refusal = Some(Output::Refused { event, reason });

@@ -1,23 +1,24 @@
 //! The controller: one event after the other, over the image store.
 #![tactic(auto)]
 
-mod appending;
-mod applying;
-mod commits;
-mod deciding;
+mod append;
+mod apply;
+mod batch;
+mod commit;
+mod context;
+mod decide;
 mod engine;
 mod entries;
-mod follows;
-mod handing;
-mod images;
-mod judging;
-mod leads;
-mod loads;
-mod losses;
+mod image;
+mod lead;
+mod load;
+mod lost;
+mod outputs;
+mod places;
 mod reasons;
-mod requests;
-mod steps;
-mod ticks;
+mod request;
+mod step;
+mod tick;
 mod writes;
 
 pub use engine::Engine;

@@ -27,7 +27,7 @@ fn epoch_of(epoch: &i32) -> i64
 
 // The led epoch, -1 on standby.
 pub(crate) fn ours(leading: &Option<i32>) -> i64
-    ensures { result ≡ reasons.ours leading.now }
+    ensures { result ≡ reasons.led_epoch leading.now }
 {
     match leading {
         Some(led) => epoch_of(led),

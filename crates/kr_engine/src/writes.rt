@@ -1,7 +1,7 @@
 //! Which writes wait, and the replies of those that wait no more.
 
 ghost use Rattle.std.specs.Prelude.{◌≡◌};
-ghost use Rattle.kr_world.specs.Leaderships as leaderships;
+ghost use Rattle.kr_world.specs.World as leaderships;
 ghost use Rattle.kr_world.specs.Outputs as outputs;
 
 use kr_calls::Output;
@@ -25,7 +25,7 @@ pub(crate) fn is_open(leading: &Option<i32>, end: &i64, write: &Write) -> bool
 }
 
 /// The reply of a write that waits no more.
-pub(crate) fn answer(end: &i64, write: Write) -> Output
+pub(crate) fn due_reply(end: &i64, write: Write) -> Output
     ensures { result ≡ outputs.due_reply end.now write }
 {
     let is_lost = *end < write.need;

@@ -3,7 +3,7 @@ use Rattle.std.proofs.Common.{◌≡◌, ℕ, List, [], ◌∷◌, ◌++◌, Opt
 use Rattle.kr_calls.specs.declared.events.Event.{Event}
 use Rattle.kr_calls.specs.declared.events.Output.{Output}
 use Rattle.kr_world.specs.declared.writes.Write.{Write}
-use Rattle.kr_world.specs.Engine.{Core, Hands, IsEngine, IsSound, IsStep, left}
+use Rattle.kr_world.specs.Engine.{Core, Hands, IsEngine, IsSound, IsStep, outputs_left}
 use Rattle.kr_world.specs.Entries.{log_entries}
 use Rattle.kr_world.specs.Events.{happens}
 use Rattle.kr_world.specs.Outputs.{outputs_of, waiting_after}
@@ -19,21 +19,21 @@ pub one_more : (a b c : Core) (given : List Output) (output : Output) → HandsS
 one_more a b c [] output is next = (c, subst (λ (e : Core). Hands e c (Some output)) is next, refl)
 one_more a b c (other ∷ given) output (e, first, rest) next = (e, first, one_more e b c given output rest next)
 
-pub left_behind : (a b : Core) (given : List Output) → HandsSome a given b → left a ≡ given ++ left b
-left_behind a b [] is = ap left (sym is)
+pub left_behind : (a b : Core) (given : List Output) → HandsSome a given b → outputs_left a ≡ given ++ outputs_left b
+left_behind a b [] is = ap outputs_left (sym is)
 left_behind a b (output ∷ given) (e, first, rest) = first.in_order ∙ ap (λ (l : List Output). output ∷ l) (left_behind e b given rest)
 
 -- one output isn't written whole
 pub some_written : (before now after : Core) (given : List Output) (output : Output) (a b c : Option (List ℕ)) → HandsSome before given now → Hands now after (Some output) → WroteAll a b given
-    → WroteSome b c (output ∷ []) → WroteSome a c (left before)
+    → WroteSome b c (output ∷ []) → WroteSome a c (outputs_left before)
 some_written before now after given output a b c some next wrote one =
     subst (WroteSome a c) (sym (left_behind before now given some ∙ ap (λ (l : List Output). given ++ l) next.in_order))
-    (some_behind a b c given (output ∷ left after) wrote (some_of_more b c (output ∷ []) (left after) one))
+    (some_behind a b c given (output ∷ outputs_left after) wrote (some_of_more b c (output ∷ []) (outputs_left after) one))
 
 -- ---- all of them
 
-all_handed : (a b : Core) (given : List Output) → HandsSome a given b → left b ≡ [] → HandsAll a given b
-all_handed a b [] is none = (ap left (sym is) ∙ none, is)
+all_handed : (a b : Core) (given : List Output) → HandsSome a given b → outputs_left b ≡ [] → HandsAll a given b
+all_handed a b [] is none = (ap outputs_left (sym is) ∙ none, is)
 all_handed a b (output ∷ given) (e, first, rest) none = (e, first, all_handed e b given rest none)
 
 pub drains : (a b c : Core) (given : List Output) → HandsSome a given b → Hands b c None → Drains a c given
@@ -73,7 +73,7 @@ runs_options a b (e ∷ events) [] is = absurd is
 runs_options a b (e ∷ events) (other ∷ given) (s, d, first, handed, rest) = runs_options d b events given rest ∙ (same_options s d other handed ∙ first.options)
 
 -- behind an event whose outputs are all handed out
-pub sound_behind : (a stepped b : Core) (event : Event) (given : List Output) → IsSound a → IsStep a stepped event → Drains stepped b given → IsSound b × (left b ≡ [])
+pub sound_behind : (a stepped b : Core) (event : Event) (given : List Output) → IsSound a → IsStep a stepped event → Drains stepped b given → IsSound b × (outputs_left b ≡ [])
 sound_behind a stepped b event given sound step d =
     let s = happens a.options sound.state event in
     let writes = waiting_after a.options sound.state sound.writes event in (

@@ -6,7 +6,7 @@ use Rattle.kr_calls.specs.declared.events.Event.{Event}
 use Rattle.kr_calls.specs.declared.events.Output.{Output}
 use Rattle.kr_defs.specs.declared.options.Options.{Options}
 use Rattle.kr_world.specs.Events.{state}
-use Rattle.kr_world.specs.Outputs.{outputs, outputs_after, outputs_of, waiting}
+use Rattle.kr_world.specs.Outputs.{outputs, outputs_after, outputs_of, waiting_writes}
 use Rattle.kr_stream.specs.Frames.{IsOpen, IsEvent}
 use Rattle.kr_run.specs.Session.{Opened, HasRead, all_outputs}
 use Rattle.kr_run.proofs.OutputFrames.{each_both, each_one}
@@ -36,13 +36,13 @@ joined_behind given more = flat_map-append (λ (outputs : List Output). outputs)
 
 module _ (options : Options) where
   outputs_behind : (past events : List Event) (event : Event)
-      → outputs_after options past (events ++ event ∷ []) ≡ outputs_after options past events ++ outputs_of options (state options (past ++ events)) (waiting options (past ++ events)) event ∷ []
-  outputs_behind past [] event = ap (λ (l : List Event). outputs_of options (state options l) (waiting options l) event ∷ []) (sym (append-nil past))
+      → outputs_after options past (events ++ event ∷ []) ≡ outputs_after options past events ++ outputs_of options (state options (past ++ events)) (waiting_writes options (past ++ events)) event ∷ []
+  outputs_behind past [] event = ap (λ (l : List Event). outputs_of options (state options l) (waiting_writes options l) event ∷ []) (sym (append-nil past))
   outputs_behind past (e ∷ events) event =
-      ap (λ (l : List (List Output)). outputs_of options (state options past) (waiting options past) e ∷ l) (outputs_behind (past ++ e ∷ []) events event
-      ∙ ap (λ (l : List Event). outputs_after options (past ++ e ∷ []) events ++ outputs_of options (state options l) (waiting options l) event ∷ []) (append_assoc past (e ∷ []) events))
+      ap (λ (l : List (List Output)). outputs_of options (state options past) (waiting_writes options past) e ∷ l) (outputs_behind (past ++ e ∷ []) events event
+      ∙ ap (λ (l : List Event). outputs_after options (past ++ e ∷ []) events ++ outputs_of options (state options l) (waiting_writes options l) event ∷ []) (append_assoc past (e ∷ []) events))
 
   -- the outputs of one more event come behind those of the events before it
   pub all_behind : (events : List Event) (event : Event)
-      → all_outputs options (events ++ event ∷ []) ≡ all_outputs options events ++ outputs_of options (state options events) (waiting options events) event
-  all_behind events event = ap joined (outputs_behind [] events event) ∙ joined_behind (outputs options events) (outputs_of options (state options events) (waiting options events) event)
+      → all_outputs options (events ++ event ∷ []) ≡ all_outputs options events ++ outputs_of options (state options events) (waiting_writes options events) event
+  all_behind events event = ap joined (outputs_behind [] events event) ∙ joined_behind (outputs options events) (outputs_of options (state options events) (waiting_writes options events) event)

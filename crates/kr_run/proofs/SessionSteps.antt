@@ -14,7 +14,7 @@ use Rattle.kr_world.specs.declared.writes.Write.{Write}
 use Rattle.kr_world.specs.Engine as engines
 use Rattle.kr_world.specs.Engine.{Core, Hands, IsEngine}
 use Rattle.kr_world.specs.Events.{state}
-use Rattle.kr_world.specs.Outputs.{outputs, outputs_of, waiting}
+use Rattle.kr_world.specs.Outputs.{outputs, outputs_of, waiting_writes}
 use Rattle.kr_world.specs.World.{State, start}
 use Rattle.kr_world.proofs.AllEvents.{runs_give_outputs}
 use Rattle.kr_stream.specs.declared.fault.StreamFault.{StreamFault}
@@ -113,11 +113,11 @@ module _ (progress : Progress) (front : List ℕ) (left mid left' written writte
 -- ---- the first frame
 
 -- nothing is handed out of a new engine
-drained : (engine : Core) (s : State) (writes : List Write) → IsEngine engine s writes → engines.left engine ≡ [] → Hands engine engine None
+drained : (engine : Core) (s : State) (writes : List Write) → IsEngine engine s writes → engines.outputs_left engine ≡ [] → Hands engine engine None
 drained engine s writes stands none = record { options = refl; in_order = refl; all = λ is. none; ordered = stands.ordered; fresh = refl; stands = λ s writes k. k }
 
 module _ (left left' written written' : Option (List ℕ)) (options : Options) (at : ℕ) (t : Took (IsOpen options) left left' 0 at) (wrote : WroteAll written written' []) where
-  pub opened : (engine : Core) → engine.options ≡ options → IsEngine engine start [] → engines.left engine ≡ [] → Going left left' written written' engine at
+  pub opened : (engine : Core) → engine.options ≡ options → IsEngine engine start [] → engines.outputs_left engine ≡ [] → Going left left' written written' engine at
   opened engine same stands none = record {
     options = options;
     events = [];
@@ -156,7 +156,7 @@ module _ (left mid left' written between : Option (List ℕ)) (engine : Core) (a
   given_so : going.given ≡ outputs going.options going.events
   given_so = (runs_give_outputs going.options going.events going.given going.first going.last going.opened going.begins going.runs).0
 
-  pub stands_so : IsEngine engine (state going.options going.events) (waiting going.options going.events)
+  pub stands_so : IsEngine engine (state going.options going.events) (waiting_writes going.options going.events)
   stands_so = going.none.stands _ _ (runs_give_outputs going.options going.events going.given going.first going.last going.opened going.begins going.runs).1
 
   options_so : engine.options ≡ going.options
@@ -211,7 +211,7 @@ module _ (left mid left' written between : Option (List ℕ)) (engine : Core) (a
     module _ (written' : Option (List ℕ)) (some : (s : State) (writes : List Write) → IsEngine engine s writes → WroteSome between written' (outputs_of engine.options s writes event)) where
       some_so : WroteSome written written' (all_outputs going.options (going.events ++ event ∷ []))
       some_so =
-          let more = subst (λ (o : Options). WroteSome between written' (outputs_of o (state going.options going.events) (waiting going.options going.events) event)) options_so (some _ _ stands_so) in
+          let more = subst (λ (o : Options). WroteSome between written' (outputs_of o (state going.options going.events) (waiting_writes going.options going.events) event)) options_so (some _ _ stands_so) in
           subst (WroteSome written written') (sym (all_behind going.options going.events event)) (some_behind written between written' _ _ wrote_so more)
 
       abbrev taken_so : Consumes left left' ((going.front ++ t.taken) ++ [])

@@ -4,7 +4,7 @@ ghost use Rattle.std.specs.Prelude.{◌≡◌, [], ◌∷◌, ◌≤◌, List, O
 ghost use Rattle.kr_base.specs.Causes.{Rose};
 ghost use Rattle.kr_calls.specs.declared.events.Output.{Output as AnyOutput};
 ghost use Rattle.kr_world.specs.declared.writes.Write.{Write};
-ghost use Rattle.kr_world.specs.Engine.{IsEngine, IsSound, writes_in_order, left};
+ghost use Rattle.kr_world.specs.Engine.{IsEngine, IsSound, writes_in_order, outputs_left};
 ghost use Rattle.kr_world.specs.Outputs.{outputs_of};
 ghost use Rattle.kr_world.specs.World.{State};
 ghost use Rattle.kr_run.specs.Endings.{WroteAll, WroteSome};
@@ -35,7 +35,7 @@ fn write_outputs<K: Sink>(
 ) -> Result<(), WriteFault>
     requires { IsTrue (writes_in_order engine.old.held) }
     ensures ok { OnOk result ((given : List AnyOutput) × Drains engine.old engine.new given × WroteAll (K.written sink.old) (K.written sink.new) given) }
-    ensures err { OnErr result (WroteSome (K.written sink.old) (K.written sink.new) (left engine.old)) }
+    ensures err { OnErr result (WroteSome (K.written sink.old) (K.written sink.new) (outputs_left engine.old)) }
     ensures failed { IsErrOf result WriteFault.Failed → Rose (K.faults sink.old) (K.faults sink.new) }
     ensures later { K.faults sink.old ≤ K.faults sink.new }
 {
@@ -57,7 +57,7 @@ pub(crate) fn serve_event<L: Ledger, K: Sink>(
     sink: &mut K,
 ) -> Result<(), WriteFault>
     requires sound { IsSound engine.old }
-    requires drained { left engine.old ≡ [] }
+    requires drained { outputs_left engine.old ≡ [] }
     ensures ok { OnOk result (Serves engine.old engine.new event.now (K.written sink.old) (K.written sink.new)) }
     ensures err { OnErr result ((state : State) (writes : List Write) → IsEngine engine.old state writes → WroteSome (K.written sink.old) (K.written sink.new) (outputs_of engine.old.options state writes event.now)) }
     ensures failed { IsErrOf result WriteFault.Failed → Rose (K.faults sink.old) (K.faults sink.new) }

@@ -77,10 +77,10 @@ fn take_event<L: Ledger, K: Sink>(
     output: &mut K,
 ) -> Result<(), Status>
     requires sound { IsSound engine.old }
-    requires drained { engines.left engine.old ≡ [] }
+    requires drained { engines.outputs_left engine.old ≡ [] }
     ensures goes { (left mid left' written : Option (List ℕ)) (at end : ℕ) → Going left mid written (K.written output.old) engine.old at → Took (IsEvent event) mid left' at end
         → MatchResult result (λ _. Going left left' written (K.written output.new) engine.new end) (λ status. EndsWith left left' written (K.written output.new) status) }
-    ensures ready { OnOk result (IsSound engine.new × (engines.left engine.new ≡ [])) }
+    ensures ready { OnOk result (IsSound engine.new × (engines.outputs_left engine.new ≡ [])) }
     ensures read { IsErrOf result Status.ReadFault → ⊥ }
     ensures write { IsErrOf result Status.WriteFault → Rose (K.faults output.old) (K.faults output.new) }
     ensures usage { IsErrOf result Status.Usage → ⊥ }
@@ -103,10 +103,10 @@ fn serve_frame<L: Ledger, S: Source, K: Sink>(
 ) -> Result<(), Status>
     requires stage { reader.old.stage ≡ stages.Opened }
     requires sound { IsSound engine.old }
-    requires drained { engines.left engine.old ≡ [] }
+    requires drained { engines.outputs_left engine.old ≡ [] }
     ensures goes { (left written : Option (List ℕ)) → Going left (S.left input.old) written (K.written output.old) engine.old reader.old.at
         → MatchResult result (λ _. Going left (S.left input.new) written (K.written output.new) engine.new reader.new.at) (λ status. EndsWith left (S.left input.new) written (K.written output.new) status) }
-    ensures ready { OnOk result (IsSound engine.new × (engines.left engine.new ≡ [])) }
+    ensures ready { OnOk result (IsSound engine.new × (engines.outputs_left engine.new ≡ [])) }
     ensures stage { OnOk result (reader.new.stage ≡ stages.Opened) }
     ensures further { OnOk result ((reader.old.at < reader.new.at) × (reader.new.at ≤ MOST_SESSION_BYTES)) }
     ensures read { IsErrOf result Status.ReadFault → Rose (S.faults input.old) (S.faults input.new) }
@@ -135,7 +135,7 @@ fn serve_frames<L: Ledger, S: Source, K: Sink>(
     requires place { reader.old.at ≤ MOST_SESSION_BYTES }
     requires stage { reader.old.stage ≡ stages.Opened }
     requires sound { IsSound engine.old }
-    requires drained { engines.left engine.old ≡ [] }
+    requires drained { engines.outputs_left engine.old ≡ [] }
     ensures ends { (left written : Option (List ℕ)) → Going left (S.left input.old) written (K.written output.old) engine.old reader.old.at → EndsWith left (S.left input.new) written (K.written output.new) result }
     ensures read { result ≡ Status.ReadFault → Rose (S.faults input.old) (S.faults input.new) }
     ensures write { result ≡ Status.WriteFault → Rose (K.faults output.old) (K.faults output.new) }

@@ -5,9 +5,9 @@ use Rattle.kr_calls.specs.declared.events.Event.{Event}
 use Rattle.kr_calls.specs.declared.events.Output.{Output}
 use Rattle.kr_defs.specs.declared.options.Options.{Options}
 use Rattle.kr_world.specs.declared.writes.Write.{Write}
-use Rattle.kr_world.specs.Engine.{Core, IsEngine, IsStep, left}
+use Rattle.kr_world.specs.Engine.{Core, IsEngine, IsStep, outputs_left}
 use Rattle.kr_world.specs.Events.{happens, state}
-use Rattle.kr_world.specs.Outputs.{new_writes, outputs, outputs_after, outputs_of, waiting, waiting_after, writes_from}
+use Rattle.kr_world.specs.Outputs.{new_writes, outputs, outputs_after, outputs_of, waiting_writes, waiting_after, writes_from}
 use Rattle.kr_world.specs.Runs.{HandsAll, Runs, RunsGiveOutputs}
 use Rattle.kr_world.specs.World.{State, start}
 use Rattle.kr_world.proofs.DueWrites.{Goes, event_goes}
@@ -18,8 +18,8 @@ use Rattle.kr_world.proofs.WriteEpochs.{AreKnown, IsLed, all_closed, known_both,
 
 -- all that is left is handed out, and the engine stands for the same
 record IsDrainedOf (before : Core) (given : List Output) (after : Core) : Type 0 where
-  all : left before ≡ given
-  none : left after ≡ []
+  all : outputs_left before ≡ given
+  none : outputs_left after ≡ []
   options : after.options ≡ before.options
   stands : (s : State) (writes : List Write) → IsEngine before s writes → IsEngine after s writes
 
@@ -39,7 +39,7 @@ module _ (options : Options) where
   -- the engine stands for these events
   record StandsFor (e : Core) (past : List Event) : Type 0 where
     same : e.options ≡ options
-    stands : IsEngine e (state options past) (waiting options past)
+    stands : IsEngine e (state options past) (waiting_writes options past)
     led : IsLed (state options past).world
     known : AreKnown (state options past).world (writes_from options start past)
 
@@ -48,7 +48,7 @@ module _ (options : Options) where
     s = state options past
 
     abbrev writes : List Write
-    writes = waiting options past
+    writes = waiting_writes options past
 
     goes : Goes s.world (happens options s event).world
     goes = event_goes options s event r.stands.is_state.ends
@@ -56,7 +56,7 @@ module _ (options : Options) where
     same_state : state options (past ++ event ∷ []) ≡ happens options s event
     same_state = state_more options past event
 
-    same_waiting : waiting options (past ++ event ∷ []) ≡ waiting_after options s writes event
+    same_waiting : waiting_writes options (past ++ event ∷ []) ≡ waiting_after options s writes event
     same_waiting = waiting_more options past event (all_closed s.world (happens options s event).world goes (writes_from options start past) r.known)
 
     stood : IsEngine stepped (happens options s event) (waiting_after options s writes event)
@@ -70,7 +70,7 @@ module _ (options : Options) where
     next =
         let d = handed stepped given drained hands in record {
           same = d.options ∙ (step.options ∙ r.same);
-          stands = d.stands _ _ (subst (λ (t : State). IsEngine stepped t (waiting options (past ++ event ∷ []))) (sym same_state) (subst (IsEngine stepped (happens options s event)) (sym same_waiting) stood));
+          stands = d.stands _ _ (subst (λ (t : State). IsEngine stepped t (waiting_writes options (past ++ event ∷ []))) (sym same_state) (subst (IsEngine stepped (happens options s event)) (sym same_waiting) stood));
           led = subst (λ (t : State). IsLed t.world) (sym same_state) (led_on s.world (happens options s event).world goes r.led);
           known = subst (λ (t : State). AreKnown t.world (writes_from options start (past ++ event ∷ []))) (sym same_state)
               (subst (AreKnown (happens options s event).world) (sym (writes_more options start past event)) known_then);
@@ -80,16 +80,16 @@ module _ (options : Options) where
     outputs_so = sym (handed stepped given drained hands).all ∙ (step.outputs s writes r.stands ∙ ap (λ o. outputs_of o s writes event) r.same)
 
   runs_on : (events : List Event) (given : List (List Output)) (past : List Event) (before after : Core) → StandsFor before past → Runs before events given after
-      → (given ≡ outputs_after options past events) × IsEngine after (state options (past ++ events)) (waiting options (past ++ events))
+      → (given ≡ outputs_after options past events) × IsEngine after (state options (past ++ events)) (waiting_writes options (past ++ events))
   runs_on [] [] past before after r is =
-      (refl, subst (λ (es : List Event). IsEngine after (state options es) (waiting options es)) (sym (append-nil past)) (subst (λ (a : Core). IsEngine a (state options past) (waiting options past)) (sym is) r.stands))
+      (refl, subst (λ (es : List Event). IsEngine after (state options es) (waiting_writes options es)) (sym (append-nil past)) (subst (λ (a : Core). IsEngine a (state options past) (waiting_writes options past)) (sym is) r.stands))
   runs_on [] (outputs ∷ given) past before after r is = absurd is
   runs_on (event ∷ events) [] past before after r is = absurd is
   runs_on (event ∷ events) (outputs ∷ given) past before after r (stepped, drained, step, hands, rest) =
       let later = runs_on events given (past ++ event ∷ []) drained after (next past event before stepped drained outputs r step hands) rest in
       let same = append_assoc past (event ∷ []) events in (
-        ap (λ o. o ∷ given) (outputs_so past event before stepped drained outputs r step hands) ∙ ap (λ others. outputs_of options (state options past) (waiting options past) event ∷ others) later.0,
-        subst (λ (es : List Event). IsEngine after (state options es) (waiting options es)) same later.1,
+        ap (λ o. o ∷ given) (outputs_so past event before stepped drained outputs r step hands) ∙ ap (λ others. outputs_of options (state options past) (waiting_writes options past) event ∷ others) later.0,
+        subst (λ (es : List Event). IsEngine after (state options es) (waiting_writes options es)) same later.1,
       )
 
 pub runs_give_outputs : RunsGiveOutputs

@@ -1,5 +1,5 @@
 -- Nobody is heard of later than now, whatever a broker asks.
-use Rattle.std.proofs.Common.{◌≡◌, ◌∙◌, sym, subst, ℤ, pos, Bool, true, false, cond, List, [], ◌∷◌, refl, not}
+use Rattle.std.proofs.Common.{◌≡◌, ◌∙◌, sym, subst, ℤ, pos, Bool, true, false, cond, List, [], ◌∷◌, refl, not, map}
 use Rattle.std.proofs.lemmas.Bool.{and_from}
 use Rattle.std.proofs.lemmas.List.Folds.{list_all-append}
 use Rattle.std.specs.Prelude.{◌&&◌, int_le, filter}
@@ -35,6 +35,11 @@ left_in_time p q (c ∷ contacts) all =
       | true ↦ and_from (p c) (list_all p (filter q contacts)) parts.0 (left_in_time p q contacts parts.1)
       | false ↦ left_in_time p q contacts parts.1
     ]
+
+-- whom a leadership begins with is heard of now
+pub begun_now : (now : ℤ) (ids : List ℤ) → list_all (λ (c : Contact). int_le c.time now) (map (hearing.new_contact now) ids) ≡ true
+begun_now now [] = refl
+begun_now now (id ∷ ids) = and_from (int_le now now) (list_all (λ (c : Contact). int_le c.time now) (map (hearing.new_contact now) ids)) (le_itself now) (begun_now now ids)
 
 abbrev pub AreInTime : ℤ → Heartbeats → Type 0
 AreInTime now h = list_all (λ (c : Contact). int_le c.time now) h.contacts ≡ true

@@ -25,16 +25,18 @@ use Rattle.kr_defs.proofs.Tests.{Gives, both, gives_done, gives_refuse, gives_th
 use Rattle.kr_defs.proofs.HeartbeatLists.{le_itself}
 use Rattle.kr_snapshot.specs.Reading.{image_of}
 use Rattle.kr_world.specs.declared.writes.Write.{Write}
-use Rattle.kr_world.specs.Commits.{commit, committed_to, is_end}
+use Rattle.kr_world.specs.Commit.{commit, after_commit, is_end}
 use Rattle.kr_world.specs.Engine.{Rise}
-use Rattle.kr_world.specs.Events.{counted, happens, outcome, timed}
-use Rattle.kr_world.specs.Leaderships.{begun, ended, lead, leads_in, lose, may_begin_at, up_to}
+use Rattle.kr_world.specs.Events.{with_next_number, happens, outcome, at_time_of}
+use Rattle.kr_world.specs.Lead.{after_lead, lead, may_begin_at, up_to}
+use Rattle.kr_world.specs.Lost.{after_lost, lost}
+use Rattle.kr_world.specs.World.{leads_in, State, World, image_of_tip, is_far, tip_of, with_batch, log_with}
 use Rattle.kr_world.specs.Outputs.{is_open_in}
 use Rattle.kr_world.specs.Reasons as reasons
-use Rattle.kr_world.specs.Replicas.{batch_or, end_of, follow, follow_batch, followed, image_or, load, load_image, loaded, unless_ill}
-use Rattle.kr_world.specs.Requests.{after_ask, after_write, decided, is_decided, serve}
-use Rattle.kr_world.specs.Ticks.{fence, fence_all, fencing_of, lapsed, tick}
-use Rattle.kr_world.specs.World.{State, World, image_of_tip, is_far, tip_of, with_batch, log_with}
+use Rattle.kr_world.specs.Batch.{batch_or, end_of, batch, take_batch, after_batch, unless_ill}
+use Rattle.kr_world.specs.Load.{image_or, load, take_image, after_load}
+use Rattle.kr_world.specs.Request.{after_ask, after_write, decision, is_decided, request}
+use Rattle.kr_world.specs.Tick.{fence, fence_all, fencing_of, lapsed_contacts, tick}
 use Rattle.kr_world.proofs.KeptImages.{not_higher}
 use Rattle.kr_world.proofs.Places.{moves}
 
@@ -104,7 +106,7 @@ fenced_leaves options s (broker ∷ brokers) =
     (batch_leaves s.world (as_items (fencing_of options (image_of_tip s) broker))) (fenced_leaves options (fence options s broker) brokers)
 
 written_leaves : (options : Options) (s : State) (request : Request) → Leaves s.world (after_write options s request).world
-written_leaves options s request = batch_leaves s.world (as_items (decided options s request).records)
+written_leaves options s request = batch_leaves s.world (as_items (decision options s request).records)
 
 asked_leaves : (options : Options) (s : State) (ask : Ask) → Leaves s.world (after_ask options s ask).world
 asked_leaves options s (asks.Call call) = after_leaves (is_decided s.world (asks.Call call)) s (after_write options s call.request) (written_leaves options s call.request)
@@ -123,71 +125,71 @@ module _ (options : Options) (s : State) (rise : Rise s.world.committed s.world.
   abbrev P : State → Type 0
   P after = Goes s.world after.world
 
-  leads_on : (epoch next : ℤ) → Gives P (lead s epoch next)
-  leads_on epoch next =
+  lead_goes : (epoch next : ℤ) → Gives P (lead s epoch next)
+  lead_goes epoch next =
       gives_refuse P (reasons.already_leading s.world.leading) (is_some s.world.leading) _ (λ _. gives_refuse P (reasons.old_epoch epoch s.world.greatest) (not (int_lt s.world.greatest epoch)) _ (λ late.
       gives_refuse P (reasons.bad_next next (pos s.world.committed)) (not (may_begin_at s.world next)) _ (λ _. gives_refuse P (reasons.exhausted next) (is_far next) _ (λ _.
       let later = not_false (int_lt s.world.greatest epoch) late in
-      gives_done P (begun s epoch next) (record {
+      gives_done P (after_lead s epoch next) (record {
         succeeds = record { greatest = lt_le s.world.greatest epoch later; leading = λ e is. inr (subst (λ z. int_lt s.world.greatest z ≡ true) (same_some epoch e is) later, same_some epoch e is) };
         committed = subst (λ c. s.world.committed ≤ c) (sym (up_to_leaves s.world next).committed) (omega arith);
       })))))
 
-  commits_on : (epoch end : ℤ) → Gives P (commit s epoch end)
-  commits_on epoch end =
+  commit_goes : (epoch end : ℤ) → Gives P (commit s epoch end)
+  commit_goes epoch end =
       gives_refuse P (reasons.not_leading epoch s.world.leading) (not (leads_in s.world.leading epoch)) _ (λ _.
       gives_refuse P (reasons.bad_commit end (pos s.world.committed) (pos (tip_of s))) (not (is_end s.world end)) _ (λ ends.
-      gives_done P (committed_to s end) (moved_goes s.world (committed_to s end).world refl refl
+      gives_done P (after_commit s end) (moved_goes s.world (after_commit s end).world refl refl
       (moves s.world.log (tip_of s) s.world.committed s.world.batch_ends end rise (not_false (is_end s.world end) ends)).above)))
 
-  loses_on : (epoch : ℤ) → Gives P (lose s epoch)
-  loses_on epoch =
+  lost_goes : (epoch : ℤ) → Gives P (lost s epoch)
+  lost_goes epoch =
       gives_refuse P (reasons.not_leading epoch s.world.leading) (not (leads_in s.world.leading epoch)) _ (λ _.
-      gives_done P (ended s) (record { succeeds = record { greatest = le_itself s.world.greatest; leading = λ e is. absurd cc }; committed = omega arith }))
+      gives_done P (after_lost s) (record { succeeds = record { greatest = le_itself s.world.greatest; leading = λ e is. absurd cc }; committed = omega arith }))
 
-  ill_on : (batch : Batch) (o : Option (ℤ × Ill)) → Gives P (unless_ill o (followed s batch))
-  ill_on batch None = gives_done P (followed s batch) (moved_goes s.world (followed s batch).world refl refl (let low = not_higher s.world.committed s.world.batch_ends (tip_of s) rise in omega (arith, low)))
+  ill_on : (batch : Batch) (o : Option (ℤ × Ill)) → Gives P (unless_ill o (after_batch s batch))
+  ill_on batch None = gives_done P (after_batch s batch) (moved_goes s.world (after_batch s batch).world refl refl (let low = not_higher s.world.committed s.world.batch_ends (tip_of s) rise in omega (arith, low)))
   ill_on batch (Some (place, cause)) = λ after is. absurd cc
 
-  follows_on : (bytes : List ℕ) → Gives P (follow s bytes)
-  follows_on bytes =
-      gives_refuse P (reasons.already_leading s.world.leading) (is_some s.world.leading) _ (λ _. gives_then (λ (b : Batch). Unit {0}) P (batch_or (batch_of bytes)) (follow_batch s) (λ _ _. tt) (λ batch _.
+  batch_goes : (bytes : List ℕ) → Gives P (batch s bytes)
+  batch_goes bytes =
+      gives_refuse P (reasons.already_leading s.world.leading) (is_some s.world.leading) _ (λ _. gives_then (λ (b : Batch). Unit {0}) P (batch_or (batch_of bytes)) (take_batch s) (λ _ _. tt) (λ batch _.
       gives_refuse P (reasons.gap (pos s.world.committed) batch.base) (not (int_eq batch.base (pos s.world.committed))) _ (λ _. gives_refuse P (reasons.exhausted (end_of batch)) (is_far (end_of batch)) _ (λ _.
       ill_on batch (first_ill (image_of_tip s) (pos (tip_of s)) batch.items)))))
 
-  loads_on : (bytes : List ℕ) → Gives P (load s bytes)
-  loads_on bytes =
-      gives_refuse P (reasons.already_leading s.world.leading) (is_some s.world.leading) _ (λ _. gives_then (λ (x : ℤ × Image). Unit {0}) P (image_or (image_of bytes)) (load_image s) (λ _ _. tt) (λ x _.
+  load_goes : (bytes : List ℕ) → Gives P (load s bytes)
+  load_goes bytes =
+      gives_refuse P (reasons.already_leading s.world.leading) (is_some s.world.leading) _ (λ _. gives_then (λ (x : ℤ × Image). Unit {0}) P (image_or (image_of bytes)) (take_image s) (λ _ _. tt) (λ x _.
       gives_refuse P (reasons.older_image x.0 (pos s.world.committed)) (int_lt x.0 (pos s.world.committed)) _ (λ late. gives_refuse P (reasons.exhausted x.0) (is_far x.0) _ (λ _.
-      gives_done P (loaded s (unsigned_abs x.0) x.1) (moved_goes s.world (loaded s (unsigned_abs x.0) x.1).world refl refl (far_enough s.world.committed x.0 late))))))
+      gives_done P (after_load s (unsigned_abs x.0) x.1) (moved_goes s.world (after_load s (unsigned_abs x.0) x.1).world refl refl (far_enough s.world.committed x.0 late))))))
 
-  ticks_on : Gives P (tick options s)
-  ticks_on =
+  tick_goes : Gives P (tick options s)
+  tick_goes =
       gives_refuse P (reasons.exhausted (pos (tip_of s))) (is_some s.world.leading && is_far (pos (tip_of s))) _ (λ _.
-      gives_done P (fence_all options s (lapsed options s)) (goes_leaving s.world (fence_all options s (lapsed options s)).world (fenced_leaves options s (lapsed options s))))
+      gives_done P (fence_all options s (lapsed_contacts options s)) (goes_leaving s.world (fence_all options s (lapsed_contacts options s)).world (fenced_leaves options s (lapsed_contacts options s))))
 
-  serves_on : (ask : Ask) → Gives P (serve options s ask)
-  serves_on ask =
+  request_goes : (ask : Ask) → Gives P (request options s ask)
+  request_goes ask =
       gives_refuse P (reasons.exhausted (pos (tip_of s))) (is_decided s.world ask && is_far (pos (tip_of s))) _ (λ _.
       gives_done P (after_ask options s ask) (goes_leaving s.world (after_ask options s ask).world (asked_leaves options s ask)))
 
-  goes_on : (event : Event) → Gives P (outcome options s event)
-  goes_on (events.Lead epoch next now) = leads_on epoch next
-  goes_on (events.Commit epoch end) = commits_on epoch end
-  goes_on (events.Lost epoch) = loses_on epoch
-  goes_on (events.Batch bytes) = follows_on bytes
-  goes_on (events.Load bytes) = loads_on bytes
-  goes_on (events.Tick now) = ticks_on
-  goes_on (events.Request client now ask) = serves_on ask
-  goes_on events.Image = gives_done P s (goes_leaving s.world s.world (leaves_itself s.world))
+  outcome_goes : (event : Event) → Gives P (outcome options s event)
+  outcome_goes (events.Lead epoch next now) = lead_goes epoch next
+  outcome_goes (events.Commit epoch end) = commit_goes epoch end
+  outcome_goes (events.Lost epoch) = lost_goes epoch
+  outcome_goes (events.Batch bytes) = batch_goes bytes
+  outcome_goes (events.Load bytes) = load_goes bytes
+  outcome_goes (events.Tick now) = tick_goes
+  outcome_goes (events.Request client now ask) = request_goes ask
+  outcome_goes events.Image = gives_done P s (goes_leaving s.world s.world (leaves_itself s.world))
 
-goes_or : (w : World) (s : State) (r : Result State Reason) → Goes w s.world → Gives (λ (after : State). Goes w after.world) r → Goes w (counted (result_unwrap_or r s)).world
+goes_or : (w : World) (s : State) (r : Result State Reason) → Goes w s.world → Gives (λ (after : State). Goes w after.world) r → Goes w (with_next_number (result_unwrap_or r s)).world
 goes_or w s (Ok after) itself goes = let g = goes after refl in record { succeeds = record { greatest = g.succeeds.greatest; leading = g.succeeds.leading }; committed = g.committed }
 goes_or w s (Err reason) itself goes = record { succeeds = record { greatest = itself.succeeds.greatest; leading = itself.succeeds.leading }; committed = itself.committed }
 
 pub event_goes : (options : Options) (s : State) (event : Event) → Rise s.world.committed s.world.batch_ends (tip_of s) → Goes s.world (happens options s event).world
 event_goes options s event rise =
-    goes_or s.world (timed s event) (outcome options (timed s event) event) (goes_leaving s.world s.world (leaves_itself s.world)) (goes_on options (timed s event) rise event)
+    goes_or s.world (at_time_of s event) (outcome options (at_time_of s event) event) (goes_leaving s.world s.world (leaves_itself s.world)) (outcome_goes options (at_time_of s event) rise event)
 
 -- ---- a write that waits no more
 

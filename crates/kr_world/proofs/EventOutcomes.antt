@@ -9,7 +9,7 @@ use Rattle.kr_defs.specs.declared.options.Options.{Options}
 use Rattle.kr_world.specs.declared.writes.Write.{Write}
 use Rattle.kr_world.specs.Engine.{Core, IsEngine}
 use Rattle.kr_world.specs.Entries.{entries_added, entries_by, log_entries}
-use Rattle.kr_world.specs.Events.{counted, happens, next_number, outcome, timed}
+use Rattle.kr_world.specs.Events.{with_next_number, happens, next_number, outcome, at_time_of}
 use Rattle.kr_world.specs.Outputs.{if_accepted, is_open_in, outputs_by, outputs_of, outputs_then, waiting_after, writes_of}
 use Rattle.kr_world.specs.World.{State}
 
@@ -19,29 +19,29 @@ refuses reason = Err reason
 module _ (e : Core) (options : Options) (s : State) (writes : List Write) (event : Event) where
   abbrev StandsBy : Result State Reason → Type 0
   StandsBy r =
-      IsEngine e (counted (result_unwrap_or r (timed s event)))
-      (filter (is_open_in (counted (result_unwrap_or r (timed s event))).world) (writes ++ if_accepted r (writes_of options (timed s event) event)))
+      IsEngine e (with_next_number (result_unwrap_or r (at_time_of s event)))
+      (filter (is_open_in (with_next_number (result_unwrap_or r (at_time_of s event))).world) (writes ++ if_accepted r (writes_of options (at_time_of s event) event)))
 
-  pub stands_accepted : (after : State) → outcome options (timed s event) event ≡ Ok after
-      → IsEngine e (counted after) (filter (is_open_in after.world) (writes ++ writes_of options (timed s event) event))
+  pub stands_accepted : (after : State) → outcome options (at_time_of s event) event ≡ Ok after
+      → IsEngine e (with_next_number after) (filter (is_open_in after.world) (writes ++ writes_of options (at_time_of s event) event))
       → IsEngine e (happens options s event) (waiting_after options s writes event)
   stands_accepted after is stands = subst StandsBy (sym is) stands
 
-  pub stands_refused : (reason : Reason) → outcome options (timed s event) event ≡ Err reason
-      → IsEngine e (counted (timed s event)) (filter (is_open_in s.world) (writes ++ []))
+  pub stands_refused : (reason : Reason) → outcome options (at_time_of s event) event ≡ Err reason
+      → IsEngine e (with_next_number (at_time_of s event)) (filter (is_open_in s.world) (writes ++ []))
       → IsEngine e (happens options s event) (waiting_after options s writes event)
   stands_refused reason is stands = subst StandsBy (sym is) stands
 
-  pub outputs_accepted : (after : State) → outcome options (timed s event) event ≡ Ok after
-      → outputs_of options s writes event ≡ outputs_then options (timed s event) writes event after
-  outputs_accepted after is = ap (outputs_by options (timed s event) writes event) is
+  pub outputs_accepted : (after : State) → outcome options (at_time_of s event) event ≡ Ok after
+      → outputs_of options s writes event ≡ outputs_then options (at_time_of s event) writes event after
+  outputs_accepted after is = ap (outputs_by options (at_time_of s event) writes event) is
 
-  pub outputs_refused : (reason : Reason) → outcome options (timed s event) event ≡ Err reason
+  pub outputs_refused : (reason : Reason) → outcome options (at_time_of s event) event ≡ Err reason
       → outputs_of options s writes event ≡ given.Refused (next_number s.world.count) reason ∷ []
-  outputs_refused reason is = ap (outputs_by options (timed s event) writes event) is
+  outputs_refused reason is = ap (outputs_by options (at_time_of s event) writes event) is
 
-  pub entries_accepted : (after : State) → outcome options (timed s event) event ≡ Ok after → log_entries options s event ≡ entries_added s event after
+  pub entries_accepted : (after : State) → outcome options (at_time_of s event) event ≡ Ok after → log_entries options s event ≡ entries_added s event after
   entries_accepted after is = ap (entries_by s event) is
 
-  pub entries_refused : (reason : Reason) → outcome options (timed s event) event ≡ Err reason → log_entries options s event ≡ []
+  pub entries_refused : (reason : Reason) → outcome options (at_time_of s event) event ≡ Err reason → log_entries options s event ≡ []
   entries_refused reason is = ap (entries_by s event) is

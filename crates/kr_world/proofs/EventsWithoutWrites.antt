@@ -15,7 +15,7 @@ use Rattle.kr_defs.proofs.HeartbeatLists.{le_itself, le_through}
 use Rattle.kr_defs.proofs.Tests.{both}
 use Rattle.kr_world.specs.declared.writes.Write.{Write}
 use Rattle.kr_world.specs.Engine.{Core, IsEngine, IsState}
-use Rattle.kr_world.specs.Events.{counted, later, timed, next_number}
+use Rattle.kr_world.specs.Events.{with_next_number, time_after, at_time_of, next_number}
 use Rattle.kr_world.specs.Outputs.{answers, answers_in, is_open, is_open_in}
 use Rattle.kr_world.specs.World.{State, World, tip_of}
 use Rattle.kr_world.proofs.Queues.{IsDrained}
@@ -35,7 +35,7 @@ max_by false x y is = le_of_not x y is
 pub grown : (x y : ℤ) → int_le x (int_max x y) ≡ true
 grown x y = max_by (int_lt y x) x y refl
 
-pub never_earlier : (time : ℤ) (event : Event) → int_le time (later time event) ≡ true
+pub never_earlier : (time : ℤ) (event : Event) → int_le time (time_after time event) ≡ true
 never_earlier time (events.Lead epoch next now) = grown time now
 never_earlier time (events.Commit epoch end) = le_itself time
 never_earlier time (events.Lost epoch) = le_itself time
@@ -53,7 +53,7 @@ later_too (c ∷ contacts) time now le all =
 
 -- ---- states
 
-pub timed_state : (s : State) (writes : List Write) (event : Event) → IsState s writes → IsState (timed s event) writes
+pub timed_state : (s : State) (writes : List Write) (event : Event) → IsState s writes → IsState (at_time_of s event) writes
 timed_state s writes event k =
     let never = never_earlier s.basis.time event in record {
       started = k.started;
@@ -61,12 +61,12 @@ timed_state s writes event k =
       low = k.low;
       at_standby = k.at_standby;
       hears = k.hears;
-      in_time = later_too s.basis.contacts s.basis.time (later s.basis.time event) never k.in_time;
-      natural = le_through (pos 0) s.basis.time (later s.basis.time event) k.natural never;
+      in_time = later_too s.basis.contacts s.basis.time (time_after s.basis.time event) never k.in_time;
+      natural = le_through (pos 0) s.basis.time (time_after s.basis.time event) k.natural never;
       reached = k.reached;
     }
 
-pub counted_state : (s : State) (writes : List Write) → IsState s writes → IsState (counted s) writes
+pub counted_state : (s : State) (writes : List Write) → IsState s writes → IsState (with_next_number s) writes
 counted_state s writes k = record {
   started = k.started;
   ends = k.ends;
@@ -105,18 +105,18 @@ module _ (e : Core) (s : State) (writes : List Write) (d : IsDrained e) (k : IsE
 
 -- the engine after an event that changes no state, with what it gives out
 abbrev pub passing : Core → Event → List Output → Option Output → Core
-passing e event outputs refusal = record e { count = next_number e.count; time = later e.time event; given = outputs; refusal = refusal; fresh = [] }
+passing e event outputs refusal = record e { count = next_number e.count; time = time_after e.time event; given = outputs; refusal = refusal; fresh = [] }
 
 module _ (e : Core) (event : Event) (outputs : List Output) (refusal : Option Output) (d : IsDrained e) where
-  pub passes : (s : State) (writes : List Write) → IsEngine e s writes → IsEngine (passing e event outputs refusal) (counted (timed s event)) (filter (is_open_in s.world) (writes ++ []))
+  pub passes : (s : State) (writes : List Write) → IsEngine e s writes → IsEngine (passing e event outputs refusal) (with_next_number (at_time_of s event)) (filter (is_open_in s.world) (writes ++ []))
   passes s writes k =
-      let state = counted_state (timed s event) writes (timed_state s writes event k.is_state) in record {
+      let state = counted_state (at_time_of s event) writes (timed_state s writes event k.is_state) in record {
         tip = k.tip;
         committed = k.committed;
         leading = k.leading;
         greatest = k.greatest;
         count = ap next_number k.count;
-        time = ap (λ time. later time event) k.time;
+        time = ap (λ time. time_after time event) k.time;
         led = k.led;
         heard_of = k.heard_of;
         present = k.present;

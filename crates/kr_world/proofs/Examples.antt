@@ -35,12 +35,13 @@ use Rattle.kr_batch.specs.declared.fault.BatchFault.TheVariants as batches
 use Rattle.kr_batch.specs.Reading.{batch_of}
 use Rattle.kr_batch.specs.BatchBytes.{batch_bytes}
 use Rattle.kr_world.specs.declared.writes.Write.{Write}
-use Rattle.kr_world.specs.Events.{happens, outcome, timed}
-use Rattle.kr_world.specs.Leaderships.{begun, lead}
+use Rattle.kr_world.specs.Events.{happens, outcome, at_time_of}
+use Rattle.kr_world.specs.Lead.{after_lead, lead}
 use Rattle.kr_world.specs.Outputs.{outputs_by, outputs_of, waiting_after}
 use Rattle.kr_world.specs.Reasons.{already_leading, bad_batch, bad_commit, bad_next, exhausted, gap, ill_formed, not_leading, old_epoch, older_image, reason}
-use Rattle.kr_world.specs.Replicas.{batch_or, follow, follow_batch, followed, load_image, loaded}
-use Rattle.kr_world.specs.Ticks.{lapsed}
+use Rattle.kr_world.specs.Batch.{batch_or, batch, take_batch, after_batch}
+use Rattle.kr_world.specs.Load.{take_image, after_load}
+use Rattle.kr_world.specs.Tick.{lapsed_contacts}
 use Rattle.kr_world.specs.World.{State, image_of_tip, start, tip_of}
 
 -- ---- a leader of epoch 1 at place 12, where all is committed
@@ -82,8 +83,8 @@ replied correlation error = given.Reply 9 correlation (reply error)
 abbrev config : List ℕ → Record
 config key = kinds.Config (pos 4) [] key (Some (codes "1"))
 
-abbrev batch : Batch
-batch = record { base = pos 12; epoch = pos 1; time = pos 2000; items = items.Record (config (codes "a")) ∷ items.Record (config (codes "b")) ∷ items.Record (config (codes "c")) ∷ [] }
+abbrev settings_batch : Batch
+settings_batch = record { base = pos 12; epoch = pos 1; time = pos 2000; items = items.Record (config (codes "a")) ∷ items.Record (config (codes "b")) ∷ items.Record (config (codes "c")) ∷ [] }
 
 -- the outputs of each event, from a state on
 abbrev outputs_from : State → List Write → List Event → List (List Output)
@@ -95,24 +96,24 @@ abbrev after : State → List Event → State
 after s [] = s
 after s (event ∷ events) = after (happens options s event) events
 
-abbrev commit : ℕ → Event
-commit end = events.Commit (pos 1) (pos end)
+abbrev commit_to : ℕ → Event
+commit_to end = events.Commit (pos 1) (pos end)
 
 -- ---- commits
 
 -- the reply comes with the commit of its batch
 pub commits :
-    outputs_from led [] (asked (pos 1) ∷ commit 12 ∷ commit 15 ∷ [])
-    ≡ (given.Append (batch_bytes batch) ∷ []) ∷ [] ∷ (replied (pos 1) (pos 0) ∷ []) ∷ []
+    outputs_from led [] (asked (pos 1) ∷ commit_to 12 ∷ commit_to 15 ∷ [])
+    ≡ (given.Append (batch_bytes settings_batch) ∷ []) ∷ [] ∷ (replied (pos 1) (pos 0) ∷ []) ∷ []
 unfolding work_of configuring.decided done taken apply_record apply image_at value_bytes heartbeats_after refusals.refuse
 commits = refl
 
 -- a commit ends with a batch, and not above the tip
-pub commit_above : outcome options (after led (asked (pos 1) ∷ [])) (commit 16) ≡ Err (bad_commit (pos 16) (pos 12) (pos 15))
+pub commit_above : outcome options (after led (asked (pos 1) ∷ [])) (commit_to 16) ≡ Err (bad_commit (pos 16) (pos 12) (pos 15))
 unfolding work_of configuring.decided done taken apply_record apply image_at value_bytes
 commit_above = refl
 
-pub commit_between : outcome options (after led (asked (pos 1) ∷ [])) (commit 14) ≡ Err (bad_commit (pos 14) (pos 12) (pos 15))
+pub commit_between : outcome options (after led (asked (pos 1) ∷ [])) (commit_to 14) ≡ Err (bad_commit (pos 14) (pos 12) (pos 15))
 unfolding work_of configuring.decided done taken apply_record apply image_at value_bytes
 commit_between = refl
 
@@ -121,28 +122,28 @@ commit_of_another = refl
 
 -- The same settings again make no record: the reply waits for the batch that it saw. One commit answers both, in order.
 pub without_records :
-    outputs_from led [] (asked (pos 1) ∷ asked (pos 2) ∷ commit 15 ∷ asked (pos 3) ∷ [])
-    ≡ (given.Append (batch_bytes batch) ∷ []) ∷ [] ∷ (replied (pos 1) (pos 0) ∷ replied (pos 2) (pos 0) ∷ []) ∷ (replied (pos 3) (pos 0) ∷ []) ∷ []
+    outputs_from led [] (asked (pos 1) ∷ asked (pos 2) ∷ commit_to 15 ∷ asked (pos 3) ∷ [])
+    ≡ (given.Append (batch_bytes settings_batch) ∷ []) ∷ [] ∷ (replied (pos 1) (pos 0) ∷ replied (pos 2) (pos 0) ∷ []) ∷ (replied (pos 3) (pos 0) ∷ []) ∷ []
 unfolding work_of configuring.decided done taken apply_record apply image_at value_bytes heartbeats_after refusals.refuse
 without_records = refl
 
 -- ---- leaderships
 
-abbrev lost : Event
-lost = events.Lost (pos 1)
+abbrev lost_lead : Event
+lost_lead = events.Lost (pos 1)
 
 abbrev standby : State
-standby = after led (lost ∷ [])
+standby = after led (lost_lead ∷ [])
 
 -- both are answered that this node isn't the controller, in order
 pub leadership_lost :
-    outputs_from led [] (asked (pos 1) ∷ asked (pos 2) ∷ lost ∷ [])
-    ≡ (given.Append (batch_bytes batch) ∷ []) ∷ [] ∷ (replied (pos 1) (pos 41) ∷ replied (pos 2) (pos 41) ∷ []) ∷ []
+    outputs_from led [] (asked (pos 1) ∷ asked (pos 2) ∷ lost_lead ∷ [])
+    ≡ (given.Append (batch_bytes settings_batch) ∷ []) ∷ [] ∷ (replied (pos 1) (pos 41) ∷ replied (pos 2) (pos 41) ∷ []) ∷ []
 unfolding work_of configuring.decided done taken apply_record apply image_at value_bytes heartbeats_after refusals.refuse
 leadership_lost = refl
 
 -- and what wasn't committed is gone
-pub nothing_left : image_of_tip (after led (asked (pos 1) ∷ lost ∷ [])) ≡ empty
+pub nothing_left : image_of_tip (after led (asked (pos 1) ∷ lost_lead ∷ [])) ≡ empty
 unfolding work_of configuring.decided done taken apply_record apply image_at value_bytes
 nothing_left = refl
 
@@ -159,58 +160,58 @@ old_lead = refl
 pub lead_apart : lead standby (pos 2) (pos 14) ≡ Err (bad_next (pos 14) (pos 12))
 lead_apart = refl
 
-pub lead_too_far : lead (loaded start 2305843009213693953 empty) (pos 2) (pos 2305843009213693953) ≡ Err (exhausted (pos 2305843009213693953))
+pub lead_too_far : lead (after_load start 2305843009213693953 empty) (pos 2) (pos 2305843009213693953) ≡ Err (exhausted (pos 2305843009213693953))
 lead_too_far = refl
 
 -- one place above the end the quorum wrote an item of its own, which is a batch
-pub led_above : lead standby (pos 2) (pos 13) ≡ Ok (begun standby (pos 2) (pos 13))
+pub led_above : lead standby (pos 2) (pos 13) ≡ Ok (after_lead standby (pos 2) (pos 13))
 led_above = refl
 
-pub led_behind : tip_of (begun standby (pos 2) (pos 13)) ≡ 13
+pub led_behind : tip_of (after_lead standby (pos 2) (pos 13)) ≡ 13
 led_behind = refl
 
-pub own_batch : (begun standby (pos 2) (pos 13)).world.batch_ends ≡ 13 ∷ []
+pub own_batch : (after_lead standby (pos 2) (pos 13)).world.batch_ends ≡ 13 ∷ []
 own_batch = refl
 
 -- ---- batches of another leader
 
 -- the batch comes back: it is committed, and nobody is answered
-pub comes_back : (bytes : List ℕ) → batch_of bytes ≡ Ok batch → outputs_of options (after led (asked (pos 1) ∷ lost ∷ [])) [] (events.Batch bytes) ≡ []
+pub comes_back : (bytes : List ℕ) → batch_of bytes ≡ Ok settings_batch → outputs_of options (after led (asked (pos 1) ∷ lost_lead ∷ [])) [] (events.Batch bytes) ≡ []
 unfolding work_of configuring.decided done taken apply_record apply image_at value_bytes
-comes_back bytes is = ap (λ r. outputs_by options (after led (asked (pos 1) ∷ lost ∷ [])) [] (events.Batch bytes) (and_then (batch_or r) (follow_batch (after led (asked (pos 1) ∷ lost ∷ []))))) is
+comes_back bytes is = ap (λ r. outputs_by options (after led (asked (pos 1) ∷ lost_lead ∷ [])) [] (events.Batch bytes) (and_then (batch_or r) (take_batch (after led (asked (pos 1) ∷ lost_lead ∷ []))))) is
 
-pub ends_behind : tip_of (followed standby batch) ≡ 15
+pub ends_behind : tip_of (after_batch standby settings_batch) ≡ 15
 ends_behind = refl
 
-pub comes_twice : follow_batch (followed standby batch) batch ≡ Err (gap (pos 15) (pos 12))
+pub comes_twice : take_batch (after_batch standby settings_batch) settings_batch ≡ Err (gap (pos 15) (pos 12))
 comes_twice = refl
 
 -- the quorum's own items take places and have no meaning
-pub control : follow_batch start (record { base = pos 0; epoch = pos 3; time = pos 0; items = items.Control ∷ [] }) ≡ Ok (followed start (record { base = pos 0; epoch = pos 3; time = pos 0; items = items.Control ∷ [] }))
+pub control : take_batch start (record { base = pos 0; epoch = pos 3; time = pos 0; items = items.Control ∷ [] }) ≡ Ok (after_batch start (record { base = pos 0; epoch = pos 3; time = pos 0; items = items.Control ∷ [] }))
 unfolding apply image_at
 control = refl
 
-pub ill : follow_batch start (record batch { base = pos 0; items = items.Control ∷ items.Record (kinds.RemoveTopic 5) ∷ [] }) ≡ Err (ill_formed (pos 1) NoTopic)
+pub ill : take_batch start (record settings_batch { base = pos 0; items = items.Control ∷ items.Record (kinds.RemoveTopic 5) ∷ [] }) ≡ Err (ill_formed (pos 1) NoTopic)
 unfolding apply apply_record image_at
 ill = refl
 
 -- a batch is judged whole before its place
-pub damaged : (bytes : List ℕ) (fault : BatchFault) → batch_of bytes ≡ Err fault → follow standby bytes ≡ Err (bad_batch fault)
-damaged bytes fault is = ap (λ r. and_then (batch_or r) (follow_batch standby)) is
+pub damaged : (bytes : List ℕ) (fault : BatchFault) → batch_of bytes ≡ Err fault → batch standby bytes ≡ Err (bad_batch fault)
+damaged bytes fault is = ap (λ r. and_then (batch_or r) (take_batch standby)) is
 
 pub numbered : bad_batch (batches.Crc 5 6) ≡ reason 7 (pos 4) (pos 0) (pos 0)
 numbered = refl
 
-pub older : load_image standby (pos 11, empty) ≡ Err (older_image (pos 11) (pos 12))
+pub older : take_image standby (pos 11, empty) ≡ Err (older_image (pos 11) (pos 12))
 older = refl
 
 -- ---- time
 
 -- the contacts were heard of a second after the start, and a session is nine seconds
-pub lapsed_in_time : lapsed options (timed led (events.Tick (pos 9999))) ≡ []
+pub lapsed_in_time : lapsed_contacts options (at_time_of led (events.Tick (pos 9999))) ≡ []
 lapsed_in_time = refl
 
-pub lapsed_late : lapsed options (timed led (events.Tick (pos 10000))) ≡ pos 1 ∷ pos 2 ∷ pos 3 ∷ []
+pub lapsed_late : lapsed_contacts options (at_time_of led (events.Tick (pos 10000))) ≡ pos 1 ∷ pos 2 ∷ pos 3 ∷ []
 lapsed_late = refl
 
 -- a refused event is counted, and its time counts

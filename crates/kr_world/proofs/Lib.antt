@@ -5,7 +5,6 @@ pub mod EventOutcomes
 pub mod EventsWithoutWrites
 mod Examples
 pub mod KeptImages
-pub mod LeadSteps
 pub mod LogEntries
 pub mod Logs
 pub mod LongerLogs

@@ -12,7 +12,7 @@ use Rattle.kr_defs.specs.declared.limits.TheConstants.{MOST_RECORDS, PLACES_END}
 use Rattle.kr_defs.specs.declared.record.Item.{Item}
 use Rattle.kr_defs.specs.Log.{Log, tip}
 use Rattle.kr_world.specs.Entries.{items_from, item_entries}
-use Rattle.kr_world.specs.Leaderships.{cut}
+use Rattle.kr_world.specs.Lost.{cut}
 use Rattle.kr_world.specs.World.{World, with_batch, log_with}
 use Rattle.kr_world.proofs.Logs.{tip_written}
 

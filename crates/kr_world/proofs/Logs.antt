@@ -11,7 +11,7 @@ use Rattle.kr_defs.specs.Image.{Image}
 use Rattle.kr_defs.specs.Log.{Log, tip, apply_all, image_at}
 use Rattle.kr_defs.specs.declared.record.Record.{Record}
 use Rattle.kr_defs.specs.ImageLaws.{as_items}
-use Rattle.kr_world.specs.Leaderships.{cut}
+use Rattle.kr_world.specs.Lost.{cut}
 use Rattle.kr_world.specs.World.{log_with}
 
 then_append : (r : Result Image Ill) (items more : List Item) → ((after : Image) → apply_all after (items ++ more) ≡ and_then (apply_all after items) (λ i. apply_all i more))

@@ -3,7 +3,7 @@ use Rattle.std.proofs.Common.{◌≡◌, ◌∙◌, sym, subst, true, List, [], 
 use Rattle.std.specs.Prelude.{Option, Some, None, IfNone, filter, option_to_list}
 use Rattle.kr_calls.specs.declared.events.Output.{Output}
 use Rattle.kr_world.specs.declared.writes.Write.{Write}
-use Rattle.kr_world.specs.Engine.{Core, Hands, IsEngine, writes_in_order, left}
+use Rattle.kr_world.specs.Engine.{Core, Hands, IsEngine, writes_in_order, outputs_left}
 use Rattle.kr_world.specs.Outputs.{answers, is_open}
 use Rattle.kr_world.specs.World.{State}
 
@@ -69,7 +69,7 @@ module _ (e : Core) (ordered : writes_in_order e.held ≡ true) where
     stands = given_stands e e.given None;
   }
 
-  only_due : (held : List Write) → e.given ≡ [] → e.refusal ≡ None → left (record e { held = held }) ≡ answers e.leading e.committed held
+  only_due : (held : List Write) → e.given ≡ [] → e.refusal ≡ None → outputs_left (record e { held = held }) ≡ answers e.leading e.committed held
   only_due held none is =
       ap (λ g. g ++ option_to_list e.refusal ++ answers e.leading e.committed held) none
       ∙ ap (λ o. option_to_list o ++ answers e.leading e.committed held) is
@@ -103,9 +103,9 @@ same_refusal e after is same = same ∙ ap (λ r. record e { refusal = r }) (sym
 
 pub hands_refusal : (e between after : Core) (output : Output) → writes_in_order e.held ≡ true → e.given ≡ between.given → between.given ≡ [] → between ≡ record e { given = between.given }
     → Some output ≡ between.refusal → after ≡ record between { refusal = None } → Hands e after (Some output)
-hands_refusal e between after output ordered given none same is left =
+hands_refusal e between after output ordered given none same is outputs_left =
     let b = same_given e between given same in
-    subst (λ (a : Core). Hands e a (Some output)) (sym (left ∙ ap (λ (b : Core). record b { refusal = None }) b)) (then_refusal e ordered output (given ∙ none) (sym (is ∙ ap (λ (b : Core). b.refusal) b)))
+    subst (λ (a : Core). Hands e a (Some output)) (sym (outputs_left ∙ ap (λ (b : Core). record b { refusal = None }) b)) (then_refusal e ordered output (given ∙ none) (sym (is ∙ ap (λ (b : Core). b.refusal) b)))
 
 pub hands_answer : (e given_out between after : Core) (output : Option Output) → writes_in_order e.held ≡ true → e.given ≡ given_out.given → given_out.given ≡ [] → given_out ≡ record e { given = given_out.given }
     → None ≡ given_out.refusal → between ≡ record given_out { refusal = None }
@@ -113,9 +113,9 @@ pub hands_answer : (e given_out between after : Core) (output : Option Output) �
     → IfNone output (answers between.leading between.committed after.held ≡ [])
     → filter (is_open between.leading between.committed) after.held ≡ filter (is_open between.leading between.committed) between.held
     → writes_in_order after.held ≡ true → after ≡ record between { held = after.held } → Hands e after output
-hands_answer e given_out between after output ordered given none same no_refusal left in_order all waits then is =
+hands_answer e given_out between after output ordered given none same no_refusal outputs_left in_order all waits then is =
     let first = same_given e given_out given same in
-    let both = same_refusal given_out between (sym no_refusal) left ∙ first in
+    let both = same_refusal given_out between (sym no_refusal) outputs_left ∙ first in
     let held = after.held in
     subst (λ (a : Core). Hands e a output) (sym (is ∙ ap (λ (b : Core). record b { held = held }) both))
     (then_due e ordered held output (given ∙ none) (sym (no_refusal ∙ ap (λ (b : Core). b.refusal) first))

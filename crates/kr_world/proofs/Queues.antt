@@ -8,8 +8,8 @@ use Rattle.std.specs.Ordering.{int_eq}
 use Rattle.kr_defs.proofs.IdLists.{same_id}
 use Rattle.kr_defs.proofs.Tests.{both, not_false, not_true}
 use Rattle.kr_world.specs.declared.writes.Write.{Write}
-use Rattle.kr_world.specs.Engine.{Core, writes_in_order, left}
-use Rattle.kr_world.specs.Leaderships.{leads_in}
+use Rattle.kr_world.specs.Engine.{Core, writes_in_order, outputs_left}
+use Rattle.kr_world.specs.World.{leads_in}
 use Rattle.kr_world.specs.Outputs.{due_reply, answers, is_open}
 
 pub never : false ≡ true → ⊥
@@ -57,7 +57,7 @@ pub record IsDrained (e : Core) : Type 0 where
   pub none_due : answers e.leading e.committed e.held ≡ []
   pub all_wait : filter (is_open e.leading e.committed) e.held ≡ e.held
 
-pub drained : (e : Core) → left e ≡ [] → IsDrained e
+pub drained : (e : Core) → outputs_left e ≡ [] → IsDrained e
 drained e none =
     let due = answers e.leading e.committed e.held in
     let before = nil_left (e.given ++ option_to_list e.refusal) due none in

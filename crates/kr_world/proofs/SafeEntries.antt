@@ -30,15 +30,16 @@ use Rattle.kr_defs.specs.Log.{Log, apply_all, image_at, tip}
 use Rattle.kr_defs.specs.Map as maps
 use Rattle.law_safety.specs.SafeChangeLaws.{AreSafe}
 use Rattle.law_safety.proofs.SafeRequests.{fencings_are_safe, requests_are_safe, valid_after}
-use Rattle.kr_world.specs.Commits.{commit, is_end}
+use Rattle.kr_world.specs.Commit.{commit, is_end}
 use Rattle.kr_world.specs.Entries.{entries_added, entries_by, items_from, item_entries}
-use Rattle.kr_world.specs.Events.{outcome, timed}
-use Rattle.kr_world.specs.Leaderships.{ended, lead, leads_in, lose, may_begin_at}
+use Rattle.kr_world.specs.Events.{outcome, at_time_of}
+use Rattle.kr_world.specs.Lost.{after_lost, lost}
+use Rattle.kr_world.specs.Lead.{lead, may_begin_at}
+use Rattle.kr_world.specs.World.{leads_in, State, image_of_tip, is_far, tip_of, with_batch, log_with}
 use Rattle.kr_world.specs.Reasons.{already_leading, bad_commit, bad_next, exhausted, not_leading, old_epoch}
-use Rattle.kr_world.specs.Requests.{after_write, decided, is_decided, serve}
+use Rattle.kr_world.specs.Request.{after_write, decision, is_decided, request}
 use Rattle.kr_world.specs.SafeSteps.{AreSafeEntries, StepsAreSafe, exchange_in, is_anothers}
-use Rattle.kr_world.specs.Ticks.{fence, fence_all, fencing_of, lapsed, tick}
-use Rattle.kr_world.specs.World.{State, image_of_tip, is_far, tip_of, with_batch, log_with}
+use Rattle.kr_world.specs.Tick.{fence, fence_all, fencing_of, lapsed_contacts, tick}
 use Rattle.kr_world.proofs.Logs.{as_records, apply_append, tip_written}
 use Rattle.kr_world.proofs.LogEntries.{batch_written, behind, cut_behind, none_behind, placed_both}
 use Rattle.kr_world.proofs.LongerLogs.{present_then}
@@ -186,7 +187,7 @@ safe_none : (exchange : Option Exchange) (image : Image) (place : ℤ) (items : 
 safe_none exchange image place items none = subst (λ (is : List Item). AreSafeEntries exchange image (item_entries place is)) (sym none) tt
 
 module _ (options : Options) (s : State) (image : Image) (valid : IsValid image) (shows : Shows s.world.log image) where
-  lead_safe : (epoch next now : ℤ) → IsSafeBy None s (events.Lead epoch next now) image (lead (timed s (events.Lead epoch next now)) epoch next)
+  lead_safe : (epoch next now : ℤ) → IsSafeBy None s (events.Lead epoch next now) image (lead (at_time_of s (events.Lead epoch next now)) epoch next)
   lead_safe epoch next now =
       let event = events.Lead epoch next now in
       refused_row None s event image (is_some s.world.leading) (already_leading s.world.leading) _
@@ -205,25 +206,25 @@ module _ (options : Options) (s : State) (image : Image) (valid : IsValid image)
       (refused_row None s event image (not (is_end s.world end)) (bad_commit end (pos s.world.committed) (pos (tip_of s))) _
       (safe_none None image (pos (tip_of s)) (items_from s.world.log (tip_of s)) (none_behind s.world.log)))
 
-  loss_safe : (epoch : ℤ) → IsSafeBy None s (events.Lost epoch) image (lose s epoch)
-  loss_safe epoch =
+  lost_safe : (epoch : ℤ) → IsSafeBy None s (events.Lost epoch) image (lost s epoch)
+  lost_safe epoch =
       refused_row None s (events.Lost epoch) image (not (leads_in s.world.leading epoch)) (not_leading epoch s.world.leading) _
-      (safe_none None image (pos (tip_of s)) (items_from (ended s).world.log (tip_of s)) (cut_behind s.world.log s.world.committed))
+      (safe_none None image (pos (tip_of s)) (items_from (after_lost s).world.log (tip_of s)) (cut_behind s.world.log s.world.committed))
 
-  tick_safe : (now : ℤ) → IsSafeBy None s (events.Tick now) image (tick options (timed s (events.Tick now)))
+  tick_safe : (now : ℤ) → IsSafeBy None s (events.Tick now) image (tick options (at_time_of s (events.Tick now)))
   tick_safe now =
-      let t = timed s (events.Tick now) in
-      let ids = lapsed options t in
+      let t = at_time_of s (events.Tick now) in
+      let ids = lapsed_contacts options t in
       let grown = all_grow options ids t image valid shows in
       refused_row None s (events.Tick now) image (is_some s.world.leading && is_far (pos (tip_of s))) (exhausted (pos (tip_of s))) _
       (safe_added None s.world.log (fence_all options t ids).world.log grown.1.more image grown.1.writes grown.1.safe)
 
   module _ (client : ℕ) (now : ℤ) where
     abbrev served : Ask → State
-    served ask = timed s (events.Request client now ask)
+    served ask = at_time_of s (events.Request client now ask)
 
     abbrev records_for : Ask → Request → List Record
-    records_for ask request = (decided options (served ask) request).records
+    records_for ask request = (decision options (served ask) request).records
 
     abbrev exchange_for : Ask → Request → Exchange
     exchange_for ask request = (request, (decided options (served ask) request).reply)
@@ -241,7 +242,7 @@ module _ (options : Options) (s : State) (image : Image) (valid : IsValid image)
         (records_safe (Some (exchange_for ask request)) image (records_for ask request) (pos (tip_of s)) (request_records ask request))
     write_safe false ask request = safe_none (Some (exchange_for ask request)) image (pos (tip_of s)) (items_from s.world.log (tip_of s)) (none_behind s.world.log)
 
-    request_safe : (ask : Ask) → let event = events.Request client now ask in IsSafeBy (exchange_in options (timed s event) event) s event image (serve options (served ask) ask)
+    request_safe : (ask : Ask) → let event = events.Request client now ask in IsSafeBy (exchange_in options (at_time_of s event) event) s event image (request options (served ask) ask)
     request_safe (asks.Call call) =
         let ask = asks.Call call in
         refused_row (Some (exchange_for ask call.request)) s (events.Request client now ask) image (is_decided s.world ask && is_far (pos (tip_of s))) (exhausted (pos (tip_of s))) _
@@ -249,10 +250,10 @@ module _ (options : Options) (s : State) (image : Image) (valid : IsValid image)
     request_safe (asks.Bare correlation fault) =
         safe_none None image (pos (tip_of s)) (items_from s.world.log (tip_of s)) (none_behind s.world.log)
 
-  event_safe : (event : Event) → is_anothers event ≡ false → IsSafeBy (exchange_in options (timed s event) event) s event image (outcome options (timed s event) event)
+  event_safe : (event : Event) → is_anothers event ≡ false → IsSafeBy (exchange_in options (at_time_of s event) event) s event image (outcome options (at_time_of s event) event)
   event_safe (events.Lead epoch next now) own = lead_safe epoch next now
   event_safe (events.Commit epoch end) own = commit_safe epoch end
-  event_safe (events.Lost epoch) own = loss_safe epoch
+  event_safe (events.Lost epoch) own = lost_safe epoch
   event_safe (events.Batch bytes) own = absurd cc
   event_safe (events.Load bytes) own = absurd cc
   event_safe (events.Tick now) own = tick_safe now
@@ -261,5 +262,5 @@ module _ (options : Options) (s : State) (image : Image) (valid : IsValid image)
 
 pub steps_are_safe : StepsAreSafe
 steps_are_safe before after event s writes k valid step own =
-    subst (AreSafeEntries (exchange_in before.options (timed s event) event) before.images.tip) (sym (step.fresh s writes k))
+    subst (AreSafeEntries (exchange_in before.options (at_time_of s event) event) before.images.tip) (sym (step.fresh s writes k))
     (event_safe before.options s before.images.tip valid k.present event own)

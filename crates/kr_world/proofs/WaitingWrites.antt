@@ -8,7 +8,7 @@ use Rattle.std.specs.List.{AllByRecursion}
 use Rattle.kr_calls.specs.declared.events.Event.{Event}
 use Rattle.kr_defs.specs.declared.options.Options.{Options}
 use Rattle.kr_world.specs.Events.{happens, state}
-use Rattle.kr_world.specs.Outputs.{is_open_in, new_writes, waiting, waiting_after, writes_from}
+use Rattle.kr_world.specs.Outputs.{is_open_in, new_writes, waiting_writes, waiting_after, writes_from}
 use Rattle.kr_world.specs.World.{State, start}
 
 module _ (options : Options) where
@@ -40,11 +40,11 @@ module _ (options : Options) (past : List Event) (event : Event) where
   before = state options past
 
   pub waiting_more : AllByRecursion (λ write. is_open_in (happens options before event).world write ≡ true → is_open_in before.world write ≡ true) (writes_from options start past)
-      → waiting options (past ++ event ∷ []) ≡ waiting_after options before (waiting options past) event
+      → waiting_writes options (past ++ event ∷ []) ≡ waiting_after options before (waiting_writes options past) event
   waiting_more closed =
       let q = is_open_in (happens options before event).world in
       ap (λ (s : State). filter (is_open_in s.world) (writes_from options start (past ++ event ∷ []))) (state_more options past event)
       ∙ (ap (filter q) (writes_more options start past event)
       ∙ (filter-append q (writes_from options start past) (new_writes options before event)
       ∙ (ap (λ rest. rest ++ filter q (new_writes options before event)) (taken_before (is_open_in before.world) q (writes_from options start past) closed)
-      ∙ sym (filter-append q (waiting options past) (new_writes options before event)))))
+      ∙ sym (filter-append q (waiting_writes options past) (new_writes options before event)))))

@@ -12,10 +12,10 @@ use Rattle.kr_defs.specs.declared.options.Options.{Options}
 use Rattle.kr_defs.proofs.Tests.{both}
 use Rattle.kr_defs.proofs.HeartbeatLists.{le_itself, le_through}
 use Rattle.kr_world.specs.declared.writes.Write.{Write}
-use Rattle.kr_world.specs.Events.{outcome, timed}
+use Rattle.kr_world.specs.Events.{outcome, at_time_of}
 use Rattle.kr_world.specs.Outputs.{if_accepted, is_open_in, new_writes, write_of, writes_of}
-use Rattle.kr_world.specs.Reasons.{ours}
-use Rattle.kr_world.specs.Requests.{is_decided}
+use Rattle.kr_world.specs.Reasons.{led_epoch}
+use Rattle.kr_world.specs.Request.{is_decided}
 use Rattle.kr_world.specs.World.{State, World}
 use Rattle.kr_world.proofs.DueWrites.{Goes, stays_closed}
 
@@ -38,7 +38,7 @@ of_result : (w : World) (r : Result State Reason) (writes : List Write) → AreK
 of_result w (Ok after) writes known = known
 of_result w (Err reason) writes known = tt
 
-ours_known : (w : World) → IsLed w → (leading : Option ℤ) → w.leading ≡ leading → is_some leading ≡ true → int_le (ours leading) w.greatest ≡ true
+ours_known : (w : World) → IsLed w → (leading : Option ℤ) → w.leading ≡ leading → is_some leading ≡ true → int_le (led_epoch leading) w.greatest ≡ true
 ours_known w led None is some = absurd cc
 ours_known w led (Some epoch) is some = led epoch is
 
@@ -63,7 +63,7 @@ of_event options s (events.Request client now ask) led = of_request options s cl
 of_event options s events.Image led = tt
 
 pub new_known : (options : Options) (s : State) (event : Event) → IsLed s.world → AreKnown s.world (new_writes options s event)
-new_known options s event led = of_result s.world (outcome options (timed s event) event) (writes_of options (timed s event) event) (of_event options (timed s event) event led)
+new_known options s event led = of_result s.world (outcome options (at_time_of s event) event) (writes_of options (at_time_of s event) event) (of_event options (at_time_of s event) event led)
 
 pub led_on : (w after : World) → Goes w after → IsLed w → IsLed after
 led_on w after g led epoch is = elim (g.succeeds.leading epoch is) [

@@ -11,9 +11,9 @@ use Rattle.kr_defs.proofs.IdLists.{id_itself, same_id}
 use Rattle.kr_defs.proofs.Tests.{both}
 use Rattle.kr_world.specs.declared.writes.Write.{Write}
 use Rattle.kr_world.specs.Engine.{writes_in_order}
-use Rattle.kr_world.specs.Leaderships.{leads_in}
+use Rattle.kr_world.specs.World.{leads_in}
 use Rattle.kr_world.specs.Outputs.{is_open}
-use Rattle.kr_world.specs.Reasons.{ours}
+use Rattle.kr_world.specs.Reasons.{led_epoch}
 
 abbrev pub is_behind : Write → Write → Bool
 is_behind write later = int_eq write.epoch later.epoch && int_le write.need later.need
@@ -38,7 +38,7 @@ all_open p (write ∷ writes) =
 
 -- ---- the new write is of the led epoch, and needs the new tip
 
-led_epoch : (leading : Option ℤ) (epoch : ℤ) → leads_in leading epoch ≡ true → epoch ≡ ours leading
+led_epoch : (leading : Option ℤ) (epoch : ℤ) → leads_in leading epoch ≡ true → epoch ≡ led_epoch leading
 led_epoch None epoch is = absurd cc
 led_epoch (Some led) epoch is = sym (same_id led epoch is)
 
@@ -46,7 +46,7 @@ pub need_more : (m n : ℕ) (need : ℤ) → m ≤ n → int_le need (pos m) ≡
 need_more m n (pos a) low h = grind (arith, nat_tests)
 need_more m n (negsuc a) low h = refl
 
-pub all_behind : (leading : Option ℤ) (end : ℤ) (m n : ℕ) (last : Write) → m ≤ n → last.epoch ≡ ours leading → last.need ≡ pos n
+pub all_behind : (leading : Option ℤ) (end : ℤ) (m n : ℕ) (last : Write) → m ≤ n → last.epoch ≡ led_epoch leading → last.need ≡ pos n
     → (writes : List Write) → list_all (is_open leading end) writes ≡ true → AllByRecursion (λ (write : Write). int_le write.need (pos m) ≡ true) writes → list_all (λ (write : Write). is_behind write last) writes ≡ true
 all_behind leading end m n last low epoch need [] opens reached = refl
 all_behind leading end m n last low epoch need (write ∷ writes) opens reached =

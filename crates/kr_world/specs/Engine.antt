@@ -17,7 +17,7 @@ use Rattle.law_safety.specs.HearingLaws.{HearsOf}
 use Rattle.kr_store.specs.Images.{Images}
 use Rattle.kr_world.specs.declared.writes.Write.{Write}
 use Rattle.kr_world.specs.Entries.{log_entries}
-use Rattle.kr_world.specs.Events.{happens, later}
+use Rattle.kr_world.specs.Events.{happens, time_after}
 use Rattle.kr_world.specs.Outputs.{answers, is_open, outputs_of, waiting_after}
 use Rattle.kr_world.specs.World.{State, image_of_tip, seen_at, tip_of}
 
@@ -42,8 +42,8 @@ pub record Core : Type 0 where
   pub fresh : List Entry
 
 -- the outputs of the last event that aren't handed out yet
-abbrev pub left : Core → List Output
-left e = e.given ++ option_to_list e.refusal ++ answers e.leading e.committed e.held
+abbrev pub outputs_left : Core → List Output
+outputs_left e = e.given ++ option_to_list e.refusal ++ answers e.leading e.committed e.held
 
 -- a copy of what decisions rest on besides the image
 abbrev pub basis_of : Core → Basis
@@ -106,14 +106,14 @@ pub record IsSound (e : Core) : Type 0 where
 pub record IsStep (before after : Core) (event : Event) : Type 0 where
   pub options : after.options ≡ before.options
   pub stands : (s : State) (writes : List Write) → IsEngine before s writes → IsEngine after (happens before.options s event) (waiting_after before.options s writes event)
-  pub outputs : (s : State) (writes : List Write) → IsEngine before s writes → left after ≡ outputs_of before.options s writes event
+  pub outputs : (s : State) (writes : List Write) → IsEngine before s writes → outputs_left after ≡ outputs_of before.options s writes event
   pub fresh : (s : State) (writes : List Write) → IsEngine before s writes → after.fresh ≡ log_entries before.options s event
 
 -- What handing out the next output makes of an engine; none where all is handed out.
 pub record Hands (before after : Core) (output : Option Output) : Type 0 where
   pub options : after.options ≡ before.options
-  pub in_order : left before ≡ option_to_list output ++ left after
-  pub all : output ≡ None → left after ≡ []
+  pub in_order : outputs_left before ≡ option_to_list output ++ outputs_left after
+  pub all : output ≡ None → outputs_left after ≡ []
   pub ordered : IsTrue (writes_in_order after.held)
   pub fresh : after.fresh ≡ before.fresh
   pub stands : (s : State) (writes : List Write) → IsEngine before s writes → IsEngine after s writes

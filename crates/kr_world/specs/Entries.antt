@@ -10,7 +10,7 @@ use Rattle.kr_defs.specs.declared.options.Options.{Options}
 use Rattle.kr_defs.specs.declared.record.Item.{Item}
 use Rattle.kr_defs.specs.Log.{Log}
 use Rattle.kr_defs.specs.Records.{records_of}
-use Rattle.kr_world.specs.Events.{outcome, timed}
+use Rattle.kr_world.specs.Events.{outcome, at_time_of}
 use Rattle.kr_world.specs.World.{State, tip_of}
 
 -- items one behind the other, of which the first stands at the place
@@ -33,4 +33,4 @@ entries_by s event (Ok after) = entries_added s event after
 entries_by s event (Err reason) = []
 
 abbrev pub log_entries : Options → State → Event → List Entry
-log_entries options s event = entries_by s event (outcome options (timed s event) event)
+log_entries options s event = entries_by s event (outcome options (at_time_of s event) event)

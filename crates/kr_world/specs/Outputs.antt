@@ -24,19 +24,18 @@ use Rattle.kr_defs.specs.declared.record.Record.{Record}
 use Rattle.kr_defs.specs.ImageLaws.{as_items}
 use Rattle.kr_snapshot.specs.ImageText.{image_text}
 use Rattle.kr_world.specs.declared.writes.Write.{Write}
-use Rattle.kr_world.specs.Events.{happens, next_number, outcome, state, timed}
-use Rattle.kr_world.specs.Leaderships.{leads_in}
-use Rattle.kr_world.specs.Reasons.{ours}
-use Rattle.kr_world.specs.Requests.{after_ask, decided, is_decided}
-use Rattle.kr_world.specs.Ticks.{fence, fencing_of, lapsed}
-use Rattle.kr_world.specs.World.{State, World, image_of_end, image_of_tip, start, tip_of}
+use Rattle.kr_world.specs.Events.{happens, next_number, outcome, state, at_time_of}
+use Rattle.kr_world.specs.World.{leads_in, State, World, image_of_end, image_of_tip, start, tip_of}
+use Rattle.kr_world.specs.Reasons.{led_epoch}
+use Rattle.kr_world.specs.Request.{after_ask, decision, is_decided}
+use Rattle.kr_world.specs.Tick.{fence, fencing_of, lapsed_contacts}
 
 -- ---- batches
 
 -- records as a batch at the tip, in the led epoch, at the greatest time
 abbrev pub next_batch : State → List Record → Batch
 next_batch s records =
-    record { base = pos (tip_of s); epoch = ours s.world.leading; time = s.basis.time; items = as_items records }
+    record { base = pos (tip_of s); epoch = led_epoch s.world.leading; time = s.basis.time; items = as_items records }
 
 abbrev pub append : State → List Record → List Output
 append s records = if length records == 0 then [] else given.Append (batch_bytes (next_batch s records)) ∷ []
@@ -48,12 +47,12 @@ append_fencings options s (broker ∷ brokers) =
     append s (fencing_of options (image_of_tip s) broker) ++ append_fencings options (fence options s broker) brokers
 
 abbrev pub append_for : Options → State → Ask → List Output
-append_for options s (asks.Call call) = if is_decided s.world (asks.Call call) then append s (decided options s call.request).records else []
+append_for options s (asks.Call call) = if is_decided s.world (asks.Call call) then append s (decision options s call.request).records else []
 append_for options s (asks.Bare correlation fault) = []
 
 -- the batches of an accepted event
 abbrev pub appends : Options → State → Event → List Output
-appends options s (events.Tick now) = append_fencings options s (lapsed options s)
+appends options s (events.Tick now) = append_fencings options s (lapsed_contacts options s)
 appends options s (events.Request client now ask) = append_for options s ask
 appends options s other = []
 
@@ -90,9 +89,9 @@ abbrev pub write_of : Options → State → ℕ → Call → Write
 write_of options s client call = record {
   client = client;
   correlation = call.correlation;
-  epoch = ours s.world.leading;
+  epoch = led_epoch s.world.leading;
   need = pos (tip_of (after_ask options s (asks.Call call)));
-  reply = (decided options s call.request).reply;
+  reply = (decision options s call.request).reply;
   refusal = refuse call.request NOT_CONTROLLER;
 }
 
@@ -107,7 +106,7 @@ if_accepted (Ok after) xs = xs
 if_accepted (Err reason) xs = []
 
 abbrev pub new_writes : Options → State → Event → List Write
-new_writes options s event = if_accepted (outcome options (timed s event) event) (writes_of options (timed s event) event)
+new_writes options s event = if_accepted (outcome options (at_time_of s event) event) (writes_of options (at_time_of s event) event)
 
 -- the writes of events, in order
 abbrev pub writes_from : Options → State → List Event → List Write
@@ -122,8 +121,8 @@ abbrev pub is_open_in : World → Write → Bool
 is_open_in w write = is_open w.leading (pos w.committed) write
 
 -- of all past writes those that wait
-abbrev pub waiting : Options → List Event → List Write
-waiting options past = filter (is_open_in (state options past).world) (writes_from options start past)
+abbrev pub waiting_writes : Options → List Event → List Write
+waiting_writes options past = filter (is_open_in (state options past).world) (writes_from options start past)
 
 -- the reply of a write that waits no more: its own where what it needs is committed, else the leadership was lost before
 abbrev pub due_reply : ℤ → Write → Output
@@ -152,7 +151,7 @@ outputs_by options s writes event (Err reason) = given.Refused (next_number s.wo
 
 -- what an event gives out, where these writes wait
 abbrev pub outputs_of : Options → State → List Write → Event → List Output
-outputs_of options s writes event = outputs_by options (timed s event) writes event (outcome options (timed s event) event)
+outputs_of options s writes event = outputs_by options (at_time_of s event) writes event (outcome options (at_time_of s event) event)
 
 -- the writes that wait after an event
 abbrev pub waiting_after : Options → State → List Write → Event → List Write
@@ -163,7 +162,7 @@ waiting_after options s writes event =
 abbrev pub outputs_after : Options → List Event → List Event → List (List Output)
 outputs_after options past [] = []
 outputs_after options past (event ∷ events) =
-    outputs_of options (state options past) (waiting options past) event ∷ outputs_after options (past ++ event ∷ []) events
+    outputs_of options (state options past) (waiting_writes options past) event ∷ outputs_after options (past ++ event ∷ []) events
 
 abbrev pub outputs : Options → List Event → List (List Output)
 outputs options events = outputs_after options [] events

@@ -12,15 +12,15 @@ abbrev pub reason : ℕ → ℤ → ℤ → ℤ → Reason
 reason number first second third = record { number = number; first = first; second = second; third = third }
 
 -- the led epoch, -1 on standby
-abbrev pub ours : Option ℤ → ℤ
-ours leading = unwrap_or leading (negsuc 0)
+abbrev pub led_epoch : Option ℤ → ℤ
+led_epoch leading = unwrap_or leading (negsuc 0)
 
 abbrev pub already_leading : Option ℤ → Reason
-already_leading leading = reason 1 (ours leading) (pos 0) (pos 0)
+already_leading leading = reason 1 (led_epoch leading) (pos 0) (pos 0)
 
 -- the epoch that the event is of, and the led one
 abbrev pub not_leading : ℤ → Option ℤ → Reason
-not_leading asked leading = reason 2 asked (ours leading) (pos 0)
+not_leading asked leading = reason 2 asked (led_epoch leading) (pos 0)
 
 -- the epoch that the event is of, and the greatest led one
 abbrev pub old_epoch : ℤ → ℤ → Reason

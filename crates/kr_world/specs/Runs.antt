@@ -3,14 +3,14 @@ use Rattle.std.specs.Prelude.{◌≡◌, List, [], ◌∷◌, Some}
 use Rattle.kr_calls.specs.declared.events.Event.{Event}
 use Rattle.kr_calls.specs.declared.events.Output.{Output}
 use Rattle.kr_defs.specs.declared.options.Options.{Options}
-use Rattle.kr_world.specs.Engine.{Core, Hands, IsEngine, IsStep, left}
+use Rattle.kr_world.specs.Engine.{Core, Hands, IsEngine, IsStep, outputs_left}
 use Rattle.kr_world.specs.Events.{state}
-use Rattle.kr_world.specs.Outputs.{outputs, waiting}
+use Rattle.kr_world.specs.Outputs.{outputs, waiting_writes}
 use Rattle.kr_world.specs.World.{start}
 
 -- these outputs are handed out, and then none is left
 abbrev pub HandsAll : Core → List Output → Core → Type 0
-HandsAll before [] after = (left before ≡ []) × (after ≡ before)
+HandsAll before [] after = (outputs_left before ≡ []) × (after ≡ before)
 HandsAll before (output ∷ outputs) after = (next : Core) × Hands before next (Some output) × HandsAll next outputs after
 
 -- the events are taken, and of each these outputs are handed out
@@ -25,4 +25,4 @@ Runs before (event ∷ events) (given ∷ others) after =
 abbrev pub RunsGiveOutputs : Type 0
 RunsGiveOutputs =
     (options : Options) (events : List Event) (given : List (List Output)) (before after : Core) → before.options ≡ options → IsEngine before start [] →
-    Runs before events given after → (given ≡ outputs options events) × IsEngine after (state options events) (waiting options events)
+    Runs before events given after → (given ≡ outputs options events) × IsEngine after (state options events) (waiting_writes options events)

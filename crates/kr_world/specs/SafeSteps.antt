@@ -15,13 +15,13 @@ use Rattle.kr_defs.specs.Image.{Image, IsValid}
 use Rattle.law_safety.specs.SafeChangeLaws.{IsSafeRecord}
 use Rattle.kr_world.specs.declared.writes.Write.{Write}
 use Rattle.kr_world.specs.Engine.{Core, IsEngine, IsStep}
-use Rattle.kr_world.specs.Events.{timed}
-use Rattle.kr_world.specs.Requests.{decided}
+use Rattle.kr_world.specs.Events.{at_time_of}
+use Rattle.kr_world.specs.Request.{decision}
 use Rattle.kr_world.specs.World.{State}
 
 -- the request that came, with the reply that its rules give
 abbrev pub exchange_in : Options → State → Event → Option Exchange
-exchange_in options s (events.Request client now (asks.Call call)) = Some (call.request, (decided options s call.request).reply)
+exchange_in options s (events.Request client now (asks.Call call)) = Some (call.request, (decision options s call.request).reply)
 exchange_in options s other = None
 
 -- what it brings was appended by another leader
@@ -45,4 +45,4 @@ AreSafeEntries exchange image (entries.Load offset records ∷ others) = ⊥
 abbrev pub StepsAreSafe : Type 0
 StepsAreSafe =
     (before after : Core) (event : Event) (s : State) (writes : List Write) → IsEngine before s writes → IsValid before.images.tip →
-    IsStep before after event → is_anothers event ≡ false → AreSafeEntries (exchange_in before.options (timed s event) event) before.images.tip after.fresh
+    IsStep before after event → is_anothers event ≡ false → AreSafeEntries (exchange_in before.options (at_time_of s event) event) before.images.tip after.fresh

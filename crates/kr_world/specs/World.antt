@@ -1,6 +1,6 @@
 -- All that is kept of past events: the log and what of it is committed (Raft's commit index, KIP-595), and whom a leading
 -- controller hears of (KIP-631).
-use Rattle.std.specs.Prelude.{ℕ, ℤ, pos, negsuc, ◌+◌, ◌==◌, int_lt, List, [], ◌∷◌, ◌++◌, length, Bool, Option, None, if◌then◌else◌}
+use Rattle.std.specs.Prelude.{ℕ, ℤ, pos, negsuc, ◌+◌, ◌==◌, int_lt, List, [], ◌∷◌, ◌++◌, length, Bool, Option, None, if◌then◌else◌, false}
 use Rattle.std.specs.Result.{result_unwrap_or}
 use Rattle.kr_defs.specs.declared.basis.Basis.{Basis}
 use Rattle.kr_defs.specs.declared.limits.TheConstants.{GREATEST_TIP}
@@ -10,6 +10,8 @@ use Rattle.kr_defs.specs.Heartbeats.{Heartbeats}
 use Rattle.kr_defs.specs.Image.{Image, empty}
 use Rattle.kr_defs.specs.ImageLaws.{as_items}
 use Rattle.kr_defs.specs.Log.{Log, first, image_at, tip}
+use Rattle.std.specs.Option.{option_map_or}
+use Rattle.std.specs.Ordering.{int_eq}
 
 pub record World : Type 0 where
   pub log : Log
@@ -54,6 +56,10 @@ image_of_end s = seen_at s.world.log s.world.committed
 abbrev pub is_far : ℤ → Bool
 is_far place = int_lt GREATEST_TIP place
 
+-- this node leads in the epoch
+abbrev pub leads_in : Option ℤ → ℤ → Bool
+leads_in leading epoch = option_map_or (λ led. int_eq led epoch) leading false
+
 -- ---- what changes them
 
 -- the items are written at the tip
@@ -69,5 +75,5 @@ with_batch w items =
 abbrev pub with_records : World → List Record → World
 with_records w records = with_batch w (as_items records)
 
-abbrev pub hearing : Basis → Heartbeats → Basis
-hearing basis heard = record basis { contacts = heard.contacts; stopping = heard.stopping }
+abbrev pub with_heartbeats : Basis → Heartbeats → Basis
+with_heartbeats basis heard = record basis { contacts = heard.contacts; stopping = heard.stopping }

@@ -27,14 +27,16 @@ use Rattle.kr_defs.specs.ImageLaws.{as_items}
 use Rattle.kr_defs.specs.Log.{Log, first_ill}
 use Rattle.kr_defs.proofs.Tests.{both}
 use Rattle.kr_snapshot.specs.Reading.{image_of}
-use Rattle.kr_world.specs.Commits.{commit, committed_to, is_end}
-use Rattle.kr_world.specs.Events.{happens, outcome, timed}
-use Rattle.kr_world.specs.Leaderships.{begun, ended, lead, leads_in, lose, may_begin_at, up_to}
+use Rattle.kr_world.specs.Commit.{commit, after_commit, is_end}
+use Rattle.kr_world.specs.Events.{happens, outcome, at_time_of}
+use Rattle.kr_world.specs.Lead.{after_lead, lead, may_begin_at, up_to}
+use Rattle.kr_world.specs.Lost.{after_lost, lost}
+use Rattle.kr_world.specs.World.{leads_in, State, with_heartbeats, image_of_tip, is_far, tip_of, with_batch}
 use Rattle.kr_world.specs.Reasons as reasons
-use Rattle.kr_world.specs.Replicas.{batch_or, end_of, follow, follow_batch, followed, image_or, load, load_image, loaded, unless_ill}
-use Rattle.kr_world.specs.Requests.{after_ask, after_write, decided, is_decided, serve}
-use Rattle.kr_world.specs.Ticks.{fence_all, lapsed, tick}
-use Rattle.kr_world.specs.World.{State, hearing, image_of_tip, is_far, tip_of, with_batch}
+use Rattle.kr_world.specs.Batch.{batch_or, end_of, batch, take_batch, after_batch, unless_ill}
+use Rattle.kr_world.specs.Load.{image_or, load, take_image, after_load}
+use Rattle.kr_world.specs.Request.{after_ask, after_write, decision, is_decided, request}
+use Rattle.kr_world.specs.Tick.{fence_all, lapsed_contacts, tick}
 use Rattle.law_prefix.specs.ReplacedPrefix.{IsLater}
 use Rattle.law_prefix.proofs.AlikeLogs.{shortens_cut, shortens_itself, shortens_written}
 use Rattle.law_prefix.proofs.AlikeStates.{Alike, AlikeEpochs, all_fenced_alike, appended_alike, counted_alike, is_with_past, same_bases, same_images, same_times, same_tips, timed_alike, with_past, written_alike}
@@ -113,7 +115,7 @@ module _ (before : State) (options : Options) (r : State) (log : Log) (greatest 
     up_to_alike true = k
     up_to_alike false = written_alike before s r k (items.Control ∷ [])
 
-    begun_alike : Alike before (begun s epoch next) (begun r epoch next)
+    begun_alike : Alike before (after_lead s epoch next) (after_lead r epoch next)
     begun_alike =
         let u : Alike before (started s) (started r) = up_to_alike (int_eq next (pos r.world.committed)) in
         let times : time ≡ r.basis.time = (let first = k.time in omega (arith, ints, clamps, first, due)) in record {
@@ -137,7 +139,7 @@ module _ (before : State) (options : Options) (r : State) (log : Log) (greatest 
       refused_alike before (not (may_begin_at r.world next)) (not (may_begin_at r.world next)) _ _ _ _ refl (λ _. refl) (λ _.
       refused_alike before (is_far next) (is_far next) _ _ _ _ refl (λ _. refl) (λ _. begun_alike epoch next due))))
 
-  committed_alike : (end : ℤ) → Alike before (committed_to s end) (committed_to r end)
+  committed_alike : (end : ℤ) → Alike before (after_commit s end) (after_commit r end)
   committed_alike end = record {
     log = k.log;
     committed = refl;
@@ -155,7 +157,7 @@ module _ (before : State) (options : Options) (r : State) (log : Log) (greatest 
       refused_alike before (not (leads_in r.world.leading epoch)) (not (leads_in r.world.leading epoch)) _ _ _ _ refl (λ _. refl) (λ _.
       refused_alike before (not (is_end r.world end)) (not (is_end r.world end)) _ _ _ _ refl (λ _. ap (λ n. reasons.bad_commit end (pos r.world.committed) (pos n)) tips) (λ _. committed_alike end))
 
-  ended_alike : Alike before (ended s) (ended r)
+  ended_alike : Alike before (after_lost s) (after_lost r)
   ended_alike = record {
     log = shortens_cut log r.world.log k.log r.world.committed o.rises.started;
     committed = refl;
@@ -168,11 +170,11 @@ module _ (before : State) (options : Options) (r : State) (log : Log) (greatest 
     stopping = refl;
   }
 
-  loses_alike : (epoch : ℤ) → AlikeResults before (lose s epoch) (lose r epoch)
+  loses_alike : (epoch : ℤ) → AlikeResults before (lost s epoch) (lost r epoch)
   loses_alike epoch =
       refused_alike before (not (leads_in r.world.leading epoch)) (not (leads_in r.world.leading epoch)) _ _ _ _ refl (λ _. refl) (λ _. ended_alike)
 
-  followed_alike : (batch : Batch) → Alike before (followed s batch) (followed r batch)
+  followed_alike : (batch : Batch) → Alike before (after_batch s batch) (after_batch r batch)
   followed_alike batch = record {
     log = shortens_written log r.world.log k.log batch.items;
     committed = ap (λ n. n + length batch.items) tips;
@@ -185,20 +187,20 @@ module _ (before : State) (options : Options) (r : State) (log : Log) (greatest 
     stopping = refl;
   }
 
-  batch_alike : (batch : Batch) → AlikeResults before (follow_batch s batch) (follow_batch r batch)
+  batch_alike : (batch : Batch) → AlikeResults before (take_batch s batch) (take_batch r batch)
   batch_alike batch =
       refused_alike before (not (int_eq batch.base (pos r.world.committed))) (not (int_eq batch.base (pos r.world.committed))) _ _ _ _ refl (λ _. refl) (λ _.
       refused_alike before (is_far (end_of batch)) (is_far (end_of batch)) _ _ _ _ refl (λ _. refl) (λ _.
-      subst (λ (i : Image). AlikeResults before (unless_ill (first_ill i (pos (tip_of s)) batch.items) (followed s batch)) (unless_ill (first_ill (image_of_tip r) (pos (tip_of r)) batch.items) (followed r batch))) (sym images)
-      (subst (λ n. AlikeResults before (unless_ill (first_ill (image_of_tip r) (pos n) batch.items) (followed s batch)) (unless_ill (first_ill (image_of_tip r) (pos (tip_of r)) batch.items) (followed r batch))) (sym tips)
-      (ill_alike before (first_ill (image_of_tip r) (pos (tip_of r)) batch.items) (followed s batch) (followed r batch) (followed_alike batch)))))
+      subst (λ (i : Image). AlikeResults before (unless_ill (first_ill i (pos (tip_of s)) batch.items) (after_batch s batch)) (unless_ill (first_ill (image_of_tip r) (pos (tip_of r)) batch.items) (after_batch r batch))) (sym images)
+      (subst (λ n. AlikeResults before (unless_ill (first_ill (image_of_tip r) (pos n) batch.items) (after_batch s batch)) (unless_ill (first_ill (image_of_tip r) (pos (tip_of r)) batch.items) (after_batch r batch))) (sym tips)
+      (ill_alike before (first_ill (image_of_tip r) (pos (tip_of r)) batch.items) (after_batch s batch) (after_batch r batch) (followed_alike batch)))))
 
-  follows_alike : (bytes : List ℕ) → AlikeResults before (follow s bytes) (follow r bytes)
+  follows_alike : (bytes : List ℕ) → AlikeResults before (batch s bytes) (batch r bytes)
   follows_alike bytes =
       refused_alike before (is_some r.world.leading) (is_some r.world.leading) _ _ _ _ refl (λ _. refl) (λ _.
-      then_alike before (batch_or (batch_of bytes)) (follow_batch s) (follow_batch r) batch_alike)
+      then_alike before (batch_or (batch_of bytes)) (take_batch s) (take_batch r) batch_alike)
 
-  loaded_alike : (offset : ℕ) (image : Image) → Alike before (loaded s offset image) (loaded r offset image)
+  loaded_alike : (offset : ℕ) (image : Image) → Alike before (after_load s offset image) (after_load r offset image)
   loaded_alike offset image = record {
     log = shortens_itself (record { offset = offset; image = image; items = [] });
     committed = refl;
@@ -211,7 +213,7 @@ module _ (before : State) (options : Options) (r : State) (log : Log) (greatest 
     stopping = refl;
   }
 
-  image_alike : (x : ℤ × Image) → AlikeResults before (load_image s x) (load_image r x)
+  image_alike : (x : ℤ × Image) → AlikeResults before (take_image s x) (take_image r x)
   image_alike (offset, image) =
       refused_alike before (int_lt offset (pos r.world.committed)) (int_lt offset (pos r.world.committed)) _ _ _ _ refl (λ _. refl) (λ _.
       refused_alike before (is_far offset) (is_far offset) _ _ _ _ refl (λ _. refl) (λ _. loaded_alike (unsigned_abs offset) image))
@@ -219,37 +221,37 @@ module _ (before : State) (options : Options) (r : State) (log : Log) (greatest 
   loads_alike : (bytes : List ℕ) → AlikeResults before (load s bytes) (load r bytes)
   loads_alike bytes =
       refused_alike before (is_some r.world.leading) (is_some r.world.leading) _ _ _ _ refl (λ _. refl) (λ _.
-      then_alike before (image_or (image_of bytes)) (load_image s) (load_image r) image_alike)
+      then_alike before (image_or (image_of bytes)) (take_image s) (take_image r) image_alike)
 
   -- whose sessions end
-  lapsed_by : (leading : Option ℤ) → r.world.leading ≡ leading → lapsed options s ≡ lapsed options r
+  lapsed_by : (leading : Option ℤ) → r.world.leading ≡ leading → lapsed_contacts options s ≡ lapsed_contacts options r
   lapsed_by None standby =
       let none = (o.at_standby standby).1 in none_lapses options s none ∙ sym (none_lapses options r none)
   lapsed_by (Some epoch) leads =
       ap (λ t. expired (heard r.basis) (t -ℤ pos options.session_ms)) (same_times before s r k (ap (λ (l : Option ℤ). is_some l) leads))
 
-  pub same_lapsed : lapsed options s ≡ lapsed options r
+  pub same_lapsed : lapsed_contacts options s ≡ lapsed_contacts options r
   same_lapsed = lapsed_by r.world.leading refl
 
   ticks_alike : AlikeResults before (tick options s) (tick options r)
   ticks_alike =
       refused_alike before (is_some r.world.leading && is_far (pos (tip_of s))) (is_some r.world.leading && is_far (pos (tip_of r))) _ _ _ _ (ap (λ n. is_some r.world.leading && is_far (pos n)) tips) (λ _. ap (λ n. reasons.exhausted (pos n)) tips) (λ _.
-      subst (λ brokers. Alike before (fence_all options s brokers) (fence_all options r (lapsed options r))) (sym same_lapsed) (all_fenced_alike before options (lapsed options r) s r k))
+      subst (λ brokers. Alike before (fence_all options s brokers) (fence_all options r (lapsed_contacts options r))) (sym same_lapsed) (all_fenced_alike before options (lapsed_contacts options r) s r k))
 
   -- what is decided while they lead
-  pub same_decided : is_some r.world.leading ≡ true → (request : Request) → decided options s request ≡ decided options r request
+  pub same_decided : is_some r.world.leading ≡ true → (request : Request) → decision options s request ≡ decision options r request
   same_decided leads request =
       ap (λ (i : Image). decide options i s.basis (pos (tip_of s)) request) images
       ∙ (ap (λ (b : Basis). decide options (image_of_tip r) b (pos (tip_of s)) request) (same_bases before s r k leads)
       ∙ ap (λ n. decide options (image_of_tip r) r.basis (pos n) request) tips)
 
   abbrev after : State → Decision → State
-  after t d = record { world = with_batch t.world (as_items d.records); basis = hearing t.basis d.heartbeats }
+  after t d = record { world = with_batch t.world (as_items d.records); basis = with_heartbeats t.basis d.heartbeats }
 
   write_alike : (request : Request) (b : Bool) → (b ≡ true → is_some r.world.leading ≡ true) → Alike before (cond b (after_write options s request) s) (cond b (after_write options r request) r)
   write_alike request false led = k
   write_alike request true led =
-      let d = decided options r request in
+      let d = decision options r request in
       subst (λ (x : Decision). Alike before (after s x) (after_write options r request)) (sym (same_decided (led refl) request)) (appended_alike before s r k (as_items d.records) d.heartbeats)
 
   pub asked_alike : (ask : Ask) → Alike before (after_ask options s ask) (after_ask options r ask)
@@ -257,7 +259,7 @@ module _ (before : State) (options : Options) (r : State) (log : Log) (greatest 
       write_alike call.request (is_decided r.world (asks.Call call)) (λ is. (both (is_some r.world.leading) (not (is_read call.request)) is).0)
   asked_alike (asks.Bare correlation fault) = k
 
-  serves_alike : (ask : Ask) → AlikeResults before (serve options s ask) (serve options r ask)
+  serves_alike : (ask : Ask) → AlikeResults before (request options s ask) (request options r ask)
   serves_alike ask = serves_by ask (is_decided s.world ask) (is_decided r.world ask) (same_decides ask)
     where
       same_decides : (ask : Ask) → is_decided s.world ask ≡ is_decided r.world ask
@@ -283,7 +285,7 @@ module _ (before : State) (options : Options) (r : State) (log : Log) (greatest 
 later_due : (before known now : ℤ) → pos 0 ≤ℤ known → before ≤ℤ int_max (pos 0) now → before ≤ℤ int_max known now
 later_due before known now natural due = omega (arith, ints, clamps, natural, due)
 
-pub is_due : (before r : State) → IsOrderly r → (event : Event) → IsLater before event → IsDue before (timed r event) event
+pub is_due : (before r : State) → IsOrderly r → (event : Event) → IsLater before event → IsDue before (at_time_of r event) event
 is_due before r o (events.Lead epoch next now) (new, due) = (new, later_due before.basis.time r.basis.time now o.natural due)
 is_due before r o (events.Commit epoch end) later = tt
 is_due before r o (events.Lost epoch) later = tt
@@ -300,17 +302,17 @@ result_alike before s r k (Ok a) (Err y) alike = absurd alike
 result_alike before s r k (Err x) (Ok b) alike = absurd alike
 
 module _ (before : State) (options : Options) (s r : State) (k : Alike before s r) (o : IsOrderly r) (event : Event) (later : IsLater before event) where
-  pub at_time : Alike before (timed s event) (timed r event)
+  pub at_time : Alike before (at_time_of s event) (at_time_of r event)
   at_time = timed_alike before s r k event
 
-  pub outcomes : AlikeResults before (outcome options (timed s event) event) (outcome options (timed r event) event)
+  pub outcomes : AlikeResults before (outcome options (at_time_of s event) event) (outcome options (at_time_of r event) event)
   outcomes =
-      let t = timed s event in
-      let same = is_with_past before t (timed r event) at_time in
-      subst (λ (u : State). AlikeResults before (outcome options u event) (outcome options (timed r event) event)) (sym same)
-      (outcomes_alike before options (timed r event) t.world.log t.world.greatest t.world.count t.basis.time t.basis.led
-      (subst (λ (u : State). Alike before u (timed r event)) same at_time) (timed_orderly r event o) event (is_due before r o event later))
+      let t = at_time_of s event in
+      let same = is_with_past before t (at_time_of r event) at_time in
+      subst (λ (u : State). AlikeResults before (outcome options u event) (outcome options (at_time_of r event) event)) (sym same)
+      (outcomes_alike before options (at_time_of r event) t.world.log t.world.greatest t.world.count t.basis.time t.basis.led
+      (subst (λ (u : State). Alike before u (at_time_of r event)) same at_time) (timed_orderly r event o) event (is_due before r o event later))
 
   pub stays_alike : Alike before (happens options s event) (happens options r event)
   stays_alike =
-      counted_alike before _ _ (result_alike before (timed s event) (timed r event) at_time (outcome options (timed s event) event) (outcome options (timed r event) event) outcomes)
+      counted_alike before _ _ (result_alike before (at_time_of s event) (at_time_of r event) at_time (outcome options (at_time_of s event) event) (outcome options (at_time_of r event) event) outcomes)

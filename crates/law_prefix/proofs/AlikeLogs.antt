@@ -9,7 +9,7 @@ use Rattle.kr_defs.specs.declared.record.Item.{Item}
 use Rattle.kr_defs.specs.Guard.{and_then}
 use Rattle.kr_defs.specs.Image.{Image, empty}
 use Rattle.kr_defs.specs.Log.{Log, apply_all, image_at, tip}
-use Rattle.kr_world.specs.Leaderships.{cut}
+use Rattle.kr_world.specs.Lost.{cut}
 use Rattle.kr_world.specs.World.{seen_at, log_with}
 use Rattle.kr_world.proofs.Logs.{apply_append}
 

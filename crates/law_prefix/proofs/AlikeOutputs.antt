@@ -22,11 +22,11 @@ use Rattle.kr_defs.specs.Log.{Log}
 use Rattle.kr_defs.proofs.Tests.{both}
 use Rattle.kr_snapshot.specs.ImageText.{image_text}
 use Rattle.kr_world.specs.declared.writes.Write.{Write}
-use Rattle.kr_world.specs.Events.{happens, outcome, timed}
+use Rattle.kr_world.specs.Events.{happens, outcome, at_time_of}
 use Rattle.kr_world.specs.Outputs.{answers, answers_in, answers_now, append, append_fencings, append_for, appends, if_accepted, images, is_open, is_open_in, new_writes, outputs_by, outputs_of, waiting_after, write_of, writes_of}
-use Rattle.kr_world.specs.Reasons.{ours}
-use Rattle.kr_world.specs.Requests.{after_ask, decided, is_decided}
-use Rattle.kr_world.specs.Ticks.{fence, fencing_of, lapsed}
+use Rattle.kr_world.specs.Reasons.{led_epoch}
+use Rattle.kr_world.specs.Request.{after_ask, decision, is_decided}
+use Rattle.kr_world.specs.Tick.{fence, fencing_of, lapsed_contacts}
 use Rattle.kr_world.specs.World.{State, image_of_end, image_of_tip, tip_of}
 use Rattle.law_prefix.specs.ReplacedPrefix.{IsLater, unnumbered}
 use Rattle.law_prefix.proofs.AlikeEvents.{AlikeResults, asked_alike, at_time, outcomes, same_decided, same_lapsed, stays_alike}
@@ -40,7 +40,7 @@ module _ (before : State) (options : Options) where
     -- the batch of these records
     abbrev batch_at : ℕ → Option ℤ → ℤ → List Output
     batch_at place leading time =
-        cond (length records == 0) [] (given.Append (batch_bytes (record { base = pos place; epoch = ours leading; time = time; items = as_items records })) ∷ [])
+        cond (length records == 0) [] (given.Append (batch_bytes (record { base = pos place; epoch = led_epoch leading; time = time; items = as_items records })) ∷ [])
 
     same_append : (s r : State) → Alike before s r → s.basis.time ≡ r.basis.time → append s records ≡ append r records
     same_append s r k times =
@@ -70,22 +70,22 @@ module _ (before : State) (options : Options) (r : State) (log : Log) (greatest 
   abbrev s : State
   s = with_past r log greatest count time led
 
-  decisions : is_some r.world.leading ≡ true → (request : Request) → decided options s request ≡ decided options r request
+  decisions : is_some r.world.leading ≡ true → (request : Request) → decision options s request ≡ decision options r request
   decisions leads request = same_decided before options r log greatest count time led k o leads request
 
-  fencings_by : (leading : Option ℤ) → r.world.leading ≡ leading → append_fencings options s (lapsed options s) ≡ append_fencings options r (lapsed options r)
+  fencings_by : (leading : Option ℤ) → r.world.leading ≡ leading → append_fencings options s (lapsed_contacts options s) ≡ append_fencings options r (lapsed_contacts options r)
   fencings_by None standby =
       let none = (o.at_standby standby).1 in
       ap (append_fencings options s) (none_lapses options s none) ∙ sym (ap (append_fencings options r) (none_lapses options r none))
   fencings_by (Some epoch) leads =
       ap (append_fencings options s) (same_lapsed before options r log greatest count time led k o)
-      ∙ same_fencings before options (lapsed options r) s r k (same_times before s r k (some_leads r.world.leading epoch leads))
+      ∙ same_fencings before options (lapsed_contacts options r) s r k (same_times before s r k (some_leads r.world.leading epoch leads))
 
-  append_by : (request : Request) (b : Bool) → (b ≡ true → is_some r.world.leading ≡ true) → cond b (append s (decided options s request).records) [] ≡ cond b (append r (decided options r request).records) []
+  append_by : (request : Request) (b : Bool) → (b ≡ true → is_some r.world.leading ≡ true) → cond b (append s (decision options s request).records) [] ≡ cond b (append r (decision options r request).records) []
   append_by request false leads = refl
   append_by request true leads =
       ap (λ (d : Decision). append s d.records) (decisions (leads refl) request)
-      ∙ same_append before options (decided options r request).records s r k (same_times before s r k (leads refl))
+      ∙ same_append before options (decision options r request).records s r k (same_times before s r k (leads refl))
 
   same_append_for : (ask : Ask) → append_for options s ask ≡ append_for options r ask
   same_append_for (asks.Call call) =
@@ -132,7 +132,7 @@ module _ (before : State) (options : Options) (r : State) (log : Log) (greatest 
   write_as client call need d = record {
     client = client;
     correlation = call.correlation;
-    epoch = ours r.world.leading;
+    epoch = led_epoch r.world.leading;
     need = pos need;
     reply = d.reply;
     refusal = refuse call.request NOT_CONTROLLER;
@@ -141,7 +141,7 @@ module _ (before : State) (options : Options) (r : State) (log : Log) (greatest 
   write_by : (client : ℕ) (call : Call) (b : Bool) → (b ≡ true → is_some r.world.leading ≡ true) → cond b (write_of options s client call ∷ []) [] ≡ cond b (write_of options r client call ∷ []) []
   write_by client call false leads = refl
   write_by client call true leads =
-      ap (λ n. write_as client call n (decided options s call.request) ∷ []) (same_tips before _ _ (asked_alike before options r log greatest count time led k o (asks.Call call)))
+      ap (λ n. write_as client call n (decision options s call.request) ∷ []) (same_tips before _ _ (asked_alike before options r log greatest count time led k o (asks.Call call)))
       ∙ ap (λ (d : Decision). write_as client call (tip_of (after_ask options r (asks.Call call))) d ∷ []) (decisions (leads refl) call.request)
 
   pub same_writes : (event : Event) → writes_of options s event ≡ writes_of options r event
@@ -177,10 +177,10 @@ accepted_same before (Err x) (Ok b) alike xs ys is = absurd alike
 module _ (before : State) (options : Options) (s r : State) (k : Alike before s r) (o : IsOrderly r) (event : Event) (later : IsLater before event) (writes : List Write) where
   -- at the time of the event
   abbrev t : State
-  t = timed s event
+  t = at_time_of s event
 
   abbrev u : State
-  u = timed r event
+  u = at_time_of r event
 
   alike : Alike before t u
   alike = at_time before options s r k o event later

@@ -14,9 +14,9 @@ use Rattle.kr_defs.specs.Heartbeats.{Heartbeats, heard, leave}
 use Rattle.kr_defs.specs.Image.{Image}
 use Rattle.kr_defs.specs.ImageLaws.{as_items}
 use Rattle.kr_defs.specs.Log.{Log, tip}
-use Rattle.kr_world.specs.Events.{counted, later, timed}
-use Rattle.kr_world.specs.Ticks.{fence, fence_all, fencing_of}
-use Rattle.kr_world.specs.World.{State, hearing, image_of_end, image_of_tip, tip_of, with_batch, log_with}
+use Rattle.kr_world.specs.Events.{with_next_number, time_after, at_time_of}
+use Rattle.kr_world.specs.Tick.{fence, fence_all, fencing_of}
+use Rattle.kr_world.specs.World.{State, with_heartbeats, image_of_end, image_of_tip, tip_of, with_batch, log_with}
 use Rattle.law_prefix.proofs.AlikeLogs.{Shortens, same_seen, same_seen_at_tip, same_tip, shortens_written}
 use Rattle.law_prefix.proofs.OrderlyStates.{not_earlier, through}
 
@@ -92,7 +92,7 @@ module _ (before s r : State) (k : Alike before s r) where
 -- ---- what keeps them alike
 
 module _ (before : State) where
-  pub heard_alike : (s r : State) → Alike before s r → (heard : Heartbeats) → Alike before (record s { basis = hearing s.basis heard }) (record r { basis = hearing r.basis heard })
+  pub heard_alike : (s r : State) → Alike before s r → (heard : Heartbeats) → Alike before (record s { basis = with_heartbeats s.basis heard }) (record r { basis = with_heartbeats r.basis heard })
   heard_alike s r k heard = record {
     log = k.log;
     committed = k.committed;
@@ -133,7 +133,7 @@ module _ (before : State) where
 
   -- one batch, and whom the node hears of then
   pub appended_alike : (s r : State) → Alike before s r → (items : List Item) (heard : Heartbeats)
-      → Alike before (record { world = with_batch s.world items; basis = hearing s.basis heard }) (record { world = with_batch r.world items; basis = hearing r.basis heard })
+      → Alike before (record { world = with_batch s.world items; basis = with_heartbeats s.basis heard }) (record { world = with_batch r.world items; basis = with_heartbeats r.basis heard })
   appended_alike s r k items heard =
       heard_alike (record s { world = with_batch s.world items }) (record r { world = with_batch r.world items }) (written_alike s r k items) heard
 
@@ -142,15 +142,15 @@ module _ (before : State) where
     fenced_alike s r k broker =
         let image = same_images before s r k in
         let hears = same_heard before s r k in
-        subst (λ (i : Image). Alike before (record { world = with_batch s.world (as_items (fencing_of options i broker)); basis = hearing s.basis (leave (heard s.basis) broker) }) (fence options r broker)) (sym image)
-        (subst (λ (h : Heartbeats). Alike before (record { world = with_batch s.world (as_items (fencing_of options (image_of_tip r) broker)); basis = hearing s.basis (leave h broker) }) (fence options r broker)) (sym hears)
+        subst (λ (i : Image). Alike before (record { world = with_batch s.world (as_items (fencing_of options i broker)); basis = with_heartbeats s.basis (leave (heard s.basis) broker) }) (fence options r broker)) (sym image)
+        (subst (λ (h : Heartbeats). Alike before (record { world = with_batch s.world (as_items (fencing_of options (image_of_tip r) broker)); basis = with_heartbeats s.basis (leave h broker) }) (fence options r broker)) (sym hears)
         (appended_alike s r k (as_items (fencing_of options (image_of_tip r) broker)) (leave (heard r.basis) broker)))
 
     pub all_fenced_alike : (brokers : List ℤ) (s r : State) → Alike before s r → Alike before (fence_all options s brokers) (fence_all options r brokers)
     all_fenced_alike [] s r k = k
     all_fenced_alike (broker ∷ brokers) s r k = all_fenced_alike brokers (fence options s broker) (fence options r broker) (fenced_alike s r k broker)
 
-  pub counted_alike : (s r : State) → Alike before s r → Alike before (counted s) (counted r)
+  pub counted_alike : (s r : State) → Alike before s r → Alike before (with_next_number s) (with_next_number r)
   counted_alike s r k = record {
     log = k.log;
     committed = k.committed;
@@ -165,7 +165,7 @@ module _ (before : State) where
 
 -- ---- time
 
-later_known : (known time : ℤ) (event : Event) → later (int_max known time) event ≡ int_max known (later time event)
+later_known : (known time : ℤ) (event : Event) → time_after (int_max known time) event ≡ int_max known (time_after time event)
 later_known known time (events.Lead epoch next now) = omega (arith, ints, clamps)
 later_known known time (events.Commit epoch end) = refl
 later_known known time (events.Lost epoch) = refl
@@ -175,7 +175,7 @@ later_known known time (events.Tick now) = omega (arith, ints, clamps)
 later_known known time (events.Request client now ask) = omega (arith, ints, clamps)
 later_known known time events.Image = refl
 
-pub timed_alike : (before s r : State) → Alike before s r → (event : Event) → Alike before (timed s event) (timed r event)
+pub timed_alike : (before s r : State) → Alike before s r → (event : Event) → Alike before (at_time_of s event) (at_time_of r event)
 timed_alike before s r k event =
     let goes = not_earlier r.basis.time event in record {
       log = k.log;
@@ -183,8 +183,8 @@ timed_alike before s r k event =
       ends = k.ends;
       leading = k.leading;
       epochs = k.epochs;
-      time = ap (λ t. later t event) k.time ∙ later_known before.basis.time r.basis.time event;
-      led = λ leads. (through before.basis.time r.basis.time (later r.basis.time event) (k.led leads).0 goes, (k.led leads).1);
+      time = ap (λ t. time_after t event) k.time ∙ later_known before.basis.time r.basis.time event;
+      led = λ leads. (through before.basis.time r.basis.time (time_after r.basis.time event) (k.led leads).0 goes, (k.led leads).1);
       contacts = k.contacts;
       stopping = k.stopping;
     }

@@ -27,16 +27,18 @@ use Rattle.kr_defs.specs.Log.{first_ill, tip}
 use Rattle.kr_defs.proofs.HeartbeatLists.{le_through}
 use Rattle.kr_defs.proofs.Tests.{Gives, both, gives_done, gives_refuse, gives_then, none_is, not_false}
 use Rattle.kr_snapshot.specs.Reading.{image_of}
-use Rattle.kr_world.specs.Commits.{commit, committed_to, is_end}
+use Rattle.kr_world.specs.Commit.{commit, after_commit, is_end}
 use Rattle.kr_world.specs.Engine.{Rise}
-use Rattle.kr_world.specs.Events.{counted, happens, later, outcome, state, timed}
-use Rattle.kr_world.specs.Leaderships.{begun, ended, lead, leads_in, lose, may_begin_at, up_to}
-use Rattle.kr_world.specs.Outputs.{new_writes, waiting, waiting_after, writes_from}
+use Rattle.kr_world.specs.Events.{with_next_number, happens, time_after, outcome, state, at_time_of}
+use Rattle.kr_world.specs.Lead.{after_lead, lead, may_begin_at, up_to}
+use Rattle.kr_world.specs.Lost.{after_lost, lost}
+use Rattle.kr_world.specs.World.{leads_in, State, World, image_of_tip, is_far, start, tip_of, with_batch, log_with}
+use Rattle.kr_world.specs.Outputs.{new_writes, waiting_writes, waiting_after, writes_from}
 use Rattle.kr_world.specs.Reasons as reasons
-use Rattle.kr_world.specs.Replicas.{batch_or, end_of, follow, follow_batch, followed, image_or, load, load_image, loaded, unless_ill}
-use Rattle.kr_world.specs.Requests.{after_ask, after_write, decided, is_decided, serve}
-use Rattle.kr_world.specs.Ticks.{fence, fence_all, fencing_of, lapsed, tick}
-use Rattle.kr_world.specs.World.{State, World, image_of_tip, is_far, start, tip_of, with_batch, log_with}
+use Rattle.kr_world.specs.Batch.{batch_or, end_of, batch, take_batch, after_batch, unless_ill}
+use Rattle.kr_world.specs.Load.{image_or, load, take_image, after_load}
+use Rattle.kr_world.specs.Request.{after_ask, after_write, decision, is_decided, request}
+use Rattle.kr_world.specs.Tick.{fence, fence_all, fencing_of, lapsed_contacts, tick}
 use Rattle.kr_world.proofs.DueWrites.{Goes, batch_leaves, event_goes}
 use Rattle.kr_world.proofs.Logs.{cut_tip, tip_written}
 use Rattle.kr_world.proofs.LongerLogs.{rise_more}
@@ -47,7 +49,7 @@ use Rattle.kr_world.proofs.WriteEpochs.{AreKnown, IsLed, all_closed, known_both,
 
 -- ---- time
 
-pub not_earlier : (time : ℤ) (event : Event) → time ≤ℤ later time event
+pub not_earlier : (time : ℤ) (event : Event) → time ≤ℤ time_after time event
 not_earlier time (events.Lead epoch next now) = omega (arith, ints, clamps)
 not_earlier time (events.Commit epoch end) = omega (arith, ints)
 not_earlier time (events.Lost epoch) = omega (arith, ints)
@@ -113,7 +115,7 @@ time_fenced options s [] = refl
 time_fenced options s (broker ∷ brokers) = time_fenced options (fence options s broker) brokers
 
 -- on standby nobody's session ends
-pub none_lapses : (options : Options) (s : State) → hearing.heard s.basis ≡ hearing.end → lapsed options s ≡ []
+pub none_lapses : (options : Options) (s : State) → hearing.heard s.basis ≡ hearing.end → lapsed_contacts options s ≡ []
 none_lapses options s none = ap (λ (h : Heartbeats). expired h (s.basis.time -ℤ pos options.session_ms)) none
 
 -- ---- events
@@ -130,7 +132,7 @@ module _ (options : Options) (s : State) (k : IsOrderly s) where
       gives_refuse P (reasons.already_leading s.world.leading) (is_some s.world.leading) _ (λ _. gives_refuse P (reasons.old_epoch epoch s.world.greatest) (not (int_lt s.world.greatest epoch)) _ (λ _.
       gives_refuse P (reasons.bad_next next (pos s.world.committed)) (not (may_begin_at s.world next)) _ (λ _. gives_refuse P (reasons.exhausted next) (is_far next) _ (λ _.
       let u : Rises (up_to s.world next) = rises_up_to s.world k.rises next (int_eq next (pos s.world.committed)) in
-      gives_done P (begun s epoch next) (record {
+      gives_done P (after_lead s epoch next) (record {
         rises = record { started = u.started; ends = u.ends };
         natural = k.natural;
         at_standby = λ none. absurd cc;
@@ -141,22 +143,22 @@ module _ (options : Options) (s : State) (k : IsOrderly s) where
       gives_refuse P (reasons.not_leading epoch s.world.leading) (not (leads_in s.world.leading epoch)) _ (λ _.
       gives_refuse P (reasons.bad_commit end (pos s.world.committed) (pos (tip_of s))) (not (is_end s.world end)) _ (λ ends.
       let m = moves s.world.log (tip_of s) s.world.committed s.world.batch_ends end k.rises.ends (not_false (is_end s.world end) ends) in
-      gives_done P (committed_to s end) (record {
+      gives_done P (after_commit s end) (record {
         rises = record { started = (let up = m.above in let low = k.rises.started in omega (arith, up, low)); ends = m.rise };
         natural = k.natural;
         at_standby = λ none. (ap (filter (λ n. int_lt end (pos n))) (k.at_standby none).0, (k.at_standby none).1);
       })))
 
-  loses_on : (epoch : ℤ) → Gives P (lose s epoch)
+  loses_on : (epoch : ℤ) → Gives P (lost s epoch)
   loses_on epoch =
       gives_refuse P (reasons.not_leading epoch s.world.leading) (not (leads_in s.world.leading epoch)) _ (λ _.
-      gives_done P (ended s) (record {
+      gives_done P (after_lost s) (record {
         rises = record { started = k.rises.started; ends = sym (cut_tip s.world.log s.world.committed k.rises.started below) };
         natural = k.natural;
         at_standby = λ _. (refl, refl);
       }))
 
-  follows_so : (batch : Batch) → s.world.leading ≡ None → IsOrderly (followed s batch)
+  follows_so : (batch : Batch) → s.world.leading ≡ None → IsOrderly (after_batch s batch)
   follows_so batch none = record {
     rises = record {
       started = omega arith;
@@ -166,21 +168,21 @@ module _ (options : Options) (s : State) (k : IsOrderly s) where
     at_standby = k.at_standby;
   }
 
-  ill_on : (batch : Batch) (o : Option (ℤ × Ill)) → s.world.leading ≡ None → Gives P (unless_ill o (followed s batch))
-  ill_on batch None none = gives_done P (followed s batch) (follows_so batch none)
+  ill_on : (batch : Batch) (o : Option (ℤ × Ill)) → s.world.leading ≡ None → Gives P (unless_ill o (after_batch s batch))
+  ill_on batch None none = gives_done P (after_batch s batch) (follows_so batch none)
   ill_on batch (Some (place, cause)) none = λ after is. absurd cc
 
-  follows_on : (bytes : List ℕ) → Gives P (follow s bytes)
+  follows_on : (bytes : List ℕ) → Gives P (batch s bytes)
   follows_on bytes =
-      gives_refuse P (reasons.already_leading s.world.leading) (is_some s.world.leading) _ (λ none. gives_then (λ (b : Batch). Unit {0}) P (batch_or (batch_of bytes)) (follow_batch s) (λ _ _. tt) (λ batch _.
+      gives_refuse P (reasons.already_leading s.world.leading) (is_some s.world.leading) _ (λ none. gives_then (λ (b : Batch). Unit {0}) P (batch_or (batch_of bytes)) (take_batch s) (λ _ _. tt) (λ batch _.
       gives_refuse P (reasons.gap (pos s.world.committed) batch.base) (not (int_eq batch.base (pos s.world.committed))) _ (λ _. gives_refuse P (reasons.exhausted (end_of batch)) (is_far (end_of batch)) _ (λ _.
       ill_on batch (first_ill (image_of_tip s) (pos (tip_of s)) batch.items) (none_is s.world.leading none)))))
 
   loads_on : (bytes : List ℕ) → Gives P (load s bytes)
   loads_on bytes =
-      gives_refuse P (reasons.already_leading s.world.leading) (is_some s.world.leading) _ (λ _. gives_then (λ (x : ℤ × Image). Unit {0}) P (image_or (image_of bytes)) (load_image s) (λ _ _. tt) (λ x _.
+      gives_refuse P (reasons.already_leading s.world.leading) (is_some s.world.leading) _ (λ _. gives_then (λ (x : ℤ × Image). Unit {0}) P (image_or (image_of bytes)) (take_image s) (λ _ _. tt) (λ x _.
       gives_refuse P (reasons.older_image x.0 (pos s.world.committed)) (int_lt x.0 (pos s.world.committed)) _ (λ _. gives_refuse P (reasons.exhausted x.0) (is_far x.0) _ (λ _.
-      gives_done P (loaded s (unsigned_abs x.0) x.1) (record {
+      gives_done P (after_load s (unsigned_abs x.0) x.1) (record {
         rises = record { started = omega arith; ends = omega arith };
         natural = k.natural;
         at_standby = λ none. (refl, (k.at_standby none).1);
@@ -189,18 +191,18 @@ module _ (options : Options) (s : State) (k : IsOrderly s) where
   ticks_on : Gives P (tick options s)
   ticks_on =
       gives_refuse P (reasons.exhausted (pos (tip_of s))) (is_some s.world.leading && is_far (pos (tip_of s))) _ (λ _.
-      gives_done P (fence_all options s (lapsed options s)) (record {
-        rises = rises_fenced options s (lapsed options s) k.rises;
-        natural = subst (λ t. pos 0 ≤ℤ t) (sym (time_fenced options s (lapsed options s))) k.natural;
+      gives_done P (fence_all options s (lapsed_contacts options s)) (record {
+        rises = rises_fenced options s (lapsed_contacts options s) k.rises;
+        natural = subst (λ t. pos 0 ≤ℤ t) (sym (time_fenced options s (lapsed_contacts options s))) k.natural;
         at_standby = λ none.
-            let standby = k.at_standby (sym (leading_fenced options s (lapsed options s)) ∙ none) in
+            let standby = k.at_standby (sym (leading_fenced options s (lapsed_contacts options s)) ∙ none) in
             subst (λ brokers. ((fence_all options s brokers).world.batch_ends ≡ []) × (hearing.heard (fence_all options s brokers).basis ≡ hearing.end)) (sym (none_lapses options s standby.1)) standby;
       }))
 
   writes_so : (request : Request) (b : Bool) → (b ≡ true → is_some s.world.leading ≡ true) → IsOrderly (cond b (after_write options s request) s)
-  writes_so request false decided = k
+  writes_so request false decision = k
   writes_so request true led =
-      let items = as_items (decided options s request).records in record {
+      let items = as_items (decision options s request).records in record {
         rises = rises_with_batch s.world k.rises items;
         natural = k.natural;
         at_standby = λ none. absurd (leads s.world.leading (sym (batch_leaves s.world items).leading ∙ none) (led refl));
@@ -211,7 +213,7 @@ module _ (options : Options) (s : State) (k : IsOrderly s) where
       writes_so call.request (is_decided s.world (asks.Call call)) (λ is. (both (is_some s.world.leading) (not (is_read call.request)) is).0)
   asks_on (asks.Bare correlation fault) = k
 
-  serves_on : (ask : Ask) → Gives P (serve options s ask)
+  serves_on : (ask : Ask) → Gives P (request options s ask)
   serves_on ask =
       gives_refuse P (reasons.exhausted (pos (tip_of s))) (is_decided s.world ask && is_far (pos (tip_of s))) _ (λ _. gives_done P (after_ask options s ask) (asks_on ask))
 
@@ -225,11 +227,11 @@ module _ (options : Options) (s : State) (k : IsOrderly s) where
   goes_on (events.Request client now ask) = serves_on ask
   goes_on events.Image = gives_done P s k
 
-pub counted_orderly : (s : State) → IsOrderly s → IsOrderly (counted s)
+pub counted_orderly : (s : State) → IsOrderly s → IsOrderly (with_next_number s)
 counted_orderly s k = record { rises = record { started = k.rises.started; ends = k.rises.ends }; natural = k.natural; at_standby = k.at_standby }
 
-pub timed_orderly : (s : State) (event : Event) → IsOrderly s → IsOrderly (timed s event)
-timed_orderly s event k = record { rises = k.rises; natural = through (pos 0) s.basis.time (later s.basis.time event) k.natural (not_earlier s.basis.time event); at_standby = k.at_standby }
+pub timed_orderly : (s : State) (event : Event) → IsOrderly s → IsOrderly (at_time_of s event)
+timed_orderly s event k = record { rises = k.rises; natural = through (pos 0) s.basis.time (time_after s.basis.time event) k.natural (not_earlier s.basis.time event); at_standby = k.at_standby }
 
 orderly_or : (r : Result State Reason) (s : State) → IsOrderly s → Gives IsOrderly r → IsOrderly (result_unwrap_or r s)
 orderly_or (Ok after) s itself goes = goes after refl
@@ -238,8 +240,8 @@ orderly_or (Err reason) s itself goes = itself
 pub stays_orderly : (options : Options) (s : State) (event : Event) → IsOrderly s → IsOrderly (happens options s event)
 stays_orderly options s event k =
     let at = timed_orderly s event k in
-    counted_orderly (result_unwrap_or (outcome options (timed s event) event) (timed s event))
-    (orderly_or (outcome options (timed s event) event) (timed s event) at (goes_on options (timed s event) at event))
+    counted_orderly (result_unwrap_or (outcome options (at_time_of s event) event) (at_time_of s event))
+    (orderly_or (outcome options (at_time_of s event) event) (at_time_of s event) at (goes_on options (at_time_of s event) at event))
 
 -- ---- all events
 
@@ -281,7 +283,7 @@ module _ (options : Options) where
         }
 
     -- the writes that wait then
-    pub waiting_then : waiting options (past ++ event ∷ []) ≡ waiting_after options s (waiting options past) event
+    pub waiting_then : waiting_writes options (past ++ event ∷ []) ≡ waiting_after options s (waiting_writes options past) event
     waiting_then = waiting_more options past event (all_closed s.world (happens options s event).world goes (writes_from options start past) h.known)
 
   holds_on : (past events : List Event) → Holds past → Holds (past ++ events)

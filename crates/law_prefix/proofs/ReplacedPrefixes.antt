@@ -23,11 +23,11 @@ use Rattle.kr_snapshot.specs.Grammar.{IsImage}
 use Rattle.kr_snapshot.specs.declared.fault.ImageFault.{ImageFault}
 use Rattle.kr_snapshot.proofs.WholeImages.{image_complete}
 use Rattle.kr_world.specs.declared.writes.Write.{Write}
-use Rattle.kr_world.specs.Events.{counted, happens, state}
+use Rattle.kr_world.specs.Events.{with_next_number, happens, state}
 use Rattle.kr_world.specs.Engine.{Rise}
-use Rattle.kr_world.specs.Outputs.{is_open, outputs_of, waiting, waiting_after, writes_from}
+use Rattle.kr_world.specs.Outputs.{is_open, outputs_of, waiting_writes, waiting_after, writes_from}
 use Rattle.kr_world.specs.Reasons.{exhausted, older_image}
-use Rattle.kr_world.specs.Replicas.{image_or, load_image, loaded}
+use Rattle.kr_world.specs.Load.{image_or, take_image, after_load}
 use Rattle.kr_world.specs.World.{State, is_far, start}
 use Rattle.kr_world.proofs.Logs.{at_tip}
 use Rattle.kr_world.proofs.WaitingWrites.{state_more}
@@ -42,7 +42,7 @@ use Rattle.law_prefix.proofs.OrderlyStates.{Holds, holds, holds_more, waiting_th
 module _ (before : State) (options : Options) where
   record Both (past other : List Event) : Type 0 where
     alike : Alike before (state options past) (state options other)
-    waits : waiting options past ≡ waiting options other
+    waits : waiting_writes options past ≡ waiting_writes options other
     first : Holds options past
     second : Holds options other
 
@@ -61,22 +61,22 @@ module _ (before : State) (options : Options) where
       waits =
           waiting_then options past event b.first
           ∙ (ap (λ writes. waiting_after options s writes event) b.waits
-          ∙ (waiting_alike before options s r b.alike b.second.orderly event later (waiting options other)
+          ∙ (waiting_alike before options s r b.alike b.second.orderly event later (waiting_writes options other)
           ∙ sym (waiting_then options other event b.second)));
       first = holds_more options past event b.first;
       second = holds_more options other event b.second;
     }
 
-    one_alike : map unnumbered (outputs_of options s (waiting options past) event) ≡ map unnumbered (outputs_of options r (waiting options other) event)
+    one_alike : map unnumbered (outputs_of options s (waiting_writes options past) event) ≡ map unnumbered (outputs_of options r (waiting_writes options other) event)
     one_alike =
         ap (λ writes. map unnumbered (outputs_of options s writes event)) b.waits
-        ∙ outputs_alike before options s r b.alike b.second.orderly event later (waiting options other)
+        ∙ outputs_alike before options s r b.alike b.second.orderly event later (waiting_writes options other)
 
   given_alike : (events : List Event) (past other : List Event) → Both past other → AllByRecursion (IsLater before) events → given_after options past events ≡ given_after options other events
   given_alike [] past other b later = refl
   given_alike (event ∷ events) past other b (later, rest) =
       ap (λ first. first ∷ given_after options (past ++ event ∷ []) events) (one_alike past other b event later)
-      ∙ ap (λ others. map unnumbered (outputs_of options (state options other) (waiting options other) event) ∷ others) (given_alike events (past ++ event ∷ []) (other ++ event ∷ []) (next past other b event later) rest)
+      ∙ ap (λ others. map unnumbered (outputs_of options (state options other) (waiting_writes options other) event) ∷ others) (given_alike events (past ++ event ∷ []) (other ++ event ∷ []) (next past other b event later) rest)
 
 -- ---- on standby, and behind a Load
 
@@ -85,7 +85,7 @@ closed : (end : ℤ) (writes : List Write) → filter (is_open None end) writes 
 closed end [] = refl
 closed end (write ∷ writes) = closed end writes
 
-none_waits : (options : Options) (past : List Event) → (state options past).world.leading ≡ None → waiting options past ≡ []
+none_waits : (options : Options) (past : List Event) → (state options past).world.leading ≡ None → waiting_writes options past ≡ []
 none_waits options past standby =
     let w = (state options past).world in
     ap (λ l. filter (is_open l (pos w.committed)) (writes_from options start past)) standby ∙ closed (pos w.committed) (writes_from options start past)
@@ -99,16 +99,16 @@ module _ (options : Options) (earlier : List Event) (end : ℕ) (image : Image) 
 
   -- the state behind the Load alone
   abbrev behind : State
-  behind = counted (loaded start end image)
+  behind = with_next_number (after_load start end image)
 
   abbrev accepts : Result State Reason → State
-  accepts r = counted (result_unwrap_or r start)
+  accepts r = with_next_number (result_unwrap_or r start)
 
   behind_load : state options (events.Load bytes ∷ []) ≡ behind
   behind_load =
-      ap (λ (r : Result (ℤ × Image) ImageFault). accepts (and_then (image_or r) (load_image start))) (image_complete (pos end) image bytes is)
-      ∙ (ap (λ b. accepts (cond b (Err (older_image (pos end) (pos 0))) (cond (is_far (pos end)) (Err (exhausted (pos end))) (Ok (loaded start end image))))) (not_below_zero end)
-      ∙ ap (λ b. accepts (cond b (Err (exhausted (pos end))) (Ok (loaded start end image)))) (not_true (is_far (pos end)) near))
+      ap (λ (r : Result (ℤ × Image) ImageFault). accepts (and_then (image_or r) (take_image start))) (image_complete (pos end) image bytes is)
+      ∙ (ap (λ b. accepts (cond b (Err (older_image (pos end) (pos 0))) (cond (is_far (pos end)) (Err (exhausted (pos end))) (Ok (after_load start end image))))) (not_below_zero end)
+      ∙ ap (λ b. accepts (cond b (Err (exhausted (pos end))) (Ok (after_load start end image)))) (not_true (is_far (pos end)) near))
 
   h : Holds options earlier
   h = holds options earlier

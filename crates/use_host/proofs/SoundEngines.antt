@@ -3,7 +3,7 @@ use Rattle.std.proofs.Common.{◌<◌, [], length, ap, arith}
 use Rattle.std.specs.Prelude.{Option, Some, IsTrue}
 use Rattle.kr_calls.specs.declared.events.Event.{Event}
 use Rattle.kr_calls.specs.declared.events.Output.{Output}
-use Rattle.kr_world.specs.Engine.{Core, Hands, IsEngine, IsSound, IsStep, writes_in_order, left}
+use Rattle.kr_world.specs.Engine.{Core, Hands, IsEngine, IsSound, IsStep, writes_in_order, outputs_left}
 use Rattle.kr_world.specs.Events.{happens}
 use Rattle.kr_world.specs.Outputs.{waiting_after}
 use Rattle.kr_world.specs.World.{start}
@@ -28,5 +28,5 @@ handed_sound before after output hands sound = record {
 pub sound_order : (e : Core) → IsSound e → IsTrue (writes_in_order e.held)
 sound_order e sound = sound.stands.ordered
 
-pub fewer_left : (before after : Core) (output : Output) → Hands before after (Some output) → length (left after) < length (left before)
+pub fewer_left : (before after : Core) (output : Output) → Hands before after (Some output) → length (outputs_left after) < length (outputs_left before)
 fewer_left before after output hands = let n = ap length hands.in_order in omega (arith, n)

@@ -1,7 +1,7 @@
 //! One event at a time, and all outputs of each.
 
 ghost use Rattle.std.specs.Prelude.{◌≡◌, ◌≤◌, [], OnOk};
-ghost use Rattle.kr_world.specs.Engine.{IsSound, left};
+ghost use Rattle.kr_world.specs.Engine.{IsSound, outputs_left};
 
 use kr_base::Steps;
 use kr_calls::{Event, Output};
@@ -31,7 +31,7 @@ fn print_output<R: Print>(rt: &R, output: &Output) -> anyhow::Result<()> {
 fn hand_out<R: Print>(rt: &R, engine: &mut Engine) -> anyhow::Result<()>
     requires { IsSound engine.old }
     ensures sound { OnOk result (IsSound engine.new) }
-    ensures drained { OnOk result (left engine.new ≡ []) }
+    ensures drained { OnOk result (outputs_left engine.new ≡ []) }
 {
     while let Some(output) = engine.next_output() {
         print_output(rt, &output)?;
@@ -48,9 +48,9 @@ pub(crate) fn take<L: Ledger, R: Print>(
     steps: &mut Steps<L>,
 ) -> anyhow::Result<()>
     requires sound { IsSound engine.old }
-    requires drained { left engine.old ≡ [] }
+    requires drained { outputs_left engine.old ≡ [] }
     ensures sound { OnOk result (IsSound engine.new) }
-    ensures drained { OnOk result (left engine.new ≡ []) }
+    ensures drained { OnOk result (outputs_left engine.new ≡ []) }
 {
     match engine.step(event, steps) {
         Ok(()) => hand_out(rt, engine),

@@ -6,7 +6,7 @@ mod events;
 mod hosting;
 
 ghost use Rattle.std.specs.Prelude.{◌≡◌, ◌<◌, [], OnOk, IfOk};
-ghost use Rattle.kr_world.specs.Engine.{IsSound, left};
+ghost use Rattle.kr_world.specs.Engine.{IsSound, outputs_left};
 
 use events::{commit_all, lead, options, registration};
 use hosting::take;
@@ -25,7 +25,7 @@ fn main(rt: HostRuntime) -> anyhow::Result<()> {
 #[tactic(auto, using(crate::proofs::SoundEngines::opened_sound))]
 fn open_engine(alloc: Global) -> Result<Engine, AllocError>
     ensures sound { IfOk result (λ engine. IsSound engine) }
-    ensures drained { IfOk result (λ engine. left engine ≡ []) }
+    ensures drained { IfOk result (λ engine. outputs_left engine ≡ []) }
 {
     match Engine::new(alloc, options(alloc)?) {
         Ok(engine) => Ok(engine),
@@ -41,9 +41,9 @@ fn begin<L: Ledger, R: Print>(
     steps: &mut Steps<L>,
 ) -> anyhow::Result<()>
     requires sound { IsSound engine.old }
-    requires drained { left engine.old ≡ [] }
+    requires drained { outputs_left engine.old ≡ [] }
     ensures sound { OnOk result (IsSound engine.new) }
-    ensures drained { OnOk result (left engine.new ≡ []) }
+    ensures drained { OnOk result (outputs_left engine.new ≡ []) }
 {
     take(rt, engine, &lead(), steps)?;
     take(rt, engine, &registration(alloc)?, steps)
@@ -56,7 +56,7 @@ fn finish<L: Ledger, R: Print>(
     steps: &mut Steps<L>,
 ) -> anyhow::Result<()>
     requires sound { IsSound engine.old }
-    requires drained { left engine.old ≡ [] }
+    requires drained { outputs_left engine.old ≡ [] }
 {
     let commit = commit_all(engine);
     take(rt, engine, &commit, steps)?;
@@ -73,7 +73,7 @@ fn host_with<L: Ledger, R: Print>(
     requires parts { blank.parts ≡ L.parts }
     requires some { 0 < L.parts }
     requires sound { IsSound engine.old }
-    requires drained { left engine.old ≡ [] }
+    requires drained { outputs_left engine.old ≡ [] }
 {
     let mut steps: Steps<L> = Steps::new(blank);
     begin(rt, alloc, engine, &mut steps)?;

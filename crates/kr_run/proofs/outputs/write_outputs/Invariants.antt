@@ -1,7 +1,7 @@
 use Rattle.std.proofs.Common.{◌≤◌, List, length}
 use Rattle.std.specs.Prelude.{IsTrue}
 use Rattle.kr_calls.specs.declared.events.Output.{Output}
-use Rattle.kr_world.specs.Engine.{writes_in_order, left}
+use Rattle.kr_world.specs.Engine.{writes_in_order, outputs_left}
 use Rattle.kr_run.specs.Endings.{WroteAll}
 use Rattle.kr_run.specs.inner.Serving.{HandsSome}
 use Rattle.kr_run.proofs.outputs.write_outputs.Given as goal
@@ -14,4 +14,4 @@ invariant-loop-output g l = record {
 }
 
 abbrev pub decreases-loop-output : goal.decreases-loop-output
-decreases-loop-output g l = length (left l.engine)
+decreases-loop-output g l = length (outputs_left l.engine)

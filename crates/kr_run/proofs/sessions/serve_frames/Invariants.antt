@@ -11,7 +11,7 @@ invariant-loop-status g l = record {
   place : l.reader.at ≤ MOST_SESSION_BYTES;
   stage : l.reader.stage ≡ stages.Opened;
   sound : IsSound l.engine;
-  drained : engines.left l.engine ≡ [];
+  drained : engines.outputs_left l.engine ≡ [];
   going : (left written : Option (List ℕ)) → Going left (g.S.Source.left l.initial.input) written (g.K.Sink.written l.initial.output) l.initial.engine l.initial.reader.at
       → Going left (g.S.Source.left l.input) written (g.K.Sink.written l.output) l.engine l.reader.at;
   input : g.S.Source.faults l.initial.input ≤ g.S.Source.faults l.input;

@@ -3,5 +3,5 @@ use Rattle.kr_engine.proofs.engine.Engine.request.Goals as goal
 
 pub returns-clause-step : goal.returns-clause-step
 returns-clause-step g c =
-    request_step c.args.self.now c.note_time.new.self c.settle_ask.new.self c.count_event.new.self c.args.client.now c.args.now.now c.args.ask.now c.requires.drained
-    c.look_over.ensures.valid c.note_time.ensures c.in_ok-settle_ask.ensures.settled c.count_event.ensures
+    request_step c.args.self.now c.note_time.new.self c.settle_request.new.self c.count_event.new.self c.args.client.now c.args.now.now c.args.ask.now c.requires.drained
+    c.look_over.ensures.valid c.note_time.ensures c.in_ok-settle_request.ensures.settled c.count_event.ensures

@@ -1,0 +1,16 @@
+-- What a Commit makes of an engine.
+use Rattle.std.specs.Prelude.{ℤ, not, Option, Some, None, is_some, if◌then◌else◌}
+use Rattle.kr_calls.specs.declared.events.Reason.{Reason}
+use Rattle.kr_store.specs.Images.{forgotten, kept_at}
+use Rattle.kr_world.specs.World.{leads_in}
+use Rattle.kr_world.specs.Reasons.{bad_commit, not_leading}
+use Rattle.kr_world.specs.Engine.{Core}
+
+abbrev pub commit_reason : Core → ℤ → ℤ → Option Reason
+commit_reason e epoch end =
+    if not (leads_in e.leading epoch) then Some (not_leading epoch e.leading) else
+    if not (is_some (kept_at e.images end)) then Some (bad_commit end e.committed e.tip) else
+    None
+
+abbrev pub core_after_commit : Core → ℤ → Core
+core_after_commit e end = record e { images = forgotten e.images end; committed = end }

@@ -1,0 +1,81 @@
+//! The quorum commits a leader's log, whole batches at a time.
+
+ghost use Rattle.std.specs.Prelude.{◌≡◌, ◌≤◌, [], is_some};
+ghost use Rattle.kr_calls.specs.declared.events.Event.TheVariants as events;
+ghost use Rattle.kr_store.specs.Images.{image_of_place, kept_at};
+ghost use Rattle.kr_engine.specs.inner.Changes.{counted_core, refused_core_or, cleared_core};
+ghost use Rattle.kr_engine.specs.inner.Commit.{commit_reason, core_after_commit};
+ghost use Rattle.kr_world.specs.Engine.{IsStep, outputs_left};
+
+use crate::Engine;
+use crate::places::at_epoch;
+use crate::reasons::{bad_commit, not_leading};
+use crate::writes::leads_in;
+use kr_base::Steps;
+use kr_calls::Reason;
+use kr_store::{At, Store};
+use std::sync::ledger::Ledger;
+
+fn has_image<S: Store>(store: &S, at: At) -> bool
+    ensures { result ≡ is_some (image_of_place (S.images store.now) at) }
+{
+    store.next_feature(at, None).is_ok()
+}
+
+// An image is kept under the epoch.
+fn is_kept<S: Store>(store: &S, epoch: &i64) -> bool
+    ensures { result ≡ is_some (kept_at (S.images store.now) epoch.now) }
+{
+    has_image(store, at_epoch(epoch))
+}
+
+impl Engine {
+    fn is_end(&self, end: &i64) -> bool
+        ensures { result ≡ is_some (kept_at self.now.images end.now) }
+    {
+        is_kept(&self.store, end)
+    }
+
+    fn commit_reason(&self, epoch: &i32, end: &i64) -> Option<Reason>
+        ensures { result ≡ commit_reason self.now epoch.now end.now }
+    {
+        if !leads_in(&self.leading, epoch) {
+            return Some(not_leading(epoch, &self.leading));
+        }
+        if !self.is_end(end) {
+            return Some(bad_commit(end, &self.committed, &self.tip));
+        }
+        None
+    }
+
+    fn commit_to<L: Ledger>(&mut self, end: &i64, steps: &mut Steps<L>)
+        ensures images { self.new ≡ core_after_commit self.old end.now }
+        ensures later { steps.old ≤ steps.new }
+    {
+        self.store.forget_below(*end, steps);
+        self.committed = *end;
+    }
+
+    fn take_commit<L: Ledger>(&mut self, epoch: &i32, end: &i64, steps: &mut Steps<L>)
+        ensures taken { self.new ≡ counted_core (refused_core_or (cleared_core self.old) (commit_reason (cleared_core self.old) epoch.now end.now) (core_after_commit (cleared_core self.old) end.now)) }
+        ensures later { steps.old ≤ steps.new }
+    {
+        self.clear_fresh();
+        match self.commit_reason(epoch, end) {
+            Some(reason) => self.refuse(reason),
+            None => self.commit_to(end, steps),
+        }
+        self.count_event();
+    }
+
+    /// The quorum committed this leader's log up to a place, whole batches at a time. All outputs are handed out before.
+    /// It takes no memory, and no longer with many replies that wait.
+    #[tactic(auto, using(crate::proofs::CommitSteps::commit_step))]
+    pub fn commit<L: Ledger>(&mut self, epoch: i32, end: i64, steps: &mut Steps<L>)
+        requires drained { outputs_left self.old ≡ [] }
+        ensures step { IsStep self.old self.new (events.Commit epoch end) }
+        ensures later { steps.old ≤ steps.new }
+    {
+        self.take_commit(&epoch, &end, steps);
+    }
+}

@@ -1,0 +1,159 @@
+//! The quorum makes this node the leader.
+
+ghost use Rattle.std.specs.Prelude.{◌≡◌, ◌≤ℤ◌, ◌+ℤ◌, ◌||◌, [], pos, not, IsTrue, IfOk, OnOk, false, None};
+ghost use Rattle.std.specs.Ordering.{int_eq};
+ghost use Rattle.kr_defs.specs.declared.limits.TheConstants.{PLACES_END as places_end};
+ghost use Rattle.kr_calls.specs.declared.events.Event.TheVariants as events;
+ghost use Rattle.kr_defs.specs.Brokers as brokers;
+ghost use Rattle.kr_defs.specs.Heartbeats as hearing;
+ghost use Rattle.kr_store.specs.Images.{IsAbove};
+ghost use Rattle.kr_engine.specs.inner.Changes.{counted_core, refused_core_or};
+ghost use Rattle.kr_engine.specs.inner.Lead.{core_after_lead, core_up_to, lead_reason};
+ghost use Rattle.kr_world.specs.Engine.{IsSound, IsStep, outputs_left};
+ghost use Rattle.kr_engine.specs.inner.Ready.{IsReady};
+
+use crate::Engine;
+use crate::entries::item_entry;
+use crate::places::is_far;
+use crate::reasons::{already_leading, bad_next, exhausted, old_epoch};
+use kr_base::NoMemory;
+use kr_calls::Reason;
+use kr_defs::{Broker, Ids, Item};
+use kr_store::Store;
+use kr_walks::{BrokerTest, brokers_where};
+use std::alloc::Global;
+
+fn is_one_above(next: &i64, end: &i64) -> bool
+    requires { end.now ≤ℤ places_end }
+    ensures { result ≡ int_eq next.now (end.now +ℤ pos 1) }
+{
+    *next == *end + 1
+}
+
+fn may_begin_at(next: &i64, end: &i64) -> bool
+    requires { end.now ≤ℤ places_end }
+    ensures { result ≡ (int_eq next.now end.now || int_eq next.now (end.now +ℤ pos 1)) }
+{
+    *next == *end || is_one_above(next, end)
+}
+
+// The unfenced brokers.
+#[derive(Drop)]
+struct UnfencedOnes;
+
+impl BrokerTest for UnfencedOnes {
+    ghost accepts = { λ t e. not e.1.fenced };
+
+    fn accepts(&self, _id: &i32, state: &Broker) -> bool {
+        !state.fenced
+    }
+}
+
+// Of them those that were told to stop.
+#[derive(Drop)]
+struct StoppingOnes;
+
+impl BrokerTest for StoppingOnes {
+    ghost accepts = { λ t e. brokers.is_stopping e.1 };
+
+    fn accepts(&self, _id: &i32, state: &Broker) -> bool {
+        !state.fenced && state.stopping
+    }
+}
+
+fn unfenced_brokers<S: Store>(alloc: Global, store: &S) -> Result<Ids, NoMemory>
+    ensures { IfOk result (λ ids. ids ≡ brokers.unfenced (S.images store.now).tip) }
+{
+    brokers_where(alloc, store, &UnfencedOnes)
+}
+
+fn stopping_brokers<S: Store>(alloc: Global, store: &S) -> Result<Ids, NoMemory>
+    ensures { IfOk result (λ ids. ids ≡ brokers.stopping (S.images store.now).tip) }
+{
+    brokers_where(alloc, store, &StoppingOnes)
+}
+
+impl Engine {
+    fn lead_reason(&self, epoch: &i32, next: &i64) -> Option<Reason>
+        requires low { self.now.committed ≤ℤ places_end }
+        ensures { result ≡ lead_reason self.now epoch.now next.now }
+    {
+        if self.leading.is_some() {
+            return Some(already_leading(&self.leading));
+        }
+        if self.greatest >= *epoch {
+            return Some(old_epoch(epoch, &self.greatest));
+        }
+        if !may_begin_at(next, &self.committed) {
+            return Some(bad_next(next, &self.committed));
+        }
+        if is_far(next) {
+            return Some(exhausted(next));
+        }
+        None
+    }
+
+    // One place above the end stands an item of the quorum's own.
+    fn take_control_item(&mut self, next: &i64) -> Result<(), NoMemory>
+        requires above { int_eq next.now self.old.committed ≡ false → IsAbove self.old.images.kept next.now }
+        ensures { OnOk result (self.new ≡ core_up_to self.old next.now) }
+    {
+        if *next == self.committed {
+            return Ok(());
+        }
+        self.fresh.push(item_entry(&self.tip, Item::Control))?;
+        self.store.mark(*next)?;
+        self.tip = *next;
+        Ok(())
+    }
+
+    // The unfenced brokers count as heard of now.
+    #[tactic(auto, using(crate::proofs::FirstContacts::heard_of))]
+    fn hear_of_all(&mut self, next: &i64) -> Result<(), NoMemory>
+        ensures { OnOk result (self.new ≡ record self.old { heard = hearing.begin (brokers.unfenced self.old.images.tip) (brokers.stopping self.old.images.tip) self.old.time next.now }) }
+    {
+        let _valid = self.store.counts();
+        let unfenced = unfenced_brokers(self.alloc, &self.store)?;
+        let stopping = stopping_brokers(self.alloc, &self.store)?;
+        self.sessions.begin(&unfenced, &stopping, self.time, *next)?;
+        Ok(())
+    }
+
+    fn begin_leadership(&mut self, epoch: &i32, next: &i64) -> Result<(), NoMemory>
+        requires above { int_eq next.now self.old.committed ≡ false → IsAbove self.old.images.kept next.now }
+        ensures { OnOk result (self.new ≡ core_after_lead self.old epoch.now next.now) }
+    {
+        self.hear_of_all(next)?;
+        self.take_control_item(next)?;
+        self.leading = Some(*epoch);
+        self.greatest = *epoch;
+        self.led = *next;
+        Ok(())
+    }
+
+    #[tactic(auto, using(crate::proofs::FirstContacts::begins_above))]
+    fn take_lead(&mut self, epoch: &i32, next: &i64) -> Result<(), NoMemory>
+        requires ready { IsReady self.old }
+        ensures { OnOk result (self.new ≡ counted_core (refused_core_or self.old (lead_reason self.old epoch.now next.now) (core_after_lead self.old epoch.now next.now))) }
+    {
+        match self.lead_reason(epoch, next) {
+            Some(reason) => self.refuse(reason),
+            None => self.begin_leadership(epoch, next)?,
+        }
+        self.count_event();
+        Ok(())
+    }
+
+    /// The quorum made this node the leader of the log from a place on, in an epoch. All outputs are handed out before. An
+    /// engine that answered want of memory may only be dropped.
+    #[tactic(auto, using(crate::proofs::LeadSteps::lead_step, crate::proofs::ReadyEngines::ready_then))]
+    pub fn lead(&mut self, epoch: &i32, next: &i64, now: &i64) -> Result<(), NoMemory>
+        requires sound { IsSound self.old }
+        requires drained { outputs_left self.old ≡ [] }
+        ensures { OnOk result (IsStep self.old self.new (events.Lead epoch.now next.now now.now)) }
+    {
+        self.look_over();
+        self.note_time(now);
+        self.take_lead(epoch, next)
+    }
+}

@@ -1,0 +1,84 @@
+//! Outputs are handed out, one after the other.
+
+ghost use Rattle.std.specs.Prelude.{◌≡◌, ◌++◌, ◌∷◌, [], option_to_list, filter, not, false, None, IsTrue, IfNone, List};
+ghost use Rattle.kr_world.specs.declared.writes.Write.{Write as AnyWrite};
+ghost use Rattle.kr_world.specs.Engine.{Hands, writes_in_order};
+ghost use Rattle.kr_world.specs.Outputs as outputs;
+
+use crate::Engine;
+use crate::writes::{due_reply, is_open};
+use kr_calls::Output;
+use kr_world::Write;
+use std::collections::VecDeque;
+
+// The first write waits no more.
+fn is_first_due(leading: &Option<i32>, end: &i64, held: &VecDeque<Write>) -> bool
+    ensures some { (write : AnyWrite) (rest : List AnyWrite) → held.now.items ≡ write ∷ rest → result ≡ not (outputs.is_open leading.now end.now write) }
+    ensures none { held.now.items ≡ [] → result ≡ false }
+{
+    match held.front() {
+        Some(write) => !is_open(leading, end, write),
+        None => false,
+    }
+}
+
+// The first write's reply, where it waits no more.
+#[tactic(auto, using(kr_world::proofs::Queues::not_due, kr_world::proofs::Queues::due, kr_world::proofs::Queues::still_waits, kr_world::proofs::Queues::still_ordered))]
+fn next_due(leading: &Option<i32>, end: &i64, held: &mut VecDeque<Write>) -> Option<Output>
+    requires ordered { IsTrue (writes_in_order held.old.items) }
+    ensures in_order { outputs.answers leading.now end.now held.old.items ≡ option_to_list result ++ outputs.answers leading.now end.now held.new.items }
+    ensures none { IfNone result (outputs.answers leading.now end.now held.new.items ≡ []) }
+    ensures waits { filter (outputs.is_open leading.now end.now) held.new.items ≡ filter (outputs.is_open leading.now end.now) held.old.items }
+    ensures ordered { IsTrue (writes_in_order held.new.items) }
+{
+    if !is_first_due(leading, end, held) {
+        return None;
+    }
+    match held.pop_front() {
+        Some(write) => Some(due_reply(end, write)),
+        None => None,
+    }
+}
+
+impl Engine {
+    fn next_given(&mut self) -> Option<Output>
+        ensures in_order { self.old.given ≡ option_to_list result ++ self.new.given }
+        ensures none { IfNone result (self.new.given ≡ []) }
+        ensures same { self.new ≡ record self.old { given = self.new.given } }
+    {
+        self.given.pop_front()
+    }
+
+    fn next_refusal(&mut self) -> Option<Output>
+        ensures value { result ≡ self.old.refusal }
+        ensures same { self.new ≡ record self.old { refusal = None } }
+    {
+        self.refusal.take()
+    }
+
+    fn next_answer(&mut self) -> Option<Output>
+        requires ordered { IsTrue (writes_in_order self.old.held) }
+        ensures in_order { outputs.answers self.old.leading self.old.committed self.old.held ≡ option_to_list result ++ outputs.answers self.old.leading self.old.committed self.new.held }
+        ensures none { IfNone result (outputs.answers self.old.leading self.old.committed self.new.held ≡ []) }
+        ensures waits { filter (outputs.is_open self.old.leading self.old.committed) self.new.held ≡ filter (outputs.is_open self.old.leading self.old.committed) self.old.held }
+        ensures ordered { IsTrue (writes_in_order self.new.held) }
+        ensures same { self.new ≡ record self.old { held = self.new.held } }
+    {
+        next_due(&self.leading, &self.committed, &mut self.held)
+    }
+
+    /// The next output of the last event, in order; none where all are handed out. It takes no memory.
+    #[tactic(auto, using(kr_world::proofs::OutputsLeft::hands_refusal, kr_world::proofs::OutputsLeft::hands_answer))]
+    pub fn next_output(&mut self) -> Option<Output>
+        requires { IsTrue (writes_in_order self.old.held) }
+        ensures { Hands self.old self.new result }
+    {
+        if let Some(output) = self.next_given() {
+            return Some(output);
+        }
+        if let Some(output) = self.next_refusal() {
+            return Some(output);
+        }
+        self.next_answer()
+    }
+}

@@ -1,0 +1,22 @@
+//! Places of the log.
+
+ghost use Rattle.std.specs.Prelude.{◌≡◌};
+ghost use Rattle.kr_store.specs.declared.places.At.TheVariants as places;
+ghost use Rattle.kr_world.specs.World.{is_far};
+
+use kr_defs::limits::GREATEST_TIP;
+use kr_store::At;
+
+/// Nothing may begin above the last place.
+pub(crate) fn is_far(place: &i64) -> bool
+    ensures { result ≡ is_far place.now }
+{
+    *place > GREATEST_TIP
+}
+
+/// Where an image is kept under the place.
+pub(crate) fn at_epoch(epoch: &i64) -> At
+    ensures { result ≡ places.Epoch epoch.now }
+{
+    At::Epoch(*epoch)
+}

@@ -1,0 +1,244 @@
+//! A client's message comes.
+
+ghost use Rattle.std.specs.Prelude.{◌≡◌, ◌≤◌, ◌++◌, ◌∷◌, [], IfOk, OnOk, Ok};
+ghost use Rattle.kr_calls.specs.Decide as rules;
+ghost use Rattle.kr_calls.specs.Refuse as refusals;
+ghost use Rattle.kr_calls.specs.declared.errors.TheConstants.{NOT_CONTROLLER as not_controller};
+ghost use Rattle.kr_calls.specs.declared.calls.Reply.TheVariants as replies;
+ghost use Rattle.kr_calls.specs.declared.events.Event.TheVariants as events;
+ghost use Rattle.kr_calls.specs.declared.events.Output.TheVariants as given;
+ghost use Rattle.kr_world.specs.Engine.{IsSound, IsStep, outputs_left};
+ghost use Rattle.kr_world.specs.Outputs as outputs;
+ghost use Rattle.kr_engine.specs.inner.Ready.{IsReady};
+ghost use Rattle.kr_engine.specs.inner.Request.{core_with_output, is_led_write, reply_at_once, request_reason, write_with, SettlesRequest, TakesAsk, TakesCall, TakesWrite};
+
+use crate::Engine;
+use crate::append::led_epoch;
+use crate::places::{at_epoch, is_far};
+use crate::reasons::exhausted;
+use kr_base::{NoMemory, Steps};
+use kr_calls::errors::{INVALID_REQUEST, NOT_CONTROLLER, UNSUPPORTED_VERSION};
+use kr_calls::{Ask, AskFault, Call, Effect, Output, Reason, Reply, Request};
+use kr_handlers::read;
+use kr_rules::refuse;
+use kr_store::ReadFault;
+use kr_world::Write;
+use std::alloc::Global;
+use std::sync::ledger::Ledger;
+
+fn not_controller_reply(alloc: Global, request: &Request) -> Result<Reply, NoMemory>
+    ensures { IfOk result (λ reply. reply ≡ refusals.refuse request.now not_controller) }
+{
+    refuse(alloc, request, NOT_CONTROLLER)
+}
+
+fn error_of(fault: &AskFault) -> i16
+    ensures { result ≡ outputs.error_of fault.now }
+{
+    match fault {
+        AskFault::Unsupported { .. } => UNSUPPORTED_VERSION,
+        AskFault::Wire | AskFault::Trailing => INVALID_REQUEST,
+    }
+}
+
+fn bare_reply(fault: &AskFault) -> Reply
+    ensures { result ≡ replies.Bare (outputs.error_of fault.now) }
+{
+    Reply::Bare {
+        error: error_of(fault),
+    }
+}
+
+// It changes nothing.
+fn is_read(request: &Request) -> bool
+    ensures { result ≡ rules.is_read request.now }
+{
+    match request {
+        Request::ListPartitionReassignments(_) | Request::Metadata(_) => true,
+        _ => false,
+    }
+}
+
+// A write, while this node leads.
+fn is_led_write(leading: &Option<i32>, request: &Request) -> bool
+    ensures { result ≡ is_led_write leading.now request.now }
+{
+    leading.is_some() && !is_read(request)
+}
+
+// The image is kept, so a read wants memory alone.
+fn read_reply(read: Result<Option<Reply>, ReadFault>) -> Result<Option<Reply>, NoMemory>
+    ensures { IfOk result (λ reply. read ≡ Ok reply) }
+{
+    match read {
+        Ok(reply) => Ok(reply),
+        Err(ReadFault::NoEpoch | ReadFault::NoMemory) => Err(NoMemory),
+    }
+}
+
+impl Engine {
+    // The reply waits until all that the write saw or made is committed.
+    fn hold_reply(
+        &mut self,
+        client: &u32,
+        call: &Call,
+        reply: Reply,
+        refusal: Reply,
+    ) -> Result<(), NoMemory>
+        ensures { OnOk result (self.new ≡ record self.old { held = self.old.held ++ write_with client.now call.now self.old.leading self.old.tip reply refusal ∷ [] }) }
+    {
+        let write = Write {
+            client: *client,
+            correlation: call.correlation,
+            epoch: led_epoch(&self.leading),
+            need: self.tip,
+            reply,
+            refusal,
+        };
+        self.held.push_back(write)?;
+        Ok(())
+    }
+
+    // A leading controller decides a write on the image at the tip, and its records are one batch.
+    #[tactic(auto, using(crate::proofs::RequestDecisions::takes))]
+    fn take_write<L: Ledger>(
+        &mut self,
+        client: &u32,
+        call: &Call,
+        steps: &mut Steps<L>,
+    ) -> Result<(), NoMemory>
+        requires ready { IsReady self.old }
+        ensures taken { OnOk result (TakesWrite self.old self.new client.now call.now) }
+        ensures later { steps.old ≤ steps.new }
+    {
+        let refusal = not_controller_reply(self.alloc, &call.request)?;
+        let Effect { records, reply } = self.decide(&call.request, steps)?;
+        self.append(records)?;
+        self.hold_reply(client, call, reply, refusal)
+    }
+
+    fn give_reply(&mut self, client: &u32, correlation: &i32, reply: Reply) -> Result<(), NoMemory>
+        ensures { OnOk result (self.new ≡ core_with_output self.old (given.Reply client.now correlation.now reply)) }
+    {
+        self.given.push_back(Output::Reply {
+            client: *client,
+            correlation: *correlation,
+            reply,
+        })?;
+        Ok(())
+    }
+
+    // A read is answered on the committed image; a write is refused.
+    fn reply_at_once(&self, request: &Request) -> Result<Reply, NoMemory>
+        ensures { IfOk result (λ reply. reply ≡ reply_at_once self.now request.now) }
+    {
+        let at = at_epoch(&self.committed);
+        match read_reply(read(self.alloc, &self.store, at, &self.options, request))? {
+            Some(reply) => Ok(reply),
+            None => not_controller_reply(self.alloc, request),
+        }
+    }
+
+    fn answer_at_once(&mut self, client: &u32, call: &Call) -> Result<(), NoMemory>
+        ensures { OnOk result (self.new ≡ core_with_output self.old (given.Reply client.now call.now.correlation (reply_at_once self.old call.now.request))) }
+    {
+        let reply = self.reply_at_once(&call.request)?;
+        self.give_reply(client, &call.correlation, reply)
+    }
+
+    fn take_call<L: Ledger>(
+        &mut self,
+        client: &u32,
+        call: &Call,
+        steps: &mut Steps<L>,
+    ) -> Result<(), NoMemory>
+        requires ready { IsReady self.old }
+        ensures taken { OnOk result (TakesCall (is_led_write self.old.leading call.now.request) self.old self.new client.now call.now) }
+        ensures later { steps.old ≤ steps.new }
+    {
+        if is_led_write(&self.leading, &call.request) {
+            self.take_write(client, call, steps)
+        } else {
+            self.answer_at_once(client, call)
+        }
+    }
+
+    fn take_ask<L: Ledger>(
+        &mut self,
+        client: &u32,
+        ask: &Ask,
+        steps: &mut Steps<L>,
+    ) -> Result<(), NoMemory>
+        requires ready { IsReady self.old }
+        ensures taken { OnOk result (TakesAsk self.old self.new client.now ask.now) }
+        ensures later { steps.old ≤ steps.new }
+    {
+        match ask {
+            Ask::Call(call) => self.take_call(client, call, steps),
+            Ask::Bare { correlation, fault } => self.give_reply(
+                client,
+                correlation,
+                bare_reply(fault),
+            ),
+        }
+    }
+
+    // Why the log takes no write.
+    fn request_reason(&self, ask: &Ask) -> Option<Reason>
+        ensures { result ≡ request_reason self.now ask.now }
+    {
+        match ask {
+            Ask::Call(call) => {
+                if is_led_write(&self.leading, &call.request) && is_far(&self.tip) {
+                    Some(exhausted(&self.tip))
+                } else {
+                    None
+                }
+            }
+            Ask::Bare { .. } => None,
+        }
+    }
+
+    fn settle_request<L: Ledger>(
+        &mut self,
+        client: &u32,
+        ask: &Ask,
+        steps: &mut Steps<L>,
+    ) -> Result<(), NoMemory>
+        requires ready { IsReady self.old }
+        ensures settled { OnOk result (SettlesRequest self.old self.new client.now ask.now (request_reason self.old ask.now)) }
+        ensures later { steps.old ≤ steps.new }
+    {
+        match self.request_reason(ask) {
+            Some(reason) => {
+                self.refuse(reason);
+                Ok(())
+            }
+            None => self.take_ask(client, ask, steps),
+        }
+    }
+
+    /// A client asks. A leading controller decides a write at the tip of its log, which then waits for its reply until all
+    /// that it saw or made is committed; on standby a write is refused at once by Kafka's NOT_CONTROLLER. A read is
+    /// answered at once on the committed image, and what is no call by an error alone. All outputs are handed out before.
+    /// An engine that answered want of memory may only be dropped.
+    #[tactic(auto, using(crate::proofs::ReadyEngines::ready_then))]
+    pub fn request<L: Ledger>(
+        &mut self,
+        client: &u32,
+        now: &i64,
+        ask: &Ask,
+        steps: &mut Steps<L>,
+    ) -> Result<(), NoMemory>
+        requires sound { IsSound self.old }
+        requires drained { outputs_left self.old ≡ [] }
+        ensures step { OnOk result (IsStep self.old self.new (events.Request client.now now.now ask.now)) }
+        ensures later { steps.old ≤ steps.new }
+    {
+        self.look_over();
+        self.note_time(now);
+        self.settle_request(client, ask, steps)?;
+        self.count_event();
+        Ok(())
+    }
+}

@@ -1,0 +1,40 @@
+//! Any event is taken by one call.
+
+ghost use Rattle.std.specs.Prelude.{◌≡◌, ◌≤◌, ℤ, [], IsOk, OnOk};
+ghost use Rattle.kr_calls.specs.declared.events.Event.TheVariants as events;
+ghost use Rattle.kr_world.specs.Engine.{IsSound, IsStep, outputs_left};
+
+use crate::Engine;
+use kr_base::{NoMemory, Steps};
+use kr_calls::Event;
+use std::sync::ledger::Ledger;
+
+impl Engine {
+    /// An event happened. All outputs are handed out before. A Commit and a Lost are always taken. An engine that answered
+    /// want of memory may only be dropped.
+    pub fn step<L: Ledger>(&mut self, event: &Event, steps: &mut Steps<L>) -> Result<(), NoMemory>
+        requires sound { IsSound self.old }
+        requires drained { outputs_left self.old ≡ [] }
+        ensures step { OnOk result (IsStep self.old self.new event.now) }
+        ensures commit { (epoch end : ℤ) → event.now ≡ events.Commit epoch end → IsOk result }
+        ensures lost { (epoch : ℤ) → event.now ≡ events.Lost epoch → IsOk result }
+        ensures later { steps.old ≤ steps.new }
+    {
+        match event {
+            Event::Lead { epoch, next, now } => self.lead(epoch, next, now),
+            Event::Commit { epoch, end } => {
+                self.commit(*epoch, *end, steps);
+                Ok(())
+            }
+            Event::Lost { epoch } => {
+                self.lost(*epoch, steps);
+                Ok(())
+            }
+            Event::Batch { bytes } => self.batch(bytes, steps),
+            Event::Load { bytes } => self.load(bytes),
+            Event::Tick { now } => self.tick(now, steps),
+            Event::Request { client, now, ask } => self.request(client, now, ask, steps),
+            Event::Image => self.image(),
+        }
+    }
+}
