@@ -227,7 +227,7 @@ module _ (options : Options) (s : State) (image : Image) (valid : IsValid image)
     records_for ask request = (decision options (served ask) request).records
 
     abbrev exchange_for : Ask → Request → Exchange
-    exchange_for ask request = (request, (decided options (served ask) request).reply)
+    exchange_for ask request = (request, (decision options (served ask) request).reply)
 
     request_records : (ask : Ask) (request : Request) → AreSafe (Some (exchange_for ask request)) image (records_for ask request)
     request_records ask request =

@@ -11,7 +11,8 @@ use Rattle.kr_calls.specs.declared.calls.Reply.TheVariants as replies
 use Rattle.kr_calls.specs.declared.calls.Request.{Request}
 use Rattle.kr_calls.specs.declared.calls.Request.TheVariants as requests
 use Rattle.kr_calls.specs.Refuse.{refuse}
-use Rattle.kr_req.specs.Messages.{IsAsk, IsReply}
+use Rattle.kr_req.specs.Messages.{IsAsk}
+use Rattle.kr_req.specs.WrittenReplies.{reply_bytes}
 
 abbrev pub request_words : Request → List ℕ
 request_words (requests.BrokerRegistration q) = codes "BrokerRegistration"
@@ -52,14 +53,12 @@ abbrev pub ask_words : Ask → List ℕ → List ℕ
 ask_words (asks.Call call) message = named_words (request_words call.request) message
 ask_words (asks.Bare correlation fault) message = bare_words message
 
--- the words of what is asked, with a message that stands for the reply
-pub record TellsAsk (ask : Ask) (text : List ℕ) : Type 0 where
-  pub message : List ℕ
-  pub stands : IsReply (correlation_of ask) (reply_to ask) message
-  pub words : text ≡ ask_words ask message
+-- what is asked, with the message that is written for the reply
+abbrev pub told_words : Ask → List ℕ
+told_words ask = ask_words ask (reply_bytes (correlation_of ask) (reply_to ask))
 
 -- the words of what these bytes ask
 pub record TellsMessage (bytes text : List ℕ) : Type 0 where
   pub ask : Ask
   pub is : IsAsk ask bytes
-  pub told : TellsAsk ask text
+  pub told : text ≡ told_words ask

@@ -2,9 +2,9 @@
 
 ghost use Rattle.std.specs.Prelude.{◌≡◌, IfOk, string_bytes};
 ghost use Rattle.kr_calls.specs.declared.calls.Ask.TheVariants as asks;
-ghost use Rattle.kr_req.specs.Messages.{IsReply};
+ghost use Rattle.kr_req.specs.WrittenReplies as written;
 ghost use Rattle.test_codec_answers.specs.MessageWords as words;
-ghost use Rattle.test_codec_answers.specs.MessageWords.{TellsAsk, TellsMessage};
+ghost use Rattle.test_codec_answers.specs.MessageWords.{TellsMessage};
 
 use kr_base::NoMemory;
 use kr_calls::errors::{INVALID_REQUEST, NOT_CONTROLLER, UNSUPPORTED_VERSION};
@@ -15,7 +15,7 @@ use std::alloc::{AllocError, Global};
 
 // The message of a reply.
 fn reply_bytes(alloc: Global, correlation: i32, reply: &Reply) -> Result<Vec<u8>, NoMemory>
-    ensures { IfOk result (λ bytes. IsReply correlation reply.now bytes.items) }
+    ensures { IfOk result (λ bytes. bytes.items ≡ written.reply_bytes correlation reply.now) }
 {
     let mut out = Vec::new(alloc);
     encode_reply(correlation, reply, &mut out)?;
@@ -49,7 +49,7 @@ fn named_text(alloc: Global, name: &str, message: &[u8]) -> Result<String, Alloc
 }
 
 fn call_text(alloc: Global, call: &Call) -> Result<String, NoMemory>
-    ensures { IfOk result (λ text. TellsAsk (asks.Call call.now) (string_bytes text)) }
+    ensures { IfOk result (λ text. string_bytes text ≡ words.told_words (asks.Call call.now)) }
 {
     let reply = refuse(alloc, &call.request, NOT_CONTROLLER)?;
     let message = reply_bytes(alloc, call.correlation, &reply)?;
@@ -73,7 +73,7 @@ fn error_text(alloc: Global, message: &[u8]) -> Result<String, AllocError>
 }
 
 fn bare_text(alloc: Global, correlation: i32, fault: AskFault) -> Result<String, NoMemory>
-    ensures { IfOk result (λ text. TellsAsk (asks.Bare correlation fault) (string_bytes text)) }
+    ensures { IfOk result (λ text. string_bytes text ≡ words.told_words (asks.Bare correlation fault)) }
 {
     let reply = Reply::Bare {
         error: error_of(fault),
@@ -83,7 +83,7 @@ fn bare_text(alloc: Global, correlation: i32, fault: AskFault) -> Result<String,
 }
 
 fn ask_text(alloc: Global, ask: &Ask) -> Result<String, NoMemory>
-    ensures { IfOk result (λ text. TellsAsk ask.now (string_bytes text)) }
+    ensures { IfOk result (λ text. string_bytes text ≡ words.told_words ask.now) }
 {
     match ask {
         Ask::Call(call) => call_text(alloc, call),
