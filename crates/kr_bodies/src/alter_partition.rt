@@ -1,8 +1,8 @@
 //! AlterPartition: its request from bytes, its reply to bytes.
 
 ghost use Rattle.std.specs.Prelude.{◌≡◌, ◌≤◌, refl, length, drop, OnOk, OnErr};
-ghost use Rattle.kr_layout.specs.Answers.{Adds, Answers};
-ghost use Rattle.kr_bodies.specs.AlterPartition.{IsAlterPartition, IsAlterPartitionReply, alter_partition, alter_partition_reply, alter_partition_result, alter_partition_topic, alter_partition_topic_result, broker_state, partition_report};
+ghost use Rattle.kr_layout.specs.Answers.{Answers, Begins, Puts};
+ghost use Rattle.kr_bodies.specs.AlterPartition.{IsAlterPartition, alter_partition, alter_partition_reply, alter_partition_result, alter_partition_topic, alter_partition_topic_result, broker_state, partition_report};
 
 use crate::Mine;
 use kr_base::NoMemory;
@@ -10,7 +10,7 @@ use kr_calls::{
     AlterPartition, AlterPartitionReply, AlterPartitionResult, AlterPartitionTopic,
     AlterPartitionTopicResult, BrokerState, PartitionReport,
 };
-use kr_layout::{BodyFault, Get, Put, ReadFault, Reader, put_body, put_end, read_body};
+use kr_layout::{BodyFault, Get, Put, ReadFault, Reader, put_end, read_body};
 use std::alloc::Global;
 
 impl Get<Mine> for BrokerState {
@@ -96,7 +96,7 @@ impl Get<Mine> for AlterPartition {
 impl Put<Mine> for AlterPartitionResult {
     ghost schema = { alter_partition_result };
 
-    fn put(&self, mine: &Mine, out: &mut Vec<u8>) -> Result<(), NoMemory> {
+    fn put_parts(&self, mine: &Mine, out: &mut Vec<u8>) -> Result<(), NoMemory> {
         self.index.put(mine, out)?;
         self.error.put(mine, out)?;
         self.leader.put(mine, out)?;
@@ -111,7 +111,7 @@ impl Put<Mine> for AlterPartitionResult {
 impl Put<Mine> for AlterPartitionTopicResult {
     ghost schema = { alter_partition_topic_result };
 
-    fn put(&self, mine: &Mine, out: &mut Vec<u8>) -> Result<(), NoMemory> {
+    fn put_parts(&self, mine: &Mine, out: &mut Vec<u8>) -> Result<(), NoMemory> {
         self.topic.put(mine, out)?;
         self.partitions.put(mine, out)?;
         put_end(out)
@@ -121,7 +121,7 @@ impl Put<Mine> for AlterPartitionTopicResult {
 impl Put<Mine> for AlterPartitionReply {
     ghost schema = { alter_partition_reply };
 
-    fn put(&self, mine: &Mine, out: &mut Vec<u8>) -> Result<(), NoMemory> {
+    fn put_parts(&self, mine: &Mine, out: &mut Vec<u8>) -> Result<(), NoMemory> {
         0i32.put(mine, out)?;
         self.error.put(mine, out)?;
         self.topics.put(mine, out)?;
@@ -142,10 +142,10 @@ pub fn read_alter_partition(
     read_body::<Mine, _>(alloc, message, at)
 }
 
-/// Bytes that stand for the reply, behind what there was. Without memory nothing changes.
+/// Appends what is written for the reply. Without memory nothing changes.
 pub fn put_alter_partition(reply: &AlterPartitionReply, out: &mut Vec<u8>) -> Result<(), NoMemory>
-    ensures ok { OnOk result (Adds IsAlterPartitionReply reply.now out.old.items out.new.items) }
+    ensures ok { OnOk result (Puts alter_partition_reply reply.now out.old.items out.new.items) }
     ensures err { OnErr result (out.new.items ≡ out.old.items) }
 {
-    put_body(&Mine, reply, out)
+    reply.put(&Mine, out)
 }

@@ -1,8 +1,8 @@
 //! AlterPartitionReassignments: its request from bytes, its reply to bytes.
 
 ghost use Rattle.std.specs.Prelude.{◌≡◌, ◌≤◌, refl, length, drop, OnOk, OnErr};
-ghost use Rattle.kr_layout.specs.Answers.{Adds, Answers};
-ghost use Rattle.kr_bodies.specs.AlterPartitionReassignments.{IsAlterPartitionReassignments, IsAlterPartitionReassignmentsReply, alter_partition_reassignments, alter_partition_reassignments_reply, reassignable_partition, reassignable_partition_response, reassignable_topic, reassignable_topic_response};
+ghost use Rattle.kr_layout.specs.Answers.{Answers, Begins, Puts};
+ghost use Rattle.kr_bodies.specs.AlterPartitionReassignments.{IsAlterPartitionReassignments, alter_partition_reassignments, alter_partition_reassignments_reply, reassignable_partition, reassignable_partition_response, reassignable_topic, reassignable_topic_response};
 
 use crate::Mine;
 use kr_base::NoMemory;
@@ -10,7 +10,7 @@ use kr_calls::{
     AlterPartitionReassignments, AlterPartitionReassignmentsReply, ReassignablePartition,
     ReassignablePartitionResponse, ReassignableTopic, ReassignableTopicResponse,
 };
-use kr_layout::{BodyFault, Get, Put, ReadFault, Reader, put_body, put_end, read_body};
+use kr_layout::{BodyFault, Get, Put, ReadFault, Reader, put_end, read_body};
 use kr_wire::put_null;
 use std::alloc::Global;
 
@@ -72,7 +72,7 @@ impl Get<Mine> for AlterPartitionReassignments {
 impl Put<Mine> for ReassignablePartitionResponse {
     ghost schema = { reassignable_partition_response };
 
-    fn put(&self, mine: &Mine, out: &mut Vec<u8>) -> Result<(), NoMemory> {
+    fn put_parts(&self, mine: &Mine, out: &mut Vec<u8>) -> Result<(), NoMemory> {
         self.index.put(mine, out)?;
         self.error.put(mine, out)?;
         put_null(out)?;
@@ -83,7 +83,7 @@ impl Put<Mine> for ReassignablePartitionResponse {
 impl Put<Mine> for ReassignableTopicResponse {
     ghost schema = { reassignable_topic_response };
 
-    fn put(&self, mine: &Mine, out: &mut Vec<u8>) -> Result<(), NoMemory> {
+    fn put_parts(&self, mine: &Mine, out: &mut Vec<u8>) -> Result<(), NoMemory> {
         self.name.put(mine, out)?;
         self.partitions.put(mine, out)?;
         put_end(out)
@@ -93,7 +93,7 @@ impl Put<Mine> for ReassignableTopicResponse {
 impl Put<Mine> for AlterPartitionReassignmentsReply {
     ghost schema = { alter_partition_reassignments_reply };
 
-    fn put(&self, mine: &Mine, out: &mut Vec<u8>) -> Result<(), NoMemory> {
+    fn put_parts(&self, mine: &Mine, out: &mut Vec<u8>) -> Result<(), NoMemory> {
         0i32.put(mine, out)?;
         self.error.put(mine, out)?;
         put_null(out)?;
@@ -115,13 +115,13 @@ pub fn read_alter_partition_reassignments(
     read_body::<Mine, _>(alloc, message, at)
 }
 
-/// Bytes that stand for the reply, behind what there was. Without memory nothing changes.
+/// Appends what is written for the reply. Without memory nothing changes.
 pub fn put_alter_partition_reassignments(
     reply: &AlterPartitionReassignmentsReply,
     out: &mut Vec<u8>,
 ) -> Result<(), NoMemory>
-    ensures ok { OnOk result (Adds IsAlterPartitionReassignmentsReply reply.now out.old.items out.new.items) }
+    ensures ok { OnOk result (Puts alter_partition_reassignments_reply reply.now out.old.items out.new.items) }
     ensures err { OnErr result (out.new.items ≡ out.old.items) }
 {
-    put_body(&Mine, reply, out)
+    reply.put(&Mine, out)
 }

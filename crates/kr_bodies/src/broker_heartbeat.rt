@@ -1,13 +1,13 @@
 //! BrokerHeartbeat: its request from bytes, its reply to bytes.
 
 ghost use Rattle.std.specs.Prelude.{◌≡◌, ◌≤◌, refl, length, drop, OnOk, OnErr};
-ghost use Rattle.kr_layout.specs.Answers.{Adds, Answers};
-ghost use Rattle.kr_bodies.specs.BrokerHeartbeat.{IsBrokerHeartbeat, IsBrokerHeartbeatReply, broker_heartbeat, broker_heartbeat_reply};
+ghost use Rattle.kr_layout.specs.Answers.{Answers, Begins, Puts};
+ghost use Rattle.kr_bodies.specs.BrokerHeartbeat.{IsBrokerHeartbeat, broker_heartbeat, broker_heartbeat_reply};
 
 use crate::Mine;
 use kr_base::NoMemory;
 use kr_calls::{BrokerHeartbeat, BrokerHeartbeatReply};
-use kr_layout::{BodyFault, Get, Put, ReadFault, Reader, put_body, put_end, read_body};
+use kr_layout::{BodyFault, Get, Put, ReadFault, Reader, put_end, read_body};
 use std::alloc::Global;
 
 impl Get<Mine> for BrokerHeartbeat {
@@ -35,7 +35,7 @@ impl Get<Mine> for BrokerHeartbeat {
 impl Put<Mine> for BrokerHeartbeatReply {
     ghost schema = { broker_heartbeat_reply };
 
-    fn put(&self, mine: &Mine, out: &mut Vec<u8>) -> Result<(), NoMemory> {
+    fn put_parts(&self, mine: &Mine, out: &mut Vec<u8>) -> Result<(), NoMemory> {
         0i32.put(mine, out)?;
         self.error.put(mine, out)?;
         self.caught_up.put(mine, out)?;
@@ -58,10 +58,10 @@ pub fn read_broker_heartbeat(
     read_body::<Mine, _>(alloc, message, at)
 }
 
-/// Bytes that stand for the reply, behind what there was. Without memory nothing changes.
+/// Appends what is written for the reply. Without memory nothing changes.
 pub fn put_broker_heartbeat(reply: &BrokerHeartbeatReply, out: &mut Vec<u8>) -> Result<(), NoMemory>
-    ensures ok { OnOk result (Adds IsBrokerHeartbeatReply reply.now out.old.items out.new.items) }
+    ensures ok { OnOk result (Puts broker_heartbeat_reply reply.now out.old.items out.new.items) }
     ensures err { OnErr result (out.new.items ≡ out.old.items) }
 {
-    put_body(&Mine, reply, out)
+    reply.put(&Mine, out)
 }

@@ -1,14 +1,14 @@
 //! BrokerRegistration: its request from bytes, its reply to bytes.
 
 ghost use Rattle.std.specs.Prelude.{◌≡◌, ◌≤◌, refl, length, drop, OnOk, OnErr};
-ghost use Rattle.kr_layout.specs.Answers.{Adds, Answers};
-ghost use Rattle.kr_bodies.specs.BrokerRegistration.{IsBrokerRegistration, IsBrokerRegistrationReply, broker_registration, broker_registration_reply, endpoint, range};
+ghost use Rattle.kr_layout.specs.Answers.{Answers, Begins, Puts};
+ghost use Rattle.kr_bodies.specs.BrokerRegistration.{IsBrokerRegistration, broker_registration, broker_registration_reply, endpoint, range};
 
 use crate::Mine;
 use kr_base::NoMemory;
 use kr_calls::{BrokerRegistration, BrokerRegistrationReply};
 use kr_defs::{Endpoint, Range, Rows};
-use kr_layout::{BodyFault, Get, Put, ReadFault, Reader, put_body, put_end, read_body};
+use kr_layout::{BodyFault, Get, Put, ReadFault, Reader, put_end, read_body};
 use std::alloc::Global;
 
 impl Get<Mine> for Endpoint {
@@ -88,7 +88,7 @@ impl Get<Mine> for BrokerRegistration {
 impl Put<Mine> for BrokerRegistrationReply {
     ghost schema = { broker_registration_reply };
 
-    fn put(&self, mine: &Mine, out: &mut Vec<u8>) -> Result<(), NoMemory> {
+    fn put_parts(&self, mine: &Mine, out: &mut Vec<u8>) -> Result<(), NoMemory> {
         0i32.put(mine, out)?;
         self.error.put(mine, out)?;
         self.epoch.put(mine, out)?;
@@ -109,13 +109,13 @@ pub fn read_broker_registration(
     read_body::<Mine, _>(alloc, message, at)
 }
 
-/// Bytes that stand for the reply, behind what there was. Without memory nothing changes.
+/// Appends what is written for the reply. Without memory nothing changes.
 pub fn put_broker_registration(
     reply: &BrokerRegistrationReply,
     out: &mut Vec<u8>,
 ) -> Result<(), NoMemory>
-    ensures ok { OnOk result (Adds IsBrokerRegistrationReply reply.now out.old.items out.new.items) }
+    ensures ok { OnOk result (Puts broker_registration_reply reply.now out.old.items out.new.items) }
     ensures err { OnErr result (out.new.items ≡ out.old.items) }
 {
-    put_body(&Mine, reply, out)
+    reply.put(&Mine, out)
 }

@@ -1,8 +1,8 @@
 //! CreatePartitions: its request from bytes, its reply to bytes.
 
 ghost use Rattle.std.specs.Prelude.{◌≡◌, ◌≤◌, refl, length, drop, OnOk, OnErr};
-ghost use Rattle.kr_layout.specs.Answers.{Adds, Answers};
-ghost use Rattle.kr_bodies.specs.CreatePartitions.{IsCreatePartitions, IsCreatePartitionsReply, create_partitions, create_partitions_assignment, create_partitions_reply, create_partitions_topic, create_partitions_topic_result};
+ghost use Rattle.kr_layout.specs.Answers.{Answers, Begins, Puts};
+ghost use Rattle.kr_bodies.specs.CreatePartitions.{IsCreatePartitions, create_partitions, create_partitions_assignment, create_partitions_reply, create_partitions_topic, create_partitions_topic_result};
 
 use crate::Mine;
 use kr_base::NoMemory;
@@ -10,7 +10,7 @@ use kr_calls::{
     CreatePartitions, CreatePartitionsAssignment, CreatePartitionsReply, CreatePartitionsTopic,
     CreatePartitionsTopicResult,
 };
-use kr_layout::{BodyFault, Get, Put, ReadFault, Reader, put_body, put_end, read_body};
+use kr_layout::{BodyFault, Get, Put, ReadFault, Reader, put_end, read_body};
 use kr_wire::put_null;
 use std::alloc::Global;
 
@@ -76,7 +76,7 @@ impl Get<Mine> for CreatePartitions {
 impl Put<Mine> for CreatePartitionsTopicResult {
     ghost schema = { create_partitions_topic_result };
 
-    fn put(&self, mine: &Mine, out: &mut Vec<u8>) -> Result<(), NoMemory> {
+    fn put_parts(&self, mine: &Mine, out: &mut Vec<u8>) -> Result<(), NoMemory> {
         self.name.put(mine, out)?;
         self.error.put(mine, out)?;
         put_null(out)?;
@@ -87,7 +87,7 @@ impl Put<Mine> for CreatePartitionsTopicResult {
 impl Put<Mine> for CreatePartitionsReply {
     ghost schema = { create_partitions_reply };
 
-    fn put(&self, mine: &Mine, out: &mut Vec<u8>) -> Result<(), NoMemory> {
+    fn put_parts(&self, mine: &Mine, out: &mut Vec<u8>) -> Result<(), NoMemory> {
         0i32.put(mine, out)?;
         self.results.put(mine, out)?;
         put_end(out)
@@ -107,13 +107,13 @@ pub fn read_create_partitions(
     read_body::<Mine, _>(alloc, message, at)
 }
 
-/// Bytes that stand for the reply, behind what there was. Without memory nothing changes.
+/// Appends what is written for the reply. Without memory nothing changes.
 pub fn put_create_partitions(
     reply: &CreatePartitionsReply,
     out: &mut Vec<u8>,
 ) -> Result<(), NoMemory>
-    ensures ok { OnOk result (Adds IsCreatePartitionsReply reply.now out.old.items out.new.items) }
+    ensures ok { OnOk result (Puts create_partitions_reply reply.now out.old.items out.new.items) }
     ensures err { OnErr result (out.new.items ≡ out.old.items) }
 {
-    put_body(&Mine, reply, out)
+    reply.put(&Mine, out)
 }

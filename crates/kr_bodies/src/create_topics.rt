@@ -1,8 +1,8 @@
 //! CreateTopics: its request from bytes, its reply to bytes.
 
 ghost use Rattle.std.specs.Prelude.{◌≡◌, ◌≤◌, refl, length, drop, OnOk, OnErr};
-ghost use Rattle.kr_layout.specs.Answers.{Adds, Answers};
-ghost use Rattle.kr_bodies.specs.CreateTopics.{IsCreateTopics, IsCreateTopicsReply, creatable_replica_assignment, creatable_topic, creatable_topic_config, creatable_topic_result, create_topics, create_topics_reply};
+ghost use Rattle.kr_layout.specs.Answers.{Answers, Begins, Puts};
+ghost use Rattle.kr_bodies.specs.CreateTopics.{IsCreateTopics, creatable_replica_assignment, creatable_topic, creatable_topic_config, creatable_topic_result, create_topics, create_topics_reply};
 
 use crate::Mine;
 use kr_base::NoMemory;
@@ -10,7 +10,7 @@ use kr_calls::{
     CreatableReplicaAssignment, CreatableTopic, CreatableTopicConfig, CreatableTopicResult,
     CreateTopics, CreateTopicsReply,
 };
-use kr_layout::{BodyFault, Get, Put, ReadFault, Reader, put_body, put_end, read_body};
+use kr_layout::{BodyFault, Get, Put, ReadFault, Reader, put_end, read_body};
 use kr_wire::put_null;
 use std::alloc::Global;
 
@@ -98,7 +98,7 @@ impl Get<Mine> for CreateTopics {
 impl Put<Mine> for CreatableTopicResult {
     ghost schema = { creatable_topic_result };
 
-    fn put(&self, mine: &Mine, out: &mut Vec<u8>) -> Result<(), NoMemory> {
+    fn put_parts(&self, mine: &Mine, out: &mut Vec<u8>) -> Result<(), NoMemory> {
         self.name.put(mine, out)?;
         self.topic.put(mine, out)?;
         self.error.put(mine, out)?;
@@ -113,7 +113,7 @@ impl Put<Mine> for CreatableTopicResult {
 impl Put<Mine> for CreateTopicsReply {
     ghost schema = { create_topics_reply };
 
-    fn put(&self, mine: &Mine, out: &mut Vec<u8>) -> Result<(), NoMemory> {
+    fn put_parts(&self, mine: &Mine, out: &mut Vec<u8>) -> Result<(), NoMemory> {
         0i32.put(mine, out)?;
         self.topics.put(mine, out)?;
         put_end(out)
@@ -133,10 +133,10 @@ pub fn read_create_topics(
     read_body::<Mine, _>(alloc, message, at)
 }
 
-/// Bytes that stand for the reply, behind what there was. Without memory nothing changes.
+/// Appends what is written for the reply. Without memory nothing changes.
 pub fn put_create_topics(reply: &CreateTopicsReply, out: &mut Vec<u8>) -> Result<(), NoMemory>
-    ensures ok { OnOk result (Adds IsCreateTopicsReply reply.now out.old.items out.new.items) }
+    ensures ok { OnOk result (Puts create_topics_reply reply.now out.old.items out.new.items) }
     ensures err { OnErr result (out.new.items ≡ out.old.items) }
 {
-    put_body(&Mine, reply, out)
+    reply.put(&Mine, out)
 }

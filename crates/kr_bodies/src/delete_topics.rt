@@ -1,13 +1,13 @@
 //! DeleteTopics: its request from bytes, its reply to bytes.
 
 ghost use Rattle.std.specs.Prelude.{◌≡◌, ◌≤◌, refl, length, drop, OnOk, OnErr};
-ghost use Rattle.kr_layout.specs.Answers.{Adds, Answers};
-ghost use Rattle.kr_bodies.specs.DeleteTopics.{IsDeleteTopics, IsDeleteTopicsReply, deletable_topic_result, delete_topic_state, delete_topics, delete_topics_reply};
+ghost use Rattle.kr_layout.specs.Answers.{Answers, Begins, Puts};
+ghost use Rattle.kr_bodies.specs.DeleteTopics.{IsDeleteTopics, deletable_topic_result, delete_topic_state, delete_topics, delete_topics_reply};
 
 use crate::Mine;
 use kr_base::NoMemory;
 use kr_calls::{DeletableTopicResult, DeleteTopicState, DeleteTopics, DeleteTopicsReply};
-use kr_layout::{BodyFault, Get, Put, ReadFault, Reader, put_body, put_end, read_body};
+use kr_layout::{BodyFault, Get, Put, ReadFault, Reader, put_end, read_body};
 use kr_wire::put_null;
 use std::alloc::Global;
 
@@ -50,7 +50,7 @@ impl Get<Mine> for DeleteTopics {
 impl Put<Mine> for DeletableTopicResult {
     ghost schema = { deletable_topic_result };
 
-    fn put(&self, mine: &Mine, out: &mut Vec<u8>) -> Result<(), NoMemory> {
+    fn put_parts(&self, mine: &Mine, out: &mut Vec<u8>) -> Result<(), NoMemory> {
         self.name.put(mine, out)?;
         self.topic.put(mine, out)?;
         self.error.put(mine, out)?;
@@ -62,7 +62,7 @@ impl Put<Mine> for DeletableTopicResult {
 impl Put<Mine> for DeleteTopicsReply {
     ghost schema = { delete_topics_reply };
 
-    fn put(&self, mine: &Mine, out: &mut Vec<u8>) -> Result<(), NoMemory> {
+    fn put_parts(&self, mine: &Mine, out: &mut Vec<u8>) -> Result<(), NoMemory> {
         0i32.put(mine, out)?;
         self.responses.put(mine, out)?;
         put_end(out)
@@ -82,10 +82,10 @@ pub fn read_delete_topics(
     read_body::<Mine, _>(alloc, message, at)
 }
 
-/// Bytes that stand for the reply, behind what there was. Without memory nothing changes.
+/// Appends what is written for the reply. Without memory nothing changes.
 pub fn put_delete_topics(reply: &DeleteTopicsReply, out: &mut Vec<u8>) -> Result<(), NoMemory>
-    ensures ok { OnOk result (Adds IsDeleteTopicsReply reply.now out.old.items out.new.items) }
+    ensures ok { OnOk result (Puts delete_topics_reply reply.now out.old.items out.new.items) }
     ensures err { OnErr result (out.new.items ≡ out.old.items) }
 {
-    put_body(&Mine, reply, out)
+    reply.put(&Mine, out)
 }

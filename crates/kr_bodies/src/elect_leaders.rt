@@ -1,8 +1,8 @@
 //! ElectLeaders: its request from bytes, its reply to bytes.
 
 ghost use Rattle.std.specs.Prelude.{◌≡◌, ◌≤◌, refl, length, drop, OnOk, OnErr};
-ghost use Rattle.kr_layout.specs.Answers.{Adds, Answers};
-ghost use Rattle.kr_bodies.specs.ElectLeaders.{IsElectLeaders, IsElectLeadersReply, elect_leaders, elect_leaders_reply, elect_leaders_topic, partition_election_result, replica_election_result};
+ghost use Rattle.kr_layout.specs.Answers.{Answers, Begins, Puts};
+ghost use Rattle.kr_bodies.specs.ElectLeaders.{IsElectLeaders, elect_leaders, elect_leaders_reply, elect_leaders_topic, partition_election_result, replica_election_result};
 
 use crate::Mine;
 use kr_base::NoMemory;
@@ -10,7 +10,7 @@ use kr_calls::{
     ElectLeaders, ElectLeadersReply, ElectLeadersTopic, PartitionElectionResult,
     ReplicaElectionResult,
 };
-use kr_layout::{BodyFault, Get, Put, ReadFault, Reader, put_body, put_end, read_body};
+use kr_layout::{BodyFault, Get, Put, ReadFault, Reader, put_end, read_body};
 use kr_wire::put_null;
 use std::alloc::Global;
 
@@ -54,7 +54,7 @@ impl Get<Mine> for ElectLeaders {
 impl Put<Mine> for PartitionElectionResult {
     ghost schema = { partition_election_result };
 
-    fn put(&self, mine: &Mine, out: &mut Vec<u8>) -> Result<(), NoMemory> {
+    fn put_parts(&self, mine: &Mine, out: &mut Vec<u8>) -> Result<(), NoMemory> {
         self.index.put(mine, out)?;
         self.error.put(mine, out)?;
         put_null(out)?;
@@ -65,7 +65,7 @@ impl Put<Mine> for PartitionElectionResult {
 impl Put<Mine> for ReplicaElectionResult {
     ghost schema = { replica_election_result };
 
-    fn put(&self, mine: &Mine, out: &mut Vec<u8>) -> Result<(), NoMemory> {
+    fn put_parts(&self, mine: &Mine, out: &mut Vec<u8>) -> Result<(), NoMemory> {
         self.topic.put(mine, out)?;
         self.partitions.put(mine, out)?;
         put_end(out)
@@ -75,7 +75,7 @@ impl Put<Mine> for ReplicaElectionResult {
 impl Put<Mine> for ElectLeadersReply {
     ghost schema = { elect_leaders_reply };
 
-    fn put(&self, mine: &Mine, out: &mut Vec<u8>) -> Result<(), NoMemory> {
+    fn put_parts(&self, mine: &Mine, out: &mut Vec<u8>) -> Result<(), NoMemory> {
         0i32.put(mine, out)?;
         self.error.put(mine, out)?;
         self.results.put(mine, out)?;
@@ -96,10 +96,10 @@ pub fn read_elect_leaders(
     read_body::<Mine, _>(alloc, message, at)
 }
 
-/// Bytes that stand for the reply, behind what there was. Without memory nothing changes.
+/// Appends what is written for the reply. Without memory nothing changes.
 pub fn put_elect_leaders(reply: &ElectLeadersReply, out: &mut Vec<u8>) -> Result<(), NoMemory>
-    ensures ok { OnOk result (Adds IsElectLeadersReply reply.now out.old.items out.new.items) }
+    ensures ok { OnOk result (Puts elect_leaders_reply reply.now out.old.items out.new.items) }
     ensures err { OnErr result (out.new.items ≡ out.old.items) }
 {
-    put_body(&Mine, reply, out)
+    reply.put(&Mine, out)
 }

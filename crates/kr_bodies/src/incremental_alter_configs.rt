@@ -1,8 +1,8 @@
 //! IncrementalAlterConfigs: its request from bytes, its reply to bytes.
 
 ghost use Rattle.std.specs.Prelude.{◌≡◌, ◌≤◌, refl, length, drop, OnOk, OnErr};
-ghost use Rattle.kr_layout.specs.Answers.{Adds, Answers};
-ghost use Rattle.kr_bodies.specs.IncrementalAlterConfigs.{IsIncrementalAlterConfigs, IsIncrementalAlterConfigsReply, config_operation, config_resource, config_response, incremental_alter_configs, incremental_alter_configs_reply};
+ghost use Rattle.kr_layout.specs.Answers.{Answers, Begins, Puts};
+ghost use Rattle.kr_bodies.specs.IncrementalAlterConfigs.{IsIncrementalAlterConfigs, config_operation, config_resource, config_response, incremental_alter_configs, incremental_alter_configs_reply};
 
 use crate::Mine;
 use kr_base::NoMemory;
@@ -10,7 +10,7 @@ use kr_calls::{
     ConfigOperation, ConfigResource, ConfigResponse, IncrementalAlterConfigs,
     IncrementalAlterConfigsReply,
 };
-use kr_layout::{BodyFault, Get, Put, ReadFault, Reader, put_body, put_end, read_body};
+use kr_layout::{BodyFault, Get, Put, ReadFault, Reader, put_end, read_body};
 use kr_wire::put_null;
 use std::alloc::Global;
 
@@ -76,7 +76,7 @@ impl Get<Mine> for IncrementalAlterConfigs {
 impl Put<Mine> for ConfigResponse {
     ghost schema = { config_response };
 
-    fn put(&self, mine: &Mine, out: &mut Vec<u8>) -> Result<(), NoMemory> {
+    fn put_parts(&self, mine: &Mine, out: &mut Vec<u8>) -> Result<(), NoMemory> {
         self.error.put(mine, out)?;
         put_null(out)?;
         self.kind.put(mine, out)?;
@@ -88,7 +88,7 @@ impl Put<Mine> for ConfigResponse {
 impl Put<Mine> for IncrementalAlterConfigsReply {
     ghost schema = { incremental_alter_configs_reply };
 
-    fn put(&self, mine: &Mine, out: &mut Vec<u8>) -> Result<(), NoMemory> {
+    fn put_parts(&self, mine: &Mine, out: &mut Vec<u8>) -> Result<(), NoMemory> {
         0i32.put(mine, out)?;
         self.responses.put(mine, out)?;
         put_end(out)
@@ -108,13 +108,13 @@ pub fn read_incremental_alter_configs(
     read_body::<Mine, _>(alloc, message, at)
 }
 
-/// Bytes that stand for the reply, behind what there was. Without memory nothing changes.
+/// Appends what is written for the reply. Without memory nothing changes.
 pub fn put_incremental_alter_configs(
     reply: &IncrementalAlterConfigsReply,
     out: &mut Vec<u8>,
 ) -> Result<(), NoMemory>
-    ensures ok { OnOk result (Adds IsIncrementalAlterConfigsReply reply.now out.old.items out.new.items) }
+    ensures ok { OnOk result (Puts incremental_alter_configs_reply reply.now out.old.items out.new.items) }
     ensures err { OnErr result (out.new.items ≡ out.old.items) }
 {
-    put_body(&Mine, reply, out)
+    reply.put(&Mine, out)
 }

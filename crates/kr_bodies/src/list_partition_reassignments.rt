@@ -1,8 +1,8 @@
 //! ListPartitionReassignments: its request from bytes, its reply to bytes.
 
 ghost use Rattle.std.specs.Prelude.{◌≡◌, ◌≤◌, refl, length, drop, OnOk, OnErr};
-ghost use Rattle.kr_layout.specs.Answers.{Adds, Answers};
-ghost use Rattle.kr_bodies.specs.ListPartitionReassignments.{IsListPartitionReassignments, IsListPartitionReassignmentsReply, list_partition_reassignments, list_partition_reassignments_reply, listed_topic, ongoing_partition_reassignment, ongoing_topic_reassignment};
+ghost use Rattle.kr_layout.specs.Answers.{Answers, Begins, Puts};
+ghost use Rattle.kr_bodies.specs.ListPartitionReassignments.{IsListPartitionReassignments, list_partition_reassignments, list_partition_reassignments_reply, listed_topic, ongoing_partition_reassignment, ongoing_topic_reassignment};
 
 use crate::Mine;
 use kr_base::NoMemory;
@@ -10,7 +10,7 @@ use kr_calls::{
     ListPartitionReassignments, ListPartitionReassignmentsReply, ListedTopic,
     OngoingPartitionReassignment, OngoingTopicReassignment,
 };
-use kr_layout::{BodyFault, Get, Put, ReadFault, Reader, put_body, put_end, read_body};
+use kr_layout::{BodyFault, Get, Put, ReadFault, Reader, put_end, read_body};
 use kr_wire::put_null;
 use std::alloc::Global;
 
@@ -53,7 +53,7 @@ impl Get<Mine> for ListPartitionReassignments {
 impl Put<Mine> for OngoingPartitionReassignment {
     ghost schema = { ongoing_partition_reassignment };
 
-    fn put(&self, mine: &Mine, out: &mut Vec<u8>) -> Result<(), NoMemory> {
+    fn put_parts(&self, mine: &Mine, out: &mut Vec<u8>) -> Result<(), NoMemory> {
         self.index.put(mine, out)?;
         self.replicas.put(mine, out)?;
         self.adding.put(mine, out)?;
@@ -65,7 +65,7 @@ impl Put<Mine> for OngoingPartitionReassignment {
 impl Put<Mine> for OngoingTopicReassignment {
     ghost schema = { ongoing_topic_reassignment };
 
-    fn put(&self, mine: &Mine, out: &mut Vec<u8>) -> Result<(), NoMemory> {
+    fn put_parts(&self, mine: &Mine, out: &mut Vec<u8>) -> Result<(), NoMemory> {
         self.name.put(mine, out)?;
         self.partitions.put(mine, out)?;
         put_end(out)
@@ -75,7 +75,7 @@ impl Put<Mine> for OngoingTopicReassignment {
 impl Put<Mine> for ListPartitionReassignmentsReply {
     ghost schema = { list_partition_reassignments_reply };
 
-    fn put(&self, mine: &Mine, out: &mut Vec<u8>) -> Result<(), NoMemory> {
+    fn put_parts(&self, mine: &Mine, out: &mut Vec<u8>) -> Result<(), NoMemory> {
         0i32.put(mine, out)?;
         self.error.put(mine, out)?;
         put_null(out)?;
@@ -97,13 +97,13 @@ pub fn read_list_partition_reassignments(
     read_body::<Mine, _>(alloc, message, at)
 }
 
-/// Bytes that stand for the reply, behind what there was. Without memory nothing changes.
+/// Appends what is written for the reply. Without memory nothing changes.
 pub fn put_list_partition_reassignments(
     reply: &ListPartitionReassignmentsReply,
     out: &mut Vec<u8>,
 ) -> Result<(), NoMemory>
-    ensures ok { OnOk result (Adds IsListPartitionReassignmentsReply reply.now out.old.items out.new.items) }
+    ensures ok { OnOk result (Puts list_partition_reassignments_reply reply.now out.old.items out.new.items) }
     ensures err { OnErr result (out.new.items ≡ out.old.items) }
 {
-    put_body(&Mine, reply, out)
+    reply.put(&Mine, out)
 }

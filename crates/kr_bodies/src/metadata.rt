@@ -1,15 +1,15 @@
 //! Metadata: its request from bytes, its reply to bytes.
 
 ghost use Rattle.std.specs.Prelude.{◌≡◌, ◌≤◌, refl, length, drop, OnOk, OnErr};
-ghost use Rattle.kr_layout.specs.Answers.{Adds, Answers};
-ghost use Rattle.kr_bodies.specs.Metadata.{IsMetadata, IsMetadataReply, metadata, metadata_broker, metadata_partition, metadata_reply, metadata_request_topic, metadata_topic};
+ghost use Rattle.kr_layout.specs.Answers.{Answers, Begins, Puts};
+ghost use Rattle.kr_bodies.specs.Metadata.{IsMetadata, metadata, metadata_broker, metadata_partition, metadata_reply, metadata_request_topic, metadata_topic};
 
 use crate::Mine;
 use kr_base::NoMemory;
 use kr_calls::{
     Metadata, MetadataBroker, MetadataPartition, MetadataReply, MetadataRequestTopic, MetadataTopic,
 };
-use kr_layout::{BodyFault, Get, Put, ReadFault, Reader, put_body, put_end, read_body};
+use kr_layout::{BodyFault, Get, Put, ReadFault, Reader, put_end, read_body};
 use std::alloc::Global;
 
 impl Get<Mine> for MetadataRequestTopic {
@@ -52,7 +52,7 @@ impl Get<Mine> for Metadata {
 impl Put<Mine> for MetadataBroker {
     ghost schema = { metadata_broker };
 
-    fn put(&self, mine: &Mine, out: &mut Vec<u8>) -> Result<(), NoMemory> {
+    fn put_parts(&self, mine: &Mine, out: &mut Vec<u8>) -> Result<(), NoMemory> {
         self.id.put(mine, out)?;
         self.host.put(mine, out)?;
         self.port.put(mine, out)?;
@@ -64,7 +64,7 @@ impl Put<Mine> for MetadataBroker {
 impl Put<Mine> for MetadataPartition {
     ghost schema = { metadata_partition };
 
-    fn put(&self, mine: &Mine, out: &mut Vec<u8>) -> Result<(), NoMemory> {
+    fn put_parts(&self, mine: &Mine, out: &mut Vec<u8>) -> Result<(), NoMemory> {
         self.error.put(mine, out)?;
         self.index.put(mine, out)?;
         self.leader.put(mine, out)?;
@@ -79,7 +79,7 @@ impl Put<Mine> for MetadataPartition {
 impl Put<Mine> for MetadataTopic {
     ghost schema = { metadata_topic };
 
-    fn put(&self, mine: &Mine, out: &mut Vec<u8>) -> Result<(), NoMemory> {
+    fn put_parts(&self, mine: &Mine, out: &mut Vec<u8>) -> Result<(), NoMemory> {
         self.error.put(mine, out)?;
         self.name.put(mine, out)?;
         self.topic.put(mine, out)?;
@@ -93,7 +93,7 @@ impl Put<Mine> for MetadataTopic {
 impl Put<Mine> for MetadataReply {
     ghost schema = { metadata_reply };
 
-    fn put(&self, mine: &Mine, out: &mut Vec<u8>) -> Result<(), NoMemory> {
+    fn put_parts(&self, mine: &Mine, out: &mut Vec<u8>) -> Result<(), NoMemory> {
         0i32.put(mine, out)?;
         self.brokers.put(mine, out)?;
         self.cluster.put(mine, out)?;
@@ -112,10 +112,10 @@ pub fn read_metadata(alloc: Global, message: &[u8], at: usize) -> Result<Metadat
     read_body::<Mine, _>(alloc, message, at)
 }
 
-/// Bytes that stand for the reply, behind what there was. Without memory nothing changes.
+/// Appends what is written for the reply. Without memory nothing changes.
 pub fn put_metadata(reply: &MetadataReply, out: &mut Vec<u8>) -> Result<(), NoMemory>
-    ensures ok { OnOk result (Adds IsMetadataReply reply.now out.old.items out.new.items) }
+    ensures ok { OnOk result (Puts metadata_reply reply.now out.old.items out.new.items) }
     ensures err { OnErr result (out.new.items ≡ out.old.items) }
 {
-    put_body(&Mine, reply, out)
+    reply.put(&Mine, out)
 }

@@ -1,13 +1,13 @@
 //! UnregisterBroker: its request from bytes, its reply to bytes.
 
 ghost use Rattle.std.specs.Prelude.{◌≡◌, ◌≤◌, refl, length, drop, OnOk, OnErr};
-ghost use Rattle.kr_layout.specs.Answers.{Adds, Answers};
-ghost use Rattle.kr_bodies.specs.UnregisterBroker.{IsUnregisterBroker, IsUnregisterBrokerReply, unregister_broker, unregister_broker_reply};
+ghost use Rattle.kr_layout.specs.Answers.{Answers, Begins, Puts};
+ghost use Rattle.kr_bodies.specs.UnregisterBroker.{IsUnregisterBroker, unregister_broker, unregister_broker_reply};
 
 use crate::Mine;
 use kr_base::NoMemory;
 use kr_calls::{UnregisterBroker, UnregisterBrokerReply};
-use kr_layout::{BodyFault, Get, Put, ReadFault, Reader, put_body, put_end, read_body};
+use kr_layout::{BodyFault, Get, Put, ReadFault, Reader, put_end, read_body};
 use kr_wire::put_null;
 use std::alloc::Global;
 
@@ -32,7 +32,7 @@ impl Get<Mine> for UnregisterBroker {
 impl Put<Mine> for UnregisterBrokerReply {
     ghost schema = { unregister_broker_reply };
 
-    fn put(&self, mine: &Mine, out: &mut Vec<u8>) -> Result<(), NoMemory> {
+    fn put_parts(&self, mine: &Mine, out: &mut Vec<u8>) -> Result<(), NoMemory> {
         0i32.put(mine, out)?;
         self.error.put(mine, out)?;
         put_null(out)?;
@@ -53,13 +53,13 @@ pub fn read_unregister_broker(
     read_body::<Mine, _>(alloc, message, at)
 }
 
-/// Bytes that stand for the reply, behind what there was. Without memory nothing changes.
+/// Appends what is written for the reply. Without memory nothing changes.
 pub fn put_unregister_broker(
     reply: &UnregisterBrokerReply,
     out: &mut Vec<u8>,
 ) -> Result<(), NoMemory>
-    ensures ok { OnOk result (Adds IsUnregisterBrokerReply reply.now out.old.items out.new.items) }
+    ensures ok { OnOk result (Puts unregister_broker_reply reply.now out.old.items out.new.items) }
     ensures err { OnErr result (out.new.items ≡ out.old.items) }
 {
-    put_body(&Mine, reply, out)
+    reply.put(&Mine, out)
 }

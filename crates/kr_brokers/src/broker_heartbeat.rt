@@ -1,24 +1,18 @@
 //! A broker is alive: it is unfenced, told to stop, or fenced.
 
-ghost use Rattle.std.specs.Prelude.{◌≡◌, ◌≤◌, ◌+◌, ◌∷◌, ℤ, pos, true, false, int_le, ◌≤ℤ◌, Some, IfOk, OnOk, OnErr};
+ghost use Rattle.std.specs.Prelude.{◌≡◌, pos, true, false, int_le, Some, IfOk};
 ghost use Rattle.std.specs.Option.{option_map_or};
 ghost use Rattle.std.specs.Ordering.{int_cmp, int_eq};
-ghost use Rattle.kr_defs.specs.declared.limits.TheConstants.{PLACES_END as places_end};
 ghost use Rattle.kr_defs.specs.declared.record.Record.TheVariants as kinds;
-ghost use Rattle.kr_defs.specs.Brokers.{active};
-ghost use Rattle.kr_defs.specs.Heartbeats.{lowest_offset, stopped_at};
 ghost use Rattle.kr_defs.specs.Map as entries;
 ghost use Rattle.kr_calls.specs.BrokerHeartbeat as heartbeating;
-ghost use Rattle.kr_calls.specs.Deciding.{weights};
-ghost use Rattle.kr_store.specs.Images.{last_kept};
-ghost use Rattle.kr_brokers.specs.RequestBasis.{basis_with};
 
 use crate::elections::unfencing_records;
 use kr_base::{NoMemory, Steps};
 use kr_calls::errors::STALE_BROKER_EPOCH;
 use kr_calls::{BrokerHeartbeat, BrokerHeartbeatReply, Draft, Effect, Reply};
 use kr_defs::{Broker, Options, Record, Records};
-use kr_rules::{Refusal, Rule, Work, decide_one};
+use kr_rules::{Handler, Refusal, Rule, Work, decide_one};
 use kr_sessions::{Context, Sessions};
 use kr_store::Store;
 use kr_walks::{active, fencing_records, leads, take_out, tip};
@@ -96,7 +90,7 @@ fn is_passed_on<S: Store>(
     sessions: &Sessions,
     broker: &i32,
 ) -> Result<bool, NoMemory>
-    ensures { IfOk result (λ passed. passed ≡ option_map_or (λ since. option_map_or (λ offset. int_le since offset) (lowest_offset sessions.now.heartbeats (active (S.images store.now).tip)) true) (stopped_at sessions.now.heartbeats broker.now) false) }
+    ensures { IfOk result (λ passed. passed ≡ heartbeating.is_passed_on sessions.now.heartbeats (S.images store.now).tip broker.now) }
 {
     let stopped = sessions.stopped_at(*broker);
     match &stopped {
@@ -115,7 +109,7 @@ fn of_stopping<S: Store>(
     sessions: &Sessions,
     request: &BrokerHeartbeat,
 ) -> Result<Draft<BrokerHeartbeatReply>, NoMemory>
-    ensures { IfOk result (λ draft. draft ≡ heartbeating.told request.now (heartbeating.of_stopping minimum.now (basis_with (pos 0) (pos 0) sessions.now.heartbeats) (S.images store.now).tip request.now)) }
+    ensures { IfOk result (λ draft. draft ≡ heartbeating.told request.now (heartbeating.of_stopping minimum.now sessions.now.heartbeats (S.images store.now).tip request.now)) }
 {
     if is_passed_on(alloc, store, sessions, &request.broker)? {
         let records = fencing_records(alloc, store, minimum, &request.broker, &request.epoch)?;
@@ -186,7 +180,7 @@ fn step<S: Store>(
     state: &Broker,
 ) -> Result<Draft<BrokerHeartbeatReply>, NoMemory>
     requires { entries.get int_cmp (S.images store.now).tip.brokers request.now.broker ≡ Some state.now }
-    ensures { IfOk result (λ draft. draft ≡ heartbeating.told request.now (heartbeating.step minimum.now (basis_with (pos 0) (pos 0) sessions.now.heartbeats) (S.images store.now).tip request.now state.now)) }
+    ensures { IfOk result (λ draft. draft ≡ heartbeating.told request.now (heartbeating.step minimum.now sessions.now.heartbeats (S.images store.now).tip request.now state.now)) }
 {
     if state.fenced {
         of_fenced(alloc, store, minimum, request, state)
@@ -206,7 +200,7 @@ fn is_of_epoch(request: &BrokerHeartbeat, state: &Broker) -> bool
 impl<'a> Rule<BrokerHeartbeat, BrokerHeartbeatReply> for HeartbeatRule<'a> {
     ghost refusal = { λ _. heartbeating.refused };
 
-    ghost rule = { λ r. heartbeating.rule r.options.now (basis_with (pos 0) (pos 0) r.sessions.now.heartbeats) };
+    ghost rule = { λ r. heartbeating.rule r.options.now r.sessions.now.heartbeats };
 
     fn refusal(
         &self,
@@ -246,59 +240,32 @@ impl<'a> Rule<BrokerHeartbeat, BrokerHeartbeatReply> for HeartbeatRule<'a> {
     }
 }
 
-// The same, said of a node that began to lead at place 0, at time 0.
-#[tactic(auto, unfolding(kr_calls::specs::BrokerHeartbeat::decided))]
-fn hear_from<S: Store, L: Ledger>(
-    alloc: Global,
-    store: &mut S,
-    context: &Context,
-    request: &BrokerHeartbeat,
-    out: &mut Effect,
-    steps: &mut Steps<L>,
-) -> Result<(), NoMemory>
-    requires natural { pos 0 ≤ℤ context.now.place }
-    requires low { context.now.place ≤ℤ places_end }
-    requires kept { last_kept (S.images store.old) ≡ Some (context.now.place, (S.images store.old).tip) }
-    ensures records { OnOk result (out.new.records ≡ (heartbeating.decided context.entry.now.options.now (basis_with (pos 0) (pos 0) context.entry.now.sessions.now.heartbeats) (S.images store.old).tip context.entry.now.place request.now).0.records) }
-    ensures reply { OnOk result (out.new.reply ≡ (heartbeating.decided context.entry.now.options.now (basis_with (pos 0) (pos 0) context.entry.now.sessions.now.heartbeats) (S.images store.old).tip context.entry.now.place request.now).1) }
-    ensures image { OnOk result ((S.images store.new).tip ≡ (heartbeating.decided context.entry.now.options.now (basis_with (pos 0) (pos 0) context.entry.now.sessions.now.heartbeats) (S.images store.old).tip context.entry.now.place request.now).0.image) }
-    ensures same { OnErr result (out.new ≡ out.old) }
-    ensures kept { (S.images store.new).kept ≡ (S.images store.old).kept }
-    ensures made { OnOk result ((S.images store.new).made ≤ (S.images store.old).made + weights (S.images store.old).tip out.new.records) }
-    ensures later { steps.old ≤ steps.new }
-{
-    let rule = HeartbeatRule {
-        options: context.options,
-        sessions: context.sessions,
-    };
-    let (records, answer) = decide_one(alloc, store, context.place, &rule, request, steps)?;
-    out.records = records;
-    out.reply = Reply::BrokerHeartbeat(answer);
-    Ok(())
-}
-
 /// A broker is alive. A fenced one is unfenced once it has read its own registration, where it wants neither to be
-/// fenced nor to stop; an active one that wants to stop is told to, and fenced at once where it leads nothing; a stopping
-/// one is fenced once every active broker has read up to where it began to stop. 77 where it isn't registered or by
-/// another epoch; 44 past a limit.
-pub fn decide<S: Store, L: Ledger>(
-    alloc: Global,
-    store: &mut S,
-    context: &Context,
-    request: &BrokerHeartbeat,
-    out: &mut Effect,
-    steps: &mut Steps<L>,
-) -> Result<(), NoMemory>
-    requires natural { pos 0 ≤ℤ context.now.place }
-    requires low { context.now.place ≤ℤ places_end }
-    requires kept { last_kept (S.images store.old) ≡ Some (context.now.place, (S.images store.old).tip) }
-    ensures records { (led : ℤ) → OnOk result (out.new.records ≡ (heartbeating.decided context.entry.now.options.now (basis_with context.entry.now.now led context.entry.now.sessions.now.heartbeats) (S.images store.old).tip context.entry.now.place request.now).0.records) }
-    ensures reply { (led : ℤ) → OnOk result (out.new.reply ≡ (heartbeating.decided context.entry.now.options.now (basis_with context.entry.now.now led context.entry.now.sessions.now.heartbeats) (S.images store.old).tip context.entry.now.place request.now).1) }
-    ensures image { (led : ℤ) → OnOk result ((S.images store.new).tip ≡ (heartbeating.decided context.entry.now.options.now (basis_with context.entry.now.now led context.entry.now.sessions.now.heartbeats) (S.images store.old).tip context.entry.now.place request.now).0.image) }
-    ensures same { OnErr result (out.new ≡ out.old) }
-    ensures kept { (S.images store.new).kept ≡ (S.images store.old).kept }
-    ensures made { OnOk result ((S.images store.new).made ≤ (S.images store.old).made + weights (S.images store.old).tip out.new.records) }
-    ensures later { steps.old ≤ steps.new }
-{
-    hear_from(alloc, store, context, request, out, steps)
+/// fenced nor to stop; an active one that wants to stop is told to, and fenced at once where it leads nothing; a
+/// stopping one is fenced once every active broker has read up to where it began to stop. 77 where it isn't registered
+/// or by another epoch; 44 past a limit.
+#[derive(Drop)]
+pub struct BrokerHeartbeatHandler;
+
+impl Handler<BrokerHeartbeat> for BrokerHeartbeatHandler {
+    ghost decided = { λ request given image. heartbeating.decided given.options.now given.sessions.now.heartbeats image given.place request };
+
+    #[tactic(auto, unfolding(kr_calls::specs::BrokerHeartbeat::decided))]
+    fn decide<S: Store, L: Ledger>(
+        alloc: Global,
+        store: &mut S,
+        context: &Context,
+        request: &BrokerHeartbeat,
+        steps: &mut Steps<L>,
+    ) -> Result<Effect, NoMemory> {
+        let rule = HeartbeatRule {
+            options: context.options,
+            sessions: context.sessions,
+        };
+        let (records, answer) = decide_one(alloc, store, context.place, &rule, request, steps)?;
+        Ok(Effect {
+            records,
+            reply: Reply::BrokerHeartbeat(answer),
+        })
+    }
 }

@@ -1,21 +1,16 @@
 //! A broker registers.
 
-ghost use Rattle.std.specs.Prelude.{◌≡◌, ◌≤◌, ◌+◌, ◌++◌, ◌==◌, ◌||◌, not, ℤ, pos, int_lt, ◌≤ℤ◌, length, bytes_eq, Some, IfOk, OnOk, OnErr};
-ghost use Rattle.std.specs.Option.{option_copied};
+ghost use Rattle.std.specs.Prelude.{◌≡◌, ◌+◌, ◌++◌, ◌==◌, ◌||◌, not, pos, int_lt, length, bytes_eq, Some, IfOk, OnOk};
 ghost use Rattle.std.specs.Ordering.{int_cmp, int_eq};
-ghost use Rattle.kr_defs.specs.declared.limits.TheConstants.{PLACES_END as places_end};
 ghost use Rattle.kr_defs.specs.Map as entries;
 ghost use Rattle.kr_calls.specs.BrokerRegistration as registering;
-ghost use Rattle.kr_calls.specs.Deciding.{weights};
 ghost use Rattle.kr_rules.specs.Progress.{place_of};
-ghost use Rattle.kr_store.specs.Images.{last_kept};
-ghost use Rattle.kr_brokers.specs.RequestBasis.{basis_with};
 
 use kr_base::{NoMemory, Steps};
 use kr_calls::errors::{DUPLICATE_BROKER_REGISTRATION, INCONSISTENT_CLUSTER_ID, INVALID_REQUEST};
 use kr_calls::{BrokerRegistration, BrokerRegistrationReply, Draft, Effect, Reply};
 use kr_defs::{Broker, Copied, Options, Record, Records};
-use kr_rules::{Refusal, Rule, Work, decide_one};
+use kr_rules::{Handler, Refusal, Rule, Work, decide_one};
 use kr_sessions::{Context, Sessions};
 use kr_store::Store;
 use kr_walks::{take_out, tip};
@@ -68,7 +63,7 @@ fn is_other<S: Store>(store: &S, request: &BrokerRegistration) -> bool
 
 // Another incarnation of the broker is in contact.
 fn is_taken<S: Store>(rule: &Registering, store: &S, request: &BrokerRegistration) -> bool
-    ensures { result ≡ registering.is_taken rule.now.options.now (basis_with rule.now.time (pos 0) rule.now.sessions.now.heartbeats) (S.images store.now).tip request.now }
+    ensures { result ≡ registering.is_taken rule.now.options.now rule.now.time rule.now.sessions.now.heartbeats (S.images store.now).tip request.now }
 {
     rule.sessions
         .valid(request.broker, rule.time, rule.options.session_ms)
@@ -163,7 +158,7 @@ fn registration_draft<S: Store>(
 impl<'a> Rule<BrokerRegistration, BrokerRegistrationReply> for Registering<'a> {
     ghost refusal = { λ _. registering.refused };
 
-    ghost rule = { λ r. registering.rule r.options.now (basis_with r.time (pos 0) r.sessions.now.heartbeats) };
+    ghost rule = { λ r. registering.rule r.options.now r.time r.sessions.now.heartbeats };
 
     fn refusal(
         &self,
@@ -197,55 +192,28 @@ impl<'a> Rule<BrokerRegistration, BrokerRegistrationReply> for Registering<'a> {
     }
 }
 
-// The same, said of a node that began to lead at place 0.
-#[tactic(auto, unfolding(kr_calls::specs::BrokerRegistration::decided))]
-fn register_now<S: Store, L: Ledger>(
-    alloc: Global,
-    store: &mut S,
-    context: &Context,
-    request: &BrokerRegistration,
-    out: &mut Effect,
-    steps: &mut Steps<L>,
-) -> Result<(), NoMemory>
-    requires natural { pos 0 ≤ℤ context.now.place }
-    requires low { context.now.place ≤ℤ places_end }
-    requires kept { last_kept (S.images store.old) ≡ Some (context.now.place, (S.images store.old).tip) }
-    ensures records { OnOk result (out.new.records ≡ (registering.decided context.entry.now.options.now (basis_with context.entry.now.now (pos 0) context.entry.now.sessions.now.heartbeats) (S.images store.old).tip context.entry.now.place request.now).0.records) }
-    ensures reply { OnOk result (out.new.reply ≡ (registering.decided context.entry.now.options.now (basis_with context.entry.now.now (pos 0) context.entry.now.sessions.now.heartbeats) (S.images store.old).tip context.entry.now.place request.now).1) }
-    ensures image { OnOk result ((S.images store.new).tip ≡ (registering.decided context.entry.now.options.now (basis_with context.entry.now.now (pos 0) context.entry.now.sessions.now.heartbeats) (S.images store.old).tip context.entry.now.place request.now).0.image) }
-    ensures same { OnErr result (out.new ≡ out.old) }
-    ensures kept { (S.images store.new).kept ≡ (S.images store.old).kept }
-    ensures made { OnOk result ((S.images store.new).made ≤ (S.images store.old).made + weights (S.images store.old).tip out.new.records) }
-    ensures later { steps.old ≤ steps.new }
-{
-    let rule = rule_of(context);
-    let (records, answer) = decide_one(alloc, store, context.place, &rule, request, steps)?;
-    out.records = records;
-    out.reply = Reply::BrokerRegistration(answer);
-    Ok(())
-}
-
 /// A broker registers, fenced: its epoch is the place of its registration. The broker of an earlier registration is
 /// taken out, as restarted where it wasn't shut down from that one. 104 for another cluster; 42 for a negative id, a
 /// broker that migrates or one without listeners; 101 while another incarnation is in contact; 44 past a limit.
-pub fn decide<S: Store, L: Ledger>(
-    alloc: Global,
-    store: &mut S,
-    context: &Context,
-    request: &BrokerRegistration,
-    out: &mut Effect,
-    steps: &mut Steps<L>,
-) -> Result<(), NoMemory>
-    requires natural { pos 0 ≤ℤ context.now.place }
-    requires low { context.now.place ≤ℤ places_end }
-    requires kept { last_kept (S.images store.old) ≡ Some (context.now.place, (S.images store.old).tip) }
-    ensures records { (led : ℤ) → OnOk result (out.new.records ≡ (registering.decided context.entry.now.options.now (basis_with context.entry.now.now led context.entry.now.sessions.now.heartbeats) (S.images store.old).tip context.entry.now.place request.now).0.records) }
-    ensures reply { (led : ℤ) → OnOk result (out.new.reply ≡ (registering.decided context.entry.now.options.now (basis_with context.entry.now.now led context.entry.now.sessions.now.heartbeats) (S.images store.old).tip context.entry.now.place request.now).1) }
-    ensures image { (led : ℤ) → OnOk result ((S.images store.new).tip ≡ (registering.decided context.entry.now.options.now (basis_with context.entry.now.now led context.entry.now.sessions.now.heartbeats) (S.images store.old).tip context.entry.now.place request.now).0.image) }
-    ensures same { OnErr result (out.new ≡ out.old) }
-    ensures kept { (S.images store.new).kept ≡ (S.images store.old).kept }
-    ensures made { OnOk result ((S.images store.new).made ≤ (S.images store.old).made + weights (S.images store.old).tip out.new.records) }
-    ensures later { steps.old ≤ steps.new }
-{
-    register_now(alloc, store, context, request, out, steps)
+#[derive(Drop)]
+pub struct BrokerRegistrationHandler;
+
+impl Handler<BrokerRegistration> for BrokerRegistrationHandler {
+    ghost decided = { λ request given image. registering.decided given.options.now given.now given.sessions.now.heartbeats image given.place request };
+
+    #[tactic(auto, unfolding(kr_calls::specs::BrokerRegistration::decided))]
+    fn decide<S: Store, L: Ledger>(
+        alloc: Global,
+        store: &mut S,
+        context: &Context,
+        request: &BrokerRegistration,
+        steps: &mut Steps<L>,
+    ) -> Result<Effect, NoMemory> {
+        let rule = rule_of(context);
+        let (records, answer) = decide_one(alloc, store, context.place, &rule, request, steps)?;
+        Ok(Effect {
+            records,
+            reply: Reply::BrokerRegistration(answer),
+        })
+    }
 }

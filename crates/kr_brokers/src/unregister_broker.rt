@@ -1,18 +1,15 @@
 //! A broker is forgotten.
 
-ghost use Rattle.std.specs.Prelude.{◌≡◌, ◌≤◌, ◌+◌, pos, true, ◌∷◌, ◌≤ℤ◌, Some, IfOk, OnOk, OnErr};
-ghost use Rattle.kr_defs.specs.declared.limits.TheConstants.{PLACES_END as places_end};
+ghost use Rattle.std.specs.Prelude.{◌≡◌, true, ◌∷◌, Some, IfOk};
 ghost use Rattle.kr_defs.specs.declared.record.Record.TheVariants as kinds;
-ghost use Rattle.kr_calls.specs.Deciding.{weights};
 ghost use Rattle.kr_calls.specs.TakingOut.{taken_out};
 ghost use Rattle.kr_calls.specs.UnregisterBroker as unregistering;
-ghost use Rattle.kr_store.specs.Images.{last_kept};
 
 use kr_base::{NoMemory, Steps};
 use kr_calls::errors::BROKER_ID_NOT_REGISTERED;
 use kr_calls::{Draft, Effect, Reply, UnregisterBroker, UnregisterBrokerReply};
 use kr_defs::{Options, Record, Records};
-use kr_rules::{Refusal, Rule, Work, decide_one};
+use kr_rules::{Handler, Refusal, Rule, Work, decide_one};
 use kr_sessions::Context;
 use kr_store::Store;
 use kr_walks::{take_out, tip};
@@ -83,31 +80,27 @@ impl<'a> Rule<UnregisterBroker, UnregisterBrokerReply> for Unregistering<'a> {
 
 /// A broker is forgotten, and taken out as one that has restarted uncleanly. 102 where it isn't registered; 44 past a
 /// limit.
-#[tactic(auto, unfolding(kr_calls::specs::UnregisterBroker::decided))]
-pub fn decide<S: Store, L: Ledger>(
-    alloc: Global,
-    store: &mut S,
-    context: &Context,
-    request: &UnregisterBroker,
-    out: &mut Effect,
-    steps: &mut Steps<L>,
-) -> Result<(), NoMemory>
-    requires natural { pos 0 ≤ℤ context.now.place }
-    requires low { context.now.place ≤ℤ places_end }
-    requires kept { last_kept (S.images store.old) ≡ Some (context.now.place, (S.images store.old).tip) }
-    ensures records { OnOk result (out.new.records ≡ (unregistering.decided context.entry.now.options.now (S.images store.old).tip context.entry.now.place request.now).0.records) }
-    ensures reply { OnOk result (out.new.reply ≡ (unregistering.decided context.entry.now.options.now (S.images store.old).tip context.entry.now.place request.now).1) }
-    ensures image { OnOk result ((S.images store.new).tip ≡ (unregistering.decided context.entry.now.options.now (S.images store.old).tip context.entry.now.place request.now).0.image) }
-    ensures same { OnErr result (out.new ≡ out.old) }
-    ensures kept { (S.images store.new).kept ≡ (S.images store.old).kept }
-    ensures made { OnOk result ((S.images store.new).made ≤ (S.images store.old).made + weights (S.images store.old).tip out.new.records) }
-    ensures later { steps.old ≤ steps.new }
-{
-    let rule = Unregistering {
-        options: context.options,
-    };
-    let (records, answer) = decide_one(alloc, store, context.place, &rule, request, steps)?;
-    out.records = records;
-    out.reply = Reply::UnregisterBroker(answer);
-    Ok(())
+#[derive(Drop)]
+pub struct UnregisterBrokerHandler;
+
+impl Handler<UnregisterBroker> for UnregisterBrokerHandler {
+    ghost decided = { λ request given image. unregistering.decided given.options.now image given.place request };
+
+    #[tactic(auto, unfolding(kr_calls::specs::UnregisterBroker::decided))]
+    fn decide<S: Store, L: Ledger>(
+        alloc: Global,
+        store: &mut S,
+        context: &Context,
+        request: &UnregisterBroker,
+        steps: &mut Steps<L>,
+    ) -> Result<Effect, NoMemory> {
+        let rule = Unregistering {
+            options: context.options,
+        };
+        let (records, answer) = decide_one(alloc, store, context.place, &rule, request, steps)?;
+        Ok(Effect {
+            records,
+            reply: Reply::UnregisterBroker(answer),
+        })
+    }
 }

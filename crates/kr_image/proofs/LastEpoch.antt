@@ -1,8 +1,8 @@
 -- The last kept epoch: going back to it drops nothing.
-use Rattle.std.proofs.Common.{◌≡◌, ℕ, suc, ℤ, Bool, true, false, cond, not, List, [], ◌∷◌, ◌++◌, length, refl, sym, ap, subst, ◌∙◌, map, filter, find, arith}
-use Rattle.std.specs.Prelude.{Option, Some, None, IsTrue, IsSome, int_lt, slice_get, ◌-◌}
+use Rattle.std.proofs.Common.{◌≡◌, ℤ, true, false, not, List, [], ◌∷◌, ◌++◌, refl, sym, ap, subst, ◌∙◌, map, filter, find, arith}
+use Rattle.std.specs.Prelude.{Some, None, IsTrue, IsSome, int_lt}
 use Rattle.std.specs.Option.{option_map}
-use Rattle.std.specs.declared.cmp.Ordering.TheVariants.{Less, Equal, Greater}
+use Rattle.std.specs.declared.cmp.Ordering.TheVariants.{Less}
 use Rattle.std.specs.Ordering.{int_cmp, int_eq}
 use Rattle.std.specs.List.{AllByRecursion}
 use Rattle.std.specs.List.Sorted.{IsStrictlySortedBy}
@@ -19,47 +19,17 @@ use Rattle.kr_image.specs.declared.timelines.Timelines.{Timelines}
 use Rattle.kr_image.specs.Timelines.{Keeps, keeps_of, kept_in, image_in, present_image}
 use Rattle.kr_image.specs.KeptImages.{images_in, images_of, HaveEpochs, IsKept, IsStore, Reverts, AreAbove, AreKept}
 use Rattle.kr_image.proofs.KeptLists.{apart_before, find_last, find_map, map_push, all_weaker, all_push, all_map, all_mapped}
+use Rattle.kr_image.proofs.EpochEnds.{last, last_later, Split, split, filter_all, less_lt}
 use Rattle.kr_image.proofs.Stores.{reverted_store}
 
 -- ---- the last of a list
-
-abbrev last : {X : Type 0} → List X → Option X
-last xs = slice_get xs (length xs - 1)
-
-less_one : (n : ℕ) → suc n - 1 ≡ n
-less_one n = omega arith
-
-last_later : {X : Type 0} (x y : X) (xs : List X) → last (x ∷ y ∷ xs) ≡ last (y ∷ xs)
-last_later {X} x y xs = ap (slice_get (x ∷ y ∷ xs)) (less_one (suc (length xs))) ∙ sym (ap (slice_get (y ∷ xs)) (less_one (length xs)))
-
-record Split {X : Type 0} (xs : List X) (x : X) : Type 0 where
-  front : List X
-  is : xs ≡ front ++ x ∷ []
-
-split : {X : Type 0} (xs : List X) (x : X) → last xs ≡ Some x → Split xs x
-split [] x h = absurd cc
-split {X} (y ∷ []) x h = let same : Some y ≡ Some x = h in record { front = []; is = let e : y ≡ x = cc in ap (λ z. z ∷ []) e }
-split {X} (y ∷ z ∷ xs) x h =
-    let rest = split (z ∷ xs) x (sym (last_later y z xs) ∙ h) in
-    record { front = y ∷ rest.front; is = ap (λ (zs : List X). y ∷ zs) rest.is }
 
 pub last_map : {X Y : Type 0} (f : X → Y) (xs : List X) → last (map f xs) ≡ option_map f (last xs)
 last_map f [] = refl
 last_map f (x ∷ []) = refl
 last_map f (x ∷ y ∷ xs) = last_later (f x) (f y) (map f xs) ∙ (last_map f (y ∷ xs) ∙ sym (ap (option_map f) (last_later x y xs)))
 
-filter_all : {X : Type 0} (q : X → Bool) (xs : List X) → AllByRecursion (λ x. q x ≡ true) xs → filter q xs ≡ xs
-filter_all q [] a = refl
-filter_all {X} q (x ∷ xs) a = ap (λ b. cond b (x ∷ filter q xs) (filter q xs)) a.0 ∙ ap (λ (ys : List X). x ∷ ys) (filter_all q xs a.1)
-
 -- ---- epochs that rise
-
-less_lt : (x y : ℤ) → int_cmp x y ≡ Less → int_lt x y ≡ true
-less_lt x y =
-    elim (int_lt x y) as (λ b. cond b Less (cond (int_lt y x) Greater Equal) ≡ Less → b ≡ true) [
-      | true ↦ λ h. refl
-      | false ↦ λ h. elim (int_lt y x) as (λ b. cond b Greater Equal ≡ Less → false ≡ true) [ true ↦ λ e. absurd cc | false ↦ λ e. absurd cc ] h
-    ]
 
 at_last : {V : Type 0} (P : ℤ → Type 0) (es : List (ℤ × V)) (e : ℤ × V) → AllByRecursion P (keys_of (es ++ e ∷ [])) → P e.0
 at_last P [] e a = a.0

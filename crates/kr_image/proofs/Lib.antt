@@ -1,5 +1,6 @@
 pub mod Index
 pub mod KeptLists
+pub mod EpochEnds
 pub mod LastEpoch
 pub mod Owners
 pub mod Places

@@ -5,6 +5,7 @@ use Rattle.std.specs.Option.{option_map}
 use Rattle.std.specs.Ordering.{int_cmp, int_eq}
 use Rattle.std.specs.List.{AllByRecursion}
 use Rattle.std.specs.List.Sorted.{IsStrictlySortedBy}
+use Rattle.std.specs.Map.{keys_of}
 use Rattle.std.proofs.lemmas.Bool.Decides.{Decides-int_eq}
 use Rattle.std.proofs.lemmas.List.Elements.{All-from_recursion, recursion_from_All, All-filter}
 use Rattle.kr_defs.specs.declared.broker.Broker.{Broker}
@@ -163,6 +164,15 @@ module _ (t after : Timelines) (epoch : ℤ) (marks : Marks t after epoch) where
 -- what is above each image's epoch is above each epoch
 pub above_each : (kept : Keeps) (list : List KeptCounts) (epoch : ℤ) → IsAbove (images_in kept list) epoch → AllByRecursion (λ (k : KeptCounts). int_lt k.epoch epoch ≡ true) list
 above_each kept list epoch above = all_map (λ (k : KeptCounts). (k.epoch, image_in kept k.epoch)) (λ (e : ℤ × Image). int_lt e.0 epoch ≡ true) list (recursion_from_All (λ (e : ℤ × Image). IsTrue (int_lt e.0 epoch)) (images_in kept list) above)
+
+-- ---- the epochs rise
+
+keys_kept : (kept : Keeps) (list : List KeptCounts) → keys_of (images_in kept list) ≡ map (λ (k : KeptCounts). k.epoch) list
+keys_kept kept [] = refl
+keys_kept kept (k ∷ list) = ap (λ (es : List ℤ). k.epoch ∷ es) (keys_kept kept list)
+
+pub kept_rises : (kept : Keeps) (list : List KeptCounts) → IsKept kept list → IsStrictlySortedBy int_cmp (map (λ (k : KeptCounts). k.epoch) list)
+kept_rises kept list is = subst (IsStrictlySortedBy int_cmp) (keys_kept kept list) is.rising
 
 -- ---- fewer epochs
 

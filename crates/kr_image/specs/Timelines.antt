@@ -1,5 +1,5 @@
 -- What the timelines of a store hold: the present image, and those that are kept.
-use Rattle.std.specs.Prelude.{◌≡◌, ◌+◌, ℕ, ℤ, List, [], length, find, unwrap_or, Option}
+use Rattle.std.specs.Prelude.{◌≡◌, ◌+◌, ℕ, ℤ, List, [], find, unwrap_or, Option}
 use Rattle.std.specs.Option.{option_map}
 use Rattle.std.specs.Ordering.{nat_cmp, int_eq}
 use Rattle.kr_defs.specs.declared.broker.Broker.{Broker}

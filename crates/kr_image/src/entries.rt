@@ -5,7 +5,7 @@ ghost use Rattle.kr_defs.specs.Map as map;
 
 use kr_base::NoMemory;
 use kr_defs::Copied;
-use kr_timeline::Timeline;
+use kr_timeline::{Key, Timeline};
 use std::alloc::Global;
 
 /// The key has a value in the present map.
@@ -24,7 +24,7 @@ pub(crate) fn is_full(count: u32, most: usize) -> bool
 
 /// Gives the key the value in the present map.
 #[tactic(auto, unfolding(kr_defs::specs::KeptMaps::inserted))]
-pub(crate) fn set<K: Ord + Copied + Drop, V: Copied + Drop>(
+pub(crate) fn set<K: Key + Drop, V: Drop>(
     timeline: &mut Timeline<K, V>,
     key: K,
     value: V,
@@ -38,7 +38,7 @@ pub(crate) fn set<K: Ord + Copied + Drop, V: Copied + Drop>(
 
 /// Takes the key out of the present map.
 #[tactic(auto, unfolding(kr_defs::specs::KeptMaps::removed))]
-pub(crate) fn unset<K: Ord + Copied + Drop, V: Copied + Drop>(
+pub(crate) fn unset<K: Key + Drop, V: Drop>(
     alloc: Global,
     timeline: &mut Timeline<K, V>,
     key: &K,
@@ -54,7 +54,7 @@ pub(crate) fn unset<K: Ord + Copied + Drop, V: Copied + Drop>(
 
 /// Gives the key the value, and counts an entry that is new.
 #[tactic(auto, using(kr_defs::proofs::EntryCounts::counting))]
-pub(crate) fn set_counted<K: Ord + Copied + Drop, V: Copied + Drop>(
+pub(crate) fn set_counted<K: Key + Drop, V: Drop>(
     timeline: &mut Timeline<K, V>,
     count: &mut u32,
     key: K,
@@ -78,7 +78,7 @@ pub(crate) fn set_counted<K: Ord + Copied + Drop, V: Copied + Drop>(
 
 /// Takes the key out, and counts an entry that goes.
 #[tactic(auto, using(kr_defs::proofs::EntryCounts::counting))]
-pub(crate) fn unset_counted<K: Ord + Copied + Drop, V: Copied + Drop>(
+pub(crate) fn unset_counted<K: Key + Drop, V: Drop>(
     alloc: Global,
     timeline: &mut Timeline<K, V>,
     count: &mut u32,

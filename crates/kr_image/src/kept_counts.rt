@@ -1,11 +1,15 @@
-//! The counts of a kept epoch.
+//! The counts of the kept epochs.
 
-ghost use Rattle.std.specs.Prelude.{◌≡◌, filter, find, int_lt, not};
-ghost use Rattle.std.specs.Option.{option_map};
-ghost use Rattle.std.specs.Ordering.{int_eq};
+ghost use Rattle.std.specs.Prelude.{◌≡◌, ◌+◌, ◌-◌, false, filter, find, int_lt, length, map, not, slice_get};
+ghost use Rattle.std.specs.List.Sorted.{IsStrictlySortedBy};
+ghost use Rattle.std.specs.Option.{option_map, option_map_or};
+ghost use Rattle.std.specs.Ordering.{int_cmp, int_eq};
 ghost use Rattle.kr_image.specs.declared.kept_counts.KeptCounts.{KeptCounts as AnyCounts};
 
+use kr_base::Steps;
 use kr_store::Counts;
+use std::collections::VecDeque;
+use std::sync::ledger::Ledger;
 
 /// An epoch, and how much the image had that is kept under it.
 #[derive(Drop)]
@@ -25,22 +29,62 @@ pub(crate) fn kept_under(epoch: &i64, counts: Counts) -> KeptCounts
 }
 
 /// The counts that are kept under the epoch.
-pub(crate) fn counts_at(kept: &[KeptCounts], epoch: &i64) -> Option<Counts>
-    ensures { result ≡ option_map (λ (k : AnyCounts). k.counts) (find (λ (k : AnyCounts). int_eq k.epoch epoch.now) kept.now) }
+pub(crate) fn counts_at(kept: &VecDeque<KeptCounts>, epoch: &i64) -> Option<Counts>
+    requires { IsStrictlySortedBy int_cmp (map (λ (k : AnyCounts). k.epoch) kept.now.items) }
+    ensures { result ≡ option_map (λ (k : AnyCounts). k.counts) (find (λ (k : AnyCounts). int_eq k.epoch epoch.now) kept.now.items) }
 {
-    kept.iter().find(|k| k.epoch == *epoch).map(|k| k.counts)
+    match kept.binary_search_by_key(epoch, |k| k.epoch) {
+        Ok(place) => Some(kept[place].counts),
+        Err(_) => None,
+    }
 }
 
-/// Drops the epochs above this one.
-pub(crate) fn keep_up_to(kept: &mut Vec<KeptCounts>, epoch: &i64)
-    ensures { kept.new.items ≡ filter (λ (k : AnyCounts). not (int_lt epoch.now k.epoch)) kept.old.items }
+fn is_last_above(kept: &VecDeque<KeptCounts>, epoch: &i64) -> bool
+    ensures { result ≡ option_map_or (λ (k : AnyCounts). int_lt epoch.now k.epoch) (slice_get kept.now.items (length kept.now.items - 1)) false }
 {
-    kept.retain(|k| !(*epoch < k.epoch));
+    match kept.back() {
+        Some(k) => *epoch < k.epoch,
+        None => false,
+    }
 }
 
-/// Drops the epochs below this one.
-pub(crate) fn keep_from(kept: &mut Vec<KeptCounts>, epoch: &i64)
-    ensures { kept.new.items ≡ filter (λ (k : AnyCounts). not (int_lt k.epoch epoch.now)) kept.old.items }
+/// Drops the epochs above this one. A step is one epoch.
+pub(crate) fn keep_up_to<L: Ledger>(
+    kept: &mut VecDeque<KeptCounts>,
+    epoch: &i64,
+    steps: &mut Steps<L>,
+)
+    requires { IsStrictlySortedBy int_cmp (map (λ (k : AnyCounts). k.epoch) kept.old.items) }
+    ensures left { kept.new.items ≡ filter (λ (k : AnyCounts). not (int_lt epoch.now k.epoch)) kept.old.items }
+    ensures counted { steps.new + length kept.new.items ≡ steps.old + length kept.old.items }
 {
-    kept.retain(|k| !(k.epoch < *epoch));
+    while is_last_above(kept, epoch) {
+        steps.tick();
+        kept.pop_back();
+    }
+}
+
+fn is_first_below(kept: &VecDeque<KeptCounts>, epoch: &i64) -> bool
+    ensures { result ≡ option_map_or (λ (k : AnyCounts). int_lt k.epoch epoch.now) (slice_get kept.now.items 0) false }
+{
+    match kept.front() {
+        Some(k) => k.epoch < *epoch,
+        None => false,
+    }
+}
+
+/// Drops the epochs below this one. A step is one epoch.
+pub(crate) fn keep_from<L: Ledger>(
+    kept: &mut VecDeque<KeptCounts>,
+    epoch: &i64,
+    steps: &mut Steps<L>,
+)
+    requires { IsStrictlySortedBy int_cmp (map (λ (k : AnyCounts). k.epoch) kept.old.items) }
+    ensures left { kept.new.items ≡ filter (λ (k : AnyCounts). not (int_lt k.epoch epoch.now)) kept.old.items }
+    ensures counted { steps.new + length kept.new.items ≡ steps.old + length kept.old.items }
+{
+    while is_first_below(kept, epoch) {
+        steps.tick();
+        kept.pop_front();
+    }
 }

@@ -16,13 +16,14 @@ use kr_defs::laws::{apply_keeps_valid, empty_is_valid};
 use kr_defs::{Broker, ConfigKey, Item, Partition, Record, Text, Topic};
 use kr_store::{ApplyFault, At, Counts, Store};
 use std::alloc::Global;
+use std::collections::VecDeque;
 use std::marker::Model;
 use std::sync::ledger::Ledger;
 
 /// An image with kept epochs.
 pub struct ImageStore {
     timelines: Timelines,
-    kept: Vec<KeptCounts>,
+    kept: VecDeque<KeptCounts>,
 }
 
 // By hand: a crate that drops one calls this, where a derived drop is made and proved in each such crate anew.
@@ -45,7 +46,11 @@ impl Model for ImageStore {
 }
 
 // Keeps the present image under the epoch, with its counts.
-fn mark(timelines: &mut Timelines, kept: &mut Vec<KeptCounts>, epoch: &i64) -> Result<(), NoMemory>
+fn mark(
+    timelines: &mut Timelines,
+    kept: &mut VecDeque<KeptCounts>,
+    epoch: &i64,
+) -> Result<(), NoMemory>
     requires store { IsStore timelines.old kept.old.items }
     requires above { IsAbove (images_of timelines.old kept.old.items).kept epoch.now }
     ensures store { IsStore timelines.new kept.new.items }
@@ -54,7 +59,7 @@ fn mark(timelines: &mut Timelines, kept: &mut Vec<KeptCounts>, epoch: &i64) -> R
 {
     timelines.reserve()?;
     let counts = timelines.counts;
-    kept.push(kept_under(epoch, counts))?;
+    kept.push_back(kept_under(epoch, counts))?;
     timelines.mark(epoch);
     Ok(())
 }
@@ -62,7 +67,7 @@ fn mark(timelines: &mut Timelines, kept: &mut Vec<KeptCounts>, epoch: &i64) -> R
 // Makes the image that is kept under the epoch the present one, and drops the later epochs.
 fn revert<L: Ledger>(
     timelines: &mut Timelines,
-    kept: &mut Vec<KeptCounts>,
+    kept: &mut VecDeque<KeptCounts>,
     epoch: &i64,
     steps: &mut Steps<L>,
 ) -> Result<(), NoEpoch>
@@ -77,14 +82,14 @@ fn revert<L: Ledger>(
         return Err(NoEpoch);
     };
     timelines.revert(epoch, counts, steps);
-    keep_up_to(kept, epoch);
+    keep_up_to(kept, epoch, steps);
     Ok(())
 }
 
 // Drops the kept epochs below this one.
 fn forget_below<L: Ledger>(
     timelines: &mut Timelines,
-    kept: &mut Vec<KeptCounts>,
+    kept: &mut VecDeque<KeptCounts>,
     epoch: &i64,
     steps: &mut Steps<L>,
 )
@@ -94,7 +99,7 @@ fn forget_below<L: Ledger>(
     ensures counted { steps.old ≤ steps.new }
 {
     timelines.forget_below(epoch, steps);
-    keep_from(kept, epoch);
+    keep_from(kept, epoch, steps);
 }
 
 impl ImageStore {
@@ -105,7 +110,7 @@ impl ImageStore {
         empty_is_valid();
         ImageStore {
             timelines: Timelines::new(alloc),
-            kept: Vec::new(alloc),
+            kept: VecDeque::new(alloc),
         }
     }
 
@@ -138,16 +143,16 @@ impl ImageStore {
 }
 
 // Makes the image of the last kept epoch the present one, whatever the present maps are.
-fn go_back<L: Ledger>(timelines: &mut Timelines, kept: &[KeptCounts], steps: &mut Steps<L>)
-    requires kept { IsKept (keeps_of timelines.old) kept.now }
-    requires some { IsSome (last_kept (images_of timelines.old kept.now)) }
-    ensures store { IsStore timelines.new kept.now }
+fn go_back<L: Ledger>(timelines: &mut Timelines, kept: &VecDeque<KeptCounts>, steps: &mut Steps<L>)
+    requires kept { IsKept (keeps_of timelines.old) kept.now.items }
+    requires some { IsSome (last_kept (images_of timelines.old kept.now.items)) }
+    ensures store { IsStore timelines.new kept.now.items }
     ensures same { keeps_of timelines.new ≡ keeps_of timelines.old }
-    ensures tip { last_image (images_of timelines.old kept.now) ≡ Some (present_image timelines.new) }
+    ensures tip { last_image (images_of timelines.old kept.now.items) ≡ Some (present_image timelines.new) }
     ensures made { made_of timelines.new ≡ 0 }
     ensures counted { steps.old ≤ steps.new }
 {
-    match kept.last() {
+    match kept.back() {
         Some(k) => timelines.revert(&k.epoch, k.counts, steps),
         None => unreachable!(),
     }
@@ -157,15 +162,15 @@ fn go_back<L: Ledger>(timelines: &mut Timelines, kept: &[KeptCounts], steps: &mu
 #[tactic(auto, unfolding(kr_defs::specs::Apply::apply, kr_defs::specs::Weight::weight))]
 fn apply_record<L: Ledger>(
     timelines: &mut Timelines,
-    kept: &[KeptCounts],
+    kept: &VecDeque<KeptCounts>,
     place: i64,
     value: &Record,
     steps: &mut Steps<L>,
 ) -> Result<(), ApplyFault>
-    requires store { IsStore timelines.old kept.now }
-    requires some { IsSome (last_kept (images_of timelines.old kept.now)) }
-    ensures store { IsStore timelines.new kept.now }
-    ensures applied { Applies (images_of timelines.old kept.now) (images_of timelines.new kept.now) result place (items.Record value.now) }
+    requires store { IsStore timelines.old kept.now.items }
+    requires some { IsSome (last_kept (images_of timelines.old kept.now.items)) }
+    ensures store { IsStore timelines.new kept.now.items }
+    ensures applied { Applies (images_of timelines.old kept.now.items) (images_of timelines.new kept.now.items) result place (items.Record value.now) }
     ensures same { keeps_of timelines.new ≡ keeps_of timelines.old }
     ensures made { OnOk result (made_of timelines.new ≤ made_of timelines.old + weight (present_image timelines.old) (items.Record value.now)) }
     ensures counted { Ticks steps.old steps.new result }
@@ -186,15 +191,15 @@ fn apply_record<L: Ledger>(
 #[tactic(auto, unfolding(kr_defs::specs::Apply::apply, kr_defs::specs::Weight::weight))]
 fn apply<L: Ledger>(
     timelines: &mut Timelines,
-    kept: &[KeptCounts],
+    kept: &VecDeque<KeptCounts>,
     place: i64,
     item: &Item,
     steps: &mut Steps<L>,
 ) -> Result<(), ApplyFault>
-    requires store { IsStore timelines.old kept.now }
-    requires some { IsSome (last_kept (images_of timelines.old kept.now)) }
-    ensures store { IsStore timelines.new kept.now }
-    ensures applied { Applies (images_of timelines.old kept.now) (images_of timelines.new kept.now) result place item.now }
+    requires store { IsStore timelines.old kept.now.items }
+    requires some { IsSome (last_kept (images_of timelines.old kept.now.items)) }
+    ensures store { IsStore timelines.new kept.now.items }
+    ensures applied { Applies (images_of timelines.old kept.now.items) (images_of timelines.new kept.now.items) result place item.now }
     ensures same { keeps_of timelines.new ≡ keeps_of timelines.old }
     ensures made { OnOk result (made_of timelines.new ≤ made_of timelines.old + weight (present_image timelines.old) item.now) }
     ensures counted { Ticks steps.old steps.new result }

@@ -2,9 +2,9 @@
 //! on.
 #![tactic(auto)]
 
-pub mod alter_partition;
-pub mod alter_partition_reassignments;
-pub mod elect_leaders;
+mod alter_partition;
+mod alter_partition_reassignments;
+mod elect_leaders;
 mod elections;
 mod groups;
 pub mod list_partition_reassignments;
@@ -13,3 +13,7 @@ mod members;
 mod reassignments;
 mod reports;
 mod showing;
+
+pub use alter_partition::AlterPartitionHandler;
+pub use alter_partition_reassignments::AlterPartitionReassignmentsHandler;
+pub use elect_leaders::ElectLeadersHandler;

@@ -3,7 +3,7 @@
 ghost use Rattle.std.specs.Prelude.{◌≡◌, ◌≤◌, length, drop, OnOk, OnErr};
 ghost use Rattle.kr_layout.specs.Answers.{IsAnswer};
 ghost use Rattle.kr_req.specs.Reading.{body_of};
-ghost use Rattle.kr_req.specs.inner.ReplyBodies.{AddsBody};
+ghost use Rattle.kr_req.specs.inner.ReplyBodies.{PutsBody};
 
 use crate::ApiKey;
 use kr_base::NoMemory;
@@ -17,7 +17,7 @@ use kr_bodies::{
     read_list_partition_reassignments, read_metadata, read_unregister_broker,
 };
 use kr_calls::{Reply, Request};
-use kr_layout::BodyFault;
+use kr_layout::{BodyFault, Put};
 use std::alloc::Global;
 
 /// The request of this key that all of the bytes from a place on stand for, or the first fault.
@@ -63,9 +63,9 @@ pub(crate) fn read_body(
     }
 }
 
-/// Appends the reply's body. Without memory nothing changes.
+/// Appends what is written for the reply's body. Without memory nothing changes.
 pub(crate) fn put_body(reply: &Reply, out: &mut Vec<u8>) -> Result<(), NoMemory>
-    ensures ok { OnOk result (AddsBody reply.now out.old.items out.new.items) }
+    ensures ok { OnOk result (PutsBody reply.now out.old.items out.new.items) }
     ensures err { OnErr result (out.new.items ≡ out.old.items) }
 {
     match reply {
@@ -81,6 +81,6 @@ pub(crate) fn put_body(reply: &Reply, out: &mut Vec<u8>) -> Result<(), NoMemory>
         Reply::ListPartitionReassignments(reply) => put_list_partition_reassignments(reply, out),
         Reply::IncrementalAlterConfigs(reply) => put_incremental_alter_configs(reply, out),
         Reply::Metadata(reply) => put_metadata(reply, out),
-        Reply::Bare { error } => kr_layout::put_body(&(), error, out),
+        Reply::Bare { error } => error.put(&(), out),
     }
 }

@@ -15,6 +15,7 @@ use Rattle.kr_calls.specs.declared.events.Output.TheVariants as outputs
 use Rattle.kr_calls.specs.declared.events.Reason.{Reason}
 use Rattle.kr_req.specs.Reading.{ask_of}
 use Rattle.kr_req.proofs.Asks.{ask_is}
+use Rattle.kr_req.proofs.Replies.{replies_apart}
 use Rattle.kr_stream.specs.declared.frame.Frame.{Frame}
 use Rattle.kr_stream.specs.declared.frame.Frame.TheVariants as frames
 use Rattle.kr_stream.specs.declared.kind.FrameKind.{FrameKind}
@@ -151,8 +152,9 @@ same_output (outputs.Refused event reason) (outputs.Refused event' reason') x y 
     rw (e.0, r) refl
 same_output (outputs.Reply client correlation reply) (outputs.Reply client' correlation' reply') x y number same is is' =
     let c = part_once (number_law w32) client client' _ _ x y same is is' in
+    let again = ap (λ (l : List ℕ). l ++ []) c.1 in
     let k = part_once (signed_law w32) correlation correlation' _ _ is.right is'.right c.1 is.second is'.second in
-    (c.0, k.0)
+    (c.0, k.0, λ to. (replies_apart correlation correlation' reply reply' is.right is'.right [] [] to is.second is'.second again).1)
 same_output (outputs.Append bytes) (outputs.Reply client correlation reply) x y number same is is' = absurd (omega (arith, number))
 same_output (outputs.Append bytes) (outputs.Refused event reason) x y number same is is' = absurd (omega (arith, number))
 same_output (outputs.Append bytes) (outputs.Image bytes') x y number same is is' = absurd (omega (arith, number))

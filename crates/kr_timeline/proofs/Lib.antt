@@ -1,5 +1,12 @@
-pub mod DroppedEntries
+pub mod Bools
+pub mod Versions
+pub mod Entries
+pub mod Trims
+pub mod Standing
+pub mod Puts
+pub mod Drops
 pub mod Histories
-pub mod Maps
-mod OrderedEntries
 pub mod Places
+pub mod Reverts
+pub mod Forgets
+pub mod Nexts

@@ -1,78 +1,75 @@
--- Where the entry of an epoch stands among what is stored.
-use Rattle.std.proofs.Common.{◌≡◌, List, [], ◌∷◌, ◌++◌, Option, Some, None, Bool, true, false, cond, ℕ, ℤ, ◌+◌, length, take, refl, sym, ap, arith, find, append_assoc, length-append, suc, add-one}
-use Rattle.std.specs.Option.{option_map}
-use Rattle.std.specs.Ordering.{int_eq}
-use Rattle.std.specs.List.{position_from}
+-- Where the entry of an epoch stands, in a list of which the epochs rise.
+use Rattle.std.proofs.Common.{◌≡◌, ◌<◌, List, [], ◌∷◌, ◌++◌, Some, None, Bool, true, false, cond, ℕ, ℤ, ◌+◌, length, refl, sym, ap, ◌∙◌, arith, find, suc, zero, slice_get, get_or, map, subst, nat_lt}
+use Rattle.std.specs.Ordering.{int_eq, int_cmp, is_eq, is_lt, ordering_index, ordering_reverse}
+use Rattle.std.specs.Cmp.{int_cmp_total}
+use Rattle.std.specs.List.{AllByRecursion, HoldsAt}
+use Rattle.std.specs.List.Sorted.{IsStrictlySortedBy, IsNonDecreasingBy, IsPartitionPoint}
+use Rattle.std.specs.declared.cmp.Ordering.TheVariants.{Less, Equal, Greater}
 use Rattle.std.proofs.lemmas.Bool.Decides.{Decides-int_eq}
-use Rattle.kr_defs.specs.KeptMaps.{Kept, AreRising}
-use Rattle.kr_defs.proofs.EpochCuts.{AreRising-front, up_to-entry, find-entry}
-use Rattle.kr_timeline.specs.StoredMaps.{later, last_of, kept_of, entries_of, EndsAt}
-use Rattle.kr_timeline.specs.declared.timeline.Stored.{Stored}
-use Rattle.kr_timeline.proofs.Maps.{kept_of-push, last_of-push}
+use Rattle.std.proofs.lemmas.Map.Keys.{Less-from_sorted}
+use Rattle.std.proofs.lemmas.List.Sorted.{searchable_from_sorted}
+use Rattle.std.proofs.lemmas.Option.{slice_get_read}
+use Rattle.kr_timeline.specs.Intervals.{StandsAt}
 
--- the place that passes, with what stands before and behind it
-record Split {X : Type 0} (test : X → Bool) (xs : List X) (start place : ℕ) : Type 0 where
-  front : List X
-  here : X
-  back : List X
-  is : xs ≡ front ++ here ∷ back
-  at : place ≡ start + length front
-  passes : test here ≡ true
+pub get_length : {X : Type 0} (front : List X) (x : X) (back : List X) → slice_get (front ++ x ∷ back) (length front) ≡ Some x
+get_length [] x back = refl
+get_length (y ∷ front) x back = get_length front x back
 
-split : {X : Type 0} (test : X → Bool) (start : ℕ) (xs : List X) (place : ℕ) → position_from test start xs ≡ Some place → Split test xs start place
-split test start [] place h = cc
-split {X} test start (x ∷ xs) place h =
-    elim (test x) as (λ b. test x ≡ b → cond b (Some start) (position_from test (start + 1) xs) ≡ Some place → Split test (x ∷ xs) start place) [
-      | true ↦ λ p e. let same : start ≡ place = cc in record { front = []; here = x; back = xs; is = refl; at = omega arith; passes = p }
-      | false ↦ λ p e. let rest : Split test xs (start + 1) place = split test (start + 1) xs place e in
-          let there : place ≡ start + 1 + length rest.front = rest.at in
-          record { front = x ∷ rest.front; here = rest.here; back = rest.back; is = ap (λ (ys : List X). x ∷ ys) rest.is; at = omega arith; passes = rest.passes }
-    ] refl h
+module _ {X : Type 0} (epoch_of : X → ℤ) where
+  below_later : (low : ℤ) (front : List X) (x : X) (back : List X) → AllByRecursion (λ z. int_cmp low z ≡ Less) (map epoch_of (front ++ x ∷ back)) → int_cmp low (epoch_of x) ≡ Less
+  below_later low [] x back a = a.0
+  below_later low (y ∷ front) x back a = below_later low front x back a.1
 
-take_suc : {X : Type 0} (front : List X) (x : X) (back : List X) → take (suc (length front)) (front ++ x ∷ back) ≡ front ++ x ∷ []
-take_suc [] x back = refl
-take_suc {X} (y ∷ front) x back = ap (λ (ys : List X). y ∷ ys) (take_suc front x back)
-
-take_front : {X : Type 0} (front : List X) (x : X) (back : List X) → take (length front + 1) (front ++ x ∷ back) ≡ front ++ x ∷ []
-take_front front x back = rw add-one (take_suc front x back)
-
-module _ {K V : Type 0} where
-  kept_of-append : (before : Option (List (K × V))) (front back : List (Stored K V)) → kept_of before (front ++ back) ≡ kept_of before front ++ kept_of (last_of before front) back
-  kept_of-append before [] back = refl
-  kept_of-append before (x ∷ front) back = ap (λ (ks : List (Kept K V)). record { epoch = x.epoch; map = entries_of (later before x.map); made = x.made } ∷ ks) (kept_of-append (later before x.map) front back)
-
-  ends_here : (front : List (Stored K V)) (s : Stored K V) (back : List (Stored K V)) → AreRising (kept_of None (front ++ s ∷ back)) → EndsAt (front ++ s ∷ back) s.epoch (length front + 1)
-  ends_here front s back rising =
-      let here : Kept K V = record { epoch = s.epoch; map = entries_of (later (last_of None front) s.map); made = s.made } in
-      let parts : kept_of None (front ++ s ∷ back) ≡ kept_of None front ++ here ∷ kept_of (later (last_of None front) s.map) back = kept_of-append None front (s ∷ back) in
-      let rises : AreRising (kept_of None front ++ here ∷ kept_of (later (last_of None front) s.map) back) = rw (← parts) rising in
+  pub stands_found : (list : List X) (epoch : ℤ) (place : ℕ) → IsStrictlySortedBy int_cmp (map epoch_of list) → place < length list → HoldsAt (λ x. int_cmp (epoch_of x) epoch ≡ Equal) list place → StandsAt list epoch_of epoch place
+  unfolding IsStrictlySortedBy
+  stands_found [] epoch place s lt h = absurd (omega arith)
+  stands_found (x ∷ list) epoch zero s lt h =
+      let here : int_eq (epoch_of x) epoch ≡ true = ap is_eq (h x) in
+      record { front = []; here = x; back = list; is = refl; at = refl; epoch_is = (Decides-int_eq (epoch_of x) epoch).0 here; found = ap (λ b. cond b (Some x) (find (λ y. int_eq (epoch_of y) epoch) list)) here }
+  stands_found (x ∷ list) epoch (suc place) s lt h =
+      let rest : StandsAt list epoch_of epoch place = stands_found list epoch place s.1 (omega arith) h in
+      let below : int_cmp (epoch_of x) (epoch_of rest.here) ≡ Less = below_later (epoch_of x) rest.front rest.here rest.back (subst (λ (xs : List X). AllByRecursion (λ z. int_cmp (epoch_of x) z ≡ Less) (map epoch_of xs)) rest.is s.0) in
+      let apart : int_eq (epoch_of x) epoch ≡ false = ap (λ e. int_eq (epoch_of x) e) (sym rest.epoch_is) ∙ ap is_eq below in
       record {
-        rising = rw (take_front front s back, kept_of-push None front s) (AreRising-front (kept_of None front ++ here ∷ []) (kept_of (later (last_of None front) s.map) back) (rw append_assoc rises));
-        within = omega (arith, length-append front (s ∷ back));
-        left = rw (parts, take_front front s back, kept_of-push None front s) (up_to-entry (kept_of None front) here _ rises);
-        found = rw (parts, take_front front s back, last_of-push None front s) (ap (option_map (λ (k : Kept K V). k.map)) (find-entry (kept_of None front) here _ rises));
+        front = x ∷ rest.front;
+        here = rest.here;
+        back = rest.back;
+        is = ap (λ (xs : List X). x ∷ xs) rest.is;
+        at = ap (λ n. suc n) rest.at;
+        epoch_is = rest.epoch_is;
+        found = ap (λ b. cond b (Some x) (find (λ y. int_eq (epoch_of y) epoch) list)) apart ∙ rest.found;
       }
 
-  ends_there : (stored : List (Stored K V)) (epoch : ℤ) (place : ℕ) (front : List (Stored K V)) (s : Stored K V) (back : List (Stored K V)) → stored ≡ front ++ s ∷ back → place ≡ 0 + length front → s.epoch ≡ epoch
-      → AreRising (kept_of None stored) → EndsAt stored epoch (place + 1)
-  ends_there stored epoch place front s back is at same rising =
-      let count : place + 1 ≡ length front + 1 = omega arith in
-      let rises : AreRising (kept_of None (front ++ s ∷ back)) = rw is at rising in
-      rw (is, ← same, count) (ends_here front s back rises)
+  none_found : (test : X → Bool) (list : List X) → ((k : ℕ) (d : X) → k < length list → test (get_or list k d) ≡ false) → find test list ≡ None
+  none_found test [] h = refl
+  none_found test (x ∷ list) h = ap (λ b. cond b (Some x) (find test list)) (h 0 x (omega arith)) ∙ none_found test list (λ k d lt. h (suc k) d (omega arith))
 
-  pub ends_at : (stored : List (Stored K V)) (epoch : ℤ) (place : ℕ) → AreRising (kept_of None stored) → Some place ≡ position_from (λ (s : Stored K V). int_eq s.epoch epoch) 0 stored → EndsAt stored epoch (place + 1)
-  ends_at stored epoch place rising h =
-      let parts : Split (λ (s : Stored K V). int_eq s.epoch epoch) stored 0 place = split _ 0 stored place (sym h) in
-      ends_there stored epoch place parts.front parts.here parts.back parts.is parts.at ((Decides-int_eq parts.here.epoch epoch).0 parts.passes) rising
+  get-epoch : (list : List X) (k : ℕ) (d : X) → get_or (map epoch_of list) k (epoch_of d) ≡ epoch_of (get_or list k d)
+  get-epoch [] k d = refl
+  get-epoch (x ∷ list) zero d = refl
+  get-epoch (x ∷ list) (suc k) d = get-epoch list k d
 
-  pub found_nowhere : (before : Option (List (K × V))) (start : ℕ) (stored : List (Stored K V)) (epoch : ℤ) → None ≡ position_from (λ (s : Stored K V). int_eq s.epoch epoch) start stored
-      → find (λ (k : Kept K V). int_eq k.epoch epoch) (kept_of before stored) ≡ None
-  found_nowhere before start [] epoch h = refl
-  found_nowhere before start (x ∷ stored) epoch h =
-      elim (int_eq x.epoch epoch) as (λ b. None ≡ cond b (Some start) (position_from (λ (s : Stored K V). int_eq s.epoch epoch) (start + 1) stored)
-      → cond b (Some (record { epoch = x.epoch; map = entries_of (later before x.map); made = x.made })) (find (λ (k : Kept K V). int_eq k.epoch epoch) (kept_of (later before x.map) stored)) ≡ None) [
-        | true ↦ λ e. cc
-        | false ↦ λ e. found_nowhere (later before x.map) (start + 1) stored epoch e
-      ] h
+  length-epochs : (list : List X) → length (map epoch_of list) ≡ length list
+  length-epochs [] = refl
+  length-epochs (x ∷ list) = ap (λ n. suc n) (length-epochs list)
 
-pub ruleset places = (ends_at, found_nowhere)
+  rising_pair : (list : List X) (k : ℕ) (d : X) → IsStrictlySortedBy int_cmp (map epoch_of list) → k + 1 < length list → is_lt (int_cmp (epoch_of (get_or list (k + 1) d)) (epoch_of (get_or list k d))) ≡ false
+  rising_pair list k d s lt =
+      let up : int_cmp (epoch_of (get_or list k d)) (epoch_of (get_or list (k + 1) d)) ≡ Less = rw (← get-epoch list k d, ← get-epoch list (k + 1) d) (Less-from_sorted int_cmp (map epoch_of list) k (k + 1) (epoch_of d) s (omega arith) (omega (arith, length-epochs list))) in
+      ap is_lt (int_cmp_total.antisymm (epoch_of (get_or list (k + 1) d)) (epoch_of (get_or list k d)) ∙ ap ordering_reverse up)
+
+  pub searchable : (list : List X) (epoch : ℤ) → IsStrictlySortedBy int_cmp (map epoch_of list) → IsNonDecreasingBy (λ x. ordering_index (int_cmp (epoch_of x) epoch)) list
+  searchable list epoch s = searchable_from_sorted int_cmp_total epoch_of list epoch (λ k d low lt. rising_pair list k d s lt)
+
+  pub nowhere : (list : List X) (epoch : ℤ) (place : ℕ) → IsPartitionPoint (λ x. int_cmp (epoch_of x) epoch ≡ Less) (λ x. int_cmp (epoch_of x) epoch ≡ Greater) list place → find (λ x. int_eq (epoch_of x) epoch) list ≡ None
+  nowhere list epoch place p = none_found (λ x. int_eq (epoch_of x) epoch) list (λ k d lt.
+      elim (nat_lt k place) as (λ b. nat_lt k place ≡ b → int_eq (epoch_of (get_or list k d)) epoch ≡ false) [
+        | true ↦ λ t. ap is_eq (p.0 k d (omega arith) (grind arith))
+        | false ↦ λ t. ap is_eq (p.1 k d (grind arith) lt)
+      ] refl)
+
+  -- what is read there
+  pub stands_read : (list : List X) (epoch : ℤ) (place : ℕ) → StandsAt list epoch_of epoch place → (x : X) → place < length list → x ≡ get_or list place x → find (λ y. int_eq (epoch_of y) epoch) list ≡ Some x
+  stands_read list epoch place at x lt is =
+      let here : slice_get list place ≡ Some at.here = ap (slice_get list) at.at ∙ ap (λ (xs : List X). slice_get xs (length at.front)) at.is ∙ get_length at.front at.here at.back in
+      at.found ∙ sym here ∙ slice_get_read list (length list) place x refl lt is

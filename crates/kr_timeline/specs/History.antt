@@ -1,9 +1,7 @@
 -- What a contract sees of a timeline.
-use Rattle.std.specs.Prelude.{ℕ, ℤ, Bool, List, All, refl}
+use Rattle.std.specs.Prelude.{ℕ, ℤ, Bool, List, refl}
 use Rattle.std.specs.Coded.{Coded, code_by, coded×, coded_bool, coded_ℕ, coded_ℤ, coded_list}
-use Rattle.std.specs.declared.cmp.Ordering.{Ordering}
-use Rattle.kr_defs.specs.KeptMaps.{Kept, KeptMaps, AreRising}
-use Rattle.kr_defs.specs.Map.{IsMap}
+use Rattle.kr_defs.specs.KeptMaps.{Kept, KeptMaps}
 
 pub record History (K V : Type 0) : Type 0 where
   pub maps : KeptMaps K V
@@ -18,9 +16,3 @@ kept_maps_code {K} {V} k v = code_by (List (Kept K V) × (List (K × V) × ℕ))
 
 abbrev pub history_code : {K V : Type 0} → Coded K → Coded V → Coded (History K V)
 history_code {K} {V} k v = code_by (KeptMaps K V × Bool) (coded× (kept_maps_code k v) coded_bool) (λ h. (h.maps, h.has_room)) (λ p. record { maps = p.0; has_room = p.1 }) (λ _. refl)
-
--- the kept epochs rise, and each map, a kept one or the present one, is in the order of its keys
-pub record AreMaps {K V : Type 0} (order : K → K → Ordering) (maps : KeptMaps K V) : Type 0 where
-  pub rising : AreRising maps.kept
-  pub kept : All (λ (k : Kept K V). IsMap order k.map) maps.kept
-  pub present : IsMap order maps.present

@@ -1,2 +1,4 @@
+pub mod Chains
 pub mod History
-pub mod StoredMaps
+pub mod Intervals
+pub mod Keys

@@ -1,8 +1,12 @@
 //! A map with kept epochs.
 #![tactic(auto)]
 
-mod ordered;
+mod chain;
+mod chains;
+mod intervals;
+mod key;
 mod timeline;
 
+pub use key::Key;
 pub use kr_base::NoEpoch;
 pub use timeline::Timeline;

@@ -1,6 +1,6 @@
 //! Topics get more partitions.
 
-ghost use Rattle.std.specs.Prelude.{◌≡◌, ◌≤◌, ◌+◌, ◌-◌, ◌^◌, ◌&&◌, ◌==◌, pos, ◌≤ℤ◌, ◌<ℤ◌, Some, not, false, ◌<◌, int_le, length, map, nat_lt, unsigned_abs, Ok, IfOk, OnErr, OnOk};
+ghost use Rattle.std.specs.Prelude.{◌≡◌, ◌≤◌, ◌+◌, ◌-◌, ◌^◌, ◌&&◌, ◌==◌, pos, ◌≤ℤ◌, ◌<ℤ◌, Some, not, false, ◌<◌, int_le, length, map, nat_lt, unsigned_abs, Ok, IfOk};
 ghost use Rattle.std.specs.List.{list_all};
 ghost use Rattle.kr_defs.specs.declared.limits.TheConstants.{PLACES_END as places_end};
 ghost use Rattle.kr_defs.specs.Guard.{refuse◌when◌else◌};
@@ -13,7 +13,7 @@ ghost use Rattle.kr_calls.specs.NewPartitions as partitions;
 ghost use Rattle.kr_calls.specs.Refuse.{refused_growth};
 ghost use Rattle.kr_rules.specs.Progress.{place_of, work_at};
 ghost use Rattle.kr_rules.specs.Refusals.{Judges};
-ghost use Rattle.kr_store.specs.Images.{last_image, last_kept};
+ghost use Rattle.kr_store.specs.Images.{last_image};
 ghost use Rattle.kr_topics.specs.inner.EntryRules as room;
 ghost use Rattle.kr_topics.specs.inner.EntryRules.{has_room};
 
@@ -32,7 +32,7 @@ use kr_calls::{
 };
 use kr_defs::{Copied, Records, Rows};
 use kr_place::Grouped;
-use kr_rules::{Refusal, Rule, Work, decide_or_validate};
+use kr_rules::{Handler, Refusal, Rule, Work, decide_or_validate};
 use kr_sessions::Context;
 use kr_store::Store;
 use kr_walks::{count_of, tip};
@@ -307,30 +307,26 @@ fn decide_growths<S: Store, L: Ledger>(
     )
 }
 
-/// Each topic that is named gets more partitions: over the replicas that the request gives, or else placed on the active
-/// brokers from the place of the entry's first record on.
-#[tactic(auto, unfolding(kr_calls::specs::CreatePartitions::decided))]
-pub fn decide<S: Store, L: Ledger>(
-    alloc: Global,
-    store: &mut S,
-    context: &Context,
-    request: &CreatePartitions,
-    out: &mut Effect,
-    steps: &mut Steps<L>,
-) -> Result<(), NoMemory>
-    requires natural { pos 0 ≤ℤ context.now.place }
-    requires low { context.now.place ≤ℤ places_end }
-    requires kept { last_kept (S.images store.old) ≡ Some (context.now.place, (S.images store.old).tip) }
-    ensures records { OnOk result (out.new.records ≡ (growths.decided (S.images store.old).tip context.entry.now.place request.now).0.records) }
-    ensures reply { OnOk result (out.new.reply ≡ (growths.decided (S.images store.old).tip context.entry.now.place request.now).1) }
-    ensures image { OnOk result ((S.images store.new).tip ≡ (growths.decided (S.images store.old).tip context.entry.now.place request.now).0.image) }
-    ensures same { OnErr result (out.new ≡ out.old) }
-    ensures kept { (S.images store.new).kept ≡ (S.images store.old).kept }
-    ensures made { OnOk result ((S.images store.new).made ≤ (S.images store.old).made + weights (S.images store.old).tip out.new.records) }
-    ensures later { steps.old ≤ steps.new }
-{
-    let (records, results) = decide_growths(alloc, store, &context.place, request, steps)?;
-    out.records = records;
-    out.reply = Reply::CreatePartitions(CreatePartitionsReply { results });
-    Ok(())
+/// Each topic that is named gets more partitions: over the replicas that the request gives, or else placed on the
+/// active brokers from the place of the entry's first record on.
+#[derive(Drop)]
+pub struct CreatePartitionsHandler;
+
+impl Handler<CreatePartitions> for CreatePartitionsHandler {
+    ghost decided = { λ request given image. growths.decided image given.place request };
+
+    #[tactic(auto, unfolding(kr_calls::specs::CreatePartitions::decided))]
+    fn decide<S: Store, L: Ledger>(
+        alloc: Global,
+        store: &mut S,
+        context: &Context,
+        request: &CreatePartitions,
+        steps: &mut Steps<L>,
+    ) -> Result<Effect, NoMemory> {
+        let (records, results) = decide_growths(alloc, store, &context.place, request, steps)?;
+        Ok(Effect {
+            records,
+            reply: Reply::CreatePartitions(CreatePartitionsReply { results }),
+        })
+    }
 }

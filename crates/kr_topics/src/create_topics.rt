@@ -1,6 +1,6 @@
 //! Topics are created.
 
-ghost use Rattle.std.specs.Prelude.{◌≡◌, ◌≤◌, ◌<◌, ◌+◌, ◌*◌, ◌^◌, ◌||◌, ◌==◌, ◌∷◌, ◌++◌, pos, ◌≤ℤ◌, Some, not, false, length, find, unsigned_abs, IfOk, OnErr, OnOk, if◌then◌else◌};
+ghost use Rattle.std.specs.Prelude.{◌≡◌, ◌≤◌, ◌<◌, ◌+◌, ◌*◌, ◌^◌, ◌||◌, ◌==◌, ◌∷◌, ◌++◌, pos, ◌≤ℤ◌, Some, not, false, length, find, unsigned_abs, IfOk, if◌then◌else◌};
 ghost use Rattle.std.specs.List.{list_any, range_with_len};
 ghost use Rattle.kr_defs.specs.declared.limits.TheConstants.{PLACES_END as places_end};
 ghost use Rattle.kr_defs.specs.declared.record.Record.TheVariants as kinds;
@@ -16,7 +16,7 @@ ghost use Rattle.kr_calls.specs.NewPartitions as partitions;
 ghost use Rattle.kr_calls.specs.Refuse.{refused_creation};
 ghost use Rattle.kr_rules.specs.Progress.{place_of, work_at};
 ghost use Rattle.kr_rules.specs.Refusals.{Judges};
-ghost use Rattle.kr_store.specs.Images.{last_image, last_kept};
+ghost use Rattle.kr_store.specs.Images.{last_image};
 ghost use Rattle.kr_topics.specs.inner.EntryRules as room;
 
 use crate::assigning::{are_assignable, first_size, lists_of};
@@ -35,7 +35,7 @@ use kr_calls::{
 use kr_defs::limits::MOST_TARGETS;
 use kr_defs::{Copied, Options, Record, Records, Rows, Text, is_topic_name};
 use kr_place::Grouped;
-use kr_rules::{Refusal, Rule, Work, decide_or_validate};
+use kr_rules::{Handler, Refusal, Rule, Work, decide_or_validate};
 use kr_sessions::Context;
 use kr_store::Store;
 use kr_walks::{has_agreeing_name, tip};
@@ -435,35 +435,31 @@ fn decide_creations<S: Store, L: Ledger>(
 
 /// Each topic whose name is new is created, with its settings and its partitions: over the replicas that the request
 /// gives, or else placed on the active brokers from the place of the topic's record on.
-#[tactic(auto, unfolding(kr_calls::specs::CreateTopics::decided))]
-pub fn decide<S: Store, L: Ledger>(
-    alloc: Global,
-    store: &mut S,
-    context: &Context,
-    request: &CreateTopics,
-    out: &mut Effect,
-    steps: &mut Steps<L>,
-) -> Result<(), NoMemory>
-    requires natural { pos 0 ≤ℤ context.now.place }
-    requires low { context.now.place ≤ℤ places_end }
-    requires kept { last_kept (S.images store.old) ≡ Some (context.now.place, (S.images store.old).tip) }
-    ensures records { OnOk result (out.new.records ≡ (creations.decided context.entry.now.options.now (S.images store.old).tip context.entry.now.place request.now).0.records) }
-    ensures reply { OnOk result (out.new.reply ≡ (creations.decided context.entry.now.options.now (S.images store.old).tip context.entry.now.place request.now).1) }
-    ensures image { OnOk result ((S.images store.new).tip ≡ (creations.decided context.entry.now.options.now (S.images store.old).tip context.entry.now.place request.now).0.image) }
-    ensures same { OnErr result (out.new ≡ out.old) }
-    ensures kept { (S.images store.new).kept ≡ (S.images store.old).kept }
-    ensures made { OnOk result ((S.images store.new).made ≤ (S.images store.old).made + weights (S.images store.old).tip out.new.records) }
-    ensures later { steps.old ≤ steps.new }
-{
-    let (records, topics) = decide_creations(
-        alloc,
-        store,
-        context.options,
-        &context.place,
-        request,
-        steps,
-    )?;
-    out.records = records;
-    out.reply = Reply::CreateTopics(CreateTopicsReply { topics });
-    Ok(())
+#[derive(Drop)]
+pub struct CreateTopicsHandler;
+
+impl Handler<CreateTopics> for CreateTopicsHandler {
+    ghost decided = { λ request given image. creations.decided given.options.now image given.place request };
+
+    #[tactic(auto, unfolding(kr_calls::specs::CreateTopics::decided))]
+    fn decide<S: Store, L: Ledger>(
+        alloc: Global,
+        store: &mut S,
+        context: &Context,
+        request: &CreateTopics,
+        steps: &mut Steps<L>,
+    ) -> Result<Effect, NoMemory> {
+        let (records, topics) = decide_creations(
+            alloc,
+            store,
+            context.options,
+            &context.place,
+            request,
+            steps,
+        )?;
+        Ok(Effect {
+            records,
+            reply: Reply::CreateTopics(CreateTopicsReply { topics }),
+        })
+    }
 }

@@ -1,11 +1,8 @@
 //! Topics are deleted.
 
-ghost use Rattle.std.specs.Prelude.{◌≡◌, ◌≤◌, ◌+◌, pos, ◌≤ℤ◌, Some, IfOk, OnErr, OnOk};
-ghost use Rattle.kr_defs.specs.declared.limits.TheConstants.{PLACES_END as places_end};
-ghost use Rattle.kr_calls.specs.Deciding.{weights};
+ghost use Rattle.std.specs.Prelude.{◌≡◌, Some, IfOk};
 ghost use Rattle.kr_calls.specs.DeleteTopics as deletions;
 ghost use Rattle.kr_calls.specs.Refuse.{refused_deletion};
-ghost use Rattle.kr_store.specs.Images.{last_kept};
 
 use crate::naming::is_named_once;
 use kr_base::{NoMemory, Steps};
@@ -14,7 +11,7 @@ use kr_calls::{
     DeletableTopicResult, DeleteTopicState, DeleteTopics, DeleteTopicsReply, Draft, Effect, Reply,
 };
 use kr_defs::{Copied, Record, Rows, Text};
-use kr_rules::{Refusal, Rule, Work, decide_each};
+use kr_rules::{Handler, Refusal, Rule, Work, decide_each};
 use kr_sessions::Context;
 use kr_store::Store;
 use kr_walks::tip;
@@ -88,35 +85,31 @@ impl Rule<DeleteTopicState, DeletableTopicResult> for Deleting {
 }
 
 /// Each topic that is named, by its name or its id, is removed.
-#[tactic(auto, unfolding(kr_calls::specs::DeleteTopics::decided))]
-pub fn decide<S: Store, L: Ledger>(
-    alloc: Global,
-    store: &mut S,
-    context: &Context,
-    request: &DeleteTopics,
-    out: &mut Effect,
-    steps: &mut Steps<L>,
-) -> Result<(), NoMemory>
-    requires natural { pos 0 ≤ℤ context.now.place }
-    requires low { context.now.place ≤ℤ places_end }
-    requires kept { last_kept (S.images store.old) ≡ Some (context.now.place, (S.images store.old).tip) }
-    ensures records { OnOk result (out.new.records ≡ (deletions.decided (S.images store.old).tip context.entry.now.place request.now).0.records) }
-    ensures reply { OnOk result (out.new.reply ≡ (deletions.decided (S.images store.old).tip context.entry.now.place request.now).1) }
-    ensures image { OnOk result ((S.images store.new).tip ≡ (deletions.decided (S.images store.old).tip context.entry.now.place request.now).0.image) }
-    ensures same { OnErr result (out.new ≡ out.old) }
-    ensures kept { (S.images store.new).kept ≡ (S.images store.old).kept }
-    ensures made { OnOk result ((S.images store.new).made ≤ (S.images store.old).made + weights (S.images store.old).tip out.new.records) }
-    ensures later { steps.old ≤ steps.new }
-{
-    let (records, responses) = decide_each(
-        alloc,
-        store,
-        context.place,
-        &Deleting,
-        request.topics.as_slice(),
-        steps,
-    )?;
-    out.records = records;
-    out.reply = Reply::DeleteTopics(DeleteTopicsReply { responses });
-    Ok(())
+#[derive(Drop)]
+pub struct DeleteTopicsHandler;
+
+impl Handler<DeleteTopics> for DeleteTopicsHandler {
+    ghost decided = { λ request given image. deletions.decided image given.place request };
+
+    #[tactic(auto, unfolding(kr_calls::specs::DeleteTopics::decided))]
+    fn decide<S: Store, L: Ledger>(
+        alloc: Global,
+        store: &mut S,
+        context: &Context,
+        request: &DeleteTopics,
+        steps: &mut Steps<L>,
+    ) -> Result<Effect, NoMemory> {
+        let (records, responses) = decide_each(
+            alloc,
+            store,
+            context.place,
+            &Deleting,
+            request.topics.as_slice(),
+            steps,
+        )?;
+        Ok(Effect {
+            records,
+            reply: Reply::DeleteTopics(DeleteTopicsReply { responses }),
+        })
+    }
 }

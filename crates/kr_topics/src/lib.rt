@@ -2,9 +2,9 @@
 #![tactic(auto)]
 
 mod assigning;
-pub mod create_partitions;
-pub mod create_topics;
-pub mod delete_topics;
+mod create_partitions;
+mod create_topics;
+mod delete_topics;
 pub mod metadata;
 mod named_topics;
 mod naming;
@@ -12,3 +12,7 @@ mod partitions;
 mod racks;
 mod settings;
 mod topic_rows;
+
+pub use create_partitions::CreatePartitionsHandler;
+pub use create_topics::CreateTopicsHandler;
+pub use delete_topics::DeleteTopicsHandler;

@@ -12,6 +12,7 @@ use Rattle.kr_defs.specs.declared.record.Item.TheVariants as items
 use Rattle.kr_defs.specs.declared.record.Record.{Record}
 use Rattle.kr_defs.specs.Apply.{apply_record}
 use Rattle.kr_defs.specs.Guard.{and_then}
+use Rattle.kr_defs.specs.Heartbeats.{heard}
 use Rattle.kr_defs.specs.Image.{Image}
 use Rattle.kr_defs.specs.ImageLaws.{as_items}
 use Rattle.kr_defs.specs.Sizes as sizes
@@ -65,5 +66,5 @@ records_fit image after records meaning within =
 
 pub requests_fit : RequestsFit
 requests_fit options basis image place request =
-    let work = (work_of options basis image place request).0 in
-    records_fit image work.image work.records (requests_stand options basis image place request) (requests_bounded options basis image place request)
+    let work = (work_of options basis.time (heard basis) image place request).0 in
+    records_fit image work.image work.records (requests_stand options basis.time (heard basis) image place request) (requests_bounded options basis.time (heard basis) image place request)

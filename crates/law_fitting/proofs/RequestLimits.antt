@@ -2,10 +2,10 @@
 use Rattle.std.proofs.Common.{◌≡◌, ℤ, Bool, true, false, cond, List, [], ◌∷◌, ◌++◌, refl, ap, subst, not}
 use Rattle.std.specs.Prelude.{Option, Some, None, Result, Ok, Err, unwrap_or}
 use Rattle.std.specs.List.{list_all}
-use Rattle.kr_defs.specs.declared.basis.Basis.{Basis}
 use Rattle.kr_defs.specs.declared.ill.Ill.{Ill}
 use Rattle.kr_defs.specs.declared.options.Options.{Options}
 use Rattle.kr_defs.specs.declared.record.Record.{Record}
+use Rattle.kr_defs.specs.Heartbeats.{Heartbeats}
 use Rattle.kr_defs.specs.Image.{Image}
 use Rattle.kr_defs.proofs.Tests.{both}
 use Rattle.kr_calls.specs.declared.calls.Request.{Request}
@@ -70,23 +70,23 @@ chosen_bounded true x y first then = first
 chosen_bounded false x y first then = then
 
 -- every request, by its rule
-pub requests_bounded : (options : Options) (basis : Basis) (image : Image) (place : ℤ) (request : Request) → is_request (work_of options basis image place request).0.records ≡ true
+pub requests_bounded : (options : Options) (time : ℤ) (heartbeats : Heartbeats) (image : Image) (place : ℤ) (request : Request) → is_request (work_of options time heartbeats image place request).0.records ≡ true
 unfolding work_of registering.decided heartbeating.decided unregistering.decided creating.decided deleting.decided growing.decided reporting.decided electing.decided reassigning.decided configuring.decided
-requests_bounded options basis image place (requests.BrokerRegistration q) = one_bounded registering.refused (registering.rule options basis) (nothing_decided place image) q refl
-requests_bounded options basis image place (requests.BrokerHeartbeat q) = one_bounded heartbeating.refused (heartbeating.rule options basis) (nothing_decided place image) q refl
-requests_bounded options basis image place (requests.UnregisterBroker q) = one_bounded unregistering.refused (unregistering.rule options) (nothing_decided place image) q refl
-requests_bounded options basis image place (requests.CreateTopics q) =
+requests_bounded options time heartbeats image place (requests.BrokerRegistration q) = one_bounded registering.refused (registering.rule options time heartbeats) (nothing_decided place image) q refl
+requests_bounded options time heartbeats image place (requests.BrokerHeartbeat q) = one_bounded heartbeating.refused (heartbeating.rule options heartbeats) (nothing_decided place image) q refl
+requests_bounded options time heartbeats image place (requests.UnregisterBroker q) = one_bounded unregistering.refused (unregistering.rule options) (nothing_decided place image) q refl
+requests_bounded options time heartbeats image place (requests.CreateTopics q) =
     validated_bounded q.validate_only (nothing_decided place image) _ refl (all_bounded refused_creation (creating.rule options q.validate_only) (nothing_decided place image) q.topics refl)
-requests_bounded options basis image place (requests.DeleteTopics q) = all_bounded refused_deletion deleting.rule (nothing_decided place image) q.topics refl
-requests_bounded options basis image place (requests.CreatePartitions q) =
+requests_bounded options time heartbeats image place (requests.DeleteTopics q) = all_bounded refused_deletion deleting.rule (nothing_decided place image) q.topics refl
+requests_bounded options time heartbeats image place (requests.CreatePartitions q) =
     validated_bounded q.validate_only (nothing_decided place image) _ refl (all_bounded refused_growth growing.rule (nothing_decided place image) q.topics refl)
-requests_bounded options basis image place (requests.AlterPartition q) =
+requests_bounded options time heartbeats image place (requests.AlterPartition q) =
     chosen_bounded (reporting.is_stale image q) _ _ refl (groups_bounded reporting.refused (reporting.rule options q.broker) reporting.entries_of reporting.answer_of (nothing_decided place image) q.topics refl)
-requests_bounded options basis image place (requests.ElectLeaders q) =
+requests_bounded options time heartbeats image place (requests.ElectLeaders q) =
     chosen_bounded (not (electing.is_kind q.kind)) _ _ refl (groups_bounded electing.answer (electing.rule options q.kind) electing.entries_of electing.answer_of (nothing_decided place image) (electing.groups_of image q.topics) refl)
-requests_bounded options basis image place (requests.AlterPartitionReassignments q) =
+requests_bounded options time heartbeats image place (requests.AlterPartitionReassignments q) =
     groups_bounded reassigning.answer (reassigning.rule options) reassigning.entries_of reassigning.answer_of (nothing_decided place image) q.topics refl
-requests_bounded options basis image place (requests.IncrementalAlterConfigs q) =
+requests_bounded options time heartbeats image place (requests.IncrementalAlterConfigs q) =
     validated_bounded q.validate_only (nothing_decided place image) _ refl (all_bounded refused_resource (configuring.rule options) (nothing_decided place image) q.resources refl)
-requests_bounded options basis image place (requests.ListPartitionReassignments q) = refl
-requests_bounded options basis image place (requests.Metadata q) = refl
+requests_bounded options time heartbeats image place (requests.ListPartitionReassignments q) = refl
+requests_bounded options time heartbeats image place (requests.Metadata q) = refl

@@ -9,7 +9,7 @@ use Rattle.kr_defs.specs.ImageLaws.{as_items}
 use Rattle.kr_batch.specs.BatchBytes.{IsWritable, values_size}
 use Rattle.kr_calls.specs.declared.calls.Request.{Request}
 use Rattle.kr_calls.specs.Deciding.{apply_records, is_request}
-use Rattle.kr_calls.specs.Decide.{work_of}
+use Rattle.kr_calls.specs.Decide.{decide}
 
 -- they are few, each has a written form, and their values are small
 pub record FitsBatch (records : List Record) : Type 0 where
@@ -23,4 +23,4 @@ RecordsFit = (image after : Image) (records : List Record) → apply_records ima
 
 -- So do the records of every request.
 abbrev pub RequestsFit : Type 0
-RequestsFit = (options : Options) (basis : Basis) (image : Image) (place : ℤ) (request : Request) → FitsBatch (work_of options basis image place request).0.records
+RequestsFit = (options : Options) (basis : Basis) (image : Image) (place : ℤ) (request : Request) → FitsBatch (decide options image basis place request).records

@@ -100,7 +100,7 @@ or_off : (b : Bool) → b ≡ false → (b || false) ≡ false
 or_off true is = absurd cc
 or_off false is = refl
 
-module _ (minimum : ℤ) (basis : Basis) (image : Image) (now place : ℤ) (q : BrokerHeartbeat) (state : Broker) (valid : IsValid image) (there : entries.get int_cmp image.brokers q.broker ≡ Some state) (h : Heartbeats) (hears : HearsOf h image) where
+module _ (minimum : ℤ) (image : Image) (now place : ℤ) (q : BrokerHeartbeat) (state : Broker) (valid : IsValid image) (there : entries.get int_cmp image.brokers q.broker ≡ Some state) (h : Heartbeats) (hears : HearsOf h image) where
   abbrev k : ℤ
   k = q.broker
 
@@ -153,8 +153,8 @@ module _ (minimum : ℤ) (basis : Basis) (image : Image) (now place : ℤ) (q : 
   fenced_heard fenced = choose (q.want_shutdown || state.stopping) _ _ (λ _. stays_fenced true fenced) (λ going. choose (q.want_fence || heartbeating.is_behind q) _ _ (λ _. stays_fenced false fenced) (λ _.
       unfences state.epoch (heartbeating.electing minimum image k state) false fenced (neither q.want_shutdown state.stopping going).1))
 
-  stopping_heard : state.fenced ≡ false → HeardAfter (heartbeating.of_stopping minimum basis image q)
-  stopping_heard unfenced = choose (heartbeating.is_passed_on basis image k) _ _ (λ _. fences q.epoch (taking_out minimum image k false) true) (λ _. stays_unfenced false unfenced)
+  stopping_heard : state.fenced ≡ false → HeardAfter (heartbeating.of_stopping minimum h image q)
+  stopping_heard unfenced = choose (heartbeating.is_passed_on h image k) _ _ (λ _. fences q.epoch (taking_out minimum image k false) true) (λ _. stays_unfenced false unfenced)
 
   active_heard : state.fenced ≡ false → state.stopping ≡ false → HeardAfter (heartbeating.of_active minimum image q)
   active_heard unfenced going =
@@ -162,7 +162,7 @@ module _ (minimum : ℤ) (basis : Basis) (image : Image) (now place : ℤ) (q : 
       choose (q.want_shutdown && not (heartbeating.leads image k)) _ _ (λ _. fences q.epoch (taking_out minimum image k false) true) (λ _.
       choose q.want_shutdown _ _ (λ _. stops q.epoch (taking_out minimum image k false) false unfenced going) (λ _. stays_unfenced false unfenced)))
 
-  pub step_heard : HeardAfter (heartbeating.step minimum basis image q state)
+  pub step_heard : HeardAfter (heartbeating.step minimum h image q state)
   unfolding heartbeating.step
   step_heard = choose state.fenced _ _ fenced_heard (λ unfenced. choose state.stopping _ _ (λ _. stopping_heard unfenced) (λ going. active_heard unfenced going))
 
@@ -204,14 +204,14 @@ module _ (options : Options) (b : Basis) (image : Image) (place : ℤ) (valid : 
   registered_hears q None after good is = registered_leaves q (λ _. None) [] after good is
   registered_hears q (Some old) after good is = registered_leaves q (taking_out options.minimum image q.broker (not (int_eq q.previous_epoch old.epoch))) (walk image) after good is
 
-  registration_hears : (q : BrokerRegistration) → let d = one registering.refused (registering.rule options b) (nothing_decided place image) q in HearsOf (hearing.after_leaving h d.1.error q.broker) d.0.image
+  registration_hears : (q : BrokerRegistration) → let d = one registering.refused (registering.rule options b.time h) (nothing_decided place image) q in HearsOf (hearing.after_leaving h d.1.error q.broker) d.0.image
   registration_hears q =
-      done_by registering.refused (λ (d : Work × _). HearsOf (hearing.after_leaving h d.1.error q.broker) d.0.image) (nothing_decided place image) q (registering.rule options b image place q)
-      (λ error is. refused_hears error q.broker (refuse_has (pos 104) (not (bytes_eq q.cluster options.cluster)) _ refl (refuse_has (pos 42) (int_lt q.broker (pos 0) || q.migrating || length q.listeners == 0) _ refl (refuse_has (pos 101) (registering.is_taken options b image q) _ refl (done_has (registering.registered options image place q)))) error is))
+      done_by registering.refused (λ (d : Work × _). HearsOf (hearing.after_leaving h d.1.error q.broker) d.0.image) (nothing_decided place image) q (registering.rule options b.time h image place q)
+      (λ error is. refused_hears error q.broker (refuse_has (pos 104) (not (bytes_eq q.cluster options.cluster)) _ refl (refuse_has (pos 42) (int_lt q.broker (pos 0) || q.migrating || length q.listeners == 0) _ refl (refuse_has (pos 101) (registering.is_taken options b.time h image q) _ refl (done_has (registering.registered options image place q)))) error is))
       (refused_hears (pos 44) q.broker refl)
       (λ draft after is by.
       let P = λ (draft : Draft _). (int_eq draft.answer.error (pos 0) ≡ true) × ((after : Image) → IsValid after → apply_records image draft.records ≡ Ok after → HearsOf (leave h q.broker) after) in
-      let told = gives_refuse P (pos 104) (not (bytes_eq q.cluster options.cluster)) _ (λ _. gives_refuse P (pos 42) (int_lt q.broker (pos 0) || q.migrating || length q.listeners == 0) _ (λ _. gives_refuse P (pos 101) (registering.is_taken options b image q) _ (λ _. gives_done P (registering.registered options image place q) (refl, registered_hears q (entries.get int_cmp image.brokers q.broker))))) draft is in
+      let told = gives_refuse P (pos 104) (not (bytes_eq q.cluster options.cluster)) _ (λ _. gives_refuse P (pos 42) (int_lt q.broker (pos 0) || q.migrating || length q.listeners == 0) _ (λ _. gives_refuse P (pos 101) (registering.is_taken options b.time h image q) _ (λ _. gives_done P (registering.registered options image place q) (refl, registered_hears q (entries.get int_cmp image.brokers q.broker))))) draft is in
       rw told.0 (told.1 after.image (valid_after image draft.records valid after.image by.applied) by.applied))
 
   unregistration_hears : (q : UnregisterBroker) → let d = one unregistering.refused (unregistering.rule options) (nothing_decided place image) q in HearsOf (hearing.after_leaving h d.1.error q.broker) d.0.image
@@ -230,16 +230,16 @@ module _ (options : Options) (b : Basis) (image : Image) (place : ℤ) (valid : 
       )) draft is in
       rw told.0 (told.1 after.image (valid_after image draft.records valid after.image by.applied) by.applied))
 
-  heartbeat_hears : (q : BrokerHeartbeat) → let d = one heartbeating.refused (heartbeating.rule options b) (nothing_decided place image) q in HearsOf (hearing.after_heartbeat h image d.0.image b.time place q d.1) d.0.image
+  heartbeat_hears : (q : BrokerHeartbeat) → let d = one heartbeating.refused (heartbeating.rule options h) (nothing_decided place image) q in HearsOf (hearing.after_heartbeat h image d.0.image b.time place q d.1) d.0.image
   heartbeat_hears q =
-      let told = λ (state : Broker). heartbeating.told q (heartbeating.step options.minimum b image q state) in
-      done_by heartbeating.refused (λ (d : Work × _). HearsOf (hearing.after_heartbeat h image d.0.image b.time place q d.1) d.0.image) (nothing_decided place image) q (heartbeating.rule options b image place q)
+      let told = λ (state : Broker). heartbeating.told q (heartbeating.step options.minimum h image q state) in
+      done_by heartbeating.refused (λ (d : Work × _). HearsOf (hearing.after_heartbeat h image d.0.image b.time place q d.1) d.0.image) (nothing_decided place image) q (heartbeating.rule options h image place q)
       (λ error is. rw (found_has (pos 77) (entries.get int_cmp image.brokers q.broker) _ refl (λ state. refuse_has (pos 77) (not (int_eq q.epoch state.epoch)) _ refl (done_has (told state))) error is) hears)
       hears
       (λ draft after is by.
       let P = λ (draft : Draft _). (after : Image) → IsValid after → apply_records image draft.records ≡ Ok after → HearsOf (hearing.after_heartbeat h image after b.time place q draft.answer) after in
       gives_found P (pos 77) (entries.get int_cmp image.brokers q.broker) _ (λ state there. gives_refuse P (pos 77) (not (int_eq q.epoch state.epoch)) _ (λ _. gives_done P (told state)
-      (step_heard options.minimum b image b.time place q state valid there h hears))) draft is
+      (step_heard options.minimum image b.time place q state valid there h hears))) draft is
       after.image (valid_after image draft.records valid after.image by.applied) by.applied)
 
 -- ---- the laws

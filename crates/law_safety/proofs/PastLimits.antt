@@ -2,7 +2,6 @@
 use Rattle.std.specs.Prelude.{◌≡◌, ℕ, ℤ, pos, negsuc, true, false, List, [], ◌∷◌, ◌+◌, map, Some, None, codes}
 use Rattle.std.specs.List.{range_with_len}
 use Rattle.std.proofs.Common.{refl, replicate}
-use Rattle.kr_defs.specs.declared.basis.Basis.{Basis}
 use Rattle.kr_defs.specs.declared.broker.Broker.{Broker}
 use Rattle.kr_defs.specs.declared.options.Options.{Options}
 use Rattle.kr_defs.specs.declared.partition.Partition.{Partition}
@@ -11,6 +10,7 @@ use Rattle.kr_defs.specs.Apply.{apply_record}
 use Rattle.kr_defs.specs.Build.{aimed, built, completes, difference, ended, settled, standing_by}
 use Rattle.kr_defs.specs.Elect.{elected}
 use Rattle.kr_defs.specs.Eligible.{eligible_after}
+use Rattle.kr_defs.specs.Heartbeats.{Heartbeats}
 use Rattle.kr_defs.specs.Image.{Image}
 use Rattle.kr_defs.specs.Merge.{merged}
 use Rattle.kr_defs.specs.NewPartition.{new_partition}
@@ -48,8 +48,8 @@ cluster brokers partitions = record {
 abbrev options : Options
 options = record { node = pos 1; salt = 7; session_ms = 9000; partitions = pos 1; factor = pos 1; minimum = pos 1; cluster = codes "c1" }
 
-abbrev basis : Basis
-basis = record { time = pos 0; led = pos 0; contacts = []; stopping = [] }
+abbrev none_heard : Heartbeats
+none_heard = record { contacts = []; stopping = [] }
 
 -- ---- records of one request
 
@@ -90,7 +90,7 @@ registers = record {
 
 -- where the registration is decided at this place
 abbrev registered_at : ℤ → Reply
-registered_at place = (registering.decided options basis (cluster 1 []) place registers).1
+registered_at place = (registering.decided options (pos 0) none_heard (cluster 1 []) place registers).1
 
 as_old : registered_at (pos 13) ≡ replies.BrokerRegistration (record { error = pos 0; epoch = pos 13 })
 unfolding registering.decided done taken apply_record value_bytes

@@ -4,12 +4,12 @@ use Rattle.std.specs.Prelude.{◌&&◌, ◌==◌, Option, Some, None, Result, Ok
 use Rattle.std.specs.List.{AllByRecursion, list_any}
 use Rattle.std.proofs.lemmas.Bool.{and_from, or_left, or_right}
 use Rattle.std.proofs.lemmas.Slice.Eq.{bytes_eq-Decides}
-use Rattle.kr_defs.specs.declared.basis.Basis.{Basis}
 use Rattle.kr_defs.specs.declared.options.Options.{Options}
 use Rattle.kr_defs.specs.declared.record.Record.{Record}
 use Rattle.kr_defs.specs.declared.record.Record.TheVariants as kinds
 use Rattle.kr_defs.specs.Apply.{apply_record}
 use Rattle.kr_defs.specs.Guard.{and_then}
+use Rattle.kr_defs.specs.Heartbeats.{Heartbeats, heard}
 use Rattle.kr_defs.specs.Image.{Image, IsValid}
 use Rattle.kr_defs.proofs.Tests.{Gives, gives_done, gives_then, not_false, ok_or_this}
 use Rattle.kr_defs.proofs.TopicWalks.{equal_ids}
@@ -161,43 +161,43 @@ module _ (options : Options) (start : Image) (q : AlterPartition) (fresh : repor
       let work = groups_safe r start V reporting.refused (reporting.rule options q.broker) (IsReportOf q) (λ i p e is v. reports i options q (fresh_there i v.1) p e is) reports_leave reporting.entries_of reporting.answer_of place q.topics (own_reports q) (valid, refl) in
       record { safe = work.safe; meaning = work.meaning; valid = work.valid.0 }
 
-safe_work : (options : Options) (basis : Basis) (image : Image) (place : ℤ) (request : Request) → IsValid image → IsSafeWork (Some request) image IsValid (work_of options basis image place request).0
+safe_work : (options : Options) (time : ℤ) (heartbeats : Heartbeats) (image : Image) (place : ℤ) (request : Request) → IsValid image → IsSafeWork (Some request) image IsValid (work_of options time heartbeats image place request).0
 unfolding work_of registering.decided heartbeating.decided unregistering.decided creating.decided deleting.decided growing.decided reporting.decided electing.decided reassigning.decided configuring.decided
-safe_work options basis image place (requests.BrokerRegistration q) valid =
-    one (Some (requests.BrokerRegistration q)) image registering.refused (registering.rule options basis) (λ _. Unit {0}) (λ i p e is v. registers (Some (requests.BrokerRegistration q)) i v options basis p e) place q tt valid
-safe_work options basis image place (requests.BrokerHeartbeat q) valid =
-    one (Some (requests.BrokerHeartbeat q)) image heartbeating.refused (heartbeating.rule options basis) (λ _. Unit {0}) (λ i p e is v. beats (Some (requests.BrokerHeartbeat q)) i v options basis p e) place q tt valid
-safe_work options basis image place (requests.UnregisterBroker q) valid =
+safe_work options time heartbeats image place (requests.BrokerRegistration q) valid =
+    one (Some (requests.BrokerRegistration q)) image registering.refused (registering.rule options time heartbeats) (λ _. Unit {0}) (λ i p e is v. registers (Some (requests.BrokerRegistration q)) i v options time heartbeats p e) place q tt valid
+safe_work options time heartbeats image place (requests.BrokerHeartbeat q) valid =
+    one (Some (requests.BrokerHeartbeat q)) image heartbeating.refused (heartbeating.rule options heartbeats) (λ _. Unit {0}) (λ i p e is v. beats (Some (requests.BrokerHeartbeat q)) i v options heartbeats p e) place q tt valid
+safe_work options time heartbeats image place (requests.UnregisterBroker q) valid =
     one (Some (requests.UnregisterBroker q)) image unregistering.refused (unregistering.rule options) (λ _. Unit {0}) (λ i p e is v. unregisters (Some (requests.UnregisterBroker q)) i v options p e) place q tt valid
-safe_work options basis image place (requests.CreateTopics q) valid =
+safe_work options time heartbeats image place (requests.CreateTopics q) valid =
     let r = Some (requests.CreateTopics q) in
     validated_keep (IsSafeWork r image IsValid) q.validate_only (nothing_decided place image) _ (begun_safe r image IsValid place valid)
     (all r image refused_creation (creating.rule options q.validate_only) (λ _. Unit {0}) (λ i p e is v. creates r i options q.validate_only p e) place q.topics (any_entry q.topics) valid)
-safe_work options basis image place (requests.DeleteTopics q) valid =
+safe_work options time heartbeats image place (requests.DeleteTopics q) valid =
     let r = Some (requests.DeleteTopics q) in all r image refused_deletion deleting.rule (λ _. Unit {0}) (λ i p e is v. deletes r i p e) place q.topics (any_entry q.topics) valid
-safe_work options basis image place (requests.CreatePartitions q) valid =
+safe_work options time heartbeats image place (requests.CreatePartitions q) valid =
     let r = Some (requests.CreatePartitions q) in
     validated_keep (IsSafeWork r image IsValid) q.validate_only (nothing_decided place image) _ (begun_safe r image IsValid place valid)
     (all r image refused_growth growing.rule (λ _. Unit {0}) (λ i p e is v. grows r i p e) place q.topics (any_entry q.topics) valid)
-safe_work options basis image place (requests.AlterPartition q) valid =
+safe_work options time heartbeats image place (requests.AlterPartition q) valid =
     let r = Some (requests.AlterPartition q) in
     chosen r image IsValid (reporting.is_stale image q) _ _ (begun_safe r image IsValid place valid) (λ fresh. reported options image q fresh place valid)
-safe_work options basis image place (requests.ElectLeaders q) valid =
+safe_work options time heartbeats image place (requests.ElectLeaders q) valid =
     let r = Some (requests.ElectLeaders q) in
     chosen r image IsValid (not (electing.is_kind q.kind)) _ _ (begun_safe r image IsValid place valid) (λ kind.
     groups r image electing.answer (electing.rule options q.kind) (λ _. Unit {0}) (λ i p e is v. elects i v options q (not_false (electing.is_kind q.kind) kind) p e) electing.entries_of electing.answer_of place (electing.groups_of image q.topics) (any_groups electing.entries_of (electing.groups_of image q.topics)) valid)
-safe_work options basis image place (requests.AlterPartitionReassignments q) valid =
+safe_work options time heartbeats image place (requests.AlterPartitionReassignments q) valid =
     let r = Some (requests.AlterPartitionReassignments q) in
     groups r image reassigning.answer (reassigning.rule options) (IsMoveOf q) (λ i p e is v. reassigns i v options q p e is) reassigning.entries_of reassigning.answer_of place q.topics (own_moves q) valid
-safe_work options basis image place (requests.IncrementalAlterConfigs q) valid =
+safe_work options time heartbeats image place (requests.IncrementalAlterConfigs q) valid =
     let r = Some (requests.IncrementalAlterConfigs q) in
     validated_keep (IsSafeWork r image IsValid) q.validate_only (nothing_decided place image) _ (begun_safe r image IsValid place valid)
     (all r image refused_resource (configuring.rule options) (λ _. Unit {0}) (λ i p e is v. configures r i v options p e) place q.resources (any_entry q.resources) valid)
-safe_work options basis image place (requests.ListPartitionReassignments q) valid = begun_safe (Some (requests.ListPartitionReassignments q)) image IsValid place valid
-safe_work options basis image place (requests.Metadata q) valid = begun_safe (Some (requests.Metadata q)) image IsValid place valid
+safe_work options time heartbeats image place (requests.ListPartitionReassignments q) valid = begun_safe (Some (requests.ListPartitionReassignments q)) image IsValid place valid
+safe_work options time heartbeats image place (requests.Metadata q) valid = begun_safe (Some (requests.Metadata q)) image IsValid place valid
 
 pub requests_are_safe : RequestsAreSafe
-requests_are_safe options basis image place request valid = (safe_work options basis image place request valid).safe
+requests_are_safe options basis image place request valid = (safe_work options basis.time (heard basis) image place request valid).safe
 
 pub fencings_are_safe : FencingsAreSafe
 fencings_are_safe minimum image broker state valid there = fencing_safe None image minimum broker state.epoch valid

@@ -6,7 +6,6 @@ use Rattle.std.specs.Option.{option_map, option_map_or}
 use Rattle.std.specs.Ordering.{int_cmp, int_eq, is_eq}
 use Rattle.std.specs.Map.{values_of}
 use Rattle.std.proofs.lemmas.Bool.{and_from, or_cases}
-use Rattle.kr_defs.specs.declared.basis.Basis.{Basis}
 use Rattle.kr_defs.specs.declared.broker.Broker.{Broker}
 use Rattle.kr_defs.specs.declared.changing.Mode.TheVariants as modes
 use Rattle.kr_defs.specs.declared.changing.Want.{Want}
@@ -20,6 +19,7 @@ use Rattle.kr_defs.specs.Brokers.{active}
 use Rattle.kr_defs.specs.Build.{built}
 use Rattle.kr_defs.specs.Elect as election
 use Rattle.kr_defs.specs.Ids.{has}
+use Rattle.kr_defs.specs.Heartbeats.{Heartbeats}
 use Rattle.kr_defs.specs.Image.{Image, IsValid, topic_name}
 use Rattle.kr_defs.specs.Map as entries
 use Rattle.kr_defs.specs.Map.{config_order, partition_order, text_order}
@@ -135,9 +135,9 @@ module _ (request : Option Request) (image : Image) where
   earlier_safe valid minimum q None after same = tt
   earlier_safe valid minimum q (Some old) after same = taken_out_safe request image minimum q.broker (not (int_eq q.previous_epoch old.epoch)) valid after same
 
-  pub registers : IsValid image → (options : Options) (basis : Basis) (place : ℤ) (q : BrokerRegistration) → Gives P (registering.rule options basis image place q)
-  registers valid options basis place q =
-      gives_refuse P (pos 104) (not (bytes_eq q.cluster options.cluster)) _ (λ _. gives_refuse P (pos 42) (int_lt q.broker (pos 0) || q.migrating || length q.listeners == 0) _ (λ _. gives_refuse P (pos 101) (registering.is_taken options basis image q) _ (λ _. gives_done P (registering.registered options image place q)
+  pub registers : IsValid image → (options : Options) (time : ℤ) (heartbeats : Heartbeats) (place : ℤ) (q : BrokerRegistration) → Gives P (registering.rule options time heartbeats image place q)
+  registers valid options time heartbeats place q =
+      gives_refuse P (pos 104) (not (bytes_eq q.cluster options.cluster)) _ (λ _. gives_refuse P (pos 42) (int_lt q.broker (pos 0) || q.migrating || length q.listeners == 0) _ (λ _. gives_refuse P (pos 101) (registering.is_taken options time heartbeats image q) _ (λ _. gives_done P (registering.registered options image place q)
       (registered_safe request image (registering.earlier_taken_out options.minimum image q (entries.get int_cmp image.brokers q.broker)) q.broker (registering.registration q place) (earlier_safe valid options.minimum q (entries.get int_cmp image.brokers q.broker))))))
 
   -- what becomes of a broker
@@ -148,12 +148,12 @@ module _ (request : Option Request) (image : Image) where
   either true x y first then = first
   either false x y first then = then
 
-  module _ (valid : IsValid image) (minimum : ℤ) (basis : Basis) (q : BrokerHeartbeat) (state : Broker) where
+  module _ (valid : IsValid image) (minimum : ℤ) (heartbeats : Heartbeats) (q : BrokerHeartbeat) (state : Broker) where
     fenced_safe : IsSafeStep (heartbeating.of_fenced minimum image q state)
     fenced_safe = either (q.want_shutdown || state.stopping) _ _ tt (either (q.want_fence || heartbeating.is_behind q) _ _ tt (unfencing_safe request image minimum q.broker state valid))
 
-    stopping_safe : IsSafeStep (heartbeating.of_stopping minimum basis image q)
-    stopping_safe = either (heartbeating.is_passed_on basis image q.broker) _ _ (fencing_safe request image minimum q.broker q.epoch valid) tt
+    stopping_safe : IsSafeStep (heartbeating.of_stopping minimum heartbeats image q)
+    stopping_safe = either (heartbeating.is_passed_on heartbeats image q.broker) _ _ (fencing_safe request image minimum q.broker q.epoch valid) tt
 
     active_safe : IsSafeStep (heartbeating.of_active minimum image q)
     active_safe =
@@ -161,13 +161,13 @@ module _ (request : Option Request) (image : Image) where
         (either (q.want_shutdown && not (heartbeating.leads image q.broker)) _ _ (fencing_safe request image minimum q.broker q.epoch valid)
         (either q.want_shutdown _ _ (changed_safe request image (taken_out minimum image q.broker false) q.broker q.epoch (pos 0) (pos 1) (taken_out_safe request image minimum q.broker false valid)) tt))
 
-    step_safe : IsSafeStep (heartbeating.step minimum basis image q state)
+    step_safe : IsSafeStep (heartbeating.step minimum heartbeats image q state)
     unfolding heartbeating.step
     step_safe = either state.fenced _ _ fenced_safe (either state.stopping _ _ stopping_safe active_safe)
 
-  pub beats : IsValid image → (options : Options) (basis : Basis) (place : ℤ) (q : BrokerHeartbeat) → Gives P (heartbeating.rule options basis image place q)
-  beats valid options basis place q =
-      gives_found P (pos 77) (entries.get int_cmp image.brokers q.broker) _ (λ state _. gives_refuse P (pos 77) (not (int_eq q.epoch state.epoch)) _ (λ _. gives_done P (heartbeating.told q (heartbeating.step options.minimum basis image q state)) (step_safe valid options.minimum basis q state)))
+  pub beats : IsValid image → (options : Options) (heartbeats : Heartbeats) (place : ℤ) (q : BrokerHeartbeat) → Gives P (heartbeating.rule options heartbeats image place q)
+  beats valid options heartbeats place q =
+      gives_found P (pos 77) (entries.get int_cmp image.brokers q.broker) _ (λ state _. gives_refuse P (pos 77) (not (int_eq q.epoch state.epoch)) _ (λ _. gives_done P (heartbeating.told q (heartbeating.step options.minimum heartbeats image q state)) (step_safe valid options.minimum heartbeats q state)))
 
 -- ---- partitions that are named
 

@@ -12,7 +12,7 @@ use Rattle.kr_defs.specs.Image.{Image, IsValid}
 use Rattle.kr_defs.specs.Map as entries
 use Rattle.kr_defs.specs.NewPartition.{first_leader}
 use Rattle.kr_calls.specs.declared.calls.Request.{Request}
-use Rattle.kr_calls.specs.Decide.{work_of}
+use Rattle.kr_calls.specs.Decide.{decide}
 use Rattle.kr_calls.specs.SafeChange.{SafeChange}
 use Rattle.kr_calls.specs.TakingOut.{fencing}
 
@@ -31,7 +31,7 @@ AreSafe request image (r ∷ records) = IsSafeRecord request image r × IfOk (ap
 abbrev pub RequestsAreSafe : Type 0
 RequestsAreSafe =
     (options : Options) (basis : Basis) (image : Image) (place : ℤ) (request : Request) → IsValid image →
-    AreSafe (Some request) image (work_of options basis image place request).0.records
+    AreSafe (Some request) image (decide options image basis place request).records
 
 -- So are those by which a registered broker is fenced, which nobody asked for.
 abbrev pub FencingsAreSafe : Type 0

@@ -9,7 +9,8 @@ ghost use Rattle.test_codec_answers.specs.MessageWords.{TellsAsk, TellsMessage};
 use kr_base::NoMemory;
 use kr_calls::errors::{INVALID_REQUEST, NOT_CONTROLLER, UNSUPPORTED_VERSION};
 use kr_calls::{Ask, AskFault, Call, Reply, Request};
-use kr_req::{decode, encode_reply, refuse};
+use kr_req::{decode, encode_reply};
+use kr_rules::refuse;
 use std::alloc::{AllocError, Global};
 
 // The message of a reply.

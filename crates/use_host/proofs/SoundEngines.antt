@@ -3,10 +3,10 @@ use Rattle.std.proofs.Common.{◌<◌, [], length, ap, arith}
 use Rattle.std.specs.Prelude.{Option, Some, IsTrue}
 use Rattle.kr_calls.specs.declared.events.Event.{Event}
 use Rattle.kr_calls.specs.declared.events.Output.{Output}
-use Rattle.kr_engine.specs.Engine.{Core, Hands, IsEngine, IsSound, IsStep, writes_in_order, left}
-use Rattle.kr_engine.specs.Events.{happens}
-use Rattle.kr_engine.specs.Outputs.{waiting_after}
-use Rattle.kr_engine.specs.World.{start}
+use Rattle.kr_world.specs.Engine.{Core, Hands, IsEngine, IsSound, IsStep, writes_in_order, left}
+use Rattle.kr_world.specs.Events.{happens}
+use Rattle.kr_world.specs.Outputs.{waiting_after}
+use Rattle.kr_world.specs.World.{start}
 
 pub opened_sound : (e : Core) → IsEngine e start [] → IsSound e
 opened_sound e stands = record { state = start; writes = []; stands = stands }

@@ -1,7 +1,7 @@
 //! One event at a time, and all outputs of each.
 
 ghost use Rattle.std.specs.Prelude.{◌≡◌, ◌≤◌, [], OnOk};
-ghost use Rattle.kr_engine.specs.Engine.{IsSound, left};
+ghost use Rattle.kr_world.specs.Engine.{IsSound, left};
 
 use kr_base::Steps;
 use kr_calls::{Event, Output};

@@ -6,7 +6,7 @@ mod events;
 mod hosting;
 
 ghost use Rattle.std.specs.Prelude.{◌≡◌, ◌<◌, [], OnOk, IfOk};
-ghost use Rattle.kr_engine.specs.Engine.{IsSound, left};
+ghost use Rattle.kr_world.specs.Engine.{IsSound, left};
 
 use events::{commit_all, lead, options, registration};
 use hosting::take;

@@ -7,7 +7,7 @@ use Rattle.kr_image.proofs.store.apply_record.Goals as goal
 pub returns-in-Ok-clause-store : goal.returns-in-Ok-clause-store
 unfolding apply
 returns-in-Ok-clause-store g c = record {
-  kept = same_kept c.args.timelines.now c.apply_record.new.self c.args.kept.now c.apply_record.ensures.kept c.requires.store.kept;
+  kept = same_kept c.args.timelines.now c.apply_record.new.self c.args.kept.now.items c.apply_record.ensures.kept c.requires.store.kept;
   present = c.in-Ok.ensures.agrees;
   valid = c.apply_keeps_valid.ensures (present_image c.args.timelines.now) (present_image c.apply_record.new.self) (items.Record c.args.value.now) c.requires.store.valid c.in-Ok.ensures.changes;
 }

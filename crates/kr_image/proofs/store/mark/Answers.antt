@@ -14,11 +14,11 @@ pub returns-clause-store : goal.returns-clause-store
 returns-clause-store c =
     let is = same_store c.args.timelines.now c.reserve.new.self c.args.kept.now.items c.reserve.ensures.same c.requires.store in
     let above = above_each (keeps_of c.args.timelines.now) c.args.kept.now.items c.args.epoch.now c.requires.above in
-    rw (c.in_ok-push.ensures.items, c.kept_under.ensures) (marked_store c.reserve.new.self c.mark.new.self c.args.epoch.now c.mark.ensures c.args.kept.now.items is.kept.epochs above is)
+    rw (c.in_ok-push_back.ensures.items, c.kept_under.ensures) (marked_store c.reserve.new.self c.mark.new.self c.args.epoch.now c.mark.ensures c.args.kept.now.items is.kept.epochs above is)
 
 pub returns-clause-ok : goal.returns-clause-ok
 returns-clause-ok c =
     let is = same_store c.args.timelines.now c.reserve.new.self c.args.kept.now.items c.reserve.ensures.same c.requires.store in
     let above = above_each (keeps_of c.args.timelines.now) c.args.kept.now.items c.args.epoch.now c.requires.above in
     let same = same_images_of c.args.timelines.now c.reserve.new.self c.args.kept.now.items c.reserve.ensures.same in
-    rw (c.in_ok-push.ensures.items, c.kept_under.ensures) (marked_images c.reserve.new.self c.mark.new.self c.args.epoch.now c.mark.ensures c.args.kept.now.items is.kept.epochs above ∙ ap (λ (i : Images). marked i c.args.epoch.now) same)
+    rw (c.in_ok-push_back.ensures.items, c.kept_under.ensures) (marked_images c.reserve.new.self c.mark.new.self c.args.epoch.now c.mark.ensures c.args.kept.now.items is.kept.epochs above ∙ ap (λ (i : Images). marked i c.args.epoch.now) same)

@@ -1,33 +1,45 @@
-use Rattle.std.proofs.Common.{refl, ap, ℤ}
+use Rattle.std.proofs.Common.{refl, ap, arith, length, not, ℤ}
+use Rattle.std.specs.Prelude.{int_lt}
 use Rattle.std.specs.Option.{option_map}
 use Rattle.kr_defs.specs.Image.{Image}
 use Rattle.kr_image.specs.Timelines.{keeps_of}
 use Rattle.kr_image.proofs.LastEpoch.{are_kept}
-use Rattle.kr_image.proofs.Stores.{counts_none, counts_some, kept_image, not_kept, reverted_images, reverted_store}
+use Rattle.kr_defs.proofs.Maps.{length-filter_le}
+use Rattle.kr_image.specs.declared.kept_counts.KeptCounts.{KeptCounts}
+use Rattle.kr_image.proofs.Stores.{kept_rises, counts_none, counts_some, kept_image, not_kept, reverted_images, reverted_store}
 use Rattle.kr_image.proofs.store.revert.Goals as goal
+
+pub counts_at-requires : goal.counts_at-requires
+counts_at-requires g c = kept_rises (keeps_of c.args.timelines.now) c.args.kept.now.items c.requires
+
+pub keep_up_to-requires : goal.keep_up_to-requires
+keep_up_to-requires g c = kept_rises (keeps_of c.args.timelines.now) c.args.kept.now.items c.requires
+
+pub returns-clause-counted : goal.returns-clause-counted
+returns-clause-counted g c = omega (arith, c.revert.ensures.counted, c.keep_up_to.ensures.counted, ap length c.keep_up_to.ensures.left, length-filter_le (λ (k : KeptCounts). not (int_lt c.args.epoch.now k.epoch)) c.args.kept.now.items)
 
 pub returns-in_default-clause-no_epoch : goal.returns-in_default-clause-no_epoch
 returns-in_default-clause-no_epoch g c =
-    let none = counts_none _ (rw c.deref.ensures.value at c.in_default.ensures) in
+    let none = counts_none _ c.in_default.ensures in
     (λ _. ap (option_map (λ (e : ℤ × Image). e.1)) (not_kept (keeps_of c.args.timelines.now) c.args.kept.now.items c.args.epoch.now none), λ _. refl)
 
 pub revert-requires : goal.revert-requires
 revert-requires g c =
-    let there = counts_some _ c.in-Some.counts (rw c.deref.ensures.value at c.in-Some.ensures) in
+    let there = counts_some _ c.in-Some.counts c.in-Some.ensures in
     are_kept (keeps_of c.args.timelines.now) c.args.kept.now.items there.here c.args.epoch.now c.requires.epochs there.found
 
 pub returns-clause-store : goal.returns-clause-store
 returns-clause-store g c =
-    let there = counts_some _ c.in-Some.counts (rw c.deref.ensures.value at c.in-Some.ensures) in
-    rw c.keep_up_to.ensures (reverted_store c.args.timelines.now c.revert.new.self c.args.epoch.now c.revert.ensures.back c.args.kept.now.items there.here there.found (rw there.same at c.revert.ensures.counts) c.requires)
+    let there = counts_some _ c.in-Some.counts c.in-Some.ensures in
+    rw c.keep_up_to.ensures.left (reverted_store c.args.timelines.now c.revert.new.self c.args.epoch.now c.revert.ensures.back c.args.kept.now.items there.here there.found (rw there.same at c.revert.ensures.counts) c.requires)
 
 pub returns-clause-ok : goal.returns-clause-ok
 returns-clause-ok g c =
-    let there = counts_some _ c.in-Some.counts (rw c.deref.ensures.value at c.in-Some.ensures) in
-    rw c.keep_up_to.ensures (reverted_images c.args.timelines.now c.revert.new.self c.args.epoch.now c.revert.ensures.back c.args.kept.now.items there.here there.found (rw there.same at c.revert.ensures.counts) c.requires)
+    let there = counts_some _ c.in-Some.counts c.in-Some.ensures in
+    rw c.keep_up_to.ensures.left (reverted_images c.args.timelines.now c.revert.new.self c.args.epoch.now c.revert.ensures.back c.args.kept.now.items there.here there.found (rw there.same at c.revert.ensures.counts) c.requires)
 
 pub returns-clause-no_epoch : goal.returns-clause-no_epoch
 returns-clause-no_epoch g c =
-    let there = counts_some _ c.in-Some.counts (rw c.deref.ensures.value at c.in-Some.ensures) in
+    let there = counts_some _ c.in-Some.counts c.in-Some.ensures in
     let kept = ap (option_map (λ (e : ℤ × Image). e.1)) (kept_image (keeps_of c.args.timelines.now) c.args.kept.now.items there.here c.args.epoch.now there.found) in
     (λ h. absurd cc, λ h. absurd cc)

@@ -1,5 +1,5 @@
 use Rattle.std.proofs.Common.{length}
-use Rattle.kr_engine.specs.Engine.{IsSound, left}
+use Rattle.kr_world.specs.Engine.{IsSound, left}
 use Rattle.use_host.proofs.hosting.hand_out.Given as goal
 
 abbrev pub invariant-loop-output : goal.invariant-loop-output

@@ -1,0 +1,25 @@
+-- The entries above a key.
+use Rattle.std.proofs.Common.{◌≡◌, List, [], ◌∷◌, Option, Some, None, Bool, true, false, cond, ℕ, refl, ap, ◌∙◌, filter, sym}
+use Rattle.std.specs.declared.cmp.Ordering.{Ordering}
+use Rattle.std.specs.declared.ops.Bound.TheVariants.{Excluded, Unbounded}
+use Rattle.std.specs.BTreeMap.Range.{range_contains}
+use Rattle.kr_defs.specs.Map.{above}
+use Rattle.kr_timeline.specs.Chains.{value_at, standing, map_of}
+
+module _ {K V : Type 0} where
+  map_of-filter : (test : K → Bool) (m : ℕ) (chains : List (K × List (ℕ × Option V))) → filter (λ (e : K × V). test e.0) (map_of m chains) ≡ map_of m (filter (λ (e : K × List (ℕ × Option V)). test e.0) chains)
+  map_of-filter test m [] = refl
+  map_of-filter test m (e ∷ chains) =
+      elim (value_at m e.1) as (λ x. value_at m e.1 ≡ x → filter (λ (p : K × V). test p.0) (standing e.0 x (map_of m chains)) ≡ map_of m (cond (test e.0) (e ∷ filter (λ (q : K × List (ℕ × Option V)). test q.0) chains) (filter (λ (q : K × List (ℕ × Option V)). test q.0) chains))) [
+        | None ↦ λ is. map_of-filter test m chains ∙ elim (test e.0) as (λ b. map_of m (filter (λ (q : K × List (ℕ × Option V)). test q.0) chains) ≡ map_of m (cond b (e ∷ filter (λ (q : K × List (ℕ × Option V)). test q.0) chains) (filter (λ (q : K × List (ℕ × Option V)). test q.0) chains))) [
+          | true ↦ sym (ap (λ (x : Option V). standing e.0 x (map_of m (filter (λ (q : K × List (ℕ × Option V)). test q.0) chains))) is)
+          | false ↦ refl
+        ]
+        | Some v ↦ λ is. elim (test e.0) as (λ b. cond b ((e.0, v) ∷ filter (λ (p : K × V). test p.0) (map_of m chains)) (filter (λ (p : K × V). test p.0) (map_of m chains)) ≡ map_of m (cond b (e ∷ filter (λ (q : K × List (ℕ × Option V)). test q.0) chains) (filter (λ (q : K × List (ℕ × Option V)). test q.0) chains))) [
+          | true ↦ ap (λ (ps : List (K × V)). (e.0, v) ∷ ps) (map_of-filter test m chains) ∙ sym (ap (λ (x : Option V). standing e.0 x (map_of m (filter (λ (q : K × List (ℕ × Option V)). test q.0) chains))) is)
+          | false ↦ map_of-filter test m chains
+        ]
+      ] refl
+
+  pub above_map_of : (order : K → K → Ordering) (m : ℕ) (chains : List (K × List (ℕ × Option V))) (key : K) → above order (map_of m chains) (Some key) ≡ map_of m (above order chains (Some key))
+  above_map_of order m chains key = map_of-filter (range_contains order (Excluded key) Unbounded) m chains
