@@ -16,7 +16,7 @@ use kr_batch::crc32c;
 use kr_defs::Text;
 use kr_wire::*;
 use std::alloc::{AllocError, Global};
-use test_words::{bool_word, hex_text, join_by_space};
+use test_words::{bool_word, halves, hex_text, join_by_space};
 
 /// What is read at the start of some bytes.
 #[derive(Clone, Copy, Drop)]
@@ -244,12 +244,10 @@ fn bool_answer(alloc: Global, bytes: &[u8]) -> Result<String, AllocError>
     }
 }
 
-// The high and the low 64 bits of an id.
-fn halves(alloc: Global, id: u128) -> Result<String, AllocError>
+fn halves_text(alloc: Global, id: u128) -> Result<String, AllocError>
     ensures { IfOk result (λ text. string_bytes text ≡ words.halves id) }
 {
-    let high = (id >> 64) as u64;
-    let low = (id % (1 << 64)) as u64;
+    let (high, low) = halves(id);
     format!(in alloc; "{high} {low}")
 }
 
@@ -258,7 +256,7 @@ fn id_answer(alloc: Global, bytes: &[u8]) -> Result<String, AllocError>
 {
     match read_id(bytes, 0) {
         Ok((id, next)) => {
-            let value = halves(alloc, id)?;
+            let value = halves_text(alloc, id)?;
             let mut out = Vec::new(alloc);
             put_id(&mut out, id)?;
             value_text(alloc, value, out, bytes_left(bytes, next))
