@@ -1,5 +1,6 @@
-# `make run` shows a session, and the image that it leaves, by an unproved build; `make build` makes the proved tool; `make test` is the gate; `make bench` measures.
-.PHONY: run build test bench tools
+# `make run` shows a session, and the image that it leaves, by an unproved build; `make build` makes the proved tool; `make test` is the gate (.ci/run: the pages against the code, then all proofs, edits, tests and programs); `make bench` measures.
+# `make edits` tries the edits of edits/ (or those of some crates: make edits crates="kr_change kr_wire").
+.PHONY: run build test edits bench tools
 
 tools:
 	@command -v rt >/dev/null 2>&1 || { echo "rt, the command of the Rattle toolchain, isn't on the PATH: install the toolchain and run this again" >&2; exit 127; }
@@ -28,5 +29,8 @@ build: tools
 test: tools
 	@.ci/run
 
+edits: tools
+	@tools/edits $(crates)
+
 bench: tools
-	@cd crates/kr_bench && rt run -- time
+	@cd crates/test_bench && rt run -- time

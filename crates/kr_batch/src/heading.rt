@@ -11,6 +11,12 @@ use crate::fault::BatchFault;
 use kr_defs::limits::MOST_RECORDS;
 use kr_wire::{piece, read_i8, read_i32, read_i64, read_u16, read_u32};
 
+/// The bytes of a batch's base offset and of its size field, in Kafka's format, version 2.
+pub const START: usize = 12;
+
+/// The fewest bytes behind a batch's size field: its header, with no record.
+pub const LEAST_SIZE: u32 = 49;
+
 /// The base, and all that follows the size.
 #[tactic(auto, unfolding(crate::specs::Reading::base_and_rest))]
 pub(crate) fn read_place(bytes: &[u8]) -> Result<(i64, &[u8]), BatchFault>
@@ -30,7 +36,7 @@ pub(crate) fn read_place(bytes: &[u8]) -> Result<(i64, &[u8]), BatchFault>
 fn is_short(size: u32, rest: usize) -> bool
     ensures { result ≡ Reading.is_short size rest }
 {
-    size < 49 || size >= 1 << 31 || rest < size as usize
+    size < LEAST_SIZE || size >= 1 << 31 || rest < size as usize
 }
 
 #[tactic(auto, unfolding(crate::specs::Reading::start_at))]

@@ -14,6 +14,7 @@ pub use checksum::crc32c;
 pub use decoding::decode;
 pub use encoding::encode;
 pub use fault::{BatchFault, Cause};
+pub use heading::{LEAST_SIZE, START};
 use kr_defs::Items;
 pub use laws::round_trip;
 

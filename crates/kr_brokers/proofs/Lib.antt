@@ -1,4 +1,3 @@
-pub mod Decisions
 pub mod LastImage
 pub mod LastKept
 pub mod StoppingBeats

@@ -1,18 +1,18 @@
 //! A broker that isn't heard of is fenced.
 
-ghost use Rattle.std.specs.Prelude.{◌≡◌, ◌≤◌, ◌+◌, ℤ, pos, ◌≤ℤ◌, Ok, Some, IsOk, IsSome, OnOk, OnErr, IfOk, false};
+ghost use Rattle.std.specs.Prelude.{◌≡◌, ◌≤◌, ◌+◌, Ok, Some, IsOk, IsSome, OnOk, OnErr};
 ghost use Rattle.std.specs.Ordering.{int_cmp};
 ghost use Rattle.kr_defs.specs.declared.broker.Broker.{Broker as AnyBroker};
-ghost use Rattle.kr_defs.specs.declared.limits.TheConstants.{PLACES_END as places_end};
 ghost use Rattle.kr_defs.specs.Map as entries;
 ghost use Rattle.kr_calls.specs.Deciding.{apply_records, weights};
 ghost use Rattle.kr_calls.specs.TakingOut as taking;
+ghost use Rattle.kr_rules.specs.Handlers.{IsAtPlace};
 ghost use Rattle.kr_store.specs.Images.{last_kept};
 
 use kr_base::{NoMemory, Steps};
 use kr_calls::Effect;
 use kr_calls::laws::taking_out_is_never_refused;
-use kr_defs::{Record, Records};
+use kr_defs::Record;
 use kr_sessions::Context;
 use kr_store::{ApplyFault, Store};
 use kr_walks::{fencing_records, tip};
@@ -53,9 +53,7 @@ pub fn fence<S: Store, L: Ledger>(
     out: &mut Effect,
     steps: &mut Steps<L>,
 ) -> Result<(), NoMemory>
-    requires natural { pos 0 ≤ℤ context.now.place }
-    requires low { context.now.place ≤ℤ places_end }
-    requires kept { last_kept (S.images store.old) ≡ Some (context.now.place, (S.images store.old).tip) }
+    requires here { IsAtPlace (S.images store.old) context.now.place }
     requires registered { IsSome (entries.get int_cmp (S.images store.old).tip.brokers broker.now) }
     ensures records { (state : AnyBroker) → entries.get int_cmp (S.images store.old).tip.brokers broker.now ≡ Some state → OnOk result (out.new.records ≡ taking.fencing context.entry.now.options.now.minimum (S.images store.old).tip broker.now state.epoch) }
     ensures image { OnOk result (apply_records (S.images store.old).tip out.new.records ≡ Ok (S.images store.new).tip) }

@@ -1,15 +1,15 @@
 //! The requests of brokers: registration, heartbeats and their end; and the fencing of a broker that isn't heard of.
 #![tactic(auto)]
 
+mod broker_heartbeat;
+mod broker_registration;
 mod contacts;
 mod elections;
 mod expiry;
-mod heartbeats;
-mod registrations;
-mod unregistrations;
+mod unregister_broker;
 
+pub use broker_heartbeat::BrokerHeartbeatHandler;
+pub use broker_registration::BrokerRegistrationHandler;
 pub use contacts::hear;
 pub use expiry::fence;
-pub use heartbeats::heartbeat;
-pub use registrations::register;
-pub use unregistrations::unregister;
+pub use unregister_broker::UnregisterBrokerHandler;

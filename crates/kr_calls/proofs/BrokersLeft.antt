@@ -16,7 +16,7 @@ use Rattle.kr_defs.specs.Apply as apply
 use Rattle.kr_defs.specs.Build.{built}
 use Rattle.kr_defs.specs.Image.{Image, topic_name, has_topic, is_index, config_text}
 use Rattle.kr_defs.specs.Merge.{merged}
-use Rattle.kr_defs.specs.Texts.{is_topic_name}
+use Rattle.kr_defs.specs.Texts.{is_topic_name, names_agree}
 use Rattle.kr_defs.specs.declared.limits.TheConstants.{MOST_TOPICS, MOST_PARTITIONS, MOST_CONFIG_TEXT, MOST_FEATURES, LONGEST_FEATURE}
 use Rattle.kr_calls.specs.Refuse.{refused_resource}
 use Rattle.kr_defs.specs.Map as entries
@@ -25,15 +25,14 @@ use Rattle.kr_defs.specs.Partition.{target, is_well_formed}
 use Rattle.kr_defs.specs.Settings.{facts_of, is_broker_name}
 use Rattle.kr_defs.specs.Brokers.{active}
 use Rattle.kr_defs.specs.Ids.{has}
-use Rattle.kr_defs.specs.Texts.{names_agree}
 use Rattle.kr_defs.specs.Topics.{count_of}
 use Rattle.kr_defs.specs.declared.changing.Mode.TheVariants as modes
 use Rattle.kr_defs.specs.declared.ill.Ill.TheVariants.{BadNumber, NoTopic, TopicExists, BadName, NoPartition, PartitionExists, BadPartition, Limit}
 use Rattle.kr_defs.specs.Walk.{Walked, changes_of, change_records, walk}
 use Rattle.kr_defs.proofs.Tests.{Gives, gives_refuse, gives_found, gives_done, gives_if, gives_then}
-use Rattle.kr_calls.specs.declared.configs.ConfigResource.{ConfigResource}
+use Rattle.kr_calls.specs.declared.incremental_alter_configs.ConfigResource.{ConfigResource}
 use Rattle.kr_calls.specs.declared.deciding.Draft.{Draft}
-use Rattle.kr_calls.specs.declared.topics.CreatableTopicConfig.{CreatableTopicConfig}
+use Rattle.kr_calls.specs.declared.create_topics.CreatableTopicConfig.{CreatableTopicConfig}
 use Rattle.kr_calls.specs.Deciding.{apply_records}
 use Rattle.kr_calls.specs.AlterPartition as reporting
 use Rattle.kr_calls.specs.AlterPartitionReassignments as reassigning

@@ -6,9 +6,9 @@ use Rattle.kr_defs.specs.declared.record.Record.{Record}
 use Rattle.kr_defs.specs.declared.record.Record.TheVariants as kinds
 use Rattle.kr_defs.specs.Apply.{apply_record}
 use Rattle.kr_defs.specs.Sizes.{value_bytes}
-use Rattle.kr_calls.specs.declared.configs.ConfigOperation.{ConfigOperation}
-use Rattle.kr_calls.specs.declared.configs.ConfigResource.{ConfigResource}
-use Rattle.kr_calls.specs.declared.configs.ConfigResponse.{ConfigResponse}
+use Rattle.kr_calls.specs.declared.incremental_alter_configs.ConfigOperation.{ConfigOperation}
+use Rattle.kr_calls.specs.declared.incremental_alter_configs.ConfigResource.{ConfigResource}
+use Rattle.kr_calls.specs.declared.incremental_alter_configs.ConfigResponse.{ConfigResponse}
 use Rattle.kr_calls.specs.declared.deciding.Draft.{Draft}
 use Rattle.kr_calls.specs.IncrementalAlterConfigs as configuring
 use Rattle.kr_calls.specs.declared.calls.Reply.TheVariants as replies

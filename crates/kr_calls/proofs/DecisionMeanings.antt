@@ -1,12 +1,12 @@
 -- What is decided has a meaning: each record at its place.
 use Rattle.std.proofs.Common.{◌≡◌, ◌∙◌, ℤ, Bool, true, false, cond, List, [], ◌∷◌, ◌++◌, refl, ap, subst, not}
 use Rattle.std.specs.Prelude.{Option, Some, None, Result, Ok, Err, unwrap_or}
-use Rattle.kr_defs.specs.declared.basis.Basis.{Basis}
 use Rattle.kr_defs.specs.declared.ill.Ill.{Ill}
 use Rattle.kr_defs.specs.declared.options.Options.{Options}
 use Rattle.kr_defs.specs.declared.record.Record.{Record}
 use Rattle.kr_defs.specs.Apply.{apply_record}
 use Rattle.kr_defs.specs.Guard.{and_then}
+use Rattle.kr_defs.specs.Heartbeats.{Heartbeats}
 use Rattle.kr_defs.specs.Image.{Image}
 use Rattle.kr_calls.specs.declared.calls.Request.{Request}
 use Rattle.kr_calls.specs.declared.calls.Request.TheVariants as requests
@@ -76,25 +76,25 @@ module _ (start : Image) where
   chosen_stand false x y first then = then
 
 -- every request, by its rule
-pub requests_stand : (options : Options) (basis : Basis) (image : Image) (place : ℤ) (request : Request) → HaveMeanings image (work_of options basis image place request).0
+pub requests_stand : (options : Options) (time : ℤ) (heartbeats : Heartbeats) (image : Image) (place : ℤ) (request : Request) → HaveMeanings image (work_of options time heartbeats image place request).0
 unfolding work_of registering.decided heartbeating.decided unregistering.decided creating.decided deleting.decided growing.decided reporting.decided electing.decided reassigning.decided configuring.decided
-requests_stand options basis image place (requests.BrokerRegistration q) = one_stand image registering.refused (registering.rule options basis) (nothing_decided place image) q refl
-requests_stand options basis image place (requests.BrokerHeartbeat q) = one_stand image heartbeating.refused (heartbeating.rule options basis) (nothing_decided place image) q refl
-requests_stand options basis image place (requests.UnregisterBroker q) = one_stand image unregistering.refused (unregistering.rule options) (nothing_decided place image) q refl
-requests_stand options basis image place (requests.CreateTopics q) =
+requests_stand options time heartbeats image place (requests.BrokerRegistration q) = one_stand image registering.refused (registering.rule options time heartbeats) (nothing_decided place image) q refl
+requests_stand options time heartbeats image place (requests.BrokerHeartbeat q) = one_stand image heartbeating.refused (heartbeating.rule options heartbeats) (nothing_decided place image) q refl
+requests_stand options time heartbeats image place (requests.UnregisterBroker q) = one_stand image unregistering.refused (unregistering.rule options) (nothing_decided place image) q refl
+requests_stand options time heartbeats image place (requests.CreateTopics q) =
     validated_stand image q.validate_only (nothing_decided place image) _ refl (all_stand image refused_creation (creating.rule options q.validate_only) (nothing_decided place image) q.topics refl)
-requests_stand options basis image place (requests.DeleteTopics q) = all_stand image refused_deletion deleting.rule (nothing_decided place image) q.topics refl
-requests_stand options basis image place (requests.CreatePartitions q) =
+requests_stand options time heartbeats image place (requests.DeleteTopics q) = all_stand image refused_deletion deleting.rule (nothing_decided place image) q.topics refl
+requests_stand options time heartbeats image place (requests.CreatePartitions q) =
     validated_stand image q.validate_only (nothing_decided place image) _ refl (all_stand image refused_growth growing.rule (nothing_decided place image) q.topics refl)
-requests_stand options basis image place (requests.AlterPartition q) =
+requests_stand options time heartbeats image place (requests.AlterPartition q) =
     chosen_stand image (reporting.is_stale image q) _ _ refl (groups_stand image reporting.refused (reporting.rule options q.broker) reporting.entries_of reporting.answer_of (nothing_decided place image) q.topics refl)
-requests_stand options basis image place (requests.ElectLeaders q) =
+requests_stand options time heartbeats image place (requests.ElectLeaders q) =
     chosen_stand image (not (electing.is_kind q.kind)) _ _ refl (groups_stand image electing.answer (electing.rule options q.kind) electing.entries_of electing.answer_of (nothing_decided place image) (electing.groups_of image q.topics) refl)
-requests_stand options basis image place (requests.AlterPartitionReassignments q) =
+requests_stand options time heartbeats image place (requests.AlterPartitionReassignments q) =
     groups_stand image reassigning.answer (reassigning.rule options) reassigning.entries_of reassigning.answer_of (nothing_decided place image) q.topics refl
-requests_stand options basis image place (requests.IncrementalAlterConfigs q) =
+requests_stand options time heartbeats image place (requests.IncrementalAlterConfigs q) =
     validated_stand image q.validate_only (nothing_decided place image) _ refl (all_stand image refused_resource (configuring.rule options) (nothing_decided place image) q.resources refl)
-requests_stand options basis image place (requests.ListPartitionReassignments q) = refl
-requests_stand options basis image place (requests.Metadata q) = refl
+requests_stand options time heartbeats image place (requests.ListPartitionReassignments q) = refl
+requests_stand options time heartbeats image place (requests.Metadata q) = refl
 
 pub ruleset standing = (requests_stand)

@@ -1,8 +1,8 @@
 -- Requests that aren't a broker's own leave the brokers and who is heard of.
 use Rattle.std.proofs.Common.{◌≡◌, ◌∙◌, ℤ, false, List, refl, not}
 use Rattle.std.specs.Prelude.{Result}
-use Rattle.kr_defs.specs.declared.basis.Basis.{Basis}
 use Rattle.kr_defs.specs.declared.options.Options.{Options}
+use Rattle.kr_defs.specs.Heartbeats.{Heartbeats, heard}
 use Rattle.kr_defs.specs.Image.{Image}
 use Rattle.kr_calls.specs.declared.calls.Request.{Request}
 use Rattle.kr_calls.specs.declared.calls.Request.TheVariants as requests
@@ -36,28 +36,28 @@ module _ (image : Image) where
   groups refused rule are entries_of answer_of place those =
       groups_keep refused rule I (λ _. Unit {0}) entries_of answer_of (keeps refused rule are) (nothing_decided place image) those (any_groups entries_of those) refl
 
-registered : (options : Options) (basis : Basis) (image : Image) (place : ℤ) (request : Request) → is_of_a_broker request ≡ false → I image (work_of options basis image place request).0
+registered : (options : Options) (time : ℤ) (heartbeats : Heartbeats) (image : Image) (place : ℤ) (request : Request) → is_of_a_broker request ≡ false → I image (work_of options time heartbeats image place request).0
 unfolding work_of creating.decided deleting.decided growing.decided reporting.decided electing.decided reassigning.decided configuring.decided
-registered options basis image place (requests.BrokerRegistration q) other = absurd cc
-registered options basis image place (requests.BrokerHeartbeat q) other = absurd cc
-registered options basis image place (requests.UnregisterBroker q) other = absurd cc
-registered options basis image place (requests.CreateTopics q) other =
+registered options time heartbeats image place (requests.BrokerRegistration q) other = absurd cc
+registered options time heartbeats image place (requests.BrokerHeartbeat q) other = absurd cc
+registered options time heartbeats image place (requests.UnregisterBroker q) other = absurd cc
+registered options time heartbeats image place (requests.CreateTopics q) other =
     validated_keep (I image) q.validate_only (nothing_decided place image) _ refl (all image refused_creation (creating.rule options q.validate_only) (creates options q.validate_only) place q.topics)
-registered options basis image place (requests.DeleteTopics q) other = all image refused_deletion deleting.rule deletes place q.topics
-registered options basis image place (requests.CreatePartitions q) other =
+registered options time heartbeats image place (requests.DeleteTopics q) other = all image refused_deletion deleting.rule deletes place q.topics
+registered options time heartbeats image place (requests.CreatePartitions q) other =
     validated_keep (I image) q.validate_only (nothing_decided place image) _ refl (all image refused_growth growing.rule grows place q.topics)
-registered options basis image place (requests.AlterPartition q) other =
+registered options time heartbeats image place (requests.AlterPartition q) other =
     chosen_keep (I image) (reporting.is_stale image q) _ _ refl (groups image reporting.refused (reporting.rule options q.broker) (reports options q.broker) reporting.entries_of reporting.answer_of place q.topics)
-registered options basis image place (requests.ElectLeaders q) other =
+registered options time heartbeats image place (requests.ElectLeaders q) other =
     chosen_keep (I image) (not (electing.is_kind q.kind)) _ _ refl (groups image electing.answer (electing.rule options q.kind) (elects options q.kind) electing.entries_of electing.answer_of place (electing.groups_of image q.topics))
-registered options basis image place (requests.AlterPartitionReassignments q) other =
+registered options time heartbeats image place (requests.AlterPartitionReassignments q) other =
     groups image reassigning.answer (reassigning.rule options) (reassigns options) reassigning.entries_of reassigning.answer_of place q.topics
-registered options basis image place (requests.IncrementalAlterConfigs q) other =
+registered options time heartbeats image place (requests.IncrementalAlterConfigs q) other =
     validated_keep (I image) q.validate_only (nothing_decided place image) _ refl (all image refused_resource (configuring.rule options) (configures options) place q.resources)
-registered options basis image place (requests.ListPartitionReassignments q) other = refl
-registered options basis image place (requests.Metadata q) other = refl
+registered options time heartbeats image place (requests.ListPartitionReassignments q) other = refl
+registered options time heartbeats image place (requests.Metadata q) other = refl
 
-heard_of : (h : Rattle.kr_defs.specs.Heartbeats.Heartbeats) (before after : Image) (now place : ℤ) (request : Request) (reply : Rattle.kr_calls.specs.declared.calls.Reply.Reply) → is_of_a_broker request ≡ false → heartbeats_after h before after now place request reply ≡ h
+heard_of : (h : Heartbeats) (before after : Image) (now place : ℤ) (request : Request) (reply : Rattle.kr_calls.specs.declared.calls.Reply.Reply) → is_of_a_broker request ≡ false → heartbeats_after h before after now place request reply ≡ h
 unfolding heartbeats_after
 heard_of h before after now place (requests.BrokerRegistration q) reply other = absurd cc
 heard_of h before after now place (requests.BrokerHeartbeat q) reply other = absurd cc
@@ -74,6 +74,6 @@ heard_of h before after now place (requests.Metadata q) reply other = refl
 
 pub others_leave : OtherRequestsLeaveBrokers
 others_leave options basis image place request other = record {
-  registered = registered options basis image place request other;
+  registered = registered options basis.time (heard basis) image place request other;
   heard_of = heard_of _ image _ basis.time place request _ other;
 }

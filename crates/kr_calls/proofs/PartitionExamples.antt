@@ -8,11 +8,11 @@ use Rattle.kr_defs.specs.Elect.{elected}
 use Rattle.kr_defs.specs.Eligible.{eligible_after}
 use Rattle.kr_defs.specs.Merge.{merged}
 use Rattle.kr_calls.specs.declared.deciding.Draft.{Draft}
-use Rattle.kr_calls.specs.declared.partitions.AlterPartitionResult.{AlterPartitionResult}
-use Rattle.kr_calls.specs.declared.partitions.BrokerState.{BrokerState}
-use Rattle.kr_calls.specs.declared.partitions.PartitionElectionResult.{PartitionElectionResult}
-use Rattle.kr_calls.specs.declared.partitions.PartitionReport.{PartitionReport}
-use Rattle.kr_calls.specs.declared.partitions.ReassignablePartitionResponse.{ReassignablePartitionResponse}
+use Rattle.kr_calls.specs.declared.alter_partition.AlterPartitionResult.{AlterPartitionResult}
+use Rattle.kr_calls.specs.declared.alter_partition.BrokerState.{BrokerState}
+use Rattle.kr_calls.specs.declared.elect_leaders.PartitionElectionResult.{PartitionElectionResult}
+use Rattle.kr_calls.specs.declared.alter_partition.PartitionReport.{PartitionReport}
+use Rattle.kr_calls.specs.declared.alter_partition_reassignments.ReassignablePartitionResponse.{ReassignablePartitionResponse}
 use Rattle.kr_calls.specs.AlterPartition as reporting
 use Rattle.kr_calls.specs.AlterPartitionReassignments as reassigning
 use Rattle.kr_calls.specs.ElectLeaders as electing

@@ -4,13 +4,13 @@ use Rattle.std.proofs.Common.{refl}
 use Rattle.kr_defs.specs.declared.partition.Partition.{Partition}
 use Rattle.kr_defs.specs.Heartbeats.{heard}
 use Rattle.kr_defs.specs.Image.{Image}
-use Rattle.kr_calls.specs.declared.brokers.BrokerHeartbeat.{BrokerHeartbeat}
-use Rattle.kr_calls.specs.declared.brokers.BrokerHeartbeatReply.{BrokerHeartbeatReply}
+use Rattle.kr_calls.specs.declared.broker_heartbeat.BrokerHeartbeat.{BrokerHeartbeat}
+use Rattle.kr_calls.specs.declared.broker_heartbeat.BrokerHeartbeatReply.{BrokerHeartbeatReply}
 use Rattle.kr_calls.specs.declared.calls.Reply.{Reply}
-use Rattle.kr_calls.specs.declared.reads.ListedTopic.{ListedTopic}
-use Rattle.kr_calls.specs.declared.reads.MetadataRequestTopic.{MetadataRequestTopic}
-use Rattle.kr_calls.specs.declared.reads.MetadataTopic.{MetadataTopic}
-use Rattle.kr_calls.specs.declared.reads.OngoingTopicReassignment.{OngoingTopicReassignment}
+use Rattle.kr_calls.specs.declared.list_partition_reassignments.ListedTopic.{ListedTopic}
+use Rattle.kr_calls.specs.declared.metadata.MetadataRequestTopic.{MetadataRequestTopic}
+use Rattle.kr_calls.specs.declared.metadata.MetadataTopic.{MetadataTopic}
+use Rattle.kr_calls.specs.declared.list_partition_reassignments.OngoingTopicReassignment.{OngoingTopicReassignment}
 use Rattle.kr_calls.specs.ListPartitionReassignments as listing
 use Rattle.kr_calls.specs.Metadata as describing
 use Rattle.kr_calls.specs.declared.calls.Reply.TheVariants as replies

@@ -22,7 +22,7 @@ use Rattle.kr_defs.proofs.Changes.{kept}
 use Rattle.kr_defs.proofs.IdLists.{id_itself}
 use Rattle.kr_defs.proofs.NewPartitions.{defaults_sensible}
 use Rattle.kr_calls.specs.declared.deciding.Draft.{Draft}
-use Rattle.kr_calls.specs.declared.brokers.UnregisterBrokerReply.{UnregisterBrokerReply}
+use Rattle.kr_calls.specs.declared.unregister_broker.UnregisterBrokerReply.{UnregisterBrokerReply}
 use Rattle.kr_calls.specs.TakingOut.{taken_out, taking_out, fencing, without_broker, is_held}
 use Rattle.kr_calls.specs.TakingOutLaws.{LeaveWith, TakingOutIsNeverRefused, FencingIsNeverRefused, UnregisteringIsNeverRefused}
 use Rattle.kr_calls.proofs.WalkedChanges.{IsSound, walk_leaves}

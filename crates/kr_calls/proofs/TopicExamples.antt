@@ -5,14 +5,14 @@ use Rattle.kr_defs.specs.declared.record.Record.{Record}
 use Rattle.kr_defs.specs.declared.record.Record.TheVariants as kinds
 use Rattle.kr_defs.specs.Placed.{placed, racks_of, visit, visited}
 use Rattle.kr_calls.specs.declared.deciding.Draft.{Draft}
-use Rattle.kr_calls.specs.declared.topics.CreatableReplicaAssignment.{CreatableReplicaAssignment}
-use Rattle.kr_calls.specs.declared.topics.CreatableTopic.{CreatableTopic}
-use Rattle.kr_calls.specs.declared.topics.CreatableTopicConfig.{CreatableTopicConfig}
-use Rattle.kr_calls.specs.declared.topics.CreatableTopicResult.{CreatableTopicResult}
-use Rattle.kr_calls.specs.declared.topics.CreatePartitionsAssignment.{CreatePartitionsAssignment}
-use Rattle.kr_calls.specs.declared.topics.CreatePartitionsTopic.{CreatePartitionsTopic}
-use Rattle.kr_calls.specs.declared.topics.CreatePartitionsTopicResult.{CreatePartitionsTopicResult}
-use Rattle.kr_calls.specs.declared.topics.DeletableTopicResult.{DeletableTopicResult}
+use Rattle.kr_calls.specs.declared.create_topics.CreatableReplicaAssignment.{CreatableReplicaAssignment}
+use Rattle.kr_calls.specs.declared.create_topics.CreatableTopic.{CreatableTopic}
+use Rattle.kr_calls.specs.declared.create_topics.CreatableTopicConfig.{CreatableTopicConfig}
+use Rattle.kr_calls.specs.declared.create_topics.CreatableTopicResult.{CreatableTopicResult}
+use Rattle.kr_calls.specs.declared.create_partitions.CreatePartitionsAssignment.{CreatePartitionsAssignment}
+use Rattle.kr_calls.specs.declared.create_partitions.CreatePartitionsTopic.{CreatePartitionsTopic}
+use Rattle.kr_calls.specs.declared.create_partitions.CreatePartitionsTopicResult.{CreatePartitionsTopicResult}
+use Rattle.kr_calls.specs.declared.delete_topics.DeletableTopicResult.{DeletableTopicResult}
 use Rattle.kr_calls.specs.CreatePartitions as growing
 use Rattle.kr_calls.specs.CreateTopics as creating
 use Rattle.kr_calls.specs.DeleteTopics as deleting

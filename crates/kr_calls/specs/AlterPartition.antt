@@ -21,15 +21,15 @@ use Rattle.kr_defs.specs.Map.{partition_order}
 use Rattle.kr_defs.specs.Merge.{merged}
 use Rattle.kr_defs.specs.Partition.{is_recovery}
 use Rattle.kr_defs.specs.Settings.{facts_of}
-use Rattle.kr_calls.specs.declared.errors.TheConstants.{FENCED_LEADER_EPOCH, INELIGIBLE_REPLICA, INVALID_REQUEST, INVALID_UPDATE_VERSION, STALE_BROKER_EPOCH, UNKNOWN_LEADER_EPOCH, UNKNOWN_TOPIC_ID, UNKNOWN_TOPIC_OR_PARTITION}
+use Rattle.kr_calls.specs.declared.errors.TheConstants.{FENCED_LEADER_EPOCH, INELIGIBLE_REPLICA, INVALID_REQUEST, INVALID_UPDATE_VERSION, NEW_LEADER_ELECTED, STALE_BROKER_EPOCH, UNKNOWN_LEADER_EPOCH, UNKNOWN_TOPIC_ID, UNKNOWN_TOPIC_OR_PARTITION}
 use Rattle.kr_calls.specs.declared.calls.Reply.{Reply}
 use Rattle.kr_calls.specs.declared.deciding.Draft.{Draft}
-use Rattle.kr_calls.specs.declared.partitions.AlterPartition.{AlterPartition}
-use Rattle.kr_calls.specs.declared.partitions.AlterPartitionResult.{AlterPartitionResult}
-use Rattle.kr_calls.specs.declared.partitions.AlterPartitionTopic.{AlterPartitionTopic}
-use Rattle.kr_calls.specs.declared.partitions.AlterPartitionTopicResult.{AlterPartitionTopicResult}
-use Rattle.kr_calls.specs.declared.partitions.BrokerState.{BrokerState}
-use Rattle.kr_calls.specs.declared.partitions.PartitionReport.{PartitionReport}
+use Rattle.kr_calls.specs.declared.alter_partition.AlterPartition.{AlterPartition}
+use Rattle.kr_calls.specs.declared.alter_partition.AlterPartitionResult.{AlterPartitionResult}
+use Rattle.kr_calls.specs.declared.alter_partition.AlterPartitionTopic.{AlterPartitionTopic}
+use Rattle.kr_calls.specs.declared.alter_partition.AlterPartitionTopicResult.{AlterPartitionTopicResult}
+use Rattle.kr_calls.specs.declared.alter_partition.BrokerState.{BrokerState}
+use Rattle.kr_calls.specs.declared.alter_partition.PartitionReport.{PartitionReport}
 use Rattle.kr_calls.specs.declared.calls.Reply.TheVariants as replies
 use Rattle.kr_calls.specs.Deciding.{Work, after_groups, nothing_decided, group_answers}
 
@@ -95,7 +95,7 @@ partition_result broker entry p =
       recovery = p.recovery;
       partition_epoch = p.partition_epoch;
     }
-    else refused (pos 108) entry
+    else refused NEW_LEADER_ELECTED entry
 
 abbrev pub drafted : ℤ → Entry → Partition → Option PartitionChange → Draft AlterPartitionResult
 drafted broker entry p None = record { records = []; answer = partition_result broker entry p }

@@ -20,11 +20,11 @@ use Rattle.kr_defs.specs.Walk.{change_records}
 use Rattle.kr_calls.specs.declared.errors.TheConstants.{INVALID_REPLICA_ASSIGNMENT, NO_REASSIGNMENT_IN_PROGRESS, UNKNOWN_TOPIC_OR_PARTITION}
 use Rattle.kr_calls.specs.declared.calls.Reply.{Reply}
 use Rattle.kr_calls.specs.declared.deciding.Draft.{Draft}
-use Rattle.kr_calls.specs.declared.partitions.AlterPartitionReassignments.{AlterPartitionReassignments}
-use Rattle.kr_calls.specs.declared.partitions.ReassignablePartition.{ReassignablePartition}
-use Rattle.kr_calls.specs.declared.partitions.ReassignablePartitionResponse.{ReassignablePartitionResponse}
-use Rattle.kr_calls.specs.declared.partitions.ReassignableTopic.{ReassignableTopic}
-use Rattle.kr_calls.specs.declared.partitions.ReassignableTopicResponse.{ReassignableTopicResponse}
+use Rattle.kr_calls.specs.declared.alter_partition_reassignments.AlterPartitionReassignments.{AlterPartitionReassignments}
+use Rattle.kr_calls.specs.declared.alter_partition_reassignments.ReassignablePartition.{ReassignablePartition}
+use Rattle.kr_calls.specs.declared.alter_partition_reassignments.ReassignablePartitionResponse.{ReassignablePartitionResponse}
+use Rattle.kr_calls.specs.declared.alter_partition_reassignments.ReassignableTopic.{ReassignableTopic}
+use Rattle.kr_calls.specs.declared.alter_partition_reassignments.ReassignableTopicResponse.{ReassignableTopicResponse}
 use Rattle.kr_calls.specs.declared.calls.Reply.TheVariants as replies
 use Rattle.kr_calls.specs.Deciding.{Work, after_groups, nothing_decided, group_answers}
 

@@ -3,7 +3,6 @@ use Rattle.std.specs.Prelude.{ℤ, pos, negsuc, int_lt, int_le, Bool, true, fals
 use Rattle.std.specs.List.{list_any}
 use Rattle.std.specs.Option.{option_map_or}
 use Rattle.std.specs.Ordering.{int_cmp, int_eq}
-use Rattle.kr_defs.specs.declared.basis.Basis.{Basis}
 use Rattle.kr_defs.specs.declared.broker.Broker.{Broker}
 use Rattle.kr_defs.specs.declared.options.Options.{Options}
 use Rattle.kr_defs.specs.declared.partition.Partition.{Partition}
@@ -16,14 +15,14 @@ use Rattle.kr_defs.specs.Brokers.{active, active_of}
 use Rattle.kr_defs.specs.Build.{built}
 use Rattle.kr_defs.specs.DefaultWant.{default_want}
 use Rattle.kr_defs.specs.Guard.{found, refuse◌when◌else◌}
-use Rattle.kr_defs.specs.Heartbeats.{heard, lowest_offset, stopped_at}
+use Rattle.kr_defs.specs.Heartbeats.{Heartbeats, lowest_offset, stopped_at}
 use Rattle.kr_defs.specs.Ids.{has}
 use Rattle.kr_defs.specs.Image.{Image}
 use Rattle.kr_defs.specs.Settings.{facts_with}
 use Rattle.kr_defs.specs.Walk.{Walked, changes_of, walk}
 use Rattle.kr_calls.specs.declared.errors.TheConstants.{STALE_BROKER_EPOCH}
-use Rattle.kr_calls.specs.declared.brokers.BrokerHeartbeat.{BrokerHeartbeat}
-use Rattle.kr_calls.specs.declared.brokers.BrokerHeartbeatReply.{BrokerHeartbeatReply}
+use Rattle.kr_calls.specs.declared.broker_heartbeat.BrokerHeartbeat.{BrokerHeartbeat}
+use Rattle.kr_calls.specs.declared.broker_heartbeat.BrokerHeartbeatReply.{BrokerHeartbeatReply}
 use Rattle.kr_calls.specs.declared.calls.Reply.{Reply}
 use Rattle.kr_calls.specs.declared.deciding.Draft.{Draft}
 use Rattle.kr_calls.specs.declared.calls.Reply.TheVariants as replies
@@ -76,13 +75,13 @@ of_fenced minimum image request state =
 -- ---- a stopping broker
 
 -- every active broker has told of an offset that is at least the tip when the broker began to stop
-abbrev pub is_passed_on : Basis → Image → ℤ → Bool
-is_passed_on basis image broker =
-    option_map_or (λ tip. option_map_or (λ offset. int_le tip offset) (lowest_offset (heard basis) (active image)) true) (stopped_at (heard basis) broker) false
+abbrev pub is_passed_on : Heartbeats → Image → ℤ → Bool
+is_passed_on heartbeats image broker =
+    option_map_or (λ tip. option_map_or (λ offset. int_le tip offset) (lowest_offset heartbeats (active image)) true) (stopped_at heartbeats broker) false
 
-abbrev pub of_stopping : ℤ → Basis → Image → BrokerHeartbeat → Step
-of_stopping minimum basis image request =
-    if is_passed_on basis image request.broker
+abbrev pub of_stopping : ℤ → Heartbeats → Image → BrokerHeartbeat → Step
+of_stopping minimum heartbeats image request =
+    if is_passed_on heartbeats image request.broker
     then record { records = fencing minimum image request.broker request.epoch; fenced = true; shuts_down = true }
     else record { records = []; fenced = false; shuts_down = false }
 
@@ -108,10 +107,10 @@ of_active minimum image request =
 
 -- ---- all states
 
-unfoldable pub step : ℤ → Basis → Image → BrokerHeartbeat → Broker → Step
-step minimum basis image request state =
+unfoldable pub step : ℤ → Heartbeats → Image → BrokerHeartbeat → Broker → Step
+step minimum heartbeats image request state =
     if state.fenced then of_fenced minimum image request state else
-    if state.stopping then of_stopping minimum basis image request else
+    if state.stopping then of_stopping minimum heartbeats image request else
     of_active minimum image request
 
 abbrev pub told : BrokerHeartbeat → Step → Draft BrokerHeartbeatReply
@@ -120,11 +119,11 @@ told request step = record {
   answer = record { error = pos 0; caught_up = not (is_behind request); fenced = step.fenced; should_shut_down = step.shuts_down };
 }
 
-abbrev pub rule : Options → Basis → Image → ℤ → BrokerHeartbeat → Result (Draft BrokerHeartbeatReply) ℤ
-rule options basis image place request = found STALE_BROKER_EPOCH (entries.get int_cmp image.brokers request.broker) (λ state.
+abbrev pub rule : Options → Heartbeats → Image → ℤ → BrokerHeartbeat → Result (Draft BrokerHeartbeatReply) ℤ
+rule options heartbeats image place request = found STALE_BROKER_EPOCH (entries.get int_cmp image.brokers request.broker) (λ state.
     refuse STALE_BROKER_EPOCH when not (int_eq request.epoch state.epoch) else
-    Ok (told request (step options.minimum basis image request state)))
+    Ok (told request (step options.minimum heartbeats image request state)))
 
-unfoldable pub decided : Options → Basis → Image → ℤ → BrokerHeartbeat → Work × Reply
-decided options basis image place request =
-    let d = one refused (rule options basis) (nothing_decided place image) request in (d.0, replies.BrokerHeartbeat d.1)
+unfoldable pub decided : Options → Heartbeats → Image → ℤ → BrokerHeartbeat → Work × Reply
+decided options heartbeats image place request =
+    let d = one refused (rule options heartbeats) (nothing_decided place image) request in (d.0, replies.BrokerHeartbeat d.1)

@@ -11,10 +11,10 @@ use Rattle.kr_defs.specs.Topics.{count_of}
 use Rattle.kr_calls.specs.declared.errors.TheConstants.{INVALID_PARTITIONS, INVALID_REPLICATION_FACTOR, INVALID_REPLICA_ASSIGNMENT, UNKNOWN_TOPIC_OR_PARTITION}
 use Rattle.kr_calls.specs.declared.calls.Reply.{Reply}
 use Rattle.kr_calls.specs.declared.deciding.Draft.{Draft}
-use Rattle.kr_calls.specs.declared.topics.CreatePartitions.{CreatePartitions}
-use Rattle.kr_calls.specs.declared.topics.CreatePartitionsAssignment.{CreatePartitionsAssignment}
-use Rattle.kr_calls.specs.declared.topics.CreatePartitionsTopic.{CreatePartitionsTopic}
-use Rattle.kr_calls.specs.declared.topics.CreatePartitionsTopicResult.{CreatePartitionsTopicResult}
+use Rattle.kr_calls.specs.declared.create_partitions.CreatePartitions.{CreatePartitions}
+use Rattle.kr_calls.specs.declared.create_partitions.CreatePartitionsAssignment.{CreatePartitionsAssignment}
+use Rattle.kr_calls.specs.declared.create_partitions.CreatePartitionsTopic.{CreatePartitionsTopic}
+use Rattle.kr_calls.specs.declared.create_partitions.CreatePartitionsTopicResult.{CreatePartitionsTopicResult}
 use Rattle.kr_calls.specs.declared.calls.Reply.TheVariants as replies
 use Rattle.kr_calls.specs.Deciding.{Work, after_all, answers, nothing_decided, unless_validating}
 use Rattle.kr_calls.specs.NewPartitions.{is_assignable, new_partitions, placements}

@@ -19,11 +19,11 @@ use Rattle.kr_defs.specs.Texts.{is_topic_name, names_agree}
 use Rattle.kr_calls.specs.declared.errors.TheConstants.{INVALID_CONFIG, INVALID_PARTITIONS, INVALID_REPLICATION_FACTOR, INVALID_REPLICA_ASSIGNMENT, INVALID_REQUEST, INVALID_TOPIC_EXCEPTION, TOPIC_ALREADY_EXISTS}
 use Rattle.kr_calls.specs.declared.calls.Reply.{Reply}
 use Rattle.kr_calls.specs.declared.deciding.Draft.{Draft}
-use Rattle.kr_calls.specs.declared.topics.CreatableReplicaAssignment.{CreatableReplicaAssignment}
-use Rattle.kr_calls.specs.declared.topics.CreatableTopic.{CreatableTopic}
-use Rattle.kr_calls.specs.declared.topics.CreatableTopicConfig.{CreatableTopicConfig}
-use Rattle.kr_calls.specs.declared.topics.CreatableTopicResult.{CreatableTopicResult}
-use Rattle.kr_calls.specs.declared.topics.CreateTopics.{CreateTopics}
+use Rattle.kr_calls.specs.declared.create_topics.CreatableReplicaAssignment.{CreatableReplicaAssignment}
+use Rattle.kr_calls.specs.declared.create_topics.CreatableTopic.{CreatableTopic}
+use Rattle.kr_calls.specs.declared.create_topics.CreatableTopicConfig.{CreatableTopicConfig}
+use Rattle.kr_calls.specs.declared.create_topics.CreatableTopicResult.{CreatableTopicResult}
+use Rattle.kr_calls.specs.declared.create_topics.CreateTopics.{CreateTopics}
 use Rattle.kr_calls.specs.declared.calls.Reply.TheVariants as replies
 use Rattle.kr_calls.specs.Deciding.{Work, after_all, answers, nothing_decided, unless_validating}
 use Rattle.kr_calls.specs.NewPartitions.{is_assignable, new_partitions, placements}

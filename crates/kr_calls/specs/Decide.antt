@@ -35,30 +35,35 @@ pub record Decision : Type 0 where
 abbrev pub no_work : Image → ℤ → Work × Reply
 no_work image place = (nothing_decided place image, replies.Bare (pos 0))
 
-unfoldable pub work_of : Options → Basis → Image → ℤ → Request → Work × Reply
-work_of options basis image place (requests.BrokerRegistration q) = registering.decided options basis image place q
-work_of options basis image place (requests.BrokerHeartbeat q) = heartbeating.decided options basis image place q
-work_of options basis image place (requests.UnregisterBroker q) = unregistering.decided options image place q
-work_of options basis image place (requests.CreateTopics q) = creating.decided options image place q
-work_of options basis image place (requests.DeleteTopics q) = deleting.decided image place q
-work_of options basis image place (requests.CreatePartitions q) = growing.decided image place q
-work_of options basis image place (requests.AlterPartition q) = reporting.decided options image place q
-work_of options basis image place (requests.ElectLeaders q) = electing.decided options image place q
-work_of options basis image place (requests.AlterPartitionReassignments q) = reassigning.decided options image place q
-work_of options basis image place (requests.IncrementalAlterConfigs q) = configuring.decided options image place q
-work_of options basis image place (requests.ListPartitionReassignments q) = no_work image place
-work_of options basis image place (requests.Metadata q) = no_work image place
+-- at the time, by a node that hears of these brokers
+unfoldable pub work_of : Options → ℤ → Heartbeats → Image → ℤ → Request → Work × Reply
+work_of options time heartbeats image place (requests.BrokerRegistration q) = registering.decided options time heartbeats image place q
+work_of options time heartbeats image place (requests.BrokerHeartbeat q) = heartbeating.decided options heartbeats image place q
+work_of options time heartbeats image place (requests.UnregisterBroker q) = unregistering.decided options image place q
+work_of options time heartbeats image place (requests.CreateTopics q) = creating.decided options image place q
+work_of options time heartbeats image place (requests.DeleteTopics q) = deleting.decided image place q
+work_of options time heartbeats image place (requests.CreatePartitions q) = growing.decided image place q
+work_of options time heartbeats image place (requests.AlterPartition q) = reporting.decided options image place q
+work_of options time heartbeats image place (requests.ElectLeaders q) = electing.decided options image place q
+work_of options time heartbeats image place (requests.AlterPartitionReassignments q) = reassigning.decided options image place q
+work_of options time heartbeats image place (requests.IncrementalAlterConfigs q) = configuring.decided options image place q
+work_of options time heartbeats image place (requests.ListPartitionReassignments q) = no_work image place
+work_of options time heartbeats image place (requests.Metadata q) = no_work image place
 
--- the request is decided on the image at the place, with the basis whose time is the present one
-abbrev pub decide : Options → Image → Basis → ℤ → Request → Decision
-decide options image basis place request =
-    let d = work_of options basis image place request in
+-- the same, with whom is heard of then
+abbrev pub decision_of : Options → ℤ → Heartbeats → Image → ℤ → Request → Decision
+decision_of options time heartbeats image place request =
+    let d = work_of options time heartbeats image place request in
     record {
       records = d.0.records;
       image = d.0.image;
       reply = d.1;
-      heartbeats = heartbeats_after (heard basis) image d.0.image basis.time place request d.1;
+      heartbeats = heartbeats_after heartbeats image d.0.image time place request d.1;
     }
+
+-- the request is decided on the image at the place, with the basis whose time is the present one
+abbrev pub decide : Options → Image → Basis → ℤ → Request → Decision
+decide options image basis place request = decision_of options basis.time (heard basis) image place request
 
 -- it changes nothing, whoever leads
 abbrev pub is_read : Request → Bool

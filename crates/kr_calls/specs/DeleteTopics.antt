@@ -9,9 +9,9 @@ use Rattle.kr_defs.specs.Topics.{is_named_once}
 use Rattle.kr_calls.specs.declared.errors.TheConstants.{INVALID_REQUEST, UNKNOWN_TOPIC_ID, UNKNOWN_TOPIC_OR_PARTITION}
 use Rattle.kr_calls.specs.declared.calls.Reply.{Reply}
 use Rattle.kr_calls.specs.declared.deciding.Draft.{Draft}
-use Rattle.kr_calls.specs.declared.topics.DeletableTopicResult.{DeletableTopicResult}
-use Rattle.kr_calls.specs.declared.topics.DeleteTopicState.{DeleteTopicState}
-use Rattle.kr_calls.specs.declared.topics.DeleteTopics.{DeleteTopics}
+use Rattle.kr_calls.specs.declared.delete_topics.DeletableTopicResult.{DeletableTopicResult}
+use Rattle.kr_calls.specs.declared.delete_topics.DeleteTopicState.{DeleteTopicState}
+use Rattle.kr_calls.specs.declared.delete_topics.DeleteTopics.{DeleteTopics}
 use Rattle.kr_calls.specs.declared.calls.Reply.TheVariants as replies
 use Rattle.kr_calls.specs.Deciding.{Work, after_all, answers, nothing_decided}
 use Rattle.kr_calls.specs.Refuse.{refused_deletion}

@@ -20,10 +20,10 @@ use Rattle.kr_defs.specs.Walk.{change_records, of_topic}
 use Rattle.kr_calls.specs.declared.errors.TheConstants.{ELECTION_NOT_NEEDED, ELIGIBLE_LEADERS_NOT_AVAILABLE, INVALID_REQUEST, PREFERRED_LEADER_NOT_AVAILABLE, UNKNOWN_TOPIC_OR_PARTITION}
 use Rattle.kr_calls.specs.declared.calls.Reply.{Reply}
 use Rattle.kr_calls.specs.declared.deciding.Draft.{Draft}
-use Rattle.kr_calls.specs.declared.partitions.ElectLeaders.{ElectLeaders}
-use Rattle.kr_calls.specs.declared.partitions.ElectLeadersTopic.{ElectLeadersTopic}
-use Rattle.kr_calls.specs.declared.partitions.PartitionElectionResult.{PartitionElectionResult}
-use Rattle.kr_calls.specs.declared.partitions.ReplicaElectionResult.{ReplicaElectionResult}
+use Rattle.kr_calls.specs.declared.elect_leaders.ElectLeaders.{ElectLeaders}
+use Rattle.kr_calls.specs.declared.elect_leaders.ElectLeadersTopic.{ElectLeadersTopic}
+use Rattle.kr_calls.specs.declared.elect_leaders.PartitionElectionResult.{PartitionElectionResult}
+use Rattle.kr_calls.specs.declared.elect_leaders.ReplicaElectionResult.{ReplicaElectionResult}
 use Rattle.kr_calls.specs.declared.calls.Reply.TheVariants as replies
 use Rattle.kr_calls.specs.Deciding.{Work, after_groups, nothing_decided, group_answers}
 

@@ -21,10 +21,10 @@ use Rattle.kr_defs.specs.Texts.{joined, parts}
 use Rattle.kr_defs.specs.Walk.{Walked, changes_of, walk}
 use Rattle.kr_calls.specs.declared.errors.TheConstants.{INVALID_CONFIG, INVALID_REQUEST, UNKNOWN_TOPIC_OR_PARTITION}
 use Rattle.kr_calls.specs.declared.calls.Reply.{Reply}
-use Rattle.kr_calls.specs.declared.configs.ConfigOperation.{ConfigOperation}
-use Rattle.kr_calls.specs.declared.configs.ConfigResource.{ConfigResource}
-use Rattle.kr_calls.specs.declared.configs.ConfigResponse.{ConfigResponse}
-use Rattle.kr_calls.specs.declared.configs.IncrementalAlterConfigs.{IncrementalAlterConfigs}
+use Rattle.kr_calls.specs.declared.incremental_alter_configs.ConfigOperation.{ConfigOperation}
+use Rattle.kr_calls.specs.declared.incremental_alter_configs.ConfigResource.{ConfigResource}
+use Rattle.kr_calls.specs.declared.incremental_alter_configs.ConfigResponse.{ConfigResponse}
+use Rattle.kr_calls.specs.declared.incremental_alter_configs.IncrementalAlterConfigs.{IncrementalAlterConfigs}
 use Rattle.kr_calls.specs.declared.deciding.Draft.{Draft}
 use Rattle.kr_calls.specs.declared.calls.Reply.TheVariants as replies
 use Rattle.kr_calls.specs.Deciding.{Work, after_all, answers, nothing_decided, unless_validating}

@@ -7,10 +7,10 @@ use Rattle.kr_defs.specs.Image.{Image}
 use Rattle.kr_defs.specs.Partition.{is_moving}
 use Rattle.kr_defs.specs.Walk.{of_topic}
 use Rattle.kr_calls.specs.declared.calls.Reply.{Reply}
-use Rattle.kr_calls.specs.declared.reads.ListPartitionReassignments.{ListPartitionReassignments}
-use Rattle.kr_calls.specs.declared.reads.ListedTopic.{ListedTopic}
-use Rattle.kr_calls.specs.declared.reads.OngoingPartitionReassignment.{OngoingPartitionReassignment}
-use Rattle.kr_calls.specs.declared.reads.OngoingTopicReassignment.{OngoingTopicReassignment}
+use Rattle.kr_calls.specs.declared.list_partition_reassignments.ListPartitionReassignments.{ListPartitionReassignments}
+use Rattle.kr_calls.specs.declared.list_partition_reassignments.ListedTopic.{ListedTopic}
+use Rattle.kr_calls.specs.declared.list_partition_reassignments.OngoingPartitionReassignment.{OngoingPartitionReassignment}
+use Rattle.kr_calls.specs.declared.list_partition_reassignments.OngoingTopicReassignment.{OngoingTopicReassignment}
 use Rattle.kr_calls.specs.declared.calls.Reply.TheVariants as replies
 
 -- the partition is asked for by its topic's name and its index, or all are

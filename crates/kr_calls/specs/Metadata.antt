@@ -16,11 +16,11 @@ use Rattle.kr_defs.specs.Topics.{is_named_once}
 use Rattle.kr_defs.specs.Walk.{of_topic}
 use Rattle.kr_calls.specs.declared.errors.TheConstants.{INVALID_REQUEST, UNKNOWN_TOPIC_ID, UNKNOWN_TOPIC_OR_PARTITION}
 use Rattle.kr_calls.specs.declared.calls.Reply.{Reply}
-use Rattle.kr_calls.specs.declared.reads.Metadata.{Metadata}
-use Rattle.kr_calls.specs.declared.reads.MetadataBroker.{MetadataBroker}
-use Rattle.kr_calls.specs.declared.reads.MetadataPartition.{MetadataPartition}
-use Rattle.kr_calls.specs.declared.reads.MetadataRequestTopic.{MetadataRequestTopic}
-use Rattle.kr_calls.specs.declared.reads.MetadataTopic.{MetadataTopic}
+use Rattle.kr_calls.specs.declared.metadata.Metadata.{Metadata}
+use Rattle.kr_calls.specs.declared.metadata.MetadataBroker.{MetadataBroker}
+use Rattle.kr_calls.specs.declared.metadata.MetadataPartition.{MetadataPartition}
+use Rattle.kr_calls.specs.declared.metadata.MetadataRequestTopic.{MetadataRequestTopic}
+use Rattle.kr_calls.specs.declared.metadata.MetadataTopic.{MetadataTopic}
 use Rattle.kr_calls.specs.declared.calls.Reply.TheVariants as replies
 
 -- ---- brokers

@@ -5,8 +5,8 @@ use Rattle.std.specs.Ordering.{int_cmp, int_eq}
 use Rattle.kr_defs.specs.Map as entries
 use Rattle.kr_defs.specs.Heartbeats.{Heartbeats, beat, leave, stop}
 use Rattle.kr_defs.specs.Image.{Image}
-use Rattle.kr_calls.specs.declared.brokers.BrokerHeartbeat.{BrokerHeartbeat}
-use Rattle.kr_calls.specs.declared.brokers.BrokerHeartbeatReply.{BrokerHeartbeatReply}
+use Rattle.kr_calls.specs.declared.broker_heartbeat.BrokerHeartbeat.{BrokerHeartbeat}
+use Rattle.kr_calls.specs.declared.broker_heartbeat.BrokerHeartbeatReply.{BrokerHeartbeatReply}
 use Rattle.kr_calls.specs.declared.calls.Reply.{Reply}
 use Rattle.kr_calls.specs.declared.calls.Request.{Request}
 use Rattle.kr_calls.specs.declared.calls.Reply.TheVariants as replies

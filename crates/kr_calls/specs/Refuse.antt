@@ -4,14 +4,14 @@ use Rattle.kr_calls.specs.declared.calls.Request.{Request}
 use Rattle.kr_calls.specs.declared.calls.Request.TheVariants as requests
 use Rattle.kr_calls.specs.declared.calls.Reply.{Reply}
 use Rattle.kr_calls.specs.declared.calls.Reply.TheVariants as replies
-use Rattle.kr_calls.specs.declared.configs.ConfigResource.{ConfigResource}
-use Rattle.kr_calls.specs.declared.configs.ConfigResponse.{ConfigResponse}
-use Rattle.kr_calls.specs.declared.topics.CreatableTopic.{CreatableTopic}
-use Rattle.kr_calls.specs.declared.topics.CreatableTopicResult.{CreatableTopicResult}
-use Rattle.kr_calls.specs.declared.topics.DeleteTopicState.{DeleteTopicState}
-use Rattle.kr_calls.specs.declared.topics.DeletableTopicResult.{DeletableTopicResult}
-use Rattle.kr_calls.specs.declared.topics.CreatePartitionsTopic.{CreatePartitionsTopic}
-use Rattle.kr_calls.specs.declared.topics.CreatePartitionsTopicResult.{CreatePartitionsTopicResult}
+use Rattle.kr_calls.specs.declared.incremental_alter_configs.ConfigResource.{ConfigResource}
+use Rattle.kr_calls.specs.declared.incremental_alter_configs.ConfigResponse.{ConfigResponse}
+use Rattle.kr_calls.specs.declared.create_topics.CreatableTopic.{CreatableTopic}
+use Rattle.kr_calls.specs.declared.create_topics.CreatableTopicResult.{CreatableTopicResult}
+use Rattle.kr_calls.specs.declared.delete_topics.DeleteTopicState.{DeleteTopicState}
+use Rattle.kr_calls.specs.declared.delete_topics.DeletableTopicResult.{DeletableTopicResult}
+use Rattle.kr_calls.specs.declared.create_partitions.CreatePartitionsTopic.{CreatePartitionsTopic}
+use Rattle.kr_calls.specs.declared.create_partitions.CreatePartitionsTopicResult.{CreatePartitionsTopicResult}
 
 -- a topic that isn't made has no id, no partitions and no replicas
 abbrev pub refused_creation : ℤ → CreatableTopic → CreatableTopicResult

@@ -13,8 +13,8 @@ use Rattle.kr_defs.specs.Merge.{merged}
 use Rattle.kr_defs.specs.Partition.{is_moving, target}
 use Rattle.kr_defs.specs.Settings.{is_unclean}
 use Rattle.kr_calls.specs.declared.calls.Request.{Request}
-use Rattle.kr_calls.specs.declared.partitions.AlterPartitionTopic.{AlterPartitionTopic}
-use Rattle.kr_calls.specs.declared.partitions.ReassignableTopic.{ReassignableTopic}
+use Rattle.kr_calls.specs.declared.alter_partition.AlterPartitionTopic.{AlterPartitionTopic}
+use Rattle.kr_calls.specs.declared.alter_partition_reassignments.ReassignableTopic.{ReassignableTopic}
 use Rattle.kr_calls.specs.declared.calls.Request.TheVariants as requests
 use Rattle.kr_calls.specs.AlterPartition.{is_accepted, is_stale, members}
 

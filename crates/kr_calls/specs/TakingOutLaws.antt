@@ -7,8 +7,8 @@ use Rattle.kr_defs.specs.declared.partition.Partition.{Partition}
 use Rattle.kr_defs.specs.declared.record.Record.{Record}
 use Rattle.kr_defs.specs.Image.{Image, IsValid}
 use Rattle.kr_defs.specs.Map as entries
-use Rattle.kr_calls.specs.declared.brokers.UnregisterBroker.{UnregisterBroker}
-use Rattle.kr_calls.specs.declared.brokers.UnregisterBrokerReply.{UnregisterBrokerReply}
+use Rattle.kr_calls.specs.declared.unregister_broker.UnregisterBroker.{UnregisterBroker}
+use Rattle.kr_calls.specs.declared.unregister_broker.UnregisterBrokerReply.{UnregisterBrokerReply}
 use Rattle.kr_calls.specs.declared.deciding.Draft.{Draft}
 use Rattle.kr_calls.specs.Deciding.{apply_records}
 use Rattle.kr_calls.specs.TakingOut.{fencing, taken_out}

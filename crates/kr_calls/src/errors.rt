@@ -71,3 +71,6 @@ pub const INCONSISTENT_CLUSTER_ID: i16 = 104;
 
 /// A broker that was reported in sync isn't registered so, is fenced or stops.
 pub const INELIGIBLE_REPLICA: i16 = 107;
+
+/// The partition has another leader than the one that reported, by its own report.
+pub const NEW_LEADER_ELECTED: i16 = 108;

@@ -1,51 +1,69 @@
 //! The data of calls: requests, replies, and what a controller is told and gives out.
 #![tactic(auto)]
 
-mod brokers;
+mod alter_partition;
+mod alter_partition_reassignments;
+mod broker_heartbeat;
+mod broker_registration;
 mod calls;
-mod configs;
+mod create_partitions;
+mod create_topics;
 mod deciding;
+mod delete_topics;
+mod elect_leaders;
 pub mod errors;
 mod events;
+mod incremental_alter_configs;
 pub mod laws;
-mod partitions;
-mod reads;
-mod topics;
+mod list_partition_reassignments;
+mod metadata;
+mod unregister_broker;
 
-pub use brokers::{
-    BrokerHeartbeat, BrokerHeartbeatReply, BrokerRegistration, BrokerRegistrationReply,
-    UnregisterBroker, UnregisterBrokerReply,
+pub use alter_partition::{
+    AlterPartition, AlterPartitionReply, AlterPartitionResult, AlterPartitionResults,
+    AlterPartitionTopic, AlterPartitionTopicResult, AlterPartitionTopicResults,
+    AlterPartitionTopics, BrokerState, BrokerStates, PartitionReport, PartitionReports,
 };
+pub use alter_partition_reassignments::{
+    AlterPartitionReassignments, AlterPartitionReassignmentsReply, ReassignablePartition,
+    ReassignablePartitionResponse, ReassignablePartitionResponses, ReassignablePartitions,
+    ReassignableTopic, ReassignableTopicResponse, ReassignableTopicResponses, ReassignableTopics,
+};
+pub use broker_heartbeat::{BrokerHeartbeat, BrokerHeartbeatReply};
+pub use broker_registration::{BrokerRegistration, BrokerRegistrationReply};
 pub use calls::{Ask, AskFault, Call, Reply, Request};
-pub use configs::{
-    ConfigOperation, ConfigOperations, ConfigResource, ConfigResources, ConfigResponse,
-    ConfigResponses, IncrementalAlterConfigs, IncrementalAlterConfigsReply,
-};
-pub use deciding::{Draft, Effect};
-pub use events::{Entry, Event, Output, Reason};
-pub use partitions::{
-    AlterPartition, AlterPartitionReassignments, AlterPartitionReassignmentsReply,
-    AlterPartitionReply, AlterPartitionResult, AlterPartitionResults, AlterPartitionTopic,
-    AlterPartitionTopicResult, AlterPartitionTopicResults, AlterPartitionTopics, BrokerState,
-    BrokerStates, ElectLeaders, ElectLeadersReply, ElectLeadersTopic, ElectLeadersTopics,
-    PartitionElectionResult, PartitionElectionResults, PartitionReport, PartitionReports,
-    ReassignablePartition, ReassignablePartitionResponse, ReassignablePartitionResponses,
-    ReassignablePartitions, ReassignableTopic, ReassignableTopicResponse,
-    ReassignableTopicResponses, ReassignableTopics, ReplicaElectionResult, ReplicaElectionResults,
-};
-pub use reads::{
-    ListPartitionReassignments, ListPartitionReassignmentsReply, ListedTopic, ListedTopics,
-    Metadata, MetadataBroker, MetadataBrokers, MetadataPartition, MetadataPartitions,
-    MetadataReply, MetadataRequestTopic, MetadataRequestTopics, MetadataTopic, MetadataTopics,
-    OngoingPartitionReassignment, OngoingPartitionReassignments, OngoingTopicReassignment,
-    OngoingTopicReassignments,
-};
-pub use topics::{
-    CreatableReplicaAssignment, CreatableReplicaAssignments, CreatableTopic, CreatableTopicConfig,
-    CreatableTopicConfigs, CreatableTopicResult, CreatableTopicResults, CreatableTopics,
+pub use create_partitions::{
     CreatePartitions, CreatePartitionsAssignment, CreatePartitionsAssignments,
     CreatePartitionsReply, CreatePartitionsTopic, CreatePartitionsTopicResult,
-    CreatePartitionsTopicResults, CreatePartitionsTopics, CreateTopics, CreateTopicsReply,
+    CreatePartitionsTopicResults, CreatePartitionsTopics,
+};
+pub use create_topics::{
+    CreatableReplicaAssignment, CreatableReplicaAssignments, CreatableTopic, CreatableTopicConfig,
+    CreatableTopicConfigs, CreatableTopicResult, CreatableTopicResults, CreatableTopics,
+    CreateTopics, CreateTopicsReply,
+};
+pub use deciding::{Draft, Effect};
+pub use delete_topics::{
     DeletableTopicResult, DeletableTopicResults, DeleteTopicState, DeleteTopicStates, DeleteTopics,
     DeleteTopicsReply,
 };
+pub use elect_leaders::{
+    ElectLeaders, ElectLeadersReply, ElectLeadersTopic, ElectLeadersTopics,
+    PartitionElectionResult, PartitionElectionResults, ReplicaElectionResult,
+    ReplicaElectionResults,
+};
+pub use events::{Entry, Event, Output, Reason};
+pub use incremental_alter_configs::{
+    ConfigOperation, ConfigOperations, ConfigResource, ConfigResources, ConfigResponse,
+    ConfigResponses, IncrementalAlterConfigs, IncrementalAlterConfigsReply,
+};
+pub use list_partition_reassignments::{
+    ListPartitionReassignments, ListPartitionReassignmentsReply, ListedTopic, ListedTopics,
+    OngoingPartitionReassignment, OngoingPartitionReassignments, OngoingTopicReassignment,
+    OngoingTopicReassignments,
+};
+pub use metadata::{
+    Metadata, MetadataBroker, MetadataBrokers, MetadataPartition, MetadataPartitions,
+    MetadataReply, MetadataRequestTopic, MetadataRequestTopics, MetadataTopic, MetadataTopics,
+};
+pub use unregister_broker::{UnregisterBroker, UnregisterBrokerReply};

@@ -63,9 +63,6 @@ pub const GREATEST_EPOCH: i32 = 2147483647;
 /// Records of one batch.
 pub const MOST_RECORDS: usize = 10000;
 
-/// Bytes in the values of the records of a batch that this controller writes.
-pub const MOST_VALUE_BYTES: usize = 8000000;
-
 /// Records that one request gives.
 pub const MOST_REQUEST_RECORDS: usize = 10000;
 
@@ -92,9 +89,3 @@ pub const MOST_LOAD_BYTES: usize = 67108864;
 
 /// Bytes of one session or connection.
 pub const MOST_SESSION_BYTES: u64 = 1099511627776;
-
-/// Places that one seat may pin.
-pub const MOST_PINS: usize = 16;
-
-/// Seats of clients.
-pub const MOST_SEATS: usize = 64;

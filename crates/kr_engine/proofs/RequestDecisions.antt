@@ -1,15 +1,14 @@
 -- What is decided of a write, and what it makes of an engine.
 use Rattle.std.proofs.Common.{◌≡◌, ◌∙◌, sym, subst, ℕ, ℤ, pos, negsuc, true, false, cond, ◌-◌, ◌≤◌, List, [], ◌∷◌, ◌++◌, length, refl, ap, arith}
 use Rattle.std.proofs.lemmas.Int.{ints}
-use Rattle.std.specs.Prelude.{◌==◌, ◌≤ℤ◌, Option, Some, None, Result, Ok, Err, IfOk, OnOk, IsTrue, int_lt, slice_get, unwrap_or}
+use Rattle.std.specs.Prelude.{◌==◌, ◌≤ℤ◌, Option, Some, Result, Ok, Err, IfOk, OnOk, IsTrue, int_lt, slice_get, unwrap_or}
 use Rattle.std.specs.Option.{option_map}
-use Rattle.kr_brokers.specs.RequestBasis as judged
 use Rattle.kr_calls.specs.declared.errors.TheConstants.{NOT_CONTROLLER}
 use Rattle.kr_calls.specs.declared.calls.Call.{Call}
 use Rattle.kr_calls.specs.declared.calls.Reply.{Reply}
 use Rattle.kr_calls.specs.declared.calls.Request.{Request}
 use Rattle.kr_calls.specs.declared.deciding.Effect.{Effect}
-use Rattle.kr_calls.specs.Decide.{decide, work_of}
+use Rattle.kr_calls.specs.Decide.{decision_of}
 use Rattle.kr_calls.specs.NextBasis.{heartbeats_after, broker_is_stopping}
 use Rattle.kr_calls.specs.Refuse.{refuse}
 use Rattle.kr_calls.proofs.DecisionMeanings.{requests_stand}
@@ -23,17 +22,16 @@ use Rattle.kr_defs.specs.Heartbeats.{Heartbeats, heard, stopping_brokers}
 use Rattle.kr_defs.specs.Ids.{has}
 use Rattle.kr_defs.specs.ImageLaws.{as_items}
 use Rattle.kr_defs.specs.Image.{Image, empty}
-use Rattle.kr_fitting.specs.Fitting.{FitsBatch}
-use Rattle.kr_fitting.proofs.FittingRecords.{requests_fit}
+use Rattle.law_fitting.specs.Fitting.{FitsBatch}
+use Rattle.law_fitting.proofs.FittingRecords.{requests_fit}
 use Rattle.kr_rules.specs.Progress.{base_of}
 use Rattle.kr_store.specs.Images.{Images, IsAbove, last_kept, marked}
-use Rattle.kr_engine.specs.Entries.{item_entries}
-use Rattle.kr_engine.specs.declared.writes.Write.{Write}
-use Rattle.kr_engine.specs.Engine.{Core, basis_of}
+use Rattle.kr_world.specs.Entries.{item_entries}
+use Rattle.kr_world.specs.declared.writes.Write.{Write}
+use Rattle.kr_world.specs.Engine.{Core, basis_of}
 use Rattle.kr_engine.specs.inner.Ready.{IsReady}
-use Rattle.kr_engine.specs.Reasons.{ours}
-use Rattle.kr_engine.specs.inner.Serving.{Decides, TakesWrite, decided_by, waiting_write, write_with}
-use Rattle.kr_engine.specs.inner.Writing.{Writes, with_appended, batch_at, place_behind}
+use Rattle.kr_engine.specs.inner.Serving.{Decides, TakesWrite, decided_by, write_with}
+use Rattle.kr_engine.specs.inner.Writing.{with_appended, batch_at, place_behind}
 use Rattle.kr_engine.proofs.AppendSteps.{writes_by}
 
 -- ---- the image where the request began
@@ -53,13 +51,13 @@ pub among_base : (before after : Images) (place : ℤ) (h : Heartbeats) → last
     → ((id : ℤ) → IsTrue (has (stopping_brokers h) id) → IsTrue (broker_is_stopping before.tip id)) → (id : ℤ) → IsTrue (has (stopping_brokers h) id) → IsTrue (broker_is_stopping (base_of after) id)
 among_base before after place h is kept among id there = ap (λ (i : Image). broker_is_stopping i id) (base_is before after place is kept) ∙ among id there
 
-pub heard_so : (options : Options) (before after : Images) (time led place : ℤ) (h : Heartbeats) (request : Request) (reply : Reply) → last_kept before ≡ Some (place, before.tip) → after.kept ≡ before.kept
-    → after.tip ≡ (decide options before.tip (judged.basis_with time led h) place request).image → reply ≡ (decide options before.tip (judged.basis_with time led h) place request).reply
-    → heartbeats_after h (base_of after) after.tip time place request reply ≡ (decide options before.tip (judged.basis_with time led h) place request).heartbeats
-heard_so options before after time led place h request reply is kept image says =
+pub heard_so : (options : Options) (before after : Images) (time place : ℤ) (h : Heartbeats) (request : Request) (reply : Reply) → last_kept before ≡ Some (place, before.tip) → after.kept ≡ before.kept
+    → after.tip ≡ (decision_of options time h before.tip place request).image → reply ≡ (decision_of options time h before.tip place request).reply
+    → heartbeats_after h (base_of after) after.tip time place request reply ≡ (decision_of options time h before.tip place request).heartbeats
+heard_so options before after time place h request reply is kept image says =
     ap (λ (i : Image). heartbeats_after h i after.tip time place request reply) (base_is before after place is kept)
     ∙ (ap (λ (i : Image). heartbeats_after h before.tip i time place request reply) image
-    ∙ ap (heartbeats_after h before.tip (decide options before.tip (judged.basis_with time led h) place request).image time place request) says)
+    ∙ ap (heartbeats_after h before.tip (decision_of options time h before.tip place request).image time place request) says)
 
 pub ruleset bases = (last_is, among_base, heard_so)
 
@@ -146,7 +144,7 @@ module _ (before between with_appended' after : Core) (client : ℕ) (call : Cal
         writes = writes_by before between after records
             (d.same ∙ ap (λ h. record before { images = between.images; heard = h }) (sym (ap (λ (b : Core). b.heard) d.same)))
             d.kept
-            (subst (λ i. apply_records before.images.tip records ≡ Ok i) (sym d.image) (requests_stand before.options (basis_of before) before.images.tip before.tip call.request))
+            (subst (λ i. apply_records before.images.tip records ≡ Ok i) (sym d.image) (requests_stand before.options before.time before.heard before.images.tip before.tip call.request))
             fits.few
             (held_apart after with_appended' _ held ∙ ap (λ (a : Core). record a { held = after.held; heard = after.heard }) (is ∙ ap (with_appended between) d.records));
         heard = ap (λ (a : Core). a.heard) held ∙ heard_same;

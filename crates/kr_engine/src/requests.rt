@@ -7,8 +7,8 @@ ghost use Rattle.kr_calls.specs.declared.errors.TheConstants.{NOT_CONTROLLER as 
 ghost use Rattle.kr_calls.specs.declared.calls.Reply.TheVariants as replies;
 ghost use Rattle.kr_calls.specs.declared.events.Event.TheVariants as events;
 ghost use Rattle.kr_calls.specs.declared.events.Output.TheVariants as given;
-ghost use Rattle.kr_engine.specs.Engine.{IsSound, IsStep, left};
-ghost use Rattle.kr_engine.specs.Outputs as outputs;
+ghost use Rattle.kr_world.specs.Engine.{IsSound, IsStep, left};
+ghost use Rattle.kr_world.specs.Outputs as outputs;
 ghost use Rattle.kr_engine.specs.inner.Ready.{IsReady};
 ghost use Rattle.kr_engine.specs.inner.Serving as serving;
 ghost use Rattle.kr_engine.specs.inner.Serving.{SettlesAsk, TakesAsk, TakesCall, TakesWrite};
@@ -18,12 +18,13 @@ use crate::appending::epoch_of;
 use crate::commits::at_epoch;
 use crate::leads::is_far;
 use crate::reasons::exhausted;
-use crate::writes::Write;
 use kr_base::{NoMemory, Steps};
 use kr_calls::errors::{INVALID_REQUEST, NOT_CONTROLLER, UNSUPPORTED_VERSION};
 use kr_calls::{Ask, AskFault, Call, Effect, Output, Reason, Reply, Request};
-use kr_req::refuse;
+use kr_handlers::read;
+use kr_rules::refuse;
 use kr_store::ReadFault;
+use kr_world::Write;
 use std::alloc::Global;
 use std::sync::ledger::Ledger;
 
@@ -68,7 +69,7 @@ fn is_decided(leading: &Option<i32>, request: &Request) -> bool
 }
 
 // The image is kept, so a read wants memory alone.
-fn reply_of(read: Result<Reply, ReadFault>) -> Result<Reply, NoMemory>
+fn reply_of(read: Result<Option<Reply>, ReadFault>) -> Result<Option<Reply>, NoMemory>
     ensures { IfOk result (λ reply. read ≡ Ok reply) }
 {
     match read {
@@ -130,27 +131,13 @@ impl Engine {
     }
 
     // A read is answered on the committed image; a write is refused.
-    #[tactic(auto, unfolding(kr_calls::specs::Decide::query))]
     fn reply_at_once(&self, request: &Request) -> Result<Reply, NoMemory>
         ensures { IfOk result (λ reply. reply ≡ serving.reply_at_once self.now request.now) }
     {
         let at = at_epoch(&self.committed);
-        match request {
-            Request::ListPartitionReassignments(q) => reply_of(kr_reassign::list(
-                self.alloc,
-                &self.store,
-                at,
-                &self.options,
-                q,
-            )),
-            Request::Metadata(q) => reply_of(kr_topics::metadata(
-                self.alloc,
-                &self.store,
-                at,
-                &self.options,
-                q,
-            )),
-            _ => refusal_of(self.alloc, request),
+        match reply_of(read(self.alloc, &self.store, at, &self.options, request))? {
+            Some(reply) => Ok(reply),
+            None => refusal_of(self.alloc, request),
         }
     }
 

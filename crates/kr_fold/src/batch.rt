@@ -7,15 +7,9 @@ ghost use Rattle.kr_fold.specs.SourceBytes.{longest, HasNone, IsEnd, IsNext};
 use crate::fault::ToolFault;
 use crate::piece::{Filled, fill};
 use kr_base::Source;
-use kr_batch::BatchFault;
+use kr_batch::{BatchFault, LEAST_SIZE, START};
 use kr_wire::{read_i64, read_u32};
 use std::alloc::Global;
-
-/// The bytes of a batch's base and size.
-pub(crate) const START: usize = 12;
-
-// The fewest bytes behind a batch's size.
-const LEAST_SIZE: u32 = 49;
 
 /// How many bytes there are behind the size of the batch at the front.
 #[tactic(auto, unfolding(kr_snapshot::specs::Reading::size_at, kr_batch::specs::Reading::start_at))]

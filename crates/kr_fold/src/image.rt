@@ -9,14 +9,12 @@ ghost use Rattle.kr_fold.specs.inner.ImageParts as parts;
 ghost use Rattle.kr_fold.specs.inner.ImageParts.{IsFed, IsImageFault, IsPart};
 ghost use Rattle.kr_fold.specs.SourceBytes.{IsNoBatch, IsSized};
 
-use crate::batch::{START, read_size};
+use crate::batch::read_size;
 use crate::fault::ToolFault;
+use kr_batch::START;
 use kr_image::ImageStore;
-use kr_snapshot::{ImageFault, Reader};
+use kr_snapshot::{HEAD, ImageFault, Reader};
 use std::alloc::Global;
-
-// The bytes of the offset and the count.
-const HEAD: usize = 16;
 
 // How many bytes the batch at the front has, where it is whole.
 fn batch_len(bytes: &[u8]) -> Option<usize>

@@ -1,3 +1,4 @@
 pub mod Parts
+pub mod Sections
 pub mod ShownImages
 pub mod WalkGathering

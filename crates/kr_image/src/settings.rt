@@ -8,8 +8,7 @@ ghost use Rattle.kr_defs.specs.Map as map;
 ghost use Rattle.kr_defs.specs.Map.{config_order};
 ghost use Rattle.kr_defs.specs.declared.limits.TheConstants.{MOST_CONFIG_TEXT as most};
 ghost use Rattle.kr_image.specs.inner.RecordAnswers.{Changes};
-ghost use Rattle.kr_image.specs.Timelines.{lowest as lowest_key};
-ghost use Rattle.kr_image.specs.Timelines.{Agrees, keeps_of, made_of, present_image};
+ghost use Rattle.kr_image.specs.Timelines.{lowest as lowest_key, Agrees, keeps_of, made_of, present_image};
 
 use crate::entries::{contains, set, unset};
 use crate::sums::added_within;

@@ -1,5 +1,5 @@
 -- What all of some bytes stand for, and what is appended.
-use Rattle.std.proofs.Common.{◌≡◌, List, [], ◌++◌, ℕ, ◌*◌, ◌/◌, ◌≤◌, min, true, Result, Ok, Err, sym, ap, subst, arith}
+use Rattle.std.proofs.Common.{◌≡◌, List, ℕ, ◌*◌, ◌/◌, ◌≤◌, min, true, Result, Ok, Err, sym, ap, subst, arith}
 use Rattle.std.specs.Prelude.{IfOk, drop, take}
 use Rattle.std.proofs.lemmas.List.{take-append-drop}
 use Rattle.std.proofs.Math.Nat.{mul-le-mul_right, min-le_right, div-mul-le_self}
@@ -8,8 +8,8 @@ use Rattle.kr_wire.proofs.ReadingLaws.{Law, IsBytes, IsBytes-behind, all_sound, 
 use Rattle.kr_layout.specs.declared.fault.BodyFault.{BodyFault}
 use Rattle.kr_layout.specs.declared.fault.BodyFault.TheVariants as bodies
 use Rattle.kr_wire.specs.Schema.{Schema, Is, is_readable}
-use Rattle.kr_layout.specs.Answers.{wired, whole, IsAnswer, Answers, Puts, Appends}
-use Rattle.kr_wire.proofs.Schemas.{law, stands}
+use Rattle.kr_layout.specs.Answers.{wired, whole, IsAnswer, Answers}
+use Rattle.kr_wire.proofs.Schemas.{law}
 
 wired_ok : {X : Type 0} (r : Read X) (x : X) (rest : List ℕ) → wired r ≡ Ok (x, rest) → r ≡ Ok (x, rest)
 wired_ok (Ok y) x rest e = cc
@@ -33,10 +33,6 @@ module _ {X : Type 0} (s : Schema X) (whole_schema : is_readable s ≡ true) (by
 
   pub answers : IsBytes bytes → (answer : Result X BodyFault) → IsAnswer answer (whole s bytes) → Answers (Is s) s bytes answer
   answers fits answer e = record { stands = answer_stands fits answer e; found = λ x is. answer_found answer x is e; fault = e }
-
--- the bytes of a value that were written alone, and then appended
-pub appends : {X : Type 0} (s : Schema X) (x : X) (before start bytes after : List ℕ) → start ≡ [] → Puts s x start bytes → after ≡ before ++ bytes → Appends s x before after
-appends s x before start bytes after empty puts end = record { bytes = bytes; appended = end; stands = rw (puts.bytes, empty) (stands s x puts.fits) }
 
 pub bytes_behind : (at : ℕ) (bytes : List ℕ) → IsBytes bytes → IsBytes (drop at bytes)
 bytes_behind at bytes fits = IsBytes-behind (take at bytes) (drop at bytes) bytes (sym (take-append-drop at bytes)) fits

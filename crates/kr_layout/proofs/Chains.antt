@@ -1,9 +1,9 @@
 -- What is put one after the other is put as one.
-use Rattle.std.proofs.Common.{◌≡◌, ℕ, List, ◌++◌, None, Result, Ok, Err, ap, ◌∙◌, append_assoc}
-use Rattle.std.specs.Prelude.{OnOk}
+use Rattle.std.proofs.Common.{◌≡◌, ℕ, List, [], ◌++◌, None, Result, Ok, Err, sym, ap, ◌∙◌, append_assoc, append-nil}
+use Rattle.std.specs.Prelude.{OnOk, OnErr}
 use Rattle.kr_wire.specs.Schema.{Schema, ◌▸◌, Constant, Structure, TextOrNull, written}
 use Rattle.kr_wire.specs.Spelling.{uvarint}
-use Rattle.kr_layout.specs.Answers.{Puts}
+use Rattle.kr_layout.specs.Answers.{Begins, Puts}
 
 pub puts_then : {X Y : Type 0} {a : Schema X} {b : Schema Y} {x : X} {y : Y} {before between after : List ℕ}
     → Puts a x before between → Puts b y between after → Puts (a ▸ b) (x, y) before after
@@ -22,3 +22,20 @@ pub puts_structure : {X Y T E : Type 0} (s : Schema X) (of : X → Y) (fields : 
     → OnOk last (Puts (Structure s of fields there back) y before after)
 puts_structure s of fields there back y before after Last (Ok done) ended put = let p = put ended in record { bytes = p.bytes; fits = p.fits }
 puts_structure s of fields there back y before after Last (Err refused) ended put = tt
+
+-- ---- what stands behind what there was
+
+pub begins_same : {before after : List ℕ} → after ≡ before → Begins before after
+begins_same {before} is = record { more = []; is = is ∙ sym (append-nil before) }
+
+pub begins_two : (before first second after : List ℕ) → after ≡ (before ++ first) ++ second → Begins before after
+begins_two before first second after is = record { more = first ++ second; is = is ∙ append_assoc before first second }
+
+pub begins_put : {X : Type 0} {s : Schema X} {x : X} {before between after : List ℕ} → Puts s x before between → Begins between after → Begins before after
+begins_put {X} {s} {x} {before} {between} {after} put begins =
+    begins_two before (written s x) begins.more after (begins.is ∙ ap (λ (l : List ℕ). l ++ begins.more) put.bytes)
+
+-- what holds of each result
+pub on_err : {T E P : Type 0} (result : Result T E) → P → OnErr result P
+on_err (Ok done) p = tt
+on_err (Err refused) p = p

@@ -1,7 +1,7 @@
 -- How a reader's answer follows from reading, and what a writer appends. Want of memory is free.
 use Rattle.std.specs.Prelude.{◌≡◌, ℕ, List, ◌++◌, length, Result, Ok, Err, IfOk, nat_lt}
 use Rattle.kr_wire.specs.Reading.{◌>>=◌, Read, refuse◌when◌else◌}
-use Rattle.kr_wire.specs.Schema.{Schema, Is, value_at, written, Fits}
+use Rattle.kr_wire.specs.Schema.{Schema, value_at, written, Fits}
 use Rattle.kr_layout.specs.declared.fault.ReadFault.{ReadFault}
 use Rattle.kr_layout.specs.declared.fault.ReadFault.TheVariants as reads
 use Rattle.kr_layout.specs.declared.fault.BodyFault.{BodyFault}
@@ -50,11 +50,7 @@ pub record Puts {X : Type 0} (s : Schema X) (x : X) (before after : List ℕ) : 
   pub bytes : after ≡ before ++ written s x
   pub fits : Fits s x
 
--- some bytes that stand for the value are appended
-pub record Adds {X : Type 0} (Is : X → List ℕ → Type 0) (x : X) (before after : List ℕ) : Type 0 where
-  pub bytes : List ℕ
-  pub appended : after ≡ before ++ bytes
-  pub stands : Is x bytes
-
-abbrev pub Appends : {X : Type 0} → Schema X → X → List ℕ → List ℕ → Type 0
-Appends s = Adds (Is s)
+-- what there was, and perhaps more behind it
+pub record Begins (before after : List ℕ) : Type 0 where
+  pub more : List ℕ
+  pub is : after ≡ before ++ more

@@ -8,5 +8,5 @@ mod reader;
 
 pub use fault::{BodyFault, ReadFault};
 pub use get::{Get, layouts, read_body};
-pub use put::{Put, put_body, put_end};
+pub use put::{Put, put_end, written_forms};
 pub use reader::Reader;

@@ -14,10 +14,18 @@ use Rattle.kr_req.specs.declared.api.ApiKey.TheVariants as apis
 use Rattle.kr_req.specs.Messages.{api_of, IsBody, IsRest}
 use Rattle.kr_req.specs.Reading.{body_of, client_at, request_of}
 use Rattle.kr_req.proofs.Headers.{client_law}
-use Rattle.kr_req_broker.specs.Layouts.{broker_registration, broker_heartbeat, unregister_broker}
-use Rattle.kr_req_conf.specs.Layouts.{incremental_alter_configs}
-use Rattle.kr_req_part.specs.Layouts.{alter_partition, elect_leaders, alter_partition_reassignments, list_partition_reassignments}
-use Rattle.kr_req_topic.specs.Layouts.{create_topics, delete_topics, create_partitions, metadata}
+use Rattle.kr_bodies.specs.BrokerHeartbeat.{broker_heartbeat}
+use Rattle.kr_bodies.specs.BrokerRegistration.{broker_registration}
+use Rattle.kr_bodies.specs.UnregisterBroker.{unregister_broker}
+use Rattle.kr_bodies.specs.IncrementalAlterConfigs.{incremental_alter_configs}
+use Rattle.kr_bodies.specs.AlterPartition.{alter_partition}
+use Rattle.kr_bodies.specs.AlterPartitionReassignments.{alter_partition_reassignments}
+use Rattle.kr_bodies.specs.ElectLeaders.{elect_leaders}
+use Rattle.kr_bodies.specs.ListPartitionReassignments.{list_partition_reassignments}
+use Rattle.kr_bodies.specs.CreatePartitions.{create_partitions}
+use Rattle.kr_bodies.specs.CreateTopics.{create_topics}
+use Rattle.kr_bodies.specs.DeleteTopics.{delete_topics}
+use Rattle.kr_bodies.specs.Metadata.{metadata}
 
 -- ---- a body at the front of some bytes
 

@@ -1,18 +1,16 @@
 -- The definitions computed on small messages.
-use Rattle.std.proofs.Common.{◌≡◌, ℕ, ℤ, pos, None, Some, true, false, List, [], ◌∷◌, ◌++◌, refl}
-use Rattle.std.specs.Prelude.{negsuc, codes}
-use Rattle.std.specs.Int.{w32}
+use Rattle.std.proofs.Common.{◌≡◌, ℕ, pos, None, Some, true, false, List, [], ◌∷◌, ◌++◌, refl}
+use Rattle.std.specs.Prelude.{codes}
 use Rattle.kr_wire.specs.Reading.{uvarint_at, tags_at, fields_at}
-use Rattle.kr_wire.specs.Schema.{written}
-use Rattle.kr_wire.specs.Spelling.{number, signed, tags, uvarint}
+use Rattle.kr_wire.specs.Spelling.{number, signed, uvarint}
 use Rattle.kr_layout.specs.Answers.{whole}
 use Rattle.kr_calls.specs.declared.calls.Ask.TheVariants as asks
 use Rattle.kr_calls.specs.declared.calls.AskFault.TheVariants as faults
 use Rattle.kr_calls.specs.declared.calls.Request.TheVariants as requests
 use Rattle.kr_calls.specs.declared.calls.Reply.TheVariants as replies
 use Rattle.kr_calls.specs.Refuse.{refuse}
+use Rattle.kr_req.specs.WrittenReplies.{reply_bytes}
 use Rattle.kr_req.specs.Reading.{served_by, head_at, client_id_at, client_at, body_of, request_of, ask_of}
-use Rattle.kr_req_broker.specs.Layouts.{broker_heartbeat_reply}
 
 -- a heartbeat of broker 1 with epoch 0 at offset 4, under the correlation id 2, without client id
 abbrev heartbeat : List ℕ
@@ -46,7 +44,7 @@ api_versions = refl
 
 -- the reply to the heartbeat, which unfences
 pub heartbeat_answered :
-    signed w32 (pos 2) ++ tags [] ++ written broker_heartbeat_reply (record { error = pos 0; caught_up = true; fenced = false; should_shut_down = false })
+    reply_bytes (pos 2) (replies.BrokerHeartbeat (record { error = pos 0; caught_up = true; fenced = false; should_shut_down = false }))
     ≡ 0 ∷ 0 ∷ 0 ∷ 2 ∷ 0 ∷ 0 ∷ 0 ∷ 0 ∷ 0 ∷ 0 ∷ 0 ∷ 1 ∷ 0 ∷ 0 ∷ 0 ∷ []
 unfolding signed number uvarint
 heartbeat_answered = refl

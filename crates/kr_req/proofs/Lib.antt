@@ -1,5 +1,5 @@
 mod Headers
 mod Bodies
 pub mod Asks
-mod Replies
+pub mod Replies
 pub mod Examples

@@ -1,3 +1,4 @@
 pub mod Messages
 pub mod Reading
+pub mod WrittenReplies
 pub mod inner

@@ -14,10 +14,18 @@ use Rattle.kr_calls.specs.declared.calls.Reply.{Reply}
 use Rattle.kr_calls.specs.declared.calls.Reply.TheVariants as replies
 use Rattle.kr_req.specs.declared.api.ApiKey.{ApiKey}
 use Rattle.kr_req.specs.declared.api.ApiKey.TheVariants as apis
-use Rattle.kr_req_broker.specs.Grammar.{IsBrokerRegistration, IsBrokerRegistrationReply, IsBrokerHeartbeat, IsBrokerHeartbeatReply, IsUnregisterBroker, IsUnregisterBrokerReply}
-use Rattle.kr_req_conf.specs.Grammar.{IsIncrementalAlterConfigs, IsIncrementalAlterConfigsReply}
-use Rattle.kr_req_part.specs.Grammar.{IsAlterPartition, IsAlterPartitionReply, IsElectLeaders, IsElectLeadersReply, IsAlterPartitionReassignments, IsAlterPartitionReassignmentsReply, IsListPartitionReassignments, IsListPartitionReassignmentsReply}
-use Rattle.kr_req_topic.specs.Grammar.{IsCreateTopics, IsCreateTopicsReply, IsDeleteTopics, IsDeleteTopicsReply, IsCreatePartitions, IsCreatePartitionsReply, IsMetadata, IsMetadataReply}
+use Rattle.kr_bodies.specs.BrokerHeartbeat.{IsBrokerHeartbeat, IsBrokerHeartbeatReply}
+use Rattle.kr_bodies.specs.BrokerRegistration.{IsBrokerRegistration, IsBrokerRegistrationReply}
+use Rattle.kr_bodies.specs.UnregisterBroker.{IsUnregisterBroker, IsUnregisterBrokerReply}
+use Rattle.kr_bodies.specs.IncrementalAlterConfigs.{IsIncrementalAlterConfigs, IsIncrementalAlterConfigsReply}
+use Rattle.kr_bodies.specs.AlterPartition.{IsAlterPartition, IsAlterPartitionReply}
+use Rattle.kr_bodies.specs.AlterPartitionReassignments.{IsAlterPartitionReassignments, IsAlterPartitionReassignmentsReply}
+use Rattle.kr_bodies.specs.ElectLeaders.{IsElectLeaders, IsElectLeadersReply}
+use Rattle.kr_bodies.specs.ListPartitionReassignments.{IsListPartitionReassignments, IsListPartitionReassignmentsReply}
+use Rattle.kr_bodies.specs.CreatePartitions.{IsCreatePartitions, IsCreatePartitionsReply}
+use Rattle.kr_bodies.specs.CreateTopics.{IsCreateTopics, IsCreateTopicsReply}
+use Rattle.kr_bodies.specs.DeleteTopics.{IsDeleteTopics, IsDeleteTopicsReply}
+use Rattle.kr_bodies.specs.Metadata.{IsMetadata, IsMetadataReply}
 
 -- ---- the requests that are served
 

@@ -4,11 +4,10 @@
 mod api;
 mod body;
 mod header;
+pub mod laws;
 mod message;
-mod refusal;
 mod reply;
 
 pub use api::ApiKey;
 pub use message::decode;
-pub use refusal::refuse;
 pub use reply::encode_reply;

@@ -2,9 +2,8 @@
 
 ghost use Rattle.std.specs.Prelude.{◌≡◌, [], ◌++◌, OnOk, OnErr};
 ghost use Rattle.std.specs.Int.{w32};
-ghost use Rattle.kr_layout.specs.Answers.{Adds};
 ghost use Rattle.kr_wire.specs.Spelling.{signed, tags};
-ghost use Rattle.kr_req.specs.Messages.{IsReply};
+ghost use Rattle.kr_req.specs.WrittenReplies.{ReplyFits, reply_bytes};
 
 use crate::body::put_body;
 use kr_base::NoMemory;
@@ -20,9 +19,10 @@ fn put_header(correlation: i32, out: &mut Vec<u8>) -> Result<(), NoMemory>
     put_end(out)
 }
 
-/// Appends the bytes of the reply's message. Without memory nothing changes.
+/// Appends what is written for the reply's message. Without memory nothing changes.
 pub fn encode_reply(correlation: i32, reply: &Reply, out: &mut Vec<u8>) -> Result<(), NoMemory>
-    ensures ok { OnOk result (Adds (IsReply correlation) reply.now out.old.items out.new.items) }
+    ensures ok { OnOk result (out.new.items ≡ out.old.items ++ reply_bytes correlation reply.now) }
+    ensures fits { OnOk result (ReplyFits correlation reply.now) }
     ensures err { OnErr result (out.new.items ≡ out.old.items) }
 {
     let mut message = Vec::new(*out.allocator());

@@ -1,14 +1,14 @@
 -- How a session ends: its status, and what was taken and written at each.
-use Rattle.std.specs.Prelude.{◌≡◌, ℕ, ◌+◌, ◌<◌, ◌≤◌, ◌⊎◌, Bool, List, [], ◌++◌, length, Option, IfSome}
+use Rattle.std.specs.Prelude.{◌≡◌, ℕ, ◌+◌, ◌<◌, ◌≤◌, ◌⊎◌, Bool, List, [], ◌++◌, length, All, Option, IfSome}
 use Rattle.std.specs.Io.KnownBytes.{Appends, Consumes, IsAtEnd}
-use Rattle.kr_wire.specs.Grammar.{Each}
+use Rattle.kr_base.specs.FailedPuts.{AppendsFront}
 use Rattle.kr_wire.specs.Laws.{IsBytes}
 use Rattle.kr_calls.specs.declared.events.Event.{Event}
 use Rattle.kr_calls.specs.declared.events.Output.{Output}
 use Rattle.kr_defs.specs.declared.limits.TheConstants.{MOST_SESSION_BYTES}
 use Rattle.kr_defs.specs.declared.options.Options.{Options}
 use Rattle.kr_stream.specs.Laws.{NoneBegins}
-use Rattle.kr_stream.specs.Outputs.{IsOutput, Wrote, WroteFront}
+use Rattle.kr_stream.specs.Outputs.{FrameFits, frames_bytes}
 use Rattle.kr_stream.specs.Reader.{IsRefused, IsUnfinished, IsWhole}
 use Rattle.kr_run.specs.declared.status.Status.{Status}
 use Rattle.kr_run.specs.declared.status.Status.TheVariants as statuses
@@ -20,16 +20,18 @@ longest = MOST_SESSION_BYTES
 
 -- ---- what was written
 
--- the frames of these outputs, in order
-abbrev pub WroteAll : Option (List ℕ) → Option (List ℕ) → List Output → Type 0
-WroteAll written written' outputs = Wrote (Each IsOutput outputs) written written'
+-- the frames of these outputs, in order, to the byte
+pub record WroteAll (written written' : Option (List ℕ)) (outputs : List Output) : Type 0 where
+  pub fit : All FrameFits outputs
+  pub bytes : Appends written written' (frames_bytes outputs)
 
 -- the frames of some first of them, and of the last of these perhaps a front alone
 pub record WroteSome (written written' : Option (List ℕ)) (outputs : List Output) : Type 0 where
   pub first : List Output
   pub others : List Output
   pub parts : outputs ≡ first ++ others
-  pub wrote : WroteFront (Each IsOutput first) written written'
+  pub fit : All FrameFits first
+  pub bytes : AppendsFront written written' (frames_bytes first)
 
 -- ---- what was taken
 

@@ -1,10 +1,9 @@
 -- A list in chunks.
-use Rattle.std.proofs.Common.{◌≡◌, ◌∙◌, ℕ, zero, suc, ◌+◌, ◌≤◌, List, [], ◌∷◌, ◌++◌, length, length-append, refl, sym, ap, arith}
+use Rattle.std.proofs.Common.{◌≡◌, ◌∙◌, ℕ, zero, suc, ◌+◌, ◌≤◌, List, [], ◌∷◌, ◌++◌, length, length-append, refl, sym, ap, arith, inl, inr}
 use Rattle.std.specs.Prelude.{take, drop, map, flat_map}
 use Rattle.std.specs.List.{AllByRecursion}
 use Rattle.std.proofs.lemmas.List.{append-nil, length-map, take_at, drop_at, take-append-drop, length-take-le, length-drop, take-map, drop-map, take_all}
 use Rattle.std.proofs.lemmas.Bool.{cases_lt}
-use Rattle.std.proofs.Common.{inl, inr}
 use Rattle.kr_snapshot.specs.ImageText.{chunks_within, chunks}
 
 pub no_elements : {X : Type 0} (xs : List X) → length xs ≡ 0 → xs ≡ []

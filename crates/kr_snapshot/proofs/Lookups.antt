@@ -1,7 +1,6 @@
 -- What a look-up answers where there is an image, and where there is none.
 use Rattle.std.proofs.Common.{◌≡◌, ℕ, ℤ, List, [], ◌∷◌, cond, refl, ap}
-use Rattle.std.specs.Prelude.{Option, Some, None, unwrap_or, is_some, true, false}
-use Rattle.std.specs.Prelude.{find}
+use Rattle.std.specs.Prelude.{Option, Some, None, unwrap_or, is_some, true, false, find}
 use Rattle.std.specs.List.{AllByRecursion}
 use Rattle.std.specs.Ordering.{int_eq}
 use Rattle.std.proofs.lemmas.List.Elements.{recursion_from_All}

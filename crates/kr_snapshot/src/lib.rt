@@ -14,5 +14,6 @@ mod writing;
 
 pub use fault::{BatchCause, ImageFault, SnapFault};
 pub use laws::{images, read_in_pieces, written_images};
+pub use pieces::HEAD;
 pub use reader::Reader;
 pub use writing::write;

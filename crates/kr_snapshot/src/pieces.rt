@@ -10,21 +10,15 @@ use crate::fault::{BatchCause, ImageFault};
 use crate::order::Order;
 use crate::records::{Tally, read_whole};
 use kr_base::{NoMemory, Steps};
-use kr_batch::BatchFault;
+use kr_batch::{BatchFault, LEAST_SIZE, START};
 use kr_image::ImageStore;
 use kr_wire::{WireFault, read_i64, read_u32};
 use std::alloc::Global;
 use std::marker::Brand;
 use std::sync::ledger::{Blank, Ledger};
 
-// The bytes of the two numbers before the batches.
-const HEAD: usize = 16;
-
-// The bytes of a batch's base and size.
-const START: usize = 12;
-
-// The fewest bytes behind a batch's size.
-const LEAST_SIZE: u32 = 49;
+/// The bytes of an image before its batches: its offset and the count of its records.
+pub const HEAD: usize = 16;
 
 /// Behind the head: the offset, and how far the records are.
 #[derive(Drop)]

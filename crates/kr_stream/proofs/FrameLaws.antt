@@ -4,7 +4,7 @@ use Rattle.std.specs.Prelude.{ℤ}
 use Rattle.std.specs.Int.{w8, w32, w64}
 use Rattle.kr_wire.specs.Grammar.{◌⌢◌, Exactly, IsNumber, IsSigned}
 use Rattle.kr_wire.specs.Reading.{Read}
-use Rattle.kr_wire.proofs.ReadingLaws.{IsBytes, IsBytes-behind, Law, one_form, one_value, joined}
+use Rattle.kr_wire.proofs.ReadingLaws.{IsBytes, IsBytes-behind, Law, one_form, one_value, joined, whole_complete}
 use Rattle.kr_wire.proofs.Numbers.{number_law, signed_law}
 use Rattle.kr_defs.specs.declared.options.Options.{Options}
 use Rattle.kr_calls.specs.declared.events.Event.{Event}
@@ -15,6 +15,7 @@ use Rattle.kr_calls.specs.declared.events.Output.TheVariants as outputs
 use Rattle.kr_calls.specs.declared.events.Reason.{Reason}
 use Rattle.kr_req.specs.Reading.{ask_of}
 use Rattle.kr_req.proofs.Asks.{ask_is}
+use Rattle.kr_req.proofs.Replies.{replies_apart}
 use Rattle.kr_stream.specs.declared.frame.Frame.{Frame}
 use Rattle.kr_stream.specs.declared.frame.Frame.TheVariants as frames
 use Rattle.kr_stream.specs.declared.kind.FrameKind.{FrameKind}
@@ -29,7 +30,6 @@ use Rattle.kr_stream.specs.inner.Bodies.{is_of_numbers, numbers_at, stamp_at, op
 use Rattle.kr_stream.proofs.Sizes.{kind_once, body_short}
 use Rattle.kr_stream.proofs.FrameForms.{frame_form, frame_length, same_size, same_head}
 use Rattle.kr_stream.proofs.BodyLaws.{numbers_law, stamp_law, options_whole}
-use Rattle.kr_wire.proofs.ReadingLaws.{whole_complete}
 
 -- ---- the frame that a body of a kind gives
 
@@ -152,8 +152,9 @@ same_output (outputs.Refused event reason) (outputs.Refused event' reason') x y 
     rw (e.0, r) refl
 same_output (outputs.Reply client correlation reply) (outputs.Reply client' correlation' reply') x y number same is is' =
     let c = part_once (number_law w32) client client' _ _ x y same is is' in
+    let again = ap (λ (l : List ℕ). l ++ []) c.1 in
     let k = part_once (signed_law w32) correlation correlation' _ _ is.right is'.right c.1 is.second is'.second in
-    (c.0, k.0)
+    (c.0, k.0, λ to. (replies_apart correlation correlation' reply reply' is.right is'.right [] [] to is.second is'.second again).1)
 same_output (outputs.Append bytes) (outputs.Reply client correlation reply) x y number same is is' = absurd (omega (arith, number))
 same_output (outputs.Append bytes) (outputs.Refused event reason) x y number same is is' = absurd (omega (arith, number))
 same_output (outputs.Append bytes) (outputs.Image bytes') x y number same is is' = absurd (omega (arith, number))

@@ -1,13 +1,16 @@
 -- The frames of outputs (this project's own): a u32 size of what follows it, the number of the kind, and the body.
-use Rattle.std.specs.Prelude.{ℕ, List, Option}
+use Rattle.std.specs.Prelude.{ℕ, ◌+◌, ◌^◌, ◌<◌, List, ◌∷◌, ◌++◌, length, Option, FitsSigned}
+use Rattle.std.specs.List.{flat_map}
 use Rattle.std.specs.Int.{w8, w32, w64}
 use Rattle.std.specs.Io.KnownBytes.{Appends}
 use Rattle.kr_base.specs.FailedPuts.{AppendsFront}
 use Rattle.kr_wire.specs.Grammar.{◌⌢◌, Exactly, IsNumber, IsSigned}
+use Rattle.kr_wire.specs.Spelling.{number, signed}
 use Rattle.kr_calls.specs.declared.events.Output.{Output}
 use Rattle.kr_calls.specs.declared.events.Output.TheVariants as outputs
 use Rattle.kr_calls.specs.declared.events.Reason.{Reason}
 use Rattle.kr_req.specs.Messages.{IsReply}
+use Rattle.kr_req.specs.WrittenReplies.{ReplyFits, reply_bytes}
 use Rattle.kr_stream.specs.Frames.{IsFrame}
 
 -- the number of the kind
@@ -31,10 +34,51 @@ IsOutputBody (outputs.Image bytes) = Exactly bytes
 abbrev pub IsOutput : Output → List ℕ → Type 0
 IsOutput output = IsFrame (number_of output) (IsOutputBody output)
 
--- bytes of which that holds were appended, all of them
-abbrev pub Wrote : (List ℕ → Type 0) → Option (List ℕ) → Option (List ℕ) → Type 0
-Wrote Is before after = (bytes : List ℕ) × Is bytes × Appends before after bytes
+-- ---- what is written
 
--- or some front of such bytes
-abbrev pub WroteFront : (List ℕ → Type 0) → Option (List ℕ) → Option (List ℕ) → Type 0
-WroteFront Is before after = (bytes : List ℕ) × Is bytes × AppendsFront before after bytes
+abbrev pub reason_bytes : Reason → List ℕ
+reason_bytes reason = reason.number ∷ (signed w64 reason.first ++ (signed w64 reason.second ++ signed w64 reason.third))
+
+abbrev pub body_bytes : Output → List ℕ
+body_bytes (outputs.Append bytes) = bytes
+body_bytes (outputs.Reply client correlation reply) = number w32 client ++ reply_bytes correlation reply
+body_bytes (outputs.Refused event reason) = number w64 event ++ reason_bytes reason
+body_bytes (outputs.Image bytes) = bytes
+
+-- the number of a kind and a body, behind their size
+abbrev pub sized_bytes : ℕ → List ℕ → List ℕ
+sized_bytes kind body = number w32 (length body + 1) ++ (kind ∷ body)
+
+abbrev pub frame_bytes : Output → List ℕ
+frame_bytes output = sized_bytes (number_of output) (body_bytes output)
+
+-- the frames of outputs, in order
+abbrev pub frames_bytes : List Output → List ℕ
+frames_bytes outputs = flat_map frame_bytes outputs
+
+-- ---- the values fit their fields
+
+abbrev pub ReasonFits : Reason → Type 0
+ReasonFits reason = (reason.number < 2 ^ 8) × FitsSigned w64 reason.first × FitsSigned w64 reason.second × FitsSigned w64 reason.third
+
+abbrev pub BodyFits : Output → Type 0
+BodyFits (outputs.Append bytes) = Unit {0}
+BodyFits (outputs.Reply client correlation reply) = (client < 2 ^ 32) × ReplyFits correlation reply
+BodyFits (outputs.Refused event reason) = (event < 2 ^ 64) × ReasonFits reason
+BodyFits (outputs.Image bytes) = Unit {0}
+
+pub record FrameFits (output : Output) : Type 0 where
+  pub body : BodyFits output
+  pub size : length (body_bytes output) + 1 < 2 ^ 32
+
+-- ---- what was written
+
+-- the output's frame, all of it
+pub record Wrote (output : Output) (before after : Option (List ℕ)) : Type 0 where
+  pub fits : FrameFits output
+  pub bytes : Appends before after (frame_bytes output)
+
+-- or some front of it
+pub record WroteFront (output : Output) (before after : Option (List ℕ)) : Type 0 where
+  pub fits : FrameFits output
+  pub bytes : AppendsFront before after (frame_bytes output)

@@ -1,13 +1,11 @@
 //! Outputs to frames.
 
-ghost use Rattle.std.specs.Prelude.{◌≡◌, ◌∷◌, ◌++◌, ◌≤◌, length, IfOk, OnOk, OnErr, IsErrOf, FitsSigned, [], ◌<◌, ◌^◌};
+ghost use Rattle.std.specs.Prelude.{◌≡◌, ◌∷◌, ◌++◌, ◌+◌, ◌≤◌, length, IfOk, OnOk, OnErr, IsErrOf, FitsSigned, [], ◌<◌, ◌^◌};
 ghost use Rattle.std.specs.Int.{w8, w32, w64};
 ghost use Rattle.kr_base.specs.Causes.{Rose};
 ghost use Rattle.kr_wire.specs.Spelling.{number, signed};
-ghost use Rattle.kr_stream.specs.Frames.{IsFrame};
 ghost use Rattle.kr_stream.specs.Outputs as outputs;
-ghost use Rattle.kr_stream.specs.Outputs.{IsOutput, IsOutputBody, Wrote, WroteFront};
-ghost use Rattle.kr_wire.specs.Grammar.{Exactly};
+ghost use Rattle.kr_stream.specs.Outputs.{BodyFits, FrameFits, Wrote, WroteFront, body_bytes, frame_bytes, sized_bytes};
 
 use crate::WriteFault;
 use kr_base::{NoMemory, Sink};
@@ -27,9 +25,9 @@ const IMAGE: u8 = 0x84;
 
 /// Writes the output as one frame, by one put.
 pub fn write_frame<K: Sink>(alloc: Global, output: &Output, sink: &mut K) -> Result<(), WriteFault>
-    ensures ok { OnOk result (Wrote (IsOutput output.now) (K.written sink.old) (K.written sink.new)) }
+    ensures ok { OnOk result (Wrote output.now (K.written sink.old) (K.written sink.new)) }
     // The sink failed: some front of the frame was written.
-    ensures front { IsErrOf result WriteFault.Failed → WroteFront (IsOutput output.now) (K.written sink.old) (K.written sink.new) }
+    ensures front { IsErrOf result WriteFault.Failed → WroteFront output.now (K.written sink.old) (K.written sink.new) }
     ensures failed { IsErrOf result WriteFault.Failed → Rose (K.faults sink.old) (K.faults sink.new) }
     // Nothing was put.
     ensures memory { IsErrOf result WriteFault.NoMemory → sink.new ≡ sink.old }
@@ -47,7 +45,8 @@ pub fn write_frame<K: Sink>(alloc: Global, output: &Output, sink: &mut K) -> Res
 
 // The frame's bytes.
 fn frame(alloc: Global, output: &Output) -> Result<Vec<u8>, NoMemory>
-    ensures { IfOk result (λ bytes. IsOutput output.now bytes.items) }
+    ensures bytes { IfOk result (λ bytes. bytes.items ≡ frame_bytes output.now) }
+    ensures fits { OnOk result (FrameFits output.now) }
 {
     match output {
         Output::Append { bytes } => sized_frame(alloc, APPEND, bytes.as_slice()),
@@ -74,7 +73,8 @@ fn reply_body(
     correlation: &i32,
     reply: &Reply,
 ) -> Result<Vec<u8>, NoMemory>
-    ensures { IfOk result (λ body. IsOutputBody (Output.Reply client correlation.now reply.now) body.items) }
+    ensures bytes { IfOk result (λ body. body.items ≡ body_bytes (Output.Reply client correlation.now reply.now)) }
+    ensures fits { OnOk result (BodyFits (Output.Reply client correlation.now reply.now)) }
 {
     let mut body = Vec::new(alloc);
     put_u32(&mut body, client)?;
@@ -92,7 +92,8 @@ fn int32(number: &i32) -> i32
 
 // The number of the event, and the reason.
 fn refusal_body(alloc: Global, event: u64, reason: &Reason) -> Result<Vec<u8>, NoMemory>
-    ensures { IfOk result (λ body. IsOutputBody (Output.Refused event reason.now) body.items) }
+    ensures bytes { IfOk result (λ body. body.items ≡ body_bytes (Output.Refused event reason.now)) }
+    ensures fits { OnOk result (BodyFits (Output.Refused event reason.now)) }
 {
     let mut body = Vec::new(alloc);
     put_u64(&mut body, event)?;
@@ -121,7 +122,8 @@ fn put_number(number: &i64, out: &mut Vec<u8>) -> Result<(), NoMemory>
 
 // A kind and a body behind their size, where it fits its field.
 fn sized_frame(alloc: Global, kind: u8, body: &[u8]) -> Result<Vec<u8>, NoMemory>
-    ensures { IfOk result (λ bytes. IsFrame kind (Exactly body.now) bytes.items) }
+    ensures bytes { IfOk result (λ bytes. bytes.items ≡ sized_bytes kind body.now) }
+    ensures size { OnOk result (length body.now + 1 < 2 ^ 32) }
 {
     let size = body.len() as u64 + 1;
     if size > u64::from(u32::MAX) {

@@ -13,7 +13,7 @@ use Rattle.kr_defs.specs.Image.{Image}
 use Rattle.kr_defs.specs.Map.{contains, get, insert}
 use Rattle.kr_defs.specs.Partition.{are_targets}
 use Rattle.kr_defs.proofs.Tests.{both}
-use Rattle.kr_calls.specs.declared.topics.CreatableReplicaAssignment.{CreatableReplicaAssignment}
+use Rattle.kr_calls.specs.declared.create_topics.CreatableReplicaAssignment.{CreatableReplicaAssignment}
 use Rattle.kr_calls.specs.CreateTopics.{assigned_at, are_assignable, first_size}
 use Rattle.kr_calls.specs.NewPartitions.{is_assignable}
 use Rattle.kr_rules.proofs.KeyLookups.{get_inserted}

@@ -31,10 +31,10 @@ use Rattle.kr_defs.specs.Texts.{is_topic_name, names_agree}
 use Rattle.kr_defs.specs.Topics.{count_of}
 use Rattle.kr_defs.proofs.Tests.{Gives, gives_refuse, gives_done, gives_then}
 use Rattle.kr_calls.specs.declared.deciding.Draft.{Draft}
-use Rattle.kr_calls.specs.declared.topics.CreatableTopic.{CreatableTopic}
-use Rattle.kr_calls.specs.declared.topics.CreatableTopicConfig.{CreatableTopicConfig}
-use Rattle.kr_calls.specs.declared.topics.CreatePartitionsAssignment.{CreatePartitionsAssignment}
-use Rattle.kr_calls.specs.declared.topics.CreatePartitionsTopic.{CreatePartitionsTopic}
+use Rattle.kr_calls.specs.declared.create_topics.CreatableTopic.{CreatableTopic}
+use Rattle.kr_calls.specs.declared.create_topics.CreatableTopicConfig.{CreatableTopicConfig}
+use Rattle.kr_calls.specs.declared.create_partitions.CreatePartitionsAssignment.{CreatePartitionsAssignment}
+use Rattle.kr_calls.specs.declared.create_partitions.CreatePartitionsTopic.{CreatePartitionsTopic}
 use Rattle.kr_calls.specs.CreatePartitions as growing
 use Rattle.kr_calls.specs.CreateTopics as creating
 use Rattle.kr_calls.specs.CreateTopics.{Layout}

@@ -10,10 +10,10 @@ use Rattle.kr_defs.specs.declared.broker.Broker.{Broker}
 use Rattle.kr_defs.specs.declared.partition.Partition.{Partition}
 use Rattle.kr_defs.specs.Guard.{and_then}
 use Rattle.kr_defs.specs.Image.{Image}
-use Rattle.kr_calls.specs.declared.reads.MetadataBroker.{MetadataBroker}
-use Rattle.kr_calls.specs.declared.reads.MetadataPartition.{MetadataPartition}
-use Rattle.kr_calls.specs.declared.reads.MetadataRequestTopic.{MetadataRequestTopic}
-use Rattle.kr_calls.specs.declared.reads.MetadataTopic.{MetadataTopic}
+use Rattle.kr_calls.specs.declared.metadata.MetadataBroker.{MetadataBroker}
+use Rattle.kr_calls.specs.declared.metadata.MetadataPartition.{MetadataPartition}
+use Rattle.kr_calls.specs.declared.metadata.MetadataRequestTopic.{MetadataRequestTopic}
+use Rattle.kr_calls.specs.declared.metadata.MetadataTopic.{MetadataTopic}
 use Rattle.kr_calls.specs.Metadata.{broker_of, brokers_of, is_online, topic_asked_for, new_to, partition_metadata, refused, seen_with, shown, topic_metadata, topics_named}
 use Rattle.kr_defs.proofs.Tests.{not_false, not_true}
 use Rattle.kr_gather.proofs.Parts.{given_parts}

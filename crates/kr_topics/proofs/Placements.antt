@@ -9,7 +9,7 @@ use Rattle.kr_defs.specs.Brokers.{active}
 use Rattle.kr_defs.specs.Ids.{within}
 use Rattle.kr_defs.specs.Image.{Image}
 use Rattle.kr_defs.specs.NewPartition.{new_partition}
-use Rattle.kr_calls.specs.declared.topics.CreatePartitionsAssignment.{CreatePartitionsAssignment}
+use Rattle.kr_calls.specs.declared.create_partitions.CreatePartitionsAssignment.{CreatePartitionsAssignment}
 use Rattle.kr_calls.specs.NewPartitions.{new_partitions}
 use Rattle.kr_place.specs.Placing.{Grouped, placed_in}
 use Rattle.kr_rules.proofs.SingleEntries.{here_of}

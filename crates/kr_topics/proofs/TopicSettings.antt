@@ -11,7 +11,7 @@ use Rattle.kr_defs.specs.declared.record.Record.TheVariants as kinds
 use Rattle.kr_defs.specs.Apply.{topic_kind}
 use Rattle.kr_defs.specs.Map.{get, insert, text_order, config_order}
 use Rattle.kr_defs.proofs.ImageParts.{text_total, config_total}
-use Rattle.kr_calls.specs.declared.topics.CreatableTopicConfig.{CreatableTopicConfig}
+use Rattle.kr_calls.specs.declared.create_topics.CreatableTopicConfig.{CreatableTopicConfig}
 use Rattle.kr_calls.specs.CreateTopics.{settings_records}
 use Rattle.kr_rules.proofs.KeyLookups.{get_inserted}
 use Rattle.kr_rules.proofs.SingleEntries.{here_of}

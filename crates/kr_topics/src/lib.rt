@@ -2,10 +2,10 @@
 #![tactic(auto)]
 
 mod assigning;
-mod cluster;
-mod creating;
-mod deleting;
-mod growing;
+mod create_partitions;
+mod create_topics;
+mod delete_topics;
+pub mod metadata;
 mod named_topics;
 mod naming;
 mod partitions;
@@ -13,7 +13,6 @@ mod racks;
 mod settings;
 mod topic_rows;
 
-pub use cluster::metadata;
-pub use creating::create;
-pub use deleting::delete;
-pub use growing::grow;
+pub use create_partitions::CreatePartitionsHandler;
+pub use create_topics::CreateTopicsHandler;
+pub use delete_topics::DeleteTopicsHandler;

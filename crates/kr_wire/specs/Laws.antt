@@ -21,12 +21,22 @@ pub record Law {X E : Type 0} (Is : X → List ℕ → Type 0) (read : List ℕ 
   pub sound : (bytes : List ℕ) → IsBytes bytes → Yields Is bytes (read bytes)
   pub complete : (x : X) (front rest : List ℕ) → Is x front → read (front ++ rest) ≡ Ok (x, rest)
 
+-- No form of a value begins one of another, so that bytes stand for one value at most.
+abbrev pub Apart : {X : Type 0} → (X → List ℕ → Type 0) → Type 0
+Apart {X} Is = (x y : X) (a b s t : List ℕ) → Is x a → Is y b → a ++ s ≡ b ++ t → (x ≡ y) × (s ≡ t)
+
+-- What is written for a value that fits stands for it, and is what is written for no other that fits, whatever follows.
+pub record IsWritten {X : Type 0} (Is : X → List ℕ → Type 0) (write : X → List ℕ) (Fits : X → Type 0) : Type 0 where
+  pub stands : (x : X) → Fits x → Is x (write x)
+  pub apart : Apart Is
+  pub once : (x y : X) (s t : List ℕ) → Fits x → Fits y → write x ++ s ≡ write y ++ t → (x ≡ y) × (s ≡ t)
+
 -- A law; no form begins another, so that bytes stand for one value at most; what is refused has no front that
 -- stands for a value; and what is written for a value that fits stands for it and is read as it.
 pub record IsPrimitive {X : Type 0} (Is : X → List ℕ → Type 0) (read : List ℕ → Read X) (write : X → List ℕ) (Fits : X → Type 0) : Type 0 where
   pub law : Law Is read
   pub one : (x y : X) (bytes : List ℕ) → Is x bytes → Is y bytes → x ≡ y
-  pub apart : (x y : X) (a b s t : List ℕ) → Is x a → Is y b → a ++ s ≡ b ++ t → (x ≡ y) × (s ≡ t)
+  pub apart : Apart Is
   pub refused : (bytes : List ℕ) (fault : WireFault) → read bytes ≡ Err fault → (x : X) (rest : List ℕ) → Front (Is x) bytes rest → ⊥
   pub stands : (x : X) → Fits x → Is x (write x)
   pub again : (x : X) (rest : List ℕ) → Fits x → read (write x ++ rest) ≡ Ok (x, rest)

@@ -1,26 +1,8 @@
--- What is appended for the body of a reply, by its key.
+-- What is appended for the body of a reply.
 use Rattle.std.specs.Prelude.{ℕ, List}
-use Rattle.std.specs.Int.{w16}
-use Rattle.kr_wire.specs.Grammar.{IsSigned}
-use Rattle.kr_layout.specs.Answers.{Adds}
+use Rattle.kr_layout.specs.Answers.{Puts}
 use Rattle.kr_calls.specs.declared.calls.Reply.{Reply}
-use Rattle.kr_calls.specs.declared.calls.Reply.TheVariants as replies
-use Rattle.kr_req_broker.specs.Grammar.{IsBrokerRegistrationReply, IsBrokerHeartbeatReply, IsUnregisterBrokerReply}
-use Rattle.kr_req_conf.specs.Grammar.{IsIncrementalAlterConfigsReply}
-use Rattle.kr_req_part.specs.Grammar.{IsAlterPartitionReply, IsElectLeadersReply, IsAlterPartitionReassignmentsReply, IsListPartitionReassignmentsReply}
-use Rattle.kr_req_topic.specs.Grammar.{IsCreateTopicsReply, IsDeleteTopicsReply, IsCreatePartitionsReply, IsMetadataReply}
+use Rattle.kr_req.specs.WrittenReplies.{of_body}
 
-abbrev pub AddsBody : Reply → List ℕ → List ℕ → Type 0
-AddsBody (replies.BrokerRegistration p) = Adds IsBrokerRegistrationReply p
-AddsBody (replies.BrokerHeartbeat p) = Adds IsBrokerHeartbeatReply p
-AddsBody (replies.UnregisterBroker p) = Adds IsUnregisterBrokerReply p
-AddsBody (replies.CreateTopics p) = Adds IsCreateTopicsReply p
-AddsBody (replies.DeleteTopics p) = Adds IsDeleteTopicsReply p
-AddsBody (replies.CreatePartitions p) = Adds IsCreatePartitionsReply p
-AddsBody (replies.AlterPartition p) = Adds IsAlterPartitionReply p
-AddsBody (replies.ElectLeaders p) = Adds IsElectLeadersReply p
-AddsBody (replies.AlterPartitionReassignments p) = Adds IsAlterPartitionReassignmentsReply p
-AddsBody (replies.ListPartitionReassignments p) = Adds IsListPartitionReassignmentsReply p
-AddsBody (replies.IncrementalAlterConfigs p) = Adds IsIncrementalAlterConfigsReply p
-AddsBody (replies.Metadata p) = Adds IsMetadataReply p
-AddsBody (replies.Bare error) = Adds (IsSigned w16) error
+abbrev pub PutsBody : Reply → List ℕ → List ℕ → Type 0
+PutsBody reply before after = of_body (λ X s x. Puts s x before after) reply

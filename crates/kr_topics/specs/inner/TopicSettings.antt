@@ -4,7 +4,7 @@ use Rattle.std.specs.Option.{option_map_or, option_or}
 use Rattle.kr_defs.specs.declared.record.ConfigKey.{ConfigKey}
 use Rattle.kr_defs.specs.Apply.{topic_kind}
 use Rattle.kr_defs.specs.Map.{config_order, get, text_order}
-use Rattle.kr_calls.specs.declared.topics.CreatableTopicConfig.{CreatableTopicConfig}
+use Rattle.kr_calls.specs.declared.create_topics.CreatableTopicConfig.{CreatableTopicConfig}
 
 -- where a topic's setting stands
 abbrev pub topic_setting_key : List ℕ → List ℕ → ConfigKey

@@ -1,8 +1,7 @@
 use Rattle.kr_stream.proofs.OutputFrames.{refusal_is}
 use Rattle.kr_stream.proofs.output.refusal_body.Goals as goal
 
-pub returns : goal.returns
-returns c =
-    refusal_is c.args.event c.args.reason.now c.new-body.result.items c.put_u64.new.out.items c.put_byte.new.out.items c.put_number.new.out.items c.put_number-2.new.out.items _ c.ranges.event.fits c.in_ok-put_byte.ensures.fits
-    c.in_ok-put_number.ensures.fits c.in_ok-put_number-2.ensures.fits c.in_ok-put_number-3.ensures.fits
+pub returns-clause-bytes : goal.returns-clause-bytes
+returns-clause-bytes c =
+    refusal_is c.args.event c.args.reason.now c.new-body.result.items c.put_u64.new.out.items c.put_byte.new.out.items c.put_number.new.out.items c.put_number-2.new.out.items _
     c.new-body.ensures.items c.in_ok-put_u64.ensures.ok c.in_ok-put_byte.ensures.ok c.in_ok-put_number.ensures.ok c.in_ok-put_number-2.ensures.ok c.in_ok-put_number-3.ensures.ok

@@ -1,0 +1,12 @@
+pub mod AlterPartition
+pub mod AlterPartitionReassignments
+pub mod BrokerHeartbeat
+pub mod BrokerRegistration
+pub mod CreatePartitions
+pub mod CreateTopics
+pub mod DeleteTopics
+pub mod ElectLeaders
+pub mod IncrementalAlterConfigs
+pub mod ListPartitionReassignments
+pub mod Metadata
+pub mod UnregisterBroker

@@ -1,0 +1,271 @@
+//! A broker is alive: it is unfenced, told to stop, or fenced.
+
+ghost use Rattle.std.specs.Prelude.{◌≡◌, pos, true, false, int_le, Some, IfOk};
+ghost use Rattle.std.specs.Option.{option_map_or};
+ghost use Rattle.std.specs.Ordering.{int_cmp, int_eq};
+ghost use Rattle.kr_defs.specs.declared.record.Record.TheVariants as kinds;
+ghost use Rattle.kr_defs.specs.Map as entries;
+ghost use Rattle.kr_calls.specs.BrokerHeartbeat as heartbeating;
+
+use crate::elections::unfencing_records;
+use kr_base::{NoMemory, Steps};
+use kr_calls::errors::STALE_BROKER_EPOCH;
+use kr_calls::{BrokerHeartbeat, BrokerHeartbeatReply, Draft, Effect, Reply};
+use kr_defs::{Broker, Options, Record, Records};
+use kr_rules::{Handler, Refusal, Rule, Work, decide_one};
+use kr_sessions::{Context, Sessions};
+use kr_store::Store;
+use kr_walks::{active, fencing_records, leads, take_out, tip};
+use std::alloc::Global;
+use std::sync::ledger::Ledger;
+
+// What is decided of a heartbeat.
+#[derive(Drop)]
+struct HeartbeatRule<'a> {
+    options: &'a Options,
+    sessions: &'a Sessions,
+}
+
+// The broker's offset is below the place of its registration.
+fn is_behind(request: &BrokerHeartbeat) -> bool
+    ensures { result ≡ heartbeating.is_behind request.now }
+{
+    request.offset < request.epoch
+}
+
+// What the broker is told, with what becomes of it.
+fn draft_of(
+    request: &BrokerHeartbeat,
+    records: Records,
+    fenced: bool,
+    shuts_down: bool,
+) -> Draft<BrokerHeartbeatReply>
+    ensures { result ≡ heartbeating.told request.now (record { records = records; fenced = fenced; shuts_down = shuts_down }) }
+{
+    Draft {
+        records,
+        answer: BrokerHeartbeatReply {
+            error: 0,
+            caught_up: !is_behind(request),
+            fenced,
+            should_shut_down: shuts_down,
+        },
+    }
+}
+
+fn of_fenced<S: Store>(
+    alloc: Global,
+    store: &S,
+    minimum: &i32,
+    request: &BrokerHeartbeat,
+    state: &Broker,
+) -> Result<Draft<BrokerHeartbeatReply>, NoMemory>
+    requires { entries.get int_cmp (S.images store.now).tip.brokers request.now.broker ≡ Some state.now }
+    ensures { IfOk result (λ draft. draft ≡ heartbeating.told request.now (heartbeating.of_fenced minimum.now (S.images store.now).tip request.now state.now)) }
+{
+    if request.want_shutdown || state.stopping {
+        return Ok(draft_of(request, Records::new(alloc), true, true));
+    }
+    if request.want_fence || is_behind(request) {
+        return Ok(draft_of(request, Records::new(alloc), true, false));
+    }
+    let records = unfencing_records(alloc, store, minimum, &request.broker, state)?;
+    Ok(draft_of(request, records, false, false))
+}
+
+// The offset that all have read is at least the tip when the broker began to stop.
+fn is_reached(since: &i64, lowest: Option<i64>) -> bool
+    ensures { result ≡ option_map_or (λ offset. int_le since.now offset) lowest true }
+{
+    match lowest {
+        Some(offset) => *since <= offset,
+        None => true,
+    }
+}
+
+// Every active broker has told of an offset that is at least the tip when the broker began to stop.
+fn is_passed_on<S: Store>(
+    alloc: Global,
+    store: &S,
+    sessions: &Sessions,
+    broker: &i32,
+) -> Result<bool, NoMemory>
+    ensures { IfOk result (λ passed. passed ≡ heartbeating.is_passed_on sessions.now.heartbeats (S.images store.now).tip broker.now) }
+{
+    let stopped = sessions.stopped_at(*broker);
+    match &stopped {
+        Some(since) => {
+            let active = active(alloc, store)?;
+            Ok(is_reached(since, sessions.lowest_offset(&active)))
+        }
+        None => Ok(false),
+    }
+}
+
+fn of_stopping<S: Store>(
+    alloc: Global,
+    store: &S,
+    minimum: &i32,
+    sessions: &Sessions,
+    request: &BrokerHeartbeat,
+) -> Result<Draft<BrokerHeartbeatReply>, NoMemory>
+    ensures { IfOk result (λ draft. draft ≡ heartbeating.told request.now (heartbeating.of_stopping minimum.now sessions.now.heartbeats (S.images store.now).tip request.now)) }
+{
+    if is_passed_on(alloc, store, sessions, &request.broker)? {
+        let records = fencing_records(alloc, store, minimum, &request.broker, &request.epoch)?;
+        Ok(draft_of(request, records, true, true))
+    } else {
+        Ok(draft_of(request, Records::new(alloc), false, false))
+    }
+}
+
+fn stop_record(broker: &i32, epoch: &i64) -> Record
+    ensures { result ≡ kinds.BrokerRegistrationChange broker.now epoch.now (pos 0) (pos 1) }
+{
+    Record::BrokerRegistrationChange {
+        broker: *broker,
+        epoch: *epoch,
+        fenced: 0,
+        stopping: 1,
+    }
+}
+
+// The records that tell a broker to stop: the flag, and then it is taken out.
+fn stopping_records<S: Store>(
+    alloc: Global,
+    store: &S,
+    minimum: &i32,
+    broker: &i32,
+    epoch: &i64,
+) -> Result<Records, NoMemory>
+    ensures { IfOk result (λ records. records ≡ heartbeating.stopping_records minimum.now (S.images store.now).tip broker.now epoch.now) }
+{
+    let mut records = Records::new(alloc);
+    records.push(stop_record(broker, epoch))?;
+    take_out(alloc, store, minimum, broker, false, &mut records)?;
+    Ok(records)
+}
+
+fn of_active<S: Store>(
+    alloc: Global,
+    store: &S,
+    minimum: &i32,
+    request: &BrokerHeartbeat,
+) -> Result<Draft<BrokerHeartbeatReply>, NoMemory>
+    ensures { IfOk result (λ draft. draft ≡ heartbeating.told request.now (heartbeating.of_active minimum.now (S.images store.now).tip request.now)) }
+{
+    if request.want_fence {
+        let records = fencing_records(alloc, store, minimum, &request.broker, &request.epoch)?;
+        return Ok(draft_of(request, records, true, request.want_shutdown));
+    }
+    if !request.want_shutdown {
+        return Ok(draft_of(request, Records::new(alloc), false, false));
+    }
+    if leads(store, &request.broker) {
+        let records = stopping_records(alloc, store, minimum, &request.broker, &request.epoch)?;
+        return Ok(draft_of(request, records, false, false));
+    }
+    let records = fencing_records(alloc, store, minimum, &request.broker, &request.epoch)?;
+    Ok(draft_of(request, records, true, true))
+}
+
+// What becomes of the broker that stands in the image.
+#[tactic(auto, unfolding(kr_calls::specs::BrokerHeartbeat::step))]
+fn step<S: Store>(
+    alloc: Global,
+    store: &S,
+    minimum: &i32,
+    sessions: &Sessions,
+    request: &BrokerHeartbeat,
+    state: &Broker,
+) -> Result<Draft<BrokerHeartbeatReply>, NoMemory>
+    requires { entries.get int_cmp (S.images store.now).tip.brokers request.now.broker ≡ Some state.now }
+    ensures { IfOk result (λ draft. draft ≡ heartbeating.told request.now (heartbeating.step minimum.now sessions.now.heartbeats (S.images store.now).tip request.now state.now)) }
+{
+    if state.fenced {
+        of_fenced(alloc, store, minimum, request, state)
+    } else if state.stopping {
+        of_stopping(alloc, store, minimum, sessions, request)
+    } else {
+        of_active(alloc, store, minimum, request)
+    }
+}
+
+fn is_of_epoch(request: &BrokerHeartbeat, state: &Broker) -> bool
+    ensures { result ≡ int_eq request.now.epoch state.now.epoch }
+{
+    request.epoch == state.epoch
+}
+
+impl<'a> Rule<BrokerHeartbeat, BrokerHeartbeatReply> for HeartbeatRule<'a> {
+    ghost refusal = { λ _. heartbeating.refused };
+
+    ghost rule = { λ r. heartbeating.rule r.options.now r.sessions.now.heartbeats };
+
+    fn refusal(
+        &self,
+        _alloc: Global,
+        error: &i16,
+        _entry: &BrokerHeartbeat,
+    ) -> Result<BrokerHeartbeatReply, NoMemory> {
+        Ok(BrokerHeartbeatReply {
+            error: *error,
+            caught_up: false,
+            fenced: true,
+            should_shut_down: false,
+        })
+    }
+
+    fn judge<S: Store>(
+        &self,
+        alloc: Global,
+        store: &S,
+        _work: &Work,
+        entry: &BrokerHeartbeat,
+    ) -> Result<Draft<BrokerHeartbeatReply>, Refusal> {
+        let Some(state) = tip::broker(store, &entry.broker) else {
+            return Err(Refusal::Error(STALE_BROKER_EPOCH));
+        };
+        if !is_of_epoch(entry, state) {
+            return Err(Refusal::Error(STALE_BROKER_EPOCH));
+        }
+        Ok(step(
+            alloc,
+            store,
+            &self.options.minimum,
+            self.sessions,
+            entry,
+            state,
+        )?)
+    }
+}
+
+/// A broker is alive. A fenced one is unfenced once it has read its own registration, where it wants neither to be
+/// fenced nor to stop; an active one that wants to stop is told to, and fenced at once where it leads nothing; a
+/// stopping one is fenced once every active broker has read up to where it began to stop. 77 where it isn't registered
+/// or by another epoch; 44 past a limit.
+#[derive(Drop)]
+pub struct BrokerHeartbeatHandler;
+
+impl Handler<BrokerHeartbeat> for BrokerHeartbeatHandler {
+    ghost decided = { λ request given image. heartbeating.decided given.options.now given.sessions.now.heartbeats image given.place request };
+
+    #[tactic(auto, unfolding(kr_calls::specs::BrokerHeartbeat::decided))]
+    fn decide<S: Store, L: Ledger>(
+        alloc: Global,
+        store: &mut S,
+        context: &Context,
+        request: &BrokerHeartbeat,
+        steps: &mut Steps<L>,
+    ) -> Result<Effect, NoMemory> {
+        let rule = HeartbeatRule {
+            options: context.options,
+            sessions: context.sessions,
+        };
+        let (records, answer) = decide_one(alloc, store, context.place, &rule, request, steps)?;
+        Ok(Effect {
+            records,
+            reply: Reply::BrokerHeartbeat(answer),
+        })
+    }
+}

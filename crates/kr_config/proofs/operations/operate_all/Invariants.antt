@@ -1,8 +1,0 @@
-use Rattle.std.proofs.Common.{◌≡◌, [], drop}
-use Rattle.kr_calls.specs.IncrementalAlterConfigs.{after_operations}
-use Rattle.kr_config.proofs.operations.operate_all.Given as goal
-
-abbrev pub invariant-loop-operation : goal.invariant-loop-operation
-invariant-loop-operation g l =
-    let image = (g.S.Store.images l.store).tip in
-    after_operations image l.entry l.values (drop l.operation-index l.entry.configs) ≡ after_operations image l.entry [] l.entry.configs

@@ -1,0 +1,214 @@
+//! Where a changed minimum leaves enough replicas in sync, none stands by (KIP-966).
+
+ghost use Rattle.std.specs.Prelude.{◌≡◌, ◌++◌, ◌==◌, ◌&&◌, not, [], bytes_eq, length, IfOk, OnOk, option_and_then};
+ghost use Rattle.std.specs.Option.{option_copied};
+ghost use Rattle.std.specs.Ordering.{int_eq};
+ghost use Rattle.kr_calls.specs.IncrementalAlterConfigs as configs;
+ghost use Rattle.kr_defs.specs.Build.{unless};
+ghost use Rattle.kr_defs.specs.Eligible as eligible;
+ghost use Rattle.kr_defs.specs.NewPartition as partitions;
+ghost use Rattle.kr_defs.specs.Settings as settings;
+ghost use Rattle.kr_defs.specs.Walk.{changes_of, walk};
+ghost use Rattle.kr_configs.specs.inner.NewSettings as later;
+ghost use Rattle.kr_configs.specs.inner.NewSettings.{after};
+
+use crate::operations::value_now;
+use crate::records::is_same_value;
+use crate::values::Values;
+use kr_base::NoMemory;
+use kr_calls::ConfigResource;
+use kr_defs::{Ids, MINIMUM_KEY, Options, Partition, PartitionChange, Records, Text, read_minimum};
+use kr_store::Store;
+use kr_walks::{Change, add_changes, minimum_at, minimum_of, value_at};
+use std::alloc::Global;
+
+// Kafka's types of resources.
+const TOPIC: i8 = 2;
+
+const BROKER: i8 = 4;
+
+// What the values of one resource's settings make of partitions.
+#[derive(Drop)]
+struct Relief<'r, 'k> {
+    options: &'r Options,
+    entry: &'r ConfigResource,
+    values: &'r Values<'k>,
+}
+
+// No ids, as a field that is named where the list has some.
+fn no_ids(alloc: Global, list: &Ids) -> Option<Ids>
+    ensures { result ≡ unless (length list.now == 0) [] }
+{
+    if list.is_empty() {
+        return None;
+    }
+    Some(Ids::new(alloc))
+}
+
+// Nobody stands by any more.
+fn relief_of(alloc: Global, partition: &Partition) -> PartitionChange
+    ensures { result ≡ partitions.emptying partition.now }
+{
+    PartitionChange {
+        in_sync: None,
+        replicas: None,
+        removing: None,
+        adding: None,
+        eligible: no_ids(alloc, &partition.eligible),
+        last_known: no_ids(alloc, &partition.last_known),
+        leader: None,
+        recovery: None,
+    }
+}
+
+fn is_enough(partition: &Partition, minimum: &i32) -> bool
+    ensures { result ≡ eligible.is_enough partition.now.replicas partition.now.in_sync minimum.now }
+{
+    let wanted = i128::from(*minimum).min(partition.replicas.len() as i128);
+    wanted <= partition.in_sync.len() as i128
+}
+
+fn is_own(entry: &ConfigResource, kind: &i8, name: &Text) -> bool
+    ensures { result ≡ (int_eq kind.now entry.now.kind && bytes_eq name.now entry.now.name) }
+{
+    *kind == entry.kind && *name == entry.name
+}
+
+fn minimum_in(value: Option<&Text>) -> Option<i32>
+    ensures { result ≡ option_and_then settings.read_minimum (option_copied value.entry) }
+{
+    match value {
+        Some(value) => read_minimum(value.as_bytes()),
+        None => None,
+    }
+}
+
+// The minimum that a resource sets afterwards.
+fn minimum_after_at<S: Store>(
+    alloc: Global,
+    store: &S,
+    relief: &Relief,
+    kind: &i8,
+    name: &Text,
+) -> Result<Option<i32>, NoMemory>
+    ensures { IfOk result (λ minimum. minimum ≡ option_and_then settings.read_minimum (settings.setting_value (after (S.images store.now).tip relief.now.entry.now relief.now.values.now) kind.now name.now settings.minimum_key)) }
+{
+    let _valid = store.counts();
+    relief.values.are_once();
+    if is_own(relief.entry, kind, name) {
+        let value = value_now(alloc, store, relief.entry, relief.values, MINIMUM_KEY)?;
+        Ok(minimum_in(value))
+    } else {
+        minimum_at(alloc, store, kind, name)
+    }
+}
+
+// The minimum of the topic itself, or else that of all brokers, afterwards.
+fn minimum_after_set<S: Store>(
+    alloc: Global,
+    store: &S,
+    relief: &Relief,
+    topic: &Text,
+) -> Result<Option<i32>, NoMemory>
+    ensures { IfOk result (λ minimum. minimum ≡ settings.setting settings.read_minimum settings.minimum_key (after (S.images store.now).tip relief.now.entry.now relief.now.values.now) topic.now) }
+{
+    match minimum_after_at(alloc, store, relief, &TOPIC, topic)? {
+        Some(minimum) => Ok(Some(minimum)),
+        None => minimum_after_at(alloc, store, relief, &BROKER, &Text::new(alloc)),
+    }
+}
+
+// How many replicas of the topic have to be in sync afterwards.
+fn minimum_after<S: Store>(
+    alloc: Global,
+    store: &S,
+    relief: &Relief,
+    topic: &Text,
+) -> Result<i32, NoMemory>
+    ensures { IfOk result (λ minimum. minimum ≡ settings.minimum_of relief.now.options.now.minimum (after (S.images store.now).tip relief.now.entry.now relief.now.values.now) topic.now) }
+{
+    let minimum = minimum_after_set(alloc, store, relief, topic)?;
+    Ok(minimum.unwrap_or(relief.options.minimum))
+}
+
+// The topic's minimum is another, and enough are in sync for the new one.
+fn has_enough<S: Store>(
+    alloc: Global,
+    store: &S,
+    relief: &Relief,
+    topic: &Text,
+    partition: &Partition,
+) -> Result<bool, NoMemory>
+    ensures { IfOk result (λ enough. enough ≡ later.has_enough relief.now.options.now (S.images store.now).tip (after (S.images store.now).tip relief.now.entry.now relief.now.values.now) topic.now partition.now) }
+{
+    let before = minimum_of(alloc, store, &relief.options.minimum, topic)?;
+    let after = minimum_after(alloc, store, relief, topic)?;
+    Ok(before != after && is_enough(partition, &after))
+}
+
+// A replica stands by.
+fn has_standing_by(partition: &Partition) -> bool
+    ensures { result ≡ later.has_standing_by partition.now }
+{
+    !(partition.eligible.is_empty() && partition.last_known.is_empty())
+}
+
+impl<'r, 'k> Change for Relief<'r, 'k> {
+    ghost change = { λ r image w. configs.relief r.options.now image (after image r.entry.now r.values.now) w };
+
+    fn change<S: Store>(
+        &self,
+        alloc: Global,
+        store: &S,
+        topic: &Text,
+        _key: &(u128, i32),
+        partition: &Partition,
+    ) -> Result<Option<PartitionChange>, NoMemory> {
+        if !has_standing_by(partition) {
+            return Ok(None);
+        }
+        if !has_enough(alloc, store, self, topic, partition)? {
+            return Ok(None);
+        }
+        Ok(Some(relief_of(alloc, partition)))
+    }
+}
+
+// The resource's own minimum stays as it is.
+fn keeps_minimum<S: Store>(
+    alloc: Global,
+    store: &S,
+    entry: &ConfigResource,
+    values: &Values,
+) -> Result<bool, NoMemory>
+    ensures { IfOk result (λ keeps. keeps ≡ later.keeps_minimum (S.images store.now).tip entry.now values.now) }
+{
+    let before = value_at(alloc, store, &entry.kind, &entry.name, MINIMUM_KEY)?;
+    let after = value_now(alloc, store, entry, values, MINIMUM_KEY)?;
+    Ok(is_same_value(after, before))
+}
+
+/// Adds a change for each partition of a topic whose minimum is another with these values, where enough are in sync for it:
+/// nobody stands by any more. A minimum that stays needs no walk.
+pub(crate) fn add_reliefs<S: Store>(
+    alloc: Global,
+    store: &S,
+    options: &Options,
+    entry: &ConfigResource,
+    values: &Values,
+    records: &mut Records,
+) -> Result<(), NoMemory>
+    ensures { OnOk result (records.new ≡ records.old ++ changes_of (configs.relief options.now (S.images store.now).tip (after (S.images store.now).tip entry.now values.now)) (walk (S.images store.now).tip)) }
+{
+    let _valid = store.counts();
+    values.are_once();
+    if keeps_minimum(alloc, store, entry, values)? {
+        return Ok(());
+    }
+    let relief = Relief {
+        options,
+        entry,
+        values,
+    };
+    add_changes(alloc, store, &relief, records)
+}

@@ -1,0 +1,80 @@
+//! The records of each broker, partition and topic.
+
+ghost use Rattle.kr_defs.specs.Records.{topic_records};
+ghost use Rattle.kr_gather.specs.inner.Contents as contents;
+
+use crate::lists::add_all;
+use crate::{BrokerPart, PartitionPart, TopicPart, gather_partitions};
+use kr_base::NoMemory;
+use kr_defs::{Broker, Copied, Partition, Record, Records, Text};
+use kr_store::{At, Store};
+use std::alloc::Global;
+
+/// The registration of a broker.
+#[derive(Drop)]
+pub(crate) struct Registration;
+
+impl BrokerPart<Record> for Registration {
+    ghost part = { λ _ entry. contents.of_broker entry };
+
+    fn add(
+        &self,
+        alloc: Global,
+        id: &i32,
+        state: &Broker,
+        rows: &mut Records,
+    ) -> Result<(), NoMemory> {
+        let state = state.copied(alloc)?;
+        rows.push(Record::RegisterBroker { broker: *id, state })?;
+        Ok(())
+    }
+}
+
+/// A partition as it stands.
+#[derive(Drop)]
+struct Standing;
+
+impl PartitionPart<Record> for Standing {
+    ghost part = { λ _ entry. contents.of_partition entry };
+
+    fn add(
+        &self,
+        alloc: Global,
+        key: &(u128, i32),
+        partition: &Partition,
+        rows: &mut Records,
+    ) -> Result<(), NoMemory> {
+        let (topic, index) = (key.0, key.1);
+        let state = partition.copied(alloc)?;
+        rows.push(Record::Partition {
+            index,
+            topic,
+            state,
+        })?;
+        Ok(())
+    }
+}
+
+/// A topic, and its partitions behind it.
+#[derive(Drop)]
+pub(crate) struct TopicRecords;
+
+impl TopicPart<Record> for TopicRecords {
+    ghost part = { λ _ image topic. topic_records image.partitions topic };
+
+    #[tactic(auto, using(crate::proofs::Sections::topics))]
+    fn add<S: Store>(
+        &self,
+        alloc: Global,
+        store: &S,
+        at: At,
+        name: &Text,
+        id: &u128,
+        rows: &mut Records,
+    ) -> Result<(), NoMemory> {
+        let name = name.copied(alloc)?;
+        rows.push(Record::Topic { name, id: *id })?;
+        let partitions = gather_partitions(alloc, store, at, &Standing, id)?;
+        add_all(alloc, rows, partitions)
+    }
+}

@@ -1,0 +1,3 @@
+pub mod LeaderlessElections
+pub mod OngoingRows
+pub mod WholeTopics

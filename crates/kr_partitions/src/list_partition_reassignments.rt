@@ -1,0 +1,172 @@
+//! The reassignments that go on.
+
+ghost use Rattle.std.specs.Prelude.{◌≡◌, ◌&&◌, [], ◌∷◌, IfOk, bytes_eq, filter_map, option_to_list, if◌then◌else◌};
+ghost use Rattle.std.specs.List.{list_any};
+ghost use Rattle.kr_defs.specs.Ids.{has};
+ghost use Rattle.kr_defs.specs.Partition.{is_moving};
+ghost use Rattle.kr_calls.specs.ListPartitionReassignments as listing;
+ghost use Rattle.kr_store.specs.Reads.{LooksUp, seen_at};
+
+use crate::lists::is_moving;
+use kr_base::NoMemory;
+use kr_calls::{
+    ListPartitionReassignments, ListPartitionReassignmentsReply, ListedTopic, ListedTopics,
+    OngoingPartitionReassignment, OngoingPartitionReassignments, OngoingTopicReassignment, Reply,
+};
+use kr_defs::{Copied, Options, Partition, Rows, Text};
+use kr_gather::looking::look;
+use kr_gather::{PartitionPart, TopicPart, gather_partitions, gather_topics};
+use kr_store::{At, ReadFault, Store};
+use std::alloc::Global;
+
+fn names(topic: &ListedTopic, name: &Text, index: &i32) -> bool
+    ensures { result ≡ (bytes_eq topic.now.name name.now && has topic.now.partitions index.now) }
+{
+    topic.name.as_str() == name.as_str() && topic.partitions.contains(index)
+}
+
+fn name_any(topics: &[ListedTopic], name: &Text, index: &i32) -> bool
+    ensures { result ≡ list_any (λ t. bytes_eq t.name name.now && has t.partitions index.now) topics.now }
+{
+    topics.iter().any(|topic| names(topic, name, index))
+}
+
+// The partition is asked for, or all are.
+fn is_asked(asked: &Option<ListedTopics>, name: &Text, index: &i32) -> bool
+    ensures { result ≡ listing.is_asked asked.now name.now index.now }
+{
+    match asked {
+        Some(topics) => name_any(topics.as_slice(), name, index),
+        None => true,
+    }
+}
+
+fn ongoing_row(
+    alloc: Global,
+    key: &(u128, i32),
+    partition: &Partition,
+) -> Result<OngoingPartitionReassignment, NoMemory>
+    ensures { IfOk result (λ row. row ≡ listing.ongoing (key.now, partition.now)) }
+{
+    let replicas = partition.replicas.copied(alloc)?;
+    let adding = partition.adding.copied(alloc)?;
+    let removing = partition.removing.copied(alloc)?;
+    Ok(OngoingPartitionReassignment {
+        index: key.1,
+        replicas,
+        adding,
+        removing,
+    })
+}
+
+// A partition that is asked for and moves, of the topic of this name.
+#[derive(Drop)]
+struct AskedPartitions<'a> {
+    asked: &'a Option<ListedTopics>,
+    name: &'a Text,
+}
+
+impl<'a> PartitionPart<OngoingPartitionReassignment> for AskedPartitions<'a> {
+    ghost part = { λ a e. if is_moving e.1 && listing.is_asked a.asked.now a.name.now e.0.1 then listing.ongoing e ∷ [] else [] };
+
+    fn add(
+        &self,
+        alloc: Global,
+        key: &(u128, i32),
+        partition: &Partition,
+        rows: &mut OngoingPartitionReassignments,
+    ) -> Result<(), NoMemory> {
+        if is_moving(partition) && is_asked(self.asked, self.name, &key.1) {
+            rows.push(ongoing_row(alloc, key, partition)?)?;
+        }
+        Ok(())
+    }
+}
+
+// The partitions of a topic that are asked for and move.
+#[tactic(auto, using(crate::proofs::OngoingRows::moving))]
+fn ongoing_of<S: Store>(
+    alloc: Global,
+    store: &S,
+    at: At,
+    asked: &Option<ListedTopics>,
+    name: &Text,
+    id: &u128,
+) -> Result<OngoingPartitionReassignments, NoMemory>
+    ensures { IfOk result (λ rows. rows ≡ listing.ongoing_of (seen_at (S.images store.now) at) asked.now (name.now, id.now)) }
+{
+    gather_partitions(alloc, store, at, &AskedPartitions { asked, name }, id)
+}
+
+// What is shown of a topic, where there is something to show.
+fn topic_row<S: Store>(
+    alloc: Global,
+    store: &S,
+    at: At,
+    asked: &Option<ListedTopics>,
+    name: &Text,
+    id: &u128,
+) -> Result<Option<OngoingTopicReassignment>, NoMemory>
+    ensures { IfOk result (λ row. row ≡ listing.shown (seen_at (S.images store.now) at) asked.now (name.now, id.now)) }
+{
+    let partitions = ongoing_of(alloc, store, at, asked, name, id)?;
+    if partitions.is_empty() {
+        return Ok(None);
+    }
+    let name = name.copied(alloc)?;
+    Ok(Some(OngoingTopicReassignment { name, partitions }))
+}
+
+// A topic that has something to show.
+#[derive(Drop)]
+struct AskedTopics<'a> {
+    asked: &'a Option<ListedTopics>,
+}
+
+impl<'a> TopicPart<OngoingTopicReassignment> for AskedTopics<'a> {
+    ghost part = { λ a image topic. option_to_list (listing.shown image a.asked.now topic) };
+
+    fn add<S: Store>(
+        &self,
+        alloc: Global,
+        store: &S,
+        at: At,
+        name: &Text,
+        id: &u128,
+        rows: &mut Rows<OngoingTopicReassignment>,
+    ) -> Result<(), NoMemory> {
+        if let Some(row) = topic_row(alloc, store, at, self.asked, name, id)? {
+            rows.push(row)?;
+        }
+        Ok(())
+    }
+}
+
+#[tactic(auto, using(crate::proofs::OngoingRows::all_shown))]
+fn all_topic_rows<S: Store>(
+    alloc: Global,
+    store: &S,
+    at: At,
+    asked: &Option<ListedTopics>,
+) -> Result<Rows<OngoingTopicReassignment>, NoMemory>
+    ensures { IfOk result (λ rows. rows ≡ filter_map (listing.shown (seen_at (S.images store.now) at) asked.now) (seen_at (S.images store.now) at).topics) }
+{
+    gather_topics(alloc, store, at, &AskedTopics { asked })
+}
+
+/// The partitions that are being reassigned, all or those that are asked for, at a place of the store. NoEpoch exactly
+/// where the place is an epoch that isn't kept.
+#[tactic(auto, unfolding(kr_calls::specs::ListPartitionReassignments::queried))]
+pub fn answer<S: Store>(
+    alloc: Global,
+    store: &S,
+    at: At,
+    _options: &Options,
+    request: &ListPartitionReassignments,
+) -> Result<Reply, ReadFault>
+    ensures { LooksUp (S.images store.now) at result (λ image. listing.queried image request.now) }
+{
+    look(store, at)?;
+    let topics = all_topic_rows(alloc, store, at, &request.topics)?;
+    Ok(Reply::ListPartitionReassignments(ListPartitionReassignmentsReply { error: 0, topics }))
+}

@@ -1,2 +1,0 @@
-pub mod LeaderlessElections
-pub mod WholeTopics

@@ -1,6 +1,0 @@
-use Rattle.kr_layout.proofs.Chains.{puts_null, puts_structure, puts_then}
-use Rattle.kr_req_topic.proofs.creation.CreatableTopicResultPutMine.put.Goals as goal
-
-pub returns : goal.returns
-returns c = puts_structure _ _ _ _ _ _ _ _ _ c.put_end.result c.put_end.ensures (λ last.
-    puts_then c.in_ok-put.ensures (puts_then c.in_ok-put-2.ensures (puts_then c.in_ok-put-3.ensures (puts_then (puts_null c.in_ok-put_null.ensures.ok) (puts_then c.in_ok-put-4.ensures (puts_then c.in_ok-put-5.ensures (puts_then (puts_null c.in_ok-put_null-2.ensures.ok) last)))))))

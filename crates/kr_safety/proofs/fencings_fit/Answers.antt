@@ -1,5 +1,0 @@
-use Rattle.kr_safety.proofs.FencingSizes.{fencings_fit}
-use Rattle.kr_safety.proofs.fencings_fit.Goals as goal
-
-pub returns : goal.returns
-returns c = fencings_fit

@@ -1,6 +1,0 @@
-use Rattle.std.proofs.Common.{arith}
-use Rattle.std.proofs.lemmas.Int.{ints}
-use Rattle.kr_topics.proofs.growing.new_count.Goals as goal
-
-pub returns-clause-room : goal.returns-clause-room
-returns-clause-room c = omega (arith, ints)

@@ -1,0 +1,92 @@
+-- The records of every request pass no limit of requests.
+use Rattle.std.proofs.Common.{◌≡◌, ℤ, Bool, true, false, cond, List, [], ◌∷◌, ◌++◌, refl, ap, subst, not}
+use Rattle.std.specs.Prelude.{Option, Some, None, Result, Ok, Err, unwrap_or}
+use Rattle.std.specs.List.{list_all}
+use Rattle.kr_defs.specs.declared.ill.Ill.{Ill}
+use Rattle.kr_defs.specs.declared.options.Options.{Options}
+use Rattle.kr_defs.specs.declared.record.Record.{Record}
+use Rattle.kr_defs.specs.Heartbeats.{Heartbeats}
+use Rattle.kr_defs.specs.Image.{Image}
+use Rattle.kr_defs.proofs.Tests.{both}
+use Rattle.kr_calls.specs.declared.calls.Request.{Request}
+use Rattle.kr_calls.specs.declared.calls.Request.TheVariants as requests
+use Rattle.kr_calls.specs.declared.deciding.Draft.{Draft}
+use Rattle.kr_calls.specs.Deciding.{Work, apply_records, has_few_targets, is_request, is_within_limits, nothing_decided, work_with, taken, settled, done, one, after_all, after_groups, unless_validating}
+use Rattle.kr_calls.specs.Decide.{work_of}
+use Rattle.kr_calls.specs.Refuse.{refused_creation, refused_deletion, refused_growth, refused_resource}
+use Rattle.kr_calls.specs.AlterPartition as reporting
+use Rattle.kr_calls.specs.AlterPartitionReassignments as reassigning
+use Rattle.kr_calls.specs.BrokerHeartbeat as heartbeating
+use Rattle.kr_calls.specs.BrokerRegistration as registering
+use Rattle.kr_calls.specs.CreatePartitions as growing
+use Rattle.kr_calls.specs.CreateTopics as creating
+use Rattle.kr_calls.specs.DeleteTopics as deleting
+use Rattle.kr_calls.specs.ElectLeaders as electing
+use Rattle.kr_calls.specs.IncrementalAlterConfigs as configuring
+use Rattle.kr_calls.specs.UnregisterBroker as unregistering
+
+abbrev IsBounded : Work → Type 0
+IsBounded w = is_request w.records ≡ true
+
+added_bounded : (w : Work) (records : List Record) (b : Bool) (r : Result Image Ill) (after : Work) → is_within_limits w.records records ≡ b → cond b (work_with w records r) None ≡ Some after → IsBounded after
+added_bounded w records true (Ok image) after within is =
+    subst IsBounded (ap (λ o. unwrap_or o after) is) (both (list_all has_few_targets records) (is_request (w.records ++ records)) within).1
+added_bounded w records true (Err cause) after within is = absurd cc
+added_bounded w records false r after within is = absurd cc
+
+taken_bounded : (w : Work) (records : List Record) (after : Work) → taken w records ≡ Some after → IsBounded after
+unfolding taken
+taken_bounded w records after is = added_bounded w records (is_within_limits w.records records) (apply_records w.image records) after refl is
+
+module _ {E A : Type 0} (refused : ℤ → E → A) where
+  settled_bounded : (w : Work) (entry : E) (answer : A) (o : Option Work) → ((after : Work) → o ≡ Some after → IsBounded after) → IsBounded w → IsBounded (settled refused w entry answer o).0
+  settled_bounded w entry answer None bounded so_far = so_far
+  settled_bounded w entry answer (Some after) bounded so_far = bounded after refl
+
+  done_bounded : (w : Work) (entry : E) (r : Result (Draft A) ℤ) → IsBounded w → IsBounded (done refused w entry r).0
+  unfolding done
+  done_bounded w entry (Err error) so_far = so_far
+  done_bounded w entry (Ok draft) so_far = settled_bounded w entry draft.answer (taken w draft.records) (λ after is. taken_bounded w draft.records after is) so_far
+
+  module _ (rule : Image → ℤ → E → Result (Draft A) ℤ) where
+    one_bounded : (w : Work) (entry : E) → IsBounded w → IsBounded (one refused rule w entry).0
+    one_bounded w entry so_far = done_bounded w entry (rule w.image w.place entry) so_far
+
+    all_bounded : (w : Work) (entries : List E) → IsBounded w → IsBounded (after_all refused rule w entries)
+    all_bounded w [] so_far = so_far
+    all_bounded w (entry ∷ entries) so_far = all_bounded (one refused rule w entry).0 entries (one_bounded w entry so_far)
+
+    groups_bounded : {G B : Type 0} (entries_of : G → List E) (answer_of : G → List A → B) (w : Work) (groups : List G) → IsBounded w → IsBounded (after_groups refused rule entries_of answer_of w groups)
+    groups_bounded entries_of answer_of w [] so_far = so_far
+    groups_bounded entries_of answer_of w (group ∷ groups) so_far =
+        groups_bounded entries_of answer_of (after_all refused rule w (entries_of group)) groups (all_bounded w (entries_of group) so_far)
+
+validated_bounded : (validate_only : Bool) (before after : Work) → IsBounded before → IsBounded after → IsBounded (unless_validating validate_only before after)
+validated_bounded true before after first then = first
+validated_bounded false before after first then = then
+
+chosen_bounded : {X : Type 0} (test : Bool) (x y : Work × X) → IsBounded x.0 → IsBounded y.0 → IsBounded (cond test x y).0
+chosen_bounded true x y first then = first
+chosen_bounded false x y first then = then
+
+-- every request, by its rule
+pub requests_bounded : (options : Options) (time : ℤ) (heartbeats : Heartbeats) (image : Image) (place : ℤ) (request : Request) → is_request (work_of options time heartbeats image place request).0.records ≡ true
+unfolding work_of registering.decided heartbeating.decided unregistering.decided creating.decided deleting.decided growing.decided reporting.decided electing.decided reassigning.decided configuring.decided
+requests_bounded options time heartbeats image place (requests.BrokerRegistration q) = one_bounded registering.refused (registering.rule options time heartbeats) (nothing_decided place image) q refl
+requests_bounded options time heartbeats image place (requests.BrokerHeartbeat q) = one_bounded heartbeating.refused (heartbeating.rule options heartbeats) (nothing_decided place image) q refl
+requests_bounded options time heartbeats image place (requests.UnregisterBroker q) = one_bounded unregistering.refused (unregistering.rule options) (nothing_decided place image) q refl
+requests_bounded options time heartbeats image place (requests.CreateTopics q) =
+    validated_bounded q.validate_only (nothing_decided place image) _ refl (all_bounded refused_creation (creating.rule options q.validate_only) (nothing_decided place image) q.topics refl)
+requests_bounded options time heartbeats image place (requests.DeleteTopics q) = all_bounded refused_deletion deleting.rule (nothing_decided place image) q.topics refl
+requests_bounded options time heartbeats image place (requests.CreatePartitions q) =
+    validated_bounded q.validate_only (nothing_decided place image) _ refl (all_bounded refused_growth growing.rule (nothing_decided place image) q.topics refl)
+requests_bounded options time heartbeats image place (requests.AlterPartition q) =
+    chosen_bounded (reporting.is_stale image q) _ _ refl (groups_bounded reporting.refused (reporting.rule options q.broker) reporting.entries_of reporting.answer_of (nothing_decided place image) q.topics refl)
+requests_bounded options time heartbeats image place (requests.ElectLeaders q) =
+    chosen_bounded (not (electing.is_kind q.kind)) _ _ refl (groups_bounded electing.answer (electing.rule options q.kind) electing.entries_of electing.answer_of (nothing_decided place image) (electing.groups_of image q.topics) refl)
+requests_bounded options time heartbeats image place (requests.AlterPartitionReassignments q) =
+    groups_bounded reassigning.answer (reassigning.rule options) reassigning.entries_of reassigning.answer_of (nothing_decided place image) q.topics refl
+requests_bounded options time heartbeats image place (requests.IncrementalAlterConfigs q) =
+    validated_bounded q.validate_only (nothing_decided place image) _ refl (all_bounded refused_resource (configuring.rule options) (nothing_decided place image) q.resources refl)
+requests_bounded options time heartbeats image place (requests.ListPartitionReassignments q) = refl
+requests_bounded options time heartbeats image place (requests.Metadata q) = refl
