@@ -1,5 +1,5 @@
 -- What the timelines of a store hold: the present image, and those that are kept.
-use Rattle.std.specs.Prelude.{◌≡◌, ◌+◌, ℕ, ℤ, List, [], find, unwrap_or, Option}
+use Rattle.std.specs.Prelude.{◌≡◌, ◌+◌, ℕ, ℤ, List, [], find, unwrap_or, Option, filter, sum_by, take, not, int_lt}
 use Rattle.std.specs.Option.{option_map}
 use Rattle.std.specs.Ordering.{nat_cmp, int_eq}
 use Rattle.kr_defs.specs.declared.broker.Broker.{Broker}
@@ -70,6 +70,22 @@ image_in kept epoch = record {
 -- the calls of insert and remove on all of them since the last kept epoch
 abbrev pub made_of : Timelines → ℕ
 made_of t = t.brokers.maps.made + t.names.maps.made + t.topics.maps.made + t.partitions.maps.made + t.configs.maps.made + t.features.maps.made
+
+-- the entries above an epoch, and the calls of each
+abbrev pub undone_in : {K V : Type 0} → List (Kept K V) → ℤ → ℕ
+undone_in {K} {V} kept epoch = sum_by (λ (k : Kept K V). k.made + 1) (filter (λ (k : Kept K V). int_lt epoch k.epoch) kept)
+
+-- the same in all of them
+abbrev pub undone_of : Keeps → ℤ → ℕ
+undone_of kept epoch = undone_in kept.brokers epoch + undone_in kept.names epoch + undone_in kept.topics epoch + undone_in kept.partitions epoch + undone_in kept.configs epoch + undone_in kept.features epoch
+
+-- the entries below an epoch, and the calls of each and of the first one that isn't
+abbrev pub covered_in : {K V : Type 0} → List (Kept K V) → ℤ → ℕ
+covered_in {K} {V} kept epoch = sum_by (λ (k : Kept K V). k.made + 1) (filter (λ (k : Kept K V). int_lt k.epoch epoch) kept) + sum_by (λ (k : Kept K V). k.made) (take 1 (filter (λ (k : Kept K V). not (int_lt k.epoch epoch)) kept))
+
+-- the same in all of them
+abbrev pub covered_of : Keeps → ℤ → ℕ
+covered_of kept epoch = covered_in kept.brokers epoch + covered_in kept.names epoch + covered_in kept.topics epoch + covered_in kept.partitions epoch + covered_in kept.configs epoch + covered_in kept.features epoch
 
 -- the topics by id are those that the names lead to
 pub record IsIndex (names : List (List ℕ × ℕ)) (topics : List (ℕ × Topic)) : Type 0 where

@@ -1,8 +1,8 @@
 //! The present maps of all timelines are kept under an epoch, and go back to one.
 
-ghost use Rattle.std.specs.Prelude.{◌≡◌, ◌≤◌, OnOk};
+ghost use Rattle.std.specs.Prelude.{◌≡◌, ◌≤◌, ◌+◌, OnOk};
 ghost use Rattle.kr_defs.specs.Image.{empty};
-ghost use Rattle.kr_image.specs.Timelines.{Agrees, keeps_of, made_of, no_keeps, present_image};
+ghost use Rattle.kr_image.specs.Timelines.{Agrees, covered_of, keeps_of, made_of, no_keeps, present_image, undone_of};
 ghost use Rattle.kr_image.specs.KeptImages.{AreAbove, AreKept, Forgets, HaveRoom, Marks, Reverts, Same};
 
 use crate::keeping::{forget_below, mark, revert};
@@ -73,6 +73,7 @@ impl Timelines {
         ensures back { Reverts self.old self.new epoch.now }
         ensures counts { self.new.counts ≡ counts }
         ensures counted { steps.old ≤ steps.new }
+        ensures bound { steps.new ≤ steps.old + undone_of (keeps_of self.old) epoch.now + made_of self.old + 6 }
     {
         revert(&mut self.brokers, epoch, steps);
         revert(&mut self.names, epoch, steps);
@@ -87,6 +88,7 @@ impl Timelines {
     pub fn forget_below<L: Ledger>(&mut self, epoch: &i64, steps: &mut Steps<L>)
         ensures left { Forgets self.old self.new epoch.now }
         ensures counted { steps.old ≤ steps.new }
+        ensures bound { steps.new ≤ steps.old + covered_of (keeps_of self.old) epoch.now + 6 }
     {
         forget_below(&mut self.brokers, epoch, steps);
         forget_below(&mut self.names, epoch, steps);

@@ -1,8 +1,8 @@
 //! One timeline's map is kept under an epoch, and goes back to one.
 
-ghost use Rattle.std.specs.Prelude.{◌≡◌, ◌≤◌, [], ◌∷◌, ◌++◌, IsTrue, IsSome, filter, not, int_lt};
+ghost use Rattle.std.specs.Prelude.{◌≡◌, ◌≤◌, ◌+◌, [], ◌∷◌, ◌++◌, IsTrue, IsSome, filter, not, int_lt};
 ghost use Rattle.kr_defs.specs.KeptMaps.{IsAbove, map_at, oldest_unmade};
-ghost use Rattle.kr_image.specs.Timelines.{map_in};
+ghost use Rattle.kr_image.specs.Timelines.{covered_in, map_in, undone_in};
 
 use kr_base::Steps;
 use kr_timeline::Timeline;
@@ -32,6 +32,7 @@ pub(crate) fn revert<K: Ord + Drop, V: Drop, L: Ledger>(
     ensures present { timeline.new.maps.present ≡ map_in timeline.old.maps.kept epoch.now }
     ensures made { timeline.new.maps.made ≡ 0 }
     ensures counted { steps.old ≤ steps.new }
+    ensures bound { steps.new ≤ steps.old + undone_in timeline.old.maps.kept epoch.now + timeline.old.maps.made + 1 }
 {
     timeline.revert(*epoch, steps).unwrap();
 }
@@ -47,6 +48,7 @@ pub(crate) fn forget_below<K: Ord + Drop, V: Drop, L: Ledger>(
     ensures present { timeline.new.maps.present ≡ timeline.old.maps.present }
     ensures made { timeline.new.maps.made ≡ timeline.old.maps.made }
     ensures counted { steps.old ≤ steps.new }
+    ensures bound { steps.new ≤ steps.old + covered_in timeline.old.maps.kept epoch.now + 1 }
 {
     timeline.forget_below(*epoch, steps);
 }

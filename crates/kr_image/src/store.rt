@@ -1,12 +1,13 @@
 //! The store: the timelines, and the epochs with their counts.
 
-ghost use Rattle.std.specs.Prelude.{◌≡◌, ◌↔◌, ◌+◌, ◌≤◌, None, Some, IsErr, IsSome, OnErr, OnOk};
+ghost use Rattle.std.specs.Prelude.{◌≡◌, ◌↔◌, ◌+◌, ◌≤◌, None, Some, IsErr, IsSome, OnErr, OnOk, filter, int_lt, length};
 ghost use Rattle.kr_defs.specs.declared.record.Item.TheVariants as items;
 ghost use Rattle.kr_defs.specs.Weight.{weight};
 ghost use Rattle.kr_store.specs.ItemAnswers.{Applies, Ticks};
 ghost use Rattle.kr_store.specs.Images.{IsAbove, forgotten, kept_at, last_image, last_kept, marked, no_images, reverted};
-ghost use Rattle.kr_image.specs.Timelines.{keeps_of, made_of, present_image};
+ghost use Rattle.kr_image.specs.Timelines.{covered_of, keeps_of, made_of, present_image, undone_of};
 ghost use Rattle.kr_image.specs.KeptImages.{IsKept, IsStore, images_of};
+ghost use Rattle.kr_image.specs.declared.kept_counts.KeptCounts.{KeptCounts as AnyCounts};
 
 use crate::kept_counts::{KeptCounts, counts_at, keep_from, keep_up_to, kept_under};
 use crate::looking::{find_at, next};
@@ -77,6 +78,7 @@ fn revert<L: Ledger>(
     ensures err { OnErr result ((timelines.new ≡ timelines.old) × (kept.new.items ≡ kept.old.items)) }
     ensures no_epoch { IsErr result ↔ (kept_at (images_of timelines.old kept.old.items) epoch.now ≡ None) }
     ensures counted { steps.old ≤ steps.new }
+    ensures bound { steps.new ≤ steps.old + undone_of (keeps_of timelines.old) epoch.now + made_of timelines.old + length (filter (λ (k : AnyCounts). int_lt epoch.now k.epoch) kept.old.items) + 6 }
 {
     let Some(counts) = counts_at(kept, epoch) else {
         return Err(NoEpoch);
@@ -97,6 +99,7 @@ fn forget_below<L: Ledger>(
     ensures store { IsStore timelines.new kept.new.items }
     ensures images { images_of timelines.new kept.new.items ≡ forgotten (images_of timelines.old kept.old.items) epoch.now }
     ensures counted { steps.old ≤ steps.new }
+    ensures bound { steps.new ≤ steps.old + covered_of (keeps_of timelines.old) epoch.now + length (filter (λ (k : AnyCounts). int_lt k.epoch epoch.now) kept.old.items) + 6 }
 {
     timelines.forget_below(epoch, steps);
     keep_from(kept, epoch, steps);

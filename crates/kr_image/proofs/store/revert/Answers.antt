@@ -2,6 +2,7 @@ use Rattle.std.proofs.Common.{refl, ap, arith, length, not, ℤ}
 use Rattle.std.specs.Prelude.{int_lt}
 use Rattle.std.specs.Option.{option_map}
 use Rattle.kr_defs.specs.Image.{Image}
+use Rattle.kr_timeline.proofs.Drops.{length_parts}
 use Rattle.kr_image.specs.Timelines.{keeps_of}
 use Rattle.kr_image.proofs.LastEpoch.{are_kept}
 use Rattle.kr_defs.proofs.Maps.{length-filter_le}
@@ -17,6 +18,9 @@ keep_up_to-requires g c = kept_rises (keeps_of c.args.timelines.now) c.args.kept
 
 pub returns-clause-counted : goal.returns-clause-counted
 returns-clause-counted g c = omega (arith, c.revert.ensures.counted, c.keep_up_to.ensures.counted, ap length c.keep_up_to.ensures.left, length-filter_le (λ (k : KeptCounts). not (int_lt c.args.epoch.now k.epoch)) c.args.kept.now.items)
+
+pub returns-clause-bound : goal.returns-clause-bound
+returns-clause-bound g c = omega (arith, c.revert.ensures.bound, c.keep_up_to.ensures.counted, ap length c.keep_up_to.ensures.left, length_parts (λ (k : KeptCounts). int_lt c.args.epoch.now k.epoch) c.args.kept.now.items)
 
 pub returns-in_default-clause-no_epoch : goal.returns-in_default-clause-no_epoch
 returns-in_default-clause-no_epoch g c =
