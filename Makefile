@@ -1,4 +1,4 @@
-# `make run` shows a session, and the image that it leaves, by an unproved build; `make build` makes the proved tool; `make test` is the gate; `make bench` measures.
+# `make run` shows a session, and the image that it leaves, by an unproved build; `make build` makes the proved tool; `make test` is the gate (.ci/run: the pages against the code, then all proofs, edits, tests and programs); `make bench` measures.
 # `make edits` tries the edits of edits/ (or those of some crates: make edits crates="kr_change kr_wire").
 .PHONY: run build test edits bench tools
 
@@ -33,4 +33,4 @@ edits: tools
 	@tools/edits $(crates)
 
 bench: tools
-	@cd crates/kr_bench && rt run -- time
+	@cd crates/test_bench && rt run -- time

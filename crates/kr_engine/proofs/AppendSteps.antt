@@ -1,8 +1,8 @@
 -- What a leader's records make of an engine.
-use Rattle.std.proofs.Common.{◌≡◌, ◌∙◌, sym, subst, ℕ, suc, ℤ, pos, Bool, true, false, cond, ◌+◌, ◌≤◌, List, [], ◌∷◌, ◌++◌, map, length, refl, ap, arith, All}
+use Rattle.std.proofs.Common.{◌≡◌, ◌∙◌, sym, subst, ℤ, pos, Bool, true, false, cond, ◌+◌, ◌≤◌, List, [], ◌∷◌, ◌++◌, map, length, refl, ap, arith, All}
 use Rattle.std.proofs.Math.IntN.{+ℤ_idr}
 use Rattle.std.proofs.lemmas.List.{append-nil, length-map}
-use Rattle.std.specs.Prelude.{◌+ℤ◌, ◌==◌, Option, None, Result, Ok, Err, filter, int_le, unsigned_abs, IsSome}
+use Rattle.std.specs.Prelude.{◌+ℤ◌, ◌==◌, Option, None, Result, Ok, filter, int_le, unsigned_abs, IsSome}
 use Rattle.std.specs.List.{list_all}
 use Rattle.kr_batch.specs.BatchBytes.{batch_bytes}
 use Rattle.kr_calls.specs.declared.events.Output.TheVariants as given
@@ -13,8 +13,6 @@ use Rattle.kr_defs.specs.declared.limits.TheConstants.{PLACES_END}
 use Rattle.kr_defs.specs.declared.record.Item.{Item}
 use Rattle.kr_defs.specs.declared.record.Item.TheVariants as items
 use Rattle.kr_defs.specs.declared.record.Record.{Record}
-use Rattle.kr_defs.specs.Apply.{apply, apply_record}
-use Rattle.kr_defs.specs.Guard.{and_then}
 use Rattle.kr_defs.specs.Heartbeats as hearing
 use Rattle.kr_defs.specs.Heartbeats.{Heartbeats}
 use Rattle.kr_defs.specs.Image.{Image}
@@ -22,27 +20,16 @@ use Rattle.kr_defs.specs.ImageLaws.{as_items}
 use Rattle.kr_defs.specs.Log.{Log, apply_all, image_at, tip}
 use Rattle.law_safety.specs.HearingLaws.{HearsOf}
 use Rattle.kr_store.specs.Images.{Images, marked}
-use Rattle.kr_engine.specs.declared.writes.Write.{Write}
-use Rattle.kr_engine.specs.Engine.{Core, IsEngine, Rise, writes_in_order, kept_image}
-use Rattle.kr_engine.specs.Entries.{item_entries}
-use Rattle.kr_engine.specs.Outputs.{is_open}
-use Rattle.kr_engine.specs.World.{State, World, image_of_tip, tip_of, with_records, log_with}
+use Rattle.kr_world.specs.declared.writes.Write.{Write}
+use Rattle.kr_world.specs.Engine.{Core, IsEngine, Rise, writes_in_order, kept_image}
+use Rattle.kr_world.specs.Entries.{item_entries}
+use Rattle.kr_world.specs.Outputs.{is_open}
+use Rattle.kr_world.specs.World.{State, World, image_of_tip, tip_of, with_records, log_with}
 use Rattle.kr_engine.specs.inner.Writing.{Writes, with_appended, batch_at, place_behind}
-use Rattle.kr_engine.proofs.LongerLogs.{kept_then, present_then, rise_more}
-use Rattle.kr_engine.proofs.LogEntries.{not_none}
-use Rattle.kr_engine.proofs.Logs.{tip_written}
-use Rattle.kr_engine.proofs.Queues.{never}
-
--- records as items
-
-pub as_records : (image : Image) (records : List Record) → apply_all image (as_items records) ≡ apply_records image records
-unfolding apply
-as_records image [] = refl
-as_records image (r ∷ records) =
-    elim (apply_record image r) as (λ (q : Result Image Ill). and_then q (λ after. apply_all after (as_items records)) ≡ and_then q (λ after. apply_records after records)) [
-      | Ok after ↦ as_records after records
-      | Err cause ↦ refl
-    ]
+use Rattle.kr_world.proofs.LongerLogs.{kept_then, present_then, rise_more}
+use Rattle.kr_world.proofs.LogEntries.{not_none}
+use Rattle.kr_world.proofs.Logs.{tip_written, as_records}
+use Rattle.kr_world.proofs.Queues.{never}
 
 -- ---- the engine
 

@@ -26,27 +26,29 @@ use Rattle.kr_defs.proofs.IdLists.{same_id}
 use Rattle.kr_defs.proofs.Tests.{none_is, not_false, some_is}
 use Rattle.kr_snapshot.specs.ReaderState.{kept_once}
 use Rattle.kr_store.specs.Images.{Images, IsAbove, forgotten, last_image, marked}
-use Rattle.kr_engine.specs.declared.writes.Write.{Write}
-use Rattle.kr_engine.specs.Engine as engines
-use Rattle.kr_engine.specs.Engine.{Core, IsEngine, IsState, IsStep, Rise, adding, kept_image, left, refused}
-use Rattle.kr_engine.specs.Entries.{item_entries}
-use Rattle.kr_engine.specs.Events.{counted, next_number, outcome, timed}
-use Rattle.kr_engine.specs.Outputs.{answers, is_open_in}
-use Rattle.kr_engine.specs.Reasons.{already_leading, bad_batch, exhausted, gap, ill_formed}
+use Rattle.kr_world.specs.declared.writes.Write.{Write}
+use Rattle.kr_engine.specs.inner.Changes as engines
+use Rattle.kr_world.specs.Engine.{Core, IsEngine, IsState, IsStep, Rise, kept_image, left}
+use Rattle.kr_engine.specs.inner.Changes.{adding, refused}
+use Rattle.kr_world.specs.Entries.{item_entries}
+use Rattle.kr_world.specs.Events.{counted, next_number, outcome, timed}
+use Rattle.kr_world.specs.Outputs.{answers, is_open_in}
+use Rattle.kr_world.specs.Reasons.{already_leading, bad_batch, exhausted, gap, ill_formed}
 use Rattle.kr_engine.specs.inner.Ready.{IsReady}
-use Rattle.kr_engine.specs.Replicas as replicas
-use Rattle.kr_engine.specs.Replicas.{batch_or, end_of, follow, follow_batch, unless_ill}
+use Rattle.kr_world.specs.Replicas as replicas
+use Rattle.kr_world.specs.Replicas.{batch_or, end_of, follow, follow_batch, unless_ill}
 use Rattle.kr_engine.specs.inner.Standby.{Follows, Settles, follow_reason, followed, followed_by, items_reason, moved_to, read_batch_reason}
-use Rattle.kr_engine.specs.World.{State, image_of_tip, is_far, seen_at, tip_of, log_with}
-use Rattle.kr_engine.proofs.NewLeaderships.{near, no_writes, none_row}
-use Rattle.kr_engine.proofs.LongerLogs.{present_then, seen_then}
-use Rattle.kr_engine.proofs.LogEntries.{behind}
-use Rattle.kr_engine.proofs.Logs.{tip_written}
-use Rattle.kr_engine.proofs.Queues.{IsDrained, drained, never}
-use Rattle.kr_engine.proofs.ReadyEngines.{same_image, tip_only}
+use Rattle.kr_world.specs.World.{State, image_of_tip, is_far, seen_at, tip_of, log_with}
+use Rattle.kr_world.proofs.Places.{near}
+use Rattle.kr_engine.proofs.NewLeaderships.{no_writes, none_row}
+use Rattle.kr_world.proofs.LongerLogs.{present_then, seen_then}
+use Rattle.kr_world.proofs.LogEntries.{behind}
+use Rattle.kr_world.proofs.Logs.{tip_written}
+use Rattle.kr_world.proofs.Queues.{IsDrained, drained, never}
+use Rattle.kr_world.proofs.StandingEngines.{same_image, tip_only, core_of, is_core}
 use Rattle.kr_engine.proofs.StandbyOutcomes.{settled_step}
-use Rattle.kr_engine.proofs.EventsWithoutWrites.{answers_then, waits_then}
-use Rattle.kr_engine.proofs.FirstReasons.{IsAccepted, core_of, is_core, row, unless_refused}
+use Rattle.kr_world.proofs.EventsWithoutWrites.{answers_then, waits_then}
+use Rattle.kr_engine.proofs.FirstReasons.{IsAccepted, row, unless_refused}
 
 -- ---- one image is kept
 

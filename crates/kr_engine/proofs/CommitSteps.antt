@@ -6,23 +6,24 @@ use Rattle.kr_calls.specs.declared.events.Reason.{Reason}
 use Rattle.kr_calls.specs.declared.events.Event.TheVariants as events
 use Rattle.kr_defs.specs.Image.{Image}
 use Rattle.kr_store.specs.Images.{forgotten, kept_at}
-use Rattle.kr_engine.specs.declared.writes.Write.{Write}
-use Rattle.kr_engine.specs.Commits as commits
-use Rattle.kr_engine.specs.Commits.{commit, is_end}
-use Rattle.kr_engine.specs.Engine as engines
-use Rattle.kr_engine.specs.Engine.{Core, IsEngine, IsState, IsStep, commit_reason, committed_to, kept_image, left, refused_or}
-use Rattle.kr_engine.specs.Entries.{item_entries}
-use Rattle.kr_engine.specs.Events.{counted, next_number}
-use Rattle.kr_engine.specs.Leaderships.{leads_in}
-use Rattle.kr_engine.specs.Outputs.{answers, answers_in, is_open_in}
-use Rattle.kr_engine.specs.Reasons.{bad_commit, not_leading}
-use Rattle.kr_engine.specs.World.{State, tip_of}
-use Rattle.kr_engine.proofs.EventOutcomes.{entries_accepted, outputs_accepted, refuses, stands_accepted}
-use Rattle.kr_engine.proofs.LogEntries.{none_behind}
-use Rattle.kr_engine.proofs.Places.{Moves, is_kept, moves}
-use Rattle.kr_engine.proofs.Queues.{IsDrained, drained}
+use Rattle.kr_world.specs.declared.writes.Write.{Write}
+use Rattle.kr_world.specs.Commits as commits
+use Rattle.kr_world.specs.Commits.{commit, is_end}
+use Rattle.kr_engine.specs.inner.Changes as engines
+use Rattle.kr_world.specs.Engine.{Core, IsEngine, IsState, IsStep, left}
+use Rattle.kr_engine.specs.inner.Changes.{commit_reason, committed_to, refused_or}
+use Rattle.kr_world.specs.Entries.{item_entries}
+use Rattle.kr_world.specs.Events.{counted, next_number}
+use Rattle.kr_world.specs.Leaderships.{leads_in}
+use Rattle.kr_world.specs.Outputs.{answers, answers_in, is_open_in}
+use Rattle.kr_world.specs.Reasons.{bad_commit, not_leading}
+use Rattle.kr_world.specs.World.{State, tip_of}
+use Rattle.kr_world.proofs.EventOutcomes.{entries_accepted, outputs_accepted, refuses, stands_accepted}
+use Rattle.kr_world.proofs.LogEntries.{none_behind}
+use Rattle.kr_world.proofs.Places.{Moves, is_kept, moves}
+use Rattle.kr_world.proofs.Queues.{IsDrained, drained}
 use Rattle.kr_engine.proofs.Refusals.{refused_step}
-use Rattle.kr_engine.proofs.EventsWithoutWrites.{answers_then, fewer_wait, waits_then}
+use Rattle.kr_world.proofs.EventsWithoutWrites.{answers_then, fewer_wait, waits_then}
 
 -- ---- the tests say the same of the engine and of the world
 

@@ -1,17 +1,12 @@
 -- What it makes of an engine that a broker is fenced.
-use Rattle.std.proofs.Common.{◌≡◌, ◌∙◌, sym, subst, ℕ, ℤ, pos, negsuc, Bool, true, false, cond, ◌+◌, ◌*◌, ◌≤◌, List, [], ◌∷◌, ◌++◌, length, refl, ap, arith, All, not}
-use Rattle.std.proofs.lemmas.Bool.{and_from}
+use Rattle.std.proofs.Common.{◌≡◌, ◌∙◌, sym, subst, ℕ, ℤ, pos, Bool, true, false, ◌+◌, ◌*◌, ◌≤◌, List, [], ◌∷◌, ◌++◌, length, refl, ap, arith, not}
 use Rattle.std.proofs.lemmas.List.{append_assoc, append-nil}
-use Rattle.std.proofs.lemmas.List.Elements.{All-from_recursion, recursion_from_All}
-use Rattle.std.proofs.lemmas.Bool.Decides.{nat_tests}
 use Rattle.std.specs.Prelude.{Option, Some, None, Ok, filter, int_le, unsigned_abs, IsSome, ◌&&◌, ◌+ℤ◌}
-use Rattle.std.specs.List.{AllByRecursion, list_all}
 use Rattle.std.specs.Option.{option_map_or}
 use Rattle.std.specs.Ordering.{int_cmp, int_eq}
 use Rattle.kr_calls.specs.Deciding.{apply_records}
 use Rattle.kr_calls.specs.TakingOut.{fencing}
 use Rattle.kr_defs.specs.declared.basis.Basis.{Basis}
-use Rattle.kr_defs.specs.declared.basis.Contact.{Contact}
 use Rattle.kr_defs.specs.declared.broker.Broker.{Broker}
 use Rattle.kr_defs.specs.declared.limits.TheConstants.{PLACES_END}
 use Rattle.kr_defs.specs.declared.record.Record.{Record}
@@ -24,34 +19,24 @@ use Rattle.kr_defs.specs.ImageLaws.{as_items}
 use Rattle.kr_defs.specs.Map as entries
 use Rattle.kr_defs.proofs.HeartbeatLists.{leaves}
 use Rattle.kr_defs.proofs.IdLists.{same_id}
-use Rattle.kr_defs.proofs.Tests.{both}
 use Rattle.law_safety.specs.HearingLaws.{HearsOf}
 use Rattle.law_safety.proofs.BrokerTests.{by_get, passing}
 use Rattle.law_safety.proofs.HearingRequests.{fencings_keep_hearing}
 use Rattle.law_safety.proofs.SafeRequests.{valid_after}
-use Rattle.kr_engine.specs.declared.writes.Write.{Write}
-use Rattle.kr_engine.specs.Engine.{Core, IsEngine, writes_in_order}
-use Rattle.kr_engine.specs.Entries.{item_entries}
-use Rattle.kr_engine.specs.Outputs.{append, append_fencings, is_open}
+use Rattle.kr_world.specs.declared.writes.Write.{Write}
+use Rattle.kr_world.specs.Engine.{Core, IsEngine, writes_in_order}
+use Rattle.kr_world.specs.Entries.{item_entries}
+use Rattle.kr_world.specs.Outputs.{append, append_fencings, is_open}
 use Rattle.kr_engine.specs.inner.Ticking.{FencesAll}
-use Rattle.kr_engine.specs.Ticks.{fence, fence_all, fencing_of}
-use Rattle.kr_engine.specs.World as worlds
-use Rattle.kr_engine.specs.World.{State, image_of_tip, tip_of}
+use Rattle.kr_world.specs.Ticks.{fence, fence_all, fencing_of}
+use Rattle.kr_world.specs.World as worlds
+use Rattle.kr_world.specs.World.{State, image_of_tip, tip_of}
 use Rattle.kr_engine.specs.inner.Writing.{Fences, append_output}
-use Rattle.kr_engine.proofs.ReadyEngines.{same_image}
-use Rattle.kr_engine.proofs.FirstReasons.{is_core}
+use Rattle.kr_world.proofs.StandingEngines.{same_image, is_core}
 use Rattle.kr_engine.proofs.AppendSteps.{engine_behind, ok_is}
-use Rattle.kr_engine.proofs.LogEntries.{Gains, batch_written, gains_none, gains_then}
-
--- who is left was heard of in time
-pub left_in_time : (p q : Contact → Bool) (contacts : List Contact) → list_all p contacts ≡ true → list_all p (filter q contacts) ≡ true
-left_in_time p q [] all = refl
-left_in_time p q (c ∷ contacts) all =
-    let parts = both (p c) (list_all p contacts) all in
-    elim (q c) as (λ b. list_all p (cond b (c ∷ filter q contacts) (filter q contacts)) ≡ true) [
-      | true ↦ and_from (p c) (list_all p (filter q contacts)) parts.0 (left_in_time p q contacts parts.1)
-      | false ↦ left_in_time p q contacts parts.1
-    ]
+use Rattle.kr_world.proofs.LogEntries.{Gains, batch_written, gains_none, gains_then}
+use Rattle.kr_world.proofs.ContactTimes.{left_in_time}
+use Rattle.kr_world.proofs.WriteOrders.{reached_later}
 
 -- ---- whom an engine hears of then
 
@@ -83,17 +68,6 @@ hears_by minimum h image after k None valid absent hears is = subst (HearsOf (le
 hears_by minimum h image after k (Some state) valid there hears is = fencings_keep_hearing minimum h image after k state valid there hears is
 
 -- ---- one broker
-
-pub reached_later : (m n : ℕ) (writes : List Write) → m ≤ n → All (λ write. int_le write.need (pos m) ≡ true) writes → All (λ write. int_le write.need (pos n) ≡ true) writes
-reached_later m n writes le all = All-from_recursion (λ write. int_le write.need (pos n) ≡ true) writes (each writes (recursion_from_All (λ write. int_le write.need (pos m) ≡ true) writes all))
-  where
-    le_more : (a : ℤ) → int_le a (pos m) ≡ true → int_le a (pos n) ≡ true
-    le_more (pos a) h = grind (arith, nat_tests)
-    le_more (negsuc a) h = refl
-
-    each : (writes : List Write) → AllByRecursion (λ (write : Write). int_le write.need (pos m) ≡ true) writes → AllByRecursion (λ (write : Write). int_le write.need (pos n) ≡ true) writes
-    each [] all = tt
-    each (write ∷ writes) all = (le_more write.need all.0, each writes all.1)
 
 -- what stays of an engine whose broker was fenced
 pub record Stays (e after : Core) : Type 0 where

@@ -24,23 +24,24 @@ use Rattle.law_fitting.proofs.FittingRecords.{records_fit}
 use Rattle.law_safety.proofs.FencingSizes.{fencings_fit}
 use Rattle.law_safety.specs.HearingLaws.{HearsOf}
 use Rattle.kr_store.specs.Images.{AreValid, IsAbove, marked}
-use Rattle.kr_engine.specs.declared.writes.Write.{Write}
-use Rattle.kr_engine.specs.Engine as engines
-use Rattle.kr_engine.specs.Engine.{Core, IsEngine, IsSound, IsStep, left}
-use Rattle.kr_engine.specs.Entries.{item_entries}
-use Rattle.kr_engine.specs.Events.{timed}
+use Rattle.kr_world.specs.declared.writes.Write.{Write}
+use Rattle.kr_engine.specs.inner.Changes as engines
+use Rattle.kr_world.specs.Engine.{Core, IsEngine, IsSound, IsStep, left}
+use Rattle.kr_world.specs.Entries.{item_entries}
+use Rattle.kr_world.specs.Events.{timed}
 use Rattle.kr_engine.specs.inner.Ready.{IsReady}
-use Rattle.kr_engine.specs.Reasons.{exhausted}
+use Rattle.kr_world.specs.Reasons.{exhausted}
 use Rattle.kr_engine.specs.inner.Ticking.{CanFence, CanFenceAll, FencesAll, SettlesTick, lapsed_in, tick_reason}
-use Rattle.kr_engine.specs.Ticks as worlds
-use Rattle.kr_engine.specs.Ticks.{fencing_of}
-use Rattle.kr_engine.specs.World.{State, is_far, tip_of}
+use Rattle.kr_world.specs.Ticks as worlds
+use Rattle.kr_world.specs.Ticks.{fencing_of}
+use Rattle.kr_world.specs.World.{State, is_far, tip_of}
 use Rattle.kr_engine.specs.inner.Writing.{Fences, Writes, with_appended, batch_at, place_behind}
 use Rattle.kr_engine.proofs.NewLeaderships.{none_row}
 use Rattle.kr_engine.proofs.FencingSteps.{fence_stands, fence_stays}
 use Rattle.kr_engine.proofs.ReadyEngines as engines_ready
-use Rattle.kr_engine.proofs.ReadyEngines.{same_image}
-use Rattle.kr_engine.proofs.TickSteps.{few_lapsed, near_enough, tick_step, timed_engine}
+use Rattle.kr_world.proofs.StandingEngines.{same_image}
+use Rattle.kr_engine.proofs.TickSteps.{few_lapsed, tick_step, timed_engine}
+use Rattle.kr_world.proofs.Places.{near_enough}
 use Rattle.kr_engine.proofs.AppendSteps.{writes_by}
 
 -- ---- one

@@ -18,8 +18,9 @@ use Rattle.kr_defs.proofs.IdLists.{all_from, id_itself, same_id}
 use Rattle.kr_defs.proofs.Tests.{none_is, not_false}
 use Rattle.law_safety.proofs.BrokerTests.{Brokers, by_get, passing}
 use Rattle.kr_store.specs.Images.{AreValid, Images, IsAbove}
-use Rattle.kr_engine.specs.Engine.{Core, lead_reason}
-use Rattle.kr_engine.specs.Reasons.{already_leading, bad_next, old_epoch}
+use Rattle.kr_world.specs.Engine.{Core}
+use Rattle.kr_engine.specs.inner.Changes.{lead_reason}
+use Rattle.kr_world.specs.Reasons.{already_leading, bad_next, old_epoch}
 use Rattle.kr_engine.specs.inner.Ready.{IsReady}
 use Rattle.kr_engine.proofs.NewLeaderships.{none_row}
 

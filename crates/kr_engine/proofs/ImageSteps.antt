@@ -7,18 +7,18 @@ use Rattle.kr_calls.specs.declared.events.Output.TheVariants as given
 use Rattle.kr_defs.specs.Image.{Image, empty}
 use Rattle.kr_snapshot.specs.ImageText.{image_text}
 use Rattle.kr_store.specs.Images.{kept_at}
-use Rattle.kr_engine.specs.declared.writes.Write.{Write}
-use Rattle.kr_engine.specs.Engine as engines
-use Rattle.kr_engine.specs.Engine.{Core, IsEngine, IsStep, imaged, kept_image, left}
-use Rattle.kr_engine.specs.Entries.{item_entries}
-use Rattle.kr_engine.specs.Outputs.{answers, answers_in}
-use Rattle.kr_engine.specs.World.{State, image_of_end, tip_of}
-use Rattle.kr_engine.proofs.EventOutcomes.{outputs_accepted, stands_accepted}
-use Rattle.kr_engine.proofs.LogEntries.{none_behind}
-use Rattle.kr_engine.proofs.LossSteps.{first_found}
-use Rattle.kr_engine.proofs.Queues.{IsDrained, drained}
-use Rattle.kr_engine.proofs.Refusals.{passes}
-use Rattle.kr_engine.proofs.EventsWithoutWrites.{answers_then}
+use Rattle.kr_world.specs.declared.writes.Write.{Write}
+use Rattle.kr_engine.specs.inner.Changes as engines
+use Rattle.kr_world.specs.Engine.{Core, IsEngine, IsStep, kept_image, left}
+use Rattle.kr_engine.specs.inner.Changes.{imaged}
+use Rattle.kr_world.specs.Entries.{item_entries}
+use Rattle.kr_world.specs.Outputs.{answers, answers_in}
+use Rattle.kr_world.specs.World.{State, image_of_end, tip_of}
+use Rattle.kr_world.proofs.EventOutcomes.{outputs_accepted, stands_accepted}
+use Rattle.kr_world.proofs.LogEntries.{none_behind}
+use Rattle.kr_world.proofs.KeptImages.{first_found}
+use Rattle.kr_world.proofs.Queues.{IsDrained, drained}
+use Rattle.kr_world.proofs.EventsWithoutWrites.{passes, answers_then}
 
 module _ (e : Core) (d : IsDrained e) where
   abbrev after : Core

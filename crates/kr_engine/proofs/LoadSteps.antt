@@ -14,21 +14,23 @@ use Rattle.kr_defs.specs.Records.{records_of}
 use Rattle.kr_defs.proofs.Tests.{none_is}
 use Rattle.kr_snapshot.specs.declared.fault.ImageFault.{ImageFault}
 use Rattle.kr_snapshot.specs.Reading.{image_of}
-use Rattle.kr_engine.specs.declared.writes.Write.{Write}
-use Rattle.kr_engine.specs.Engine as engines
-use Rattle.kr_engine.specs.Engine.{Core, IsEngine, IsState, IsStep, Rise, kept_image, left}
-use Rattle.kr_engine.specs.Events.{counted, next_number, outcome, timed}
-use Rattle.kr_engine.specs.Outputs.{answers, is_open_in}
-use Rattle.kr_engine.specs.Reasons.{already_leading, exhausted, older_image}
-use Rattle.kr_engine.specs.Replicas.{image_or, load, load_image, loaded}
+use Rattle.kr_world.specs.declared.writes.Write.{Write}
+use Rattle.kr_engine.specs.inner.Changes as engines
+use Rattle.kr_world.specs.Engine.{Core, IsEngine, IsState, IsStep, left}
+use Rattle.kr_world.specs.Events.{counted, next_number, outcome, timed}
+use Rattle.kr_world.specs.Outputs.{answers, is_open_in}
+use Rattle.kr_world.specs.Reasons.{already_leading, exhausted, older_image}
+use Rattle.kr_world.specs.Replicas.{image_or, load, load_image, loaded}
 use Rattle.kr_engine.specs.inner.Standby.{Settles, load_reason, loaded_by, moved_to, read_image_reason}
-use Rattle.kr_engine.specs.World.{State, is_far, seen_at}
-use Rattle.kr_engine.proofs.NewLeaderships.{near, no_writes, none_row}
+use Rattle.kr_world.specs.World.{State, is_far, seen_at}
+use Rattle.kr_world.proofs.Places.{near}
+use Rattle.kr_engine.proofs.NewLeaderships.{no_writes, none_row}
 use Rattle.kr_engine.proofs.BatchSteps.{leads_not}
-use Rattle.kr_engine.proofs.Queues.{IsDrained, drained}
+use Rattle.kr_world.proofs.Queues.{IsDrained, drained}
 use Rattle.kr_engine.proofs.StandbyOutcomes.{settled_step}
-use Rattle.kr_engine.proofs.EventsWithoutWrites.{answers_then, waits_then}
-use Rattle.kr_engine.proofs.FirstReasons.{IsAccepted, core_of, is_core, row, unless_refused}
+use Rattle.kr_world.proofs.EventsWithoutWrites.{answers_then, waits_then}
+use Rattle.kr_engine.proofs.FirstReasons.{IsAccepted, row, unless_refused}
+use Rattle.kr_world.proofs.StandingEngines.{core_of, is_core}
 
 is_natural : (z : ℤ) (n : ℕ) → int_lt z (pos n) ≡ false → z ≡ pos (unsigned_abs z)
 is_natural (pos m) n test = refl

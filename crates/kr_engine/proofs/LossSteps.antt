@@ -1,6 +1,5 @@
 -- What a lost leadership makes of an engine.
-use Rattle.std.proofs.Common.{◌≡◌, ◌∙◌, sym, subst, ℕ, ℤ, pos, Bool, true, false, cond, ◌≤◌, ◌-◌, List, [], ◌∷◌, ◌++◌, take, drop, map, refl, ap, arith}
-use Rattle.std.proofs.lemmas.List.{take-append-drop}
+use Rattle.std.proofs.Common.{◌≡◌, ◌∙◌, sym, subst, ℕ, ℤ, pos, Bool, true, false, cond, ◌≤◌, ◌-◌, List, [], ◌∷◌, ◌++◌, map, refl, ap, arith}
 use Rattle.std.proofs.lemmas.List.Elements.{All-nil}
 use Rattle.std.specs.Prelude.{Option, Some, None, Result, Ok, Err, not, filter, find, int_lt, unwrap_or, option_to_list, int_le, All}
 use Rattle.std.specs.Option.{option_map}
@@ -10,49 +9,29 @@ use Rattle.kr_calls.specs.declared.events.Event.{Event}
 use Rattle.kr_calls.specs.declared.events.Reason.{Reason}
 use Rattle.kr_calls.specs.declared.events.Event.TheVariants as events
 use Rattle.kr_defs.specs.declared.ill.Ill.{Ill}
-use Rattle.kr_defs.specs.Guard.{and_then}
 use Rattle.kr_defs.specs.Image.{Image, empty}
-use Rattle.kr_defs.specs.Log.{Log, apply_all, image_at, tip}
-use Rattle.kr_defs.proofs.IdLists.{id_itself}
+use Rattle.kr_defs.specs.Log.{image_at, tip}
 use Rattle.kr_store.specs.Images.{Images, reverted}
-use Rattle.kr_engine.specs.declared.writes.Write.{Write}
-use Rattle.kr_engine.specs.Engine as engines
-use Rattle.kr_engine.specs.Engine.{Core, IsEngine, IsState, IsStep, Rise, kept_image, left, loss_reason, refused_or}
-use Rattle.kr_engine.specs.Entries.{item_entries}
-use Rattle.kr_engine.specs.Events.{counted, next_number}
-use Rattle.kr_engine.specs.Leaderships.{cut, ended, leads_in, lose}
-use Rattle.kr_engine.specs.Outputs.{answers, answers_in, is_open, is_open_in}
-use Rattle.kr_engine.specs.Reasons.{not_leading}
-use Rattle.kr_engine.specs.World.{State, seen_at, tip_of}
+use Rattle.kr_world.specs.declared.writes.Write.{Write}
+use Rattle.kr_engine.specs.inner.Changes as engines
+use Rattle.kr_world.specs.Engine.{Core, IsEngine, IsState, IsStep, kept_image, left}
+use Rattle.kr_engine.specs.inner.Changes.{loss_reason, refused_or}
+use Rattle.kr_world.specs.Entries.{item_entries}
+use Rattle.kr_world.specs.Events.{counted, next_number}
+use Rattle.kr_world.specs.Leaderships.{cut, ended, leads_in, lose}
+use Rattle.kr_world.specs.Outputs.{answers, answers_in, is_open_in}
+use Rattle.kr_world.specs.Reasons.{not_leading}
+use Rattle.kr_world.specs.World.{State, seen_at, tip_of}
 use Rattle.kr_engine.proofs.CommitSteps.{same_leading}
-use Rattle.kr_engine.proofs.EventOutcomes.{entries_accepted, outputs_accepted, refuses, stands_accepted}
-use Rattle.kr_engine.proofs.LogEntries.{cut_behind}
-use Rattle.kr_engine.proofs.Logs.{apply_append, at_tip, cut_below, cut_tip}
-use Rattle.kr_engine.proofs.Places.{is_below, isnt_below}
-use Rattle.kr_engine.proofs.Queues.{IsDrained, drained, never}
+use Rattle.kr_world.proofs.EventOutcomes.{entries_accepted, outputs_accepted, refuses, stands_accepted}
+use Rattle.kr_world.proofs.LogEntries.{cut_behind}
+use Rattle.kr_world.proofs.Logs.{cut_below, cut_tip}
+use Rattle.kr_world.proofs.Queues.{IsDrained, drained, never}
 use Rattle.kr_engine.proofs.Refusals.{refused_step}
-use Rattle.kr_engine.proofs.EventsWithoutWrites.{answers_then, waits_then}
+use Rattle.kr_world.proofs.EventsWithoutWrites.{answers_then, waits_then}
+use Rattle.kr_world.proofs.KeptImages.{first_found, first_left, none_open, not_higher, seen_below, under}
 
--- ---- the image at the end
-
-seen_first : (r : Result Image Ill) (next : Image → Result Image Ill) (after : Image) → and_then r next ≡ Ok after → r ≡ Ok (result_unwrap_or r empty)
-seen_first (Ok image) next after is = refl
-seen_first (Err cause) next after is = absurd cc
-
--- each place below the tip has an image
-pub seen_below : (log : Log) (place : ℕ) (image : Image) → image_at log (tip log) ≡ Ok image → image_at log place ≡ Ok (seen_at log place)
-unfolding image_at
-seen_below log place image is =
-    let n = place - log.offset in
-    seen_first (apply_all log.image (take n log.items)) (λ i. apply_all i (drop n log.items)) image
-    (sym (apply_append (take n log.items) (drop n log.items) log.image)
-    ∙ (ap (apply_all log.image) (take-append-drop n log.items) ∙ (sym (at_tip log) ∙ is)))
-
--- ---- what is kept
-
--- an image under a place
-abbrev pub under : ℕ → Image → ℤ × Image
-under place image = (pos place, image)
+-- ---- the step
 
 -- the images after a revert
 abbrev gone_back : List (ℤ × Image) → Image → Images
@@ -60,39 +39,6 @@ gone_back kept image = record { kept = kept; tip = image; made = 0 }
 
 abbrev tip_in : Images → Result Image Ill
 tip_in images = Ok images.tip
-
-pub not_higher : (from : ℕ) (ns : List ℕ) (to : ℕ) → Rise from ns to → from ≤ to
-not_higher from [] to rise = omega (arith, rise)
-not_higher from (n ∷ ns) to rise = let up = rise.0 in let rest = not_higher n ns to rise.1 in omega (arith, up, rest)
-
-none_left : (log : Log) (least from : ℕ) (ns : List ℕ) (to : ℕ) → least ≤ from → Rise from ns to
-    → filter (λ (k : ℤ × Image). not (int_lt (pos least) k.0)) (map (kept_image log) ns) ≡ []
-none_left log least from [] to low rise = refl
-none_left log least from (n ∷ ns) to low rise =
-    let rest = filter (λ (k : ℤ × Image). not (int_lt (pos least) k.0)) (map (kept_image log) ns) in
-    ap (λ b. cond (not b) (kept_image log n ∷ rest) rest) (is_below least n (let up = rise.0 in omega (arith, up, low)))
-    ∙ none_left log least n ns to (let up = rise.0 in omega (arith, up, low)) rise.1
-
-isnt_itself : (n : ℕ) → int_lt (pos n) (pos n) ≡ false
-isnt_itself n = isnt_below n n (omega arith)
-
--- the images above the end are dropped
-pub first_left : (log : Log) (from : ℕ) (ns : List ℕ) (to : ℕ) → Rise from ns to
-    → filter (λ (k : ℤ × Image). not (int_lt (pos from) k.0)) (map (kept_image log) (from ∷ ns)) ≡ kept_image log from ∷ []
-first_left log from ns to rise =
-    let rest = filter (λ (k : ℤ × Image). not (int_lt (pos from) k.0)) (map (kept_image log) ns) in
-    ap (λ b. cond (not b) (kept_image log from ∷ rest) rest) (isnt_itself from)
-    ∙ ap (λ rest. kept_image log from ∷ rest) (none_left log from from ns to (omega arith) rise)
-
--- and that of the end is found
-pub first_found : (log : Log) (from : ℕ) (rest : Option (ℤ × Image)) → option_map (λ (k : ℤ × Image). k.1) (cond (int_eq (pos from) (pos from)) (Some (kept_image log from)) rest) ≡ Some (seen_at log from)
-first_found log from rest = ap (λ b. option_map (λ (k : ℤ × Image). k.1) (cond b (Some (kept_image log from)) rest)) (id_itself (pos from))
-
-pub none_open : (end : ℤ) (writes : List Write) → filter (is_open None end) writes ≡ []
-none_open end [] = refl
-none_open end (write ∷ writes) = none_open end writes
-
--- ---- the step
 
 module _ (e : Core) (epoch : ℤ) (d : IsDrained e) where
   abbrev event : Event

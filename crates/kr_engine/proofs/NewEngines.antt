@@ -1,24 +1,12 @@
 -- An engine to which nothing has happened.
-use Rattle.std.proofs.Common.{◌≡◌, sym, subst, pos, [], refl, ap, arith}
-use Rattle.std.proofs.lemmas.List.Elements.{All-nil}
-use Rattle.std.specs.Prelude.{int_le, true, IfOk, Result, Ok, Err}
+use Rattle.std.proofs.Common.{◌≡◌, sym, subst, [], refl, ap}
+use Rattle.std.specs.Prelude.{IfOk, Result, Ok, Err}
 use Rattle.kr_defs.specs.declared.options.Options.{Options}
 use Rattle.kr_defs.specs.Log.{image_at}
-use Rattle.kr_engine.specs.Engine.{Core, IsEngine, IsState, left, opened}
-use Rattle.kr_engine.specs.World.{start, tip_of}
-use Rattle.kr_engine.proofs.Queues.{never}
-
-start_state : IsState start []
-start_state = record {
-  started = omega arith;
-  ends = refl;
-  low = omega arith;
-  at_standby = λ none. (refl, refl);
-  hears = λ some. absurd (never some);
-  in_time = refl;
-  natural = refl;
-  reached = All-nil (λ write. int_le write.need (pos (tip_of start)) ≡ true);
-}
+use Rattle.kr_world.specs.Engine.{Core, IsEngine, left}
+use Rattle.kr_engine.specs.inner.Changes.{opened}
+use Rattle.kr_world.specs.World.{start}
+use Rattle.kr_world.proofs.StandingEngines.{start_state}
 
 at_first : (options : Options) → IsEngine (opened options) start []
 unfolding image_at

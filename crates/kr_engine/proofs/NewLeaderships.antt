@@ -1,6 +1,5 @@
 -- What the beginning of a leadership makes of an engine.
-use Rattle.std.proofs.Common.{◌≡◌, ◌∙◌, sym, subst, ℕ, ℤ, pos, Bool, true, false, cond, ◌+◌, ◌≤◌, List, [], ◌∷◌, ◌++◌, map, refl, ap, arith}
-use Rattle.std.proofs.lemmas.Bool.Decides.{nat_tests}
+use Rattle.std.proofs.Common.{◌≡◌, ◌∙◌, sym, subst, ℤ, pos, Bool, true, false, cond, ◌+◌, ◌≤◌, List, [], ◌∷◌, ◌++◌, map, refl, ap, arith}
 use Rattle.std.proofs.lemmas.List.Elements.{All-nil}
 use Rattle.std.specs.Prelude.{◌+ℤ◌, Option, Some, None, Ok, not, ◌||◌, filter, int_lt, int_le, is_some, option_to_list, unsigned_abs, All}
 use Rattle.std.specs.Int.{int_max}
@@ -19,32 +18,31 @@ use Rattle.kr_defs.proofs.Tests.{none_is, not_false}
 use Rattle.law_safety.specs.HearingLaws.{HearsOf}
 use Rattle.law_safety.proofs.HearingRequests.{leaders_begin_hearing}
 use Rattle.kr_store.specs.Images.{marked}
-use Rattle.kr_engine.specs.declared.writes.Write.{Write}
-use Rattle.kr_engine.specs.Engine as engines
-use Rattle.kr_engine.specs.Engine.{Core, IsEngine, IsState, IsStep, Rise, kept_image, lead_reason, left, refused_or}
-use Rattle.kr_engine.specs.Entries.{item_entries}
-use Rattle.kr_engine.specs.Events.{counted, next_number, outcome, timed}
-use Rattle.kr_engine.specs.Leaderships.{begun, lead, may_begin_at}
-use Rattle.kr_engine.specs.Outputs.{answers, answers_in, is_open, is_open_in}
-use Rattle.kr_engine.specs.Reasons.{already_leading, bad_next, exhausted, old_epoch}
-use Rattle.kr_engine.specs.World as worlds
-use Rattle.kr_engine.specs.World.{State, World, image_of_tip, is_far, seen_at, tip_of, with_batch, log_with}
-use Rattle.kr_engine.proofs.LongerLogs.{kept_then, rise_more, seen_then}
-use Rattle.kr_engine.proofs.LeadSteps.{begun_now, control_at_tip}
-use Rattle.kr_engine.proofs.LogEntries.{behind, none_behind}
-use Rattle.kr_engine.proofs.Logs.{tip_written}
-use Rattle.kr_engine.proofs.LossSteps.{none_open}
-use Rattle.kr_engine.proofs.Queues.{IsDrained, drained}
-use Rattle.kr_engine.proofs.ReadyEngines.{same_image, tip_only}
-use Rattle.kr_engine.proofs.EventsWithoutWrites.{answers_then, timed_state, waits_then}
-use Rattle.kr_engine.proofs.FirstReasons.{IsAccepted, core_of, is_core, row, step_by, unless_refused}
+use Rattle.kr_world.specs.declared.writes.Write.{Write}
+use Rattle.kr_engine.specs.inner.Changes as engines
+use Rattle.kr_world.specs.Engine.{Core, IsEngine, IsState, IsStep, Rise, kept_image, left}
+use Rattle.kr_engine.specs.inner.Changes.{lead_reason, refused_or}
+use Rattle.kr_world.specs.Entries.{item_entries}
+use Rattle.kr_world.specs.Events.{counted, next_number, outcome, timed}
+use Rattle.kr_world.specs.Leaderships.{begun, lead, may_begin_at}
+use Rattle.kr_world.specs.Outputs.{answers, answers_in, is_open, is_open_in}
+use Rattle.kr_world.specs.Reasons.{already_leading, bad_next, exhausted, old_epoch}
+use Rattle.kr_world.specs.World as worlds
+use Rattle.kr_world.specs.World.{State, World, image_of_tip, is_far, seen_at, tip_of, with_batch, log_with}
+use Rattle.kr_world.proofs.LongerLogs.{kept_then, rise_more, seen_then}
+use Rattle.kr_world.proofs.LeadSteps.{begun_now, control_at_tip}
+use Rattle.kr_world.proofs.LogEntries.{behind, none_behind}
+use Rattle.kr_world.proofs.Logs.{tip_written}
+use Rattle.kr_world.proofs.KeptImages.{none_open}
+use Rattle.kr_world.proofs.Queues.{IsDrained, drained}
+use Rattle.kr_world.proofs.StandingEngines.{same_image, tip_only, core_of, is_core}
+use Rattle.kr_world.proofs.EventsWithoutWrites.{answers_then, timed_state, waits_then}
+use Rattle.kr_engine.proofs.FirstReasons.{IsAccepted, row, step_by, unless_refused}
+use Rattle.kr_world.proofs.Places.{near}
 
 pub none_row : {X : Type 0} (b : Bool) (x : X) (o : Option X) → cond b (Some x) o ≡ None → (b ≡ false) × (o ≡ None)
 none_row true x o is = absurd cc
 none_row false x o is = (refl, is)
-
-pub near : (n : ℕ) → is_far (pos n) ≡ false → n ≤ unsigned_abs PLACES_END
-near n h = grind (arith, nat_tests)
 
 -- an item of the quorum's own has no meaning
 one_control : (image : Image) → apply_all image (items.Control ∷ []) ≡ Ok image

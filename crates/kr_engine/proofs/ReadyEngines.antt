@@ -1,12 +1,10 @@
 -- An engine that stands for past events is ready for the next one.
-use Rattle.std.proofs.Common.{◌≡◌, ◌∙◌, sym, subst, ℕ, suc, ℤ, pos, negsuc, Bool, true, false, cond, ◌≤◌, ◌-◌, List, [], ◌∷◌, map, length, refl, ap, arith}
+use Rattle.std.proofs.Common.{◌≡◌, ◌∙◌, sym, subst, ℕ, ℤ, pos, negsuc, Bool, true, false, cond, ◌≤◌, List, [], ◌∷◌, refl, ap, arith}
 use Rattle.std.proofs.lemmas.Bool.{and_parts}
-use Rattle.std.proofs.lemmas.Bool.Decides.{nat_tests}
 use Rattle.std.proofs.lemmas.Int.{ints}
-use Rattle.std.proofs.lemmas.List.Elements.{All-from_recursion}
-use Rattle.std.specs.Prelude.{◌≤ℤ◌, Option, Some, None, IsTrue, IsSome, int_lt, int_le, slice_get, not, unsigned_abs}
+use Rattle.std.specs.Prelude.{◌≤ℤ◌, Option, Some, None, IsSome, int_lt, int_le, not, unsigned_abs}
 use Rattle.std.specs.Int.{int_max}
-use Rattle.std.specs.List.{AllByRecursion, last_or, list_all}
+use Rattle.std.specs.List.{last_or, list_all}
 use Rattle.std.specs.Option.{option_map_or}
 use Rattle.std.specs.Ordering.{int_cmp}
 use Rattle.kr_defs.specs.declared.basis.Contact.{Contact}
@@ -17,44 +15,20 @@ use Rattle.kr_defs.specs.Heartbeats as hearing
 use Rattle.kr_defs.specs.Heartbeats.{Heartbeats}
 use Rattle.kr_defs.specs.Ids.{has}
 use Rattle.kr_defs.specs.Image.{Image, IsValid}
-use Rattle.kr_defs.specs.Log.{Log}
 use Rattle.kr_defs.specs.Map as entries
 use Rattle.kr_defs.proofs.Tests.{both}
 use Rattle.kr_calls.specs.NextBasis.{broker_is_stopping}
 use Rattle.kr_defs.proofs.HeartbeatLists.{le_through}
 use Rattle.law_safety.specs.HearingLaws.{HearsOf}
 use Rattle.law_safety.proofs.BrokerTests.{by_get}
-use Rattle.kr_store.specs.Images.{AreValid, IsAbove, last_kept}
-use Rattle.kr_engine.specs.declared.writes.Write.{Write}
-use Rattle.kr_engine.specs.Engine.{Core, IsEngine, IsSound, Rise, cleared, kept_image}
+use Rattle.kr_store.specs.Images.{AreValid}
+use Rattle.kr_world.specs.declared.writes.Write.{Write}
+use Rattle.kr_world.specs.Engine.{Core, IsEngine, IsSound}
+use Rattle.kr_engine.specs.inner.Changes.{cleared}
 use Rattle.kr_engine.specs.inner.Ready.{IsReady}
-use Rattle.kr_engine.specs.World.{State, image_of_tip, tip_of}
-use Rattle.kr_engine.proofs.LossSteps.{not_higher}
-use Rattle.kr_engine.proofs.EventsWithoutWrites.{grown}
-
--- ---- what is kept
-
-less_one : (n : ℕ) → suc n - 1 ≡ n
-less_one n = omega arith
-
-abbrev last : List (ℤ × Image) → Option (ℤ × Image)
-last kept = slice_get kept (length kept - 1)
-
-last_later : (x y : ℤ × Image) (xs : List (ℤ × Image)) → last (x ∷ y ∷ xs) ≡ last (y ∷ xs)
-last_later x y xs = ap (slice_get (x ∷ y ∷ xs)) (less_one (suc (length xs))) ∙ sym (ap (slice_get (y ∷ xs)) (less_one (length xs)))
-
-lt_from : (m n : ℕ) (place : ℤ) → m ≤ n → int_lt (pos n) place ≡ true → int_lt (pos m) place ≡ true
-lt_from m n (pos p) low h = grind (arith, nat_tests)
-lt_from m n (negsuc p) low h = absurd cc
-
-module _ (log : Log) (to : ℕ) where
-  last_is : (from : ℕ) (ns : List ℕ) → Rise from ns to → last (map (kept_image log) (from ∷ ns)) ≡ Some (kept_image log to)
-  last_is from [] rise = ap (λ n. Some (kept_image log n)) rise
-  last_is from (n ∷ ns) rise = last_later (kept_image log from) (kept_image log n) (map (kept_image log) ns) ∙ last_is n ns rise.1
-
-  all_below : (place : ℤ) (from : ℕ) (ns : List ℕ) → Rise from ns to → int_lt (pos to) place ≡ true → AllByRecursion (λ (k : ℤ × Image). IsTrue (int_lt k.0 place)) (map (kept_image log) (from ∷ ns))
-  all_below place from [] rise high = (lt_from from to place (omega (arith, rise)) high, tt)
-  all_below place from (n ∷ ns) rise high = (lt_from from to place (not_higher from (n ∷ ns) to rise) high, all_below place n ns rise.1 high)
+use Rattle.kr_world.specs.World.{State, tip_of}
+use Rattle.kr_world.proofs.EventsWithoutWrites.{grown}
+use Rattle.kr_world.proofs.StandingEngines.{all_kept_below, last_kept_is, rises, same_image, stands_still}
 
 -- ---- the stopping ones
 
@@ -100,47 +74,20 @@ still_before (Some c) time now le is = le_through c.time time now is le
 nats_le : (m n : ℕ) → m ≤ n → pos m ≤ℤ pos n
 nats_le m n le = omega (arith, ints)
 
-pub tip_only : (log : Log) (from : ℕ) (ns : List ℕ) (to : ℕ) → Rise from ns to → ns ≡ [] → from ≡ to
-tip_only log from [] to rise is = rise
-tip_only log from (n ∷ ns) to rise is = absurd cc
-
 module _ (e : Core) (s : State) (writes : List Write) (k : IsEngine e s writes) where
-  pub rises : s.world.committed ≤ tip_of s
-  rises = not_higher s.world.committed s.world.batch_ends (tip_of s) k.is_state.ends
-
-  pub same_image : image_of_tip s ≡ e.images.tip
-  same_image = ap (λ r. Rattle.std.specs.Result.result_unwrap_or r Rattle.kr_defs.specs.Image.empty) k.present
-
-  last_kept_is : last_kept e.images ≡ Some (e.tip, e.images.tip)
-  last_kept_is =
-      ap last k.kept
-      ∙ (last_is s.world.log (tip_of s) s.world.committed s.world.batch_ends k.is_state.ends
-      ∙ (ap (λ t. Some (t, image_of_tip s)) (sym k.tip) ∙ ap (λ i. Some (e.tip, i)) same_image))
-
-  all_kept_below : (place : ℤ) → IsTrue (int_lt e.tip place) → IsAbove e.images.kept place
-  all_kept_below place high =
-      subst (λ (kept : List (ℤ × Image)). IsAbove kept place) (sym k.kept)
-      (All-from_recursion (λ (k : ℤ × Image). IsTrue (int_lt k.0 place)) (map (kept_image s.world.log) (s.world.committed ∷ s.world.batch_ends))
-      (all_below s.world.log (tip_of s) place s.world.committed s.world.batch_ends k.is_state.ends (ap (λ t. int_lt t place) (sym k.tip) ∙ high)))
-
-  stands_still : e.leading ≡ None → e.committed ≡ e.tip
-  stands_still none =
-      let ends = (k.is_state.at_standby (sym k.leading ∙ none)).0 in
-      k.committed ∙ (ap pos (tip_only s.world.log s.world.committed s.world.batch_ends (tip_of s) k.is_state.ends ends) ∙ sym k.tip)
-
   is_ready : AreValid e.images → IsReady e
   is_ready valid = record {
     natural = subst (λ c. pos 0 ≤ℤ c) (sym k.committed) (nats_le 0 s.world.committed (omega arith));
     late = subst (λ t. pos 0 ≤ℤ t) (sym k.time) (not_negative s.basis.time k.is_state.natural);
-    rising = subst (λ c. c ≤ℤ e.tip) (sym k.committed) (subst (λ t. pos s.world.committed ≤ℤ t) (sym k.tip) (nats_le s.world.committed (tip_of s) rises));
+    rising = subst (λ c. c ≤ℤ e.tip) (sym k.committed) (subst (λ t. pos s.world.committed ≤ℤ t) (sym k.tip) (nats_le s.world.committed (tip_of s) (rises e s writes k)));
     low = subst (λ t. t ≤ℤ PLACES_END) (sym k.tip) (nats_le (tip_of s) (unsigned_abs PLACES_END) k.is_state.low);
-    last = last_kept_is;
-    above = all_kept_below;
-    at_standby = stands_still;
+    last = last_kept_is e s writes k;
+    above = all_kept_below e s writes k;
+    at_standby = stands_still e s writes k;
     in_time = ap (λ h. hearing.is_not_before h e.time) k.heard_of ∙ (ap (hearing.is_not_before (hearing.heard s.basis)) k.time ∙ last_before s.basis.contacts s.basis.time k.is_state.in_time);
     among = are_stopping e.leading e.heard e.images.tip valid.tip
         (λ none. k.heard_of ∙ (k.is_state.at_standby (sym k.leading ∙ none)).1)
-        (λ some. subst (λ h. HearsOf h e.images.tip) (sym k.heard_of) (subst (HearsOf (hearing.heard s.basis)) same_image (k.is_state.hears (subst (λ l. IsSome l) k.leading some))));
+        (λ some. subst (λ h. HearsOf h e.images.tip) (sym k.heard_of) (subst (HearsOf (hearing.heard s.basis)) (same_image e s writes k) (k.is_state.hears (subst (λ l. IsSome l) k.leading some))));
   }
 
 pub ready : (e : Core) → IsSound e → AreValid e.images → IsReady e

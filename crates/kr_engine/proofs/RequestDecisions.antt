@@ -1,7 +1,7 @@
 -- What is decided of a write, and what it makes of an engine.
 use Rattle.std.proofs.Common.{◌≡◌, ◌∙◌, sym, subst, ℕ, ℤ, pos, negsuc, true, false, cond, ◌-◌, ◌≤◌, List, [], ◌∷◌, ◌++◌, length, refl, ap, arith}
 use Rattle.std.proofs.lemmas.Int.{ints}
-use Rattle.std.specs.Prelude.{◌==◌, ◌≤ℤ◌, Option, Some, None, Result, Ok, Err, IfOk, OnOk, IsTrue, int_lt, slice_get, unwrap_or}
+use Rattle.std.specs.Prelude.{◌==◌, ◌≤ℤ◌, Option, Some, Result, Ok, Err, IfOk, OnOk, IsTrue, int_lt, slice_get, unwrap_or}
 use Rattle.std.specs.Option.{option_map}
 use Rattle.kr_brokers.specs.RequestBasis as judged
 use Rattle.kr_calls.specs.declared.errors.TheConstants.{NOT_CONTROLLER}
@@ -9,7 +9,7 @@ use Rattle.kr_calls.specs.declared.calls.Call.{Call}
 use Rattle.kr_calls.specs.declared.calls.Reply.{Reply}
 use Rattle.kr_calls.specs.declared.calls.Request.{Request}
 use Rattle.kr_calls.specs.declared.deciding.Effect.{Effect}
-use Rattle.kr_calls.specs.Decide.{decide, work_of}
+use Rattle.kr_calls.specs.Decide.{decide}
 use Rattle.kr_calls.specs.NextBasis.{heartbeats_after, broker_is_stopping}
 use Rattle.kr_calls.specs.Refuse.{refuse}
 use Rattle.kr_calls.proofs.DecisionMeanings.{requests_stand}
@@ -27,13 +27,12 @@ use Rattle.law_fitting.specs.Fitting.{FitsBatch}
 use Rattle.law_fitting.proofs.FittingRecords.{requests_fit}
 use Rattle.kr_rules.specs.Progress.{base_of}
 use Rattle.kr_store.specs.Images.{Images, IsAbove, last_kept, marked}
-use Rattle.kr_engine.specs.Entries.{item_entries}
-use Rattle.kr_engine.specs.declared.writes.Write.{Write}
-use Rattle.kr_engine.specs.Engine.{Core, basis_of}
+use Rattle.kr_world.specs.Entries.{item_entries}
+use Rattle.kr_world.specs.declared.writes.Write.{Write}
+use Rattle.kr_world.specs.Engine.{Core, basis_of}
 use Rattle.kr_engine.specs.inner.Ready.{IsReady}
-use Rattle.kr_engine.specs.Reasons.{ours}
-use Rattle.kr_engine.specs.inner.Serving.{Decides, TakesWrite, decided_by, waiting_write, write_with}
-use Rattle.kr_engine.specs.inner.Writing.{Writes, with_appended, batch_at, place_behind}
+use Rattle.kr_engine.specs.inner.Serving.{Decides, TakesWrite, decided_by, write_with}
+use Rattle.kr_engine.specs.inner.Writing.{with_appended, batch_at, place_behind}
 use Rattle.kr_engine.proofs.AppendSteps.{writes_by}
 
 -- ---- the image where the request began

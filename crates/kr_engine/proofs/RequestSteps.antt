@@ -2,9 +2,8 @@
 use Rattle.std.proofs.Common.{◌≡◌, ◌∙◌, sym, subst, ℕ, ℤ, pos, Bool, true, false, cond, ◌+◌, ◌≤◌, List, [], ◌∷◌, ◌++◌, map, length, refl, ap, arith, All, not}
 use Rattle.std.proofs.lemmas.List.{append-nil}
 use Rattle.std.proofs.lemmas.List.Elements.{recursion_from_All}
-use Rattle.std.specs.Prelude.{◌&&◌, Option, Some, None, Result, Ok, Err, filter, find, int_le, unsigned_abs, IsSome, is_some, option_to_list, unwrap_or}
+use Rattle.std.specs.Prelude.{◌&&◌, Option, Some, None, Result, Ok, Err, filter, int_le, unsigned_abs, IsSome, is_some, option_to_list, unwrap_or}
 use Rattle.std.specs.List.{AllByRecursion, list_all}
-use Rattle.std.specs.Ordering.{int_eq}
 use Rattle.std.specs.Result.{result_unwrap_or}
 use Rattle.kr_calls.specs.declared.errors.TheConstants.{NOT_CONTROLLER}
 use Rattle.kr_calls.specs.declared.calls.Ask.{Ask}
@@ -27,42 +26,40 @@ use Rattle.kr_calls.proofs.DecisionMeanings.{requests_stand}
 use Rattle.kr_defs.specs.declared.ill.Ill.{Ill}
 use Rattle.kr_defs.specs.declared.limits.TheConstants.{PLACES_END}
 use Rattle.kr_defs.specs.declared.options.Options.{Options}
-use Rattle.kr_defs.specs.declared.record.Record.{Record}
 use Rattle.kr_defs.specs.Heartbeats as hearing
-use Rattle.kr_defs.specs.Heartbeats.{Heartbeats}
 use Rattle.kr_defs.specs.ImageLaws.{as_items}
 use Rattle.kr_defs.specs.Image.{Image, IsValid, empty}
 use Rattle.kr_defs.proofs.Tests.{both}
 use Rattle.kr_defs.proofs.HeartbeatLists.{le_itself}
 use Rattle.law_safety.specs.HearingLaws.{HearsOf}
 use Rattle.law_safety.proofs.HearingRequests.{requests_keep_hearing}
-use Rattle.kr_store.specs.Images.{AreValid, kept_at}
-use Rattle.kr_engine.specs.declared.writes.Write.{Write}
-use Rattle.kr_engine.specs.Engine as engines
-use Rattle.kr_engine.specs.Engine.{Core, IsEngine, IsStep, writes_in_order, basis_of, kept_image, left}
-use Rattle.kr_engine.specs.Entries.{item_entries}
-use Rattle.kr_engine.specs.Events.{counted, outcome, timed}
-use Rattle.kr_engine.specs.Outputs.{answers, answers_in, answers_now, append, appends, error_of, is_open, is_open_in, outputs_then, replies_now, write_of, writes_of}
-use Rattle.kr_engine.specs.Reasons.{exhausted, ours}
-use Rattle.kr_engine.specs.Requests.{after_ask, after_write, decided, is_decided}
-use Rattle.kr_engine.specs.World as worlds
-use Rattle.kr_engine.specs.World.{State, World, image_of_end, image_of_tip, is_far, tip_of, with_records}
+use Rattle.kr_store.specs.Images.{AreValid}
+use Rattle.kr_world.specs.declared.writes.Write.{Write}
+use Rattle.kr_engine.specs.inner.Changes as engines
+use Rattle.kr_world.specs.Engine.{Core, IsEngine, IsStep, writes_in_order, basis_of, left}
+use Rattle.kr_world.specs.Entries.{item_entries}
+use Rattle.kr_world.specs.Events.{counted, outcome, timed}
+use Rattle.kr_world.specs.Outputs.{answers, answers_in, answers_now, append, appends, error_of, is_open, is_open_in, outputs_then, write_of, writes_of}
+use Rattle.kr_world.specs.Reasons.{exhausted}
+use Rattle.kr_world.specs.Requests.{after_ask, after_write, decided, is_decided}
+use Rattle.kr_world.specs.World as worlds
+use Rattle.kr_world.specs.World.{State, image_of_end, is_far, tip_of, with_records}
 use Rattle.kr_engine.specs.inner.Writing.{append_output}
 use Rattle.kr_engine.specs.inner.Serving as serving
-use Rattle.kr_engine.specs.inner.Serving.{SettlesAsk, TakesCall, TakesWrite, ask_reason, committed_image, decided_by, gives_out, reply_at_once, waiting_write, write_with}
-use Rattle.kr_engine.proofs.LogEntries.{Gains, batch_written, gained, gains_none}
+use Rattle.kr_engine.specs.inner.Serving.{SettlesAsk, TakesCall, TakesWrite, ask_reason, decided_by, gives_out, reply_at_once, waiting_write, write_with}
+use Rattle.kr_world.proofs.LogEntries.{Gains, batch_written, gained, gains_none}
 use Rattle.kr_engine.proofs.AppendSteps.{IsLonger, engine_behind, longer_by}
-use Rattle.kr_engine.proofs.ContactTimes.{AreInTime, decided_in_time}
-use Rattle.kr_engine.proofs.EventsWithoutWrites.{answers_then}
-use Rattle.kr_engine.proofs.FirstReasons.{IsAccepted, accepted_step, core_of, is_core, row, unless_refused}
-use Rattle.kr_engine.proofs.FencingSteps.{reached_later}
+use Rattle.kr_world.proofs.ContactTimes.{AreInTime, decided_in_time}
+use Rattle.kr_world.proofs.EventsWithoutWrites.{answers_then, passes}
+use Rattle.kr_engine.proofs.FirstReasons.{IsAccepted, accepted_step, row, unless_refused}
+use Rattle.kr_world.proofs.StandingEngines.{is_core, same_image}
+use Rattle.kr_world.proofs.WriteOrders.{reached_later, all_behind, all_open, all_reached, order_more}
 use Rattle.kr_engine.proofs.ImageSteps.{committed_found}
 use Rattle.kr_engine.proofs.NewLeaderships.{none_row}
-use Rattle.kr_engine.proofs.Queues.{IsDrained, drained}
-use Rattle.kr_engine.proofs.ReadyEngines.{same_image}
-use Rattle.kr_engine.proofs.Refusals.{passes, refused_step}
-use Rattle.kr_engine.proofs.TickSteps.{counted_engine, near_enough, timed_engine}
-use Rattle.kr_engine.proofs.WriteOrders.{all_behind, all_open, all_reached, order_more}
+use Rattle.kr_world.proofs.Queues.{IsDrained, drained}
+use Rattle.kr_engine.proofs.Refusals.{refused_step}
+use Rattle.kr_engine.proofs.TickSteps.{counted_engine, timed_engine}
+use Rattle.kr_world.proofs.Places.{near_enough}
 
 -- ---- a write that is decided
 

@@ -1,41 +1,19 @@
 -- An event that is refused once images have been looked through, or accepted.
-use Rattle.std.proofs.Common.{◌≡◌, ◌∙◌, sym, subst, List, refl, ap}
-use Rattle.std.specs.Prelude.{Option, Some, None, Result, Ok, Err}
+use Rattle.std.proofs.Common.{◌≡◌, sym, subst, List, refl}
+use Rattle.std.specs.Prelude.{Option, Some, None, Err}
 use Rattle.kr_calls.specs.declared.events.Event.{Event}
 use Rattle.kr_calls.specs.declared.events.Reason.{Reason}
-use Rattle.kr_defs.specs.declared.ill.Ill.{Ill}
-use Rattle.kr_defs.specs.Image.{Image}
 use Rattle.kr_store.specs.Images.{Images}
-use Rattle.kr_engine.specs.declared.writes.Write.{Write}
-use Rattle.kr_engine.specs.Engine as engines
-use Rattle.kr_engine.specs.Engine.{Core, IsEngine, IsStep}
-use Rattle.kr_engine.specs.Events.{outcome, timed}
+use Rattle.kr_world.specs.declared.writes.Write.{Write}
+use Rattle.kr_engine.specs.inner.Changes as engines
+use Rattle.kr_world.specs.Engine.{Core, IsEngine, IsStep}
+use Rattle.kr_world.specs.Events.{outcome, timed}
 use Rattle.kr_engine.specs.inner.Standby.{Settles}
-use Rattle.kr_engine.specs.World.{State}
-use Rattle.kr_engine.proofs.Queues.{IsDrained}
+use Rattle.kr_world.specs.World.{State}
+use Rattle.kr_world.proofs.Queues.{IsDrained}
 use Rattle.kr_engine.proofs.Refusals.{refused_step}
 use Rattle.kr_engine.proofs.FirstReasons.{IsAccepted, step_by, unless_refused}
-
-abbrev ok : Image → Result Image Ill
-ok image = Ok image
-
--- images that differ in the calls since the last kept epoch alone
-pub same_images : (e : Core) (images : Images) (s : State) (writes : List Write) → images.kept ≡ e.images.kept → images.tip ≡ e.images.tip → IsEngine e s writes → IsEngine (record e { images = images }) s writes
-same_images e images s writes kept tip k = record {
-  tip = k.tip;
-  committed = k.committed;
-  leading = k.leading;
-  greatest = k.greatest;
-  count = k.count;
-  time = k.time;
-  led = k.led;
-  heard_of = k.heard_of;
-  present = k.present ∙ ap ok (sym tip);
-  kept = kept ∙ k.kept;
-  waits = k.waits;
-  ordered = k.ordered;
-  is_state = k.is_state;
-}
+use Rattle.kr_world.proofs.StandingEngines.{same_images}
 
 same_drained : (e : Core) (images : Images) → IsDrained e → IsDrained (record e { images = images })
 same_drained e images d = record { none_given = d.none_given; none_refused = d.none_refused; none_due = d.none_due; all_wait = d.all_wait }

@@ -1,15 +1,13 @@
 -- What a tick makes of an engine.
-use Rattle.std.proofs.Common.{◌≡◌, ◌∙◌, sym, subst, ℕ, ℤ, pos, Bool, true, false, ◌+◌, ◌*◌, ◌≤◌, List, [], ◌∷◌, ◌++◌, take, length, refl, ap, arith, not}
-use Rattle.std.proofs.lemmas.Bool.Decides.{nat_tests}
+use Rattle.std.proofs.Common.{◌≡◌, ◌∙◌, sym, subst, ℕ, ℤ, pos, Bool, true, false, ◌+◌, ◌≤◌, List, [], ◌∷◌, ◌++◌, take, length, refl, ap, arith, not}
 use Rattle.std.proofs.lemmas.List.{append-nil, length-map, length-take}
 use Rattle.std.proofs.lemmas.List.Sums.{length-filter, count_by-le-length}
-use Rattle.std.specs.Prelude.{◌&&◌, ◌-ℤ◌, Option, Some, None, Ok, filter, int_le, take_while, unsigned_abs, IsSome, is_some, option_to_list}
+use Rattle.std.specs.Prelude.{◌&&◌, ◌-ℤ◌, Option, Some, None, Ok, filter, int_le, take_while, IsSome, is_some, option_to_list}
 use Rattle.kr_calls.specs.declared.events.Event.{Event}
 use Rattle.kr_calls.specs.declared.events.Reason.{Reason}
 use Rattle.kr_calls.specs.declared.events.Event.TheVariants as events
 use Rattle.kr_defs.specs.declared.basis.Contact.{Contact}
 use Rattle.kr_defs.specs.declared.broker.Broker.{Broker}
-use Rattle.kr_defs.specs.declared.limits.TheConstants.{PLACES_END}
 use Rattle.kr_defs.specs.Brokers as brokers
 use Rattle.kr_defs.specs.Heartbeats as hearing
 use Rattle.kr_defs.specs.Heartbeats.{AreHeartbeats, Heartbeats, contact_brokers, expired}
@@ -19,23 +17,24 @@ use Rattle.kr_defs.proofs.IdLists.{all_from}
 use Rattle.law_safety.specs.HearingLaws.{HearsOf}
 use Rattle.law_safety.proofs.Lengths.{distinct_few}
 use Rattle.kr_store.specs.Images.{AreValid}
-use Rattle.kr_engine.specs.declared.writes.Write.{Write}
-use Rattle.kr_engine.specs.Engine as engines
-use Rattle.kr_engine.specs.Engine.{Core, IsEngine, IsState, IsStep, left}
-use Rattle.kr_engine.specs.Events.{counted, later, next_number, outcome, timed}
-use Rattle.kr_engine.specs.Outputs.{answers, answers_in, append_fencings, is_open, is_open_in}
-use Rattle.kr_engine.specs.Reasons.{exhausted}
+use Rattle.kr_world.specs.declared.writes.Write.{Write}
+use Rattle.kr_engine.specs.inner.Changes as engines
+use Rattle.kr_world.specs.Engine.{Core, IsEngine, IsStep, left}
+use Rattle.kr_world.specs.Events.{counted, later, next_number, outcome, timed}
+use Rattle.kr_world.specs.Outputs.{answers, answers_in, append_fencings, is_open, is_open_in}
+use Rattle.kr_world.specs.Reasons.{exhausted}
 use Rattle.kr_engine.specs.inner.Ticking.{FencesAll, SettlesTick, lapsed_in, tick_reason}
-use Rattle.kr_engine.specs.Ticks.{fence_all, lapsed, tick}
-use Rattle.kr_engine.specs.World.{State, is_far, tip_of}
+use Rattle.kr_world.specs.Ticks.{fence_all, lapsed, tick}
+use Rattle.kr_world.specs.World.{State, is_far, tip_of}
 use Rattle.kr_engine.proofs.NewLeaderships.{none_row}
-use Rattle.kr_engine.proofs.LogEntries.{gained, gains_none}
+use Rattle.kr_world.proofs.LogEntries.{gained, gains_none}
 use Rattle.kr_engine.proofs.FencingSteps.{AllFenced, all_fenced, stays_itself}
-use Rattle.kr_engine.proofs.Queues.{IsDrained, drained}
-use Rattle.kr_engine.proofs.ReadyEngines.{same_image}
+use Rattle.kr_world.proofs.Queues.{IsDrained, drained}
+use Rattle.kr_world.proofs.StandingEngines.{same_image, core_of, is_core}
 use Rattle.kr_engine.proofs.Refusals.{refused_step}
-use Rattle.kr_engine.proofs.EventsWithoutWrites.{counted_state, timed_state}
-use Rattle.kr_engine.proofs.FirstReasons.{IsAccepted, accepted_step, core_of, is_core, row, unless_refused}
+use Rattle.kr_world.proofs.EventsWithoutWrites.{counted_state, timed_state}
+use Rattle.kr_engine.proofs.FirstReasons.{IsAccepted, accepted_step, row, unless_refused}
+use Rattle.kr_world.proofs.Places.{near_enough}
 
 -- ---- at most 1,000 sessions end
 
@@ -57,12 +56,6 @@ few_lapsed h image limit are hears valid =
     let five : length unfenced ≤ length image.brokers = rw length-filter (count_by-le-length (λ (e : ℤ × Broker). not e.1.fenced) image.brokers) in
     let most : length image.brokers ≤ 1000 = valid.brokers.few in
     omega (arith, front, one, two, three, four, five, most)
-
-pub near_enough : (n : ℕ) (m : ℕ) → is_far (pos n) ≡ false → m ≤ 1000 → n + 10000 * m ≤ unsigned_abs PLACES_END
-near_enough n m near few = let low : n ≤ 2305843009213693952 = far_not n near in omega (arith, low, few)
-  where
-    far_not : (n : ℕ) → is_far (pos n) ≡ false → n ≤ 2305843009213693952
-    far_not n h = grind (arith, nat_tests)
 
 -- ---- the step
 

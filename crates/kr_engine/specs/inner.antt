@@ -1,3 +1,4 @@
+pub mod Changes
 pub mod Ready
 pub mod Serving
 pub mod Standby

@@ -8,7 +8,7 @@ ghost use Rattle.kr_batch.specs.BatchBytes.{IsWritable, batch_bytes, values_size
 ghost use Rattle.kr_calls.specs.declared.events.Output.TheVariants as given;
 ghost use Rattle.law_fitting.specs.Fitting.{FitsBatch};
 ghost use Rattle.kr_store.specs.Images.{IsAbove};
-ghost use Rattle.kr_engine.specs.Reasons as reasons;
+ghost use Rattle.kr_world.specs.Reasons as reasons;
 ghost use Rattle.kr_engine.specs.inner.Writing as writing;
 
 use crate::Engine;

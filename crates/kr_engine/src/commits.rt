@@ -4,8 +4,9 @@ ghost use Rattle.std.specs.Prelude.{◌≡◌, ◌≤◌, [], is_some};
 ghost use Rattle.kr_calls.specs.declared.events.Event.TheVariants as events;
 ghost use Rattle.kr_store.specs.Images.{image_of_place, kept_at};
 ghost use Rattle.kr_store.specs.declared.places.At.TheVariants as places;
-ghost use Rattle.kr_engine.specs.Engine as engines;
-ghost use Rattle.kr_engine.specs.Engine.{IsStep, cleared, committed_to, left};
+ghost use Rattle.kr_engine.specs.inner.Changes as engines;
+ghost use Rattle.kr_world.specs.Engine.{IsStep, left};
+ghost use Rattle.kr_engine.specs.inner.Changes.{cleared, committed_to};
 
 use crate::Engine;
 use crate::reasons::{bad_commit, not_leading};

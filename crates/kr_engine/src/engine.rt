@@ -3,17 +3,18 @@
 ghost use Rattle.std.specs.Prelude.{◌≡◌, ◌++◌, [], ◌∷◌, option_to_list, IsTrue, IfOk, IfNone, Some};
 ghost use Rattle.kr_defs.specs.OpenOptions.{are_options};
 ghost use Rattle.kr_store.specs.Images.{AreValid};
-ghost use Rattle.kr_engine.specs.Engine.{IsEngine, IsSound, basis_of, cleared, counted, left, opened, refused};
+ghost use Rattle.kr_world.specs.Engine.{IsEngine, IsSound, basis_of, left};
+ghost use Rattle.kr_engine.specs.inner.Changes.{cleared, counted, opened, refused};
 ghost use Rattle.kr_engine.specs.inner.Ready.{IsReady};
-ghost use Rattle.kr_engine.specs.World as worlds;
+ghost use Rattle.kr_world.specs.World as worlds;
 
-use crate::writes::Write;
 use kr_base::NoMemory;
 use kr_calls::{Entry, Output, Reason};
 use kr_defs::{Basis, Options};
 use kr_image::ImageStore;
 use kr_sessions::Sessions;
 use kr_store::Store;
+use kr_world::Write;
 use std::alloc::Global;
 use std::collections::VecDeque;
 use std::marker::Model;
@@ -61,7 +62,7 @@ impl Drop for Engine {
 }
 
 impl Model for Engine {
-    ghost use Rattle.kr_engine.specs.Engine.{Core};
+    ghost use Rattle.kr_world.specs.Engine.{Core};
 
     ghost Value = { Core };
 

@@ -9,10 +9,11 @@ ghost use Rattle.kr_batch.specs.Reading.{batch_of};
 ghost use Rattle.kr_calls.specs.declared.events.Event.TheVariants as events;
 ghost use Rattle.kr_snapshot.specs.ReaderState.{kept_once};
 ghost use Rattle.kr_store.specs.Images.{IsAbove};
-ghost use Rattle.kr_engine.specs.Engine.{IsSound, IsStep, adding, left};
-ghost use Rattle.kr_engine.specs.Entries.{item_entries};
+ghost use Rattle.kr_world.specs.Engine.{IsSound, IsStep, left};
+ghost use Rattle.kr_engine.specs.inner.Changes.{adding};
+ghost use Rattle.kr_world.specs.Entries.{item_entries};
 ghost use Rattle.kr_engine.specs.inner.Ready.{IsReady};
-ghost use Rattle.kr_engine.specs.Replicas.{end_of};
+ghost use Rattle.kr_world.specs.Replicas.{end_of};
 ghost use Rattle.kr_engine.specs.inner.Standby as standby;
 ghost use Rattle.kr_engine.specs.inner.Standby.{Follows, Settles};
 

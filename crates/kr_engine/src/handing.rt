@@ -1,13 +1,14 @@
 //! Outputs are handed out, one after the other.
 
 ghost use Rattle.std.specs.Prelude.{◌≡◌, ◌++◌, ◌∷◌, [], option_to_list, filter, not, false, None, IsTrue, IfNone, List};
-ghost use Rattle.kr_engine.specs.declared.writes.Write.{Write as AnyWrite};
-ghost use Rattle.kr_engine.specs.Engine.{Hands, writes_in_order};
-ghost use Rattle.kr_engine.specs.Outputs as outputs;
+ghost use Rattle.kr_world.specs.declared.writes.Write.{Write as AnyWrite};
+ghost use Rattle.kr_world.specs.Engine.{Hands, writes_in_order};
+ghost use Rattle.kr_world.specs.Outputs as outputs;
 
 use crate::Engine;
-use crate::writes::{Write, answer, is_open};
+use crate::writes::{answer, is_open};
 use kr_calls::Output;
+use kr_world::Write;
 use std::collections::VecDeque;
 
 // The first write waits no more.
@@ -22,7 +23,7 @@ fn is_first_due(leading: &Option<i32>, end: &i64, held: &VecDeque<Write>) -> boo
 }
 
 // The first write's reply, where it waits no more.
-#[tactic(auto, using(crate::proofs::Queues::not_due, crate::proofs::Queues::due, crate::proofs::Queues::still_waits, crate::proofs::Queues::still_ordered))]
+#[tactic(auto, using(kr_world::proofs::Queues::not_due, kr_world::proofs::Queues::due, kr_world::proofs::Queues::still_waits, kr_world::proofs::Queues::still_ordered))]
 fn next_due(leading: &Option<i32>, end: &i64, held: &mut VecDeque<Write>) -> Option<Output>
     requires ordered { IsTrue (writes_in_order held.old.items) }
     ensures in_order { outputs.answers leading.now end.now held.old.items ≡ option_to_list result ++ outputs.answers leading.now end.now held.new.items }
@@ -67,7 +68,7 @@ impl Engine {
     }
 
     /// The next output of the last event, in order; none where all are handed out. It takes no memory.
-    #[tactic(auto, using(crate::proofs::OutputsLeft::hands_refusal, crate::proofs::OutputsLeft::hands_answer))]
+    #[tactic(auto, using(kr_world::proofs::OutputsLeft::hands_refusal, kr_world::proofs::OutputsLeft::hands_answer))]
     pub fn next_output(&mut self) -> Option<Output>
         requires { IsTrue (writes_in_order self.old.held) }
         ensures { Hands self.old self.new result }

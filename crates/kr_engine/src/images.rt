@@ -6,8 +6,9 @@ ghost use Rattle.kr_calls.specs.declared.events.Output.TheVariants as given;
 ghost use Rattle.kr_defs.specs.Image.{empty};
 ghost use Rattle.kr_snapshot.specs.ImageText.{image_text};
 ghost use Rattle.kr_store.specs.Images.{kept_at};
-ghost use Rattle.kr_engine.specs.Engine as engines;
-ghost use Rattle.kr_engine.specs.Engine.{IsSound, IsStep, cleared, left};
+ghost use Rattle.kr_engine.specs.inner.Changes as engines;
+ghost use Rattle.kr_world.specs.Engine.{IsSound, IsStep, left};
+ghost use Rattle.kr_engine.specs.inner.Changes.{cleared};
 
 use crate::Engine;
 use crate::commits::at_epoch;

@@ -8,10 +8,10 @@ ghost use Rattle.kr_calls.specs.declared.events.Event.TheVariants as events;
 ghost use Rattle.kr_defs.specs.Brokers as brokers;
 ghost use Rattle.kr_defs.specs.Heartbeats as hearing;
 ghost use Rattle.kr_store.specs.Images.{IsAbove};
-ghost use Rattle.kr_engine.specs.Engine as engines;
-ghost use Rattle.kr_engine.specs.Engine.{IsSound, IsStep, left};
+ghost use Rattle.kr_engine.specs.inner.Changes as engines;
+ghost use Rattle.kr_world.specs.Engine.{IsSound, IsStep, left};
 ghost use Rattle.kr_engine.specs.inner.Ready.{IsReady};
-ghost use Rattle.kr_engine.specs.World.{is_far};
+ghost use Rattle.kr_world.specs.World.{is_far};
 
 use crate::Engine;
 use crate::entries::item_entry;

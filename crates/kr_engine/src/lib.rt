@@ -11,7 +11,6 @@ mod follows;
 mod handing;
 mod images;
 mod judging;
-pub mod laws;
 mod leads;
 mod loads;
 mod losses;
@@ -22,4 +21,3 @@ mod ticks;
 mod writes;
 
 pub use engine::Engine;
-pub use writes::Write;

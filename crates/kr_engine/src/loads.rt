@@ -6,7 +6,8 @@ ghost use Rattle.kr_calls.specs.declared.events.Event.TheVariants as events;
 ghost use Rattle.kr_defs.specs.Records.{records_of};
 ghost use Rattle.kr_snapshot.specs.ReaderState.{Restores, kept_once};
 ghost use Rattle.kr_snapshot.specs.Reading.{image_of};
-ghost use Rattle.kr_engine.specs.Engine.{IsSound, IsStep, adding, left};
+ghost use Rattle.kr_world.specs.Engine.{IsSound, IsStep, left};
+ghost use Rattle.kr_engine.specs.inner.Changes.{adding};
 ghost use Rattle.kr_engine.specs.inner.Standby as standby;
 ghost use Rattle.kr_engine.specs.inner.Standby.{Settles};
 

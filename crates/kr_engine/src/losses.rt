@@ -3,8 +3,9 @@
 ghost use Rattle.std.specs.Prelude.{◌≡◌, ◌≤◌, [], unwrap_or};
 ghost use Rattle.kr_calls.specs.declared.events.Event.TheVariants as events;
 ghost use Rattle.kr_store.specs.Images.{reverted};
-ghost use Rattle.kr_engine.specs.Engine as engines;
-ghost use Rattle.kr_engine.specs.Engine.{IsStep, cleared, left};
+ghost use Rattle.kr_engine.specs.inner.Changes as engines;
+ghost use Rattle.kr_world.specs.Engine.{IsStep, left};
+ghost use Rattle.kr_engine.specs.inner.Changes.{cleared};
 
 use crate::Engine;
 use crate::reasons::not_leading;

@@ -7,8 +7,8 @@ ghost use Rattle.kr_calls.specs.declared.errors.TheConstants.{NOT_CONTROLLER as 
 ghost use Rattle.kr_calls.specs.declared.calls.Reply.TheVariants as replies;
 ghost use Rattle.kr_calls.specs.declared.events.Event.TheVariants as events;
 ghost use Rattle.kr_calls.specs.declared.events.Output.TheVariants as given;
-ghost use Rattle.kr_engine.specs.Engine.{IsSound, IsStep, left};
-ghost use Rattle.kr_engine.specs.Outputs as outputs;
+ghost use Rattle.kr_world.specs.Engine.{IsSound, IsStep, left};
+ghost use Rattle.kr_world.specs.Outputs as outputs;
 ghost use Rattle.kr_engine.specs.inner.Ready.{IsReady};
 ghost use Rattle.kr_engine.specs.inner.Serving as serving;
 ghost use Rattle.kr_engine.specs.inner.Serving.{SettlesAsk, TakesAsk, TakesCall, TakesWrite};
@@ -18,12 +18,12 @@ use crate::appending::epoch_of;
 use crate::commits::at_epoch;
 use crate::leads::is_far;
 use crate::reasons::exhausted;
-use crate::writes::Write;
 use kr_base::{NoMemory, Steps};
 use kr_calls::errors::{INVALID_REQUEST, NOT_CONTROLLER, UNSUPPORTED_VERSION};
 use kr_calls::{Ask, AskFault, Call, Effect, Output, Reason, Reply, Request};
-use kr_req::refuse;
+use kr_rules::refuse;
 use kr_store::ReadFault;
+use kr_world::Write;
 use std::alloc::Global;
 use std::sync::ledger::Ledger;
 

@@ -2,7 +2,7 @@
 
 ghost use Rattle.std.specs.Prelude.{◌≡◌, ◌≤◌, ℤ, [], IsOk, OnOk};
 ghost use Rattle.kr_calls.specs.declared.events.Event.TheVariants as events;
-ghost use Rattle.kr_engine.specs.Engine.{IsSound, IsStep, left};
+ghost use Rattle.kr_world.specs.Engine.{IsSound, IsStep, left};
 
 use crate::Engine;
 use kr_base::{NoMemory, Steps};

@@ -8,11 +8,11 @@ ghost use Rattle.kr_defs.specs.Map as entries;
 ghost use Rattle.kr_calls.specs.declared.events.Event.TheVariants as events;
 ghost use Rattle.kr_calls.specs.Deciding.{apply_records};
 ghost use Rattle.kr_store.specs.Images.{AreValid, last_kept};
-ghost use Rattle.kr_engine.specs.Engine.{IsSound, IsStep, left};
+ghost use Rattle.kr_world.specs.Engine.{IsSound, IsStep, left};
 ghost use Rattle.kr_engine.specs.inner.Ready.{IsReady};
 ghost use Rattle.kr_engine.specs.inner.Ticking as ticking;
 ghost use Rattle.kr_engine.specs.inner.Ticking.{CanFenceAll, FencesAll, SettlesTick};
-ghost use Rattle.kr_engine.specs.Ticks.{fencing_of};
+ghost use Rattle.kr_world.specs.Ticks.{fencing_of};
 ghost use Rattle.kr_engine.specs.inner.Writing.{Fences};
 
 use crate::Engine;

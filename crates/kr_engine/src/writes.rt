@@ -1,25 +1,11 @@
-//! Writes whose replies wait.
+//! Which writes wait, and the replies of those that wait no more.
 
 ghost use Rattle.std.specs.Prelude.{◌≡◌};
-ghost use Rattle.kr_engine.specs.Leaderships as leaderships;
-ghost use Rattle.kr_engine.specs.Outputs as outputs;
+ghost use Rattle.kr_world.specs.Leaderships as leaderships;
+ghost use Rattle.kr_world.specs.Outputs as outputs;
 
-use kr_calls::{Output, Reply};
-
-/// A write that was decided, with both of its replies.
-#[derive(Drop)]
-pub struct Write {
-    pub client: u32,
-    pub correlation: i32,
-    /// The epoch of the leadership that decided it.
-    pub epoch: i32,
-    /// The place up to which the log has to be committed: all that the write saw or made is below it.
-    pub need: i64,
-    /// The reply once that is so.
-    pub reply: Reply,
-    /// The reply where the leadership is lost before: Kafka's NOT_CONTROLLER.
-    pub refusal: Reply,
-}
+use kr_calls::Output;
+use kr_world::Write;
 
 /// This node leads in the epoch.
 pub(crate) fn leads_in(leading: &Option<i32>, epoch: &i32) -> bool

@@ -5,10 +5,8 @@ mod api;
 mod body;
 mod header;
 mod message;
-mod refusal;
 mod reply;
 
 pub use api::ApiKey;
 pub use message::decode;
-pub use refusal::refuse;
 pub use reply::encode_reply;

@@ -1,4 +1,5 @@
-//! How a request is decided on any store: its entries in turn, each by its rule, and what rules share.
+//! How a request is decided on any store: its entries in turn, each by its rule, and what rules share. A request may also be
+//! refused as a whole.
 #![tactic(auto)]
 
 mod entries;
@@ -8,6 +9,7 @@ mod room;
 mod rule;
 mod sizes;
 mod taking;
+mod whole_refusal;
 
 pub use entries::{decide_each, decide_one, decide_or_validate, over_entries};
 pub use groups::{decide_groups, over_groups};
@@ -15,3 +17,4 @@ pub use refusal::Refusal;
 pub use rule::{Groups, ItemRule, Rule};
 pub use sizes::value_bytes;
 pub use taking::{Work, take};
+pub use whole_refusal::refuse;

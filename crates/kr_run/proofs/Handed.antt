@@ -2,13 +2,13 @@
 use Rattle.std.proofs.Common.{◌≡◌, ℕ, List, [], ◌∷◌, ◌++◌, Option, Some, None, refl, sym, ap, subst, ◌∙◌}
 use Rattle.kr_calls.specs.declared.events.Event.{Event}
 use Rattle.kr_calls.specs.declared.events.Output.{Output}
-use Rattle.kr_engine.specs.declared.writes.Write.{Write}
-use Rattle.kr_engine.specs.Engine.{Core, Hands, IsEngine, IsSound, IsStep, left}
-use Rattle.kr_engine.specs.Entries.{log_entries}
-use Rattle.kr_engine.specs.Events.{happens}
-use Rattle.kr_engine.specs.Outputs.{outputs_of, waiting_after}
-use Rattle.kr_engine.specs.Runs.{HandsAll, Runs}
-use Rattle.kr_engine.specs.World.{State}
+use Rattle.kr_world.specs.declared.writes.Write.{Write}
+use Rattle.kr_world.specs.Engine.{Core, Hands, IsEngine, IsSound, IsStep, left}
+use Rattle.kr_world.specs.Entries.{log_entries}
+use Rattle.kr_world.specs.Events.{happens}
+use Rattle.kr_world.specs.Outputs.{outputs_of, waiting_after}
+use Rattle.kr_world.specs.Runs.{HandsAll, Runs}
+use Rattle.kr_world.specs.World.{State}
 use Rattle.kr_run.specs.Endings.{WroteAll, WroteSome}
 use Rattle.kr_run.specs.inner.Serving.{Drains, HandsSome}
 use Rattle.kr_run.proofs.OutputFrames.{some_behind, some_of_more}

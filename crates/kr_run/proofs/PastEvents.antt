@@ -5,8 +5,8 @@ use Rattle.std.proofs.lemmas.Grind.{flat_map-append}
 use Rattle.kr_calls.specs.declared.events.Event.{Event}
 use Rattle.kr_calls.specs.declared.events.Output.{Output}
 use Rattle.kr_defs.specs.declared.options.Options.{Options}
-use Rattle.kr_engine.specs.Events.{state}
-use Rattle.kr_engine.specs.Outputs.{outputs, outputs_after, outputs_of, waiting}
+use Rattle.kr_world.specs.Events.{state}
+use Rattle.kr_world.specs.Outputs.{outputs, outputs_after, outputs_of, waiting}
 use Rattle.kr_stream.specs.Frames.{IsOpen, IsEvent}
 use Rattle.kr_run.specs.Session.{Opened, HasRead, all_outputs}
 use Rattle.kr_run.proofs.OutputFrames.{each_both, each_one}

@@ -10,13 +10,13 @@ use Rattle.kr_calls.specs.declared.events.Event.TheVariants as events
 use Rattle.kr_calls.specs.declared.events.Output.{Output}
 use Rattle.kr_defs.specs.declared.limits.TheConstants.{MOST_SESSION_BYTES}
 use Rattle.kr_defs.specs.declared.options.Options.{Options}
-use Rattle.kr_engine.specs.declared.writes.Write.{Write}
-use Rattle.kr_engine.specs.Engine as engines
-use Rattle.kr_engine.specs.Engine.{Core, Hands, IsEngine}
-use Rattle.kr_engine.specs.Events.{state}
-use Rattle.kr_engine.specs.Outputs.{outputs, outputs_of, waiting}
-use Rattle.kr_engine.specs.World.{State, start}
-use Rattle.kr_engine.proofs.AllEvents.{runs_give_outputs}
+use Rattle.kr_world.specs.declared.writes.Write.{Write}
+use Rattle.kr_world.specs.Engine as engines
+use Rattle.kr_world.specs.Engine.{Core, Hands, IsEngine}
+use Rattle.kr_world.specs.Events.{state}
+use Rattle.kr_world.specs.Outputs.{outputs, outputs_of, waiting}
+use Rattle.kr_world.specs.World.{State, start}
+use Rattle.kr_world.proofs.AllEvents.{runs_give_outputs}
 use Rattle.kr_stream.specs.declared.fault.StreamFault.{StreamFault}
 use Rattle.kr_stream.specs.declared.fault.StreamFault.TheVariants as stops
 use Rattle.kr_stream.specs.declared.fault.WriteFault.{WriteFault}

@@ -5,7 +5,7 @@ use Rattle.kr_wire.specs.Grammar.{◌⌢◌, Each, Exactly}
 use Rattle.kr_calls.specs.declared.events.Event.{Event}
 use Rattle.kr_calls.specs.declared.events.Output.{Output}
 use Rattle.kr_defs.specs.declared.options.Options.{Options}
-use Rattle.kr_engine.specs.Outputs.{outputs}
+use Rattle.kr_world.specs.Outputs.{outputs}
 use Rattle.kr_stream.specs.Frames.{IsOpen, IsEvent, IsEnd}
 
 -- how far a session was read: not even its first frame, or that and these events

@@ -3,10 +3,10 @@
 ghost use Rattle.std.specs.Prelude.{◌≡◌, [], ◌∷◌, ◌≤◌, List, OnOk, OnErr, IsErrOf, IsTrue};
 ghost use Rattle.kr_base.specs.Causes.{Rose};
 ghost use Rattle.kr_calls.specs.declared.events.Output.{Output as AnyOutput};
-ghost use Rattle.kr_engine.specs.declared.writes.Write.{Write};
-ghost use Rattle.kr_engine.specs.Engine.{IsEngine, IsSound, writes_in_order, left};
-ghost use Rattle.kr_engine.specs.Outputs.{outputs_of};
-ghost use Rattle.kr_engine.specs.World.{State};
+ghost use Rattle.kr_world.specs.declared.writes.Write.{Write};
+ghost use Rattle.kr_world.specs.Engine.{IsEngine, IsSound, writes_in_order, left};
+ghost use Rattle.kr_world.specs.Outputs.{outputs_of};
+ghost use Rattle.kr_world.specs.World.{State};
 ghost use Rattle.kr_run.specs.Endings.{WroteAll, WroteSome};
 ghost use Rattle.kr_run.specs.inner.Serving.{Drains, Serves};
 

@@ -4,9 +4,9 @@ ghost use Rattle.std.specs.Prelude.{◌≡◌, [], ◌<◌, ◌≤◌, ℕ, List
 ghost use Rattle.kr_base.specs.Causes.{Rose};
 ghost use Rattle.kr_defs.specs.declared.limits.TheConstants.{MOST_SESSION_BYTES};
 ghost use Rattle.kr_defs.specs.OpenOptions.{are_options};
-ghost use Rattle.kr_engine.specs.Engine as engines;
-ghost use Rattle.kr_engine.specs.Engine.{IsEngine, IsSound};
-ghost use Rattle.kr_engine.specs.World.{start};
+ghost use Rattle.kr_world.specs.Engine as engines;
+ghost use Rattle.kr_world.specs.Engine.{IsEngine, IsSound};
+ghost use Rattle.kr_world.specs.World.{start};
 ghost use Rattle.kr_stream.specs.declared.frame.Frame.TheVariants as frames;
 ghost use Rattle.kr_stream.specs.declared.stage.Stage.TheVariants as stages;
 ghost use Rattle.kr_stream.specs.Frames.{IsOpen, IsEvent};

@@ -27,14 +27,14 @@ use Rattle.kr_defs.specs.ImageLaws.{as_items}
 use Rattle.kr_defs.specs.Log.{Log, first_ill}
 use Rattle.kr_defs.proofs.Tests.{both}
 use Rattle.kr_snapshot.specs.Reading.{image_of}
-use Rattle.kr_engine.specs.Commits.{commit, committed_to, is_end}
-use Rattle.kr_engine.specs.Events.{happens, outcome, timed}
-use Rattle.kr_engine.specs.Leaderships.{begun, ended, lead, leads_in, lose, may_begin_at, up_to}
-use Rattle.kr_engine.specs.Reasons as reasons
-use Rattle.kr_engine.specs.Replicas.{batch_or, end_of, follow, follow_batch, followed, image_or, load, load_image, loaded, unless_ill}
-use Rattle.kr_engine.specs.Requests.{after_ask, after_write, decided, is_decided, serve}
-use Rattle.kr_engine.specs.Ticks.{fence_all, lapsed, tick}
-use Rattle.kr_engine.specs.World.{State, hearing, image_of_tip, is_far, tip_of, with_batch}
+use Rattle.kr_world.specs.Commits.{commit, committed_to, is_end}
+use Rattle.kr_world.specs.Events.{happens, outcome, timed}
+use Rattle.kr_world.specs.Leaderships.{begun, ended, lead, leads_in, lose, may_begin_at, up_to}
+use Rattle.kr_world.specs.Reasons as reasons
+use Rattle.kr_world.specs.Replicas.{batch_or, end_of, follow, follow_batch, followed, image_or, load, load_image, loaded, unless_ill}
+use Rattle.kr_world.specs.Requests.{after_ask, after_write, decided, is_decided, serve}
+use Rattle.kr_world.specs.Ticks.{fence_all, lapsed, tick}
+use Rattle.kr_world.specs.World.{State, hearing, image_of_tip, is_far, tip_of, with_batch}
 use Rattle.law_prefix.specs.ReplacedPrefix.{IsLater}
 use Rattle.law_prefix.proofs.AlikeLogs.{shortens_cut, shortens_itself, shortens_written}
 use Rattle.law_prefix.proofs.AlikeStates.{Alike, AlikeEpochs, all_fenced_alike, appended_alike, counted_alike, is_with_past, same_bases, same_images, same_times, same_tips, timed_alike, with_past, written_alike}

@@ -9,9 +9,9 @@ use Rattle.kr_defs.specs.declared.record.Item.{Item}
 use Rattle.kr_defs.specs.Guard.{and_then}
 use Rattle.kr_defs.specs.Image.{Image, empty}
 use Rattle.kr_defs.specs.Log.{Log, apply_all, image_at, tip}
-use Rattle.kr_engine.specs.Leaderships.{cut}
-use Rattle.kr_engine.specs.World.{seen_at, log_with}
-use Rattle.kr_engine.proofs.Logs.{apply_append}
+use Rattle.kr_world.specs.Leaderships.{cut}
+use Rattle.kr_world.specs.World.{seen_at, log_with}
+use Rattle.kr_world.proofs.Logs.{apply_append}
 
 -- the items before the offset of the short log make its image
 pub record Shortens (long short : Log) : Type 0 where

@@ -21,13 +21,13 @@ use Rattle.kr_defs.specs.ImageLaws.{as_items}
 use Rattle.kr_defs.specs.Log.{Log}
 use Rattle.kr_defs.proofs.Tests.{both}
 use Rattle.kr_snapshot.specs.ImageText.{image_text}
-use Rattle.kr_engine.specs.declared.writes.Write.{Write}
-use Rattle.kr_engine.specs.Events.{happens, outcome, timed}
-use Rattle.kr_engine.specs.Outputs.{answers, answers_in, answers_now, append, append_fencings, append_for, appends, if_accepted, images, is_open, is_open_in, new_writes, outputs_by, outputs_of, waiting_after, write_of, writes_of}
-use Rattle.kr_engine.specs.Reasons.{ours}
-use Rattle.kr_engine.specs.Requests.{after_ask, decided, is_decided}
-use Rattle.kr_engine.specs.Ticks.{fence, fencing_of, lapsed}
-use Rattle.kr_engine.specs.World.{State, image_of_end, image_of_tip, tip_of}
+use Rattle.kr_world.specs.declared.writes.Write.{Write}
+use Rattle.kr_world.specs.Events.{happens, outcome, timed}
+use Rattle.kr_world.specs.Outputs.{answers, answers_in, answers_now, append, append_fencings, append_for, appends, if_accepted, images, is_open, is_open_in, new_writes, outputs_by, outputs_of, waiting_after, write_of, writes_of}
+use Rattle.kr_world.specs.Reasons.{ours}
+use Rattle.kr_world.specs.Requests.{after_ask, decided, is_decided}
+use Rattle.kr_world.specs.Ticks.{fence, fencing_of, lapsed}
+use Rattle.kr_world.specs.World.{State, image_of_end, image_of_tip, tip_of}
 use Rattle.law_prefix.specs.ReplacedPrefix.{IsLater, unnumbered}
 use Rattle.law_prefix.proofs.AlikeEvents.{AlikeResults, asked_alike, at_time, outcomes, same_decided, same_lapsed, stays_alike}
 use Rattle.law_prefix.proofs.AlikeStates.{Alike, fenced_alike, is_with_past, same_ends, same_images, same_times, same_tips, with_past}

@@ -14,9 +14,9 @@ use Rattle.kr_defs.specs.Heartbeats.{Heartbeats, heard, leave}
 use Rattle.kr_defs.specs.Image.{Image}
 use Rattle.kr_defs.specs.ImageLaws.{as_items}
 use Rattle.kr_defs.specs.Log.{Log, tip}
-use Rattle.kr_engine.specs.Events.{counted, later, timed}
-use Rattle.kr_engine.specs.Ticks.{fence, fence_all, fencing_of}
-use Rattle.kr_engine.specs.World.{State, hearing, image_of_end, image_of_tip, tip_of, with_batch, log_with}
+use Rattle.kr_world.specs.Events.{counted, later, timed}
+use Rattle.kr_world.specs.Ticks.{fence, fence_all, fencing_of}
+use Rattle.kr_world.specs.World.{State, hearing, image_of_end, image_of_tip, tip_of, with_batch, log_with}
 use Rattle.law_prefix.proofs.AlikeLogs.{Shortens, same_seen, same_seen_at_tip, same_tip, shortens_written}
 use Rattle.law_prefix.proofs.OrderlyStates.{not_earlier, through}
 

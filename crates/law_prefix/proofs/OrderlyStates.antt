@@ -27,23 +27,23 @@ use Rattle.kr_defs.specs.Log.{first_ill, tip}
 use Rattle.kr_defs.proofs.HeartbeatLists.{le_through}
 use Rattle.kr_defs.proofs.Tests.{Gives, both, gives_done, gives_refuse, gives_then, none_is, not_false}
 use Rattle.kr_snapshot.specs.Reading.{image_of}
-use Rattle.kr_engine.specs.Commits.{commit, committed_to, is_end}
-use Rattle.kr_engine.specs.Engine.{Rise}
-use Rattle.kr_engine.specs.Events.{counted, happens, later, outcome, state, timed}
-use Rattle.kr_engine.specs.Leaderships.{begun, ended, lead, leads_in, lose, may_begin_at, up_to}
-use Rattle.kr_engine.specs.Outputs.{new_writes, waiting, waiting_after, writes_from}
-use Rattle.kr_engine.specs.Reasons as reasons
-use Rattle.kr_engine.specs.Replicas.{batch_or, end_of, follow, follow_batch, followed, image_or, load, load_image, loaded, unless_ill}
-use Rattle.kr_engine.specs.Requests.{after_ask, after_write, decided, is_decided, serve}
-use Rattle.kr_engine.specs.Ticks.{fence, fence_all, fencing_of, lapsed, tick}
-use Rattle.kr_engine.specs.World.{State, World, image_of_tip, is_far, start, tip_of, with_batch, log_with}
-use Rattle.kr_engine.proofs.DueWrites.{Goes, batch_leaves, event_goes}
-use Rattle.kr_engine.proofs.Logs.{cut_tip, tip_written}
-use Rattle.kr_engine.proofs.LongerLogs.{rise_more}
-use Rattle.kr_engine.proofs.LossSteps.{not_higher}
-use Rattle.kr_engine.proofs.Places.{moves}
-use Rattle.kr_engine.proofs.WaitingWrites.{state_more, waiting_more, writes_more}
-use Rattle.kr_engine.proofs.WriteEpochs.{AreKnown, IsLed, all_closed, known_both, known_later, led_on, new_known}
+use Rattle.kr_world.specs.Commits.{commit, committed_to, is_end}
+use Rattle.kr_world.specs.Engine.{Rise}
+use Rattle.kr_world.specs.Events.{counted, happens, later, outcome, state, timed}
+use Rattle.kr_world.specs.Leaderships.{begun, ended, lead, leads_in, lose, may_begin_at, up_to}
+use Rattle.kr_world.specs.Outputs.{new_writes, waiting, waiting_after, writes_from}
+use Rattle.kr_world.specs.Reasons as reasons
+use Rattle.kr_world.specs.Replicas.{batch_or, end_of, follow, follow_batch, followed, image_or, load, load_image, loaded, unless_ill}
+use Rattle.kr_world.specs.Requests.{after_ask, after_write, decided, is_decided, serve}
+use Rattle.kr_world.specs.Ticks.{fence, fence_all, fencing_of, lapsed, tick}
+use Rattle.kr_world.specs.World.{State, World, image_of_tip, is_far, start, tip_of, with_batch, log_with}
+use Rattle.kr_world.proofs.DueWrites.{Goes, batch_leaves, event_goes}
+use Rattle.kr_world.proofs.Logs.{cut_tip, tip_written}
+use Rattle.kr_world.proofs.LongerLogs.{rise_more}
+use Rattle.kr_world.proofs.KeptImages.{not_higher}
+use Rattle.kr_world.proofs.Places.{moves}
+use Rattle.kr_world.proofs.WaitingWrites.{state_more, waiting_more, writes_more}
+use Rattle.kr_world.proofs.WriteEpochs.{AreKnown, IsLed, all_closed, known_both, known_later, led_on, new_known}
 
 -- ---- time
 

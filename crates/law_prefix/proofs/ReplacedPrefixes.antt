@@ -22,15 +22,15 @@ use Rattle.kr_defs.proofs.Tests.{not_true}
 use Rattle.kr_snapshot.specs.Grammar.{IsImage}
 use Rattle.kr_snapshot.specs.declared.fault.ImageFault.{ImageFault}
 use Rattle.kr_snapshot.proofs.WholeImages.{image_complete}
-use Rattle.kr_engine.specs.declared.writes.Write.{Write}
-use Rattle.kr_engine.specs.Events.{counted, happens, state}
-use Rattle.kr_engine.specs.Engine.{Rise}
-use Rattle.kr_engine.specs.Outputs.{is_open, outputs_of, waiting, waiting_after, writes_from}
-use Rattle.kr_engine.specs.Reasons.{exhausted, older_image}
-use Rattle.kr_engine.specs.Replicas.{image_or, load_image, loaded}
-use Rattle.kr_engine.specs.World.{State, is_far, start}
-use Rattle.kr_engine.proofs.Logs.{at_tip}
-use Rattle.kr_engine.proofs.WaitingWrites.{state_more}
+use Rattle.kr_world.specs.declared.writes.Write.{Write}
+use Rattle.kr_world.specs.Events.{counted, happens, state}
+use Rattle.kr_world.specs.Engine.{Rise}
+use Rattle.kr_world.specs.Outputs.{is_open, outputs_of, waiting, waiting_after, writes_from}
+use Rattle.kr_world.specs.Reasons.{exhausted, older_image}
+use Rattle.kr_world.specs.Replicas.{image_or, load_image, loaded}
+use Rattle.kr_world.specs.World.{State, is_far, start}
+use Rattle.kr_world.proofs.Logs.{at_tip}
+use Rattle.kr_world.proofs.WaitingWrites.{state_more}
 use Rattle.law_prefix.specs.ReplacedPrefix.{IsLater, ReplacedPrefix, StandsBy, given_after, unnumbered}
 use Rattle.law_prefix.proofs.AlikeEvents.{stays_alike}
 use Rattle.law_prefix.proofs.AlikeOutputs.{outputs_alike, waiting_alike}

@@ -12,9 +12,9 @@ use Rattle.kr_defs.specs.declared.options.Options.{Options}
 use Rattle.kr_defs.specs.Image.{Image}
 use Rattle.kr_defs.specs.Log.{image_at}
 use Rattle.kr_snapshot.specs.Grammar.{IsImage}
-use Rattle.kr_engine.specs.Events.{state}
-use Rattle.kr_engine.specs.Outputs.{outputs_after}
-use Rattle.kr_engine.specs.World.{State, is_far}
+use Rattle.kr_world.specs.Events.{state}
+use Rattle.kr_world.specs.Outputs.{outputs_after}
+use Rattle.kr_world.specs.World.{State, is_far}
 
 -- on standby, with this committed end and this image of what is committed
 pub record StandsBy (s : State) (end : ℕ) (image : Image) : Type 0 where

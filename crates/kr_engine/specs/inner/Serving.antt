@@ -1,5 +1,5 @@
 -- What a client's message makes of an engine.
-use Rattle.std.specs.Prelude.{◌≡◌, ◌&&◌, ℕ, ℤ, Bool, true, false, not, List, [], ◌∷◌, ◌++◌, Option, Some, None, is_some, unwrap_or, if◌then◌else◌}
+use Rattle.std.specs.Prelude.{◌≡◌, ◌&&◌, ℕ, ℤ, Bool, true, false, not, [], ◌∷◌, ◌++◌, Option, Some, None, is_some, unwrap_or, if◌then◌else◌}
 use Rattle.kr_calls.specs.declared.errors.TheConstants.{NOT_CONTROLLER}
 use Rattle.kr_calls.specs.declared.calls.Ask.{Ask}
 use Rattle.kr_calls.specs.declared.calls.Call.{Call}
@@ -15,11 +15,12 @@ use Rattle.kr_calls.specs.Decide.{Decision, decide, is_read, query}
 use Rattle.kr_calls.specs.Refuse.{refuse}
 use Rattle.kr_defs.specs.Image.{Image, empty}
 use Rattle.kr_store.specs.Images.{kept_at}
-use Rattle.kr_engine.specs.declared.writes.Write.{Write}
-use Rattle.kr_engine.specs.Engine.{Core, basis_of, refused}
-use Rattle.kr_engine.specs.Outputs.{error_of}
-use Rattle.kr_engine.specs.Reasons.{exhausted, ours}
-use Rattle.kr_engine.specs.World.{is_far}
+use Rattle.kr_world.specs.declared.writes.Write.{Write}
+use Rattle.kr_world.specs.Engine.{Core, basis_of}
+use Rattle.kr_engine.specs.inner.Changes.{refused}
+use Rattle.kr_world.specs.Outputs.{error_of}
+use Rattle.kr_world.specs.Reasons.{exhausted, ours}
+use Rattle.kr_world.specs.World.{is_far}
 use Rattle.kr_engine.specs.inner.Writing.{Writes}
 
 -- ---- a leading controller's write

@@ -15,11 +15,12 @@ use Rattle.kr_batch.specs.declared.fault.BatchFault.{BatchFault}
 use Rattle.kr_snapshot.specs.declared.fault.ImageFault.{ImageFault}
 use Rattle.kr_snapshot.specs.ReaderState.{kept_once}
 use Rattle.kr_store.specs.Images.{Images, last_image}
-use Rattle.kr_engine.specs.Engine.{Core, adding, refused}
-use Rattle.kr_engine.specs.Entries.{item_entries}
-use Rattle.kr_engine.specs.Reasons.{already_leading, bad_batch, bad_image, exhausted, gap, ill_formed, older_image}
-use Rattle.kr_engine.specs.Replicas.{end_of}
-use Rattle.kr_engine.specs.World.{is_far}
+use Rattle.kr_world.specs.Engine.{Core}
+use Rattle.kr_engine.specs.inner.Changes.{adding, refused}
+use Rattle.kr_world.specs.Entries.{item_entries}
+use Rattle.kr_world.specs.Reasons.{already_leading, bad_batch, bad_image, exhausted, gap, ill_formed, older_image}
+use Rattle.kr_world.specs.Replicas.{end_of}
+use Rattle.kr_world.specs.World.{is_far}
 
 -- an event is refused and leaves the present image, or makes this of the engine
 abbrev pub Settles : Core → Core → Option Reason → Core → Type 0

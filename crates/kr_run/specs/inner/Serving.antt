@@ -6,9 +6,9 @@ use Rattle.kr_wire.specs.Laws.{IsBytes}
 use Rattle.kr_calls.specs.declared.events.Event.{Event}
 use Rattle.kr_calls.specs.declared.events.Output.{Output}
 use Rattle.kr_defs.specs.declared.options.Options.{Options}
-use Rattle.kr_engine.specs.Engine.{Core, Hands, IsEngine, IsStep}
-use Rattle.kr_engine.specs.Runs.{HandsAll, Runs}
-use Rattle.kr_engine.specs.World.{start}
+use Rattle.kr_world.specs.Engine.{Core, Hands, IsEngine, IsStep}
+use Rattle.kr_world.specs.Runs.{HandsAll, Runs}
+use Rattle.kr_world.specs.World.{start}
 use Rattle.kr_stream.specs.declared.fault.StreamFault.{StreamFault}
 use Rattle.kr_stream.specs.declared.fault.StreamFault.TheVariants as stops
 use Rattle.kr_stream.specs.declared.fault.WriteFault.{WriteFault}

@@ -1,7 +1,7 @@
 use Rattle.std.proofs.Common.{◌≤◌, List, length}
 use Rattle.std.specs.Prelude.{IsTrue}
 use Rattle.kr_calls.specs.declared.events.Output.{Output}
-use Rattle.kr_engine.specs.Engine.{writes_in_order, left}
+use Rattle.kr_world.specs.Engine.{writes_in_order, left}
 use Rattle.kr_run.specs.Endings.{WroteAll}
 use Rattle.kr_run.specs.inner.Serving.{HandsSome}
 use Rattle.kr_run.proofs.outputs.write_outputs.Given as goal

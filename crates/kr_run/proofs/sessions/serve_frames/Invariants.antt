@@ -1,7 +1,7 @@
 use Rattle.std.proofs.Common.{◌≡◌, ℕ, ◌≤◌, ◌-◌, List, [], Option}
 use Rattle.kr_defs.specs.declared.limits.TheConstants.{MOST_SESSION_BYTES}
-use Rattle.kr_engine.specs.Engine as engines
-use Rattle.kr_engine.specs.Engine.{IsSound}
+use Rattle.kr_world.specs.Engine as engines
+use Rattle.kr_world.specs.Engine.{IsSound}
 use Rattle.kr_stream.specs.declared.stage.Stage.TheVariants as stages
 use Rattle.kr_run.specs.inner.Serving.{Going}
 use Rattle.kr_run.proofs.sessions.serve_frames.Given as goal

@@ -1,5 +1,0 @@
-use Rattle.kr_bench.proofs.Sizes.{regular}
-use Rattle.kr_bench.proofs.batches.Encoded.encode.Goals as goal
-
-pub encode-requires : goal.encode-requires
-encode-requires c = regular c.args.self.now.batch c.args.self.now.kind c.args.self.now.ours

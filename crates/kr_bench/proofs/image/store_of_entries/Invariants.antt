@@ -1,6 +1,0 @@
-use Rattle.std.specs.Prelude.{IsSome}
-use Rattle.kr_store.specs.Images.{last_kept}
-use Rattle.kr_bench.proofs.image.store_of_entries.Given as goal
-
-abbrev pub invariant-loop-value : goal.invariant-loop-value
-invariant-loop-value g l = IsSome (last_kept l.store)

@@ -1,9 +1,0 @@
-use Rattle.std.proofs.Common.{length}
-use Rattle.kr_engine.specs.Engine.{IsSound, left}
-use Rattle.kr_host.proofs.hosting.hand_out.Given as goal
-
-abbrev pub invariant-loop-output : goal.invariant-loop-output
-invariant-loop-output g l = IsSound l.engine
-
-abbrev pub decreases-loop-output : goal.decreases-loop-output
-decreases-loop-output g l = length (left l.engine)

@@ -1,7 +1,0 @@
-use Rattle.std.proofs.Common.{◌≡◌, take}
-use Rattle.std.specs.Prelude.{map}
-use Rattle.kr_calls.specs.Refuse.{refused_topic_state}
-use Rattle.kr_req.proofs.refusal.refuse_delete_topics.Given as goal
-
-abbrev pub invariant-loop-topic : goal.invariant-loop-topic
-invariant-loop-topic l = l.results ≡ map (refused_topic_state l.error) (take l.topic-index l.topics)

@@ -1,4 +1,0 @@
-use Rattle.kr_requests.proofs.judge.Given as goal
-
-abbrev pub ghosts-counted_row : goal.ghosts-counted_row
-ghosts-counted_row a = record { name = a.blank.name; parts = a.blank.parts }

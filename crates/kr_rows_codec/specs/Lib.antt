@@ -1,4 +1,0 @@
-pub mod MessageWords
-pub mod PrimitiveWords
-pub mod SessionWords
-pub mod Words

@@ -1,7 +1,0 @@
-use Rattle.std.proofs.Common.{◌≡◌, fold, take}
-use Rattle.kr_defs.specs.Heartbeats.{end}
-use Rattle.kr_rows_rules.specs.HeartbeatWords.{operated}
-use Rattle.kr_rows_rules.proofs.heartbeats.heartbeats_answer.Given as goal
-
-abbrev pub invariant-loop-operation : goal.invariant-loop-operation
-invariant-loop-operation l = l.sessions.heartbeats ≡ fold operated end (take l.operation-index l.operations)

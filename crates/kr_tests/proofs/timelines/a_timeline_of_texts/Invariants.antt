@@ -1,4 +1,0 @@
-use Rattle.kr_tests.proofs.timelines.a_timeline_of_texts.Given as goal
-
-abbrev pub ghosts-texts : goal.ghosts-texts
-ghosts-texts g a = record { name = a.blank.name; parts = a.blank.parts }

@@ -1,4 +1,0 @@
-use Rattle.kr_vectors.proofs.stores.apply_row.Given as goal
-
-abbrev pub ghosts-tell_all : goal.ghosts-tell_all
-ghosts-tell_all a = record { name = a.blank.name; parts = a.blank.parts }

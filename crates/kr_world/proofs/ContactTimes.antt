@@ -1,0 +1,85 @@
+-- Nobody is heard of later than now, whatever a broker asks.
+use Rattle.std.proofs.Common.{◌≡◌, ◌∙◌, sym, subst, ℤ, pos, Bool, true, false, cond, List, [], ◌∷◌, refl, not}
+use Rattle.std.proofs.lemmas.Bool.{and_from}
+use Rattle.std.proofs.lemmas.List.Folds.{list_all-append}
+use Rattle.std.specs.Prelude.{◌&&◌, int_le, filter}
+use Rattle.std.specs.List.{list_all}
+use Rattle.std.specs.Ordering.{int_eq}
+use Rattle.kr_calls.specs.declared.broker_heartbeat.BrokerHeartbeat.{BrokerHeartbeat}
+use Rattle.kr_calls.specs.declared.broker_heartbeat.BrokerHeartbeatReply.{BrokerHeartbeatReply}
+use Rattle.kr_calls.specs.declared.calls.Request.{Request}
+use Rattle.kr_calls.specs.declared.calls.Request.TheVariants as requests
+use Rattle.kr_calls.specs.BrokerHeartbeat as heartbeating
+use Rattle.kr_calls.specs.BrokerRegistration as registering
+use Rattle.kr_calls.specs.UnregisterBroker as unregistering
+use Rattle.kr_calls.specs.Decide.{decide, work_of}
+use Rattle.kr_calls.specs.Deciding.{nothing_decided, one}
+use Rattle.kr_calls.specs.NextBasis.{after_contact, after_heartbeat, after_leaving, heartbeats_after, broker_is_stopping}
+use Rattle.kr_calls.specs.NextBasisLaws.{is_of_a_broker}
+use Rattle.kr_calls.proofs.OtherRequests.{others_leave}
+use Rattle.kr_defs.specs.declared.basis.Basis.{Basis}
+use Rattle.kr_defs.specs.declared.basis.Contact.{Contact}
+use Rattle.kr_defs.specs.declared.options.Options.{Options}
+use Rattle.kr_defs.specs.Heartbeats as hearing
+use Rattle.kr_defs.specs.Heartbeats.{Heartbeats}
+use Rattle.kr_defs.specs.Image.{Image}
+use Rattle.kr_defs.proofs.HeartbeatLists.{le_itself}
+use Rattle.kr_defs.proofs.Tests.{both}
+
+-- who is left was heard of in time
+pub left_in_time : (p q : Contact → Bool) (contacts : List Contact) → list_all p contacts ≡ true → list_all p (filter q contacts) ≡ true
+left_in_time p q [] all = refl
+left_in_time p q (c ∷ contacts) all =
+    let parts = both (p c) (list_all p contacts) all in
+    elim (q c) as (λ b. list_all p (cond b (c ∷ filter q contacts) (filter q contacts)) ≡ true) [
+      | true ↦ and_from (p c) (list_all p (filter q contacts)) parts.0 (left_in_time p q contacts parts.1)
+      | false ↦ left_in_time p q contacts parts.1
+    ]
+
+abbrev pub AreInTime : ℤ → Heartbeats → Type 0
+AreInTime now h = list_all (λ (c : Contact). int_le c.time now) h.contacts ≡ true
+
+leaving_in_time : (now : ℤ) (h : Heartbeats) (broker : ℤ) → AreInTime now h → AreInTime now (hearing.leave h broker)
+leaving_in_time now h broker all = left_in_time (λ c. int_le c.time now) (λ c. not (int_eq c.broker broker)) h.contacts all
+
+beating_in_time : (now : ℤ) (h : Heartbeats) (broker offset : ℤ) → AreInTime now h → AreInTime now (hearing.beat h broker now offset)
+beating_in_time now h broker offset all =
+    let p = λ (c : Contact). int_le c.time now in
+    list_all-append p (hearing.contacts_without h.contacts broker) (record { broker = broker; time = now; offset = offset } ∷ [])
+    ∙ and_from (list_all p (hearing.contacts_without h.contacts broker)) (int_le now now && true) (leaving_in_time now h broker all) (and_from (int_le now now) true (le_itself now) refl)
+
+either_in_time : (now : ℤ) (b : Bool) (g h : Heartbeats) → AreInTime now g → AreInTime now h → AreInTime now (cond b g h)
+either_in_time now true g h first then = first
+either_in_time now false g h first then = then
+
+of_contact : (now : ℤ) (h : Heartbeats) (before after : Image) (place : ℤ) (q : BrokerHeartbeat) → AreInTime now h → AreInTime now (after_contact h before after now place q)
+of_contact now h before after place q all =
+    let beaten = beating_in_time now h q.broker q.offset all in
+    either_in_time now (broker_is_stopping after q.broker && not (broker_is_stopping before q.broker)) (hearing.stop (hearing.beat h q.broker now q.offset) q.broker place) (hearing.beat h q.broker now q.offset) beaten beaten
+
+of_heartbeat : (now : ℤ) (h : Heartbeats) (before after : Image) (place : ℤ) (q : BrokerHeartbeat) (p : BrokerHeartbeatReply) → AreInTime now h → AreInTime now (after_heartbeat h before after now place q p)
+of_heartbeat now h before after place q p all =
+    either_in_time now (not (int_eq p.error (pos 0))) h _ all
+    (either_in_time now p.fenced (hearing.leave h q.broker) _ (leaving_in_time now h q.broker all) (of_contact now h before after place q all))
+
+of_leaving : (now : ℤ) (h : Heartbeats) (error broker : ℤ) → AreInTime now h → AreInTime now (after_leaving h error broker)
+of_leaving now h error broker all = either_in_time now (int_eq error (pos 0)) (hearing.leave h broker) h (leaving_in_time now h broker all) all
+
+-- of a request that isn't a broker's own nobody's contact changes
+of_other : (options : Options) (b : Basis) (image : Image) (place : ℤ) (request : Request) → is_of_a_broker request ≡ false → AreInTime b.time (hearing.heard b) → AreInTime b.time (decide options image b place request).heartbeats
+of_other options b image place request other all = subst (AreInTime b.time) (sym (others_leave options b image place request other).heard_of) all
+
+pub decided_in_time : (options : Options) (b : Basis) (image : Image) (place : ℤ) (request : Request) → AreInTime b.time (hearing.heard b) → AreInTime b.time (decide options image b place request).heartbeats
+unfolding work_of registering.decided heartbeating.decided unregistering.decided heartbeats_after
+decided_in_time options b image place (requests.BrokerRegistration q) all = of_leaving b.time (hearing.heard b) (one registering.refused (registering.rule options b) (nothing_decided place image) q).1.error q.broker all
+decided_in_time options b image place (requests.BrokerHeartbeat q) all = of_heartbeat b.time (hearing.heard b) image (work_of options b image place (requests.BrokerHeartbeat q)).0.image place q (one heartbeating.refused (heartbeating.rule options b) (nothing_decided place image) q).1 all
+decided_in_time options b image place (requests.UnregisterBroker q) all = of_leaving b.time (hearing.heard b) (one unregistering.refused (unregistering.rule options) (nothing_decided place image) q).1.error q.broker all
+decided_in_time options b image place (requests.CreateTopics q) all = of_other options b image place (requests.CreateTopics q) refl all
+decided_in_time options b image place (requests.DeleteTopics q) all = of_other options b image place (requests.DeleteTopics q) refl all
+decided_in_time options b image place (requests.CreatePartitions q) all = of_other options b image place (requests.CreatePartitions q) refl all
+decided_in_time options b image place (requests.AlterPartition q) all = of_other options b image place (requests.AlterPartition q) refl all
+decided_in_time options b image place (requests.ElectLeaders q) all = of_other options b image place (requests.ElectLeaders q) refl all
+decided_in_time options b image place (requests.AlterPartitionReassignments q) all = of_other options b image place (requests.AlterPartitionReassignments q) refl all
+decided_in_time options b image place (requests.IncrementalAlterConfigs q) all = of_other options b image place (requests.IncrementalAlterConfigs q) refl all
+decided_in_time options b image place (requests.ListPartitionReassignments q) all = of_other options b image place (requests.ListPartitionReassignments q) refl all
+decided_in_time options b image place (requests.Metadata q) all = of_other options b image place (requests.Metadata q) refl all

@@ -1,0 +1,47 @@
+-- What comes of an event that is accepted, or refused.
+use Rattle.std.proofs.Common.{◌≡◌, sym, subst, List, [], ◌∷◌, ◌++◌, ap}
+use Rattle.std.specs.Prelude.{Result, Ok, Err, filter}
+use Rattle.std.specs.Result.{result_unwrap_or}
+use Rattle.kr_calls.specs.declared.events.Event.{Event}
+use Rattle.kr_calls.specs.declared.events.Reason.{Reason}
+use Rattle.kr_calls.specs.declared.events.Output.TheVariants as given
+use Rattle.kr_defs.specs.declared.options.Options.{Options}
+use Rattle.kr_world.specs.declared.writes.Write.{Write}
+use Rattle.kr_world.specs.Engine.{Core, IsEngine}
+use Rattle.kr_world.specs.Entries.{entries_added, entries_by, log_entries}
+use Rattle.kr_world.specs.Events.{counted, happens, next_number, outcome, timed}
+use Rattle.kr_world.specs.Outputs.{if_accepted, is_open_in, outputs_by, outputs_of, outputs_then, waiting_after, writes_of}
+use Rattle.kr_world.specs.World.{State}
+
+abbrev pub refuses : Reason → Result State Reason
+refuses reason = Err reason
+
+module _ (e : Core) (options : Options) (s : State) (writes : List Write) (event : Event) where
+  abbrev StandsBy : Result State Reason → Type 0
+  StandsBy r =
+      IsEngine e (counted (result_unwrap_or r (timed s event)))
+      (filter (is_open_in (counted (result_unwrap_or r (timed s event))).world) (writes ++ if_accepted r (writes_of options (timed s event) event)))
+
+  pub stands_accepted : (after : State) → outcome options (timed s event) event ≡ Ok after
+      → IsEngine e (counted after) (filter (is_open_in after.world) (writes ++ writes_of options (timed s event) event))
+      → IsEngine e (happens options s event) (waiting_after options s writes event)
+  stands_accepted after is stands = subst StandsBy (sym is) stands
+
+  pub stands_refused : (reason : Reason) → outcome options (timed s event) event ≡ Err reason
+      → IsEngine e (counted (timed s event)) (filter (is_open_in s.world) (writes ++ []))
+      → IsEngine e (happens options s event) (waiting_after options s writes event)
+  stands_refused reason is stands = subst StandsBy (sym is) stands
+
+  pub outputs_accepted : (after : State) → outcome options (timed s event) event ≡ Ok after
+      → outputs_of options s writes event ≡ outputs_then options (timed s event) writes event after
+  outputs_accepted after is = ap (outputs_by options (timed s event) writes event) is
+
+  pub outputs_refused : (reason : Reason) → outcome options (timed s event) event ≡ Err reason
+      → outputs_of options s writes event ≡ given.Refused (next_number s.world.count) reason ∷ []
+  outputs_refused reason is = ap (outputs_by options (timed s event) writes event) is
+
+  pub entries_accepted : (after : State) → outcome options (timed s event) event ≡ Ok after → log_entries options s event ≡ entries_added s event after
+  entries_accepted after is = ap (entries_by s event) is
+
+  pub entries_refused : (reason : Reason) → outcome options (timed s event) event ≡ Err reason → log_entries options s event ≡ []
+  entries_refused reason is = ap (entries_by s event) is

@@ -1,0 +1,13 @@
+pub mod Commits
+pub mod Engine
+pub mod Entries
+pub mod Events
+pub mod Leaderships
+pub mod Outputs
+pub mod Reasons
+pub mod Replicas
+pub mod Requests
+pub mod Runs
+pub mod SafeSteps
+pub mod Ticks
+pub mod World

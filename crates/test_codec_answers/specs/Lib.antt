@@ -1,0 +1,6 @@
+pub mod FoldWords
+pub mod ImageWords
+pub mod MessageWords
+pub mod PrimitiveWords
+pub mod SessionWords
+pub mod Words

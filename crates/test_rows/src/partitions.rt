@@ -1,0 +1,241 @@
+//! Rows on changes of partitions.
+
+use kr_defs::{Facts, Ids, Mode, Partition, PartitionChange, Want};
+use std::alloc::Global;
+use test_rule_answers::{
+    build_answer, completes_answer, elect_answer, eligible_answer, merge_answer, target_answer,
+};
+use test_words::{Fields, RowFault};
+
+/// A partition, and what is asked of it.
+#[derive(Drop)]
+struct Asked {
+    partition: Partition,
+    want: Want,
+    facts: Facts,
+}
+
+fn no_partition(alloc: Global) -> Partition {
+    Partition {
+        replicas: Ids::new(alloc),
+        in_sync: Ids::new(alloc),
+        eligible: Ids::new(alloc),
+        last_known: Ids::new(alloc),
+        adding: Ids::new(alloc),
+        removing: Ids::new(alloc),
+        leader: -1,
+        recovery: 0,
+        leader_epoch: 0,
+        partition_epoch: 0,
+    }
+}
+
+fn no_want(alloc: Global) -> Want {
+    Want {
+        replicas: Ids::new(alloc),
+        adding: Ids::new(alloc),
+        removing: Ids::new(alloc),
+        in_sync: Ids::new(alloc),
+        recovery: 0,
+        mode: Mode::Plain,
+        restarted: None,
+    }
+}
+
+fn no_facts(alloc: Global) -> Facts {
+    Facts {
+        active: Ids::new(alloc),
+        unclean: false,
+        minimum: 1,
+    }
+}
+
+fn no_change() -> PartitionChange {
+    PartitionChange {
+        in_sync: None,
+        replicas: None,
+        removing: None,
+        adding: None,
+        eligible: None,
+        last_known: None,
+        leader: None,
+        recovery: None,
+    }
+}
+
+impl Asked {
+    fn nothing(alloc: Global) -> Asked {
+        Asked {
+            partition: no_partition(alloc),
+            want: no_want(alloc),
+            facts: no_facts(alloc),
+        }
+    }
+}
+
+// The replicas, those in sync, the eligible, the last known, the added and the removed ones.
+fn read_lists(fields: &mut Fields, partition: &mut Partition) -> Result<(), RowFault> {
+    fields.ids(&mut partition.replicas)?;
+    fields.ids(&mut partition.in_sync)?;
+    fields.ids(&mut partition.eligible)?;
+    fields.ids(&mut partition.last_known)?;
+    fields.ids(&mut partition.adding)?;
+    fields.ids(&mut partition.removing)
+}
+
+// The lists; then leader and recovery, and the epochs of the leader and of the partition.
+fn read_partition(fields: &mut Fields, partition: &mut Partition) -> Result<(), RowFault> {
+    read_lists(fields, partition)?;
+    partition.leader = fields.number()?;
+    partition.recovery = fields.number()?;
+    partition.leader_epoch = fields.number()?;
+    partition.partition_epoch = fields.number()?;
+    Ok(())
+}
+
+fn read_mode(fields: &mut Fields) -> Result<Mode, RowFault> {
+    match fields.word()? {
+        "Plain" => Ok(Mode::Plain),
+        "Preferred" => Ok(Mode::Preferred),
+        "Unclean" => Ok(Mode::Unclean),
+        _ => Err(RowFault::Fields),
+    }
+}
+
+// The fields in the order of their tags, `.` for one that is absent.
+fn read_change(
+    alloc: Global,
+    fields: &mut Fields,
+    change: &mut PartitionChange,
+) -> Result<(), RowFault> {
+    change.in_sync = fields.ids_or_none(alloc)?;
+    change.replicas = fields.ids_or_none(alloc)?;
+    change.removing = fields.ids_or_none(alloc)?;
+    change.adding = fields.ids_or_none(alloc)?;
+    change.eligible = fields.ids_or_none(alloc)?;
+    change.last_known = fields.ids_or_none(alloc)?;
+    change.leader = fields.number_or_none()?;
+    change.recovery = fields.number_or_none()?;
+    Ok(())
+}
+
+// The lists that are asked for, recovery and mode, and a broker that has restarted uncleanly.
+fn read_want(fields: &mut Fields, want: &mut Want) -> Result<(), RowFault> {
+    fields.ids(&mut want.replicas)?;
+    fields.ids(&mut want.adding)?;
+    fields.ids(&mut want.removing)?;
+    fields.ids(&mut want.in_sync)?;
+    want.recovery = fields.number()?;
+    want.mode = read_mode(fields)?;
+    want.restarted = fields.number_or_none()?;
+    Ok(())
+}
+
+// The active brokers, whether unclean election is on, and the least number in sync.
+fn read_facts(fields: &mut Fields, facts: &mut Facts) -> Result<(), RowFault> {
+    fields.ids(&mut facts.active)?;
+    facts.unclean = fields.number()?;
+    facts.minimum = fields.number()?;
+    Ok(())
+}
+
+/// PARTITION / CHANGE
+pub(crate) fn merge_row(alloc: Global, fields: &mut Fields) -> Result<String, RowFault> {
+    let mut partition = no_partition(alloc);
+    read_partition(fields, &mut partition)?;
+    fields.bar()?;
+    let mut change = no_change();
+    read_change(alloc, fields, &mut change)?;
+    Ok(merge_answer(alloc, &partition, &change)?)
+}
+
+pub(crate) fn target_row(alloc: Global, fields: &mut Fields) -> Result<String, RowFault> {
+    let mut partition = no_partition(alloc);
+    read_partition(fields, &mut partition)?;
+    Ok(target_answer(alloc, &partition)?)
+}
+
+// The replicas, those added, those removed and those in sync.
+fn read_reassignment(fields: &mut Fields, want: &mut Want) -> Result<(), RowFault> {
+    fields.ids(&mut want.replicas)?;
+    fields.ids(&mut want.adding)?;
+    fields.ids(&mut want.removing)?;
+    fields.ids(&mut want.in_sync)
+}
+
+pub(crate) fn completes_row(alloc: Global, fields: &mut Fields) -> Result<String, RowFault> {
+    let mut want = no_want(alloc);
+    read_reassignment(fields, &mut want)?;
+    Ok(completes_answer(
+        alloc,
+        &want.replicas,
+        &want.adding,
+        &want.removing,
+        &want.in_sync,
+    )?)
+}
+
+// PARTITION / the replicas, those in sync, the minimum and a restarted broker.
+fn read_standing_by(fields: &mut Fields, asked: &mut Asked) -> Result<(), RowFault> {
+    read_partition(fields, &mut asked.partition)?;
+    fields.bar()?;
+    fields.ids(&mut asked.want.replicas)?;
+    fields.ids(&mut asked.want.in_sync)?;
+    asked.facts.minimum = fields.number()?;
+    asked.want.restarted = fields.number_or_none()?;
+    Ok(())
+}
+
+pub(crate) fn eligible_row(alloc: Global, fields: &mut Fields) -> Result<String, RowFault> {
+    let mut asked = Asked::nothing(alloc);
+    read_standing_by(fields, &mut asked)?;
+    Ok(eligible_answer(
+        alloc,
+        &asked.partition,
+        &asked.want.replicas,
+        &asked.want.in_sync,
+        asked.facts.minimum,
+        asked.want.restarted,
+    )?)
+}
+
+// PARTITION / the replicas, those in sync, the mode and a restarted broker / FACTS
+fn read_election(fields: &mut Fields, asked: &mut Asked) -> Result<(), RowFault> {
+    read_partition(fields, &mut asked.partition)?;
+    fields.bar()?;
+    fields.ids(&mut asked.want.replicas)?;
+    fields.ids(&mut asked.want.in_sync)?;
+    asked.want.mode = read_mode(fields)?;
+    asked.want.restarted = fields.number_or_none()?;
+    fields.bar()?;
+    read_facts(fields, &mut asked.facts)
+}
+
+pub(crate) fn elect_row(alloc: Global, fields: &mut Fields) -> Result<String, RowFault> {
+    let mut asked = Asked::nothing(alloc);
+    read_election(fields, &mut asked)?;
+    Ok(elect_answer(
+        alloc,
+        &asked.partition,
+        &asked.want.replicas,
+        &asked.want.in_sync,
+        asked.want.mode,
+        asked.want.restarted,
+        &asked.facts,
+    )?)
+}
+
+// PARTITION / WANT / FACTS
+fn read_build(fields: &mut Fields, asked: &mut Asked) -> Result<(), RowFault> {
+    read_partition(fields, &mut asked.partition)?;
+    fields.bar()?;
+    read_want(fields, &mut asked.want)?;
+    fields.bar()?;
+    read_facts(fields, &mut asked.facts)
+}
+
+pub(crate) fn build_row(alloc: Global, fields: &mut Fields) -> Result<String, RowFault> {
+    let mut asked = Asked::nothing(alloc);
+    read_build(fields, &mut asked)?;
+    Ok(build_answer(alloc, &asked.partition, &asked.want, &asked.facts)?)
+}

@@ -1,0 +1,42 @@
+//! What a row asks, read from its fields, and the answer.
+
+use crate::codecs::{
+    batch_row, dump_row, fold_row, image_row, message_row, primitive_row, record_row, session_row,
+};
+use crate::heartbeats::heartbeats_row;
+use crate::kinds::Kind;
+use crate::partitions::{build_row, completes_row, elect_row, eligible_row, merge_row, target_row};
+use crate::places::place_row;
+use crate::stores::apply_row;
+use std::alloc::Global;
+use test_words::{Fields, RowFault};
+
+/// The answer to what a row of this kind asks.
+pub(crate) fn answer(alloc: Global, kind: Kind, asked: &str) -> Result<String, RowFault> {
+    let mut fields = Fields::new(asked);
+    let text = answer_to(alloc, kind, &mut fields)?;
+    fields.end()?;
+    Ok(text)
+}
+
+fn answer_to(alloc: Global, kind: Kind, fields: &mut Fields) -> Result<String, RowFault> {
+    match kind {
+        Kind::Primitives => primitive_row(alloc, fields),
+        Kind::Records => record_row(alloc, fields),
+        Kind::Batches => batch_row(alloc, fields),
+        Kind::Merge => merge_row(alloc, fields),
+        Kind::Target => target_row(alloc, fields),
+        Kind::Completes => completes_row(alloc, fields),
+        Kind::Eligible => eligible_row(alloc, fields),
+        Kind::Elect => elect_row(alloc, fields),
+        Kind::Build => build_row(alloc, fields),
+        Kind::Place => place_row(alloc, fields),
+        Kind::Sessions => session_row(alloc, fields),
+        Kind::Messages => message_row(alloc, fields),
+        Kind::Heartbeats => heartbeats_row(alloc, fields),
+        Kind::Apply => apply_row(alloc, fields),
+        Kind::Images => image_row(alloc, fields),
+        Kind::Fold => fold_row(alloc, fields),
+        Kind::Dump => dump_row(alloc, fields),
+    }
+}

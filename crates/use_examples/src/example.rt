@@ -1,0 +1,40 @@
+//! The examples by their words.
+
+use crate::image::print_image;
+use crate::plan::print_plan;
+use crate::records::print_batch;
+use std::io::Print;
+
+/// What a caller does.
+#[derive(Clone, Copy, Debug, PartialEq, Eq)]
+pub(crate) enum Example {
+    /// A planner asks the rules.
+    Plan,
+    /// The author of a tool reads a record batch.
+    Inspect,
+    /// The author of a tool reads an image.
+    Show,
+}
+
+/// The example of this word.
+pub(crate) fn example_of(word: &str) -> Option<Example> {
+    match word {
+        "plan" => Some(Example::Plan),
+        "inspect" => Some(Example::Inspect),
+        "show" => Some(Example::Show),
+        _ => None,
+    }
+}
+
+/// Does the example with these bytes, and prints what comes of it. An error tells the one fault of the bytes.
+pub(crate) fn print_example<R: Print + AllocGlobal>(
+    rt: &R,
+    example: Example,
+    bytes: &[u8],
+) -> anyhow::Result<()> {
+    match example {
+        Example::Plan => print_plan(rt),
+        Example::Inspect => print_batch(rt, bytes),
+        Example::Show => print_image(rt, bytes),
+    }
+}

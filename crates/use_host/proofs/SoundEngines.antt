@@ -1,0 +1,32 @@
+-- An engine that stands for past events stands for more after a step, and after an output is handed out.
+use Rattle.std.proofs.Common.{◌<◌, [], length, ap, arith}
+use Rattle.std.specs.Prelude.{Option, Some, IsTrue}
+use Rattle.kr_calls.specs.declared.events.Event.{Event}
+use Rattle.kr_calls.specs.declared.events.Output.{Output}
+use Rattle.kr_world.specs.Engine.{Core, Hands, IsEngine, IsSound, IsStep, writes_in_order, left}
+use Rattle.kr_world.specs.Events.{happens}
+use Rattle.kr_world.specs.Outputs.{waiting_after}
+use Rattle.kr_world.specs.World.{start}
+
+pub opened_sound : (e : Core) → IsEngine e start [] → IsSound e
+opened_sound e stands = record { state = start; writes = []; stands = stands }
+
+pub stepped_sound : (before after : Core) (event : Event) → IsStep before after event → IsSound before → IsSound after
+stepped_sound before after event step sound = record {
+  state = happens before.options sound.state event;
+  writes = waiting_after before.options sound.state sound.writes event;
+  stands = step.stands sound.state sound.writes sound.stands;
+}
+
+pub handed_sound : (before after : Core) (output : Option Output) → Hands before after output → IsSound before → IsSound after
+handed_sound before after output hands sound = record {
+  state = sound.state;
+  writes = sound.writes;
+  stands = hands.stands sound.state sound.writes sound.stands;
+}
+
+pub sound_order : (e : Core) → IsSound e → IsTrue (writes_in_order e.held)
+sound_order e sound = sound.stands.ordered
+
+pub fewer_left : (before after : Core) (output : Output) → Hands before after (Some output) → length (left after) < length (left before)
+fewer_left before after output hands = let n = ap length hands.in_order in omega (arith, n)

@@ -1,0 +1,59 @@
+//! One event at a time, and all outputs of each.
+
+ghost use Rattle.std.specs.Prelude.{◌≡◌, ◌≤◌, [], OnOk};
+ghost use Rattle.kr_world.specs.Engine.{IsSound, left};
+
+use kr_base::Steps;
+use kr_calls::{Event, Output};
+use kr_engine::Engine;
+use std::alloc::AllocError;
+use std::io::Print;
+use std::sync::ledger::Ledger;
+
+fn print_output<R: Print>(rt: &R, output: &Output) -> anyhow::Result<()> {
+    match output {
+        Output::Append { bytes } => println!(rt; "append a batch of {} bytes", bytes.len())?,
+        Output::Reply {
+            client,
+            correlation,
+            ..
+        } => println!(rt; "reply to client {client}, request {correlation}")?,
+        Output::Refused { event, reason } => {
+            println!(rt; "event {event} is refused for reason {}", reason.number)?
+        }
+        Output::Image { bytes } => println!(rt; "the committed image, {} bytes", bytes.len())?,
+    }
+    Ok(())
+}
+
+// All that the last event gives, in order.
+#[tactic(auto, using(crate::proofs::SoundEngines::handed_sound, crate::proofs::SoundEngines::sound_order, crate::proofs::SoundEngines::fewer_left))]
+fn hand_out<R: Print>(rt: &R, engine: &mut Engine) -> anyhow::Result<()>
+    requires { IsSound engine.old }
+    ensures sound { OnOk result (IsSound engine.new) }
+    ensures drained { OnOk result (left engine.new ≡ []) }
+{
+    while let Some(output) = engine.next_output() {
+        print_output(rt, &output)?;
+    }
+    Ok(())
+}
+
+/// Hands an event over, and prints a line for each output. An engine that found no memory is of no further use.
+#[tactic(auto, using(crate::proofs::SoundEngines::stepped_sound))]
+pub(crate) fn take<L: Ledger, R: Print>(
+    rt: &R,
+    engine: &mut Engine,
+    event: &Event,
+    steps: &mut Steps<L>,
+) -> anyhow::Result<()>
+    requires sound { IsSound engine.old }
+    requires drained { left engine.old ≡ [] }
+    ensures sound { OnOk result (IsSound engine.new) }
+    ensures drained { OnOk result (left engine.new ≡ []) }
+{
+    match engine.step(event, steps) {
+        Ok(()) => hand_out(rt, engine),
+        Err(_no_memory) => Err(AllocError.into()),
+    }
+}
