@@ -9,8 +9,8 @@ pub fn runs_give_outputs()
     ensures { RunsGiveOutputs }
 {}
 
-/// Each change of a partition that a step appends is safe where it stands: what it appends as a leader, whatever happened. The
-/// first replica in sync leads each new partition.
+/// Each change of a partition that a step appends is safe where it stands: what it appends as a leader, whatever happened. Each
+/// new partition is led by the first of its replicas in sync, of which there is one.
 pub fn steps_are_safe()
     ensures { StepsAreSafe }
 {}
