@@ -38,9 +38,9 @@ all_open p (write ∷ writes) =
 
 -- ---- the new write is of the led epoch, and needs the new tip
 
-led_epoch : (leading : Option ℤ) (epoch : ℤ) → leads_in leading epoch ≡ true → epoch ≡ led_epoch leading
-led_epoch None epoch is = absurd cc
-led_epoch (Some led) epoch is = sym (same_id led epoch is)
+led_in : (leading : Option ℤ) (epoch : ℤ) → leads_in leading epoch ≡ true → epoch ≡ led_epoch leading
+led_in None epoch is = absurd cc
+led_in (Some led) epoch is = sym (same_id led epoch is)
 
 pub need_more : (m n : ℕ) (need : ℤ) → m ≤ n → int_le need (pos m) ≡ true → int_le need (pos n) ≡ true
 need_more m n (pos a) low h = grind (arith, nat_tests)
@@ -53,7 +53,7 @@ all_behind leading end m n last low epoch need (write ∷ writes) opens reached 
     let tests = both (is_open leading end write) (list_all (is_open leading end) writes) opens in
     let parts = both (leads_in leading write.epoch) (int_lt end write.need) tests.0 in
     let same : int_eq write.epoch last.epoch ≡ true =
-    ap (int_eq write.epoch) (epoch ∙ sym (led_epoch leading write.epoch parts.0)) ∙ id_itself write.epoch in
+    ap (int_eq write.epoch) (epoch ∙ sym (led_in leading write.epoch parts.0)) ∙ id_itself write.epoch in
     let later : int_le write.need last.need ≡ true = ap (int_le write.need) need ∙ need_more m n write.need low reached.0 in
     and_from (is_behind write last) (list_all (λ (write : Write). is_behind write last) writes)
     (and_from (int_eq write.epoch last.epoch) (int_le write.need last.need) same later)
