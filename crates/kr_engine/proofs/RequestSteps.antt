@@ -76,8 +76,8 @@ module _ (e after : Core) (client : ℕ) (call : Call) (w : TakesWrite e after c
   abbrev refusal : Reply
   refusal = refuse call.request NOT_CONTROLLER
 
-  abbrev decision : Decision
-  decision = decided_by e call.request
+  abbrev made : Decision
+  made = decided_by e call.request
 
   abbrev state_by : Decision → State
   state_by d = record { world = with_records s.world d.records; basis = worlds.with_heartbeats s.basis d.heartbeats }
@@ -87,20 +87,20 @@ module _ (e after : Core) (client : ℕ) (call : Call) (w : TakesWrite e after c
       ap (λ (c : Core). decided_by c request) (is_core e s writes k)
       ∙ ap (λ i. decide e.options i s.basis (pos (tip_of s)) request) (sym (same_image e s writes k))
 
-  longer : IsLonger e after s decision.records
-  longer = longer_by e after s writes k decision.records w.writes
+  longer : IsLonger e after s made.records
+  longer = longer_by e after s writes k made.records w.writes
 
   leads : IsSome s.world.leading
   leads = (both (is_some s.world.leading) (not (is_read request)) takes).0
 
-  image_is : after.images.tip ≡ decision.image
-  image_is = same_ok (apply_records e.images.tip decision.records) after.images.tip decision.image w.writes.meaning (requests_stand e.options e.time e.heard e.images.tip e.tip request)
+  image_is : after.images.tip ≡ made.image
+  image_is = same_ok (apply_records e.images.tip made.records) after.images.tip made.image w.writes.meaning (requests_stand e.options e.time e.heard e.images.tip e.tip request)
 
   -- the writes that wait, and the new one
   write_is : waiting_write e client call after.tip ≡ write_of e.options s client call
   write_is =
-      ap (λ l. write_with client call l after.tip decision.reply refusal) k.leading
-      ∙ (ap (λ z. write_with client call s.world.leading z decision.reply refusal) (longer.tip_is ∙ ap (λ d. pos (tip_of (state_by d))) same_decision)
+      ap (λ l. write_with client call l after.tip made.reply refusal) k.leading
+      ∙ (ap (λ z. write_with client call s.world.leading z made.reply refusal) (longer.tip_is ∙ ap (λ d. pos (tip_of (state_by d))) same_decision)
       ∙ (ap (λ (d : Decision). write_with client call s.world.leading (pos (tip_of (after_write e.options s request))) d.reply refusal) same_decision
       ∙ ap (λ b. write_with client call s.world.leading (pos (tip_of (cond b (after_write e.options s request) s))) (decision e.options s request).reply refusal) (sym takes)))
 
@@ -110,58 +110,58 @@ module _ (e after : Core) (client : ℕ) (call : Call) (w : TakesWrite e after c
   held_is : after.held ≡ writes ++ last ∷ []
   held_is = w.held ∙ (ap (λ hs. hs ++ waiting_write e client call after.tip ∷ []) (sym all_wait ∙ k.waits) ∙ ap (λ (x : Write). writes ++ x ∷ []) write_is)
 
-  leading_is : after.leading ≡ (state_by decision).world.leading
+  leading_is : after.leading ≡ (state_by made).world.leading
   leading_is = ap (λ (a : Core). a.leading) w.writes.same ∙ (k.leading ∙ sym longer.leading_is)
 
-  committed_is : after.committed ≡ pos (state_by decision).world.committed
+  committed_is : after.committed ≡ pos (state_by made).world.committed
   committed_is = ap (λ (a : Core). a.committed) w.writes.same ∙ (k.committed ∙ ap pos (sym longer.committed_is))
 
   abbrev then : Decision → List Write
   then d = filter (is_open_in (state_by d).world) (writes ++ last ∷ [])
 
-  waits : filter (is_open after.leading after.committed) after.held ≡ then decision
+  waits : filter (is_open after.leading after.committed) after.held ≡ then made
   waits =
       ap (λ l. filter (is_open l after.committed) after.held) leading_is
-      ∙ (ap (λ c. filter (is_open (state_by decision).world.leading c) after.held) committed_is
-      ∙ ap (filter (is_open_in (state_by decision).world)) held_is)
+      ∙ (ap (λ c. filter (is_open (state_by made).world.leading c) after.held) committed_is
+      ∙ ap (filter (is_open_in (state_by made).world)) held_is)
 
   abbrev needs : ℕ → Write → Type 0
   needs n write = int_le write.need (pos n) ≡ true
 
-  last_needs : last.need ≡ pos (tip_of s + length decision.records)
+  last_needs : last.need ≡ pos (tip_of s + length made.records)
   last_needs = sym (ap (λ (x : Write). x.need) write_is) ∙ (longer.tip_is ∙ ap pos longer.higher)
 
   ordered : writes_in_order after.held ≡ true
   ordered =
       ap writes_in_order w.held
       ∙ order_more e.held (waiting_write e client call after.tip) k.ordered
-      (all_behind e.leading e.committed (tip_of s) (tip_of s + length decision.records) (waiting_write e client call after.tip) (omega arith) refl (ap (λ (x : Write). x.need) write_is ∙ last_needs) e.held
+      (all_behind e.leading e.committed (tip_of s) (tip_of s + length made.records) (waiting_write e client call after.tip) (omega arith) refl (ap (λ (x : Write). x.need) write_is ∙ last_needs) e.held
       (subst (λ hs. list_all (is_open e.leading e.committed) hs ≡ true) all_wait (all_open (is_open e.leading e.committed) e.held))
       (subst (λ (hs : List Write). AllByRecursion (needs (tip_of s)) hs) (sym k.waits ∙ all_wait) (recursion_from_All (needs (tip_of s)) writes k.is_state.reached)))
 
-  reached : All (needs (tip_of s + length decision.records)) (then decision)
+  reached : All (needs (tip_of s + length made.records)) (then made)
   reached =
-      all_reached (is_open_in (state_by decision).world) (needs (tip_of s + length decision.records)) writes last
-      (reached_later (tip_of s) (tip_of s + length decision.records) writes (omega arith) k.is_state.reached)
-      (ap (λ z. int_le z (pos (tip_of s + length decision.records))) last_needs ∙ le_itself (pos (tip_of s + length decision.records)))
+      all_reached (is_open_in (state_by made).world) (needs (tip_of s + length made.records)) writes last
+      (reached_later (tip_of s) (tip_of s + length made.records) writes (omega arith) k.is_state.reached)
+      (ap (λ z. int_le z (pos (tip_of s + length made.records))) last_needs ∙ le_itself (pos (tip_of s + length made.records)))
 
   -- whom is heard of
-  hears : IsValid e.images.tip → HearsOf decision.heartbeats after.images.tip
+  hears : IsValid e.images.tip → HearsOf made.heartbeats after.images.tip
   hears valid =
-      subst (HearsOf decision.heartbeats) (sym image_is)
+      subst (HearsOf made.heartbeats) (sym image_is)
       (requests_keep_hearing e.options (basis_of e) e.images.tip e.tip request valid
       (subst (λ h. HearsOf h e.images.tip) (sym k.heard_of) (subst (HearsOf (hearing.heard s.basis)) (same_image e s writes k) (k.is_state.hears leads))))
 
-  in_time : AreInTime s.basis.time decision.heartbeats
+  in_time : AreInTime s.basis.time made.heartbeats
   in_time =
-      subst (λ t. AreInTime t decision.heartbeats) k.time
+      subst (λ t. AreInTime t made.heartbeats) k.time
       (decided_in_time e.options (basis_of e) e.images.tip e.tip request
       (subst (λ h. AreInTime e.time h) (sym k.heard_of) (subst (λ t. AreInTime t (hearing.heard s.basis)) (sym k.time) k.is_state.in_time)))
 
-  stands_by : IsValid e.images.tip → is_far e.tip ≡ false → IsEngine after (state_by decision) (then decision)
+  stands_by : IsValid e.images.tip → is_far e.tip ≡ false → IsEngine after (state_by made) (then made)
   stands_by valid free =
-      engine_behind e after s writes (then decision) k decision.records w.writes (state_by decision).basis refl refl w.heard
-      (room_for_one (tip_of s) (length decision.records) (ap is_far (sym k.tip) ∙ free) w.writes.few)
+      engine_behind e after s writes (then made) k made.records w.writes (state_by made).basis refl refl w.heard
+      (room_for_one (tip_of s) (length made.records) (ap is_far (sym k.tip) ∙ free) w.writes.few)
       leads (hears valid) in_time waits ordered reached
 
   pub write_stands : IsValid e.images.tip → is_far e.tip ≡ false → IsEngine after (after_write e.options s call.request) (filter (is_open_in (after_write e.options s call.request).world) (writes ++ write_of e.options s client call ∷ []))
@@ -174,7 +174,7 @@ module _ (e after : Core) (client : ℕ) (call : Call) (w : TakesWrite e after c
     writes = batch_written s.world (as_items (decision e.options s call.request).records);
     told =
         ap (λ (a : Core). a.fresh) w.writes.same
-        ∙ (ap (λ t. e.fresh ++ item_entries t (as_items decision.records)) k.tip
+        ∙ (ap (λ t. e.fresh ++ item_entries t (as_items made.records)) k.tip
         ∙ ap (λ (d : Decision). e.fresh ++ item_entries (pos (tip_of s)) (as_items d.records)) same_decision);
   }
 
@@ -182,14 +182,14 @@ module _ (e after : Core) (client : ℕ) (call : Call) (w : TakesWrite e after c
   given_is : after.given ≡ e.given ++ append s (decision e.options s request).records
   given_is =
       ap (λ (a : Core). a.given) w.writes.same
-      ∙ (ap (λ (c : Core). e.given ++ append_output c decision.records) (is_core e s writes k)
+      ∙ (ap (λ (c : Core). e.given ++ append_output c made.records) (is_core e s writes k)
       ∙ ap (λ (d : Decision). e.given ++ append s d.records) same_decision)
 
   due_is : answers after.leading after.committed after.held ≡ answers_in (after_write e.options s request).world (writes ++ last ∷ [])
   due_is =
       ap (λ l. answers l after.committed after.held) leading_is
-      ∙ (ap (λ c. answers (state_by decision).world.leading c after.held) committed_is
-      ∙ (ap (answers_in (state_by decision).world) held_is
+      ∙ (ap (λ c. answers (state_by made).world.leading c after.held) committed_is
+      ∙ (ap (answers_in (state_by made).world) held_is
       ∙ ap (λ d. answers_in (state_by d).world (writes ++ last ∷ [])) same_decision))
 
   pub write_left : e.given ≡ [] → e.refusal ≡ None

@@ -24,7 +24,7 @@ use Rattle.kr_world.specs.Events.{with_next_number, time_after, next_number, out
 use Rattle.kr_world.specs.Outputs.{answers, answers_in, append_fencings, is_open, is_open_in}
 use Rattle.kr_world.specs.Reasons.{exhausted}
 use Rattle.kr_engine.specs.inner.Tick.{FencesAll, SettlesTick, lapsed_contacts, tick_reason}
-use Rattle.kr_world.specs.Tick.{fence_all, lapsed_contacts, tick}
+use Rattle.kr_world.specs.Tick.{fence_all, lapsed_contacts as lapsed_in, tick}
 use Rattle.kr_world.specs.World.{State, is_far, tip_of}
 use Rattle.kr_engine.proofs.LeadSteps.{none_row}
 use Rattle.kr_world.proofs.LogEntries.{gained, gains_none}
@@ -106,7 +106,7 @@ module _ (e : Core) (now : ℤ) (d : IsDrained e) where
   before = timed_core e event
 
   abbrev after_tick : State → State
-  after_tick s = fence_all e.options (at_time_of s event) (lapsed_contacts e.options (at_time_of s event))
+  after_tick s = fence_all e.options (at_time_of s event) (lapsed_in e.options (at_time_of s event))
 
   judged_so : (s : State) → tick e.options (at_time_of s event) ≡ unless_refused (tick_reason (timed_core (core_of e s) event)) (after_tick s)
   judged_so s = row (is_some s.world.leading && is_far (pos (tip_of s))) (exhausted (pos (tip_of s))) None (Ok (after_tick s)) (after_tick s) refl
@@ -114,9 +114,9 @@ module _ (e : Core) (now : ℤ) (d : IsDrained e) where
   judged : (s : State) (writes : List Write) → IsEngine e s writes → outcome e.options (at_time_of s event) event ≡ unless_refused (tick_reason before) (after_tick s)
   judged s writes k = judged_so s ∙ ap (λ (c : Core). unless_refused (tick_reason (timed_core c event)) (after_tick s)) (sym (is_core e s writes k))
 
-  module _ (core : Core) (s : State) (writes : List Write) (k : IsEngine e s writes) (f : AllFenced before core (at_time_of s event) writes (lapsed_contacts e.options (at_time_of s event))) where
+  module _ (core : Core) (s : State) (writes : List Write) (k : IsEngine e s writes) (f : AllFenced before core (at_time_of s event) writes (lapsed_in e.options (at_time_of s event))) where
     abbrev ids : List ℤ
-    ids = lapsed_contacts e.options (at_time_of s event)
+    ids = lapsed_in e.options (at_time_of s event)
 
     abbrev after : State
     after = fence_all e.options (at_time_of s event) ids
@@ -150,7 +150,7 @@ module _ (e : Core) (now : ℤ) (d : IsDrained e) where
 
   -- ---- the contacts that are fenced
 
-  same_lapsed : (s : State) (writes : List Write) → IsEngine e s writes → lapsed_contacts before ≡ lapsed_contacts e.options (at_time_of s event)
+  same_lapsed : (s : State) (writes : List Write) → IsEngine e s writes → lapsed_contacts before ≡ lapsed_in e.options (at_time_of s event)
   same_lapsed s writes k = ap (λ (c : Core). lapsed_contacts (timed_core c event)) (is_core e s writes k)
 
   -- on standby nobody is heard of
@@ -158,7 +158,7 @@ module _ (e : Core) (now : ℤ) (d : IsDrained e) where
   none_lapsed s writes k none = ap (λ (h : Heartbeats). expired h (before.time -ℤ pos e.options.session_ms)) (k.heard_of ∙ (k.is_state.at_standby none).1)
 
   fenced_by : (core : Core) (s : State) (writes : List Write) → IsEngine e s writes → (epoch : ℤ) → s.world.leading ≡ Some epoch → is_far e.tip ≡ false → IsValid e.images.tip → AreHeartbeats e.heard
-      → FencesAll before core (lapsed_contacts before) → AllFenced before core (at_time_of s event) writes (lapsed_contacts e.options (at_time_of s event))
+      → FencesAll before core (lapsed_contacts before) → AllFenced before core (at_time_of s event) writes (lapsed_in e.options (at_time_of s event))
   fenced_by core s writes k epoch leads near valid are f =
       let some : IsSome s.world.leading = subst (λ (l : Option ℤ). IsSome l) (sym leads) refl in
       let hears = subst (HearsOf (hearing.heard s.basis)) (same_image e s writes k) (k.is_state.hears some) in
@@ -168,7 +168,7 @@ module _ (e : Core) (now : ℤ) (d : IsDrained e) where
       (near_enough (tip_of s) (length (lapsed_contacts before)) (ap is_far (sym k.tip) ∙ near) few))
 
   fenced_so : (core : Core) (s : State) (writes : List Write) → IsEngine e s writes → (leading : Option ℤ) → s.world.leading ≡ leading → (is_some leading && is_far e.tip) ≡ false → IsValid e.images.tip → AreHeartbeats e.heard
-      → FencesAll before core (lapsed_contacts before) → AllFenced before core (at_time_of s event) writes (lapsed_contacts e.options (at_time_of s event))
+      → FencesAll before core (lapsed_contacts before) → AllFenced before core (at_time_of s event) writes (lapsed_in e.options (at_time_of s event))
   fenced_so core s writes k None none free valid are f =
       let nobody = none_lapsed s writes k none in
       subst (AllFenced before core (at_time_of s event) writes) (same_lapsed s writes k)

@@ -1,6 +1,6 @@
 //! Each write is decided by its rule.
 
-ghost use Rattle.std.specs.Prelude.{◌≡◌, ◌≤◌, IfOk, OnOk, IsTrue};
+ghost use Rattle.std.specs.Prelude.{ℤ, ◌≡◌, ◌≤◌, IfOk, OnOk, IsTrue};
 ghost use Rattle.kr_defs.specs.Heartbeats.{is_not_before, stopping_brokers};
 ghost use Rattle.kr_defs.specs.Ids.{has};
 ghost use Rattle.kr_calls.specs.Decide.{decision_of};

@@ -11,7 +11,6 @@ use Rattle.kr_world.specs.Events.{time_after, next_number}
 use Rattle.kr_world.specs.Engine.{Core}
 use Rattle.kr_defs.specs.Image.{Image}
 use Rattle.kr_snapshot.specs.ReaderState.{kept_once}
-use Rattle.kr_engine.specs.inner.Changes.{core_with_entries, refused_core}
 
 -- to which nothing has happened
 abbrev pub new_core : Options → Core
