@@ -6,4 +6,4 @@ pub mod Fronts
 pub mod PartReading
 pub mod LogReading
 pub mod Completeness
-pub mod CallEnds
+mod CallEnds

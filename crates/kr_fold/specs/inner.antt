@@ -1,3 +1,2 @@
 pub mod ImageParts
 pub mod NextBatches
-pub mod SourceReads
