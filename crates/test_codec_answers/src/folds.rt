@@ -61,7 +61,8 @@ pub fn dump_answer(alloc: Global, bytes: Vec<u8>) -> Result<String, RowFault>
     let mut input = MemorySource::new(bytes, Vec::new(alloc));
     let mut output = MemorySink::new(alloc, ROOM, 1, Vec::new(alloc))?;
     let answer = dump(alloc, &mut input, &mut output);
-    dump_text(alloc, output.written(), answer)
+    let text = dump_text(alloc, output.written(), answer)?;
+    Ok(text)
 }
 
 fn dump_text(

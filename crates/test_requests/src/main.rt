@@ -30,6 +30,12 @@ struct Requests {
     counts: Counts,
 }
 
+// What a row says.
+#[derive(Drop)]
+struct Row {
+    text: String,
+}
+
 fn main(rt: HostRuntime) -> ExitCode {
     let mut requests = Requests {
         controller: None,
@@ -57,7 +63,10 @@ fn differences(
     row: &str,
 ) -> Result<Option<String>, AllocError> {
     let mut text = String::new(alloc);
-    add_differences(alloc, controller, row, &mut text)?;
+    let row = Row {
+        text: String::from_str(alloc, row)?,
+    };
+    add_differences(alloc, controller, &row, &mut text)?;
     Ok(if text.is_empty() { None } else { Some(text) })
 }
 
@@ -65,7 +74,7 @@ fn differences(
 fn add_differences(
     alloc: Global,
     controller: &mut Option<Controller>,
-    row: &str,
+    row: &Row,
     text: &mut String,
 ) -> Result<(), AllocError> {
     match counted_row::<Brand>(alloc, controller, row, text, Blank::new(1)) {
@@ -82,7 +91,7 @@ fn add_differences(
 fn counted_row<L: Ledger>(
     alloc: Global,
     controller: &mut Option<Controller>,
-    row: &str,
+    row: &Row,
     text: &mut String,
     blank: Blank,
 ) -> Result<(), RowFault>
@@ -91,5 +100,5 @@ fn counted_row<L: Ledger>(
     requires some { 0 < L.parts }
 {
     let mut steps: Steps<L> = Steps::new(blank);
-    do_row(alloc, controller, row, text, &mut steps)
+    do_row(alloc, controller, row.text.as_str(), text, &mut steps)
 }
