@@ -42,12 +42,13 @@ module _ (stream : List ℕ) (left' written written' : Option (List ℕ)) where
   whole_folds (Err (faults.Malformed at)) ends read write log is short =
       let e = ends.0 in
       let b = behind_part stream e.front e.rest left' e.took in
-      absurd (whole_not_broken log e.log stream e.front b.0 is b.1 e.is (e.none b.0 b.1))
+      absurd (whole_not_broken log e.log stream e.front b.0 is b.1 e.is (e.behind.none b.0 b.1))
   whole_folds (Err faults.TooLong) ends read write log is short =
       let e = ends.0 in
       let n = no_longer stream (e.front ++ e.rest) left' e.took in
-      let long = e.long in
-      absurd (omega (arith, n, long, short))
+      let l = length-append e.front e.rest in
+      let long = e.behind.1 in
+      absurd (omega (arith, n, l, long, short))
 
   broken_folds : (result : Answer) → FoldEnds (Some stream) left' written written' result → (IsErrOf result faults.ReadFault → ⊥) → (IsErrOf result faults.WriteFault → ⊥)
       → (log : Folded) (front behind : List ℕ) → stream ≡ front ++ behind → IsLog log front → NoneFollows log behind
@@ -63,8 +64,8 @@ module _ (stream : List ℕ) (left' written written' : Option (List ℕ)) where
   broken_folds (Err (faults.Malformed at)) ends read write log front behind parts is none =
       let e = ends.0 in
       let b = behind_part stream e.front e.rest left' e.took in
-      let same = one_break e.log log e.front b.0 front behind e.is (e.none b.0 b.1) is none (sym b.1 ∙ parts) in
-      inl (ap (λ (n : ℕ). let r : Answer = Err (faults.Malformed n) in r) (e.place ∙ same))
+      let same = one_break e.log log e.front b.0 front behind e.is (e.behind.none b.0 b.1) is none (sym b.1 ∙ parts) in
+      inl (ap (λ (n : ℕ). let r : Answer = Err (faults.Malformed n) in r) (e.behind.place ∙ same))
 
   no_image : (offset : ℤ) (image : Image) (at : ℕ) → IsImage offset image stream → BreaksAt stream at → ⊥
   no_image offset image at is breaks = let clash = sym (image_complete offset image stream is) ∙ breaks.none in cc

@@ -2,7 +2,7 @@ use Rattle.std.proofs.Common.{◌≡◌, ◌∙◌, List, ℕ, length, Some, ref
 use Rattle.std.specs.Prelude.{FitsSigned}
 use Rattle.std.proofs.lemmas.Int.{to_z-of_z}
 use Rattle.kr_batch.specs.Grammar.{IsBatch}
-use Rattle.kr_fold.specs.SourceBytes.{IsNext}
+use Rattle.kr_fold.specs.inner.SourceReads.{IsNext}
 use Rattle.kr_fold.specs.inner.NextBatches.{IsFollowed, log_at}
 use Rattle.kr_fold.proofs.LogReading.{reads_none, reads_refused, reads_beyond, one_refused, within_beyond}
 use Rattle.kr_fold.proofs.log.read_next.Goals as goal
@@ -14,14 +14,14 @@ pub returns-in-None-clause-next : goal.returns-in-None-clause-next
 returns-in-None-clause-next g c = λ left reads.
     let next = rw c.in-Ok-Some.field-0-is at c.in-Ok-Some.ensures.batch in
     let none = rw (c.as_slice.ensures.value, c.in-None.is) at c.in_ok-batch.ensures in
-    reads_refused left _ _ _ _ reads c.in-Ok-Some.bytes.items next.took next.sized (λ batch next is follows. none batch is)
+    reads_refused left _ _ _ _ reads c.in-Ok-Some.bytes.items next.took next.within next.sized (λ batch next is follows. none batch is)
 
 pub returns-in-None-2-clause-next : goal.returns-in-None-2-clause-next
 returns-in-None-2-clause-next g c = λ left reads.
     let next = rw c.in-Ok-Some.field-0-is at c.in-Ok-Some.ensures.batch in
     let read = rw (c.as_slice.ensures.value, c.in-Some.is) at c.in_ok-batch.ensures in
     let refused = rw c.in-None-2.is at c.in_ok-tip.ensures.next in
-    reads_refused left _ _ (log_at c.args.place.now c.args.store.now.tip) _ reads c.in-Ok-Some.bytes.items next.took next.sized
+    reads_refused left _ _ (log_at c.args.place.now c.args.store.now.tip) _ reads c.in-Ok-Some.bytes.items next.took next.within next.sized
     (one_refused (log_at c.args.place.now c.args.store.now.tip) c.in-Some.batch c.in-Ok-Some.bytes.items read.0 refused)
 
 pub returns-clause-next : goal.returns-clause-next
