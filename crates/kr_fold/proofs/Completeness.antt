@@ -1,18 +1,17 @@
 -- What a fold and a dump answer where nothing failed.
-use Rattle.std.proofs.Common.{◌≡◌, ◌∙◌, ℕ, ℤ, ◌+◌, ◌<◌, ◌≤◌, ◌⊎◌, inl, inr, List, [], ◌∷◌, ◌++◌, length, length-append, append_assoc, Option, Some, None, Result, Ok, Err, refl, sym, ap, subst, arith}
+use Rattle.std.proofs.Common.{◌≡◌, ◌∙◌, ℕ, ℤ, ◌<◌, ◌≤◌, ◌⊎◌, inl, inr, List, ◌++◌, length, length-append, append_assoc, Option, Some, None, Result, Ok, Err, refl, sym, ap, subst, arith}
 use Rattle.std.specs.Prelude.{IsErrOf}
 use Rattle.std.specs.Io.KnownBytes.{Consumes, IsAtEnd}
 use Rattle.std.proofs.lemmas.List.{append-nil}
 use Rattle.kr_defs.specs.Image.{Image}
 use Rattle.kr_snapshot.specs.Grammar.{IsImage}
-use Rattle.kr_snapshot.specs.Reading.{image_of}
 use Rattle.kr_snapshot.proofs.WholeImages.{image_complete}
 use Rattle.kr_fold.specs.declared.fault.ToolFault.{ToolFault}
 use Rattle.kr_fold.specs.declared.fault.ToolFault.TheVariants as faults
 use Rattle.kr_fold.specs.SourceBytes.{longest}
 use Rattle.kr_fold.specs.Logs.{Folded, IsLog, NoneFollows}
 use Rattle.kr_fold.specs.Images.{BreaksAt}
-use Rattle.kr_fold.specs.Endings.{EndsLog, FoldEnds, FoldsWhole, FoldsNoMore, DumpEnds, DumpsWhole, RefusesBroken, RefusesLonger, TookAll, TookMore, largest}
+use Rattle.kr_fold.specs.Endings.{FoldEnds, FoldsWhole, FoldsNoMore, DumpEnds, DumpsWhole, RefusesBroken, RefusesLonger, largest}
 use Rattle.kr_fold.proofs.Batches.{one_break, whole_not_broken}
 use Rattle.kr_fold.proofs.Fronts.{one_place}
 

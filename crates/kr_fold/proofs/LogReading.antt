@@ -1,5 +1,5 @@
 -- A log is read batch after batch.
-use Rattle.std.proofs.Common.{◌≡◌, ◌∙◌, ℕ, ◌+◌, ◌<◌, ◌≤◌, ◌⊎◌, inl, inr, List, [], ◌∷◌, ◌++◌, length, length-append, append_assoc, ℤ, Option, Some, None, refl, sym, ap, subst, arith}
+use Rattle.std.proofs.Common.{◌≡◌, ◌∙◌, ℕ, ◌+◌, ◌<◌, ◌≤◌, ◌⊎◌, inl, inr, List, [], ◌++◌, length, length-append, append_assoc, ℤ, Option, Some, None, refl, sym, ap, subst, arith}
 use Rattle.std.specs.Prelude.{IfSome, IsSome, pos, negsuc, ◌+ℤ◌}
 use Rattle.std.proofs.lemmas.Int.{ints}
 use Rattle.kr_defs.specs.declared.limits.TheConstants.{MOST_RECORDS}
@@ -189,18 +189,6 @@ nothing_forgotten left = record {
   is = log_of_none;
   took = consumes_none left;
   within = omega arith;
-  behind = inl none_unfinished;
-}
-
--- behind all of the input
-pub ends_forgotten : (left left' : Option (List ℕ)) (log : Folded) → EndsLog left left' log → IsLogFault left left' faults.NoMemory
-ends_forgotten left left' log ends = record {
-  log = log;
-  front = ends.taken;
-  rest = [];
-  is = ends.is;
-  took = subst (λ (l : List ℕ). Consumes left left' l) (sym (append-nil ends.taken)) ends.took;
-  within = let e = length-append ends.taken [] in let short = ends.short in omega (arith, e, short);
   behind = inl none_unfinished;
 }
 

@@ -1,11 +1,11 @@
 -- An image is read part after part.
-use Rattle.std.proofs.Common.{◌≡◌, ◌∙◌, ℕ, ◌+◌, ◌<◌, ◌≤◌, List, [], ◌∷◌, ◌++◌, length, take, drop, Option, Some, None, Result, Ok, Err, refl, sym, ap, subst, arith}
+use Rattle.std.proofs.Common.{◌≡◌, ◌∙◌, ℕ, ◌+◌, ◌<◌, ◌≤◌, List, ◌++◌, length, take, drop, Result, Ok, Err, refl, sym, ap, subst, arith}
 use Rattle.std.proofs.Math.Seq.{take-add, take-length}
 use Rattle.std.proofs.lemmas.List.{take-append-drop, length-take-le, length-drop}
 use Rattle.kr_batch.specs.declared.fault.BatchFault.{BatchFault}
 use Rattle.kr_snapshot.specs.declared.fault.ImageFault.{ImageFault}
 use Rattle.kr_snapshot.specs.declared.fault.ImageFault.TheVariants as images
-use Rattle.kr_snapshot.specs.Reading.{Taken, extent, size_at, so_far, image_of}
+use Rattle.kr_snapshot.specs.Reading.{Taken, size_at, so_far, image_of}
 use Rattle.kr_snapshot.specs.ReaderState.{IsFault, StandsFor, feed_answer}
 use Rattle.kr_fold.specs.declared.fault.ToolFault.{ToolFault}
 use Rattle.kr_fold.specs.declared.fault.ToolFault.TheVariants as faults
@@ -14,7 +14,7 @@ use Rattle.kr_fold.specs.Images.{HasBegun, BreaksAt}
 use Rattle.kr_fold.specs.inner.ImageParts.{IsFed, IsImageFault, IsNoBatch, no_size, cut_off, IsPart, fault_as}
 use Rattle.kr_fold.proofs.BatchReading.{few_unfinished}
 use Rattle.kr_fold.proofs.Sizes.{size_same}
-use Rattle.kr_fold.proofs.Fronts.{begun_batch, begun_head, breaks_batch, breaks_cut, breaks_end, breaks_head, breaks_short, breaks_size, stands_of}
+use Rattle.kr_fold.proofs.Fronts.{begun_batch, begun_head, breaks_batch, breaks_cut, breaks_end, breaks_head, breaks_size, stands_of}
 
 -- ---- the batch at the front
 

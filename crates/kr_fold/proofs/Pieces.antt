@@ -1,11 +1,11 @@
 -- One read after the other.
 use Rattle.std.proofs.Common.{◌≡◌, ℕ, ◌+◌, ◌-◌, ◌<◌, ◌≤◌, List, [], ◌++◌, length, length-append, take, Option, Some, None, append_assoc, sym, ap, subst, refl, ◌∙◌, arith}
 use Rattle.std.specs.Io.KnownBytes.{Consumes, IsAtEnd, Keeps}
-use Rattle.std.proofs.lemmas.List.{append-nil, length-take}
+use Rattle.std.proofs.lemmas.List.{append-nil}
 use Rattle.kr_base.proofs.Pieces.{consumes_more}
 use Rattle.kr_fold.specs.declared.fault.ToolFault.{ToolFault}
 use Rattle.kr_fold.specs.declared.fault.ToolFault.TheVariants as faults
-use Rattle.kr_fold.specs.SourceBytes.{longest, TookUpTo}
+use Rattle.kr_fold.specs.SourceBytes.{longest}
 use Rattle.kr_fold.specs.inner.SourceReads.{Grew, IsFilled, IsLast, IsReadFault, IsShortage, Stops}
 use Rattle.kr_fold.specs.declared.piece.Filled.{Filled}
 use Rattle.kr_fold.specs.declared.piece.Filled.TheVariants as fillings
@@ -30,10 +30,6 @@ grew_by a b bytes bytes' piece come count took is grown = record { taken = come;
 
 pub stops : (a b : Option (List ℕ)) (bytes bytes' : List ℕ) (at len : ℕ) → Grew a b bytes bytes' → length bytes' < len → at + length bytes' ≡ longest → Stops IsLast a b bytes bytes' at len
 stops a b bytes bytes' at len grew short most = record { grew = grew; short = short; place = most }
-
--- one read whose bytes found no memory
-pub took_piece : (a b : Option (List ℕ)) (piece come : List ℕ) (count most : ℕ) → Consumes a b (take count piece) → come ≡ take count piece → count ≤ most → TookUpTo most a b
-took_piece a b piece come count most took is few = record { taken = take count piece; took = took; few = let l = length-take count piece in omega (arith, l, few) }
 
 consumes_kept : (a b c : Option (List ℕ)) (xs : List ℕ) → Consumes a b xs → Keeps b c → Consumes a c xs
 consumes_kept None b c xs took keeps = tt

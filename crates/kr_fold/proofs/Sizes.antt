@@ -1,5 +1,5 @@
 -- The size that a batch tells.
-use Rattle.std.proofs.Common.{◌≡◌, ◌∙◌, ℕ, ℤ, ◌+◌, ◌<◌, ◌≤◌, ◌^◌, false, cond, List, [], ◌++◌, length, length-append, append_assoc, Ok, Err, refl, sym, ap, subst, arith, inl, inr}
+use Rattle.std.proofs.Common.{◌≡◌, ◌∙◌, ℕ, ℤ, ◌<◌, ◌≤◌, ◌^◌, false, cond, List, ◌++◌, length, length-append, append_assoc, Ok, Err, refl, sym, ap, arith, inl, inr}
 use Rattle.std.specs.Prelude.{take, drop}
 use Rattle.std.proofs.lemmas.Bool.{cases_Bool}
 use Rattle.std.proofs.lemmas.Bool.Decides.{nat_tests}
@@ -12,7 +12,7 @@ use Rattle.kr_batch.specs.Crc.{crc32c}
 use Rattle.kr_batch.specs.Reading.{start_at}
 use Rattle.kr_batch.specs.Grammar.{IsBatch, IsStart}
 use Rattle.kr_batch.proofs.Heads.{start_law, long}
-use Rattle.kr_snapshot.specs.Reading.{extent, is_no_size, size_at}
+use Rattle.kr_snapshot.specs.Reading.{is_no_size, size_at}
 use Rattle.kr_snapshot.specs.ReaderState.{IsUnfinished}
 use Rattle.kr_snapshot.proofs.BatchPieces.{start_is, size_front, size_bad}
 use Rattle.kr_fold.specs.SourceBytes.{IsSized}

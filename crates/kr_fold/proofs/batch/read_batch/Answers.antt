@@ -1,7 +1,6 @@
-use Rattle.std.proofs.Common.{◌≡◌, ◌≤◌, ◌+◌, [], length, arith}
-use Rattle.kr_fold.specs.inner.SourceReads.{IsNext}
+use Rattle.std.proofs.Common.{◌+◌, [], length, arith}
 use Rattle.kr_fold.proofs.Pieces.{grew_more, is_full, is_ended}
-use Rattle.kr_fold.proofs.BatchReading.{none_sized, none_cut, none_shorter, grown_some, took_all, sized_on, unfinished_on}
+use Rattle.kr_fold.proofs.BatchReading.{none_sized, none_cut, none_short, none_shorter, grown_some, took_all, sized_on, unfinished_on}
 use Rattle.kr_fold.proofs.batch.read_batch.Goals as goal
 
 pub returns-in-Err-read_size-clause-none : goal.returns-in-Err-read_size-clause-none
@@ -40,3 +39,6 @@ returns-in-Err-fill-clause-none g c =
     let twelve = is_full c.in-Ok-Full.field-0 _ 12 (length c.fill.new.bytes.items) c.in-Ok-Full.field-0-is c.in-Ok-Full.ensures.filled in
     let later = c.in-Ok-Full.ensures.later in
     none_shorter _ _ _ _ _ _ c.args.at c.in-Ok.size _ c.fill-2.new.bytes.items first twelve told c.in-Err-fill.fault later c.in-Err-fill.ensures.fault
+
+pub returns-in-Err-clause-none : goal.returns-in-Err-clause-none
+returns-in-Err-clause-none g c = none_short _ _ _ _ c.args.at c.new-bytes.result.items c.fill.new.bytes.items c.new-bytes.ensures.items c.in-Err.fault c.in-Err.ensures.fault

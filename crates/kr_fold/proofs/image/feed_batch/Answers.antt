@@ -1,4 +1,4 @@
-use Rattle.std.proofs.Common.{◌≤◌, Ok, Err, List, ℕ, ◌++◌, take, drop, length, refl, subst, ◌∙◌, ap}
+use Rattle.std.proofs.Common.{◌≤◌, Ok, Err, List, ℕ, ◌++◌, take, length, refl, subst, ◌∙◌, ap}
 use Rattle.kr_snapshot.specs.Reading.{so_far}
 use Rattle.kr_fold.specs.inner.ImageParts.{IsFed, IsNoBatch}
 use Rattle.kr_fold.specs.SourceBytes.{IsSized}
