@@ -8,6 +8,8 @@ use Rattle.kr_run.proofs.OutputFrames.{all_of}
 use Rattle.kr_fold.specs.declared.fault.ToolFault.{ToolFault}
 use Rattle.kr_fold.specs.declared.fault.ToolFault.TheVariants as faults
 use Rattle.kr_fold.specs.Endings.{DumpEnds, DumpsWhole, FoldEnds, FoldsNoMore, FoldsWhole, RefusesBroken as BrokenImage, RefusesLonger}
+use Rattle.kr_fold.proofs.CallEnds.{input_forgotten}
+use Rattle.kr_fold.proofs.LogReading.{break_forgotten}
 use Rattle.kr_command.specs.Notes.{IsMalformed, IsOf, status_of}
 
 abbrev pub Same : Status → Status → Type 0
@@ -79,10 +81,10 @@ of_told Holds told ended (inr p) no_line o =
 
 module _ (at : ℕ) where
   pub no_fold_line : (left left' written written' : Option (List ℕ)) → FoldEnds left left' written written' (Err (faults.Malformed at)) → FoldEnds left left' written written' (Err faults.NoMemory)
-  no_fold_line left left' written written' ends = (tt, ends.1)
+  no_fold_line left left' written written' ends = (break_forgotten left left' at ends.0, ends.1)
 
   pub no_dump_line : (left left' written written' : Option (List ℕ)) → DumpEnds left left' written written' (Err (faults.Malformed at)) → DumpEnds left left' written written' (Err faults.NoMemory)
-  no_dump_line left left' written written' ends = (tt, ends.1)
+  no_dump_line left left' written written' ends = (input_forgotten left left' at ends.0, ends.1)
 
   pub no_folds_whole : (left : Option (List ℕ)) → FoldsWhole left (Err (faults.Malformed at)) → FoldsWhole left (Err faults.NoMemory)
   no_folds_whole None whole = tt

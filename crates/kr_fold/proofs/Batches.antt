@@ -1,5 +1,5 @@
 -- A batch after the others.
-use Rattle.std.proofs.Common.{◌≡◌, ◌∙◌, ℕ, ◌+◌, ◌≤◌, ◌<◌, arith, length-append, List, [], ◌∷◌, ◌++◌, length, append_assoc, Option, Some, None, Result, Ok, refl, sym, ap, subst}
+use Rattle.std.proofs.Common.{◌≡◌, ◌∙◌, ℕ, ◌+◌, ◌≤◌, arith, length-append, List, [], ◌∷◌, ◌++◌, length, append_assoc, Option, Some, None, Result, Ok, refl, sym, ap, subst}
 use Rattle.std.specs.Option.{option_and_then}
 use Rattle.std.proofs.lemmas.List.{append-nil}
 use Rattle.kr_defs.specs.declared.limits.TheConstants.{MOST_RECORDS}

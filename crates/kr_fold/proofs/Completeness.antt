@@ -1,18 +1,17 @@
 -- What a fold and a dump answer where nothing failed.
-use Rattle.std.proofs.Common.{◌≡◌, ◌∙◌, ℕ, ℤ, ◌+◌, ◌<◌, ◌≤◌, ◌⊎◌, inl, inr, List, [], ◌∷◌, ◌++◌, length, length-append, append_assoc, Option, Some, None, Result, Ok, Err, refl, sym, ap, subst, arith}
+use Rattle.std.proofs.Common.{◌≡◌, ◌∙◌, ℕ, ℤ, ◌<◌, ◌≤◌, ◌⊎◌, inl, inr, List, ◌++◌, length, length-append, append_assoc, Option, Some, None, Result, Ok, Err, refl, sym, ap, subst, arith}
 use Rattle.std.specs.Prelude.{IsErrOf}
 use Rattle.std.specs.Io.KnownBytes.{Consumes, IsAtEnd}
 use Rattle.std.proofs.lemmas.List.{append-nil}
 use Rattle.kr_defs.specs.Image.{Image}
 use Rattle.kr_snapshot.specs.Grammar.{IsImage}
-use Rattle.kr_snapshot.specs.Reading.{image_of}
 use Rattle.kr_snapshot.proofs.WholeImages.{image_complete}
 use Rattle.kr_fold.specs.declared.fault.ToolFault.{ToolFault}
 use Rattle.kr_fold.specs.declared.fault.ToolFault.TheVariants as faults
 use Rattle.kr_fold.specs.SourceBytes.{longest}
 use Rattle.kr_fold.specs.Logs.{Folded, IsLog, NoneFollows}
 use Rattle.kr_fold.specs.Images.{BreaksAt}
-use Rattle.kr_fold.specs.Endings.{EndsLog, FoldEnds, FoldsWhole, FoldsNoMore, DumpEnds, DumpsWhole, RefusesBroken, RefusesLonger, TookAll, TookMore, largest}
+use Rattle.kr_fold.specs.Endings.{FoldEnds, FoldsWhole, FoldsNoMore, DumpEnds, DumpsWhole, RefusesBroken, RefusesLonger, largest}
 use Rattle.kr_fold.proofs.Batches.{one_break, whole_not_broken}
 use Rattle.kr_fold.proofs.Fronts.{one_place}
 
@@ -42,12 +41,13 @@ module _ (stream : List ℕ) (left' written written' : Option (List ℕ)) where
   whole_folds (Err (faults.Malformed at)) ends read write log is short =
       let e = ends.0 in
       let b = behind_part stream e.front e.rest left' e.took in
-      absurd (whole_not_broken log e.log stream e.front b.0 is b.1 e.is (e.none b.0 b.1))
+      absurd (whole_not_broken log e.log stream e.front b.0 is b.1 e.is (e.behind.none b.0 b.1))
   whole_folds (Err faults.TooLong) ends read write log is short =
       let e = ends.0 in
       let n = no_longer stream (e.front ++ e.rest) left' e.took in
-      let long = e.long in
-      absurd (omega (arith, n, long, short))
+      let l = length-append e.front e.rest in
+      let long = e.behind.1 in
+      absurd (omega (arith, n, l, long, short))
 
   broken_folds : (result : Answer) → FoldEnds (Some stream) left' written written' result → (IsErrOf result faults.ReadFault → ⊥) → (IsErrOf result faults.WriteFault → ⊥)
       → (log : Folded) (front behind : List ℕ) → stream ≡ front ++ behind → IsLog log front → NoneFollows log behind
@@ -63,8 +63,8 @@ module _ (stream : List ℕ) (left' written written' : Option (List ℕ)) where
   broken_folds (Err (faults.Malformed at)) ends read write log front behind parts is none =
       let e = ends.0 in
       let b = behind_part stream e.front e.rest left' e.took in
-      let same = one_break e.log log e.front b.0 front behind e.is (e.none b.0 b.1) is none (sym b.1 ∙ parts) in
-      inl (ap (λ (n : ℕ). let r : Answer = Err (faults.Malformed n) in r) (e.place ∙ same))
+      let same = one_break e.log log e.front b.0 front behind e.is (e.behind.none b.0 b.1) is none (sym b.1 ∙ parts) in
+      inl (ap (λ (n : ℕ). let r : Answer = Err (faults.Malformed n) in r) (e.behind.place ∙ same))
 
   no_image : (offset : ℤ) (image : Image) (at : ℕ) → IsImage offset image stream → BreaksAt stream at → ⊥
   no_image offset image at is breaks = let clash = sym (image_complete offset image stream is) ∙ breaks.none in cc

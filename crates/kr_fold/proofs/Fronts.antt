@@ -2,14 +2,14 @@
 use Rattle.std.proofs.Common.{◌≡◌, ◌∙◌, ℕ, ℤ, ◌+◌, ◌<◌, ◌≤◌, ◌^◌, false, List, [], ◌∷◌, ◌++◌, length, length-append, append_assoc, Option, Some, None, Result, Ok, Err, refl, sym, ap, subst, arith, inl, inr}
 use Rattle.std.specs.Prelude.{take, drop, nat_lt, nat_le}
 use Rattle.std.proofs.lemmas.Bool.{cases_Bool, cases_lt, le-ltb, ltb-false}
-use Rattle.std.proofs.lemmas.List.{append-nil, take-append-drop, length-take-le, length-drop}
+use Rattle.std.proofs.lemmas.List.{append-nil, take-append-drop, length-take-le}
 use Rattle.kr_defs.proofs.Tests.{neither}
 use Rattle.kr_wire.specs.Reading.{◌>>=◌}
-use Rattle.kr_wire.proofs.ReadingLaws.{bind_ok, is_ok}
+use Rattle.kr_wire.proofs.ReadingLaws.{bind_ok}
 use Rattle.kr_batch.specs.declared.fault.BatchFault.{BatchFault}
 use Rattle.kr_snapshot.specs.declared.fault.ImageFault.{ImageFault}
 use Rattle.kr_snapshot.specs.declared.fault.BatchCause.TheVariants as causes
-use Rattle.kr_snapshot.specs.Reading.{Progress, Taken, batch_fault_behind, nothing_found, headed, numbers_at, batch_refused, whole_read, waits, nothing_taken, head_taken, extent, is_no_size, size_at, batch_taken, judged, goes_on, so_far, with_piece, ends, image_of}
+use Rattle.kr_snapshot.specs.Reading.{Progress, Taken, batch_fault_behind, nothing_found, headed, numbers_at, whole_read, waits, head_taken, extent, is_no_size, size_at, batch_taken, judged, goes_on, so_far, with_piece, ends, image_of}
 use Rattle.kr_snapshot.specs.ReaderState.{IsUnfinished, StandsFor, Waits}
 use Rattle.kr_snapshot.proofs.Faults.{is_fault}
 use Rattle.kr_snapshot.proofs.BatchPieces.{start_is, size_front, size_bad, batch_waits, head_waits, start_waits, goes_on_append, fills, waits_on}

@@ -6,4 +6,4 @@ pub mod Fronts
 pub mod PartReading
 pub mod LogReading
 pub mod Completeness
-mod CallEnds
+pub mod CallEnds

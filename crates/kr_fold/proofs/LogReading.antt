@@ -1,5 +1,5 @@
 -- A log is read batch after batch.
-use Rattle.std.proofs.Common.{◌≡◌, ◌∙◌, ℕ, ◌+◌, ◌<◌, ◌≤◌, List, [], ◌∷◌, ◌++◌, length, length-append, append_assoc, ℤ, Option, Some, None, refl, sym, ap, subst, arith}
+use Rattle.std.proofs.Common.{◌≡◌, ◌∙◌, ℕ, ◌+◌, ◌<◌, ◌≤◌, ◌⊎◌, inl, inr, List, [], ◌++◌, length, length-append, append_assoc, ℤ, Option, Some, None, refl, sym, ap, subst, arith}
 use Rattle.std.specs.Prelude.{IfSome, IsSome, pos, negsuc, ◌+ℤ◌}
 use Rattle.std.proofs.lemmas.Int.{ints}
 use Rattle.kr_defs.specs.declared.limits.TheConstants.{MOST_RECORDS}
@@ -7,14 +7,14 @@ use Rattle.std.specs.Io.KnownBytes.{Consumes, IsAtEnd}
 use Rattle.std.proofs.lemmas.List.{append-nil}
 use Rattle.kr_base.proofs.Pieces.{consumes_more}
 use Rattle.kr_batch.specs.declared.Batch.{Batch}
-use Rattle.kr_batch.specs.declared.fault.BatchFault.{BatchFault}
 use Rattle.kr_batch.specs.Grammar.{IsBatch}
 use Rattle.kr_snapshot.specs.ReaderState.{IsUnfinished}
 use Rattle.kr_fold.specs.declared.fault.ToolFault.{ToolFault}
 use Rattle.kr_fold.specs.declared.fault.ToolFault.TheVariants as faults
-use Rattle.kr_fold.specs.SourceBytes.{longest, HasNone, IsLongest, IsNext, IsNoBatch, no_size, cut_off, IsSized, Took}
-use Rattle.kr_fold.specs.Logs.{Folded, folded_with, IsLog, NoneFollows}
-use Rattle.kr_fold.specs.Endings.{ReadsLog, EndsLog, BreaksLog, LongLog, IsLogFault}
+use Rattle.kr_fold.specs.SourceBytes.{longest, HasNoSize, IsBatchAtMost, IsCut, IsCutOff, IsLongest, IsSized}
+use Rattle.kr_fold.specs.inner.SourceReads.{HasNone, Took}
+use Rattle.kr_fold.specs.Logs.{Folded, folded_with, IsLog, NoneFollows, nothing}
+use Rattle.kr_fold.specs.Endings.{ReadsLog, EndsLog, BreaksLog, IsBreak, IsLogFault, TookLog}
 use Rattle.kr_defs.specs.Image.{Image, empty}
 use Rattle.kr_store.specs.Images.{Images, last_kept, marked, no_images}
 use Rattle.kr_batch.proofs.Batches.{one_value}
@@ -39,17 +39,22 @@ behind_all (Some stream) (Some l) front rest P took step = λ behind parts. subs
 
 -- ---- no batch may follow
 
-no_batch_none : (log : Folded) (bytes l : List ℕ) (b : Option (List ℕ)) → b ≡ Some l → IsNoBatch bytes b → NoneFollows log (bytes ++ l)
-no_batch_none log bytes l b is (no_size fault there told) = record {
-  some = let e = length-append bytes l in omega (arith, e, there);
-  none = λ front behind batch next parts spelled follows. no_size_none bytes l front behind fault there told (batch_sized batch front spelled) parts;
-}
-no_batch_none log bytes l b is (cut_off some cut end) =
-    let at_end : IsAtEnd (Some l) = subst IsAtEnd is end in
+no_size_follows : (log : Folded) (bytes l : List ℕ) → HasNoSize bytes → NoneFollows log (bytes ++ l)
+no_size_follows log bytes l h =
+    let twelve = h.start in
+    let there : 12 ≤ length bytes = omega (arith, twelve) in
+    record {
+      some = let e = length-append bytes l in omega (arith, e, there);
+      none = λ front behind batch next parts spelled follows. no_size_none bytes l front behind h.fault there h.told (batch_sized batch front spelled) parts;
+    }
+
+cut_off_none : (log : Folded) (bytes l : List ℕ) (b : Option (List ℕ)) → b ≡ Some l → IsCutOff b bytes → NoneFollows log (bytes ++ l)
+cut_off_none log bytes l b is c =
+    let at_end : IsAtEnd (Some l) = subst IsAtEnd is c.end in
     let none : bytes ++ l ≡ bytes = ap (λ (x : List ℕ). bytes ++ x) at_end ∙ append-nil bytes in
     record {
-      some = let e = length-append bytes l in omega (arith, e, some);
-      none = λ front behind batch next parts spelled follows. cut_none bytes front behind cut (batch_sized batch front spelled) (sym none ∙ parts);
+      some = let e = length-append bytes l in let some = c.some in omega (arith, e, some);
+      none = λ front behind batch next parts spelled follows. cut_none bytes front behind c.cut (batch_sized batch front spelled) (sym none ∙ parts);
     }
 
 refused_none : (log : Folded) (bytes l : List ℕ) → IsSized bytes → ((batch : Batch) (next : Folded) → IsBatch batch bytes → folded_with log batch ≡ Some next → ⊥) → NoneFollows log (bytes ++ l)
@@ -80,38 +85,45 @@ module _ (left mid left' : Option (List ℕ)) (log : Folded) (at : ℕ) (reads :
     place = let p = reads.place in let e = length-append reads.taken bytes in omega (arith, p, e);
   }
 
-  breaks : (bytes : List ℕ) → Consumes mid left' bytes → ((l : List ℕ) → left' ≡ Some l → NoneFollows log (bytes ++ l)) → BreaksLog left left' at
-  breaks bytes took none =
-      let all = consumes_more left mid left' reads.taken bytes reads.took took in
-      record {
-        log = log;
-        front = reads.taken;
-        rest = bytes;
-        is = reads.is;
-        took = all;
-        place = reads.place;
-        none = behind_all left left' reads.taken bytes (NoneFollows log) all none;
-      }
+  -- some bytes behind the log
+  pub behind : (Behind : Folded → List ℕ → List ℕ → Type 0) (bytes : List ℕ) → Consumes mid left' bytes → at + length bytes ≤ longest → Behind log reads.taken bytes → TookLog Behind left left'
+  behind Behind bytes took within is = record {
+    log = log;
+    front = reads.taken;
+    rest = bytes;
+    is = reads.is;
+    took = consumes_more left mid left' reads.taken bytes reads.took took;
+    within = let p = reads.place in let e = length-append reads.taken bytes in omega (arith, p, e, within);
+    behind = is;
+  }
 
-  pub reads_refused : (bytes : List ℕ) → Consumes mid left' bytes → IsSized bytes → ((batch : Batch) (next : Folded) → IsBatch batch bytes → folded_with log batch ≡ Some next → ⊥) → BreaksLog left left' at
-  reads_refused bytes took sized refused = breaks bytes took (λ l is. refused_none log bytes l sized refused)
+  breaks : (bytes : List ℕ) → Consumes mid left' bytes → at + length bytes ≤ longest → IsBreak left' bytes → ((l : List ℕ) → left' ≡ Some l → NoneFollows log (bytes ++ l)) → TookLog (BreaksLog left left' at) left left'
+  breaks bytes took within told none =
+      let all = consumes_more left mid left' reads.taken bytes reads.took took in
+      behind (BreaksLog left left' at) bytes took within (record { place = reads.place; told = told; none = behind_all left left' reads.taken bytes (NoneFollows log) all none })
+
+  pub reads_refused : (bytes : List ℕ) → Consumes mid left' bytes → at + length bytes ≤ longest → IsSized bytes → ((batch : Batch) (next : Folded) → IsBatch batch bytes → folded_with log batch ≡ Some next → ⊥)
+      → TookLog (BreaksLog left left' at) left left'
+  reads_refused bytes took within sized refused = breaks bytes took within (inr (inl sized)) (λ l is. refused_none log bytes l sized refused)
+
+  -- memory ran out for a batch
+  pub reads_forgotten : (bytes : List ℕ) → Consumes mid left' bytes → at + length bytes ≤ longest → IsSized bytes → IsLogFault left left' faults.NoMemory
+  reads_forgotten bytes took within sized = behind (λ log front rest. IsBatchAtMost rest) bytes took within (inr (inl sized))
+
+  broken : (t : Took (λ bytes. HasNoSize bytes ⊎ IsCutOff left' bytes) mid left' at) → HasNoSize t.taken ⊎ IsCutOff left' t.taken → TookLog (BreaksLog left left' at) left left'
+  broken t (inl h) = breaks t.taken t.took t.within (inl h) (λ l is. no_size_follows log t.taken l h)
+  broken t (inr c) = breaks t.taken t.took t.within (inr (inr c)) (λ l is. cut_off_none log t.taken l left' is c)
 
   pub reads_none : (count count' : ℕ) (fault : ToolFault) → HasNone mid left' count count' at fault → IsLogFault left left' fault
   reads_none count count' (faults.Malformed place) has =
+      subst (λ (n : ℕ). TookLog (BreaksLog left left' n) left left') (sym has.0) (broken has.1 has.1.is)
+  reads_none count count' faults.ReadFault has =
       let t = has.1 in
-      subst (BreaksLog left left') (sym has.0) (breaks t.taken t.took (λ l is. no_batch_none log t.taken l left' is t.is))
-  reads_none count count' faults.ReadFault has = tt
-  reads_none count count' faults.NoMemory has = tt
+      behind (λ log front rest. IsCut (length front) rest) t.taken t.took t.within (subst (λ (n : ℕ). IsCut n t.taken) reads.place t.is)
+  reads_none count count' faults.NoMemory has = behind (λ log front rest. IsBatchAtMost rest) has.taken has.took has.within has.is
   reads_none count count' faults.WriteFault has = has
-  reads_none count count' faults.TooLong has = record {
-    log = log;
-    front = reads.taken;
-    rest = has.taken;
-    is = reads.is;
-    took = consumes_more left mid left' reads.taken has.taken reads.took has.took;
-    cut = has.is.0;
-    long = let p = reads.place in let e = length-append reads.taken has.taken in let m = has.is.1 in omega (arith, p, e, m);
-  }
+  reads_none count count' faults.TooLong has =
+      behind (λ log front rest. IsLongest (length front) rest) has.taken has.took has.within (subst (λ (n : ℕ). IsLongest n has.taken) reads.place has.is)
 
 -- ---- behind a batch that was read
 
@@ -162,3 +174,29 @@ reads_nothing left place image tip at is = record {
   took = consumes_none left;
   place = at;
 }
+
+-- ---- memory runs out
+
+none_unfinished : IsUnfinished []
+none_unfinished = λ there. absurd (omega (arith, there))
+
+-- before anything is taken
+pub nothing_forgotten : (left : Option (List ℕ)) → IsLogFault left left faults.NoMemory
+nothing_forgotten left = record {
+  log = nothing;
+  front = [];
+  rest = [];
+  is = log_of_none;
+  took = consumes_none left;
+  within = omega arith;
+  behind = inl none_unfinished;
+}
+
+-- for a break that is told
+at_most_of : (left' : Option (List ℕ)) (rest : List ℕ) → IsBreak left' rest → IsBatchAtMost rest
+at_most_of left' rest (inl no_size) = inr (inr no_size)
+at_most_of left' rest (inr (inl sized)) = inr (inl sized)
+at_most_of left' rest (inr (inr cut)) = inl cut.cut
+
+pub break_forgotten : (left left' : Option (List ℕ)) (at : ℕ) → IsLogFault left left' (faults.Malformed at) → IsLogFault left left' faults.NoMemory
+break_forgotten left left' at b = record { log = b.log; front = b.front; rest = b.rest; is = b.is; took = b.took; within = b.within; behind = at_most_of left' b.rest b.behind.told }

@@ -1,34 +1,31 @@
 -- An image is read part after part.
-use Rattle.std.proofs.Common.{◌≡◌, ◌∙◌, ℕ, ◌+◌, ◌<◌, ◌≤◌, List, [], ◌∷◌, ◌++◌, length, take, drop, Option, Some, None, Result, Ok, Err, refl, sym, ap, subst, arith}
+use Rattle.std.proofs.Common.{◌≡◌, ◌∙◌, ℕ, ◌+◌, ◌<◌, ◌≤◌, List, ◌++◌, length, take, drop, Result, Ok, Err, refl, sym, ap, subst, arith}
 use Rattle.std.proofs.Math.Seq.{take-add, take-length}
 use Rattle.std.proofs.lemmas.List.{take-append-drop, length-take-le, length-drop}
 use Rattle.kr_batch.specs.declared.fault.BatchFault.{BatchFault}
 use Rattle.kr_snapshot.specs.declared.fault.ImageFault.{ImageFault}
 use Rattle.kr_snapshot.specs.declared.fault.ImageFault.TheVariants as images
-use Rattle.kr_snapshot.specs.Reading.{Taken, extent, size_at, so_far, image_of}
+use Rattle.kr_snapshot.specs.Reading.{Taken, size_at, so_far, image_of}
 use Rattle.kr_snapshot.specs.ReaderState.{IsFault, StandsFor, feed_answer}
 use Rattle.kr_fold.specs.declared.fault.ToolFault.{ToolFault}
 use Rattle.kr_fold.specs.declared.fault.ToolFault.TheVariants as faults
-use Rattle.kr_fold.specs.SourceBytes.{IsNoBatch, no_size, cut_off, IsSized}
+use Rattle.kr_fold.specs.SourceBytes.{IsSized}
 use Rattle.kr_fold.specs.Images.{HasBegun, BreaksAt}
-use Rattle.kr_fold.specs.inner.ImageParts.{IsFed, IsImageFault, IsPart, fault_as}
+use Rattle.kr_fold.specs.inner.ImageParts.{IsFed, IsImageFault, IsNoBatch, no_size, cut_off, IsPart, fault_as}
 use Rattle.kr_fold.proofs.BatchReading.{few_unfinished}
 use Rattle.kr_fold.proofs.Sizes.{size_same}
-use Rattle.kr_fold.proofs.Fronts.{begun_batch, begun_head, breaks_batch, breaks_cut, breaks_end, breaks_head, breaks_short, breaks_size, stands_of}
+use Rattle.kr_fold.proofs.Fronts.{begun_batch, begun_head, breaks_batch, breaks_cut, breaks_end, breaks_head, breaks_size, stands_of}
 
 -- ---- the batch at the front
 
-abbrev pub no_bytes : Option (List ℕ)
-no_bytes = None
+pub no_start : (bytes : List ℕ) → 0 < length bytes → length bytes < 12 → IsNoBatch bytes
+no_start bytes some few = cut_off some (few_unfinished bytes few)
 
-pub no_start : (bytes : List ℕ) → 0 < length bytes → length bytes < 12 → IsNoBatch bytes no_bytes
-no_start bytes some few = cut_off some (few_unfinished bytes few) tt
-
-pub no_told : (bytes : List ℕ) (fault : BatchFault) → 12 ≤ length bytes → size_at bytes ≡ Err fault → IsNoBatch bytes no_bytes
+pub no_told : (bytes : List ℕ) (fault : BatchFault) → 12 ≤ length bytes → size_at bytes ≡ Err fault → IsNoBatch bytes
 no_told bytes fault there told = no_size fault there told
 
-pub no_whole : (bytes : List ℕ) (size : ℕ) → 0 < length bytes → size_at bytes ≡ Ok size → length bytes < size + 12 → IsNoBatch bytes no_bytes
-no_whole bytes size some told short = cut_off some (λ there. (size, told, short)) tt
+pub no_whole : (bytes : List ℕ) (size : ℕ) → 0 < length bytes → size_at bytes ≡ Ok size → length bytes < size + 12 → IsNoBatch bytes
+no_whole bytes size some told short = cut_off some (λ there. (size, told, short))
 
 pub sized_take : (bytes : List ℕ) (size len : ℕ) → size_at bytes ≡ Ok size → len ≡ size + 12 → len ≤ length bytes → IsSized (take len bytes)
 sized_take bytes size len told is within =
@@ -86,9 +83,9 @@ head_fault bytes reader faults.ReadFault there fed = absurd fed
 head_fault bytes reader faults.WriteFault there fed = absurd fed
 head_fault bytes reader faults.TooLong there fed = absurd fed
 
-none_breaks : (front rest : List ℕ) → HasBegun front → IsNoBatch rest no_bytes → BreaksAt (front ++ rest) (length front)
+none_breaks : (front rest : List ℕ) → HasBegun front → IsNoBatch rest → BreaksAt (front ++ rest) (length front)
 none_breaks front rest begun (no_size fault there told) = breaks_size front rest fault begun there told
-none_breaks front rest begun (cut_off some cut end) = breaks_cut front rest begun cut some
+none_breaks front rest begun (cut_off some cut) = breaks_cut front rest begun cut some
 
 module _ (bytes : List ℕ) (before : Result Taken ImageFault) (at : ℕ) (part : IsPart bytes before at) where
   whole_of : take at bytes ++ drop at bytes ≡ bytes
@@ -97,7 +94,7 @@ module _ (bytes : List ℕ) (before : Result Taken ImageFault) (at : ℕ) (part 
   front_long : length (take at bytes) ≡ at
   front_long = length-take-le at bytes part.within
 
-  pub no_batch_fault : at < length bytes → IsNoBatch (drop at bytes) no_bytes → IsImageFault bytes (faults.Malformed at)
+  pub no_batch_fault : at < length bytes → IsNoBatch (drop at bytes) → IsImageFault bytes (faults.Malformed at)
   no_batch_fault more none =
       subst (λ (n : ℕ). BreaksAt bytes n) front_long (subst (λ (l : List ℕ). BreaksAt l (length (take at bytes))) whole_of (none_breaks (take at bytes) (drop at bytes) part.begun none))
 

@@ -1,17 +1,18 @@
 -- The size that a batch tells.
-use Rattle.std.proofs.Common.{◌≡◌, ◌∙◌, ℕ, ℤ, ◌+◌, ◌<◌, ◌≤◌, ◌^◌, false, List, [], ◌++◌, length, length-append, append_assoc, Ok, Err, refl, sym, ap, subst, arith, inl, inr}
+use Rattle.std.proofs.Common.{◌≡◌, ◌∙◌, ℕ, ℤ, ◌<◌, ◌≤◌, ◌^◌, false, cond, List, ◌++◌, length, length-append, append_assoc, Ok, Err, refl, sym, ap, arith, inl, inr}
 use Rattle.std.specs.Prelude.{take, drop}
 use Rattle.std.proofs.lemmas.Bool.{cases_Bool}
 use Rattle.std.proofs.lemmas.Bool.Decides.{nat_tests}
 use Rattle.std.proofs.lemmas.List.{take-append-drop, length-take-le, take_at, drop_at}
-use Rattle.kr_wire.proofs.ReadingLaws.{is_ok}
+use Rattle.kr_wire.proofs.ReadingLaws.{bind_ok, guard_ok, is_ok}
 use Rattle.kr_batch.specs.declared.Batch.{Batch}
 use Rattle.kr_batch.specs.declared.fault.BatchFault.{BatchFault}
+use Rattle.kr_batch.specs.declared.fault.BatchFault.TheVariants.{Short}
 use Rattle.kr_batch.specs.Crc.{crc32c}
 use Rattle.kr_batch.specs.Reading.{start_at}
 use Rattle.kr_batch.specs.Grammar.{IsBatch, IsStart}
 use Rattle.kr_batch.proofs.Heads.{start_law, long}
-use Rattle.kr_snapshot.specs.Reading.{extent, is_no_size, size_at}
+use Rattle.kr_snapshot.specs.Reading.{is_no_size, size_at}
 use Rattle.kr_snapshot.specs.ReaderState.{IsUnfinished}
 use Rattle.kr_snapshot.proofs.BatchPieces.{start_is, size_front, size_bad}
 use Rattle.kr_fold.specs.SourceBytes.{IsSized}
@@ -37,6 +38,17 @@ no_size bytes a fault is none = let clash = sym is ∙ none in cc
 
 is_size : (size : ℕ) → 49 ≤ size → size < 2 ^ 31 → is_no_size size ≡ false
 is_size size some few = grind (arith, nat_tests)
+
+-- a size that a batch has
+pub size_some : (bytes : List ℕ) (size : ℕ) → size_at bytes ≡ Ok size → 49 ≤ size
+unfolding size_at
+size_some bytes size e =
+    let k = bind_ok (start_at bytes) (λ start. cond (is_no_size start.0.1) (Err Short) (Ok start.0.1)) size e in
+    let g = guard_ok (is_no_size k.0.0.1) Short (Ok k.0.0.1) size k.2 in
+    let same : k.0.0.1 ≡ size = is_ok _ _ g.1 in
+    let good : is_no_size k.0.0.1 ≡ false = g.0 in
+    let some : 49 ≤ k.0.0.1 = grind (arith, nat_tests) in
+    omega (arith, same, some)
 
 start_long : (x : ℤ × ℕ) (bytes : List ℕ) → IsStart x bytes → length bytes ≡ 12
 start_long x bytes is =

@@ -6,11 +6,10 @@ use Rattle.kr_defs.specs.declared.limits.TheConstants.{MOST_LOAD_BYTES}
 use Rattle.kr_defs.specs.Image.{Image}
 use Rattle.kr_dump.specs.DumpText.{dump_text}
 use Rattle.kr_snapshot.specs.Grammar.{IsImage}
-use Rattle.kr_snapshot.specs.ReaderState.{IsUnfinished}
 use Rattle.kr_snapshot.specs.ImageText.{image_text}
 use Rattle.kr_fold.specs.declared.fault.ToolFault.{ToolFault}
 use Rattle.kr_fold.specs.declared.fault.ToolFault.TheVariants as faults
-use Rattle.kr_fold.specs.SourceBytes.{longest}
+use Rattle.kr_fold.specs.SourceBytes.{longest, HasNoSize, IsBatchAtMost, IsCut, IsCutOff, IsLongest, IsSized, TookUpTo}
 use Rattle.kr_fold.specs.Logs.{Folded, IsLog, NoneFollows}
 use Rattle.kr_fold.specs.Images.{BreaksAt}
 
@@ -31,32 +30,33 @@ pub record EndsLog (left left' : Option (List ℕ)) (log : Folded) : Type 0 wher
   pub end : IsAtEnd left'
   pub short : length taken < longest
 
--- The bytes of a log were taken and then some more; what stands behind the log goes on with no batch that may follow.
-pub record BreaksLog (left left' : Option (List ℕ)) (at : ℕ) : Type 0 where
+-- The bytes of a log were taken, and behind them some of which that holds; no more than may be taken.
+pub record TookLog (Behind : Folded → List ℕ → List ℕ → Type 0) (left left' : Option (List ℕ)) : Type 0 where
   pub log : Folded
   pub front : List ℕ
   pub rest : List ℕ
   pub is : IsLog log front
   pub took : Consumes left left' (front ++ rest)
-  pub place : at ≡ length front
-  pub none : IfSome left (λ stream. (behind : List ℕ) → stream ≡ front ++ behind → NoneFollows log behind)
+  pub within : length (front ++ rest) ≤ longest
+  pub behind : Behind log front rest
 
--- so many bytes were taken, of which the last are no whole batch
-pub record LongLog (left left' : Option (List ℕ)) : Type 0 where
-  pub log : Folded
-  pub front : List ℕ
-  pub rest : List ℕ
-  pub is : IsLog log front
-  pub took : Consumes left left' (front ++ rest)
-  pub cut : IsUnfinished rest
-  pub long : length (front ++ rest) ≡ longest
+-- What tells that no batch follows, and no more: base and size, and no batch has that size; a batch's bytes by their size; or, where
+-- the input ends, fewer.
+abbrev pub IsBreak : Option (List ℕ) → List ℕ → Type 0
+IsBreak left' rest = HasNoSize rest ⊎ IsSized rest ⊎ IsCutOff left' rest
+
+-- that was taken behind this place, and what stands there goes on with no batch that may follow
+pub record BreaksLog (left left' : Option (List ℕ)) (at : ℕ) (log : Folded) (front rest : List ℕ) : Type 0 where
+  pub place : at ≡ length front
+  pub told : IsBreak left' rest
+  pub none : IfSome left (λ stream. (behind : List ℕ) → stream ≡ front ++ behind → NoneFollows log behind)
 
 -- why a log isn't read to its end
 abbrev pub IsLogFault : Option (List ℕ) → Option (List ℕ) → ToolFault → Type 0
-IsLogFault left left' (faults.Malformed at) = BreaksLog left left' at
-IsLogFault left left' faults.TooLong = LongLog left left'
-IsLogFault left left' faults.ReadFault = Unit {0}
-IsLogFault left left' faults.NoMemory = Unit {0}
+IsLogFault left left' (faults.Malformed at) = TookLog (BreaksLog left left' at) left left'
+IsLogFault left left' faults.TooLong = TookLog (λ log front rest. IsLongest (length front) rest) left left'
+IsLogFault left left' faults.ReadFault = TookLog (λ log front rest. IsCut (length front) rest) left left'
+IsLogFault left left' faults.NoMemory = TookLog (λ log front rest. IsBatchAtMost rest) left left'
 IsLogFault left left' faults.WriteFault = ⊥
 
 -- ---- a fold
@@ -115,8 +115,8 @@ pub record Dumps (Writes : List ℕ → Type 0) (left left' : Option (List ℕ))
 abbrev pub IsInputFault : Option (List ℕ) → Option (List ℕ) → ToolFault → Type 0
 IsInputFault left left' (faults.Malformed at) = ((at ≡ largest) × TookMore left left') ⊎ TookAll (λ bytes. BreaksAt bytes at) left left'
 IsInputFault left left' faults.TooLong = ⊥
-IsInputFault left left' faults.ReadFault = Unit {0}
-IsInputFault left left' faults.NoMemory = Unit {0}
+IsInputFault left left' faults.ReadFault = TookUpTo largest left left'
+IsInputFault left left' faults.NoMemory = TookUpTo (largest + 1) left left'
 IsInputFault left left' faults.WriteFault = ⊥
 
 -- what each answer tells: the text is written once all of the input is an image, and nothing before

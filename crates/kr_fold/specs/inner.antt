@@ -1,2 +1,3 @@
 pub mod ImageParts
 pub mod NextBatches
+pub mod SourceReads

@@ -2,7 +2,8 @@
 
 ghost use Rattle.std.specs.Prelude.{◌≡◌, ◌≤◌, ◌<◌, ◌^◌, None, IfOk, IfErr, IfSome, MatchResult, Ok, Err};
 ghost use Rattle.kr_snapshot.specs.Reading.{size_at};
-ghost use Rattle.kr_fold.specs.SourceBytes.{longest, HasNone, IsEnd, IsNext};
+ghost use Rattle.kr_fold.specs.SourceBytes.{longest};
+ghost use Rattle.kr_fold.specs.inner.SourceReads.{HasNone, IsEnd, IsNext};
 
 use crate::fault::ToolFault;
 use crate::piece::{Filled, fill};

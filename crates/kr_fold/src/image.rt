@@ -6,8 +6,8 @@ ghost use Rattle.kr_snapshot.specs.Reading.{so_far};
 ghost use Rattle.kr_wire.specs.Laws.{IsBytes};
 ghost use Rattle.kr_snapshot.specs.ReaderState.{StandsFor};
 ghost use Rattle.kr_fold.specs.inner.ImageParts as parts;
-ghost use Rattle.kr_fold.specs.inner.ImageParts.{IsFed, IsImageFault, IsPart};
-ghost use Rattle.kr_fold.specs.SourceBytes.{IsNoBatch, IsSized};
+ghost use Rattle.kr_fold.specs.inner.ImageParts.{IsFed, IsImageFault, IsNoBatch, IsPart};
+ghost use Rattle.kr_fold.specs.SourceBytes.{IsSized};
 
 use crate::batch::read_size;
 use crate::fault::ToolFault;
@@ -20,7 +20,7 @@ use std::alloc::Global;
 fn batch_len(bytes: &[u8]) -> Option<usize>
     requires { 0 < length bytes.now }
     ensures some { IfSome result (λ len. (len ≤ length bytes.now) × IsSized (take len bytes.now)) }
-    ensures none { result ≡ None → IsNoBatch bytes.now None }
+    ensures none { result ≡ None → IsNoBatch bytes.now }
 {
     if bytes.len() < START {
         return None;

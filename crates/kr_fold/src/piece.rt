@@ -2,7 +2,8 @@
 
 ghost use Rattle.std.specs.Prelude.{◌≡◌, ◌+◌, ◌<◌, ◌≤◌, length, IfOk, IfErr, OnOk};
 ghost use Rattle.std.specs.Io.KnownBytes.{IsAtEnd};
-ghost use Rattle.kr_fold.specs.SourceBytes.{longest, Grew, IsFilled, IsReadFault, IsShortage};
+ghost use Rattle.kr_fold.specs.SourceBytes.{longest};
+ghost use Rattle.kr_fold.specs.inner.SourceReads.{Grew, IsFilled, IsReadFault, IsShortage};
 
 use crate::fault::ToolFault;
 use kr_base::Source;
@@ -33,7 +34,7 @@ fn read_piece<S: Source>(
     ensures count { IfOk result (λ count. length bytes.new.items ≡ length bytes.old.items + count) }
     ensures bound { IfOk result (λ count. count ≤ most) }
     ensures end { IfOk result (λ count. count ≡ 0 → IsAtEnd (S.left source.new)) }
-    ensures fault { IfErr result (λ fault. IsReadFault (S.faults source.old) (S.faults source.new) fault) }
+    ensures fault { IfErr result (λ fault. IsReadFault (S.left source.old) (S.left source.new) (S.faults source.old) (S.faults source.new) bytes.old.items bytes.new.items most fault) }
     ensures later { S.faults source.old ≤ S.faults source.new }
 {
     let mut piece = [0; PIECE];

@@ -1,5 +1,4 @@
-use Rattle.std.proofs.Common.{length, sym, subst}
-use Rattle.kr_fold.specs.declared.fault.ToolFault.{ToolFault}
+use Rattle.std.proofs.Common.{sym, subst}
 use Rattle.kr_fold.specs.inner.ImageParts.{IsImageFault}
 use Rattle.kr_fold.proofs.PartReading.{all_begun, end_fault}
 use Rattle.kr_fold.proofs.image.close.Goals as goal

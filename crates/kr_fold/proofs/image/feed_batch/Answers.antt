@@ -1,15 +1,15 @@
-use Rattle.std.proofs.Common.{◌≤◌, Ok, Err, List, ℕ, ◌++◌, take, drop, length, refl, subst, ◌∙◌, ap}
+use Rattle.std.proofs.Common.{◌≤◌, Ok, Err, List, ℕ, ◌++◌, take, length, refl, subst, ◌∙◌, ap}
 use Rattle.kr_snapshot.specs.Reading.{so_far}
-use Rattle.kr_fold.specs.inner.ImageParts.{IsFed}
-use Rattle.kr_fold.specs.SourceBytes.{IsNoBatch, IsSized}
+use Rattle.kr_fold.specs.inner.ImageParts.{IsFed, IsNoBatch}
+use Rattle.kr_fold.specs.SourceBytes.{IsSized}
 use Rattle.kr_fold.proofs.Fronts.{stands_of}
-use Rattle.kr_fold.proofs.PartReading.{no_bytes, no_batch_fault, batch_part, batch_fault}
+use Rattle.kr_fold.proofs.PartReading.{no_batch_fault, batch_part, batch_fault}
 use Rattle.kr_fold.proofs.image.feed_batch.Goals as goal
 
 pub returns-in-None-clause-fault : goal.returns-in-None-clause-fault
 returns-in-None-clause-fault c =
     no_batch_fault c.args.bytes.now c.args.reader.now c.args.at c.requires.part c.requires.more
-    (subst (λ (l : List ℕ). IsNoBatch l no_bytes) c.split_at.ensures.back (c.in-None.ensures.none refl))
+    (subst (λ (l : List ℕ). IsNoBatch l) c.split_at.ensures.back (c.in-None.ensures.none refl))
 
 pub returns-in-Ok-clause-next : goal.returns-in-Ok-clause-next
 returns-in-Ok-clause-next c =

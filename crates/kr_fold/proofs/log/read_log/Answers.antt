@@ -1,11 +1,8 @@
-use Rattle.std.proofs.Common.{◌≡◌, ◌∙◌, ℤ, pos, ◌≤◌, refl, sym, ap, subst, rules, arith, w64, None, Err}
-use Rattle.std.specs.Prelude.{FitsSigned, IsSome, MatchResult}
+use Rattle.std.proofs.Common.{pos, refl, rules, arith, w64}
+use Rattle.std.specs.Prelude.{FitsSigned}
 use Rattle.std.proofs.lemmas.Int.{ints, to_z-of_z}
-use Rattle.kr_defs.specs.Image.{Image}
-use Rattle.kr_store.specs.Images.{Images, last_kept, marked}
-use Rattle.kr_fold.specs.Endings.{EndsLog, IsLogFault, ReadsLog}
-use Rattle.kr_fold.specs.inner.NextBatches.{IsReadTo, IsWithin, log_at}
-use Rattle.kr_fold.proofs.LogReading.{marked_new, reads_nothing}
+use Rattle.std.proofs.lemmas.Result.{err_from_is_err_and}
+use Rattle.kr_fold.proofs.LogReading.{marked_new, nothing_forgotten, reads_nothing}
 use Rattle.kr_fold.proofs.log.read_log.Goals as goal
 
 pub loop-next-init : goal.loop-next-init
@@ -26,3 +23,8 @@ returns-in-Ok-None-clause-log g c =
 
 pub returns-in-Err-clause-fault : goal.returns-in-Err-clause-fault
 returns-in-Err-clause-fault g c = c.in-Err.ensures.next _ c.loop-next.invariant.reads
+
+pub returns-in_err-mark-clause-fault : goal.returns-in_err-mark-clause-fault
+returns-in_err-mark-clause-fault g c =
+    let p = err_from_is_err_and c.from_residual.result c.from_residual.ensures.1 in
+    rw (p.1, p.2) (nothing_forgotten _)

@@ -1,5 +1,6 @@
 use Rattle.std.proofs.Common.{length, ◌-◌, ◌+◌, ◌≤◌}
-use Rattle.kr_fold.specs.SourceBytes.{longest, Grew}
+use Rattle.kr_fold.specs.SourceBytes.{longest}
+use Rattle.kr_fold.specs.inner.SourceReads.{Grew}
 use Rattle.kr_fold.proofs.piece.fill.Given as goal
 
 abbrev pub invariant-loop-bytes : goal.invariant-loop-bytes
