@@ -5,7 +5,7 @@ ghost use Rattle.std.specs.Option.{option_map_or};
 ghost use Rattle.std.specs.Ordering.{int_cmp, int_eq};
 ghost use Rattle.kr_defs.specs.declared.record.Record.TheVariants as kinds;
 ghost use Rattle.kr_defs.specs.Map as entries;
-ghost use Rattle.kr_calls.specs.BrokerHeartbeat as heartbeating;
+ghost use Rattle.kr_calls.specs.BrokerHeartbeat as broker_heartbeat;
 
 use crate::elections::unfencing_records;
 use kr_base::{NoMemory, Steps};
@@ -28,7 +28,7 @@ struct HeartbeatRule<'a> {
 
 // The broker's offset is below the place of its registration.
 fn is_behind(request: &BrokerHeartbeat) -> bool
-    ensures { result ≡ heartbeating.is_behind request.now }
+    ensures { result ≡ broker_heartbeat.is_behind request.now }
 {
     request.offset < request.epoch
 }
@@ -40,7 +40,7 @@ fn draft_of(
     fenced: bool,
     shuts_down: bool,
 ) -> Draft<BrokerHeartbeatReply>
-    ensures { result ≡ heartbeating.told request.now (record { records = records; fenced = fenced; shuts_down = shuts_down }) }
+    ensures { result ≡ broker_heartbeat.told request.now (record { records = records; fenced = fenced; shuts_down = shuts_down }) }
 {
     Draft {
         records,
@@ -61,7 +61,7 @@ fn of_fenced<S: Store>(
     state: &Broker,
 ) -> Result<Draft<BrokerHeartbeatReply>, NoMemory>
     requires { entries.get int_cmp (S.images store.now).tip.brokers request.now.broker ≡ Some state.now }
-    ensures { IfOk result (λ draft. draft ≡ heartbeating.told request.now (heartbeating.of_fenced minimum.now (S.images store.now).tip request.now state.now)) }
+    ensures { IfOk result (λ draft. draft ≡ broker_heartbeat.told request.now (broker_heartbeat.of_fenced minimum.now (S.images store.now).tip request.now state.now)) }
 {
     if request.want_shutdown || state.stopping {
         return Ok(draft_of(request, Records::new(alloc), true, true));
@@ -90,7 +90,7 @@ fn is_passed_on<S: Store>(
     sessions: &Sessions,
     broker: &i32,
 ) -> Result<bool, NoMemory>
-    ensures { IfOk result (λ passed. passed ≡ heartbeating.is_passed_on sessions.now.heartbeats (S.images store.now).tip broker.now) }
+    ensures { IfOk result (λ passed. passed ≡ broker_heartbeat.is_passed_on sessions.now.heartbeats (S.images store.now).tip broker.now) }
 {
     let stopped = sessions.stopped_at(*broker);
     match &stopped {
@@ -109,7 +109,7 @@ fn of_stopping<S: Store>(
     sessions: &Sessions,
     request: &BrokerHeartbeat,
 ) -> Result<Draft<BrokerHeartbeatReply>, NoMemory>
-    ensures { IfOk result (λ draft. draft ≡ heartbeating.told request.now (heartbeating.of_stopping minimum.now sessions.now.heartbeats (S.images store.now).tip request.now)) }
+    ensures { IfOk result (λ draft. draft ≡ broker_heartbeat.told request.now (broker_heartbeat.of_stopping minimum.now sessions.now.heartbeats (S.images store.now).tip request.now)) }
 {
     if is_passed_on(alloc, store, sessions, &request.broker)? {
         let records = fencing_records(alloc, store, minimum, &request.broker, &request.epoch)?;
@@ -138,7 +138,7 @@ fn stopping_records<S: Store>(
     broker: &i32,
     epoch: &i64,
 ) -> Result<Records, NoMemory>
-    ensures { IfOk result (λ records. records ≡ heartbeating.stopping_records minimum.now (S.images store.now).tip broker.now epoch.now) }
+    ensures { IfOk result (λ records. records ≡ broker_heartbeat.stopping_records minimum.now (S.images store.now).tip broker.now epoch.now) }
 {
     let mut records = Records::new(alloc);
     records.push(stop_record(broker, epoch))?;
@@ -152,7 +152,7 @@ fn of_active<S: Store>(
     minimum: &i32,
     request: &BrokerHeartbeat,
 ) -> Result<Draft<BrokerHeartbeatReply>, NoMemory>
-    ensures { IfOk result (λ draft. draft ≡ heartbeating.told request.now (heartbeating.of_active minimum.now (S.images store.now).tip request.now)) }
+    ensures { IfOk result (λ draft. draft ≡ broker_heartbeat.told request.now (broker_heartbeat.of_active minimum.now (S.images store.now).tip request.now)) }
 {
     if request.want_fence {
         let records = fencing_records(alloc, store, minimum, &request.broker, &request.epoch)?;
@@ -180,7 +180,7 @@ fn step<S: Store>(
     state: &Broker,
 ) -> Result<Draft<BrokerHeartbeatReply>, NoMemory>
     requires { entries.get int_cmp (S.images store.now).tip.brokers request.now.broker ≡ Some state.now }
-    ensures { IfOk result (λ draft. draft ≡ heartbeating.told request.now (heartbeating.step minimum.now sessions.now.heartbeats (S.images store.now).tip request.now state.now)) }
+    ensures { IfOk result (λ draft. draft ≡ broker_heartbeat.told request.now (broker_heartbeat.step minimum.now sessions.now.heartbeats (S.images store.now).tip request.now state.now)) }
 {
     if state.fenced {
         of_fenced(alloc, store, minimum, request, state)
@@ -198,9 +198,9 @@ fn is_of_epoch(request: &BrokerHeartbeat, state: &Broker) -> bool
 }
 
 impl<'a> Rule<BrokerHeartbeat, BrokerHeartbeatReply> for HeartbeatRule<'a> {
-    ghost refusal = { λ _. heartbeating.refused };
+    ghost refusal = { λ _. broker_heartbeat.refused };
 
-    ghost rule = { λ r. heartbeating.rule r.options.now r.sessions.now.heartbeats };
+    ghost rule = { λ r. broker_heartbeat.rule r.options.now r.sessions.now.heartbeats };
 
     fn refusal(
         &self,
@@ -248,7 +248,7 @@ impl<'a> Rule<BrokerHeartbeat, BrokerHeartbeatReply> for HeartbeatRule<'a> {
 pub struct BrokerHeartbeatHandler;
 
 impl Handler<BrokerHeartbeat> for BrokerHeartbeatHandler {
-    ghost decided = { λ request given image. heartbeating.decided given.options.now given.sessions.now.heartbeats image given.place request };
+    ghost decided = { λ request given image. broker_heartbeat.decided given.options.now given.sessions.now.heartbeats image given.place request };
 
     #[tactic(auto, unfolding(kr_calls::specs::BrokerHeartbeat::decided))]
     fn decide<S: Store, L: Ledger>(

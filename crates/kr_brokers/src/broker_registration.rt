@@ -3,7 +3,7 @@
 ghost use Rattle.std.specs.Prelude.{◌≡◌, ◌+◌, ◌++◌, ◌==◌, ◌||◌, not, pos, int_lt, length, bytes_eq, Some, IfOk, OnOk};
 ghost use Rattle.std.specs.Ordering.{int_cmp, int_eq};
 ghost use Rattle.kr_defs.specs.Map as entries;
-ghost use Rattle.kr_calls.specs.BrokerRegistration as registering;
+ghost use Rattle.kr_calls.specs.BrokerRegistration as broker_registration;
 ghost use Rattle.kr_rules.specs.Progress.{place_of};
 
 use kr_base::{NoMemory, Steps};
@@ -53,7 +53,7 @@ fn is_ill(request: &BrokerRegistration) -> bool
 
 // Another incarnation of the broker stands.
 fn is_other<S: Store>(store: &S, request: &BrokerRegistration) -> bool
-    ensures { result ≡ registering.is_other (S.images store.now).tip request.now }
+    ensures { result ≡ broker_registration.is_other (S.images store.now).tip request.now }
 {
     match tip::broker(store, &request.broker) {
         Some(old) => old.incarnation != request.incarnation,
@@ -63,7 +63,7 @@ fn is_other<S: Store>(store: &S, request: &BrokerRegistration) -> bool
 
 // Another incarnation of the broker is in contact.
 fn is_taken<S: Store>(rule: &Registering, store: &S, request: &BrokerRegistration) -> bool
-    ensures { result ≡ registering.is_taken rule.now.options.now rule.now.time rule.now.sessions.now.heartbeats (S.images store.now).tip request.now }
+    ensures { result ≡ broker_registration.is_taken rule.now.options.now rule.now.time rule.now.sessions.now.heartbeats (S.images store.now).tip request.now }
 {
     rule.sessions
         .valid(request.broker, rule.time, rule.options.session_ms)
@@ -76,7 +76,7 @@ fn registration(
     work: &Work,
     request: &BrokerRegistration,
 ) -> Result<Broker, NoMemory>
-    ensures { IfOk result (λ state. state ≡ registering.registration request.now (place_of work.now)) }
+    ensures { IfOk result (λ state. state ≡ broker_registration.registration request.now (place_of work.now)) }
 {
     let endpoints = request.listeners.copied(alloc)?;
     let features = request.features.copied(alloc)?;
@@ -108,7 +108,7 @@ fn take_out_old<S: Store>(
     old: &Broker,
     records: &mut Records,
 ) -> Result<(), NoMemory>
-    ensures { OnOk result (records.new ≡ records.old ++ registering.earlier_taken_out minimum.now (S.images store.now).tip request.now (Some old.now)) }
+    ensures { OnOk result (records.new ≡ records.old ++ broker_registration.earlier_taken_out minimum.now (S.images store.now).tip request.now (Some old.now)) }
 {
     let restarted = is_unclean(request, old);
     take_out(alloc, store, minimum, &request.broker, restarted, records)
@@ -122,7 +122,7 @@ fn take_out_earlier<S: Store>(
     request: &BrokerRegistration,
     records: &mut Records,
 ) -> Result<(), NoMemory>
-    ensures { OnOk result (records.new ≡ records.old ++ registering.earlier_taken_out minimum.now (S.images store.now).tip request.now (entries.get int_cmp (S.images store.now).tip.brokers request.now.broker)) }
+    ensures { OnOk result (records.new ≡ records.old ++ broker_registration.earlier_taken_out minimum.now (S.images store.now).tip request.now (entries.get int_cmp (S.images store.now).tip.brokers request.now.broker)) }
 {
     match tip::broker(store, &request.broker) {
         Some(old) => take_out_old(alloc, store, minimum, request, old, records),
@@ -137,7 +137,7 @@ fn registration_draft<S: Store>(
     work: &Work,
     request: &BrokerRegistration,
 ) -> Result<Draft<BrokerRegistrationReply>, NoMemory>
-    ensures { IfOk result (λ draft. draft ≡ registering.registered options.now (S.images store.now).tip (place_of work.now) request.now) }
+    ensures { IfOk result (λ draft. draft ≡ broker_registration.registered options.now (S.images store.now).tip (place_of work.now) request.now) }
 {
     let state = registration(alloc, work, request)?;
     let mut records = Records::new(alloc);
@@ -156,9 +156,9 @@ fn registration_draft<S: Store>(
 }
 
 impl<'a> Rule<BrokerRegistration, BrokerRegistrationReply> for Registering<'a> {
-    ghost refusal = { λ _. registering.refused };
+    ghost refusal = { λ _. broker_registration.refused };
 
-    ghost rule = { λ r. registering.rule r.options.now r.time r.sessions.now.heartbeats };
+    ghost rule = { λ r. broker_registration.rule r.options.now r.time r.sessions.now.heartbeats };
 
     fn refusal(
         &self,
@@ -199,7 +199,7 @@ impl<'a> Rule<BrokerRegistration, BrokerRegistrationReply> for Registering<'a> {
 pub struct BrokerRegistrationHandler;
 
 impl Handler<BrokerRegistration> for BrokerRegistrationHandler {
-    ghost decided = { λ request given image. registering.decided given.options.now given.now given.sessions.now.heartbeats image given.place request };
+    ghost decided = { λ request given image. broker_registration.decided given.options.now given.now given.sessions.now.heartbeats image given.place request };
 
     #[tactic(auto, unfolding(kr_calls::specs::BrokerRegistration::decided))]
     fn decide<S: Store, L: Ledger>(

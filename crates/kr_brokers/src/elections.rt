@@ -9,7 +9,7 @@ ghost use Rattle.kr_defs.specs.DefaultWant as wants;
 ghost use Rattle.kr_defs.specs.Map as entries;
 ghost use Rattle.kr_defs.specs.Settings.{facts_with};
 ghost use Rattle.kr_defs.specs.Walk.{changes_of, walk};
-ghost use Rattle.kr_calls.specs.BrokerHeartbeat as heartbeating;
+ghost use Rattle.kr_calls.specs.BrokerHeartbeat as broker_heartbeat;
 
 use kr_base::NoMemory;
 use kr_change::build;
@@ -46,7 +46,7 @@ fn active_with<S: Store>(
     state: &Broker,
 ) -> Result<Ids, NoMemory>
     requires { entries.get int_cmp (S.images store.now).tip.brokers broker.now ≡ Some state.now }
-    ensures { IfOk result (λ ids. ids ≡ brokers.active_of (heartbeating.unfenced_brokers (S.images store.now).tip broker.now state.now)) }
+    ensures { IfOk result (λ ids. ids ≡ brokers.active_of (broker_heartbeat.unfenced_brokers (S.images store.now).tip broker.now state.now)) }
 {
     let _valid = store.counts();
     let test = active_with_test(broker);
@@ -72,13 +72,13 @@ fn candidate_of(minimum: &i32, active: Ids, broker: &i32) -> Candidate
 }
 
 fn waits_for(broker: &i32, partition: &Partition) -> bool
-    ensures { result ≡ heartbeating.waits_for broker.now partition.now }
+    ensures { result ≡ broker_heartbeat.waits_for broker.now partition.now }
 {
     partition.leader == -1 && partition.replicas.contains(broker)
 }
 
 impl Change for Candidate {
-    ghost change = { λ t image w. if heartbeating.waits_for t.broker w.partition then built w.partition (wants.default_want w.partition) (facts_with t.minimum image t.active w.topic) else None };
+    ghost change = { λ t image w. if broker_heartbeat.waits_for t.broker w.partition then built w.partition (wants.default_want w.partition) (facts_with t.minimum image t.active w.topic) else None };
 
     fn change<S: Store>(
         &self,
@@ -107,7 +107,7 @@ fn add_elections<S: Store>(
     records: &mut Records,
 ) -> Result<(), NoMemory>
     requires { entries.get int_cmp (S.images store.now).tip.brokers broker.now ≡ Some state.now }
-    ensures { OnOk result (records.new ≡ records.old ++ changes_of (heartbeating.electing minimum.now (S.images store.now).tip broker.now state.now) (walk (S.images store.now).tip)) }
+    ensures { OnOk result (records.new ≡ records.old ++ changes_of (broker_heartbeat.electing minimum.now (S.images store.now).tip broker.now state.now) (walk (S.images store.now).tip)) }
 {
     let active = active_with(alloc, store, broker, state)?;
     let rule = candidate_of(minimum, active, broker);
@@ -134,7 +134,7 @@ pub(crate) fn unfencing_records<S: Store>(
     state: &Broker,
 ) -> Result<Records, NoMemory>
     requires { entries.get int_cmp (S.images store.now).tip.brokers broker.now ≡ Some state.now }
-    ensures { IfOk result (λ records. records ≡ heartbeating.unfencing minimum.now (S.images store.now).tip broker.now state.now) }
+    ensures { IfOk result (λ records. records ≡ broker_heartbeat.unfencing minimum.now (S.images store.now).tip broker.now state.now) }
 {
     let mut records = Records::new(alloc);
     records.push(unfence_record(broker, &state.epoch))?;

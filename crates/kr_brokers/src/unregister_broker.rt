@@ -3,7 +3,7 @@
 ghost use Rattle.std.specs.Prelude.{◌≡◌, true, ◌∷◌, Some, IfOk};
 ghost use Rattle.kr_defs.specs.declared.record.Record.TheVariants as kinds;
 ghost use Rattle.kr_calls.specs.TakingOut.{taken_out};
-ghost use Rattle.kr_calls.specs.UnregisterBroker as unregistering;
+ghost use Rattle.kr_calls.specs.UnregisterBroker as unregister_broker;
 
 use kr_base::{NoMemory, Steps};
 use kr_calls::errors::BROKER_ID_NOT_REGISTERED;
@@ -42,9 +42,9 @@ fn unregistration<S: Store>(
 }
 
 impl<'a> Rule<UnregisterBroker, UnregisterBrokerReply> for Unregistering<'a> {
-    ghost refusal = { λ _. unregistering.refused };
+    ghost refusal = { λ _. unregister_broker.refused };
 
-    ghost rule = { λ r. unregistering.rule r.options.now };
+    ghost rule = { λ r. unregister_broker.rule r.options.now };
 
     fn refusal(
         &self,
@@ -84,7 +84,7 @@ impl<'a> Rule<UnregisterBroker, UnregisterBrokerReply> for Unregistering<'a> {
 pub struct UnregisterBrokerHandler;
 
 impl Handler<UnregisterBroker> for UnregisterBrokerHandler {
-    ghost decided = { λ request given image. unregistering.decided given.options.now image given.place request };
+    ghost decided = { λ request given image. unregister_broker.decided given.options.now image given.place request };
 
     #[tactic(auto, unfolding(kr_calls::specs::UnregisterBroker::decided))]
     fn decide<S: Store, L: Ledger>(

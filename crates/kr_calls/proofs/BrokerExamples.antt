@@ -10,9 +10,9 @@ use Rattle.kr_defs.specs.Image.{Image}
 use Rattle.kr_calls.specs.declared.broker_heartbeat.BrokerHeartbeat.{BrokerHeartbeat}
 use Rattle.kr_calls.specs.declared.broker_heartbeat.BrokerHeartbeatReply.{BrokerHeartbeatReply}
 use Rattle.kr_calls.specs.declared.broker_registration.BrokerRegistration.{BrokerRegistration}
-use Rattle.kr_calls.specs.BrokerHeartbeat as heartbeating
-use Rattle.kr_calls.specs.BrokerRegistration as registering
-use Rattle.kr_calls.specs.UnregisterBroker as unregistering
+use Rattle.kr_calls.specs.BrokerHeartbeat as broker_heartbeat
+use Rattle.kr_calls.specs.BrokerRegistration as broker_registration
+use Rattle.kr_calls.specs.UnregisterBroker as unregister_broker
 use Rattle.kr_calls.proofs.Cluster.{basis, broker, cluster, image, leaderless, no_change, options}
 
 -- ---- registrations
@@ -29,32 +29,32 @@ asks = record {
   previous_epoch = pos 13;
 }
 
-other_cluster : registering.rule options basis.time (heard basis) image (pos 30) (record asks { cluster = codes "c2"; broker = negsuc 0 }) ≡ Err (pos 104)
+other_cluster : broker_registration.rule options basis.time (heard basis) image (pos 30) (record asks { cluster = codes "c2"; broker = negsuc 0 }) ≡ Err (pos 104)
 other_cluster = refl
 
-negative_id : registering.rule options basis.time (heard basis) image (pos 30) (record asks { broker = negsuc 0 }) ≡ Err (pos 42)
+negative_id : broker_registration.rule options basis.time (heard basis) image (pos 30) (record asks { broker = negsuc 0 }) ≡ Err (pos 42)
 negative_id = refl
 
-migrating : registering.rule options basis.time (heard basis) image (pos 30) (record asks { migrating = true }) ≡ Err (pos 42)
+migrating : broker_registration.rule options basis.time (heard basis) image (pos 30) (record asks { migrating = true }) ≡ Err (pos 42)
 migrating = refl
 
-no_listener : registering.rule options basis.time (heard basis) image (pos 30) (record asks { listeners = [] }) ≡ Err (pos 42)
+no_listener : broker_registration.rule options basis.time (heard basis) image (pos 30) (record asks { listeners = [] }) ≡ Err (pos 42)
 no_listener = refl
 
 -- broker 1 was heard of a second ago
-other_incarnation : registering.rule options basis.time (heard basis) image (pos 30) (record asks { broker = pos 1 }) ≡ Err (pos 101)
+other_incarnation : broker_registration.rule options basis.time (heard basis) image (pos 30) (record asks { broker = pos 1 }) ≡ Err (pos 101)
 other_incarnation = refl
 
 -- its session has just ended
-late : OnOk (registering.rule options (pos 10000) (heard basis) image (pos 30) (record asks { broker = pos 1 })) (Unit {0})
+late : OnOk (broker_registration.rule options (pos 10000) (heard basis) image (pos 30) (record asks { broker = pos 1 })) (Unit {0})
 late = tt
 
 -- one millisecond before that it hasn't
-in_time : registering.rule options (pos 9999) (heard basis) image (pos 30) (record asks { broker = pos 1 }) ≡ Err (pos 101)
+in_time : broker_registration.rule options (pos 9999) (heard basis) image (pos 30) (record asks { broker = pos 1 }) ≡ Err (pos 101)
 in_time = refl
 
 -- a fenced broker registers anew; it is in sync nowhere
-anew : registering.rule options basis.time (heard basis) image (pos 30) asks
+anew : broker_registration.rule options basis.time (heard basis) image (pos 30) asks
     ≡ Ok (record { records = kinds.RegisterBroker (pos 4) (record (broker (pos 30) true) { incarnation = 101; endpoints = asks.listeners }) ∷ []; answer = record { error = pos 0; epoch = pos 30 } })
 anew = refl
 
@@ -69,65 +69,65 @@ fenced_beats = record beats { broker = pos 4; epoch = pos 13 }
 abbrev answers : Bool → Bool → Bool → BrokerHeartbeatReply
 answers caught_up fenced shuts_down = record { error = pos 0; caught_up = caught_up; fenced = fenced; should_shut_down = shuts_down }
 
-unknown_broker : heartbeating.rule options (heard basis) image (pos 30) (record beats { broker = pos 9 }) ≡ Err (pos 77)
+unknown_broker : broker_heartbeat.rule options (heard basis) image (pos 30) (record beats { broker = pos 9 }) ≡ Err (pos 77)
 unknown_broker = refl
 
-stale_epoch : heartbeating.rule options (heard basis) image (pos 30) (record beats { epoch = pos 12 }) ≡ Err (pos 77)
+stale_epoch : broker_heartbeat.rule options (heard basis) image (pos 30) (record beats { epoch = pos 12 }) ≡ Err (pos 77)
 stale_epoch = refl
 
-active_stays : heartbeating.rule options (heard basis) image (pos 30) beats ≡ Ok (record { records = []; answer = answers true false false })
-unfolding heartbeating.step
+active_stays : broker_heartbeat.rule options (heard basis) image (pos 30) beats ≡ Ok (record { records = []; answer = answers true false false })
+unfolding broker_heartbeat.step
 active_stays = refl
 
-active_behind : heartbeating.rule options (heard basis) image (pos 30) (record beats { offset = pos 10 }) ≡ Ok (record { records = []; answer = answers false false false })
-unfolding heartbeating.step
+active_behind : broker_heartbeat.rule options (heard basis) image (pos 30) (record beats { offset = pos 10 }) ≡ Ok (record { records = []; answer = answers false false false })
+unfolding broker_heartbeat.step
 active_behind = refl
 
-fenced_shuts_down : heartbeating.rule options (heard basis) image (pos 30) (record fenced_beats { want_shutdown = true }) ≡ Ok (record { records = []; answer = answers true true true })
-unfolding heartbeating.step
+fenced_shuts_down : broker_heartbeat.rule options (heard basis) image (pos 30) (record fenced_beats { want_shutdown = true }) ≡ Ok (record { records = []; answer = answers true true true })
+unfolding broker_heartbeat.step
 fenced_shuts_down = refl
 
-fenced_stays : heartbeating.rule options (heard basis) image (pos 30) (record fenced_beats { want_fence = true }) ≡ Ok (record { records = []; answer = answers true true false })
-unfolding heartbeating.step
+fenced_stays : broker_heartbeat.rule options (heard basis) image (pos 30) (record fenced_beats { want_fence = true }) ≡ Ok (record { records = []; answer = answers true true false })
+unfolding broker_heartbeat.step
 fenced_stays = refl
 
-fenced_behind : heartbeating.rule options (heard basis) image (pos 30) (record fenced_beats { offset = pos 12 }) ≡ Ok (record { records = []; answer = answers false true false })
-unfolding heartbeating.step
+fenced_behind : broker_heartbeat.rule options (heard basis) image (pos 30) (record fenced_beats { offset = pos 12 }) ≡ Ok (record { records = []; answer = answers false true false })
+unfolding broker_heartbeat.step
 fenced_behind = refl
 
-unfences : heartbeating.rule options (heard basis) image (pos 30) fenced_beats
+unfences : broker_heartbeat.rule options (heard basis) image (pos 30) fenced_beats
     ≡ Ok (record { records = kinds.BrokerRegistrationChange (pos 4) (pos 13) (negsuc 0) (pos 0) ∷ []; answer = answers true false false })
-unfolding heartbeating.step
+unfolding broker_heartbeat.step
 unfences = refl
 
 -- broker 2 follows, so that it leaves the replicas in sync alone
-wants_fence : heartbeating.rule options (heard basis) image (pos 30) (record beats { want_fence = true })
+wants_fence : broker_heartbeat.rule options (heard basis) image (pos 30) (record beats { want_fence = true })
     ≡ Ok (record {
       records = kinds.BrokerRegistrationChange (pos 2) (pos 11) (pos 1) (pos 0)
           ∷ kinds.PartitionChange (pos 0) 77 (record no_change { in_sync = Some (pos 1 ∷ pos 3 ∷ []) }) ∷ [];
       answer = answers true true false;
     })
-unfolding heartbeating.step built aimed ended completes settled standing_by elected eligible_after difference
+unfolding broker_heartbeat.step built aimed ended completes settled standing_by elected eligible_after difference
 wants_fence = refl
 
 -- broker 2 leads nothing, so that it may go at once
-shuts_down : heartbeating.rule options (heard basis) image (pos 30) (record beats { want_shutdown = true })
+shuts_down : broker_heartbeat.rule options (heard basis) image (pos 30) (record beats { want_shutdown = true })
     ≡ Ok (record {
       records = kinds.BrokerRegistrationChange (pos 2) (pos 11) (pos 1) (pos 0)
           ∷ kinds.PartitionChange (pos 0) 77 (record no_change { in_sync = Some (pos 1 ∷ pos 3 ∷ []) }) ∷ [];
       answer = answers true true true;
     })
-unfolding heartbeating.step built aimed ended completes settled standing_by elected eligible_after difference
+unfolding broker_heartbeat.step built aimed ended completes settled standing_by elected eligible_after difference
 shuts_down = refl
 
 -- broker 1 leads, so that it stops first and hands its leadership on
-begins_to_stop : heartbeating.rule options (heard basis) image (pos 30) (record beats { broker = pos 1; epoch = pos 10; want_shutdown = true })
+begins_to_stop : broker_heartbeat.rule options (heard basis) image (pos 30) (record beats { broker = pos 1; epoch = pos 10; want_shutdown = true })
     ≡ Ok (record {
       records = kinds.BrokerRegistrationChange (pos 1) (pos 10) (pos 0) (pos 1)
           ∷ kinds.PartitionChange (pos 0) 77 (record no_change { in_sync = Some (pos 2 ∷ pos 3 ∷ []); leader = Some (pos 2) }) ∷ [];
       answer = answers true false false;
     })
-unfolding heartbeating.step built aimed ended completes settled standing_by elected eligible_after difference
+unfolding broker_heartbeat.step built aimed ended completes settled standing_by elected eligible_after difference
 begins_to_stop = refl
 
 -- ---- a stopping broker
@@ -142,15 +142,15 @@ abbrev stopping_at : ℤ → Heartbeats
 stopping_at tip = record (heard basis) { stopping = record { broker = pos 1; tip = tip } ∷ [] }
 
 -- broker 2 has read up to 21 alone
-waits : heartbeating.rule options (stopping_at (pos 22)) stopping_image (pos 30) (record beats { broker = pos 1; epoch = pos 10 })
+waits : broker_heartbeat.rule options (stopping_at (pos 22)) stopping_image (pos 30) (record beats { broker = pos 1; epoch = pos 10 })
     ≡ Ok (record { records = []; answer = answers true false false })
-unfolding heartbeating.step
+unfolding broker_heartbeat.step
 waits = refl
 
 -- both active brokers have read so far
-goes : heartbeating.rule options (stopping_at (pos 21)) stopping_image (pos 30) (record beats { broker = pos 1; epoch = pos 10 })
+goes : broker_heartbeat.rule options (stopping_at (pos 21)) stopping_image (pos 30) (record beats { broker = pos 1; epoch = pos 10 })
     ≡ Ok (record { records = kinds.BrokerRegistrationChange (pos 1) (pos 10) (pos 1) (pos 0) ∷ []; answer = answers true true true })
-unfolding heartbeating.step
+unfolding broker_heartbeat.step
 goes = refl
 
 -- ---- a leaderless partition finds the broker that is unfenced
@@ -160,22 +160,22 @@ broken_image = record (cluster leaderless) {
   brokers = (pos 1, broker (pos 10) false) ∷ (pos 2, broker (pos 11) false) ∷ (pos 3, broker (pos 12) true) ∷ [];
 }
 
-leads_again : heartbeating.rule options (heard basis) broken_image (pos 30) (record beats { broker = pos 3; epoch = pos 12 })
+leads_again : broker_heartbeat.rule options (heard basis) broken_image (pos 30) (record beats { broker = pos 3; epoch = pos 12 })
     ≡ Ok (record {
       records = kinds.BrokerRegistrationChange (pos 3) (pos 12) (negsuc 0) (pos 0)
           ∷ kinds.PartitionChange (pos 0) 77 (record no_change { in_sync = Some (pos 3 ∷ []); eligible = Some []; leader = Some (pos 3) }) ∷ [];
       answer = answers true false false;
     })
-unfolding heartbeating.step built aimed ended completes settled standing_by elected eligible_after difference
+unfolding broker_heartbeat.step built aimed ended completes settled standing_by elected eligible_after difference
 leads_again = refl
 
 -- ---- unregistrations
 
-not_registered : unregistering.rule options image (pos 30) (record { broker = pos 9 }) ≡ Err (pos 102)
+not_registered : unregister_broker.rule options image (pos 30) (record { broker = pos 9 }) ≡ Err (pos 102)
 not_registered = refl
 
 -- broker 3 goes uncleanly: it is neither in sync nor eligible afterwards
-goes_for_good : unregistering.rule options image (pos 30) (record { broker = pos 3 })
+goes_for_good : unregister_broker.rule options image (pos 30) (record { broker = pos 3 })
     ≡ Ok (record {
       records = kinds.UnregisterBroker (pos 3) (pos 12)
           ∷ kinds.PartitionChange (pos 0) 77 (record no_change { in_sync = Some (pos 1 ∷ pos 2 ∷ []) }) ∷ [];

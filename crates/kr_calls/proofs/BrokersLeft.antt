@@ -18,7 +18,7 @@ use Rattle.kr_defs.specs.Image.{Image, topic_name, has_topic, is_index, config_t
 use Rattle.kr_defs.specs.Merge.{merged}
 use Rattle.kr_defs.specs.Texts.{is_topic_name, names_agree}
 use Rattle.kr_defs.specs.declared.limits.TheConstants.{MOST_TOPICS, MOST_PARTITIONS, MOST_CONFIG_TEXT, MOST_FEATURES, LONGEST_FEATURE}
-use Rattle.kr_calls.specs.Refuse.{refused_resource}
+use Rattle.kr_calls.specs.Refuse.{refused_incremental_alter_configs}
 use Rattle.kr_defs.specs.Map as entries
 use Rattle.kr_defs.specs.Map.{config_order, partition_order, text_order}
 use Rattle.kr_defs.specs.Partition.{target, is_well_formed}
@@ -34,13 +34,13 @@ use Rattle.kr_calls.specs.declared.incremental_alter_configs.ConfigResource.{Con
 use Rattle.kr_calls.specs.declared.deciding.Draft.{Draft}
 use Rattle.kr_calls.specs.declared.create_topics.CreatableTopicConfig.{CreatableTopicConfig}
 use Rattle.kr_calls.specs.Deciding.{apply_records}
-use Rattle.kr_calls.specs.AlterPartition as reporting
-use Rattle.kr_calls.specs.AlterPartitionReassignments as reassigning
-use Rattle.kr_calls.specs.CreatePartitions as growing
-use Rattle.kr_calls.specs.CreateTopics as creating
-use Rattle.kr_calls.specs.DeleteTopics as deleting
-use Rattle.kr_calls.specs.ElectLeaders as electing
-use Rattle.kr_calls.specs.IncrementalAlterConfigs as configuring
+use Rattle.kr_calls.specs.AlterPartition as alter_partition
+use Rattle.kr_calls.specs.AlterPartitionReassignments as alter_partition_reassignments
+use Rattle.kr_calls.specs.CreatePartitions as create_partitions
+use Rattle.kr_calls.specs.CreateTopics as create_topics
+use Rattle.kr_calls.specs.DeleteTopics as delete_topics
+use Rattle.kr_calls.specs.ElectLeaders as elect_leaders
+use Rattle.kr_calls.specs.IncrementalAlterConfigs as incremental_alter_configs
 use Rattle.kr_calls.specs.NewPartitions.{new_partitions}
 
 -- a record that isn't about a broker
@@ -105,21 +105,21 @@ partitions_are : (image : Image) (id first : ℕ) (lists : List (List ℤ)) → 
 partitions_are image id first [] = refl
 partitions_are image id first (replicas ∷ lists) = partitions_are image id (suc first) lists
 
-settings_are : (configs : List (ConfigKey × List ℕ)) (topic : List ℕ) (settings : List CreatableTopicConfig) → are_brokerless (creating.settings_records configs topic settings) ≡ true
+settings_are : (configs : List (ConfigKey × List ℕ)) (topic : List ℕ) (settings : List CreatableTopicConfig) → are_brokerless (create_topics.settings_records configs topic settings) ≡ true
 settings_are configs topic [] = refl
 settings_are configs topic (setting ∷ settings) =
     let key : ConfigKey = record { kind = pos 2; name = topic; key = setting.name } in
     let value : List ℕ = unwrap_or setting.value [] in
-    let next = creating.settings_records (entries.insert config_order configs key value) topic settings in
-    elim (option_map_or (bytes_eq value) (entries.get config_order configs key) false) as (λ b. are_brokerless (cond b (creating.settings_records configs topic settings) (kinds.Config (pos 2) topic setting.name (Some value) ∷ next)) ≡ true) [
+    let next = create_topics.settings_records (entries.insert config_order configs key value) topic settings in
+    elim (option_map_or (bytes_eq value) (entries.get config_order configs key) false) as (λ b. are_brokerless (cond b (create_topics.settings_records configs topic settings) (kinds.Config (pos 2) topic setting.name (Some value) ∷ next)) ≡ true) [
       | true ↦ settings_are configs topic settings
       | false ↦ settings_are (entries.insert config_order configs key value) topic settings
     ]
 
-values_are : (image : Image) (entry : ConfigResource) (values : configuring.Values) → are_brokerless (filter_map (configuring.config_record image entry) values) ≡ true
+values_are : (image : Image) (entry : ConfigResource) (values : incremental_alter_configs.Values) → are_brokerless (filter_map (incremental_alter_configs.config_record image entry) values) ≡ true
 values_are image entry [] = refl
 values_are image entry (v ∷ values) =
-    elim (configuring.is_same_value v.1 (entries.get config_order image.configs (configuring.key_of entry v.0))) as (λ b. are_brokerless (cons_option (cond b None (Some (kinds.Config entry.kind entry.name v.0 v.1))) (filter_map (configuring.config_record image entry) values)) ≡ true) [
+    elim (incremental_alter_configs.is_same_value v.1 (entries.get config_order image.configs (incremental_alter_configs.key_of entry v.0))) as (λ b. are_brokerless (cons_option (cond b None (Some (kinds.Config entry.kind entry.name v.0 v.1))) (filter_map (incremental_alter_configs.config_record image entry) values)) ≡ true) [
       | true ↦ values_are image entry values
       | false ↦ values_are image entry values
     ]
@@ -136,57 +136,57 @@ IsBrokerless draft = are_brokerless draft.records ≡ true
 abbrev pub AreBrokerless : {E A : Type 0} → (Image → ℤ → E → Result (Draft A) ℤ) → Type 0
 AreBrokerless rule = (image : Image) (place : ℤ) (entry : _) → Gives IsBrokerless (rule image place entry)
 
-pub creates : (options : Options) (validate_only : Bool) → AreBrokerless (creating.rule options validate_only)
+pub creates : (options : Options) (validate_only : Bool) → AreBrokerless (create_topics.rule options validate_only)
 creates options validate_only image place entry =
     gives_refuse IsBrokerless (pos 17) (not (is_topic_name entry.name)) _ (λ _. gives_refuse IsBrokerless (pos 36) (entries.contains text_order image.topics entry.name) _ (λ _. gives_refuse IsBrokerless (pos 17) (list_any (λ topic. names_agree topic.0 entry.name) image.topics) _ (λ _.
-    gives_then (λ _. Unit {0}) IsBrokerless (creating.layout options image place entry) (creating.of_layout options validate_only image place entry) (λ _ _. tt) (λ layout _.
-    gives_refuse IsBrokerless (pos 40) (list_any creating.is_bad_setting entry.configs) _ (λ _. gives_done IsBrokerless (creating.created image validate_only (creating.new_id options image place) entry layout)
-    (both_are (creating.settings_records image.configs entry.name entry.configs) (new_partitions image (creating.new_id options image place) 0 layout.replicas)
-    (settings_are image.configs entry.name entry.configs) (partitions_are image (creating.new_id options image place) 0 layout.replicas)))))))
+    gives_then (λ _. Unit {0}) IsBrokerless (create_topics.layout options image place entry) (create_topics.of_layout options validate_only image place entry) (λ _ _. tt) (λ layout _.
+    gives_refuse IsBrokerless (pos 40) (list_any create_topics.is_bad_setting entry.configs) _ (λ _. gives_done IsBrokerless (create_topics.created image validate_only (create_topics.new_id options image place) entry layout)
+    (both_are (create_topics.settings_records image.configs entry.name entry.configs) (new_partitions image (create_topics.new_id options image place) 0 layout.replicas)
+    (settings_are image.configs entry.name entry.configs) (partitions_are image (create_topics.new_id options image place) 0 layout.replicas)))))))
 
-deletes_named : (image : Image) (name : Option (List ℕ)) (id : ℕ) → Gives IsBrokerless (deleting.by_name_or_id image name id)
+deletes_named : (image : Image) (name : Option (List ℕ)) (id : ℕ) → Gives IsBrokerless (delete_topics.by_name_or_id image name id)
 deletes_named image (Some name) id = gives_found IsBrokerless (pos 3) (entries.get text_order image.topics name) _ (λ _ _. gives_done IsBrokerless _ refl)
 deletes_named image None id = gives_found IsBrokerless (pos 100) (topic_name image.topics id) _ (λ _ _. gives_done IsBrokerless _ refl)
 
-pub deletes : AreBrokerless deleting.rule
+pub deletes : AreBrokerless delete_topics.rule
 deletes image place entry = gives_refuse IsBrokerless (pos 42) _ _ (λ _. deletes_named image entry.name entry.topic)
 
-pub grows : AreBrokerless growing.rule
+pub grows : AreBrokerless create_partitions.rule
 grows image place entry =
     gives_found IsBrokerless (pos 3) (entries.get text_order image.topics entry.name) _ (λ id _. let first = count_of image id in
     gives_refuse IsBrokerless (pos 37) _ _ (λ _. gives_found IsBrokerless (pos 39) (entries.get partition_order image.partitions (id, pos 0)) _ (λ p _.
-    gives_then (λ _. Unit {0}) IsBrokerless (growing.new_replicas image place first (unsigned_abs entry.count - first) (length (target p)) entry.assignments) _ (λ _ _. tt) (λ lists _. gives_done IsBrokerless (growing.grown image id first entry lists) (partitions_are image id first lists)))))
+    gives_then (λ _. Unit {0}) IsBrokerless (create_partitions.new_replicas image place first (unsigned_abs entry.count - first) (length (target p)) entry.assignments) _ (λ _ _. tt) (λ lists _. gives_done IsBrokerless (create_partitions.grown image id first entry lists) (partitions_are image id first lists)))))
 
-drafted_is : (broker : ℤ) (entry : reporting.Entry) (p : Partition) (o : Option PartitionChange) → IsBrokerless (reporting.drafted broker entry p o)
+drafted_is : (broker : ℤ) (entry : alter_partition.Entry) (p : Partition) (o : Option PartitionChange) → IsBrokerless (alter_partition.drafted broker entry p o)
 drafted_is broker entry p None = refl
 drafted_is broker entry p (Some change) = refl
 
-pub reports : (options : Options) (broker : ℤ) → AreBrokerless (reporting.rule options broker)
-unfolding reporting.of_partition reporting.accepted
+pub reports : (options : Options) (broker : ℤ) → AreBrokerless (alter_partition.rule options broker)
+unfolding alter_partition.of_partition alter_partition.accepted
 reports options broker image place entry =
     gives_found IsBrokerless (pos 100) (topic_name image.topics entry.0) _ (λ name _. gives_found IsBrokerless (pos 3) (entries.get partition_order image.partitions (entry.0, entry.1.index)) _ (λ p _.
-    gives_refuse IsBrokerless (pos 74) (int_lt entry.1.leader_epoch p.leader_epoch) _ (λ _. gives_refuse IsBrokerless (pos 75) (int_lt p.leader_epoch entry.1.leader_epoch) _ (λ _. gives_refuse IsBrokerless (pos 95) (not (int_eq entry.1.partition_epoch p.partition_epoch)) _ (λ _. gives_refuse IsBrokerless (pos 42) (reporting.is_bad broker p entry.1) _ (λ _. gives_refuse IsBrokerless (pos 107) (not (list_all (reporting.is_ready image) entry.1.in_sync)) _ (λ _.
-    gives_done IsBrokerless (reporting.drafted broker entry p (built p (reporting.wanted p entry.1) (facts_of options image name))) (drafted_is broker entry p (built p (reporting.wanted p entry.1) (facts_of options image name))))))))))
+    gives_refuse IsBrokerless (pos 74) (int_lt entry.1.leader_epoch p.leader_epoch) _ (λ _. gives_refuse IsBrokerless (pos 75) (int_lt p.leader_epoch entry.1.leader_epoch) _ (λ _. gives_refuse IsBrokerless (pos 95) (not (int_eq entry.1.partition_epoch p.partition_epoch)) _ (λ _. gives_refuse IsBrokerless (pos 42) (alter_partition.is_bad broker p entry.1) _ (λ _. gives_refuse IsBrokerless (pos 107) (not (list_all (alter_partition.is_ready image) entry.1.in_sync)) _ (λ _.
+    gives_done IsBrokerless (alter_partition.drafted broker entry p (built p (alter_partition.wanted p entry.1) (facts_of options image name))) (drafted_is broker entry p (built p (alter_partition.wanted p entry.1) (facts_of options image name))))))))))
 
-elects_one : (options : Options) (kind : ℤ) (image : Image) (entry : electing.Entry) (id : ℕ) (p : Partition) → Gives IsBrokerless (electing.of_partition options kind image entry id p)
+elects_one : (options : Options) (kind : ℤ) (image : Image) (entry : elect_leaders.Entry) (id : ℕ) (p : Partition) → Gives IsBrokerless (elect_leaders.of_partition options kind image entry id p)
 elects_one options kind image entry id p =
-    gives_if IsBrokerless (electing.is_preferred_kind kind) (electing.prefers options image entry id p) (electing.elects_any options image entry id p)
-    (λ _. gives_refuse IsBrokerless (pos 84) (int_eq p.leader (electing.first_replica p)) _ (λ _. gives_refuse IsBrokerless (pos 80) (not (has p.in_sync (electing.first_replica p) && has (active image) (electing.first_replica p))) _ (λ _. gives_done IsBrokerless _ (change_is id entry.1 (built p (electing.in_mode p modes.Preferred) (facts_of options image entry.0))))))
-    (λ _. gives_refuse IsBrokerless (pos 84) (not (int_eq p.leader (negsuc 0))) _ (λ _. gives_refuse IsBrokerless (pos 83) (electing.finds_nobody options image entry p) _ (λ _. gives_done IsBrokerless _ (change_is id entry.1 (built p (electing.in_mode p modes.Unclean) (facts_of options image entry.0))))))
+    gives_if IsBrokerless (elect_leaders.is_preferred_kind kind) (elect_leaders.prefers options image entry id p) (elect_leaders.elects_any options image entry id p)
+    (λ _. gives_refuse IsBrokerless (pos 84) (int_eq p.leader (elect_leaders.first_replica p)) _ (λ _. gives_refuse IsBrokerless (pos 80) (not (has p.in_sync (elect_leaders.first_replica p) && has (active image) (elect_leaders.first_replica p))) _ (λ _. gives_done IsBrokerless _ (change_is id entry.1 (built p (elect_leaders.in_mode p modes.Preferred) (facts_of options image entry.0))))))
+    (λ _. gives_refuse IsBrokerless (pos 84) (not (int_eq p.leader (negsuc 0))) _ (λ _. gives_refuse IsBrokerless (pos 83) (elect_leaders.finds_nobody options image entry p) _ (λ _. gives_done IsBrokerless _ (change_is id entry.1 (built p (elect_leaders.in_mode p modes.Unclean) (facts_of options image entry.0))))))
 
-pub elects : (options : Options) (kind : ℤ) → AreBrokerless (electing.rule options kind)
+pub elects : (options : Options) (kind : ℤ) → AreBrokerless (elect_leaders.rule options kind)
 elects options kind image place entry =
     gives_found IsBrokerless (pos 3) (entries.get text_order image.topics entry.0) _ (λ id _. gives_found IsBrokerless (pos 3) (entries.get partition_order image.partitions (id, entry.1)) _ (λ p _. elects_one options kind image entry id p))
 
-pub reassigns : (options : Options) → AreBrokerless (reassigning.rule options)
+pub reassigns : (options : Options) → AreBrokerless (alter_partition_reassignments.rule options)
 reassigns options image place entry =
     gives_found IsBrokerless (pos 3) (entries.get text_order image.topics entry.0) _ (λ id _. gives_found IsBrokerless (pos 3) (entries.get partition_order image.partitions (id, entry.1.index)) _ (λ p _.
-    gives_then (λ _. Unit {0}) IsBrokerless (reassigning.wanted image p entry.1.replicas) _ (λ _ _. tt) (λ want _. gives_refuse IsBrokerless (pos 39) (reassigning.loses_all image entry.0 p want) _ (λ _. gives_done IsBrokerless _ (change_is id entry.1.index (built p want (facts_of options image entry.0)))))))
+    gives_then (λ _. Unit {0}) IsBrokerless (alter_partition_reassignments.wanted image p entry.1.replicas) _ (λ _ _. tt) (λ want _. gives_refuse IsBrokerless (pos 39) (alter_partition_reassignments.loses_all image entry.0 p want) _ (λ _. gives_done IsBrokerless _ (change_is id entry.1.index (built p want (facts_of options image entry.0)))))))
 
-pub configures : (options : Options) → AreBrokerless (configuring.rule options)
+pub configures : (options : Options) → AreBrokerless (incremental_alter_configs.rule options)
 configures options image place entry =
-    gives_refuse IsBrokerless (pos 42) (not (configuring.is_topic_kind entry || configuring.is_broker_kind entry)) _ (λ _. gives_refuse IsBrokerless (pos 3) (configuring.is_topic_kind entry && not (entries.contains text_order image.topics entry.name)) _ (λ _. gives_refuse IsBrokerless (pos 42) (configuring.is_broker_kind entry && not (is_broker_name entry.name)) _ (λ _.
-    gives_then (λ _. Unit {0}) IsBrokerless (configuring.after_operations image entry [] entry.configs) (λ (values : configuring.Values). Ok (record { records = configuring.resource_records options image entry values; answer = refused_resource (pos 0) entry })) (λ _ _. tt) (λ values _.
-    let after : Image = record image { configs = configuring.with_values image.configs entry values } in
-    let relieved = changes_of (configuring.relief options image after) (walk image) in
-    gives_done IsBrokerless (record { records = configuring.resource_records options image entry values; answer = refused_resource (pos 0) entry }) (both_are (filter_map (configuring.config_record image entry) values) relieved (values_are image entry values) (changes_are (configuring.relief options image after) (walk image)))))))
+    gives_refuse IsBrokerless (pos 42) (not (incremental_alter_configs.is_topic_kind entry || incremental_alter_configs.is_broker_kind entry)) _ (λ _. gives_refuse IsBrokerless (pos 3) (incremental_alter_configs.is_topic_kind entry && not (entries.contains text_order image.topics entry.name)) _ (λ _. gives_refuse IsBrokerless (pos 42) (incremental_alter_configs.is_broker_kind entry && not (is_broker_name entry.name)) _ (λ _.
+    gives_then (λ _. Unit {0}) IsBrokerless (incremental_alter_configs.after_operations image entry [] entry.configs) (λ (values : incremental_alter_configs.Values). Ok (record { records = incremental_alter_configs.resource_records options image entry values; answer = refused_incremental_alter_configs (pos 0) entry })) (λ _ _. tt) (λ values _.
+    let after : Image = record image { configs = incremental_alter_configs.with_values image.configs entry values } in
+    let relieved = changes_of (incremental_alter_configs.relief options image after) (walk image) in
+    gives_done IsBrokerless (record { records = incremental_alter_configs.resource_records options image entry values; answer = refused_incremental_alter_configs (pos 0) entry }) (both_are (filter_map (incremental_alter_configs.config_record image entry) values) relieved (values_are image entry values) (changes_are (incremental_alter_configs.relief options image after) (walk image)))))))

@@ -10,7 +10,7 @@ use Rattle.kr_calls.specs.declared.incremental_alter_configs.ConfigOperation.{Co
 use Rattle.kr_calls.specs.declared.incremental_alter_configs.ConfigResource.{ConfigResource}
 use Rattle.kr_calls.specs.declared.incremental_alter_configs.ConfigResponse.{ConfigResponse}
 use Rattle.kr_calls.specs.declared.deciding.Draft.{Draft}
-use Rattle.kr_calls.specs.IncrementalAlterConfigs as configuring
+use Rattle.kr_calls.specs.IncrementalAlterConfigs as incremental_alter_configs
 use Rattle.kr_calls.specs.declared.calls.Reply.TheVariants as replies
 use Rattle.kr_calls.proofs.Cluster.{cluster, image, no_change, options, whole}
 use Rattle.kr_calls.specs.Deciding.{nothing_decided, done, taken}
@@ -22,15 +22,15 @@ abbrev of_brokers : List ConfigOperation → ConfigResource
 of_brokers configs = record { kind = pos 4; name = []; configs = configs }
 
 abbrev configure : ConfigOperation → Result (Draft ConfigResponse) ℤ
-configure o = configuring.rule options image (pos 30) (of_brokers (o ∷ []))
+configure o = incremental_alter_configs.rule options image (pos 30) (of_brokers (o ∷ []))
 
-unknown_kind : configuring.rule options image (pos 30) (record (of_brokers []) { kind = pos 3 }) ≡ Err (pos 42)
+unknown_kind : incremental_alter_configs.rule options image (pos 30) (record (of_brokers []) { kind = pos 3 }) ≡ Err (pos 42)
 unknown_kind = refl
 
-unknown_topic : configuring.rule options image (pos 30) (record (of_brokers []) { kind = pos 2; name = codes "x" }) ≡ Err (pos 3)
+unknown_topic : incremental_alter_configs.rule options image (pos 30) (record (of_brokers []) { kind = pos 2; name = codes "x" }) ≡ Err (pos 3)
 unknown_topic = refl
 
-bad_broker : configuring.rule options image (pos 30) (record (of_brokers []) { name = codes "01" }) ≡ Err (pos 42)
+bad_broker : incremental_alter_configs.rule options image (pos 30) (record (of_brokers []) { name = codes "01" }) ≡ Err (pos 42)
 bad_broker = refl
 
 unknown_operation : configure (operation (codes "k") (pos 4) (Some [])) ≡ Err (pos 42)
@@ -84,7 +84,7 @@ subtracts_from_nothing : configure (operation (codes "cleanup.policy") (pos 3) (
 subtracts_from_nothing = refl
 
 -- later operations see what earlier ones left, and the records come in the order of first naming
-one_after_the_other : configuring.rule options image (pos 30) (of_brokers (
+one_after_the_other : incremental_alter_configs.rule options image (pos 30) (of_brokers (
     operation (codes "cleanup.policy") (pos 0) (Some (codes "a,b,a"))
     ∷ operation (codes "k") (pos 0) (Some (codes "1"))
     ∷ operation (codes "cleanup.policy") (pos 3) (Some (codes "a"))
@@ -98,13 +98,13 @@ one_after_the_other = refl
 abbrev short : Partition
 short = record whole { in_sync = pos 1 ∷ []; eligible = pos 2 ∷ []; last_known = pos 3 ∷ [] }
 
-lower : configuring.rule options (cluster short) (pos 30) (of_brokers (operation (codes "min.insync.replicas") (pos 0) (Some (codes "1")) ∷ []))
+lower : incremental_alter_configs.rule options (cluster short) (pos 30) (of_brokers (operation (codes "min.insync.replicas") (pos 0) (Some (codes "1")) ∷ []))
     ≡ Ok (gives (says (codes "min.insync.replicas") (Some (codes "1"))
     ∷ kinds.PartitionChange (pos 0) 77 (record no_change { eligible = Some []; last_known = Some [] }) ∷ []))
 lower = refl
 
 -- two of three aren't in sync
-not_enough : configuring.rule options (cluster short) (pos 30) (of_brokers (operation (codes "min.insync.replicas") (pos 0) (Some (codes "3")) ∷ []))
+not_enough : incremental_alter_configs.rule options (cluster short) (pos 30) (of_brokers (operation (codes "min.insync.replicas") (pos 0) (Some (codes "3")) ∷ []))
     ≡ Ok (gives (says (codes "min.insync.replicas") (Some (codes "3")) ∷ []))
 not_enough = refl
 
@@ -113,7 +113,7 @@ not_enough = refl
 abbrev setting : ConfigResource
 setting = of_brokers (operation (codes "k") (pos 0) (Some (codes "x")) ∷ [])
 
-validated : configuring.decided options image (pos 30) (record { resources = setting ∷ []; validate_only = true })
+validated : incremental_alter_configs.decided options image (pos 30) (record { resources = setting ∷ []; validate_only = true })
     ≡ (nothing_decided (pos 30) image, replies.IncrementalAlterConfigs (record { responses = record { error = pos 0; kind = pos 4; name = [] } ∷ [] }))
-unfolding configuring.decided done taken apply_record value_bytes
+unfolding incremental_alter_configs.decided done taken apply_record value_bytes
 validated = refl

@@ -11,14 +11,14 @@ use Rattle.kr_calls.specs.Deciding.{Work, nothing_decided}
 use Rattle.kr_calls.specs.Decide.{work_of}
 use Rattle.kr_calls.specs.NextBasis.{heartbeats_after}
 use Rattle.kr_calls.specs.NextBasisLaws.{OtherRequestsLeaveBrokers, is_of_a_broker}
-use Rattle.kr_calls.specs.Refuse.{refused_creation, refused_deletion, refused_growth, refused_resource}
-use Rattle.kr_calls.specs.AlterPartition as reporting
-use Rattle.kr_calls.specs.AlterPartitionReassignments as reassigning
-use Rattle.kr_calls.specs.CreatePartitions as growing
-use Rattle.kr_calls.specs.CreateTopics as creating
-use Rattle.kr_calls.specs.DeleteTopics as deleting
-use Rattle.kr_calls.specs.ElectLeaders as electing
-use Rattle.kr_calls.specs.IncrementalAlterConfigs as configuring
+use Rattle.kr_calls.specs.Refuse.{refused_create_topics, refused_delete_topics, refused_create_partitions, refused_incremental_alter_configs}
+use Rattle.kr_calls.specs.AlterPartition as alter_partition
+use Rattle.kr_calls.specs.AlterPartitionReassignments as alter_partition_reassignments
+use Rattle.kr_calls.specs.CreatePartitions as create_partitions
+use Rattle.kr_calls.specs.CreateTopics as create_topics
+use Rattle.kr_calls.specs.DeleteTopics as delete_topics
+use Rattle.kr_calls.specs.ElectLeaders as elect_leaders
+use Rattle.kr_calls.specs.IncrementalAlterConfigs as incremental_alter_configs
 use Rattle.kr_calls.proofs.BrokersLeft.{AreBrokerless, all_leave, creates, deletes, grows, reports, elects, reassigns, configures}
 use Rattle.kr_calls.proofs.KeptByRequests.{Keeps, all_keep, groups_keep, validated_keep, chosen_keep, any_entry, any_groups}
 
@@ -37,23 +37,23 @@ module _ (image : Image) where
       groups_keep refused rule I (λ _. Unit {0}) entries_of answer_of (keeps refused rule are) (nothing_decided place image) those (any_groups entries_of those) refl
 
 registered : (options : Options) (time : ℤ) (heartbeats : Heartbeats) (image : Image) (place : ℤ) (request : Request) → is_of_a_broker request ≡ false → I image (work_of options time heartbeats image place request).0
-unfolding work_of creating.decided deleting.decided growing.decided reporting.decided electing.decided reassigning.decided configuring.decided
+unfolding work_of create_topics.decided delete_topics.decided create_partitions.decided alter_partition.decided elect_leaders.decided alter_partition_reassignments.decided incremental_alter_configs.decided
 registered options time heartbeats image place (requests.BrokerRegistration q) other = absurd cc
 registered options time heartbeats image place (requests.BrokerHeartbeat q) other = absurd cc
 registered options time heartbeats image place (requests.UnregisterBroker q) other = absurd cc
 registered options time heartbeats image place (requests.CreateTopics q) other =
-    validated_keep (I image) q.validate_only (nothing_decided place image) _ refl (all image refused_creation (creating.rule options q.validate_only) (creates options q.validate_only) place q.topics)
-registered options time heartbeats image place (requests.DeleteTopics q) other = all image refused_deletion deleting.rule deletes place q.topics
+    validated_keep (I image) q.validate_only (nothing_decided place image) _ refl (all image refused_create_topics (create_topics.rule options q.validate_only) (creates options q.validate_only) place q.topics)
+registered options time heartbeats image place (requests.DeleteTopics q) other = all image refused_delete_topics delete_topics.rule deletes place q.topics
 registered options time heartbeats image place (requests.CreatePartitions q) other =
-    validated_keep (I image) q.validate_only (nothing_decided place image) _ refl (all image refused_growth growing.rule grows place q.topics)
+    validated_keep (I image) q.validate_only (nothing_decided place image) _ refl (all image refused_create_partitions create_partitions.rule grows place q.topics)
 registered options time heartbeats image place (requests.AlterPartition q) other =
-    chosen_keep (I image) (reporting.is_stale image q) _ _ refl (groups image reporting.refused (reporting.rule options q.broker) (reports options q.broker) reporting.entries_of reporting.answer_of place q.topics)
+    chosen_keep (I image) (alter_partition.is_stale image q) _ _ refl (groups image alter_partition.refused (alter_partition.rule options q.broker) (reports options q.broker) alter_partition.entries_of alter_partition.answer_of place q.topics)
 registered options time heartbeats image place (requests.ElectLeaders q) other =
-    chosen_keep (I image) (not (electing.is_kind q.kind)) _ _ refl (groups image electing.answer (electing.rule options q.kind) (elects options q.kind) electing.entries_of electing.answer_of place (electing.groups_of image q.topics))
+    chosen_keep (I image) (not (elect_leaders.is_kind q.kind)) _ _ refl (groups image elect_leaders.answer (elect_leaders.rule options q.kind) (elects options q.kind) elect_leaders.entries_of elect_leaders.answer_of place (elect_leaders.groups_of image q.topics))
 registered options time heartbeats image place (requests.AlterPartitionReassignments q) other =
-    groups image reassigning.answer (reassigning.rule options) (reassigns options) reassigning.entries_of reassigning.answer_of place q.topics
+    groups image alter_partition_reassignments.answer (alter_partition_reassignments.rule options) (reassigns options) alter_partition_reassignments.entries_of alter_partition_reassignments.answer_of place q.topics
 registered options time heartbeats image place (requests.IncrementalAlterConfigs q) other =
-    validated_keep (I image) q.validate_only (nothing_decided place image) _ refl (all image refused_resource (configuring.rule options) (configures options) place q.resources)
+    validated_keep (I image) q.validate_only (nothing_decided place image) _ refl (all image refused_incremental_alter_configs (incremental_alter_configs.rule options) (configures options) place q.resources)
 registered options time heartbeats image place (requests.ListPartitionReassignments q) other = refl
 registered options time heartbeats image place (requests.Metadata q) other = refl
 

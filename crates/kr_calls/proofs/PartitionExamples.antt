@@ -13,9 +13,9 @@ use Rattle.kr_calls.specs.declared.alter_partition.BrokerState.{BrokerState}
 use Rattle.kr_calls.specs.declared.elect_leaders.PartitionElectionResult.{PartitionElectionResult}
 use Rattle.kr_calls.specs.declared.alter_partition.PartitionReport.{PartitionReport}
 use Rattle.kr_calls.specs.declared.alter_partition_reassignments.ReassignablePartitionResponse.{ReassignablePartitionResponse}
-use Rattle.kr_calls.specs.AlterPartition as reporting
-use Rattle.kr_calls.specs.AlterPartitionReassignments as reassigning
-use Rattle.kr_calls.specs.ElectLeaders as electing
+use Rattle.kr_calls.specs.AlterPartition as alter_partition
+use Rattle.kr_calls.specs.AlterPartitionReassignments as alter_partition_reassignments
+use Rattle.kr_calls.specs.ElectLeaders as elect_leaders
 use Rattle.kr_calls.specs.declared.calls.Reply.TheVariants as replies
 use Rattle.kr_calls.proofs.Cluster.{broker, cluster, image, leaderless, no_change, options, whole}
 use Rattle.kr_calls.specs.Deciding.{nothing_decided, done}
@@ -35,66 +35,66 @@ tells = record {
 }
 
 abbrev report : PartitionReport → Result (Draft AlterPartitionResult) ℤ
-report told = reporting.rule options (pos 1) image (pos 30) (77, told)
+report told = alter_partition.rule options (pos 1) image (pos 30) (77, told)
 
-unknown_id : reporting.rule options (pos 1) image (pos 30) (78, tells) ≡ Err (pos 100)
+unknown_id : alter_partition.rule options (pos 1) image (pos 30) (78, tells) ≡ Err (pos 100)
 unknown_id = refl
 
 unknown_index : report (record tells { index = pos 1 }) ≡ Err (pos 3)
 unknown_index = refl
 
 old_leader_epoch : report (record tells { leader_epoch = pos 4 }) ≡ Err (pos 74)
-unfolding reporting.of_partition
+unfolding alter_partition.of_partition
 old_leader_epoch = refl
 
 future_leader_epoch : report (record tells { leader_epoch = pos 6 }) ≡ Err (pos 75)
-unfolding reporting.of_partition
+unfolding alter_partition.of_partition
 future_leader_epoch = refl
 
 other_partition_epoch : report (record tells { partition_epoch = pos 6 }) ≡ Err (pos 95)
-unfolding reporting.of_partition
+unfolding alter_partition.of_partition
 other_partition_epoch = refl
 
-not_the_leader : reporting.rule options (pos 2) image (pos 30) (77, tells) ≡ Err (pos 42)
-unfolding reporting.of_partition
+not_the_leader : alter_partition.rule options (pos 2) image (pos 30) (77, tells) ≡ Err (pos 42)
+unfolding alter_partition.of_partition
 not_the_leader = refl
 
 nobody_in_sync : report (record tells { in_sync = [] }) ≡ Err (pos 42)
-unfolding reporting.of_partition
+unfolding alter_partition.of_partition
 nobody_in_sync = refl
 
 member_twice : report (record tells { in_sync = member (pos 1) (pos 10) ∷ member (pos 1) (pos 10) ∷ [] }) ≡ Err (pos 42)
-unfolding reporting.of_partition
+unfolding alter_partition.of_partition
 member_twice = refl
 
 without_leader : report (record tells { in_sync = member (pos 2) (pos 11) ∷ [] }) ≡ Err (pos 42)
-unfolding reporting.of_partition
+unfolding alter_partition.of_partition
 without_leader = refl
 
 not_a_replica : report (record tells { in_sync = member (pos 1) (pos 10) ∷ member (pos 4) (pos 13) ∷ [] }) ≡ Err (pos 42)
-unfolding reporting.of_partition
+unfolding alter_partition.of_partition
 not_a_replica = refl
 
 unknown_recovery : report (record tells { recovery = pos 2 }) ≡ Err (pos 42)
-unfolding reporting.of_partition
+unfolding alter_partition.of_partition
 unknown_recovery = refl
 
 -- a partition that isn't recovering doesn't begin to
 begins_recovery : report (record tells { in_sync = member (pos 1) (pos 10) ∷ []; recovery = pos 1 }) ≡ Err (pos 42)
-unfolding reporting.of_partition
+unfolding alter_partition.of_partition
 begins_recovery = refl
 
-recovers_with_two : reporting.rule options (pos 1) (cluster (record whole { recovery = pos 1 })) (pos 30) (77, record tells { recovery = pos 1 }) ≡ Err (pos 42)
-unfolding reporting.of_partition
+recovers_with_two : alter_partition.rule options (pos 1) (cluster (record whole { recovery = pos 1 })) (pos 30) (77, record tells { recovery = pos 1 }) ≡ Err (pos 42)
+unfolding alter_partition.of_partition
 recovers_with_two = refl
 
 other_broker_epoch : report (record tells { in_sync = member (pos 1) (pos 10) ∷ member (pos 2) (pos 12) ∷ [] }) ≡ Err (pos 107)
-unfolding reporting.of_partition
+unfolding alter_partition.of_partition
 other_broker_epoch = refl
 
-inactive_member : reporting.rule options (pos 1) (cluster (record whole { replicas = pos 1 ∷ pos 4 ∷ []; in_sync = pos 1 ∷ [] })) (pos 30)
+inactive_member : alter_partition.rule options (pos 1) (cluster (record whole { replicas = pos 1 ∷ pos 4 ∷ []; in_sync = pos 1 ∷ [] })) (pos 30)
     (77, record tells { in_sync = member (pos 1) (pos 10) ∷ member (pos 4) (pos 13) ∷ [] }) ≡ Err (pos 107)
-unfolding reporting.of_partition
+unfolding alter_partition.of_partition
 inactive_member = refl
 
 shrinks : report tells ≡ Ok (record {
@@ -109,14 +109,14 @@ shrinks : report tells ≡ Ok (record {
     partition_epoch = pos 8;
   };
 })
-unfolding reporting.of_partition reporting.accepted built aimed ended completes settled standing_by elected eligible_after difference merged
+unfolding alter_partition.of_partition alter_partition.accepted built aimed ended completes settled standing_by elected eligible_after difference merged
 shrinks = refl
 
 -- a reassignment to 2 and 3 ends with this report, and takes the leadership from the broker that reports
 abbrev moving : Partition
 moving = record whole { in_sync = pos 1 ∷ pos 2 ∷ []; adding = pos 3 ∷ []; removing = pos 1 ∷ [] }
 
-another_leads : reporting.rule options (pos 1) (cluster moving) (pos 30) (77, record tells { in_sync = member (pos 1) (pos 10) ∷ member (pos 2) (pos 11) ∷ member (pos 3) (pos 12) ∷ [] })
+another_leads : alter_partition.rule options (pos 1) (cluster moving) (pos 30) (77, record tells { in_sync = member (pos 1) (pos 10) ∷ member (pos 2) (pos 11) ∷ member (pos 3) (pos 12) ∷ [] })
     ≡ Ok (record {
       records = kinds.PartitionChange (pos 0) 77 (record no_change {
         in_sync = Some (pos 2 ∷ pos 3 ∷ []);
@@ -127,18 +127,18 @@ another_leads : reporting.rule options (pos 1) (cluster moving) (pos 30) (77, re
       }) ∷ [];
       answer = record { index = pos 0; error = pos 108; leader = pos 0; leader_epoch = pos 0; in_sync = []; recovery = pos 0; partition_epoch = pos 0 };
     })
-unfolding reporting.of_partition reporting.accepted built aimed ended completes settled standing_by elected eligible_after difference merged
+unfolding alter_partition.of_partition alter_partition.accepted built aimed ended completes settled standing_by elected eligible_after difference merged
 another_leads = refl
 
 -- ---- elections
 
 abbrev elect : ℤ → Partition → Result (Draft PartitionElectionResult) ℤ
-elect kind p = electing.rule options kind (cluster p) (pos 30) (codes "t.a", pos 0)
+elect kind p = elect_leaders.rule options kind (cluster p) (pos 30) (codes "t.a", pos 0)
 
-unknown_topic : electing.rule options (pos 0) image (pos 30) (codes "x", pos 0) ≡ Err (pos 3)
+unknown_topic : elect_leaders.rule options (pos 0) image (pos 30) (codes "x", pos 0) ≡ Err (pos 3)
 unknown_topic = refl
 
-unknown_partition : electing.rule options (pos 0) image (pos 30) (codes "t.a", pos 1) ≡ Err (pos 3)
+unknown_partition : elect_leaders.rule options (pos 0) image (pos 30) (codes "t.a", pos 1) ≡ Err (pos 3)
 unknown_partition = refl
 
 first_leads : elect (pos 0) whole ≡ Err (pos 84)
@@ -172,28 +172,28 @@ anybody_leads : elect (pos 1) (record leaderless { replicas = pos 4 ∷ pos 2 �
 unfolding built aimed ended completes settled standing_by elected eligible_after difference
 anybody_leads = refl
 
-unknown_type : electing.decided options image (pos 30) (record { kind = pos 2; topics = None })
+unknown_type : elect_leaders.decided options image (pos 30) (record { kind = pos 2; topics = None })
     ≡ (nothing_decided (pos 30) image, replies.ElectLeaders (record { error = pos 42; results = [] }))
-unfolding electing.decided
+unfolding elect_leaders.decided
 unknown_type = refl
 
 -- where all partitions are asked for, one that needs no election isn't shown, nor is its topic
-nothing_shown : electing.decided options image (pos 30) (record { kind = pos 0; topics = None })
+nothing_shown : elect_leaders.decided options image (pos 30) (record { kind = pos 0; topics = None })
     ≡ (nothing_decided (pos 30) image, replies.ElectLeaders (record { error = pos 0; results = [] }))
-unfolding electing.decided done
+unfolding elect_leaders.decided done
 nothing_shown = refl
 
-shown_by_name : electing.decided options image (pos 30) (record { kind = pos 0; topics = Some (record { topic = codes "t.a"; partitions = pos 0 ∷ [] } ∷ []) })
+shown_by_name : elect_leaders.decided options image (pos 30) (record { kind = pos 0; topics = Some (record { topic = codes "t.a"; partitions = pos 0 ∷ [] } ∷ []) })
     ≡ (nothing_decided (pos 30) image, replies.ElectLeaders (record { error = pos 0; results = record { topic = codes "t.a"; partitions = record { index = pos 0; error = pos 84 } ∷ [] } ∷ [] }))
-unfolding electing.decided done
+unfolding elect_leaders.decided done
 shown_by_name = refl
 
 -- ---- reassignments
 
 abbrev reassign : Partition → Option (List ℤ) → Result (Draft ReassignablePartitionResponse) ℤ
-reassign p replicas = reassigning.rule options (cluster p) (pos 30) (codes "t.a", record { index = pos 0; replicas = replicas })
+reassign p replicas = alter_partition_reassignments.rule options (cluster p) (pos 30) (codes "t.a", record { index = pos 0; replicas = replicas })
 
-unknown_to_reassign : reassigning.rule options image (pos 30) (codes "x", record { index = pos 0; replicas = None }) ≡ Err (pos 3)
+unknown_to_reassign : alter_partition_reassignments.rule options image (pos 30) (codes "x", record { index = pos 0; replicas = None }) ≡ Err (pos 3)
 unknown_to_reassign = refl
 
 nothing_to_cancel : reassign whole None ≡ Err (pos 85)

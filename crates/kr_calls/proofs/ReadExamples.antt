@@ -11,8 +11,8 @@ use Rattle.kr_calls.specs.declared.list_partition_reassignments.ListedTopic.{Lis
 use Rattle.kr_calls.specs.declared.metadata.MetadataRequestTopic.{MetadataRequestTopic}
 use Rattle.kr_calls.specs.declared.metadata.MetadataTopic.{MetadataTopic}
 use Rattle.kr_calls.specs.declared.list_partition_reassignments.OngoingTopicReassignment.{OngoingTopicReassignment}
-use Rattle.kr_calls.specs.ListPartitionReassignments as listing
-use Rattle.kr_calls.specs.Metadata as describing
+use Rattle.kr_calls.specs.ListPartitionReassignments as list_partition_reassignments
+use Rattle.kr_calls.specs.Metadata as metadata_rules
 use Rattle.kr_calls.specs.declared.calls.Reply.TheVariants as replies
 use Rattle.kr_calls.specs.declared.calls.Request.TheVariants as requests
 use Rattle.kr_calls.proofs.Cluster.{basis, broker, cluster, contact, image, leaderless, whole}
@@ -24,7 +24,7 @@ abbrev moving : Partition
 moving = record whole { adding = pos 3 ∷ [] }
 
 abbrev list : Image → Option (List ListedTopic) → Reply
-list there topics = listing.queried there (record { topics = topics })
+list there topics = list_partition_reassignments.queried there (record { topics = topics })
 
 abbrev lists : List OngoingTopicReassignment → Reply
 lists topics = replies.ListPartitionReassignments (record { error = pos 0; topics = topics })
@@ -33,19 +33,19 @@ abbrev ongoing : OngoingTopicReassignment
 ongoing = record { name = codes "t.a"; partitions = record { index = pos 0; replicas = whole.replicas; adding = pos 3 ∷ []; removing = [] } ∷ [] }
 
 none_goes_on : list image None ≡ lists []
-unfolding listing.queried
+unfolding list_partition_reassignments.queried
 none_goes_on = refl
 
 all_that_go_on : list (cluster moving) None ≡ lists (ongoing ∷ [])
-unfolding listing.queried
+unfolding list_partition_reassignments.queried
 all_that_go_on = refl
 
 none_asked_for : list (cluster moving) (Some []) ≡ lists []
-unfolding listing.queried
+unfolding list_partition_reassignments.queried
 none_asked_for = refl
 
 asked_for_twice : list (cluster moving) (Some (record { name = codes "t.a"; partitions = pos 0 ∷ [] } ∷ record { name = codes "x"; partitions = [] } ∷ record { name = codes "t.a"; partitions = pos 0 ∷ [] } ∷ [])) ≡ lists (ongoing ∷ [])
-unfolding listing.queried
+unfolding list_partition_reassignments.queried
 asked_for_twice = refl
 
 -- ---- metadata
@@ -66,21 +66,21 @@ unknown error name id = record { error = error; name = name; topic = id; interna
 abbrev entry : Option (List ℕ) → ℕ → MetadataRequestTopic
 entry name id = record { topic = id; name = name }
 
-all_topics : describing.topics_of image None ≡ shown ∷ []
+all_topics : metadata_rules.topics_of image None ≡ shown ∷ []
 all_topics = refl
 
 -- a topic is shown once; an unknown name may be asked for again
-some_topics : describing.topics_of image (Some (entry (Some (codes "x")) 0 ∷ entry None 78 ∷ entry None 0 ∷ entry (Some (codes "t.a")) 0 ∷ entry None 77 ∷ entry (Some (codes "x")) 0 ∷ []))
+some_topics : metadata_rules.topics_of image (Some (entry (Some (codes "x")) 0 ∷ entry None 78 ∷ entry None 0 ∷ entry (Some (codes "t.a")) 0 ∷ entry None 77 ∷ entry (Some (codes "x")) 0 ∷ []))
     ≡ unknown (pos 3) (Some (codes "x")) 0 ∷ unknown (pos 100) None 78 ∷ unknown (pos 42) None 0 ∷ shown ∷ unknown (pos 42) None 77 ∷ unknown (pos 3) (Some (codes "x")) 0 ∷ []
 some_topics = refl
 
 -- nobody leads, and broker 4 is fenced
-offline : describing.partition_metadata image ((77, pos 0), record leaderless { replicas = pos 3 ∷ pos 4 ∷ pos 9 ∷ [] })
+offline : metadata_rules.partition_metadata image ((77, pos 0), record leaderless { replicas = pos 3 ∷ pos 4 ∷ pos 9 ∷ [] })
     ≡ record { error = pos 5; index = pos 0; leader = negsuc 0; leader_epoch = pos 5; replicas = pos 3 ∷ pos 4 ∷ pos 9 ∷ []; in_sync = []; offline = pos 4 ∷ pos 9 ∷ [] }
 offline = refl
 
 -- three brokers aren't fenced
-online : length (describing.brokers_of image) ≡ 3
+online : length (metadata_rules.brokers_of image) ≡ 3
 online = refl
 
 -- ---- contacts

@@ -13,9 +13,9 @@ use Rattle.kr_calls.specs.declared.create_partitions.CreatePartitionsAssignment.
 use Rattle.kr_calls.specs.declared.create_partitions.CreatePartitionsTopic.{CreatePartitionsTopic}
 use Rattle.kr_calls.specs.declared.create_partitions.CreatePartitionsTopicResult.{CreatePartitionsTopicResult}
 use Rattle.kr_calls.specs.declared.delete_topics.DeletableTopicResult.{DeletableTopicResult}
-use Rattle.kr_calls.specs.CreatePartitions as growing
-use Rattle.kr_calls.specs.CreateTopics as creating
-use Rattle.kr_calls.specs.DeleteTopics as deleting
+use Rattle.kr_calls.specs.CreatePartitions as create_partitions
+use Rattle.kr_calls.specs.CreateTopics as create_topics
+use Rattle.kr_calls.specs.DeleteTopics as delete_topics
 use Rattle.kr_calls.proofs.Cluster.{broker, image, options, whole}
 
 -- ---- topics that are made
@@ -30,7 +30,7 @@ abbrev asks_for : List CreatableReplicaAssignment → CreatableTopic
 asks_for assignments = record asks { partitions = negsuc 0; factor = negsuc 0; assignments = assignments }
 
 abbrev create : CreatableTopic → Result (Draft CreatableTopicResult) ℤ
-create entry = creating.rule options false image (pos 30) entry
+create entry = create_topics.rule options false image (pos 30) entry
 
 bad_name : create (record asks { name = codes "a/b" }) ≡ Err (pos 17)
 bad_name = refl
@@ -127,37 +127,37 @@ settings (value ∷ values) = record { name = codes "k"; value = Some value } �
 abbrev set : List ℕ → Record
 set value = kinds.Config (pos 2) (codes "u") (codes "k") (Some value)
 
-two_values : creating.settings_records [] (codes "u") (settings (codes "1" ∷ codes "2" ∷ [])) ≡ set (codes "1") ∷ set (codes "2") ∷ []
+two_values : create_topics.settings_records [] (codes "u") (settings (codes "1" ∷ codes "2" ∷ [])) ≡ set (codes "1") ∷ set (codes "2") ∷ []
 two_values = refl
 
-same_value : creating.settings_records [] (codes "u") (settings (codes "1" ∷ codes "1" ∷ [])) ≡ set (codes "1") ∷ []
+same_value : create_topics.settings_records [] (codes "u") (settings (codes "1" ∷ codes "1" ∷ [])) ≡ set (codes "1") ∷ []
 same_value = refl
 
-value_again : creating.settings_records [] (codes "u") (settings (codes "1" ∷ codes "2" ∷ codes "1" ∷ []))
+value_again : create_topics.settings_records [] (codes "u") (settings (codes "1" ∷ codes "2" ∷ codes "1" ∷ []))
     ≡ set (codes "1") ∷ set (codes "2") ∷ set (codes "1") ∷ []
 value_again = refl
 
 -- ---- topics that go
 
-neither_name_nor_id : deleting.rule image (pos 30) (record { name = None; topic = 0 }) ≡ Err (pos 42)
+neither_name_nor_id : delete_topics.rule image (pos 30) (record { name = None; topic = 0 }) ≡ Err (pos 42)
 neither_name_nor_id = refl
 
-name_and_id : deleting.rule image (pos 30) (record { name = Some (codes "t.a"); topic = 77 }) ≡ Err (pos 42)
+name_and_id : delete_topics.rule image (pos 30) (record { name = Some (codes "t.a"); topic = 77 }) ≡ Err (pos 42)
 name_and_id = refl
 
-unknown_name : deleting.rule image (pos 30) (record { name = Some (codes "x"); topic = 0 }) ≡ Err (pos 3)
+unknown_name : delete_topics.rule image (pos 30) (record { name = Some (codes "x"); topic = 0 }) ≡ Err (pos 3)
 unknown_name = refl
 
-unknown_id : deleting.rule image (pos 30) (record { name = None; topic = 78 }) ≡ Err (pos 100)
+unknown_id : delete_topics.rule image (pos 30) (record { name = None; topic = 78 }) ≡ Err (pos 100)
 unknown_id = refl
 
 abbrev gone : Draft DeletableTopicResult
 gone = record { records = kinds.RemoveTopic 77 ∷ []; answer = record { name = Some (codes "t.a"); topic = 77; error = pos 0 } }
 
-deleted_by_name : deleting.rule image (pos 30) (record { name = Some (codes "t.a"); topic = 0 }) ≡ Ok gone
+deleted_by_name : delete_topics.rule image (pos 30) (record { name = Some (codes "t.a"); topic = 0 }) ≡ Ok gone
 deleted_by_name = refl
 
-deleted_by_id : deleting.rule image (pos 30) (record { name = None; topic = 77 }) ≡ Ok gone
+deleted_by_id : delete_topics.rule image (pos 30) (record { name = None; topic = 77 }) ≡ Ok gone
 deleted_by_id = refl
 
 -- ---- topics that grow
@@ -166,16 +166,16 @@ abbrev grows : ℤ → Option (List CreatePartitionsAssignment) → CreatePartit
 grows count assignments = record { name = codes "t.a"; count = count; assignments = assignments }
 
 abbrev grow : CreatePartitionsTopic → Result (Draft CreatePartitionsTopicResult) ℤ
-grow entry = growing.rule image (pos 30) entry
+grow entry = create_partitions.rule image (pos 30) entry
 
-unknown_topic : growing.rule image (pos 30) (record (grows (pos 2) None) { name = codes "x" }) ≡ Err (pos 3)
+unknown_topic : create_partitions.rule image (pos 30) (record (grows (pos 2) None) { name = codes "x" }) ≡ Err (pos 3)
 unknown_topic = refl
 
 no_more : grow (grows (pos 1) None) ≡ Err (pos 37)
 no_more = refl
 
 -- the topic has partition 1 alone
-first_missing : growing.rule (record image { partitions = ((77, pos 1), whole) ∷ [] }) (pos 30) (grows (pos 3) None) ≡ Err (pos 39)
+first_missing : create_partitions.rule (record image { partitions = ((77, pos 1), whole) ∷ [] }) (pos 30) (grows (pos 3) None) ≡ Err (pos 39)
 first_missing = refl
 
 -- one new partition, and no list
@@ -186,7 +186,7 @@ too_few_lists = refl
 short_list : grow (grows (pos 2) (Some (record { brokers = pos 1 ∷ pos 2 ∷ [] } ∷ []))) ≡ Err (pos 39)
 short_list = refl
 
-too_few_active : growing.rule (record image { brokers = (pos 1, broker (pos 10) false) ∷ (pos 2, broker (pos 11) false) ∷ [] }) (pos 30) (grows (pos 2) None) ≡ Err (pos 38)
+too_few_active : create_partitions.rule (record image { brokers = (pos 1, broker (pos 10) false) ∷ (pos 2, broker (pos 11) false) ∷ [] }) (pos 30) (grows (pos 2) None) ≡ Err (pos 38)
 too_few_active = refl
 
 grown : grow (grows (pos 2) (Some (record { brokers = pos 3 ∷ pos 4 ∷ pos 1 ∷ [] } ∷ []))) ≡ Ok (record {

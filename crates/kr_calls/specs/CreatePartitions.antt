@@ -18,7 +18,7 @@ use Rattle.kr_calls.specs.declared.create_partitions.CreatePartitionsTopicResult
 use Rattle.kr_calls.specs.declared.calls.Reply.TheVariants as replies
 use Rattle.kr_calls.specs.Deciding.{Work, after_all, answers, nothing_decided, unless_validating}
 use Rattle.kr_calls.specs.NewPartitions.{is_assignable, new_partitions, placements}
-use Rattle.kr_calls.specs.Refuse.{refused_growth}
+use Rattle.kr_calls.specs.Refuse.{refused_create_partitions}
 
 -- as many lists as there are new partitions, and each may be that of a new partition with so many replicas
 abbrev pub are_assignable : Image → ℕ → ℕ → List CreatePartitionsAssignment → Bool
@@ -35,7 +35,7 @@ new_replicas image place first count size None =
     Ok (placements image place first count size)
 
 abbrev pub grown : Image → ℕ → ℕ → CreatePartitionsTopic → List (List ℤ) → Draft CreatePartitionsTopicResult
-grown image id first entry lists = record { records = new_partitions image id first lists; answer = refused_growth (pos 0) entry }
+grown image id first entry lists = record { records = new_partitions image id first lists; answer = refused_create_partitions (pos 0) entry }
 
 -- a topic that has so many partitions; the new ones are as many replicas as its first one leads to
 abbrev pub of_topic : Image → ℤ → CreatePartitionsTopic → ℕ → ℕ → Result (Draft CreatePartitionsTopicResult) ℤ
@@ -55,6 +55,6 @@ reply_of results = replies.CreatePartitions (record { results = results })
 unfoldable pub decided : Image → ℤ → CreatePartitions → Work × Reply
 decided image place request =
     let start = nothing_decided place image in (
-      unless_validating request.validate_only start (after_all refused_growth rule start request.topics),
-      reply_of (answers refused_growth rule start request.topics),
+      unless_validating request.validate_only start (after_all refused_create_partitions rule start request.topics),
+      reply_of (answers refused_create_partitions rule start request.topics),
     )

@@ -27,7 +27,7 @@ use Rattle.kr_calls.specs.declared.create_topics.CreateTopics.{CreateTopics}
 use Rattle.kr_calls.specs.declared.calls.Reply.TheVariants as replies
 use Rattle.kr_calls.specs.Deciding.{Work, after_all, answers, nothing_decided, unless_validating}
 use Rattle.kr_calls.specs.NewPartitions.{is_assignable, new_partitions, placements}
-use Rattle.kr_calls.specs.Refuse.{refused_creation}
+use Rattle.kr_calls.specs.Refuse.{refused_create_topics}
 
 -- how many partitions and replicas a topic is created with, and the replicas of each partition, by index
 pub record Layout : Type 0 where
@@ -158,6 +158,6 @@ reply_of topics = replies.CreateTopics (record { topics = topics })
 unfoldable pub decided : Options → Image → ℤ → CreateTopics → Work × Reply
 decided options image place request =
     let start = nothing_decided place image in (
-      unless_validating request.validate_only start (after_all refused_creation (rule options request.validate_only) start request.topics),
-      reply_of (answers refused_creation (rule options request.validate_only) start request.topics),
+      unless_validating request.validate_only start (after_all refused_create_topics (rule options request.validate_only) start request.topics),
+      reply_of (answers refused_create_topics (rule options request.validate_only) start request.topics),
     )

@@ -7,18 +7,18 @@ use Rattle.kr_defs.specs.Heartbeats.{Heartbeats, heard}
 use Rattle.kr_defs.specs.Image.{Image}
 use Rattle.kr_calls.specs.declared.calls.Reply.{Reply}
 use Rattle.kr_calls.specs.declared.calls.Request.{Request}
-use Rattle.kr_calls.specs.AlterPartition as reporting
-use Rattle.kr_calls.specs.AlterPartitionReassignments as reassigning
-use Rattle.kr_calls.specs.BrokerHeartbeat as heartbeating
-use Rattle.kr_calls.specs.BrokerRegistration as registering
-use Rattle.kr_calls.specs.CreatePartitions as growing
-use Rattle.kr_calls.specs.CreateTopics as creating
-use Rattle.kr_calls.specs.DeleteTopics as deleting
-use Rattle.kr_calls.specs.ElectLeaders as electing
-use Rattle.kr_calls.specs.IncrementalAlterConfigs as configuring
-use Rattle.kr_calls.specs.ListPartitionReassignments as listing
-use Rattle.kr_calls.specs.Metadata as describing
-use Rattle.kr_calls.specs.UnregisterBroker as unregistering
+use Rattle.kr_calls.specs.AlterPartition as alter_partition
+use Rattle.kr_calls.specs.AlterPartitionReassignments as alter_partition_reassignments
+use Rattle.kr_calls.specs.BrokerHeartbeat as broker_heartbeat
+use Rattle.kr_calls.specs.BrokerRegistration as broker_registration
+use Rattle.kr_calls.specs.CreatePartitions as create_partitions
+use Rattle.kr_calls.specs.CreateTopics as create_topics
+use Rattle.kr_calls.specs.DeleteTopics as delete_topics
+use Rattle.kr_calls.specs.ElectLeaders as elect_leaders
+use Rattle.kr_calls.specs.IncrementalAlterConfigs as incremental_alter_configs
+use Rattle.kr_calls.specs.ListPartitionReassignments as list_partition_reassignments
+use Rattle.kr_calls.specs.Metadata as metadata
+use Rattle.kr_calls.specs.UnregisterBroker as unregister_broker
 use Rattle.kr_calls.specs.declared.calls.Reply.TheVariants as replies
 use Rattle.kr_calls.specs.declared.calls.Request.TheVariants as requests
 use Rattle.kr_calls.specs.Deciding.{Work, nothing_decided}
@@ -37,16 +37,16 @@ no_work image place = (nothing_decided place image, replies.Bare (pos 0))
 
 -- at the time, by a node that hears of these brokers
 unfoldable pub work_of : Options → ℤ → Heartbeats → Image → ℤ → Request → Work × Reply
-work_of options time heartbeats image place (requests.BrokerRegistration q) = registering.decided options time heartbeats image place q
-work_of options time heartbeats image place (requests.BrokerHeartbeat q) = heartbeating.decided options heartbeats image place q
-work_of options time heartbeats image place (requests.UnregisterBroker q) = unregistering.decided options image place q
-work_of options time heartbeats image place (requests.CreateTopics q) = creating.decided options image place q
-work_of options time heartbeats image place (requests.DeleteTopics q) = deleting.decided image place q
-work_of options time heartbeats image place (requests.CreatePartitions q) = growing.decided image place q
-work_of options time heartbeats image place (requests.AlterPartition q) = reporting.decided options image place q
-work_of options time heartbeats image place (requests.ElectLeaders q) = electing.decided options image place q
-work_of options time heartbeats image place (requests.AlterPartitionReassignments q) = reassigning.decided options image place q
-work_of options time heartbeats image place (requests.IncrementalAlterConfigs q) = configuring.decided options image place q
+work_of options time heartbeats image place (requests.BrokerRegistration q) = broker_registration.decided options time heartbeats image place q
+work_of options time heartbeats image place (requests.BrokerHeartbeat q) = broker_heartbeat.decided options heartbeats image place q
+work_of options time heartbeats image place (requests.UnregisterBroker q) = unregister_broker.decided options image place q
+work_of options time heartbeats image place (requests.CreateTopics q) = create_topics.decided options image place q
+work_of options time heartbeats image place (requests.DeleteTopics q) = delete_topics.decided image place q
+work_of options time heartbeats image place (requests.CreatePartitions q) = create_partitions.decided image place q
+work_of options time heartbeats image place (requests.AlterPartition q) = alter_partition.decided options image place q
+work_of options time heartbeats image place (requests.ElectLeaders q) = elect_leaders.decided options image place q
+work_of options time heartbeats image place (requests.AlterPartitionReassignments q) = alter_partition_reassignments.decided options image place q
+work_of options time heartbeats image place (requests.IncrementalAlterConfigs q) = incremental_alter_configs.decided options image place q
 work_of options time heartbeats image place (requests.ListPartitionReassignments q) = no_work image place
 work_of options time heartbeats image place (requests.Metadata q) = no_work image place
 
@@ -73,6 +73,6 @@ is_read other = false
 
 -- the reply to a read on an image
 unfoldable pub query : Options → Image → Request → Option Reply
-query options image (requests.ListPartitionReassignments q) = Some (listing.queried image q)
-query options image (requests.Metadata q) = Some (describing.queried options image q)
+query options image (requests.ListPartitionReassignments q) = Some (list_partition_reassignments.queried image q)
+query options image (requests.Metadata q) = Some (metadata.queried options image q)
 query options image other = None

@@ -14,7 +14,7 @@ use Rattle.kr_calls.specs.declared.delete_topics.DeleteTopicState.{DeleteTopicSt
 use Rattle.kr_calls.specs.declared.delete_topics.DeleteTopics.{DeleteTopics}
 use Rattle.kr_calls.specs.declared.calls.Reply.TheVariants as replies
 use Rattle.kr_calls.specs.Deciding.{Work, after_all, answers, nothing_decided}
-use Rattle.kr_calls.specs.Refuse.{refused_deletion}
+use Rattle.kr_calls.specs.Refuse.{refused_delete_topics}
 
 abbrev pub deleted : List ℕ → ℕ → Draft DeletableTopicResult
 deleted name id = record { records = kinds.RemoveTopic id ∷ []; answer = record { name = Some name; topic = id; error = pos 0 } }
@@ -34,4 +34,4 @@ reply_of responses = replies.DeleteTopics (record { responses = responses })
 unfoldable pub decided : Image → ℤ → DeleteTopics → Work × Reply
 decided image place request =
     let start = nothing_decided place image in
-    (after_all refused_deletion rule start request.topics, reply_of (answers refused_deletion rule start request.topics))
+    (after_all refused_delete_topics rule start request.topics, reply_of (answers refused_delete_topics rule start request.topics))

@@ -28,7 +28,7 @@ use Rattle.kr_calls.specs.declared.incremental_alter_configs.IncrementalAlterCon
 use Rattle.kr_calls.specs.declared.deciding.Draft.{Draft}
 use Rattle.kr_calls.specs.declared.calls.Reply.TheVariants as replies
 use Rattle.kr_calls.specs.Deciding.{Work, after_all, answers, nothing_decided, unless_validating}
-use Rattle.kr_calls.specs.Refuse.{refused_resource}
+use Rattle.kr_calls.specs.Refuse.{refused_incremental_alter_configs}
 
 -- ---- Kafka's operations, on the value that a key has
 
@@ -151,7 +151,7 @@ is_broker_kind entry = int_eq entry.kind broker_kind
 abbrev pub of_resource : Options → Image → ConfigResource → Result (Draft ConfigResponse) ℤ
 of_resource options image entry = and_then (after_operations image entry [] entry.configs) (λ values. Ok (record {
   records = resource_records options image entry values;
-  answer = refused_resource (pos 0) entry;
+  answer = refused_incremental_alter_configs (pos 0) entry;
 }))
 
 abbrev pub rule : Options → Image → ℤ → ConfigResource → Result (Draft ConfigResponse) ℤ
@@ -169,6 +169,6 @@ reply_of responses = replies.IncrementalAlterConfigs (record { responses = respo
 unfoldable pub decided : Options → Image → ℤ → IncrementalAlterConfigs → Work × Reply
 decided options image place request =
     let start = nothing_decided place image in (
-      unless_validating request.validate_only start (after_all refused_resource (rule options) start request.resources),
-      reply_of (answers refused_resource (rule options) start request.resources),
+      unless_validating request.validate_only start (after_all refused_incremental_alter_configs (rule options) start request.resources),
+      reply_of (answers refused_incremental_alter_configs (rule options) start request.resources),
     )

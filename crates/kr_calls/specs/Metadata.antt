@@ -14,7 +14,7 @@ use Rattle.kr_defs.specs.Image.{Image, topic_name}
 use Rattle.kr_defs.specs.Map.{text_order}
 use Rattle.kr_defs.specs.Topics.{is_named_once}
 use Rattle.kr_defs.specs.Walk.{of_topic}
-use Rattle.kr_calls.specs.declared.errors.TheConstants.{INVALID_REQUEST, UNKNOWN_TOPIC_ID, UNKNOWN_TOPIC_OR_PARTITION}
+use Rattle.kr_calls.specs.declared.errors.TheConstants.{INVALID_REQUEST, LEADER_NOT_AVAILABLE, UNKNOWN_TOPIC_ID, UNKNOWN_TOPIC_OR_PARTITION}
 use Rattle.kr_calls.specs.declared.calls.Reply.{Reply}
 use Rattle.kr_calls.specs.declared.metadata.Metadata.{Metadata}
 use Rattle.kr_calls.specs.declared.metadata.MetadataBroker.{MetadataBroker}
@@ -50,9 +50,9 @@ brokers_of image = map broker_of (filter (λ e. is_online e.1) image.brokers)
 abbrev pub is_offline : Image → ℤ → Bool
 is_offline image id = option_map_or (λ state. state.fenced) (entries.get int_cmp image.brokers id) true
 
--- Kafka's LEADER_NOT_AVAILABLE, where nobody leads
+-- where nobody leads
 abbrev pub leader_error : Partition → ℤ
-leader_error p = if int_eq p.leader (negsuc 0) then pos 5 else pos 0
+leader_error p = if int_eq p.leader (negsuc 0) then LEADER_NOT_AVAILABLE else pos 0
 
 abbrev pub partition_metadata : Image → (ℕ × ℤ) × Partition → MetadataPartition
 partition_metadata image e = record {

@@ -14,17 +14,17 @@ use Rattle.kr_calls.specs.declared.create_partitions.CreatePartitionsTopic.{Crea
 use Rattle.kr_calls.specs.declared.create_partitions.CreatePartitionsTopicResult.{CreatePartitionsTopicResult}
 
 -- a topic that isn't made has no id, no partitions and no replicas
-abbrev pub refused_creation : ℤ → CreatableTopic → CreatableTopicResult
-refused_creation error t = record { name = t.name; topic = 0; error = error; partitions = negsuc 0; factor = negsuc 0 }
+abbrev pub refused_create_topics : ℤ → CreatableTopic → CreatableTopicResult
+refused_create_topics error t = record { name = t.name; topic = 0; error = error; partitions = negsuc 0; factor = negsuc 0 }
 
-abbrev pub refused_deletion : ℤ → DeleteTopicState → DeletableTopicResult
-refused_deletion error t = record { name = t.name; topic = t.topic; error = error }
+abbrev pub refused_delete_topics : ℤ → DeleteTopicState → DeletableTopicResult
+refused_delete_topics error t = record { name = t.name; topic = t.topic; error = error }
 
-abbrev pub refused_growth : ℤ → CreatePartitionsTopic → CreatePartitionsTopicResult
-refused_growth error t = record { name = t.name; error = error }
+abbrev pub refused_create_partitions : ℤ → CreatePartitionsTopic → CreatePartitionsTopicResult
+refused_create_partitions error t = record { name = t.name; error = error }
 
-abbrev pub refused_resource : ℤ → ConfigResource → ConfigResponse
-refused_resource error r = record { error = error; kind = r.kind; name = r.name }
+abbrev pub refused_incremental_alter_configs : ℤ → ConfigResource → ConfigResponse
+refused_incremental_alter_configs error r = record { error = error; kind = r.kind; name = r.name }
 
 -- Each entry of a request on topics or settings is refused, in its order; the other replies have an error of their own and
 -- empty lists, but for Metadata, which shows none.
@@ -33,14 +33,14 @@ refuse (requests.BrokerRegistration q) error = replies.BrokerRegistration (recor
 refuse (requests.BrokerHeartbeat q) error =
     replies.BrokerHeartbeat (record { error = error; caught_up = false; fenced = true; should_shut_down = false })
 refuse (requests.UnregisterBroker q) error = replies.UnregisterBroker (record { error = error })
-refuse (requests.CreateTopics q) error = replies.CreateTopics (record { topics = map (refused_creation error) q.topics })
-refuse (requests.DeleteTopics q) error = replies.DeleteTopics (record { responses = map (refused_deletion error) q.topics })
-refuse (requests.CreatePartitions q) error = replies.CreatePartitions (record { results = map (refused_growth error) q.topics })
+refuse (requests.CreateTopics q) error = replies.CreateTopics (record { topics = map (refused_create_topics error) q.topics })
+refuse (requests.DeleteTopics q) error = replies.DeleteTopics (record { responses = map (refused_delete_topics error) q.topics })
+refuse (requests.CreatePartitions q) error = replies.CreatePartitions (record { results = map (refused_create_partitions error) q.topics })
 refuse (requests.AlterPartition q) error = replies.AlterPartition (record { error = error; topics = [] })
 refuse (requests.ElectLeaders q) error = replies.ElectLeaders (record { error = error; results = [] })
 refuse (requests.AlterPartitionReassignments q) error = replies.AlterPartitionReassignments (record { error = error; responses = [] })
 refuse (requests.ListPartitionReassignments q) error = replies.ListPartitionReassignments (record { error = error; topics = [] })
 refuse (requests.IncrementalAlterConfigs q) error =
-    replies.IncrementalAlterConfigs (record { responses = map (refused_resource error) q.resources })
+    replies.IncrementalAlterConfigs (record { responses = map (refused_incremental_alter_configs error) q.resources })
 refuse (requests.Metadata q) error =
     replies.Metadata (record { brokers = []; cluster = None; controller = negsuc 0; topics = [] })

@@ -12,7 +12,7 @@ use Rattle.kr_calls.specs.declared.unregister_broker.UnregisterBrokerReply.{Unre
 use Rattle.kr_calls.specs.declared.deciding.Draft.{Draft}
 use Rattle.kr_calls.specs.Deciding.{apply_records}
 use Rattle.kr_calls.specs.TakingOut.{fencing, taken_out}
-use Rattle.kr_calls.specs.UnregisterBroker as unregistering
+use Rattle.kr_calls.specs.UnregisterBroker as unregister_broker
 
 -- Each record has a meaning after the ones before it. The last one leaves the image with these brokers and other partitions.
 abbrev pub LeaveWith : Image → List (ℤ × Broker) → List Record → Type 0
@@ -36,5 +36,5 @@ FencingIsNeverRefused =
 abbrev pub UnregisteringIsNeverRefused : Type 0
 UnregisteringIsNeverRefused =
     (options : Options) (image : Image) (place : ℤ) (request : UnregisterBroker) (draft : Draft UnregisterBrokerReply) → IsValid image →
-    unregistering.rule options image place request ≡ Ok draft →
+    unregister_broker.rule options image place request ≡ Ok draft →
     LeaveWith image (entries.remove int_cmp image.brokers request.broker) draft.records

@@ -1,7 +1,10 @@
 //! Kafka's error numbers that a reply may bear, by their names in Kafka's `Errors`.
 
-/// This server does not host the topic or partition.
+/// There is no such topic, or no such partition of it.
 pub const UNKNOWN_TOPIC_OR_PARTITION: i16 = 3;
+
+/// Nobody leads the partition.
+pub const LEADER_NOT_AVAILABLE: i16 = 5;
 
 /// No topic may be named so, or one whose name agrees with it is there.
 pub const INVALID_TOPIC_EXCEPTION: i16 = 17;

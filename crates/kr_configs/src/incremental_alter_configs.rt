@@ -1,6 +1,6 @@
 //! Settings are changed.
 
-ghost use Rattle.kr_calls.specs.IncrementalAlterConfigs as configs;
+ghost use Rattle.kr_calls.specs.IncrementalAlterConfigs as incremental_alter_configs;
 
 use crate::resources::ResourceRule;
 use kr_base::{NoMemory, Steps};
@@ -18,7 +18,7 @@ use std::sync::ledger::Ledger;
 pub struct IncrementalAlterConfigsHandler;
 
 impl Handler<IncrementalAlterConfigs> for IncrementalAlterConfigsHandler {
-    ghost decided = { λ request given image. configs.decided given.options.now image given.place request };
+    ghost decided = { λ request given image. incremental_alter_configs.decided given.options.now image given.place request };
 
     #[tactic(auto, unfolding(kr_calls::specs::IncrementalAlterConfigs::decided))]
     fn decide<S: Store, L: Ledger>(

@@ -2,7 +2,7 @@
 
 ghost use Rattle.std.specs.Prelude.{◌≡◌, [], Ok, IfErr, IfOk, OnOk, unwrap_or, if◌then◌else◌};
 ghost use Rattle.std.specs.Option.{option_copied};
-ghost use Rattle.kr_calls.specs.IncrementalAlterConfigs as configs;
+ghost use Rattle.kr_calls.specs.IncrementalAlterConfigs as incremental_alter_configs;
 ghost use Rattle.kr_rules.specs.Refusals.{IsRefusal, Judges};
 
 use crate::parts::{append, subtract};
@@ -27,14 +27,14 @@ const SUBTRACT: i8 = 3;
 
 // It works on the parts of a list.
 fn is_of_parts(operation: &ConfigOperation) -> bool
-    ensures { result ≡ configs.is_of_parts operation.now }
+    ensures { result ≡ incremental_alter_configs.is_of_parts operation.now }
 {
     operation.operation == APPEND || operation.operation == SUBTRACT
 }
 
 // It is none of the four, or lacks the value that it needs.
 fn is_bad_operation(operation: &ConfigOperation) -> bool
-    ensures { result ≡ configs.is_bad_operation operation.now }
+    ensures { result ≡ incremental_alter_configs.is_bad_operation operation.now }
 {
     let is_delete = operation.operation == DELETE;
     let is_known = operation.operation == SET || is_delete || is_of_parts(operation);
@@ -49,7 +49,7 @@ pub(crate) fn value_now<'v, 'k, S: Store>(
     values: &'v Values<'k>,
     key: &str,
 ) -> Result<Option<&'v Text>, NoMemory>
-    ensures { IfOk result (λ value. option_copied value ≡ configs.value_now (S.images store.now).tip entry.now values.now key.now) }
+    ensures { IfOk result (λ value. option_copied value ≡ incremental_alter_configs.value_now (S.images store.now).tip entry.now values.now key.now) }
 {
     match values.get(key) {
         Some(value) => Ok(value.as_ref()),
@@ -73,7 +73,7 @@ fn list_after(
     operation: &ConfigOperation,
     value: Option<&Text>,
 ) -> Result<Text, NoMemory>
-    ensures { IfOk result (λ list. list ≡ (if configs.is_append operation.now then configs.appended (unwrap_or (option_copied value.entry) []) (unwrap_or operation.now.value []) else configs.subtracted (unwrap_or (option_copied value.entry) []) (unwrap_or operation.now.value []))) }
+    ensures { IfOk result (λ list. list ≡ (if incremental_alter_configs.is_append operation.now then incremental_alter_configs.appended (unwrap_or (option_copied value.entry) []) (unwrap_or operation.now.value []) else incremental_alter_configs.subtracted (unwrap_or (option_copied value.entry) []) (unwrap_or operation.now.value []))) }
 {
     let empty = Text::new(alloc);
     let value = or_empty(value, &empty);
@@ -91,7 +91,7 @@ fn value_after(
     operation: &ConfigOperation,
     value: Option<&Text>,
 ) -> Result<Option<Text>, NoMemory>
-    ensures { IfOk result (λ after. after ≡ configs.operated operation.now (option_copied value.entry)) }
+    ensures { IfOk result (λ after. after ≡ incremental_alter_configs.operated operation.now (option_copied value.entry)) }
 {
     if operation.operation == DELETE {
         return Ok(None);
@@ -105,7 +105,7 @@ fn value_after(
 
 // The value that results can be the key's.
 fn may_result(key: &Text, value: &Option<Text>) -> bool
-    ensures { result ≡ configs.may_result key.now value.now }
+    ensures { result ≡ incremental_alter_configs.may_result key.now value.now }
 {
     match value {
         Some(value) => is_setting_value(key, value),
@@ -121,7 +121,7 @@ fn result_of<S: Store>(
     values: &Values,
     operation: &ConfigOperation,
 ) -> Result<Option<Text>, NoMemory>
-    ensures { IfOk result (λ value. value ≡ configs.operated operation.now (configs.value_now (S.images store.now).tip entry.now values.now operation.now.name)) }
+    ensures { IfOk result (λ value. value ≡ incremental_alter_configs.operated operation.now (incremental_alter_configs.value_now (S.images store.now).tip entry.now values.now operation.now.name)) }
 {
     let before = value_now(alloc, store, entry, values, operation.name.as_str())?;
     value_after(alloc, operation, before)
@@ -135,8 +135,8 @@ fn operate<'k, S: Store>(
     values: &mut Values<'k>,
     operation: &'k ConfigOperation,
 ) -> Result<(), Refusal>
-    ensures done { OnOk result (configs.after_operation (S.images store.now).tip entry.now values.old operation.now ≡ Ok values.new) }
-    ensures refused { IfErr result (λ refusal. IsRefusal refusal (configs.after_operation (S.images store.now).tip entry.now values.old operation.now)) }
+    ensures done { OnOk result (incremental_alter_configs.after_operation (S.images store.now).tip entry.now values.old operation.now ≡ Ok values.new) }
+    ensures refused { IfErr result (λ refusal. IsRefusal refusal (incremental_alter_configs.after_operation (S.images store.now).tip entry.now values.old operation.now)) }
 {
     if is_bad_operation(operation) {
         return Err(Refusal::Error(INVALID_REQUEST));
@@ -161,7 +161,7 @@ pub(crate) fn operate_all<'k, S: Store>(
     store: &S,
     entry: &'k ConfigResource,
 ) -> Result<Values<'k>, Refusal>
-    ensures { Judges result (configs.after_operations (S.images store.now).tip entry.now [] entry.now.configs) }
+    ensures { Judges result (incremental_alter_configs.after_operations (S.images store.now).tip entry.now [] entry.now.configs) }
 {
     let mut values = Values::new(alloc);
     for operation in entry.configs.as_slice() {

@@ -2,7 +2,7 @@
 
 ghost use Rattle.std.specs.Prelude.{◌≡◌, [], ◌∷◌, ◌++◌, IfOk, bytes_eq, filter, fold, not};
 ghost use Rattle.std.specs.List.{list_any};
-ghost use Rattle.kr_calls.specs.IncrementalAlterConfigs as configs;
+ghost use Rattle.kr_calls.specs.IncrementalAlterConfigs as incremental_alter_configs;
 ghost use Rattle.kr_defs.specs.Texts as texts;
 
 use kr_base::NoMemory;
@@ -56,7 +56,7 @@ impl<'a> Parts<'a> {
 
     // The parts with one more at the end, where it isn't there.
     fn with_new(self, part: &'a str) -> Result<Parts<'a>, NoMemory>
-        ensures { IfOk result (λ all. all ≡ configs.with_part self.entry part.now) }
+        ensures { IfOk result (λ all. all ≡ incremental_alter_configs.with_part self.entry part.now) }
     {
         if self.has(part) {
             return Ok(self);
@@ -85,7 +85,7 @@ fn parts_of<'a>(alloc: Global, texts: &'a [Text]) -> Result<Parts<'a>, NoMemory>
 
 // The parts with those of more that aren't there, in order.
 fn with_all_new<'a>(parts: Parts<'a>, more: &'a [Text]) -> Result<Parts<'a>, NoMemory>
-    ensures { IfOk result (λ all. all ≡ fold configs.with_part parts.entry more.now) }
+    ensures { IfOk result (λ all. all ≡ fold incremental_alter_configs.with_part parts.entry more.now) }
 {
     let mut all = parts;
     for part in more {
@@ -109,7 +109,7 @@ fn others<'a>(alloc: Global, parts: &'a [Text], those: &Parts) -> Result<Parts<'
 
 /// The list with those parts of another that it hasn't, behind its own.
 pub(crate) fn append(alloc: Global, list: &Text, more: &Text) -> Result<Text, NoMemory>
-    ensures { IfOk result (λ text. text ≡ configs.appended list.now more.now) }
+    ensures { IfOk result (λ text. text ≡ incremental_alter_configs.appended list.now more.now) }
 {
     let own = parts(alloc, list)?;
     let more = parts(alloc, more)?;
@@ -119,7 +119,7 @@ pub(crate) fn append(alloc: Global, list: &Text, more: &Text) -> Result<Text, No
 
 /// The list without all parts that another has.
 pub(crate) fn subtract(alloc: Global, list: &Text, those: &Text) -> Result<Text, NoMemory>
-    ensures { IfOk result (λ text. text ≡ configs.subtracted list.now those.now) }
+    ensures { IfOk result (λ text. text ≡ incremental_alter_configs.subtracted list.now those.now) }
 {
     let own = parts(alloc, list)?;
     let those = parts(alloc, those)?;

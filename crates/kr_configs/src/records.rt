@@ -3,7 +3,7 @@
 ghost use Rattle.std.specs.Prelude.{◌≡◌, ◌++◌, [], filter_map, IfOk, OnOk};
 ghost use Rattle.std.specs.List.{cons_option};
 ghost use Rattle.std.specs.Option.{option_copied};
-ghost use Rattle.kr_calls.specs.IncrementalAlterConfigs as configs;
+ghost use Rattle.kr_calls.specs.IncrementalAlterConfigs as incremental_alter_configs;
 
 use crate::values::Values;
 use kr_base::NoMemory;
@@ -15,7 +15,7 @@ use std::alloc::Global;
 
 /// The settings have the same value, or both have none.
 pub(crate) fn is_same_value(value: Option<&Text>, other: Option<&Text>) -> bool
-    ensures { result ≡ configs.is_same_value (option_copied value.entry) (option_copied other.entry) }
+    ensures { result ≡ incremental_alter_configs.is_same_value (option_copied value.entry) (option_copied other.entry) }
 {
     match (value, other) {
         (Some(value), Some(other)) => *value == *other,
@@ -32,7 +32,7 @@ fn config_record<S: Store>(
     key: &str,
     value: &Option<Text>,
 ) -> Result<Option<Record>, NoMemory>
-    ensures { IfOk result (λ made. made ≡ configs.config_record (S.images store.now).tip entry.now (key.now, value.now)) }
+    ensures { IfOk result (λ made. made ≡ incremental_alter_configs.config_record (S.images store.now).tip entry.now (key.now, value.now)) }
 {
     let before = value_at(alloc, store, &entry.kind, &entry.name, key)?;
     if is_same_value(value.as_ref(), before) {
@@ -58,7 +58,7 @@ fn add_record<S: Store>(
     value: &Option<Text>,
     records: &mut Records,
 ) -> Result<(), NoMemory>
-    ensures { OnOk result (records.new ≡ records.old ++ cons_option (configs.config_record (S.images store.now).tip entry.now (key.now, value.now)) []) }
+    ensures { OnOk result (records.new ≡ records.old ++ cons_option (incremental_alter_configs.config_record (S.images store.now).tip entry.now (key.now, value.now)) []) }
 {
     if let Some(made) = config_record(alloc, store, entry, key, value)? {
         records.push(made)?;
@@ -73,7 +73,7 @@ pub(crate) fn config_records<S: Store>(
     entry: &ConfigResource,
     values: &Values,
 ) -> Result<Records, NoMemory>
-    ensures { IfOk result (λ records. records ≡ filter_map (configs.config_record (S.images store.now).tip entry.now) values.now) }
+    ensures { IfOk result (λ records. records ≡ filter_map (incremental_alter_configs.config_record (S.images store.now).tip entry.now) values.now) }
 {
     let mut records = Records::new(alloc);
     for (key, value) in values.entries() {

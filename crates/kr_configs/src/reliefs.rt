@@ -3,7 +3,7 @@
 ghost use Rattle.std.specs.Prelude.{◌≡◌, ◌++◌, ◌==◌, ◌&&◌, not, [], bytes_eq, length, IfOk, OnOk, option_and_then};
 ghost use Rattle.std.specs.Option.{option_copied};
 ghost use Rattle.std.specs.Ordering.{int_eq};
-ghost use Rattle.kr_calls.specs.IncrementalAlterConfigs as configs;
+ghost use Rattle.kr_calls.specs.IncrementalAlterConfigs as incremental_alter_configs;
 ghost use Rattle.kr_defs.specs.Build.{unless};
 ghost use Rattle.kr_defs.specs.Eligible as eligible;
 ghost use Rattle.kr_defs.specs.NewPartition as partitions;
@@ -154,7 +154,7 @@ fn has_standing_by(partition: &Partition) -> bool
 }
 
 impl<'r, 'k> Change for Relief<'r, 'k> {
-    ghost change = { λ r image w. configs.relief r.options.now image (after image r.entry.now r.values.now) w };
+    ghost change = { λ r image w. incremental_alter_configs.relief r.options.now image (after image r.entry.now r.values.now) w };
 
     fn change<S: Store>(
         &self,
@@ -198,7 +198,7 @@ pub(crate) fn add_reliefs<S: Store>(
     values: &Values,
     records: &mut Records,
 ) -> Result<(), NoMemory>
-    ensures { OnOk result (records.new ≡ records.old ++ changes_of (configs.relief options.now (S.images store.now).tip (after (S.images store.now).tip entry.now values.now)) (walk (S.images store.now).tip)) }
+    ensures { OnOk result (records.new ≡ records.old ++ changes_of (incremental_alter_configs.relief options.now (S.images store.now).tip (after (S.images store.now).tip entry.now values.now)) (walk (S.images store.now).tip)) }
 {
     let _valid = store.counts();
     values.are_once();

@@ -1,8 +1,8 @@
 //! What is decided of one resource.
 
 ghost use Rattle.std.specs.Prelude.{◌≡◌, IfOk};
-ghost use Rattle.kr_calls.specs.IncrementalAlterConfigs as configs;
-ghost use Rattle.kr_calls.specs.Refuse.{refused_resource};
+ghost use Rattle.kr_calls.specs.IncrementalAlterConfigs as incremental_alter_configs;
+ghost use Rattle.kr_calls.specs.Refuse.{refused_incremental_alter_configs};
 ghost use Rattle.kr_defs.specs.Map as entries;
 ghost use Rattle.kr_defs.specs.Map.{text_order};
 ghost use Rattle.kr_rules.specs.Refusals.{Judges};
@@ -33,7 +33,7 @@ pub(crate) struct ResourceRule<'a> {
 
 // The answer for a resource.
 fn answer(alloc: Global, error: &i16, entry: &ConfigResource) -> Result<ConfigResponse, NoMemory>
-    ensures { IfOk result (λ answer. answer ≡ refused_resource error.now entry.now) }
+    ensures { IfOk result (λ answer. answer ≡ refused_incremental_alter_configs error.now entry.now) }
 {
     let name = entry.name.copied(alloc)?;
     Ok(ConfigResponse {
@@ -44,13 +44,13 @@ fn answer(alloc: Global, error: &i16, entry: &ConfigResource) -> Result<ConfigRe
 }
 
 fn is_topic_kind(entry: &ConfigResource) -> bool
-    ensures { result ≡ configs.is_topic_kind entry.now }
+    ensures { result ≡ incremental_alter_configs.is_topic_kind entry.now }
 {
     entry.kind == TOPIC
 }
 
 fn is_broker_kind(entry: &ConfigResource) -> bool
-    ensures { result ≡ configs.is_broker_kind entry.now }
+    ensures { result ≡ incremental_alter_configs.is_broker_kind entry.now }
 {
     entry.kind == BROKER
 }
@@ -68,7 +68,7 @@ fn resource_records<S: Store>(
     entry: &ConfigResource,
     values: &Values,
 ) -> Result<Records, NoMemory>
-    ensures { IfOk result (λ records. records ≡ configs.resource_records options.now (S.images store.now).tip entry.now values.now) }
+    ensures { IfOk result (λ records. records ≡ incremental_alter_configs.resource_records options.now (S.images store.now).tip entry.now values.now) }
 {
     let mut records = config_records(alloc, store, entry, values)?;
     add_reliefs(alloc, store, options, entry, values, &mut records)?;
@@ -82,7 +82,7 @@ fn of_resource<S: Store>(
     options: &Options,
     entry: &ConfigResource,
 ) -> Result<Draft<ConfigResponse>, Refusal>
-    ensures { Judges result (configs.of_resource options.now (S.images store.now).tip entry.now) }
+    ensures { Judges result (incremental_alter_configs.of_resource options.now (S.images store.now).tip entry.now) }
 {
     let values = operate_all(alloc, store, entry)?;
     let records = resource_records(alloc, store, options, entry, &values)?;
@@ -91,9 +91,9 @@ fn of_resource<S: Store>(
 }
 
 impl<'a> Rule<ConfigResource, ConfigResponse> for ResourceRule<'a> {
-    ghost refusal = { λ _. refused_resource };
+    ghost refusal = { λ _. refused_incremental_alter_configs };
 
-    ghost rule = { λ r. configs.rule r.options.now };
+    ghost rule = { λ r. incremental_alter_configs.rule r.options.now };
 
     fn refusal(
         &self,

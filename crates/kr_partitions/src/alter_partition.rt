@@ -1,7 +1,7 @@
 //! A leader reports which replicas are in sync with it.
 
 ghost use Rattle.std.specs.Prelude.{◌≡◌};
-ghost use Rattle.kr_calls.specs.AlterPartition as reporting;
+ghost use Rattle.kr_calls.specs.AlterPartition as alter_partition;
 
 use crate::reports::ReportRule;
 use kr_base::{NoMemory, Steps};
@@ -17,7 +17,7 @@ use std::sync::ledger::Ledger;
 
 // The broker that reports isn't registered with this epoch.
 fn is_stale<S: Store>(store: &S, request: &AlterPartition) -> bool
-    ensures { result ≡ reporting.is_stale (S.images store.now).tip request.now }
+    ensures { result ≡ alter_partition.is_stale (S.images store.now).tip request.now }
 {
     match tip::broker(store, &request.broker) {
         Some(state) => request.epoch != state.epoch,
@@ -26,7 +26,7 @@ fn is_stale<S: Store>(store: &S, request: &AlterPartition) -> bool
 }
 
 fn reply_of(error: &i16, topics: AlterPartitionTopicResults) -> Reply
-    ensures { result ≡ reporting.reply_of error.now topics }
+    ensures { result ≡ alter_partition.reply_of error.now topics }
 {
     Reply::AlterPartition(AlterPartitionReply {
         error: *error,
@@ -40,7 +40,7 @@ fn reply_of(error: &i16, topics: AlterPartitionTopicResults) -> Reply
 pub struct AlterPartitionHandler;
 
 impl Handler<AlterPartition> for AlterPartitionHandler {
-    ghost decided = { λ request given image. reporting.decided given.options.now image given.place request };
+    ghost decided = { λ request given image. alter_partition.decided given.options.now image given.place request };
 
     #[tactic(auto, unfolding(kr_calls::specs::AlterPartition::decided))]
     fn decide<S: Store, L: Ledger>(

@@ -1,6 +1,6 @@
 //! Partitions get other replicas, as was asked for.
 
-ghost use Rattle.kr_calls.specs.AlterPartitionReassignments as reassigning;
+ghost use Rattle.kr_calls.specs.AlterPartitionReassignments as alter_partition_reassignments;
 
 use crate::reassignments::ReassignmentRule;
 use kr_base::{NoMemory, Steps};
@@ -16,7 +16,7 @@ use std::sync::ledger::Ledger;
 pub struct AlterPartitionReassignmentsHandler;
 
 impl Handler<AlterPartitionReassignments> for AlterPartitionReassignmentsHandler {
-    ghost decided = { λ request given image. reassigning.decided given.options.now image given.place request };
+    ghost decided = { λ request given image. alter_partition_reassignments.decided given.options.now image given.place request };
 
     #[tactic(auto, unfolding(kr_calls::specs::AlterPartitionReassignments::decided))]
     fn decide<S: Store, L: Ledger>(

@@ -1,7 +1,7 @@
 //! Leaders are elected that were asked for.
 
 ghost use Rattle.std.specs.Prelude.{◌≡◌};
-ghost use Rattle.kr_calls.specs.ElectLeaders as electing;
+ghost use Rattle.kr_calls.specs.ElectLeaders as elect_leaders;
 
 use crate::elections::{ElectionRule, is_kind};
 use crate::groups::groups_of;
@@ -17,7 +17,7 @@ use std::alloc::Global;
 use std::sync::ledger::Ledger;
 
 fn reply_of(error: &i16, results: ReplicaElectionResults) -> Reply
-    ensures { result ≡ electing.reply_of error.now results }
+    ensures { result ≡ elect_leaders.reply_of error.now results }
 {
     Reply::ElectLeaders(ElectLeadersReply {
         error: *error,
@@ -31,7 +31,7 @@ fn reply_of(error: &i16, results: ReplicaElectionResults) -> Reply
 pub struct ElectLeadersHandler;
 
 impl Handler<ElectLeaders> for ElectLeadersHandler {
-    ghost decided = { λ request given image. electing.decided given.options.now image given.place request };
+    ghost decided = { λ request given image. elect_leaders.decided given.options.now image given.place request };
 
     #[tactic(auto, unfolding(kr_calls::specs::ElectLeaders::decided))]
     fn decide<S: Store, L: Ledger>(

@@ -6,7 +6,7 @@ ghost use Rattle.kr_defs.specs.Ids.{has};
 ghost use Rattle.kr_defs.specs.Brokers.{active};
 ghost use Rattle.kr_defs.specs.Build.{built};
 ghost use Rattle.kr_defs.specs.Settings.{facts_of};
-ghost use Rattle.kr_calls.specs.ElectLeaders as electing;
+ghost use Rattle.kr_calls.specs.ElectLeaders as elect_leaders;
 ghost use Rattle.kr_rules.specs.Refusals.{Judges};
 ghost use Rattle.kr_partitions.specs.inner.NamedLeader.{names_nobody, with_leader};
 
@@ -45,7 +45,7 @@ impl<'a> ElectionRule<'a> {
 
 // The answer for a partition.
 fn answer(error: &i16, _name: &Text, index: &i32) -> PartitionElectionResult
-    ensures { result ≡ electing.answer error.now (_name.now, index.now) }
+    ensures { result ≡ elect_leaders.answer error.now (_name.now, index.now) }
 {
     PartitionElectionResult {
         index: *index,
@@ -60,7 +60,7 @@ fn draft_of(
     topic: &u128,
     change: Option<PartitionChange>,
 ) -> Result<Draft<PartitionElectionResult>, NoMemory>
-    ensures { IfOk result (λ draft. draft ≡ electing.drafted (name.now, index.now) topic.now change) }
+    ensures { IfOk result (λ draft. draft ≡ elect_leaders.drafted (name.now, index.now) topic.now change) }
 {
     let records = change_records(alloc, topic, index, change)?;
     let answer = answer(&0, name, index);
@@ -68,14 +68,14 @@ fn draft_of(
 }
 
 fn in_mode(alloc: Global, partition: &Partition, mode: Mode) -> Result<Want, NoMemory>
-    ensures { IfOk result (λ want. want ≡ electing.in_mode partition.now mode) }
+    ensures { IfOk result (λ want. want ≡ elect_leaders.in_mode partition.now mode) }
 {
     let want = default_want(alloc, partition)?;
     Ok(Want { mode, ..want })
 }
 
 fn first_replica(partition: &Partition) -> i32
-    ensures { result ≡ electing.first_replica partition.now }
+    ensures { result ≡ elect_leaders.first_replica partition.now }
 {
     match partition.replicas.as_slice().first() {
         Some(id) => *id,
@@ -92,7 +92,7 @@ fn election_change<S: Store>(
     partition: &Partition,
     mode: Mode,
 ) -> Result<Option<PartitionChange>, NoMemory>
-    ensures { IfOk result (λ change. change ≡ built partition.now (electing.in_mode partition.now mode) (facts_of options.now (S.images store.now).tip name.now)) }
+    ensures { IfOk result (λ change. change ≡ built partition.now (elect_leaders.in_mode partition.now mode) (facts_of options.now (S.images store.now).tip name.now)) }
 {
     let want = in_mode(alloc, partition, mode)?;
     let active = active(alloc, store)?;
@@ -122,7 +122,7 @@ fn prefers<S: Store>(
     topic: &u128,
     partition: &Partition,
 ) -> Result<Draft<PartitionElectionResult>, Refusal>
-    ensures { Judges result (electing.prefers options.now (S.images store.now).tip (name.now, index.now) topic.now partition.now) }
+    ensures { Judges result (elect_leaders.prefers options.now (S.images store.now).tip (name.now, index.now) topic.now partition.now) }
 {
     let first = first_replica(partition);
     if partition.leader == first {
@@ -178,7 +178,7 @@ fn elects_any<S: Store>(
     topic: &u128,
     partition: &Partition,
 ) -> Result<Draft<PartitionElectionResult>, Refusal>
-    ensures { Judges result (electing.elects_any options.now (S.images store.now).tip (name.now, index.now) topic.now partition.now) }
+    ensures { Judges result (elect_leaders.elects_any options.now (S.images store.now).tip (name.now, index.now) topic.now partition.now) }
 {
     if has_leader(partition) {
         return Err(Refusal::Error(ELECTION_NOT_NEEDED));
@@ -188,14 +188,14 @@ fn elects_any<S: Store>(
 }
 
 fn is_preferred_kind(kind: &i8) -> bool
-    ensures { result ≡ electing.is_preferred_kind kind.now }
+    ensures { result ≡ elect_leaders.is_preferred_kind kind.now }
 {
     *kind == 0
 }
 
 /// There are elections of this kind.
 pub(crate) fn is_kind(kind: &i8) -> bool
-    ensures { result ≡ electing.is_kind kind.now }
+    ensures { result ≡ elect_leaders.is_kind kind.now }
 {
     is_preferred_kind(kind) || *kind == 1
 }
@@ -210,7 +210,7 @@ fn of_partition<S: Store>(
     topic: &u128,
     partition: &Partition,
 ) -> Result<Draft<PartitionElectionResult>, Refusal>
-    ensures { Judges result (electing.of_partition rule.now.options.now rule.now.kind (S.images store.now).tip (name.now, index.now) topic.now partition.now) }
+    ensures { Judges result (elect_leaders.of_partition rule.now.options.now rule.now.kind (S.images store.now).tip (name.now, index.now) topic.now partition.now) }
 {
     if is_preferred_kind(&rule.kind) {
         prefers(alloc, store, rule.options, name, index, topic, partition)
@@ -220,9 +220,9 @@ fn of_partition<S: Store>(
 }
 
 impl<'a> ItemRule<Text, i32, PartitionElectionResult> for ElectionRule<'a> {
-    ghost refusal = { λ _. electing.answer };
+    ghost refusal = { λ _. elect_leaders.answer };
 
-    ghost rule = { λ r. electing.rule r.options.now r.kind };
+    ghost rule = { λ r. elect_leaders.rule r.options.now r.kind };
 
     fn refusal(
         &self,
@@ -254,9 +254,9 @@ impl<'a> ItemRule<Text, i32, PartitionElectionResult> for ElectionRule<'a> {
 
 impl<'a> Groups<(Text, Ids), Text, i32, PartitionElectionResult, ReplicaElectionResult>
     for ElectionRule<'a> {
-    ghost entries_of = { electing.entries_of };
+    ghost entries_of = { elect_leaders.entries_of };
 
-    ghost answer_of = { electing.answer_of };
+    ghost answer_of = { elect_leaders.answer_of };
 
     fn members<'g>(&self, group: &'g (Text, Ids)) -> (&'g Text, &'g [i32]) {
         (&group.0, group.1.as_slice())
@@ -268,7 +268,7 @@ impl<'a> Groups<(Text, Ids), Text, i32, PartitionElectionResult, ReplicaElection
         group: &(Text, Ids),
         answers: PartitionElectionResults,
     ) -> Result<ReplicaElectionResult, NoMemory>
-        ensures { IfOk result (λ answer. answer ≡ electing.answer_of group.now answers) }
+        ensures { IfOk result (λ answer. answer ≡ elect_leaders.answer_of group.now answers) }
     {
         let topic = group.0.copied(alloc)?;
         Ok(ReplicaElectionResult {

@@ -1,7 +1,7 @@
 //! The partitions that are to get leaders, by topic.
 
 ghost use Rattle.std.specs.Prelude.{◌≡◌, ◌++◌, [], ◌∷◌, IfOk, OnOk, map};
-ghost use Rattle.kr_calls.specs.ElectLeaders as electing;
+ghost use Rattle.kr_calls.specs.ElectLeaders as elect_leaders;
 ghost use Rattle.kr_store.specs.Reads.{seen_at};
 
 use kr_base::NoMemory;
@@ -61,7 +61,7 @@ fn whole_topic<S: Store>(
     name: &Text,
     id: &u128,
 ) -> Result<Group, NoMemory>
-    ensures { IfOk result (λ group. group ≡ electing.whole_topic (seen_at (S.images store.now) at) (name.now, id.now)) }
+    ensures { IfOk result (λ group. group ≡ elect_leaders.whole_topic (seen_at (S.images store.now) at) (name.now, id.now)) }
 {
     let name = name.copied(alloc)?;
     let indexes = gather_partitions(alloc, store, at, &Indexes, id)?;
@@ -69,7 +69,7 @@ fn whole_topic<S: Store>(
 }
 
 impl TopicPart<Group> for WholeTopics {
-    ghost part = { λ _ image topic. electing.whole_topic image topic ∷ [] };
+    ghost part = { λ _ image topic. elect_leaders.whole_topic image topic ∷ [] };
 
     fn add<S: Store>(
         &self,
@@ -87,7 +87,7 @@ impl TopicPart<Group> for WholeTopics {
 
 #[tactic(auto, using(crate::proofs::WholeTopics::all_whole))]
 fn all_groups<S: Store>(alloc: Global, store: &S) -> Result<Rows<Group>, NoMemory>
-    ensures { IfOk result (λ groups. groups ≡ map (electing.whole_topic (S.images store.now).tip) (S.images store.now).tip.topics) }
+    ensures { IfOk result (λ groups. groups ≡ map (elect_leaders.whole_topic (S.images store.now).tip) (S.images store.now).tip.topics) }
 {
     gather_topics(alloc, store, At::Tip, &WholeTopics)
 }
@@ -98,7 +98,7 @@ pub(crate) fn groups_of<S: Store>(
     store: &S,
     topics: &Option<ElectLeadersTopics>,
 ) -> Result<Rows<Group>, NoMemory>
-    ensures { IfOk result (λ groups. groups ≡ electing.groups_of (S.images store.now).tip topics.now) }
+    ensures { IfOk result (λ groups. groups ≡ elect_leaders.groups_of (S.images store.now).tip topics.now) }
 {
     match topics {
         Some(topics) => given_groups(alloc, topics.as_slice()),

@@ -4,7 +4,7 @@ ghost use Rattle.std.specs.Prelude.{◌≡◌, ◌&&◌, [], ◌∷◌, IfOk, by
 ghost use Rattle.std.specs.List.{list_any};
 ghost use Rattle.kr_defs.specs.Ids.{has};
 ghost use Rattle.kr_defs.specs.Partition.{is_moving};
-ghost use Rattle.kr_calls.specs.ListPartitionReassignments as listing;
+ghost use Rattle.kr_calls.specs.ListPartitionReassignments as list_partition_reassignments;
 ghost use Rattle.kr_store.specs.Reads.{LooksUp, seen_at};
 
 use crate::lists::is_moving;
@@ -33,7 +33,7 @@ fn name_any(topics: &[ListedTopic], name: &Text, index: &i32) -> bool
 
 // The partition is asked for, or all are.
 fn is_asked(asked: &Option<ListedTopics>, name: &Text, index: &i32) -> bool
-    ensures { result ≡ listing.is_asked asked.now name.now index.now }
+    ensures { result ≡ list_partition_reassignments.is_asked asked.now name.now index.now }
 {
     match asked {
         Some(topics) => name_any(topics.as_slice(), name, index),
@@ -46,7 +46,7 @@ fn ongoing_row(
     key: &(u128, i32),
     partition: &Partition,
 ) -> Result<OngoingPartitionReassignment, NoMemory>
-    ensures { IfOk result (λ row. row ≡ listing.ongoing (key.now, partition.now)) }
+    ensures { IfOk result (λ row. row ≡ list_partition_reassignments.ongoing (key.now, partition.now)) }
 {
     let replicas = partition.replicas.copied(alloc)?;
     let adding = partition.adding.copied(alloc)?;
@@ -67,7 +67,7 @@ struct AskedPartitions<'a> {
 }
 
 impl<'a> PartitionPart<OngoingPartitionReassignment> for AskedPartitions<'a> {
-    ghost part = { λ a e. if is_moving e.1 && listing.is_asked a.asked.now a.name.now e.0.1 then listing.ongoing e ∷ [] else [] };
+    ghost part = { λ a e. if is_moving e.1 && list_partition_reassignments.is_asked a.asked.now a.name.now e.0.1 then list_partition_reassignments.ongoing e ∷ [] else [] };
 
     fn add(
         &self,
@@ -93,7 +93,7 @@ fn ongoing_of<S: Store>(
     name: &Text,
     id: &u128,
 ) -> Result<OngoingPartitionReassignments, NoMemory>
-    ensures { IfOk result (λ rows. rows ≡ listing.ongoing_of (seen_at (S.images store.now) at) asked.now (name.now, id.now)) }
+    ensures { IfOk result (λ rows. rows ≡ list_partition_reassignments.ongoing_of (seen_at (S.images store.now) at) asked.now (name.now, id.now)) }
 {
     gather_partitions(alloc, store, at, &AskedPartitions { asked, name }, id)
 }
@@ -107,7 +107,7 @@ fn topic_row<S: Store>(
     name: &Text,
     id: &u128,
 ) -> Result<Option<OngoingTopicReassignment>, NoMemory>
-    ensures { IfOk result (λ row. row ≡ listing.shown (seen_at (S.images store.now) at) asked.now (name.now, id.now)) }
+    ensures { IfOk result (λ row. row ≡ list_partition_reassignments.shown (seen_at (S.images store.now) at) asked.now (name.now, id.now)) }
 {
     let partitions = ongoing_of(alloc, store, at, asked, name, id)?;
     if partitions.is_empty() {
@@ -124,7 +124,7 @@ struct AskedTopics<'a> {
 }
 
 impl<'a> TopicPart<OngoingTopicReassignment> for AskedTopics<'a> {
-    ghost part = { λ a image topic. option_to_list (listing.shown image a.asked.now topic) };
+    ghost part = { λ a image topic. option_to_list (list_partition_reassignments.shown image a.asked.now topic) };
 
     fn add<S: Store>(
         &self,
@@ -149,7 +149,7 @@ fn all_topic_rows<S: Store>(
     at: At,
     asked: &Option<ListedTopics>,
 ) -> Result<Rows<OngoingTopicReassignment>, NoMemory>
-    ensures { IfOk result (λ rows. rows ≡ filter_map (listing.shown (seen_at (S.images store.now) at) asked.now) (seen_at (S.images store.now) at).topics) }
+    ensures { IfOk result (λ rows. rows ≡ filter_map (list_partition_reassignments.shown (seen_at (S.images store.now) at) asked.now) (seen_at (S.images store.now) at).topics) }
 {
     gather_topics(alloc, store, at, &AskedTopics { asked })
 }
@@ -164,7 +164,7 @@ pub fn answer<S: Store>(
     _options: &Options,
     request: &ListPartitionReassignments,
 ) -> Result<Reply, ReadFault>
-    ensures { LooksUp (S.images store.now) at result (λ image. listing.queried image request.now) }
+    ensures { LooksUp (S.images store.now) at result (λ image. list_partition_reassignments.queried image request.now) }
 {
     look(store, at)?;
     let topics = all_topic_rows(alloc, store, at, &request.topics)?;

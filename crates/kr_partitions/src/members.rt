@@ -1,7 +1,7 @@
 //! Which lists of members a leader can report.
 
 ghost use Rattle.std.specs.Prelude.{◌≡◌, IfOk, map};
-ghost use Rattle.kr_calls.specs.AlterPartition as reporting;
+ghost use Rattle.kr_calls.specs.AlterPartition as alter_partition;
 
 use kr_base::NoMemory;
 use kr_calls::{BrokerState, PartitionReport};
@@ -21,14 +21,14 @@ fn ids_of(alloc: Global, states: &[BrokerState]) -> Result<Ids, NoMemory>
 
 /// The members that are reported.
 pub(crate) fn members(alloc: Global, report: &PartitionReport) -> Result<Ids, NoMemory>
-    ensures { IfOk result (λ ids. ids ≡ reporting.members report.now) }
+    ensures { IfOk result (λ ids. ids ≡ alter_partition.members report.now) }
 {
     ids_of(alloc, report.in_sync.as_slice())
 }
 
 /// They aren't some of the replicas, each once, with the leader.
 pub(crate) fn are_bad_members(partition: &Partition, members: &Ids) -> bool
-    ensures { result ≡ reporting.are_bad_members partition.now members.now }
+    ensures { result ≡ alter_partition.are_bad_members partition.now members.now }
 {
     members.is_empty()
         || !is_distinct(members.as_slice())

@@ -2,7 +2,7 @@
 
 ghost use Rattle.std.specs.Prelude.{◌≡◌, IfOk};
 ghost use Rattle.kr_defs.specs.DefaultWant.{default_want};
-ghost use Rattle.kr_calls.specs.AlterPartitionReassignments as reassigning;
+ghost use Rattle.kr_calls.specs.AlterPartitionReassignments as alter_partition_reassignments;
 ghost use Rattle.kr_rules.specs.Refusals.{Judges};
 
 use crate::lists::{is_moving, original, reassigned_replicas};
@@ -34,7 +34,7 @@ fn answer(
     _name: &Text,
     partition: &ReassignablePartition,
 ) -> ReassignablePartitionResponse
-    ensures { result ≡ reassigning.answer error.now (_name.now, partition.now) }
+    ensures { result ≡ alter_partition_reassignments.answer error.now (_name.now, partition.now) }
 {
     ReassignablePartitionResponse {
         index: partition.index,
@@ -49,7 +49,7 @@ fn draft_of(
     topic: &u128,
     change: Option<PartitionChange>,
 ) -> Result<Draft<ReassignablePartitionResponse>, NoMemory>
-    ensures { IfOk result (λ draft. draft ≡ reassigning.drafted (name.now, partition.now) topic.now change) }
+    ensures { IfOk result (λ draft. draft ≡ alter_partition_reassignments.drafted (name.now, partition.now) topic.now change) }
 {
     let records = change_records(alloc, topic, &partition.index, change)?;
     let answer = answer(&0, name, partition);
@@ -77,7 +77,7 @@ fn with_replicas(
 
 // A reassignment to the target is to run.
 fn leading_to(alloc: Global, partition: &Partition, target: &Ids) -> Result<Want, NoMemory>
-    ensures { IfOk result (λ want. want ≡ reassigning.leading_to partition.now target.now) }
+    ensures { IfOk result (λ want. want ≡ alter_partition_reassignments.leading_to partition.now target.now) }
 {
     let original = original(alloc, partition)?;
     let replicas = reassigned_replicas(alloc, target, &original)?;
@@ -88,14 +88,14 @@ fn leading_to(alloc: Global, partition: &Partition, target: &Ids) -> Result<Want
 
 // The reassignment that runs is to be given up.
 fn leading_back(alloc: Global, partition: &Partition) -> Result<Want, NoMemory>
-    ensures { IfOk result (λ want. want ≡ reassigning.leading_back partition.now) }
+    ensures { IfOk result (λ want. want ≡ alter_partition_reassignments.leading_back partition.now) }
 {
     let original = original(alloc, partition)?;
     with_replicas(alloc, partition, original, Ids::new(alloc), Ids::new(alloc))
 }
 
 fn is_target<S: Store>(store: &S, ids: &Ids) -> bool
-    ensures { result ≡ reassigning.is_target (S.images store.now).tip ids.now }
+    ensures { result ≡ alter_partition_reassignments.is_target (S.images store.now).tip ids.now }
 {
     are_targets(ids) && are_registered(store, ids.as_slice())
 }
@@ -107,7 +107,7 @@ fn want_of<S: Store>(
     partition: &Partition,
     replicas: &Option<Ids>,
 ) -> Result<Want, Refusal>
-    ensures { Judges result (reassigning.wanted (S.images store.now).tip partition.now replicas.now) }
+    ensures { Judges result (alter_partition_reassignments.wanted (S.images store.now).tip partition.now replicas.now) }
 {
     match replicas {
         Some(target) => {
@@ -133,7 +133,7 @@ fn loses_all<S: Store>(
     partition: &Partition,
     want: &Want,
 ) -> Result<bool, NoMemory>
-    ensures { IfOk result (λ loses. loses ≡ reassigning.loses_all (S.images store.now).tip name.now partition.now want.now) }
+    ensures { IfOk result (λ loses. loses ≡ alter_partition_reassignments.loses_all (S.images store.now).tip name.now partition.now want.now) }
 {
     if partition.in_sync.is_empty() || !are_apart(partition.in_sync.as_slice(), &want.replicas) {
         return Ok(false);
@@ -153,7 +153,7 @@ fn of_want<S: Store>(
     partition: &Partition,
     want: &Want,
 ) -> Result<Draft<ReassignablePartitionResponse>, Refusal>
-    ensures { Judges result (reassigning.of_want rule.now.options.now (S.images store.now).tip (name.now, entry.now) topic.now partition.now want.now) }
+    ensures { Judges result (alter_partition_reassignments.of_want rule.now.options.now (S.images store.now).tip (name.now, entry.now) topic.now partition.now want.now) }
 {
     if loses_all(alloc, store, name, partition, want)? {
         return Err(Refusal::Error(INVALID_REPLICA_ASSIGNMENT));
@@ -166,9 +166,9 @@ fn of_want<S: Store>(
 
 impl<'a> ItemRule<Text, ReassignablePartition, ReassignablePartitionResponse>
     for ReassignmentRule<'a> {
-    ghost refusal = { λ _. reassigning.answer };
+    ghost refusal = { λ _. alter_partition_reassignments.answer };
 
-    ghost rule = { λ r. reassigning.rule r.options.now };
+    ghost rule = { λ r. alter_partition_reassignments.rule r.options.now };
 
     fn refusal(
         &self,
@@ -206,9 +206,9 @@ impl<'a> Groups<
     ReassignablePartitionResponse,
     ReassignableTopicResponse,
 > for ReassignmentRule<'a> {
-    ghost entries_of = { reassigning.entries_of };
+    ghost entries_of = { alter_partition_reassignments.entries_of };
 
-    ghost answer_of = { reassigning.answer_of };
+    ghost answer_of = { alter_partition_reassignments.answer_of };
 
     fn members<'g>(&self, group: &'g ReassignableTopic) -> (&'g Text, &'g [ReassignablePartition]) {
         (&group.name, group.partitions.as_slice())
@@ -220,7 +220,7 @@ impl<'a> Groups<
         group: &ReassignableTopic,
         answers: ReassignablePartitionResponses,
     ) -> Result<ReassignableTopicResponse, NoMemory>
-        ensures { IfOk result (λ answer. answer ≡ reassigning.answer_of group.now answers) }
+        ensures { IfOk result (λ answer. answer ≡ alter_partition_reassignments.answer_of group.now answers) }
     {
         let name = group.name.copied(alloc)?;
         Ok(ReassignableTopicResponse {

@@ -2,7 +2,7 @@
 
 ghost use Rattle.std.specs.Prelude.{◌≡◌, IfOk};
 ghost use Rattle.std.specs.List.{list_all};
-ghost use Rattle.kr_calls.specs.AlterPartition as reporting;
+ghost use Rattle.kr_calls.specs.AlterPartition as alter_partition;
 ghost use Rattle.kr_rules.specs.Refusals.{Judges};
 ghost use Rattle.kr_partitions.specs.inner.EpochReports.{of_members};
 
@@ -50,7 +50,7 @@ fn refusal_answer(
     _topic: &u128,
     report: &PartitionReport,
 ) -> AlterPartitionResult
-    ensures { result ≡ reporting.refused error.now (_topic.now, report.now) }
+    ensures { result ≡ alter_partition.refused error.now (_topic.now, report.now) }
 {
     AlterPartitionResult {
         index: report.index,
@@ -64,7 +64,7 @@ fn refusal_answer(
 }
 
 fn is_bad_recovery(partition: &Partition, report: &PartitionReport) -> bool
-    ensures { result ≡ reporting.is_bad_recovery partition.now report.now }
+    ensures { result ≡ alter_partition.is_bad_recovery partition.now report.now }
 {
     let recovery = &report.recovery;
     if *recovery != 0 && *recovery != 1 {
@@ -75,8 +75,8 @@ fn is_bad_recovery(partition: &Partition, report: &PartitionReport) -> bool
 
 // The report can't be one of this partition's leader.
 fn is_bad(broker: &i32, partition: &Partition, report: &PartitionReport, members: &Ids) -> bool
-    requires { members.now ≡ reporting.members report.now }
-    ensures { result ≡ reporting.is_bad broker.now partition.now report.now }
+    requires { members.now ≡ alter_partition.members report.now }
+    ensures { result ≡ alter_partition.is_bad broker.now partition.now report.now }
 {
     partition.leader != *broker
         || are_bad_members(partition, members)
@@ -85,14 +85,14 @@ fn is_bad(broker: &i32, partition: &Partition, report: &PartitionReport, members
 
 // The epoch isn't told, or is that of the registration.
 fn is_same_epoch(epoch: &i64, state: &Broker) -> bool
-    ensures { result ≡ reporting.is_same_epoch epoch.now state.now }
+    ensures { result ≡ alter_partition.is_same_epoch epoch.now state.now }
 {
     *epoch == -1 || *epoch == state.epoch
 }
 
 // The member may be in sync.
 fn is_ready<S: Store>(store: &S, member: &BrokerState) -> bool
-    ensures { result ≡ reporting.is_ready (S.images store.now).tip member.now }
+    ensures { result ≡ alter_partition.is_ready (S.images store.now).tip member.now }
 {
     match tip::broker(store, &member.broker) {
         Some(state) => is_active(state) && is_same_epoch(&member.epoch, state),
@@ -101,7 +101,7 @@ fn is_ready<S: Store>(store: &S, member: &BrokerState) -> bool
 }
 
 fn are_ready<S: Store>(store: &S, members: &[BrokerState]) -> bool
-    ensures { result ≡ list_all (reporting.is_ready (S.images store.now).tip) members.now }
+    ensures { result ≡ list_all (alter_partition.is_ready (S.images store.now).tip) members.now }
 {
     members.iter().all(|member| is_ready(store, member))
 }
@@ -112,8 +112,8 @@ fn want_of(
     report: &PartitionReport,
     members: Ids,
 ) -> Result<Want, NoMemory>
-    requires { members ≡ reporting.members report.now }
-    ensures { IfOk result (λ want. want ≡ reporting.wanted partition.now report.now) }
+    requires { members ≡ alter_partition.members report.now }
+    ensures { IfOk result (λ want. want ≡ alter_partition.wanted partition.now report.now) }
 {
     let want = default_want(alloc, partition)?;
     Ok(Want {
@@ -131,7 +131,7 @@ fn answer_to_leader(
     report: &PartitionReport,
     partition: &Partition,
 ) -> Result<AlterPartitionResult, NoMemory>
-    ensures { IfOk result (λ answer. answer ≡ reporting.partition_result broker.now (topic.now, report.now) partition.now) }
+    ensures { IfOk result (λ answer. answer ≡ alter_partition.partition_result broker.now (topic.now, report.now) partition.now) }
 {
     if partition.leader != *broker {
         return Ok(refusal_answer(alloc, &NEW_LEADER_ELECTED, topic, report));
@@ -156,7 +156,7 @@ fn draft_of(
     partition: &Partition,
     change: Option<PartitionChange>,
 ) -> Result<Draft<AlterPartitionResult>, NoMemory>
-    ensures { IfOk result (λ draft. draft ≡ reporting.drafted broker.now (topic.now, report.now) partition.now change) }
+    ensures { IfOk result (λ draft. draft ≡ alter_partition.drafted broker.now (topic.now, report.now) partition.now change) }
 {
     match change {
         Some(change) => {
@@ -185,8 +185,8 @@ fn accept<S: Store>(
     partition: &Partition,
     members: Ids,
 ) -> Result<Draft<AlterPartitionResult>, NoMemory>
-    requires { members ≡ reporting.members report.now }
-    ensures { IfOk result (λ draft. draft ≡ reporting.accepted rule.now.options.now rule.now.broker (S.images store.now).tip (topic.now, report.now) name.now partition.now) }
+    requires { members ≡ alter_partition.members report.now }
+    ensures { IfOk result (λ draft. draft ≡ alter_partition.accepted rule.now.options.now rule.now.broker (S.images store.now).tip (topic.now, report.now) name.now partition.now) }
 {
     let want = want_of(alloc, partition, report, members)?;
     let active = active(alloc, store)?;
@@ -229,7 +229,7 @@ fn of_partition<S: Store>(
     name: &Text,
     partition: &Partition,
 ) -> Result<Draft<AlterPartitionResult>, Refusal>
-    ensures { Judges result (reporting.of_partition rule.now.options.now rule.now.broker (S.images store.now).tip (topic.now, report.now) name.now partition.now) }
+    ensures { Judges result (alter_partition.of_partition rule.now.options.now rule.now.broker (S.images store.now).tip (topic.now, report.now) name.now partition.now) }
 {
     if report.leader_epoch < partition.leader_epoch {
         return Err(Refusal::Error(FENCED_LEADER_EPOCH));
@@ -244,9 +244,9 @@ fn of_partition<S: Store>(
 }
 
 impl<'a> ItemRule<u128, PartitionReport, AlterPartitionResult> for ReportRule<'a> {
-    ghost refusal = { λ _. reporting.refused };
+    ghost refusal = { λ _. alter_partition.refused };
 
-    ghost rule = { λ r. reporting.rule r.options.now r.broker };
+    ghost rule = { λ r. alter_partition.rule r.options.now r.broker };
 
     fn refusal(
         &self,
@@ -283,9 +283,9 @@ impl<'a> Groups<
     AlterPartitionResult,
     AlterPartitionTopicResult,
 > for ReportRule<'a> {
-    ghost entries_of = { reporting.entries_of };
+    ghost entries_of = { alter_partition.entries_of };
 
-    ghost answer_of = { reporting.answer_of };
+    ghost answer_of = { alter_partition.answer_of };
 
     fn members<'g>(&self, group: &'g AlterPartitionTopic) -> (&'g u128, &'g [PartitionReport]) {
         (&group.topic, group.partitions.as_slice())
@@ -297,7 +297,7 @@ impl<'a> Groups<
         group: &AlterPartitionTopic,
         answers: AlterPartitionResults,
     ) -> Result<AlterPartitionTopicResult, NoMemory>
-        ensures { IfOk result (λ answer. answer ≡ reporting.answer_of group.now answers) }
+        ensures { IfOk result (λ answer. answer ≡ alter_partition.answer_of group.now answers) }
     {
         Ok(AlterPartitionTopicResult {
             topic: group.topic,

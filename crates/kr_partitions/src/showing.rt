@@ -3,7 +3,7 @@
 ghost use Rattle.std.specs.Prelude.{◌≡◌, nat_lt, not, pos, length, map, filter, IfOk};
 ghost use Rattle.std.specs.Ordering.{int_eq};
 ghost use Rattle.kr_calls.specs.declared.errors.TheConstants.{ELECTION_NOT_NEEDED as election_not_needed};
-ghost use Rattle.kr_calls.specs.ElectLeaders as electing;
+ghost use Rattle.kr_calls.specs.ElectLeaders as elect_leaders;
 
 use kr_base::NoMemory;
 use kr_calls::errors::ELECTION_NOT_NEEDED;
@@ -27,7 +27,7 @@ fn keep_needed(partitions: &mut Vec<PartitionElectionResult>)
 
 // Without the partitions that needed no election.
 fn with_needed(topic: ReplicaElectionResult) -> ReplicaElectionResult
-    ensures { result ≡ electing.needed topic }
+    ensures { result ≡ elect_leaders.needed topic }
 {
     let ReplicaElectionResult { topic, partitions } = topic;
     let mut partitions = partitions.into_vec();
@@ -48,7 +48,7 @@ fn needed_ones(
     alloc: Global,
     topics: Vec<ReplicaElectionResult>,
 ) -> Result<Vec<ReplicaElectionResult>, AllocError>
-    ensures { IfOk result (λ shown. shown.items ≡ filter (λ topic. nat_lt 0 (length topic.partitions)) (map electing.needed topics.items)) }
+    ensures { IfOk result (λ shown. shown.items ≡ filter (λ topic. nat_lt 0 (length topic.partitions)) (map elect_leaders.needed topics.items)) }
 {
     topics
         .into_iter()
@@ -64,7 +64,7 @@ pub(crate) fn show(
     asked: &Option<ElectLeadersTopics>,
     results: ReplicaElectionResults,
 ) -> Result<ReplicaElectionResults, NoMemory>
-    ensures { IfOk result (λ shown. shown ≡ electing.shown asked.now results) }
+    ensures { IfOk result (λ shown. shown ≡ elect_leaders.shown asked.now results) }
 {
     match asked {
         Some(_) => Ok(results),

@@ -21,7 +21,7 @@ fn refused_topic(
     topic: &CreatableTopic,
     error: i16,
 ) -> Result<CreatableTopicResult, NoMemory>
-    ensures { IfOk result (λ r. r ≡ refusals.refused_creation error topic.now) }
+    ensures { IfOk result (λ r. r ≡ refusals.refused_create_topics error topic.now) }
 {
     let name = topic.name.copied(alloc)?;
     Ok(CreatableTopicResult {
@@ -38,7 +38,7 @@ fn refuse_create_topics(
     topics: &[CreatableTopic],
     error: i16,
 ) -> Result<CreatableTopicResults, NoMemory>
-    ensures { IfOk result (λ rows. rows ≡ map (refusals.refused_creation error) topics.now) }
+    ensures { IfOk result (λ rows. rows ≡ map (refusals.refused_create_topics error) topics.now) }
 {
     let mut results = Rows::new(alloc);
     for topic in topics {
@@ -52,7 +52,7 @@ fn refused_topic_state(
     topic: &DeleteTopicState,
     error: i16,
 ) -> Result<DeletableTopicResult, NoMemory>
-    ensures { IfOk result (λ r. r ≡ refusals.refused_deletion error topic.now) }
+    ensures { IfOk result (λ r. r ≡ refusals.refused_delete_topics error topic.now) }
 {
     let name = Copied::copied(&topic.name, alloc)?;
     Ok(DeletableTopicResult {
@@ -67,7 +67,7 @@ fn refuse_delete_topics(
     topics: &[DeleteTopicState],
     error: i16,
 ) -> Result<DeletableTopicResults, NoMemory>
-    ensures { IfOk result (λ rows. rows ≡ map (refusals.refused_deletion error) topics.now) }
+    ensures { IfOk result (λ rows. rows ≡ map (refusals.refused_delete_topics error) topics.now) }
 {
     let mut results = Rows::new(alloc);
     for topic in topics {
@@ -81,7 +81,7 @@ fn refused_topic_partitions(
     topic: &CreatePartitionsTopic,
     error: i16,
 ) -> Result<CreatePartitionsTopicResult, NoMemory>
-    ensures { IfOk result (λ r. r ≡ refusals.refused_growth error topic.now) }
+    ensures { IfOk result (λ r. r ≡ refusals.refused_create_partitions error topic.now) }
 {
     let name = topic.name.copied(alloc)?;
     Ok(CreatePartitionsTopicResult { name, error })
@@ -92,7 +92,7 @@ fn refuse_create_partitions(
     topics: &[CreatePartitionsTopic],
     error: i16,
 ) -> Result<CreatePartitionsTopicResults, NoMemory>
-    ensures { IfOk result (λ rows. rows ≡ map (refusals.refused_growth error) topics.now) }
+    ensures { IfOk result (λ rows. rows ≡ map (refusals.refused_create_partitions error) topics.now) }
 {
     let mut results = Rows::new(alloc);
     for topic in topics {
@@ -101,12 +101,12 @@ fn refuse_create_partitions(
     Ok(results)
 }
 
-fn refused_resource(
+fn refused_incremental_alter_configs(
     alloc: Global,
     resource: &ConfigResource,
     error: i16,
 ) -> Result<ConfigResponse, NoMemory>
-    ensures { IfOk result (λ r. r ≡ refusals.refused_resource error resource.now) }
+    ensures { IfOk result (λ r. r ≡ refusals.refused_incremental_alter_configs error resource.now) }
 {
     let name = resource.name.copied(alloc)?;
     Ok(ConfigResponse {
@@ -121,11 +121,11 @@ fn refuse_incremental_alter_configs(
     resources: &[ConfigResource],
     error: i16,
 ) -> Result<ConfigResponses, NoMemory>
-    ensures { IfOk result (λ rows. rows ≡ map (refusals.refused_resource error) resources.now) }
+    ensures { IfOk result (λ rows. rows ≡ map (refusals.refused_incremental_alter_configs error) resources.now) }
 {
     let mut responses = Rows::new(alloc);
     for resource in resources {
-        responses.push(refused_resource(alloc, resource, error)?)?;
+        responses.push(refused_incremental_alter_configs(alloc, resource, error)?)?;
     }
     Ok(responses)
 }

@@ -35,12 +35,12 @@ use Rattle.kr_calls.specs.declared.create_topics.CreatableTopic.{CreatableTopic}
 use Rattle.kr_calls.specs.declared.create_topics.CreatableTopicConfig.{CreatableTopicConfig}
 use Rattle.kr_calls.specs.declared.create_partitions.CreatePartitionsAssignment.{CreatePartitionsAssignment}
 use Rattle.kr_calls.specs.declared.create_partitions.CreatePartitionsTopic.{CreatePartitionsTopic}
-use Rattle.kr_calls.specs.CreatePartitions as growing
-use Rattle.kr_calls.specs.CreateTopics as creating
+use Rattle.kr_calls.specs.CreatePartitions as create_partitions
+use Rattle.kr_calls.specs.CreateTopics as create_topics
 use Rattle.kr_calls.specs.CreateTopics.{Layout}
 use Rattle.kr_calls.specs.Deciding.{Work, apply_records, is_within_limits, work_with, taken, done, one, after_all, answers, over_a_limit}
 use Rattle.kr_calls.specs.NewPartitions.{new_partitions, placements, racked}
-use Rattle.kr_calls.specs.Refuse.{refused_creation, refused_growth}
+use Rattle.kr_calls.specs.Refuse.{refused_create_topics, refused_create_partitions}
 use Rattle.kr_calls.proofs.BrokersLeft.{AreBrokerless, all_leave, creates, grows}
 use Rattle.kr_calls.proofs.KeptByRequests.{Keeps, one_keeps}
 use Rattle.kr_calls.proofs.DecisionMeanings.{applied_in_two}
@@ -117,13 +117,13 @@ keeps_then : (image : Image) (r : Record) (records : List Record) → Gives (Kee
 keeps_then image r records first rest =
     gives_then (KeepsPartitions image) (KeepsPartitions image) (apply_record image r) (λ after. apply_records after records) first (λ after same end is. rest after end is ∙ same)
 
-settings_keep : (image : Image) (configs : List (ConfigKey × List ℕ)) (topic : List ℕ) (settings : List CreatableTopicConfig) → Gives (KeepsPartitions image) (apply_records image (creating.settings_records configs topic settings))
+settings_keep : (image : Image) (configs : List (ConfigKey × List ℕ)) (topic : List ℕ) (settings : List CreatableTopicConfig) → Gives (KeepsPartitions image) (apply_records image (create_topics.settings_records configs topic settings))
 settings_keep image configs topic [] = gives_done (KeepsPartitions image) image refl
 settings_keep image configs topic (s ∷ ss) =
     let key : ConfigKey = record { kind = topic_kind; name = topic; key = s.name } in
     let value : List ℕ = unwrap_or s.value [] in
-    let others : List Record = creating.settings_records (insert config_order configs key value) topic ss in
-    elim (option_map_or (bytes_eq value) (get config_order configs key) false) as (λ b. Gives (KeepsPartitions image) (apply_records image (cond b (creating.settings_records configs topic ss) (kinds.Config topic_kind topic s.name (Some value) ∷ others)))) [
+    let others : List Record = create_topics.settings_records (insert config_order configs key value) topic ss in
+    elim (option_map_or (bytes_eq value) (get config_order configs key) false) as (λ b. Gives (KeepsPartitions image) (apply_records image (cond b (create_topics.settings_records configs topic ss) (kinds.Config topic_kind topic s.name (Some value) ∷ others)))) [
       | true ↦ settings_keep image configs topic ss
       | false ↦ keeps_then image (kinds.Config topic_kind topic s.name (Some value)) others (setting_keeps image topic_kind topic s.name value) (λ after. settings_keep after (insert config_order configs key value) topic ss)
     ]
@@ -172,12 +172,12 @@ count_is : (image : Image) → length (racked image) ≡ length (active image)
 count_is image =
     length-map (filter (λ (e : ℤ × Broker). is_active e.1) image.brokers) (λ (e : ℤ × Broker). (e.0, e.1.rack)) ∙ sym (length-map (filter (λ (e : ℤ × Broker). is_active e.1) image.brokers) (λ (e : ℤ × Broker). e.0))
 
-same_replicas : (image : Image) (place : ℤ) (first count size : ℕ) (assignments : Option (List CreatePartitionsAssignment)) → room.new_replicas (grouped (racked image)) image place first count size assignments ≡ growing.new_replicas image place first count size assignments
+same_replicas : (image : Image) (place : ℤ) (first count size : ℕ) (assignments : Option (List CreatePartitionsAssignment)) → room.new_replicas (grouped (racked image)) image place first count size assignments ≡ create_partitions.new_replicas image place first count size assignments
 unfolding placed
 same_replicas image place first count size (Some assignments) = refl
 same_replicas image place first count size None = ap (λ n. cond (nat_lt n size) (Err (pos 38)) (Ok (placements image place first count size))) (count_is image)
 
-same_layout : (options : Options) (image : Image) (place : ℤ) (entry : CreatableTopic) → room.layout (grouped (racked image)) options image place entry ≡ creating.layout options image place entry
+same_layout : (options : Options) (image : Image) (place : ℤ) (entry : CreatableTopic) → room.layout (grouped (racked image)) options image place entry ≡ create_topics.layout options image place entry
 unfolding placed
 same_layout options image place entry = rw (count_is image) refl
 
@@ -185,28 +185,28 @@ same_layout options image place entry = rw (count_is image) refl
 abbrev IsOf : Grouped → Image → Type 0
 IsOf those image = those ≡ grouped (racked image)
 
-growth_alike : (those : Grouped) (w : Work) (entry : CreatePartitionsTopic) → IsOf those w.image → one refused_growth (room.growth those) w entry ≡ one refused_growth growing.rule w entry
-growth_alike those w entry is =
-    ap (λ (t : Grouped). one refused_growth (room.growth t) w entry) is ∙ under_found refused_growth w entry (pos 3) (get text_order w.image.topics entry.name) _ _ (λ id.
+create_partitions_alike : (those : Grouped) (w : Work) (entry : CreatePartitionsTopic) → IsOf those w.image → one refused_create_partitions (room.create_partitions_by_racks those) w entry ≡ one refused_create_partitions create_partitions.rule w entry
+create_partitions_alike those w entry is =
+    ap (λ (t : Grouped). one refused_create_partitions (room.create_partitions_by_racks t) w entry) is ∙ under_found refused_create_partitions w entry (pos 3) (get text_order w.image.topics entry.name) _ _ (λ id.
     let first : ℕ = count_of w.image id in
-    under_refusal refused_growth w entry (pos 37) (int_le entry.count (pos first)) _ _ (
-    under_found refused_growth w entry (pos 39) (get partition_order w.image.partitions (id, pos 0)) _ _ (λ p.
-    let lists_of : Result (List (List ℤ)) ℤ = growing.new_replicas w.image w.place first (unsigned_abs entry.count - first) (length (target p)) entry.assignments in
-    ap (λ (x : Result (List (List ℤ)) ℤ). done refused_growth w entry (and_then x (λ lists. cond (not (has_room w.image (length lists))) (Err over_a_limit) (Ok (growing.grown w.image id first entry lists))))) (same_replicas w.image w.place first (unsigned_abs entry.count - first) (length (target p)) entry.assignments)
-    ∙ under_then refused_growth w entry lists_of _ _ (λ lists.
-    early refused_growth w entry (growing.grown w.image id first entry lists) (has_room w.image (length lists)) (λ lacks. not_taken w _ (crowded w.image id w.image first lists (no_room w.image (length lists) lacks)))))))
+    under_refusal refused_create_partitions w entry (pos 37) (int_le entry.count (pos first)) _ _ (
+    under_found refused_create_partitions w entry (pos 39) (get partition_order w.image.partitions (id, pos 0)) _ _ (λ p.
+    let lists_of : Result (List (List ℤ)) ℤ = create_partitions.new_replicas w.image w.place first (unsigned_abs entry.count - first) (length (target p)) entry.assignments in
+    ap (λ (x : Result (List (List ℤ)) ℤ). done refused_create_partitions w entry (and_then x (λ lists. cond (not (has_room w.image (length lists))) (Err over_a_limit) (Ok (create_partitions.grown w.image id first entry lists))))) (same_replicas w.image w.place first (unsigned_abs entry.count - first) (length (target p)) entry.assignments)
+    ∙ under_then refused_create_partitions w entry lists_of _ _ (λ lists.
+    early refused_create_partitions w entry (create_partitions.grown w.image id first entry lists) (has_room w.image (length lists)) (λ lacks. not_taken w _ (crowded w.image id w.image first lists (no_room w.image (length lists) lacks)))))))
 
-creation_alike : (those : Grouped) (options : Options) (validate_only : Bool) (w : Work) (entry : CreatableTopic) → IsOf those w.image → one refused_creation (room.creation those options validate_only) w entry ≡ one refused_creation (creating.rule options validate_only) w entry
-creation_alike those options validate_only w entry is =
-    ap (λ (t : Grouped). one refused_creation (room.creation t options validate_only) w entry) is ∙ under_refusal refused_creation w entry (pos 17) (not (is_topic_name entry.name)) _ _ (
-    under_refusal refused_creation w entry (pos 36) (contains text_order w.image.topics entry.name) _ _ (
-    under_refusal refused_creation w entry (pos 17) (list_any (λ topic. names_agree topic.0 entry.name) w.image.topics) _ _ (
-    ap (λ (x : Result Layout ℤ). done refused_creation w entry (and_then x (room.of_layout options validate_only w.image w.place entry))) (same_layout options w.image w.place entry)
-    ∙ under_then refused_creation w entry (creating.layout options w.image w.place entry) _ _ (λ layout.
-    under_refusal refused_creation w entry (pos 40) (list_any creating.is_bad_setting entry.configs) _ _ (
-    let id : ℕ = creating.new_id options w.image w.place in
-    let before : List Record = kinds.Topic entry.name id ∷ creating.settings_records w.image.configs entry.name entry.configs in
-    early refused_creation w entry (creating.created w.image validate_only id entry layout) (has_room w.image (length layout.replicas)) (λ lacks. not_taken w _ (crowded_behind w.image before id layout.replicas
+create_topics_alike : (those : Grouped) (options : Options) (validate_only : Bool) (w : Work) (entry : CreatableTopic) → IsOf those w.image → one refused_create_topics (room.create_topics_by_racks those options validate_only) w entry ≡ one refused_create_topics (create_topics.rule options validate_only) w entry
+create_topics_alike those options validate_only w entry is =
+    ap (λ (t : Grouped). one refused_create_topics (room.create_topics_by_racks t options validate_only) w entry) is ∙ under_refusal refused_create_topics w entry (pos 17) (not (is_topic_name entry.name)) _ _ (
+    under_refusal refused_create_topics w entry (pos 36) (contains text_order w.image.topics entry.name) _ _ (
+    under_refusal refused_create_topics w entry (pos 17) (list_any (λ topic. names_agree topic.0 entry.name) w.image.topics) _ _ (
+    ap (λ (x : Result Layout ℤ). done refused_create_topics w entry (and_then x (room.of_layout options validate_only w.image w.place entry))) (same_layout options w.image w.place entry)
+    ∙ under_then refused_create_topics w entry (create_topics.layout options w.image w.place entry) _ _ (λ layout.
+    under_refusal refused_create_topics w entry (pos 40) (list_any create_topics.is_bad_setting entry.configs) _ _ (
+    let id : ℕ = create_topics.new_id options w.image w.place in
+    let before : List Record = kinds.Topic entry.name id ∷ create_topics.settings_records w.image.configs entry.name entry.configs in
+    early refused_create_topics w entry (create_topics.created w.image validate_only id entry layout) (has_room w.image (length layout.replicas)) (λ lacks. not_taken w _ (crowded_behind w.image before id layout.replicas
     (keeps_then w.image (kinds.Topic entry.name id) _ (topic_keeps w.image entry.name id) (λ after. settings_keep after w.image.configs entry.name entry.configs)) (no_room w.image (length layout.replicas) lacks))))))))
 
 -- ---- all entries
@@ -228,14 +228,14 @@ module _ {E A : Type 0} (refused : ℤ → E → A) (rule other : Image → ℤ 
   answers_alike w (entry ∷ entries) is =
       ap (λ (p : Work × A). p.1 ∷ answers refused rule p.0 entries) (alike w entry is) ∙ ap (λ more. (one refused other w entry).1 ∷ more) (answers_alike (one refused other w entry).0 entries (stays w entry is))
 
-pub growths : (those : Grouped) (w : Work) (entries : List CreatePartitionsTopic) → those ≡ grouped (racked w.image) → after_all refused_growth (room.growth those) w entries ≡ after_all refused_growth growing.rule w entries
-growths those w entries is = all_alike refused_growth (room.growth those) growing.rule those (growth_alike those) grows w entries is
+pub create_partitions_after : (those : Grouped) (w : Work) (entries : List CreatePartitionsTopic) → those ≡ grouped (racked w.image) → after_all refused_create_partitions (room.create_partitions_by_racks those) w entries ≡ after_all refused_create_partitions create_partitions.rule w entries
+create_partitions_after those w entries is = all_alike refused_create_partitions (room.create_partitions_by_racks those) create_partitions.rule those (create_partitions_alike those) grows w entries is
 
-pub growth_answers : (those : Grouped) (w : Work) (entries : List CreatePartitionsTopic) → those ≡ grouped (racked w.image) → answers refused_growth (room.growth those) w entries ≡ answers refused_growth growing.rule w entries
-growth_answers those w entries is = answers_alike refused_growth (room.growth those) growing.rule those (growth_alike those) grows w entries is
+pub create_partitions_answers : (those : Grouped) (w : Work) (entries : List CreatePartitionsTopic) → those ≡ grouped (racked w.image) → answers refused_create_partitions (room.create_partitions_by_racks those) w entries ≡ answers refused_create_partitions create_partitions.rule w entries
+create_partitions_answers those w entries is = answers_alike refused_create_partitions (room.create_partitions_by_racks those) create_partitions.rule those (create_partitions_alike those) grows w entries is
 
-pub creations : (those : Grouped) (options : Options) (validate_only : Bool) (w : Work) (entries : List CreatableTopic) → those ≡ grouped (racked w.image) → after_all refused_creation (room.creation those options validate_only) w entries ≡ after_all refused_creation (creating.rule options validate_only) w entries
-creations those options validate_only w entries is = all_alike refused_creation (room.creation those options validate_only) (creating.rule options validate_only) those (creation_alike those options validate_only) (creates options validate_only) w entries is
+pub create_topics_after : (those : Grouped) (options : Options) (validate_only : Bool) (w : Work) (entries : List CreatableTopic) → those ≡ grouped (racked w.image) → after_all refused_create_topics (room.create_topics_by_racks those options validate_only) w entries ≡ after_all refused_create_topics (create_topics.rule options validate_only) w entries
+create_topics_after those options validate_only w entries is = all_alike refused_create_topics (room.create_topics_by_racks those options validate_only) (create_topics.rule options validate_only) those (create_topics_alike those options validate_only) (creates options validate_only) w entries is
 
-pub creation_answers : (those : Grouped) (options : Options) (validate_only : Bool) (w : Work) (entries : List CreatableTopic) → those ≡ grouped (racked w.image) → answers refused_creation (room.creation those options validate_only) w entries ≡ answers refused_creation (creating.rule options validate_only) w entries
-creation_answers those options validate_only w entries is = answers_alike refused_creation (room.creation those options validate_only) (creating.rule options validate_only) those (creation_alike those options validate_only) (creates options validate_only) w entries is
+pub create_topics_answers : (those : Grouped) (options : Options) (validate_only : Bool) (w : Work) (entries : List CreatableTopic) → those ≡ grouped (racked w.image) → answers refused_create_topics (room.create_topics_by_racks those options validate_only) w entries ≡ answers refused_create_topics (create_topics.rule options validate_only) w entries
+create_topics_answers those options validate_only w entries is = answers_alike refused_create_topics (room.create_topics_by_racks those options validate_only) (create_topics.rule options validate_only) those (create_topics_alike those options validate_only) (creates options validate_only) w entries is

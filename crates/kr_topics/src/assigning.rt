@@ -5,7 +5,7 @@ ghost use Rattle.std.specs.List.{filter_map};
 ghost use Rattle.std.specs.Option.{option_copied, option_map};
 ghost use Rattle.std.specs.Ordering.{int_cmp, int_eq};
 ghost use Rattle.kr_defs.specs.Map as entries;
-ghost use Rattle.kr_calls.specs.CreateTopics as creations;
+ghost use Rattle.kr_calls.specs.CreateTopics as create_topics;
 ghost use Rattle.kr_calls.specs.NewPartitions as partitions;
 
 use crate::partitions::{Lists, is_wide};
@@ -21,7 +21,7 @@ type ByIndex = BTreeMap<i64, Ids>;
 
 /// How many replicas the first assignment has.
 pub(crate) fn first_size(assignments: &[CreatableReplicaAssignment]) -> usize
-    ensures { result ≡ creations.first_size assignments.now }
+    ensures { result ≡ create_topics.first_size assignments.now }
 {
     match assignments.first() {
         Some(assignment) => assignment.brokers.len(),
@@ -34,7 +34,7 @@ pub(crate) fn are_assignable<S: Store>(
     store: &S,
     assignments: &[CreatableReplicaAssignment],
 ) -> bool
-    ensures { result ≡ creations.are_assignable (S.images store.now).tip assignments.now }
+    ensures { result ≡ create_topics.are_assignable (S.images store.now).tip assignments.now }
 {
     let size = first_size(assignments);
     assignments
@@ -106,8 +106,8 @@ pub(crate) fn lists_of(
     alloc: Global,
     assignments: &[CreatableReplicaAssignment],
 ) -> Result<Option<Lists>, NoMemory>
-    ensures lists { IfOk result (λ lists. IfSome lists (λ all. all ≡ filter_map (creations.assigned_at assignments.now) (creations.indexes_of assignments.now))) }
-    ensures whole { IfOk result (λ lists. is_some lists ≡ creations.are_whole assignments.now) }
+    ensures lists { IfOk result (λ lists. IfSome lists (λ all. all ≡ filter_map (create_topics.assigned_at assignments.now) (create_topics.indexes_of assignments.now))) }
+    ensures whole { IfOk result (λ lists. is_some lists ≡ create_topics.are_whole assignments.now) }
     ensures count { IfOk result (λ lists. IfSome lists (λ all. length all ≡ length assignments.now)) }
 {
     let those = by_index(alloc, assignments)?;

@@ -6,11 +6,11 @@ ghost use Rattle.kr_defs.specs.declared.limits.TheConstants.{PLACES_END as place
 ghost use Rattle.kr_defs.specs.Guard.{refuse◌when◌else◌};
 ghost use Rattle.kr_defs.specs.Topics as topics;
 ghost use Rattle.kr_calls.specs.declared.errors.TheConstants.{INVALID_REPLICATION_FACTOR as invalid_replication_factor, INVALID_REPLICA_ASSIGNMENT as invalid_replica_assignment};
-ghost use Rattle.kr_calls.specs.CreatePartitions as growths;
+ghost use Rattle.kr_calls.specs.CreatePartitions as create_partitions;
 ghost use Rattle.kr_calls.specs.Deciding as deciding;
 ghost use Rattle.kr_calls.specs.Deciding.{nothing_decided, over_a_limit, unless_validating, weights};
 ghost use Rattle.kr_calls.specs.NewPartitions as partitions;
-ghost use Rattle.kr_calls.specs.Refuse.{refused_growth};
+ghost use Rattle.kr_calls.specs.Refuse.{refused_create_partitions};
 ghost use Rattle.kr_rules.specs.Progress.{place_of, work_at};
 ghost use Rattle.kr_rules.specs.Refusals.{Judges};
 ghost use Rattle.kr_store.specs.Images.{last_image};
@@ -50,7 +50,7 @@ fn answer(
     error: &i16,
     entry: &CreatePartitionsTopic,
 ) -> Result<CreatePartitionsTopicResult, NoMemory>
-    ensures { IfOk result (λ answer. answer ≡ refused_growth error.now entry.now) }
+    ensures { IfOk result (λ answer. answer ≡ refused_create_partitions error.now entry.now) }
 {
     let name = entry.name.copied(alloc)?;
     Ok(CreatePartitionsTopicResult {
@@ -96,7 +96,7 @@ fn lists_of(alloc: Global, assignments: &[CreatePartitionsAssignment]) -> Result
 }
 
 // The records of the new partitions over these replicas.
-fn draft_growth<S: Store>(
+fn draft_create_partitions<S: Store>(
     alloc: Global,
     store: &S,
     entry: &CreatePartitionsTopic,
@@ -105,7 +105,7 @@ fn draft_growth<S: Store>(
     lists: &Lists,
 ) -> Result<Draft<CreatePartitionsTopicResult>, NoMemory>
     requires { first + length lists.now ≤ 2 ^ 31 }
-    ensures { IfOk result (λ draft. draft ≡ growths.grown (S.images store.now).tip topic.now first entry.now lists.now) }
+    ensures { IfOk result (λ draft. draft ≡ create_partitions.grown (S.images store.now).tip topic.now first entry.now lists.now) }
 {
     let mut records = Rows::new(alloc);
     add_partitions(alloc, store, &mut records, topic, first, lists.as_slice())?;
@@ -125,7 +125,7 @@ fn grow_as_assigned<S: Store>(
     assignments: &[CreatePartitionsAssignment],
 ) -> Result<Draft<CreatePartitionsTopicResult>, Refusal>
     requires { pos first <ℤ entry.now.count }
-    ensures { Judges result (refuse invalid_replica_assignment when not (growths.are_assignable (S.images store.now).tip (unsigned_abs entry.now.count - first) size assignments.now) else refuse over_a_limit when not (has_room (S.images store.now).tip (length assignments.now)) else Ok (growths.grown (S.images store.now).tip topic.now first entry.now (map (λ a. a.brokers) assignments.now))) }
+    ensures { Judges result (refuse invalid_replica_assignment when not (create_partitions.are_assignable (S.images store.now).tip (unsigned_abs entry.now.count - first) size assignments.now) else refuse over_a_limit when not (has_room (S.images store.now).tip (length assignments.now)) else Ok (create_partitions.grown (S.images store.now).tip topic.now first entry.now (map (λ a. a.brokers) assignments.now))) }
 {
     if assignments.len() != new_count(entry, first) as usize {
         return Err(Refusal::Error(INVALID_REPLICA_ASSIGNMENT));
@@ -137,7 +137,7 @@ fn grow_as_assigned<S: Store>(
         return Err(Refusal::Error(POLICY_VIOLATION));
     }
     let lists = lists_of(alloc, assignments)?;
-    Ok(draft_growth(alloc, store, entry, topic, first, &lists)?)
+    Ok(draft_create_partitions(alloc, store, entry, topic, first, &lists)?)
 }
 
 // The new partitions are placed on the active brokers.
@@ -153,7 +153,7 @@ fn grow_by_placing<S: Store>(
     size: usize,
 ) -> Result<Draft<CreatePartitionsTopicResult>, Refusal>
     requires { pos first <ℤ entry.now.count }
-    ensures { Judges result (refuse invalid_replication_factor when nat_lt rule.now.those.count size else refuse over_a_limit when not (has_room (S.images store.now).tip (unsigned_abs entry.now.count - first)) else Ok (growths.grown (S.images store.now).tip topic.now first entry.now (room.placements_on rule.now.those (place_of work.now) first (unsigned_abs entry.now.count - first) size))) }
+    ensures { Judges result (refuse invalid_replication_factor when nat_lt rule.now.those.count size else refuse over_a_limit when not (has_room (S.images store.now).tip (unsigned_abs entry.now.count - first)) else Ok (create_partitions.grown (S.images store.now).tip topic.now first entry.now (room.placements_on rule.now.those (place_of work.now) first (unsigned_abs entry.now.count - first) size))) }
 {
     if rule.those.count() < size {
         return Err(Refusal::Error(INVALID_REPLICATION_FACTOR));
@@ -171,7 +171,7 @@ fn grow_by_placing<S: Store>(
         count as u64,
         size,
     )?;
-    Ok(draft_growth(alloc, store, entry, topic, first, &lists)?)
+    Ok(draft_create_partitions(alloc, store, entry, topic, first, &lists)?)
 }
 
 // A topic of so many partitions, of which the first leads to `size` replicas, gets more.
@@ -229,9 +229,9 @@ fn of_topic<S: Store>(
 }
 
 impl Rule<CreatePartitionsTopic, CreatePartitionsTopicResult> for Growing {
-    ghost refusal = { λ _. refused_growth };
+    ghost refusal = { λ _. refused_create_partitions };
 
-    ghost rule = { λ r. room.growth r.those };
+    ghost rule = { λ r. room.create_partitions_by_racks r.those };
 
     fn refusal(
         &self,
@@ -268,8 +268,8 @@ fn decide_on<S: Store, L: Ledger>(
 ) -> Result<(Records, CreatePartitionsTopicResults), NoMemory>
     requires low { place.now ≤ℤ places_end }
     requires kept { last_image (S.images store.old) ≡ Some (S.images store.old).tip }
-    ensures answers { IfOk result (λ d. d.1 ≡ deciding.answers refused_growth (room.growth those) (nothing_decided place.now (S.images store.old).tip) topics.now) }
-    ensures after { IfOk result (λ d. work_at (record { start = place.now; records = d.0 }) (S.images store.new).tip ≡ unless_validating validate_only (nothing_decided place.now (S.images store.old).tip) (deciding.after_all refused_growth (room.growth those) (nothing_decided place.now (S.images store.old).tip) topics.now)) }
+    ensures answers { IfOk result (λ d. d.1 ≡ deciding.answers refused_create_partitions (room.create_partitions_by_racks those) (nothing_decided place.now (S.images store.old).tip) topics.now) }
+    ensures after { IfOk result (λ d. work_at (record { start = place.now; records = d.0 }) (S.images store.new).tip ≡ unless_validating validate_only (nothing_decided place.now (S.images store.old).tip) (deciding.after_all refused_create_partitions (room.create_partitions_by_racks those) (nothing_decided place.now (S.images store.old).tip) topics.now)) }
     ensures kept { (S.images store.new).kept ≡ (S.images store.old).kept }
     ensures made { IfOk result (λ d. (S.images store.new).made ≤ (S.images store.old).made + weights (S.images store.old).tip d.0) }
     ensures later { steps.old ≤ steps.new }
@@ -279,7 +279,7 @@ fn decide_on<S: Store, L: Ledger>(
 }
 
 // The topics of a request in turn.
-fn decide_growths<S: Store, L: Ledger>(
+fn decide_create_partitions<S: Store, L: Ledger>(
     alloc: Global,
     store: &mut S,
     place: &i64,
@@ -288,8 +288,8 @@ fn decide_growths<S: Store, L: Ledger>(
 ) -> Result<(Records, CreatePartitionsTopicResults), NoMemory>
     requires low { place.now ≤ℤ places_end }
     requires kept { last_image (S.images store.old) ≡ Some (S.images store.old).tip }
-    ensures answers { IfOk result (λ d. d.1 ≡ deciding.answers refused_growth growths.rule (nothing_decided place.now (S.images store.old).tip) request.now.topics) }
-    ensures after { IfOk result (λ d. work_at (record { start = place.now; records = d.0 }) (S.images store.new).tip ≡ unless_validating request.now.validate_only (nothing_decided place.now (S.images store.old).tip) (deciding.after_all refused_growth growths.rule (nothing_decided place.now (S.images store.old).tip) request.now.topics)) }
+    ensures answers { IfOk result (λ d. d.1 ≡ deciding.answers refused_create_partitions create_partitions.rule (nothing_decided place.now (S.images store.old).tip) request.now.topics) }
+    ensures after { IfOk result (λ d. work_at (record { start = place.now; records = d.0 }) (S.images store.new).tip ≡ unless_validating request.now.validate_only (nothing_decided place.now (S.images store.old).tip) (deciding.after_all refused_create_partitions create_partitions.rule (nothing_decided place.now (S.images store.old).tip) request.now.topics)) }
     ensures kept { (S.images store.new).kept ≡ (S.images store.old).kept }
     ensures made { IfOk result (λ d. (S.images store.new).made ≤ (S.images store.old).made + weights (S.images store.old).tip d.0) }
     ensures later { steps.old ≤ steps.new }
@@ -313,7 +313,7 @@ fn decide_growths<S: Store, L: Ledger>(
 pub struct CreatePartitionsHandler;
 
 impl Handler<CreatePartitions> for CreatePartitionsHandler {
-    ghost decided = { λ request given image. growths.decided image given.place request };
+    ghost decided = { λ request given image. create_partitions.decided image given.place request };
 
     #[tactic(auto, unfolding(kr_calls::specs::CreatePartitions::decided))]
     fn decide<S: Store, L: Ledger>(
@@ -323,7 +323,7 @@ impl Handler<CreatePartitions> for CreatePartitionsHandler {
         request: &CreatePartitions,
         steps: &mut Steps<L>,
     ) -> Result<Effect, NoMemory> {
-        let (records, results) = decide_growths(alloc, store, &context.place, request, steps)?;
+        let (records, results) = decide_create_partitions(alloc, store, &context.place, request, steps)?;
         Ok(Effect {
             records,
             reply: Reply::CreatePartitions(CreatePartitionsReply { results }),

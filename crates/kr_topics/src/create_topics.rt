@@ -9,11 +9,11 @@ ghost use Rattle.kr_defs.specs.Image.{has_topic};
 ghost use Rattle.kr_defs.specs.Map as entries;
 ghost use Rattle.kr_defs.specs.Map.{text_order};
 ghost use Rattle.kr_defs.specs.Texts as texts;
-ghost use Rattle.kr_calls.specs.CreateTopics as creations;
+ghost use Rattle.kr_calls.specs.CreateTopics as create_topics;
 ghost use Rattle.kr_calls.specs.Deciding as deciding;
 ghost use Rattle.kr_calls.specs.Deciding.{nothing_decided, unless_validating, weights};
 ghost use Rattle.kr_calls.specs.NewPartitions as partitions;
-ghost use Rattle.kr_calls.specs.Refuse.{refused_creation};
+ghost use Rattle.kr_calls.specs.Refuse.{refused_create_topics};
 ghost use Rattle.kr_rules.specs.Progress.{place_of, work_at};
 ghost use Rattle.kr_rules.specs.Refusals.{Judges};
 ghost use Rattle.kr_store.specs.Images.{last_image};
@@ -82,7 +82,7 @@ fn first_id(options: &Options, work: &Work) -> u128
 }
 
 fn new_id<S: Store>(store: &S, options: &Options, work: &Work) -> u128
-    ensures { result ≡ creations.new_id options.now (S.images store.now).tip (place_of work.now) }
+    ensures { result ≡ create_topics.new_id options.now (S.images store.now).tip (place_of work.now) }
 {
     let first = first_id(options, work);
     let count = store.counts().topics as u128 + 1;
@@ -157,7 +157,7 @@ fn records_of<S: Store>(
     lists: &Lists,
 ) -> Result<Records, NoMemory>
     requires { length lists.now ≤ 2 ^ 31 }
-    ensures { IfOk result (λ records. records ≡ kinds.Topic entry.now.name id.now ∷ creations.settings_records (S.images store.now).tip.configs entry.now.name entry.now.configs ++ partitions.new_partitions (S.images store.now).tip id.now 0 lists.now) }
+    ensures { IfOk result (λ records. records ≡ kinds.Topic entry.now.name id.now ∷ create_topics.settings_records (S.images store.now).tip.configs entry.now.name entry.now.configs ++ partitions.new_partitions (S.images store.now).tip id.now 0 lists.now) }
 {
     let mut records = Rows::new(alloc);
     records.push(topic_record(alloc, &entry.name, id)?)?;
@@ -172,7 +172,7 @@ fn records_of<S: Store>(
     Ok(records)
 }
 
-fn draft_creation<S: Store>(
+fn draft_create_topics<S: Store>(
     alloc: Global,
     store: &S,
     rule: &Creating,
@@ -183,7 +183,7 @@ fn draft_creation<S: Store>(
     lists: &Lists,
 ) -> Result<Draft<CreatableTopicResult>, NoMemory>
     requires { length lists.now ≤ 2 ^ 31 }
-    ensures { IfOk result (λ draft. draft ≡ creations.created (S.images store.now).tip rule.now.validate_only (creations.new_id rule.now.options.now (S.images store.now).tip (place_of work.now)) entry.now (record { partitions = partitions.now; factor = factor.now; replicas = lists.now })) }
+    ensures { IfOk result (λ draft. draft ≡ create_topics.created (S.images store.now).tip rule.now.validate_only (create_topics.new_id rule.now.options.now (S.images store.now).tip (place_of work.now)) entry.now (record { partitions = partitions.now; factor = factor.now; replicas = lists.now })) }
 {
     let id = new_id(store, rule.options, work);
     let records = records_of(alloc, store, entry, &id, lists)?;
@@ -202,8 +202,8 @@ fn count_of(lists: &Lists) -> i32
 }
 
 fn size_of(assignments: &[CreatableReplicaAssignment]) -> i16
-    requires { creations.first_size assignments.now ≤ 32 }
-    ensures { result ≡ pos (creations.first_size assignments.now) }
+    requires { create_topics.first_size assignments.now ≤ 32 }
+    ensures { result ≡ pos (create_topics.first_size assignments.now) }
 {
     first_size(assignments) as i16
 }
@@ -217,7 +217,7 @@ fn create_as_assigned<S: Store>(
     work: &Work,
     entry: &CreatableTopic,
 ) -> Result<Draft<CreatableTopicResult>, Refusal>
-    ensures { Judges result (and_then (creations.assigned (S.images store.now).tip entry.now) (λ layout. room.of_layout rule.now.options.now rule.now.validate_only (S.images store.now).tip (place_of work.now) entry.now layout)) }
+    ensures { Judges result (and_then (create_topics.assigned (S.images store.now).tip entry.now) (λ layout. room.of_layout rule.now.options.now rule.now.validate_only (S.images store.now).tip (place_of work.now) entry.now layout)) }
 {
     if entry.partitions != -1 || entry.factor != -1 {
         return Err(Refusal::Error(INVALID_REQUEST));
@@ -237,7 +237,7 @@ fn create_as_assigned<S: Store>(
     }
     let partitions = count_of(&lists);
     let factor = size_of(assignments);
-    Ok(draft_creation(
+    Ok(draft_create_topics(
         alloc,
         store,
         rule,
@@ -252,7 +252,7 @@ fn create_as_assigned<S: Store>(
 // ---- without assignments
 
 fn partitions_of(options: &Options, entry: &CreatableTopic) -> i32
-    ensures { result ≡ creations.or_default entry.now.partitions options.now.partitions }
+    ensures { result ≡ create_topics.or_default entry.now.partitions options.now.partitions }
 {
     if entry.partitions == -1 {
         options.partitions
@@ -262,7 +262,7 @@ fn partitions_of(options: &Options, entry: &CreatableTopic) -> i32
 }
 
 fn factor_of(options: &Options, entry: &CreatableTopic) -> i16
-    ensures { result ≡ creations.or_default entry.now.factor options.now.factor }
+    ensures { result ≡ create_topics.or_default entry.now.factor options.now.factor }
 {
     if entry.factor == -1 {
         options.factor
@@ -286,7 +286,7 @@ fn create_by_placing<S: Store>(
     work: &Work,
     entry: &CreatableTopic,
 ) -> Result<Draft<CreatableTopicResult>, Refusal>
-    ensures { Judges result (and_then (room.spread rule.now.those (place_of work.now) (creations.or_default entry.now.partitions rule.now.options.now.partitions) (creations.or_default entry.now.factor rule.now.options.now.factor)) (λ layout. room.of_layout rule.now.options.now rule.now.validate_only (S.images store.now).tip (place_of work.now) entry.now layout)) }
+    ensures { Judges result (and_then (room.spread rule.now.those (place_of work.now) (create_topics.or_default entry.now.partitions rule.now.options.now.partitions) (create_topics.or_default entry.now.factor rule.now.options.now.factor)) (λ layout. room.of_layout rule.now.options.now rule.now.validate_only (S.images store.now).tip (place_of work.now) entry.now layout)) }
 {
     let partitions = partitions_of(rule.options, entry);
     if partitions < 1 {
@@ -310,7 +310,7 @@ fn create_by_placing<S: Store>(
         partitions.unsigned_abs() as u64,
         factor.unsigned_abs() as usize,
     )?;
-    Ok(draft_creation(
+    Ok(draft_create_topics(
         alloc,
         store,
         rule,
@@ -342,9 +342,9 @@ fn create_new<S: Store>(
 }
 
 impl<'a> Rule<CreatableTopic, CreatableTopicResult> for Creating<'a> {
-    ghost refusal = { λ _. refused_creation };
+    ghost refusal = { λ _. refused_create_topics };
 
-    ghost rule = { λ r. room.creation r.those r.options.now r.validate_only };
+    ghost rule = { λ r. room.create_topics_by_racks r.those r.options.now r.validate_only };
 
     fn refusal(
         &self,
@@ -388,8 +388,8 @@ fn decide_on<S: Store, L: Ledger>(
 ) -> Result<(Records, CreatableTopicResults), NoMemory>
     requires low { place.now ≤ℤ places_end }
     requires kept { last_image (S.images store.old) ≡ Some (S.images store.old).tip }
-    ensures answers { IfOk result (λ d. d.1 ≡ deciding.answers refused_creation (room.creation those options.now validate_only) (nothing_decided place.now (S.images store.old).tip) topics.now) }
-    ensures after { IfOk result (λ d. work_at (record { start = place.now; records = d.0 }) (S.images store.new).tip ≡ unless_validating validate_only (nothing_decided place.now (S.images store.old).tip) (deciding.after_all refused_creation (room.creation those options.now validate_only) (nothing_decided place.now (S.images store.old).tip) topics.now)) }
+    ensures answers { IfOk result (λ d. d.1 ≡ deciding.answers refused_create_topics (room.create_topics_by_racks those options.now validate_only) (nothing_decided place.now (S.images store.old).tip) topics.now) }
+    ensures after { IfOk result (λ d. work_at (record { start = place.now; records = d.0 }) (S.images store.new).tip ≡ unless_validating validate_only (nothing_decided place.now (S.images store.old).tip) (deciding.after_all refused_create_topics (room.create_topics_by_racks those options.now validate_only) (nothing_decided place.now (S.images store.old).tip) topics.now)) }
     ensures kept { (S.images store.new).kept ≡ (S.images store.old).kept }
     ensures made { IfOk result (λ d. (S.images store.new).made ≤ (S.images store.old).made + weights (S.images store.old).tip d.0) }
     ensures later { steps.old ≤ steps.new }
@@ -403,7 +403,7 @@ fn decide_on<S: Store, L: Ledger>(
 }
 
 // The topics of a request in turn.
-fn decide_creations<S: Store, L: Ledger>(
+fn decide_create_topics<S: Store, L: Ledger>(
     alloc: Global,
     store: &mut S,
     options: &Options,
@@ -413,8 +413,8 @@ fn decide_creations<S: Store, L: Ledger>(
 ) -> Result<(Records, CreatableTopicResults), NoMemory>
     requires low { place.now ≤ℤ places_end }
     requires kept { last_image (S.images store.old) ≡ Some (S.images store.old).tip }
-    ensures answers { IfOk result (λ d. d.1 ≡ deciding.answers refused_creation (creations.rule options.now request.now.validate_only) (nothing_decided place.now (S.images store.old).tip) request.now.topics) }
-    ensures after { IfOk result (λ d. work_at (record { start = place.now; records = d.0 }) (S.images store.new).tip ≡ unless_validating request.now.validate_only (nothing_decided place.now (S.images store.old).tip) (deciding.after_all refused_creation (creations.rule options.now request.now.validate_only) (nothing_decided place.now (S.images store.old).tip) request.now.topics)) }
+    ensures answers { IfOk result (λ d. d.1 ≡ deciding.answers refused_create_topics (create_topics.rule options.now request.now.validate_only) (nothing_decided place.now (S.images store.old).tip) request.now.topics) }
+    ensures after { IfOk result (λ d. work_at (record { start = place.now; records = d.0 }) (S.images store.new).tip ≡ unless_validating request.now.validate_only (nothing_decided place.now (S.images store.old).tip) (deciding.after_all refused_create_topics (create_topics.rule options.now request.now.validate_only) (nothing_decided place.now (S.images store.old).tip) request.now.topics)) }
     ensures kept { (S.images store.new).kept ≡ (S.images store.old).kept }
     ensures made { IfOk result (λ d. (S.images store.new).made ≤ (S.images store.old).made + weights (S.images store.old).tip d.0) }
     ensures later { steps.old ≤ steps.new }
@@ -439,7 +439,7 @@ fn decide_creations<S: Store, L: Ledger>(
 pub struct CreateTopicsHandler;
 
 impl Handler<CreateTopics> for CreateTopicsHandler {
-    ghost decided = { λ request given image. creations.decided given.options.now image given.place request };
+    ghost decided = { λ request given image. create_topics.decided given.options.now image given.place request };
 
     #[tactic(auto, unfolding(kr_calls::specs::CreateTopics::decided))]
     fn decide<S: Store, L: Ledger>(
@@ -449,7 +449,7 @@ impl Handler<CreateTopics> for CreateTopicsHandler {
         request: &CreateTopics,
         steps: &mut Steps<L>,
     ) -> Result<Effect, NoMemory> {
-        let (records, topics) = decide_creations(
+        let (records, topics) = decide_create_topics(
             alloc,
             store,
             context.options,

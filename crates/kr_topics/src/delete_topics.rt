@@ -1,8 +1,8 @@
 //! Topics are deleted.
 
 ghost use Rattle.std.specs.Prelude.{◌≡◌, Some, IfOk};
-ghost use Rattle.kr_calls.specs.DeleteTopics as deletions;
-ghost use Rattle.kr_calls.specs.Refuse.{refused_deletion};
+ghost use Rattle.kr_calls.specs.DeleteTopics as delete_topics;
+ghost use Rattle.kr_calls.specs.Refuse.{refused_delete_topics};
 
 use crate::naming::is_named_once;
 use kr_base::{NoMemory, Steps};
@@ -22,12 +22,12 @@ use std::sync::ledger::Ledger;
 struct Deleting;
 
 // The topic's removal, and what is answered.
-fn draft_deletion(
+fn draft_delete_topics(
     alloc: Global,
     name: &Text,
     topic: &u128,
 ) -> Result<Draft<DeletableTopicResult>, NoMemory>
-    ensures { IfOk result (λ draft. draft ≡ deletions.deleted name.now topic.now) }
+    ensures { IfOk result (λ draft. draft ≡ delete_topics.deleted name.now topic.now) }
 {
     let mut records = Rows::new(alloc);
     records.push(Record::RemoveTopic { topic: *topic })?;
@@ -43,9 +43,9 @@ fn draft_deletion(
 }
 
 impl Rule<DeleteTopicState, DeletableTopicResult> for Deleting {
-    ghost refusal = { λ _. refused_deletion };
+    ghost refusal = { λ _. refused_delete_topics };
 
-    ghost rule = { λ _. deletions.rule };
+    ghost rule = { λ _. delete_topics.rule };
 
     fn refusal(
         &self,
@@ -73,11 +73,11 @@ impl Rule<DeleteTopicState, DeletableTopicResult> for Deleting {
         }
         match &entry.name {
             Some(name) => match tip::topic_named(store, name) {
-                Some(topic) => Ok(draft_deletion(alloc, &topic.name, &topic.id)?),
+                Some(topic) => Ok(draft_delete_topics(alloc, &topic.name, &topic.id)?),
                 None => Err(Refusal::Error(UNKNOWN_TOPIC_OR_PARTITION)),
             },
             None => match tip::topic(store, &entry.topic) {
-                Some(topic) => Ok(draft_deletion(alloc, &topic.name, &topic.id)?),
+                Some(topic) => Ok(draft_delete_topics(alloc, &topic.name, &topic.id)?),
                 None => Err(Refusal::Error(UNKNOWN_TOPIC_ID)),
             },
         }
@@ -89,7 +89,7 @@ impl Rule<DeleteTopicState, DeletableTopicResult> for Deleting {
 pub struct DeleteTopicsHandler;
 
 impl Handler<DeleteTopics> for DeleteTopicsHandler {
-    ghost decided = { λ request given image. deletions.decided image given.place request };
+    ghost decided = { λ request given image. delete_topics.decided image given.place request };
 
     #[tactic(auto, unfolding(kr_calls::specs::DeleteTopics::decided))]
     fn decide<S: Store, L: Ledger>(

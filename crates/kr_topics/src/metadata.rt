@@ -3,7 +3,7 @@
 ghost use Rattle.std.specs.Prelude.{◌≡◌, [], ◌∷◌, pos, IfOk, if◌then◌else◌};
 ghost use Rattle.std.specs.Option.{option_copied, option_map_or};
 ghost use Rattle.kr_calls.specs.declared.calls.Reply.TheVariants as replies;
-ghost use Rattle.kr_calls.specs.Metadata as shows;
+ghost use Rattle.kr_calls.specs.Metadata as metadata;
 ghost use Rattle.kr_store.specs.Reads.{LooksUp, seen_at};
 
 use crate::named_topics::named_topic_rows;
@@ -41,7 +41,7 @@ fn port_of(endpoint: Option<&Endpoint>) -> i32
 
 // Where clients reach a broker: at its first endpoint.
 fn broker_row(alloc: Global, id: &i32, state: &Broker) -> Result<MetadataBroker, NoMemory>
-    ensures { IfOk result (λ row. row ≡ shows.broker_of (id.now, state.now)) }
+    ensures { IfOk result (λ row. row ≡ metadata.broker_of (id.now, state.now)) }
 {
     let endpoint = state.endpoints.as_slice().first();
     let host = host_of(alloc, endpoint)?;
@@ -59,7 +59,7 @@ fn broker_row(alloc: Global, id: &i32, state: &Broker) -> Result<MetadataBroker,
 struct OnlineOnes;
 
 impl BrokerPart<MetadataBroker> for OnlineOnes {
-    ghost part = { λ _ e. if shows.is_online e.1 then shows.broker_of e ∷ [] else [] };
+    ghost part = { λ _ e. if metadata.is_online e.1 then metadata.broker_of e ∷ [] else [] };
 
     fn add(
         &self,
@@ -77,7 +77,7 @@ impl BrokerPart<MetadataBroker> for OnlineOnes {
 
 #[tactic(auto, using(crate::proofs::MetadataRows::brokers))]
 fn online_brokers<S: Store>(alloc: Global, store: &S, at: At) -> Result<MetadataBrokers, NoMemory>
-    ensures { IfOk result (λ rows. rows ≡ shows.brokers_of (seen_at (S.images store.now) at)) }
+    ensures { IfOk result (λ rows. rows ≡ metadata.brokers_of (seen_at (S.images store.now) at)) }
 {
     gather_brokers(alloc, store, at, &OnlineOnes)
 }
@@ -91,7 +91,7 @@ fn topic_rows<S: Store>(
     at: At,
     asked: &Option<MetadataRequestTopics>,
 ) -> Result<MetadataTopics, NoMemory>
-    ensures { IfOk result (λ rows. rows ≡ shows.topics_of (seen_at (S.images store.now) at) asked.now) }
+    ensures { IfOk result (λ rows. rows ≡ metadata.topics_of (seen_at (S.images store.now) at) asked.now) }
 {
     match asked {
         Some(asked) => named_topic_rows(alloc, store, at, asked.as_slice()),
@@ -108,7 +108,7 @@ fn reply_of<S: Store>(
     options: &Options,
     request: &Metadata,
 ) -> Result<MetadataReply, NoMemory>
-    ensures { IfOk result (λ reply. replies.Metadata reply ≡ shows.queried options.now (seen_at (S.images store.now) at) request.now) }
+    ensures { IfOk result (λ reply. replies.Metadata reply ≡ metadata.queried options.now (seen_at (S.images store.now) at) request.now) }
 {
     let brokers = online_brokers(alloc, store, at)?;
     let topics = topic_rows(alloc, store, at, &request.topics)?;
@@ -130,7 +130,7 @@ pub fn answer<S: Store>(
     options: &Options,
     request: &Metadata,
 ) -> Result<Reply, ReadFault>
-    ensures { LooksUp (S.images store.now) at result (λ image. shows.queried options.now image request.now) }
+    ensures { LooksUp (S.images store.now) at result (λ image. metadata.queried options.now image request.now) }
 {
     look(store, at)?;
     Ok(Reply::Metadata(reply_of(alloc, store, at, options, request)?))

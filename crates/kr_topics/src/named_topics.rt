@@ -3,7 +3,7 @@
 ghost use Rattle.std.specs.Prelude.{◌≡◌, ◌∷◌, ◌==◌, [], ℕ, List, Ok, Err, not, IfErr, IfOk, OnOk};
 ghost use Rattle.std.specs.List.{list_any};
 ghost use Rattle.kr_defs.specs.Guard.{and_then};
-ghost use Rattle.kr_calls.specs.Metadata as shows;
+ghost use Rattle.kr_calls.specs.Metadata as metadata;
 ghost use Rattle.kr_store.specs.Reads.{seen_at};
 ghost use Rattle.kr_topics.specs.inner.NamedTopics.{Marks};
 
@@ -23,8 +23,8 @@ type Seen = BTreeSet<u128>;
 
 // The topic with this name or this id, or Kafka's error number.
 fn find<'a, S: Store>(store: &'a S, at: At, entry: &MetadataRequestTopic) -> Result<&'a Topic, i16>
-    ensures some { IfOk result (λ topic. shows.topic_asked_for (seen_at (S.images store.now) at) entry.now ≡ Ok (topic.now.name, topic.now.id)) }
-    ensures none { IfErr result (λ error. shows.topic_asked_for (seen_at (S.images store.now) at) entry.now ≡ Err error) }
+    ensures some { IfOk result (λ topic. metadata.topic_asked_for (seen_at (S.images store.now) at) entry.now ≡ Ok (topic.now.name, topic.now.id)) }
+    ensures none { IfErr result (λ error. metadata.topic_asked_for (seen_at (S.images store.now) at) entry.now ≡ Err error) }
 {
     if !is_named_once(&entry.name, &entry.topic) {
         return Err(INVALID_REQUEST);
@@ -59,8 +59,8 @@ fn entry_row<S: Store>(
     seen: &mut Seen,
     entry: &MetadataRequestTopic,
 ) -> Result<MetadataTopic, NoMemory>
-    ensures row { (ids : List ℕ) → Marks seen.old ids → IfOk result (λ row. row ≡ shows.shown (seen_at (S.images store.now) at) entry.now (and_then (shows.topic_asked_for (seen_at (S.images store.now) at) entry.now) (shows.new_to ids))) }
-    ensures seen { (ids : List ℕ) → Marks seen.old ids → OnOk result (Marks seen.new (shows.seen_with ids (shows.topic_asked_for (seen_at (S.images store.now) at) entry.now))) }
+    ensures row { (ids : List ℕ) → Marks seen.old ids → IfOk result (λ row. row ≡ metadata.shown (seen_at (S.images store.now) at) entry.now (and_then (metadata.topic_asked_for (seen_at (S.images store.now) at) entry.now) (metadata.new_to ids))) }
+    ensures seen { (ids : List ℕ) → Marks seen.old ids → OnOk result (Marks seen.new (metadata.seen_with ids (metadata.topic_asked_for (seen_at (S.images store.now) at) entry.now))) }
 {
     match find(store, at, entry) {
         Ok(topic) => {
@@ -81,7 +81,7 @@ pub(crate) fn named_topic_rows<S: Store>(
     at: At,
     asked: &[MetadataRequestTopic],
 ) -> Result<MetadataTopics, NoMemory>
-    ensures { IfOk result (λ rows. rows ≡ shows.topics_named (seen_at (S.images store.now) at) [] asked.now) }
+    ensures { IfOk result (λ rows. rows ≡ metadata.topics_named (seen_at (S.images store.now) at) [] asked.now) }
 {
     let mut rows = Rows::new(alloc);
     let mut seen = BTreeSet::new(alloc);

@@ -7,7 +7,7 @@ ghost use Rattle.kr_defs.specs.declared.record.Record.TheVariants as kinds;
 ghost use Rattle.kr_defs.specs.Apply.{topic_kind};
 ghost use Rattle.kr_defs.specs.Map as entries;
 ghost use Rattle.kr_defs.specs.Map.{text_order};
-ghost use Rattle.kr_calls.specs.CreateTopics as creations;
+ghost use Rattle.kr_calls.specs.CreateTopics as create_topics;
 ghost use Rattle.kr_topics.specs.inner.TopicSettings as given_settings;
 ghost use Rattle.kr_topics.specs.inner.TopicSettings.{is_old};
 
@@ -26,7 +26,7 @@ const TOPIC: i8 = 2;
 type Given = BTreeMap<Text, Text>;
 
 fn is_bad_setting(setting: &CreatableTopicConfig) -> bool
-    ensures { result ≡ creations.is_bad_setting setting.now }
+    ensures { result ≡ create_topics.is_bad_setting setting.now }
 {
     match &setting.value {
         Some(value) => !is_setting_key(&setting.name) || !is_setting_value(&setting.name, value),
@@ -36,7 +36,7 @@ fn is_bad_setting(setting: &CreatableTopicConfig) -> bool
 
 /// A setting has a key or a value that can't be, or no value.
 pub(crate) fn has_bad_setting(settings: &[CreatableTopicConfig]) -> bool
-    ensures { result ≡ list_any creations.is_bad_setting settings.now }
+    ensures { result ≡ list_any create_topics.is_bad_setting settings.now }
 {
     settings.iter().any(|setting| is_bad_setting(setting))
 }
@@ -158,7 +158,7 @@ pub(crate) fn add_settings<S: Store>(
     topic: &Text,
     settings: &[CreatableTopicConfig],
 ) -> Result<(), NoMemory>
-    ensures { OnOk result (records.new ≡ records.old ++ creations.settings_records (S.images store.now).tip.configs topic.now settings.now) }
+    ensures { OnOk result (records.new ≡ records.old ++ create_topics.settings_records (S.images store.now).tip.configs topic.now settings.now) }
 {
     let mut given = BTreeMap::new(alloc);
     for setting in settings {

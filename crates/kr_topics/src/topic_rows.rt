@@ -2,10 +2,11 @@
 
 ghost use Rattle.std.specs.Prelude.{◌≡◌, [], ◌∷◌, IfOk, filter, map};
 ghost use Rattle.kr_defs.specs.Walk.{of_topic};
-ghost use Rattle.kr_calls.specs.Metadata as shows;
+ghost use Rattle.kr_calls.specs.Metadata as metadata;
 ghost use Rattle.kr_store.specs.Reads.{seen_at};
 
 use kr_base::NoMemory;
+use kr_calls::errors::LEADER_NOT_AVAILABLE;
 use kr_calls::{
     MetadataPartition, MetadataPartitions, MetadataRequestTopic, MetadataTopic, MetadataTopics,
 };
@@ -17,7 +18,7 @@ use std::alloc::{AllocError, Global};
 // ---- partitions
 
 fn is_offline<S: Store>(store: &S, at: At, id: &i32) -> bool
-    ensures { result ≡ shows.is_offline (seen_at (S.images store.now) at) id.now }
+    ensures { result ≡ metadata.is_offline (seen_at (S.images store.now) at) id.now }
 {
     match looking::broker(store, at, id) {
         Some(state) => state.fenced,
@@ -32,7 +33,7 @@ fn offline_among<S: Store>(
     at: At,
     replicas: &[i32],
 ) -> Result<Vec<i32>, AllocError>
-    ensures { IfOk result (λ ids. ids.items ≡ filter (shows.is_offline (seen_at (S.images store.now) at)) replicas.now) }
+    ensures { IfOk result (λ ids. ids.items ≡ filter (metadata.is_offline (seen_at (S.images store.now) at)) replicas.now) }
 {
     replicas
         .iter()
@@ -41,11 +42,15 @@ fn offline_among<S: Store>(
         .collect(alloc)
 }
 
-// LEADER_NOT_AVAILABLE where nobody leads.
+// Where nobody leads.
 fn leader_error(partition: &Partition) -> i16
-    ensures { result ≡ shows.leader_error partition.now }
+    ensures { result ≡ metadata.leader_error partition.now }
 {
-    if partition.leader == -1 { 5 } else { 0 }
+    if partition.leader == -1 {
+        LEADER_NOT_AVAILABLE
+    } else {
+        0
+    }
 }
 
 fn partition_row<S: Store>(
@@ -55,7 +60,7 @@ fn partition_row<S: Store>(
     key: &(u128, i32),
     partition: &Partition,
 ) -> Result<MetadataPartition, NoMemory>
-    ensures { IfOk result (λ row. row ≡ shows.partition_metadata (seen_at (S.images store.now) at) (key.now, partition.now)) }
+    ensures { IfOk result (λ row. row ≡ metadata.partition_metadata (seen_at (S.images store.now) at) (key.now, partition.now)) }
 {
     let replicas = partition.replicas.copied(alloc)?;
     let in_sync = partition.in_sync.copied(alloc)?;
@@ -79,7 +84,7 @@ struct ShownPartitions<'a, S> {
 }
 
 impl<'a, S: Store> PartitionPart<MetadataPartition> for ShownPartitions<'a, S> {
-    ghost part = { λ s e. shows.partition_metadata (seen_at (S.images s.store.now) s.at) e ∷ [] };
+    ghost part = { λ s e. metadata.partition_metadata (seen_at (S.images s.store.now) s.at) e ∷ [] };
 
     fn add(
         &self,
@@ -100,7 +105,7 @@ fn partition_rows<S: Store>(
     at: At,
     id: &u128,
 ) -> Result<MetadataPartitions, NoMemory>
-    ensures { IfOk result (λ rows. rows ≡ map (shows.partition_metadata (seen_at (S.images store.now) at)) (of_topic id.now (seen_at (S.images store.now) at).partitions)) }
+    ensures { IfOk result (λ rows. rows ≡ map (metadata.partition_metadata (seen_at (S.images store.now) at)) (of_topic id.now (seen_at (S.images store.now) at).partitions)) }
 {
     gather_partitions(alloc, store, at, &ShownPartitions { store, at }, id)
 }
@@ -115,7 +120,7 @@ pub(crate) fn topic_row<S: Store>(
     name: &Text,
     id: &u128,
 ) -> Result<MetadataTopic, NoMemory>
-    ensures { IfOk result (λ row. row ≡ shows.topic_metadata (seen_at (S.images store.now) at) (name.now, id.now)) }
+    ensures { IfOk result (λ row. row ≡ metadata.topic_metadata (seen_at (S.images store.now) at) (name.now, id.now)) }
 {
     let partitions = partition_rows(alloc, store, at, id)?;
     let name = name.copied(alloc)?;
@@ -135,7 +140,7 @@ pub(crate) fn refusal_row(
     error: i16,
     entry: &MetadataRequestTopic,
 ) -> Result<MetadataTopic, NoMemory>
-    ensures { IfOk result (λ row. row ≡ shows.refused error entry.now) }
+    ensures { IfOk result (λ row. row ≡ metadata.refused error entry.now) }
 {
     let name = Copied::copied(&entry.name, alloc)?;
     Ok(MetadataTopic {
@@ -152,7 +157,7 @@ pub(crate) fn refusal_row(
 struct ShownTopics;
 
 impl TopicPart<MetadataTopic> for ShownTopics {
-    ghost part = { λ _ image topic. shows.topic_metadata image topic ∷ [] };
+    ghost part = { λ _ image topic. metadata.topic_metadata image topic ∷ [] };
 
     fn add<S: Store>(
         &self,
@@ -175,7 +180,7 @@ pub(crate) fn all_topic_rows<S: Store>(
     store: &S,
     at: At,
 ) -> Result<MetadataTopics, NoMemory>
-    ensures { IfOk result (λ rows. rows ≡ map (shows.topic_metadata (seen_at (S.images store.now) at)) (seen_at (S.images store.now) at).topics) }
+    ensures { IfOk result (λ rows. rows ≡ map (metadata.topic_metadata (seen_at (S.images store.now) at)) (seen_at (S.images store.now) at).topics) }
 {
     gather_topics(alloc, store, at, &ShownTopics)
 }

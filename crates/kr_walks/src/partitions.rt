@@ -9,7 +9,7 @@ ghost use Rattle.kr_defs.specs.declared.record.Record.TheVariants as kinds;
 ghost use Rattle.kr_defs.specs.Image.{Image, IsValid};
 ghost use Rattle.kr_defs.specs.Map.{above, partition_order};
 ghost use Rattle.kr_defs.specs.Walk.{Walked, walked, of_topic, walk, walk_topic, changes_of};
-ghost use Rattle.kr_calls.specs.BrokerHeartbeat as heartbeating;
+ghost use Rattle.kr_calls.specs.BrokerHeartbeat as broker_heartbeat;
 
 use crate::tip;
 use kr_base::NoMemory;
@@ -145,7 +145,7 @@ fn is_led_by(partition: &Partition, broker: &i32) -> bool
 
 /// The broker leads a partition.
 pub fn leads<S: Store>(store: &S, broker: &i32) -> bool
-    ensures { result ≡ heartbeating.leads (S.images store.now).tip broker.now }
+    ensures { result ≡ broker_heartbeat.leads (S.images store.now).tip broker.now }
 {
     let _valid = store.counts();
     let mut after = None;

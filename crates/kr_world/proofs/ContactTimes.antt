@@ -9,9 +9,9 @@ use Rattle.kr_calls.specs.declared.broker_heartbeat.BrokerHeartbeat.{BrokerHeart
 use Rattle.kr_calls.specs.declared.broker_heartbeat.BrokerHeartbeatReply.{BrokerHeartbeatReply}
 use Rattle.kr_calls.specs.declared.calls.Request.{Request}
 use Rattle.kr_calls.specs.declared.calls.Request.TheVariants as requests
-use Rattle.kr_calls.specs.BrokerHeartbeat as heartbeating
-use Rattle.kr_calls.specs.BrokerRegistration as registering
-use Rattle.kr_calls.specs.UnregisterBroker as unregistering
+use Rattle.kr_calls.specs.BrokerHeartbeat as broker_heartbeat
+use Rattle.kr_calls.specs.BrokerRegistration as broker_registration
+use Rattle.kr_calls.specs.UnregisterBroker as unregister_broker
 use Rattle.kr_calls.specs.Decide.{decide, work_of}
 use Rattle.kr_calls.specs.Deciding.{nothing_decided, one}
 use Rattle.kr_calls.specs.NextBasis.{after_contact, after_heartbeat, after_leaving, heartbeats_after, broker_is_stopping}
@@ -75,10 +75,10 @@ of_other : (options : Options) (b : Basis) (image : Image) (place : ℤ) (reques
 of_other options b image place request other all = subst (AreInTime b.time) (sym (others_leave options b image place request other).heard_of) all
 
 pub decided_in_time : (options : Options) (b : Basis) (image : Image) (place : ℤ) (request : Request) → AreInTime b.time (hearing.heard b) → AreInTime b.time (decide options image b place request).heartbeats
-unfolding work_of registering.decided heartbeating.decided unregistering.decided heartbeats_after
-decided_in_time options b image place (requests.BrokerRegistration q) all = of_leaving b.time (hearing.heard b) (one registering.refused (registering.rule options b.time (hearing.heard b)) (nothing_decided place image) q).1.error q.broker all
-decided_in_time options b image place (requests.BrokerHeartbeat q) all = of_heartbeat b.time (hearing.heard b) image (work_of options b.time (hearing.heard b) image place (requests.BrokerHeartbeat q)).0.image place q (one heartbeating.refused (heartbeating.rule options (hearing.heard b)) (nothing_decided place image) q).1 all
-decided_in_time options b image place (requests.UnregisterBroker q) all = of_leaving b.time (hearing.heard b) (one unregistering.refused (unregistering.rule options) (nothing_decided place image) q).1.error q.broker all
+unfolding work_of broker_registration.decided broker_heartbeat.decided unregister_broker.decided heartbeats_after
+decided_in_time options b image place (requests.BrokerRegistration q) all = of_leaving b.time (hearing.heard b) (one broker_registration.refused (broker_registration.rule options b.time (hearing.heard b)) (nothing_decided place image) q).1.error q.broker all
+decided_in_time options b image place (requests.BrokerHeartbeat q) all = of_heartbeat b.time (hearing.heard b) image (work_of options b.time (hearing.heard b) image place (requests.BrokerHeartbeat q)).0.image place q (one broker_heartbeat.refused (broker_heartbeat.rule options (hearing.heard b)) (nothing_decided place image) q).1 all
+decided_in_time options b image place (requests.UnregisterBroker q) all = of_leaving b.time (hearing.heard b) (one unregister_broker.refused (unregister_broker.rule options) (nothing_decided place image) q).1.error q.broker all
 decided_in_time options b image place (requests.CreateTopics q) all = of_other options b image place (requests.CreateTopics q) refl all
 decided_in_time options b image place (requests.DeleteTopics q) all = of_other options b image place (requests.DeleteTopics q) refl all
 decided_in_time options b image place (requests.CreatePartitions q) all = of_other options b image place (requests.CreatePartitions q) refl all

@@ -14,7 +14,7 @@ use Rattle.kr_calls.specs.declared.events.Output.{Output}
 use Rattle.kr_calls.specs.declared.events.Output.TheVariants as given
 use Rattle.kr_calls.specs.Decide.{work_of}
 use Rattle.kr_calls.specs.Deciding.{done, taken}
-use Rattle.kr_calls.specs.IncrementalAlterConfigs as configuring
+use Rattle.kr_calls.specs.IncrementalAlterConfigs as incremental_alter_configs
 use Rattle.kr_calls.specs.NextBasis.{heartbeats_after}
 use Rattle.kr_calls.specs.Refuse as refusals
 use Rattle.kr_defs.specs.declared.basis.Basis.{Basis}
@@ -105,16 +105,16 @@ commit_to end = events.Commit (pos 1) (pos end)
 pub commits :
     outputs_from led [] (asked (pos 1) ∷ commit_to 12 ∷ commit_to 15 ∷ [])
     ≡ (given.Append (batch_bytes settings_batch) ∷ []) ∷ [] ∷ (replied (pos 1) (pos 0) ∷ []) ∷ []
-unfolding work_of configuring.decided done taken apply_record apply image_at value_bytes heartbeats_after refusals.refuse
+unfolding work_of incremental_alter_configs.decided done taken apply_record apply image_at value_bytes heartbeats_after refusals.refuse
 commits = refl
 
 -- a commit ends with a batch, and not above the tip
 pub commit_above : outcome options (after led (asked (pos 1) ∷ [])) (commit_to 16) ≡ Err (bad_commit (pos 16) (pos 12) (pos 15))
-unfolding work_of configuring.decided done taken apply_record apply image_at value_bytes
+unfolding work_of incremental_alter_configs.decided done taken apply_record apply image_at value_bytes
 commit_above = refl
 
 pub commit_between : outcome options (after led (asked (pos 1) ∷ [])) (commit_to 14) ≡ Err (bad_commit (pos 14) (pos 12) (pos 15))
-unfolding work_of configuring.decided done taken apply_record apply image_at value_bytes
+unfolding work_of incremental_alter_configs.decided done taken apply_record apply image_at value_bytes
 commit_between = refl
 
 pub commit_of_another : outcome options led (events.Commit (pos 2) (pos 12)) ≡ Err (not_leading (pos 2) (Some (pos 1)))
@@ -124,7 +124,7 @@ commit_of_another = refl
 pub without_records :
     outputs_from led [] (asked (pos 1) ∷ asked (pos 2) ∷ commit_to 15 ∷ asked (pos 3) ∷ [])
     ≡ (given.Append (batch_bytes settings_batch) ∷ []) ∷ [] ∷ (replied (pos 1) (pos 0) ∷ replied (pos 2) (pos 0) ∷ []) ∷ (replied (pos 3) (pos 0) ∷ []) ∷ []
-unfolding work_of configuring.decided done taken apply_record apply image_at value_bytes heartbeats_after refusals.refuse
+unfolding work_of incremental_alter_configs.decided done taken apply_record apply image_at value_bytes heartbeats_after refusals.refuse
 without_records = refl
 
 -- ---- leaderships
@@ -139,12 +139,12 @@ standby = after led (lost_lead ∷ [])
 pub leadership_lost :
     outputs_from led [] (asked (pos 1) ∷ asked (pos 2) ∷ lost_lead ∷ [])
     ≡ (given.Append (batch_bytes settings_batch) ∷ []) ∷ [] ∷ (replied (pos 1) (pos 41) ∷ replied (pos 2) (pos 41) ∷ []) ∷ []
-unfolding work_of configuring.decided done taken apply_record apply image_at value_bytes heartbeats_after refusals.refuse
+unfolding work_of incremental_alter_configs.decided done taken apply_record apply image_at value_bytes heartbeats_after refusals.refuse
 leadership_lost = refl
 
 -- and what wasn't committed is gone
 pub nothing_left : image_of_tip (after led (asked (pos 1) ∷ lost_lead ∷ [])) ≡ empty
-unfolding work_of configuring.decided done taken apply_record apply image_at value_bytes
+unfolding work_of incremental_alter_configs.decided done taken apply_record apply image_at value_bytes
 nothing_left = refl
 
 pub on_standby : outputs_of options start [] (asked (pos 7)) ≡ replied (pos 7) (pos 41) ∷ []
@@ -177,7 +177,7 @@ own_batch = refl
 
 -- the batch comes back: it is committed, and nobody is answered
 pub comes_back : (bytes : List ℕ) → batch_of bytes ≡ Ok settings_batch → outputs_of options (after led (asked (pos 1) ∷ lost_lead ∷ [])) [] (events.Batch bytes) ≡ []
-unfolding work_of configuring.decided done taken apply_record apply image_at value_bytes
+unfolding work_of incremental_alter_configs.decided done taken apply_record apply image_at value_bytes
 comes_back bytes is = ap (λ r. outputs_by options (after led (asked (pos 1) ∷ lost_lead ∷ [])) [] (events.Batch bytes) (and_then (batch_or r) (take_batch (after led (asked (pos 1) ∷ lost_lead ∷ []))))) is
 
 pub ends_behind : tip_of (after_batch standby settings_batch) ≡ 15

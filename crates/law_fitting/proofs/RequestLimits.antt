@@ -13,17 +13,17 @@ use Rattle.kr_calls.specs.declared.calls.Request.TheVariants as requests
 use Rattle.kr_calls.specs.declared.deciding.Draft.{Draft}
 use Rattle.kr_calls.specs.Deciding.{Work, apply_records, has_few_targets, is_request, is_within_limits, nothing_decided, work_with, taken, settled, done, one, after_all, after_groups, unless_validating}
 use Rattle.kr_calls.specs.Decide.{work_of}
-use Rattle.kr_calls.specs.Refuse.{refused_creation, refused_deletion, refused_growth, refused_resource}
-use Rattle.kr_calls.specs.AlterPartition as reporting
-use Rattle.kr_calls.specs.AlterPartitionReassignments as reassigning
-use Rattle.kr_calls.specs.BrokerHeartbeat as heartbeating
-use Rattle.kr_calls.specs.BrokerRegistration as registering
-use Rattle.kr_calls.specs.CreatePartitions as growing
-use Rattle.kr_calls.specs.CreateTopics as creating
-use Rattle.kr_calls.specs.DeleteTopics as deleting
-use Rattle.kr_calls.specs.ElectLeaders as electing
-use Rattle.kr_calls.specs.IncrementalAlterConfigs as configuring
-use Rattle.kr_calls.specs.UnregisterBroker as unregistering
+use Rattle.kr_calls.specs.Refuse.{refused_create_topics, refused_delete_topics, refused_create_partitions, refused_incremental_alter_configs}
+use Rattle.kr_calls.specs.AlterPartition as alter_partition
+use Rattle.kr_calls.specs.AlterPartitionReassignments as alter_partition_reassignments
+use Rattle.kr_calls.specs.BrokerHeartbeat as broker_heartbeat
+use Rattle.kr_calls.specs.BrokerRegistration as broker_registration
+use Rattle.kr_calls.specs.CreatePartitions as create_partitions
+use Rattle.kr_calls.specs.CreateTopics as create_topics
+use Rattle.kr_calls.specs.DeleteTopics as delete_topics
+use Rattle.kr_calls.specs.ElectLeaders as elect_leaders
+use Rattle.kr_calls.specs.IncrementalAlterConfigs as incremental_alter_configs
+use Rattle.kr_calls.specs.UnregisterBroker as unregister_broker
 
 abbrev IsBounded : Work → Type 0
 IsBounded w = is_request w.records ≡ true
@@ -71,22 +71,22 @@ chosen_bounded false x y first then = then
 
 -- every request, by its rule
 pub requests_bounded : (options : Options) (time : ℤ) (heartbeats : Heartbeats) (image : Image) (place : ℤ) (request : Request) → is_request (work_of options time heartbeats image place request).0.records ≡ true
-unfolding work_of registering.decided heartbeating.decided unregistering.decided creating.decided deleting.decided growing.decided reporting.decided electing.decided reassigning.decided configuring.decided
-requests_bounded options time heartbeats image place (requests.BrokerRegistration q) = one_bounded registering.refused (registering.rule options time heartbeats) (nothing_decided place image) q refl
-requests_bounded options time heartbeats image place (requests.BrokerHeartbeat q) = one_bounded heartbeating.refused (heartbeating.rule options heartbeats) (nothing_decided place image) q refl
-requests_bounded options time heartbeats image place (requests.UnregisterBroker q) = one_bounded unregistering.refused (unregistering.rule options) (nothing_decided place image) q refl
+unfolding work_of broker_registration.decided broker_heartbeat.decided unregister_broker.decided create_topics.decided delete_topics.decided create_partitions.decided alter_partition.decided elect_leaders.decided alter_partition_reassignments.decided incremental_alter_configs.decided
+requests_bounded options time heartbeats image place (requests.BrokerRegistration q) = one_bounded broker_registration.refused (broker_registration.rule options time heartbeats) (nothing_decided place image) q refl
+requests_bounded options time heartbeats image place (requests.BrokerHeartbeat q) = one_bounded broker_heartbeat.refused (broker_heartbeat.rule options heartbeats) (nothing_decided place image) q refl
+requests_bounded options time heartbeats image place (requests.UnregisterBroker q) = one_bounded unregister_broker.refused (unregister_broker.rule options) (nothing_decided place image) q refl
 requests_bounded options time heartbeats image place (requests.CreateTopics q) =
-    validated_bounded q.validate_only (nothing_decided place image) _ refl (all_bounded refused_creation (creating.rule options q.validate_only) (nothing_decided place image) q.topics refl)
-requests_bounded options time heartbeats image place (requests.DeleteTopics q) = all_bounded refused_deletion deleting.rule (nothing_decided place image) q.topics refl
+    validated_bounded q.validate_only (nothing_decided place image) _ refl (all_bounded refused_create_topics (create_topics.rule options q.validate_only) (nothing_decided place image) q.topics refl)
+requests_bounded options time heartbeats image place (requests.DeleteTopics q) = all_bounded refused_delete_topics delete_topics.rule (nothing_decided place image) q.topics refl
 requests_bounded options time heartbeats image place (requests.CreatePartitions q) =
-    validated_bounded q.validate_only (nothing_decided place image) _ refl (all_bounded refused_growth growing.rule (nothing_decided place image) q.topics refl)
+    validated_bounded q.validate_only (nothing_decided place image) _ refl (all_bounded refused_create_partitions create_partitions.rule (nothing_decided place image) q.topics refl)
 requests_bounded options time heartbeats image place (requests.AlterPartition q) =
-    chosen_bounded (reporting.is_stale image q) _ _ refl (groups_bounded reporting.refused (reporting.rule options q.broker) reporting.entries_of reporting.answer_of (nothing_decided place image) q.topics refl)
+    chosen_bounded (alter_partition.is_stale image q) _ _ refl (groups_bounded alter_partition.refused (alter_partition.rule options q.broker) alter_partition.entries_of alter_partition.answer_of (nothing_decided place image) q.topics refl)
 requests_bounded options time heartbeats image place (requests.ElectLeaders q) =
-    chosen_bounded (not (electing.is_kind q.kind)) _ _ refl (groups_bounded electing.answer (electing.rule options q.kind) electing.entries_of electing.answer_of (nothing_decided place image) (electing.groups_of image q.topics) refl)
+    chosen_bounded (not (elect_leaders.is_kind q.kind)) _ _ refl (groups_bounded elect_leaders.answer (elect_leaders.rule options q.kind) elect_leaders.entries_of elect_leaders.answer_of (nothing_decided place image) (elect_leaders.groups_of image q.topics) refl)
 requests_bounded options time heartbeats image place (requests.AlterPartitionReassignments q) =
-    groups_bounded reassigning.answer (reassigning.rule options) reassigning.entries_of reassigning.answer_of (nothing_decided place image) q.topics refl
+    groups_bounded alter_partition_reassignments.answer (alter_partition_reassignments.rule options) alter_partition_reassignments.entries_of alter_partition_reassignments.answer_of (nothing_decided place image) q.topics refl
 requests_bounded options time heartbeats image place (requests.IncrementalAlterConfigs q) =
-    validated_bounded q.validate_only (nothing_decided place image) _ refl (all_bounded refused_resource (configuring.rule options) (nothing_decided place image) q.resources refl)
+    validated_bounded q.validate_only (nothing_decided place image) _ refl (all_bounded refused_incremental_alter_configs (incremental_alter_configs.rule options) (nothing_decided place image) q.resources refl)
 requests_bounded options time heartbeats image place (requests.ListPartitionReassignments q) = refl
 requests_bounded options time heartbeats image place (requests.Metadata q) = refl

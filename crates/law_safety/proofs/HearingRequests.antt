@@ -24,12 +24,12 @@ use Rattle.kr_defs.proofs.Walks.{get_other}
 use Rattle.kr_calls.specs.declared.broker_heartbeat.BrokerHeartbeat.{BrokerHeartbeat}
 use Rattle.kr_calls.specs.declared.broker_registration.BrokerRegistration.{BrokerRegistration}
 use Rattle.kr_calls.specs.declared.unregister_broker.UnregisterBroker.{UnregisterBroker}
-use Rattle.kr_calls.specs.BrokerHeartbeat as heartbeating
-use Rattle.kr_calls.specs.BrokerRegistration as registering
+use Rattle.kr_calls.specs.BrokerHeartbeat as broker_heartbeat
+use Rattle.kr_calls.specs.BrokerRegistration as broker_registration
 use Rattle.kr_calls.specs.declared.calls.Request.{Request}
 use Rattle.kr_calls.specs.declared.calls.Request.TheVariants as requests
 use Rattle.kr_calls.specs.declared.deciding.Draft.{Draft}
-use Rattle.kr_calls.specs.UnregisterBroker as unregistering
+use Rattle.kr_calls.specs.UnregisterBroker as unregister_broker
 use Rattle.kr_calls.specs.Deciding.{Work, apply_records, nothing_decided, one}
 use Rattle.kr_calls.specs.Decide.{decide, work_of}
 use Rattle.kr_calls.specs.NextBasis.{heartbeats_after}
@@ -102,7 +102,7 @@ module _ (minimum : ℤ) (image : Image) (now place : ℤ) (q : BrokerHeartbeat)
   at_first : (test : Broker → Bool) → passes test image.brokers k ≡ test state
   at_first test = ap (λ (o : Option Broker). option_map_or test o false) there
 
-  abbrev HeardAfter : heartbeating.Step → Type 0
+  abbrev HeardAfter : broker_heartbeat.Step → Type 0
   HeardAfter step = (after : Image) → IsValid after → apply_records image step.records ≡ Ok after → HearsOf (cond step.fenced (leave h k) (hearing.after_contact h image after now place q)) after
 
   same_image : (P : Image → Type 0) → P image → (after : Image) → apply_records image [] ≡ Ok after → P after
@@ -140,25 +140,25 @@ module _ (minimum : ℤ) (image : Image) (now place : ℤ) (q : BrokerHeartbeat)
       rw (then, first) (heard_stopping h image after hears valid.brokers.ordered good.brokers.ordered k (others image after k _ has) now q.offset (own image after k _ has is_unfenced ∙ rw unfenced refl) place
       (own image after k _ has is_stopping ∙ rw (unfenced, going) refl))
 
-  choose : (test : Bool) (x y : heartbeating.Step) → (test ≡ true → HeardAfter x) → (test ≡ false → HeardAfter y) → HeardAfter (cond test x y)
+  choose : (test : Bool) (x y : broker_heartbeat.Step) → (test ≡ true → HeardAfter x) → (test ≡ false → HeardAfter y) → HeardAfter (cond test x y)
   choose true x y first then = first refl
   choose false x y first then = then refl
 
-  fenced_heard : state.fenced ≡ true → HeardAfter (heartbeating.of_fenced minimum image q state)
-  fenced_heard fenced = choose (q.want_shutdown || state.stopping) _ _ (λ _. stays_fenced true fenced) (λ going. choose (q.want_fence || heartbeating.is_behind q) _ _ (λ _. stays_fenced false fenced) (λ _.
-      unfences state.epoch (heartbeating.electing minimum image k state) false fenced (neither q.want_shutdown state.stopping going).1))
+  fenced_heard : state.fenced ≡ true → HeardAfter (broker_heartbeat.of_fenced minimum image q state)
+  fenced_heard fenced = choose (q.want_shutdown || state.stopping) _ _ (λ _. stays_fenced true fenced) (λ going. choose (q.want_fence || broker_heartbeat.is_behind q) _ _ (λ _. stays_fenced false fenced) (λ _.
+      unfences state.epoch (broker_heartbeat.electing minimum image k state) false fenced (neither q.want_shutdown state.stopping going).1))
 
-  stopping_heard : state.fenced ≡ false → HeardAfter (heartbeating.of_stopping minimum h image q)
-  stopping_heard unfenced = choose (heartbeating.is_passed_on h image k) _ _ (λ _. fences q.epoch (taking_out minimum image k false) true) (λ _. stays_unfenced false unfenced)
+  stopping_heard : state.fenced ≡ false → HeardAfter (broker_heartbeat.of_stopping minimum h image q)
+  stopping_heard unfenced = choose (broker_heartbeat.is_passed_on h image k) _ _ (λ _. fences q.epoch (taking_out minimum image k false) true) (λ _. stays_unfenced false unfenced)
 
-  active_heard : state.fenced ≡ false → state.stopping ≡ false → HeardAfter (heartbeating.of_active minimum image q)
+  active_heard : state.fenced ≡ false → state.stopping ≡ false → HeardAfter (broker_heartbeat.of_active minimum image q)
   active_heard unfenced going =
       choose q.want_fence _ _ (λ _. fences q.epoch (taking_out minimum image k false) q.want_shutdown) (λ _.
-      choose (q.want_shutdown && not (heartbeating.leads image k)) _ _ (λ _. fences q.epoch (taking_out minimum image k false) true) (λ _.
+      choose (q.want_shutdown && not (broker_heartbeat.leads image k)) _ _ (λ _. fences q.epoch (taking_out minimum image k false) true) (λ _.
       choose q.want_shutdown _ _ (λ _. stops q.epoch (taking_out minimum image k false) false unfenced going) (λ _. stays_unfenced false unfenced)))
 
-  pub step_heard : HeardAfter (heartbeating.step minimum h image q state)
-  unfolding heartbeating.step
+  pub step_heard : HeardAfter (broker_heartbeat.step minimum h image q state)
+  unfolding broker_heartbeat.step
   step_heard = choose state.fenced _ _ fenced_heard (λ unfenced. choose state.stopping _ _ (λ _. stopping_heard unfenced) (λ going. active_heard unfenced going))
 
 -- ---- whole requests
@@ -190,28 +190,28 @@ module _ (options : Options) (b : Basis) (image : Image) (place : ℤ) (valid : 
   refused_hears error broker real = rw real hears
 
   -- a registered broker is fenced
-  registered_leaves : (q : BrokerRegistration) (change : Walked → Option PartitionChange) (ws : List Walked) (after : Image) → IsValid after → apply_records image (kinds.RegisterBroker q.broker (registering.registration q place) ∷ changes_of change ws) ≡ Ok after → HearsOf (leave h q.broker) after
+  registered_leaves : (q : BrokerRegistration) (change : Walked → Option PartitionChange) (ws : List Walked) (after : Image) → IsValid after → apply_records image (kinds.RegisterBroker q.broker (broker_registration.registration q place) ∷ changes_of change ws) ≡ Ok after → HearsOf (leave h q.broker) after
   registered_leaves q change ws after good is =
-      let has = registered_then image q.broker (registering.registration q place) change ws after is in
+      let has = registered_then image q.broker (broker_registration.registration q place) change ws after is in
       heard_leaving h image after hears valid.brokers.ordered good.brokers.ordered q.broker (others image after q.broker _ has) (own image after q.broker _ has is_unfenced) (own image after q.broker _ has is_stopping)
 
-  registered_hears : (q : BrokerRegistration) (old : Option Broker) (after : Image) → IsValid after → apply_records image (kinds.RegisterBroker q.broker (registering.registration q place) ∷ registering.earlier_taken_out options.minimum image q old) ≡ Ok after → HearsOf (leave h q.broker) after
+  registered_hears : (q : BrokerRegistration) (old : Option Broker) (after : Image) → IsValid after → apply_records image (kinds.RegisterBroker q.broker (broker_registration.registration q place) ∷ broker_registration.earlier_taken_out options.minimum image q old) ≡ Ok after → HearsOf (leave h q.broker) after
   registered_hears q None after good is = registered_leaves q (λ _. None) [] after good is
   registered_hears q (Some old) after good is = registered_leaves q (taking_out options.minimum image q.broker (not (int_eq q.previous_epoch old.epoch))) (walk image) after good is
 
-  registration_hears : (q : BrokerRegistration) → let d = one registering.refused (registering.rule options b.time h) (nothing_decided place image) q in HearsOf (hearing.after_leaving h d.1.error q.broker) d.0.image
+  registration_hears : (q : BrokerRegistration) → let d = one broker_registration.refused (broker_registration.rule options b.time h) (nothing_decided place image) q in HearsOf (hearing.after_leaving h d.1.error q.broker) d.0.image
   registration_hears q =
-      done_by registering.refused (λ (d : Work × _). HearsOf (hearing.after_leaving h d.1.error q.broker) d.0.image) (nothing_decided place image) q (registering.rule options b.time h image place q)
-      (λ error is. refused_hears error q.broker (refuse_has (pos 104) (not (bytes_eq q.cluster options.cluster)) _ refl (refuse_has (pos 42) (int_lt q.broker (pos 0) || q.migrating || length q.listeners == 0) _ refl (refuse_has (pos 101) (registering.is_taken options b.time h image q) _ refl (done_has (registering.registered options image place q)))) error is))
+      done_by broker_registration.refused (λ (d : Work × _). HearsOf (hearing.after_leaving h d.1.error q.broker) d.0.image) (nothing_decided place image) q (broker_registration.rule options b.time h image place q)
+      (λ error is. refused_hears error q.broker (refuse_has (pos 104) (not (bytes_eq q.cluster options.cluster)) _ refl (refuse_has (pos 42) (int_lt q.broker (pos 0) || q.migrating || length q.listeners == 0) _ refl (refuse_has (pos 101) (broker_registration.is_taken options b.time h image q) _ refl (done_has (broker_registration.registered options image place q)))) error is))
       (refused_hears (pos 44) q.broker refl)
       (λ draft after is by.
       let P = λ (draft : Draft _). (int_eq draft.answer.error (pos 0) ≡ true) × ((after : Image) → IsValid after → apply_records image draft.records ≡ Ok after → HearsOf (leave h q.broker) after) in
-      let told = gives_refuse P (pos 104) (not (bytes_eq q.cluster options.cluster)) _ (λ _. gives_refuse P (pos 42) (int_lt q.broker (pos 0) || q.migrating || length q.listeners == 0) _ (λ _. gives_refuse P (pos 101) (registering.is_taken options b.time h image q) _ (λ _. gives_done P (registering.registered options image place q) (refl, registered_hears q (entries.get int_cmp image.brokers q.broker))))) draft is in
+      let told = gives_refuse P (pos 104) (not (bytes_eq q.cluster options.cluster)) _ (λ _. gives_refuse P (pos 42) (int_lt q.broker (pos 0) || q.migrating || length q.listeners == 0) _ (λ _. gives_refuse P (pos 101) (broker_registration.is_taken options b.time h image q) _ (λ _. gives_done P (broker_registration.registered options image place q) (refl, registered_hears q (entries.get int_cmp image.brokers q.broker))))) draft is in
       rw told.0 (told.1 after.image (valid_after image draft.records valid after.image by.applied) by.applied))
 
-  unregistration_hears : (q : UnregisterBroker) → let d = one unregistering.refused (unregistering.rule options) (nothing_decided place image) q in HearsOf (hearing.after_leaving h d.1.error q.broker) d.0.image
+  unregistration_hears : (q : UnregisterBroker) → let d = one unregister_broker.refused (unregister_broker.rule options) (nothing_decided place image) q in HearsOf (hearing.after_leaving h d.1.error q.broker) d.0.image
   unregistration_hears q =
-      done_by unregistering.refused (λ (d : Work × _). HearsOf (hearing.after_leaving h d.1.error q.broker) d.0.image) (nothing_decided place image) q (unregistering.rule options image place q)
+      done_by unregister_broker.refused (λ (d : Work × _). HearsOf (hearing.after_leaving h d.1.error q.broker) d.0.image) (nothing_decided place image) q (unregister_broker.rule options image place q)
       (λ error is. refused_hears error q.broker (found_has (pos 102) (entries.get int_cmp image.brokers q.broker) _ refl (λ old. done_has _) error is))
       (refused_hears (pos 44) q.broker refl)
       (λ draft after is by.
@@ -225,10 +225,10 @@ module _ (options : Options) (b : Basis) (image : Image) (place : ℤ) (valid : 
       )) draft is in
       rw told.0 (told.1 after.image (valid_after image draft.records valid after.image by.applied) by.applied))
 
-  heartbeat_hears : (q : BrokerHeartbeat) → let d = one heartbeating.refused (heartbeating.rule options h) (nothing_decided place image) q in HearsOf (hearing.after_heartbeat h image d.0.image b.time place q d.1) d.0.image
+  heartbeat_hears : (q : BrokerHeartbeat) → let d = one broker_heartbeat.refused (broker_heartbeat.rule options h) (nothing_decided place image) q in HearsOf (hearing.after_heartbeat h image d.0.image b.time place q d.1) d.0.image
   heartbeat_hears q =
-      let told = λ (state : Broker). heartbeating.told q (heartbeating.step options.minimum h image q state) in
-      done_by heartbeating.refused (λ (d : Work × _). HearsOf (hearing.after_heartbeat h image d.0.image b.time place q d.1) d.0.image) (nothing_decided place image) q (heartbeating.rule options h image place q)
+      let told = λ (state : Broker). broker_heartbeat.told q (broker_heartbeat.step options.minimum h image q state) in
+      done_by broker_heartbeat.refused (λ (d : Work × _). HearsOf (hearing.after_heartbeat h image d.0.image b.time place q d.1) d.0.image) (nothing_decided place image) q (broker_heartbeat.rule options h image place q)
       (λ error is. rw (found_has (pos 77) (entries.get int_cmp image.brokers q.broker) _ refl (λ state. refuse_has (pos 77) (not (int_eq q.epoch state.epoch)) _ refl (done_has (told state))) error is) hears)
       hears
       (λ draft after is by.
@@ -248,7 +248,7 @@ left_alone options b image place request other hears =
     }
 
 pub requests_keep_hearing : RequestsKeepHearing
-unfolding work_of registering.decided heartbeating.decided unregistering.decided heartbeats_after
+unfolding work_of broker_registration.decided broker_heartbeat.decided unregister_broker.decided heartbeats_after
 requests_keep_hearing options b image place (requests.BrokerRegistration q) valid hears = registration_hears options b image place valid hears q
 requests_keep_hearing options b image place (requests.BrokerHeartbeat q) valid hears = heartbeat_hears options b image place valid hears q
 requests_keep_hearing options b image place (requests.UnregisterBroker q) valid hears = unregistration_hears options b image place valid hears q

@@ -23,8 +23,8 @@ use Rattle.kr_calls.specs.declared.create_partitions.CreatePartitionsAssignment.
 use Rattle.kr_calls.specs.declared.create_topics.CreatableReplicaAssignment.{CreatableReplicaAssignment}
 use Rattle.kr_calls.specs.declared.create_topics.CreatableTopic.{CreatableTopic}
 use Rattle.kr_calls.specs.declared.errors.TheConstants.{INVALID_PARTITIONS, INVALID_REPLICATION_FACTOR, INVALID_REPLICA_ASSIGNMENT, INVALID_REQUEST}
-use Rattle.kr_calls.specs.CreatePartitions as growing
-use Rattle.kr_calls.specs.CreateTopics as creating
+use Rattle.kr_calls.specs.CreatePartitions as create_partitions
+use Rattle.kr_calls.specs.CreateTopics as create_topics
 use Rattle.kr_calls.specs.NewPartitions.{is_assignable, placements, racked}
 use Rattle.kr_calls.proofs.WalkedChanges.{value_at}
 use Rattle.law_safety.proofs.PlacedReplicas.{placed_count, placed_distinct, placed_within}
@@ -90,7 +90,7 @@ module _ (image : Image) (valid : IsValid image) where
   abbrev passes : CreatableReplicaAssignment → ℕ → Bool
   passes a size = is_assignable image a.brokers && length a.brokers == size
 
-  assigned_one : (assignments : List CreatableReplicaAssignment) (size index : ℕ) (others : List (List ℤ)) → list_all (λ a. passes a size) assignments ≡ true → AllByRecursion (IsNew image) others → AllByRecursion (IsNew image) (cons_option (creating.assigned_at assignments index) others)
+  assigned_one : (assignments : List CreatableReplicaAssignment) (size index : ℕ) (others : List (List ℤ)) → list_all (λ a. passes a size) assignments ≡ true → AllByRecursion (IsNew image) others → AllByRecursion (IsNew image) (cons_option (create_topics.assigned_at assignments index) others)
   assigned_one [] size index others all so_far = so_far
   assigned_one (a ∷ assignments) size index others all so_far =
       let parts = and_parts (passes a size) (list_all (λ x. passes x size) assignments) all in
@@ -99,9 +99,9 @@ module _ (image : Image) (valid : IsValid image) where
         | false ↦ assigned_one assignments size index others parts.1 so_far
       ]
 
-  assigned_all : (assignments : List CreatableReplicaAssignment) (size : ℕ) (indexes : List ℕ) → list_all (λ a. passes a size) assignments ≡ true → AllByRecursion (IsNew image) (filter_map (creating.assigned_at assignments) indexes)
+  assigned_all : (assignments : List CreatableReplicaAssignment) (size : ℕ) (indexes : List ℕ) → list_all (λ a. passes a size) assignments ≡ true → AllByRecursion (IsNew image) (filter_map (create_topics.assigned_at assignments) indexes)
   assigned_all assignments size [] all = tt
-  assigned_all assignments size (index ∷ indexes) all = assigned_one assignments size index (filter_map (creating.assigned_at assignments) indexes) all (assigned_all assignments size indexes all)
+  assigned_all assignments size (index ∷ indexes) all = assigned_one assignments size index (filter_map (create_topics.assigned_at assignments) indexes) all (assigned_all assignments size indexes all)
 
   assigned_more : (assignments : List CreatePartitionsAssignment) (size : ℕ) → list_all (λ (a : CreatePartitionsAssignment). is_assignable image a.brokers && length a.brokers == size) assignments ≡ true → AllByRecursion (IsNew image) (map (λ (a : CreatePartitionsAssignment). a.brokers) assignments)
   assigned_more [] size all = tt
@@ -134,7 +134,7 @@ module _ (image : Image) (valid : IsValid image) where
 
   -- ---- what requests lay out
 
-  spread_new : (place partitions factor : ℤ) → creating.is_factor image factor ≡ true → AllByRecursion (IsNew image) (placements image place 0 (unsigned_abs partitions) (unsigned_abs factor))
+  spread_new : (place partitions factor : ℤ) → create_topics.is_factor image factor ≡ true → AllByRecursion (IsNew image) (placements image place 0 (unsigned_abs partitions) (unsigned_abs factor))
   spread_new place partitions (negsuc n) is = absurd cc
   spread_new place partitions (pos n) is =
       let a = and_parts (int_le (pos 1) (pos n) && int_le (pos n) (pos MOST_TARGETS)) (int_le (pos n) (pos (length (active image)))) is in
@@ -142,24 +142,24 @@ module _ (image : Image) (valid : IsValid image) where
       placements_new n b.0 (more_targets n b.1) a.1 place 0 (unsigned_abs partitions)
 
   -- of new topics
-  pub created_new : (options : Options) (place : ℤ) (entry : CreatableTopic) → MatchResult (creating.layout options image place entry) (λ layout. AllByRecursion (IsNew image) layout.replicas) IsOwn
+  pub created_new : (options : Options) (place : ℤ) (entry : CreatableTopic) → MatchResult (create_topics.layout options image place entry) (λ layout. AllByRecursion (IsNew image) layout.replicas) IsOwn
   created_new options place entry =
-      let P : creating.Layout → Type 0 = λ layout. AllByRecursion (IsNew image) layout.replicas in
-      let partitions = creating.or_default entry.partitions options.partitions in
-      let factor = creating.or_default entry.factor options.factor in
+      let P : create_topics.Layout → Type 0 = λ layout. AllByRecursion (IsNew image) layout.replicas in
+      let partitions = create_topics.or_default entry.partitions options.partitions in
+      let factor = create_topics.or_default entry.factor options.factor in
       by_if P IsOwn (length entry.assignments == 0) _ _
-      (λ _. by_refuse P IsOwn INVALID_PARTITIONS (int_lt partitions (pos 1)) _ (λ _. refl) (λ _. by_refuse P IsOwn INVALID_REPLICATION_FACTOR (not (creating.is_factor image factor)) _ (λ _. refl) (λ fits.
-      spread_new place partitions factor (not_false (creating.is_factor image factor) fits))))
-      (λ _. by_refuse P IsOwn INVALID_REQUEST (not (int_eq entry.partitions (negsuc 0)) || not (int_eq entry.factor (negsuc 0))) _ (λ _. refl) (λ _. by_refuse P IsOwn INVALID_REPLICA_ASSIGNMENT (not (creating.are_whole entry.assignments) || not (creating.are_assignable image entry.assignments)) _ (λ _. refl) (λ fits.
-      assigned_all entry.assignments (creating.first_size entry.assignments) (creating.indexes_of entry.assignments)
-      (not_false (creating.are_assignable image entry.assignments) (neither (not (creating.are_whole entry.assignments)) (not (creating.are_assignable image entry.assignments)) fits).1))))
+      (λ _. by_refuse P IsOwn INVALID_PARTITIONS (int_lt partitions (pos 1)) _ (λ _. refl) (λ _. by_refuse P IsOwn INVALID_REPLICATION_FACTOR (not (create_topics.is_factor image factor)) _ (λ _. refl) (λ fits.
+      spread_new place partitions factor (not_false (create_topics.is_factor image factor) fits))))
+      (λ _. by_refuse P IsOwn INVALID_REQUEST (not (int_eq entry.partitions (negsuc 0)) || not (int_eq entry.factor (negsuc 0))) _ (λ _. refl) (λ _. by_refuse P IsOwn INVALID_REPLICA_ASSIGNMENT (not (create_topics.are_whole entry.assignments) || not (create_topics.are_assignable image entry.assignments)) _ (λ _. refl) (λ fits.
+      assigned_all entry.assignments (create_topics.first_size entry.assignments) (create_topics.indexes_of entry.assignments)
+      (not_false (create_topics.are_assignable image entry.assignments) (neither (not (create_topics.are_whole entry.assignments)) (not (create_topics.are_assignable image entry.assignments)) fits).1))))
 
   -- of a topic that gets more partitions
-  pub grown_new : (place : ℤ) (first count : ℕ) (p : Partition) (assignments : Option (List CreatePartitionsAssignment)) → is_well_formed p ≡ true → MatchResult (growing.new_replicas image place first count (length (target p)) assignments) (AllByRecursion (IsNew image)) IsOwn
+  pub grown_new : (place : ℤ) (first count : ℕ) (p : Partition) (assignments : Option (List CreatePartitionsAssignment)) → is_well_formed p ≡ true → MatchResult (create_partitions.new_replicas image place first count (length (target p)) assignments) (AllByRecursion (IsNew image)) IsOwn
   grown_new place first count p (Some assignments) formed =
       let size = length (target p) in
-      by_refuse (AllByRecursion (IsNew image)) IsOwn INVALID_REPLICA_ASSIGNMENT (not (growing.are_assignable image count size assignments)) _ (λ _. refl) (λ fits.
-      assigned_more assignments size (and_parts (length assignments == count) _ (not_false (growing.are_assignable image count size assignments) fits)).1)
+      by_refuse (AllByRecursion (IsNew image)) IsOwn INVALID_REPLICA_ASSIGNMENT (not (create_partitions.are_assignable image count size assignments)) _ (λ _. refl) (λ fits.
+      assigned_more assignments size (and_parts (length assignments == count) _ (not_false (create_partitions.are_assignable image count size assignments) fits)).1)
   grown_new place first count p None formed =
       let size = length (target p) in
       let f = formed_parts p formed in

@@ -25,7 +25,7 @@ use Rattle.kr_defs.proofs.Maps.{then_equal}
 use Rattle.kr_defs.proofs.Tests.{not_false}
 use Rattle.kr_defs.proofs.TopicWalks.{equal_ids, same_topic}
 use Rattle.kr_defs.proofs.Walks.{get_other}
-use Rattle.kr_calls.specs.CreateTopics as creating
+use Rattle.kr_calls.specs.CreateTopics as create_topics
 
 -- ---- the least number that is free
 
@@ -74,11 +74,11 @@ pub record IsNewId (topics : List (List ℕ × ℕ)) (id : ℕ) : Type 0 where
   pub free : has_topic topics id ≡ false
   pub some : (id == 0) ≡ false
 
-pub new_id_new : (options : Options) (image : Image) (place : ℤ) → IsNewId image.topics (creating.new_id options image place)
+pub new_id_new : (options : Options) (image : Image) (place : ℤ) → IsNewId image.topics (create_topics.new_id options image place)
 new_id_new options image place =
     let first : ℕ = options.salt * 2 ^ 64 + unsigned_abs place + 1 in
     let one = one_is_free image.topics first in
-    let is : creating.new_id options image place ≡ one.0 = ap (λ o. unwrap_or o first) one.1 in
+    let is : create_topics.new_id options image place ≡ one.0 = ap (λ o. unwrap_or o first) one.1 in
     let low = one.3 in
     subst (IsNewId image.topics) (sym is) (record { free = one.2; some = not_zero one.0 (omega (arith, low)) })
   where

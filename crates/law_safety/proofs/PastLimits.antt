@@ -19,9 +19,9 @@ use Rattle.kr_defs.specs.Sizes.{value_bytes}
 use Rattle.kr_calls.specs.declared.broker_registration.BrokerRegistration.{BrokerRegistration}
 use Rattle.kr_calls.specs.declared.calls.Reply.{Reply}
 use Rattle.kr_calls.specs.declared.calls.Reply.TheVariants as replies
-use Rattle.kr_calls.specs.AlterPartitionReassignments as reassigning
-use Rattle.kr_calls.specs.BrokerRegistration as registering
-use Rattle.kr_calls.specs.CreatePartitions as growing
+use Rattle.kr_calls.specs.AlterPartitionReassignments as alter_partition_reassignments
+use Rattle.kr_calls.specs.BrokerRegistration as broker_registration
+use Rattle.kr_calls.specs.CreatePartitions as create_partitions
 use Rattle.kr_calls.specs.Deciding.{done, is_request, is_within_limits, taken}
 
 -- so many ids from one on
@@ -90,14 +90,14 @@ registers = record {
 
 -- where the registration is decided at this place
 abbrev registered_at : ℤ → Reply
-registered_at place = (registering.decided options (pos 0) none_heard (cluster 1 []) place registers).1
+registered_at place = (broker_registration.decided options (pos 0) none_heard (cluster 1 []) place registers).1
 
 as_old : registered_at (pos 13) ≡ replies.BrokerRegistration (record { error = pos 0; epoch = pos 13 })
-unfolding registering.decided done taken apply_record value_bytes
+unfolding broker_registration.decided done taken apply_record value_bytes
 as_old = refl
 
 older : registered_at (pos 12) ≡ replies.BrokerRegistration (record { error = pos 44; epoch = negsuc 0 })
-unfolding registering.decided done taken apply_record value_bytes
+unfolding broker_registration.decided done taken apply_record value_bytes
 older = refl
 
 -- ---- an index that is one too many
@@ -105,15 +105,15 @@ older = refl
 -- one partition more, where this is the last
 abbrev grown_from : ℕ → Reply
 grown_from last =
-    (growing.decided (cluster 1 (((77, pos 0), whole (pos 1 ∷ [])) ∷ ((77, pos last), whole (pos 1 ∷ [])) ∷ [])) (pos 30)
+    (create_partitions.decided (cluster 1 (((77, pos 0), whole (pos 1 ∷ [])) ∷ ((77, pos last), whole (pos 1 ∷ [])) ∷ [])) (pos 30)
     (record { topics = record { name = codes "t"; count = pos (last + 2); assignments = Some (record { brokers = pos 1 ∷ [] } ∷ []) } ∷ []; validate_only = true })).1
 
 index_8999 : grown_from 8998 ≡ replies.CreatePartitions (record { results = record { name = codes "t"; error = pos 0 } ∷ [] })
-unfolding growing.decided done taken apply_record value_bytes is_well_formed
+unfolding create_partitions.decided done taken apply_record value_bytes is_well_formed
 index_8999 = refl
 
 index_9000 : grown_from 8999 ≡ replies.CreatePartitions (record { results = record { name = codes "t"; error = pos 44 } ∷ [] })
-unfolding growing.decided done taken apply_record value_bytes is_well_formed
+unfolding create_partitions.decided done taken apply_record value_bytes is_well_formed
 index_9000 = refl
 
 -- ---- a reassignment over too many replicas
@@ -121,7 +121,7 @@ index_9000 = refl
 -- 32 replicas that are all others, where so many stand
 abbrev moved_from : ℕ → Reply
 moved_from n =
-    (reassigning.decided options (cluster 65 (((77, pos 0), whole (ids 1 n)) ∷ [])) (pos 30)
+    (alter_partition_reassignments.decided options (cluster 65 (((77, pos 0), whole (ids 1 n)) ∷ [])) (pos 30)
     (record { topics = record { name = codes "t"; partitions = record { index = pos 0; replicas = Some (ids 34 32) } ∷ [] } ∷ [] })).1
 
 abbrev moves : ℤ → Reply
@@ -129,9 +129,9 @@ moves error =
     replies.AlterPartitionReassignments (record { error = pos 0; responses = record { name = codes "t"; partitions = record { index = pos 0; error = error } ∷ [] } ∷ [] })
 
 replicas_64 : moved_from 32 ≡ moves (pos 0)
-unfolding reassigning.decided built aimed ended completes elected settled standing_by eligible_after difference merged done taken apply_record value_bytes is_well_formed
+unfolding alter_partition_reassignments.decided built aimed ended completes elected settled standing_by eligible_after difference merged done taken apply_record value_bytes is_well_formed
 replicas_64 = refl
 
 replicas_65 : moved_from 33 ≡ moves (pos 44)
-unfolding reassigning.decided built aimed ended completes elected settled standing_by eligible_after difference merged done taken apply_record value_bytes is_well_formed
+unfolding alter_partition_reassignments.decided built aimed ended completes elected settled standing_by eligible_after difference merged done taken apply_record value_bytes is_well_formed
 replicas_65 = refl

@@ -52,20 +52,20 @@ use Rattle.kr_calls.specs.declared.deciding.Draft.{Draft}
 use Rattle.kr_calls.specs.declared.incremental_alter_configs.ConfigOperation.{ConfigOperation}
 use Rattle.kr_calls.specs.declared.incremental_alter_configs.ConfigResource.{ConfigResource}
 use Rattle.kr_calls.specs.declared.errors.TheConstants as errors
-use Rattle.kr_calls.specs.AlterPartition as reporting
-use Rattle.kr_calls.specs.AlterPartitionReassignments as reassigning
-use Rattle.kr_calls.specs.BrokerHeartbeat as heartbeating
-use Rattle.kr_calls.specs.BrokerRegistration as registering
-use Rattle.kr_calls.specs.CreatePartitions as growing
-use Rattle.kr_calls.specs.CreateTopics as creating
-use Rattle.kr_calls.specs.DeleteTopics as deleting
+use Rattle.kr_calls.specs.AlterPartition as alter_partition
+use Rattle.kr_calls.specs.AlterPartitionReassignments as alter_partition_reassignments
+use Rattle.kr_calls.specs.BrokerHeartbeat as broker_heartbeat
+use Rattle.kr_calls.specs.BrokerRegistration as broker_registration
+use Rattle.kr_calls.specs.CreatePartitions as create_partitions
+use Rattle.kr_calls.specs.CreateTopics as create_topics
+use Rattle.kr_calls.specs.DeleteTopics as delete_topics
 use Rattle.kr_calls.specs.Deciding.{apply_records}
-use Rattle.kr_calls.specs.ElectLeaders as electing
-use Rattle.kr_calls.specs.IncrementalAlterConfigs as configuring
+use Rattle.kr_calls.specs.ElectLeaders as elect_leaders
+use Rattle.kr_calls.specs.IncrementalAlterConfigs as incremental_alter_configs
 use Rattle.kr_calls.specs.NewPartitions.{new_partitions}
-use Rattle.kr_calls.specs.Refuse.{refused_resource}
+use Rattle.kr_calls.specs.Refuse.{refused_incremental_alter_configs}
 use Rattle.kr_calls.specs.TakingOut.{fencing, taken_out}
-use Rattle.kr_calls.specs.UnregisterBroker as unregistering
+use Rattle.kr_calls.specs.UnregisterBroker as unregister_broker
 use Rattle.kr_calls.proofs.TakingOutSteps.{taken_out_leaves, unregistering_stands}
 use Rattle.kr_calls.proofs.WalkedChanges.{changes_stand, is_owned, walk_leaves, walk_stands}
 use Rattle.law_safety.specs.RefusalLaws.{LimitsAloneRefuse, is_past_limit}
@@ -130,48 +130,48 @@ module _ (place : ℕ) (image : Image) where
       let k : ConfigKey = record { kind = kind; name = name; key = key } in
       by_refuse rest (λ cause. IsTrue (is_past_limit at now (kinds.Config kind name key (Some value)) cause)) Limit (nat_lt MOST_CONFIG_TEXT (config_text (entries.insert config_order now.configs k value))) _ (λ _. refl) (λ _. behind _)
 
-  settings_break : (now : Image) (configs : List (ConfigKey × List ℕ)) (topic : List ℕ) (settings : List CreatableTopicConfig) → Breaks at now (creating.settings_records configs topic settings)
+  settings_break : (now : Image) (configs : List (ConfigKey × List ℕ)) (topic : List ℕ) (settings : List CreatableTopicConfig) → Breaks at now (create_topics.settings_records configs topic settings)
   settings_break now configs topic [] = tt
   settings_break now configs topic (s ∷ settings) =
       let key : ConfigKey = record { kind = topic_kind; name = topic; key = s.name } in
       let value : List ℕ = unwrap_or s.value [] in
-      let others : List Record = creating.settings_records (entries.insert config_order configs key value) topic settings in
-      elim (option_map_or (bytes_eq value) (entries.get config_order configs key) false) as (λ b. Breaks at now (cond b (creating.settings_records configs topic settings) (kinds.Config topic_kind topic s.name (Some value) ∷ others))) [
+      let others : List Record = create_topics.settings_records (entries.insert config_order configs key value) topic settings in
+      elim (option_map_or (bytes_eq value) (entries.get config_order configs key) false) as (λ b. Breaks at now (cond b (create_topics.settings_records configs topic settings) (kinds.Config topic_kind topic s.name (Some value) ∷ others))) [
         | true ↦ settings_break now configs topic settings
         | false ↦ setting_breaks now topic_kind topic s.name (Some value) (λ after. Breaks at after others) (λ after. settings_break after (entries.insert config_order configs key value) topic settings)
       ]
 
-  settings_leave : (now : Image) (configs : List (ConfigKey × List ℕ)) (topic : List ℕ) (settings : List CreatableTopicConfig) → Gives (WithPartitionsOf now) (apply_records now (creating.settings_records configs topic settings))
+  settings_leave : (now : Image) (configs : List (ConfigKey × List ℕ)) (topic : List ℕ) (settings : List CreatableTopicConfig) → Gives (WithPartitionsOf now) (apply_records now (create_topics.settings_records configs topic settings))
   settings_leave now configs topic [] = gives_done (WithPartitionsOf now) now (record { topics = refl; partitions = refl })
   settings_leave now configs topic (s ∷ settings) =
       let key : ConfigKey = record { kind = topic_kind; name = topic; key = s.name } in
       let value : List ℕ = unwrap_or s.value [] in
-      let others : List Record = creating.settings_records (entries.insert config_order configs key value) topic settings in
-      elim (option_map_or (bytes_eq value) (entries.get config_order configs key) false) as (λ b. Gives (WithPartitionsOf now) (apply_records now (cond b (creating.settings_records configs topic settings) (kinds.Config topic_kind topic s.name (Some value) ∷ others)))) [
+      let others : List Record = create_topics.settings_records (entries.insert config_order configs key value) topic settings in
+      elim (option_map_or (bytes_eq value) (entries.get config_order configs key) false) as (λ b. Gives (WithPartitionsOf now) (apply_records now (cond b (create_topics.settings_records configs topic settings) (kinds.Config topic_kind topic s.name (Some value) ∷ others)))) [
         | true ↦ settings_leave now configs topic settings
         | false ↦ gives_then (WithPartitionsOf now) (WithPartitionsOf now) (apply_record now (kinds.Config topic_kind topic s.name (Some value))) (λ after. apply_records after others) (setting_leaves now topic_kind topic s.name (Some value)) (λ mid same after is.
             let more = settings_leave mid (entries.insert config_order configs key value) topic settings after is in
             record { topics = more.topics ∙ same.topics; partitions = more.partitions ∙ same.partitions })
       ]
 
-  values_break : (now : Image) (entry : ConfigResource) (values : configuring.Values) → Breaks at now (filter_map (configuring.config_record image entry) values)
+  values_break : (now : Image) (entry : ConfigResource) (values : incremental_alter_configs.Values) → Breaks at now (filter_map (incremental_alter_configs.config_record image entry) values)
   values_break now entry [] = tt
   values_break now entry (v ∷ values) =
-      elim (configuring.is_same_value v.1 (entries.get config_order image.configs (configuring.key_of entry v.0))) as (λ b. Breaks at now (cons_option (cond b None (Some (kinds.Config entry.kind entry.name v.0 v.1))) (filter_map (configuring.config_record image entry) values))) [
+      elim (incremental_alter_configs.is_same_value v.1 (entries.get config_order image.configs (incremental_alter_configs.key_of entry v.0))) as (λ b. Breaks at now (cons_option (cond b None (Some (kinds.Config entry.kind entry.name v.0 v.1))) (filter_map (incremental_alter_configs.config_record image entry) values))) [
         | true ↦ values_break now entry values
-        | false ↦ setting_breaks now entry.kind entry.name v.0 v.1 (λ after. Breaks at after (filter_map (configuring.config_record image entry) values)) (λ after. values_break after entry values)
+        | false ↦ setting_breaks now entry.kind entry.name v.0 v.1 (λ after. Breaks at after (filter_map (incremental_alter_configs.config_record image entry) values)) (λ after. values_break after entry values)
       ]
 
-  operation_own : (entry : ConfigResource) (values : configuring.Values) (o : ConfigOperation) → MatchResult (configuring.after_operation image entry values o) (λ _. Unit {0}) IsOwn
+  operation_own : (entry : ConfigResource) (values : incremental_alter_configs.Values) (o : ConfigOperation) → MatchResult (incremental_alter_configs.after_operation image entry values o) (λ _. Unit {0}) IsOwn
   operation_own entry values o =
-      let P : configuring.Values → Type 0 = λ _. Unit {0} in
-      by_refuse P IsOwn errors.INVALID_REQUEST (configuring.is_bad_operation o) _ (λ _. refl) (λ _. by_refuse P IsOwn errors.INVALID_CONFIG (not (is_setting_key o.name)) _ (λ _. refl) (λ _. by_refuse P IsOwn errors.INVALID_CONFIG (configuring.is_of_parts o && not (is_list_key o.name)) _ (λ _. refl) (λ _.
-      by_refuse P IsOwn errors.INVALID_CONFIG (not (configuring.may_result o.name (configuring.operated o (configuring.value_now image entry values o.name)))) _ (λ _. refl) (λ _. tt))))
+      let P : incremental_alter_configs.Values → Type 0 = λ _. Unit {0} in
+      by_refuse P IsOwn errors.INVALID_REQUEST (incremental_alter_configs.is_bad_operation o) _ (λ _. refl) (λ _. by_refuse P IsOwn errors.INVALID_CONFIG (not (is_setting_key o.name)) _ (λ _. refl) (λ _. by_refuse P IsOwn errors.INVALID_CONFIG (incremental_alter_configs.is_of_parts o && not (is_list_key o.name)) _ (λ _. refl) (λ _.
+      by_refuse P IsOwn errors.INVALID_CONFIG (not (incremental_alter_configs.may_result o.name (incremental_alter_configs.operated o (incremental_alter_configs.value_now image entry values o.name)))) _ (λ _. refl) (λ _. tt))))
 
-  operations_own : (entry : ConfigResource) (values : configuring.Values) (operations : List ConfigOperation) → MatchResult (configuring.after_operations image entry values operations) (λ _. Unit {0}) IsOwn
+  operations_own : (entry : ConfigResource) (values : incremental_alter_configs.Values) (operations : List ConfigOperation) → MatchResult (incremental_alter_configs.after_operations image entry values operations) (λ _. Unit {0}) IsOwn
   operations_own entry values [] = tt
   operations_own entry values (o ∷ operations) =
-      by_then (λ _. Unit {0}) IsOwn (λ _. Unit {0}) (configuring.after_operation image entry values o) (λ after. configuring.after_operations image entry after operations) (operation_own entry values o) (λ after _. operations_own entry after operations)
+      by_then (λ _. Unit {0}) IsOwn (λ _. Unit {0}) (incremental_alter_configs.after_operation image entry values o) (λ after. incremental_alter_configs.after_operations image entry after operations) (operation_own entry values o) (λ after _. operations_own entry after operations)
 
   module _ (valid : IsValid image) where
     -- ---- topics
@@ -185,11 +185,11 @@ module _ (place : ℕ) (image : Image) where
         by_refuse P Q TopicExists (entries.contains text_order image.topics name || has_topic image.topics id || id == 0) _ (λ there. let none : (entries.contains text_order image.topics name || has_topic image.topics id || id == 0) ≡ false = rw (new, free, some) refl in absurd cc) (λ _.
         by_refuse P Q Limit (nat_le MOST_TOPICS (length image.topics)) _ (λ _. refl) (λ _. behind)))
 
-    created_breaks : (options : Options) (validate_only : Bool) (entry : CreatableTopic) (layout : creating.Layout) → is_topic_name entry.name ≡ true → entries.contains text_order image.topics entry.name ≡ false → AllByRecursion (IsNew image) layout.replicas → IsLimited at image (creating.created image validate_only (creating.new_id options image at) entry layout)
+    created_breaks : (options : Options) (validate_only : Bool) (entry : CreatableTopic) (layout : create_topics.Layout) → is_topic_name entry.name ≡ true → entries.contains text_order image.topics entry.name ≡ false → AllByRecursion (IsNew image) layout.replicas → IsLimited at image (create_topics.created image validate_only (create_topics.new_id options image at) entry layout)
     created_breaks options validate_only entry layout named new lists =
-        let id = creating.new_id options image at in
+        let id = create_topics.new_id options image at in
         let ids = new_id_new options image at in
-        let settings = creating.settings_records image.configs entry.name entry.configs in
+        let settings = create_topics.settings_records image.configs entry.name entry.configs in
         let after : Image = record image { topics = entries.insert text_order image.topics entry.name id } in
         topic_breaks entry.name id (settings ++ new_partitions image id 0 layout.replicas) named new ids.free ids.some
         (both_break at after settings (new_partitions image id 0 layout.replicas) (settings_break after image.configs entry.name entry.configs) (λ mid is.
@@ -197,33 +197,33 @@ module _ (place : ℕ) (image : Image) where
         partitions_break mid id 0 layout.replicas (subst (λ ts. has_topic ts id ≡ true) (sym same.topics) (inserted_stands image.topics entry.name id))
         (subst (λ ps. HasNoneFrom ps id 0) (sym same.partitions) (none_owned image.topics image.partitions id (recursion_from_All (λ e. has_topic image.topics e.0.0 ≡ true) image.partitions valid.partitions.owned) ids.free)) lists))
 
-    creates : (options : Options) (validate_only : Bool) (entry : CreatableTopic) → Limited at image (creating.rule options validate_only image at entry)
+    creates : (options : Options) (validate_only : Bool) (entry : CreatableTopic) → Limited at image (create_topics.rule options validate_only image at entry)
     creates options validate_only entry =
         let P = IsLimited at image in
         by_refuse P IsOwn errors.INVALID_TOPIC_EXCEPTION (not (is_topic_name entry.name)) _ (λ _. refl) (λ named. by_refuse P IsOwn errors.TOPIC_ALREADY_EXISTS (entries.contains text_order image.topics entry.name) _ (λ _. refl) (λ new. by_refuse P IsOwn errors.INVALID_TOPIC_EXCEPTION (list_any (λ topic. names_agree topic.0 entry.name) image.topics) _ (λ _. refl) (λ _.
-        by_then P IsOwn (λ (layout : creating.Layout). AllByRecursion (IsNew image) layout.replicas) (creating.layout options image at entry) (creating.of_layout options validate_only image at entry) (created_new image valid options at entry) (λ layout lists.
-        by_refuse P IsOwn errors.INVALID_CONFIG (list_any creating.is_bad_setting entry.configs) _ (λ _. refl) (λ _. created_breaks options validate_only entry layout (not_false (is_topic_name entry.name) named) new lists)))))
+        by_then P IsOwn (λ (layout : create_topics.Layout). AllByRecursion (IsNew image) layout.replicas) (create_topics.layout options image at entry) (create_topics.of_layout options validate_only image at entry) (created_new image valid options at entry) (λ layout lists.
+        by_refuse P IsOwn errors.INVALID_CONFIG (list_any create_topics.is_bad_setting entry.configs) _ (λ _. refl) (λ _. created_breaks options validate_only entry layout (not_false (is_topic_name entry.name) named) new lists)))))
 
-    removal_breaks : (name : List ℕ) (id : ℕ) → topic_name image.topics id ≡ Some name → IsLimited at image (deleting.deleted name id)
+    removal_breaks : (name : List ℕ) (id : ℕ) → topic_name image.topics id ≡ Some name → IsLimited at image (delete_topics.deleted name id)
     unfolding apply_record
     removal_breaks name id named = rw named tt
 
-    deletes_named : (name : Option (List ℕ)) (id : ℕ) → Limited at image (deleting.by_name_or_id image name id)
+    deletes_named : (name : Option (List ℕ)) (id : ℕ) → Limited at image (delete_topics.by_name_or_id image name id)
     deletes_named (Some name) id = by_found (IsLimited at image) IsOwn errors.UNKNOWN_TOPIC_OR_PARTITION (entries.get text_order image.topics name) _ (λ _. refl) (λ there is. removal_breaks name there (named_back image.topics valid.topics name there is))
     deletes_named None id = by_found (IsLimited at image) IsOwn errors.UNKNOWN_TOPIC_ID (topic_name image.topics id) _ (λ _. refl) (λ name is. removal_breaks name id is)
 
-    deletes : (entry : _) → Limited at image (deleting.rule image at entry)
+    deletes : (entry : _) → Limited at image (delete_topics.rule image at entry)
     deletes entry = by_refuse (IsLimited at image) IsOwn errors.INVALID_REQUEST (not (is_named_once entry.name entry.topic)) _ (λ _. refl) (λ _. deletes_named entry.name entry.topic)
 
     has_named : (name : List ℕ) (id : ℕ) → topic_name image.topics id ≡ Some name → has_topic image.topics id ≡ true
     has_named name id named = is_owned image.topics id name named
 
-    grows : (entry : _) → Limited at image (growing.rule image at entry)
+    grows : (entry : _) → Limited at image (create_partitions.rule image at entry)
     grows entry =
         let P = IsLimited at image in
         by_found P IsOwn errors.UNKNOWN_TOPIC_OR_PARTITION (entries.get text_order image.topics entry.name) _ (λ _. refl) (λ id is. let first = count_of image id in
         by_refuse P IsOwn errors.INVALID_PARTITIONS (int_le entry.count (pos first)) _ (λ _. refl) (λ _. by_found P IsOwn errors.INVALID_REPLICA_ASSIGNMENT (entries.get partition_order image.partitions (id, pos 0)) _ (λ _. refl) (λ p there.
-        by_then P IsOwn (AllByRecursion (IsNew image)) (growing.new_replicas image at first (unsigned_abs entry.count - first) (length (target p)) entry.assignments) _ (grown_new image valid at first (unsigned_abs entry.count - first) p entry.assignments (formed_at image valid (id, pos 0) p there)) (λ lists new.
+        by_then P IsOwn (AllByRecursion (IsNew image)) (create_partitions.new_replicas image at first (unsigned_abs entry.count - first) (length (target p)) entry.assignments) _ (grown_new image valid at first (unsigned_abs entry.count - first) p entry.assignments (formed_at image valid (id, pos 0) p there)) (λ lists new.
         partitions_break image id first lists (has_named entry.name id (named_back image.topics valid.topics entry.name id is)) (none_behind image id) new))))
 
     -- ---- partitions
@@ -234,34 +234,34 @@ module _ (place : ℕ) (image : Image) where
         change_breaks at image name key p (built p want facts) named there
         (IfSome_then (built p want facts) {P = λ change. IsTrue (is_well_formed (merged p change))} (kept p want facts (formed_at image valid key p there) sensible) (λ change well. inr well))
 
-    drafted_breaks : (broker : ℤ) (entry : reporting.Entry) (p : Partition) (o : Option PartitionChange) → Breaks at image (change_records entry.0 entry.1.index o) → IsLimited at image (reporting.drafted broker entry p o)
+    drafted_breaks : (broker : ℤ) (entry : alter_partition.Entry) (p : Partition) (o : Option PartitionChange) → Breaks at image (change_records entry.0 entry.1.index o) → IsLimited at image (alter_partition.drafted broker entry p o)
     drafted_breaks broker entry p None breaks = breaks
     drafted_breaks broker entry p (Some change) breaks = breaks
 
-    reported_sensible : (broker : ℤ) (p : Partition) (report : PartitionReport) → is_well_formed p ≡ true → reporting.is_bad broker p report ≡ false → is_sensible (reporting.wanted p report) ≡ true
+    reported_sensible : (broker : ℤ) (p : Partition) (report : PartitionReport) → is_well_formed p ≡ true → alter_partition.is_bad broker p report ≡ false → is_sensible (alter_partition.wanted p report) ≡ true
     reported_sensible broker p report formed good =
         let own = and_parts (are_replicas p.replicas && is_reassignment p.replicas p.adding p.removing) (is_recovery p.recovery) (defaults_sensible p formed) in
-        let recovery = (neither (not (int_eq p.leader broker) || reporting.are_bad_members p (reporting.members report)) (reporting.is_bad_recovery p report) good).1 in
+        let recovery = (neither (not (int_eq p.leader broker) || alter_partition.are_bad_members p (alter_partition.members report)) (alter_partition.is_bad_recovery p report) good).1 in
         and_from (are_replicas p.replicas && is_reassignment p.replicas p.adding p.removing) (is_recovery report.recovery) own.0 (not_false (is_recovery report.recovery) (neither (not (is_recovery report.recovery)) _ recovery).0)
 
-    reports : (options : Options) (broker : ℤ) (entry : reporting.Entry) → Limited at image (reporting.rule options broker image at entry)
-    unfolding reporting.of_partition reporting.accepted
+    reports : (options : Options) (broker : ℤ) (entry : alter_partition.Entry) → Limited at image (alter_partition.rule options broker image at entry)
+    unfolding alter_partition.of_partition alter_partition.accepted
     reports options broker entry =
         let P = IsLimited at image in
         by_found P IsOwn errors.UNKNOWN_TOPIC_ID (topic_name image.topics entry.0) _ (λ _. refl) (λ name named. by_found P IsOwn errors.UNKNOWN_TOPIC_OR_PARTITION (entries.get partition_order image.partitions (entry.0, entry.1.index)) _ (λ _. refl) (λ p there.
-        by_refuse P IsOwn errors.FENCED_LEADER_EPOCH (int_lt entry.1.leader_epoch p.leader_epoch) _ (λ _. refl) (λ _. by_refuse P IsOwn errors.UNKNOWN_LEADER_EPOCH (int_lt p.leader_epoch entry.1.leader_epoch) _ (λ _. refl) (λ _. by_refuse P IsOwn errors.INVALID_UPDATE_VERSION (not (int_eq entry.1.partition_epoch p.partition_epoch)) _ (λ _. refl) (λ _. by_refuse P IsOwn errors.INVALID_REQUEST (reporting.is_bad broker p entry.1) _ (λ _. refl) (λ good. by_refuse P IsOwn errors.INELIGIBLE_REPLICA (not (list_all (reporting.is_ready image) entry.1.in_sync)) _ (λ _. refl) (λ _.
-        drafted_breaks broker entry p (built p (reporting.wanted p entry.1) (facts_of options image name))
-        (sensible_breaks name (entry.0, entry.1.index) p (reporting.wanted p entry.1) (facts_of options image name) named there (reported_sensible broker p entry.1 (formed_at image valid (entry.0, entry.1.index) p there) good)))))))))
+        by_refuse P IsOwn errors.FENCED_LEADER_EPOCH (int_lt entry.1.leader_epoch p.leader_epoch) _ (λ _. refl) (λ _. by_refuse P IsOwn errors.UNKNOWN_LEADER_EPOCH (int_lt p.leader_epoch entry.1.leader_epoch) _ (λ _. refl) (λ _. by_refuse P IsOwn errors.INVALID_UPDATE_VERSION (not (int_eq entry.1.partition_epoch p.partition_epoch)) _ (λ _. refl) (λ _. by_refuse P IsOwn errors.INVALID_REQUEST (alter_partition.is_bad broker p entry.1) _ (λ _. refl) (λ good. by_refuse P IsOwn errors.INELIGIBLE_REPLICA (not (list_all (alter_partition.is_ready image) entry.1.in_sync)) _ (λ _. refl) (λ _.
+        drafted_breaks broker entry p (built p (alter_partition.wanted p entry.1) (facts_of options image name))
+        (sensible_breaks name (entry.0, entry.1.index) p (alter_partition.wanted p entry.1) (facts_of options image name) named there (reported_sensible broker p entry.1 (formed_at image valid (entry.0, entry.1.index) p there) good)))))))))
 
-    elects : (options : Options) (kind : ℤ) (entry : electing.Entry) → Limited at image (electing.rule options kind image at entry)
+    elects : (options : Options) (kind : ℤ) (entry : elect_leaders.Entry) → Limited at image (elect_leaders.rule options kind image at entry)
     elects options kind entry =
         let P = IsLimited at image in
         by_found P IsOwn errors.UNKNOWN_TOPIC_OR_PARTITION (entries.get text_order image.topics entry.0) _ (λ _. refl) (λ id is. by_found P IsOwn errors.UNKNOWN_TOPIC_OR_PARTITION (entries.get partition_order image.partitions (id, entry.1)) _ (λ _. refl) (λ p there.
         let named = named_back image.topics valid.topics entry.0 id is in
-        let change = λ (mode : Mode). sensible_breaks entry.0 (id, entry.1) p (electing.in_mode p mode) (facts_of options image entry.0) named there (defaults_sensible p (formed_at image valid (id, entry.1) p there)) in
-        by_if P IsOwn (electing.is_preferred_kind kind) (electing.prefers options image entry id p) (electing.elects_any options image entry id p)
-        (λ _. by_refuse P IsOwn errors.ELECTION_NOT_NEEDED (int_eq p.leader (electing.first_replica p)) _ (λ _. refl) (λ _. by_refuse P IsOwn errors.PREFERRED_LEADER_NOT_AVAILABLE (not (has p.in_sync (electing.first_replica p) && has (active image) (electing.first_replica p))) _ (λ _. refl) (λ _. change modes.Preferred)))
-        (λ _. by_refuse P IsOwn errors.ELECTION_NOT_NEEDED (not (int_eq p.leader (negsuc 0))) _ (λ _. refl) (λ _. by_refuse P IsOwn errors.ELIGIBLE_LEADERS_NOT_AVAILABLE (electing.finds_nobody options image entry p) _ (λ _. refl) (λ _. change modes.Unclean)))))
+        let change = λ (mode : Mode). sensible_breaks entry.0 (id, entry.1) p (elect_leaders.in_mode p mode) (facts_of options image entry.0) named there (defaults_sensible p (formed_at image valid (id, entry.1) p there)) in
+        by_if P IsOwn (elect_leaders.is_preferred_kind kind) (elect_leaders.prefers options image entry id p) (elect_leaders.elects_any options image entry id p)
+        (λ _. by_refuse P IsOwn errors.ELECTION_NOT_NEEDED (int_eq p.leader (elect_leaders.first_replica p)) _ (λ _. refl) (λ _. by_refuse P IsOwn errors.PREFERRED_LEADER_NOT_AVAILABLE (not (has p.in_sync (elect_leaders.first_replica p) && has (active image) (elect_leaders.first_replica p))) _ (λ _. refl) (λ _. change modes.Preferred)))
+        (λ _. by_refuse P IsOwn errors.ELECTION_NOT_NEEDED (not (int_eq p.leader (negsuc 0))) _ (λ _. refl) (λ _. by_refuse P IsOwn errors.ELIGIBLE_LEADERS_NOT_AVAILABLE (elect_leaders.finds_nobody options image entry p) _ (λ _. refl) (λ _. change modes.Unclean)))))
 
     -- ---- reassignments
 
@@ -281,7 +281,7 @@ module _ (place : ℕ) (image : Image) where
     abbrev IsSensibleAtLength : Want → Type 0
     IsSensibleAtLength want = is_sensible_at_length want ≡ true
 
-    backward_sensible : (p : Partition) → is_well_formed p ≡ true → IsSensibleAtLength (reassigning.leading_back p)
+    backward_sensible : (p : Partition) → is_well_formed p ≡ true → IsSensibleAtLength (alter_partition_reassignments.leading_back p)
     backward_sensible p formed =
         let ids = original p in
         let r = replicas_parts ids (original_stands p formed) in
@@ -291,7 +291,7 @@ module _ (place : ℕ) (image : Image) where
         (none_runs ids r.some))
         (formed_parts p formed).recovers
 
-    target_stands : (ids : List ℤ) → reassigning.is_target image ids ≡ true → are_replicas ids ≡ true
+    target_stands : (ids : List ℤ) → alter_partition_reassignments.is_target image ids ≡ true → are_replicas ids ≡ true
     target_stands ids are =
         let a = and_parts (are_targets ids) (list_all (entries.contains int_cmp image.brokers) ids) are in
         let b = and_parts (nat_lt 0 (length ids) && nat_le (length ids) MOST_TARGETS) (is_distinct ids) a.0 in
@@ -303,56 +303,56 @@ module _ (place : ℕ) (image : Image) where
           natural = all_from is_natural ids (λ id there. at_key is_natural image.brokers id (natural_keys image valid) (all_at (entries.contains int_cmp image.brokers) ids id a.1 there));
         })
 
-    wants_sensible : (p : Partition) (o : Option (List ℤ)) → is_well_formed p ≡ true → MatchResult (reassigning.wanted image p o) IsSensibleAtLength IsOwn
+    wants_sensible : (p : Partition) (o : Option (List ℤ)) → is_well_formed p ≡ true → MatchResult (alter_partition_reassignments.wanted image p o) IsSensibleAtLength IsOwn
     wants_sensible p None formed = by_refuse IsSensibleAtLength IsOwn errors.NO_REASSIGNMENT_IN_PROGRESS (not (is_moving p)) _ (λ _. refl) (λ _. backward_sensible p formed)
     wants_sensible p (Some ids) formed =
-        by_refuse IsSensibleAtLength IsOwn errors.INVALID_REPLICA_ASSIGNMENT (not (reassigning.is_target image ids)) _ (λ _. refl) (λ fits.
-        and_from _ (is_recovery p.recovery) (sensible_at_length ids (original p) (target_stands ids (not_false (reassigning.is_target image ids) fits)) (original_stands p formed)) (formed_parts p formed).recovers)
+        by_refuse IsSensibleAtLength IsOwn errors.INVALID_REPLICA_ASSIGNMENT (not (alter_partition_reassignments.is_target image ids)) _ (λ _. refl) (λ fits.
+        and_from _ (is_recovery p.recovery) (sensible_at_length ids (original p) (target_stands ids (not_false (alter_partition_reassignments.is_target image ids) fits)) (original_stands p formed)) (formed_parts p formed).recovers)
 
-    reassigns : (options : Options) (entry : reassigning.Entry) → Limited at image (reassigning.rule options image at entry)
+    reassigns : (options : Options) (entry : alter_partition_reassignments.Entry) → Limited at image (alter_partition_reassignments.rule options image at entry)
     reassigns options entry =
         let P = IsLimited at image in
         by_found P IsOwn errors.UNKNOWN_TOPIC_OR_PARTITION (entries.get text_order image.topics entry.0) _ (λ _. refl) (λ id is. by_found P IsOwn errors.UNKNOWN_TOPIC_OR_PARTITION (entries.get partition_order image.partitions (id, entry.1.index)) _ (λ _. refl) (λ p there.
         let formed = formed_at image valid (id, entry.1.index) p there in
-        by_then P IsOwn IsSensibleAtLength (reassigning.wanted image p entry.1.replicas) _ (wants_sensible p entry.1.replicas formed) (λ want sensible. by_refuse P IsOwn errors.INVALID_REPLICA_ASSIGNMENT (reassigning.loses_all image entry.0 p want) _ (λ _. refl) (λ _.
+        by_then P IsOwn IsSensibleAtLength (alter_partition_reassignments.wanted image p entry.1.replicas) _ (wants_sensible p entry.1.replicas formed) (λ want sensible. by_refuse P IsOwn errors.INVALID_REPLICA_ASSIGNMENT (alter_partition_reassignments.loses_all image entry.0 p want) _ (λ _. refl) (λ _.
         change_breaks at image entry.0 (id, entry.1.index) p (built p want (facts_of options image entry.0)) (named_back image.topics valid.topics entry.0 id is) there (long_lists p want (facts_of options image entry.0) formed sensible)))))
 
     -- ---- settings, and whom they relieve
 
-    relieved_breaks : (options : Options) (next mid : Image) → WithPartitionsOf image mid → Breaks at mid (changes_of (configuring.relief options image next) (walk image))
+    relieved_breaks : (options : Options) (next mid : Image) → WithPartitionsOf image mid → Breaks at mid (changes_of (incremental_alter_configs.relief options image next) (walk image))
     relieved_breaks options next mid same =
-        let change = configuring.relief options image next in
+        let change = incremental_alter_configs.relief options image next in
         let left = changes_stand change mid (walk image) (rw (same.topics, same.partitions) (walk_stands change image (relief_sound None image options next) valid)) in
         breaks_nowhere at mid _ (changes_of change (walk image)) left.1
 
-    configures : (options : Options) (entry : ConfigResource) → Limited at image (configuring.rule options image at entry)
+    configures : (options : Options) (entry : ConfigResource) → Limited at image (incremental_alter_configs.rule options image at entry)
     configures options entry =
         let P = IsLimited at image in
-        by_refuse P IsOwn errors.INVALID_REQUEST (not (configuring.is_topic_kind entry || configuring.is_broker_kind entry)) _ (λ _. refl) (λ _. by_refuse P IsOwn errors.UNKNOWN_TOPIC_OR_PARTITION (configuring.is_topic_kind entry && not (entries.contains text_order image.topics entry.name)) _ (λ _. refl) (λ _. by_refuse P IsOwn errors.INVALID_REQUEST (configuring.is_broker_kind entry && not (is_broker_name entry.name)) _ (λ _. refl) (λ _.
-        by_then P IsOwn (λ _. Unit {0}) (configuring.after_operations image entry [] entry.configs) (λ (values : configuring.Values). Ok (record { records = configuring.resource_records options image entry values; answer = refused_resource (pos 0) entry })) (operations_own entry [] entry.configs) (λ values _.
-        let next : Image = record image { configs = configuring.with_values image.configs entry values } in
-        both_break at image (filter_map (configuring.config_record image entry) values) (changes_of (configuring.relief options image next) (walk image)) (values_break image entry values)
+        by_refuse P IsOwn errors.INVALID_REQUEST (not (incremental_alter_configs.is_topic_kind entry || incremental_alter_configs.is_broker_kind entry)) _ (λ _. refl) (λ _. by_refuse P IsOwn errors.UNKNOWN_TOPIC_OR_PARTITION (incremental_alter_configs.is_topic_kind entry && not (entries.contains text_order image.topics entry.name)) _ (λ _. refl) (λ _. by_refuse P IsOwn errors.INVALID_REQUEST (incremental_alter_configs.is_broker_kind entry && not (is_broker_name entry.name)) _ (λ _. refl) (λ _.
+        by_then P IsOwn (λ _. Unit {0}) (incremental_alter_configs.after_operations image entry [] entry.configs) (λ (values : incremental_alter_configs.Values). Ok (record { records = incremental_alter_configs.resource_records options image entry values; answer = refused_incremental_alter_configs (pos 0) entry })) (operations_own entry [] entry.configs) (λ values _.
+        let next : Image = record image { configs = incremental_alter_configs.with_values image.configs entry values } in
+        both_break at image (filter_map (incremental_alter_configs.config_record image entry) values) (changes_of (incremental_alter_configs.relief options image next) (walk image)) (values_break image entry values)
         (λ mid is. relieved_breaks options next mid (values_leave image entry values image mid is))))))
 
     -- ---- brokers
 
-    unregisters : (options : Options) (q : _) → Limited at image (unregistering.rule options image at q)
+    unregisters : (options : Options) (q : _) → Limited at image (unregister_broker.rule options image at q)
     unregisters options q =
         by_found (IsLimited at image) IsOwn errors.BROKER_ID_NOT_REGISTERED (entries.get int_cmp image.brokers q.broker) _ (λ _. refl) (λ old there.
         let leaves = unregistering_stands options image at q (record { records = kinds.UnregisterBroker q.broker old.epoch ∷ taken_out options.minimum image q.broker true; answer = record { error = pos 0 } }) valid (rw there refl) in
         breaks_nowhere at image _ (kinds.UnregisterBroker q.broker old.epoch ∷ taken_out options.minimum image q.broker true) leaves.1)
 
-    earlier_breaks : (minimum : ℤ) (q : BrokerRegistration) (brokers : List (ℤ × Broker)) (old : Option Broker) → Breaks at (record image { brokers = brokers }) (registering.earlier_taken_out minimum image q old)
+    earlier_breaks : (minimum : ℤ) (q : BrokerRegistration) (brokers : List (ℤ × Broker)) (old : Option Broker) → Breaks at (record image { brokers = brokers }) (broker_registration.earlier_taken_out minimum image q old)
     earlier_breaks minimum q brokers None = tt
     earlier_breaks minimum q brokers (Some old) =
         let left = taken_out_leaves minimum image brokers q.broker (not (int_eq q.previous_epoch old.epoch)) valid in
         breaks_nowhere at (record image { brokers = brokers }) _ (taken_out minimum image q.broker (not (int_eq q.previous_epoch old.epoch))) left.1
 
-    registered_breaks : (options : Options) (q : BrokerRegistration) → int_lt q.broker (pos 0) ≡ false → IsLimited at image (registering.registered options image at q)
+    registered_breaks : (options : Options) (q : BrokerRegistration) → int_lt q.broker (pos 0) ≡ false → IsLimited at image (broker_registration.registered options image at q)
     unfolding apply_record
     registered_breaks options q low =
-        let state = registering.registration q at in
-        let rest = registering.earlier_taken_out options.minimum image q (entries.get int_cmp image.brokers q.broker) in
+        let state = broker_registration.registration q at in
+        let rest = broker_registration.earlier_taken_out options.minimum image q (entries.get int_cmp image.brokers q.broker) in
         let P : Image → Type 0 = λ mid. Breaks at mid rest in
         let Q = By (kinds.RegisterBroker q.broker state) in
         let numbers : has_numbers q.broker state ≡ true = and_from (is_natural q.broker) (is_natural at) (ap not low) (natural place) in
@@ -361,10 +361,10 @@ module _ (place : ℕ) (image : Image) where
         by_refuse P Q Limit (entries.is_full int_cmp MOST_BROKERS image.brokers q.broker || not (is_small_registration state)) _ (λ _. refl) (λ _.
         earlier_breaks options.minimum q (entries.insert int_cmp image.brokers q.broker state) (entries.get int_cmp image.brokers q.broker))))
 
-    registers : (options : Options) (time : ℤ) (heard : Heartbeats) (q : BrokerRegistration) → Limited at image (registering.rule options time heard image at q)
+    registers : (options : Options) (time : ℤ) (heard : Heartbeats) (q : BrokerRegistration) → Limited at image (broker_registration.rule options time heard image at q)
     registers options time heard q =
         let P = IsLimited at image in
-        by_refuse P IsOwn errors.INCONSISTENT_CLUSTER_ID (not (bytes_eq q.cluster options.cluster)) _ (λ _. refl) (λ _. by_refuse P IsOwn errors.INVALID_REQUEST (int_lt q.broker (pos 0) || q.migrating || length q.listeners == 0) _ (λ _. refl) (λ good. by_refuse P IsOwn errors.DUPLICATE_BROKER_REGISTRATION (registering.is_taken options time heard image q) _ (λ _. refl) (λ _.
+        by_refuse P IsOwn errors.INCONSISTENT_CLUSTER_ID (not (bytes_eq q.cluster options.cluster)) _ (λ _. refl) (λ _. by_refuse P IsOwn errors.INVALID_REQUEST (int_lt q.broker (pos 0) || q.migrating || length q.listeners == 0) _ (λ _. refl) (λ good. by_refuse P IsOwn errors.DUPLICATE_BROKER_REGISTRATION (broker_registration.is_taken options time heard image q) _ (λ _. refl) (λ _.
         registered_breaks options q (neither (int_lt q.broker (pos 0)) q.migrating (neither (int_lt q.broker (pos 0) || q.migrating) (length q.listeners == 0) good).0).0)))
 
     -- a change of the registration, and changes of partitions behind it
@@ -374,10 +374,10 @@ module _ (place : ℕ) (image : Image) where
     change_then broker epoch fenced stopping state rest there same flags behind = rw (there, same, flags) (behind _)
 
     module _ (minimum : ℤ) (heard : Heartbeats) (q : BrokerHeartbeat) (state : Broker) (there : entries.get int_cmp image.brokers q.broker ≡ Some state) (same : int_eq q.epoch state.epoch ≡ true) where
-      abbrev IsLimitedStep : heartbeating.Step → Type 0
+      abbrev IsLimitedStep : broker_heartbeat.Step → Type 0
       IsLimitedStep step = Breaks at image step.records
 
-      either : (test : Bool) (x y : heartbeating.Step) → IsLimitedStep x → IsLimitedStep y → IsLimitedStep (cond test x y)
+      either : (test : Bool) (x y : broker_heartbeat.Step) → IsLimitedStep x → IsLimitedStep y → IsLimitedStep (cond test x y)
       either true x y first then = first
       either false x y first then = then
 
@@ -387,27 +387,27 @@ module _ (place : ℕ) (image : Image) where
       fencing_breaks : Breaks at image (fencing minimum image q.broker q.epoch)
       fencing_breaks = change_then q.broker q.epoch (pos 1) (pos 0) state (taken_out minimum image q.broker false) there same refl out_breaks
 
-      stopping_breaks : Breaks at image (heartbeating.stopping_records minimum image q.broker q.epoch)
+      stopping_breaks : Breaks at image (broker_heartbeat.stopping_records minimum image q.broker q.epoch)
       stopping_breaks = change_then q.broker q.epoch (pos 0) (pos 1) state (taken_out minimum image q.broker false) there same refl out_breaks
 
-      unfencing_breaks : Breaks at image (heartbeating.unfencing minimum image q.broker state)
+      unfencing_breaks : Breaks at image (broker_heartbeat.unfencing minimum image q.broker state)
       unfencing_breaks =
-          let change = heartbeating.electing minimum image q.broker state in
+          let change = broker_heartbeat.electing minimum image q.broker state in
           change_then q.broker state.epoch (negsuc 0) (pos 0) state (changes_of change (walk image)) there (id_itself state.epoch) refl (λ brokers.
           breaks_nowhere at (record image { brokers = brokers }) _ (changes_of change (walk image)) (walk_leaves change image brokers (electing_sound None image minimum q.broker state) valid).1)
 
-      step_breaks : IsLimitedStep (heartbeating.step minimum heard image q state)
-      unfolding heartbeating.step
+      step_breaks : IsLimitedStep (broker_heartbeat.step minimum heard image q state)
+      unfolding broker_heartbeat.step
       step_breaks =
           either state.fenced _ _
-          (either (q.want_shutdown || state.stopping) _ _ tt (either (q.want_fence || heartbeating.is_behind q) _ _ tt unfencing_breaks))
+          (either (q.want_shutdown || state.stopping) _ _ tt (either (q.want_fence || broker_heartbeat.is_behind q) _ _ tt unfencing_breaks))
           (either state.stopping _ _
-          (either (heartbeating.is_passed_on heard image q.broker) _ _ fencing_breaks tt)
+          (either (broker_heartbeat.is_passed_on heard image q.broker) _ _ fencing_breaks tt)
           (either q.want_fence _ _ fencing_breaks
-          (either (q.want_shutdown && not (heartbeating.leads image q.broker)) _ _ fencing_breaks
+          (either (q.want_shutdown && not (broker_heartbeat.leads image q.broker)) _ _ fencing_breaks
           (either q.want_shutdown _ _ stopping_breaks tt))))
 
-    beats : (options : Options) (heard : Heartbeats) (q : BrokerHeartbeat) → Limited at image (heartbeating.rule options heard image at q)
+    beats : (options : Options) (heard : Heartbeats) (q : BrokerHeartbeat) → Limited at image (broker_heartbeat.rule options heard image at q)
     beats options heard q =
         let P = IsLimited at image in
         by_found P IsOwn errors.STALE_BROKER_EPOCH (entries.get int_cmp image.brokers q.broker) _ (λ _. refl) (λ state there. by_refuse P IsOwn errors.STALE_BROKER_EPOCH (not (int_eq q.epoch state.epoch)) _ (λ _. refl) (λ same.

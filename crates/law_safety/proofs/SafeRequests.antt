@@ -28,17 +28,17 @@ use Rattle.kr_calls.specs.declared.alter_partition_reassignments.ReassignableTop
 use Rattle.kr_calls.specs.declared.alter_partition_reassignments.ReassignableTopicResponse.{ReassignableTopicResponse}
 use Rattle.kr_calls.specs.Deciding.{HaveMeanings, Work, answers, apply_records, group_answers, nothing_decided}
 use Rattle.kr_calls.specs.Decide.{work_of}
-use Rattle.kr_calls.specs.Refuse.{refused_creation, refused_deletion, refused_growth, refused_resource}
-use Rattle.kr_calls.specs.AlterPartition as reporting
-use Rattle.kr_calls.specs.AlterPartitionReassignments as reassigning
-use Rattle.kr_calls.specs.BrokerHeartbeat as heartbeating
-use Rattle.kr_calls.specs.BrokerRegistration as registering
-use Rattle.kr_calls.specs.CreatePartitions as growing
-use Rattle.kr_calls.specs.CreateTopics as creating
-use Rattle.kr_calls.specs.DeleteTopics as deleting
-use Rattle.kr_calls.specs.ElectLeaders as electing
-use Rattle.kr_calls.specs.IncrementalAlterConfigs as configuring
-use Rattle.kr_calls.specs.UnregisterBroker as unregistering
+use Rattle.kr_calls.specs.Refuse.{refused_create_topics, refused_delete_topics, refused_create_partitions, refused_incremental_alter_configs}
+use Rattle.kr_calls.specs.AlterPartition as alter_partition
+use Rattle.kr_calls.specs.AlterPartitionReassignments as alter_partition_reassignments
+use Rattle.kr_calls.specs.BrokerHeartbeat as broker_heartbeat
+use Rattle.kr_calls.specs.BrokerRegistration as broker_registration
+use Rattle.kr_calls.specs.CreatePartitions as create_partitions
+use Rattle.kr_calls.specs.CreateTopics as create_topics
+use Rattle.kr_calls.specs.DeleteTopics as delete_topics
+use Rattle.kr_calls.specs.ElectLeaders as elect_leaders
+use Rattle.kr_calls.specs.IncrementalAlterConfigs as incremental_alter_configs
+use Rattle.kr_calls.specs.UnregisterBroker as unregister_broker
 use Rattle.kr_calls.specs.SafeChange.{Exchange}
 use Rattle.kr_calls.proofs.KeptByRequests.{any_entry, validated_keep}
 use Rattle.kr_calls.proofs.BrokersLeft.{LeavesBrokers, all_leave}
@@ -163,9 +163,9 @@ chosen request image false x y first then = then refl
 
 -- ---- reports: the broker that reports stays registered as it is
 
-module _ (options : Options) (start : Image) (q : AlterPartition) (fresh : reporting.is_stale start q ≡ false) (place : ℤ) where
+module _ (options : Options) (start : Image) (q : AlterPartition) (fresh : alter_partition.is_stale start q ≡ false) (place : ℤ) where
   abbrev topics : List AlterPartitionTopicResult
-  topics = group_answers reporting.refused (reporting.rule options q.broker) reporting.entries_of reporting.answer_of (nothing_decided place start) q.topics
+  topics = group_answers alter_partition.refused (alter_partition.rule options q.broker) alter_partition.entries_of alter_partition.answer_of (nothing_decided place start) q.topics
 
   abbrev r : AlterPartitionReply
   r = record { error = pos 0; topics = topics }
@@ -173,14 +173,14 @@ module _ (options : Options) (start : Image) (q : AlterPartition) (fresh : repor
   abbrev V : Image → Type 0
   V image = IsValid image × LeavesBrokers start image
 
-  fresh_there : (image : Image) → LeavesBrokers start image → reporting.is_stale image q ≡ false
-  fresh_there image same = ap (λ brokers. reporting.is_stale (record image { brokers = brokers }) q) same ∙ fresh
+  fresh_there : (image : Image) → LeavesBrokers start image → alter_partition.is_stale image q ≡ false
+  fresh_there image same = ap (λ brokers. alter_partition.is_stale (record image { brokers = brokers }) q) same ∙ fresh
 
-  reported : IsValid start → IsSafeDecision (requests.AlterPartition q) start (Rattle.kr_calls.specs.Deciding.after_groups reporting.refused (reporting.rule options q.broker) reporting.entries_of reporting.answer_of (nothing_decided place start) q.topics, replies.AlterPartition r)
+  reported : IsValid start → IsSafeDecision (requests.AlterPartition q) start (Rattle.kr_calls.specs.Deciding.after_groups alter_partition.refused (alter_partition.rule options q.broker) alter_partition.entries_of alter_partition.answer_of (nothing_decided place start) q.topics, replies.AlterPartition r)
   reported valid =
-      let work = groups_safe (Some (requests.AlterPartition q, replies.AlterPartition r)) start V reporting.refused (reporting.rule options q.broker) (IsReportOf (zip q.topics topics)) (λ i p e v. reports i options q r (fresh_there i v.1) p e)
+      let work = groups_safe (Some (requests.AlterPartition q, replies.AlterPartition r)) start V alter_partition.refused (alter_partition.rule options q.broker) (IsReportOf (zip q.topics topics)) (λ i p e v. reports i options q r (fresh_there i v.1) p e)
       (λ image place entry v draft drafted after is. (valid_after image draft.records v.0 after is, all_leave image draft.records (leaving.reports options q.broker image place entry draft drafted) after is ∙ v.1))
-      reporting.entries_of reporting.answer_of (HasReports (zip q.topics topics)) (λ topic given all. each_entry (IsReportOf (zip q.topics topics)) (λ report. (topic.topic, report)) topic.partitions given all)
+      alter_partition.entries_of alter_partition.answer_of (HasReports (zip q.topics topics)) (λ topic given all. each_entry (IsReportOf (zip q.topics topics)) (λ report. (topic.topic, report)) topic.partitions given all)
       place q.topics (own_reports (zip q.topics topics)) (valid, refl) in
       record { safe = work.safe; meaning = work.meaning; valid = work.valid.0 }
 
@@ -188,16 +188,16 @@ module _ (options : Options) (start : Image) (q : AlterPartition) (fresh : repor
 
 module _ (options : Options) (start : Image) (q : AlterPartitionReassignments) (place : ℤ) where
   abbrev responses : List ReassignableTopicResponse
-  responses = group_answers reassigning.answer (reassigning.rule options) reassigning.entries_of reassigning.answer_of (nothing_decided place start) q.topics
+  responses = group_answers alter_partition_reassignments.answer (alter_partition_reassignments.rule options) alter_partition_reassignments.entries_of alter_partition_reassignments.answer_of (nothing_decided place start) q.topics
 
   abbrev reply : AlterPartitionReassignmentsReply
   reply = record { error = pos 0; responses = responses }
 
-  moved : IsValid start → IsSafeDecision (requests.AlterPartitionReassignments q) start (Rattle.kr_calls.specs.Deciding.after_groups reassigning.answer (reassigning.rule options) reassigning.entries_of reassigning.answer_of (nothing_decided place start) q.topics, replies.AlterPartitionReassignments reply)
+  moved : IsValid start → IsSafeDecision (requests.AlterPartitionReassignments q) start (Rattle.kr_calls.specs.Deciding.after_groups alter_partition_reassignments.answer (alter_partition_reassignments.rule options) alter_partition_reassignments.entries_of alter_partition_reassignments.answer_of (nothing_decided place start) q.topics, replies.AlterPartitionReassignments reply)
   moved valid =
       let exchange : Option Exchange = Some (requests.AlterPartitionReassignments q, replies.AlterPartitionReassignments reply) in
-      groups_safe exchange start IsValid reassigning.answer (reassigning.rule options) (IsMoveOf (zip q.topics responses)) (λ i p e v. reassigns i v options q reply p e) (valid_left exchange start reassigning.answer (reassigning.rule options))
-      reassigning.entries_of reassigning.answer_of (HasMoves (zip q.topics responses)) (λ topic given all. each_entry (IsMoveOf (zip q.topics responses)) (λ partition. (topic.name, partition)) topic.partitions given all)
+      groups_safe exchange start IsValid alter_partition_reassignments.answer (alter_partition_reassignments.rule options) (IsMoveOf (zip q.topics responses)) (λ i p e v. reassigns i v options q reply p e) (valid_left exchange start alter_partition_reassignments.answer (alter_partition_reassignments.rule options))
+      alter_partition_reassignments.entries_of alter_partition_reassignments.answer_of (HasMoves (zip q.topics responses)) (λ topic given all. each_entry (IsMoveOf (zip q.topics responses)) (λ partition. (topic.name, partition)) topic.partitions given all)
       place q.topics (own_moves (zip q.topics responses)) valid
 
 -- ---- all requests
@@ -207,33 +207,33 @@ module _ (options : Options) (time : ℤ) (heartbeats : Heartbeats) (image : Ima
   exchange_of request = Some (request, (work_of options time heartbeats image place request).1)
 
   safe_work : (request : Request) → IsValid image → IsSafeDecision request image (work_of options time heartbeats image place request)
-  unfolding work_of registering.decided heartbeating.decided unregistering.decided creating.decided deleting.decided growing.decided reporting.decided electing.decided reassigning.decided configuring.decided
+  unfolding work_of broker_registration.decided broker_heartbeat.decided unregister_broker.decided create_topics.decided delete_topics.decided create_partitions.decided alter_partition.decided elect_leaders.decided alter_partition_reassignments.decided incremental_alter_configs.decided
   safe_work (requests.BrokerRegistration q) valid =
-      let x = exchange_of (requests.BrokerRegistration q) in one x image registering.refused (registering.rule options time heartbeats) (λ i p e v. registers x i v options time heartbeats p e) place q valid
+      let x = exchange_of (requests.BrokerRegistration q) in one x image broker_registration.refused (broker_registration.rule options time heartbeats) (λ i p e v. registers x i v options time heartbeats p e) place q valid
   safe_work (requests.BrokerHeartbeat q) valid =
-      let x = exchange_of (requests.BrokerHeartbeat q) in one x image heartbeating.refused (heartbeating.rule options heartbeats) (λ i p e v. beats x i v options heartbeats p e) place q valid
+      let x = exchange_of (requests.BrokerHeartbeat q) in one x image broker_heartbeat.refused (broker_heartbeat.rule options heartbeats) (λ i p e v. beats x i v options heartbeats p e) place q valid
   safe_work (requests.UnregisterBroker q) valid =
-      let x = exchange_of (requests.UnregisterBroker q) in one x image unregistering.refused (unregistering.rule options) (λ i p e v. unregisters x i v options p e) place q valid
+      let x = exchange_of (requests.UnregisterBroker q) in one x image unregister_broker.refused (unregister_broker.rule options) (λ i p e v. unregisters x i v options p e) place q valid
   safe_work (requests.CreateTopics q) valid =
       let x = exchange_of (requests.CreateTopics q) in
       validated_keep (IsSafeWork x image IsValid) q.validate_only (nothing_decided place image) _ (begun_safe x image IsValid place valid)
-      (all x image refused_creation (creating.rule options q.validate_only) (λ i p e v. creates x i v options q.validate_only p e) place q.topics valid)
+      (all x image refused_create_topics (create_topics.rule options q.validate_only) (λ i p e v. creates x i v options q.validate_only p e) place q.topics valid)
   safe_work (requests.DeleteTopics q) valid =
-      let x = exchange_of (requests.DeleteTopics q) in all x image refused_deletion deleting.rule (λ i p e v. deletes x i p e) place q.topics valid
+      let x = exchange_of (requests.DeleteTopics q) in all x image refused_delete_topics delete_topics.rule (λ i p e v. deletes x i p e) place q.topics valid
   safe_work (requests.CreatePartitions q) valid =
       let x = exchange_of (requests.CreatePartitions q) in
       validated_keep (IsSafeWork x image IsValid) q.validate_only (nothing_decided place image) _ (begun_safe x image IsValid place valid)
-      (all x image refused_growth growing.rule (λ i p e v. grows x i v p e) place q.topics valid)
+      (all x image refused_create_partitions create_partitions.rule (λ i p e v. grows x i v p e) place q.topics valid)
   safe_work (requests.AlterPartition q) valid =
-      chosen (requests.AlterPartition q) image (reporting.is_stale image q) _ _ (begun_safe _ image IsValid place valid) (λ fresh. reported options image q fresh place valid)
+      chosen (requests.AlterPartition q) image (alter_partition.is_stale image q) _ _ (begun_safe _ image IsValid place valid) (λ fresh. reported options image q fresh place valid)
   safe_work (requests.ElectLeaders q) valid =
-      chosen (requests.ElectLeaders q) image (not (electing.is_kind q.kind)) _ _ (begun_safe _ image IsValid place valid) (λ kind.
-      groups _ image electing.answer (electing.rule options q.kind) (λ i p e v. elects i v options q _ (not_false (electing.is_kind q.kind) kind) p e) electing.entries_of electing.answer_of place (electing.groups_of image q.topics) valid)
+      chosen (requests.ElectLeaders q) image (not (elect_leaders.is_kind q.kind)) _ _ (begun_safe _ image IsValid place valid) (λ kind.
+      groups _ image elect_leaders.answer (elect_leaders.rule options q.kind) (λ i p e v. elects i v options q _ (not_false (elect_leaders.is_kind q.kind) kind) p e) elect_leaders.entries_of elect_leaders.answer_of place (elect_leaders.groups_of image q.topics) valid)
   safe_work (requests.AlterPartitionReassignments q) valid = moved options image q place valid
   safe_work (requests.IncrementalAlterConfigs q) valid =
       let x = exchange_of (requests.IncrementalAlterConfigs q) in
       validated_keep (IsSafeWork x image IsValid) q.validate_only (nothing_decided place image) _ (begun_safe x image IsValid place valid)
-      (all x image refused_resource (configuring.rule options) (λ i p e v. configures x i v options p e) place q.resources valid)
+      (all x image refused_incremental_alter_configs (incremental_alter_configs.rule options) (λ i p e v. configures x i v options p e) place q.resources valid)
   safe_work (requests.ListPartitionReassignments q) valid = begun_safe _ image IsValid place valid
   safe_work (requests.Metadata q) valid = begun_safe _ image IsValid place valid
 

@@ -50,20 +50,20 @@ use Rattle.kr_calls.specs.declared.alter_partition_reassignments.ReassignableTop
 use Rattle.kr_calls.specs.declared.alter_partition_reassignments.ReassignableTopicResponse.{ReassignableTopicResponse}
 use Rattle.kr_calls.specs.declared.create_topics.CreatableTopicConfig.{CreatableTopicConfig}
 use Rattle.kr_calls.specs.declared.errors.TheConstants.{NEW_LEADER_ELECTED}
-use Rattle.kr_calls.specs.AlterPartition as reporting
-use Rattle.kr_calls.specs.AlterPartitionReassignments as reassigning
-use Rattle.kr_calls.specs.BrokerHeartbeat as heartbeating
-use Rattle.kr_calls.specs.BrokerRegistration as registering
-use Rattle.kr_calls.specs.CreatePartitions as growing
-use Rattle.kr_calls.specs.CreateTopics as creating
-use Rattle.kr_calls.specs.DeleteTopics as deleting
-use Rattle.kr_calls.specs.ElectLeaders as electing
-use Rattle.kr_calls.specs.IncrementalAlterConfigs as configuring
+use Rattle.kr_calls.specs.AlterPartition as alter_partition
+use Rattle.kr_calls.specs.AlterPartitionReassignments as alter_partition_reassignments
+use Rattle.kr_calls.specs.BrokerHeartbeat as broker_heartbeat
+use Rattle.kr_calls.specs.BrokerRegistration as broker_registration
+use Rattle.kr_calls.specs.CreatePartitions as create_partitions
+use Rattle.kr_calls.specs.CreateTopics as create_topics
+use Rattle.kr_calls.specs.DeleteTopics as delete_topics
+use Rattle.kr_calls.specs.ElectLeaders as elect_leaders
+use Rattle.kr_calls.specs.IncrementalAlterConfigs as incremental_alter_configs
 use Rattle.kr_calls.specs.NewPartitions.{new_partitions}
-use Rattle.kr_calls.specs.Refuse.{refused_resource}
+use Rattle.kr_calls.specs.Refuse.{refused_incremental_alter_configs}
 use Rattle.kr_calls.specs.SafeChange.{Exchange, is_reassigned, is_report_with, is_taken}
 use Rattle.kr_calls.specs.TakingOut.{taken_out}
-use Rattle.kr_calls.specs.UnregisterBroker as unregistering
+use Rattle.kr_calls.specs.UnregisterBroker as unregister_broker
 use Rattle.law_safety.specs.SafeChangeLaws.{AreSafe}
 use Rattle.law_safety.proofs.CarefulChanges.{change_safe}
 use Rattle.law_safety.proofs.NamedTopics.{named_back}
@@ -77,13 +77,13 @@ IsSafeDraft exchange image draft = AreSafe exchange image draft.records
 
 -- ---- topics
 
-settings_calm : (configs : List (ConfigKey × List ℕ)) (topic : List ℕ) (settings : List CreatableTopicConfig) → list_all is_calm (creating.settings_records configs topic settings) ≡ true
+settings_calm : (configs : List (ConfigKey × List ℕ)) (topic : List ℕ) (settings : List CreatableTopicConfig) → list_all is_calm (create_topics.settings_records configs topic settings) ≡ true
 settings_calm configs topic [] = refl
 settings_calm configs topic (setting ∷ settings) =
     let key : ConfigKey = record { kind = pos 2; name = topic; key = setting.name } in
     let value : List ℕ = unwrap_or setting.value [] in
-    let next = creating.settings_records (entries.insert config_order configs key value) topic settings in
-    elim (option_map_or (bytes_eq value) (entries.get config_order configs key) false) as (λ b. list_all is_calm (cond b (creating.settings_records configs topic settings) (kinds.Config (pos 2) topic setting.name (Some value) ∷ next)) ≡ true) [
+    let next = create_topics.settings_records (entries.insert config_order configs key value) topic settings in
+    elim (option_map_or (bytes_eq value) (entries.get config_order configs key) false) as (λ b. list_all is_calm (cond b (create_topics.settings_records configs topic settings) (kinds.Config (pos 2) topic setting.name (Some value) ∷ next)) ≡ true) [
       | true ↦ settings_calm configs topic settings
       | false ↦ settings_calm (entries.insert config_order configs key value) topic settings
     ]
@@ -92,159 +92,159 @@ module _ (exchange : Option Exchange) (image : Image) where
   abbrev P : {A : Type 0} → Draft A → Type 0
   P = IsSafeDraft exchange image
 
-  created_safe : (validate_only : Bool) (id : ℕ) (entry : Rattle.kr_calls.specs.declared.create_topics.CreatableTopic.CreatableTopic) (layout : creating.Layout) → AllByRecursion (IsNew image) layout.replicas → P (creating.created image validate_only id entry layout)
+  created_safe : (validate_only : Bool) (id : ℕ) (entry : Rattle.kr_calls.specs.declared.create_topics.CreatableTopic.CreatableTopic) (layout : create_topics.Layout) → AllByRecursion (IsNew image) layout.replicas → P (create_topics.created image validate_only id entry layout)
   created_safe validate_only id entry layout new =
-      let settings = creating.settings_records image.configs entry.name entry.configs in
+      let settings = create_topics.settings_records image.configs entry.name entry.configs in
       let partitions = new_partitions image id 0 layout.replicas in (
         tt,
         if_ok (λ after. AreSafe exchange after (settings ++ partitions)) _ (λ after is.
             both_safe exchange after settings partitions (all_calm_safe exchange after settings (settings_calm image.configs entry.name entry.configs)) (λ mid is. partitions_safe exchange mid image id 0 layout.replicas new)),
       )
 
-  pub creates : IsValid image → (options : Options) (validate_only : Bool) (place : ℤ) (entry : _) → Gives P (creating.rule options validate_only image place entry)
+  pub creates : IsValid image → (options : Options) (validate_only : Bool) (place : ℤ) (entry : _) → Gives P (create_topics.rule options validate_only image place entry)
   creates valid options validate_only place entry =
       gives_refuse P (pos 17) (not (is_topic_name entry.name)) _ (λ _. gives_refuse P (pos 36) (entries.contains text_order image.topics entry.name) _ (λ _. gives_refuse P (pos 17) (list_any (λ topic. names_agree topic.0 entry.name) image.topics) _ (λ _.
-      gives_then (λ (layout : creating.Layout). AllByRecursion (IsNew image) layout.replicas) P (creating.layout options image place entry) (creating.of_layout options validate_only image place entry) (gives_from (λ (layout : creating.Layout). AllByRecursion (IsNew image) layout.replicas) IsOwn (creating.layout options image place entry) (created_new image valid options place entry)) (λ layout new.
-      gives_refuse P (pos 40) (list_any creating.is_bad_setting entry.configs) _ (λ _. gives_done P (creating.created image validate_only (creating.new_id options image place) entry layout)
-      (created_safe validate_only (creating.new_id options image place) entry layout new))))))
+      gives_then (λ (layout : create_topics.Layout). AllByRecursion (IsNew image) layout.replicas) P (create_topics.layout options image place entry) (create_topics.of_layout options validate_only image place entry) (gives_from (λ (layout : create_topics.Layout). AllByRecursion (IsNew image) layout.replicas) IsOwn (create_topics.layout options image place entry) (created_new image valid options place entry)) (λ layout new.
+      gives_refuse P (pos 40) (list_any create_topics.is_bad_setting entry.configs) _ (λ _. gives_done P (create_topics.created image validate_only (create_topics.new_id options image place) entry layout)
+      (created_safe validate_only (create_topics.new_id options image place) entry layout new))))))
 
-  removal_safe : (name : List ℕ) (id : ℕ) → P (deleting.deleted name id)
+  removal_safe : (name : List ℕ) (id : ℕ) → P (delete_topics.deleted name id)
   removal_safe name id = (tt, if_ok (λ after. AreSafe exchange after []) _ (λ after is. tt))
 
-  deletes_named : (name : Option (List ℕ)) (id : ℕ) → Gives P (deleting.by_name_or_id image name id)
+  deletes_named : (name : Option (List ℕ)) (id : ℕ) → Gives P (delete_topics.by_name_or_id image name id)
   deletes_named (Some name) id = gives_found P (pos 3) (entries.get text_order image.topics name) _ (λ there _. gives_done P _ (removal_safe name there))
   deletes_named None id = gives_found P (pos 100) (topic_name image.topics id) _ (λ there _. gives_done P _ (removal_safe there id))
 
-  pub deletes : (place : ℤ) (entry : _) → Gives P (deleting.rule image place entry)
+  pub deletes : (place : ℤ) (entry : _) → Gives P (delete_topics.rule image place entry)
   deletes place entry = gives_refuse P (pos 42) (not (Rattle.kr_defs.specs.Topics.is_named_once entry.name entry.topic)) _ (λ _. deletes_named entry.name entry.topic)
 
-  pub grows : IsValid image → (place : ℤ) (entry : _) → Gives P (growing.rule image place entry)
+  pub grows : IsValid image → (place : ℤ) (entry : _) → Gives P (create_partitions.rule image place entry)
   grows valid place entry =
       gives_found P (pos 3) (entries.get text_order image.topics entry.name) _ (λ id _. let first = count_of image id in
       gives_refuse P (pos 37) (int_le entry.count (pos first)) _ (λ _. gives_found P (pos 39) (entries.get partition_order image.partitions (id, pos 0)) _ (λ p there.
-      gives_then (AllByRecursion (IsNew image)) P (growing.new_replicas image place first (unsigned_abs entry.count - first) (length (target p)) entry.assignments) _ (gives_from (AllByRecursion (IsNew image)) IsOwn _ (grown_new image valid place first (unsigned_abs entry.count - first) p entry.assignments (formed_at image valid (id, pos 0) p there))) (λ lists new. gives_done P (growing.grown image id first entry lists) (partitions_safe exchange image image id first lists new)))))
+      gives_then (AllByRecursion (IsNew image)) P (create_partitions.new_replicas image place first (unsigned_abs entry.count - first) (length (target p)) entry.assignments) _ (gives_from (AllByRecursion (IsNew image)) IsOwn _ (grown_new image valid place first (unsigned_abs entry.count - first) p entry.assignments (formed_at image valid (id, pos 0) p there))) (λ lists new. gives_done P (create_partitions.grown image id first entry lists) (partitions_safe exchange image image id first lists new)))))
 
   -- ---- settings
 
-  pub configures : IsValid image → (options : Options) (place : ℤ) (entry : _) → Gives P (configuring.rule options image place entry)
+  pub configures : IsValid image → (options : Options) (place : ℤ) (entry : _) → Gives P (incremental_alter_configs.rule options image place entry)
   configures valid options place entry =
-      gives_refuse P (pos 42) (not (configuring.is_topic_kind entry || configuring.is_broker_kind entry)) _ (λ _. gives_refuse P (pos 3) (configuring.is_topic_kind entry && not (entries.contains text_order image.topics entry.name)) _ (λ _. gives_refuse P (pos 42) (configuring.is_broker_kind entry && not (is_broker_name entry.name)) _ (λ _.
-      gives_then (λ _. Unit {0}) P (configuring.after_operations image entry [] entry.configs) (λ (values : configuring.Values). Ok (record { records = configuring.resource_records options image entry values; answer = refused_resource (pos 0) entry })) (λ _ _. tt) (λ values _.
-      let next : Image = record image { configs = configuring.with_values image.configs entry values } in
-      let settings = filter_map (configuring.config_record image entry) values in
-      let relieved = changes_of (configuring.relief options image next) (walk image) in
-      gives_done P (record { records = configuring.resource_records options image entry values; answer = refused_resource (pos 0) entry })
+      gives_refuse P (pos 42) (not (incremental_alter_configs.is_topic_kind entry || incremental_alter_configs.is_broker_kind entry)) _ (λ _. gives_refuse P (pos 3) (incremental_alter_configs.is_topic_kind entry && not (entries.contains text_order image.topics entry.name)) _ (λ _. gives_refuse P (pos 42) (incremental_alter_configs.is_broker_kind entry && not (is_broker_name entry.name)) _ (λ _.
+      gives_then (λ _. Unit {0}) P (incremental_alter_configs.after_operations image entry [] entry.configs) (λ (values : incremental_alter_configs.Values). Ok (record { records = incremental_alter_configs.resource_records options image entry values; answer = refused_incremental_alter_configs (pos 0) entry })) (λ _ _. tt) (λ values _.
+      let next : Image = record image { configs = incremental_alter_configs.with_values image.configs entry values } in
+      let settings = filter_map (incremental_alter_configs.config_record image entry) values in
+      let relieved = changes_of (incremental_alter_configs.relief options image next) (walk image) in
+      gives_done P (record { records = incremental_alter_configs.resource_records options image entry values; answer = refused_incremental_alter_configs (pos 0) entry })
       (both_safe exchange image settings relieved (all_calm_safe exchange image settings (values_calm image entry values)) (λ mid is. relieved_safe exchange image options next valid mid (values_leave image entry values image mid is)))))))
 
   -- ---- brokers
 
-  pub unregisters : IsValid image → (options : Options) (place : ℤ) (q : UnregisterBroker) → Gives P (unregistering.rule options image place q)
+  pub unregisters : IsValid image → (options : Options) (place : ℤ) (q : UnregisterBroker) → Gives P (unregister_broker.rule options image place q)
   unregisters valid options place q =
       gives_found P (pos 102) (entries.get int_cmp image.brokers q.broker) _ (λ old _. gives_done P _ (unregistered_safe exchange image (taken_out options.minimum image q.broker true) q.broker old.epoch (taken_out_safe exchange image options.minimum q.broker true valid)))
 
-  earlier_safe : IsValid image → (minimum : ℤ) (q : BrokerRegistration) (old : Option Broker) (after : Image) → Rattle.law_safety.proofs.SafeWalks.WithBrokersOf image after → AreSafe exchange after (registering.earlier_taken_out minimum image q old)
+  earlier_safe : IsValid image → (minimum : ℤ) (q : BrokerRegistration) (old : Option Broker) (after : Image) → Rattle.law_safety.proofs.SafeWalks.WithBrokersOf image after → AreSafe exchange after (broker_registration.earlier_taken_out minimum image q old)
   earlier_safe valid minimum q None after same = tt
   earlier_safe valid minimum q (Some old) after same = taken_out_safe exchange image minimum q.broker (not (int_eq q.previous_epoch old.epoch)) valid after same
 
-  pub registers : IsValid image → (options : Options) (time : ℤ) (heartbeats : Heartbeats) (place : ℤ) (q : BrokerRegistration) → Gives P (registering.rule options time heartbeats image place q)
+  pub registers : IsValid image → (options : Options) (time : ℤ) (heartbeats : Heartbeats) (place : ℤ) (q : BrokerRegistration) → Gives P (broker_registration.rule options time heartbeats image place q)
   registers valid options time heartbeats place q =
-      gives_refuse P (pos 104) (not (bytes_eq q.cluster options.cluster)) _ (λ _. gives_refuse P (pos 42) (int_lt q.broker (pos 0) || q.migrating || length q.listeners == 0) _ (λ _. gives_refuse P (pos 101) (registering.is_taken options time heartbeats image q) _ (λ _. gives_done P (registering.registered options image place q)
-      (registered_safe exchange image (registering.earlier_taken_out options.minimum image q (entries.get int_cmp image.brokers q.broker)) q.broker (registering.registration q place) (earlier_safe valid options.minimum q (entries.get int_cmp image.brokers q.broker))))))
+      gives_refuse P (pos 104) (not (bytes_eq q.cluster options.cluster)) _ (λ _. gives_refuse P (pos 42) (int_lt q.broker (pos 0) || q.migrating || length q.listeners == 0) _ (λ _. gives_refuse P (pos 101) (broker_registration.is_taken options time heartbeats image q) _ (λ _. gives_done P (broker_registration.registered options image place q)
+      (registered_safe exchange image (broker_registration.earlier_taken_out options.minimum image q (entries.get int_cmp image.brokers q.broker)) q.broker (broker_registration.registration q place) (earlier_safe valid options.minimum q (entries.get int_cmp image.brokers q.broker))))))
 
   -- what becomes of a broker
-  abbrev IsSafeStep : heartbeating.Step → Type 0
+  abbrev IsSafeStep : broker_heartbeat.Step → Type 0
   IsSafeStep step = AreSafe exchange image step.records
 
-  either : (test : Bool) (x y : heartbeating.Step) → IsSafeStep x → IsSafeStep y → IsSafeStep (cond test x y)
+  either : (test : Bool) (x y : broker_heartbeat.Step) → IsSafeStep x → IsSafeStep y → IsSafeStep (cond test x y)
   either true x y first then = first
   either false x y first then = then
 
   module _ (valid : IsValid image) (minimum : ℤ) (heartbeats : Heartbeats) (q : BrokerHeartbeat) (state : Broker) where
-    fenced_safe : IsSafeStep (heartbeating.of_fenced minimum image q state)
-    fenced_safe = either (q.want_shutdown || state.stopping) _ _ tt (either (q.want_fence || heartbeating.is_behind q) _ _ tt (unfencing_safe exchange image minimum q.broker state valid))
+    fenced_safe : IsSafeStep (broker_heartbeat.of_fenced minimum image q state)
+    fenced_safe = either (q.want_shutdown || state.stopping) _ _ tt (either (q.want_fence || broker_heartbeat.is_behind q) _ _ tt (unfencing_safe exchange image minimum q.broker state valid))
 
-    stopping_safe : IsSafeStep (heartbeating.of_stopping minimum heartbeats image q)
-    stopping_safe = either (heartbeating.is_passed_on heartbeats image q.broker) _ _ (fencing_safe exchange image minimum q.broker q.epoch valid) tt
+    stopping_safe : IsSafeStep (broker_heartbeat.of_stopping minimum heartbeats image q)
+    stopping_safe = either (broker_heartbeat.is_passed_on heartbeats image q.broker) _ _ (fencing_safe exchange image minimum q.broker q.epoch valid) tt
 
-    active_safe : IsSafeStep (heartbeating.of_active minimum image q)
+    active_safe : IsSafeStep (broker_heartbeat.of_active minimum image q)
     active_safe =
         either q.want_fence _ _ (fencing_safe exchange image minimum q.broker q.epoch valid)
-        (either (q.want_shutdown && not (heartbeating.leads image q.broker)) _ _ (fencing_safe exchange image minimum q.broker q.epoch valid)
+        (either (q.want_shutdown && not (broker_heartbeat.leads image q.broker)) _ _ (fencing_safe exchange image minimum q.broker q.epoch valid)
         (either q.want_shutdown _ _ (changed_safe exchange image (taken_out minimum image q.broker false) q.broker q.epoch (pos 0) (pos 1) (taken_out_safe exchange image minimum q.broker false valid)) tt))
 
-    step_safe : IsSafeStep (heartbeating.step minimum heartbeats image q state)
-    unfolding heartbeating.step
+    step_safe : IsSafeStep (broker_heartbeat.step minimum heartbeats image q state)
+    unfolding broker_heartbeat.step
     step_safe = either state.fenced _ _ fenced_safe (either state.stopping _ _ stopping_safe active_safe)
 
-  pub beats : IsValid image → (options : Options) (heartbeats : Heartbeats) (place : ℤ) (q : BrokerHeartbeat) → Gives P (heartbeating.rule options heartbeats image place q)
+  pub beats : IsValid image → (options : Options) (heartbeats : Heartbeats) (place : ℤ) (q : BrokerHeartbeat) → Gives P (broker_heartbeat.rule options heartbeats image place q)
   beats valid options heartbeats place q =
-      gives_found P (pos 77) (entries.get int_cmp image.brokers q.broker) _ (λ state _. gives_refuse P (pos 77) (not (int_eq q.epoch state.epoch)) _ (λ _. gives_done P (heartbeating.told q (heartbeating.step options.minimum heartbeats image q state)) (step_safe valid options.minimum heartbeats q state)))
+      gives_found P (pos 77) (entries.get int_cmp image.brokers q.broker) _ (λ state _. gives_refuse P (pos 77) (not (int_eq q.epoch state.epoch)) _ (λ _. gives_done P (broker_heartbeat.told q (broker_heartbeat.step options.minimum heartbeats image q state)) (step_safe valid options.minimum heartbeats q state)))
 
 -- ---- partitions that are named, each with its answer
 
 -- a report and its answer stand in one place
-abbrev pub IsReportOf : List (AlterPartitionTopic × AlterPartitionTopicResult) → reporting.Entry → AlterPartitionResult → Type 0
+abbrev pub IsReportOf : List (AlterPartitionTopic × AlterPartitionTopicResult) → alter_partition.Entry → AlterPartitionResult → Type 0
 IsReportOf topics entry answer =
     (test : PartitionReport × AlterPartitionResult → Bool) → test (entry.1, answer) ≡ true →
     list_any (λ t. t.0.topic == entry.0 && list_any test (zip t.0.partitions t.1.partitions)) topics ≡ true
 
-abbrev pub IsMoveOf : List (ReassignableTopic × ReassignableTopicResponse) → reassigning.Entry → ReassignablePartitionResponse → Type 0
+abbrev pub IsMoveOf : List (ReassignableTopic × ReassignableTopicResponse) → alter_partition_reassignments.Entry → ReassignablePartitionResponse → Type 0
 IsMoveOf topics entry answer =
     (test : ReassignablePartition × ReassignablePartitionResponse → Bool) → test (entry.1, answer) ≡ true →
     list_any (λ t. bytes_eq t.0.name entry.0 && list_any test (zip t.0.partitions t.1.partitions)) topics ≡ true
 
-drafted_change : (broker : ℤ) (entry : reporting.Entry) (p : Partition) (o : Option PartitionChange) → change_records entry.0 entry.1.index o ≡ (reporting.drafted broker entry p o).records
+drafted_change : (broker : ℤ) (entry : alter_partition.Entry) (p : Partition) (o : Option PartitionChange) → change_records entry.0 entry.1.index o ≡ (alter_partition.drafted broker entry p o).records
 drafted_change broker entry p None = refl
 drafted_change broker entry p (Some change) = refl
 
-taken_result : (broker : ℤ) (entry : reporting.Entry) (p : Partition) → is_taken (reporting.partition_result broker entry p) ≡ true
-taken_result broker entry p = elim (int_eq p.leader broker) as (λ b. is_taken (cond b (record { index = entry.1.index; error = pos 0; leader = p.leader; leader_epoch = p.leader_epoch; in_sync = p.in_sync; recovery = p.recovery; partition_epoch = p.partition_epoch }) (reporting.refused NEW_LEADER_ELECTED entry)) ≡ true) [
+taken_result : (broker : ℤ) (entry : alter_partition.Entry) (p : Partition) → is_taken (alter_partition.partition_result broker entry p) ≡ true
+taken_result broker entry p = elim (int_eq p.leader broker) as (λ b. is_taken (cond b (record { index = entry.1.index; error = pos 0; leader = p.leader; leader_epoch = p.leader_epoch; in_sync = p.in_sync; recovery = p.recovery; partition_epoch = p.partition_epoch }) (alter_partition.refused NEW_LEADER_ELECTED entry)) ≡ true) [
   | true ↦ refl
   | false ↦ refl
 ]
 
-taken_draft : (broker : ℤ) (entry : reporting.Entry) (p : Partition) (o : Option PartitionChange) → is_taken (reporting.drafted broker entry p o).answer ≡ true
+taken_draft : (broker : ℤ) (entry : alter_partition.Entry) (p : Partition) (o : Option PartitionChange) → is_taken (alter_partition.drafted broker entry p o).answer ≡ true
 taken_draft broker entry p None = taken_result broker entry p
 taken_draft broker entry p (Some change) = taken_result broker entry (merged p change)
 
 module _ (image : Image) where
-  pub reports : (options : Options) (q : AlterPartition) (r : AlterPartitionReply) → reporting.is_stale image q ≡ false → (place : ℤ) (entry : reporting.Entry) → Gives (λ draft. IsReportOf (zip q.topics r.topics) entry draft.answer → IsSafeDraft (Some (requests.AlterPartition q, replies.AlterPartition r)) image draft) (reporting.rule options q.broker image place entry)
-  unfolding reporting.of_partition reporting.accepted
+  pub reports : (options : Options) (q : AlterPartition) (r : AlterPartitionReply) → alter_partition.is_stale image q ≡ false → (place : ℤ) (entry : alter_partition.Entry) → Gives (λ draft. IsReportOf (zip q.topics r.topics) entry draft.answer → IsSafeDraft (Some (requests.AlterPartition q, replies.AlterPartition r)) image draft) (alter_partition.rule options q.broker image place entry)
+  unfolding alter_partition.of_partition alter_partition.accepted
   reports options q r fresh place entry =
       let exchange : Option Exchange = Some (requests.AlterPartition q, replies.AlterPartition r) in
       let P : Draft AlterPartitionResult → Type 0 = λ draft. IsReportOf (zip q.topics r.topics) entry draft.answer → IsSafeDraft exchange image draft in
       gives_found P (pos 100) (topic_name image.topics entry.0) _ (λ name named. gives_found P (pos 3) (entries.get partition_order image.partitions (entry.0, entry.1.index)) _ (λ p there.
-      gives_refuse P (pos 74) (int_lt entry.1.leader_epoch p.leader_epoch) _ (λ a. gives_refuse P (pos 75) (int_lt p.leader_epoch entry.1.leader_epoch) _ (λ b. gives_refuse P (pos 95) (not (int_eq entry.1.partition_epoch p.partition_epoch)) _ (λ c. gives_refuse P (pos 42) (reporting.is_bad q.broker p entry.1) _ (λ d. gives_refuse P (pos 107) (not (list_all (reporting.is_ready image) entry.1.in_sync)) _ (λ e.
-      let change = built p (reporting.wanted p entry.1) (facts_of options image name) in
-      gives_done P (reporting.drafted q.broker entry p change) (λ is. subst (AreSafe exchange image) (drafted_change q.broker entry p change)
-      (change_safe exchange image name (entry.0, entry.1.index) p (reporting.wanted p entry.1) (facts_of options image name) named there (record {
+      gives_refuse P (pos 74) (int_lt entry.1.leader_epoch p.leader_epoch) _ (λ a. gives_refuse P (pos 75) (int_lt p.leader_epoch entry.1.leader_epoch) _ (λ b. gives_refuse P (pos 95) (not (int_eq entry.1.partition_epoch p.partition_epoch)) _ (λ c. gives_refuse P (pos 42) (alter_partition.is_bad q.broker p entry.1) _ (λ d. gives_refuse P (pos 107) (not (list_all (alter_partition.is_ready image) entry.1.in_sync)) _ (λ e.
+      let change = built p (alter_partition.wanted p entry.1) (facts_of options image name) in
+      gives_done P (alter_partition.drafted q.broker entry p change) (λ is. subst (AreSafe exchange image) (drafted_change q.broker entry p change)
+      (change_safe exchange image name (entry.0, entry.1.index) p (alter_partition.wanted p entry.1) (facts_of options image name) named there (record {
         unclean = refl;
         mode = λ asked. absurd cc;
-        in_sync = λ id has_it. inr (and_from (not (reporting.is_stale image q)) _ (ap not fresh) (is (is_report_with q.broker image entry.1.index p id) (rw (id_itself entry.1.index, taken_draft q.broker entry p change, a, b, c, d, e, has_it) refl)));
+        in_sync = λ id has_it. inr (and_from (not (alter_partition.is_stale image q)) _ (ap not fresh) (is (is_report_with q.broker image entry.1.index p id) (rw (id_itself entry.1.index, taken_draft q.broker entry p change, a, b, c, d, e, has_it) refl)));
         lists = inl (record { replicas = refl; adding = refl; removing = refl });
       }))))))))))
 
   module _ (valid : IsValid image) (options : Options) where
-    elects_one : (q : ElectLeaders) (reply : Reply) → electing.is_kind q.kind ≡ true → (entry : electing.Entry) (id : ℕ) (p : Partition) → topic_name image.topics id ≡ Some entry.0 → entries.get partition_order image.partitions (id, entry.1) ≡ Some p → Gives (IsSafeDraft (Some (requests.ElectLeaders q, reply)) image) (electing.of_partition options q.kind image entry id p)
+    elects_one : (q : ElectLeaders) (reply : Reply) → elect_leaders.is_kind q.kind ≡ true → (entry : elect_leaders.Entry) (id : ℕ) (p : Partition) → topic_name image.topics id ≡ Some entry.0 → entries.get partition_order image.partitions (id, entry.1) ≡ Some p → Gives (IsSafeDraft (Some (requests.ElectLeaders q, reply)) image) (elect_leaders.of_partition options q.kind image entry id p)
     elects_one q reply kind entry id p named there =
         let exchange : Option Exchange = Some (requests.ElectLeaders q, reply) in
         let P = IsSafeDraft exchange image in
         let safe = λ (want : Want). change_safe exchange image entry.0 (id, entry.1) p want (facts_of options image entry.0) named there in
-        gives_if P (electing.is_preferred_kind q.kind) (electing.prefers options image entry id p) (electing.elects_any options image entry id p)
-        (λ _. gives_refuse P (pos 84) (int_eq p.leader (electing.first_replica p)) _ (λ _. gives_refuse P (pos 80) (not (has p.in_sync (electing.first_replica p) && has (active image) (electing.first_replica p))) _ (λ _. gives_done P _ (safe (electing.in_mode p modes.Preferred) (record {
+        gives_if P (elect_leaders.is_preferred_kind q.kind) (elect_leaders.prefers options image entry id p) (elect_leaders.elects_any options image entry id p)
+        (λ _. gives_refuse P (pos 84) (int_eq p.leader (elect_leaders.first_replica p)) _ (λ _. gives_refuse P (pos 80) (not (has p.in_sync (elect_leaders.first_replica p) && has (active image) (elect_leaders.first_replica p))) _ (λ _. gives_done P _ (safe (elect_leaders.in_mode p modes.Preferred) (record {
           unclean = refl;
           mode = λ asked. absurd cc;
           in_sync = λ id there. inl there;
           lists = inl (record { replicas = refl; adding = refl; removing = refl });
         })))))
-        (λ other. gives_refuse P (pos 84) (not (int_eq p.leader (negsuc 0))) _ (λ _. gives_refuse P (pos 83) (electing.finds_nobody options image entry p) _ (λ _. gives_done P _ (safe (electing.in_mode p modes.Unclean) (record {
+        (λ other. gives_refuse P (pos 84) (not (int_eq p.leader (negsuc 0))) _ (λ _. gives_refuse P (pos 83) (elect_leaders.finds_nobody options image entry p) _ (λ _. gives_done P _ (safe (elect_leaders.in_mode p modes.Unclean) (record {
           unclean = refl;
-          mode = λ asked. elim (or_cases (electing.is_preferred_kind q.kind) (int_eq q.kind (pos 1)) kind) [ inl k ↦ absurd cc | inr k ↦ k ];
+          mode = λ asked. elim (or_cases (elect_leaders.is_preferred_kind q.kind) (int_eq q.kind (pos 1)) kind) [ inl k ↦ absurd cc | inr k ↦ k ];
           in_sync = λ id there. inl there;
           lists = inl (record { replicas = refl; adding = refl; removing = refl });
         })))))
 
-    pub elects : (q : ElectLeaders) (reply : Reply) → electing.is_kind q.kind ≡ true → (place : ℤ) (entry : electing.Entry) → Gives (IsSafeDraft (Some (requests.ElectLeaders q, reply)) image) (electing.rule options q.kind image place entry)
+    pub elects : (q : ElectLeaders) (reply : Reply) → elect_leaders.is_kind q.kind ≡ true → (place : ℤ) (entry : elect_leaders.Entry) → Gives (IsSafeDraft (Some (requests.ElectLeaders q, reply)) image) (elect_leaders.rule options q.kind image place entry)
     elects q reply kind place entry =
         let P = IsSafeDraft (Some (requests.ElectLeaders q, reply)) image in
         gives_found P (pos 3) (entries.get text_order image.topics entry.0) _ (λ id named. gives_found P (pos 3) (entries.get partition_order image.partitions (id, entry.1)) _ (λ p there.
@@ -254,16 +254,16 @@ module _ (image : Image) where
     abbrev IsKept : Partition → Want → Type 0
     IsKept p want = (want.in_sync ≡ p.in_sync) × (want.mode ≡ modes.Plain)
 
-    wants_kept : (p : Partition) (o : Option (List ℤ)) → Gives (IsKept p) (reassigning.wanted image p o)
+    wants_kept : (p : Partition) (o : Option (List ℤ)) → Gives (IsKept p) (alter_partition_reassignments.wanted image p o)
     wants_kept p None = gives_refuse (IsKept p) (pos 85) (not (Rattle.kr_defs.specs.Partition.is_moving p)) _ (λ _. gives_done (IsKept p) _ (refl, refl))
-    wants_kept p (Some target) = gives_refuse (IsKept p) (pos 39) (not (reassigning.is_target image target)) _ (λ _. gives_done (IsKept p) _ (refl, refl))
+    wants_kept p (Some target) = gives_refuse (IsKept p) (pos 39) (not (alter_partition_reassignments.is_target image target)) _ (λ _. gives_done (IsKept p) _ (refl, refl))
 
-    pub reassigns : (q : AlterPartitionReassignments) (r : AlterPartitionReassignmentsReply) (place : ℤ) (entry : reassigning.Entry) → Gives (λ draft. IsMoveOf (zip q.topics r.responses) entry draft.answer → IsSafeDraft (Some (requests.AlterPartitionReassignments q, replies.AlterPartitionReassignments r)) image draft) (reassigning.rule options image place entry)
+    pub reassigns : (q : AlterPartitionReassignments) (r : AlterPartitionReassignmentsReply) (place : ℤ) (entry : alter_partition_reassignments.Entry) → Gives (λ draft. IsMoveOf (zip q.topics r.responses) entry draft.answer → IsSafeDraft (Some (requests.AlterPartitionReassignments q, replies.AlterPartitionReassignments r)) image draft) (alter_partition_reassignments.rule options image place entry)
     reassigns q r place entry =
         let exchange : Option Exchange = Some (requests.AlterPartitionReassignments q, replies.AlterPartitionReassignments r) in
         let P : Draft ReassignablePartitionResponse → Type 0 = λ draft. IsMoveOf (zip q.topics r.responses) entry draft.answer → IsSafeDraft exchange image draft in
         gives_found P (pos 3) (entries.get text_order image.topics entry.0) _ (λ id named. gives_found P (pos 3) (entries.get partition_order image.partitions (id, entry.1.index)) _ (λ p there.
-        gives_then (IsKept p) P (reassigning.wanted image p entry.1.replicas) _ (wants_kept p entry.1.replicas) (λ want kept. gives_refuse P (pos 39) (reassigning.loses_all image entry.0 p want) _ (λ _. gives_done P _ (λ is.
+        gives_then (IsKept p) P (alter_partition_reassignments.wanted image p entry.1.replicas) _ (wants_kept p entry.1.replicas) (λ want kept. gives_refuse P (pos 39) (alter_partition_reassignments.loses_all image entry.0 p want) _ (λ _. gives_done P _ (λ is.
         change_safe exchange image entry.0 (id, entry.1.index) p want (facts_of options image entry.0) (named_back image.topics valid.topics entry.0 id named) there (record {
           unclean = refl;
           mode = rw kept.1 (λ asked. absurd cc);

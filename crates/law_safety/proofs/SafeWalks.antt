@@ -31,9 +31,9 @@ use Rattle.kr_defs.proofs.IdLists.{has_before}
 use Rattle.kr_defs.proofs.NewPartitions.{defaults_sensible, emptying_keeps}
 use Rattle.kr_defs.proofs.Tests.{Gives, gives_refuse, gives_found, gives_done, gives_then}
 use Rattle.kr_calls.specs.declared.incremental_alter_configs.ConfigResource.{ConfigResource}
-use Rattle.kr_calls.specs.BrokerHeartbeat as heartbeating
+use Rattle.kr_calls.specs.BrokerHeartbeat as broker_heartbeat
 use Rattle.kr_calls.specs.Deciding.{apply_records}
-use Rattle.kr_calls.specs.IncrementalAlterConfigs as configuring
+use Rattle.kr_calls.specs.IncrementalAlterConfigs as incremental_alter_configs
 use Rattle.kr_calls.specs.SafeChange.{Exchange, is_safe}
 use Rattle.kr_calls.specs.TakingOut.{taking_out, taken_out, without_broker, is_held, fencing}
 use Rattle.kr_calls.proofs.TakingOutSteps.{built_sound, taking_sound}
@@ -109,36 +109,36 @@ module _ (exchange : Option Exchange) (image : Image) where
   -- where a broker is unfenced
   module _ (minimum broker : ℤ) (state : Broker) where
     abbrev ids : List ℤ
-    ids = active_of (heartbeating.unfenced_brokers image broker state)
+    ids = active_of (broker_heartbeat.unfenced_brokers image broker state)
 
-    pub electing_sound : IsSound (heartbeating.electing minimum image broker state)
-    electing_sound w formed c is = built_sound w.partition (default_want w.partition) (facts_with minimum image ids w.topic) (heartbeating.waits_for broker w.partition) c formed (defaults_sensible w.partition formed) is
+    pub electing_sound : IsSound (broker_heartbeat.electing minimum image broker state)
+    electing_sound w formed c is = built_sound w.partition (default_want w.partition) (facts_with minimum image ids w.topic) (broker_heartbeat.waits_for broker w.partition) c formed (defaults_sensible w.partition formed) is
 
-    electing_safe : IsSafeWalk exchange image.configs (heartbeating.electing minimum image broker state)
+    electing_safe : IsSafeWalk exchange image.configs (broker_heartbeat.electing minimum image broker state)
     electing_safe at w c same is =
         own_safe at w (default_want w.partition) minimum ids c same refl (λ id there. there)
-        (given (heartbeating.waits_for broker w.partition) (built w.partition (default_want w.partition) (facts_with minimum image ids w.topic)) c is)
+        (given (broker_heartbeat.waits_for broker w.partition) (built w.partition (default_want w.partition) (facts_with minimum image ids w.topic)) c is)
 
-    pub unfencing_safe : IsValid image → AreSafe exchange image (heartbeating.unfencing minimum image broker state)
-    unfencing_safe valid = changed_safe (changes_of (heartbeating.electing minimum image broker state) (walk image)) broker state.epoch (negsuc 0) (pos 0) (behind_broker (heartbeating.electing minimum image broker state) electing_sound valid electing_safe)
+    pub unfencing_safe : IsValid image → AreSafe exchange image (broker_heartbeat.unfencing minimum image broker state)
+    unfencing_safe valid = changed_safe (changes_of (broker_heartbeat.electing minimum image broker state) (walk image)) broker state.epoch (negsuc 0) (pos 0) (behind_broker (broker_heartbeat.electing minimum image broker state) electing_sound valid electing_safe)
 
   -- ---- settings of one resource, and the lists that they empty
 
   module _ (options : Options) (next : Image) where
-    emptied : (w : Walked) (c : PartitionChange) → configuring.relief options image next w ≡ Some c → emptying w.partition ≡ c
-    emptied w c is = elim (configuring.is_relieved options image next w) as (λ b. cond b (Some (emptying w.partition)) None ≡ Some c → emptying w.partition ≡ c) [
+    emptied : (w : Walked) (c : PartitionChange) → incremental_alter_configs.relief options image next w ≡ Some c → emptying w.partition ≡ c
+    emptied w c is = elim (incremental_alter_configs.is_relieved options image next w) as (λ b. cond b (Some (emptying w.partition)) None ≡ Some c → emptying w.partition ≡ c) [
       | true ↦ λ is. Rattle.kr_defs.proofs.Tests.some_is (emptying w.partition) c is
       | false ↦ λ is. absurd cc
     ] is
 
-    pub relief_sound : IsSound (configuring.relief options image next)
+    pub relief_sound : IsSound (incremental_alter_configs.relief options image next)
     relief_sound w formed c is = subst (λ (change : PartitionChange). is_well_formed (merged w.partition change) ≡ true) (emptied w c is) ((emptying_keeps w.partition).well_formed formed)
 
-    relief_safe : (configs : List (ConfigKey × List ℕ)) → IsSafeWalk exchange configs (configuring.relief options image next)
+    relief_safe : (configs : List (ConfigKey × List ℕ)) → IsSafeWalk exchange configs (incremental_alter_configs.relief options image next)
     relief_safe configs at w c same is = subst (λ (change : PartitionChange). is_safe at exchange w.topic w.key w.partition change ≡ true) (emptied w c is) (emptying_safe exchange at w.topic w.key w.partition)
 
-    pub relieved_safe : IsValid image → (after : Image) → WithPartitionsOf image after → AreSafe exchange after (changes_of (configuring.relief options image next) (walk image))
-    relieved_safe valid after same = walk_safe exchange (configuring.relief options image next) image after relief_sound valid same (relief_safe after.configs)
+    pub relieved_safe : IsValid image → (after : Image) → WithPartitionsOf image after → AreSafe exchange after (changes_of (incremental_alter_configs.relief options image next) (walk image))
+    relieved_safe valid after same = walk_safe exchange (incremental_alter_configs.relief options image next) image after relief_sound valid same (relief_safe after.configs)
 
 -- ---- settings of one resource leave the partitions
 
@@ -148,20 +148,20 @@ setting_leaves at kind name key None = gives_done (WithPartitionsOf at) _ (recor
 setting_leaves at kind name key (Some value) = gives_refuse (WithPartitionsOf at) Limit (let k : ConfigKey = record { kind = kind; name = name; key = key } in nat_lt MOST_CONFIG_TEXT (config_text (entries.insert config_order at.configs k value))) _ (λ _. gives_done (WithPartitionsOf at) _ (record { topics = refl; partitions = refl }))
 
 module _ (image : Image) (entry : ConfigResource) where
-  pub values_calm : (values : configuring.Values) → list_all is_calm (filter_map (configuring.config_record image entry) values) ≡ true
+  pub values_calm : (values : incremental_alter_configs.Values) → list_all is_calm (filter_map (incremental_alter_configs.config_record image entry) values) ≡ true
   values_calm [] = refl
   values_calm (v ∷ values) =
-      elim (configuring.is_same_value v.1 (entries.get config_order image.configs (configuring.key_of entry v.0))) as (λ b. list_all is_calm (cons_option (cond b None (Some (kinds.Config entry.kind entry.name v.0 v.1))) (filter_map (configuring.config_record image entry) values)) ≡ true) [
+      elim (incremental_alter_configs.is_same_value v.1 (entries.get config_order image.configs (incremental_alter_configs.key_of entry v.0))) as (λ b. list_all is_calm (cons_option (cond b None (Some (kinds.Config entry.kind entry.name v.0 v.1))) (filter_map (incremental_alter_configs.config_record image entry) values)) ≡ true) [
         | true ↦ values_calm values
         | false ↦ values_calm values
       ]
 
-  pub values_leave : (values : configuring.Values) (at : Image) → Gives (WithPartitionsOf at) (apply_records at (filter_map (configuring.config_record image entry) values))
+  pub values_leave : (values : incremental_alter_configs.Values) (at : Image) → Gives (WithPartitionsOf at) (apply_records at (filter_map (incremental_alter_configs.config_record image entry) values))
   values_leave [] at = gives_done (WithPartitionsOf at) at (record { topics = refl; partitions = refl })
   values_leave (v ∷ values) at =
-      elim (configuring.is_same_value v.1 (entries.get config_order image.configs (configuring.key_of entry v.0))) as (λ b. Gives (WithPartitionsOf at) (apply_records at (cons_option (cond b None (Some (kinds.Config entry.kind entry.name v.0 v.1))) (filter_map (configuring.config_record image entry) values)))) [
+      elim (incremental_alter_configs.is_same_value v.1 (entries.get config_order image.configs (incremental_alter_configs.key_of entry v.0))) as (λ b. Gives (WithPartitionsOf at) (apply_records at (cons_option (cond b None (Some (kinds.Config entry.kind entry.name v.0 v.1))) (filter_map (incremental_alter_configs.config_record image entry) values)))) [
         | true ↦ values_leave values at
-        | false ↦ gives_then (WithPartitionsOf at) (WithPartitionsOf at) (apply_record at (kinds.Config entry.kind entry.name v.0 v.1)) (λ after. apply_records after (filter_map (configuring.config_record image entry) values)) (setting_leaves at entry.kind entry.name v.0 v.1) (λ mid same after is.
+        | false ↦ gives_then (WithPartitionsOf at) (WithPartitionsOf at) (apply_record at (kinds.Config entry.kind entry.name v.0 v.1)) (λ after. apply_records after (filter_map (incremental_alter_configs.config_record image entry) values)) (setting_leaves at entry.kind entry.name v.0 v.1) (λ mid same after is.
             let more = values_leave values mid after is in
             record { topics = more.topics ∙ same.topics; partitions = more.partitions ∙ same.partitions })
       ]

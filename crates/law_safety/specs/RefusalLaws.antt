@@ -18,16 +18,16 @@ use Rattle.kr_defs.specs.Merge.{merged}
 use Rattle.kr_defs.specs.Heartbeats.{Heartbeats}
 use Rattle.kr_calls.specs.declared.deciding.Draft.{Draft}
 use Rattle.kr_calls.specs.declared.errors.TheConstants.{POLICY_VIOLATION}
-use Rattle.kr_calls.specs.AlterPartition as reporting
-use Rattle.kr_calls.specs.AlterPartitionReassignments as reassigning
-use Rattle.kr_calls.specs.BrokerHeartbeat as heartbeating
-use Rattle.kr_calls.specs.BrokerRegistration as registering
-use Rattle.kr_calls.specs.CreatePartitions as growing
-use Rattle.kr_calls.specs.CreateTopics as creating
-use Rattle.kr_calls.specs.DeleteTopics as deleting
-use Rattle.kr_calls.specs.ElectLeaders as electing
-use Rattle.kr_calls.specs.IncrementalAlterConfigs as configuring
-use Rattle.kr_calls.specs.UnregisterBroker as unregistering
+use Rattle.kr_calls.specs.AlterPartition as alter_partition
+use Rattle.kr_calls.specs.AlterPartitionReassignments as alter_partition_reassignments
+use Rattle.kr_calls.specs.BrokerHeartbeat as broker_heartbeat
+use Rattle.kr_calls.specs.BrokerRegistration as broker_registration
+use Rattle.kr_calls.specs.CreatePartitions as create_partitions
+use Rattle.kr_calls.specs.CreateTopics as create_topics
+use Rattle.kr_calls.specs.DeleteTopics as delete_topics
+use Rattle.kr_calls.specs.ElectLeaders as elect_leaders
+use Rattle.kr_calls.specs.IncrementalAlterConfigs as incremental_alter_configs
+use Rattle.kr_calls.specs.UnregisterBroker as unregister_broker
 
 -- The record has no meaning on the image because it passes a limit: of the image; of the indexes of partitions; of the
 -- replicas of one, which a reassignment brings together; or because a registration stands from above its place.
@@ -54,13 +54,13 @@ IsRefusedByLimits {E} rule =
 
 -- The rules of all requests are so: nothing else is answered by POLICY_VIOLATION than a passed limit.
 pub record LimitsAloneRefuse : Type 0 where
-  pub registrations : (options : Options) (time : ℤ) (heard : Heartbeats) → IsRefusedByLimits (registering.rule options time heard)
-  pub heartbeats : (options : Options) (heard : Heartbeats) → IsRefusedByLimits (heartbeating.rule options heard)
-  pub unregistrations : (options : Options) → IsRefusedByLimits (unregistering.rule options)
-  pub new_topics : (options : Options) (validate_only : Bool) → IsRefusedByLimits (creating.rule options validate_only)
-  pub removed_topics : IsRefusedByLimits deleting.rule
-  pub new_partitions : IsRefusedByLimits growing.rule
-  pub reports : (options : Options) (broker : ℤ) → IsRefusedByLimits (reporting.rule options broker)
-  pub elections : (options : Options) (kind : ℤ) → IsRefusedByLimits (electing.rule options kind)
-  pub reassignments : (options : Options) → IsRefusedByLimits (reassigning.rule options)
-  pub settings : (options : Options) → IsRefusedByLimits (configuring.rule options)
+  pub registrations : (options : Options) (time : ℤ) (heard : Heartbeats) → IsRefusedByLimits (broker_registration.rule options time heard)
+  pub heartbeats : (options : Options) (heard : Heartbeats) → IsRefusedByLimits (broker_heartbeat.rule options heard)
+  pub unregistrations : (options : Options) → IsRefusedByLimits (unregister_broker.rule options)
+  pub new_topics : (options : Options) (validate_only : Bool) → IsRefusedByLimits (create_topics.rule options validate_only)
+  pub removed_topics : IsRefusedByLimits delete_topics.rule
+  pub new_partitions : IsRefusedByLimits create_partitions.rule
+  pub reports : (options : Options) (broker : ℤ) → IsRefusedByLimits (alter_partition.rule options broker)
+  pub elections : (options : Options) (kind : ℤ) → IsRefusedByLimits (elect_leaders.rule options kind)
+  pub reassignments : (options : Options) → IsRefusedByLimits (alter_partition_reassignments.rule options)
+  pub settings : (options : Options) → IsRefusedByLimits (incremental_alter_configs.rule options)

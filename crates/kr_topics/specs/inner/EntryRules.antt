@@ -19,8 +19,8 @@ use Rattle.kr_calls.specs.declared.create_topics.CreatableTopicResult.{Creatable
 use Rattle.kr_calls.specs.declared.create_partitions.CreatePartitionsAssignment.{CreatePartitionsAssignment}
 use Rattle.kr_calls.specs.declared.create_partitions.CreatePartitionsTopic.{CreatePartitionsTopic}
 use Rattle.kr_calls.specs.declared.create_partitions.CreatePartitionsTopicResult.{CreatePartitionsTopicResult}
-use Rattle.kr_calls.specs.CreatePartitions as growing
-use Rattle.kr_calls.specs.CreateTopics as creating
+use Rattle.kr_calls.specs.CreatePartitions as create_partitions
+use Rattle.kr_calls.specs.CreateTopics as create_topics
 use Rattle.kr_calls.specs.CreateTopics.{Layout}
 use Rattle.kr_calls.specs.Deciding.{over_a_limit}
 use Rattle.kr_place.specs.Placing.{Grouped, placed_in}
@@ -36,7 +36,7 @@ placements_on those place first count factor = map (λ index. placed_in those (u
 -- ---- CreatePartitions
 
 abbrev pub new_replicas : Grouped → Image → ℤ → ℕ → ℕ → ℕ → Option (List CreatePartitionsAssignment) → Result (List (List ℤ)) ℤ
-new_replicas those image place first count size (Some assignments) = growing.new_replicas image place first count size (Some assignments)
+new_replicas those image place first count size (Some assignments) = create_partitions.new_replicas image place first count size (Some assignments)
 new_replicas those image place first count size None =
     refuse INVALID_REPLICATION_FACTOR when nat_lt those.count size else
     Ok (placements_on those place first count size)
@@ -46,15 +46,15 @@ abbrev pub of_size : Grouped → Image → ℤ → CreatePartitionsTopic → ℕ
 of_size those image place entry id first size =
     and_then (new_replicas those image place first (unsigned_abs entry.count - first) size entry.assignments) (λ lists.
     refuse over_a_limit when not (has_room image (length lists)) else
-    Ok (growing.grown image id first entry lists))
+    Ok (create_partitions.grown image id first entry lists))
 
 abbrev pub of_topic : Grouped → Image → ℤ → CreatePartitionsTopic → ℕ → ℕ → Result (Draft CreatePartitionsTopicResult) ℤ
 of_topic those image place entry id first =
     refuse INVALID_PARTITIONS when int_le entry.count (pos first) else
     found INVALID_REPLICA_ASSIGNMENT (entries.get partition_order image.partitions (id, pos 0)) (λ p. of_size those image place entry id first (length (target p)))
 
-abbrev pub growth : Grouped → Image → ℤ → CreatePartitionsTopic → Result (Draft CreatePartitionsTopicResult) ℤ
-growth those image place entry =
+abbrev pub create_partitions_by_racks : Grouped → Image → ℤ → CreatePartitionsTopic → Result (Draft CreatePartitionsTopicResult) ℤ
+create_partitions_by_racks those image place entry =
     found UNKNOWN_TOPIC_OR_PARTITION (entries.get text_order image.topics entry.name) (λ id. of_topic those image place entry id (count_of image id))
 
 -- ---- CreateTopics
@@ -75,17 +75,17 @@ spread those place partitions factor =
 abbrev pub layout : Grouped → Options → Image → ℤ → CreatableTopic → Result Layout ℤ
 layout those options image place entry =
     if length entry.assignments == 0
-    then spread those place (creating.or_default entry.partitions options.partitions) (creating.or_default entry.factor options.factor)
-    else creating.assigned image entry
+    then spread those place (create_topics.or_default entry.partitions options.partitions) (create_topics.or_default entry.factor options.factor)
+    else create_topics.assigned image entry
 
 abbrev pub of_layout : Options → Bool → Image → ℤ → CreatableTopic → Layout → Result (Draft CreatableTopicResult) ℤ
 of_layout options validate_only image place entry layout =
-    refuse INVALID_CONFIG when list_any creating.is_bad_setting entry.configs else
+    refuse INVALID_CONFIG when list_any create_topics.is_bad_setting entry.configs else
     refuse over_a_limit when not (has_room image (length layout.replicas)) else
-    Ok (creating.created image validate_only (creating.new_id options image place) entry layout)
+    Ok (create_topics.created image validate_only (create_topics.new_id options image place) entry layout)
 
-abbrev pub creation : Grouped → Options → Bool → Image → ℤ → CreatableTopic → Result (Draft CreatableTopicResult) ℤ
-creation those options validate_only image place entry =
+abbrev pub create_topics_by_racks : Grouped → Options → Bool → Image → ℤ → CreatableTopic → Result (Draft CreatableTopicResult) ℤ
+create_topics_by_racks those options validate_only image place entry =
     refuse INVALID_TOPIC_EXCEPTION when not (is_topic_name entry.name) else
     refuse TOPIC_ALREADY_EXISTS when entries.contains text_order image.topics entry.name else
     refuse INVALID_TOPIC_EXCEPTION when list_any (λ topic. names_agree topic.0 entry.name) image.topics else
