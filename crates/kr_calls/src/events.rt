@@ -1,7 +1,8 @@
 //! What a controller is told, and what it gives out.
 
 use crate::{Ask, Reply};
-use kr_defs::{Bytes, Item, Records};
+use kr_defs::{Bytes, Ill, Item, Records};
+use thiserror::Error;
 
 /// What happens to a controller.
 #[derive(Drop)]
@@ -55,17 +56,146 @@ pub enum Event {
     Image,
 }
 
-/// Why an event is refused: Kafka has no such numbers, they are this controller's own.
-#[derive(Drop)]
-pub struct Reason {
-    /// Which reason, from 1.
-    pub number: u8,
-    /// The first number that the reason speaks of, as an epoch or a place; 0 where there is none.
-    pub first: i64,
-    /// The second, or 0.
-    pub second: i64,
-    /// The third, or 0.
-    pub third: i64,
+/// Why an event is refused. Kafka has no such reasons, they are this controller's own; each has a number in a frame.
+#[derive(Clone, Copy, Debug, Drop, PartialEq, Eq, Error)]
+pub enum Reason {
+    /// The node leads.
+    #[error("the node leads, in epoch {ours}")]
+    AlreadyLeading {
+        /// The led epoch.
+        ours: i32,
+    },
+    /// The node doesn't lead in the epoch that the event is of.
+    #[error("epoch {asked} isn't led; the led one is {ours}")]
+    NotLeading {
+        /// The epoch that the event is of.
+        asked: i32,
+        /// The led epoch, -1 on standby.
+        ours: i32,
+    },
+    /// The leadership is of no later epoch than an earlier one.
+    #[error("epoch {asked} isn't above {greatest}")]
+    OldEpoch {
+        /// The epoch that the event is of.
+        asked: i32,
+        /// The greatest epoch that was led, -1 where none was.
+        greatest: i32,
+    },
+    /// The leadership begins elsewhere than at the committed end or one place behind it.
+    #[error("the log ends at {end}, so no leader begins at {asked}")]
+    BadNext {
+        /// The place at which the leadership is to begin.
+        asked: i64,
+        /// The committed end.
+        end: i64,
+    },
+    /// No batch of the log ends where it is to be committed, or it is committed already.
+    #[error("nothing between {committed} and {tip} can be committed up to {asked}")]
+    BadCommit {
+        /// The place up to which the log is to be committed.
+        asked: i64,
+        /// The committed end.
+        committed: i64,
+        /// The tip.
+        tip: i64,
+    },
+    /// The batch begins elsewhere than at the committed end.
+    #[error("the batch begins at {found} and not at {expected}")]
+    Gap {
+        /// The place at which it has to begin.
+        expected: i64,
+        /// The place at which it begins.
+        found: i64,
+    },
+    /// The bytes are no record batch.
+    #[error("no record batch: {0}")]
+    BadBatch(BatchRefusal),
+    /// A record of the batch has no meaning where it stands.
+    #[error("the record at {place} has no meaning: {cause:?}")]
+    IllFormed {
+        /// The record's place.
+        place: i64,
+        /// Why it has none.
+        cause: Ill,
+    },
+    /// The image is of an earlier place than the committed end.
+    #[error("the image of {asked} is older than the committed end {committed}")]
+    OlderImage {
+        /// The image's offset.
+        asked: i64,
+        /// The committed end.
+        committed: i64,
+    },
+    /// The bytes are no image.
+    #[error("no image: {0}")]
+    BadImage(ImageRefusal),
+    /// The log would pass its last place.
+    #[error("no event of this kind fits behind {place}")]
+    Exhausted {
+        /// The place that the event would begin at.
+        place: i64,
+    },
+}
+
+/// The first fault of bytes that are no record batch.
+#[derive(Clone, Copy, Debug, Drop, PartialEq, Eq, Error)]
+pub enum BatchRefusal {
+    /// The bytes end before the fields do, or the length is too small or goes past the bytes.
+    #[error("it ends too early")]
+    Short,
+    /// Bytes are left behind the batch.
+    #[error("bytes are left behind it")]
+    Trailing,
+    /// The magic isn't 2.
+    #[error("its magic isn't 2")]
+    Magic,
+    /// The CRC-32C isn't that of the bytes.
+    #[error("its CRC is wrong")]
+    Crc,
+    /// The records are compressed.
+    #[error("its records are compressed")]
+    Compressed,
+    /// The count of records and the last offset delta don't agree.
+    #[error("its count of records is wrong")]
+    BadCount,
+    /// The base is negative, or the record of this number has another offset delta.
+    #[error("the base or the offset of record {at} is wrong")]
+    BadOffset {
+        /// The record's number in the batch, from 0.
+        at: u32,
+    },
+    /// A record's framing or value is wrong.
+    #[error("record {at} is wrong")]
+    Record {
+        /// The record's number in the batch, from 0.
+        at: u32,
+    },
+}
+
+/// The first fault of bytes that are no image. A place is the number of records before.
+#[derive(Clone, Copy, Debug, Drop, PartialEq, Eq, Error)]
+pub enum ImageRefusal {
+    /// The head or a batch is wrong.
+    #[error("the batch behind record {place} is wrong")]
+    Batch {
+        /// The number of records before the batch.
+        place: i64,
+    },
+    /// The records aren't as many as the head says.
+    #[error("the count of records is wrong")]
+    NoEnd,
+    /// The record isn't one of an image, or isn't later in the order than the one before.
+    #[error("record {place} is out of order")]
+    Order {
+        /// The number of records before it.
+        place: i64,
+    },
+    /// The record has no meaning behind those before it.
+    #[error("record {place} has no meaning")]
+    IllFormed {
+        /// The number of records before it.
+        place: i64,
+    },
 }
 
 /// What a controller gives out.

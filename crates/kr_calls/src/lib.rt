@@ -52,7 +52,7 @@ pub use elect_leaders::{
     PartitionElectionResult, PartitionElectionResults, ReplicaElectionResult,
     ReplicaElectionResults,
 };
-pub use events::{Entry, Event, Output, Reason};
+pub use events::{BatchRefusal, Entry, Event, ImageRefusal, Output, Reason};
 pub use incremental_alter_configs::{
     ConfigOperation, ConfigOperations, ConfigResource, ConfigResources, ConfigResponse,
     ConfigResponses, IncrementalAlterConfigs, IncrementalAlterConfigsReply,

@@ -26,6 +26,8 @@ use Rattle.kr_stream.specs.Reader.{in_size, at_kind, in_body, no_size, no_place,
 use Rattle.kr_stream.specs.Laws.{FramesAreToldApart, RefusedBytesBeginNone, UnfinishedBytesBeginNone, OutputsAreToldApart, SameOutput}
 use Rattle.kr_stream.specs.Outputs as output
 use Rattle.kr_stream.specs.Outputs.{IsOutput, IsOutputBody, IsReason}
+use Rattle.kr_stream.specs.RefusalNumbers.{first_number, reason_number, second_number, third_number}
+use Rattle.kr_stream.proofs.ReasonNumbers.{one_reason}
 use Rattle.kr_stream.specs.inner.Bodies.{is_of_numbers, numbers_at, stamp_at, options_at}
 use Rattle.kr_stream.proofs.Sizes.{kind_once, body_short}
 use Rattle.kr_stream.proofs.FrameForms.{frame_form, frame_length, same_size, same_head}
@@ -137,11 +139,11 @@ module _ {X E : Type 0} {Is : X → List ℕ → Type 0} {read : List ℕ → Re
 
 reason_once : (a b : Reason) (x y : List ℕ) → x ≡ y → IsReason a x → IsReason b y → a ≡ b
 reason_once a b x y same j k =
-    let number = part_once (number_law w8) a.number b.number _ _ x y same j k in
-    let first = part_once (signed_law w64) a.first b.first _ _ j.right k.right number.1 j.second k.second in
-    let second = part_once (signed_law w64) a.second b.second _ _ _ _ first.1 j.second.second k.second.second in
-    let third = one_value (signed_law w64) a.third b.third k.second.second.right (subst (IsSigned w64 a.third) second.1 j.second.second.second) k.second.second.second in
-    rw (← number.0, ← first.0, ← second.0, ← third) refl
+    let number = part_once (number_law w8) (reason_number a) (reason_number b) _ _ x y same j k in
+    let first = part_once (signed_law w64) (first_number a) (first_number b) _ _ j.right k.right number.1 j.second k.second in
+    let second = part_once (signed_law w64) (second_number a) (second_number b) _ _ _ _ first.1 j.second.second k.second.second in
+    let third = one_value (signed_law w64) (third_number a) (third_number b) k.second.second.right (subst (IsSigned w64 (third_number a)) second.1 j.second.second.second) k.second.second.second in
+    one_reason a b number.0 first.0 second.0 third
 
 same_output : (a b : Output) (x y : List ℕ) → output.number_of a ≡ output.number_of b → x ≡ y → IsOutputBody a x → IsOutputBody b y → SameOutput a b
 same_output (outputs.Append bytes) (outputs.Append bytes') x y number same is is' = ap (λ (l : List ℕ). outputs.Append l) (sym is ∙ (same ∙ is'))

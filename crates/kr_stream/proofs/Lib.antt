@@ -4,6 +4,7 @@ pub mod BodyLaws
 pub mod BodyAnswers
 pub mod Parts
 pub mod Causes
+pub mod ReasonNumbers
 pub mod FrameLaws
 pub mod OutputFrames
 mod Examples

@@ -13,6 +13,7 @@ use Rattle.kr_calls.specs.declared.events.Output.TheVariants as outputs
 use Rattle.kr_req.specs.WrittenReplies.{reply_bytes}
 use Rattle.kr_req.proofs.Replies.{reply_stands}
 use Rattle.kr_stream.specs.Laws.{WrittenOutputsStand}
+use Rattle.kr_stream.specs.RefusalNumbers.{first_number, reason_number, second_number, third_number}
 use Rattle.kr_stream.specs.Outputs.{number_of, BodyFits, FrameFits, IsOutput, IsOutputBody, IsReason, ReasonFits, body_bytes, frame_bytes, frames_bytes, reason_bytes, sized_bytes}
 
 -- ---- what is written
@@ -41,17 +42,17 @@ reply_is client correlation same reply begun before after none is equal appended
     appended ∙ (ap (λ (z : ℤ). before ++ reply_bytes z reply) equal ∙ ap (λ (l : List ℕ). l ++ reply_bytes correlation reply) (is ∙ ap (λ (l : List ℕ). l ++ number w32 client) none))
 
 -- the number of the event, and the reason, one behind the other
-pub refusal_is : (event : ℕ) (reason : Reason) (begun a b c d e : List ℕ) → begun ≡ [] → a ≡ begun ++ number w64 event → b ≡ a ++ reason.number ∷ [] → c ≡ b ++ signed w64 reason.first → d ≡ c ++ signed w64 reason.second
-    → e ≡ d ++ signed w64 reason.third → e ≡ body_bytes (outputs.Refused event reason)
-refusal_is event reason begun a b c d e none pa pb pc pd pe = pe ∙ rw (pd, pc, pb, pa, none) (simp append_assoc)
+pub refusal_is : (event : ℕ) (reason : Reason) (which : ℕ) (first second third : ℤ) (begun a b c d e : List ℕ) → which ≡ reason_number reason → first ≡ first_number reason → second ≡ second_number reason → third ≡ third_number reason
+    → begun ≡ [] → a ≡ begun ++ number w64 event → b ≡ a ++ which ∷ [] → c ≡ b ++ signed w64 first → d ≡ c ++ signed w64 second → e ≡ d ++ signed w64 third → e ≡ body_bytes (outputs.Refused event reason)
+refusal_is event reason which first second third begun a b c d e is_which is_first is_second is_third none pa pb pc pd pe = pe ∙ rw (pd, pc, pb, pa, none, is_which, is_first, is_second, is_third) (simp append_assoc)
 
 -- ---- it stands for the output
 
 reason_stands : (reason : Reason) → ReasonFits reason → IsReason reason (reason_bytes reason)
 reason_stands reason fits =
-    joined (reason.number ∷ []) _ (record { long = refl; spelled = let byte = fits.0 in omega arith })
-    (joined (signed w64 reason.first) _ (signed_spelled w64 reason.first (omega arith) fits.1)
-    (joined (signed w64 reason.second) _ (signed_spelled w64 reason.second (omega arith) fits.2) (signed_spelled w64 reason.third (omega arith) fits.3)))
+    joined (reason_number reason ∷ []) _ (record { long = refl; spelled = let byte = fits.0 in omega arith })
+    (joined (signed w64 (first_number reason)) _ (signed_spelled w64 (first_number reason) (omega arith) fits.1)
+    (joined (signed w64 (second_number reason)) _ (signed_spelled w64 (second_number reason) (omega arith) fits.2) (signed_spelled w64 (third_number reason) (omega arith) fits.3)))
 
 body_stands : (output : Output) → BodyFits output → IsOutputBody output (body_bytes output)
 body_stands (outputs.Append bytes) fits = refl

@@ -12,6 +12,7 @@ use Rattle.kr_calls.specs.declared.events.Reason.{Reason}
 use Rattle.kr_req.specs.Messages.{IsReply}
 use Rattle.kr_req.specs.WrittenReplies.{ReplyFits, reply_bytes}
 use Rattle.kr_stream.specs.Frames.{IsFrame}
+use Rattle.kr_stream.specs.RefusalNumbers.{first_number, reason_number, second_number, third_number}
 
 -- the number of the kind
 abbrev pub number_of : Output → ℕ
@@ -22,7 +23,7 @@ number_of (outputs.Image bytes) = 132
 
 -- a reason's number, and its three numbers
 abbrev pub IsReason : Reason → List ℕ → Type 0
-IsReason reason = IsNumber w8 reason.number ⌢ IsSigned w64 reason.first ⌢ IsSigned w64 reason.second ⌢ IsSigned w64 reason.third
+IsReason reason = IsNumber w8 (reason_number reason) ⌢ IsSigned w64 (first_number reason) ⌢ IsSigned w64 (second_number reason) ⌢ IsSigned w64 (third_number reason)
 
 abbrev pub IsOutputBody : Output → List ℕ → Type 0
 IsOutputBody (outputs.Append bytes) = Exactly bytes
@@ -37,7 +38,7 @@ IsOutput output = IsFrame (number_of output) (IsOutputBody output)
 -- ---- what is written
 
 abbrev pub reason_bytes : Reason → List ℕ
-reason_bytes reason = reason.number ∷ (signed w64 reason.first ++ (signed w64 reason.second ++ signed w64 reason.third))
+reason_bytes reason = reason_number reason ∷ (signed w64 (first_number reason) ++ (signed w64 (second_number reason) ++ signed w64 (third_number reason)))
 
 abbrev pub body_bytes : Output → List ℕ
 body_bytes (outputs.Append bytes) = bytes
@@ -59,7 +60,7 @@ frames_bytes outputs = flat_map frame_bytes outputs
 -- ---- the values fit their fields
 
 abbrev pub ReasonFits : Reason → Type 0
-ReasonFits reason = (reason.number < 2 ^ 8) × FitsSigned w64 reason.first × FitsSigned w64 reason.second × FitsSigned w64 reason.third
+ReasonFits reason = (reason_number reason < 2 ^ 8) × FitsSigned w64 (first_number reason) × FitsSigned w64 (second_number reason) × FitsSigned w64 (third_number reason)
 
 abbrev pub BodyFits : Output → Type 0
 BodyFits (outputs.Append bytes) = Unit {0}

@@ -11,6 +11,7 @@ pub mod laws;
 mod opening;
 mod output;
 mod reader;
+mod refusal_numbers;
 mod stage;
 
 pub use fault::{StreamFault, WriteFault};

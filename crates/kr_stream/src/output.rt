@@ -8,6 +8,7 @@ ghost use Rattle.kr_stream.specs.Outputs as outputs;
 ghost use Rattle.kr_stream.specs.Outputs.{BodyFits, FrameFits, Wrote, WroteFront, body_bytes, frame_bytes, sized_bytes};
 
 use crate::WriteFault;
+use crate::refusal_numbers::{first_number, reason_number, second_number, third_number};
 use kr_base::{NoMemory, Sink};
 use kr_calls::{Output, Reason, Reply};
 use kr_req::encode_reply;
@@ -97,10 +98,10 @@ fn refusal_body(alloc: Global, event: u64, reason: &Reason) -> Result<Vec<u8>, N
 {
     let mut body = Vec::new(alloc);
     put_u64(&mut body, event)?;
-    put_byte(&reason.number, &mut body)?;
-    put_number(&reason.first, &mut body)?;
-    put_number(&reason.second, &mut body)?;
-    put_number(&reason.third, &mut body)?;
+    put_byte(&reason_number(reason), &mut body)?;
+    put_number(&first_number(reason), &mut body)?;
+    put_number(&second_number(reason), &mut body)?;
+    put_number(&third_number(reason), &mut body)?;
     Ok(body)
 }
 

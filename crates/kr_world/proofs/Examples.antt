@@ -38,7 +38,9 @@ use Rattle.kr_world.specs.declared.writes.Write.{Write}
 use Rattle.kr_world.specs.Events.{happens, outcome, at_time_of}
 use Rattle.kr_world.specs.Lead.{after_lead, lead}
 use Rattle.kr_world.specs.Outputs.{outputs_by, outputs_of, waiting_after}
-use Rattle.kr_world.specs.Reasons.{already_leading, bad_batch, bad_commit, bad_next, exhausted, gap, ill_formed, not_leading, old_epoch, older_image, reason}
+use Rattle.kr_calls.specs.declared.events.BatchRefusal.TheVariants as batch_refusals
+use Rattle.kr_calls.specs.declared.events.Reason.TheVariants as reasons
+use Rattle.kr_world.specs.Reasons.{already_leading, bad_batch, bad_commit, bad_next, exhausted, gap, ill_formed, not_leading, old_epoch, older_image}
 use Rattle.kr_world.specs.Batch.{batch_or, batch, take_batch, after_batch}
 use Rattle.kr_world.specs.Load.{take_image, after_load}
 use Rattle.kr_world.specs.Tick.{lapsed_contacts}
@@ -199,8 +201,8 @@ ill = refl
 pub damaged : (bytes : List ℕ) (fault : BatchFault) → batch_of bytes ≡ Err fault → batch standby bytes ≡ Err (bad_batch fault)
 damaged bytes fault is = ap (λ r. and_then (batch_or r) (take_batch standby)) is
 
-pub numbered : bad_batch (batches.Crc 5 6) ≡ reason 7 (pos 4) (pos 0) (pos 0)
-numbered = refl
+pub refused_by_crc : bad_batch (batches.Crc 5 6) ≡ reasons.BadBatch batch_refusals.Crc
+refused_by_crc = refl
 
 pub older : take_image standby (pos 11, empty) ≡ Err (older_image (pos 11) (pos 12))
 older = refl
