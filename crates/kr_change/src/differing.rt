@@ -6,13 +6,7 @@ ghost use Rattle.std.specs.Ordering.{int_eq};
 ghost use Rattle.kr_defs.specs.Build as builds;
 ghost use Rattle.kr_defs.specs.Ids as ids;
 
-use kr_defs::{Ids, Partition, PartitionChange};
-
-fn is_within(list: &[i32], those: &Ids) -> bool
-    ensures { result ≡ ids.is_within list.now those.now }
-{
-    list.iter().all(|id| those.contains(id))
-}
+use kr_defs::{Ids, Partition, PartitionChange, is_within};
 
 fn same_members(old: &Ids, new: &Ids) -> bool
     ensures { result ≡ builds.same_members old.now new.now }

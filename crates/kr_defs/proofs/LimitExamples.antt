@@ -7,7 +7,7 @@ use Rattle.kr_defs.specs.declared.ill.Ill.TheVariants.{Limit}
 use Rattle.kr_defs.specs.declared.limits.TheConstants.{MOST_CONFIG_TEXT, MOST_RECORDS, MOST_REQUEST_RECORDS, MOST_REQUEST_BYTES, IMAGE_BATCH, GREATEST_TIP, PLACES_END, MOST_MESSAGE_BYTES, MOST_FRAME_BYTES, MOST_LOAD_BYTES, MOST_SESSION_BYTES}
 use Rattle.kr_defs.specs.declared.options.Options.{Options}
 use Rattle.kr_defs.specs.declared.partition.Partition.{Partition}
-use Rattle.kr_defs.specs.Apply.{register, add_topic, add_partition, set_feature}
+use Rattle.kr_defs.specs.Apply.{register_broker, add_topic, add_partition, set_feature_level}
 use Rattle.kr_defs.specs.Image.{Image, empty, is_index, is_small_registration}
 use Rattle.kr_defs.specs.Merge.{next_epoch}
 use Rattle.kr_defs.specs.OpenOptions.{are_options}
@@ -31,14 +31,14 @@ plain = record { epoch = pos 0; incarnation = 1; endpoints = []; features = []; 
 abbrev with_brokers : ℕ → Image
 with_brokers n = record empty { brokers = replicate n (pos 7, plain) }
 
-brokers_1000 : is_ok (register (with_brokers 999) (pos 3) plain) ≡ true
+brokers_1000 : is_ok (register_broker (with_brokers 999) (pos 3) plain) ≡ true
 brokers_1000 = refl
 
-brokers_1001 : register (with_brokers 1000) (pos 3) plain ≡ Err Limit
+brokers_1001 : register_broker (with_brokers 1000) (pos 3) plain ≡ Err Limit
 brokers_1001 = refl
 
 -- one that is registered again is none more
-registered_again : is_ok (register (with_brokers 1000) (pos 7) plain) ≡ true
+registered_again : is_ok (register_broker (with_brokers 1000) (pos 7) plain) ≡ true
 registered_again = refl
 
 abbrev listens : ℕ → Broker
@@ -180,17 +180,17 @@ broker_2147483648 = refl
 abbrev with_features : ℕ → Image
 with_features n = record empty { features = replicate n (codes "b", pos 1) }
 
-levels_1000 : is_ok (set_feature (with_features 999) (codes "a") (pos 1)) ≡ true
+levels_1000 : is_ok (set_feature_level (with_features 999) (codes "a") (pos 1)) ≡ true
 levels_1000 = refl
 
-levels_1001 : set_feature (with_features 1000) (codes "a") (pos 1) ≡ Err Limit
+levels_1001 : set_feature_level (with_features 1000) (codes "a") (pos 1) ≡ Err Limit
 levels_1001 = refl
 
-feature_name_249 : is_ok (set_feature empty (letters 249) (pos 0)) ≡ true
+feature_name_249 : is_ok (set_feature_level empty (letters 249) (pos 0)) ≡ true
 feature_name_249 = refl
 
 -- also where the level is taken away
-feature_name_250 : set_feature empty (letters 250) (pos 0) ≡ Err Limit
+feature_name_250 : set_feature_level empty (letters 250) (pos 0) ≡ Err Limit
 feature_name_250 = refl
 
 -- ---- options

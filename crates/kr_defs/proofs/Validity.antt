@@ -39,20 +39,20 @@ module _ (image : Image) (v : IsValid image) where
   with_features : (fs : List (List ℕ × ℤ)) → AreFeatures fs → IsValid (record image { features = fs })
   with_features fs are = record { brokers = v.brokers; topics = v.topics; partitions = v.partitions; configs = v.configs; features = are }
 
-  registers : (id : ℤ) (state : Broker) → Gives IsValid (apply.register image id state)
+  registers : (id : ℤ) (state : Broker) → Gives IsValid (apply.register_broker image id state)
   registers id state =
       gives_refuse IsValid BadNumber _ _ (λ numbers.
       gives_refuse IsValid StaleEpoch _ _ (λ fresh.
       gives_refuse IsValid Limit _ _ (λ limit. let l = neither (map.is_full int_cmp MOST_BROKERS image.brokers id) (not (is_small_registration state)) limit in
       gives_done IsValid _ (with_brokers _ (brokers-insert image.brokers id state v.brokers (not_false (has_numbers id state) numbers) (not_false (is_small_registration state) l.1) l.0)))))
 
-  unregisters : (id epoch : ℤ) → Gives IsValid (apply.unregister image id epoch)
+  unregisters : (id epoch : ℤ) → Gives IsValid (apply.unregister_broker image id epoch)
   unregisters id epoch =
       gives_found IsValid NoBroker (map.get int_cmp image.brokers id) _ (λ old there.
       gives_refuse IsValid StaleEpoch _ _ (λ same.
       gives_done IsValid _ (with_brokers _ (brokers-remove image.brokers id v.brokers))))
 
-  changes_registration : (id epoch fenced stopping : ℤ) → Gives IsValid (apply.change_registration image id epoch fenced stopping)
+  changes_registration : (id epoch fenced stopping : ℤ) → Gives IsValid (apply.change_broker_registration image id epoch fenced stopping)
   changes_registration id epoch fenced stopping =
       gives_found IsValid NoBroker (map.get int_cmp image.brokers id) _ (λ old there.
       gives_refuse IsValid StaleEpoch (not (int_eq epoch old.epoch)) _ (λ same.
@@ -105,7 +105,7 @@ module _ (image : Image) (v : IsValid image) where
       gives_refuse IsValid Limit _ _ (λ little.
       gives_done IsValid _ (with_configs _ (configs-insert image.configs key value v.configs little)))
 
-  sets_feature : (name : List ℕ) (level : ℤ) → Gives IsValid (apply.set_feature image name level)
+  sets_feature : (name : List ℕ) (level : ℤ) → Gives IsValid (apply.set_feature_level image name level)
   sets_feature name level =
       gives_refuse IsValid BadNumber _ _ (λ numbers.
       gives_refuse IsValid Limit _ _ (λ limit. let l = neither (nat_lt LONGEST_FEATURE (length name)) (not (int_eq level (pos 0)) && map.is_full text_order MOST_FEATURES image.features name) limit in

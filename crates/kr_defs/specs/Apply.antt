@@ -23,15 +23,15 @@ use Rattle.kr_defs.specs.Texts.{is_topic_name}
 
 -- ---- brokers
 
-abbrev pub register : Image → ℤ → Broker → Result Image Ill
-register image id state =
+abbrev pub register_broker : Image → ℤ → Broker → Result Image Ill
+register_broker image id state =
     refuse BadNumber when not (has_numbers id state) else
     refuse StaleEpoch when option_map_or (λ old. int_lt state.epoch old.epoch) (map.get int_cmp image.brokers id) false else
     refuse Limit when map.is_full int_cmp MOST_BROKERS image.brokers id || not (is_small_registration state) else
     Ok (record image { brokers = map.insert int_cmp image.brokers id state })
 
-abbrev pub unregister : Image → ℤ → ℤ → Result Image Ill
-unregister image id epoch = found NoBroker (map.get int_cmp image.brokers id) (λ old.
+abbrev pub unregister_broker : Image → ℤ → ℤ → Result Image Ill
+unregister_broker image id epoch = found NoBroker (map.get int_cmp image.brokers id) (λ old.
     refuse StaleEpoch when not (int_eq epoch old.epoch) else
     Ok (record image { brokers = map.remove int_cmp image.brokers id }))
 
@@ -50,8 +50,8 @@ changed old fenced stopping = record old {
   stopping = old.stopping || int_eq stopping (pos 1);
 }
 
-abbrev pub change_registration : Image → ℤ → ℤ → ℤ → ℤ → Result Image Ill
-change_registration image id epoch fenced stopping = found NoBroker (map.get int_cmp image.brokers id) (λ old.
+abbrev pub change_broker_registration : Image → ℤ → ℤ → ℤ → ℤ → Result Image Ill
+change_broker_registration image id epoch fenced stopping = found NoBroker (map.get int_cmp image.brokers id) (λ old.
     refuse StaleEpoch when not (int_eq epoch old.epoch) else
     refuse BadNumber when not (is_fencing fenced && is_flag stopping) else
     Ok (record image { brokers = map.insert int_cmp image.brokers id (changed old fenced stopping) }))
@@ -113,8 +113,8 @@ set_config image key (Some value) =
     Ok (record image { configs = map.insert config_order image.configs key value })
 
 -- KIP-584: level 0 removes the feature
-abbrev pub set_feature : Image → List ℕ → ℤ → Result Image Ill
-set_feature image name level =
+abbrev pub set_feature_level : Image → List ℕ → ℤ → Result Image Ill
+set_feature_level image name level =
     refuse BadNumber when int_lt level (pos 0) else
     refuse Limit when nat_lt LONGEST_FEATURE (length name) || (not (int_eq level (pos 0)) && map.is_full text_order MOST_FEATURES image.features name) else
     if int_eq level (pos 0)
@@ -124,17 +124,17 @@ set_feature image name level =
 -- ---- all kinds
 
 unfoldable pub apply_record : Image → Record → Result Image Ill
-apply_record image (kinds.RegisterBroker broker state) = register image broker state
-apply_record image (kinds.UnregisterBroker broker epoch) = unregister image broker epoch
+apply_record image (kinds.RegisterBroker broker state) = register_broker image broker state
+apply_record image (kinds.UnregisterBroker broker epoch) = unregister_broker image broker epoch
 apply_record image (kinds.Topic name id) = add_topic image name id
 apply_record image (kinds.Partition index topic state) = add_partition image index topic state
 apply_record image (kinds.Config kind name key value) = set_config image (record { kind = kind; name = name; key = key }) value
 apply_record image (kinds.PartitionChange index topic change) = change_partition image index topic change
-apply_record image (kinds.FenceBroker broker epoch) = change_registration image broker epoch (pos 1) (pos 0)
-apply_record image (kinds.UnfenceBroker broker epoch) = change_registration image broker epoch (negsuc 0) (pos 0)
+apply_record image (kinds.FenceBroker broker epoch) = change_broker_registration image broker epoch (pos 1) (pos 0)
+apply_record image (kinds.UnfenceBroker broker epoch) = change_broker_registration image broker epoch (negsuc 0) (pos 0)
 apply_record image (kinds.RemoveTopic topic) = remove_topic image topic
-apply_record image (kinds.FeatureLevel name level) = set_feature image name level
-apply_record image (kinds.BrokerRegistrationChange broker epoch fenced stopping) = change_registration image broker epoch fenced stopping
+apply_record image (kinds.FeatureLevel name level) = set_feature_level image name level
+apply_record image (kinds.BrokerRegistrationChange broker epoch fenced stopping) = change_broker_registration image broker epoch fenced stopping
 apply_record image kinds.NoOp = Ok image
 
 unfoldable pub apply : Image → Item → Result Image Ill

@@ -3,35 +3,11 @@
 ghost use Rattle.std.specs.Prelude.{◌≡◌, ◌&&◌};
 ghost use Rattle.std.specs.List.{list_all};
 ghost use Rattle.kr_defs.specs.Build as builds;
-ghost use Rattle.kr_defs.specs.Ids as ids;
 ghost use Rattle.kr_defs.specs.Partition as rules;
 
 use crate::limits::MOST_REPLICAS;
+use crate::id_lists::{are_apart, is_distinct, is_within};
 use crate::{Ids, Partition, Want};
-
-fn is_within(list: &[i32], those: &Ids) -> bool
-    ensures { result ≡ ids.is_within list.now those.now }
-{
-    list.iter().all(|id| those.contains(id))
-}
-
-fn are_apart(list: &[i32], those: &Ids) -> bool
-    ensures { result ≡ ids.are_apart list.now those.now }
-{
-    list.iter().all(|id| !those.contains(id))
-}
-
-fn is_distinct(list: &[i32]) -> bool
-    ensures { result ≡ ids.is_distinct list.now }
-{
-    for (at, id) in list.iter().enumerate() {
-        let (_, later) = list.split_at(at + 1);
-        if later.contains(id) {
-            return false;
-        }
-    }
-    true
-}
 
 fn are_natural(list: &[i32]) -> bool
     ensures { result ≡ list_all rules.is_natural list.now }

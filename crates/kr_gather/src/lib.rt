@@ -16,4 +16,4 @@ pub use contents::records_of;
 pub use gathering::{
     BrokerPart, PartitionPart, TopicPart, gather_brokers, gather_partitions, gather_topics,
 };
-pub use replicas::{are_apart, are_registered, are_targets, is_distinct, is_within, without};
+pub use replicas::{are_registered, are_targets, without};

@@ -22,8 +22,8 @@ impl Timelines {
         ensures made { OnOk result (made_of self.new ≤ made_of self.old + record_weight (present_image self.old) value.now) }
     {
         match value {
-            Record::RegisterBroker { broker, state } => self.register(broker, state),
-            Record::UnregisterBroker { broker, epoch } => self.unregister(broker, epoch),
+            Record::RegisterBroker { broker, state } => self.register_broker(broker, state),
+            Record::UnregisterBroker { broker, epoch } => self.unregister_broker(broker, epoch),
             Record::Topic { name, id } => self.add_topic(name, id),
             Record::Partition {
                 index,
@@ -41,20 +41,20 @@ impl Timelines {
                 topic,
                 change,
             } => self.change_partition(index, topic, change),
-            Record::FenceBroker { broker, epoch } => self.change_registration(
+            Record::FenceBroker { broker, epoch } => self.change_broker_registration(
                 broker, epoch, &1, &0,
             ),
-            Record::UnfenceBroker { broker, epoch } => self.change_registration(
+            Record::UnfenceBroker { broker, epoch } => self.change_broker_registration(
                 broker, epoch, &-1, &0,
             ),
             Record::RemoveTopic { topic } => self.remove_topic(topic),
-            Record::FeatureLevel { name, level } => self.set_feature(name, level),
+            Record::FeatureLevel { name, level } => self.set_feature_level(name, level),
             Record::BrokerRegistrationChange {
                 broker,
                 epoch,
                 fenced,
                 stopping,
-            } => { self.change_registration(broker, epoch, fenced, stopping) }
+            } => { self.change_broker_registration(broker, epoch, fenced, stopping) }
             Record::NoOp => Ok(()),
         }
     }

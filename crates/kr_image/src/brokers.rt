@@ -93,10 +93,10 @@ impl Timelines {
         !contains(&self.brokers, id) && is_full(self.counts.brokers, MOST_BROKERS)
     }
 
-    pub fn register(&mut self, id: &i32, state: &Broker) -> Result<(), ChangeFault>
+    pub fn register_broker(&mut self, id: &i32, state: &Broker) -> Result<(), ChangeFault>
         requires valid { IsValid (present_image self.old) }
         requires agrees { Agrees self.old }
-        ensures changes { Changes self.old self.new result (apply.register (present_image self.old) id.now state.now) }
+        ensures changes { Changes self.old self.new result (apply.register_broker (present_image self.old) id.now state.now) }
         ensures agrees { OnOk result (Agrees self.new) }
         ensures kept { keeps_of self.new ≡ keeps_of self.old }
         ensures made { OnOk result (made_of self.new ≤ made_of self.old + 1) }
@@ -114,10 +114,10 @@ impl Timelines {
         Ok(())
     }
 
-    pub fn unregister(&mut self, id: &i32, epoch: &i64) -> Result<(), ChangeFault>
+    pub fn unregister_broker(&mut self, id: &i32, epoch: &i64) -> Result<(), ChangeFault>
         requires valid { IsValid (present_image self.old) }
         requires agrees { Agrees self.old }
-        ensures changes { Changes self.old self.new result (apply.unregister (present_image self.old) id.now epoch.now) }
+        ensures changes { Changes self.old self.new result (apply.unregister_broker (present_image self.old) id.now epoch.now) }
         ensures agrees { OnOk result (Agrees self.new) }
         ensures kept { keeps_of self.new ≡ keeps_of self.old }
         ensures made { OnOk result (made_of self.new ≤ made_of self.old + 1) }
@@ -132,7 +132,7 @@ impl Timelines {
         Ok(())
     }
 
-    pub fn change_registration(
+    pub fn change_broker_registration(
         &mut self,
         id: &i32,
         epoch: &i64,
@@ -141,7 +141,7 @@ impl Timelines {
     ) -> Result<(), ChangeFault>
         requires valid { IsValid (present_image self.old) }
         requires agrees { Agrees self.old }
-        ensures changes { Changes self.old self.new result (apply.change_registration (present_image self.old) id.now epoch.now fenced.now stopping.now) }
+        ensures changes { Changes self.old self.new result (apply.change_broker_registration (present_image self.old) id.now epoch.now fenced.now stopping.now) }
         ensures agrees { OnOk result (Agrees self.new) }
         ensures kept { keeps_of self.new ≡ keeps_of self.old }
         ensures made { OnOk result (made_of self.new ≤ made_of self.old + 1) }

@@ -52,10 +52,10 @@ impl Timelines {
     }
 
     /// Sets the level of a feature, or removes it where the level is 0.
-    pub fn set_feature(&mut self, name: &Text, level: &i16) -> Result<(), ChangeFault>
+    pub fn set_feature_level(&mut self, name: &Text, level: &i16) -> Result<(), ChangeFault>
         requires valid { IsValid (present_image self.old) }
         requires agrees { Agrees self.old }
-        ensures changes { Changes self.old self.new result (apply.set_feature (present_image self.old) name.now level.now) }
+        ensures changes { Changes self.old self.new result (apply.set_feature_level (present_image self.old) name.now level.now) }
         ensures agrees { OnOk result (Agrees self.new) }
         ensures kept { keeps_of self.new ≡ keeps_of self.old }
         ensures made { OnOk result (made_of self.new ≤ made_of self.old + 1) }

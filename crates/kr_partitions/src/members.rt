@@ -5,8 +5,7 @@ ghost use Rattle.kr_calls.specs.AlterPartition as alter_partition;
 
 use kr_base::NoMemory;
 use kr_calls::{BrokerState, PartitionReport};
-use kr_defs::{Ids, Partition};
-use kr_gather::{is_distinct, is_within};
+use kr_defs::{Ids, Partition, is_distinct, is_within};
 use std::alloc::Global;
 
 fn ids_of(alloc: Global, states: &[BrokerState]) -> Result<Ids, NoMemory>

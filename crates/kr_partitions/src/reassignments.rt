@@ -15,8 +15,8 @@ use kr_calls::{
     ReassignableTopic, ReassignableTopicResponse,
 };
 use kr_change::{Want, build};
-use kr_defs::{Copied, Ids, Options, Partition, PartitionChange, Text};
-use kr_gather::{are_apart, are_registered, are_targets, change_records, without};
+use kr_defs::{Copied, Ids, Options, Partition, PartitionChange, Text, are_apart};
+use kr_gather::{are_registered, are_targets, change_records, without};
 use kr_rules::{Groups, ItemRule, Refusal, Work};
 use kr_store::Store;
 use kr_walks::{active, default_want, facts, is_unclean, tip};

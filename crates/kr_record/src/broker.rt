@@ -82,7 +82,7 @@ fn read_standing(
 /// The registration of a broker, as a record.
 #[tactic(auto, unfolding(crate::specs::Reading::registration_at))]
 #[inline(never)]
-pub(crate) fn read_registration(
+pub(crate) fn read_register_broker(
     alloc: Global,
     bytes: &[u8],
     at: usize,
@@ -134,7 +134,7 @@ fn read_broker_epoch(bytes: &[u8], at: usize) -> Result<((i32, i64), usize), Wir
 }
 
 #[inline(never)]
-pub(crate) fn read_unregistration(bytes: &[u8], at: usize) -> Result<(Record, usize), RecordFault>
+pub(crate) fn read_unregister_broker(bytes: &[u8], at: usize) -> Result<(Record, usize), RecordFault>
     requires { at ≤ length bytes.now }
     ensures { ReadsKind result bytes.now (λ t. kinds.UnregisterBroker t.0 t.1) (broker_epoch_at (drop at bytes.now)) }
 {
@@ -143,7 +143,7 @@ pub(crate) fn read_unregistration(bytes: &[u8], at: usize) -> Result<(Record, us
 }
 
 #[inline(never)]
-pub(crate) fn read_fencing(bytes: &[u8], at: usize) -> Result<(Record, usize), RecordFault>
+pub(crate) fn read_fence_broker(bytes: &[u8], at: usize) -> Result<(Record, usize), RecordFault>
     requires { at ≤ length bytes.now }
     ensures { ReadsKind result bytes.now (λ t. kinds.FenceBroker t.0 t.1) (broker_epoch_at (drop at bytes.now)) }
 {
@@ -152,7 +152,7 @@ pub(crate) fn read_fencing(bytes: &[u8], at: usize) -> Result<(Record, usize), R
 }
 
 #[inline(never)]
-pub(crate) fn read_unfencing(bytes: &[u8], at: usize) -> Result<(Record, usize), RecordFault>
+pub(crate) fn read_unfence_broker(bytes: &[u8], at: usize) -> Result<(Record, usize), RecordFault>
     requires { at ≤ length bytes.now }
     ensures { ReadsKind result bytes.now (λ t. kinds.UnfenceBroker t.0 t.1) (broker_epoch_at (drop at bytes.now)) }
 {

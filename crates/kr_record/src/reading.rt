@@ -10,13 +10,13 @@ ghost use Rattle.kr_record.specs.Reading;
 ghost use Rattle.kr_record.specs.Reading.{is_newer, kind_at, layout_at, record_of};
 
 use crate::broker::{
-    read_fencing, read_no_op, read_registration, read_unfencing, read_unregistration,
+    read_fence_broker, read_no_op, read_register_broker, read_unfence_broker, read_unregister_broker,
 };
-use crate::change::read_change;
+use crate::change::read_partition_change;
 use crate::fault::RecordFault;
-use crate::flags::read_registration_change;
+use crate::flags::read_broker_registration_change;
 use crate::partition::read_partition;
-use crate::topic::{read_config, read_feature, read_removal, read_topic};
+use crate::topic::{read_config, read_feature_level, read_remove_topic, read_topic};
 use kr_defs::Record;
 use kr_wire::read_uvarint;
 use std::alloc::Global;
@@ -55,17 +55,17 @@ fn read_kind(
     ensures { GivesField result bytes.now (kind_at key version (drop at bytes.now)) }
 {
     match key {
-        0 => read_registration(alloc, bytes, at, version),
-        1 => read_unregistration(bytes, at),
+        0 => read_register_broker(alloc, bytes, at, version),
+        1 => read_unregister_broker(bytes, at),
         2 => read_topic(alloc, bytes, at),
         3 => read_partition(alloc, bytes, at, version),
         4 => read_config(alloc, bytes, at),
-        5 => read_change(alloc, bytes, at, version),
-        7 => read_fencing(bytes, at),
-        8 => read_unfencing(bytes, at),
-        9 => read_removal(bytes, at),
-        12 => read_feature(alloc, bytes, at),
-        17 => read_registration_change(alloc, bytes, at, version),
+        5 => read_partition_change(alloc, bytes, at, version),
+        7 => read_fence_broker(bytes, at),
+        8 => read_unfence_broker(bytes, at),
+        9 => read_remove_topic(bytes, at),
+        12 => read_feature_level(alloc, bytes, at),
+        17 => read_broker_registration_change(alloc, bytes, at, version),
         20 => read_no_op(bytes, at),
         _ => Err(RecordFault::UnknownKey { key }),
     }

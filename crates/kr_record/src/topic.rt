@@ -30,7 +30,7 @@ pub(crate) fn read_topic(
 /// The id of a topic that is removed, as a record.
 #[tactic(auto, unfolding(crate::specs::Reading::topic_id_at))]
 #[inline(never)]
-pub(crate) fn read_removal(bytes: &[u8], at: usize) -> Result<(Record, usize), RecordFault>
+pub(crate) fn read_remove_topic(bytes: &[u8], at: usize) -> Result<(Record, usize), RecordFault>
     requires { at ≤ length bytes.now }
     ensures { ReadsKind result bytes.now (λ t. kinds.RemoveTopic t) (topic_id_at (drop at bytes.now)) }
 {
@@ -70,7 +70,7 @@ pub(crate) fn read_config(
 /// The name and the level of a feature, as a record.
 #[tactic(auto, unfolding(crate::specs::Reading::feature_at))]
 #[inline(never)]
-pub(crate) fn read_feature(
+pub(crate) fn read_feature_level(
     alloc: Global,
     bytes: &[u8],
     at: usize,

@@ -47,7 +47,7 @@ fn put_frame(out: &mut Vec<u8>, key: u32, version: u32) -> Result<(), AllocError
 }
 
 #[tactic(auto, unfolding(crate::specs::Spelling::spelled_registration))]
-fn put_registration(out: &mut Vec<u8>, broker: &i32, state: &Broker) -> Result<(), AllocError>
+fn put_register_broker(out: &mut Vec<u8>, broker: &i32, state: &Broker) -> Result<(), AllocError>
     requires { IsShortBroker state.now }
     ensures { OnOk result (out.new.items ≡ out.old.items ++ spelled_registration broker.now state.now) }
 {
@@ -162,7 +162,7 @@ fn put_config(
 }
 
 #[tactic(auto, unfolding(crate::specs::Spelling::change))]
-fn put_change(
+fn put_partition_change(
     out: &mut Vec<u8>,
     index: &i32,
     topic: u128,
@@ -177,7 +177,7 @@ fn put_change(
 }
 
 #[tactic(auto, unfolding(crate::specs::Spelling::feature))]
-fn put_feature(out: &mut Vec<u8>, name: &Text, level: &i16) -> Result<(), AllocError>
+fn put_feature_level(out: &mut Vec<u8>, name: &Text, level: &i16) -> Result<(), AllocError>
     requires { IsShort name.now }
     ensures { OnOk result (out.new.items ≡ out.old.items ++ feature name.now level.now) }
 {
@@ -187,7 +187,7 @@ fn put_feature(out: &mut Vec<u8>, name: &Text, level: &i16) -> Result<(), AllocE
 }
 
 #[tactic(auto, unfolding(crate::specs::Spelling::registration_change))]
-fn put_registration_change(
+fn put_broker_registration_change(
     out: &mut Vec<u8>,
     broker: &i32,
     epoch: &i64,
@@ -206,7 +206,7 @@ fn put_layout(out: &mut Vec<u8>, value: &Record) -> Result<(), AllocError>
     ensures { OnOk result (out.new.items ≡ out.old.items ++ layout_of value.now) }
 {
     match value {
-        Record::RegisterBroker { broker, state } => put_registration(out, broker, state),
+        Record::RegisterBroker { broker, state } => put_register_broker(out, broker, state),
         Record::UnregisterBroker { broker, epoch }
         | Record::FenceBroker { broker, epoch }
         | Record::UnfenceBroker { broker, epoch } => put_broker_epoch(out, broker, epoch),
@@ -226,15 +226,15 @@ fn put_layout(out: &mut Vec<u8>, value: &Record) -> Result<(), AllocError>
             index,
             topic,
             change,
-        } => put_change(out, index, *topic, change),
+        } => put_partition_change(out, index, *topic, change),
         Record::RemoveTopic { topic } => put_topic_id(out, *topic),
-        Record::FeatureLevel { name, level } => put_feature(out, name, level),
+        Record::FeatureLevel { name, level } => put_feature_level(out, name, level),
         Record::BrokerRegistrationChange {
             broker,
             epoch,
             fenced,
             stopping,
-        } => put_registration_change(out, broker, epoch, fenced, stopping),
+        } => put_broker_registration_change(out, broker, epoch, fenced, stopping),
         Record::NoOp => put_no_tags(out),
     }
 }

@@ -55,7 +55,7 @@ module _ (image : Image) (k : ℤ) where
   unfolding apply_record
   changed_then epoch fenced stopping state change ws there =
       let P = HasBroker image k (apply.changed state fenced stopping) in
-      gives_then P P (apply.change_registration image k epoch fenced stopping) (λ after. apply_records after (changes_of change ws))
+      gives_then P P (apply.change_broker_registration image k epoch fenced stopping) (λ after. apply_records after (changes_of change ws))
       (gives_found P NoBroker (entries.get int_cmp image.brokers k) _ (λ old is. gives_refuse P StaleEpoch (not (int_eq epoch old.epoch)) _ (λ _. gives_refuse P BadNumber (not (apply.is_fencing fenced && apply.is_flag stopping)) _ (λ _. gives_done P _
       (ap (λ (b : Broker). entries.insert int_cmp image.brokers k (apply.changed b fenced stopping)) (some_is old state (sym is ∙ there)))))))
       (λ mid has after is. all_leave mid (changes_of change ws) (changes_are change ws) after is ∙ has)
@@ -64,7 +64,7 @@ module _ (image : Image) (k : ℤ) where
   unfolding apply_record
   registered_then state change ws =
       let P = HasBroker image k state in
-      gives_then P P (apply.register image k state) (λ after. apply_records after (changes_of change ws))
+      gives_then P P (apply.register_broker image k state) (λ after. apply_records after (changes_of change ws))
       (gives_refuse P BadNumber (not (has_numbers k state)) _ (λ _. gives_refuse P StaleEpoch (option_map_or (λ (old : Broker). int_lt state.epoch old.epoch) (entries.get int_cmp image.brokers k) false) _ (λ _. gives_refuse P Limit (entries.is_full int_cmp MOST_BROKERS image.brokers k || not (is_small_registration state)) _ (λ _. gives_done P _ refl))))
       (λ mid has after is. all_leave mid (changes_of change ws) (changes_are change ws) after is ∙ has)
 
@@ -72,7 +72,7 @@ module _ (image : Image) (k : ℤ) where
   unfolding apply_record
   removed_then epoch change ws =
       let P = λ (after : Image). after.brokers ≡ entries.remove int_cmp image.brokers k in
-      gives_then P P (apply.unregister image k epoch) (λ after. apply_records after (changes_of change ws))
+      gives_then P P (apply.unregister_broker image k epoch) (λ after. apply_records after (changes_of change ws))
       (gives_found P NoBroker (entries.get int_cmp image.brokers k) _ (λ old _. gives_refuse P StaleEpoch (not (int_eq epoch old.epoch)) _ (λ _. gives_done P _ refl)))
       (λ mid has after is. all_leave mid (changes_of change ws) (changes_are change ws) after is ∙ has)
 

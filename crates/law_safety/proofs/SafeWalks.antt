@@ -48,13 +48,13 @@ use Rattle.law_safety.proofs.SafeRecords.{if_ok, is_calm, IsSafeWalk, WithPartit
 abbrev pub WithBrokersOf : Image → Image → Type 0
 WithBrokersOf image after = after ≡ record image { brokers = after.brokers }
 
-registration_leaves : (image : Image) (id : ℤ) (state : Broker) → Gives (WithBrokersOf image) (apply.register image id state)
+registration_leaves : (image : Image) (id : ℤ) (state : Broker) → Gives (WithBrokersOf image) (apply.register_broker image id state)
 registration_leaves image id state = gives_refuse (WithBrokersOf image) BadNumber (not (has_numbers id state)) _ (λ _. gives_refuse (WithBrokersOf image) StaleEpoch (option_map_or (λ (old : Broker). int_lt state.epoch old.epoch) (entries.get int_cmp image.brokers id) false) _ (λ _. gives_refuse (WithBrokersOf image) Limit (entries.is_full int_cmp MOST_BROKERS image.brokers id || not (is_small_registration state)) _ (λ _. gives_done (WithBrokersOf image) _ refl)))
 
-removal_leaves : (image : Image) (id epoch : ℤ) → Gives (WithBrokersOf image) (apply.unregister image id epoch)
+removal_leaves : (image : Image) (id epoch : ℤ) → Gives (WithBrokersOf image) (apply.unregister_broker image id epoch)
 removal_leaves image id epoch = gives_found (WithBrokersOf image) NoBroker (entries.get int_cmp image.brokers id) _ (λ old _. gives_refuse (WithBrokersOf image) StaleEpoch (not (int_eq epoch old.epoch)) _ (λ _. gives_done (WithBrokersOf image) _ refl))
 
-change_leaves : (image : Image) (id epoch fenced stopping : ℤ) → Gives (WithBrokersOf image) (apply.change_registration image id epoch fenced stopping)
+change_leaves : (image : Image) (id epoch fenced stopping : ℤ) → Gives (WithBrokersOf image) (apply.change_broker_registration image id epoch fenced stopping)
 change_leaves image id epoch fenced stopping = gives_found (WithBrokersOf image) NoBroker (entries.get int_cmp image.brokers id) _ (λ old _. gives_refuse (WithBrokersOf image) StaleEpoch (not (int_eq epoch old.epoch)) _ (λ _. gives_refuse (WithBrokersOf image) BadNumber (not (apply.is_fencing fenced && apply.is_flag stopping)) _ (λ _. gives_done (WithBrokersOf image) _ refl)))
 
 module _ (exchange : Option Exchange) (image : Image) where

@@ -7,7 +7,7 @@ ghost use Rattle.kr_defs.specs.Heartbeats as heartbeats;
 ghost use Rattle.kr_defs.specs.Ids as ids;
 ghost use Rattle.test_rule_answers.specs.HeartbeatWords as words;
 
-use kr_defs::{Contact, Ids, Stopping};
+use kr_defs::{Contact, Ids, Stopping, is_distinct, is_within};
 use kr_sessions::Sessions;
 use std::alloc::{AllocError, Global};
 use test_words::{RowFault, join_by_space};
@@ -37,21 +37,6 @@ pub enum Operation {
 }
 
 // ---- the conditions of the calls, tested
-
-fn is_distinct(list: &[i32]) -> bool
-    ensures { result ≡ ids.is_distinct list.now }
-{
-    match list.split_first() {
-        None => true,
-        Some((id, others)) => !others.contains(id) && is_distinct(others),
-    }
-}
-
-fn is_within(list: &[i32], those: &Ids) -> bool
-    ensures { result ≡ ids.is_within list.now those.now }
-{
-    list.iter().all(|id| those.contains(id))
-}
 
 fn is_contact(contacts: &[Contact], broker: &i32) -> bool
     ensures { result ≡ ids.has (map (λ c. c.broker) contacts.now) broker.now }
