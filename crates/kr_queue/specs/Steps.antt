@@ -16,7 +16,7 @@ with_popped v job = record v { popped = v.popped ++ job ∷ [] }
 abbrev pub IsMoment : List Job → List View → ℕ → View → Type 0
 IsMoment items views number v = IsKept items views × (get_elem? views number ≡ some v)
 
--- the queue held just these items at one moment at which the pass knew v
+-- what the pass knows goes with a queue of just these items: the rule holds of them and of some passes, of which one knows v
 abbrev pub Holds : View → List Job → Type 0
 Holds v items = (views : List View) × (number : ℕ) × IsMoment items views number v
 
