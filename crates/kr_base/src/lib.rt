@@ -5,10 +5,12 @@ mod adapters;
 mod answers;
 mod memory;
 mod outside;
+mod shared;
 mod steps;
 
 pub use adapters::{ReadSource, WriteSink};
 pub use answers::{Failed, NoEpoch, NoMemory};
 pub use memory::{MemorySink, MemorySource};
 pub use outside::{Sink, Source};
+pub use shared::Shared;
 pub use steps::Steps;
