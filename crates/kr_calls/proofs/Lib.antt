@@ -2,6 +2,7 @@ mod BrokerExamples
 pub mod BrokersLeft
 mod Cluster
 mod ConfigExamples
+pub mod CountedItems
 pub mod DecisionMeanings
 mod ErrorExamples
 pub mod KeptByRequests
@@ -9,6 +10,7 @@ pub mod OtherRequests
 mod PartitionExamples
 mod ReadExamples
 mod SafeChangeExamples
+mod SeatListExamples
 pub mod TakingOutSteps
 mod TopicExamples
 pub mod WalkedChanges

@@ -15,7 +15,10 @@ pub mod NewPartitions
 pub mod NextBasis
 pub mod NextBasisLaws
 pub mod Refuse
+pub mod RightAnswers
 pub mod SafeChange
+pub mod SeatList
+pub mod SeatListLaws
 pub mod TakingOut
 pub mod TakingOutLaws
 pub mod UnregisterBroker

@@ -1,6 +1,6 @@
 //! What a controller is told, and what it gives out.
 
-use crate::{Ask, Reply};
+use crate::{Answer, Ask, Reply};
 use kr_defs::{Bytes, Ill, Item, Records};
 use thiserror::Error;
 
@@ -229,7 +229,7 @@ pub enum Output {
     },
 }
 
-/// What the log gained, with its place.
+/// What the log gained, with its place; and what the worker tells its clients besides.
 #[derive(Drop)]
 pub enum Entry {
     /// An item of the log.
@@ -245,5 +245,15 @@ pub enum Entry {
         offset: i64,
         /// The image's records, in the order in which an image's text has them.
         records: Records,
+    },
+    /// A client's write is answered.
+    Answer {
+        /// By this.
+        answer: Answer,
+    },
+    /// The worker stops.
+    Stop {
+        /// Which stop it is.
+        number: u64,
     },
 }

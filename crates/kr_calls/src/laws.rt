@@ -8,6 +8,7 @@ ghost use Rattle.kr_calls.specs.declared.calls.Request.{Request as AnyRequest};
 ghost use Rattle.kr_calls.specs.Decide.{work_of};
 ghost use Rattle.kr_calls.specs.Deciding.{HaveMeanings};
 ghost use Rattle.kr_calls.specs.NextBasisLaws.{OtherRequestsLeaveBrokers};
+ghost use Rattle.kr_calls.specs.SeatListLaws.{ItemsInOrderCount};
 ghost use Rattle.kr_calls.specs.TakingOutLaws.{TakingOutIsNeverRefused, FencingIsNeverRefused, UnregisteringIsNeverRefused};
 
 /// Each record that a request gives has a meaning at its place, and the last one leaves the image of the decision.
@@ -27,4 +28,10 @@ pub fn taking_out_is_never_refused()
 /// A request that isn't a broker's own leaves the brokers of the image, and who is heard of.
 pub fn other_requests_leave_brokers()
     ensures { OtherRequestsLeaveBrokers }
+{}
+
+/// Items one behind the other, from the end of a list of entries on, all count where they all have a meaning.
+#[tactic(auto, using(crate::proofs::CountedItems::all_count))]
+pub fn items_in_order_count()
+    ensures { ItemsInOrderCount }
 {}

@@ -3,6 +3,7 @@
 
 mod alter_partition;
 mod alter_partition_reassignments;
+mod answers;
 mod broker_heartbeat;
 mod broker_registration;
 mod calls;
@@ -29,6 +30,7 @@ pub use alter_partition_reassignments::{
     ReassignablePartitionResponse, ReassignablePartitionResponses, ReassignablePartitions,
     ReassignableTopic, ReassignableTopicResponse, ReassignableTopicResponses, ReassignableTopics,
 };
+pub use answers::{Answer, AnswerKind, Answered};
 pub use broker_heartbeat::{BrokerHeartbeat, BrokerHeartbeatReply};
 pub use broker_registration::{BrokerRegistration, BrokerRegistrationReply};
 pub use calls::{Ask, AskFault, Call, Reply, Request};

@@ -1,22 +1,18 @@
 -- What an event adds to the log: the items that stand behind the tip before, with their places; or an image in place of all
 -- that was before.
-use Rattle.std.specs.Prelude.{ℕ, ℤ, pos, ◌-◌, ◌+ℤ◌, List, [], ◌∷◌, drop, Result, Ok, Err}
+use Rattle.std.specs.Prelude.{ℕ, pos, ◌-◌, List, [], ◌∷◌, drop, Result, Ok, Err}
 use Rattle.kr_calls.specs.declared.events.Entry.{Entry}
 use Rattle.kr_calls.specs.declared.events.Event.{Event}
 use Rattle.kr_calls.specs.declared.events.Reason.{Reason}
 use Rattle.kr_calls.specs.declared.events.Entry.TheVariants as entries
 use Rattle.kr_calls.specs.declared.events.Event.TheVariants as events
+pub use Rattle.kr_calls.specs.SeatList.{item_entries}
 use Rattle.kr_defs.specs.declared.options.Options.{Options}
 use Rattle.kr_defs.specs.declared.record.Item.{Item}
 use Rattle.kr_defs.specs.Log.{Log}
 use Rattle.kr_defs.specs.Records.{records_of}
 use Rattle.kr_world.specs.Events.{outcome, at_time_of}
 use Rattle.kr_world.specs.World.{State, tip_of}
-
--- items one behind the other, of which the first stands at the place
-abbrev pub item_entries : ℤ → List Item → List Entry
-item_entries place [] = []
-item_entries place (item ∷ items) = entries.Item place item ∷ item_entries (place +ℤ pos 1) items
 
 -- the items of a log at the place and above
 abbrev pub items_from : Log → ℕ → List Item

@@ -1,0 +1,113 @@
+-- What lists of entries say, by computation: an image, items out of place and without meaning, the answers of a seat, a stop.
+use Rattle.std.specs.Prelude.{◌≡◌, ℕ, ℤ, pos, negsuc, List, [], ◌∷◌, Option, Some, None, codes}
+use Rattle.std.proofs.Common.{refl}
+use Rattle.kr_defs.specs.declared.record.Item.TheVariants as items
+use Rattle.kr_defs.specs.declared.record.Record.{Record}
+use Rattle.kr_defs.specs.declared.record.Record.TheVariants as kinds
+use Rattle.kr_defs.specs.Apply.{apply, apply_record}
+use Rattle.kr_defs.specs.Image.{Image, empty}
+use Rattle.kr_calls.specs.declared.answers.Answer.{Answer}
+use Rattle.kr_calls.specs.declared.answers.AnswerKind.TheVariants as answer_kinds
+use Rattle.kr_calls.specs.declared.events.Entry.{Entry}
+use Rattle.kr_calls.specs.declared.events.Entry.TheVariants as entries
+use Rattle.kr_calls.specs.SeatList.{Reached, image_below, last_of, nothing_reached, reached, stop_of}
+
+-- ---- the log
+
+abbrev level : ℤ → Record
+level n = kinds.FeatureLevel (codes "f") n
+
+abbrev levels : ℤ → Image
+levels n = record empty { features = (codes "f", n) ∷ [] }
+
+abbrev item : ℤ → ℤ → Entry
+item place n = entries.Item place (items.Record (level n))
+
+abbrev at : ℤ → ℤ → Reached
+at end n = record { image = levels n; end = end }
+
+nothing : reached [] ≡ nothing_reached
+nothing = refl
+
+-- an item and a control item
+in_order : reached (item (pos 0) (pos 7) ∷ entries.Item (pos 1) items.Control ∷ []) ≡ at (pos 2) (pos 7)
+unfolding apply apply_record
+in_order = refl
+
+above_the_end : reached (item (pos 0) (pos 7) ∷ item (pos 2) (pos 8) ∷ []) ≡ at (pos 1) (pos 7)
+unfolding apply apply_record
+above_the_end = refl
+
+below_the_end : reached (item (pos 0) (pos 7) ∷ item (pos 0) (pos 8) ∷ []) ≡ at (pos 1) (pos 7)
+unfolding apply apply_record
+below_the_end = refl
+
+-- a level is no negative number
+without_meaning : reached (item (pos 0) (pos 7) ∷ item (pos 1) (negsuc 0) ∷ item (pos 1) (pos 9) ∷ []) ≡ at (pos 2) (pos 9)
+unfolding apply apply_record
+without_meaning = refl
+
+-- an image takes the place of all that was before; the next item stands at its offset
+load : reached (item (pos 0) (pos 7) ∷ entries.Load (pos 5) (level (pos 8) ∷ []) ∷ item (pos 5) (pos 9) ∷ []) ≡ at (pos 6) (pos 9)
+unfolding apply apply_record
+load = refl
+
+load_at_the_end : reached (item (pos 0) (pos 7) ∷ entries.Load (pos 1) [] ∷ []) ≡ record { image = empty; end = pos 1 }
+unfolding apply apply_record
+load_at_the_end = refl
+
+load_below_the_end : reached (item (pos 0) (pos 7) ∷ item (pos 1) (pos 8) ∷ entries.Load (pos 1) [] ∷ []) ≡ at (pos 2) (pos 8)
+unfolding apply apply_record
+load_below_the_end = refl
+
+load_without_meaning : reached (item (pos 0) (pos 7) ∷ entries.Load (pos 1) (level (negsuc 0) ∷ []) ∷ []) ≡ at (pos 1) (pos 7)
+unfolding apply apply_record
+load_without_meaning = refl
+
+-- no place is 2^62 or above
+too_far : reached (entries.Load (pos 4611686018427387904) [] ∷ []) ≡ nothing_reached
+too_far = refl
+
+-- below the item at 6 stand the image at 5 and the item there
+below : image_below (pos 6) (item (pos 0) (pos 7) ∷ entries.Load (pos 5) [] ∷ item (pos 5) (pos 8) ∷ item (pos 6) (pos 9) ∷ []) ≡ levels (pos 8)
+unfolding apply apply_record
+below = refl
+
+below_its_first : image_below (pos 5) (entries.Load (pos 5) (level (pos 7) ∷ []) ∷ item (pos 5) (pos 8) ∷ []) ≡ levels (pos 7)
+unfolding apply_record
+below_its_first = refl
+
+below_the_image : image_below (pos 4) (item (pos 0) (pos 7) ∷ entries.Load (pos 5) [] ∷ []) ≡ levels (pos 7)
+unfolding apply apply_record
+below_the_image = refl
+
+-- ---- answers and stops
+
+abbrev answer : ℕ → ℕ → ℤ → Answer
+answer seat ticket place = record { seat = seat; ticket = ticket; place = place; kind = answer_kinds.Ahead; answered = None }
+
+-- they leave the log as it is
+beside_the_log : reached (item (pos 0) (pos 7) ∷ entries.Answer (answer 1 3 (pos 9)) ∷ entries.Stop 4 ∷ item (pos 1) (pos 8) ∷ []) ≡ at (pos 2) (pos 8)
+unfolding apply apply_record
+beside_the_log = refl
+
+unanswered : last_of 1 (entries.Answer (answer 2 3 (pos 0)) ∷ item (pos 0) (pos 7) ∷ []) ≡ None
+unanswered = refl
+
+-- of two answers of one ticket the second is the last
+one_ticket_twice : last_of 1 (entries.Answer (answer 1 3 (pos 0)) ∷ entries.Answer (answer 1 3 (pos 9)) ∷ []) ≡ Some (answer 1 3 (pos 9))
+one_ticket_twice = refl
+
+-- one of a smaller ticket isn't, nor one of another seat
+smaller_ticket : last_of 1 (entries.Answer (answer 1 3 (pos 0)) ∷ entries.Answer (answer 1 2 (pos 9)) ∷ entries.Answer (answer 2 8 (pos 9)) ∷ []) ≡ Some (answer 1 3 (pos 0))
+smaller_ticket = refl
+
+greater_ticket : last_of 1 (entries.Answer (answer 1 3 (pos 0)) ∷ entries.Answer (answer 1 4 (pos 9)) ∷ []) ≡ Some (answer 1 4 (pos 9))
+greater_ticket = refl
+
+no_stop : stop_of (item (pos 0) (pos 7) ∷ entries.Answer (answer 1 3 (pos 0)) ∷ []) ≡ None
+no_stop = refl
+
+-- the first stop counts
+two_stops : stop_of (item (pos 0) (pos 7) ∷ entries.Stop 4 ∷ entries.Stop 2 ∷ []) ≡ Some 4
+two_stops = refl
