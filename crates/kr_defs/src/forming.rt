@@ -5,8 +5,8 @@ ghost use Rattle.std.specs.List.{list_all};
 ghost use Rattle.kr_defs.specs.Build as builds;
 ghost use Rattle.kr_defs.specs.Partition as rules;
 
-use crate::limits::MOST_REPLICAS;
 use crate::id_lists::{are_apart, is_distinct, is_within};
+use crate::limits::MOST_REPLICAS;
 use crate::{Ids, Partition, Want};
 
 fn are_natural(list: &[i32]) -> bool

@@ -134,7 +134,10 @@ fn read_broker_epoch(bytes: &[u8], at: usize) -> Result<((i32, i64), usize), Wir
 }
 
 #[inline(never)]
-pub(crate) fn read_unregister_broker(bytes: &[u8], at: usize) -> Result<(Record, usize), RecordFault>
+pub(crate) fn read_unregister_broker(
+    bytes: &[u8],
+    at: usize,
+) -> Result<(Record, usize), RecordFault>
     requires { at ≤ length bytes.now }
     ensures { ReadsKind result bytes.now (λ t. kinds.UnregisterBroker t.0 t.1) (broker_epoch_at (drop at bytes.now)) }
 {

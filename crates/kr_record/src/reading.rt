@@ -10,7 +10,8 @@ ghost use Rattle.kr_record.specs.Reading;
 ghost use Rattle.kr_record.specs.Reading.{is_newer, kind_at, layout_at, record_of};
 
 use crate::broker::{
-    read_fence_broker, read_no_op, read_register_broker, read_unfence_broker, read_unregister_broker,
+    read_fence_broker, read_no_op, read_register_broker, read_unfence_broker,
+    read_unregister_broker,
 };
 use crate::change::read_partition_change;
 use crate::fault::RecordFault;
