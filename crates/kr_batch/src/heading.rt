@@ -1,8 +1,8 @@
 //! The fields of a batch before its records.
 
-ghost use Rattle.std.specs.Prelude.{◌≡◌, ◌≤◌, length, drop, IfOk, IsTrue, MatchResult, Ok, Err};
+ghost use Rattle.std.specs.Prelude.{◌≡◌, ◌≤◌, ◌≤ℤ◌, pos, length, drop, IfOk, IfSome, IsTrue, MatchResult, Ok, Err};
 ghost use Rattle.std.specs.Result.{result_ok};
-ghost use Rattle.kr_defs.specs.declared.limits.TheConstants.{MOST_RECORDS};
+ghost use Rattle.kr_defs.specs.declared.limits.TheConstants.{MOST_RECORDS, PLACES_END};
 ghost use Rattle.kr_batch.specs.declared.Batch.{Batch as AnyBatch};
 ghost use Rattle.kr_batch.specs.Grammar;
 ghost use Rattle.kr_batch.specs.Grammar.{IsBatch};
@@ -88,6 +88,7 @@ pub(crate) fn read_fixed(bytes: &[u8]) -> Result<((bool, i64, u32), &[u8]), Batc
     ensures read { MatchResult result
         (λ x. fixed_at bytes.now ≡ Ok ((x.0.0, x.0.1, x.0.2), x.1.now))
         (λ e. fixed_at bytes.now ≡ Err e) }
+    ensures some { IfOk result (λ x. 1 ≤ x.0.2) }
     ensures few { IfOk result (λ x. x.0.2 ≤ MOST_RECORDS) }
 {
     let (attributes, next) = read_u16(bytes, 0)?;
@@ -123,6 +124,7 @@ fn is_control(attributes: u16) -> bool
 
 fn is_count(count: u32, delta: u32) -> bool
     ensures test { result ≡ Reading.is_count count delta }
+    ensures some { IsTrue result → 1 ≤ count }
     ensures few { IsTrue result → count ≤ MOST_RECORDS }
 {
     count >= 1 && count as usize <= MOST_RECORDS && delta == count - 1
@@ -141,9 +143,10 @@ pub struct Heading {
 
 /// The heading of the batch, or `None`: exactly where one of the faults from `Short` to `BadCount` stands, or the base isn't
 /// from 0 to 2^62. The records aren't read, and no memory is taken.
-#[tactic(auto, using(crate::proofs::Batches::head_there))]
 pub fn head(bytes: &[u8]) -> Option<Heading>
     ensures exact { result ≡ result_ok (head_of bytes.now) }
+    ensures base { IfSome result (λ h. (pos 0 ≤ℤ h.base) × (h.base ≤ℤ PLACES_END)) }
+    ensures count { IfSome result (λ h. (pos 1 ≤ℤ h.count) × (h.count ≤ℤ pos MOST_RECORDS)) }
     // It is that of the batch that the bytes stand for.
     ensures batch { (b : AnyBatch) → IsBatch b bytes.now → result ≡ head_in b }
 {
@@ -152,7 +155,9 @@ pub fn head(bytes: &[u8]) -> Option<Heading>
 
 #[tactic(auto, unfolding(crate::specs::Reading::head_of))]
 fn read_head(bytes: &[u8]) -> Result<Heading, BatchFault>
-    ensures { result ≡ head_of bytes.now }
+    ensures exact { result ≡ head_of bytes.now }
+    ensures base { IfOk result (λ h. (pos 0 ≤ℤ h.base) × (h.base ≤ℤ PLACES_END)) }
+    ensures count { IfOk result (λ h. (pos 1 ≤ℤ h.count) × (h.count ≤ℤ pos MOST_RECORDS)) }
 {
     let (base, rest) = read_place(bytes)?;
     let (epoch, checked) = read_sum(rest)?;
@@ -168,7 +173,8 @@ fn read_head(bytes: &[u8]) -> Result<Heading, BatchFault>
 }
 
 fn is_base(base: &i64) -> bool
-    ensures { result ≡ Reading.is_base base.now }
+    ensures test { result ≡ Reading.is_base base.now }
+    ensures bounds { IsTrue result → (pos 0 ≤ℤ base.now) × (base.now ≤ℤ PLACES_END) }
 {
     0 <= *base && *base <= PLACES_END
 }
