@@ -1,0 +1,4 @@
+//! Contacts in order of time, linked by raw pointers.
+#![tactic(auto)]
+
+mod places;
