@@ -1,4 +1,5 @@
 //! Contacts in order of time, linked by raw pointers.
 #![tactic(auto)]
 
+mod nodes;
 mod places;

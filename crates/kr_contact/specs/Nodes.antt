@@ -1,0 +1,39 @@
+-- The nodes of a block, by their indices, and what changes one. This project's own.
+use Rattle.std.specs.Prelude.{ℕ, ℤ, pos, List, slice_index_or, slice_set}
+use Rattle.std.specs.Ptr.{Ptr, null_ptr}
+use Rattle.kr_contact.specs.declared.nodes.Node.{Node}
+use Rattle.kr_contact.specs.declared.nodes.Place.{Place}
+use Rattle.kr_contact.specs.contracts.nodes.Node.{the_row}
+use Rattle.kr_contact.specs.Places.{index_at, IsPlace, IsPlaceOf}
+
+-- the index of the node at the place, where the first node lies at `first`
+abbrev pub index_of : Ptr → Place → ℕ
+index_of first place = index_at the_row first place.at
+
+-- one of the n nodes lies at the place
+abbrev pub IsKnown : Ptr → ℕ → Place → Type 0
+IsKnown first n place = IsPlace the_row first n place.at
+
+-- the i-th does
+abbrev pub Leads : Ptr → ℕ → Place → ℕ → Type 0
+Leads first n place i = IsPlaceOf the_row first n place.at i
+
+abbrev pub nowhere : Place
+nowhere = record { at = null_ptr }
+
+abbrev pub blank : Node
+blank = record { broker = pos 0; time = pos 0; before = nowhere; after = nowhere }
+
+abbrev pub node_at : List Node → ℕ → Node
+node_at nodes i = slice_index_or nodes i blank
+
+-- ---- the nodes after one of them changed
+
+abbrev pub with_after : List Node → ℕ → Place → List Node
+with_after nodes i place = slice_set nodes i (record (node_at nodes i) { after = place })
+
+abbrev pub with_before : List Node → ℕ → Place → List Node
+with_before nodes i place = slice_set nodes i (record (node_at nodes i) { before = place })
+
+abbrev pub with_time : List Node → ℕ → ℤ → List Node
+with_time nodes i time = slice_set nodes i (record (node_at nodes i) { time = time })

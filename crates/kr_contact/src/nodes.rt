@@ -1,0 +1,64 @@
+//! The nodes of a block and their links.
+
+ghost use Rattle.std.specs.Prelude.{◌≡◌, vec_len, vec_capacity};
+ghost use Rattle.std.specs.Vec.{vec_ptr};
+ghost use Rattle.kr_contact.specs.Nodes.{IsKnown, index_of, node_at, with_after, with_before, with_time};
+
+use crate::places;
+use std::marker::{Send, Sync};
+
+/// Where a node lies.
+#[derive(Clone, Copy)]
+pub(crate) struct Place {
+    pub(crate) at: *mut Node,
+}
+
+unsafe impl Send for Place {}
+
+unsafe impl Sync for Place {}
+
+/// A contact between the one before it and the one after.
+#[derive(Clone, Copy)]
+pub(crate) struct Node {
+    pub(crate) broker: i32,
+    pub(crate) time: i64,
+    pub(crate) before: Place,
+    pub(crate) after: Place,
+}
+
+pub(crate) fn read(nodes: &Vec<Node>, place: Place) -> Node
+    requires { IsKnown (vec_ptr nodes.now) (vec_len nodes.now) place }
+    ensures { result ≡ node_at nodes.now.items (index_of (vec_ptr nodes.now) place) }
+{
+    *places::at(nodes, place.at)
+}
+
+pub(crate) fn set_after(nodes: &mut Vec<Node>, place: Place, after: Place)
+    requires { IsKnown (vec_ptr nodes.old) (vec_len nodes.old) place }
+    ensures items { nodes.new.items ≡ with_after nodes.old.items (index_of (vec_ptr nodes.old) place) after }
+    ensures len { vec_len nodes.new ≡ vec_len nodes.old }
+    ensures capacity { vec_capacity nodes.new ≡ vec_capacity nodes.old }
+    ensures in_place { vec_ptr nodes.new ≡ vec_ptr nodes.old }
+{
+    places::at_mut(nodes, place.at).after = after;
+}
+
+pub(crate) fn set_before(nodes: &mut Vec<Node>, place: Place, before: Place)
+    requires { IsKnown (vec_ptr nodes.old) (vec_len nodes.old) place }
+    ensures items { nodes.new.items ≡ with_before nodes.old.items (index_of (vec_ptr nodes.old) place) before }
+    ensures len { vec_len nodes.new ≡ vec_len nodes.old }
+    ensures capacity { vec_capacity nodes.new ≡ vec_capacity nodes.old }
+    ensures in_place { vec_ptr nodes.new ≡ vec_ptr nodes.old }
+{
+    places::at_mut(nodes, place.at).before = before;
+}
+
+pub(crate) fn set_time(nodes: &mut Vec<Node>, place: Place, time: i64)
+    requires { IsKnown (vec_ptr nodes.old) (vec_len nodes.old) place }
+    ensures items { nodes.new.items ≡ with_time nodes.old.items (index_of (vec_ptr nodes.old) place) time }
+    ensures len { vec_len nodes.new ≡ vec_len nodes.old }
+    ensures capacity { vec_capacity nodes.new ≡ vec_capacity nodes.old }
+    ensures in_place { vec_ptr nodes.new ≡ vec_ptr nodes.old }
+{
+    places::at_mut(nodes, place.at).time = time;
+}
