@@ -37,3 +37,15 @@ with_before nodes i place = slice_set nodes i (record (node_at nodes i) { before
 
 abbrev pub with_time : List Node → ℕ → ℤ → List Node
 with_time nodes i time = slice_set nodes i (record (node_at nodes i) { time = time })
+
+-- the nodes beside the i-th are linked to one another
+unfoldable pub unlinked : Ptr → List Node → ℕ → List Node
+unlinked first nodes i =
+    let node = node_at nodes i in
+    with_before (with_after nodes (index_of first node.before) node.after) (index_of first node.after) node.before
+
+-- the node at the place is linked in before the next one
+unfoldable pub linked : Ptr → List Node → Place → Place → List Node
+linked first nodes place next =
+    let before = (node_at nodes (index_of first next)).before in
+    with_before (with_after (with_after (with_before nodes (index_of first place) before) (index_of first place) next) (index_of first before) place) (index_of first next) place

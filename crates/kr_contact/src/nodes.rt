@@ -2,7 +2,7 @@
 
 ghost use Rattle.std.specs.Prelude.{◌≡◌, vec_len, vec_capacity};
 ghost use Rattle.std.specs.Vec.{vec_ptr};
-ghost use Rattle.kr_contact.specs.Nodes.{IsKnown, index_of, node_at, with_after, with_before, with_time};
+ghost use Rattle.kr_contact.specs.Nodes.{IsKnown, index_of, node_at, with_after, with_before, with_time, unlinked, linked};
 
 use crate::places;
 use std::marker::{Send, Sync};
@@ -61,4 +61,38 @@ pub(crate) fn set_time(nodes: &mut Vec<Node>, place: Place, time: i64)
     ensures in_place { vec_ptr nodes.new ≡ vec_ptr nodes.old }
 {
     places::at_mut(nodes, place.at).time = time;
+}
+
+#[tactic(auto, unfolding(crate::specs::Nodes::unlinked))]
+// Links the nodes before and after the node to one another.
+pub(crate) fn unlink(nodes: &mut Vec<Node>, place: Place)
+    requires node { IsKnown (vec_ptr nodes.old) (vec_len nodes.old) place }
+    requires before { IsKnown (vec_ptr nodes.old) (vec_len nodes.old) (node_at nodes.old.items (index_of (vec_ptr nodes.old) place)).before }
+    requires after { IsKnown (vec_ptr nodes.old) (vec_len nodes.old) (node_at nodes.old.items (index_of (vec_ptr nodes.old) place)).after }
+    ensures items { nodes.new.items ≡ unlinked (vec_ptr nodes.old) nodes.old.items (index_of (vec_ptr nodes.old) place) }
+    ensures len { vec_len nodes.new ≡ vec_len nodes.old }
+    ensures capacity { vec_capacity nodes.new ≡ vec_capacity nodes.old }
+    ensures in_place { vec_ptr nodes.new ≡ vec_ptr nodes.old }
+{
+    let node = read(nodes, place);
+    set_after(nodes, node.before, node.after);
+    set_before(nodes, node.after, node.before);
+}
+
+#[tactic(auto, unfolding(crate::specs::Nodes::linked))]
+// Links the node in before the other one.
+pub(crate) fn link(nodes: &mut Vec<Node>, place: Place, next: Place)
+    requires node { IsKnown (vec_ptr nodes.old) (vec_len nodes.old) place }
+    requires next { IsKnown (vec_ptr nodes.old) (vec_len nodes.old) next }
+    requires before { IsKnown (vec_ptr nodes.old) (vec_len nodes.old) (node_at nodes.old.items (index_of (vec_ptr nodes.old) next)).before }
+    ensures items { nodes.new.items ≡ linked (vec_ptr nodes.old) nodes.old.items place next }
+    ensures len { vec_len nodes.new ≡ vec_len nodes.old }
+    ensures capacity { vec_capacity nodes.new ≡ vec_capacity nodes.old }
+    ensures in_place { vec_ptr nodes.new ≡ vec_ptr nodes.old }
+{
+    let before = read(nodes, next).before;
+    set_before(nodes, place, before);
+    set_after(nodes, place, next);
+    set_after(nodes, before, place);
+    set_before(nodes, next, place);
 }
