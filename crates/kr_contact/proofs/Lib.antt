@@ -1,1 +1,5 @@
 pub mod Blocks
+pub mod Indices
+pub mod Links
+pub mod Paths
+pub mod Rings

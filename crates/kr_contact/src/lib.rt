@@ -3,3 +3,4 @@
 
 mod nodes;
 mod places;
+mod ring;

@@ -1,0 +1,65 @@
+//! A ring of contacts in one block.
+
+ghost use Rattle.std.specs.Prelude.{◌≡◌, ◌+◌, ◌≤◌, ◌<◌, [], IsTrue, IfOk, OnErr, length, vec_len, vec_capacity};
+ghost use Rattle.std.specs.Vec.{vec_ptr};
+ghost use Rattle.kr_contact.specs.Contacts.{is_contact, without, touched, may_touch};
+
+use crate::nodes::{self, Node, Place};
+use kr_base::NoMemory;
+use std::alloc::Global;
+use std::collections::HashMap;
+use std::marker::Model;
+
+/// The contacts as nodes of one block, which are linked both ways in order of the last contact. The first node is no
+/// contact: it closes the ring.
+#[derive(Drop)]
+pub(crate) struct Ring {
+    nodes: Vec<Node>,
+    first: Place,
+    // Which node is a broker's.
+    places: HashMap<i32, Place>,
+}
+
+impl Model for Ring {
+    ghost use Rattle.std.specs.Prelude.{◌≡◌, ◌-◌, ◌≤◌, map, min, length, vec_len, vec_capacity};
+    ghost use Rattle.std.specs.HashMap.{spare, hash_map_len};
+    ghost use Rattle.std.specs.Vec.{vec_ptr};
+    ghost use Rattle.kr_contact.specs.Contacts.{Listed};
+    ghost use Rattle.kr_contact.specs.Rings.{IsRing, order_of, contact_at};
+
+    ghost Value = { Listed };
+
+    ghost view = { λ r. record { contacts = map (contact_at r.nodes.items) (order_of r.first.at r.nodes.items (hash_map_len r.places)); spare = min (vec_capacity r.nodes - vec_len r.nodes) (spare r.places) } };
+
+    ghost invariant = { λ r. (r.first.at ≡ vec_ptr r.nodes) × IsRing r.first.at r.nodes.items r.places.entries (order_of r.first.at r.nodes.items (hash_map_len r.places)) };
+}
+
+impl Ring {
+    // An empty ring with room for so many contacts.
+    pub(crate) fn new(alloc: Global, room: usize) -> Result<Ring, NoMemory>
+        ensures empty { IfOk result (λ r. r.contacts ≡ []) }
+        ensures room { IfOk result (λ r. room ≤ r.spare) }
+    {
+        let capacity = room.checked_add(1).ok_or(NoMemory)?;
+        let places = HashMap::with_capacity(alloc, room)?;
+        let mut nodes = Vec::with_capacity(alloc, capacity)?;
+        let first = Place { at: nodes.as_mut_ptr() };
+        nodes.push_reserved(Node {
+            broker: 0,
+            time: 0,
+            before: first,
+            after: first,
+        });
+        Ok(Ring {
+            nodes,
+            first,
+            places,
+        })
+    }
+
+    pub(crate) fn len(&self) -> usize
+        ensures { result ≡ length self.now.contacts }
+    {
+        self.places.len()
+    }
+}
