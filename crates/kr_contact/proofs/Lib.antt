@@ -1,5 +1,6 @@
 pub mod Blocks
 pub mod Indices
 pub mod Links
+pub mod Orders
 pub mod Paths
 pub mod Rings

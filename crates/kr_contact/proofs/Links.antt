@@ -16,19 +16,19 @@ kept f (n ∷ ns) zero v e (suc s) = refl
 kept f (n ∷ ns) (suc i) v e zero = refl
 kept f (n ∷ ns) (suc i) v e (suc s) = kept f ns i v e s
 
-other : (nodes : List Node) (i : ℕ) (v : Node) (s : ℕ) → i ≢ s → node_at (slice_set nodes i v) s ≡ node_at nodes s
+pub other : (nodes : List Node) (i : ℕ) (v : Node) (s : ℕ) → i ≢ s → node_at (slice_set nodes i v) s ≡ node_at nodes s
 other nodes i v s apart = get_or-set_other nodes i s v blank (flip apart)
 
-same : (nodes : List Node) (i : ℕ) (v : Node) → i < length nodes → node_at (slice_set nodes i v) i ≡ v
+pub same : (nodes : List Node) (i : ℕ) (v : Node) → i < length nodes → node_at (slice_set nodes i v) i ≡ v
 same nodes i v within = get_or-set_same nodes i v blank within
 
-abbrev on : Node → Place
+abbrev pub on : Node → Place
 on n = n.after
 
-abbrev back : Node → Place
+abbrev pub back : Node → Place
 back n = n.before
 
-abbrev held : Node → ℤ × ℤ
+abbrev pub held : Node → ℤ × ℤ
 held n = (n.broker, n.time)
 
 -- ---- the node i is taken out from between j and k

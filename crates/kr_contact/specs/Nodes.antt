@@ -1,5 +1,5 @@
 -- The nodes of a block, by their indices, and what changes one. This project's own.
-use Rattle.std.specs.Prelude.{ℕ, ℤ, pos, List, slice_index_or, slice_set}
+use Rattle.std.specs.Prelude.{◌++◌, ◌∷◌, [], ℕ, ℤ, pos, List, slice_index_or, slice_set}
 use Rattle.std.specs.Ptr.{Ptr, null_ptr}
 use Rattle.kr_contact.specs.declared.nodes.Node.{Node}
 use Rattle.kr_contact.specs.declared.nodes.Place.{Place}
@@ -49,3 +49,13 @@ unfoldable pub linked : Ptr → List Node → Place → Place → List Node
 linked first nodes place next =
     let before = (node_at nodes (index_of first next)).before in
     with_before (with_after (with_after (with_before nodes (index_of first place) before) (index_of first place) next) (index_of first before) place) (index_of first next) place
+
+-- the node at the place becomes the last one before the first, with the time
+unfoldable pub moved : Ptr → List Node → Place → Place → ℤ → List Node
+moved first nodes place next time =
+    let i = index_of first place in
+    linked first (with_time (unlinked first nodes i) i time) place next
+
+-- a new node at the place is linked in before the first
+unfoldable pub added : Ptr → List Node → Place → Place → ℤ → ℤ → List Node
+added first nodes place next broker time = linked first (nodes ++ record { broker = broker; time = time; before = next; after = next } ∷ []) place next

@@ -1,10 +1,13 @@
 //! The nodes of a block and their links.
 
-ghost use Rattle.std.specs.Prelude.{◌≡◌, vec_len, vec_capacity};
+ghost use Rattle.std.specs.Prelude.{◌≡◌, ◌+◌, ◌<◌, vec_len, vec_capacity};
+ghost use Rattle.std.specs.Map.{lookup};
+ghost use Rattle.std.specs.Ordering.{int_eq};
 ghost use Rattle.std.specs.Vec.{vec_ptr};
-ghost use Rattle.kr_contact.specs.Nodes.{IsKnown, index_of, node_at, with_after, with_before, with_time, unlinked, linked};
+ghost use Rattle.kr_contact.specs.Nodes.{IsKnown, Leads, index_of, node_at, with_after, with_before, with_time, unlinked, linked, moved, added};
 
 use crate::places;
+use std::collections::HashMap;
 use std::marker::{Send, Sync};
 
 /// Where a node lies.
@@ -95,4 +98,53 @@ pub(crate) fn link(nodes: &mut Vec<Node>, place: Place, next: Place)
     set_after(nodes, place, next);
     set_after(nodes, before, place);
     set_before(nodes, next, place);
+}
+
+#[tactic(auto, unfolding(crate::specs::Nodes::moved))]
+// Makes the node the last of the ring that the first node closes, at the time.
+pub(crate) fn move_last(nodes: &mut Vec<Node>, place: Place, first: Place, time: i64)
+    requires node { IsKnown (vec_ptr nodes.old) (vec_len nodes.old) place }
+    requires first { IsKnown (vec_ptr nodes.old) (vec_len nodes.old) first }
+    requires before { IsKnown (vec_ptr nodes.old) (vec_len nodes.old) (node_at nodes.old.items (index_of (vec_ptr nodes.old) place)).before }
+    requires after { IsKnown (vec_ptr nodes.old) (vec_len nodes.old) (node_at nodes.old.items (index_of (vec_ptr nodes.old) place)).after }
+    requires last { IsKnown (vec_ptr nodes.old) (vec_len nodes.old) (node_at (with_time (unlinked (vec_ptr nodes.old) nodes.old.items (index_of (vec_ptr nodes.old) place)) (index_of (vec_ptr nodes.old) place) time) (index_of (vec_ptr nodes.old) first)).before }
+    ensures items { nodes.new.items ≡ moved (vec_ptr nodes.old) nodes.old.items place first time }
+    ensures len { vec_len nodes.new ≡ vec_len nodes.old }
+    ensures capacity { vec_capacity nodes.new ≡ vec_capacity nodes.old }
+    ensures in_place { vec_ptr nodes.new ≡ vec_ptr nodes.old }
+{
+    unlink(nodes, place);
+    set_time(nodes, place, time);
+    link(nodes, place, first);
+}
+
+#[tactic(auto, unfolding(crate::specs::Nodes::added))]
+// Puts a new node at the end of the block and of the ring.
+pub(crate) fn add_last(nodes: &mut Vec<Node>, first: Place, broker: i32, time: i64) -> Place
+    requires room { vec_len nodes.old < vec_capacity nodes.old }
+    requires here { first.at ≡ vec_ptr nodes.old }
+    requires first { IsKnown (vec_ptr nodes.old) (vec_len nodes.old) first }
+    requires last { IsKnown (vec_ptr nodes.old) (vec_len nodes.old) (node_at nodes.old.items (index_of (vec_ptr nodes.old) first)).before }
+    ensures items { nodes.new.items ≡ added (vec_ptr nodes.old) nodes.old.items result first broker time }
+    ensures place { Leads (vec_ptr nodes.old) (vec_len nodes.new) result (vec_len nodes.old) }
+    ensures len { vec_len nodes.new ≡ vec_len nodes.old + 1 }
+    ensures capacity { vec_capacity nodes.new ≡ vec_capacity nodes.old }
+    ensures in_place { vec_ptr nodes.new ≡ vec_ptr nodes.old }
+{
+    let index = nodes.len();
+    nodes.push_reserved(Node {
+        broker,
+        time,
+        before: first,
+        after: first,
+    });
+    let place = Place { at: places::place(nodes, first.at, index) };
+    link(nodes, place, first);
+    place
+}
+
+pub(crate) fn place_of(places: &HashMap<i32, Place>, broker: &i32) -> Option<Place>
+    ensures { result ≡ lookup (int_eq broker.now) places.now.entries }
+{
+    places.get(broker).copied()
 }

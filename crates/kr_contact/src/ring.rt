@@ -1,6 +1,6 @@
 //! A ring of contacts in one block.
 
-ghost use Rattle.std.specs.Prelude.{◌≡◌, ◌+◌, ◌≤◌, ◌<◌, [], IsTrue, IfOk, OnErr, length, vec_len, vec_capacity};
+ghost use Rattle.std.specs.Prelude.{◌≡◌, ◌+◌, ◌≤◌, ◌<◌, [], IsTrue, IfOk, OnErr, length, slice_get, vec_len, vec_capacity};
 ghost use Rattle.std.specs.Vec.{vec_ptr};
 ghost use Rattle.kr_contact.specs.Contacts.{is_contact, without, touched, may_touch};
 
@@ -61,5 +61,48 @@ impl Ring {
         ensures { result ≡ length self.now.contacts }
     {
         self.places.len()
+    }
+
+    // Makes the broker the last contact.
+    pub(crate) fn touch(&mut self, broker: i32, time: i64)
+        requires { IsTrue (may_touch self.old broker) }
+        ensures contacts { self.new.contacts ≡ touched self.old.contacts broker time }
+        ensures spare { self.old.spare ≤ self.new.spare + 1 }
+        ensures again { IsTrue (is_contact self.old.contacts broker) → self.new.spare ≡ self.old.spare }
+    {
+        match nodes::place_of(&self.places, &broker) {
+            Some(place) => nodes::move_last(&mut self.nodes, place, self.first, time),
+            None => {
+                let place = nodes::add_last(&mut self.nodes, self.first, broker, time);
+                let _ = self.places.insert(broker, place);
+            }
+        }
+    }
+
+    // Takes the broker out, and tells whether it was a contact.
+    pub(crate) fn remove(&mut self, broker: i32) -> bool
+        ensures was { result ≡ is_contact self.old.contacts broker }
+        ensures contacts { self.new.contacts ≡ without self.old.contacts broker }
+        ensures spare { self.old.spare ≤ self.new.spare }
+    {
+        match self.places.remove(&broker) {
+            Some(place) => {
+                nodes::unlink(&mut self.nodes, place);
+                true
+            }
+            None => false,
+        }
+    }
+
+    // The contact that was heard of the longest ago, with its time.
+    pub(crate) fn oldest(&self) -> Option<(i32, i64)>
+        ensures { result ≡ slice_get self.now.contacts 0 }
+    {
+        if self.places.is_empty() {
+            return None;
+        }
+        let first = nodes::read(&self.nodes, self.first);
+        let oldest = nodes::read(&self.nodes, first.after);
+        Some((oldest.broker, oldest.time))
     }
 }

@@ -1,0 +1,38 @@
+-- Contacts along a list of nodes: those without one broker, and whether the broker is there.
+use Rattle.std.proofs.Common.{◌≡◌, ◌+◌, ℕ, ℤ, Bool, true, false, not, cond, ◌||◌, List, [], ◌∷◌, ◌++◌, map, length, refl, sym, ap, subst, ◌∙◌, inl, inr}
+use Rattle.std.specs.Prelude.{filter}
+use Rattle.std.specs.List.{list_any}
+use Rattle.std.specs.Ordering.{int_eq}
+use Rattle.kr_contact.specs.Contacts.{is_contact, without}
+use Rattle.kr_contact.specs.Rings.{IsIn}
+
+module _ (f : ℕ → ℤ × ℤ) (key : ℤ) where
+  -- the node is of another broker
+  abbrev pub IsOther : ℕ → Type 0
+  IsOther s = int_eq (f s).0 key ≡ false
+
+  abbrev test : ℤ × ℤ → Bool
+  test c = not (int_eq c.0 key)
+
+  pub without_none : (is : List ℕ) → ((s : ℕ) → IsIn s is → IsOther s) → without (map f is) key ≡ map f is
+  without_none [] others = refl
+  without_none (i ∷ is) others =
+      rw (others i (inl refl)) (ap (λ cs. f i ∷ cs) (without_none is (λ s there. others s (inr there))))
+
+  pub without_one : (xs : List ℕ) (i : ℕ) (ys : List ℕ) → int_eq (f i).0 key ≡ true → ((s : ℕ) → IsIn s (xs ++ ys) → IsOther s) → without (map f (xs ++ i ∷ ys)) key ≡ map f (xs ++ ys)
+  without_one [] i ys is others = rw is (without_none ys others)
+  without_one (x ∷ xs) i ys is others =
+      rw (others x (inl refl)) (ap (λ cs. f x ∷ cs) (without_one xs i ys is (λ s there. others s (inr there))))
+
+  pub is_none : (is : List ℕ) → ((s : ℕ) → IsIn s is → IsOther s) → false ≡ is_contact (map f is) key
+  is_none [] others = refl
+  is_none (i ∷ is) others = rw (others i (inl refl)) (is_none is (λ s there. others s (inr there)))
+
+  pub is_one : (xs : List ℕ) (i : ℕ) (ys : List ℕ) → int_eq (f i).0 key ≡ true → true ≡ is_contact (map f (xs ++ i ∷ ys)) key
+  is_one [] i ys is = rw is refl
+  is_one (x ∷ xs) i ys is =
+      elim (int_eq (f x).0 key) as (λ b. true ≡ (b || is_contact (map f (xs ++ i ∷ ys)) key)) [ true ↦ refl | false ↦ is_one xs i ys is ]
+
+pub map_same : {X : Type 0} (f g : ℕ → X) (is : List ℕ) → ((s : ℕ) → IsIn s is → f s ≡ g s) → map f is ≡ map g is
+map_same f g [] same = refl
+map_same f g (i ∷ is) same = (λ t. same i (inl refl) t ∷ map_same f g is (λ s there. same s (inr there)) t)
