@@ -1,13 +1,10 @@
 //! The nodes of a block and their links.
 
 ghost use Rattle.std.specs.Prelude.{◌≡◌, ◌+◌, ◌<◌, vec_len, vec_capacity};
-ghost use Rattle.std.specs.Map.{lookup};
-ghost use Rattle.std.specs.Ordering.{int_eq};
 ghost use Rattle.std.specs.Vec.{vec_ptr};
 ghost use Rattle.kr_contact.specs.Nodes.{IsKnown, Leads, index_of, node_at, with_after, with_before, with_time, unlinked, linked, moved, added};
 
 use crate::places;
-use std::collections::HashMap;
 use std::marker::{Send, Sync};
 
 /// Where a node lies.
@@ -141,10 +138,4 @@ pub(crate) fn add_last(nodes: &mut Vec<Node>, first: Place, broker: i32, time: i
     let place = Place { at: places::place(nodes, first.at, index) };
     link(nodes, place, first);
     place
-}
-
-pub(crate) fn place_of(places: &HashMap<i32, Place>, broker: &i32) -> Option<Place>
-    ensures { result ≡ lookup (int_eq broker.now) places.now.entries }
-{
-    places.get(broker).copied()
 }

@@ -4,6 +4,7 @@ ghost use Rattle.std.specs.Prelude.{◌≡◌, ◌+◌, ◌≤◌, ◌<◌, [], 
 ghost use Rattle.std.specs.Vec.{vec_ptr};
 ghost use Rattle.kr_contact.specs.Contacts.{is_contact, without, touched, may_touch};
 
+use crate::index;
 use crate::nodes::{self, Node, Place};
 use kr_base::NoMemory;
 use std::alloc::Global;
@@ -64,28 +65,28 @@ impl Ring {
     }
 
     // Makes the broker the last contact.
-    pub(crate) fn touch(&mut self, broker: i32, time: i64)
-        requires { IsTrue (may_touch self.old broker) }
-        ensures contacts { self.new.contacts ≡ touched self.old.contacts broker time }
+    pub(crate) fn touch(&mut self, broker: &i32, time: &i64)
+        requires { IsTrue (may_touch self.old broker.now) }
+        ensures contacts { self.new.contacts ≡ touched self.old.contacts broker.now time.now }
         ensures spare { self.old.spare ≤ self.new.spare + 1 }
-        ensures again { IsTrue (is_contact self.old.contacts broker) → self.new.spare ≡ self.old.spare }
+        ensures again { IsTrue (is_contact self.old.contacts broker.now) → self.new.spare ≡ self.old.spare }
     {
-        match nodes::place_of(&self.places, &broker) {
-            Some(place) => nodes::move_last(&mut self.nodes, place, self.first, time),
+        match index::place_of(&self.places, broker) {
+            Some(place) => nodes::move_last(&mut self.nodes, place, self.first, *time),
             None => {
-                let place = nodes::add_last(&mut self.nodes, self.first, broker, time);
-                let _ = self.places.insert(broker, place);
+                let place = nodes::add_last(&mut self.nodes, self.first, *broker, *time);
+                index::put(&mut self.places, broker, place);
             }
         }
     }
 
     // Takes the broker out, and tells whether it was a contact.
-    pub(crate) fn remove(&mut self, broker: i32) -> bool
-        ensures was { result ≡ is_contact self.old.contacts broker }
-        ensures contacts { self.new.contacts ≡ without self.old.contacts broker }
+    pub(crate) fn remove(&mut self, broker: &i32) -> bool
+        ensures was { result ≡ is_contact self.old.contacts broker.now }
+        ensures contacts { self.new.contacts ≡ without self.old.contacts broker.now }
         ensures spare { self.old.spare ≤ self.new.spare }
     {
-        match self.places.remove(&broker) {
+        match index::take(&mut self.places, broker) {
             Some(place) => {
                 nodes::unlink(&mut self.nodes, place);
                 true
