@@ -1,18 +1,21 @@
 -- The operations on a ring whose order is read off its nodes.
-use Rattle.std.proofs.Common.{◌≡◌, ◌<◌, ◌-◌, ◌+◌, ◌*◌, ◌/◌, ℕ, ℤ, Bool, true, false, cond, List, [], ◌∷◌, ◌++◌, map, length, Option, Some, None, refl, sym, ap, subst, ◌∙◌, arith}
+use Rattle.std.proofs.Common.{◌≡◌, ◌<◌, ◌-◌, ◌+◌, ◌*◌, ◌/◌, ℕ, zero, suc, ℤ, Bool, true, false, cond, ◌||◌, nat_lt, IsTrue, List, [], ◌∷◌, ◌++◌, map, length, Option, Some, None, refl, sym, ap, subst, ◌∙◌, arith}
+use Rattle.std.specs.Prelude.{min}
+use Rattle.std.proofs.lemmas.Bool.Decides.{nat_tests}
+use Rattle.std.proofs.lemmas.List.{length-append}
 use Rattle.std.specs.Map.{lookup}
 use Rattle.std.specs.Mem.{type_size}
 use Rattle.std.specs.Ordering.{int_eq}
 use Rattle.std.specs.Ptr.{Ptr, block_ptr, null_ptr}
-use Rattle.std.proofs.Math.Nat.{zero-div}
+use Rattle.std.proofs.Math.Nat.{zero-div, min-le_left, min-le_right}
 use denote.RattleType.{RattleType}
 use Rattle.kr_contact.specs.declared.nodes.Node.{Node}
 use Rattle.kr_contact.specs.declared.nodes.Place.{Place}
 use Rattle.kr_contact.specs.contracts.nodes.Node.{the_row}
-use Rattle.kr_contact.specs.Contacts.{is_contact, without, touched}
+use Rattle.kr_contact.specs.Contacts.{is_contact, without, touched, expired}
 use Rattle.kr_contact.specs.Nodes.{index_of, node_at, IsKnown, Leads, with_time, unlinked, linked}
 use Rattle.kr_contact.specs.Places.{IsPlaceOf}
-use Rattle.kr_contact.specs.Rings.{IsPath, After, Before, order_of, contact_at, IsRing}
+use Rattle.kr_contact.specs.Rings.{IsPath, After, Before, AreKnown, order_of, contact_at, IsRing}
 use Rattle.kr_contact.proofs.Orders.{without_none, is_none, map_same}
 use Rattle.kr_contact.proofs.Paths.{last_back}
 use Rattle.kr_contact.proofs.Rings.{NodeOf, find_node, settled, no_node, left, was, removed_ring, timed_path, timed_len, last_now, moved_ring, moved_contacts, new, added_ring, added_contacts, without_node, unlinked_holds}
@@ -123,3 +126,36 @@ module _ (first : Place) (nodes : List Node) (places : List (ℤ × Place)) (ord
         let ns : List Node = linked p (nodes ++ record { broker = key; time = time; before = first; after = first } ∷ []) place first in
         let told = settled p ns places' (order ++ n ∷ []) ring in
         (subst (IsRing p ns places') (sym told) ring, ap (map (contact_at ns)) told ∙ added_contacts p nodes places order r key time none place first)
+
+-- ---- room
+
+lower : (a b : ℕ) → 0 < min a b → (0 < a) × (0 < b)
+lower a b some = let left = min-le_left a b in let right = min-le_right a b in (omega arith, omega arith)
+
+pub room_left : (contact : Bool) (len cap more : ℕ) → false ≡ contact → IsTrue (contact || nat_lt 0 (min (cap - len) more)) → (len < cap) × (0 < more)
+room_left true len cap more none room = let bad : false ≡ true = none in absurd cc
+room_left false len cap more none room =
+    let some : 0 < min (cap - len) more = grind (arith, nat_tests) in
+    let both = lower (cap - len) more some in
+    let less : 0 < cap - len = both.0 in
+    (omega arith, both.1)
+
+pub no_contact : {X : Type 0} (contact : Bool) → false ≡ contact → IsTrue contact → X
+no_contact true none here = let bad : false ≡ true = none in absurd cc
+no_contact false none here = let bad : false ≡ true = here in absurd cc
+
+-- the place of a new node, as the ring counts
+pub at_end : (p q : Ptr) (len len' : ℕ) (nodes : List Node) (v : Node) (place : Place) → p ≡ q → len ≡ length nodes → len' ≡ len + 1 → Leads q len' place len → Leads p (length (nodes ++ v ∷ [])) place (length nodes)
+at_end p q len len' nodes v place here all more leads =
+    let longer : len' ≡ length (nodes ++ v ∷ []) = omega (arith, length-append nodes (v ∷ [])) in
+    subst (λ k. Leads p k place (length nodes)) longer (subst (λ k. Leads p len' place k) all (subst (λ o. Leads o len' place len) (sym here) leads))
+
+-- ---- one contact after the other
+
+module _ (p : Ptr) (nodes : List Node) where
+  known_from : (a : ℕ) (is : List ℕ) (z : ℕ) → IsPath (After p nodes) (Before p nodes) a (is ++ z ∷ []) → AreKnown p nodes (length is) (node_at nodes a).after
+  known_from a [] z path = tt
+  known_from a (i ∷ is) z path = (path.0.0.0, subst (λ k. AreKnown p nodes (length is) (node_at nodes k).after) (sym path.0.0.1) (known_from i is z path.1))
+
+  pub all_known : (places : List (ℤ × Place)) (order : List ℕ) → IsRing p nodes places order → AreKnown p nodes (length places) (node_at nodes 0).after
+  all_known places order r = subst (λ k. AreKnown p nodes k (node_at nodes 0).after) r.count (known_from 0 order 0 r.path)

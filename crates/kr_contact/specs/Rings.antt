@@ -1,10 +1,10 @@
 -- A ring of nodes: the first node of the block is no contact, and closes the ring. This project's own.
-use Rattle.std.specs.Prelude.{◌≡◌, ◌≢◌, ◌⊎◌, ◌∷◌, [], ◌++◌, ℕ, ℤ, suc, zero, List, length, Option, Some}
+use Rattle.std.specs.Prelude.{◌≡◌, ◌≢◌, ◌⊎◌, ◌∷◌, [], ◌++◌, ℕ, ℤ, suc, zero, List, length, map, Option, Some}
 use Rattle.std.specs.Map.{lookup}
 use Rattle.std.specs.Ordering.{int_eq}
 use Rattle.std.specs.Ptr.{Ptr}
 use Rattle.kr_contact.specs.Contacts.{Listed}
-use Rattle.kr_contact.specs.Nodes.{index_of, node_at, Leads}
+use Rattle.kr_contact.specs.Nodes.{index_of, node_at, IsKnown, Leads}
 use Rattle.kr_contact.specs.declared.nodes.Node.{Node}
 use Rattle.kr_contact.specs.declared.nodes.Place.{Place}
 
@@ -40,6 +40,15 @@ IsPath After Before i (j ∷ js) = (After i j × Before j i) × IsPath After Bef
 abbrev pub in_turn : Ptr → List Node → ℕ → Place → List ℕ
 in_turn first nodes zero place = []
 in_turn first nodes (suc n) place = index_of first place ∷ in_turn first nodes n (node_at nodes (index_of first place)).after
+
+-- and nodes lie at so many places
+abbrev pub AreKnown : Ptr → List Node → ℕ → Place → Type 0
+AreKnown first nodes zero place = Unit {0}
+AreKnown first nodes (suc n) place = IsKnown first (length nodes) place × AreKnown first nodes n (node_at nodes (index_of first place)).after
+
+-- the contacts of so many nodes in turn
+abbrev pub contacts_from : Ptr → List Node → ℕ → Place → List (ℤ × ℤ)
+contacts_from first nodes n place = map (contact_at nodes) (in_turn first nodes n place)
 
 module _ (first : Ptr) (nodes : List Node) where
   abbrev pub After : ℕ → ℕ → Type 0

@@ -5,3 +5,4 @@ mod index;
 mod nodes;
 mod places;
 mod ring;
+mod walk;

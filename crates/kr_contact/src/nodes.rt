@@ -53,14 +53,14 @@ pub(crate) fn set_before(nodes: &mut Vec<Node>, place: Place, before: Place)
     places::at_mut(nodes, place.at).before = before;
 }
 
-pub(crate) fn set_time(nodes: &mut Vec<Node>, place: Place, time: i64)
+pub(crate) fn set_time(nodes: &mut Vec<Node>, place: Place, time: &i64)
     requires { IsKnown (vec_ptr nodes.old) (vec_len nodes.old) place }
-    ensures items { nodes.new.items ≡ with_time nodes.old.items (index_of (vec_ptr nodes.old) place) time }
+    ensures items { nodes.new.items ≡ with_time nodes.old.items (index_of (vec_ptr nodes.old) place) time.now }
     ensures len { vec_len nodes.new ≡ vec_len nodes.old }
     ensures capacity { vec_capacity nodes.new ≡ vec_capacity nodes.old }
     ensures in_place { vec_ptr nodes.new ≡ vec_ptr nodes.old }
 {
-    places::at_mut(nodes, place.at).time = time;
+    places::at_mut(nodes, place.at).time = *time;
 }
 
 #[tactic(auto, unfolding(crate::specs::Nodes::unlinked))]
@@ -99,13 +99,13 @@ pub(crate) fn link(nodes: &mut Vec<Node>, place: Place, next: Place)
 
 #[tactic(auto, unfolding(crate::specs::Nodes::moved))]
 // Makes the node the last of the ring that the first node closes, at the time.
-pub(crate) fn move_last(nodes: &mut Vec<Node>, place: Place, first: Place, time: i64)
+pub(crate) fn move_last(nodes: &mut Vec<Node>, place: Place, first: Place, time: &i64)
     requires node { IsKnown (vec_ptr nodes.old) (vec_len nodes.old) place }
     requires first { IsKnown (vec_ptr nodes.old) (vec_len nodes.old) first }
     requires before { IsKnown (vec_ptr nodes.old) (vec_len nodes.old) (node_at nodes.old.items (index_of (vec_ptr nodes.old) place)).before }
     requires after { IsKnown (vec_ptr nodes.old) (vec_len nodes.old) (node_at nodes.old.items (index_of (vec_ptr nodes.old) place)).after }
-    requires last { IsKnown (vec_ptr nodes.old) (vec_len nodes.old) (node_at (with_time (unlinked (vec_ptr nodes.old) nodes.old.items (index_of (vec_ptr nodes.old) place)) (index_of (vec_ptr nodes.old) place) time) (index_of (vec_ptr nodes.old) first)).before }
-    ensures items { nodes.new.items ≡ moved (vec_ptr nodes.old) nodes.old.items place first time }
+    requires last { IsKnown (vec_ptr nodes.old) (vec_len nodes.old) (node_at (with_time (unlinked (vec_ptr nodes.old) nodes.old.items (index_of (vec_ptr nodes.old) place)) (index_of (vec_ptr nodes.old) place) time.now) (index_of (vec_ptr nodes.old) first)).before }
+    ensures items { nodes.new.items ≡ moved (vec_ptr nodes.old) nodes.old.items place first time.now }
     ensures len { vec_len nodes.new ≡ vec_len nodes.old }
     ensures capacity { vec_capacity nodes.new ≡ vec_capacity nodes.old }
     ensures in_place { vec_ptr nodes.new ≡ vec_ptr nodes.old }
@@ -117,12 +117,12 @@ pub(crate) fn move_last(nodes: &mut Vec<Node>, place: Place, first: Place, time:
 
 #[tactic(auto, unfolding(crate::specs::Nodes::added))]
 // Puts a new node at the end of the block and of the ring.
-pub(crate) fn add_last(nodes: &mut Vec<Node>, first: Place, broker: i32, time: i64) -> Place
+pub(crate) fn add_last(nodes: &mut Vec<Node>, first: Place, broker: &i32, time: &i64) -> Place
     requires room { vec_len nodes.old < vec_capacity nodes.old }
     requires here { first.at ≡ vec_ptr nodes.old }
     requires first { IsKnown (vec_ptr nodes.old) (vec_len nodes.old) first }
     requires last { IsKnown (vec_ptr nodes.old) (vec_len nodes.old) (node_at nodes.old.items (index_of (vec_ptr nodes.old) first)).before }
-    ensures items { nodes.new.items ≡ added (vec_ptr nodes.old) nodes.old.items result first broker time }
+    ensures items { nodes.new.items ≡ added (vec_ptr nodes.old) nodes.old.items result first broker.now time.now }
     ensures place { Leads (vec_ptr nodes.old) (vec_len nodes.new) result (vec_len nodes.old) }
     ensures len { vec_len nodes.new ≡ vec_len nodes.old + 1 }
     ensures capacity { vec_capacity nodes.new ≡ vec_capacity nodes.old }
@@ -130,8 +130,8 @@ pub(crate) fn add_last(nodes: &mut Vec<Node>, first: Place, broker: i32, time: i
 {
     let index = nodes.len();
     nodes.push_reserved(Node {
-        broker,
-        time,
+        broker: *broker,
+        time: *time,
         before: first,
         after: first,
     });

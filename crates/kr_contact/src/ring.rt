@@ -72,9 +72,9 @@ impl Ring {
         ensures again { IsTrue (is_contact self.old.contacts broker.now) → self.new.spare ≡ self.old.spare }
     {
         match index::place_of(&self.places, broker) {
-            Some(place) => nodes::move_last(&mut self.nodes, place, self.first, *time),
+            Some(place) => nodes::move_last(&mut self.nodes, place, self.first, time),
             None => {
-                let place = nodes::add_last(&mut self.nodes, self.first, *broker, *time);
+                let place = nodes::add_last(&mut self.nodes, self.first, broker, time);
                 index::put(&mut self.places, broker, place);
             }
         }
