@@ -5,3 +5,4 @@ pub mod Operations
 pub mod Orders
 pub mod Paths
 pub mod Rings
+pub mod Walks

@@ -1,6 +1,7 @@
 -- A contact list as contracts see it: KIP-631 has brokers in order of their last heartbeat. The rest is this project's own.
-use Rattle.std.specs.Prelude.{◌++◌, ◌∷◌, [], ◌||◌, ℕ, ℤ, Bool, not, List, filter, map, take_while, int_le, nat_lt}
+use Rattle.std.specs.Prelude.{◌++◌, ◌∷◌, [], ◌||◌, ℕ, ℤ, Bool, not, List, filter, map, take_while, int_le, nat_lt, Option}
 use Rattle.std.specs.List.{list_any}
+use Rattle.std.specs.Option.{unwrap_or}
 use Rattle.std.specs.Ordering.{int_eq}
 
 pub record Listed : Type 0 where
@@ -28,3 +29,7 @@ expired contacts limit = map (λ c. c.0) (take_while (λ c. int_le c.1 limit) co
 -- the broker is a contact already, or finds room
 abbrev pub may_touch : Listed → ℤ → Bool
 may_touch listed broker = is_contact listed.contacts broker || nat_lt 0 listed.spare
+
+-- with no ring yet there are no contacts, and no room
+abbrev pub listed : Option Listed → Listed
+listed ring = unwrap_or ring (record { contacts = []; spare = 0 })

@@ -2,7 +2,10 @@
 #![tactic(auto)]
 
 mod index;
+mod list;
 mod nodes;
 mod places;
 mod ring;
 mod walk;
+
+pub use list::ContactList;

@@ -2,14 +2,17 @@
 
 ghost use Rattle.std.specs.Prelude.{◌≡◌, ◌+◌, ◌≤◌, ◌<◌, [], IsTrue, IfOk, OnErr, length, slice_get, vec_len, vec_capacity};
 ghost use Rattle.std.specs.Vec.{vec_ptr};
-ghost use Rattle.kr_contact.specs.Contacts.{is_contact, without, touched, may_touch};
+ghost use Rattle.kr_contact.specs.Contacts.{is_contact, without, touched, expired, may_touch};
 
 use crate::index;
 use crate::nodes::{self, Node, Place};
-use kr_base::NoMemory;
+use crate::walk;
+use kr_base::{NoMemory, Steps};
+use kr_defs::Ids;
 use std::alloc::Global;
 use std::collections::HashMap;
 use std::marker::Model;
+use std::sync::ledger::Ledger;
 
 /// The contacts as nodes of one block, which are linked both ways in order of the last contact. The first node is no
 /// contact: it closes the ring.
@@ -105,5 +108,20 @@ impl Ring {
         let first = nodes::read(&self.nodes, self.first);
         let oldest = nodes::read(&self.nodes, first.after);
         Some((oldest.broker, oldest.time))
+    }
+
+    // The brokers of the front whose time is at most the limit.
+    pub(crate) fn expired<L: Ledger>(
+        &self,
+        alloc: Global,
+        limit: &i64,
+        steps: &mut Steps<L>,
+    ) -> Result<Ids, NoMemory>
+        ensures ok { IfOk result (λ brokers. brokers ≡ expired self.now.contacts limit.now) }
+        ensures bound { steps.new ≤ steps.old + length (expired self.now.contacts limit.now) + 1 }
+        ensures counted { steps.old ≤ steps.new }
+    {
+        let from = nodes::read(&self.nodes, self.first).after;
+        walk::expired(alloc, &self.nodes, from, self.places.len(), limit, steps)
     }
 }

@@ -1,6 +1,6 @@
 //! One contact after the other.
 
-ghost use Rattle.std.specs.Prelude.{◌≡◌, ◌+◌, ◌≤◌, length, IfOk, vec_len};
+ghost use Rattle.std.specs.Prelude.{◌≡◌, ◌+◌, ◌≤◌, int_le, length, IfOk};
 ghost use Rattle.std.specs.Vec.{vec_ptr};
 ghost use Rattle.kr_contact.specs.Contacts.{expired};
 ghost use Rattle.kr_contact.specs.Rings.{AreKnown, contacts_from};
@@ -10,6 +10,19 @@ use kr_base::{NoMemory, Steps};
 use kr_defs::Ids;
 use std::alloc::Global;
 use std::sync::ledger::Ledger;
+
+// The contact was heard of at the limit or before.
+fn is_old(node: &Node, limit: &i64) -> bool
+    ensures { result ≡ int_le node.now.time limit.now }
+{
+    node.time <= *limit
+}
+
+fn broker_of(node: &Node) -> i32
+    ensures { result ≡ node.now.broker }
+{
+    node.broker
+}
 
 // Of so many contacts, from the place on, the brokers of the front whose time is at most the limit. A step is one
 // contact that is looked at.
@@ -31,10 +44,10 @@ pub(crate) fn expired<L: Ledger>(
     for _ in 0..count {
         steps.tick();
         let node = nodes::read(nodes, place);
-        if *limit < node.time {
+        if !is_old(&node, limit) {
             break;
         }
-        brokers.push(node.broker)?;
+        brokers.push(broker_of(&node))?;
         place = node.after;
     }
     Ok(brokers)
