@@ -159,3 +159,8 @@ module _ (p : Ptr) (nodes : List Node) where
 
   pub all_known : (places : List (ℤ × Place)) (order : List ℕ) → IsRing p nodes places order → AreKnown p nodes (length places) (node_at nodes 0).after
   all_known places order r = subst (λ k. AreKnown p nodes k (node_at nodes 0).after) r.count (known_from 0 order 0 r.path)
+
+module _ (first : Place) (nodes : List Node) (places : List (ℤ × Place)) (order : List ℕ) (r : IsRing first.at nodes places order) where
+  -- a walk begins at the node after the first
+  pub walk_known : AreKnown first.at nodes (length places) (node_at nodes (index_of first.at first)).after
+  walk_known = subst (λ k. AreKnown first.at nodes (length places) (node_at nodes k).after) (sym (first_leads first nodes places order r).1) (all_known first.at nodes places order r)
