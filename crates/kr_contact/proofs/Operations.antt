@@ -1,5 +1,5 @@
 -- The operations on a ring whose order is read off its nodes.
-use Rattle.std.proofs.Common.{◌≡◌, ◌<◌, ◌-◌, ◌+◌, ◌*◌, ◌/◌, ℕ, zero, suc, ℤ, Bool, true, false, cond, ◌||◌, nat_lt, IsTrue, List, [], ◌∷◌, ◌++◌, map, length, Option, Some, None, refl, sym, ap, subst, ◌∙◌, arith}
+use Rattle.std.proofs.Common.{◌≡◌, ◌<◌, ◌-◌, ◌+◌, ◌*◌, ◌/◌, ℕ, zero, suc, ℤ, Bool, true, false, cond, ◌||◌, nat_lt, IsTrue, List, [], ◌∷◌, ◌++◌, map, length, Option, Some, None, refl, sym, ap, subst, ◌∙◌, inl, inr, arith}
 use Rattle.std.specs.Prelude.{min}
 use Rattle.std.proofs.lemmas.Bool.Decides.{nat_tests}
 use Rattle.std.proofs.lemmas.List.{length-append}
@@ -12,13 +12,15 @@ use denote.RattleType.{RattleType}
 use Rattle.kr_contact.specs.declared.nodes.Node.{Node}
 use Rattle.kr_contact.specs.declared.nodes.Place.{Place}
 use Rattle.kr_contact.specs.contracts.nodes.Node.{the_row}
-use Rattle.kr_contact.specs.Contacts.{is_contact, without, touched, expired}
+use Rattle.kr_contact.specs.Contacts.{AreSingle, is_contact, without, touched}
 use Rattle.kr_contact.specs.Nodes.{index_of, node_at, IsKnown, Leads, with_time, unlinked, linked}
 use Rattle.kr_contact.specs.Places.{IsPlaceOf}
-use Rattle.kr_contact.specs.Rings.{IsPath, After, Before, AreKnown, order_of, contact_at, IsRing}
+use Rattle.kr_contact.specs.Rings.{IsApart, IsIn, IsPath, After, Before, AreKnown, order_of, contact_at, contacts_from, IsRing}
+use Rattle.std.proofs.lemmas.Bool.{cases_Bool}
+use Rattle.kr_contact.proofs.Indices.{flip, out_in}
 use Rattle.kr_contact.proofs.Orders.{without_none, is_none, map_same}
 use Rattle.kr_contact.proofs.Paths.{last_back}
-use Rattle.kr_contact.proofs.Rings.{NodeOf, find_node, settled, no_node, left, was, removed_ring, timed_path, timed_len, last_now, moved_ring, moved_contacts, new, added_ring, added_contacts, without_node, unlinked_holds}
+use Rattle.kr_contact.proofs.Rings.{NodeOf, find_node, one_node, settled, no_node, left, was, removed_ring, timed_path, timed_len, last_now, moved_ring, moved_contacts, new, added_ring, added_contacts, without_node, unlinked_holds}
 
 -- where the first value of a block lies
 self_place : (R : RattleType) (p : Ptr) (n : ℕ) → 0 < n → IsPlaceOf R p n p 0
@@ -84,7 +86,7 @@ module _ (first : Place) (nodes : List Node) (places : List (ℤ × Place)) (ord
         let ring = removed_ring p nodes places f.xs f.i f.ys parted key f.named places' changed fewer in
         let told = settled p (unlinked p nodes f.i) places' (f.xs ++ f.ys) ring in
         let gone : map (contact_at (unlinked p nodes f.i)) (f.xs ++ f.ys) ≡ without (map (contact_at nodes) order) key =
-            map_same (contact_at (unlinked p nodes f.i)) (contact_at nodes) (f.xs ++ f.ys) (λ s there. unlinked_holds p nodes f.i s) ∙ sym (left p nodes places f.xs f.i f.ys parted key f.named) ∙ ap (λ is. without (map (contact_at nodes) is) key) (sym f.is) in
+        map_same (contact_at (unlinked p nodes f.i)) (contact_at nodes) (f.xs ++ f.ys) (λ s there. unlinked_holds p nodes f.i s) ∙ sym (left p nodes places f.xs f.i f.ys parted key f.named) ∙ ap (λ is. without (map (contact_at nodes) is) key) (sym f.is) in
         subst (λ k. Removed places' (unlinked p nodes k)) (sym at_i)
         (subst (IsRing p (unlinked p nodes f.i) places') (sym told) ring, ap (map (contact_at (unlinked p nodes f.i))) told ∙ gone)
 
@@ -97,9 +99,10 @@ module _ (first : Place) (nodes : List Node) (places : List (ℤ × Place)) (ord
         let ring = moved_ring p nodes f.i time place first places f.xs f.ys parted f.leads first_leads in
         let told = settled p (last_now p nodes f.i time place first) places ((f.xs ++ f.ys) ++ f.i ∷ []) ring in
         let contacts = moved_contacts p nodes f.i time place first places f.xs f.ys parted f.leads first_leads key f.named in
-        subst (λ k. Moved time (last_now p nodes k time place first)) (sym at_i)
-        (subst (IsRing p (last_now p nodes f.i time place first) places) (sym told) ring,
-        ap (map (contact_at (last_now p nodes f.i time place first))) told ∙ contacts ∙ ap (λ is. touched (map (contact_at nodes) is) key time) (sym f.is))
+        subst (λ k. Moved time (last_now p nodes k time place first)) (sym at_i) (
+          subst (IsRing p (last_now p nodes f.i time place first) places) (sym told) ring,
+          ap (map (contact_at (last_now p nodes f.i time place first))) told ∙ contacts ∙ ap (λ is. touched (map (contact_at nodes) is) key time) (sym f.is),
+        )
 
     pub moving_known : (time : ℤ) → IsKnown p n (node_at (with_time (unlinked p nodes (index_of p place)) (index_of p place) time) (index_of p first)).before
     moving_known time =
@@ -120,7 +123,7 @@ module _ (first : Place) (nodes : List Node) (places : List (ℤ × Place)) (ord
     pub adding : (time : ℤ) (place : Place) (places' : List (ℤ × Place)) → Leads p (length (nodes ++ record { broker = key; time = time; before = first; after = first } ∷ [])) place n
         → ((q : ℤ) → lookup (int_eq q) places' ≡ cond (int_eq key q) (Some place) (lookup (int_eq q) places)) → length places' ≡ length places + 1
         → let ns : List Node = linked p (nodes ++ record { broker = key; time = time; before = first; after = first } ∷ []) place first in
-          IsRing p ns places' (order_of p ns (length places')) × (map (contact_at ns) (order_of p ns (length places')) ≡ touched (map (contact_at nodes) order) key time)
+        IsRing p ns places' (order_of p ns (length places')) × (map (contact_at ns) (order_of p ns (length places')) ≡ touched (map (contact_at nodes) order) key time)
     adding time place places' at_n changed more =
         let ring = added_ring p nodes places order r key time none place first at_n first_leads places' changed more in
         let ns : List Node = linked p (nodes ++ record { broker = key; time = time; before = first; after = first } ∷ []) place first in
@@ -164,3 +167,20 @@ module _ (first : Place) (nodes : List Node) (places : List (ℤ × Place)) (ord
   -- a walk begins at the node after the first
   pub walk_known : AreKnown first.at nodes (length places) (node_at nodes (index_of first.at first)).after
   walk_known = subst (λ k. AreKnown first.at nodes (length places) (node_at nodes k).after) (sym (first_leads first nodes places order r).1) (all_known first.at nodes places order r)
+
+  single_from : (is : List ℕ) → ((s : ℕ) → IsIn s is → IsIn s order) → IsApart is → AreSingle (map (contact_at nodes) is)
+  single_from [] among apart = tt
+  single_from (i ∷ is) among apart = (
+    sym (is_none (contact_at nodes) (node_at nodes i).broker is (λ s there. elim (cases_Bool (int_eq (node_at nodes s).broker (node_at nodes i).broker)) [
+      | inl holds ↦ absurd (flip (out_in i s is apart.0 there) (one_node first.at nodes places order r s i (among s (inr there)) (among i (inl refl)) holds))
+      | inr fails ↦ fails
+    ])),
+    single_from is (λ s there. among s (inr there)) apart.1,
+  )
+
+  pub singles : AreSingle (map (contact_at nodes) order)
+  singles = single_from order (λ s there. there) r.apart.1
+
+module _ (first : Place) (nodes : List Node) (places : List (ℤ × Place)) (r : IsRing first.at nodes places (order_of first.at nodes (length places))) where
+  pub walk_single : AreSingle (contacts_from first.at nodes (length places) (node_at nodes (index_of first.at first)).after)
+  walk_single = subst (λ k. AreSingle (contacts_from first.at nodes (length places) (node_at nodes k).after)) (sym (first_leads first nodes places _ r).1) (singles first nodes places _ r)

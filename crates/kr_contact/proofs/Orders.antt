@@ -1,9 +1,12 @@
 -- Contacts along a list of nodes: those without one broker, and whether the broker is there.
-use Rattle.std.proofs.Common.{◌≡◌, ◌+◌, ℕ, ℤ, Bool, true, false, not, cond, ◌||◌, List, [], ◌∷◌, ◌++◌, map, length, refl, sym, ap, subst, ◌∙◌, inl, inr}
+use Rattle.std.proofs.Common.{◌≡◌, ◌+◌, ℕ, ℤ, Bool, true, false, not, cond, ◌||◌, List, [], ◌∷◌, ◌++◌, map, length, append_assoc, refl, sym, ap, subst, ◌∙◌, inl, inr}
 use Rattle.std.specs.Prelude.{filter}
 use Rattle.std.specs.List.{list_any}
 use Rattle.std.specs.Ordering.{int_eq}
-use Rattle.kr_contact.specs.Contacts.{is_contact, without}
+use Rattle.std.proofs.lemmas.Bool.{cases_Bool}
+use Rattle.kr_defs.proofs.IdLists.{same_id, id_itself}
+use Rattle.kr_defs.proofs.Tests.{neither}
+use Rattle.kr_contact.specs.Contacts.{AreSingle, is_contact, without, touched}
 use Rattle.kr_contact.specs.Rings.{IsIn}
 
 module _ (f : ℕ → ℤ × ℤ) (key : ℤ) where
@@ -36,3 +39,29 @@ module _ (f : ℕ → ℤ × ℤ) (key : ℤ) where
 pub map_same : {X : Type 0} (f g : ℕ → X) (is : List ℕ) → ((s : ℕ) → IsIn s is → f s ≡ g s) → map f is ≡ map g is
 map_same f g [] same = refl
 map_same f g (i ∷ is) same = (λ t. same i (inl refl) t ∷ map_same f g is (λ s there. same s (inr there)) t)
+
+-- ---- contacts that stand once
+
+differs : (x y : ℤ) → int_eq x y ≡ false → int_eq y x ≡ false
+differs x y h =
+    elim (cases_Bool (int_eq y x)) [
+      | inl holds ↦ let back : int_eq x y ≡ true = subst (λ (z : ℤ). int_eq x z ≡ true) (sym (same_id y x holds)) (id_itself x) in let bad : true ≡ false = sym back ∙ h in absurd cc
+      | inr fails ↦ fails
+    ]
+
+none_at : (xs : List (ℤ × ℤ)) (c : ℤ × ℤ) (ys : List (ℤ × ℤ)) (key : ℤ) → is_contact (xs ++ c ∷ ys) key ≡ false → int_eq c.0 key ≡ false
+none_at [] c ys key none = (neither (int_eq c.0 key) (is_contact ys key) none).0
+none_at (x ∷ xs) c ys key none = none_at xs c ys key (neither (int_eq x.0 key) (is_contact (xs ++ c ∷ ys) key) none).1
+
+single_front : (xs : List (ℤ × ℤ)) (c : ℤ × ℤ) (ys : List (ℤ × ℤ)) → AreSingle (xs ++ c ∷ ys) → is_contact xs c.0 ≡ false
+single_front [] c ys s = refl
+single_front (x ∷ xs) c ys s = rw (differs c.0 x.0 (none_at xs c ys x.0 s.0)) (single_front xs c ys s.1)
+
+without_absent : (xs : List (ℤ × ℤ)) (key : ℤ) → is_contact xs key ≡ false → without xs key ≡ xs
+without_absent [] key none = refl
+without_absent (x ∷ xs) key none =
+    let both = neither (int_eq x.0 key) (is_contact xs key) none in
+    rw (both.0) (ap (λ cs. x ∷ cs) (without_absent xs key both.1))
+
+pub touched_new : (xs : List (ℤ × ℤ)) (c : ℤ × ℤ) (ys : List (ℤ × ℤ)) → AreSingle (xs ++ c ∷ ys) → touched xs c.0 c.1 ++ ys ≡ xs ++ c ∷ ys
+touched_new xs c ys s = ap (λ cs. (cs ++ c ∷ []) ++ ys) (without_absent xs c.0 (single_front xs c ys s)) ∙ append_assoc xs (c ∷ []) ys

@@ -110,7 +110,7 @@ module _ (first : Ptr) (nodes : List Node) (places : List (ℤ × Place)) (order
       record { i = h.0; xs = s.0; ys = s.1; is = s.2; named = h.2; leads = h.3 }
 
   -- two nodes of one broker are the same
-  one_node : (i s : ℕ) → IsIn i order → IsIn s order → int_eq (node_at nodes i).broker (node_at nodes s).broker ≡ true → i ≡ s
+  pub one_node : (i s : ℕ) → IsIn i order → IsIn s order → int_eq (node_at nodes i).broker (node_at nodes s).broker ≡ true → i ≡ s
   one_node i s here there e =
       let f = r.found i here in
       let g = r.found s there in
@@ -266,7 +266,7 @@ module _ (first : Ptr) (nodes : List Node) (i : ℕ) (time : ℤ) (place next : 
     moved_contacts key named =
         let out : IsOut i (xs ++ ys) = apart_out xs i ys r.apart.1 in
         let before : map (contact_at last_now) (xs ++ ys) ≡ without (map (contact_at nodes) (xs ++ i ∷ ys)) key =
-            map_same (contact_at last_now) (contact_at nodes) (xs ++ ys) (λ s there. last_other s (out_in i s (xs ++ ys) out there)) ∙ sym (left first nodes places xs i ys r key named) in
+        map_same (contact_at last_now) (contact_at nodes) (xs ++ ys) (λ s there. last_other s (out_in i s (xs ++ ys) out there)) ∙ sym (left first nodes places xs i ys r key named) in
         let now : contact_at last_now i ≡ (key, time) = λ t. ((last_broker i ∙ named) t, last_time (within first (length nodes) place i at_i) t) in
         map-append (contact_at last_now) (xs ++ ys) (i ∷ []) ∙ (λ t. before t ++ now t ∷ [])
 
@@ -338,9 +338,11 @@ module _ (first : Ptr) (nodes : List Node) (places : List (ℤ × Place)) (order
             let now : lookup (int_eq (node_at nodes s).broker) places' ≡ Some old.0 = changed (node_at nodes s).broker ∙ ap (λ t. cond t (Some place) (lookup (int_eq (node_at nodes s).broker) places)) differs ∙ old.1 in
             (old.0, subst (λ (b : ℤ). lookup (int_eq b) places' ≡ Some old.0) (sym (ap (λ c. c.0) (new_at s (inside s before)))) now, wide old.0 s old.2)
         | inr same ↦
-            let now : lookup (int_eq key) places' ≡ Some place = changed key ∙ ap (λ t. cond t (Some place) (lookup (int_eq key) places)) (id_itself key) in
-            (place, subst (λ (b : ℤ). lookup (int_eq b) places' ≡ Some place) (sym (ap (λ k. (node_at new k).broker) same ∙ ap (λ c. c.0) new_last)) now,
-            subst (λ k. Leads first (length new) place k) (sym same) (subst (λ m. Leads first m place i) (sym (linked_len first wider place next)) at_i))
+            let now : lookup (int_eq key) places' ≡ Some place = changed key ∙ ap (λ t. cond t (Some place) (lookup (int_eq key) places)) (id_itself key) in (
+              place,
+              subst (λ (b : ℤ). lookup (int_eq b) places' ≡ Some place) (sym (ap (λ k. (node_at new k).broker) same ∙ ap (λ c. c.0) new_last)) now,
+              subst (λ k. Leads first (length new) place k) (sym same) (subst (λ m. Leads first m place i) (sym (linked_len first wider place next)) at_i),
+            )
       ];
       held = λ q p e. elim (cases_Bool (int_eq key q)) [
         | inl holds ↦
@@ -357,5 +359,5 @@ module _ (first : Ptr) (nodes : List Node) (places : List (ℤ × Place)) (order
   pub added_contacts : map (contact_at new) (order ++ i ∷ []) ≡ touched (map (contact_at nodes) order) key time
   added_contacts =
       let before : map (contact_at new) order ≡ without (map (contact_at nodes) order) key =
-          map_same (contact_at new) (contact_at nodes) order (λ s there. new_at s (inside s there)) ∙ sym (without_none (contact_at nodes) key order (no_node first nodes places order r key none)) in
+      map_same (contact_at new) (contact_at nodes) order (λ s there. new_at s (inside s there)) ∙ sym (without_none (contact_at nodes) key order (no_node first nodes places order r key none)) in
       map-append (contact_at new) order (i ∷ []) ∙ (λ t. before t ++ new_last t ∷ [])

@@ -4,9 +4,10 @@ use Rattle.std.specs.List.{prefix_len}
 use Rattle.std.specs.Ptr.{Ptr}
 use Rattle.kr_contact.specs.declared.nodes.Node.{Node}
 use Rattle.kr_contact.specs.declared.nodes.Place.{Place}
-use Rattle.kr_contact.specs.Contacts.{expired}
+use Rattle.kr_contact.specs.Contacts.{AreSingle, expired, touched}
 use Rattle.kr_contact.specs.Nodes.{index_of, node_at, IsKnown}
 use Rattle.kr_contact.specs.Rings.{AreKnown, contact_at, contacts_from}
+use Rattle.kr_contact.proofs.Orders.{touched_new}
 
 take_one : (c : ℤ × ℤ) (n : ℕ) (rest : List (ℤ × ℤ)) → take (1 + n) (c ∷ rest) ≡ c ∷ take n rest
 take_one c n rest = let one : 1 + n ≡ suc n = omega arith in ap (λ k. take k (c ∷ rest)) one
@@ -50,3 +51,10 @@ module _ (first : Ptr) (nodes : List Node) (limit : ℤ) (count i : ℕ) (place 
 
   pub given_all : count ≡ i → front i place ≡ []
   given_all ended = let none : count - i ≡ 0 = omega arith in ap (λ k. expired (contacts_from first nodes k place) limit) none
+
+  pub copied_more : (to to' all : List (ℤ × ℤ)) → i < count → AreSingle all → to' ≡ touched to node.broker node.time
+      → to ++ contacts_from first nodes (count - i) place ≡ all → to' ++ contacts_from first nodes (count - (i + 1)) node.after ≡ all
+  copied_more to to' all within single is so_far =
+      let rest : List (ℤ × ℤ) = contacts_from first nodes (count - (i + 1)) node.after in
+      let now : to ++ (node.broker, node.time) ∷ rest ≡ all = subst (λ k. to ++ contacts_from first nodes k place ≡ all) (one_less within) so_far in
+      ap (λ cs. cs ++ rest) is ∙ touched_new to (node.broker, node.time) rest (subst AreSingle (sym now) single) ∙ now

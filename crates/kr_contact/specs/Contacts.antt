@@ -1,5 +1,5 @@
 -- A contact list as contracts see it: KIP-631 has brokers in order of their last heartbeat. The rest is this project's own.
-use Rattle.std.specs.Prelude.{◌++◌, ◌∷◌, [], ◌||◌, ℕ, ℤ, Bool, not, List, filter, map, take_while, int_le, nat_lt, Option}
+use Rattle.std.specs.Prelude.{◌≡◌, false, ◌++◌, ◌∷◌, [], ◌||◌, ℕ, ℤ, Bool, not, List, filter, map, take_while, int_le, nat_lt, Option}
 use Rattle.std.specs.List.{list_any}
 use Rattle.std.specs.Option.{unwrap_or}
 use Rattle.std.specs.Ordering.{int_eq}
@@ -33,3 +33,8 @@ may_touch listed broker = is_contact listed.contacts broker || nat_lt 0 listed.s
 -- with no ring yet there are no contacts, and no room
 abbrev pub listed : Option Listed → Listed
 listed ring = unwrap_or ring (record { contacts = []; spare = 0 })
+
+-- each broker stands there once
+abbrev pub AreSingle : List (ℤ × ℤ) → Type 0
+AreSingle [] = Unit {0}
+AreSingle (c ∷ cs) = (is_contact cs c.0 ≡ false) × AreSingle cs

@@ -52,6 +52,36 @@ impl ContactList {
         self.len() == 0
     }
 
+    /// Makes room for so many brokers more, which `touch` then takes with no memory. The contacts stay.
+    pub fn reserve(&mut self, more: usize) -> Result<(), NoMemory>
+        ensures contacts { self.new.contacts ≡ self.old.contacts }
+        ensures ok { OnOk result (more ≤ self.new.spare) }
+        ensures spare { self.old.spare ≤ self.new.spare }
+        ensures err { OnErr result (self.new ≡ self.old) }
+    {
+        if more <= self.spare() {
+            return Ok(());
+        }
+        let count = self.len();
+        let room = count.checked_add(count.max(more)).ok_or(NoMemory)?;
+        let mut ring = Ring::new(self.alloc, room)?;
+        if let Some(old) = &self.ring {
+            old.copy_into(&mut ring);
+        }
+        self.ring = Some(ring);
+        Ok(())
+    }
+
+    /// So many brokers more are sure to find memory.
+    pub fn spare(&self) -> usize
+        ensures { result ≡ self.now.spare }
+    {
+        match &self.ring {
+            Some(ring) => ring.spare(),
+            None => 0,
+        }
+    }
+
     /// The broker was heard of at the time, in milliseconds, and becomes the last contact. It takes no memory.
     pub fn touch(&mut self, id: i32, now: i64)
         requires { IsTrue (may_touch self.old id) }

@@ -135,7 +135,9 @@ pub(crate) fn add_last(nodes: &mut Vec<Node>, first: Place, broker: &i32, time: 
         before: first,
         after: first,
     });
-    let place = Place { at: places::place(nodes, first.at, index) };
+    let place = Place {
+        at: places::place(nodes, first.at, index),
+    };
     link(nodes, place, first);
     place
 }

@@ -1,12 +1,12 @@
 //! A ring of contacts in one block.
 
-ghost use Rattle.std.specs.Prelude.{◌≡◌, ◌+◌, ◌≤◌, ◌<◌, [], IsTrue, IfOk, OnErr, length, slice_get, vec_len, vec_capacity};
+ghost use Rattle.std.specs.Prelude.{◌≡◌, ◌+◌, ◌≤◌, ◌<◌, [], ◌++◌, IsTrue, IfOk, OnErr, length, slice_get, vec_len, vec_capacity};
 ghost use Rattle.std.specs.Vec.{vec_ptr};
-ghost use Rattle.kr_contact.specs.Contacts.{is_contact, without, touched, expired, may_touch};
+ghost use Rattle.kr_contact.specs.Contacts.{AreSingle, is_contact, without, touched, expired, may_touch};
+ghost use Rattle.kr_contact.specs.Rings.{AreKnown, contacts_from};
 
-use crate::index;
 use crate::nodes::{self, Node, Place};
-use crate::walk;
+use crate::{index, walk};
 use kr_base::{NoMemory, Steps};
 use kr_defs::Ids;
 use std::alloc::Global;
@@ -47,7 +47,9 @@ impl Ring {
         let capacity = room.checked_add(1).ok_or(NoMemory)?;
         let places = HashMap::with_capacity(alloc, room)?;
         let mut nodes = Vec::with_capacity(alloc, capacity)?;
-        let first = Place { at: nodes.as_mut_ptr() };
+        let first = Place {
+            at: nodes.as_mut_ptr(),
+        };
         nodes.push_reserved(Node {
             broker: 0,
             time: 0,
@@ -123,5 +125,40 @@ impl Ring {
     {
         let from = nodes::read(&self.nodes, self.first).after;
         walk::expired(alloc, &self.nodes, from, self.places.len(), limit, steps)
+    }
+
+    // So many brokers more are sure to find memory.
+    pub(crate) fn spare(&self) -> usize
+        ensures { result ≡ self.now.spare }
+    {
+        let nodes = self.nodes.capacity() - self.nodes.len();
+        nodes.min(self.places.capacity() - self.places.len())
+    }
+
+    // Puts the contacts into an empty ring, in their order.
+    pub(crate) fn copy_into(&self, to: &mut Ring)
+        requires empty { to.old.contacts ≡ [] }
+        requires room { length self.now.contacts ≤ to.old.spare }
+        ensures contacts { to.new.contacts ≡ self.now.contacts }
+        ensures spare { to.old.spare ≤ to.new.spare + length self.now.contacts }
+    {
+        let from = nodes::read(&self.nodes, self.first).after;
+        copy_contacts(&self.nodes, from, self.places.len(), to);
+    }
+}
+
+// Touches so many contacts in a ring, from the place on.
+fn copy_contacts(nodes: &Vec<Node>, from: Place, count: usize, to: &mut Ring)
+    requires known { AreKnown (vec_ptr nodes.now) nodes.now.items count from }
+    requires single { AreSingle (to.old.contacts ++ contacts_from (vec_ptr nodes.now) nodes.now.items count from) }
+    requires room { count ≤ to.old.spare }
+    ensures contacts { to.new.contacts ≡ to.old.contacts ++ contacts_from (vec_ptr nodes.now) nodes.now.items count from }
+    ensures spare { to.old.spare ≤ to.new.spare + count }
+{
+    let mut place = from;
+    for _ in 0..count {
+        let node = nodes::read(nodes, place);
+        to.touch(&node.broker, &node.time);
+        place = node.after;
     }
 }
