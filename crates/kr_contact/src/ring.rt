@@ -1,0 +1,164 @@
+//! A ring of contacts in one block.
+
+ghost use Rattle.std.specs.Prelude.{◌≡◌, ◌+◌, ◌≤◌, ◌<◌, [], ◌++◌, IsTrue, IfOk, OnErr, length, slice_get, vec_len, vec_capacity};
+ghost use Rattle.std.specs.Vec.{vec_ptr};
+ghost use Rattle.kr_contact.specs.Contacts.{AreSingle, is_contact, without, touched, expired, may_touch};
+ghost use Rattle.kr_contact.specs.Rings.{AreKnown, contacts_from};
+
+use crate::nodes::{self, Node, Place};
+use crate::{index, walk};
+use kr_base::{NoMemory, Steps};
+use kr_defs::Ids;
+use std::alloc::Global;
+use std::collections::HashMap;
+use std::marker::Model;
+use std::sync::ledger::Ledger;
+
+/// The contacts as nodes of one block, which are linked both ways in order of the last contact. The first node is no
+/// contact: it closes the ring.
+#[derive(Drop)]
+pub(crate) struct Ring {
+    nodes: Vec<Node>,
+    first: Place,
+    // Which node is a broker's.
+    places: HashMap<i32, Place>,
+}
+
+impl Model for Ring {
+    ghost use Rattle.std.specs.Prelude.{◌≡◌, ◌-◌, ◌≤◌, map, min, length, vec_len, vec_capacity};
+    ghost use Rattle.std.specs.HashMap.{spare, hash_map_len};
+    ghost use Rattle.std.specs.Vec.{vec_ptr};
+    ghost use Rattle.kr_contact.specs.Contacts.{Listed};
+    ghost use Rattle.kr_contact.specs.Rings.{IsRing, order_of, contact_at};
+
+    ghost Value = { Listed };
+
+    ghost view = { λ r. record { contacts = map (contact_at r.nodes.items) (order_of r.first.at r.nodes.items (hash_map_len r.places)); spare = min (vec_capacity r.nodes - vec_len r.nodes) (spare r.places) } };
+
+    ghost invariant = { λ r. (r.first.at ≡ vec_ptr r.nodes) × IsRing r.first.at r.nodes.items r.places.entries (order_of r.first.at r.nodes.items (hash_map_len r.places)) };
+}
+
+impl Ring {
+    // An empty ring with room for so many contacts.
+    pub(crate) fn new(alloc: Global, room: usize) -> Result<Ring, NoMemory>
+        ensures empty { IfOk result (λ r. r.contacts ≡ []) }
+        ensures room { IfOk result (λ r. room ≤ r.spare) }
+    {
+        let capacity = room.checked_add(1).ok_or(NoMemory)?;
+        let places = HashMap::with_capacity(alloc, room)?;
+        let mut nodes = Vec::with_capacity(alloc, capacity)?;
+        let first = Place {
+            at: nodes.as_mut_ptr(),
+        };
+        nodes.push_reserved(Node {
+            broker: 0,
+            time: 0,
+            before: first,
+            after: first,
+        });
+        Ok(Ring {
+            nodes,
+            first,
+            places,
+        })
+    }
+
+    pub(crate) fn len(&self) -> usize
+        ensures { result ≡ length self.now.contacts }
+    {
+        self.places.len()
+    }
+
+    // Makes the broker the last contact.
+    pub(crate) fn touch(&mut self, broker: &i32, time: &i64)
+        requires { IsTrue (may_touch self.old broker.now) }
+        ensures contacts { self.new.contacts ≡ touched self.old.contacts broker.now time.now }
+        ensures spare { self.old.spare ≤ self.new.spare + 1 }
+        ensures again { IsTrue (is_contact self.old.contacts broker.now) → self.new.spare ≡ self.old.spare }
+    {
+        match index::place_of(&self.places, broker) {
+            Some(place) => nodes::move_last(&mut self.nodes, place, self.first, time),
+            None => {
+                let place = nodes::add_last(&mut self.nodes, self.first, broker, time);
+                index::put(&mut self.places, broker, place);
+            }
+        }
+    }
+
+    // Takes the broker out, and tells whether it was a contact.
+    pub(crate) fn remove(&mut self, broker: &i32) -> bool
+        ensures was { result ≡ is_contact self.old.contacts broker.now }
+        ensures contacts { self.new.contacts ≡ without self.old.contacts broker.now }
+        ensures spare { self.old.spare ≤ self.new.spare }
+    {
+        match index::take(&mut self.places, broker) {
+            Some(place) => {
+                nodes::unlink(&mut self.nodes, place);
+                true
+            }
+            None => false,
+        }
+    }
+
+    // The contact that was heard of the longest ago, with its time.
+    pub(crate) fn oldest(&self) -> Option<(i32, i64)>
+        ensures { result ≡ slice_get self.now.contacts 0 }
+    {
+        if self.places.is_empty() {
+            return None;
+        }
+        let first = nodes::read(&self.nodes, self.first);
+        let oldest = nodes::read(&self.nodes, first.after);
+        Some((oldest.broker, oldest.time))
+    }
+
+    // The brokers of the front whose time is at most the limit.
+    pub(crate) fn expired<L: Ledger>(
+        &self,
+        alloc: Global,
+        limit: &i64,
+        steps: &mut Steps<L>,
+    ) -> Result<Ids, NoMemory>
+        ensures ok { IfOk result (λ brokers. brokers ≡ expired self.now.contacts limit.now) }
+        ensures bound { steps.new ≤ steps.old + length (expired self.now.contacts limit.now) + 1 }
+        ensures counted { steps.old ≤ steps.new }
+    {
+        let from = nodes::read(&self.nodes, self.first).after;
+        walk::expired(alloc, &self.nodes, from, self.places.len(), limit, steps)
+    }
+
+    // So many brokers more are sure to find memory.
+    pub(crate) fn spare(&self) -> usize
+        ensures { result ≡ self.now.spare }
+    {
+        let nodes = self.nodes.capacity() - self.nodes.len();
+        nodes.min(self.places.capacity() - self.places.len())
+    }
+
+    // Puts the contacts into an empty ring, in their order.
+    pub(crate) fn copy_into(&self, to: &mut Ring)
+        requires empty { to.old.contacts ≡ [] }
+        requires room { length self.now.contacts ≤ to.old.spare }
+        ensures contacts { to.new.contacts ≡ self.now.contacts }
+        ensures spare { to.old.spare ≤ to.new.spare + length self.now.contacts }
+    {
+        let from = nodes::read(&self.nodes, self.first).after;
+        copy_contacts(&self.nodes, from, self.places.len(), to);
+    }
+}
+
+// Touches so many contacts in a ring, from the place on.
+fn copy_contacts(nodes: &Vec<Node>, from: Place, count: usize, to: &mut Ring)
+    requires known { AreKnown (vec_ptr nodes.now) nodes.now.items count from }
+    requires single { AreSingle (to.old.contacts ++ contacts_from (vec_ptr nodes.now) nodes.now.items count from) }
+    requires room { count ≤ to.old.spare }
+    ensures contacts { to.new.contacts ≡ to.old.contacts ++ contacts_from (vec_ptr nodes.now) nodes.now.items count from }
+    ensures spare { to.old.spare ≤ to.new.spare + count }
+{
+    let mut place = from;
+    for _ in 0..count {
+        let node = nodes::read(nodes, place);
+        to.touch(&node.broker, &node.time);
+        place = node.after;
+    }
+}
