@@ -43,6 +43,7 @@ module _ (s : State) (writes : List Write) (epoch end : ℤ) (k : IsState s writ
 
   committed_state : IsState (with_next_number (commits.after_commit s end)) (filter (is_open_in (commits.after_commit s end).world) (writes ++ []))
   committed_state = record {
+    valid = k.valid;
     started = (let low = k.started in let high = m.above in omega (arith, low, high));
     ends = m.rise;
     low = k.low;

@@ -87,6 +87,7 @@ module _ (e : Core) (epoch : ℤ) (d : IsDrained e) where
 
     state : IsState (with_next_number (after_lost s)) (filter (is_open_in (after_lost s).world) (writes ++ []))
     state = record {
+      valid = k.is_state.valid;
       started = k.is_state.started;
       ends = sym new_tip;
       low = (let low = k.is_state.low in let under = below in let at = new_tip in omega (arith, low, under, at));
