@@ -41,6 +41,7 @@ module _ (options : Options) where
       whole_on events (happens options s event) (stays_orderly options s event k) (stays_whole options s event (timed_orderly s event k) w)
 
   whole_start : IsWhole start
+  unfolding image_at
   whole_start = record {
     log = record { valid = empty_valid; shows = at_tip start.world.log };
     hears = λ some. absurd (never some);

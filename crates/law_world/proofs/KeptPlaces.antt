@@ -1,9 +1,10 @@
 -- The images that an engine keeps are valid, and stand under rising places.
 use Rattle.std.proofs.Common.{◌≡◌, sym, subst, ℕ, ℤ, pos, ◌<◌, List, [], ◌∷◌, map, arith}
+use Rattle.std.proofs.lemmas.Int.{ints}
 use Rattle.std.proofs.lemmas.List.Elements.{All-from_recursion}
 use Rattle.std.specs.Prelude.{All, Ok}
 use Rattle.std.specs.declared.cmp.Ordering.TheVariants.{Less}
-use Rattle.std.specs.Cmp.{nat_cmp_is}
+use Rattle.std.specs.Cmp.{int_cmp_is}
 use Rattle.std.specs.List.{AllByRecursion}
 use Rattle.std.specs.List.Sorted.{IsStrictlySortedBy}
 use Rattle.std.specs.Ordering.{int_cmp}
@@ -21,7 +22,7 @@ abbrev places : List (ℤ × Image) → List ℤ
 places kept = map (λ (k : ℤ × Image). k.0) kept
 
 is_less : (m n : ℕ) → m < n → int_cmp (pos m) (pos n) ≡ Less
-is_less m n less = sym (nat_cmp_is m n Less less)
+is_less m n less = sym (int_cmp_is (pos m) (pos n) Less (omega (arith, ints, less)))
 
 module _ (log : Log) (to : ℕ) where
   all_higher : (least from : ℕ) (ns : List ℕ) → least < from → Rise from ns to → AllByRecursion (λ place. int_cmp (pos least) place ≡ Less) (places (map (kept_image log) (from ∷ ns)))
