@@ -70,7 +70,7 @@ impl Engine {
 
     /// The quorum committed this leader's log up to a place, whole batches at a time. All outputs are handed out before.
     /// It takes no memory, and no longer with many replies that wait.
-    #[tactic(auto, using(crate::proofs::CommitSteps::commit_step, kr_world::proofs::SoundEngines::stepped_sound))]
+    #[tactic(auto, using(crate::proofs::CommitSteps::commit_step, crate::proofs::CommitSteps::commit_sound))]
     pub fn commit<L: Ledger>(&mut self, epoch: i32, end: i64, steps: &mut Steps<L>)
         requires drained { outputs_left self.old ≡ [] }
         ensures step { IsStep self.old self.new (events.Commit epoch end) }

@@ -146,7 +146,7 @@ impl Engine {
 
     /// The quorum made this node the leader of the log from a place on, in an epoch. All outputs are handed out before. An
     /// engine that answered want of memory may only be dropped.
-    #[tactic(auto, using(crate::proofs::LeadSteps::lead_step, crate::proofs::ReadyEngines::ready_then, kr_world::proofs::SoundEngines::stepped_sound))]
+    #[tactic(auto, using(crate::proofs::LeadSteps::lead_step, crate::proofs::ReadyEngines::ready_then))]
     pub fn lead(&mut self, epoch: &i32, next: &i64, now: &i64) -> Result<(), NoMemory>
         requires sound { IsSound self.old }
         requires drained { outputs_left self.old ≡ [] }

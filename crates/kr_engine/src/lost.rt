@@ -58,7 +58,7 @@ impl Engine {
 
     /// The quorum took the leadership of an epoch back: what isn't committed is gone, and the writes that wait are refused.
     /// All outputs are handed out before. It takes no memory.
-    #[tactic(auto, using(crate::proofs::LostSteps::lost_step, kr_world::proofs::SoundEngines::stepped_sound))]
+    #[tactic(auto, using(crate::proofs::LostSteps::lost_step, crate::proofs::LostSteps::lost_sound))]
     pub fn lost<L: Ledger>(&mut self, epoch: i32, steps: &mut Steps<L>)
         requires drained { outputs_left self.old ≡ [] }
         ensures step { IsStep self.old self.new (events.Lost epoch) }
