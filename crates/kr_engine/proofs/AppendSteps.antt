@@ -15,7 +15,7 @@ use Rattle.kr_defs.specs.declared.record.Item.TheVariants as items
 use Rattle.kr_defs.specs.declared.record.Record.{Record}
 use Rattle.kr_defs.specs.Heartbeats as hearing
 use Rattle.kr_defs.specs.Heartbeats.{Heartbeats}
-use Rattle.kr_defs.specs.Image.{Image}
+use Rattle.kr_defs.specs.Image.{Image, IsValid}
 use Rattle.kr_defs.specs.ImageLaws.{as_items}
 use Rattle.kr_defs.specs.Log.{Log, apply_all, image_at, tip}
 use Rattle.law_safety.specs.HearingLaws.{HearsOf}
@@ -27,7 +27,7 @@ use Rattle.kr_world.specs.Outputs.{is_open}
 use Rattle.kr_world.specs.World.{State, World, image_of_tip, tip_of, with_records, log_with}
 use Rattle.kr_engine.specs.inner.Append.{Writes, core_after_append, batch_at, place_behind}
 use Rattle.kr_world.proofs.LongerLogs.{kept_then, present_then, rise_more}
-use Rattle.kr_world.proofs.LogEntries.{not_none}
+use Rattle.kr_world.proofs.LogEntries.{batch_written, not_none}
 use Rattle.kr_world.proofs.Logs.{tip_written, as_records}
 use Rattle.kr_world.proofs.Queues.{never}
 
@@ -231,6 +231,7 @@ module _ (e after : Core) (s : State) (writes then : List Write) (k : IsEngine e
         waits = waits;
         ordered = ordered;
         is_state = record {
+          valid = subst (λ (log : Log). IsValid log.image) (sym (batch_written s.world (as_items records))) k.is_state.valid;
           started = subst (λ c. (with_records s.world records).log.offset ≤ c) (sym l.committed_is) l.start;
           ends = l.ends;
           low = subst (λ n. n ≤ unsigned_abs PLACES_END) (sym l.higher) low;

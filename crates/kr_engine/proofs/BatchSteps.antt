@@ -42,7 +42,7 @@ use Rattle.kr_world.proofs.Places.{near}
 use Rattle.kr_engine.proofs.LeadSteps.{no_writes, none_row}
 use Rattle.kr_world.proofs.LongerLogs.{present_then, seen_then}
 use Rattle.kr_world.proofs.LogEntries.{behind}
-use Rattle.kr_world.proofs.Logs.{tip_written}
+use Rattle.kr_world.proofs.Logs.{means_unless_ill, tip_written}
 use Rattle.kr_world.proofs.Queues.{IsDrained, drained, never}
 use Rattle.kr_world.proofs.StandingEngines.{same_image, tip_only, core_of, is_core}
 use Rattle.kr_engine.proofs.StandbyOutcomes.{settled_step}
@@ -69,14 +69,6 @@ alone images place above =
     ap (kept_with images) (none_above images.kept place images.tip (recursion_from_All (λ (k : ℤ × Image). IsTrue (int_lt k.0 place)) images.kept above))
 
 -- ---- items that are applied, or not
-
-ill_is : (image : Image) (place : ℤ) (items : List Item) → first_ill image place items ≡ None → apply_all image items ≡ Ok (result_unwrap_or (apply_all image items) empty)
-ill_is image place [] none = refl
-ill_is image place (item ∷ items) none =
-    elim (apply image item) as (λ (r : Result Image Ill). ill_or place r (λ after. first_ill after (place +ℤ pos 1) items) ≡ None → and_then r (λ after. apply_all after items) ≡ Ok (result_unwrap_or (and_then r (λ after. apply_all after items)) empty)) [
-      | Ok after ↦ λ none. ill_is after (place +ℤ pos 1) items none
-      | Err cause ↦ λ none. absurd cc
-    ] none
 
 tip_back : (before : Core) (between : Images) → IsReady before → last_image before.images ≡ Some between.tip → between.tip ≡ before.images.tip
 tip_back before between r back = some_is between.tip before.images.tip (sym back ∙ ap (λ o. option_map (λ (k : ℤ × Image). k.1) o) r.last)
@@ -194,7 +186,7 @@ module _ (e : Core) (bytes : List ℕ) (d : IsDrained e) where
     none_ends = (k.is_state.at_standby standby).0
 
     means : apply_all e.images.tip batch.items ≡ Ok image
-    means = ill_is e.images.tip e.tip batch.items no_ill
+    means = means_unless_ill e.images.tip e.tip batch.items no_ill
 
     at_end : s.world.committed ≡ tip_of s
     at_end = tip_only s.world.log s.world.committed s.world.batch_ends (tip_of s) k.is_state.ends none_ends
@@ -216,6 +208,7 @@ module _ (e : Core) (bytes : List ℕ) (d : IsDrained e) where
 
     state_after : IsState (with_next_number after) (filter (is_open_in after.world) (writes ++ []))
     state_after = record {
+      valid = k.is_state.valid;
       started = (let low = k.is_state.started in let at = at_end in omega (arith, low, at));
       ends = ends_so;
       low = subst (λ n. n ≤ unsigned_abs PLACES_END) new_tip is_low;

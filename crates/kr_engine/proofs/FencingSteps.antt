@@ -33,39 +33,11 @@ use Rattle.kr_world.specs.World as worlds
 use Rattle.kr_world.specs.World.{State, image_of_tip, tip_of}
 use Rattle.kr_engine.specs.inner.Append.{Fences, append_output}
 use Rattle.kr_world.proofs.StandingEngines.{same_image, is_core}
-use Rattle.kr_engine.proofs.AppendSteps.{engine_behind, ok_is}
+use Rattle.kr_engine.proofs.AppendSteps.{engine_behind}
 use Rattle.kr_world.proofs.LogEntries.{Gains, batch_written, gains_none, gains_then}
 use Rattle.kr_world.proofs.ContactTimes.{left_in_time}
+use Rattle.kr_world.proofs.FencedBrokers.{hears_by}
 use Rattle.kr_world.proofs.WriteOrders.{reached_later}
-
--- ---- whom an engine hears of then
-
--- a broker that isn't registered passes no test
-without_absent : (test : Broker → Bool) (image : Image) (k id : ℤ) → IsValid image → entries.get int_cmp image.brokers k ≡ None
-    → (has (passing test image.brokers) id && not (int_eq id k)) ≡ has (passing test image.brokers) id
-without_absent test image k id valid absent =
-    let ids = passing test image.brokers in
-    elim (int_eq id k) as (λ b. int_eq id k ≡ b → (has ids id && not b) ≡ has ids id) [
-      | true ↦ λ same.
-          let none : has ids id ≡ false = ap (has ids) (same_id id k same) ∙ (by_get test image.brokers k valid.brokers.ordered ∙ ap (λ o. option_map_or test o false) absent) in
-          ap (λ b. b && false) none ∙ sym none
-      | false ↦ λ other. and_true (has ids id)
-    ] refl
-  where
-    and_true : (b : Bool) → (b && true) ≡ b
-    and_true true = refl
-    and_true false = refl
-
-absent_leaves : (h : Heartbeats) (image : Image) (k : ℤ) → IsValid image → entries.get int_cmp image.brokers k ≡ None → HearsOf h image → HearsOf (leave h k) image
-absent_leaves h image k valid absent hears = record {
-  contacts = λ id. (leaves h k id).contacts ∙ (ap (λ b. b && not (int_eq id k)) (hears.contacts id) ∙ without_absent (λ b. not b.fenced) image k id valid absent);
-  stopping_ones = λ id. (leaves h k id).stopping ∙ (ap (λ b. b && not (int_eq id k)) (hears.stopping_ones id) ∙ without_absent brokers.is_stopping image k id valid absent);
-}
-
-hears_by : (minimum : ℤ) (h : Heartbeats) (image after : Image) (k : ℤ) (o : Option Broker) → IsValid image → entries.get int_cmp image.brokers k ≡ o → HearsOf h image
-    → apply_records image (option_map_or (λ (state : Broker). fencing minimum image k state.epoch) o []) ≡ Ok after → HearsOf (leave h k) after
-hears_by minimum h image after k None valid absent hears is = subst (HearsOf (leave h k)) (sym (ok_is image after is)) (absent_leaves h image k valid absent hears)
-hears_by minimum h image after k (Some state) valid there hears is = fencings_keep_hearing minimum h image after k state valid there hears is
 
 -- ---- one broker
 

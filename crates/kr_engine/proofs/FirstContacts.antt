@@ -22,50 +22,17 @@ use Rattle.kr_world.specs.Engine.{Core}
 use Rattle.kr_engine.specs.inner.Lead.{lead_reason}
 use Rattle.kr_world.specs.Reasons.{already_leading, bad_next, old_epoch}
 use Rattle.kr_engine.specs.inner.Ready.{IsReady}
+use Rattle.kr_world.proofs.UnfencedBrokers.{stopping_once, stopping_within, unfenced_once}
 use Rattle.kr_engine.proofs.LeadSteps.{none_row}
 
-abbrev is_unfenced : Broker → Bool
-is_unfenced b = not b.fenced
-
-differs : (x y : ℤ) → int_cmp x y ≡ Less → int_eq y x ≡ false
-differs x y less = elim (int_eq y x) as (λ b. int_eq y x ≡ b → b ≡ false) [
-  | true ↦ λ same. let both : true ≡ false = sym (id_itself x) ∙ (ap (λ z. int_eq x z) (sym (same_id y x same)) ∙ ap is_eq less) in absurd cc
-  | false ↦ λ other. refl
-] refl
-
-absent : (test : Broker → Bool) (es : Brokers) (id : ℤ) → AllByRecursion (λ z. int_cmp id z ≡ Less) (keys_of es) → has (passing test es) id ≡ false
-absent test [] id below = refl
-absent test (e ∷ es) id below =
-    elim (test e.1) as (λ b. has (map (λ (d : ℤ × Broker). d.0) (cond b (e ∷ filter (λ d. test d.1) es) (filter (λ d. test d.1) es))) id ≡ false) [
-      | true ↦ rw (differs id e.0 below.0) (absent test es id below.1)
-      | false ↦ absent test es id below.1
-    ]
-
-are_distinct : (test : Broker → Bool) (es : Brokers) → IsMap int_cmp es → is_distinct (passing test es) ≡ true
-unfolding IsStrictlySortedBy
-are_distinct test [] s = refl
-are_distinct test (e ∷ es) s =
-    elim (test e.1) as (λ b. is_distinct (map (λ (d : ℤ × Broker). d.0) (cond b (e ∷ filter (λ d. test d.1) es) (filter (λ d. test d.1) es))) ≡ true) [
-      | true ↦ and_from (not (has (passing test es) e.0)) (is_distinct (passing test es)) (ap not (absent test es e.0 s.0)) (are_distinct test es s.1)
-      | false ↦ are_distinct test es s.1
-    ]
-
-stops_unfenced : (o : Option Broker) → option_map_or brokers.is_stopping o false ≡ true → option_map_or is_unfenced o false ≡ true
-stops_unfenced None is = absurd cc
-stops_unfenced (Some b) is = (and_parts (not b.fenced) b.stopping is).0
-
 pub unfenced_distinct : (images : Images) → AreValid images → IsTrue (is_distinct (brokers.unfenced images.tip))
-unfenced_distinct images valid = are_distinct is_unfenced images.tip.brokers valid.tip.brokers.ordered
+unfenced_distinct images valid = unfenced_once images.tip valid.tip
 
 pub stopping_distinct : (images : Images) → AreValid images → IsTrue (is_distinct (brokers.stopping images.tip))
-stopping_distinct images valid = are_distinct brokers.is_stopping images.tip.brokers valid.tip.brokers.ordered
+stopping_distinct images valid = stopping_once images.tip valid.tip
 
 pub stopping_among : (images : Images) → AreValid images → IsTrue (is_within (brokers.stopping images.tip) (brokers.unfenced images.tip))
-stopping_among images valid =
-    let es = images.tip.brokers in
-    let ordered = valid.tip.brokers.ordered in
-    all_from (has (brokers.unfenced images.tip)) (brokers.stopping images.tip) (λ id there.
-    by_get is_unfenced es id ordered ∙ stops_unfenced (entries.get int_cmp es id) (sym (by_get brokers.is_stopping es id ordered) ∙ there))
+stopping_among images valid = stopping_within images.tip valid.tip
 
 pub ruleset heard_of = (unfenced_distinct, stopping_distinct, stopping_among)
 

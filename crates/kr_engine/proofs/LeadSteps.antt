@@ -112,6 +112,7 @@ module _ (e : Core) (epoch next now : ℤ) (d : IsDrained e) where
 
     state_at_end : IsState (with_next_number (state_by true)) (filter (is_open_in (state_by true).world) (writes ++ []))
     state_at_end = record {
+      valid = k.is_state.valid;
       started = k.is_state.started;
       ends = k.is_state.ends;
       low = k.is_state.low;
@@ -165,6 +166,7 @@ module _ (e : Core) (epoch next now : ℤ) (d : IsDrained e) where
 
       state_above : IsState (with_next_number (state_by false)) (filter (is_open_in (state_by false).world) (writes ++ []))
       state_above = record {
+        valid = k.is_state.valid;
         started = k.is_state.started;
         ends = subst (Rise s.world.committed (s.world.batch_ends ++ (tip_of s + 1) ∷ [])) new_tip
             (rise_more s.world.committed s.world.batch_ends (tip_of s) (tip_of s + 1) k.is_state.ends (omega arith));

@@ -7,11 +7,11 @@ use Rattle.kr_calls.specs.declared.events.Entry.TheVariants as entries
 use Rattle.kr_calls.specs.declared.events.Event.TheVariants as events
 use Rattle.kr_defs.specs.declared.limits.TheConstants.{PLACES_END}
 use Rattle.kr_defs.specs.Guard.{and_then}
-use Rattle.kr_defs.specs.Image.{Image}
+use Rattle.kr_defs.specs.Image.{Image, IsValid}
 use Rattle.kr_defs.specs.declared.record.Item.{Item}
 use Rattle.kr_defs.specs.Log.{Log, apply_all, image_at, tip}
 use Rattle.kr_defs.specs.Records.{records_of}
-use Rattle.kr_defs.proofs.Tests.{none_is}
+use Rattle.kr_defs.proofs.Tests.{Gives, none_is}
 use Rattle.kr_snapshot.specs.declared.fault.ImageFault.{ImageFault}
 use Rattle.kr_snapshot.specs.Reading.{image_of}
 use Rattle.kr_world.specs.declared.writes.Write.{Write}
@@ -23,6 +23,7 @@ use Rattle.kr_world.specs.Reasons.{already_leading, exhausted, older_image}
 use Rattle.kr_world.specs.Load.{image_or, load, take_image, after_load}
 use Rattle.kr_engine.specs.inner.Load.{load_reason, core_after_read_image, read_image_reason}
 use Rattle.kr_world.specs.World.{State, is_far, seen_at}
+use Rattle.kr_world.proofs.LoadedImages.{IsLoadable, loaded_valid}
 use Rattle.kr_world.proofs.Places.{near}
 use Rattle.kr_engine.proofs.LeadSteps.{no_writes, none_row}
 use Rattle.kr_engine.proofs.BatchSteps.{leads_not}
@@ -78,7 +79,7 @@ module _ (e : Core) (bytes : List ℕ) (d : IsDrained e) where
 
   -- ---- the engine of the image
 
-  module _ (offset : ℤ) (image : Image) (s : State) (writes : List Write) (k : IsEngine e s writes) (none : e.leading ≡ None) (late : int_lt offset e.committed ≡ false) (is_near : is_far offset ≡ false) where
+  module _ (offset : ℤ) (image : Image) (valid : IsValid image) (s : State) (writes : List Write) (k : IsEngine e s writes) (none : e.leading ≡ None) (late : int_lt offset e.committed ≡ false) (is_near : is_far offset ≡ false) where
     abbrev n : ℕ
     n = unsigned_abs offset
 
@@ -103,6 +104,7 @@ module _ (e : Core) (bytes : List ℕ) (d : IsDrained e) where
 
     state_after : IsState (with_next_number after) (filter (is_open_in after.world) (writes ++ []))
     state_after = record {
+      valid = valid;
       started = omega arith;
       ends = new_tip;
       low = subst (λ m. m ≤ unsigned_abs PLACES_END) new_tip (near n (ap is_far (sym is) ∙ is_near));
@@ -138,13 +140,13 @@ module _ (e : Core) (bytes : List ℕ) (d : IsDrained e) where
       fresh = ap (λ z. entries.Load z (records_of image) ∷ []) is;
     }
 
-  allowed_by : (read : Result (ℤ × Image) ImageFault) → load_reason before read ≡ None → (s : State) (writes : List Write) → IsEngine e s writes → IsAccepted e e.options s writes event (core_after_read_image before read) (state_by read s)
-  allowed_by (Ok (offset, image)) none s writes k =
+  allowed_by : (read : Result (ℤ × Image) ImageFault) → Gives IsLoadable read → load_reason before read ≡ None → (s : State) (writes : List Write) → IsEngine e s writes → IsAccepted e e.options s writes event (core_after_read_image before read) (state_by read s)
+  allowed_by (Ok (offset, image)) gives none s writes k =
       let one = none_row (is_some e.leading) (already_leading e.leading) _ none in
       let two = none_row (int_lt offset e.committed) (older_image offset e.committed) _ one.1 in
       let three = none_row (is_far offset) (exhausted offset) None two.1 in
-      accepted offset image s writes k (none_is e.leading one.0) two.0 three.0
-  allowed_by (Err fault) none s writes k =
+      accepted offset image (gives (offset, image) refl) s writes k (none_is e.leading one.0) two.0 three.0
+  allowed_by (Err fault) gives none s writes k =
       let one = none_row (is_some e.leading) (already_leading e.leading) _ none in absurd cc
 
 same_options : (e : Core) (read : Result (ℤ × Image) ImageFault) → (core_after_read_image e read).options ≡ e.options
@@ -158,4 +160,4 @@ load_step e noted between stepped bytes none clears settled is =
     let before = timed_core e (events.Load bytes) in
     subst (λ (a : Core). IsStep e a (events.Load bytes)) (sym is) (settled_step e (events.Load bytes) d between (load_reason before (image_of bytes)) (core_after_read_image before (image_of bytes)) (state_by e bytes d (image_of bytes)) (same_options before (image_of bytes))
     (subst (λ (c : Core). Settles c between (load_reason c (image_of bytes)) (core_after_read_image c (image_of bytes))) clears settled)
-    (judged e bytes d) (allowed_by e bytes d (image_of bytes)))
+    (judged e bytes d) (allowed_by e bytes d (image_of bytes) (loaded_valid bytes)))

@@ -27,6 +27,7 @@ use Rattle.kr_world.specs.Engine.{Core, IsEngine, IsSound}
 use Rattle.kr_engine.specs.inner.Changes.{cleared_core}
 use Rattle.kr_engine.specs.inner.Ready.{IsReady}
 use Rattle.kr_world.specs.World.{State, tip_of}
+use Rattle.kr_world.proofs.ContactTimes.{last_before}
 use Rattle.kr_world.proofs.EventsWithoutWrites.{grown}
 use Rattle.kr_world.proofs.StandingEngines.{all_kept_below, last_kept_is, rises, same_image, stands_still}
 
@@ -59,11 +60,6 @@ greater_of false (pos m) (negsuc n) is low = absurd cc
 greater_of false (negsuc m) (negsuc n) is low = absurd (omega (arith, ints))
 
 -- ---- the last contact
-
-last_before : (contacts : List Contact) (time : ℤ) → list_all (λ (c : Contact). int_le c.time time) contacts ≡ true → option_map_or (λ (c : Contact). int_le c.time time) (last_or None contacts) true ≡ true
-last_before [] time all = refl
-last_before (c ∷ []) time all = (both (int_le c.time time) true all).0
-last_before (c ∷ other ∷ contacts) time all = last_before (other ∷ contacts) time (both (int_le c.time time) (list_all (λ (c : Contact). int_le c.time time) (other ∷ contacts)) all).1
 
 still_before : (o : Option Contact) (time now : ℤ) → int_le time now ≡ true → option_map_or (λ (c : Contact). int_le c.time time) o true ≡ true → option_map_or (λ (c : Contact). int_le c.time now) o true ≡ true
 still_before None time now le is = refl

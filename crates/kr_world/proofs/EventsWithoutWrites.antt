@@ -56,6 +56,7 @@ later_too (c ∷ contacts) time now le all =
 pub timed_state : (s : State) (writes : List Write) (event : Event) → IsState s writes → IsState (at_time_of s event) writes
 timed_state s writes event k =
     let never = never_earlier s.basis.time event in record {
+      valid = k.valid;
       started = k.started;
       ends = k.ends;
       low = k.low;
@@ -68,6 +69,7 @@ timed_state s writes event k =
 
 pub counted_state : (s : State) (writes : List Write) → IsState s writes → IsState (with_next_number s) writes
 counted_state s writes k = record {
+  valid = k.valid;
   started = k.started;
   ends = k.ends;
   low = k.low;
@@ -124,6 +126,7 @@ module _ (e : Core) (event : Event) (outputs : List Output) (refusal : Option Ou
         waits = waits_then e s writes d k e.leading e.committed s.world k.leading k.committed;
         ordered = k.ordered;
         is_state = record {
+          valid = state.valid;
           started = state.started;
           ends = state.ends;
           low = state.low;

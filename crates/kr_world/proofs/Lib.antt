@@ -4,15 +4,20 @@ pub mod DueWrites
 pub mod EventOutcomes
 pub mod EventsWithoutWrites
 mod Examples
+pub mod FencedBrokers
 pub mod KeptImages
+pub mod LoadedImages
 pub mod LogEntries
 pub mod Logs
 pub mod LongerLogs
+pub mod OrderlyStates
 pub mod OutputsLeft
 pub mod Places
 pub mod Queues
 pub mod SafeEntries
+pub mod SoundEngines
 pub mod StandingEngines
+pub mod UnfencedBrokers
 pub mod WaitingWrites
 pub mod WriteEpochs
 pub mod WriteOrders

@@ -1,14 +1,15 @@
 -- A log that is written on, or cut.
-use Rattle.std.proofs.Common.{◌≡◌, ◌∙◌, sym, ℕ, ◌+◌, ◌-◌, ◌≤◌, List, [], ◌∷◌, ◌++◌, length, refl, ap, arith}
-use Rattle.std.specs.Prelude.{Result, Ok, Err}
+use Rattle.std.proofs.Common.{◌≡◌, ◌∙◌, sym, ℕ, ℤ, pos, ◌+◌, ◌-◌, ◌≤◌, List, [], ◌∷◌, ◌++◌, length, refl, ap, arith}
+use Rattle.std.specs.Prelude.{◌+ℤ◌, Option, None, Result, Ok, Err}
+use Rattle.std.specs.Result.{result_unwrap_or}
 use Rattle.std.proofs.lemmas.List.{take-append-le, take-take, take_all, length-append, length-take}
 use Rattle.kr_calls.specs.Deciding.{apply_records}
 use Rattle.kr_defs.specs.declared.record.Item.{Item}
 use Rattle.kr_defs.specs.declared.ill.Ill.{Ill}
 use Rattle.kr_defs.specs.Apply.{apply, apply_record}
 use Rattle.kr_defs.specs.Guard.{and_then}
-use Rattle.kr_defs.specs.Image.{Image}
-use Rattle.kr_defs.specs.Log.{Log, tip, apply_all, image_at}
+use Rattle.kr_defs.specs.Image.{Image, empty}
+use Rattle.kr_defs.specs.Log.{Log, tip, apply_all, first_ill, ill_or, image_at}
 use Rattle.kr_defs.specs.declared.record.Record.{Record}
 use Rattle.kr_defs.specs.ImageLaws.{as_items}
 use Rattle.kr_world.specs.Lost.{cut}
@@ -55,3 +56,13 @@ as_records image (r ∷ records) =
       | Ok after ↦ as_records after records
       | Err cause ↦ refl
     ]
+
+-- ---- items that all have a meaning
+
+pub means_unless_ill : (image : Image) (place : ℤ) (items : List Item) → first_ill image place items ≡ None → apply_all image items ≡ Ok (result_unwrap_or (apply_all image items) empty)
+means_unless_ill image place [] none = refl
+means_unless_ill image place (item ∷ items) none =
+    elim (apply image item) as (λ (r : Result Image Ill). ill_or place r (λ after. first_ill after (place +ℤ pos 1) items) ≡ None → and_then r (λ after. apply_all after items) ≡ Ok (result_unwrap_or (and_then r (λ after. apply_all after items)) empty)) [
+      | Ok after ↦ λ none. means_unless_ill after (place +ℤ pos 1) items none
+      | Err cause ↦ λ none. absurd cc
+    ] none

@@ -28,6 +28,7 @@ use Rattle.kr_defs.specs.Image.{Image, IsValid, empty}
 use Rattle.kr_defs.specs.ImageLaws.{as_items}
 use Rattle.kr_defs.specs.Log.{Log, apply_all, image_at, tip}
 use Rattle.kr_defs.specs.Map as maps
+use Rattle.kr_defs.proofs.Logs.{valid_at}
 use Rattle.law_safety.specs.SafeChangeLaws.{AreSafe}
 use Rattle.law_safety.proofs.SafeRequests.{fencings_are_safe, requests_are_safe, valid_after}
 use Rattle.kr_world.specs.Commit.{commit, is_end}
@@ -123,15 +124,15 @@ seen_of s image shows = ap (λ (r : Result Image Ill). result_unwrap_or r empty)
 -- ---- fencings
 
 -- what the records that fence a broker make of an image
-record FencedTo (options : Options) (image : Image) (broker : ℤ) : Type 0 where
-  after : Image
-  means : apply_records image (fencing_of options image broker) ≡ Ok after
-  safe : AreSafe None image (fencing_of options image broker)
+pub record FencedTo (options : Options) (image : Image) (broker : ℤ) : Type 0 where
+  pub after : Image
+  pub means : apply_records image (fencing_of options image broker) ≡ Ok after
+  pub safe : AreSafe None image (fencing_of options image broker)
 
 abbrev fencing_by : Options → Image → ℤ → Option Broker → List Record
 fencing_by options image broker o = option_map_or (λ (state : Broker). fencing options.minimum image broker state.epoch) o []
 
-fenced_to : (options : Options) (image : Image) (broker : ℤ) → IsValid image → FencedTo options image broker
+pub fenced_to : (options : Options) (image : Image) (broker : ℤ) → IsValid image → FencedTo options image broker
 fenced_to options image broker valid = by_get (maps.get int_cmp image.brokers broker) refl
   where
     by_get : (o : Option Broker) → maps.get int_cmp image.brokers broker ≡ o → FencedTo options image broker
@@ -261,6 +262,7 @@ module _ (options : Options) (s : State) (image : Image) (valid : IsValid image)
   event_safe events.Image own = safe_none None image (pos (tip_of s)) (items_from s.world.log (tip_of s)) (none_behind s.world.log)
 
 pub steps_are_safe : StepsAreSafe
-steps_are_safe before after event s writes k valid step own =
+steps_are_safe before after event s writes k step own =
+    let valid = valid_at s.world.log (tip_of s) k.is_state.valid before.images.tip k.present in
     subst (AreSafeEntries (exchange_in before.options (at_time_of s event) event) before.images.tip) (sym (step.fresh s writes k))
     (event_safe before.options s before.images.tip valid k.present event own)

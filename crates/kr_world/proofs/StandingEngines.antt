@@ -12,6 +12,7 @@ use Rattle.kr_world.specs.declared.writes.Write.{Write}
 use Rattle.kr_world.specs.Engine.{Core, IsEngine, Rise, kept_image, IsState}
 use Rattle.kr_world.specs.World.{State, tip_of, image_of_tip, start}
 use Rattle.kr_world.proofs.KeptImages.{not_higher, all_below, last, last_is}
+use Rattle.kr_world.proofs.LoadedImages.{empty_valid}
 use Rattle.kr_world.proofs.Queues.{never}
 
 -- ---- the engine in terms of the state
@@ -102,6 +103,7 @@ same_images e images s writes kept tip k = record {
 
 pub start_state : IsState start []
 start_state = record {
+  valid = empty_valid;
   started = omega arith;
   ends = refl;
   low = omega arith;

@@ -11,7 +11,7 @@ use Rattle.kr_defs.specs.declared.options.Options.{Options}
 use Rattle.kr_defs.specs.Brokers.{stopping}
 use Rattle.kr_defs.specs.Heartbeats as hearing
 use Rattle.kr_defs.specs.Heartbeats.{Heartbeats}
-use Rattle.kr_defs.specs.Image.{Image}
+use Rattle.kr_defs.specs.Image.{Image, IsValid}
 use Rattle.kr_defs.specs.Log.{Log, image_at}
 use Rattle.law_safety.specs.HearingLaws.{HearsOf}
 use Rattle.kr_store.specs.Images.{Images}
@@ -63,6 +63,8 @@ writes_in_order (write ∷ writes) =
     list_all (λ later. int_eq write.epoch later.epoch && int_le write.need later.need) writes && writes_in_order writes
 
 pub record IsState (s : State) (writes : List Write) : Type 0 where
+  -- the image that the log starts from
+  pub valid : IsValid s.world.log.image
   pub started : s.world.log.offset ≤ s.world.committed
   -- the last batch ends at the tip
   pub ends : Rise s.world.committed s.world.batch_ends (tip_of s)

@@ -11,7 +11,7 @@ use Rattle.kr_defs.specs.declared.options.Options.{Options}
 use Rattle.kr_defs.specs.declared.record.Item.{Item}
 use Rattle.kr_defs.specs.declared.record.Item.TheVariants as items
 use Rattle.kr_defs.specs.Apply.{apply}
-use Rattle.kr_defs.specs.Image.{Image, IsValid}
+use Rattle.kr_defs.specs.Image.{Image}
 use Rattle.law_safety.specs.SafeChangeLaws.{IsSafeRecord}
 use Rattle.kr_world.specs.declared.writes.Write.{Write}
 use Rattle.kr_world.specs.Engine.{Core, IsEngine, IsStep}
@@ -46,5 +46,5 @@ AreSafeEntries exchange image (entries.Stop number ∷ others) = ⊥
 -- there is one, leads each new partition.
 abbrev pub StepsAreSafe : Type 0
 StepsAreSafe =
-    (before after : Core) (event : Event) (s : State) (writes : List Write) → IsEngine before s writes → IsValid before.images.tip →
-    IsStep before after event → is_anothers event ≡ false → AreSafeEntries (exchange_in before.options (at_time_of s event) event) before.images.tip after.fresh
+    (before after : Core) (event : Event) (s : State) (writes : List Write) → IsEngine before s writes → IsStep before after event →
+    is_anothers event ≡ false → AreSafeEntries (exchange_in before.options (at_time_of s event) event) before.images.tip after.fresh

@@ -40,7 +40,7 @@ use Rattle.kr_world.specs.Tick.{fence_all, lapsed_contacts, tick}
 use Rattle.law_prefix.specs.ReplacedPrefix.{IsLater}
 use Rattle.law_prefix.proofs.AlikeLogs.{shortens_cut, shortens_itself, shortens_written}
 use Rattle.law_prefix.proofs.AlikeStates.{Alike, AlikeEpochs, all_fenced_alike, appended_alike, counted_alike, is_with_past, same_bases, same_images, same_times, same_tips, timed_alike, with_past, written_alike}
-use Rattle.law_prefix.proofs.OrderlyStates.{IsOrderly, none_lapses, timed_orderly}
+use Rattle.kr_world.proofs.OrderlyStates.{IsOrderly, none_lapses, timed_orderly}
 
 module _ (before : State) where
   abbrev pub AlikeResults : Result State Reason → Result State Reason → Type 0

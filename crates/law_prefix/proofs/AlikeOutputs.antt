@@ -31,7 +31,7 @@ use Rattle.kr_world.specs.World.{State, image_of_end, image_of_tip, tip_of}
 use Rattle.law_prefix.specs.ReplacedPrefix.{IsLater, unnumbered}
 use Rattle.law_prefix.proofs.AlikeEvents.{AlikeResults, asked_alike, at_time, outcomes, same_decided, same_lapsed, stays_alike}
 use Rattle.law_prefix.proofs.AlikeStates.{Alike, fenced_alike, is_with_past, same_ends, same_images, same_times, same_tips, with_past}
-use Rattle.law_prefix.proofs.OrderlyStates.{IsOrderly, none_lapses, timed_orderly}
+use Rattle.kr_world.proofs.OrderlyStates.{IsOrderly, none_lapses, timed_orderly}
 
 -- ---- batches
 

@@ -18,7 +18,7 @@ use Rattle.kr_world.specs.Events.{with_next_number, time_after, at_time_of}
 use Rattle.kr_world.specs.Tick.{fence, fence_all, fencing_of}
 use Rattle.kr_world.specs.World.{State, with_heartbeats, image_of_end, image_of_tip, tip_of, with_batch, log_with}
 use Rattle.law_prefix.proofs.AlikeLogs.{Shortens, same_seen, same_seen_at_tip, same_tip, shortens_written}
-use Rattle.law_prefix.proofs.OrderlyStates.{not_earlier, through}
+use Rattle.kr_world.proofs.OrderlyStates.{not_earlier, through}
 
 -- the greatest epochs are the same, or both at most that of the prefix, in which some epoch was led
 abbrev pub AlikeEpochs : ℤ → ℤ → ℤ → Type 0

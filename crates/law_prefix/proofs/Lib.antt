@@ -2,5 +2,4 @@ pub mod AlikeEvents
 pub mod AlikeLogs
 pub mod AlikeOutputs
 pub mod AlikeStates
-pub mod OrderlyStates
 pub mod ReplacedPrefixes

@@ -35,7 +35,7 @@ use Rattle.law_prefix.specs.ReplacedPrefix.{IsLater, ReplacedPrefix, StandsBy, g
 use Rattle.law_prefix.proofs.AlikeEvents.{stays_alike}
 use Rattle.law_prefix.proofs.AlikeOutputs.{outputs_alike, waiting_alike}
 use Rattle.law_prefix.proofs.AlikeStates.{Alike, AlikeEpochs}
-use Rattle.law_prefix.proofs.OrderlyStates.{Holds, holds, holds_more, waiting_then}
+use Rattle.kr_world.proofs.OrderlyStates.{Holds, holds, holds_more, waiting_then}
 
 -- ---- from two alike states on
 

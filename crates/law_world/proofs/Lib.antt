@@ -1,0 +1,4 @@
+pub mod AllStates
+pub mod DecidedHeartbeats
+pub mod KeptPlaces
+pub mod WholeStates
