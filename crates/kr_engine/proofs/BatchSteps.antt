@@ -49,25 +49,6 @@ use Rattle.kr_engine.proofs.StandbyOutcomes.{settled_step}
 use Rattle.kr_world.proofs.EventsWithoutWrites.{answers_then, waits_then}
 use Rattle.kr_engine.proofs.FirstReasons.{IsAccepted, row, unless_refused}
 
--- ---- one image is kept
-
-not_itself : (z : ℤ) → int_lt z z ≡ false
-not_itself z = grind (arith, ints)
-
-none_above : (kept : List (ℤ × Image)) (place : ℤ) (tip : Image) → AllByRecursion (λ (k : ℤ × Image). IsTrue (int_lt k.0 place)) kept
-    → filter (λ (k : ℤ × Image). not (int_lt k.0 place)) (kept ++ (place, tip) ∷ []) ≡ (place, tip) ∷ []
-none_above [] place tip all = ap (λ b. cond (not b) ((place, tip) ∷ []) []) (not_itself place)
-none_above (k ∷ kept) place tip all =
-    ap (λ b. cond (not b) (k ∷ filter (λ (k : ℤ × Image). not (int_lt k.0 place)) (kept ++ (place, tip) ∷ [])) (filter (λ (k : ℤ × Image). not (int_lt k.0 place)) (kept ++ (place, tip) ∷ []))) all.0
-    ∙ none_above kept place tip all.1
-
-abbrev kept_with : Images → List (ℤ × Image) → Images
-kept_with images kept = record { kept = kept; tip = images.tip; made = 0 }
-
-pub alone : (images : Images) (place : ℤ) → IsAbove images.kept place → forgotten (marked images place) place ≡ kept_once place images.tip
-alone images place above =
-    ap (kept_with images) (none_above images.kept place images.tip (recursion_from_All (λ (k : ℤ × Image). IsTrue (int_lt k.0 place)) images.kept above))
-
 -- ---- items that are applied, or not
 
 ill_is : (image : Image) (place : ℤ) (items : List Item) → first_ill image place items ≡ None → apply_all image items ≡ Ok (result_unwrap_or (apply_all image items) empty)

@@ -36,7 +36,7 @@ fn end_of(batch: &Batch) -> i64
 }
 
 // The present image is kept under the place, and no other is.
-#[tactic(auto, using(crate::proofs::BatchSteps::alone))]
+#[tactic(auto, using(kr_store::proofs::Alone::alone))]
 fn keep_alone<L: Ledger>(
     store: &mut ImageStore,
     place: &i64,
@@ -46,6 +46,7 @@ fn keep_alone<L: Ledger>(
     ensures kept { OnOk result (store.new ≡ kept_once place.now store.old.tip) }
     ensures later { steps.old ≤ steps.new }
 {
+    let _valid = store.counts();
     store.mark(*place)?;
     store.forget_below(*place, steps);
     Ok(())

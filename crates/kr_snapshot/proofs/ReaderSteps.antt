@@ -167,10 +167,6 @@ module _ (body : Option (ℤ × Progress)) (held front rest piece : List ℕ) (m
 
 -- ---- the store in the end
 
-pub alone : (store : Images) (offset : ℤ) → store.kept ≡ (negsuc 0, empty) ∷ [] → pos 0 ≤ℤ offset → forgotten (marked store offset) offset ≡ kept_once offset store.tip
-alone store (pos n) kept least = rw kept (rw (le-ltb n n (omega arith)) refl)
-alone store (negsuc n) kept least = absurd (omega (arith, ints))
-
 pub above_all : (store : Images) (offset : ℤ) → store.kept ≡ (negsuc 0, empty) ∷ [] → pos 0 ≤ℤ offset → IsAbove store.kept offset
 above_all store (pos n) kept least = rw kept (All-from_recursion (λ (k : ℤ × Image). IsTrue (int_lt k.0 (pos n))) ((negsuc 0, empty) ∷ []) (refl, tt))
 above_all store (negsuc n) kept least = absurd (omega (arith, ints))
