@@ -61,7 +61,7 @@ module _ (e : Core) (epoch : ℤ) (d : IsDrained e) where
     back images = unwrap_or (reverted images (pos end)) images
 
     abbrev at_end : (kept : List (ℤ × Image)) → Images
-    at_end kept = record { kept = kept; tip = e.images.tip; made = e.images.made }
+    at_end kept = record e.images { kept = kept }
 
     below : end ≤ tip_of s
     below = not_higher end s.world.batch_ends (tip_of s) k.is_state.ends

@@ -24,6 +24,7 @@ use kr_base::{NoMemory, Steps};
 use kr_batch::{Batch, BatchFault, decode};
 use kr_defs::{Bytes, Ill, Items};
 use kr_image::ImageStore;
+use kr_store::Store;
 use std::sync::ledger::Ledger;
 
 // One place above the last item.

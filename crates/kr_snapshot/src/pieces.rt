@@ -12,6 +12,7 @@ use crate::records::{Tally, read_whole};
 use kr_base::{NoMemory, Steps};
 use kr_batch::{BatchFault, LEAST_SIZE, START};
 use kr_image::ImageStore;
+use kr_store::Store;
 use kr_wire::{WireFault, read_i64, read_u32};
 use std::alloc::Global;
 use std::marker::Brand;
