@@ -31,6 +31,7 @@ fn apply_all<S: Store, L: Ledger>(
     requires meanings { IsOk (apply_records (S.images store.old).tip records.now) }
     ensures image { OnOk result (apply_records (S.images store.old).tip records.now ≡ Ok (S.images store.new).tip) }
     ensures kept { (S.images store.new).kept ≡ (S.images store.old).kept }
+    ensures calls { (S.images store.new).kept_made ≡ (S.images store.old).kept_made }
     ensures made { OnOk result ((S.images store.new).made ≤ (S.images store.old).made + weights (S.images store.old).tip records.now) }
     ensures later { steps.old ≤ steps.new }
 {
@@ -60,6 +61,7 @@ pub fn fence<S: Store, L: Ledger>(
     ensures reply { out.new.reply ≡ out.old.reply }
     ensures same { OnErr result (out.new ≡ out.old) }
     ensures kept { (S.images store.new).kept ≡ (S.images store.old).kept }
+    ensures calls { (S.images store.new).kept_made ≡ (S.images store.old).kept_made }
     ensures made { OnOk result ((S.images store.new).made ≤ (S.images store.old).made + weights (S.images store.old).tip out.new.records) }
     ensures later { steps.old ≤ steps.new }
 {

@@ -1,9 +1,8 @@
 -- What a committed batch of another leader makes of an engine.
 use Rattle.std.proofs.Common.{◌≡◌, ◌∙◌, sym, subst, ℕ, ℤ, pos, true, false, cond, ◌+◌, ◌≤◌, List, [], ◌∷◌, ◌++◌, map, length, refl, ap, arith}
 use Rattle.std.proofs.lemmas.Int.{ints}
-use Rattle.std.proofs.lemmas.List.Elements.{All-nil, recursion_from_All}
+use Rattle.std.proofs.lemmas.List.Elements.{All-nil}
 use Rattle.std.specs.Prelude.{◌+ℤ◌, ◌≤ℤ◌, Option, Some, None, Result, Ok, Err, not, filter, int_lt, int_le, is_some, option_to_list, unsigned_abs, All, IsTrue, IsSome}
-use Rattle.std.specs.List.{AllByRecursion}
 use Rattle.std.specs.Option.{option_map}
 use Rattle.std.specs.Ordering.{int_eq}
 use Rattle.std.specs.Result.{result_unwrap_or}
@@ -24,8 +23,7 @@ use Rattle.kr_defs.specs.Image.{Image, empty}
 use Rattle.kr_defs.specs.Log.{Log, apply_all, first_ill, ill_or, tip}
 use Rattle.kr_defs.proofs.IdLists.{same_id}
 use Rattle.kr_defs.proofs.Tests.{none_is, not_false, some_is}
-use Rattle.kr_snapshot.specs.ReaderState.{kept_once}
-use Rattle.kr_store.specs.Images.{Images, IsAbove, forgotten, last_image, marked}
+use Rattle.kr_store.specs.Images.{Images, IsAbove, last_image}
 use Rattle.kr_world.specs.declared.writes.Write.{Write}
 use Rattle.kr_engine.specs.inner.Changes.{cleared_core, counted_core, timed_core, core_with_entries, refused_core, Settles, core_at}
 use Rattle.kr_world.specs.Engine.{Core, IsEngine, IsState, IsStep, Rise, kept_image, outputs_left}
@@ -48,25 +46,6 @@ use Rattle.kr_world.proofs.StandingEngines.{same_image, tip_only, core_of, is_co
 use Rattle.kr_engine.proofs.StandbyOutcomes.{settled_step}
 use Rattle.kr_world.proofs.EventsWithoutWrites.{answers_then, waits_then}
 use Rattle.kr_engine.proofs.FirstReasons.{IsAccepted, row, unless_refused}
-
--- ---- one image is kept
-
-not_itself : (z : ℤ) → int_lt z z ≡ false
-not_itself z = grind (arith, ints)
-
-none_above : (kept : List (ℤ × Image)) (place : ℤ) (tip : Image) → AllByRecursion (λ (k : ℤ × Image). IsTrue (int_lt k.0 place)) kept
-    → filter (λ (k : ℤ × Image). not (int_lt k.0 place)) (kept ++ (place, tip) ∷ []) ≡ (place, tip) ∷ []
-none_above [] place tip all = ap (λ b. cond (not b) ((place, tip) ∷ []) []) (not_itself place)
-none_above (k ∷ kept) place tip all =
-    ap (λ b. cond (not b) (k ∷ filter (λ (k : ℤ × Image). not (int_lt k.0 place)) (kept ++ (place, tip) ∷ [])) (filter (λ (k : ℤ × Image). not (int_lt k.0 place)) (kept ++ (place, tip) ∷ []))) all.0
-    ∙ none_above kept place tip all.1
-
-abbrev kept_with : Images → List (ℤ × Image) → Images
-kept_with images kept = record { kept = kept; tip = images.tip; made = 0 }
-
-pub alone : (images : Images) (place : ℤ) → IsAbove images.kept place → forgotten (marked images place) place ≡ kept_once place images.tip
-alone images place above =
-    ap (kept_with images) (none_above images.kept place images.tip (recursion_from_All (λ (k : ℤ × Image). IsTrue (int_lt k.0 place)) images.kept above))
 
 -- ---- items that are applied, or not
 

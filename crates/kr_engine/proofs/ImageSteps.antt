@@ -28,7 +28,7 @@ module _ (e : Core) (d : IsDrained e) where
     pub committed_found : kept_at e.images e.committed ≡ Some (image_of_end s)
     committed_found =
         ap (kept_at e.images) k.committed
-        ∙ (ap (λ (kept : List (ℤ × Image)). kept_at (record { kept = kept; tip = e.images.tip; made = e.images.made }) (pos s.world.committed)) k.kept
+        ∙ (ap (λ (kept : List (ℤ × Image)). kept_at (record e.images { kept = kept }) (pos s.world.committed)) k.kept
         ∙ first_found s.world.log s.world.committed (find (λ (i : ℤ × Image). int_eq i.0 (pos s.world.committed)) (map (kept_image s.world.log) s.world.batch_ends)))
 
     left_then : outputs_left after ≡ given.Image (image_text (pos s.world.committed) (image_of_end s)) ∷ answers_in s.world (writes ++ [])

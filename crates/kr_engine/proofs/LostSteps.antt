@@ -35,8 +35,8 @@ use Rattle.kr_world.proofs.KeptImages.{first_found, first_left, none_open, not_h
 -- ---- the step
 
 -- the images after a revert
-abbrev gone_back : List (ℤ × Image) → Image → Images
-gone_back kept image = record { kept = kept; tip = image; made = 0 }
+abbrev gone_back : List (ℤ × Image) → List (ℤ × ℕ) → Image → Images
+gone_back kept kept_made image = record { kept = kept; tip = image; made = 0; kept_made = kept_made }
 
 abbrev tip_in : Images → Result Image Ill
 tip_in images = Ok images.tip
@@ -62,7 +62,10 @@ module _ (e : Core) (epoch : ℤ) (d : IsDrained e) where
     back images = unwrap_or (reverted images (pos end)) images
 
     abbrev at_end : (kept : List (ℤ × Image)) → Images
-    at_end kept = record { kept = kept; tip = e.images.tip; made = e.images.made }
+    at_end kept = record e.images { kept = kept }
+
+    abbrev left_made : List (ℤ × ℕ)
+    left_made = filter (λ (m : ℤ × ℕ). not (int_lt (pos end) m.0)) e.images.kept_made
 
     below : end ≤ tip_of s
     below = not_higher end s.world.batch_ends (tip_of s) k.is_state.ends
@@ -70,13 +73,13 @@ module _ (e : Core) (epoch : ℤ) (d : IsDrained e) where
     new_tip : tip (cut s.world.log end) ≡ end
     new_tip = cut_tip s.world.log end k.is_state.started below
 
-    reverted_so : unwrap_or (reverted e.images e.committed) e.images ≡ gone_back (kept_image s.world.log end ∷ []) (seen_at s.world.log end)
+    reverted_so : unwrap_or (reverted e.images e.committed) e.images ≡ gone_back (kept_image s.world.log end ∷ []) left_made (seen_at s.world.log end)
     reverted_so =
         ap (λ c. unwrap_or (reverted e.images c) e.images) k.committed
         ∙ (ap (λ (kept : List (ℤ × Image)). back (at_end kept)) k.kept
-        ∙ (ap (λ (o : Option Image). unwrap_or (option_map (gone_back (filter (λ (k : ℤ × Image). not (int_lt (pos end) k.0)) (map (kept_image s.world.log) (end ∷ s.world.batch_ends)))) o) (at_end (map (kept_image s.world.log) (end ∷ s.world.batch_ends))))
+        ∙ (ap (λ (o : Option Image). unwrap_or (option_map (gone_back (filter (λ (k : ℤ × Image). not (int_lt (pos end) k.0)) (map (kept_image s.world.log) (end ∷ s.world.batch_ends))) left_made) o) (at_end (map (kept_image s.world.log) (end ∷ s.world.batch_ends))))
         (first_found s.world.log end (find (λ (k : ℤ × Image). int_eq k.0 (pos end)) (map (kept_image s.world.log) s.world.batch_ends)))
-        ∙ ap (λ (kept : List (ℤ × Image)). gone_back kept (seen_at s.world.log end)) (first_left s.world.log end s.world.batch_ends (tip_of s) k.is_state.ends)))
+        ∙ ap (λ (kept : List (ℤ × Image)). gone_back kept left_made (seen_at s.world.log end)) (first_left s.world.log end s.world.batch_ends (tip_of s) k.is_state.ends)))
 
     same_seen : seen_at (cut s.world.log end) end ≡ seen_at s.world.log end
     same_seen = ap (λ r. result_unwrap_or r empty) (cut_below s.world.log end end (omega arith))

@@ -24,6 +24,7 @@ use kr_base::{NoMemory, Steps};
 use kr_batch::{Batch, BatchFault, decode};
 use kr_defs::{Bytes, Ill, Items};
 use kr_image::ImageStore;
+use kr_store::Store;
 use std::sync::ledger::Ledger;
 
 // One place above the last item.
@@ -36,7 +37,7 @@ fn end_of(batch: &Batch) -> i64
 }
 
 // The present image is kept under the place, and no other is.
-#[tactic(auto, using(crate::proofs::BatchSteps::alone))]
+#[tactic(auto, using(kr_store::proofs::Alone::alone))]
 fn keep_alone<L: Ledger>(
     store: &mut ImageStore,
     place: &i64,
@@ -46,6 +47,7 @@ fn keep_alone<L: Ledger>(
     ensures kept { OnOk result (store.new ≡ kept_once place.now store.old.tip) }
     ensures later { steps.old ≤ steps.new }
 {
+    let _valid = store.counts();
     store.mark(*place)?;
     store.forget_below(*place, steps);
     Ok(())

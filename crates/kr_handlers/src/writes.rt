@@ -49,6 +49,7 @@ pub fn decide<S: Store, L: Ledger>(
     ensures image { OnOk result ((S.images store.new).tip ≡ (work_of context.entry.now.options.now context.entry.now.now context.entry.now.sessions.now.heartbeats (S.images store.old).tip context.entry.now.place request.now).0.image) }
     ensures made { IfOk result (λ effect. (S.images store.new).made ≤ (S.images store.old).made + weights (S.images store.old).tip effect.records) }
     ensures kept { (S.images store.new).kept ≡ (S.images store.old).kept }
+    ensures calls { (S.images store.new).kept_made ≡ (S.images store.old).kept_made }
     ensures later { steps.old ≤ steps.new }
 {
     match request {

@@ -1,4 +1,5 @@
 pub mod Index
+pub mod KeptCalls
 pub mod KeptLists
 pub mod EpochEnds
 pub mod LastEpoch

@@ -17,19 +17,21 @@ use Rattle.kr_defs.specs.Map.{IsMap}
 use Rattle.kr_defs.specs.KeptMaps.{Kept as KeptMap}
 use Rattle.kr_defs.proofs.Maps.{IsMap-filter}
 use Rattle.kr_defs.proofs.Tests.{some_is}
-use Rattle.kr_store.specs.Images.{Images, AreValid, IsAbove, counts_of, marked, reverted, forgotten}
+use Rattle.kr_store.specs.Images.{Images, AreValid, IsAbove, counts_of, marked, oldest_unmade, reverted, forgotten}
 use Rattle.kr_store.specs.declared.places.Counts.{Counts}
 use Rattle.kr_image.specs.declared.kept_counts.KeptCounts.{KeptCounts}
 use Rattle.kr_image.specs.declared.timelines.Timelines.{Timelines}
 use Rattle.kr_image.specs.Timelines.{Keeps, keeps_of, no_keeps, map_in, image_in, present_image, made_of, IsIndex, Agrees}
-use Rattle.kr_image.specs.KeptImages.{images_in, images_of, HaveEpochs, IsKept, IsRight, IsStore, Same, Marks, Reverts, Forgets}
-use Rattle.kr_image.proofs.KeptLists.{find_map, filter_map_is, map_push, map_same, all_weaker, all_push, all_map, all_mapped, all_passing, in_more, in_last, in_left, in_unmade, epochs_unmade, rising_push}
+use Rattle.kr_image.specs.KeptImages.{images_in, images_of, made_in, HaveEpochs, IsKept, IsRight, IsStore, Same, Marks, Reverts, Forgets}
+use Rattle.kr_image.proofs.KeptCalls.{made_epochs, made_left, made_more, made_unmade}
+use Rattle.kr_image.proofs.KeptLists.{find_map, filter_map_is, map_again, map_push, map_same, all_weaker, all_push, all_map, all_mapped, all_passing, in_more, in_last, in_left, in_unmade, epochs_unmade, rising_push}
 
 abbrev epochs_of : List KeptCounts → List ℤ
 epochs_of kept = map (λ (k : KeptCounts). k.epoch) kept
 
-same_images : (kept kept' : List (ℤ × Image)) (tip tip' : Image) (made made' : ℕ) → kept ≡ kept' → tip ≡ tip' → made ≡ made' → ◌≡◌ {A = Images} (record { kept = kept; tip = tip; made = made }) (record { kept = kept'; tip = tip'; made = made' })
-same_images kept kept' tip tip' made made' a b c = rw (a, b, c) refl
+same_images : (kept kept' : List (ℤ × Image)) (tip tip' : Image) (made made' : ℕ) (kept_made kept_made' : List (ℤ × ℕ)) → kept ≡ kept' → tip ≡ tip' → made ≡ made' → kept_made ≡ kept_made'
+    → ◌≡◌ {A = Images} (record { kept = kept; tip = tip; made = made; kept_made = kept_made }) (record { kept = kept'; tip = tip'; made = made'; kept_made = kept_made' })
+same_images kept kept' tip tip' made made' kept_made kept_made' a b c d = rw (a, b, c, d) refl
 
 -- ---- the present image alone
 
@@ -56,10 +58,15 @@ same_store t after kept same is = record {
 }
 
 pub same_images_of : (t after : Timelines) (kept : List KeptCounts) → Same t after → images_of after kept ≡ images_of t kept
-same_images_of t after kept same = same_images (images_in (keeps_of after) kept) (images_in (keeps_of t) kept) (present_image after) (present_image t) (made_of after) (made_of t) (same_list t after kept same.kept) same.tip same.made
+same_images_of t after kept same = same_images (images_in (keeps_of after) kept) (images_in (keeps_of t) kept) (present_image after) (present_image t) (made_of after) (made_of t) (made_in (keeps_of after) kept) (made_in (keeps_of t) kept) (same_list t after kept same.kept) same.tip same.made (ap (λ (k : Keeps). made_in k kept) same.kept)
 
 pub are_valid : (t : Timelines) (kept : List KeptCounts) → IsStore t kept → AreValid (images_of t kept)
-are_valid t kept is = record { rising = is.kept.rising; kept = is.kept.valid; tip = is.valid }
+are_valid t kept is = record {
+  rising = is.kept.rising;
+  kept = is.kept.valid;
+  tip = is.valid;
+  beside = made_epochs (keeps_of t) kept is.kept.epochs ∙ sym (map_again (λ (k : KeptCounts). (k.epoch, image_in (keeps_of t) k.epoch)) (λ (e : ℤ × Image). e.0) kept);
+}
 
 -- ---- a new store
 
@@ -126,7 +133,9 @@ module _ (t after : Timelines) (epoch : ℤ) (marks : Marks t after epoch) where
 
     pub marked_images : images_of after (kept ++ record { epoch = epoch; counts = t.counts } ∷ []) ≡ marked (images_of t kept) epoch
     marked_images =
-        same_images (images_in (keeps_of after) (kept ++ record { epoch = epoch; counts = t.counts } ∷ [])) (images_in (keeps_of t) kept ++ (epoch, present_image t) ∷ []) (present_image after) (present_image t) (made_of after) 0 (images_more t.counts) marks.tip marks.unmade
+        same_images (images_in (keeps_of after) (kept ++ record { epoch = epoch; counts = t.counts } ∷ [])) (images_in (keeps_of t) kept ++ (epoch, present_image t) ∷ []) (present_image after) (present_image t) (made_of after) 0 (made_in (keeps_of after) (kept ++ record { epoch = epoch; counts = t.counts } ∷ [])) (made_in (keeps_of t) kept ++ (epoch, made_of t) ∷ [])
+        (images_more t.counts) marks.tip marks.unmade
+        (made_more (keeps_of t) kept have (record { epoch = epoch; counts = t.counts }) (record { epoch = epoch; map = t.brokers.maps.present; made = t.brokers.maps.made }) (record { epoch = epoch; map = t.names.maps.present; made = t.names.maps.made }) (record { epoch = epoch; map = t.topics.maps.present; made = t.topics.maps.made }) (record { epoch = epoch; map = t.partitions.maps.present; made = t.partitions.maps.made }) (record { epoch = epoch; map = t.configs.maps.present; made = t.configs.maps.made }) (record { epoch = epoch; map = t.features.maps.present; made = t.features.maps.made }) (keeps_of after) marks.brokers marks.names marks.topics marks.partitions marks.configs marks.features)
 
     right_more : (k : KeptCounts) → IsRight (keeps_of t) k → int_lt k.epoch epoch ≡ true → IsRight (keeps_of after) k
     right_more k is below = record {
@@ -296,8 +305,10 @@ module _ (t after : Timelines) (epoch : ℤ) (reverts : Reverts t after epoch) (
     reverted_images =
         let list = images_left up_to t after image_up_to by_id_up_to kept in
         let there = kept_image (keeps_of t) kept k epoch found in
-        ap (λ (o : Option (ℤ × Image)). option_map (λ (tip : Image). record { kept = filter (λ (e : ℤ × Image). not (int_lt epoch e.0)) (images_in (keeps_of t) kept); tip = tip; made = 0 }) (option_map (λ (e : ℤ × Image). e.1) o)) there
-        ∙ ap (λ (i : Images). Some i) (same_images (filter (λ (e : ℤ × Image). not (int_lt epoch e.0)) (images_in (keeps_of t) kept)) (images_in (keeps_of after) (filter (λ (k : KeptCounts). up_to k.epoch) kept)) (image_in (keeps_of t) epoch) (present_image after) 0 (made_of after) (sym list) (sym reverts.tip) (sym reverts.unmade))
+        ap (λ (o : Option (ℤ × Image)). option_map (λ (tip : Image). record { kept = filter (λ (e : ℤ × Image). not (int_lt epoch e.0)) (images_in (keeps_of t) kept); tip = tip; made = 0; kept_made = filter (λ (m : ℤ × ℕ). not (int_lt epoch m.0)) (made_in (keeps_of t) kept) }) (option_map (λ (e : ℤ × Image). e.1) o)) there
+        ∙ ap (λ (i : Images). Some i) (same_images (filter (λ (e : ℤ × Image). not (int_lt epoch e.0)) (images_in (keeps_of t) kept)) (images_in (keeps_of after) (filter (λ (k : KeptCounts). up_to k.epoch) kept)) (image_in (keeps_of t) epoch) (present_image after) 0 (made_of after)
+        (filter (λ (m : ℤ × ℕ). not (int_lt epoch m.0)) (made_in (keeps_of t) kept)) (made_in (keeps_of after) (filter (λ (k : KeptCounts). up_to k.epoch) kept))
+        (sym list) (sym reverts.tip) (sym reverts.unmade) (sym (made_left (keeps_of t) kept is.epochs up_to (keeps_of after) reverts.brokers reverts.names reverts.topics reverts.partitions reverts.configs reverts.features)))
 
 -- ---- the epochs from one on
 
@@ -334,5 +345,7 @@ module _ (t after : Timelines) (epoch : ℤ) (forgets : Forgets t after epoch) (
     valid = subst IsValid (sym forgets.tip) is.valid;
   }
 
-  pub forgotten_images : images_of after (filter (λ (k : KeptCounts). not (int_lt k.epoch epoch)) kept) ≡ forgotten (images_of t kept) epoch
-  forgotten_images = same_images (images_in (keeps_of after) (filter (λ (k : KeptCounts). from k.epoch) kept)) (filter (λ (e : ℤ × Image). not (int_lt e.0 epoch)) (images_in (keeps_of t) kept)) (present_image after) (present_image t) (made_of after) (made_of t) (images_left from t after image_from by_id_from kept) forgets.tip forgets.made
+  pub forgotten_images : HaveEpochs (keeps_of t) (epochs_of kept) → images_of after (filter (λ (k : KeptCounts). not (int_lt k.epoch epoch)) kept) ≡ forgotten (images_of t kept) epoch
+  forgotten_images have = same_images (images_in (keeps_of after) (filter (λ (k : KeptCounts). from k.epoch) kept)) (filter (λ (e : ℤ × Image). not (int_lt e.0 epoch)) (images_in (keeps_of t) kept)) (present_image after) (present_image t) (made_of after) (made_of t)
+      (made_in (keeps_of after) (filter (λ (k : KeptCounts). from k.epoch) kept)) (oldest_unmade (filter (λ (m : ℤ × ℕ). not (int_lt m.0 epoch)) (made_in (keeps_of t) kept)))
+      (images_left from t after image_from by_id_from kept) forgets.tip forgets.made (made_unmade (keeps_of t) kept have from (keeps_of after) forgets.brokers forgets.names forgets.topics forgets.partitions forgets.configs forgets.features)

@@ -1,5 +1,5 @@
 -- What a store holds: its epochs, each with the counts and the image as they stood then.
-use Rattle.std.specs.Prelude.{◌≡◌, ℕ, ℤ, List, [], ◌∷◌, ◌++◌, All, map, filter, not, int_lt, IsTrue, IsSome}
+use Rattle.std.specs.Prelude.{◌≡◌, ◌+◌, ℕ, ℤ, List, [], ◌∷◌, ◌++◌, All, map, filter, not, int_lt, IsTrue, IsSome}
 use Rattle.kr_defs.specs.declared.broker.Broker.{Broker}
 use Rattle.kr_defs.specs.declared.partition.Partition.{Partition}
 use Rattle.kr_defs.specs.declared.record.ConfigKey.{ConfigKey}
@@ -16,9 +16,22 @@ use Rattle.kr_image.specs.Timelines.{Keeps, keeps_of, kept_in, map_in, image_in,
 abbrev pub images_in : Keeps → List KeptCounts → List (ℤ × Image)
 images_in kept epochs = map (λ (k : KeptCounts). (k.epoch, image_in kept k.epoch)) epochs
 
+-- to what was counted under the epochs comes what a timeline has counted under them
+abbrev pub with_made : {K V : Type 0} → List (KeptMap K V) → List (ℤ × ℕ) → List (ℤ × ℕ)
+with_made [] sums = sums
+with_made (k ∷ kept) [] = []
+with_made (k ∷ kept) (m ∷ sums) = (m.0, k.made + m.1) ∷ with_made kept sums
+
+abbrev pub none_made : List KeptCounts → List (ℤ × ℕ)
+none_made epochs = map (λ (k : KeptCounts). (k.epoch, 0)) epochs
+
+-- each epoch with the calls of insert and remove on all timelines between the epoch before and it
+abbrev pub made_in : Keeps → List KeptCounts → List (ℤ × ℕ)
+made_in kept epochs = with_made kept.brokers (with_made kept.names (with_made kept.topics (with_made kept.partitions (with_made kept.configs (with_made kept.features (none_made epochs))))))
+
 -- what a contract sees of a store
 abbrev pub images_of : Timelines → List KeptCounts → Images
-images_of t epochs = record { kept = images_in (keeps_of t) epochs; tip = present_image t; made = made_of t }
+images_of t epochs = record { kept = images_in (keeps_of t) epochs; tip = present_image t; made = made_of t; kept_made = made_in (keeps_of t) epochs }
 
 -- every timeline keeps these epochs
 pub record HaveEpochs (kept : Keeps) (epochs : List ℤ) : Type 0 where

@@ -1,13 +1,12 @@
 //! The store: the timelines, and the epochs with their counts.
 
-ghost use Rattle.std.specs.Prelude.{◌≡◌, ◌↔◌, ◌+◌, ◌≤◌, None, Some, IsErr, IsSome, OnErr, OnOk, filter, int_lt, length};
+ghost use Rattle.std.specs.Prelude.{◌≡◌, ◌↔◌, ◌+◌, ◌*◌, ◌≤◌, None, Some, IsErr, IsSome, OnErr, OnOk, length};
 ghost use Rattle.kr_defs.specs.declared.record.Item.TheVariants as items;
 ghost use Rattle.kr_defs.specs.Weight.{weight};
 ghost use Rattle.kr_store.specs.ItemAnswers.{Applies, Ticks};
-ghost use Rattle.kr_store.specs.Images.{IsAbove, forgotten, kept_at, last_image, last_kept, marked, no_images, reverted};
-ghost use Rattle.kr_image.specs.Timelines.{covered_of, keeps_of, made_of, present_image, undone_of};
+ghost use Rattle.kr_store.specs.Images.{IsAbove, above, below, calls_of, forgotten, kept_at, last_image, last_kept, marked, no_images, oldest_from, reverted};
+ghost use Rattle.kr_image.specs.Timelines.{keeps_of, made_of, present_image};
 ghost use Rattle.kr_image.specs.KeptImages.{IsKept, IsStore, images_of};
-ghost use Rattle.kr_image.specs.declared.kept_counts.KeptCounts.{KeptCounts as AnyCounts};
 
 use crate::kept_counts::{KeptCounts, counts_at, keep_from, keep_up_to, kept_under};
 use crate::looking::{find_at, next};
@@ -78,7 +77,7 @@ fn revert<L: Ledger>(
     ensures err { OnErr result ((timelines.new ≡ timelines.old) × (kept.new.items ≡ kept.old.items)) }
     ensures no_epoch { IsErr result ↔ (kept_at (images_of timelines.old kept.old.items) epoch.now ≡ None) }
     ensures counted { steps.old ≤ steps.new }
-    ensures bound { steps.new ≤ steps.old + undone_of (keeps_of timelines.old) epoch.now + made_of timelines.old + length (filter (λ (k : AnyCounts). int_lt epoch.now k.epoch) kept.old.items) + 6 }
+    ensures bound { steps.new ≤ steps.old + calls_of (above (images_of timelines.old kept.old.items) epoch.now) + made_of timelines.old + 7 * length (above (images_of timelines.old kept.old.items) epoch.now) + 6 }
 {
     let Some(counts) = counts_at(kept, epoch) else {
         return Err(NoEpoch);
@@ -99,7 +98,7 @@ fn forget_below<L: Ledger>(
     ensures store { IsStore timelines.new kept.new.items }
     ensures images { images_of timelines.new kept.new.items ≡ forgotten (images_of timelines.old kept.old.items) epoch.now }
     ensures counted { steps.old ≤ steps.new }
-    ensures bound { steps.new ≤ steps.old + covered_of (keeps_of timelines.old) epoch.now + length (filter (λ (k : AnyCounts). int_lt k.epoch epoch.now) kept.old.items) + 6 }
+    ensures bound { steps.new ≤ steps.old + calls_of (below (images_of timelines.old kept.old.items) epoch.now) + calls_of (oldest_from (images_of timelines.old kept.old.items) epoch.now) + 7 * length (below (images_of timelines.old kept.old.items) epoch.now) + 6 }
 {
     timelines.forget_below(epoch, steps);
     keep_from(kept, epoch, steps);
@@ -126,20 +125,24 @@ impl ImageStore {
         mark(&mut self.timelines, &mut self.kept, &epoch)
     }
 
-    /// Makes the image that is kept under the epoch the present one, and drops the later epochs.
+    /// Makes the image that is kept under the epoch the present one, and drops the later epochs. A step is one call of
+    /// insert or remove that is undone, or what an epoch takes in one of six maps or in the list of counts.
     pub fn revert<L: Ledger>(&mut self, epoch: i64, steps: &mut Steps<L>) -> Result<(), NoEpoch>
         ensures ok { OnOk result (reverted self.old epoch ≡ Some self.new) }
         ensures err { OnErr result (self.new ≡ self.old) }
         ensures no_epoch { IsErr result ↔ (kept_at self.old epoch ≡ None) }
         ensures counted { steps.old ≤ steps.new }
+        ensures bound { steps.new ≤ steps.old + calls_of (above self.old epoch) + self.old.made + 7 * length (above self.old epoch) + 6 }
     {
         revert(&mut self.timelines, &mut self.kept, &epoch, steps)
     }
 
-    /// Drops the kept epochs below this one.
+    /// Drops the kept epochs below this one. A step is one call of insert or remove up to the oldest epoch that is left, or
+    /// what an epoch takes in one of six maps or in the list of counts.
     pub fn forget_below<L: Ledger>(&mut self, epoch: i64, steps: &mut Steps<L>)
         ensures images { self.new ≡ forgotten self.old epoch }
         ensures counted { steps.old ≤ steps.new }
+        ensures bound { steps.new ≤ steps.old + calls_of (below self.old epoch) + calls_of (oldest_from self.old epoch) + 7 * length (below self.old epoch) + 6 }
     {
         forget_below(&mut self.timelines, &mut self.kept, &epoch, steps);
     }

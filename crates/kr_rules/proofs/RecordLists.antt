@@ -85,7 +85,7 @@ some_of f (Some x) y is = refl
 pub is_kept : (images : Images) (image : Image) → last_image images ≡ Some image → IsSome (last_kept images)
 is_kept images image last = some_of (λ (k : ℤ × Image). k.1) (last_kept images) image last
 
-pub kept_base : (kept : List (ℤ × Image)) (old : Images) (image : Image) → kept ≡ old.kept → last_image old ≡ Some image → base_of (record { kept = kept; tip = old.tip; made = 0 }) ≡ image
+pub kept_base : (kept : List (ℤ × Image)) (old : Images) (image : Image) → kept ≡ old.kept → last_image old ≡ Some image → base_of (record old { kept = kept; made = 0 }) ≡ image
 kept_base kept old image same last = rw same (base_is old image last)
 
 -- no records yet

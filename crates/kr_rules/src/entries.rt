@@ -51,6 +51,7 @@ pub(crate) fn one<E, A: Drop, R: Rule<E, A>, S: Store, L: Ledger>(
     ensures done { IfOk result (λ answer. deciding.one (R.refusal rule.now) (R.rule rule.now) (work_at work.old (S.images store.old).tip) entry.now ≡ (work_at work.new (S.images store.new).tip, answer)) }
     ensures leads { OnOk result (Leads (S.images store.new) work.new.records) }
     ensures kept { (S.images store.new).kept ≡ (S.images store.old).kept }
+    ensures calls { (S.images store.new).kept_made ≡ (S.images store.old).kept_made }
     ensures start { OnOk result (work.new.start ≡ work.old.start) }
     ensures made { (so_far : ℕ) → (S.images store.old).made ≤ so_far + weights (base_of (S.images store.old)) work.old.records → OnOk result ((S.images store.new).made ≤ so_far + weights (base_of (S.images store.new)) work.new.records) }
     ensures own { IfSome (draft_cost (S.images store.old).tip (R.rule rule.now (S.images store.old).tip (place_of work.old) entry.now)) (λ n. OnOk result (steps.new ≤ steps.old + n)) }
@@ -83,6 +84,7 @@ pub fn over_entries<E, A: Drop, R: Rule<E, A>, S: Store, L: Ledger>(
     ensures after { OnOk result (work_at work.new (S.images store.new).tip ≡ deciding.after_all (R.refusal rule.now) (R.rule rule.now) (work_at work.old (S.images store.old).tip) entries.now) }
     ensures leads { OnOk result (Leads (S.images store.new) work.new.records) }
     ensures kept { (S.images store.new).kept ≡ (S.images store.old).kept }
+    ensures calls { (S.images store.new).kept_made ≡ (S.images store.old).kept_made }
     ensures start { OnOk result (work.new.start ≡ work.old.start) }
     ensures made { (so_far : ℕ) → (S.images store.old).made ≤ so_far + weights (base_of (S.images store.old)) work.old.records → OnOk result ((S.images store.new).made ≤ so_far + weights (base_of (S.images store.new)) work.new.records) }
     ensures own { IfSome (cost (R.refusal rule.now) (R.rule rule.now) (work_at work.old (S.images store.old).tip) entries.now) (λ n. OnOk result (steps.new ≤ steps.old + n)) }
@@ -110,6 +112,7 @@ pub fn decide_one<E, A: Drop, R: Rule<E, A>, S: Store, L: Ledger>(
     requires kept { last_image (S.images store.old) ≡ Some (S.images store.old).tip }
     ensures decided { IfOk result (λ d. deciding.one (R.refusal rule.now) (R.rule rule.now) (nothing_decided place (S.images store.old).tip) entry.now ≡ (work_at (record { start = place; records = d.0 }) (S.images store.new).tip, d.1)) }
     ensures kept { (S.images store.new).kept ≡ (S.images store.old).kept }
+    ensures calls { (S.images store.new).kept_made ≡ (S.images store.old).kept_made }
     ensures made { IfOk result (λ d. (S.images store.new).made ≤ (S.images store.old).made + weights (S.images store.old).tip d.0) }
     ensures own { IfSome (draft_cost (S.images store.old).tip (R.rule rule.now (S.images store.old).tip place entry.now)) (λ n. OnOk result (steps.new ≤ steps.old + n)) }
     ensures later { steps.old ≤ steps.new }
@@ -134,6 +137,7 @@ pub fn decide_each<E, A: Drop, R: Rule<E, A>, S: Store, L: Ledger>(
     ensures answers { IfOk result (λ d. d.1 ≡ deciding.answers (R.refusal rule.now) (R.rule rule.now) (nothing_decided place (S.images store.old).tip) entries.now) }
     ensures after { IfOk result (λ d. work_at (record { start = place; records = d.0 }) (S.images store.new).tip ≡ deciding.after_all (R.refusal rule.now) (R.rule rule.now) (nothing_decided place (S.images store.old).tip) entries.now) }
     ensures kept { (S.images store.new).kept ≡ (S.images store.old).kept }
+    ensures calls { (S.images store.new).kept_made ≡ (S.images store.old).kept_made }
     ensures made { IfOk result (λ d. (S.images store.new).made ≤ (S.images store.old).made + weights (S.images store.old).tip d.0) }
     ensures own { IfSome (cost (R.refusal rule.now) (R.rule rule.now) (nothing_decided place (S.images store.old).tip) entries.now) (λ n. OnOk result (steps.new ≤ steps.old + n)) }
     ensures later { steps.old ≤ steps.new }
@@ -159,6 +163,7 @@ pub fn decide_or_validate<E, A: Drop, R: Rule<E, A>, S: Store, L: Ledger>(
     ensures answers { IfOk result (λ d. d.1 ≡ deciding.answers (R.refusal rule.now) (R.rule rule.now) (nothing_decided place (S.images store.old).tip) entries.now) }
     ensures after { IfOk result (λ d. work_at (record { start = place; records = d.0 }) (S.images store.new).tip ≡ unless_validating validate_only (nothing_decided place (S.images store.old).tip) (deciding.after_all (R.refusal rule.now) (R.rule rule.now) (nothing_decided place (S.images store.old).tip) entries.now)) }
     ensures kept { (S.images store.new).kept ≡ (S.images store.old).kept }
+    ensures calls { (S.images store.new).kept_made ≡ (S.images store.old).kept_made }
     ensures made { IfOk result (λ d. (S.images store.new).made ≤ (S.images store.old).made + weights (S.images store.old).tip d.0) }
     ensures own { validate_only ≡ false → IfSome (cost (R.refusal rule.now) (R.rule rule.now) (nothing_decided place (S.images store.old).tip) entries.now) (λ n. OnOk result (steps.new ≤ steps.old + n)) }
     ensures later { steps.old ≤ steps.new }

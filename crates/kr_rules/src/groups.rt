@@ -68,6 +68,7 @@ fn over_group<
     ensures after { OnOk result (work_at work.new (S.images store.new).tip ≡ deciding.after_all (R.refusal rule.now) (R.rule rule.now) (work_at work.old (S.images store.old).tip) (R.entries_of group.now)) }
     ensures leads { OnOk result (Leads (S.images store.new) work.new.records) }
     ensures kept { (S.images store.new).kept ≡ (S.images store.old).kept }
+    ensures calls { (S.images store.new).kept_made ≡ (S.images store.old).kept_made }
     ensures start { OnOk result (work.new.start ≡ work.old.start) }
     ensures made { (so_far : ℕ) → (S.images store.old).made ≤ so_far + weights (base_of (S.images store.old)) work.old.records → OnOk result ((S.images store.new).made ≤ so_far + weights (base_of (S.images store.new)) work.new.records) }
     ensures own { IfSome (cost (R.refusal rule.now) (R.rule rule.now) (work_at work.old (S.images store.old).tip) (R.entries_of group.now)) (λ n. OnOk result (steps.new ≤ steps.old + n)) }
@@ -102,6 +103,7 @@ pub fn over_groups<
     ensures after { OnOk result (work_at work.new (S.images store.new).tip ≡ deciding.after_groups (R.refusal rule.now) (R.rule rule.now) R.entries_of R.answer_of (work_at work.old (S.images store.old).tip) groups.now) }
     ensures leads { OnOk result (Leads (S.images store.new) work.new.records) }
     ensures kept { (S.images store.new).kept ≡ (S.images store.old).kept }
+    ensures calls { (S.images store.new).kept_made ≡ (S.images store.old).kept_made }
     ensures start { OnOk result (work.new.start ≡ work.old.start) }
     ensures made { (so_far : ℕ) → (S.images store.old).made ≤ so_far + weights (base_of (S.images store.old)) work.old.records → OnOk result ((S.images store.new).made ≤ so_far + weights (base_of (S.images store.new)) work.new.records) }
     ensures own { IfSome (group_cost (R.refusal rule.now) (R.rule rule.now) R.entries_of (work_at work.old (S.images store.old).tip) groups.now) (λ n. OnOk result (steps.new ≤ steps.old + n)) }
@@ -138,6 +140,7 @@ pub fn decide_groups<
     ensures answers { IfOk result (λ d. d.1 ≡ deciding.group_answers (R.refusal rule.now) (R.rule rule.now) R.entries_of R.answer_of (nothing_decided place (S.images store.old).tip) groups.now) }
     ensures after { IfOk result (λ d. work_at (record { start = place; records = d.0 }) (S.images store.new).tip ≡ deciding.after_groups (R.refusal rule.now) (R.rule rule.now) R.entries_of R.answer_of (nothing_decided place (S.images store.old).tip) groups.now) }
     ensures kept { (S.images store.new).kept ≡ (S.images store.old).kept }
+    ensures calls { (S.images store.new).kept_made ≡ (S.images store.old).kept_made }
     ensures made { IfOk result (λ d. (S.images store.new).made ≤ (S.images store.old).made + weights (S.images store.old).tip d.0) }
     ensures own { IfSome (group_cost (R.refusal rule.now) (R.rule rule.now) R.entries_of (nothing_decided place (S.images store.old).tip) groups.now) (λ n. OnOk result (steps.new ≤ steps.old + n)) }
     ensures later { steps.old ≤ steps.new }

@@ -34,5 +34,6 @@ pub trait Handler<Q> {
         ensures image { OnOk result ((S.images store.new).tip ≡ (decided request.now context.entry.now (S.images store.old).tip).0.image) }
         ensures made { IfOk result (λ effect. (S.images store.new).made ≤ (S.images store.old).made + weights (S.images store.old).tip effect.records) }
         ensures kept { (S.images store.new).kept ≡ (S.images store.old).kept }
+        ensures calls { (S.images store.new).kept_made ≡ (S.images store.old).kept_made }
         ensures later { steps.old ≤ steps.new };
 }

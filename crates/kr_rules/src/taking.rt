@@ -78,6 +78,7 @@ fn apply_one<S: Store, L: Ledger>(
     requires kept { IsSome (last_kept (S.images store.old)) }
     ensures applied { IfOk result (λ applied. IsApplied (S.images store.old) (S.images store.new) value.now applied) }
     ensures kept { (S.images store.new).kept ≡ (S.images store.old).kept }
+    ensures calls { (S.images store.new).kept_made ≡ (S.images store.old).kept_made }
     ensures made { OnOk result ((S.images store.new).made ≤ (S.images store.old).made + weight (S.images store.old).tip (items.Record value.now)) }
     ensures counted { OnOk result (steps.new ≡ steps.old + 1) }
     ensures later { steps.old ≤ steps.new }
@@ -102,6 +103,7 @@ fn apply_all<S: Store, L: Ledger>(
     ensures stood { IfOk result (λ all. Stands all (apply_records (S.images store.old).tip records.now) (S.images store.new).tip) }
     ensures few { OnOk result (steps.new ≤ steps.old + length records.now) }
     ensures kept { (S.images store.new).kept ≡ (S.images store.old).kept }
+    ensures calls { (S.images store.new).kept_made ≡ (S.images store.old).kept_made }
     ensures made { OnOk result ((S.images store.new).made ≤ (S.images store.old).made + weights (S.images store.old).tip records.now) }
     ensures later { steps.old ≤ steps.new }
 {
@@ -128,6 +130,7 @@ fn apply_each<S: Store, L: Ledger>(
     ensures reached { IfOk result (λ extent. Reaches (S.images store.old) (S.images store.new) records.now extent) }
     ensures few { OnOk result (steps.new ≤ steps.old + length records.now) }
     ensures kept { (S.images store.new).kept ≡ (S.images store.old).kept }
+    ensures calls { (S.images store.new).kept_made ≡ (S.images store.old).kept_made }
     ensures made { OnOk result ((S.images store.new).made ≤ (S.images store.old).made + weights (S.images store.old).tip records.now) }
     ensures later { steps.old ≤ steps.new }
 {
@@ -156,6 +159,7 @@ fn undo<S: Store, L: Ledger>(
     requires few { length records.now ≤ most_records }
     ensures again { (image : Image) → apply_records (base_of (S.images store.old)) records.now ≡ Ok image → OnOk result ((S.images store.new).tip ≡ image) }
     ensures kept { (S.images store.new).kept ≡ (S.images store.old).kept }
+    ensures calls { (S.images store.new).kept_made ≡ (S.images store.old).kept_made }
     ensures made { OnOk result ((S.images store.new).made ≤ weights (base_of (S.images store.old)) records.now) }
     ensures later { steps.old ≤ steps.new }
 {
@@ -255,6 +259,7 @@ pub fn take<S: Store, L: Ledger>(
     ensures own { is_undone (S.images store.old).tip records ≡ false → OnOk result (steps.new ≤ steps.old + length records) }
     ensures leads { OnOk result (Leads (S.images store.new) work.new.records) }
     ensures kept { (S.images store.new).kept ≡ (S.images store.old).kept }
+    ensures calls { (S.images store.new).kept_made ≡ (S.images store.old).kept_made }
     ensures start { OnOk result (work.new.start ≡ work.old.start) }
     ensures made { (so_far : ℕ) → (S.images store.old).made ≤ so_far + weights (base_of (S.images store.old)) work.old.records → OnOk result ((S.images store.new).made ≤ so_far + weights (base_of (S.images store.new)) work.new.records) }
     ensures later { steps.old ≤ steps.new }

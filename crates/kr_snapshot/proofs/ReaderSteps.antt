@@ -6,7 +6,7 @@ use Rattle.std.proofs.lemmas.Int.{ints}
 use Rattle.std.proofs.lemmas.List.{take-append-drop, length-take-le}
 use Rattle.std.proofs.lemmas.List.Elements.{All-from_recursion}
 use Rattle.kr_defs.specs.Image.{Image, empty}
-use Rattle.kr_store.specs.Images.{Images, IsAbove, forgotten, marked}
+use Rattle.kr_store.specs.Images.{Images, IsAbove}
 use Rattle.kr_wire.specs.Reading.{◌>>=◌}
 use Rattle.kr_wire.proofs.ReadingLaws.{IsBytes, bind_ok, is_ok}
 use Rattle.kr_snapshot.specs.Grammar.{IsImage}
@@ -20,7 +20,7 @@ use Rattle.kr_snapshot.specs.declared.fault.ImageFault.TheVariants as faults
 use Rattle.kr_snapshot.specs.declared.fault.BatchCause.TheVariants as causes
 use Rattle.kr_snapshot.specs.declared.pieces.Body.{Body}
 use Rattle.kr_snapshot.specs.declared.pieces.Pieces.{Pieces}
-use Rattle.kr_snapshot.specs.ReaderState.{IsBegun, IsFault, IsUnfinished, IsWaiting, LeadsTo, Restores, StandsFor, Waits, feed_answer, body_in, kept_once, progress_in, state_of, taken_in}
+use Rattle.kr_snapshot.specs.ReaderState.{IsBegun, IsFault, IsUnfinished, IsWaiting, LeadsTo, Restores, StandsFor, Waits, feed_answer, body_in, progress_in, state_of, taken_in}
 use Rattle.kr_snapshot.proofs.Faults.{through}
 use Rattle.kr_snapshot.proofs.BatchPieces.{StartsWith, start_is, size_front, size_bad, batch_waits, head_waits, goes_on_append, fills}
 
@@ -166,10 +166,6 @@ module _ (body : Option (ℤ × Progress)) (held front rest piece : List ℕ) (m
       (λ read. part ∙ ap (λ (r : Result Taken ImageFault). r >>= λ next. goes_on next rest) read) is
 
 -- ---- the store in the end
-
-pub alone : (store : Images) (offset : ℤ) → store.kept ≡ (negsuc 0, empty) ∷ [] → pos 0 ≤ℤ offset → forgotten (marked store offset) offset ≡ kept_once offset store.tip
-alone store (pos n) kept least = rw kept (rw (le-ltb n n (omega arith)) refl)
-alone store (negsuc n) kept least = absurd (omega (arith, ints))
 
 pub above_all : (store : Images) (offset : ℤ) → store.kept ≡ (negsuc 0, empty) ∷ [] → pos 0 ≤ℤ offset → IsAbove store.kept offset
 above_all store (pos n) kept least = rw kept (All-from_recursion (λ (k : ℤ × Image). IsTrue (int_lt k.0 (pos n))) ((negsuc 0, empty) ∷ []) (refl, tt))

@@ -107,7 +107,7 @@ IsUnfinished held = 12 ≤ length held → (size : ℕ) × (size_at held ≡ Ok 
 
 -- the store of an image at an offset: it is the present image, and the one that is kept
 abbrev pub kept_once : ℤ → Image → Images
-kept_once offset image = record { kept = (offset, image) ∷ []; tip = image; made = 0 }
+kept_once offset image = record { kept = (offset, image) ∷ []; tip = image; made = 0; kept_made = (offset, 0) ∷ [] }
 
 -- the offset and the store of the image that is read, or the fault that is
 abbrev pub Restores : Result (ℤ × Images) ImageFault → Result (ℤ × Image) ImageFault → Type 0

@@ -12,6 +12,7 @@ use crate::records::{Tally, read_whole};
 use kr_base::{NoMemory, Steps};
 use kr_batch::{BatchFault, LEAST_SIZE, START};
 use kr_image::ImageStore;
+use kr_store::Store;
 use kr_wire::{WireFault, read_i64, read_u32};
 use std::alloc::Global;
 use std::marker::Brand;
@@ -247,7 +248,7 @@ fn close(body: Body, store: ImageStore) -> Result<(i64, ImageStore), ImageFault>
 }
 
 // Keeps the present image under the offset, and nothing else.
-#[tactic(auto, using(crate::proofs::ReaderSteps::alone, crate::proofs::ReaderSteps::above_all))]
+#[tactic(auto, using(kr_store::proofs::Alone::alone, crate::proofs::ReaderSteps::above_all))]
 fn keep<L: Ledger>(mut store: ImageStore, offset: i64, blank: Blank) -> Result<ImageStore, NoMemory>
     requires name { blank.name ≡ L.name }
     requires parts { blank.parts ≡ L.parts }
@@ -257,6 +258,7 @@ fn keep<L: Ledger>(mut store: ImageStore, offset: i64, blank: Blank) -> Result<I
     ensures { IfOk result (λ s. s ≡ kept_once offset store.tip) }
 {
     let mut steps: Steps<L> = Steps::new(blank);
+    let _valid = store.counts();
     store.mark(offset)?;
     store.forget_below(offset, &mut steps);
     Ok(store)

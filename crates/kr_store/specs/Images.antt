@@ -1,5 +1,5 @@
 -- An image with kept epochs, and where it is looked at. This project's own.
-use Rattle.std.specs.Prelude.{ℕ, ℤ, List, length, filter, find, not, int_lt, slice_get, All, IsTrue, ◌-◌, ◌++◌, [], ◌∷◌, map, Option, Some}
+use Rattle.std.specs.Prelude.{◌≡◌, ℕ, ℤ, List, length, filter, find, not, int_lt, slice_get, sum_by, take, All, IsTrue, ◌-◌, ◌++◌, [], ◌∷◌, map, Option, Some}
 use Rattle.std.specs.Option.{option_map}
 use Rattle.std.specs.Ordering.{int_cmp, int_eq}
 use Rattle.std.specs.List.Sorted.{IsStrictlySortedBy}
@@ -19,12 +19,15 @@ pub record Images : Type 0 where
   pub tip : Image
   -- the calls of insert and remove since the last kept epoch
   pub made : ℕ
+  -- each kept epoch with the calls between the epoch before and it; of the oldest left none count
+  pub kept_made : List (ℤ × ℕ)
 
 -- epochs rise, and every image is valid
 pub record AreValid (images : Images) : Type 0 where
   pub rising : IsStrictlySortedBy int_cmp (map (λ (k : ℤ × Image). k.0) images.kept)
   pub kept : All (λ (k : ℤ × Image). IsValid k.1) images.kept
   pub tip : IsValid images.tip
+  pub beside : map (λ (m : ℤ × ℕ). m.0) images.kept_made ≡ map (λ (k : ℤ × Image). k.0) images.kept
 
 -- the image that is kept under the epoch
 abbrev pub kept_at : Images → ℤ → Option Image
@@ -77,21 +80,52 @@ counts_of image = record {
 
 -- no epoch is kept, and the present image is empty
 abbrev pub no_images : Images
-no_images = record { kept = []; tip = empty; made = 0 }
+no_images = record { kept = []; tip = empty; made = 0; kept_made = [] }
 
 -- the present image is kept under the epoch
 abbrev pub marked : Images → ℤ → Images
-marked images epoch = record { kept = images.kept ++ (epoch, images.tip) ∷ []; tip = images.tip; made = 0 }
+marked images epoch = record { kept = images.kept ++ (epoch, images.tip) ∷ []; tip = images.tip; made = 0; kept_made = images.kept_made ++ (epoch, images.made) ∷ [] }
 
 -- the kept epochs above this one are dropped, and its image is the present one
 abbrev pub reverted : Images → ℤ → Option Images
 reverted images epoch =
-    option_map (λ (tip : Image). record { kept = filter (λ (k : ℤ × Image). not (int_lt epoch k.0)) images.kept; tip = tip; made = 0 }) (kept_at images epoch)
+    option_map (λ (tip : Image). record {
+      kept = filter (λ (k : ℤ × Image). not (int_lt epoch k.0)) images.kept;
+      tip = tip;
+      made = 0;
+      kept_made = filter (λ (m : ℤ × ℕ). not (int_lt epoch m.0)) images.kept_made;
+    }) (kept_at images epoch)
+
+-- no call counts for the oldest
+abbrev pub oldest_unmade : List (ℤ × ℕ) → List (ℤ × ℕ)
+oldest_unmade [] = []
+oldest_unmade (oldest ∷ kept_made) = (oldest.0, 0) ∷ kept_made
 
 -- the kept epochs below this one are dropped
 abbrev pub forgotten : Images → ℤ → Images
-forgotten images epoch = record images { kept = filter (λ (k : ℤ × Image). not (int_lt k.0 epoch)) images.kept }
+forgotten images epoch = record images {
+  kept = filter (λ (k : ℤ × Image). not (int_lt k.0 epoch)) images.kept;
+  kept_made = oldest_unmade (filter (λ (m : ℤ × ℕ). not (int_lt m.0 epoch)) images.kept_made);
+}
 
 -- the epoch is above each kept one
 abbrev pub IsAbove : List (ℤ × Image) → ℤ → Type 0
 IsAbove kept epoch = All (λ (k : ℤ × Image). IsTrue (int_lt k.0 epoch)) kept
+
+-- ---- what it takes to go back to an epoch, and to drop those below one
+
+-- the calls of these epochs
+abbrev pub calls_of : List (ℤ × ℕ) → ℕ
+calls_of kept_made = sum_by (λ (m : ℤ × ℕ). m.1) kept_made
+
+-- the kept epochs above this one
+abbrev pub above : Images → ℤ → List (ℤ × ℕ)
+above images epoch = filter (λ (m : ℤ × ℕ). int_lt epoch m.0) images.kept_made
+
+-- the kept epochs below this one
+abbrev pub below : Images → ℤ → List (ℤ × ℕ)
+below images epoch = filter (λ (m : ℤ × ℕ). int_lt m.0 epoch) images.kept_made
+
+-- the oldest kept epoch that isn't below this one, if there is one
+abbrev pub oldest_from : Images → ℤ → List (ℤ × ℕ)
+oldest_from images epoch = take 1 (filter (λ (m : ℤ × ℕ). not (int_lt m.0 epoch)) images.kept_made)

@@ -82,6 +82,7 @@ pub trait Store {
         requires { IsSome (last_kept (images self.old)) }
         ensures applied { Applies (images self.old) (images self.new) result place item.now }
         ensures kept { (images self.new).kept ≡ (images self.old).kept }
+        ensures calls { (images self.new).kept_made ≡ (images self.old).kept_made }
         ensures made { OnOk result ((images self.new).made ≤ (images self.old).made + weight (images self.old).tip item.now) }
         ensures valid { AreValid (images self.new) }
         ensures counted { Ticks steps.old steps.new result };
@@ -96,6 +97,7 @@ pub trait Store {
         requires { IsSome (last_kept (images self.old)) }
         ensures applied { Applies (images self.old) (images self.new) result place (items.Record value.now) }
         ensures kept { (images self.new).kept ≡ (images self.old).kept }
+        ensures calls { (images self.new).kept_made ≡ (images self.old).kept_made }
         ensures made { OnOk result ((images self.new).made ≤ (images self.old).made + weight (images self.old).tip (items.Record value.now)) }
         ensures valid { AreValid (images self.new) }
         ensures counted { Ticks steps.old steps.new result };
@@ -105,6 +107,7 @@ pub trait Store {
         requires { IsSome (last_kept (images self.old)) }
         ensures tip { last_image (images self.old) ≡ Some (images self.new).tip }
         ensures kept { (images self.new).kept ≡ (images self.old).kept }
+        ensures calls { (images self.new).kept_made ≡ (images self.old).kept_made }
         ensures made { (images self.new).made ≡ 0 }
         ensures valid { AreValid (images self.new) }
         ensures counted { steps.old ≤ steps.new };

@@ -391,6 +391,7 @@ fn decide_on<S: Store, L: Ledger>(
     ensures answers { IfOk result (λ d. d.1 ≡ deciding.answers refused_create_topics (room.create_topics_by_racks those options.now validate_only) (nothing_decided place.now (S.images store.old).tip) topics.now) }
     ensures after { IfOk result (λ d. work_at (record { start = place.now; records = d.0 }) (S.images store.new).tip ≡ unless_validating validate_only (nothing_decided place.now (S.images store.old).tip) (deciding.after_all refused_create_topics (room.create_topics_by_racks those options.now validate_only) (nothing_decided place.now (S.images store.old).tip) topics.now)) }
     ensures kept { (S.images store.new).kept ≡ (S.images store.old).kept }
+    ensures calls { (S.images store.new).kept_made ≡ (S.images store.old).kept_made }
     ensures made { IfOk result (λ d. (S.images store.new).made ≤ (S.images store.old).made + weights (S.images store.old).tip d.0) }
     ensures later { steps.old ≤ steps.new }
 {
@@ -416,6 +417,7 @@ fn decide_create_topics<S: Store, L: Ledger>(
     ensures answers { IfOk result (λ d. d.1 ≡ deciding.answers refused_create_topics (create_topics.rule options.now request.now.validate_only) (nothing_decided place.now (S.images store.old).tip) request.now.topics) }
     ensures after { IfOk result (λ d. work_at (record { start = place.now; records = d.0 }) (S.images store.new).tip ≡ unless_validating request.now.validate_only (nothing_decided place.now (S.images store.old).tip) (deciding.after_all refused_create_topics (create_topics.rule options.now request.now.validate_only) (nothing_decided place.now (S.images store.old).tip) request.now.topics)) }
     ensures kept { (S.images store.new).kept ≡ (S.images store.old).kept }
+    ensures calls { (S.images store.new).kept_made ≡ (S.images store.old).kept_made }
     ensures made { IfOk result (λ d. (S.images store.new).made ≤ (S.images store.old).made + weights (S.images store.old).tip d.0) }
     ensures later { steps.old ≤ steps.new }
 {

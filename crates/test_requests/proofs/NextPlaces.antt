@@ -67,25 +67,25 @@ pub last_after : (images after : Images) (place : ℤ) → AreEpochs images.kept
     → last_kept after ≡ Some (place, after.tip)
 last_after images after place are is same = ap (λ (ks : List (ℤ × Image)). slice_get ks (length ks - 1)) same ∙ last_one images.kept place after.tip are is
 
-last_of_one : (kept : List (ℤ × Image)) (tip : Image) (made : ℕ) (place : ℤ) → AreEpochs kept (place ∷ [])
-    → last_kept (record { kept = kept; tip = tip; made = made }) ≡ Some (place, base_of (record { kept = kept; tip = tip; made = made }))
-last_of_one [] tip made place are = absurd cc
-last_of_one (k ∷ j ∷ ks) tip made place are = absurd cc
-last_of_one (k ∷ []) tip made place are = ap (λ p. Some (p, k.1)) (first_is k place are)
+last_of_one : (kept : List (ℤ × Image)) (images : Images) (place : ℤ) → AreEpochs kept (place ∷ [])
+    → last_kept (record images { kept = kept }) ≡ Some (place, base_of (record images { kept = kept }))
+last_of_one [] images place are = absurd cc
+last_of_one (k ∷ j ∷ ks) images place are = absurd cc
+last_of_one (k ∷ []) images place are = ap (λ p. Some (p, k.1)) (first_is k place are)
 
 -- the image that is kept under the place is where a request begins
 pub last_of : (images : Images) (place : ℤ) → AreEpochs images.kept (place ∷ []) → last_kept images ≡ Some (place, base_of images)
-last_of images place are = last_of_one images.kept images.tip images.made place are
+last_of images place are = last_of_one images.kept images place are
 
-found_of_one : (kept : List (ℤ × Image)) (tip : Image) (made : ℕ) (place : ℤ) → AreEpochs kept (place ∷ [])
-    → kept_at (record { kept = kept; tip = tip; made = made }) place ≡ Some (base_of (record { kept = kept; tip = tip; made = made }))
-found_of_one [] tip made place are = absurd cc
-found_of_one (k ∷ j ∷ ks) tip made place are = absurd cc
-found_of_one (k ∷ []) tip made place are =
+found_of_one : (kept : List (ℤ × Image)) (images : Images) (place : ℤ) → AreEpochs kept (place ∷ [])
+    → kept_at (record images { kept = kept }) place ≡ Some (base_of (record images { kept = kept }))
+found_of_one [] images place are = absurd cc
+found_of_one (k ∷ j ∷ ks) images place are = absurd cc
+found_of_one (k ∷ []) images place are =
     ap (λ b. option_map (λ (e : ℤ × Image). e.1) (cond b (Some k) None)) (ap (λ p. int_eq p place) (first_is k place are) ∙ same_place place)
 
 pub base_found : (images : Images) (place : ℤ) → AreEpochs images.kept (place ∷ []) → kept_at images place ≡ Some (base_of images)
-base_found images place are = found_of_one images.kept images.tip images.made place are
+base_found images place are = found_of_one images.kept images place are
 
 stopping_among : (image : Image) (stops : List Stopping) → are_stopping image stops ≡ true
     → (id : ℤ) → has (map (λ s. s.broker) stops) id ≡ true → broker_is_stopping image id ≡ true

@@ -31,13 +31,13 @@ some_last (k ∷ ks) epochs are some = last_is k ks
 pub some_kept : (images : Images) (epochs : List ℤ) → AreEpochs images.kept epochs → (length epochs == 0) ≡ false → IsSome (last_kept images)
 some_kept images epochs are some = some_last images.kept epochs are some
 
-of_epoch : (o : Option Image) (kept : List (ℤ × Image)) (after : Images) → option_map (λ (tip : Image). record { kept = kept; tip = tip; made = 0 }) o ≡ Some after → after.kept ≡ kept
-of_epoch None kept after is = absurd cc
-of_epoch (Some tip) kept after is = ap (λ (i : Images). i.kept) (sym (some_is _ _ is))
+of_epoch : (o : Option Image) (kept : List (ℤ × Image)) (kept_made : List (ℤ × ℕ)) (after : Images) → option_map (λ (tip : Image). record { kept = kept; tip = tip; made = 0; kept_made = kept_made }) o ≡ Some after → after.kept ≡ kept
+of_epoch None kept kept_made after is = absurd cc
+of_epoch (Some tip) kept kept_made after is = ap (λ (i : Images). i.kept) (sym (some_is _ _ is))
 
 pub reverted_epochs : (images after : Images) (epochs : List ℤ) (epoch : ℤ) → AreEpochs images.kept epochs → reverted images epoch ≡ Some after → AreEpochs after.kept (filter (λ e. not (int_lt epoch e)) epochs)
 reverted_epochs images after epochs epoch are is =
-    ap (λ (ks : List (ℤ × Image)). map (λ (k : ℤ × Image). k.0) ks) (of_epoch (kept_at images epoch) (filter (λ (k : ℤ × Image). not (int_lt epoch k.0)) images.kept) after is)
+    ap (λ (ks : List (ℤ × Image)). map (λ (k : ℤ × Image). k.0) ks) (of_epoch (kept_at images epoch) (filter (λ (k : ℤ × Image). not (int_lt epoch k.0)) images.kept) (filter (λ (m : ℤ × ℕ). not (int_lt epoch m.0)) images.kept_made) after is)
     ∙ dropped images.kept epochs are (λ e. not (int_lt epoch e))
 
 pub ruleset kept = (is_above, some_kept)

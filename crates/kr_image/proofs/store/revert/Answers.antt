@@ -7,6 +7,7 @@ use Rattle.kr_image.specs.Timelines.{keeps_of}
 use Rattle.kr_image.proofs.LastEpoch.{are_kept}
 use Rattle.kr_defs.proofs.Maps.{length-filter_le}
 use Rattle.kr_image.specs.declared.kept_counts.KeptCounts.{KeptCounts}
+use Rattle.kr_image.proofs.KeptCalls.{length_above, undone_all}
 use Rattle.kr_image.proofs.Stores.{kept_rises, counts_none, counts_some, kept_image, not_kept, reverted_images, reverted_store}
 use Rattle.kr_image.proofs.store.revert.Goals as goal
 
@@ -20,7 +21,18 @@ pub returns-clause-counted : goal.returns-clause-counted
 returns-clause-counted g c = omega (arith, c.revert.ensures.counted, c.keep_up_to.ensures.counted, ap length c.keep_up_to.ensures.left, length-filter_le (λ (k : KeptCounts). not (int_lt c.args.epoch.now k.epoch)) c.args.kept.now.items)
 
 pub returns-clause-bound : goal.returns-clause-bound
-returns-clause-bound g c = omega (arith, c.revert.ensures.bound, c.keep_up_to.ensures.counted, ap length c.keep_up_to.ensures.left, length_parts (λ (k : KeptCounts). int_lt c.args.epoch.now k.epoch) c.args.kept.now.items)
+returns-clause-bound g c =
+    let kept = keeps_of c.args.timelines.now in
+    let list = c.args.kept.now.items in
+    omega (
+      arith,
+      c.revert.ensures.bound,
+      c.keep_up_to.ensures.counted,
+      ap length c.keep_up_to.ensures.left,
+      length_parts (λ (k : KeptCounts). int_lt c.args.epoch.now k.epoch) list,
+      undone_all kept list c.requires.epochs c.args.epoch.now,
+      length_above kept list c.requires.epochs c.args.epoch.now,
+    )
 
 pub returns-in_default-clause-no_epoch : goal.returns-in_default-clause-no_epoch
 returns-in_default-clause-no_epoch g c =

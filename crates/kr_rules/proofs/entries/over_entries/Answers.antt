@@ -14,6 +14,7 @@ loop-entry-preserved g c =
       some = rw c.in_ok-one.ensures.kept c.loop-entry.invariant.some;
       leads = c.in_ok-one.ensures.leads;
       same = c.in_ok-one.ensures.kept ∙ c.loop-entry.invariant.same;
+      calls = c.in_ok-one.ensures.calls ∙ c.loop-entry.invariant.calls;
       start = c.in_ok-one.ensures.start ∙ c.loop-entry.invariant.start;
       made = λ so_far before. c.in_ok-one.ensures.made so_far (c.loop-entry.invariant.made so_far before);
       own = spend_here (g.R.Rule.refusal c.args.rule.now) (g.R.Rule.rule c.args.rule.now) w _ _ c.args.entries.now c.loop-entry.entry-index c.entry-item.result c.loop-entry.steps _ (cost (g.R.Rule.refusal c.args.rule.now) (g.R.Rule.rule c.args.rule.now) (work_at c.args.work.now (g.S.Store.images c.args.store.now).tip) c.args.entries.now) c.loop-entry-test.true c.entry-item.is c.in_ok-one.ensures.done c.in_ok-one.ensures.own c.args.steps.now c.loop-entry.invariant.own;

@@ -16,6 +16,7 @@ loop-group-preserved g c =
       some = rw c.in_ok-over_group.ensures.kept c.loop-group.invariant.some;
       leads = c.in_ok-over_group.ensures.leads;
       same = c.in_ok-over_group.ensures.kept ∙ c.loop-group.invariant.same;
+      calls = c.in_ok-over_group.ensures.calls ∙ c.loop-group.invariant.calls;
       start = c.in_ok-over_group.ensures.start ∙ c.loop-group.invariant.start;
       made = λ so_far before. c.in_ok-over_group.ensures.made so_far (c.loop-group.invariant.made so_far before);
       own = spend_group refused rule g.R.Groups.entries_of w _ c.args.groups.now c.loop-group.group-index c.group-item.result c.loop-group.steps _ (group_cost refused rule g.R.Groups.entries_of (work_at c.args.work.now (g.S.Store.images c.args.store.now).tip) c.args.groups.now) c.loop-group-test.true c.group-item.is c.in_ok-over_group.ensures.after c.in_ok-over_group.ensures.own c.args.steps.now c.loop-group.invariant.own;

@@ -22,6 +22,7 @@ invariant-loop-group g l =
       some : IsSome (last_kept (images l.store));
       leads : Leads (images l.store) l.work.records;
       same : (images l.store).kept ≡ (images l.fn.store).kept;
+      calls : (images l.store).kept_made ≡ (images l.fn.store).kept_made;
       start : l.work.start ≡ l.fn.work.start;
       made : (so_far : ℕ) → (images l.fn.store).made ≤ so_far + weights (base_of (images l.fn.store)) l.fn.work.records → (images l.store).made ≤ so_far + weights (base_of (images l.store)) l.work.records;
       own : IfSome (group_cost refused rule entries_of (work_at l.fn.work (images l.fn.store).tip) l.groups) (λ n. Reach (group_cost refused rule entries_of (work_at l.work (images l.store).tip) left) l.steps (l.fn.steps + n));

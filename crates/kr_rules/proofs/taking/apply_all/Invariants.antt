@@ -11,6 +11,7 @@ invariant-loop-record g l =
     record {
       left : apply_records (images l.store).tip rest ≡ apply_records (images l.fn.store).tip l.records;
       kept : (images l.store).kept ≡ (images l.fn.store).kept;
+      calls : (images l.store).kept_made ≡ (images l.fn.store).kept_made;
       some : IsSome (last_kept (images l.store));
       made : (images l.store).made + weights (images l.store).tip rest ≤ (images l.fn.store).made + weights (images l.fn.store).tip l.records;
       few : l.steps ≤ l.fn.steps + l.record-index;
