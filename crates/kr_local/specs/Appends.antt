@@ -8,7 +8,7 @@ use Rattle.kr_batch.specs.declared.heading.Heading.{Heading}
 use Rattle.kr_batch.specs.Reading.{head_of}
 use Rattle.kr_calls.specs.declared.events.Event.{Event}
 use Rattle.kr_calls.specs.declared.events.Event.TheVariants as events
-use Rattle.kr_local.specs.Plans.{Left, after_append, is_due, whole}
+use Rattle.kr_local.specs.Plans.{Left, after_append, is_due, whole_script}
 
 -- what is left of the script, the commits that are due, the numbers of the appends that fail, how many appends were made,
 -- and how many failed
@@ -21,7 +21,7 @@ pub record Local : Type 0 where
 
 -- nothing was appended
 abbrev pub opened : List ℕ → List ℕ → Local
-opened script failing = record { left = whole script; due = []; failing = failing; calls = 0; faults = 0 }
+opened script failing = record { left = whole_script script; due = []; failing = failing; calls = 0; faults = 0 }
 
 -- the heading of the batch that the next append takes; it takes none where its number is listed, or where the bytes have no
 -- heading
@@ -34,14 +34,14 @@ IsInLog heading =
     (pos 0 ≤ℤ heading.base) × (heading.base ≤ℤ PLACES_END) × (pos 1 ≤ℤ heading.count) × (heading.count ≤ℤ pos MOST_RECORDS)
 
 -- the commit of the log up to the end of the batch
-abbrev pub commit : Heading → Event
-commit heading = events.Commit heading.epoch (heading.base +ℤ heading.count)
+abbrev pub commit_of : Heading → Event
+commit_of heading = events.Commit heading.epoch (heading.base +ℤ heading.count)
 
 -- after every append a commit comes in the place of one that wasn't given yet, by a script it comes behind it
 abbrev pub due_after : Local → Heading → List Event
 due_after q heading =
     if is_due q.left
-    then (if q.left.always then commit heading ∷ [] else q.due ++ commit heading ∷ [])
+    then (if q.left.always then commit_of heading ∷ [] else q.due ++ commit_of heading ∷ [])
     else q.due
 
 abbrev pub after_taking : Local → Option Heading → Local

@@ -6,8 +6,8 @@ pub record Left : Type 0 where
   pub always : Bool
   pub waits : List ℕ
 
-abbrev pub whole : List ℕ → Left
-whole script = record { always = length script == 0; waits = script }
+abbrev pub whole_script : List ℕ → Left
+whole_script script = record { always = length script == 0; waits = script }
 
 -- the append that has just succeeded was the last that the next commit waits for; 0 counts as 1
 abbrev pub ends_wait : Bool → List ℕ → Bool

@@ -1,7 +1,7 @@
 //! When commits come due.
 
 ghost use Rattle.std.specs.Prelude.{◌≡◌};
-ghost use Rattle.kr_local.specs.Plans.{after_append, is_due, whole};
+ghost use Rattle.kr_local.specs.Plans.{after_append, is_due, whole_script};
 
 use std::collections::VecDeque;
 use std::marker::Model;
@@ -24,7 +24,7 @@ impl Model for Plan {
 impl Plan {
     /// The whole script is left.
     pub(crate) fn new(script: Vec<u64>) -> Plan
-        ensures { result ≡ whole script.items }
+        ensures { result ≡ whole_script script.items }
     {
         Plan {
             always: script.is_empty(),

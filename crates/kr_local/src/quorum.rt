@@ -2,7 +2,7 @@
 
 ghost use Rattle.std.specs.Prelude.{◌≡◌, ◌∷◌, [], ◌↔◌, drop, IfOk, IfSome, IsOk, IsSome, MatchOption};
 ghost use Rattle.kr_base.specs.Causes.{HasCause};
-ghost use Rattle.kr_local.specs.Appends.{IsInLog, after_taking, commit as commit_to, due_after, heading_taken, opened};
+ghost use Rattle.kr_local.specs.Appends.{IsInLog, after_taking, commit_of, due_after, heading_taken, opened};
 ghost use Rattle.kr_local.specs.Plans.{after_append};
 
 use crate::plan::Plan;
@@ -91,7 +91,7 @@ impl LocalQuorum {
 // The commit of the log up to the end of the batch.
 fn commit(heading: &Heading) -> Event
     requires { IsInLog heading.now }
-    ensures { result ≡ commit_to heading.now }
+    ensures { result ≡ commit_of heading.now }
 {
     Event::Commit {
         epoch: heading.epoch,

@@ -11,7 +11,7 @@ use Rattle.kr_calls.specs.declared.events.ImageRefusal.{ImageRefusal}
 use Rattle.kr_calls.specs.declared.events.ImageRefusal.TheVariants as images
 use Rattle.kr_calls.specs.declared.events.Reason.{Reason}
 use Rattle.kr_calls.specs.declared.events.Reason.TheVariants as reasons
-use Rattle.kr_stream.specs.RefusalNumbers.{batch_number, first_number, image_number, image_place, reason_number, record_at, second_number, third_number}
+use Rattle.kr_stream.specs.RefusalNumbers.{batch_number, first_number, image_number, image_place, reason_number, record_named, second_number, third_number}
 
 -- ---- what numbers stand for
 
@@ -58,7 +58,7 @@ reason_of number first second third =
 
 -- ---- each is that of its own numbers
 
-batch_again : (r : BatchRefusal) → batch_of (pos (batch_number r)) (pos (record_at r)) ≡ r
+batch_again : (r : BatchRefusal) → batch_of (pos (batch_number r)) (pos (record_named r)) ≡ r
 batch_again batches.Short = refl
 batch_again batches.Trailing = refl
 batch_again batches.Magic = refl

@@ -32,10 +32,10 @@ batch_number (batches.BadOffset at) = 7
 batch_number (batches.Record at) = 8
 
 -- the record that a fault of a batch speaks of
-abbrev pub record_at : BatchRefusal → ℕ
-record_at (batches.BadOffset at) = at
-record_at (batches.Record at) = at
-record_at other = 0
+abbrev pub record_named : BatchRefusal → ℕ
+record_named (batches.BadOffset at) = at
+record_named (batches.Record at) = at
+record_named other = 0
 
 abbrev pub image_number : ImageRefusal → ℕ
 image_number (images.Batch place) = 1
@@ -70,7 +70,7 @@ second_number (reasons.OldEpoch asked greatest) = greatest
 second_number (reasons.BadNext asked end) = end
 second_number (reasons.BadCommit asked committed tip) = committed
 second_number (reasons.Gap expected found) = found
-second_number (reasons.BadBatch refusal) = pos (record_at refusal)
+second_number (reasons.BadBatch refusal) = pos (record_named refusal)
 second_number (reasons.IllFormed place cause) = pos (causes.number_of cause)
 second_number (reasons.OlderImage asked committed) = committed
 second_number (reasons.BadImage refusal) = image_place refusal

@@ -39,8 +39,8 @@ fn batch_number(refusal: &BatchRefusal) -> u8
 }
 
 // The record that the fault speaks of.
-fn record_at(refusal: &BatchRefusal) -> u32
-    ensures { result ≡ refusals.record_at refusal.now }
+fn record_named(refusal: &BatchRefusal) -> u32
+    ensures { result ≡ refusals.record_named refusal.now }
 {
     match refusal {
         BatchRefusal::BadOffset { at } | BatchRefusal::Record { at } => *at,
@@ -98,7 +98,7 @@ pub(crate) fn second_number(reason: &Reason) -> i64
         Reason::BadNext { end, .. } => *end,
         Reason::BadCommit { committed, .. } | Reason::OlderImage { committed, .. } => *committed,
         Reason::Gap { found, .. } => *found,
-        Reason::BadBatch(refusal) => record_at(refusal) as i64,
+        Reason::BadBatch(refusal) => record_named(refusal) as i64,
         Reason::IllFormed { cause, .. } => cause.number() as i64,
         Reason::BadImage(refusal) => image_place(refusal),
         Reason::AlreadyLeading { .. } | Reason::Exhausted { .. } => 0,
