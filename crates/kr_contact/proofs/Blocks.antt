@@ -16,7 +16,6 @@ use denote.Slice.{elements_shared}
 use denote.Index.{place}
 use denote.RawPtr.{Ptr, block_ptr}
 use Rattle.std.specs.Mem.{type_size}
-use Rattle.std.specs.Ptr.{ptr_add}
 use Rattle.std.proofs.Math.Nat.{mul-div_cancel}
 use Rattle.kr_contact.specs.Places.{IsPlaceOf}
 

@@ -4,7 +4,7 @@ use Rattle.std.proofs.lemmas.List.{get_or-set_same, get_or-set_other, length-set
 use Rattle.std.specs.Ptr.{Ptr}
 use Rattle.kr_contact.specs.declared.nodes.Node.{Node}
 use Rattle.kr_contact.specs.declared.nodes.Place.{Place}
-use Rattle.kr_contact.specs.Nodes.{index_of, node_at, blank, with_after, with_before, with_time, unlinked, linked}
+use Rattle.kr_contact.specs.Nodes.{index_of, node_at, blank, with_after, with_before, unlinked, linked}
 use Rattle.kr_contact.specs.Rings.{contact_at}
 use Rattle.kr_contact.proofs.Indices.{flip}
 

@@ -1,5 +1,5 @@
 -- The operations on a ring whose order is read off its nodes.
-use Rattle.std.proofs.Common.{◌≡◌, ◌<◌, ◌-◌, ◌+◌, ◌*◌, ◌/◌, ℕ, zero, suc, ℤ, Bool, true, false, cond, ◌||◌, nat_lt, IsTrue, List, [], ◌∷◌, ◌++◌, map, length, Option, Some, None, refl, sym, ap, subst, ◌∙◌, inl, inr, arith}
+use Rattle.std.proofs.Common.{◌≡◌, ◌<◌, ◌-◌, ◌+◌, ◌*◌, ◌/◌, ℕ, ℤ, Bool, true, false, cond, ◌||◌, nat_lt, IsTrue, List, [], ◌∷◌, ◌++◌, map, length, Some, None, refl, sym, ap, subst, ◌∙◌, inl, inr, arith}
 use Rattle.std.specs.Prelude.{min}
 use Rattle.std.proofs.lemmas.Bool.Decides.{nat_tests}
 use Rattle.std.proofs.lemmas.List.{length-append}
@@ -20,7 +20,7 @@ use Rattle.std.proofs.lemmas.Bool.{cases_Bool}
 use Rattle.kr_contact.proofs.Indices.{flip, out_in}
 use Rattle.kr_contact.proofs.Orders.{without_none, is_none, map_same}
 use Rattle.kr_contact.proofs.Paths.{last_back}
-use Rattle.kr_contact.proofs.Rings.{NodeOf, find_node, one_node, settled, no_node, left, was, removed_ring, timed_path, timed_len, last_now, moved_ring, moved_contacts, new, added_ring, added_contacts, without_node, unlinked_holds}
+use Rattle.kr_contact.proofs.Rings.{NodeOf, find_node, one_node, settled, no_node, left, was, removed_ring, timed_path, timed_len, last_now, moved_ring, moved_contacts, added_ring, added_contacts, without_node, unlinked_holds}
 
 -- where the first value of a block lies
 self_place : (R : RattleType) (p : Ptr) (n : ℕ) → 0 < n → IsPlaceOf R p n p 0

@@ -1,5 +1,5 @@
 -- What the operations do to a ring.
-use Rattle.std.proofs.Common.{◌≡◌, ◌≢◌, ◌<◌, ◌≤◌, ◌+◌, ℕ, zero, suc, ℤ, Bool, true, false, cond, List, [], ◌∷◌, ◌++◌, map, length, Option, Some, None, refl, sym, ap, subst, ◌∙◌, inl, inr, append_assoc, arith}
+use Rattle.std.proofs.Common.{◌≡◌, ◌≢◌, ◌<◌, ◌+◌, ℕ, ℤ, true, false, cond, List, [], ◌∷◌, ◌++◌, map, length, Some, None, refl, sym, ap, subst, ◌∙◌, inl, inr, append_assoc, arith}
 use Rattle.std.proofs.lemmas.Bool.{cases_Bool}
 use Rattle.std.proofs.lemmas.List.{length-append, length-set, map-append, get_or_append_left}
 use Rattle.std.proofs.Math.Seq.{get_or-append_seam}
@@ -14,8 +14,8 @@ use Rattle.kr_contact.specs.declared.nodes.Node.{Node}
 use Rattle.kr_contact.specs.declared.nodes.Place.{Place}
 use Rattle.kr_contact.specs.Nodes.{index_of, node_at, blank, Leads, with_time, unlinked, linked}
 use Rattle.kr_contact.specs.Rings.{IsOut, IsApart, IsIn, IsPath, After, Before, in_turn, order_of, contact_at, IsRing}
-use Rattle.kr_contact.proofs.Indices.{flip, apart_drop, apart_snoc, apart_out, out_drop, out_in, out_snoc, in_here, in_more, in_drop, in_snoc, snoc_in, in_splits}
-use Rattle.kr_contact.proofs.Orders.{IsOther, without_none, without_one, is_none, is_one, map_same}
+use Rattle.kr_contact.proofs.Indices.{flip, apart_drop, apart_snoc, apart_out, out_in, in_here, in_more, in_drop, in_snoc, snoc_in, in_splits}
+use Rattle.kr_contact.proofs.Orders.{IsOther, without_none, without_one, is_one, map_same}
 use Rattle.kr_contact.proofs.Links.{kept, other, same, on, back, held, cut, unlinked_is, cut_len, cut_on, cut_back, cut_new_on, cut_new_back, cut_holds, joined, linked_is, joined_len, joined_on, joined_back, joined_last_on, joined_last_back, joined_new_on, joined_new_back, joined_holds}
 use Rattle.kr_contact.proofs.Paths.{sources, sources_ring, last_from, last_back, edges_at, shorter, longer}
 

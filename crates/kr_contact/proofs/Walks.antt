@@ -1,12 +1,12 @@
 -- The front of the contacts that were heard of at a limit or before, one node after the other.
-use Rattle.std.proofs.Common.{◌≡◌, ◌<◌, ◌-◌, ◌+◌, ℕ, suc, ℤ, true, false, cond, List, [], ◌∷◌, ◌++◌, map, length, take, take_while, int_le, append_assoc, refl, sym, ap, subst, ◌∙◌, arith}
+use Rattle.std.proofs.Common.{◌≡◌, ◌<◌, ◌-◌, ◌+◌, ℕ, suc, ℤ, true, false, cond, List, [], ◌∷◌, ◌++◌, map, length, take, int_le, append_assoc, sym, ap, subst, ◌∙◌, arith}
 use Rattle.std.specs.List.{prefix_len}
 use Rattle.std.specs.Ptr.{Ptr}
 use Rattle.kr_contact.specs.declared.nodes.Node.{Node}
 use Rattle.kr_contact.specs.declared.nodes.Place.{Place}
 use Rattle.kr_contact.specs.Contacts.{AreSingle, expired, touched}
 use Rattle.kr_contact.specs.Nodes.{index_of, node_at, IsKnown}
-use Rattle.kr_contact.specs.Rings.{AreKnown, contact_at, contacts_from}
+use Rattle.kr_contact.specs.Rings.{AreKnown, contacts_from}
 use Rattle.kr_contact.proofs.Orders.{touched_new}
 
 take_one : (c : ℤ × ℤ) (n : ℕ) (rest : List (ℤ × ℤ)) → take (1 + n) (c ∷ rest) ≡ c ∷ take n rest

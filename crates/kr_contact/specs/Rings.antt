@@ -1,9 +1,8 @@
 -- A ring of nodes: the first node of the block is no contact, and closes the ring. This project's own.
-use Rattle.std.specs.Prelude.{◌≡◌, ◌≢◌, ◌⊎◌, ◌∷◌, [], ◌++◌, ℕ, ℤ, suc, zero, List, length, map, Option, Some}
+use Rattle.std.specs.Prelude.{◌≡◌, ◌≢◌, ◌⊎◌, ◌∷◌, [], ◌++◌, ℕ, ℤ, suc, zero, List, length, map, Some}
 use Rattle.std.specs.Map.{lookup}
 use Rattle.std.specs.Ordering.{int_eq}
 use Rattle.std.specs.Ptr.{Ptr}
-use Rattle.kr_contact.specs.Contacts.{Listed}
 use Rattle.kr_contact.specs.Nodes.{index_of, node_at, IsKnown, Leads}
 use Rattle.kr_contact.specs.declared.nodes.Node.{Node}
 use Rattle.kr_contact.specs.declared.nodes.Place.{Place}

@@ -7,7 +7,7 @@ use crate::ring::Ring;
 use kr_base::{NoMemory, Steps};
 use kr_defs::Ids;
 use std::alloc::Global;
-use std::marker::Model;
+use std::marker::{Model, Send};
 use std::sync::ledger::Ledger;
 
 /// Brokers with the times at which they were heard of, in order of the last contact.
@@ -25,6 +25,9 @@ impl Model for ContactList {
 
     ghost view = { λ l. listed l.ring };
 }
+
+// Its pointers lead into its own block, so it may move to another thread.
+unsafe impl Send for ContactList {}
 
 impl ContactList {
     /// No broker was heard of. It takes no memory.

@@ -1,6 +1,6 @@
 -- `at_mut` lends the value that lies at the pointer, and the block follows it. Assumes `Logic`.
 use mathlib.Core.Path.{◌≡◌, refl, ap, ◌∙◌}
-use Prim.Native.Nat.{ℕ, ◌+◌, ◌*◌, ◌≤◌, ◌<◌, ◌^◌}
+use Prim.Native.Nat.{ℕ, ◌+◌, ◌*◌, ◌≤◌, ◌<◌}
 use native.Mathlib.Omega.{arith}
 use mathlib.Core.List.{List, [], ◌∷◌}
 use lib.ListN.{length, get_or}
@@ -31,7 +31,6 @@ use denote.Triple.Spec.{Meets, triple_of}
 use denote.Triple.Table.{entered, run_framed}
 use denote.Triple.Walked.{says, needs, Stays, stay_dropped, walk_of, ends_at, walked, Goes-dropped, walk_Meets}
 use Rattle.std.specs.Vec.{with_item}
-use Rattle.std.specs.Vec.{vec_ptr}
 use Rattle.std.specs.Ptr.{ptr_add}
 use Rattle.kr_contact.specs.Places.{index_at, IsPlace}
 use Rattle.kr_contact.specs.contracts.places.at_mut.Key.{name as #self}

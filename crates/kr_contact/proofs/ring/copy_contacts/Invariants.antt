@@ -1,5 +1,4 @@
 use Rattle.std.proofs.Common.{◌≡◌, ◌+◌, ◌-◌, ◌≤◌, ◌++◌}
-use Rattle.kr_contact.specs.Contacts.{AreSingle}
 use Rattle.kr_contact.specs.Rings.{AreKnown, contacts_from}
 use Rattle.kr_contact.proofs.ring.copy_contacts.Given as goal
 

@@ -1,10 +1,7 @@
-use Rattle.std.proofs.Common.{◌≡◌, ◌<◌, ℕ, length, sym, ap, subst, ◌∙◌}
+use Rattle.std.proofs.Common.{◌≡◌, sym, ◌∙◌}
 use Rattle.std.specs.Prelude.{Some, None}
 use Rattle.std.specs.Map.{lookup}
 use Rattle.std.specs.Ordering.{int_eq}
-use Rattle.std.specs.Ptr.{Ptr}
-use Rattle.kr_contact.specs.Contacts.{Listed, is_contact, without}
-use Rattle.kr_contact.specs.Nodes.{IsKnown, index_of, node_at}
 use Rattle.kr_contact.proofs.Operations.{beside_known, removal, there, nowhere, all_left}
 use Rattle.kr_contact.proofs.ring.Ring.remove.Goals as goal
 

@@ -1,9 +1,8 @@
-use Rattle.std.proofs.Common.{◌≡◌, ◌<◌, ℕ, length, false, sym, ap, subst, ◌∙◌}
+use Rattle.std.proofs.Common.{◌≡◌, sym, ◌∙◌}
 use Rattle.std.specs.Prelude.{Some, None}
 use Rattle.std.specs.Map.{lookup}
 use Rattle.std.specs.Ordering.{int_eq}
-use Rattle.kr_contact.specs.Contacts.{Listed, is_contact, touched}
-use Rattle.kr_contact.specs.Nodes.{IsKnown, index_of, node_at, moved, added}
+use Rattle.kr_contact.specs.Nodes.{moved, added}
 use Rattle.kr_contact.proofs.Operations.{beside_known, last_known, moving, moving_known, adding, nowhere, room_left, no_contact, at_end}
 use Rattle.kr_contact.proofs.ring.Ring.touch.Goals as goal
 
