@@ -10,7 +10,9 @@ use std::test::Fail;
 
 // The record batch of the session that sets the minimum of in-sync replicas, in epoch 5: its base, and what follows.
 const FIRST: &str = "0000000000000000";
+
 const SECOND: &str = "0000000000000001";
+
 const BATCH: &str =
     "000000540000000502235de38000000000000000000000000003e800000000000003e8ffffffffffffffffffffffffffff000000014400000001380104000401146d696e2e696e73796e632e7265706c6963617302320000";
 
