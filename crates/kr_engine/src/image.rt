@@ -49,8 +49,7 @@ impl Engine {
     pub fn image(&mut self) -> Result<(), NoMemory>
         requires sound { IsSound self.old }
         requires drained { outputs_left self.old ≡ [] }
-        ensures step { OnOk result (IsStep self.old self.new events.Image) }
-        ensures sound { OnOk result (IsSound self.new) }
+        ensures { OnOk result (IsStep self.old self.new events.Image) }
     {
         self.look_over();
         self.take_image()
