@@ -17,6 +17,6 @@ returns-clause-sound c =
     let led = λ (noted : Core). counted_core (refused_core_or noted (lead_reason noted epoch next) (core_after_lead noted epoch next)) in
     on_ok_weaker c.take_lead.result
     (λ is. stepped_sound e c.take_lead.new.self event
-        (subst (λ (after : Core). IsStep e after event) (sym (is ∙ ap led c.note_time.ensures)) (lead_step e epoch next c.args.now.now c.requires.drained))
-        c.requires.sound)
+    (subst (λ (after : Core). IsStep e after event) (sym (is ∙ ap led c.note_time.ensures)) (lead_step e epoch next c.args.now.now c.requires.drained))
+    c.requires.sound)
     c.take_lead.ensures
