@@ -1,5 +1,5 @@
 -- Whom a leader hears of where a broker is fenced that is registered, or isn't.
-use Rattle.std.proofs.Common.{◌≡◌, ◌∙◌, sym, subst, ℤ, pos, Bool, true, false, [], refl, ap, not}
+use Rattle.std.proofs.Common.{◌≡◌, ◌∙◌, sym, subst, ℤ, Bool, true, false, [], refl, ap, not}
 use Rattle.std.specs.Prelude.{◌&&◌, Option, Some, None, Result, Ok}
 use Rattle.std.specs.Option.{option_map_or}
 use Rattle.std.specs.Ordering.{int_cmp, int_eq}

@@ -1,6 +1,6 @@
 -- A log that is written on, or cut.
 use Rattle.std.proofs.Common.{◌≡◌, ◌∙◌, sym, ℕ, ℤ, pos, ◌+◌, ◌-◌, ◌≤◌, List, [], ◌∷◌, ◌++◌, length, refl, ap, arith}
-use Rattle.std.specs.Prelude.{◌+ℤ◌, Option, None, Result, Ok, Err}
+use Rattle.std.specs.Prelude.{◌+ℤ◌, None, Result, Ok, Err}
 use Rattle.std.specs.Result.{result_unwrap_or}
 use Rattle.std.proofs.lemmas.List.{take-append-le, take-take, take_all, length-append, length-take}
 use Rattle.kr_calls.specs.Deciding.{apply_records}

@@ -32,7 +32,7 @@ use Rattle.kr_defs.proofs.Logs.{valid_at}
 use Rattle.law_safety.specs.SafeChangeLaws.{AreSafe}
 use Rattle.law_safety.proofs.SafeRequests.{fencings_are_safe, requests_are_safe, valid_after}
 use Rattle.kr_world.specs.Commit.{commit, is_end}
-use Rattle.kr_world.specs.Entries.{entries_added, entries_by, items_from, item_entries}
+use Rattle.kr_world.specs.Entries.{entries_by, items_from, item_entries}
 use Rattle.kr_world.specs.Events.{outcome, at_time_of}
 use Rattle.kr_world.specs.Lost.{after_lost, lost}
 use Rattle.kr_world.specs.Lead.{lead, may_begin_at}

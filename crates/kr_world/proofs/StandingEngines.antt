@@ -1,5 +1,5 @@
 -- What an engine that stands for past events tells of them.
-use Rattle.std.proofs.Common.{◌≡◌, ◌∙◌, sym, ℕ, ℤ, pos, true, List, refl, ap, subst, ◌≤◌, ◌-◌, [], ◌∷◌, map, arith}
+use Rattle.std.proofs.Common.{◌≡◌, ◌∙◌, sym, ℕ, ℤ, pos, true, List, refl, ap, subst, ◌≤◌, [], ◌∷◌, map, arith}
 use Rattle.std.specs.Prelude.{Option, Some, None, Result, Ok, IsTrue, int_lt, int_le, true}
 use Rattle.std.proofs.lemmas.List.Elements.{All-from_recursion, All-nil}
 use Rattle.kr_defs.specs.Heartbeats as hearing

@@ -1,5 +1,5 @@
 -- One write more behind those that wait.
-use Rattle.std.proofs.Common.{◌≡◌, ◌∙◌, sym, ℕ, ℤ, pos, negsuc, Bool, true, false, cond, ◌≤◌, List, [], ◌∷◌, ◌++◌, refl, ap, arith, All, ◌+◌}
+use Rattle.std.proofs.Common.{◌≡◌, ◌∙◌, sym, ℕ, ℤ, pos, negsuc, Bool, true, false, cond, ◌≤◌, List, [], ◌∷◌, ◌++◌, refl, ap, arith, All}
 use Rattle.std.proofs.lemmas.Bool.{and_from}
 use Rattle.std.proofs.lemmas.Bool.Decides.{nat_tests}
 use Rattle.std.proofs.lemmas.List.Elements.{All-from_recursion, All-filter, recursion_from_All}

@@ -8,7 +8,6 @@ use Rattle.kr_calls.specs.declared.events.Output.{Output}
 use Rattle.kr_defs.specs.declared.basis.Basis.{Basis}
 use Rattle.kr_defs.specs.declared.limits.TheConstants.{PLACES_END}
 use Rattle.kr_defs.specs.declared.options.Options.{Options}
-use Rattle.kr_defs.specs.Brokers.{stopping}
 use Rattle.kr_defs.specs.Heartbeats as hearing
 use Rattle.kr_defs.specs.Heartbeats.{Heartbeats}
 use Rattle.kr_defs.specs.Image.{Image, IsValid}
@@ -17,7 +16,7 @@ use Rattle.law_safety.specs.HearingLaws.{HearsOf}
 use Rattle.kr_store.specs.Images.{Images}
 use Rattle.kr_world.specs.declared.writes.Write.{Write}
 use Rattle.kr_world.specs.Entries.{log_entries}
-use Rattle.kr_world.specs.Events.{happens, time_after}
+use Rattle.kr_world.specs.Events.{happens}
 use Rattle.kr_world.specs.Outputs.{answers, is_open, outputs_of, waiting_after}
 use Rattle.kr_world.specs.World.{State, image_of_tip, seen_at, tip_of}
 
