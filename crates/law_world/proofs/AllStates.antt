@@ -1,5 +1,5 @@
 -- The laws of the states that any events lead to.
-use Rattle.std.proofs.Common.{◌≡◌, sym, subst, ℕ, ◌≤◌, List, [], ◌∷◌, ◌++◌, refl, arith}
+use Rattle.std.proofs.Common.{sym, subst, ◌≤◌, List, [], ◌∷◌, refl, arith}
 use Rattle.std.proofs.lemmas.List.Sums.{fold-append}
 use Rattle.std.specs.Prelude.{fold, MatchResult, Result}
 use Rattle.kr_calls.specs.declared.events.Event.{Event}

@@ -1,7 +1,7 @@
 -- What each event leaves whole: the log makes a valid image, a leader hears of its unfenced brokers, and the lists of
 -- heartbeats are in order.
-use Rattle.std.proofs.Common.{◌≡◌, ◌∙◌, sym, subst, ℕ, ℤ, pos, Bool, true, false, cond, ◌-◌, List, [], ◌∷◌, refl, ap, arith, not}
-use Rattle.std.specs.Prelude.{◌&&◌, Option, Some, None, Result, Ok, Err, IsSome, int_le, int_lt, is_some, unsigned_abs}
+use Rattle.std.proofs.Common.{◌≡◌, ◌∙◌, sym, subst, ℕ, ℤ, pos, Bool, true, false, cond, List, [], ◌∷◌, refl, ap, arith, not}
+use Rattle.std.specs.Prelude.{◌&&◌, Option, Some, None, Result, Ok, Err, IsSome, int_lt, is_some, unsigned_abs}
 use Rattle.std.specs.Ordering.{int_cmp, int_eq}
 use Rattle.std.specs.Result.{result_unwrap_or}
 use Rattle.kr_batch.specs.declared.Batch.{Batch}
@@ -12,7 +12,7 @@ use Rattle.kr_calls.specs.declared.calls.Request.{Request}
 use Rattle.kr_calls.specs.declared.events.Event.{Event}
 use Rattle.kr_calls.specs.declared.events.Event.TheVariants as events
 use Rattle.kr_calls.specs.declared.events.Reason.{Reason}
-use Rattle.kr_calls.specs.Decide.{Decision, is_read}
+use Rattle.kr_calls.specs.Decide.{is_read}
 use Rattle.kr_calls.proofs.DecisionMeanings.{requests_stand}
 use Rattle.kr_defs.specs.declared.ill.Ill.{Ill}
 use Rattle.kr_defs.specs.declared.options.Options.{Options}
