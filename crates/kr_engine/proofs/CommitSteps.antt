@@ -10,7 +10,7 @@ use Rattle.kr_world.specs.declared.writes.Write.{Write}
 use Rattle.kr_world.specs.Commit as commits
 use Rattle.kr_world.specs.Commit.{commit, is_end}
 use Rattle.kr_engine.specs.inner.Changes.{cleared_core, counted_core, refused_core_or}
-use Rattle.kr_world.specs.Engine.{Core, IsEngine, IsState, IsStep, outputs_left}
+use Rattle.kr_world.specs.Engine.{Core, IsEngine, IsSound, IsState, IsStep, outputs_left}
 use Rattle.kr_engine.specs.inner.Commit.{commit_reason, core_after_commit}
 use Rattle.kr_world.specs.Entries.{item_entries}
 use Rattle.kr_world.specs.Events.{with_next_number, next_number}
@@ -21,6 +21,7 @@ use Rattle.kr_world.proofs.EventOutcomes.{entries_accepted, outputs_accepted, re
 use Rattle.kr_world.proofs.LogEntries.{none_behind}
 use Rattle.kr_world.proofs.Places.{Moves, is_kept, moves}
 use Rattle.kr_world.proofs.Queues.{IsDrained, drained}
+use Rattle.kr_world.proofs.SoundEngines.{stepped_sound}
 use Rattle.kr_engine.proofs.Refusals.{refused_step}
 use Rattle.kr_world.proofs.EventsWithoutWrites.{answers_then, fewer_wait, waits_then}
 
@@ -125,3 +126,6 @@ module _ (e : Core) (epoch end : ℤ) (d : IsDrained e) where
 
 pub commit_step : (e : Core) (epoch end : ℤ) → outputs_left e ≡ [] → IsStep e (counted_core (refused_core_or (cleared_core e) (commit_reason (cleared_core e) epoch end) (core_after_commit (cleared_core e) end))) (events.Commit epoch end)
 commit_step e epoch end none = step_by e epoch end (drained e none) (leads_in e.leading epoch) (is_some (kept_at e.images end)) refl refl
+
+pub commit_sound : (e : Core) (epoch end : ℤ) → outputs_left e ≡ [] → IsSound e → IsSound (counted_core (refused_core_or (cleared_core e) (commit_reason (cleared_core e) epoch end) (core_after_commit (cleared_core e) end)))
+commit_sound e epoch end none sound = stepped_sound e _ (events.Commit epoch end) (commit_step e epoch end none) sound

@@ -15,7 +15,7 @@ use Rattle.kr_store.specs.Images.{Images, reverted}
 use Rattle.kr_world.specs.declared.writes.Write.{Write}
 use Rattle.kr_engine.specs.inner.Changes.{cleared_core, counted_core, refused_core_or}
 use Rattle.kr_engine.specs.inner.Lost.{core_after_lost, lost_reason}
-use Rattle.kr_world.specs.Engine.{Core, IsEngine, IsState, IsStep, kept_image, outputs_left}
+use Rattle.kr_world.specs.Engine.{Core, IsEngine, IsSound, IsState, IsStep, kept_image, outputs_left}
 use Rattle.kr_world.specs.Entries.{item_entries}
 use Rattle.kr_world.specs.Events.{with_next_number, next_number}
 use Rattle.kr_world.specs.Lost.{cut, after_lost, lost}
@@ -27,6 +27,7 @@ use Rattle.kr_world.proofs.EventOutcomes.{entries_accepted, outputs_accepted, re
 use Rattle.kr_world.proofs.LogEntries.{cut_behind}
 use Rattle.kr_world.proofs.Logs.{cut_below, cut_tip}
 use Rattle.kr_world.proofs.Queues.{IsDrained, drained, never}
+use Rattle.kr_world.proofs.SoundEngines.{stepped_sound}
 use Rattle.kr_engine.proofs.Refusals.{refused_step}
 use Rattle.kr_world.proofs.EventsWithoutWrites.{answers_then, waits_then}
 use Rattle.kr_world.proofs.KeptImages.{first_found, first_left, none_open, not_higher, seen_below, under}
@@ -143,3 +144,6 @@ module _ (e : Core) (epoch : ℤ) (d : IsDrained e) where
 
 pub lost_step : (e : Core) (epoch : ℤ) → outputs_left e ≡ [] → IsStep e (counted_core (refused_core_or (cleared_core e) (lost_reason (cleared_core e) epoch) (core_after_lost (cleared_core e)))) (events.Lost epoch)
 lost_step e epoch none = step_by e epoch (drained e none) (leads_in e.leading epoch) refl
+
+pub lost_sound : (e : Core) (epoch : ℤ) → outputs_left e ≡ [] → IsSound e → IsSound (counted_core (refused_core_or (cleared_core e) (lost_reason (cleared_core e) epoch) (core_after_lost (cleared_core e))))
+lost_sound e epoch none sound = stepped_sound e _ (events.Lost epoch) (lost_step e epoch none) sound

@@ -35,6 +35,6 @@ opened_drained options e is = subst (λ (e : Core). outputs_left e ≡ []) (sym 
 pub opened_fresh : (options : Options) (e : Core) → e ≡ new_core options → e.fresh ≡ []
 opened_fresh options e is = ap (λ (e : Core). e.fresh) is
 
-pub all_opened : {E : Type 0} (options : Options) (r : Result Core E) → IfOk r (λ e. e ≡ new_core options) → IfOk r (λ e. IsEngine e start [])
-all_opened options (Ok e) is = opened_stands options e is
-all_opened options (Err fault) is = tt
+pub all_opened : {E : Type 0} (P : Core → Type 0) (options : Options) → ((e : Core) → e ≡ new_core options → P e) → (r : Result Core E) → IfOk r (λ e. e ≡ new_core options) → IfOk r P
+all_opened P options opened (Ok e) is = opened e is
+all_opened P options opened (Err fault) is = tt

@@ -160,6 +160,7 @@ impl Engine {
         requires sound { IsSound self.old }
         requires drained { outputs_left self.old ≡ [] }
         ensures step { OnOk result (IsStep self.old self.new (events.Batch bytes.now)) }
+        ensures sound { OnOk result (IsSound self.new) }
         ensures later { steps.old ≤ steps.new }
     {
         self.look_over();

@@ -5,7 +5,7 @@ ghost use Rattle.kr_calls.specs.declared.events.Event.TheVariants as events;
 ghost use Rattle.kr_store.specs.Images.{image_of_place, kept_at};
 ghost use Rattle.kr_engine.specs.inner.Changes.{counted_core, refused_core_or, cleared_core};
 ghost use Rattle.kr_engine.specs.inner.Commit.{commit_reason, core_after_commit};
-ghost use Rattle.kr_world.specs.Engine.{IsStep, outputs_left};
+ghost use Rattle.kr_world.specs.Engine.{IsSound, IsStep, outputs_left};
 
 use crate::Engine;
 use crate::places::at_epoch;
@@ -70,10 +70,11 @@ impl Engine {
 
     /// The quorum committed this leader's log up to a place, whole batches at a time. All outputs are handed out before.
     /// It takes no memory, and no longer with many replies that wait.
-    #[tactic(auto, using(crate::proofs::CommitSteps::commit_step))]
+    #[tactic(auto, using(crate::proofs::CommitSteps::commit_step, crate::proofs::CommitSteps::commit_sound))]
     pub fn commit<L: Ledger>(&mut self, epoch: i32, end: i64, steps: &mut Steps<L>)
         requires drained { outputs_left self.old ≡ [] }
         ensures step { IsStep self.old self.new (events.Commit epoch end) }
+        ensures sound { IsSound self.old → IsSound self.new }
         ensures later { steps.old ≤ steps.new }
     {
         self.take_commit(&epoch, &end, steps);

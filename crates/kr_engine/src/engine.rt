@@ -116,6 +116,7 @@ impl Engine {
         requires { IsTrue (are_options options) }
         ensures options { IfOk result (λ e. e.options ≡ options) }
         ensures stands { IfOk result (λ e. IsEngine e worlds.start []) }
+        ensures sound { IfOk result (λ e. IsSound e) }
         ensures drained { IfOk result (λ e. outputs_left e ≡ []) }
         ensures fresh { IfOk result (λ e. e.fresh ≡ []) }
     {

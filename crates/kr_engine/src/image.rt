@@ -49,7 +49,8 @@ impl Engine {
     pub fn image(&mut self) -> Result<(), NoMemory>
         requires sound { IsSound self.old }
         requires drained { outputs_left self.old ≡ [] }
-        ensures { OnOk result (IsStep self.old self.new events.Image) }
+        ensures step { OnOk result (IsStep self.old self.new events.Image) }
+        ensures sound { OnOk result (IsSound self.new) }
     {
         self.look_over();
         self.take_image()

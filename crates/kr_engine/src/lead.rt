@@ -150,7 +150,8 @@ impl Engine {
     pub fn lead(&mut self, epoch: &i32, next: &i64, now: &i64) -> Result<(), NoMemory>
         requires sound { IsSound self.old }
         requires drained { outputs_left self.old ≡ [] }
-        ensures { OnOk result (IsStep self.old self.new (events.Lead epoch.now next.now now.now)) }
+        ensures step { OnOk result (IsStep self.old self.new (events.Lead epoch.now next.now now.now)) }
+        ensures sound { OnOk result (IsSound self.new) }
     {
         self.look_over();
         self.note_time(now);

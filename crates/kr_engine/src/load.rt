@@ -87,6 +87,7 @@ impl Engine {
         requires sound { IsSound self.old }
         requires drained { outputs_left self.old ≡ [] }
         ensures step { OnOk result (IsStep self.old self.new (events.Load bytes.now)) }
+        ensures sound { OnOk result (IsSound self.new) }
     {
         self.clear_fresh();
         self.settle_load(bytes)?;

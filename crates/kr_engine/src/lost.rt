@@ -5,7 +5,7 @@ ghost use Rattle.kr_calls.specs.declared.events.Event.TheVariants as events;
 ghost use Rattle.kr_store.specs.Images.{reverted};
 ghost use Rattle.kr_engine.specs.inner.Changes.{counted_core, refused_core_or, cleared_core};
 ghost use Rattle.kr_engine.specs.inner.Lost.{core_after_lost, lost_reason};
-ghost use Rattle.kr_world.specs.Engine.{IsStep, outputs_left};
+ghost use Rattle.kr_world.specs.Engine.{IsSound, IsStep, outputs_left};
 
 use crate::Engine;
 use crate::reasons::not_leading;
@@ -58,10 +58,11 @@ impl Engine {
 
     /// The quorum took the leadership of an epoch back: what isn't committed is gone, and the writes that wait are refused.
     /// All outputs are handed out before. It takes no memory.
-    #[tactic(auto, using(crate::proofs::LostSteps::lost_step))]
+    #[tactic(auto, using(crate::proofs::LostSteps::lost_step, crate::proofs::LostSteps::lost_sound))]
     pub fn lost<L: Ledger>(&mut self, epoch: i32, steps: &mut Steps<L>)
         requires drained { outputs_left self.old ≡ [] }
         ensures step { IsStep self.old self.new (events.Lost epoch) }
+        ensures sound { IsSound self.old → IsSound self.new }
         ensures later { steps.old ≤ steps.new }
     {
         self.take_lost(&epoch, steps);

@@ -2,7 +2,7 @@
 
 ghost use Rattle.std.specs.Prelude.{◌≡◌, ◌++◌, ◌∷◌, [], option_to_list, filter, not, false, None, IsTrue, IfNone, List};
 ghost use Rattle.kr_world.specs.declared.writes.Write.{Write as AnyWrite};
-ghost use Rattle.kr_world.specs.Engine.{Hands, writes_in_order};
+ghost use Rattle.kr_world.specs.Engine.{Hands, IsSound, writes_in_order};
 ghost use Rattle.kr_world.specs.Outputs as outputs;
 
 use crate::Engine;
@@ -71,7 +71,8 @@ impl Engine {
     #[tactic(auto, using(kr_world::proofs::OutputsLeft::hands_refusal, kr_world::proofs::OutputsLeft::hands_answer))]
     pub fn next_output(&mut self) -> Option<Output>
         requires { IsTrue (writes_in_order self.old.held) }
-        ensures { Hands self.old self.new result }
+        ensures hands { Hands self.old self.new result }
+        ensures sound { IsSound self.old → IsSound self.new }
     {
         if let Some(output) = self.next_given() {
             return Some(output);

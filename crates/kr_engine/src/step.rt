@@ -16,6 +16,7 @@ impl Engine {
         requires sound { IsSound self.old }
         requires drained { outputs_left self.old ≡ [] }
         ensures step { OnOk result (IsStep self.old self.new event.now) }
+        ensures sound { OnOk result (IsSound self.new) }
         ensures commit { (epoch end : ℤ) → event.now ≡ events.Commit epoch end → IsOk result }
         ensures lost { (epoch : ℤ) → event.now ≡ events.Lost epoch → IsOk result }
         ensures later { steps.old ≤ steps.new }

@@ -186,6 +186,7 @@ impl Engine {
         requires sound { IsSound self.old }
         requires drained { outputs_left self.old ≡ [] }
         ensures step { OnOk result (IsStep self.old self.new (events.Tick now.now)) }
+        ensures sound { OnOk result (IsSound self.new) }
         ensures later { steps.old ≤ steps.new }
     {
         self.look_over();

@@ -15,6 +15,7 @@ pub mod OutputsLeft
 pub mod Places
 pub mod Queues
 pub mod SafeEntries
+pub mod SoundEngines
 pub mod StandingEngines
 pub mod UnfencedBrokers
 pub mod WaitingWrites

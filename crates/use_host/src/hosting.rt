@@ -27,7 +27,6 @@ fn print_output<R: Print>(rt: &R, output: &Output) -> anyhow::Result<()> {
 }
 
 // All that the last event gives, in order.
-#[tactic(auto, using(crate::proofs::SoundEngines::handed_sound, crate::proofs::SoundEngines::sound_order, crate::proofs::SoundEngines::fewer_left))]
 fn hand_out<R: Print>(rt: &R, engine: &mut Engine) -> anyhow::Result<()>
     requires { IsSound engine.old }
     ensures sound { OnOk result (IsSound engine.new) }
@@ -40,7 +39,6 @@ fn hand_out<R: Print>(rt: &R, engine: &mut Engine) -> anyhow::Result<()>
 }
 
 /// Hands an event over, and prints a line for each output. An engine that found no memory is of no further use.
-#[tactic(auto, using(crate::proofs::SoundEngines::stepped_sound))]
 pub(crate) fn take<L: Ledger, R: Print>(
     rt: &R,
     engine: &mut Engine,

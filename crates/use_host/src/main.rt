@@ -22,7 +22,6 @@ fn main(rt: HostRuntime) -> anyhow::Result<()> {
     host::<Brand, HostRuntime>(&rt, rt.alloc(), Blank::new(1))
 }
 
-#[tactic(auto, using(crate::proofs::SoundEngines::opened_sound))]
 fn open_engine(alloc: Global) -> Result<Engine, AllocError>
     ensures sound { IfOk result (λ engine. IsSound engine) }
     ensures drained { IfOk result (λ engine. outputs_left engine ≡ []) }

@@ -6,17 +6,17 @@ use Rattle.kr_run.proofs.outputs.write_outputs.Goals as goal
 pub returns-in-Err-clause-err : goal.returns-in-Err-clause-err
 returns-in-Err-clause-err g c =
     let gone = c.loop-output.invariant.gone in
-    some_written _ _ _ gone.0 c.in-Some.output _ _ _ gone.1 c.in-Some.ensures gone.2 c.in-Err.ensures.err
+    some_written _ _ _ gone.0 c.in-Some.output _ _ _ gone.1 c.in-Some.ensures.hands gone.2 c.in-Err.ensures.err
 
 pub loop-output-preserved : goal.loop-output-preserved
 loop-output-preserved g c =
     let gone = c.loop-output.invariant.gone in
     record {
-      ordered = c.in-Some.ensures.ordered;
+      ordered = c.in-Some.ensures.hands.ordered;
       later = omega (arith, c.write_output.ensures.later);
       gone = (
         gone.0 ++ c.in-Some.output ∷ [],
-        one_more _ _ _ gone.0 c.in-Some.output gone.1 c.in-Some.ensures,
+        one_more _ _ _ gone.0 c.in-Some.output gone.1 c.in-Some.ensures.hands,
         both_written _ _ _ gone.0 (c.in-Some.output ∷ []) gone.2 c.in-Ok.ensures.ok,
       );
     }
@@ -24,4 +24,4 @@ loop-output-preserved g c =
 pub returns-clause-ok : goal.returns-clause-ok
 returns-clause-ok g c =
     let gone = c.loop-output.invariant.gone in
-    (gone.0, drains _ _ _ gone.0 gone.1 c.in_default.ensures, gone.2)
+    (gone.0, drains _ _ _ gone.0 gone.1 c.in_default.ensures.hands, gone.2)
