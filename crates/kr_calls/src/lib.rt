@@ -20,52 +20,105 @@ mod list_partition_reassignments;
 mod metadata;
 mod unregister_broker;
 
-pub use alter_partition::{
-    AlterPartition, AlterPartitionReply, AlterPartitionResult, AlterPartitionResults,
-    AlterPartitionTopic, AlterPartitionTopicResult, AlterPartitionTopicResults,
-    AlterPartitionTopics, BrokerState, BrokerStates, PartitionReport, PartitionReports,
-};
-pub use alter_partition_reassignments::{
-    AlterPartitionReassignments, AlterPartitionReassignmentsReply, ReassignablePartition,
-    ReassignablePartitionResponse, ReassignablePartitionResponses, ReassignablePartitions,
-    ReassignableTopic, ReassignableTopicResponse, ReassignableTopicResponses, ReassignableTopics,
-};
-pub use answers::{Answer, AnswerKind, Answered};
-pub use broker_heartbeat::{BrokerHeartbeat, BrokerHeartbeatReply};
-pub use broker_registration::{BrokerRegistration, BrokerRegistrationReply};
-pub use calls::{Ask, AskFault, Call, Reply, Request};
-pub use create_partitions::{
-    CreatePartitions, CreatePartitionsAssignment, CreatePartitionsAssignments,
-    CreatePartitionsReply, CreatePartitionsTopic, CreatePartitionsTopicResult,
-    CreatePartitionsTopicResults, CreatePartitionsTopics,
-};
-pub use create_topics::{
-    CreatableReplicaAssignment, CreatableReplicaAssignments, CreatableTopic, CreatableTopicConfig,
-    CreatableTopicConfigs, CreatableTopicResult, CreatableTopicResults, CreatableTopics,
-    CreateTopics, CreateTopicsReply,
-};
-pub use deciding::{Draft, Effect};
-pub use delete_topics::{
-    DeletableTopicResult, DeletableTopicResults, DeleteTopicState, DeleteTopicStates, DeleteTopics,
-    DeleteTopicsReply,
-};
-pub use elect_leaders::{
-    ElectLeaders, ElectLeadersReply, ElectLeadersTopic, ElectLeadersTopics,
-    PartitionElectionResult, PartitionElectionResults, ReplicaElectionResult,
-    ReplicaElectionResults,
-};
-pub use events::{BatchRefusal, Entry, Event, ImageRefusal, Output, Reason};
-pub use incremental_alter_configs::{
-    ConfigOperation, ConfigOperations, ConfigResource, ConfigResources, ConfigResponse,
-    ConfigResponses, IncrementalAlterConfigs, IncrementalAlterConfigsReply,
-};
-pub use list_partition_reassignments::{
-    ListPartitionReassignments, ListPartitionReassignmentsReply, ListedTopic, ListedTopics,
-    OngoingPartitionReassignment, OngoingPartitionReassignments, OngoingTopicReassignment,
-    OngoingTopicReassignments,
-};
-pub use metadata::{
-    Metadata, MetadataBroker, MetadataBrokers, MetadataPartition, MetadataPartitions,
-    MetadataReply, MetadataRequestTopic, MetadataRequestTopics, MetadataTopic, MetadataTopics,
-};
-pub use unregister_broker::{UnregisterBroker, UnregisterBrokerReply};
+pub use alter_partition::AlterPartition;
+pub use alter_partition::AlterPartitionReply;
+pub use alter_partition::AlterPartitionResult;
+pub use alter_partition::AlterPartitionResults;
+pub use alter_partition::AlterPartitionTopic;
+pub use alter_partition::AlterPartitionTopicResult;
+pub use alter_partition::AlterPartitionTopicResults;
+pub use alter_partition::AlterPartitionTopics;
+pub use alter_partition::BrokerState;
+pub use alter_partition::BrokerStates;
+pub use alter_partition::PartitionReport;
+pub use alter_partition::PartitionReports;
+pub use alter_partition_reassignments::AlterPartitionReassignments;
+pub use alter_partition_reassignments::AlterPartitionReassignmentsReply;
+pub use alter_partition_reassignments::ReassignablePartition;
+pub use alter_partition_reassignments::ReassignablePartitionResponse;
+pub use alter_partition_reassignments::ReassignablePartitionResponses;
+pub use alter_partition_reassignments::ReassignablePartitions;
+pub use alter_partition_reassignments::ReassignableTopic;
+pub use alter_partition_reassignments::ReassignableTopicResponse;
+pub use alter_partition_reassignments::ReassignableTopicResponses;
+pub use alter_partition_reassignments::ReassignableTopics;
+pub use answers::Answer;
+pub use answers::AnswerKind;
+pub use answers::Answered;
+pub use broker_heartbeat::BrokerHeartbeat;
+pub use broker_heartbeat::BrokerHeartbeatReply;
+pub use broker_registration::BrokerRegistration;
+pub use broker_registration::BrokerRegistrationReply;
+pub use calls::Ask;
+pub use calls::AskFault;
+pub use calls::Call;
+pub use calls::Reply;
+pub use calls::Request;
+pub use create_partitions::CreatePartitions;
+pub use create_partitions::CreatePartitionsAssignment;
+pub use create_partitions::CreatePartitionsAssignments;
+pub use create_partitions::CreatePartitionsReply;
+pub use create_partitions::CreatePartitionsTopic;
+pub use create_partitions::CreatePartitionsTopicResult;
+pub use create_partitions::CreatePartitionsTopicResults;
+pub use create_partitions::CreatePartitionsTopics;
+pub use create_topics::CreatableReplicaAssignment;
+pub use create_topics::CreatableReplicaAssignments;
+pub use create_topics::CreatableTopic;
+pub use create_topics::CreatableTopicConfig;
+pub use create_topics::CreatableTopicConfigs;
+pub use create_topics::CreatableTopicResult;
+pub use create_topics::CreatableTopicResults;
+pub use create_topics::CreatableTopics;
+pub use create_topics::CreateTopics;
+pub use create_topics::CreateTopicsReply;
+pub use deciding::Draft;
+pub use deciding::Effect;
+pub use delete_topics::DeletableTopicResult;
+pub use delete_topics::DeletableTopicResults;
+pub use delete_topics::DeleteTopicState;
+pub use delete_topics::DeleteTopicStates;
+pub use delete_topics::DeleteTopics;
+pub use delete_topics::DeleteTopicsReply;
+pub use elect_leaders::ElectLeaders;
+pub use elect_leaders::ElectLeadersReply;
+pub use elect_leaders::ElectLeadersTopic;
+pub use elect_leaders::ElectLeadersTopics;
+pub use elect_leaders::PartitionElectionResult;
+pub use elect_leaders::PartitionElectionResults;
+pub use elect_leaders::ReplicaElectionResult;
+pub use elect_leaders::ReplicaElectionResults;
+pub use events::BatchRefusal;
+pub use events::Entry;
+pub use events::Event;
+pub use events::ImageRefusal;
+pub use events::Output;
+pub use events::Reason;
+pub use incremental_alter_configs::ConfigOperation;
+pub use incremental_alter_configs::ConfigOperations;
+pub use incremental_alter_configs::ConfigResource;
+pub use incremental_alter_configs::ConfigResources;
+pub use incremental_alter_configs::ConfigResponse;
+pub use incremental_alter_configs::ConfigResponses;
+pub use incremental_alter_configs::IncrementalAlterConfigs;
+pub use incremental_alter_configs::IncrementalAlterConfigsReply;
+pub use list_partition_reassignments::ListPartitionReassignments;
+pub use list_partition_reassignments::ListPartitionReassignmentsReply;
+pub use list_partition_reassignments::ListedTopic;
+pub use list_partition_reassignments::ListedTopics;
+pub use list_partition_reassignments::OngoingPartitionReassignment;
+pub use list_partition_reassignments::OngoingPartitionReassignments;
+pub use list_partition_reassignments::OngoingTopicReassignment;
+pub use list_partition_reassignments::OngoingTopicReassignments;
+pub use metadata::Metadata;
+pub use metadata::MetadataBroker;
+pub use metadata::MetadataBrokers;
+pub use metadata::MetadataPartition;
+pub use metadata::MetadataPartitions;
+pub use metadata::MetadataReply;
+pub use metadata::MetadataRequestTopic;
+pub use metadata::MetadataRequestTopics;
+pub use metadata::MetadataTopic;
+pub use metadata::MetadataTopics;
+pub use unregister_broker::UnregisterBroker;
+pub use unregister_broker::UnregisterBrokerReply;
