@@ -1,6 +1,7 @@
 //! The numbers of a refusal in its frame.
 
-ghost use Rattle.std.specs.Prelude.{◌≡◌};
+ghost use Rattle.std.specs.Prelude.{◌≡◌, FitsSigned};
+ghost use Rattle.std.specs.Int.{w64};
 ghost use Rattle.kr_stream.specs.RefusalNumbers as refusals;
 
 use kr_calls::{BatchRefusal, ImageRefusal, Reason};
@@ -73,7 +74,8 @@ fn image_place(refusal: &ImageRefusal) -> i64
 
 /// The first of the three numbers that a reason tells.
 pub(crate) fn first_number(reason: &Reason) -> i64
-    ensures { result ≡ refusals.first_number reason.now }
+    ensures value { result ≡ refusals.first_number reason.now }
+    ensures fits { FitsSigned w64 result }
 {
     match reason {
         Reason::AlreadyLeading { ours } => *ours as i64,
@@ -90,7 +92,8 @@ pub(crate) fn first_number(reason: &Reason) -> i64
 
 /// The second, 0 where there is none.
 pub(crate) fn second_number(reason: &Reason) -> i64
-    ensures { result ≡ refusals.second_number reason.now }
+    ensures value { result ≡ refusals.second_number reason.now }
+    ensures fits { FitsSigned w64 result }
 {
     match reason {
         Reason::NotLeading { ours, .. } => *ours as i64,
@@ -107,7 +110,8 @@ pub(crate) fn second_number(reason: &Reason) -> i64
 
 /// The third, 0 where there is none.
 pub(crate) fn third_number(reason: &Reason) -> i64
-    ensures { result ≡ refusals.third_number reason.now }
+    ensures value { result ≡ refusals.third_number reason.now }
+    ensures fits { FitsSigned w64 result }
 {
     match reason {
         Reason::BadCommit { tip, .. } => *tip,
