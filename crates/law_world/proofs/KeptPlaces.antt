@@ -46,8 +46,8 @@ kept_are_valid e s writes k =
     let log = s.world.log in
     let valid = k.is_state.valid in
     let ns = s.world.committed ∷ s.world.batch_ends in
-    let kept : List (ℤ × Image) = map (kept_image log) ns in record {
-      rising = subst (λ (those : List (ℤ × Image)). IsStrictlySortedBy int_cmp (places those)) (sym k.kept) (rising log (tip_of s) s.world.committed s.world.batch_ends k.is_state.ends);
-      kept = subst (All (λ (k : ℤ × Image). IsValid k.1)) (sym k.kept) (All-from_recursion (λ (k : ℤ × Image). IsValid k.1) kept (all_valid log e.images.tip valid k.present ns));
-      tip = valid_at log (tip_of s) valid e.images.tip k.present;
-    }
+    let kept : List (ℤ × Image) = map (kept_image log) ns in (
+      subst (All (λ (k : ℤ × Image). IsValid k.1)) (sym k.kept) (All-from_recursion (λ (k : ℤ × Image). IsValid k.1) kept (all_valid log e.images.tip valid k.present ns)),
+      valid_at log (tip_of s) valid e.images.tip k.present,
+      subst (λ (those : List (ℤ × Image)). IsStrictlySortedBy int_cmp (places those)) (sym k.kept) (rising log (tip_of s) s.world.committed s.world.batch_ends k.is_state.ends),
+    )

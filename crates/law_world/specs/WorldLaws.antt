@@ -1,13 +1,14 @@
 -- Laws over all events: what is true of a controller whatever happened to it (this project's own).
-use Rattle.std.specs.Prelude.{◌≡◌, ◌≤◌, ℕ, int_le, List, ◌++◌, IsSome, None, IsTrue, MatchResult}
+use Rattle.std.specs.Prelude.{◌≡◌, ◌≤◌, ℕ, ℤ, int_le, List, ◌++◌, map, All, IsSome, None, IsTrue, MatchResult}
 use Rattle.std.specs.List.{list_all}
+use Rattle.std.specs.List.Sorted.{IsStrictlySortedBy}
+use Rattle.std.specs.Ordering.{int_cmp}
 use Rattle.kr_calls.specs.declared.events.Event.{Event}
 use Rattle.kr_defs.specs.declared.options.Options.{Options}
 use Rattle.kr_defs.specs.Heartbeats.{contact_brokers, end, heard, never_fall, stopping_brokers}
 use Rattle.kr_defs.specs.Ids.{is_distinct, is_within}
-use Rattle.kr_defs.specs.Image.{IsValid}
+use Rattle.kr_defs.specs.Image.{Image, IsValid}
 use Rattle.kr_defs.specs.Log.{image_at}
-use Rattle.kr_store.specs.Images.{AreValid}
 use Rattle.kr_world.specs.declared.writes.Write.{Write}
 use Rattle.kr_world.specs.Engine.{Core, IsEngine}
 use Rattle.kr_world.specs.Events.{basis, state, world}
@@ -45,4 +46,6 @@ ImagesAreValid = (options : Options) (past : List Event) (place : ℕ) → Match
 
 -- The images that an engine keeps are valid, as is the one at the tip, and the places rise under which it keeps them.
 abbrev pub KeptAreValid : Type 0
-KeptAreValid = (e : Core) (s : State) (writes : List Write) → IsEngine e s writes → AreValid e.images
+KeptAreValid =
+    (e : Core) (s : State) (writes : List Write) → IsEngine e s writes
+    → All (λ (k : ℤ × Image). IsValid k.1) e.images.kept × IsValid e.images.tip × IsStrictlySortedBy int_cmp (map (λ (k : ℤ × Image). k.0) e.images.kept)
