@@ -14,8 +14,6 @@ mod encoders;
 #[cfg(test)]
 mod objects;
 #[cfg(test)]
-mod rounds;
-#[cfg(test)]
 mod sessions;
 #[cfg(test)]
 mod timelines;

@@ -18,9 +18,7 @@ fn print_output<R: Print>(rt: &R, output: &Output) -> anyhow::Result<()> {
             correlation,
             ..
         } => println!(rt; "reply to client {client}, request {correlation}")?,
-        Output::Refused { event, reason } => {
-            println!(rt; "event {event} is refused for reason {}", reason.number)?
-        }
+        Output::Refused { event, reason } => println!(rt; "event {event} is refused: {reason}")?,
         Output::Image { bytes } => println!(rt; "the committed image, {} bytes", bytes.len())?,
     }
     Ok(())
