@@ -40,7 +40,7 @@ fn a_quorum_without_a_script_commits_after_each_append(rt: HostRuntime) -> Resul
     let second = hex::decode(alloc, &format!(in alloc; "{SECOND}{BATCH}")?)?;
     let mut quorum = LocalQuorum::new(alloc, Vec::new(alloc), Vec::new(alloc))?;
     assert_eq!(rt; quorum.append(&first), Ok(()));
-    assert_eq!(rt; quorum.append(&first[1..]), Err(Failed));
+    assert_eq!(rt; quorum.append(&[0, 0, 0]), Err(Failed));
     assert_eq!(rt; quorum.append(&second), Ok(()));
     let commit = quorum.next_event();
     assert!(rt; matches!(&commit, Some(Event::Commit { epoch: 5, end: 2 })));
