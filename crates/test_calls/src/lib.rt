@@ -14,6 +14,8 @@ mod encoders;
 #[cfg(test)]
 mod objects;
 #[cfg(test)]
+mod rounds;
+#[cfg(test)]
 mod sessions;
 #[cfg(test)]
 mod timelines;
