@@ -1,4 +1,2 @@
-pub mod LastImage
-pub mod LastKept
 pub mod StoppingBeats
 pub mod UnfencedBrokers

@@ -14,7 +14,7 @@ use kr_calls::{Entry, Output, Reason};
 use kr_defs::{Basis, Options};
 use kr_image::ImageStore;
 use kr_sessions::Sessions;
-use kr_store::Store;
+use kr_store::{At, Store};
 use kr_world::Write;
 use std::alloc::Global;
 use std::collections::VecDeque;
@@ -173,7 +173,7 @@ impl Engine {
     pub(crate) fn look_at_images(&self)
         ensures { AreValid self.now.images }
     {
-        let _valid = self.store.counts();
+        let _valid = self.store.counts(At::Tip);
     }
 
     // What the calls rest on.

@@ -12,10 +12,11 @@ ghost use Rattle.kr_world.specs.Engine.{IsSound, IsStep, outputs_left};
 
 use crate::Engine;
 use crate::places::at_epoch;
-use kr_base::NoMemory;
+use kr_base::{NoEpoch, NoMemory};
 use kr_calls::Output;
 use kr_defs::Rows;
-use kr_snapshot::{SnapFault, write};
+use kr_snapshot::write;
+use kr_store::Seen;
 
 impl Engine {
     // The image at the committed end is always kept.
@@ -25,11 +26,14 @@ impl Engine {
     {
         let at = at_epoch(&self.committed);
         let mut bytes = Vec::new(self.alloc);
-        match write(self.alloc, &self.store, at, self.committed, &mut bytes) {
-            Ok(()) => Ok(Output::Image {
-                bytes: Rows::from_vec(bytes),
-            }),
-            Err(SnapFault::NoEpoch | SnapFault::NoMemory) => Err(NoMemory),
+        match Seen::at(&self.store, at) {
+            Ok(seen) => {
+                write(self.alloc, &seen, self.committed, &mut bytes)?;
+                Ok(Output::Image {
+                    bytes: Rows::from_vec(bytes),
+                })
+            }
+            Err(NoEpoch) => Err(NoMemory),
         }
     }
 

@@ -1,23 +1,13 @@
-//! Why an image isn't written, and why bytes are no image.
+//! Why bytes are no image.
 
 ghost use Rattle.std.specs.Prelude.{◌≡◌};
 ghost use Rattle.kr_snapshot.specs.declared.fault.ImageFault.TheVariants as faults;
-ghost use Rattle.kr_snapshot.specs.declared.fault.SnapFault.TheVariants as snaps;
 
-use kr_base::{NoEpoch, NoMemory};
+use kr_base::NoMemory;
 use kr_batch::BatchFault;
 use kr_defs::Ill;
 use std::alloc::AllocError;
 use thiserror::Error;
-
-/// Why an image isn't written.
-#[derive(Clone, Copy, Debug, Drop, PartialEq, Eq, Error)]
-pub enum SnapFault {
-    #[error("the epoch isn't kept")]
-    NoEpoch,
-    #[error("out of memory")]
-    NoMemory,
-}
 
 /// The first fault of bytes that stand for no image, or want of memory. A place is the number of records before.
 #[derive(Clone, Copy, Debug, Drop, PartialEq, Eq, Error)]
@@ -49,30 +39,6 @@ pub enum BatchCause {
     Base,
     #[error("it is a control batch")]
     Control,
-}
-
-impl From<NoEpoch> for SnapFault {
-    ghost from_gives = { λ _ e. e ≡ snaps.NoEpoch };
-
-    fn from(_absent: NoEpoch) -> SnapFault {
-        SnapFault::NoEpoch
-    }
-}
-
-impl From<NoMemory> for SnapFault {
-    ghost from_gives = { λ _ e. e ≡ snaps.NoMemory };
-
-    fn from(_refused: NoMemory) -> SnapFault {
-        SnapFault::NoMemory
-    }
-}
-
-impl From<AllocError> for SnapFault {
-    ghost from_gives = { λ _ e. e ≡ snaps.NoMemory };
-
-    fn from(_refused: AllocError) -> SnapFault {
-        SnapFault::NoMemory
-    }
 }
 
 impl From<NoMemory> for ImageFault {

@@ -7,12 +7,11 @@ mod order;
 mod pieces;
 mod reader;
 mod records;
-mod shown;
 mod walking;
 mod writer;
 mod writing;
 
-pub use fault::{BatchCause, ImageFault, SnapFault};
+pub use fault::{BatchCause, ImageFault};
 pub use laws::{images, read_in_pieces, written_images};
 pub use pieces::HEAD;
 pub use reader::Reader;

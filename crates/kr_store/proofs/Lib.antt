@@ -1,1 +1,2 @@
+pub mod LastKept
 pub mod ShownImages

@@ -7,7 +7,8 @@ ghost use Rattle.kr_defs.specs.Image.{IsValid, topic_name};
 ghost use Rattle.kr_defs.specs.Map as entries;
 ghost use Rattle.kr_defs.specs.Map.{above, config_order, partition_order, text_order};
 ghost use Rattle.kr_defs.specs.Walk.{of_topic};
-ghost use Rattle.kr_store.specs.Images.{counts_of, image_of_place, topic_of};
+ghost use Rattle.kr_store.specs.Images.{counts_of, image_of_place, last_image, last_kept, topic_of};
+ghost use Rattle.kr_store.specs.declared.places.At.TheVariants as places;
 
 use crate::{At, Counts, Store};
 use kr_base::NoEpoch;
@@ -36,6 +37,12 @@ impl<'a, S: Store> Model for Seen<'a, S> {
     ghost invariant = { λ s. IsSome (image_of_place (S.images s.store.now) s.at) × IsValid (seen_at (S.images s.store.now) s.at) };
 }
 
+fn at_epoch(epoch: &i64) -> At
+    ensures { result ≡ places.Epoch epoch.now }
+{
+    At::Epoch(*epoch)
+}
+
 impl<'a, S: Store> Seen<'a, S> {
     /// The present image.
     pub fn tip(store: &'a S) -> Seen<'a, S>
@@ -52,6 +59,18 @@ impl<'a, S: Store> Seen<'a, S> {
         empty_is_valid();
         store.counts(at)?;
         Ok(Seen { store, at })
+    }
+
+    /// The image of the last kept epoch, which is the given one.
+    pub fn last(store: &'a S, epoch: &i64) -> Seen<'a, S>
+        requires { option_map (λ k. k.0) (last_kept (S.images store.now)) ≡ Some epoch.now }
+        ensures { last_image (S.images store.now) ≡ Some result }
+    {
+        let _valid = store.counts(At::Tip);
+        match Seen::at(store, at_epoch(epoch)) {
+            Ok(seen) => seen,
+            Err(NoEpoch) => unreachable!(),
+        }
     }
 
     /// Each image is valid.
@@ -148,10 +167,7 @@ impl<'a, S: Store> Seen<'a, S> {
     }
 
     /// The next partition of the same topic, by index.
-    pub fn next_of_topic(
-        &self,
-        after: &(u128, i32),
-    ) -> Option<(&'a (u128, i32), &'a Partition)>
+    pub fn next_of_topic(&self, after: &(u128, i32)) -> Option<(&'a (u128, i32), &'a Partition)>
         ensures next { IfSome result (λ e. of_topic after.now.0 (above partition_order self.now.partitions (Some after.now)) ≡ (e.0.now, e.1.now) ∷ of_topic e.0.now.0 (above partition_order self.now.partitions (Some e.0.now))) }
         ensures none { IsNone result → of_topic after.now.0 (above partition_order self.now.partitions (Some after.now)) ≡ [] }
     {

@@ -74,7 +74,11 @@ fn switch_at<S: Store>(
 }
 
 // The minimum of the topic itself, or else that of all brokers.
-fn minimum_set<S: Store>(alloc: Global, seen: &Seen<S>, topic: &Text) -> Result<Option<i32>, NoMemory>
+fn minimum_set<S: Store>(
+    alloc: Global,
+    seen: &Seen<S>,
+    topic: &Text,
+) -> Result<Option<i32>, NoMemory>
     ensures { IfOk result (λ minimum. minimum ≡ settings.setting settings.read_minimum settings.minimum_key seen.now topic.now) }
 {
     match minimum_at(alloc, seen, &TOPIC, topic)? {
@@ -84,7 +88,11 @@ fn minimum_set<S: Store>(alloc: Global, seen: &Seen<S>, topic: &Text) -> Result<
 }
 
 // The switch of the topic itself, or else that of all brokers.
-fn switch_set<S: Store>(alloc: Global, seen: &Seen<S>, topic: &Text) -> Result<Option<bool>, NoMemory>
+fn switch_set<S: Store>(
+    alloc: Global,
+    seen: &Seen<S>,
+    topic: &Text,
+) -> Result<Option<bool>, NoMemory>
     ensures { IfOk result (λ switch. switch ≡ settings.setting settings.read_switch settings.unclean_key seen.now topic.now) }
 {
     match switch_at(alloc, seen, &TOPIC, topic)? {

@@ -12,9 +12,9 @@ use anyhow::{Result, bail};
 use kr_base::{NoMemory, Steps};
 use kr_defs::Record;
 use kr_image::ImageStore;
-use kr_snapshot::{ImageFault, Reader, SnapFault, images, write};
-use kr_store::{At, Counts, Store};
-use std::alloc::Global;
+use kr_snapshot::{ImageFault, Reader, images, write};
+use kr_store::{Counts, Seen, Store};
+use std::alloc::{AllocError, Global};
 use std::marker::Brand;
 use std::sync::ledger::{Blank, Ledger};
 
@@ -34,7 +34,7 @@ impl Written {
     pub(crate) fn new(alloc: Global) -> Result<Written> {
         let store = store_of_entries::<Brand>(alloc, Blank::new(1))?;
         let mut bytes = Vec::new(alloc);
-        write(alloc, &store, At::Tip, OFFSET, &mut bytes)?;
+        write_image(alloc, &store, &mut bytes)?;
         images();
         Ok(Written { store, bytes })
     }
@@ -47,14 +47,14 @@ impl Written {
 
     /// How much the image has.
     pub(crate) fn counts(&self) -> Counts {
-        self.store.counts()
+        Seen::tip(&self.store).counts()
     }
 
     /// Appends the bytes of the image.
-    pub(crate) fn write(&self, alloc: Global, out: &mut Vec<u8>) -> Result<(), SnapFault>
+    pub(crate) fn write(&self, alloc: Global, out: &mut Vec<u8>) -> Result<(), AllocError>
         ensures { OnOk result (out.new.items ≡ out.old.items ++ image_text OFFSET self.now.store.tip) }
     {
-        write(alloc, &self.store, At::Tip, OFFSET, out)
+        write_image(alloc, &self.store, out)
     }
 
     /// The offset and the image, from the bytes.
@@ -64,6 +64,16 @@ impl Written {
         let mut reader = Reader::new(alloc);
         reader.feed(&self.bytes)?;
         reader.finish()
+    }
+}
+
+// Appends the bytes of the present image of a store.
+fn write_image(alloc: Global, store: &ImageStore, out: &mut Vec<u8>) -> Result<(), AllocError>
+    ensures { OnOk result (out.new.items ≡ out.old.items ++ image_text OFFSET store.now.tip) }
+{
+    match write(alloc, &Seen::tip(store), OFFSET, out) {
+        Ok(()) => Ok(()),
+        Err(NoMemory) => Err(AllocError),
     }
 }
 

@@ -8,8 +8,8 @@ use crate::request::{Form, ask, topics_of};
 use anyhow::Result;
 use kr_batch::{BatchFault, crc32c};
 use kr_defs::Ids;
-use kr_snapshot::{ImageFault, SnapFault};
-use kr_store::{Counts, Store};
+use kr_snapshot::ImageFault;
+use kr_store::{Counts, Seen};
 use std::alloc::{AllocError, Global};
 
 /// Does each job once and prints a line on each.
@@ -111,7 +111,7 @@ fn print_written<R: Print + AllocGlobal>(rt: &R, image: &Written) -> Result<()> 
     Ok(())
 }
 
-fn write(alloc: Global, image: &Written) -> Result<(usize, u32), SnapFault> {
+fn write(alloc: Global, image: &Written) -> Result<(usize, u32), AllocError> {
     let mut bytes = Vec::new(alloc);
     image.write(alloc, &mut bytes)?;
     Ok((bytes.len(), crc32c(&bytes)))
@@ -134,5 +134,5 @@ fn print_read<R: Print + AllocGlobal>(rt: &R, image: &Written) -> Result<()> {
 
 fn read(alloc: Global, image: &Written) -> Result<(i64, Counts), ImageFault> {
     let (offset, store) = image.read(alloc)?;
-    Ok((offset, store.counts()))
+    Ok((offset, Seen::tip(&store).counts()))
 }

@@ -10,7 +10,7 @@ use crate::placing::{PARTITIONS, brokers, place_all};
 use crate::request::{Form, ask, topics_of};
 use anyhow::{Result, ensure};
 use kr_defs::Text;
-use kr_store::Store;
+use kr_store::Seen;
 use std::alloc::Global;
 use std::rt::Clock;
 use std::time::{Duration, Instant};
@@ -235,7 +235,10 @@ fn read_round(rt: &impl Clock, alloc: Global, image: &Written) -> Result<Duratio
     let start = Instant::now(rt)?;
     let (_offset, store) = image.read(alloc)?;
     let time = start.elapsed(rt)?;
-    ensure!(store.counts() == image.counts(), "another image was read");
+    ensure!(
+        Seen::tip(&store).counts() == image.counts(),
+        "another image was read"
+    );
     Ok(time)
 }
 

@@ -7,9 +7,10 @@ ghost use Rattle.test_codec_answers.specs.ImageWords.{TellsImage, image_words};
 
 use crate::image_reading::{first_byte, read_in};
 use crate::image_words::fault_text;
+use kr_base::NoMemory;
 use kr_image::ImageStore;
 use kr_snapshot::{images, write};
-use kr_store::At;
+use kr_store::Seen;
 use std::alloc::{AllocError, Global};
 use test_words::join_by_space;
 
@@ -74,8 +75,8 @@ fn write_again(alloc: Global, offset: i64, store: &ImageStore) -> Result<Vec<u8>
     ensures { IfOk result (λ bytes. bytes.items ≡ image_text offset store.now.tip) }
 {
     let mut out = Vec::new(alloc);
-    match write(alloc, store, At::Tip, offset, &mut out) {
+    match write(alloc, &Seen::tip(store), offset, &mut out) {
         Ok(()) => Ok(out),
-        Err(_) => Err(AllocError),
+        Err(NoMemory) => Err(AllocError),
     }
 }

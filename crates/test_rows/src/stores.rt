@@ -8,7 +8,7 @@ use crate::image_text::tell_image;
 use kr_base::Steps;
 use kr_defs::{Ill, Record};
 use kr_image::ImageStore;
-use kr_store::{At, Counts, Store};
+use kr_store::{At, Counts, Seen, Store};
 use std::alloc::{AllocError, Global};
 use std::marker::Brand;
 use std::sync::ledger::{Blank, Ledger};
@@ -126,8 +126,8 @@ fn cause_text(alloc: Global, place: i64, cause: Ill) -> Result<String, AllocErro
 
 fn place_text(alloc: Global, store: &ImageStore, at: At) -> Result<String, AllocError> {
     match at {
-        At::Tip => tip_text(alloc, &store.counts()),
-        At::Epoch(epoch) => match store.next_broker(at, None) {
+        At::Tip => tip_text(alloc, &Seen::tip(store).counts()),
+        At::Epoch(epoch) => match Seen::at(store, at) {
             Ok(_) => format!(in alloc; "at {epoch}"),
             Err(_) => format!(in alloc; "at {epoch} NoEpoch"),
         },
