@@ -1,2 +1,3 @@
+pub mod FencingMeanings
 pub mod StoppingBeats
 pub mod UnfencedBrokers
