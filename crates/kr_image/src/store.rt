@@ -217,13 +217,13 @@ fn apply<L: Ledger>(
 }
 
 // How much the image at the place has.
-fn counts(timelines: &Timelines, kept: &VecDeque<KeptCounts>, at: At) -> Result<Counts, NoEpoch>
+fn counts(timelines: &Timelines, kept: &VecDeque<KeptCounts>, at: &At) -> Result<Counts, NoEpoch>
     requires { IsStore timelines.now kept.now.items }
-    ensures { MatchOption (image_of_place (images_of timelines.now kept.now.items) at) (IsErr result) (λ image. IsOkAnd result (λ counts. counts ≡ counts_of image)) }
+    ensures { MatchOption (image_of_place (images_of timelines.now kept.now.items) at.now) (IsErr result) (λ image. IsOkAnd result (λ counts. counts ≡ counts_of image)) }
 {
     match at {
         At::Tip => Ok(timelines.counts),
-        At::Epoch(epoch) => match counts_at(kept, &epoch) {
+        At::Epoch(epoch) => match counts_at(kept, epoch) {
             Some(counts) => Ok(counts),
             None => Err(NoEpoch),
         },
@@ -298,7 +298,7 @@ impl Store for ImageStore {
     }
 
     fn counts(&self, at: At) -> Result<Counts, NoEpoch> {
-        counts(&self.timelines, &self.kept, at)
+        counts(&self.timelines, &self.kept, &at)
     }
 
     fn apply<L: Ledger>(

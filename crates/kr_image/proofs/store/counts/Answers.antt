@@ -7,15 +7,15 @@ use Rattle.kr_image.proofs.Stores.{counts_none, counts_some, kept_image, kept_ri
 use Rattle.kr_image.proofs.store.counts.Goals as goal
 
 pub counts_at-requires : goal.counts_at-requires
-counts_at-requires g c = kept_rises (keeps_of c.args.timelines.now) c.args.kept.now.items c.requires.kept
+counts_at-requires c = kept_rises (keeps_of c.args.timelines.now) c.args.kept.now.items c.requires.kept
 
 pub returns-in-Some : goal.returns-in-Some
-returns-in-Some g c =
+returns-in-Some c =
     let there = counts_some _ c.in-Some.counts c.in-Some.ensures in
     let image = ap (option_map (λ (e : ℤ × Image). e.1)) (kept_image (keeps_of c.args.timelines.now) c.args.kept.now.items there.here c.in-Epoch.epoch there.found) in
-    rw image (there.same ∙ counts_there (keeps_of c.args.timelines.now) c.args.kept.now.items there.here c.in-Epoch.epoch there.found c.requires.kept)
+    rw (c.in-Epoch.is, image) (there.same ∙ counts_there (keeps_of c.args.timelines.now) c.args.kept.now.items there.here c.in-Epoch.epoch there.found c.requires.kept)
 
 pub returns-in-None : goal.returns-in-None
-returns-in-None g c =
+returns-in-None c =
     let none = counts_none _ c.in-None.ensures in
-    rw (ap (option_map (λ (e : ℤ × Image). e.1)) (not_kept (keeps_of c.args.timelines.now) c.args.kept.now.items c.in-Epoch.epoch none)) refl
+    rw (c.in-Epoch.is, ap (option_map (λ (e : ℤ × Image). e.1)) (not_kept (keeps_of c.args.timelines.now) c.args.kept.now.items c.in-Epoch.epoch none)) refl
