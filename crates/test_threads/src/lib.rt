@@ -1,5 +1,8 @@
-//! Tests of the event queue: one thread, and a worker with four clients on threads of their own.
+//! Tests between threads: of the event queue, a worker with four clients; of the copies, a worker that shows partitions and a
+//! reader.
 #![tactic(auto)]
 
+#[cfg(test)]
+mod copies;
 #[cfg(test)]
 mod threads;

@@ -1,0 +1,7 @@
+pub mod Tables
+pub mod Moves
+pub mod Shows
+pub mod Finds
+pub mod Runs
+pub mod Reads
+pub mod Logged

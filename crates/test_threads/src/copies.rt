@@ -1,0 +1,184 @@
+//! Partitions are shown in runs, and read meanwhile in another thread.
+
+ghost use Rattle.std.specs.Prelude.{◌≡◌, ◌≤ℤ◌, pos, IfOk, IsTrue, OnOk, true};
+ghost use Rattle.kr_calls.specs.Decide.{is_read};
+ghost use Rattle.kr_view.specs.Staged.{is_logged};
+ghost use Rattle.kr_view.specs.StagedLaws.{HasNothing, IsLogged};
+
+use kr_base::NoMemory;
+use kr_calls::{Call, Entry, Metadata, MetadataReply, Reply, Request};
+use kr_defs::{Ids, Item, Options, Partition, Record, Text};
+use kr_view::laws::logged_entries_are_right;
+use kr_view::{Opening, Publisher, ReaderSeat, open};
+use std::alloc::Global;
+use std::sync::Wait;
+use std::thread;
+
+// How many partitions are shown at one step, how many steps there are, and how often they are read meanwhile.
+const AT_ONCE: i64 = 1_000;
+const RUNS: i64 = 9;
+const READS: u32 = 50;
+
+const TOPIC: u128 = 7;
+
+#[test]
+fn partitions_are_shown_while_they_are_read(rt: HostRuntime) -> Result<(), NoMemory> {
+    let alloc = rt.alloc();
+    let mut opening = Opening::new();
+    let Ok((mut publisher, seats)) = open(&rt, alloc, &mut opening, options(alloc), 1) else {
+        return Err(NoMemory);
+    };
+    let mut seats = seats.into_vec();
+    let Some(mut seat) = seats.pop() else {
+        publisher.close(&rt);
+        return Err(NoMemory);
+    };
+    let (shown, read) = thread::join(
+        &rt,
+        || show_all(&rt, alloc, &mut publisher),
+        || read_often(&mut seat),
+    );
+    let last = read_once(&mut seat);
+    publisher.close(&rt);
+    assert!(rt; shown.is_ok());
+    assert!(rt; read);
+    assert_eq!(rt; last, Some(9_000));
+    assert_eq!(rt; seat.end(), 9_001);
+    assert_eq!(rt; seat.misses(), 0);
+    assert_eq!(rt; opening.refused(), 0);
+    Ok(())
+}
+
+fn options(alloc: Global) -> Options {
+    Options {
+        node: 1,
+        salt: 1,
+        session_ms: 9_000,
+        partitions: 1,
+        factor: 1,
+        minimum: 1,
+        cluster: Text::new(alloc),
+    }
+}
+
+// The topic stands at place 0, and its partitions at the places from 1 on.
+fn record_at(alloc: Global, place: i64) -> Result<Record, NoMemory> {
+    if place == 0 {
+        let name = Text::from_str(alloc, "orders")?;
+        return Ok(Record::Topic { name, id: TOPIC });
+    }
+    let mut replicas = Ids::new(alloc);
+    replicas.push(1)?;
+    let mut in_sync = Ids::new(alloc);
+    in_sync.push(1)?;
+    let state = Partition {
+        replicas,
+        in_sync,
+        eligible: Ids::new(alloc),
+        last_known: Ids::new(alloc),
+        adding: Ids::new(alloc),
+        removing: Ids::new(alloc),
+        leader: 1,
+        recovery: 0,
+        leader_epoch: 0,
+        partition_epoch: 0,
+    };
+    Ok(Record::Partition {
+        index: place.wrapping_sub(1) as i32,
+        topic: TOPIC,
+        state,
+    })
+}
+
+fn entry_at(alloc: Global, place: i64) -> Result<Entry, NoMemory>
+    ensures { IfOk result (λ e. is_logged e ≡ true) }
+{
+    let item = Item::Record(record_at(alloc, place)?);
+    Ok(Entry::Item { place, item })
+}
+
+fn stage_run(
+    alloc: Global,
+    publisher: &mut Publisher,
+    first: i64,
+    end: i64,
+) -> Result<(), NoMemory>
+    requires { HasNothing publisher.old }
+    ensures { OnOk result (IsLogged publisher.new) }
+{
+    for place in first..end {
+        if publisher.stage(entry_at(alloc, place)?).is_err() {
+            return Err(NoMemory);
+        }
+    }
+    Ok(())
+}
+
+// Shows the entries from the first place up to the end at one step.
+fn show_run<R: Wait>(
+    rt: &R,
+    alloc: Global,
+    publisher: &mut Publisher,
+    first: i64,
+    end: i64,
+) -> Result<(), NoMemory>
+    requires { HasNothing publisher.old }
+    ensures { OnOk result (HasNothing publisher.new) }
+{
+    stage_run(alloc, publisher, first, end)?;
+    logged_entries_are_right();
+    publisher.publish(rt, end)?;
+    publisher.drop_staged();
+    Ok(())
+}
+
+fn show_all<R: Wait>(rt: &R, alloc: Global, publisher: &mut Publisher) -> Result<(), NoMemory>
+    requires { HasNothing publisher.old }
+{
+    show_run(rt, alloc, publisher, 0, 1)?;
+    for run in 0..RUNS {
+        let first = run * AT_ONCE + 1;
+        show_run(rt, alloc, publisher, first, first + AT_ONCE)?;
+    }
+    Ok(())
+}
+
+fn all_topics() -> Call
+    ensures { IsTrue (is_read result.request) }
+{
+    Call {
+        correlation: 1,
+        request: Request::Metadata(Metadata { topics: None }),
+    }
+}
+
+// How many partitions the reply has of the one topic.
+fn partitions_in(reply: &MetadataReply) -> usize {
+    match reply.topics.as_slice().first() {
+        Some(topic) => topic.partitions.len(),
+        None => 0,
+    }
+}
+
+// How many partitions the seat sees.
+fn read_once(seat: &mut ReaderSeat) -> Option<usize> {
+    match seat.read(&all_topics()) {
+        Ok(Reply::Metadata(reply)) => Some(partitions_in(&reply)),
+        _ => None,
+    }
+}
+
+// Reads again and again: the seat sees whole runs, and never fewer partitions than before.
+fn read_often(seat: &mut ReaderSeat) -> bool {
+    let mut before = 0;
+    for _ in 0..READS {
+        let Some(count) = read_once(seat) else {
+            return false;
+        };
+        if count < before || count % 1_000 != 0 {
+            return false;
+        }
+        before = count;
+    }
+    true
+}
