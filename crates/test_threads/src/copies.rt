@@ -1,6 +1,6 @@
 //! Partitions are shown in runs, and read meanwhile in another thread.
 
-ghost use Rattle.std.specs.Prelude.{◌≡◌, ◌≤ℤ◌, pos, IfOk, IsTrue, OnOk, true};
+ghost use Rattle.std.specs.Prelude.{◌≡◌, true, IfOk, IsTrue, OnOk};
 ghost use Rattle.kr_calls.specs.Decide.{is_read};
 ghost use Rattle.kr_view.specs.Staged.{is_logged};
 ghost use Rattle.kr_view.specs.StagedLaws.{HasNothing, IsLogged};
@@ -9,10 +9,11 @@ use kr_base::NoMemory;
 use kr_calls::{Call, Entry, Metadata, MetadataReply, Reply, Request};
 use kr_defs::{Ids, Item, Options, Partition, Record, Text};
 use kr_view::laws::logged_entries_are_right;
-use kr_view::{Opening, Publisher, ReaderSeat, open};
+use kr_view::{Opening, Publisher, ReaderSeat, ReaderSeats, open};
 use std::alloc::Global;
 use std::sync::Wait;
 use std::thread;
+use std::thread::Threads;
 
 // How many partitions are shown at one step, how many steps there are, and how often they are read meanwhile.
 const AT_ONCE: i64 = 1_000;
@@ -21,6 +22,17 @@ const READS: u32 = 50;
 
 const TOPIC: u128 = 7;
 
+// What a reader saw.
+#[derive(Drop)]
+struct Outcome {
+    // Whole runs alone, and never fewer partitions than before.
+    is_whole: bool,
+    // How many partitions in the end.
+    last: Option<usize>,
+    end: i64,
+    misses: u64,
+}
+
 #[test]
 fn partitions_are_shown_while_they_are_read(rt: HostRuntime) -> Result<(), NoMemory> {
     let alloc = rt.alloc();
@@ -28,25 +40,41 @@ fn partitions_are_shown_while_they_are_read(rt: HostRuntime) -> Result<(), NoMem
     let Ok((mut publisher, seats)) = open(&rt, alloc, &mut opening, options(alloc), 1) else {
         return Err(NoMemory);
     };
-    let mut seats = seats.into_vec();
-    let Some(mut seat) = seats.pop() else {
-        publisher.close(&rt);
-        return Err(NoMemory);
-    };
-    let (shown, read) = thread::join(
-        &rt,
-        || show_all(&rt, alloc, &mut publisher),
-        || read_often(&mut seat),
-    );
-    let last = read_once(&mut seat);
+    let outcome = show_and_read(&rt, alloc, &mut publisher, seats);
     publisher.close(&rt);
-    assert!(rt; shown.is_ok());
-    assert!(rt; read);
-    assert_eq!(rt; last, Some(9_000));
-    assert_eq!(rt; seat.end(), 9_001);
-    assert_eq!(rt; seat.misses(), 0);
+    let outcome = outcome?;
+    assert!(rt; outcome.is_whole);
+    assert_eq!(rt; outcome.last, Some(9_000));
+    assert_eq!(rt; outcome.end, 9_001);
+    assert_eq!(rt; outcome.misses, 0);
     assert_eq!(rt; opening.refused(), 0);
     Ok(())
+}
+
+fn show_and_read<R: Threads + Wait>(
+    rt: &R,
+    alloc: Global,
+    publisher: &mut Publisher,
+    seats: ReaderSeats,
+) -> Result<Outcome, NoMemory>
+    requires { HasNothing publisher.old }
+{
+    let Some(seat) = seats.into_vec().pop() else {
+        return Err(NoMemory);
+    };
+    let Ok(reader) = thread::spawn(rt, move || read_often(seat)) else {
+        return Err(NoMemory);
+    };
+    let shown = show_all(rt, alloc, publisher);
+    let (is_whole, mut seat) = reader.join(rt);
+    shown?;
+    let last = read_once(&mut seat);
+    Ok(Outcome {
+        is_whole,
+        last,
+        end: seat.end(),
+        misses: seat.misses(),
+    })
 }
 
 fn options(alloc: Global) -> Options {
@@ -168,8 +196,14 @@ fn read_once(seat: &mut ReaderSeat) -> Option<usize> {
     }
 }
 
-// Reads again and again: the seat sees whole runs, and never fewer partitions than before.
-fn read_often(seat: &mut ReaderSeat) -> bool {
+// Reads again and again, and says whether the seat saw whole runs and never fewer partitions than before.
+fn read_often(seat: ReaderSeat) -> (bool, ReaderSeat) {
+    let mut seat = seat;
+    let is_whole = sees_whole_runs(&mut seat);
+    (is_whole, seat)
+}
+
+fn sees_whole_runs(seat: &mut ReaderSeat) -> bool {
     let mut before = 0;
     for _ in 0..READS {
         let Some(count) = read_once(seat) else {
