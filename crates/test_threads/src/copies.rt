@@ -16,8 +16,8 @@ use std::thread;
 use std::thread::Threads;
 
 // How many partitions are shown at one step, how many steps there are, and how often they are read meanwhile.
-const AT_ONCE: i64 = 1_000;
-const RUNS: i64 = 9;
+const AT_ONCE: i32 = 1_000;
+const RUNS: i32 = 9;
 const READS: u32 = 50;
 
 const TOPIC: u128 = 7;
@@ -90,7 +90,7 @@ fn options(alloc: Global) -> Options {
 }
 
 // The topic stands at place 0, and its partitions at the places from 1 on.
-fn record_at(alloc: Global, place: i64) -> Result<Record, NoMemory> {
+fn record_at(alloc: Global, place: i32) -> Result<Record, NoMemory> {
     if place == 0 {
         let name = Text::from_str(alloc, "orders")?;
         return Ok(Record::Topic { name, id: TOPIC });
@@ -112,24 +112,25 @@ fn record_at(alloc: Global, place: i64) -> Result<Record, NoMemory> {
         partition_epoch: 0,
     };
     Ok(Record::Partition {
-        index: place.wrapping_sub(1) as i32,
+        index: place.wrapping_sub(1),
         topic: TOPIC,
         state,
     })
 }
 
-fn entry_at(alloc: Global, place: i64) -> Result<Entry, NoMemory>
+fn entry_at(alloc: Global, place: i32) -> Result<Entry, NoMemory>
     ensures { IfOk result (λ e. is_logged e ≡ true) }
 {
     let item = Item::Record(record_at(alloc, place)?);
+    let place = i64::from(place);
     Ok(Entry::Item { place, item })
 }
 
 fn stage_run(
     alloc: Global,
     publisher: &mut Publisher,
-    first: i64,
-    end: i64,
+    first: i32,
+    end: i32,
 ) -> Result<(), NoMemory>
     requires { HasNothing publisher.old }
     ensures { OnOk result (IsLogged publisher.new) }
@@ -147,15 +148,15 @@ fn show_run<R: Wait>(
     rt: &R,
     alloc: Global,
     publisher: &mut Publisher,
-    first: i64,
-    end: i64,
+    first: i32,
+    end: i32,
 ) -> Result<(), NoMemory>
     requires { HasNothing publisher.old }
     ensures { OnOk result (HasNothing publisher.new) }
 {
     stage_run(alloc, publisher, first, end)?;
     logged_entries_are_right();
-    publisher.publish(rt, end)?;
+    publisher.publish(rt, i64::from(end))?;
     publisher.drop_staged();
     Ok(())
 }
@@ -165,8 +166,8 @@ fn show_all<R: Wait>(rt: &R, alloc: Global, publisher: &mut Publisher) -> Result
 {
     show_run(rt, alloc, publisher, 0, 1)?;
     for run in 0..RUNS {
-        let first = run * AT_ONCE + 1;
-        show_run(rt, alloc, publisher, first, first + AT_ONCE)?;
+        let first = run.wrapping_mul(AT_ONCE).wrapping_add(1);
+        show_run(rt, alloc, publisher, first, first.wrapping_add(AT_ONCE))?;
     }
     Ok(())
 }
