@@ -3,5 +3,5 @@ pub mod Moves
 pub mod Shows
 pub mod Finds
 pub mod Runs
-pub mod Reads
+pub mod Replied
 pub mod Logged

@@ -11,7 +11,7 @@ use crate::publisher::Publisher;
 use crate::rule::{CopiesRule, Note, Seen};
 use crate::seat::ReaderSeat;
 use crate::shown::Shown;
-use crate::window::{Copies, Window, show};
+use crate::window::{Copies, show};
 use kr_base::{NoMemory, Shared};
 use kr_defs::{Options, Rows};
 use left_right::reader::Reader;
@@ -132,7 +132,7 @@ pub fn open<R: Wait>(
         return Err(ViewFault::NoMemory);
     };
     match first_seats(alloc, opening, &mut copies, readers) {
-        Ok(seats) => Ok((Publisher::new(alloc, Window::new(alloc, copies)), seats)),
+        Ok(seats) => Ok((Publisher::new(alloc, copies), seats)),
         Err(fault) => {
             drop(copies.take(rt));
             Err(fault)

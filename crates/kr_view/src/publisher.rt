@@ -1,11 +1,12 @@
 //! The worker's side: what is staged, and its publishing.
 
-ghost use Rattle.std.specs.Prelude.{◌≡◌, [], ◌∷◌, ◌++◌, MatchResult, OnOk, IfOk};
+ghost use Rattle.std.specs.Prelude.{◌≡◌, [], ◌∷◌, ◌++◌, drop, MatchResult, OnOk};
 ghost use Rattle.kr_calls.specs.RightAnswers.{RightAfter};
 ghost use Rattle.kr_calls.specs.SeatList.{is_below};
 ghost use Rattle.kr_view.specs.Staged.{above, below, is_logged};
+ghost use Rattle.kr_view.specs.Steps.{entries_in};
 
-use crate::window::Window;
+use crate::window::{Copies, Window};
 use kr_base::NoMemory;
 use kr_calls::Entry;
 use std::alloc::Global;
@@ -104,11 +105,11 @@ fn choose_notes(window: &mut Window, notes: &mut VecDeque<Entry>) -> Result<(), 
 impl Publisher {
     ghost use Rattle.kr_view.specs.Shelves.{next_at, shown_at, with_staged, IsDelayed};
 
-    pub(crate) fn new(alloc: Global, window: Window) -> Publisher
-        ensures { result ≡ record { options = window.options; list = window.list; waiting = window.waiting; items = []; notes = [] } }
+    pub(crate) fn new(alloc: Global, copies: Copies) -> Publisher
+        ensures { result ≡ record { options = copies.desk.shown.value.options; list = copies.desk.shown.value.list; waiting = entries_in (drop copies.behind copies.log.items); items = []; notes = [] } }
     {
         Publisher {
-            window,
+            window: Window::new(alloc, copies),
             items: VecDeque::new(alloc),
             notes: VecDeque::new(alloc),
         }

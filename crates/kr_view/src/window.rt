@@ -16,7 +16,6 @@ use kr_calls::Entry;
 use kr_defs::Records;
 use left_right::writer::Writer;
 use std::alloc::{AllocError, Global};
-use std::collections::VecDeque;
 use std::marker::Model;
 use std::sync::Wait;
 
@@ -89,8 +88,6 @@ fn show_held<R: Wait>(copies: &mut Copies, rt: &R) -> Result<(), AllocError>
 
 impl Window {
     ghost use Rattle.kr_view.specs.Displays.{with_waiting, all_shown};
-    ghost use Rattle.kr_view.specs.Runs.{is_load};
-    ghost use Rattle.std.specs.Prelude.{false};
 
     pub(crate) fn new(alloc: Global, copies: Copies) -> Window
         ensures { result ≡ record { options = copies.desk.shown.value.options; list = copies.desk.shown.value.list; waiting = entries_in (drop copies.behind copies.log.items) } }

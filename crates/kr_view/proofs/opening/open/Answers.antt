@@ -3,6 +3,7 @@ use Rattle.kr_defs.specs.declared.options.Options.{Options}
 use Rattle.left_right.specs.declared.part.Part.{Part}
 use Rattle.kr_view.specs.Opened.{AreSeats}
 use Rattle.kr_view.specs.Showing.{Showing, showing}
+use Rattle.kr_view.specs.Steps.{entries_in}
 use Rattle.kr_view.proofs.opening.open.Goals as goal
 
 pub returns-in-Ok-seats : goal.returns-in-Ok-seats
@@ -16,7 +17,7 @@ returns-in-Ok-seats g c =
     let l : w.desk.shown.value.list ≡ [] = ap (λ (x : Showing). x.list) shown in
     let p : drop w.behind w.log.items ≡ [] = cc in
     record {
-      publisher = n ∙ (λ i. record { options = o i; list = l i; waiting = p i; items = []; notes = [] });
+      publisher = n ∙ (λ i. record { options = o i; list = l i; waiting = entries_in (p i); items = []; notes = [] });
       many = c.in-Ok-seats.ensures.seats.0;
       seats = subst (λ (k : Options). AreSeats k c.in-Ok-seats.seats) (ap (λ (x : Showing). x.options) d.0) c.in-Ok-seats.ensures.seats.1;
     }
