@@ -1,5 +1,6 @@
 -- Entries of the log alone are right wherever they come.
 use Rattle.std.proofs.Common.{◌≡◌, ℤ, Bool, true, false, true≢false, List, [], ◌∷◌, ◌++◌, All, cond, refl, sym, subst, append-nil, ap, ◌∙◌}
+use Rattle.std.proofs.lemmas.List.Elements.{All-head, All-tail}
 use Rattle.kr_defs.specs.declared.options.Options.{Options}
 use Rattle.kr_calls.specs.declared.events.Entry.{Entry}
 use Rattle.kr_calls.specs.declared.events.Entry.TheVariants as entries
@@ -21,7 +22,7 @@ first o before e rest false is more = tt
 
 below_end : (o : Options) (end : ℤ) (before list : List Entry) → All (λ e. is_logged e ≡ true) list → RightAfter o before (below end list)
 below_end o end before [] all = tt
-below_end o end before (e ∷ es) all = first o before e (below end es) (is_below end e) (right o before e all.0) (below_end o end (before ++ e ∷ []) es all.1)
+below_end o end before (e ∷ es) all = first o before e (below end es) (is_below end e) (right o before e (All-head (λ (x : Entry). is_logged x ≡ true) e es all)) (below_end o end (before ++ e ∷ []) es (All-tail (λ (x : Entry). is_logged x ≡ true) e es all))
 
 pub are_right : LoggedEntriesAreRight
 are_right end s is =

@@ -1,6 +1,7 @@
 -- The end rises where a run of entries changes the image.
 use Rattle.std.proofs.Common.{◌≡◌, ◌≢◌, ◌⊎◌, inl, inr, ⊎_elim, ℤ, pos, Bool, true, false, ◌&&◌, cond, true≢false, List, [], ◌∷◌, fold, refl, sym, ap, ◌∙◌, subst, arith}
 use Rattle.std.proofs.lemmas.Int.{ints}
+use Rattle.std.proofs.lemmas.List.Elements.{All-head, All-tail}
 use Rattle.std.proofs.lemmas.Bool.Decides.{Decides-int_eq}
 use Rattle.std.specs.Prelude.{◌+ℤ◌, negsuc, int_lt, Result, Ok, Err}
 use Rattle.std.specs.Ordering.{int_eq}
@@ -76,4 +77,4 @@ alike r (entries.Stop number) plain = refl
 -- without loads a run is what its entries say
 pub same_without_loads : (r : Reached) (es : List Entry) → AreNoLoads es → fold run_with r es ≡ fold reached_with r es
 same_without_loads r [] plain = refl
-same_without_loads r (e ∷ es) plain = ap (λ (x : Reached). fold run_with x es) (alike r e plain.0) ∙ same_without_loads (reached_with r e) es plain.1
+same_without_loads r (e ∷ es) plain = ap (λ (x : Reached). fold run_with x es) (alike r e (All-head (λ (x : Entry). is_load x ≡ false) e es plain)) ∙ same_without_loads (reached_with r e) es (All-tail (λ (x : Entry). is_load x ≡ false) e es plain)
