@@ -15,6 +15,7 @@ use crate::rule::{CopiesRule, Seen};
 use crate::shown::Shown;
 use core::mem::replace_with;
 use kr_base::NoMemory;
+use kr_calls::{Call, Reply};
 use left_right::reader::Reader;
 use std::marker::Model;
 
@@ -74,6 +75,27 @@ fn look_once(held: Held, number: u32, ticket: u64) -> (Held, Result<Look, CopyFa
     }
 }
 
+fn read_once(held: Held, call: &Call) -> (Held, Result<Reply, CopyFault>)
+    requires { IsTrue (is_read call.now.request) }
+    ensures onward { Onward (seen_by held.edge) (seen_by result.0.edge) }
+    ensures reply { IfOk result.1 (λ reply. query (seen_by result.0.edge).options (image_of (seen_by result.0.edge).list) call.now.request ≡ Some reply) }
+    ensures cause { HasEdgeCause held.edge result.0.edge result.1 }
+{
+    let Held { edge, end } = held;
+    match edge.enter() {
+        Ok(entered) => {
+            let reply = entered.get().reply(&call.request);
+            let end = entered.get().end();
+            let edge = entered.leave();
+            match reply {
+                Ok(reply) => (Held { edge, end }, Ok(reply)),
+                Err(NoMemory) => (Held { edge, end }, Err(CopyFault::NoMemory)),
+            }
+        }
+        Err(edge) => (Held { edge, end }, Err(CopyFault::NoCopy)),
+    }
+}
+
 impl ReaderSeat {
     ghost use Rattle.kr_view.specs.Seats.{HasCopyCause};
 
@@ -123,4 +145,15 @@ impl ReaderSeat {
         })
     }
 
+    /// The reply to a read on the image of all that is published. It waits for nobody. NoCopy only where the seat got no
+    /// copy, and then nothing but the count has changed.
+    pub fn read(&mut self, call: &Call) -> Result<Reply, CopyFault>
+        requires { IsTrue (is_read call.now.request) }
+        ensures same { self.new.number ≡ self.old.number }
+        ensures onward { Onward self.old.seen self.new.seen }
+        ensures reply { IfOk result (λ reply. query self.new.seen.options (image_of self.new.seen.list) call.now.request ≡ Some reply) }
+        ensures cause { HasCopyCause self.old self.new result }
+    {
+        replace_with(&mut self.held, call, |held, call| read_once(held, call))
+    }
 }

@@ -13,8 +13,9 @@ use crate::run::Step;
 use crate::standing::Standing;
 use crate::table::{Table, answers_of};
 use kr_base::{History, NoMemory, Shared};
-use kr_calls::Entry;
+use kr_calls::{Entry, Reply, Request};
 use kr_defs::Options;
+use kr_store::At;
 use left_right::Absorb;
 use std::alloc::{AllocError, Global};
 use std::marker::Model;
@@ -104,6 +105,20 @@ impl Shown {
         ensures { result ≡ end_of self.now.list }
     {
         self.standing.end()
+    }
+
+    /// The reply to a read, on the image at the end of the entries.
+    #[tactic(auto, using(crate::proofs::Replied::no_read_without_reply))]
+    pub(crate) fn reply(&self, request: &Request) -> Result<Reply, NoMemory>
+        requires { IsTrue (is_read request.now) }
+        ensures { IfOk result (λ reply. query self.now.options (image_of self.now.list) request.now ≡ Some reply) }
+    {
+        let store = self.standing.store();
+        match kr_handlers::read(self.alloc, store, At::Tip, self.options.get(), request) {
+            Ok(Some(reply)) => Ok(reply),
+            Ok(None) => unreachable!(),
+            Err(_) => Err(NoMemory),
+        }
     }
 
     /// What the entries say of a seat's ticket.
