@@ -7,7 +7,7 @@ use Rattle.atomic_table.proofs.Lists.{at_set, at_snoc}
 use Rattle.kr_defs.specs.declared.options.Options.{Options}
 use Rattle.kr_calls.specs.declared.events.Entry.{Entry}
 use Rattle.kr_view.specs.declared.rule.Seen.{Seen}
-use Rattle.kr_calls.specs.RightAnswers.{RightAfter, AllRight}
+use Rattle.kr_calls.specs.RightAnswers.{AreRightAfter, AreRight}
 use Rattle.kr_view.specs.AtomicSteps.{SeatIsMade, Publishes, Enters}
 use Rattle.kr_view.specs.CopiesRule.{seen, unseen, Fits, IsKept, GoesOn, Saw}
 use Rattle.kr_view.specs.Showing.{Showing, showing, showing_more}
@@ -18,9 +18,9 @@ goes-on-trans a b c p q = (q.0 ++ p.0, p.1 ∙ ap (λ l. l ++ p.0) q.1 ∙ appen
 pub goes-on-refl : (a : List Entry) → GoesOn a a
 goes-on-refl a = ([], sym (append-nil a))
 
-pub right-append : (o : Options) (before xs ys : List Entry) → RightAfter o before xs → RightAfter o (before ++ xs) ys → RightAfter o before (xs ++ ys)
-right-append o before [] ys a b = subst (λ l. RightAfter o l ys) (append-nil before) b
-right-append o before (x ∷ xs) ys a b = (a.0, right-append o (before ++ x ∷ []) xs ys a.1 (subst (λ l. RightAfter o l ys) (sym (append_assoc before (x ∷ []) xs)) b))
+pub right-append : (o : Options) (before xs ys : List Entry) → AreRightAfter o before xs → AreRightAfter o (before ++ xs) ys → AreRightAfter o before (xs ++ ys)
+right-append o before [] ys a b = subst (λ l. AreRightAfter o l ys) (append-nil before) b
+right-append o before (x ∷ xs) ys a b = (a.0, right-append o (before ++ x ∷ []) xs ys a.1 (subst (λ l. AreRightAfter o l ys) (sym (append_assoc before (x ∷ []) xs)) b))
 
 set_fits : (x : Showing) (views : List Seen) (pass : ℕ) (w : Seen) → ((j : ℕ) (u : Seen) → j ≢ pass → get_elem? views j ≡ some u → Fits x u) → Fits x w → (j : ℕ) (u : Seen) → get_elem? (set views pass w) j ≡ some u → Fits x u
 set_fits x views pass w old new j u e =
@@ -41,15 +41,15 @@ onward : (x y : Showing) (u : Seen) → y.options ≡ x.options → GoesOn y.lis
 onward x y u same more fits = record { begins = goes-on-trans y.list x.list u.list more fits.begins; options = λ s. fits.options s ∙ sym same }
 
 -- what is shown goes on, and one thread sees all of it
-turned : (x y : Showing) (views : List Seen) (number : ℕ) → y.options ≡ x.options → GoesOn y.list x.list → AllRight y.options y.list → IsKept x views → IsKept y (set views number (seen true y.options y.list))
+turned : (x y : Showing) (views : List Seen) (number : ℕ) → y.options ≡ x.options → GoesOn y.list x.list → AreRight y.options y.list → IsKept x views → IsKept y (set views number (seen true y.options y.list))
 turned x y views number same more right h = record {
   right = right;
   fits = set_fits y views number (seen true y.options y.list) (λ j u _ e. onward x y u same more (h.fits j u e)) (record { begins = goes-on-refl y.list; options = λ _. refl });
 }
 
-pub turns : (pass : ℕ) (v : Seen) (x y : Showing) → y.options ≡ x.options → GoesOn y.list x.list → (AllRight x.options x.list → AllRight y.options y.list) → TurnsAt IsKept pass v x y Saw
+pub turns : (pass : ℕ) (v : Seen) (x y : Showing) → y.options ≡ x.options → GoesOn y.list x.list → (AreRight x.options x.list → AreRight y.options y.list) → TurnsAt IsKept pass v x y Saw
 turns pass v x y same more right views h at =
-    let all : AllRight y.options y.list = right h.right in
+    let all : AreRight y.options y.list = right h.right in
     let mine : Fits y v = onward x y v same more (h.fits pass v at) in
     (seen true y.options y.list, turned x y views pass same more all h, record { later = mine.begins; is = refl; right = all; same = mine.options })
 

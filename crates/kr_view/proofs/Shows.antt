@@ -5,7 +5,7 @@ use Rattle.left_right.specs.Register.{TurnsAt}
 use Rattle.kr_defs.specs.declared.options.Options.{Options}
 use Rattle.kr_calls.specs.declared.events.Entry.{Entry}
 use Rattle.kr_view.specs.declared.rule.Seen.{Seen}
-use Rattle.kr_calls.specs.RightAnswers.{RightAfter}
+use Rattle.kr_calls.specs.RightAnswers.{AreRightAfter}
 use Rattle.kr_view.specs.declared.run.Step.{Step}
 use Rattle.kr_view.specs.CopiesRule.{IsKept, Saw, seen}
 use Rattle.kr_view.specs.Showing.{Showing, showing, showing_more}
@@ -28,13 +28,13 @@ Folded old new steps = new ≡ fold with_step old steps
 shows : (old new : Showing) (steps : List Step) → Folded old new steps → new ≡ showing_more old (entries_in steps)
 shows old new steps is = is ∙ all_steps old steps ∙ ap (showing old.options) (behind old.list steps)
 
-pub may_publish : (pass : ℕ) (v : Seen) (old new : Showing) (steps : List Step) → RightAfter old.options old.list (entries_in steps) → Folded old new steps → TurnsAt IsKept pass v old new Saw
+pub may_publish : (pass : ℕ) (v : Seen) (old new : Showing) (steps : List Step) → AreRightAfter old.options old.list (entries_in steps) → Folded old new steps → TurnsAt IsKept pass v old new Saw
 may_publish pass v old new steps right is =
     let es = entries_in steps in
     let s = shows old new steps is in
     let o : new.options ≡ old.options = ap (λ (s : Showing). s.options) s in
     let l : new.list ≡ old.list ++ es = ap (λ (s : Showing). s.list) s in
-    turns pass v old new o (es, l) (λ before. subst (λ (y : Options × List Entry). RightAfter y.0 [] y.1) (λ i. (sym o i, sym l i)) (right-append old.options [] old.list es before right))
+    turns pass v old new o (es, l) (λ before. subst (λ (y : Options × List Entry). AreRightAfter y.0 [] y.1) (λ i. (sym o i, sym l i)) (right-append old.options [] old.list es before right))
 
 module _ {T E : Type 0} (old new : Showing) (steps left : List Step) where
   pub list_after : (r : Result T E) → MatchResult r (λ _. Folded old new steps × (left ≡ [])) (λ _. (new ≡ old) × (left ≡ steps))

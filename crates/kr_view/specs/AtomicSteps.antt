@@ -4,7 +4,7 @@ use mathlib.Core.Option.{some}
 use lib.ListN.{get_elem?}
 use Rattle.kr_defs.specs.declared.options.Options.{Options}
 use Rattle.kr_calls.specs.declared.events.Entry.{Entry}
-use Rattle.kr_calls.specs.RightAnswers.{RightAfter}
+use Rattle.kr_calls.specs.RightAnswers.{AreRightAfter}
 use Rattle.kr_view.specs.declared.rule.Seen.{Seen}
 use Rattle.kr_view.specs.CopiesRule.{IsKept, seen}
 use Rattle.kr_view.specs.Showing.{Showing, showing, showing_more}
@@ -21,7 +21,7 @@ SeatIsMade = (o : Options) (views : List Seen) → IsKept (showing o []) views �
 abbrev pub Publishes : Type 0
 Publishes =
     (x : Showing) (views : List Seen) (number : ℕ) (v : Seen) (more : List Entry)
-    → RightAfter x.options x.list more → get_elem? views number ≡ some v → IsKept x views
+    → AreRightAfter x.options x.list more → get_elem? views number ≡ some v → IsKept x views
     → IsKept (showing_more x more) (slice_set views number (all_of (showing_more x more)))
 
 -- a reader enters, and has seen what is published

@@ -4,7 +4,7 @@ use mathlib.Core.Option.{some}
 use lib.ListN.{get_elem?}
 use Rattle.kr_defs.specs.declared.options.Options.{Options}
 use Rattle.kr_calls.specs.declared.events.Entry.{Entry}
-use Rattle.kr_calls.specs.RightAnswers.{AllRight}
+use Rattle.kr_calls.specs.RightAnswers.{AreRight}
 use Rattle.kr_view.specs.declared.rule.Seen.{Seen}
 use Rattle.kr_view.specs.Showing.{Showing}
 
@@ -29,12 +29,12 @@ pub record Fits (x : Showing) (v : Seen) : Type 0 where
 
 -- the rule, of what is shown and of what each thread has seen: besides, each answer that is shown is right in the entries before it
 pub record IsKept (x : Showing) (views : List Seen) : Type 0 where
-  pub right : AllRight x.options x.list
+  pub right : AreRight x.options x.list
   pub fits : (number : ℕ) (v : Seen) → get_elem? views number ≡ some v → Fits x v
 
 -- the thread has seen all that y shows, which goes on from what it had seen under the same options
 pub record Saw (v : Seen) (x y : Showing) (w : Seen) : Type 0 where
   pub later : GoesOn w.list v.list
   pub is : w ≡ seen true y.options y.list
-  pub right : AllRight y.options y.list
+  pub right : AreRight y.options y.list
   pub same : v.seated ≡ true → v.options ≡ y.options

@@ -1,7 +1,7 @@
 -- What is true of staged entries of the log alone. This project's own.
 use Rattle.std.specs.Prelude.{◌≡◌, ℤ, true, List, [], All}
 use Rattle.kr_calls.specs.declared.events.Entry.{Entry}
-use Rattle.kr_calls.specs.RightAnswers.{RightAfter}
+use Rattle.kr_calls.specs.RightAnswers.{AreRightAfter}
 use Rattle.kr_view.specs.Shelves.{Shelf, next_at}
 use Rattle.kr_view.specs.Staged.{is_logged}
 
@@ -19,4 +19,4 @@ pub record HasNothing (s : Shelf) : Type 0 where
 
 -- where no answer is staged, a publish may come
 abbrev pub LoggedEntriesAreRight : Type 0
-LoggedEntriesAreRight = (end : ℤ) (s : Shelf) → IsLogged s → RightAfter s.options s.list (next_at end s)
+LoggedEntriesAreRight = (end : ℤ) (s : Shelf) → IsLogged s → AreRightAfter s.options s.list (next_at end s)

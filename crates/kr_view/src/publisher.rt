@@ -1,7 +1,7 @@
 //! The worker's side: what is staged, and its publishing.
 
 ghost use Rattle.std.specs.Prelude.{◌≡◌, [], ◌∷◌, ◌++◌, drop, MatchResult, OnOk};
-ghost use Rattle.kr_calls.specs.RightAnswers.{RightAfter};
+ghost use Rattle.kr_calls.specs.RightAnswers.{AreRightAfter};
 ghost use Rattle.kr_calls.specs.SeatList.{is_below};
 ghost use Rattle.kr_view.specs.Staged.{above, below, is_logged};
 ghost use Rattle.kr_view.specs.Steps.{entries_in};
@@ -130,7 +130,7 @@ impl Publisher {
     /// Each of these answers is right in the entries before it. Without memory what is visible is as before, and a publish
     /// at this end shows the same; a later publish shows first what this one chose.
     pub fn publish<R: Wait>(&mut self, rt: &R, end: i64) -> Result<(), NoMemory>
-        requires { RightAfter self.old.options self.old.list (next_at end self.old) }
+        requires { AreRightAfter self.old.options self.old.list (next_at end self.old) }
         ensures { MatchResult result (λ _. self.new ≡ shown_at end self.old) (λ _. IsDelayed end self.old self.new) }
     {
         choose_items(&mut self.window, &mut self.items, &end)?;

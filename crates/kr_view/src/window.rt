@@ -3,7 +3,7 @@
 ghost use Rattle.std.specs.Prelude.{◌≡◌, true, [], ◌∷◌, ◌++◌, drop, OnOk, OnErr, MatchResult, IfOk};
 ghost use Rattle.left_right.specs.Sides.{view};
 ghost use Rattle.kr_calls.specs.declared.events.Entry.TheVariants as entries;
-ghost use Rattle.kr_calls.specs.RightAnswers.{RightAfter};
+ghost use Rattle.kr_calls.specs.RightAnswers.{AreRightAfter};
 ghost use Rattle.kr_view.specs.CopiesRule.{seen};
 ghost use Rattle.kr_view.specs.Steps.{entries_in};
 
@@ -69,7 +69,7 @@ fn flush(copies: &mut Copies, run: &mut Run, alloc: Global) -> Result<(), NoMemo
 
 // Shows what was handed over.
 pub(crate) fn show<R: Wait>(copies: Copies, rt: &R) -> (Copies, Result<(), AllocError>)
-    requires { RightAfter copies.desk.shown.value.options copies.desk.shown.value.list (entries_in (drop copies.behind copies.log.items)) }
+    requires { AreRightAfter copies.desk.shown.value.options copies.desk.shown.value.list (entries_in (drop copies.behind copies.log.items)) }
     ensures list { MatchResult result.1 (λ _. (result.0.desk.shown.value.list ≡ copies.desk.shown.value.list ++ entries_in (drop copies.behind copies.log.items)) × (drop result.0.behind result.0.log.items ≡ [])) (λ _. (result.0.desk.shown.value.list ≡ copies.desk.shown.value.list) × (drop result.0.behind result.0.log.items ≡ drop copies.behind copies.log.items)) }
     ensures options { result.0.desk.shown.value.options ≡ copies.desk.shown.value.options }
     ensures view { IfOk result.1 (λ _. view result.0.desk.place ≡ seen true result.0.desk.shown.value.options result.0.desk.shown.value.list) }
@@ -79,7 +79,7 @@ pub(crate) fn show<R: Wait>(copies: Copies, rt: &R) -> (Copies, Result<(), Alloc
 
 // The same, where the writer stands.
 fn show_held<R: Wait>(copies: &mut Copies, rt: &R) -> Result<(), AllocError>
-    requires { RightAfter copies.old.desk.shown.value.options copies.old.desk.shown.value.list (entries_in (drop copies.old.behind copies.old.log.items)) }
+    requires { AreRightAfter copies.old.desk.shown.value.options copies.old.desk.shown.value.list (entries_in (drop copies.old.behind copies.old.log.items)) }
     ensures list { MatchResult result (λ _. (copies.new.desk.shown.value.list ≡ copies.old.desk.shown.value.list ++ entries_in (drop copies.old.behind copies.old.log.items)) × (drop copies.new.behind copies.new.log.items ≡ [])) (λ _. (copies.new.desk.shown.value.list ≡ copies.old.desk.shown.value.list) × (drop copies.new.behind copies.new.log.items ≡ drop copies.old.behind copies.old.log.items)) }
     ensures options { copies.new.desk.shown.value.options ≡ copies.old.desk.shown.value.options }
 {
@@ -125,7 +125,7 @@ impl Window {
 
     /// Shows all that was chosen, at one step. Without memory nothing changes.
     pub(crate) fn show<R: Wait>(&mut self, rt: &R) -> Result<(), NoMemory>
-        requires { RightAfter self.old.options self.old.list self.old.waiting }
+        requires { AreRightAfter self.old.options self.old.list self.old.waiting }
         ensures ok { OnOk result (self.new ≡ all_shown self.old) }
         ensures err { OnErr result (self.new ≡ self.old) }
     {
