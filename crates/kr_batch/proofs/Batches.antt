@@ -1,7 +1,8 @@
 -- The laws of records and of a batch.
-use Rattle.std.proofs.Common.{Fits, w8, ◌≡◌, ℕ, ℤ, zero, suc, pos, negsuc, ◌+◌, ◌≤◌, Bool, true, false, eqb, ltb, get_or, List, [], ◌∷◌, ◌++◌, length, Result, Ok, Err, refl, sym, ap, subst, ◌∙◌, arith}
+use Rattle.std.proofs.Common.{Fits, w8, ◌≡◌, ℕ, ℤ, zero, suc, pos, negsuc, ◌+◌, ◌≤◌, Bool, true, false, eqb, ltb, get_or, List, [], ◌∷◌, ◌++◌, length, Option, Some, None, Result, Ok, Err, cond, refl, sym, ap, subst, ◌∙◌, arith}
 use Rattle.std.specs.Prelude.{int_lt, not, ◌&&◌, ◌≤ℤ◌, IfOk}
 use Rattle.std.specs.Ordering.{int_eq}
+use Rattle.std.specs.Result.{result_ok}
 use Rattle.std.proofs.Math.ListN.{replicate}
 use Rattle.std.proofs.lemmas.Bool.{le-ltb}
 use Rattle.std.proofs.lemmas.Int.{ints}
@@ -22,8 +23,9 @@ use Rattle.kr_batch.specs.Crc.{crc32c}
 use Rattle.kr_batch.specs.declared.Batch.{Batch}
 use Rattle.kr_batch.specs.declared.fault.BatchFault.{BatchFault}
 use Rattle.kr_batch.specs.declared.fault.BatchFault.TheVariants as faults
+use Rattle.kr_batch.specs.declared.heading.Heading.{Heading}
 use Rattle.kr_batch.specs.Answers.{Gives}
-use Rattle.kr_batch.specs.Reading.{framing_fault, caused, frame_at, entry_at, records_from, fixed_at, items_of, base_and_rest, sum_of, batch_of}
+use Rattle.kr_batch.specs.Reading.{framing_fault, caused, frame_at, entry_at, records_from, fixed_at, items_of, base_and_rest, sum_of, batch_of, head_in, head_of, is_base}
 use Rattle.kr_batch.specs.Grammar.{IsFrame, IsEntry, AreEntries, IsFixed, AreItems, IsBatch}
 use Rattle.kr_batch.proofs.Frames.{is_true, frame_law, value_fits}
 use Rattle.kr_batch.proofs.Heads.{fixed_law, long, place_sound, place_complete, sum_sound, sum_complete}
@@ -185,17 +187,28 @@ of_sound bytes batch fits e =
     let i = bind_ok (items_of f.0.0.0 f.0.0.2 f.0.1) (with_items p.0.0 s.0.0 f.0.0.1) batch g.1 in
     batch_there bytes p.0 s.0 f.0 i.0 batch fits p.1 s.1 f.1 g.0 i.1 i.2
 
+bound : {A B E : Type 0} (r : Result A E) (next : A → Result B E) (x : A) (answer : Result B E) → r ≡ Ok x → next x ≡ answer → (r >>= next) ≡ answer
+bound r next x answer e step = rw e step
+
+-- the fields before the records are read, and then what comes of them
+heads_complete : {Y : Type 0} (bytes : List ℕ) (batch : Batch) (is : IsBatch batch bytes) (next : ℤ → ℤ → (Bool × ℤ × ℕ) × List ℕ → Result Y BatchFault) (answer : Result Y BatchFault)
+    → next batch.base batch.epoch ((is.control, batch.time, length batch.items), is.records) ≡ answer
+    → (base_and_rest bytes >>= λ place. sum_of place.1 >>= λ sum. fixed_at sum.1 >>= next place.0 sum.0) ≡ answer
+heads_complete bytes batch is next answer of_next =
+    let some = long (batch.epoch, crc32c is.checked) (is.control, batch.time, length batch.items) is.checked is.records is.behind is.sum is.fixed in
+    let e : is.checked ≡ is.fixed.left ++ is.records = is.fixed.is ∙ ap (λ (l : List ℕ). is.fixed.left ++ l) is.fixed.second in
+    bound (base_and_rest bytes) _ (batch.base, is.behind) answer (place_complete batch.base is.behind bytes some is.fits is.start)
+    (bound (sum_of is.behind) _ (batch.epoch, is.checked) answer (sum_complete batch.epoch is.checked is.behind is.sum)
+    (bound (fixed_at is.checked) _ ((is.control, batch.time, length batch.items), is.records) answer
+    (ap fixed_at e ∙ fixed_law.complete (is.control, batch.time, length batch.items) is.fixed.left is.records is.fixed.first)
+    of_next))
+
 pub of_complete : (bytes : List ℕ) (batch : Batch) → IsBatch batch bytes → batch_of bytes ≡ Ok batch
 unfolding batch_of
 of_complete bytes batch is =
-    let some = long (batch.epoch, crc32c is.checked) (is.control, batch.time, length batch.items) is.checked is.records is.behind is.sum is.fixed in
-    let e : is.checked ≡ is.fixed.left ++ is.records = is.fixed.is ∙ ap (λ (l : List ℕ). is.fixed.left ++ l) is.fixed.second in
-    complete_bind (base_and_rest bytes) _ (batch.base, is.behind) _ (place_complete batch.base is.behind bytes some is.fits is.start)
-    (complete_bind (sum_of is.behind) _ (batch.epoch, is.checked) _ (sum_complete batch.epoch is.checked is.behind is.sum)
-    (complete_bind (fixed_at is.checked) _ ((is.control, batch.time, length batch.items), is.records) _
-    (ap fixed_at e ∙ fixed_law.complete (is.control, batch.time, length batch.items) is.fixed.left is.records is.fixed.first)
+    heads_complete bytes batch is (λ base epoch. with_fixed base epoch) (Ok batch)
     (complete_guard _ _ _ _ (not_below batch.base is.based)
-    (complete_bind (items_of is.control (length batch.items) is.records) _ batch.items _ (items_complete is.control batch.items is.records is.items) refl))))
+    (complete_bind (items_of is.control (length batch.items) is.records) _ batch.items _ (items_complete is.control batch.items is.records is.items) refl))
 
 -- what a decoder's answer says
 pub found : (bytes : List ℕ) (answer : Result Batch BatchFault) → ((i : ℕ) → Fits w8 (get_or bytes i 0)) → Gives answer (batch_of bytes) → IfOk answer (λ b. IsBatch b bytes)
@@ -209,3 +222,18 @@ pub one_value : (bytes : List ℕ) (a b : Batch) → IsBatch a bytes → IsBatch
 one_value bytes a b is other = is_ok _ _ (sym (of_complete bytes a is) ∙ of_complete bytes b other)
 
 pub ruleset decoded = (found, only, one_value)
+
+-- ---- the head alone
+
+abbrev heading_with : ℤ → ℤ → (Bool × ℤ × ℕ) × List ℕ → Result Heading BatchFault
+heading_with base epoch fixed = refuse (faults.BadOffset 0) when not (is_base base) else Ok (record { base = base; epoch = epoch; count = pos fixed.0.2 })
+
+told : (b : Bool) (h : Heading) → result_ok (refuse (faults.BadOffset 0) when not b else Ok h) ≡ cond b (Some h) None
+told true h = refl
+told false h = refl
+
+pub head_there : (bytes : List ℕ) (batch : Batch) → IsBatch batch bytes → result_ok (head_of bytes) ≡ head_in batch
+unfolding head_of
+head_there bytes batch is =
+    ap result_ok (heads_complete bytes batch is heading_with (heading_with batch.base batch.epoch ((is.control, batch.time, length batch.items), is.records)) refl)
+    ∙ told (is_base batch.base) (record { base = batch.base; epoch = batch.epoch; count = pos (length batch.items) })

@@ -1,9 +1,9 @@
 -- Reading a batch: what the bytes give, or the first fault. Want of memory is free.
-use Rattle.std.specs.Prelude.{ℕ, ℤ, zero, suc, pos, negsuc, int_lt, ◌+◌, ◌-◌, ◌/◌, ◌%◌, ◌^◌, Bool, not, ◌&&◌, ◌||◌, List, [], ◌∷◌, length, Result, Ok, Err, ◌==◌, nat_lt, nat_le, if◌then◌else◌}
+use Rattle.std.specs.Prelude.{ℕ, ℤ, zero, suc, pos, negsuc, int_lt, int_le, ◌+◌, ◌-◌, ◌/◌, ◌%◌, ◌^◌, Bool, not, ◌&&◌, ◌||◌, List, [], ◌∷◌, length, Option, Some, None, Result, Ok, Err, ◌==◌, nat_lt, nat_le, if◌then◌else◌}
 use Rattle.std.specs.Ordering.{int_eq}
 use Rattle.std.proofs.Math.ListN.{replicate}
 use Rattle.std.specs.Int.{w8, w16, w32, w64, cast_signed}
-use Rattle.kr_defs.specs.declared.limits.TheConstants.{MOST_RECORDS}
+use Rattle.kr_defs.specs.declared.limits.TheConstants.{MOST_RECORDS, PLACES_END}
 use Rattle.kr_defs.specs.declared.record.Record.{Record}
 use Rattle.kr_defs.specs.declared.record.Item.{Item}
 use Rattle.kr_defs.specs.declared.record.Item.TheVariants as items
@@ -18,6 +18,7 @@ use Rattle.kr_batch.specs.declared.Batch.{Batch}
 use Rattle.kr_batch.specs.declared.fault.BatchFault.{BatchFault}
 use Rattle.kr_batch.specs.declared.fault.BatchFault.TheVariants as faults
 use Rattle.kr_batch.specs.declared.fault.Cause.TheVariants.{Framing, Value}
+use Rattle.kr_batch.specs.declared.heading.Heading.{Heading}
 
 -- ---- a record's frame; which fault it has doesn't matter
 
@@ -152,3 +153,21 @@ batch_of bytes = do
   refuse (faults.BadOffset 0) when int_lt place.0 (pos 0) else do
     items ← items_of fixed.0.0 fixed.0.2 fixed.1
     Ok (record { base = place.0; epoch = sum.0; time = fixed.0.1; items = items })
+
+-- ---- a batch of which the records aren't read
+
+-- a place of a log (this project's bound)
+abbrev pub is_base : ℤ → Bool
+is_base base = int_le (pos 0) base && int_le base PLACES_END
+
+-- where the batch stands, who leads, and how many records there are
+unfoldable pub head_of : List ℕ → Result Heading BatchFault
+head_of bytes = do
+  place ← base_and_rest bytes
+  sum ← sum_of place.1
+  fixed ← fixed_at sum.1
+  refuse (faults.BadOffset 0) when not (is_base place.0) else Ok (record { base = place.0; epoch = sum.0; count = pos fixed.0.2 })
+
+-- what a batch that is read whole says of itself
+abbrev pub head_in : Batch → Option Heading
+head_in batch = if is_base batch.base then Some (record { base = batch.base; epoch = batch.epoch; count = pos (length batch.items) }) else None

@@ -1,14 +1,17 @@
 //! The fields of a batch before its records.
 
-ghost use Rattle.std.specs.Prelude.{◌≡◌, ◌≤◌, length, drop, IfOk, IsTrue, MatchResult, Ok, Err};
-ghost use Rattle.kr_defs.specs.declared.limits.TheConstants.{MOST_RECORDS};
+ghost use Rattle.std.specs.Prelude.{◌≡◌, ◌≤◌, ◌≤ℤ◌, pos, length, drop, IfOk, IfSome, IsTrue, MatchResult, Ok, Err};
+ghost use Rattle.std.specs.Result.{result_ok};
+ghost use Rattle.kr_defs.specs.declared.limits.TheConstants.{MOST_RECORDS, PLACES_END};
+ghost use Rattle.kr_batch.specs.declared.Batch.{Batch as AnyBatch};
 ghost use Rattle.kr_batch.specs.Grammar;
+ghost use Rattle.kr_batch.specs.Grammar.{IsBatch};
 ghost use Rattle.kr_batch.specs.Reading;
-ghost use Rattle.kr_batch.specs.Reading.{fixed_at, base_and_rest, start_at, sum_at, sum_of};
+ghost use Rattle.kr_batch.specs.Reading.{fixed_at, base_and_rest, head_in, head_of, start_at, sum_at, sum_of};
 
 use crate::crc32c;
 use crate::fault::BatchFault;
-use kr_defs::limits::MOST_RECORDS;
+use kr_defs::limits::{MOST_RECORDS, PLACES_END};
 use kr_wire::{piece, read_i8, read_i32, read_i64, read_u16, read_u32};
 
 /// The bytes of a batch's base offset and of its size field, in Kafka's format, version 2.
@@ -85,6 +88,7 @@ pub(crate) fn read_fixed(bytes: &[u8]) -> Result<((bool, i64, u32), &[u8]), Batc
     ensures read { MatchResult result
         (λ x. fixed_at bytes.now ≡ Ok ((x.0.0, x.0.1, x.0.2), x.1.now))
         (λ e. fixed_at bytes.now ≡ Err e) }
+    ensures some { IfOk result (λ x. 1 ≤ x.0.2) }
     ensures few { IfOk result (λ x. x.0.2 ≤ MOST_RECORDS) }
 {
     let (attributes, next) = read_u16(bytes, 0)?;
@@ -120,7 +124,57 @@ fn is_control(attributes: u16) -> bool
 
 fn is_count(count: u32, delta: u32) -> bool
     ensures test { result ≡ Reading.is_count count delta }
+    ensures some { IsTrue result → 1 ≤ count }
     ensures few { IsTrue result → count ≤ MOST_RECORDS }
 {
     count >= 1 && count as usize <= MOST_RECORDS && delta == count - 1
+}
+
+/// Where a batch stands, and how many places it takes.
+#[derive(Clone, Copy, Debug, Drop, PartialEq, Eq)]
+pub struct Heading {
+    /// The offset of the first record, from 0 to 2^62.
+    pub base: i64,
+    /// The epoch of the leader that wrote the batch.
+    pub epoch: i32,
+    /// How many records it has, from 1 to 10,000.
+    pub count: i32,
+}
+
+/// The heading of the batch, or `None`: exactly where one of the faults from `Short` to `BadCount` stands, or the base isn't
+/// from 0 to 2^62. The records aren't read, and no memory is taken.
+pub fn head(bytes: &[u8]) -> Option<Heading>
+    ensures exact { result ≡ result_ok (head_of bytes.now) }
+    ensures base { IfSome result (λ h. (pos 0 ≤ℤ h.base) × (h.base ≤ℤ PLACES_END)) }
+    ensures count { IfSome result (λ h. (pos 1 ≤ℤ h.count) × (h.count ≤ℤ pos MOST_RECORDS)) }
+    // It is that of the batch that the bytes stand for.
+    ensures batch { (b : AnyBatch) → IsBatch b bytes.now → result ≡ head_in b }
+{
+    read_head(bytes).ok()
+}
+
+#[tactic(auto, unfolding(crate::specs::Reading::head_of))]
+fn read_head(bytes: &[u8]) -> Result<Heading, BatchFault>
+    ensures exact { result ≡ head_of bytes.now }
+    ensures base { IfOk result (λ h. (pos 0 ≤ℤ h.base) × (h.base ≤ℤ PLACES_END)) }
+    ensures count { IfOk result (λ h. (pos 1 ≤ℤ h.count) × (h.count ≤ℤ pos MOST_RECORDS)) }
+{
+    let (base, rest) = read_place(bytes)?;
+    let (epoch, checked) = read_sum(rest)?;
+    let ((_control, _time, count), _records) = read_fixed(checked)?;
+    if !is_base(&base) {
+        return Err(BatchFault::BadOffset { at: 0 });
+    }
+    Ok(Heading {
+        base,
+        epoch,
+        count: count as i32,
+    })
+}
+
+fn is_base(base: &i64) -> bool
+    ensures test { result ≡ Reading.is_base base.now }
+    ensures bounds { IsTrue result → (pos 0 ≤ℤ base.now) × (base.now ≤ℤ PLACES_END) }
+{
+    0 <= *base && *base <= PLACES_END
 }

@@ -14,7 +14,7 @@ pub use checksum::crc32c;
 pub use decoding::decode;
 pub use encoding::encode;
 pub use fault::{BatchFault, Cause};
-pub use heading::{LEAST_SIZE, START};
+pub use heading::{Heading, LEAST_SIZE, START, head};
 use kr_defs::Items;
 pub use laws::round_trip;
 

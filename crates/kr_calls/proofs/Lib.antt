@@ -9,6 +9,7 @@ pub mod KeptByRequests
 pub mod OtherRequests
 mod PartitionExamples
 mod ReadExamples
+mod RightAnswerExamples
 mod SafeChangeExamples
 mod SeatListExamples
 pub mod TakingOutSteps

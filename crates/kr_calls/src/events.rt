@@ -100,7 +100,6 @@ pub enum Output {
 }
 
 /// What the log gained, with its place; and what the worker tells its clients besides.
-#[derive(Drop)]
 pub enum Entry {
     /// An item of the log.
     Item {
@@ -126,4 +125,16 @@ pub enum Entry {
         /// Which stop it is.
         number: u64,
     },
+}
+
+// By hand: a crate that drops one calls this, where a derived drop is made and proved in each such crate anew.
+impl Drop for Entry {
+    fn drop(self) {
+        match self {
+            Entry::Item { place, item } => {}
+            Entry::Load { offset, records } => {}
+            Entry::Answer { answer } => {}
+            Entry::Stop { number } => {}
+        }
+    }
 }

@@ -1,8 +1,10 @@
-//! Tests between threads: of the event queue, a worker with four clients; of the copies, a worker that shows partitions and a
-//! reader.
+//! Tests of the event queue: one thread, and a worker with four clients on threads of their own; of copies that one thread shows
+//! and another reads; and of what a worker asks of the outside.
 #![tactic(auto)]
 
 #[cfg(test)]
 mod copies;
+#[cfg(test)]
+mod outside;
 #[cfg(test)]
 mod threads;
