@@ -61,11 +61,7 @@ fn put(queue: &mut VecDeque<Entry>, entry: Entry) -> Result<(), Entry>
 }
 
 // Chooses what is below the end. Without memory the rest stays staged.
-fn choose_items(
-    window: &mut Window,
-    items: &mut VecDeque<Entry>,
-    end: &i64,
-) -> Result<(), NoMemory>
+fn choose_items(window: &mut Window, items: &mut VecDeque<Entry>, end: &i64) -> Result<(), NoMemory>
     ensures options { window.new.options ≡ window.old.options }
     ensures list { window.new.list ≡ window.old.list }
     ensures same { window.new.waiting ++ below end.now items.new.items ≡ window.old.waiting ++ below end.now items.old.items }

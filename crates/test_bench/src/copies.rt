@@ -22,6 +22,7 @@ use std::time::{Duration, Instant};
 
 /// The id of the one topic with many partitions, and that of the topic that is read, which has one.
 const MANY: u128 = 1;
+
 const ONE: u128 = 2;
 
 /// The place of the image.
@@ -29,6 +30,7 @@ const OFFSET: i64 = 1;
 
 /// How many changes are published, and how often each thread reads.
 const CHANGES: i32 = 20;
+
 const READS: u32 = 20_000;
 
 /// What was measured beside some number of partitions.

@@ -17,7 +17,9 @@ use std::thread::Threads;
 
 // How many partitions are shown at one step, how many steps there are, and how often they are read meanwhile.
 const AT_ONCE: i32 = 1_000;
+
 const RUNS: i32 = 9;
+
 const READS: u32 = 50;
 
 const TOPIC: u128 = 7;
@@ -126,12 +128,7 @@ fn entry_at(alloc: Global, place: i32) -> Result<Entry, NoMemory>
     Ok(Entry::Item { place, item })
 }
 
-fn stage_run(
-    alloc: Global,
-    publisher: &mut Publisher,
-    first: i32,
-    end: i32,
-) -> Result<(), NoMemory>
+fn stage_run(alloc: Global, publisher: &mut Publisher, first: i32, end: i32) -> Result<(), NoMemory>
     requires { HasNothing publisher.old }
     ensures { OnOk result (IsLogged publisher.new) }
 {
