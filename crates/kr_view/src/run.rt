@@ -1,10 +1,9 @@
 //! What a copy takes in at once.
 
-ghost use Rattle.std.specs.Prelude.{◌≡◌, ◌==◌, [], ◌∷◌, ◌++◌, false, length, MatchResult};
+ghost use Rattle.std.specs.Prelude.{◌≡◌, ◌==◌, [], ◌∷◌, ◌++◌, true, false, length, MatchResult};
 ghost use Rattle.kr_view.specs.Runs.{is_load, AreNoLoads};
 
 use kr_calls::Entry;
-use kr_defs::Records;
 use std::alloc::Global;
 use std::marker::Model;
 
@@ -32,7 +31,57 @@ pub(crate) enum Step {
     /// Entries one after the other.
     Run { run: Run },
     /// An image in place of all.
-    Load { offset: i64, records: Records },
+    Load { load: Load },
+}
+
+/// An entry that is an image in place of all.
+#[derive(Drop)]
+pub(crate) struct Load {
+    entry: Entry,
+}
+
+impl Model for Load {
+    ghost use Rattle.std.specs.Prelude.{◌≡◌, true};
+    ghost use Rattle.kr_calls.specs.declared.events.Entry.{Entry as AnyEntry};
+    ghost use Rattle.kr_view.specs.Runs.{is_load};
+
+    ghost Value = { AnyEntry };
+
+    ghost view = { λ s. s.entry };
+
+    ghost invariant = { λ s. is_load s.entry ≡ true };
+}
+
+/// It is an image in place of all.
+pub(crate) fn is_load(entry: &Entry) -> bool
+    ensures { result ≡ is_load entry.now }
+{
+    match entry {
+        Entry::Load { .. } => true,
+        Entry::Item { .. } | Entry::Answer { .. } | Entry::Stop { .. } => false,
+    }
+}
+
+impl Load {
+    pub(crate) fn new(entry: Entry) -> Load
+        requires { is_load entry ≡ true }
+        ensures { result ≡ entry }
+    {
+        Load { entry }
+    }
+
+    pub(crate) fn entry(&self) -> &Entry
+        ensures entry { result.now ≡ self.now }
+        ensures load { is_load result.now ≡ true }
+    {
+        &self.entry
+    }
+
+    pub(crate) fn into_entry(self) -> Entry
+        ensures { result ≡ self }
+    {
+        self.entry
+    }
 }
 
 impl Run {

@@ -67,7 +67,7 @@ fn stop_behind(stop: Option<u64>, step: &Step) -> Option<u64>
 {
     match step {
         Step::Run { run } => stop_after_all(stop, run.entries()),
-        Step::Load { .. } => stop,
+        Step::Load { load } => stop_after(stop, load.entry()),
     }
 }
 

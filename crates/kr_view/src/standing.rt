@@ -209,12 +209,15 @@ impl Standing {
         let mut steps: Steps<L> = Steps::new(blank);
         match step {
             Step::Run { run } => self.take_run(run.entries(), &mut steps),
-            Step::Load { offset, records } => self.take_load(
-                alloc,
-                *offset,
-                records.as_slice(),
-                &mut steps,
-            ),
+            Step::Load { load } => match load.entry() {
+                Entry::Load { offset, records } => self.take_load(
+                    alloc,
+                    *offset,
+                    records.as_slice(),
+                    &mut steps,
+                ),
+                _ => unreachable!(),
+            },
         }
     }
 

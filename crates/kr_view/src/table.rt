@@ -6,6 +6,7 @@ ghost use Rattle.kr_view.specs.Steps.{entries_of};
 ghost use Rattle.kr_view.specs.Tables.{answers_in, no_answers, noted};
 
 use crate::run::Step;
+use core::slice::from_ref;
 use kr_base::NoMemory;
 use kr_calls::{Answer, Entry};
 use std::alloc::Global;
@@ -49,7 +50,7 @@ pub(crate) fn answers_of(alloc: Global, step: &Step) -> Result<VecDeque<Answer>,
 {
     match step {
         Step::Run { run } => answers_in(alloc, run.entries()),
-        Step::Load { .. } => Ok(VecDeque::new(alloc)),
+        Step::Load { load } => answers_in(alloc, from_ref(load.entry())),
     }
 }
 

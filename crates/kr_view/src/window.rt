@@ -2,18 +2,17 @@
 
 ghost use Rattle.std.specs.Prelude.{◌≡◌, true, [], ◌∷◌, ◌++◌, drop, OnOk, OnErr, MatchResult, IfOk};
 ghost use Rattle.left_right.specs.Sides.{view};
-ghost use Rattle.kr_calls.specs.declared.events.Entry.TheVariants as entries;
 ghost use Rattle.kr_calls.specs.RightAnswers.{AreRightAfter};
 ghost use Rattle.kr_view.specs.CopiesRule.{seen};
+ghost use Rattle.kr_view.specs.Runs.{is_load};
 ghost use Rattle.kr_view.specs.Steps.{entries_in};
 
 use crate::rule::{CopiesRule, Seen, Sees};
-use crate::run::{Run, Step};
+use crate::run::{Load, Run, Step, is_load};
 use crate::shown::Shown;
 use core::mem::{replace, replace_with};
 use kr_base::NoMemory;
 use kr_calls::Entry;
-use kr_defs::Records;
 use left_right::writer::Writer;
 use std::alloc::{AllocError, Global};
 use std::marker::Model;
@@ -99,16 +98,18 @@ impl Window {
         }
     }
 
-    // Chooses an image in place of all. Where it finds no memory, it comes back.
-    fn choose_load(&mut self, offset: i64, records: Records) -> Result<(), Entry>
-        ensures { MatchResult result (λ _. self.new ≡ with_waiting self.old (entries.Load offset records)) (λ refused. (refused ≡ entries.Load offset records) × (self.new ≡ self.old)) }
+    // Chooses an image in place of all. It comes back where there is no memory.
+    fn choose_load(&mut self, entry: Entry) -> Result<(), Entry>
+        requires { is_load entry ≡ true }
+        ensures { MatchResult result (λ _. self.new ≡ with_waiting self.old entry) (λ refused. (refused ≡ entry) × (self.new ≡ self.old)) }
     {
         if flush(&mut self.copies, &mut self.run, self.alloc).is_err() {
-            return Err(Entry::Load { offset, records });
+            return Err(entry);
         }
-        match append(&mut self.copies, Step::Load { offset, records }) {
+        let load = Load::new(entry);
+        match append(&mut self.copies, Step::Load { load }) {
             Ok(()) => Ok(()),
-            Err(Step::Load { offset, records }) => Err(Entry::Load { offset, records }),
+            Err(Step::Load { load }) => Err(load.into_entry()),
             Err(Step::Run { .. }) => unreachable!(),
         }
     }
@@ -117,9 +118,10 @@ impl Window {
     pub(crate) fn choose(&mut self, entry: Entry) -> Result<(), Entry>
         ensures { MatchResult result (λ _. self.new ≡ with_waiting self.old entry) (λ refused. (refused ≡ entry) × (self.new ≡ self.old)) }
     {
-        match entry {
-            Entry::Load { offset, records } => self.choose_load(offset, records),
-            other => self.run.push(other),
+        if is_load(&entry) {
+            self.choose_load(entry)
+        } else {
+            self.run.push(entry)
         }
     }
 
