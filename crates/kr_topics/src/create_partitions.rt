@@ -325,7 +325,13 @@ impl Handler<CreatePartitions> for CreatePartitionsHandler {
         request: &CreatePartitions,
         steps: &mut Steps<L>,
     ) -> Result<Effect, NoMemory> {
-        let (records, results) = decide_create_partitions(alloc, store, &context.place, request, steps)?;
+        let (records, results) = decide_create_partitions(
+            alloc,
+            store,
+            &context.place,
+            request,
+            steps,
+        )?;
         Ok(Effect {
             records,
             reply: Reply::CreatePartitions(CreatePartitionsReply { results }),
