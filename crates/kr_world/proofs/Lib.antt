@@ -16,3 +16,4 @@ pub mod StandingEngines
 pub mod WaitingWrites
 pub mod WriteEpochs
 pub mod WriteOrders
+pub mod Weights

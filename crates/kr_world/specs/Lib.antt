@@ -13,3 +13,4 @@ pub mod Runs
 pub mod SafeSteps
 pub mod Tick
 pub mod World
+pub mod Weights
