@@ -3,6 +3,7 @@
 #![tactic(auto)]
 
 mod batches;
+mod beats;
 mod changes;
 mod checksum;
 mod entries;

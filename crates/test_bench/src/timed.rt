@@ -4,6 +4,7 @@ ghost use Rattle.std.specs.Prelude.{◌≡◌, ◌*◌, ◌/◌, max};
 ghost use Rattle.std.specs.Duration.{as_nanos};
 
 use crate::batches::{Encoded, Kind};
+use crate::beats::{BEATS, FEW, MANY, beat_all, brokers as brokers_that_beat};
 use crate::checksum::Summed;
 use crate::image::Written;
 use crate::placing::{PARTITIONS, brokers, place_all};
@@ -44,7 +45,9 @@ pub(crate) fn print_table<R: Print + Clock + AllocGlobal>(rt: &R) -> Result<()> 
     print_request(rt, Form::Whole)?;
     print_request(rt, Form::Promising)?;
     print_image(rt)?;
-    print_placing(rt)
+    print_placing(rt)?;
+    print_beats(rt, FEW)?;
+    print_beats(rt, MANY)
 }
 
 fn print_head(rt: &impl Print) -> Result<()> {
@@ -103,6 +106,21 @@ fn print_placing<R: Print + Clock + AllocGlobal>(rt: &R) -> Result<()> {
         work.as_micros()
     )?;
     Ok(())
+}
+
+// How long a heartbeat takes among so many brokers, over all rounds of all of them.
+fn print_beats<R: Print + Clock + AllocGlobal>(rt: &R, count: i32) -> Result<()> {
+    let nanos = beat_round(rt, rt.alloc(), count)?;
+    println!(rt; "a heartbeat among {count} brokers takes {nanos} nanoseconds")?;
+    Ok(())
+}
+
+fn beat_round(rt: &impl Clock, alloc: Global, count: i32) -> Result<u128> {
+    let mut list = brokers_that_beat(alloc, count)?;
+    let start = Instant::now(rt)?;
+    beat_all(&mut list, count)?;
+    let time = start.elapsed(rt)?;
+    Ok(time.as_nanos() / (u128::from(count.unsigned_abs().max(1)) * BEATS))
 }
 
 // Measures work that reads or writes these bytes, beside a plain copy of them.
