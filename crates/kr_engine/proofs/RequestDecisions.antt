@@ -20,12 +20,12 @@ use Rattle.kr_defs.specs.declared.options.Options.{Options}
 use Rattle.kr_defs.specs.declared.record.Record.{Record}
 use Rattle.kr_defs.specs.Heartbeats.{Heartbeats, heard, stopping_brokers}
 use Rattle.kr_defs.specs.Ids.{has}
+use Rattle.kr_defs.proofs.Tests.{some_is}
 use Rattle.kr_defs.specs.ImageLaws.{as_items}
-use Rattle.kr_defs.specs.Image.{Image, empty}
+use Rattle.kr_defs.specs.Image.{Image}
 use Rattle.law_fitting.specs.Fitting.{FitsBatch}
 use Rattle.law_fitting.proofs.FittingRecords.{requests_fit}
-use Rattle.kr_rules.specs.Progress.{base_of}
-use Rattle.kr_store.specs.Images.{Images, IsAbove, last_kept, marked}
+use Rattle.kr_store.specs.Images.{Images, IsAbove, last_image, last_kept, marked}
 use Rattle.kr_world.specs.Entries.{item_entries}
 use Rattle.kr_world.specs.declared.writes.Write.{Write}
 use Rattle.kr_world.specs.Engine.{Core, basis_of}
@@ -39,27 +39,26 @@ use Rattle.kr_engine.proofs.AppendSteps.{writes_by}
 abbrev last : List (ℤ × Image) → Option (ℤ × Image)
 last kept = slice_get kept (length kept - 1)
 
-pub base_is : (before after : Images) (place : ℤ) → last_kept before ≡ Some (place, before.tip) → after.kept ≡ before.kept → base_of after ≡ before.tip
-base_is before after place is kept =
-    ap (λ (ks : List (ℤ × Image)). unwrap_or (option_map (λ (k : ℤ × Image). k.1) (last ks)) empty) kept
-    ∙ ap (λ (o : Option (ℤ × Image)). unwrap_or (option_map (λ (k : ℤ × Image). k.1) o) empty) is
+module _ (before after : Images) (place : ℤ) (is : last_kept before ≡ Some (place, before.tip)) (kept : after.kept ≡ before.kept) where
+  pub last_place : option_map (λ (k : ℤ × Image). k.0) (last_kept after) ≡ Some place
+  last_place = ap (option_map (λ (k : ℤ × Image). k.0)) (ap last kept ∙ is)
 
-pub last_is : (before after : Images) (place : ℤ) → last_kept before ≡ Some (place, before.tip) → after.kept ≡ before.kept → last_kept after ≡ Some (place, base_of after)
-last_is before after place is kept = ap last kept ∙ (is ∙ ap (λ (i : Image). Some (place, i)) (sym (base_is before after place is kept)))
+  module _ (seen : Image) (seen_is : last_image after ≡ Some seen) where
+    pub seen_before : seen ≡ before.tip
+    seen_before = some_is seen before.tip (sym seen_is ∙ ap (option_map (λ (k : ℤ × Image). k.1)) (ap last kept ∙ is))
 
-pub among_base : (before after : Images) (place : ℤ) (h : Heartbeats) → last_kept before ≡ Some (place, before.tip) → after.kept ≡ before.kept
-    → ((id : ℤ) → IsTrue (has (stopping_brokers h) id) → IsTrue (broker_is_stopping before.tip id)) → (id : ℤ) → IsTrue (has (stopping_brokers h) id) → IsTrue (broker_is_stopping (base_of after) id)
-among_base before after place h is kept among id there = ap (λ (i : Image). broker_is_stopping i id) (base_is before after place is kept) ∙ among id there
+    pub among_seen : (h : Heartbeats) → ((id : ℤ) → IsTrue (has (stopping_brokers h) id) → IsTrue (broker_is_stopping before.tip id)) → (id : ℤ) → IsTrue (has (stopping_brokers h) id) → IsTrue (broker_is_stopping seen id)
+    among_seen h among id there = ap (λ (i : Image). broker_is_stopping i id) seen_before ∙ among id there
 
-pub heard_so : (options : Options) (before after : Images) (time place : ℤ) (h : Heartbeats) (request : Request) (reply : Reply) → last_kept before ≡ Some (place, before.tip) → after.kept ≡ before.kept
-    → after.tip ≡ (decision_of options time h before.tip place request).image → reply ≡ (decision_of options time h before.tip place request).reply
-    → heartbeats_after h (base_of after) after.tip time place request reply ≡ (decision_of options time h before.tip place request).heartbeats
-heard_so options before after time place h request reply is kept image says =
-    ap (λ (i : Image). heartbeats_after h i after.tip time place request reply) (base_is before after place is kept)
-    ∙ (ap (λ (i : Image). heartbeats_after h before.tip i time place request reply) image
-    ∙ ap (heartbeats_after h before.tip (decision_of options time h before.tip place request).image time place request) says)
+    pub heard_so : (options : Options) (time : ℤ) (h : Heartbeats) (request : Request) (reply : Reply) (now : Image) → now ≡ after.tip
+        → after.tip ≡ (decision_of options time h before.tip place request).image → reply ≡ (decision_of options time h before.tip place request).reply
+        → heartbeats_after h seen now time place request reply ≡ (decision_of options time h before.tip place request).heartbeats
+    heard_so options time h request reply now now_is image says =
+        ap (λ (i : Image). heartbeats_after h i now time place request reply) seen_before
+        ∙ (ap (λ (i : Image). heartbeats_after h before.tip i time place request reply) (now_is ∙ image)
+        ∙ ap (heartbeats_after h before.tip (decision_of options time h before.tip place request).image time place request) says)
 
-pub ruleset bases = (last_is, among_base, heard_so)
+pub ruleset bases = (last_place, among_seen, heard_so)
 
 -- ---- the engine
 

@@ -1,6 +1,6 @@
--- Images that are looked at are valid.
-use Rattle.std.proofs.Common.{ℤ, Bool, true, false, cond, List, [], ◌∷◌}
-use Rattle.std.specs.Prelude.{Some, find, unwrap_or}
+-- Images that are looked at are there, and are valid.
+use Rattle.std.proofs.Common.{◌≡◌, ℤ, Bool, true, false, cond, List, [], ◌∷◌}
+use Rattle.std.specs.Prelude.{Option, Some, None, IsSome, MatchOption, find, unwrap_or}
 use Rattle.std.specs.List.{AllByRecursion}
 use Rattle.std.specs.Option.{option_map}
 use Rattle.std.specs.Ordering.{int_eq}
@@ -22,3 +22,8 @@ found_valid test (k ∷ kept) none all =
 pub seen_valid : (images : Images) (place : At) → IsValid empty → AreValid images → IsValid (seen_at images place)
 seen_valid images places.Tip none valid = valid.tip
 seen_valid images (places.Epoch epoch) none valid = found_valid (λ (k : ℤ × Image). int_eq k.0 epoch) images.kept none (recursion_from_All (λ (k : ℤ × Image). IsValid k.1) images.kept valid.kept)
+
+-- a look-up that answers at a place looked at an image
+pub is_there : (place : Option Image) (Answer : Image → Type 0) → MatchOption place (false ≡ true) Answer → IsSome place
+is_there None Answer answered = absurd cc
+is_there (Some image) Answer answered = search
