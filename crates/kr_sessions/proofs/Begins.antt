@@ -1,11 +1,11 @@
 -- Brokers that become contacts, one after the other.
-use Rattle.std.proofs.Common.{◌≡◌, ◌<◌, ℕ, ℤ, suc, ◌+◌, Bool, true, false, not, ◌&&◌, IsTrue, List, [], ◌∷◌, ◌++◌, map, length, get_or, drop, add-one, sym, subst, ◌∙◌, ap, refl}
+use Rattle.std.proofs.Common.{◌≡◌, ◌<◌, ℕ, ℤ, suc, ◌+◌, Bool, true, false, not, List, [], ◌∷◌, ◌++◌, map, length, get_or, drop, add-one, sym, subst, ◌∙◌, ap, refl}
 use Rattle.std.proofs.Math.Seq.{drop-cons}
 use Rattle.std.proofs.lemmas.Bool.{and_parts}
 use Rattle.kr_defs.specs.declared.basis.Contact.{Contact}
 use Rattle.kr_defs.specs.Ids.{has, is_distinct}
 use Rattle.kr_defs.specs.Heartbeats.{new_contact}
-use Rattle.kr_contact.specs.Contacts.{AreSingle, is_contact, touched}
+use Rattle.kr_contact.specs.Contacts.{AreSingle, touched}
 use Rattle.kr_contact.proofs.Orders.{touched_new}
 
 pub none_of : (b : Bool) → not b ≡ true → b ≡ false

@@ -1,10 +1,11 @@
 //! Single looks at the two lists.
 
-ghost use Rattle.std.specs.Prelude.{◌≡◌, ◌+ℤ◌, pos, map, find, int_lt, vec_capacity, vec_len, ◌≤◌, IsTrue, IfOk, ◌&&◌, ◌++◌, option_to_list};
+ghost use Rattle.std.specs.Prelude.{◌≡◌, ◌+◌, ◌+ℤ◌, ◌<◌, pos, map, find, int_lt, vec_capacity, vec_len, ◌≤◌, IsTrue, IfOk, ◌&&◌, ◌++◌, option_to_list};
 ghost use Rattle.std.specs.Int.{int_min};
 ghost use Rattle.std.specs.List.{filter_map, list_any, reduce};
 ghost use Rattle.std.specs.Option.{option_map};
 ghost use Rattle.std.specs.Ordering.{int_eq};
+ghost use Rattle.kr_contact.specs.Contacts.{touched};
 ghost use Rattle.kr_defs.specs.Ids.{is_distinct};
 ghost use Rattle.kr_defs.specs.Heartbeats.{stopping_without, new_contact, new_stopping};
 
@@ -25,9 +26,18 @@ pub(crate) fn contacts_of(
     let mut list = ContactList::new(alloc);
     list.reserve(brokers.len())?;
     for broker in brokers {
-        list.touch(*broker, *now);
+        touch(&mut list, broker, now);
     }
     Ok(list)
+}
+
+// The broker was heard of now.
+fn touch(list: &mut ContactList, broker: &i32, now: &i64)
+    requires { 0 < list.old.spare }
+    ensures contacts { list.new.contacts ≡ touched list.old.contacts (new_contact now.now broker.now) }
+    ensures spare { list.old.spare ≤ list.new.spare + 1 }
+{
+    list.touch(*broker, *now);
 }
 
 // The brokers as stopping ones that began at the tip.
@@ -63,6 +73,13 @@ pub(crate) fn drop_stopping(stopping: &mut Vec<Stopping>, broker: &i32)
     stopping.retain(|stopping| stopping.broker != *broker);
 }
 
+// The broker as it was heard of last.
+fn contact_of(contacts: &ContactList, broker: &i32) -> Option<Contact>
+    ensures { result ≡ find (λ c. int_eq c.broker broker.now) contacts.now.contacts }
+{
+    contacts.contact(*broker)
+}
+
 // Less than the session's length has passed since the broker was heard of.
 fn is_heard(contact: &Contact, now: &i64, session_ms: &u32) -> bool
     ensures { result ≡ int_lt now.now (contact.now.time +ℤ pos session_ms.now) }
@@ -79,7 +96,7 @@ pub(crate) fn is_valid(contacts: &ContactList, broker: &i32, now: &i64, session_
     requires { IsTrue (is_distinct (map (λ c. c.broker) contacts.now.contacts)) }
     ensures { result ≡ list_any (λ c. int_eq c.broker broker.now && int_lt now.now (c.time +ℤ pos session_ms.now)) contacts.now.contacts }
 {
-    match contacts.contact(*broker) {
+    match contact_of(contacts, broker) {
         Some(contact) => is_heard(&contact, now, session_ms),
         None => false,
     }
@@ -89,7 +106,7 @@ pub(crate) fn is_valid(contacts: &ContactList, broker: &i32, now: &i64, session_
 pub(crate) fn offset_of(contacts: &ContactList, broker: &i32) -> Option<i64>
     ensures { result ≡ option_map (λ c. c.offset) (find (λ c. int_eq c.broker broker.now) contacts.now.contacts) }
 {
-    let contact = contacts.contact(*broker)?;
+    let contact = contact_of(contacts, broker)?;
     Some(contact.offset)
 }
 
