@@ -1,5 +1,5 @@
 -- A contact list as contracts see it: KIP-631 has brokers in order of their last heartbeat. The rest is this project's own.
-use Rattle.std.specs.Prelude.{◌≡◌, false, ◌++◌, ◌∷◌, [], ◌||◌, ℕ, ℤ, Bool, List, map, find, take_while, int_le, nat_lt, Option}
+use Rattle.std.specs.Prelude.{◌≡◌, false, ◌++◌, ◌∷◌, [], ◌||◌, ℕ, ℤ, Bool, List, map, find, take_while, int_le, nat_lt, Option, IsTrue}
 use Rattle.std.specs.Option.{unwrap_or}
 use Rattle.std.specs.Ordering.{int_eq}
 use Rattle.kr_defs.specs.declared.basis.Contact.{Contact}
@@ -31,6 +31,10 @@ expired_among contacts limit = map (λ c. c.broker) (take_while (λ c. int_le c.
 -- the broker is a contact already, or finds room
 abbrev pub may_touch : ContactsSeen → ℤ → Bool
 may_touch seen broker = is_contact seen.contacts broker || nat_lt 0 seen.spare
+
+-- who is heard of again takes no room
+abbrev pub KeepsRoom : ContactsSeen → ContactsSeen → ℤ → Type 0
+KeepsRoom old new broker = IsTrue (is_contact old.contacts broker) → new.spare ≡ old.spare
 
 -- with no ring yet there are no contacts, and no room
 abbrev pub seen_of : Option ContactsSeen → ContactsSeen

@@ -3,7 +3,7 @@
 ghost use Rattle.std.specs.Prelude.{◌≡◌, ◌==◌, ◌+◌, ◌≤◌, ◌<◌, [], IsTrue, IfOk, OnOk, OnErr, length, slice_get};
 ghost use Rattle.std.specs.Option.{option_map};
 ghost use Rattle.kr_defs.specs.Heartbeats.{contacts_without, new_contact};
-ghost use Rattle.kr_contact.specs.Contacts.{is_contact, contact_of, touched, expired_among, may_touch, seen_of};
+ghost use Rattle.kr_contact.specs.Contacts.{KeepsRoom, is_contact, contact_of, touched, expired_among, may_touch, seen_of};
 
 use crate::ring::Ring;
 use kr_base::{NoMemory, Steps};
@@ -100,7 +100,7 @@ impl ContactList {
         requires { IsTrue (may_touch self.old id) }
         ensures contacts { self.new.contacts ≡ touched self.old.contacts (new_contact now id) }
         ensures spare { self.old.spare ≤ self.new.spare + 1 }
-        ensures again { IsTrue (is_contact self.old.contacts id) → self.new.spare ≡ self.old.spare }
+        ensures again { KeepsRoom self.old self.new id }
     {
         let contact = Contact {
             broker: id,
@@ -115,18 +115,18 @@ impl ContactList {
         requires { IsTrue (may_touch self.old contact.now.broker) }
         ensures contacts { self.new.contacts ≡ touched self.old.contacts contact.now }
         ensures spare { self.old.spare ≤ self.new.spare + 1 }
-        ensures again { IsTrue (is_contact self.old.contacts contact.now.broker) → self.new.spare ≡ self.old.spare }
+        ensures again { KeepsRoom self.old self.new contact.now.broker }
     {
         beat::<Brand>(self, contact, Blank::new(1));
     }
 
-    /// `beat`, which looks at no more nodes than these, however many contacts there are. A step is one node that is
-    /// read or written.
+    /// `beat`, in no more steps than these, however many contacts there are. A step is one node that is read or written.
+    /// The look-up of the broker is none.
     pub fn beat_in_steps<L: Ledger>(&mut self, contact: &Contact, steps: &mut Steps<L>)
         requires { IsTrue (may_touch self.old contact.now.broker) }
         ensures contacts { self.new.contacts ≡ touched self.old.contacts contact.now }
         ensures spare { self.old.spare ≤ self.new.spare + 1 }
-        ensures again { IsTrue (is_contact self.old.contacts contact.now.broker) → self.new.spare ≡ self.old.spare }
+        ensures again { KeepsRoom self.old self.new contact.now.broker }
         ensures bound { steps.new ≤ steps.old + 9 }
     {
         if let Some(ring) = &mut self.ring {
@@ -143,7 +143,7 @@ impl ContactList {
         remove::<Brand>(self, id, Blank::new(1))
     }
 
-    /// `remove`, which looks at no more nodes than these.
+    /// `remove`, in no more steps than these.
     pub fn remove_in_steps<L: Ledger>(&mut self, id: i32, steps: &mut Steps<L>) -> bool
         ensures was { result ≡ is_contact self.old.contacts id }
         ensures contacts { self.new.contacts ≡ contacts_without self.old.contacts id }
@@ -164,7 +164,7 @@ impl ContactList {
         Some((oldest.broker, oldest.time))
     }
 
-    /// The contact that was heard of the longest ago, by looking at no more nodes than these.
+    /// The contact that was heard of the longest ago, in no more steps than these.
     pub fn oldest_in_steps<L: Ledger>(&self, steps: &mut Steps<L>) -> Option<Contact>
         ensures oldest { result ≡ slice_get self.now.contacts 0 }
         ensures bound { steps.new ≤ steps.old + 2 }
@@ -231,6 +231,7 @@ fn wider<L: Ledger>(
     Ok(ring)
 }
 
+// `beat_in_steps` with a counter that nobody reads.
 fn beat<L: Ledger>(list: &mut ContactList, contact: &Contact, blank: Blank)
     requires name { blank.name ≡ L.name }
     requires parts { blank.parts ≡ L.parts }
@@ -238,12 +239,13 @@ fn beat<L: Ledger>(list: &mut ContactList, contact: &Contact, blank: Blank)
     requires may { IsTrue (may_touch list.old contact.now.broker) }
     ensures contacts { list.new.contacts ≡ touched list.old.contacts contact.now }
     ensures spare { list.old.spare ≤ list.new.spare + 1 }
-    ensures again { IsTrue (is_contact list.old.contacts contact.now.broker) → list.new.spare ≡ list.old.spare }
+    ensures again { KeepsRoom list.old list.new contact.now.broker }
 {
     let mut steps: Steps<L> = Steps::new(blank);
     list.beat_in_steps(contact, &mut steps);
 }
 
+// `remove_in_steps` with a counter that nobody reads.
 fn remove<L: Ledger>(list: &mut ContactList, id: i32, blank: Blank) -> bool
     requires name { blank.name ≡ L.name }
     requires parts { blank.parts ≡ L.parts }
@@ -256,6 +258,7 @@ fn remove<L: Ledger>(list: &mut ContactList, id: i32, blank: Blank) -> bool
     list.remove_in_steps(id, &mut steps)
 }
 
+// `oldest_in_steps` with a counter that nobody reads.
 fn oldest<L: Ledger>(list: &ContactList, blank: Blank) -> Option<Contact>
     requires name { blank.name ≡ L.name }
     requires parts { blank.parts ≡ L.parts }

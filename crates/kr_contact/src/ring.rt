@@ -3,7 +3,7 @@
 ghost use Rattle.std.specs.Prelude.{◌≡◌, ◌+◌, ◌≤◌, ◌<◌, [], ◌++◌, IsTrue, IfOk, length, slice_get, vec_len, vec_capacity};
 ghost use Rattle.std.specs.Vec.{vec_ptr};
 ghost use Rattle.kr_defs.specs.Heartbeats.{contacts_without};
-ghost use Rattle.kr_contact.specs.Contacts.{AreSingle, is_contact, contact_of, touched, expired_among, may_touch};
+ghost use Rattle.kr_contact.specs.Contacts.{AreSingle, KeepsRoom, is_contact, contact_of, touched, expired_among, may_touch};
 ghost use Rattle.kr_contact.specs.Rings.{AreKnown, contacts_from};
 
 use crate::nodes::{self, Node, Place};
@@ -77,7 +77,7 @@ impl Ring {
         requires { IsTrue (may_touch self.old contact.now.broker) }
         ensures contacts { self.new.contacts ≡ touched self.old.contacts contact.now }
         ensures spare { self.old.spare ≤ self.new.spare + 1 }
-        ensures again { IsTrue (is_contact self.old.contacts contact.now.broker) → self.new.spare ≡ self.old.spare }
+        ensures again { KeepsRoom self.old self.new contact.now.broker }
         ensures bound { steps.new ≤ steps.old + 9 }
     {
         match index::place_of(&self.places, &contact.broker) {
