@@ -1,10 +1,11 @@
 -- What the nodes of a block hold after one of them was taken out or put in.
-use Rattle.std.proofs.Common.{◌≡◌, ◌≢◌, ◌<◌, ℕ, zero, suc, ℤ, List, [], ◌∷◌, length, refl, sym, ap, subst, ◌∙◌, slice_set}
+use Rattle.std.proofs.Common.{◌≡◌, ◌≢◌, ◌<◌, ℕ, zero, suc, List, [], ◌∷◌, length, refl, sym, ap, subst, ◌∙◌, slice_set}
 use Rattle.std.proofs.lemmas.List.{get_or-set_same, get_or-set_other, length-set}
 use Rattle.std.specs.Ptr.{Ptr}
+use Rattle.kr_defs.specs.declared.basis.Contact.{Contact}
 use Rattle.kr_contact.specs.declared.nodes.Node.{Node}
 use Rattle.kr_contact.specs.declared.nodes.Place.{Place}
-use Rattle.kr_contact.specs.Nodes.{index_of, node_at, blank, with_after, with_before, unlinked, linked}
+use Rattle.kr_contact.specs.Nodes.{contact_in, index_of, node_at, blank, with_after, with_before, unlinked, linked}
 use Rattle.kr_contact.specs.Rings.{contact_at}
 use Rattle.kr_contact.proofs.Indices.{flip}
 
@@ -28,8 +29,8 @@ on n = n.after
 abbrev pub back : Node → Place
 back n = n.before
 
-abbrev pub held : Node → ℤ × ℤ
-held n = (n.broker, n.time)
+abbrev pub held : Node → Contact
+held n = contact_in n
 
 -- ---- the node i is taken out from between j and k
 

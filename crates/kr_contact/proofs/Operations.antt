@@ -9,18 +9,20 @@ use Rattle.std.specs.Ordering.{int_eq}
 use Rattle.std.specs.Ptr.{Ptr, block_ptr, null_ptr}
 use Rattle.std.proofs.Math.Nat.{zero-div, min-le_left, min-le_right}
 use denote.RattleType.{RattleType}
+use Rattle.kr_defs.specs.declared.basis.Contact.{Contact}
 use Rattle.kr_contact.specs.declared.nodes.Node.{Node}
 use Rattle.kr_contact.specs.declared.nodes.Place.{Place}
 use Rattle.kr_contact.specs.contracts.nodes.Node.{the_row}
-use Rattle.kr_contact.specs.Contacts.{AreSingle, is_contact, without, touched}
-use Rattle.kr_contact.specs.Nodes.{index_of, node_at, IsKnown, Leads, with_time, unlinked, linked}
+use Rattle.kr_defs.specs.Heartbeats.{contacts_without}
+use Rattle.kr_contact.specs.Contacts.{AreSingle, is_contact, contact_of, touched}
+use Rattle.kr_contact.specs.Nodes.{index_of, node_at, node_of, IsKnown, LiesAt, with_news, unlinked, linked}
 use Rattle.kr_contact.specs.Places.{IsPlaceOf}
 use Rattle.kr_contact.specs.Rings.{IsApart, IsIn, IsPath, After, Before, AreKnown, order_of, contact_at, contacts_from, IsRing}
 use Rattle.std.proofs.lemmas.Bool.{cases_Bool}
 use Rattle.kr_contact.proofs.Indices.{flip, out_in}
-use Rattle.kr_contact.proofs.Orders.{without_none, is_none, map_same}
+use Rattle.kr_contact.proofs.Orders.{without_none, is_none, found_none, map_same}
 use Rattle.kr_contact.proofs.Paths.{last_back}
-use Rattle.kr_contact.proofs.Rings.{NodeOf, find_node, one_node, settled, no_node, left, was, removed_ring, timed_path, timed_len, last_now, moved_ring, moved_contacts, added_ring, added_contacts, without_node, unlinked_holds}
+use Rattle.kr_contact.proofs.Rings.{NodeOf, find_node, one_node, settled, no_node, left, was, found_here, removed_ring, renewed_path, renewed_len, last_now, moved_ring, moved_contacts, added_ring, added_contacts, without_node, unlinked_holds}
 
 -- where the first value of a block lies
 self_place : (R : RattleType) (p : Ptr) (n : ℕ) → 0 < n → IsPlaceOf R p n p 0
@@ -52,7 +54,7 @@ module _ (first : Place) (nodes : List Node) (places : List (ℤ × Place)) (ord
   pub some_nodes : 0 < n
   some_nodes = last_on p nodes 0 order 0 r.path
 
-  pub first_leads : Leads p n first 0
+  pub first_leads : LiesAt p n first 0
   first_leads = self_place the_row p n some_nodes
 
   pub last_known : IsKnown p n (node_at nodes (index_of p first)).before
@@ -77,58 +79,65 @@ module _ (first : Place) (nodes : List Node) (places : List (ℤ × Place)) (ord
     pub there : true ≡ is_contact (map (contact_at nodes) order) key
     there = subst (λ is. true ≡ is_contact (map (contact_at nodes) is) key) (sym f.is) (was p nodes places f.xs f.i f.ys parted key f.named)
 
+    pub found : Some (contact_at nodes (index_of p place)) ≡ contact_of (map (contact_at nodes) order) key
+    found = subst (λ is. Some (contact_at nodes (index_of p place)) ≡ contact_of (map (contact_at nodes) is) key) (sym f.is) (subst (λ k. Some (contact_at nodes k) ≡ contact_of (map (contact_at nodes) (f.xs ++ f.i ∷ f.ys)) key) (sym at_i) (found_here p nodes places f.xs f.i f.ys parted key f.named))
+
     -- the broker's node is gone
     abbrev Removed : List (ℤ × Place) → List Node → Type 0
-    Removed places' ns = IsRing p ns places' (order_of p ns (length places')) × (map (contact_at ns) (order_of p ns (length places')) ≡ without (map (contact_at nodes) order) key)
+    Removed places' ns = IsRing p ns places' (order_of p ns (length places')) × (map (contact_at ns) (order_of p ns (length places')) ≡ contacts_without (map (contact_at nodes) order) key)
 
     pub removal : (places' : List (ℤ × Place)) → ((q : ℤ) → lookup (int_eq q) places' ≡ cond (int_eq key q) None (lookup (int_eq q) places)) → length places' + 1 ≡ length places → Removed places' (unlinked p nodes (index_of p place))
     removal places' changed fewer =
         let ring = removed_ring p nodes places f.xs f.i f.ys parted key f.named places' changed fewer in
         let told = settled p (unlinked p nodes f.i) places' (f.xs ++ f.ys) ring in
-        let gone : map (contact_at (unlinked p nodes f.i)) (f.xs ++ f.ys) ≡ without (map (contact_at nodes) order) key =
-        map_same (contact_at (unlinked p nodes f.i)) (contact_at nodes) (f.xs ++ f.ys) (λ s there. unlinked_holds p nodes f.i s) ∙ sym (left p nodes places f.xs f.i f.ys parted key f.named) ∙ ap (λ is. without (map (contact_at nodes) is) key) (sym f.is) in
+        let gone : map (contact_at (unlinked p nodes f.i)) (f.xs ++ f.ys) ≡ contacts_without (map (contact_at nodes) order) key =
+        map_same (contact_at (unlinked p nodes f.i)) (contact_at nodes) (f.xs ++ f.ys) (λ s there. unlinked_holds p nodes f.i s) ∙ sym (left p nodes places f.xs f.i f.ys parted key f.named) ∙ ap (λ is. contacts_without (map (contact_at nodes) is) key) (sym f.is) in
         subst (λ k. Removed places' (unlinked p nodes k)) (sym at_i)
         (subst (IsRing p (unlinked p nodes f.i) places') (sym told) ring, ap (map (contact_at (unlinked p nodes f.i))) told ∙ gone)
 
     -- the broker's node is the last
-    abbrev Moved : ℤ → List Node → Type 0
-    Moved time ns = IsRing p ns places (order_of p ns (length places)) × (map (contact_at ns) (order_of p ns (length places)) ≡ touched (map (contact_at nodes) order) key time)
+    abbrev Moved : Contact → List Node → Type 0
+    Moved news ns = IsRing p ns places (order_of p ns (length places)) × (map (contact_at ns) (order_of p ns (length places)) ≡ touched (map (contact_at nodes) order) news)
 
-    pub moving : (time : ℤ) → Moved time (last_now p nodes (index_of p place) time place first)
-    moving time =
-        let ring = moved_ring p nodes f.i time place first places f.xs f.ys parted f.leads first_leads in
-        let told = settled p (last_now p nodes f.i time place first) places ((f.xs ++ f.ys) ++ f.i ∷ []) ring in
-        let contacts = moved_contacts p nodes f.i time place first places f.xs f.ys parted f.leads first_leads key f.named in
-        subst (λ k. Moved time (last_now p nodes k time place first)) (sym at_i) (
-          subst (IsRing p (last_now p nodes f.i time place first) places) (sym told) ring,
-          ap (map (contact_at (last_now p nodes f.i time place first))) told ∙ contacts ∙ ap (λ is. touched (map (contact_at nodes) is) key time) (sym f.is),
+    pub moving : (news : Contact) → news.broker ≡ key → Moved news (last_now p nodes (index_of p place) news place first)
+    moving news same =
+        let ring = moved_ring p nodes f.i news place first places f.xs f.ys parted f.leads first_leads in
+        let told = settled p (last_now p nodes f.i news place first) places ((f.xs ++ f.ys) ++ f.i ∷ []) ring in
+        let contacts = moved_contacts p nodes f.i news place first places f.xs f.ys parted f.leads first_leads (f.named ∙ sym same) in
+        subst (λ k. Moved news (last_now p nodes k news place first)) (sym at_i) (
+          subst (IsRing p (last_now p nodes f.i news place first) places) (sym told) ring,
+          ap (map (contact_at (last_now p nodes f.i news place first))) told ∙ contacts ∙ ap (λ is. touched (map (contact_at nodes) is) news) (sym f.is),
         )
 
-    pub moving_known : (time : ℤ) → IsKnown p n (node_at (with_time (unlinked p nodes (index_of p place)) (index_of p place) time) (index_of p first)).before
-    moving_known time =
-        let path = timed_path p nodes f.i time place first ((f.xs ++ f.ys) ++ 0 ∷ []) (without_node p nodes f.xs f.i f.ys parted.apart parted.path) in
-        let timed : List Node = with_time (unlinked p nodes f.i) f.i time in
-        let known = (last_back (After p timed) (Before p timed) 0 (f.xs ++ f.ys) 0 path).0 in
-        subst (λ k. IsKnown p n (node_at (with_time (unlinked p nodes k) k time) (index_of p first)).before) (sym at_i)
-        (subst (λ k. IsKnown p n (node_at timed k).before) (sym first_leads.1) (subst (λ m. IsKnown p m (node_at timed 0).before) (timed_len p nodes f.i time place first) known))
+    pub moving_known : (news : Contact) → IsKnown p n (node_at (with_news (unlinked p nodes (index_of p place)) (index_of p place) news) (index_of p first)).before
+    moving_known news =
+        let path = renewed_path p nodes f.i news place first ((f.xs ++ f.ys) ++ 0 ∷ []) (without_node p nodes f.xs f.i f.ys parted.apart parted.path) in
+        let renewed : List Node = with_news (unlinked p nodes f.i) f.i news in
+        let known = (last_back (After p renewed) (Before p renewed) 0 (f.xs ++ f.ys) 0 path).0 in
+        subst (λ k. IsKnown p n (node_at (with_news (unlinked p nodes k) k news) (index_of p first)).before) (sym at_i)
+        (subst (λ k. IsKnown p n (node_at renewed k).before) (sym first_leads.1) (subst (λ m. IsKnown p m (node_at renewed 0).before) (renewed_len p nodes f.i news place first) known))
 
   module _ (key : ℤ) (none : lookup (int_eq key) places ≡ None) where
     pub nowhere : false ≡ is_contact (map (contact_at nodes) order) key
     nowhere = is_none (contact_at nodes) key order (no_node p nodes places order r key none)
 
-    pub all_left : map (contact_at nodes) order ≡ without (map (contact_at nodes) order) key
+    pub all_left : map (contact_at nodes) order ≡ contacts_without (map (contact_at nodes) order) key
     all_left = sym (without_none (contact_at nodes) key order (no_node p nodes places order r key none))
 
+    pub unfound : None ≡ contact_of (map (contact_at nodes) order) key
+    unfound = found_none (contact_at nodes) key order (no_node p nodes places order r key none)
+
+  module _ (contact : Contact) (none : lookup (int_eq contact.broker) places ≡ None) where
     -- a node of the broker is new
-    pub adding : (time : ℤ) (place : Place) (places' : List (ℤ × Place)) → Leads p (length (nodes ++ record { broker = key; time = time; before = first; after = first } ∷ [])) place n
-        → ((q : ℤ) → lookup (int_eq q) places' ≡ cond (int_eq key q) (Some place) (lookup (int_eq q) places)) → length places' ≡ length places + 1
-        → let ns : List Node = linked p (nodes ++ record { broker = key; time = time; before = first; after = first } ∷ []) place first in
-        IsRing p ns places' (order_of p ns (length places')) × (map (contact_at ns) (order_of p ns (length places')) ≡ touched (map (contact_at nodes) order) key time)
-    adding time place places' at_n changed more =
-        let ring = added_ring p nodes places order r key time none place first at_n first_leads places' changed more in
-        let ns : List Node = linked p (nodes ++ record { broker = key; time = time; before = first; after = first } ∷ []) place first in
+    pub adding : (place : Place) (places' : List (ℤ × Place)) → LiesAt p (length (nodes ++ node_of contact first ∷ [])) place n
+        → ((q : ℤ) → lookup (int_eq q) places' ≡ cond (int_eq contact.broker q) (Some place) (lookup (int_eq q) places)) → length places' ≡ length places + 1
+        → let ns : List Node = linked p (nodes ++ node_of contact first ∷ []) place first in
+        IsRing p ns places' (order_of p ns (length places')) × (map (contact_at ns) (order_of p ns (length places')) ≡ touched (map (contact_at nodes) order) contact)
+    adding place places' at_n changed more =
+        let ring = added_ring p nodes places order r contact none place first at_n first_leads places' changed more in
+        let ns : List Node = linked p (nodes ++ node_of contact first ∷ []) place first in
         let told = settled p ns places' (order ++ n ∷ []) ring in
-        (subst (IsRing p ns places') (sym told) ring, ap (map (contact_at ns)) told ∙ added_contacts p nodes places order r key time none place first)
+        (subst (IsRing p ns places') (sym told) ring, ap (map (contact_at ns)) told ∙ added_contacts p nodes places order r contact none place first)
 
 -- ---- room
 
@@ -148,10 +157,10 @@ no_contact true none here = let bad : false ≡ true = none in absurd cc
 no_contact false none here = let bad : false ≡ true = here in absurd cc
 
 -- the place of a new node, as the ring counts
-pub at_end : (p q : Ptr) (len len' : ℕ) (nodes : List Node) (v : Node) (place : Place) → p ≡ q → len ≡ length nodes → len' ≡ len + 1 → Leads q len' place len → Leads p (length (nodes ++ v ∷ [])) place (length nodes)
+pub at_end : (p q : Ptr) (len len' : ℕ) (nodes : List Node) (v : Node) (place : Place) → p ≡ q → len ≡ length nodes → len' ≡ len + 1 → LiesAt q len' place len → LiesAt p (length (nodes ++ v ∷ [])) place (length nodes)
 at_end p q len len' nodes v place here all more leads =
     let longer : len' ≡ length (nodes ++ v ∷ []) = omega (arith, length-append nodes (v ∷ [])) in
-    subst (λ k. Leads p k place (length nodes)) longer (subst (λ k. Leads p len' place k) all (subst (λ o. Leads o len' place len) (sym here) leads))
+    subst (λ k. LiesAt p k place (length nodes)) longer (subst (λ k. LiesAt p len' place k) all (subst (λ o. LiesAt o len' place len) (sym here) leads))
 
 -- ---- one contact after the other
 

@@ -1,6 +1,7 @@
 -- The nodes of a block, by their indices, and what changes one. This project's own.
-use Rattle.std.specs.Prelude.{◌++◌, ◌∷◌, [], ℕ, ℤ, pos, List, slice_index_or, slice_set}
+use Rattle.std.specs.Prelude.{◌++◌, ◌∷◌, [], ℕ, pos, List, slice_index_or, slice_set}
 use Rattle.std.specs.Ptr.{Ptr, null_ptr}
+use Rattle.kr_defs.specs.declared.basis.Contact.{Contact}
 use Rattle.kr_contact.specs.declared.nodes.Node.{Node}
 use Rattle.kr_contact.specs.declared.nodes.Place.{Place}
 use Rattle.kr_contact.specs.contracts.nodes.Node.{the_row}
@@ -15,17 +16,25 @@ abbrev pub IsKnown : Ptr → ℕ → Place → Type 0
 IsKnown first n place = IsPlace the_row first n place.at
 
 -- the i-th does
-abbrev pub Leads : Ptr → ℕ → Place → ℕ → Type 0
-Leads first n place i = IsPlaceOf the_row first n place.at i
+abbrev pub LiesAt : Ptr → ℕ → Place → ℕ → Type 0
+LiesAt first n place i = IsPlaceOf the_row first n place.at i
 
 abbrev pub nowhere : Place
 nowhere = record { at = null_ptr }
 
 abbrev pub blank : Node
-blank = record { broker = pos 0; time = pos 0; before = nowhere; after = nowhere }
+blank = record { broker = pos 0; time = pos 0; offset = pos 0; before = nowhere; after = nowhere }
 
 abbrev pub node_at : List Node → ℕ → Node
 node_at nodes i = slice_index_or nodes i blank
+
+-- the node that closes a ring with no contacts
+abbrev pub closing_node : Place → Node
+closing_node first = record { broker = pos 0; time = pos 0; offset = pos 0; before = first; after = first }
+
+-- the contact that the node is
+abbrev pub contact_in : Node → Contact
+contact_in node = record { broker = node.broker; time = node.time; offset = node.offset }
 
 -- ---- the nodes after one of them changed
 
@@ -35,8 +44,8 @@ with_after nodes i place = slice_set nodes i (record (node_at nodes i) { after =
 abbrev pub with_before : List Node → ℕ → Place → List Node
 with_before nodes i place = slice_set nodes i (record (node_at nodes i) { before = place })
 
-abbrev pub with_time : List Node → ℕ → ℤ → List Node
-with_time nodes i time = slice_set nodes i (record (node_at nodes i) { time = time })
+abbrev pub with_news : List Node → ℕ → Contact → List Node
+with_news nodes i contact = slice_set nodes i (record (node_at nodes i) { time = contact.time; offset = contact.offset })
 
 -- the nodes beside the i-th are linked to one another
 unfoldable pub unlinked : Ptr → List Node → ℕ → List Node
@@ -50,12 +59,16 @@ linked first nodes place next =
     let before = (node_at nodes (index_of first next)).before in
     with_before (with_after (with_after (with_before nodes (index_of first place) before) (index_of first place) next) (index_of first before) place) (index_of first next) place
 
--- the node at the place becomes the last one before the first, with the time
-unfoldable pub moved : Ptr → List Node → Place → Place → ℤ → List Node
-moved first nodes place next time =
+-- the node at the place becomes the last one before the first, with the time and the offset of the contact
+unfoldable pub moved_last : Ptr → List Node → Place → Place → Contact → List Node
+moved_last first nodes place next contact =
     let i = index_of first place in
-    linked first (with_time (unlinked first nodes i) i time) place next
+    linked first (with_news (unlinked first nodes i) i contact) place next
+
+-- the contact's node before it is linked in
+abbrev pub node_of : Contact → Place → Node
+node_of contact next = record { broker = contact.broker; time = contact.time; offset = contact.offset; before = next; after = next }
 
 -- a new node at the place is linked in before the first
-unfoldable pub added : Ptr → List Node → Place → Place → ℤ → ℤ → List Node
-added first nodes place next broker time = linked first (nodes ++ record { broker = broker; time = time; before = next; after = next } ∷ []) place next
+unfoldable pub added_last : Ptr → List Node → Place → Place → Contact → List Node
+added_last first nodes place next contact = linked first (nodes ++ node_of contact next ∷ []) place next

@@ -1,14 +1,15 @@
 //! A ring of contacts in one block.
 
-ghost use Rattle.std.specs.Prelude.{◌≡◌, ◌+◌, ◌≤◌, ◌<◌, [], ◌++◌, IsTrue, IfOk, OnErr, length, slice_get, vec_len, vec_capacity};
+ghost use Rattle.std.specs.Prelude.{◌≡◌, ◌+◌, ◌≤◌, ◌<◌, [], ◌++◌, IsTrue, IfOk, length, slice_get, vec_len, vec_capacity};
 ghost use Rattle.std.specs.Vec.{vec_ptr};
-ghost use Rattle.kr_contact.specs.Contacts.{AreSingle, is_contact, without, touched, expired, may_touch};
+ghost use Rattle.kr_defs.specs.Heartbeats.{contacts_without};
+ghost use Rattle.kr_contact.specs.Contacts.{AreSingle, KeepsRoom, is_contact, contact_of, touched, expired_among, may_touch};
 ghost use Rattle.kr_contact.specs.Rings.{AreKnown, contacts_from};
 
 use crate::nodes::{self, Node, Place};
 use crate::{index, walk};
 use kr_base::{NoMemory, Steps};
-use kr_defs::Ids;
+use kr_defs::{Contact, Contacts, Ids};
 use std::alloc::Global;
 use std::collections::HashMap;
 use std::marker::Model;
@@ -28,10 +29,10 @@ impl Model for Ring {
     ghost use Rattle.std.specs.Prelude.{◌≡◌, ◌-◌, ◌≤◌, map, min, length, vec_len, vec_capacity};
     ghost use Rattle.std.specs.HashMap.{spare, hash_map_len};
     ghost use Rattle.std.specs.Vec.{vec_ptr};
-    ghost use Rattle.kr_contact.specs.Contacts.{Listed};
+    ghost use Rattle.kr_contact.specs.Contacts.{ContactsSeen};
     ghost use Rattle.kr_contact.specs.Rings.{IsRing, order_of, contact_at};
 
-    ghost Value = { Listed };
+    ghost Value = { ContactsSeen };
 
     ghost view = { λ r. record { contacts = map (contact_at r.nodes.items) (order_of r.first.at r.nodes.items (hash_map_len r.places)); spare = min (vec_capacity r.nodes - vec_len r.nodes) (spare r.places) } };
 
@@ -47,15 +48,7 @@ impl Ring {
         let capacity = room.checked_add(1).ok_or(NoMemory)?;
         let places = HashMap::with_capacity(alloc, room)?;
         let mut nodes = Vec::with_capacity(alloc, capacity)?;
-        let first = Place {
-            at: nodes.as_mut_ptr(),
-        };
-        nodes.push_reserved(Node {
-            broker: 0,
-            time: 0,
-            before: first,
-            after: first,
-        });
+        let first = nodes::close(&mut nodes);
         Ok(Ring {
             nodes,
             first,
@@ -69,47 +62,70 @@ impl Ring {
         self.places.len()
     }
 
-    // Makes the broker the last contact.
-    pub(crate) fn touch(&mut self, broker: &i32, time: &i64)
-        requires { IsTrue (may_touch self.old broker.now) }
-        ensures contacts { self.new.contacts ≡ touched self.old.contacts broker.now time.now }
-        ensures spare { self.old.spare ≤ self.new.spare + 1 }
-        ensures again { IsTrue (is_contact self.old.contacts broker.now) → self.new.spare ≡ self.old.spare }
+    // No broker is a contact any more. The memory stays.
+    pub(crate) fn clear(&mut self)
+        ensures contacts { self.new.contacts ≡ [] }
+        ensures spare { self.old.spare ≤ self.new.spare }
     {
-        match index::place_of(&self.places, broker) {
-            Some(place) => nodes::move_last(&mut self.nodes, place, self.first, time),
+        self.nodes.clear();
+        self.places.clear();
+        self.first = nodes::close(&mut self.nodes);
+    }
+
+    // Makes the broker the last contact.
+    pub(crate) fn touch<L: Ledger>(&mut self, contact: &Contact, steps: &mut Steps<L>)
+        requires { IsTrue (may_touch self.old contact.now.broker) }
+        ensures contacts { self.new.contacts ≡ touched self.old.contacts contact.now }
+        ensures spare { self.old.spare ≤ self.new.spare + 1 }
+        ensures again { KeepsRoom self.old self.new contact.now.broker }
+        ensures bound { steps.new ≤ steps.old + 9 }
+    {
+        match index::place_of(&self.places, &contact.broker) {
+            Some(place) => nodes::move_last(&mut self.nodes, place, self.first, contact, steps),
             None => {
-                let place = nodes::add_last(&mut self.nodes, self.first, broker, time);
-                index::put(&mut self.places, broker, place);
+                let place = nodes::add_last(&mut self.nodes, self.first, contact, steps);
+                index::put(&mut self.places, &contact.broker, place);
             }
         }
     }
 
     // Takes the broker out, and tells whether it was a contact.
-    pub(crate) fn remove(&mut self, broker: &i32) -> bool
+    pub(crate) fn remove<L: Ledger>(&mut self, broker: &i32, steps: &mut Steps<L>) -> bool
         ensures was { result ≡ is_contact self.old.contacts broker.now }
-        ensures contacts { self.new.contacts ≡ without self.old.contacts broker.now }
+        ensures contacts { self.new.contacts ≡ contacts_without self.old.contacts broker.now }
         ensures spare { self.old.spare ≤ self.new.spare }
+        ensures bound { steps.new ≤ steps.old + 3 }
     {
         match index::take(&mut self.places, broker) {
             Some(place) => {
-                nodes::unlink(&mut self.nodes, place);
+                nodes::unlink(&mut self.nodes, place, steps);
                 true
             }
             None => false,
         }
     }
 
-    // The contact that was heard of the longest ago, with its time.
-    pub(crate) fn oldest(&self) -> Option<(i32, i64)>
-        ensures { result ≡ slice_get self.now.contacts 0 }
+    // The contact that was heard of the longest ago.
+    pub(crate) fn oldest<L: Ledger>(&self, steps: &mut Steps<L>) -> Option<Contact>
+        ensures oldest { result ≡ slice_get self.now.contacts 0 }
+        ensures bound { steps.new ≤ steps.old + 2 }
     {
         if self.places.is_empty() {
             return None;
         }
-        let first = nodes::read(&self.nodes, self.first);
-        let oldest = nodes::read(&self.nodes, first.after);
-        Some((oldest.broker, oldest.time))
+        let first = nodes::look(&self.nodes, self.first, steps);
+        let oldest = nodes::look(&self.nodes, first.after, steps);
+        Some(nodes::contact_in(&oldest))
+    }
+
+    // The broker as it was heard of last.
+    pub(crate) fn contact(&self, broker: &i32) -> Option<Contact>
+        ensures { result ≡ contact_of self.now.contacts broker.now }
+    {
+        match index::place_of(&self.places, broker) {
+            Some(place) => Some(nodes::contact_in(&nodes::read(&self.nodes, place))),
+            None => None,
+        }
     }
 
     // The brokers of the front whose time is at most the limit.
@@ -119,8 +135,8 @@ impl Ring {
         limit: &i64,
         steps: &mut Steps<L>,
     ) -> Result<Ids, NoMemory>
-        ensures ok { IfOk result (λ brokers. brokers ≡ expired self.now.contacts limit.now) }
-        ensures bound { steps.new ≤ steps.old + length (expired self.now.contacts limit.now) + 1 }
+        ensures ok { IfOk result (λ brokers. brokers ≡ expired_among self.now.contacts limit.now) }
+        ensures bound { steps.new ≤ steps.old + length (expired_among self.now.contacts limit.now) + 1 }
         ensures counted { steps.old ≤ steps.new }
     {
         let from = nodes::read(&self.nodes, self.first).after;
@@ -135,20 +151,34 @@ impl Ring {
         nodes.min(self.places.capacity() - self.places.len())
     }
 
+    // A copy of the contacts.
+    pub(crate) fn contacts(&self, alloc: Global) -> Result<Contacts, NoMemory>
+        ensures { IfOk result (λ contacts. contacts ≡ self.now.contacts) }
+    {
+        let from = nodes::read(&self.nodes, self.first).after;
+        walk::contacts(alloc, &self.nodes, from, self.places.len())
+    }
+
     // Puts the contacts into an empty ring, in their order.
-    pub(crate) fn copy_into(&self, to: &mut Ring)
+    pub(crate) fn copy_into<L: Ledger>(&self, to: &mut Ring, steps: &mut Steps<L>)
         requires empty { to.old.contacts ≡ [] }
         requires room { length self.now.contacts ≤ to.old.spare }
         ensures contacts { to.new.contacts ≡ self.now.contacts }
         ensures spare { to.old.spare ≤ to.new.spare + length self.now.contacts }
     {
         let from = nodes::read(&self.nodes, self.first).after;
-        copy_contacts(&self.nodes, from, self.places.len(), to);
+        copy_contacts(&self.nodes, from, self.places.len(), to, steps);
     }
 }
 
 // Touches so many contacts in a ring, from the place on.
-fn copy_contacts(nodes: &Vec<Node>, from: Place, count: usize, to: &mut Ring)
+fn copy_contacts<L: Ledger>(
+    nodes: &Vec<Node>,
+    from: Place,
+    count: usize,
+    to: &mut Ring,
+    steps: &mut Steps<L>,
+)
     requires known { AreKnown (vec_ptr nodes.now) nodes.now.items count from }
     requires single { AreSingle (to.old.contacts ++ contacts_from (vec_ptr nodes.now) nodes.now.items count from) }
     requires room { count ≤ to.old.spare }
@@ -158,7 +188,7 @@ fn copy_contacts(nodes: &Vec<Node>, from: Place, count: usize, to: &mut Ring)
     let mut place = from;
     for _ in 0..count {
         let node = nodes::read(nodes, place);
-        to.touch(&node.broker, &node.time);
+        to.touch(&nodes::contact_in(&node), steps);
         place = node.after;
     }
 }

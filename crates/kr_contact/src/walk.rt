@@ -1,13 +1,13 @@
-//! One contact after the other.
+//! One contact after the other, in their order.
 
 ghost use Rattle.std.specs.Prelude.{◌≡◌, ◌+◌, ◌≤◌, int_le, length, IfOk};
 ghost use Rattle.std.specs.Vec.{vec_ptr};
-ghost use Rattle.kr_contact.specs.Contacts.{expired};
+ghost use Rattle.kr_contact.specs.Contacts.{expired_among};
 ghost use Rattle.kr_contact.specs.Rings.{AreKnown, contacts_from};
 
 use crate::nodes::{self, Node, Place};
 use kr_base::{NoMemory, Steps};
-use kr_defs::Ids;
+use kr_defs::{Contacts, Ids};
 use std::alloc::Global;
 use std::sync::ledger::Ledger;
 
@@ -35,8 +35,8 @@ pub(crate) fn expired<L: Ledger>(
     steps: &mut Steps<L>,
 ) -> Result<Ids, NoMemory>
     requires { AreKnown (vec_ptr nodes.now) nodes.now.items count from }
-    ensures ok { IfOk result (λ brokers. brokers ≡ expired (contacts_from (vec_ptr nodes.now) nodes.now.items count from) limit.now) }
-    ensures bound { steps.new ≤ steps.old + length (expired (contacts_from (vec_ptr nodes.now) nodes.now.items count from) limit.now) + 1 }
+    ensures ok { IfOk result (λ brokers. brokers ≡ expired_among (contacts_from (vec_ptr nodes.now) nodes.now.items count from) limit.now) }
+    ensures bound { steps.new ≤ steps.old + length (expired_among (contacts_from (vec_ptr nodes.now) nodes.now.items count from) limit.now) + 1 }
     ensures counted { steps.old ≤ steps.new }
 {
     let mut brokers = Ids::new(alloc);
@@ -51,4 +51,24 @@ pub(crate) fn expired<L: Ledger>(
         place = node.after;
     }
     Ok(brokers)
+}
+
+// So many contacts, from the place on.
+pub(crate) fn contacts(
+    alloc: Global,
+    nodes: &Vec<Node>,
+    from: Place,
+    count: usize,
+) -> Result<Contacts, NoMemory>
+    requires { AreKnown (vec_ptr nodes.now) nodes.now.items count from }
+    ensures { IfOk result (λ contacts. contacts ≡ contacts_from (vec_ptr nodes.now) nodes.now.items count from) }
+{
+    let mut contacts = Vec::with_capacity(alloc, count)?;
+    let mut place = from;
+    for _ in 0..count {
+        let node = nodes::read(nodes, place);
+        contacts.push(nodes::contact_in(&node))?;
+        place = node.after;
+    }
+    Ok(Contacts::from_vec(contacts))
 }

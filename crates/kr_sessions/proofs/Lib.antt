@@ -1,3 +1,3 @@
-pub mod Fronts
+pub mod Begins
 pub mod LeastNumbers
-pub mod Room
+pub mod ValidContacts

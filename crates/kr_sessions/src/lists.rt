@@ -1,41 +1,43 @@
 //! Single looks at the two lists.
 
-ghost use Rattle.std.specs.Prelude.{◌≡◌, ◌+◌, ◌+ℤ◌, pos, not, map, filter, find, length, take_while, int_lt, int_le, vec_capacity, vec_len, ◌≤◌, ◌<◌, IsTrue, IfOk, ◌&&◌, ◌||◌, ◌++◌, option_to_list, nat_lt};
+ghost use Rattle.std.specs.Prelude.{◌≡◌, ◌+◌, ◌+ℤ◌, ◌<◌, pos, map, find, int_lt, vec_capacity, vec_len, ◌≤◌, IsTrue, IfOk, ◌&&◌, ◌++◌, option_to_list};
 ghost use Rattle.std.specs.Int.{int_min};
 ghost use Rattle.std.specs.List.{filter_map, list_any, reduce};
 ghost use Rattle.std.specs.Option.{option_map};
 ghost use Rattle.std.specs.Ordering.{int_eq};
-ghost use Rattle.kr_defs.specs.Ids.{has};
-ghost use Rattle.kr_defs.specs.Heartbeats.{contacts_without, stopping_without, new_contact, new_stopping};
+ghost use Rattle.kr_contact.specs.Contacts.{touched};
+ghost use Rattle.kr_defs.specs.Ids.{is_distinct};
+ghost use Rattle.kr_defs.specs.Heartbeats.{stopping_without, new_contact, new_stopping};
 
-use kr_base::{NoMemory, Steps};
-use kr_defs::{Contact, Ids, Stopping};
+use kr_base::NoMemory;
+use kr_contact::ContactList;
+use kr_defs::{Contact, Stopping};
 use std::alloc::Global;
-use std::sync::ledger::Ledger;
 
 // The brokers as contacts that were heard of now.
 pub(crate) fn contacts_of(
     alloc: Global,
     brokers: &[i32],
     now: &i64,
-) -> Result<Vec<Contact>, NoMemory>
-    ensures { IfOk result (λ contacts. contacts.items ≡ map (new_contact now.now) brokers.now) }
+) -> Result<ContactList, NoMemory>
+    requires { IsTrue (is_distinct brokers.now) }
+    ensures { IfOk result (λ list. list.contacts ≡ map (new_contact now.now) brokers.now) }
 {
-    let mut contacts = Vec::with_capacity(alloc, brokers.len())?;
+    let mut list = ContactList::new(alloc);
+    list.reserve(brokers.len())?;
     for broker in brokers {
-        contacts.push(new_contact(broker, now))?;
+        touch(&mut list, broker, now);
     }
-    Ok(contacts)
+    Ok(list)
 }
 
-fn new_contact(broker: &i32, now: &i64) -> Contact
-    ensures { result ≡ new_contact now.now broker.now }
+// The broker was heard of now.
+fn touch(list: &mut ContactList, broker: &i32, now: &i64)
+    requires { 0 < list.old.spare }
+    ensures contacts { list.new.contacts ≡ touched list.old.contacts (new_contact now.now broker.now) }
+    ensures spare { list.old.spare ≤ list.new.spare + 1 }
 {
-    Contact {
-        broker: *broker,
-        time: *now,
-        offset: -1,
-    }
+    list.touch(*broker, *now);
 }
 
 // The brokers as stopping ones that began at the tip.
@@ -63,21 +65,19 @@ fn new_stopping(broker: &i32, tip: &i64) -> Stopping
 }
 
 // Takes the broker out.
-pub(crate) fn drop_contact(contacts: &mut Vec<Contact>, broker: &i32)
-    ensures items { contacts.new.items ≡ contacts_without contacts.old.items broker.now }
-    ensures len { vec_len contacts.new ≤ vec_len contacts.old }
-    ensures capacity { vec_capacity contacts.new ≡ vec_capacity contacts.old }
-    ensures room { IsTrue (has (map (λ c. c.broker) contacts.old.items) broker.now || nat_lt (vec_len contacts.old) (vec_capacity contacts.old)) → vec_len contacts.new < vec_capacity contacts.new }
-{
-    contacts.retain(|contact| contact.broker != *broker);
-}
-
 pub(crate) fn drop_stopping(stopping: &mut Vec<Stopping>, broker: &i32)
     ensures items { stopping.new.items ≡ stopping_without stopping.old.items broker.now }
     ensures len { vec_len stopping.new ≤ vec_len stopping.old }
     ensures capacity { vec_capacity stopping.new ≡ vec_capacity stopping.old }
 {
     stopping.retain(|stopping| stopping.broker != *broker);
+}
+
+// The broker as it was heard of last.
+fn contact_of(contacts: &ContactList, broker: &i32) -> Option<Contact>
+    ensures { result ≡ find (λ c. int_eq c.broker broker.now) contacts.now.contacts }
+{
+    contacts.contact(*broker)
 }
 
 // Less than the session's length has passed since the broker was heard of.
@@ -92,17 +92,21 @@ fn is_heard(contact: &Contact, now: &i64, session_ms: &u32) -> bool
 }
 
 // The broker is a contact that is still heard.
-pub(crate) fn is_valid(contacts: &[Contact], broker: &i32, now: &i64, session_ms: &u32) -> bool
-    ensures { result ≡ list_any (λ c. int_eq c.broker broker.now && int_lt now.now (c.time +ℤ pos session_ms.now)) contacts.now }
+pub(crate) fn is_valid(contacts: &ContactList, broker: &i32, now: &i64, session_ms: &u32) -> bool
+    requires { IsTrue (is_distinct (map (λ c. c.broker) contacts.now.contacts)) }
+    ensures { result ≡ list_any (λ c. int_eq c.broker broker.now && int_lt now.now (c.time +ℤ pos session_ms.now)) contacts.now.contacts }
 {
-    contacts.iter().any(|contact| contact.broker == *broker && is_heard(contact, now, session_ms))
+    match contact_of(contacts, broker) {
+        Some(contact) => is_heard(&contact, now, session_ms),
+        None => false,
+    }
 }
 
 // The offset that the broker reported last.
-pub(crate) fn offset_of(contacts: &[Contact], broker: &i32) -> Option<i64>
-    ensures { result ≡ option_map (λ c. c.offset) (find (λ c. int_eq c.broker broker.now) contacts.now) }
+pub(crate) fn offset_of(contacts: &ContactList, broker: &i32) -> Option<i64>
+    ensures { result ≡ option_map (λ c. c.offset) (find (λ c. int_eq c.broker broker.now) contacts.now.contacts) }
 {
-    let contact = contacts.iter().find(|contact| contact.broker == *broker)?;
+    let contact = contact_of(contacts, broker)?;
     Some(contact.offset)
 }
 
@@ -127,47 +131,12 @@ fn lower_of(lowest: Option<i64>, offset: Option<i64>) -> Option<i64>
 
 // The least offset of those of the brokers that are contacts.
 #[tactic(auto, using(crate::proofs::LeastNumbers::lowest))]
-pub(crate) fn lowest_offset(contacts: &[Contact], brokers: &[i32]) -> Option<i64>
-    ensures { result ≡ reduce int_min (filter_map (λ broker. option_map (λ c. c.offset) (find (λ c. int_eq c.broker broker) contacts.now)) brokers.now) }
+pub(crate) fn lowest_offset(contacts: &ContactList, brokers: &[i32]) -> Option<i64>
+    ensures { result ≡ reduce int_min (filter_map (λ broker. option_map (λ c. c.offset) (find (λ c. int_eq c.broker broker) contacts.now.contacts)) brokers.now) }
 {
     let mut lowest = None;
     for broker in brokers {
         lowest = lower_of(lowest, offset_of(contacts, broker));
     }
     lowest
-}
-
-// The contact was heard of at the limit or before.
-fn is_old(contact: &Contact, limit: &i64) -> bool
-    ensures { result ≡ int_le contact.now.time limit.now }
-{
-    contact.time <= *limit
-}
-
-fn broker_of(contact: &Contact) -> i32
-    ensures { result ≡ contact.now.broker }
-{
-    contact.broker
-}
-
-// The brokers of the front whose time is at most the limit. A step is one contact that is looked at.
-pub(crate) fn expired<L: Ledger>(
-    alloc: Global,
-    contacts: &[Contact],
-    limit: &i64,
-    steps: &mut Steps<L>,
-) -> Result<Ids, NoMemory>
-    ensures ok { IfOk result (λ brokers. brokers ≡ map (λ c. c.broker) (take_while (λ c. int_le c.time limit.now) contacts.now)) }
-    ensures bound { steps.new ≤ steps.old + length (take_while (λ c. int_le c.time limit.now) contacts.now) + 1 }
-    ensures counted { steps.old ≤ steps.new }
-{
-    let mut brokers = Ids::new(alloc);
-    for contact in contacts {
-        steps.tick();
-        if !is_old(contact, limit) {
-            break;
-        }
-        brokers.push(broker_of(contact))?;
-    }
-    Ok(brokers)
 }

@@ -7,6 +7,7 @@ ghost use Rattle.kr_sessions.specs.Sessions.{may_beat};
 
 use crate::lists;
 use kr_base::{NoMemory, Steps};
+use kr_contact::ContactList;
 use kr_defs::{Contact, Contacts, Ids, Stopping, Stops};
 use std::alloc::Global;
 use std::marker::Model;
@@ -16,7 +17,7 @@ use std::sync::ledger::Ledger;
 #[derive(Drop)]
 pub struct Sessions {
     alloc: Global,
-    contacts: Vec<Contact>,
+    contacts: ContactList,
     stopping: Vec<Stopping>,
 }
 
@@ -27,9 +28,9 @@ impl Model for Sessions {
 
     ghost Value = { Heard };
 
-    ghost view = { λ s. heard_of s.contacts.items s.stopping.items (nat_lt (vec_len s.contacts) (vec_capacity s.contacts)) (nat_lt (vec_len s.stopping) (vec_capacity s.stopping)) };
+    ghost view = { λ s. heard_of s.contacts.contacts s.stopping.items (nat_lt 0 s.contacts.spare) (nat_lt (vec_len s.stopping) (vec_capacity s.stopping)) };
 
-    ghost invariant = { λ s. AreHeartbeats (record { contacts = s.contacts.items; stopping = s.stopping.items }) };
+    ghost invariant = { λ s. AreHeartbeats (record { contacts = s.contacts.contacts; stopping = s.stopping.items }) };
 }
 
 impl Sessions {
@@ -39,7 +40,7 @@ impl Sessions {
     {
         Sessions {
             alloc,
-            contacts: Vec::new(alloc),
+            contacts: ContactList::new(alloc),
             stopping: Vec::new(alloc),
         }
     }
@@ -111,8 +112,7 @@ impl Sessions {
         ensures lists { self.new.heartbeats ≡ beat self.old.heartbeats broker now offset }
         ensures stopping_room { self.new.stopping_room ≡ self.old.stopping_room }
     {
-        lists::drop_contact(&mut self.contacts, &broker);
-        self.contacts.push_reserved(Contact {
+        self.contacts.beat(&Contact {
             broker,
             time: now,
             offset,
@@ -125,9 +125,8 @@ impl Sessions {
         ensures contact_room { IsTrue self.old.contact_room → IsTrue self.new.contact_room }
         ensures stopping_room { IsTrue self.old.stopping_room → IsTrue self.new.stopping_room }
     {
-        let id = &broker;
-        lists::drop_contact(&mut self.contacts, id);
-        lists::drop_stopping(&mut self.stopping, id);
+        let _ = self.contacts.remove(broker);
+        lists::drop_stopping(&mut self.stopping, &broker);
     }
 
     /// The broker began to stop at the tip.
@@ -152,14 +151,14 @@ impl Sessions {
     pub fn valid(&self, broker: i32, now: i64, session_ms: u32) -> bool
         ensures { result ≡ valid self.now.heartbeats broker now session_ms }
     {
-        lists::is_valid(self.contacts.as_slice(), &broker, &now, &session_ms)
+        lists::is_valid(&self.contacts, &broker, &now, &session_ms)
     }
 
     /// The least offset of those of the brokers that are contacts.
     pub fn lowest_offset(&self, active: &Ids) -> Option<i64>
         ensures { result ≡ lowest_offset self.now.heartbeats active.now }
     {
-        lists::lowest_offset(self.contacts.as_slice(), active.as_slice())
+        lists::lowest_offset(&self.contacts, active.as_slice())
     }
 
     /// The brokers that were heard of at the limit or before, the longest ago first. A step is one contact that is looked at.
@@ -168,14 +167,14 @@ impl Sessions {
         ensures bound { steps.new ≤ steps.old + length (expired self.now.heartbeats limit) + 1 }
         ensures counted { steps.old ≤ steps.new }
     {
-        lists::expired(self.alloc, self.contacts.as_slice(), &limit, steps)
+        self.contacts.expired(limit, steps)
     }
 
     /// A copy of the contacts.
     pub fn contacts(&self) -> Result<Contacts, NoMemory>
         ensures { IfOk result (λ contacts. contacts ≡ self.now.heartbeats.contacts) }
     {
-        Ok(Contacts::from_vec(Vec::from_slice(self.alloc, self.contacts.as_slice())?))
+        self.contacts.contacts()
     }
 
     /// A copy of the stopping brokers.

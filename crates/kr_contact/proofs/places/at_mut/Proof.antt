@@ -1,62 +1,57 @@
--- `at_mut` lends the value that lies at the pointer, and the block follows it. Assumes `Logic`.
-use mathlib.Core.Path.{◌≡◌, refl, ap, ◌∙◌}
+-- `at_mut` lends the value that lies at the pointer to be written, and the block follows it. Assumes `Logic`.
+use mathlib.Core.Path.{◌≡◌, refl, sym, ap, subst, ◌∙◌}
 use Prim.Native.Nat.{ℕ, ◌+◌, ◌*◌, ◌≤◌, ◌<◌}
 use native.Mathlib.Omega.{arith}
-use mathlib.Core.List.{List, [], ◌∷◌}
+use mathlib.Core.List.{List, [], ◌∷◌, ◌++◌}
 use lib.ListN.{length, get_or}
 use seplogic.Ra.Ura.{Ura}
-use mir.Syntax.{Fn, named, ty_ptr}
 use base.Fraction.{full_share}
+use mir.Syntax.{Fn, named, ty_ptr}
 use mir.MapTy.{inst_fn}
 use mir.Val.{Val, vptr}
 use base.Logic.{SProp, ent, sep}
-use base.Fml.{Lft, GName, Share, ftrue, fat, flft}
+use base.Fml.{Lft, GName, Share, Fml, ftrue, fat, flft, fbor, fobs}
 use prog.Wp.{Env, Calls, Loops, WpFn, Tables}
 use types.Logic.{Logic, sem}
+use types.SemTy.{Body}
+use contract.Monad.{fact}
 use contract.Running.{tables, tables_of}
 use sound.WpLaws.{WpFn-mono}
-use types.Kit.{‵, ◌⊛◌, some, at_ret, ◌$◌, ◌∵◌, !, qed, by, move, keep, use1, drop, split, join, pick, fsplit, fsplit3, fjoin, rewrite, suffices, frame, done}
-use types.Run.{stop, of_opd, first, blocks, exec, returns, enter}
-use types.ByLocal.{alloc_all, pass_all, free_all, look_at, get, through, sets, env, take_at, give_at}
-use denote.Exit.{yes}
+use types.Kit.{Item, ⋆, ‵, raw, later, some, ◌⊛◌, at_ret, ◌$◌, ◌∵◌, !, qed, by, move, keep, group, await, pick, use1, split, join, rewrite, fsplit, fsplit3, fjoin, feq_l, suffices, frame, done}
+use types.Run.{stop, of_opd, addr, first, blocks, exec, returns, enter}
+use types.ByLocal.{alloc_all, pass_all, free_all, look_at, get, through, sets, sets_last, take_at, give_at, env}
+use denote.Exit.{yes, no}
+use denote.Follow.{follows}
+use denote.Memory.{mem}
 use denote.RattleType.{owns}
-use denote.RawPtr.{Ptr, RawPtr, ptr_val, rawptr_vals, rawptr_Tells}
-use denote.Ref.{MutRef, mut_vals, mut_Tells}
-use denote.Signature.{plain}
+use denote.RawPtr.{Ptr, RawPtr, ptr_val}
+use denote.Ref.{MutBor, MutRef}
+use denote.Builtin.{RefMutOf}
+use denote.Signature.{plain, mut_ref_to}
 use denote.Steps.{nothing}
 use denote.Triple.Carry.{spared}
-use denote.Triple.Clauses.{closing}
+use denote.Triple.Clauses.{Clauses, Ended, closing}
 use denote.Triple.Entry.{on_entry}
 use denote.Triple.Spec.{Meets, triple_of}
 use denote.Triple.Table.{entered, run_framed}
-use denote.Triple.Walked.{says, needs, Stays, stay_dropped, walk_of, ends_at, walked, Goes-dropped, walk_Meets}
-use Rattle.std.specs.Vec.{with_item}
+use denote.Triple.Walked.{says, needs, Stays, stay_dropped, walk_of, ends_at, Goes-dropped, Goes-spent_ref, walk_Meets}
 use Rattle.std.specs.Ptr.{ptr_add}
-use Rattle.kr_contact.specs.Places.{index_at, IsPlace}
-use Rattle.kr_contact.specs.contracts.places.at_mut.Key.{name as #self}
-use Rattle.std.proofs.VecSteps.El.{El, args, el_x, el_d, el_len, el_cap, el_items, el_ok, R, Vr, sz}
-use Rattle.std.proofs.ptr.Rows.{hd}
+use Rattle.std.specs.Vec.{with_item}
+use Rattle.std.proofs.RcSteps.{Ptr-Good}
 use Rattle.std.proofs.SliceLists.{any-default}
+use Rattle.std.proofs.VecSteps.El.{El, args, el_x, el_d, R, Vr, sz}
+use Rattle.std.proofs.VecSteps.Element.{Got, lends}
 use Rattle.std.proofs.VecSteps.Opens.{vec_opens}
 use Rattle.std.proofs.VecSteps.Shapes.{after}
-use Rattle.std.proofs.RcSteps.{Ptr-Good}
+use Rattle.std.proofs.ptr.Rows.{hd}
+use Rattle.kr_contact.specs.Places.{index_at, IsPlace}
+use Rattle.kr_contact.specs.contracts.places.at_mut.Key.{name as #self}
 use Rattle.kr_contact.proofs.places.at_mut.Statement as stated
 use Rattle.kr_contact.proofs.places.at_mut.Code as code
-use contract.Monad.{fact}
-use types.Kit.{raw, later, await, group}
-use types.Run.{addr}
-use types.ByLocal.{sets_last}
-use denote.Exit.{no}
-use denote.Builtin.{RefMutOf}
-use denote.Signature.{mut_ref_to}
-use denote.Follow.{follows}
-use denote.Triple.Clauses.{Clauses, Ended}
-use denote.Triple.Walked.{Goes-spent_ref}
-use Rattle.std.proofs.VecSteps.Element.{Got, lends}
 
 module _ (E : El) where
-  abbrev fn' : Fn
-  fn' = inst_fn (args E) code.function
+  abbrev function : Fn
+  function = inst_fn (args E) code.function
 
   abbrev ended : Ended
   ended = record { signature = record { lifetimes = 1; outlives = []; params = RefMutOf (0 ∷ []) tt (plain (λ _. Vr E)) (λ _. tt) ∷ plain (λ _. RawPtr) ∷ []; result = RefMutOf (0 ∷ []) tt (plain (λ _. R E)) (λ _. tt) }; kept = (no, (yes, tt)) }
@@ -64,78 +59,84 @@ module _ (E : El) where
   abbrev stayed : Stays ended.signature.params ended.kept
   stayed = (stay_dropped (mut_ref_to (0 ∷ []) tt (plain (λ _. Vr E))) no, (stay_dropped (plain (λ _. RawPtr)) yes, tt))
 
-  abbrev spec : {M : Type 1} {𝓤 : Ura M} (𝓛 : Logic 𝓤) → Clauses 𝓤 ended
-  spec {𝓤 = 𝓤} 𝓛 κs a = record { ghost = Unit {0}; requires = λ _. fact 𝓤 (IsPlace (R E) a.0.now.ptr a.0.now.len a.1.0); ensures = λ _ r _. sep 𝓤 (sem 𝓛 (follows (Vr E) (R E) a.0.ghost_name r.ghost_name (with_item a.0.now (index_at (R E) a.0.now.ptr a.1.0)))) (fact 𝓤 (r.now ≡ get_or a.0.now.items (index_at (R E) a.0.now.ptr a.1.0) r.now)) }
+  abbrev Asks : el_d E → Ptr → Type 0
+  Asks d p = IsPlace (R E) d.ptr d.len p
 
-module _ (E : El) {M : Type 1} {𝓤 : Ura M} (𝓛 : Logic 𝓤) (κ : Lft) (q : Share) (rb ro : ℕ) (γ : GName) (h : el_d E) (p : Ptr) where
+  abbrev Gives : el_d E → Ptr → el_x E → Type 0
+  Gives d p x = x ≡ get_or d.items (index_at (R E) d.ptr p) x
+
+  -- what is written to the value becomes that value of the block
+  abbrev Follows : el_d E → Ptr → GName → GName → Fml
+  Follows d p γ γ' = follows (Vr E) (R E) γ γ' (with_item d (index_at (R E) d.ptr p))
+
+  abbrev spec : {M : Type 1} {𝓤 : Ura M} (𝓛 : Logic 𝓤) → Clauses 𝓤 ended
+  spec {𝓤 = 𝓤} 𝓛 κs a = record { ghost = Unit {0}; requires = λ _. fact 𝓤 (Asks a.0.now a.1.0); ensures = λ _ r w. sep 𝓤 (sem 𝓛 (Follows a.0.now a.1.0 a.0.ghost_name r.ghost_name)) (fact 𝓤 (Gives a.0.now a.1.0 r.now)) }
+
+module _ (E : El) {M : Type 1} {𝓤 : Ura M} (𝓛 : Logic 𝓤) (C : Calls 𝓤 𝓛.H) (Λ : Loops 𝓤 𝓛.H) (κ : Lft) (q : Share) (rb ro : ℕ) (γ : GName) (d : el_d E) (p : Ptr) (us0 us1 : List Val) where
   open 𝓛 use {H, A}
 
+  abbrev block : MutBor (el_d E)
+  block = record { ref_ptr = (rb, ro); ghost_name = γ; now = d }
+
   abbrev bound : (walk_of 𝓛 (ended E) (stayed E) (spec E 𝓛)).Ghost
-  bound = (((κ, tt), (q, tt), tt, (record { ref_ptr = (rb, ro); ghost_name = γ; now = h }, (p, tt)), (vptr rb ro ∷ [], (ptr_val p ∷ [], tt))), tt)
+  bound = (((κ, tt), (q, tt), tt, (block, (p, tt)), (us0, (us1, tt))), tt)
 
   abbrev Post : Val → SProp 𝓤
   Post = (walk_of 𝓛 (ended E) (stayed E) (spec E 𝓛)).post bound
 
-  abbrev i : ℕ
-  i = index_at (R E) h.ptr p
+  exits : (r : MutBor (el_x E)) (v : Val) → Gives E d p r.now
+      → ent 𝓤 (⋆ 𝓛 (‵ ((MutRef (named 0) κ (R E)).own_val r (v ∷ [])) ∷ ‵ (flft κ q) ∷ ‵ (Follows E d p γ r.ghost_name) ∷ [])) (Post v)
+  exits r v given =
+      qed 𝓛 (‵ ((MutRef (named 0) κ (R E)).own_val r (v ∷ [])) ∷ ‵ (flft κ q) ∷ ‵ (Follows E d p γ r.ghost_name) ∷ []) ∵
+      suffices ! _ (ends_at 𝓛 (ended E) (stayed E) (spec E 𝓛) bound v r (tt, (tt, tt)) (tt, (tt, tt))) $
+      -- the token, then what is left of the arguments beside the result
+      nothing ! $ move ! (2 ∷ 0 ∷ []) $ join ! $ nothing ! $ nothing ! $ fjoin ! $ nothing ! $ fjoin ! $ move ! (0 ∷ 2 ∷ []) $ join ! $
+      move ! (1 ∷ 0 ∷ []) $ join ! $ frame ! $ says ! given $ done !
 
-  abbrev n : ℕ
-  n = el_len E h
+  -- the `&mut` to the block, which goes
+  abbrev Had : List (Item 𝓤)
+  Had = ‵ (fobs γ ((Vr E).coded.code d)) ∷ ‵ (fbor κ (Body (mem (Vr E)) rb ro γ)) ∷ ‵ (flft κ q) ∷ []
 
-  abbrev c : ℕ
-  c = el_cap E h
+  walk : Asks E d p → ent 𝓤 (⋆ 𝓛 Had) (WpFn 𝓤 H C Λ (function E) (vptr rb ro ∷ ptr_val p ∷ []) Post)
+  walk asked =
+      let i : ℕ = index_at (R E) d.ptr p in
+      let lens : d.len ≡ length d.items = d.ok.0 in
+      let most : d.len ≤ d.cap = d.ok.1 in
+      let within : i < length d.items = subst (λ (k : ℕ). i < k) lens asked.1 in
+      let some_room : 0 < d.cap = omega (arith, asked.1) in
+      let z : el_x E = hd d.items (omega arith) in
+      let x : el_x E = get_or d.items i z in
+      qed 𝓛 Had ∵ enter ! C Λ (function E) (vptr rb ro ∷ ptr_val p ∷ []) _ $ alloc_all ! (λ l. pass_all ! refl ((tt, tt), (Ptr-Good p, tt)) $
+      let En : Env 𝓤 H = env (function E).locals l in
+      -- the value is lent before anything runs
+      vec_opens E ! tt d rb ro some_room (λ b o hv lies few room fit.
+      group ! 7 $ use1 𝓛 (later (some (λ (γ' : GName). raw (Got E 𝓛 κ q rb ro γ d i b o x γ')))) (lends E 𝓛 κ q rb ro γ d i b o lies asked.1 few room fit some_room z) $ await ! tt $ pick ! (λ γ'.
+      let at : ℕ = i * sz E + o in
+      take_at ! 2 $ rewrite ! 0 (λ (y : Ptr). ‵ (fat full_share ty_ptr (l 2) 0 (ptr_val y))) (asked.0 ∙ ap (ptr_add (R E) i) lies) refl $ give_at ! 2 $
+      first ! $ blocks ! $ sets_last ! (addr ! (through ! refl (stop !))) refl (tt, tt) $
+      exec ! C Λ En (after 1 (function E).body) (at_ret En Post) $ sets ! (of_opd ! (get ! refl)) refl (tt, tt) $
+      returns ! (look_at ! 0 refl) $ free_all ! refl $ keep ! (0 ∷ []) $
+      by ! (exits (record { ref_ptr = (b, at); ghost_name = γ'; now = x }) (vptr b at) (any-default d.items i z x within)))))
 
-  abbrev xs : List (el_x E)
-  xs = el_items E h
-
-  abbrev s : ℕ
-  s = sz E
-
-  module _ (b o : ℕ) where
-    exits : (x : el_x E) → x ≡ get_or xs i x → (γ' : GName)
-        → ent 𝓤 (sep 𝓤 (sem 𝓛 ((MutRef (named 0) κ (R E)).own_val (record { ref_ptr = (b, i * s + o); ghost_name = γ'; now = x }) (vptr b (i * s + o) ∷ []))) (sep 𝓤 (A.lft κ q) (sem 𝓛 (follows (Vr E) (R E) γ γ' (with_item h i))))) (Post (vptr b (i * s + o)))
-    exits x e γ' =
-        qed 𝓛 (‵ ((MutRef (named 0) κ (R E)).own_val (record { ref_ptr = (b, i * s + o); ghost_name = γ'; now = x }) (vptr b (i * s + o) ∷ [])) ∷ ‵ (flft κ q) ∷ ‵ (follows (Vr E) (R E) γ γ' (with_item h i)) ∷ []) ∵
-        suffices ! _ (ends_at 𝓛 (ended E) (stayed E) (spec E 𝓛) bound (vptr b (i * s + o)) (record { ref_ptr = (b, i * s + o); ghost_name = γ'; now = x }) (tt, (tt, tt)) (tt, (tt, tt))) $
-        nothing ! $ nothing ! $ fjoin ! $ nothing ! $ fjoin ! $ join ! $ nothing ! $ move ! (2 ∷ 0 ∷ []) $ join ! $ join ! $ frame ! $ says ! e $ done !
-
-  module _ (C : Calls 𝓤 H) (Λ : Loops 𝓤 H) where
-    walk : IsPlace (R E) h.ptr h.len p → ent 𝓤 (on_entry 𝓛 (ended E).signature (κ, tt) (q, tt) (record { ref_ptr = (rb, ro); ghost_name = γ; now = h }, (p, tt)) (vptr rb ro ∷ [], (ptr_val p ∷ [], tt))) (WpFn 𝓤 H C Λ (fn' E) (vptr rb ro ∷ ptr_val p ∷ []) Post)
-    walk asked =
-        let li : i < n = asked.1 in
-        let lens : n ≡ length xs = (el_ok E h).0 in
-        let le : n ≤ c = (el_ok E h).1 in
-        let pos : 0 < c = omega arith in
-        let d : el_x E = hd xs (omega arith) in
-        let x : el_x E = get_or xs i d in
-        qed 𝓛 ((‵ (flft κ q) ⊛ ‵ ftrue) ∷ ‵ (owns (MutRef (named 0) κ (Vr E) ∷ RawPtr ∷ []) (record { ref_ptr = (rb, ro); ghost_name = γ; now = h }, (p, tt)) (vptr rb ro ∷ [], (ptr_val p ∷ [], tt))) ∷ []) ∵
-        enter ! C Λ (fn' E) (vptr rb ro ∷ ptr_val p ∷ []) _ $
-        alloc_all ! (λ l. pass_all ! refl ((tt, tt), (Ptr-Good p, tt)) $
-        let En : Env 𝓤 H = env (fn' E).locals l in
-        move ! (1 ∷ []) $ fsplit ! $ fsplit3 ! $ drop ! $ move ! (3 ∷ []) $ split ! $ move ! (2 ∷ 3 ∷ 0 ∷ []) $
-        vec_opens E ! tt h rb ro pos (λ b o hv at_b fl fc fit.
-        take_at ! 2 $ rewrite ! 0 (λ (z : Ptr). ‵ (fat full_share ty_ptr (l 2) 0 (ptr_val z))) (asked.0 ∙ ap (ptr_add (R E) i) at_b) refl $ give_at ! 2 $
-        first ! $ blocks ! $
-        sets_last ! (addr ! (through ! refl (stop !))) refl (tt, tt) $
-        exec ! C Λ En (after 1 (fn' E).body) (at_ret En Post) $
-        sets ! (of_opd ! (get ! refl)) refl (tt, tt) $
-        group ! 7 $ use1 𝓛 (later (some (λ (γ' : GName). raw (Got E 𝓛 κ q rb ro γ h i b o x γ')))) (lends E 𝓛 κ q rb ro γ h i b o at_b li fl fc fit pos d) $ await ! tt $ pick ! (λ γ'.
-        returns ! (look_at ! 0 refl) $ free_all ! refl $
-        keep ! (0 ∷ []) $ by ! (exits b o x (any-default xs i d x (omega arith)) γ'))))
+  entry : Asks E d p → ent 𝓤 (on_entry 𝓛 (ended E).signature (κ, tt) (q, tt) (block, (p, tt)) (us0, (us1, tt))) (WpFn 𝓤 H C Λ (function E) (us0 ++ (us1 ++ [])) Post)
+  entry asked =
+      qed 𝓛 ((‵ (flft κ q) ⊛ ‵ ftrue) ∷ ‵ (owns (MutRef (named 0) κ (Vr E) ∷ RawPtr ∷ []) (block, (p, tt)) (us0, (us1, tt))) ∷ []) ∵
+      split ! $ move ! (2 ∷ []) $ fsplit ! $ fsplit3 ! $ feq_l ! (λ e0. move ! (2 ∷ []) $ fsplit ! $ feq_l ! (λ e1. keep ! (1 ∷ 2 ∷ 3 ∷ []) $
+      by ! (subst (λ (ws : List Val × List Val). ent 𝓤 (⋆ 𝓛 Had) (WpFn 𝓤 H C Λ (function E) (ws.0 ++ (ws.1 ++ [])) Post)) (λ j. (sym e0 j, sym e1 j)) (walk asked))))
 
 meets : (E : El) {M : Type 1} {𝓤 : Ura M} (𝓛 : Logic 𝓤) (𝓣 : Tables 𝓤 𝓛.H)
-    → Meets 𝓛 (ended E).signature (WpFn 𝓤 𝓛.H 𝓣.C 𝓣.Λ (fn' E)) (closing 𝓛 (ended E) (spec E 𝓛))
+    → Meets 𝓛 (ended E).signature (WpFn 𝓤 𝓛.H 𝓣.C 𝓣.Λ (function E)) (closing 𝓛 (ended E) (spec E 𝓛))
 meets E {𝓤 = 𝓤} 𝓛 𝓣 =
-    walk_Meets 𝓛 (ended E) (stayed E) (Goes-spent_ref 𝓛 1 (0 ∷ []) tt (plain (λ _. Vr E)), (Goes-dropped 𝓛 1 (plain (λ _. RawPtr)) yes (λ κs x f. refl), tt)) (spec E 𝓛) (WpFn 𝓤 𝓛.H 𝓣.C 𝓣.Λ (fn' E)) (WpFn-mono 𝓤 𝓛.H 𝓛.laws 𝓣 (fn' E))
-    (walked 𝓛 (ended E) (stayed E) (spec E 𝓛) (WpFn 𝓤 𝓛.H 𝓣.C 𝓣.Λ (fn' E)) (λ κs. (mut_vals, (rawptr_vals, tt))) (λ κs. (mut_Tells (named 0) κs.0 (Vr E), (rawptr_Tells, tt)))
-    (λ κs qs bounds a g are. needs 𝓤 (IsPlace (R E) a.0.now.ptr a.0.now.len a.1.0) _ (walk E 𝓛 κs.0 qs.0 a.0.ref_ptr.0 a.0.ref_ptr.1 a.0.ghost_name a.0.now a.1.0 𝓣.C 𝓣.Λ)))
+    walk_Meets 𝓛 (ended E) (stayed E) (Goes-spent_ref 𝓛 1 (0 ∷ []) tt (plain (λ _. Vr E)), (Goes-dropped 𝓛 1 (plain (λ _. RawPtr)) yes (λ κs x f. refl), tt))
+    (spec E 𝓛) (WpFn 𝓤 𝓛.H 𝓣.C 𝓣.Λ (function E)) (WpFn-mono 𝓤 𝓛.H 𝓛.laws 𝓣 (function E))
+    (λ z. needs 𝓤 (Asks E z.0.3.0.now z.0.3.1.0) _ (entry E 𝓛 𝓣.C 𝓣.Λ z.0.0.0 z.0.1.0 z.0.3.0.ref_ptr.0 z.0.3.0.ref_ptr.1 z.0.3.0.ghost_name z.0.3.0.now z.0.3.1.0 z.0.4.0 z.0.4.1.0))
 
 pub at_mut_spec : {M : Type 1} → stated.statement M
 unfolding tables_of
-at_mut_spec 𝓤 𝓛 𝓜 𝓡 wired Y Z L LZ g d dd met md y =
-    let E : El = record { row = Y; laws = L; al = record { row = Z; laws = LZ; g = g; d = d; drops = dd } } in
-    let A = 𝓛.A in
+at_mut_spec 𝓤 𝓛 𝓜 𝓡 wired T A LT LA g dict drops met dropped y =
+    let E : El = record { row = T; laws = LT; al = record { row = A; laws = LA; g = g; d = dict; drops = drops } } in
     let 𝓣 : Tables 𝓤 𝓛.H = tables_of 𝓤 𝓛.H 𝓜 (tables 𝓤 𝓛.H 𝓜 𝓡 𝓡.env) in
-    spared 𝓛 (ended E).signature (𝓡.run (𝓡.env (#self (args E)))) (run_framed 𝓤 𝓛.H 𝓜 𝓡 (𝓡.env (#self (args E)))) 2 (Y.lives, (Z.lives, tt)) (closing 𝓛 (ended E) (spec E 𝓛))
-    (entered 𝓤 𝓛.H (triple_of 𝓛 (ended E).signature (closing 𝓛 (ended E) (spec E 𝓛))) 𝓣.C 𝓣.Λ (#self (args E)) (fn' E) (code.unfolded 𝓤 𝓛.H 𝓜 𝓡 wired (Y, (Z, tt)) d dd) (meets E 𝓛 𝓣))
+    let k = #self (args E) in
+    spared 𝓛 (ended E).signature (𝓡.run (𝓡.env k)) (run_framed 𝓤 𝓛.H 𝓜 𝓡 (𝓡.env k)) 2 (T.lives, (A.lives, tt)) (closing 𝓛 (ended E) (spec E 𝓛))
+    (entered 𝓤 𝓛.H (triple_of 𝓛 (ended E).signature (closing 𝓛 (ended E) (spec E 𝓛))) 𝓣.C 𝓣.Λ k (function E) (code.unfolded 𝓤 𝓛.H 𝓜 𝓡 wired (T, (A, tt)) dict drops) (meets E 𝓛 𝓣))
     ((y.0.0, y.0.1, tt, y.0.3, y.0.4), y.1)

@@ -3,9 +3,9 @@ use Rattle.kr_contact.proofs.Walks.{known_now, copied_more}
 use Rattle.kr_contact.proofs.ring.copy_contacts.Goals as goal
 
 pub loop-preserved : goal.loop-preserved
-loop-preserved c =
+loop-preserved g c =
     let within : c.loop.counter < c.args.count = c.loop-test.true in
-    let touched = rw (c.read-node.ensures) at c.touch.ensures.contacts in
+    let touched = rw (c.contact_in.ensures, c.read-node.ensures) at c.touch.ensures.contacts in
     let used = c.touch.ensures.spare in
     let room = c.loop.invariant.room in
     let spare = c.loop.invariant.spare in

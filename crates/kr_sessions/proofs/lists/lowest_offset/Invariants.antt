@@ -7,5 +7,5 @@ use Rattle.kr_sessions.proofs.lists.lowest_offset.Given as goal
 
 abbrev pub invariant-loop-broker : goal.invariant-loop-broker
 invariant-loop-broker l =
-    let offset = λ (broker : ℤ). option_map (λ c. c.offset) (find (λ c. int_eq c.broker broker) l.contacts) in
+    let offset = λ (broker : ℤ). option_map (λ c. c.offset) (find (λ c. int_eq c.broker broker) l.contacts.contacts) in
     reduce int_min (option_to_list l.lowest ++ filter_map offset (drop l.broker-index l.brokers)) ≡ reduce int_min (filter_map offset l.brokers)

@@ -6,5 +6,5 @@ use Rattle.kr_sessions.proofs.sessions.Sessions.beat.Goals as goal
 pub invariant_of-self : goal.invariant_of-self
 invariant_of-self c =
     let time = rw (← c.self.view_is) at c.requires.time in
-    rw (c.push_reserved.ensures.items, c.drop_contact.ensures.items, to_z-of_z w32 c.args.broker c.ranges.broker, to_z-of_z w64 c.args.now c.ranges.now, to_z-of_z w64 c.args.offset c.ranges.offset)
-    (beaten (record { contacts = c.self.inside.contacts.items; stopping = c.self.inside.stopping.items }) c.args.broker c.args.now c.args.offset c.self.invariant time)
+    rw (c.beat.ensures.contacts, to_z-of_z w32 c.args.broker c.ranges.broker, to_z-of_z w64 c.args.now c.ranges.now, to_z-of_z w64 c.args.offset c.ranges.offset)
+    (beaten (record { contacts = c.self.inside.contacts.contacts; stopping = c.self.inside.stopping.items }) c.args.broker c.args.now c.args.offset c.self.invariant time)

@@ -5,5 +5,5 @@ use Rattle.kr_sessions.proofs.sessions.Sessions.leave.Goals as goal
 
 pub invariant_of-self : goal.invariant_of-self
 invariant_of-self c =
-    rw (c.drop_contact.ensures.items, c.drop_stopping.ensures.items, to_z-of_z w32 c.args.broker c.ranges.broker)
-    (left (record { contacts = c.self.inside.contacts.items; stopping = c.self.inside.stopping.items }) c.args.broker c.self.invariant)
+    rw (c.remove.ensures.contacts, c.drop_stopping.ensures.items, to_z-of_z w32 c.args.broker c.ranges.broker)
+    (left (record { contacts = c.self.inside.contacts.contacts; stopping = c.self.inside.stopping.items }) c.args.broker c.self.invariant)

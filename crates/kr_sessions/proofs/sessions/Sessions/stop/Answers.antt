@@ -8,4 +8,4 @@ invariant_of-self c =
     let contact = rw (← c.self.view_is) at c.requires.contact in
     let fresh = rw (← c.self.view_is) at c.requires.fresh in
     rw (c.push_reserved.ensures.items, to_z-of_z w32 c.args.broker c.ranges.broker, to_z-of_z w64 c.args.tip c.ranges.tip)
-    (stopped (record { contacts = c.self.inside.contacts.items; stopping = c.self.inside.stopping.items }) c.args.broker c.args.tip c.self.invariant contact fresh)
+    (stopped (record { contacts = c.self.inside.contacts.contacts; stopping = c.self.inside.stopping.items }) c.args.broker c.args.tip c.self.invariant contact fresh)
