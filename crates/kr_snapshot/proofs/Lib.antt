@@ -3,6 +3,7 @@ pub mod Chunks
 pub mod Faults
 pub mod Fronts
 pub mod Groups
+pub mod Places
 pub mod ReaderSteps
 pub mod RecordsRead
 pub mod SmallRecords

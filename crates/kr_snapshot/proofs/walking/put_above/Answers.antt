@@ -7,7 +7,7 @@ use Rattle.kr_snapshot.proofs.walking.put_above.Goals as goal
 pub push-requires-clause-may : goal.push-requires-clause-may
 push-requires-clause-may g c =
     rw c.in_ok-partition.ensures.of
-    (amid_may _ _ _ _ c.loop-key.invariant (partition_record (c.in-Some.key.now, c.in-Some.state.now) ∷ []) _ (ap (map partition_record) c.in-Some.ensures.next) c.requires.may)
+    (amid_may _ _ _ _ c.loop-key.invariant (partition_record (c.in-Some.key.now, c.in-Some.state.now) ∷ []) _ (ap (map partition_record) c.in-Some.ensures.next) c.requires)
 
 pub loop-key-preserved : goal.loop-key-preserved
 loop-key-preserved g c =
