@@ -1,8 +1,9 @@
-//! A benchmark of record batches, request messages, placement and images: with no word each job is done once, with the word
+//! A benchmark of record batches, request messages, placement, heartbeats and images: with no word each job is done once, with the word
 //! `time` each is measured. With the word `message` one message is read from standard input.
 #![tactic(auto)]
 
 mod batches;
+mod beats;
 mod changes;
 mod checksum;
 mod entries;

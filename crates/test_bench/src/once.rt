@@ -1,6 +1,7 @@
 //! Each job once, and what came of it: the same lines in each run.
 
 use crate::batches::{Encoded, Kind};
+use crate::beats::{BEATS, MANY, beat_all, list_of};
 use crate::checksum::Summed;
 use crate::image::Written;
 use crate::placing::{brokers, place_all};
@@ -21,6 +22,7 @@ pub(crate) fn print_jobs<R: Print + AllocGlobal>(rt: &R) -> Result<()> {
     print_request(rt, Form::Whole)?;
     print_request(rt, Form::Promising)?;
     print_placed(rt)?;
+    print_beats(rt)?;
     print_image(rt)
 }
 
@@ -97,6 +99,19 @@ fn print_last<R: Print>(rt: &R, brokers: usize, placed: &[Ids]) -> Result<()> {
     }
     println!(rt; "")?;
     Ok(())
+}
+
+fn print_beats<R: Print + AllocGlobal>(rt: &R) -> Result<()> {
+    if let Some((broker, time)) = oldest_of(rt.alloc(), MANY)? {
+        println!(rt; "beat: {BEATS} times by {MANY} brokers, the oldest by {broker} at {time}")?;
+    }
+    Ok(())
+}
+
+fn oldest_of(alloc: Global, brokers: u16) -> Result<Option<(i32, i64)>, AllocError> {
+    let mut list = list_of(alloc, brokers)?;
+    beat_all(&mut list, brokers)?;
+    Ok(list.oldest())
 }
 
 fn print_image<R: Print + AllocGlobal>(rt: &R) -> Result<()> {

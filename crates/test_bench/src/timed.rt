@@ -4,6 +4,7 @@ ghost use Rattle.std.specs.Prelude.{◌≡◌, ◌*◌, ◌/◌, max};
 ghost use Rattle.std.specs.Duration.{as_nanos};
 
 use crate::batches::{Encoded, Kind};
+use crate::beats::{BEATS, FEW, MANY, SOME, beat_all, list_of};
 use crate::checksum::Summed;
 use crate::image::Written;
 use crate::placing::{PARTITIONS, brokers, place_all};
@@ -31,6 +32,7 @@ enum Work<'a> {
     Write(&'a Written),
     Read(&'a Written),
     Place(&'a [(i32, Option<Text>)]),
+    Beat(u16),
     Copy(&'a [u8]),
 }
 
@@ -44,7 +46,10 @@ pub(crate) fn print_table<R: Print + Clock + AllocGlobal>(rt: &R) -> Result<()> 
     print_request(rt, Form::Whole)?;
     print_request(rt, Form::Promising)?;
     print_image(rt)?;
-    print_placing(rt)
+    print_placing(rt)?;
+    print_beats(rt, FEW)?;
+    print_beats(rt, SOME)?;
+    print_beats(rt, MANY)
 }
 
 fn print_head(rt: &impl Print) -> Result<()> {
@@ -100,6 +105,17 @@ fn print_placing<R: Print + Clock + AllocGlobal>(rt: &R) -> Result<()> {
     println!(rt;
         "{PARTITIONS} partitions are placed over {} brokers in {} microseconds",
         brokers.len(),
+        work.as_micros()
+    )?;
+    Ok(())
+}
+
+// The shortest time in which all heartbeats of so many brokers come.
+fn print_beats<R: Print + Clock + AllocGlobal>(rt: &R, brokers: u16) -> Result<()> {
+    let mut room = Vec::new(rt.alloc());
+    let work = shortest(rt, rt.alloc(), Work::Beat(brokers), ROUNDS, &mut room)?;
+    println!(rt;
+        "{BEATS} heartbeats among {brokers} brokers take {} microseconds",
         work.as_micros()
     )?;
     Ok(())
@@ -173,6 +189,7 @@ fn round(rt: &impl Clock, alloc: Global, work: Work<'_>, room: &mut Vec<u8>) -> 
         Work::Write(image) => write_round(rt, alloc, image, room),
         Work::Read(image) => read_round(rt, alloc, image),
         Work::Place(brokers) => place_round(rt, alloc, brokers),
+        Work::Beat(brokers) => beat_round(rt, alloc, brokers),
         Work::Copy(bytes) => copy_round(rt, bytes, room),
     }
 }
@@ -248,6 +265,15 @@ fn place_round(
     let placed = place_all(alloc, brokers)?;
     let time = start.elapsed(rt)?;
     ensure!(placed.len() == PARTITIONS as usize, "too few are placed");
+    Ok(time)
+}
+
+fn beat_round(rt: &impl Clock, alloc: Global, brokers: u16) -> Result<Duration> {
+    let mut list = list_of(alloc, brokers)?;
+    let start = Instant::now(rt)?;
+    beat_all(&mut list, brokers)?;
+    let time = start.elapsed(rt)?;
+    ensure!(list.len() == usize::from(brokers), "a broker is missing");
     Ok(time)
 }
 
