@@ -64,22 +64,38 @@ fn add_topic(alloc: Global, number: i32, records: &mut Vec<Record>) -> Result<()
     Ok(())
 }
 
+/// A record for each of so many partitions of one topic, behind the topic's own.
+pub(crate) fn one_topic(alloc: Global, count: i32) -> Result<Vec<Record>, AllocError> {
+    let mut records = Vec::new(alloc);
+    let name = topic_name(alloc, 0)?;
+    records.push(Record::Topic { name, id: 1 })?;
+    for index in 0..count {
+        records.push(partition(alloc, 1, index)?)?;
+    }
+    Ok(records)
+}
+
 fn partition(alloc: Global, topic: u128, index: i32) -> Result<Record, AllocError> {
     Ok(Record::Partition {
         index,
         topic,
-        state: Partition {
-            replicas: replicas(alloc, index)?,
-            in_sync: replicas(alloc, index)?,
-            eligible: Ids::new(alloc),
-            last_known: Ids::new(alloc),
-            adding: Ids::new(alloc),
-            removing: Ids::new(alloc),
-            leader: index % BROKERS,
-            recovery: 0,
-            leader_epoch: 0,
-            partition_epoch: 0,
-        },
+        state: state_of(alloc, index)?,
+    })
+}
+
+/// A partition on three brokers, all in sync.
+pub(crate) fn state_of(alloc: Global, index: i32) -> Result<Partition, AllocError> {
+    Ok(Partition {
+        replicas: replicas(alloc, index)?,
+        in_sync: replicas(alloc, index)?,
+        eligible: Ids::new(alloc),
+        last_known: Ids::new(alloc),
+        adding: Ids::new(alloc),
+        removing: Ids::new(alloc),
+        leader: index % BROKERS,
+        recovery: 0,
+        leader_epoch: 0,
+        partition_epoch: 0,
     })
 }
 

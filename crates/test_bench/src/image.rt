@@ -32,7 +32,7 @@ pub(crate) struct Written {
 
 impl Written {
     pub(crate) fn new(alloc: Global) -> Result<Written> {
-        let store = store_of_entries::<Brand>(alloc, Blank::new(1))?;
+        let store = store_of::<Brand>(alloc, &entries(alloc)?, Blank::new(1))?;
         let mut bytes = Vec::new(alloc);
         write(alloc, &store, At::Tip, OFFSET, &mut bytes)?;
         images();
@@ -67,8 +67,12 @@ impl Written {
     }
 }
 
-// A store with these entries.
-fn store_of_entries<L: Ledger>(alloc: Global, blank: Blank) -> Result<ImageStore>
+/// A store that these records make.
+pub(crate) fn store_of<L: Ledger>(
+    alloc: Global,
+    records: &[Record],
+    blank: Blank,
+) -> Result<ImageStore>
     requires name { blank.name ≡ L.name }
     requires parts { blank.parts ≡ L.parts }
     requires whole { 0 < L.parts }
@@ -77,8 +81,7 @@ fn store_of_entries<L: Ledger>(alloc: Global, blank: Blank) -> Result<ImageStore
     let Ok(mut store) = empty(alloc) else {
         bail!("out of memory");
     };
-    let records = entries(alloc)?;
-    for value in &records {
+    for value in records {
         add(&mut store, value, &mut steps)?;
     }
     Ok(store)

@@ -1,5 +1,6 @@
 //! A benchmark of record batches, request messages, placement, heartbeats and images: with no word each job is done once, with the word
-//! `time` each is measured. With the word `message` one message is read from standard input.
+//! `time` each is measured. With the word `message` one message is read from standard input; with `store`, `map` or `records`
+//! 9,000 partitions are made, whose memory can be measured from outside.
 #![tactic(auto)]
 
 mod batches;
@@ -11,6 +12,7 @@ mod image;
 mod message;
 mod mode;
 mod once;
+mod partitions;
 mod placing;
 mod request;
 mod settings;
@@ -25,8 +27,11 @@ fn main(rt: HostRuntime) -> anyhow::Result<ExitCode> {
         Some(Mode::Once) => once::print_jobs(&rt)?,
         Some(Mode::Time) => timed::print_table(&rt)?,
         Some(Mode::Message) => message::print_message(&rt)?,
+        Some(Mode::Store) => partitions::print_store(&rt)?,
+        Some(Mode::Map) => partitions::print_map(&rt)?,
+        Some(Mode::Records) => partitions::print_records(&rt)?,
         None => {
-            eprintln!(rt; "usage: test_bench [time | message]")?;
+            eprintln!(rt; "usage: test_bench [time | message | store | map | records]")?;
             return Ok(ExitCode::from(2));
         }
     }

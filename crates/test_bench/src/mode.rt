@@ -16,6 +16,12 @@ pub enum Mode {
     Time,
     /// The message on standard input, and whether it is a call.
     Message,
+    /// As many partitions as there may be, in a store.
+    Store,
+    /// The same in a plain map.
+    Map,
+    /// The records alone that make them.
+    Records,
 }
 
 /// The way that the words of this process ask for. Words that aren't all text ask for none.
@@ -35,16 +41,22 @@ fn read_words<R: Env + AllocGlobal>(rt: &R) -> io::Result<Vec<Text>> {
     Ok(words)
 }
 
-// No word, or the one word `time` or `message`; all other words ask for nothing.
+// No word, or one word of these; all other words ask for nothing.
 fn mode_of(words: &[Text]) -> Option<Mode>
     ensures once { (result ≡ Some Mode.Once) ↔ (words.now ≡ []) }
     ensures time { (result ≡ Some Mode.Time) ↔ (words.now ≡ codes "time" ∷ []) }
     ensures message { (result ≡ Some Mode.Message) ↔ (words.now ≡ codes "message" ∷ []) }
+    ensures store { (result ≡ Some Mode.Store) ↔ (words.now ≡ codes "store" ∷ []) }
+    ensures map { (result ≡ Some Mode.Map) ↔ (words.now ≡ codes "map" ∷ []) }
+    ensures records { (result ≡ Some Mode.Records) ↔ (words.now ≡ codes "records" ∷ []) }
 {
     match words {
         [] => Some(Mode::Once),
         [word] if is_time(word) => Some(Mode::Time),
         [word] if is_message(word) => Some(Mode::Message),
+        [word] if is_store(word) => Some(Mode::Store),
+        [word] if is_map(word) => Some(Mode::Map),
+        [word] if is_records(word) => Some(Mode::Records),
         _ => None,
     }
 }
@@ -59,4 +71,22 @@ fn is_message(word: &Text) -> bool
     ensures { IsTrue result ↔ (word.now ≡ codes "message") }
 {
     word.as_str() == "message"
+}
+
+fn is_store(word: &Text) -> bool
+    ensures { IsTrue result ↔ (word.now ≡ codes "store") }
+{
+    word.as_str() == "store"
+}
+
+fn is_map(word: &Text) -> bool
+    ensures { IsTrue result ↔ (word.now ≡ codes "map") }
+{
+    word.as_str() == "map"
+}
+
+fn is_records(word: &Text) -> bool
+    ensures { IsTrue result ↔ (word.now ≡ codes "records") }
+{
+    word.as_str() == "records"
 }

@@ -1,4 +1,4 @@
 use Rattle.test_bench.proofs.image.Written.new.Given as goal
 
-abbrev pub ghosts-store_of_entries : goal.ghosts-store_of_entries
-ghosts-store_of_entries a = record { name = a.blank.name; parts = a.blank.parts }
+abbrev pub ghosts-store_of : goal.ghosts-store_of
+ghosts-store_of a = record { name = a.blank.name; parts = a.blank.parts }
