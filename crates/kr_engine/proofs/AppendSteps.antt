@@ -1,12 +1,12 @@
 -- What a leader's records make of an engine.
-use Rattle.std.proofs.Common.{◌≡◌, ◌∙◌, sym, subst, ℤ, pos, Bool, true, false, cond, ◌+◌, ◌≤◌, List, [], ◌∷◌, ◌++◌, map, length, refl, ap, arith, All}
+use Rattle.std.proofs.Common.{◌≡◌, ◌∙◌, sym, subst, ℕ, ℤ, pos, Bool, true, false, cond, ◌+◌, ◌≤◌, List, [], ◌∷◌, ◌++◌, map, length, refl, ap, arith, All}
 use Rattle.std.proofs.Math.IntN.{+ℤ_idr}
 use Rattle.std.proofs.lemmas.List.{append-nil, length-map}
 use Rattle.std.specs.Prelude.{◌+ℤ◌, ◌==◌, Option, None, Result, Ok, filter, int_le, unsigned_abs, IsSome}
 use Rattle.std.specs.List.{list_all}
 use Rattle.kr_batch.specs.BatchBytes.{batch_bytes}
 use Rattle.kr_calls.specs.declared.events.Output.TheVariants as given
-use Rattle.kr_calls.specs.Deciding.{apply_records}
+use Rattle.kr_calls.specs.Deciding.{apply_records, weights}
 use Rattle.kr_defs.specs.declared.basis.Basis.{Basis}
 use Rattle.kr_defs.specs.declared.ill.Ill.{Ill}
 use Rattle.kr_defs.specs.declared.limits.TheConstants.{PLACES_END}
@@ -25,11 +25,13 @@ use Rattle.kr_world.specs.Engine.{Core, IsEngine, Rise, writes_in_order, kept_im
 use Rattle.kr_world.specs.Entries.{item_entries}
 use Rattle.kr_world.specs.Outputs.{is_open}
 use Rattle.kr_world.specs.World.{State, World, image_of_tip, tip_of, with_records, log_with}
-use Rattle.kr_engine.specs.inner.Append.{Writes, core_after_append, batch_at, place_behind}
+use Rattle.kr_world.specs.Weights.{IsWeighed, item_weights}
+use Rattle.kr_engine.specs.inner.Append.{CallsAreCounted, Writes, core_after_append, batch_at, place_behind}
 use Rattle.kr_world.proofs.LongerLogs.{kept_then, present_then, rise_more}
 use Rattle.kr_world.proofs.LogEntries.{batch_written, not_none}
 use Rattle.kr_world.proofs.Logs.{tip_written, as_records}
 use Rattle.kr_world.proofs.Queues.{never}
+use Rattle.kr_world.proofs.Weights.{weighed_behind, weights_of_records}
 
 -- ---- the engine
 
@@ -40,11 +42,12 @@ between e images heard = record e { images = images; heard = heard }
 abbrev behind : Core → List Write → Heartbeats → Core
 behind e held heard = record e { held = held; heard = heard }
 
-none_written : (e : Core) (images : Images) (heard heard' : Heartbeats) (held : List Write) → images.kept ≡ e.images.kept → apply_records e.images.tip [] ≡ Ok images.tip
-    → Writes e (behind (core_after_append (between e images heard) []) held heard') []
-none_written e images heard heard' held kept meaning = record {
+none_written : (e : Core) (images : Images) (heard heard' : Heartbeats) (held : List Write) → images.kept ≡ e.images.kept → images.made ≤ e.images.made + weights e.images.tip [] → images.kept_made ≡ e.images.kept_made
+    → apply_records e.images.tip [] ≡ Ok images.tip → Writes e (behind (core_after_append (between e images heard) []) held heard') []
+none_written e images heard heard' held kept made calls meaning = record {
   meaning = meaning;
   kept = kept;
+  counted = (omega (arith, made), calls);
   few = omega arith;
   same =
       ap (λ t. record e { images = images; heard = heard'; held = held; tip = t }) (sym (+ℤ_idr e.tip))
@@ -64,13 +67,15 @@ module _ (e : Core) (images : Images) (heard heard' : Heartbeats) (held : List W
     fresh = e.fresh ++ item_entries e.tip (as_items all);
   })) held heard'
 
-  some_written : images.kept ≡ e.images.kept → apply_records e.images.tip all ≡ Ok images.tip → length all ≤ 10000
+  some_written : images.kept ≡ e.images.kept → images.made ≤ e.images.made + weights e.images.tip all → images.kept_made ≡ e.images.kept_made → apply_records e.images.tip all ≡ Ok images.tip → length all ≤ 10000
       → Writes e (behind (core_after_append (between e images heard) all) held heard') all
-  some_written kept meaning few =
+  some_written kept made calls meaning few =
       let has = sym (not_none (length records)) in record {
         meaning = subst (λ b. apply_records e.images.tip all ≡ Ok (after_by b).images.tip) has meaning;
         kept = subst (λ b. (after_by b).images.kept ≡ cond b e.images.kept (e.images.kept ++ (place_behind e all, (after_by b).images.tip) ∷ [])) has
             (ap (λ (kept : List (ℤ × Image)). kept ++ (place_behind e all, images.tip) ∷ []) kept);
+        counted = subst (λ b. CallsAreCounted e.images (after_by b).images (place_behind e all) all) has
+            (refl, (images.made, made, ap (λ (ms : List (ℤ × ℕ)). ms ++ (place_behind e all, images.made) ∷ []) calls));
         few = few;
         same = subst (λ b. after_by b ≡ record e {
           images = (after_by b).images;
@@ -83,14 +88,15 @@ module _ (e : Core) (images : Images) (heard heard' : Heartbeats) (held : List W
       }
 
 pub writes_by : (e between' after : Core) (records : List Record) → between' ≡ record e { images = between'.images; heard = between'.heard } → between'.images.kept ≡ e.images.kept
+    → between'.images.made ≤ e.images.made + weights e.images.tip records → between'.images.kept_made ≡ e.images.kept_made
     → apply_records e.images.tip records ≡ Ok between'.images.tip → length records ≤ 10000
     → after ≡ record (core_after_append between' records) { held = after.held; heard = after.heard } → Writes e after records
-writes_by e between' after [] same kept meaning few is =
+writes_by e between' after [] same kept made calls meaning few is =
     subst (λ (a : Core). Writes e a []) (sym (is ∙ ap (λ (b : Core). record (core_after_append b []) { held = after.held; heard = after.heard }) same))
-    (none_written e between'.images between'.heard after.heard after.held kept meaning)
-writes_by e between' after (r ∷ records) same kept meaning few is =
+    (none_written e between'.images between'.heard after.heard after.held kept made calls meaning)
+writes_by e between' after (r ∷ records) same kept made calls meaning few is =
     subst (λ (a : Core). Writes e a (r ∷ records)) (sym (is ∙ ap (λ (b : Core). record (core_after_append b (r ∷ records)) { held = after.held; heard = after.heard }) same))
-    (some_written e between'.images between'.heard after.heard after.held r records kept meaning few)
+    (some_written e between'.images between'.heard after.heard after.held r records kept made calls meaning few)
 
 -- ---- the state
 
@@ -104,6 +110,7 @@ pub record IsLonger (e after : Core) (s : State) (records : List Record) : Type 
   pub count_of : (with_records s.world records).count ≡ s.world.count
   pub present : image_at (with_records s.world records).log (tip (with_records s.world records).log) ≡ Ok after.images.tip
   pub kept : after.images.kept ≡ map (kept_image (with_records s.world records).log) ((with_records s.world records).committed ∷ (with_records s.world records).batch_ends)
+  pub weighed : IsWeighed after.images (with_records s.world records).log (with_records s.world records).committed (with_records s.world records).batch_ends
   pub ends : Rise (with_records s.world records).committed (with_records s.world records).batch_ends (tip (with_records s.world records).log)
   pub higher : tip (with_records s.world records).log ≡ tip_of s + length records
 
@@ -121,6 +128,12 @@ module _ (e after : Core) (s : State) (writes : List Write) (k : IsEngine e s wr
     count_of = refl;
     present = k.present ∙ ap (λ i. ok i) (sym (ok_is e.images.tip after.images.tip w.meaning));
     kept = w.kept ∙ k.kept;
+    weighed = record {
+      unmade = (let few = w.counted.0 in let none = k.weighed.unmade in omega (arith, few, none));
+      rest = k.weighed.rest;
+      counted = w.counted.1 ∙ k.weighed.counted;
+      each = k.weighed.each;
+    };
     ends = k.is_state.ends;
     higher = omega arith;
   }
@@ -153,10 +166,24 @@ module _ (e after : Core) (s : State) (writes : List Write) (k : IsEngine e s wr
     abbrev IsLongerBy : World → Type 0
     IsLongerBy v = (after.tip ≡ pos (tip v.log)) × (v.log.offset ≤ s.world.committed) × (v.committed ≡ s.world.committed) × (v.leading ≡ s.world.leading) × (v.greatest ≡ s.world.greatest)
         × (v.count ≡ s.world.count) × (image_at v.log (tip v.log) ≡ Ok after.images.tip) × (after.images.kept ≡ map (kept_image v.log) (v.committed ∷ v.batch_ends)) × Rise v.committed v.batch_ends (tip v.log)
-        × (tip v.log ≡ tip_of s + length (r ∷ records))
+        × (tip v.log ≡ tip_of s + length (r ∷ records)) × IsWeighed after.images v.log v.committed v.batch_ends
 
     kept_so : after.images.kept ≡ e.images.kept ++ (place_behind e (r ∷ records), after.images.tip) ∷ []
     kept_so = w.kept ∙ ap (λ b. cond b e.images.kept (e.images.kept ++ (place_behind e (r ∷ records), after.images.tip) ∷ [])) (not_none (length records))
+
+    abbrev counts : ℕ
+    counts = w.counted.1.0
+
+    counts_few : counts ≤ item_weights e.images.tip own
+    counts_few =
+        let few : counts ≤ e.images.made + weights e.images.tip (r ∷ records) = w.counted.1.1 in
+        let none = k.weighed.unmade in
+        let same = weights_of_records (r ∷ records) e.images.tip in omega (arith, few, none, same)
+
+    weighed_so : IsWeighed after.images longer s.world.committed (s.world.batch_ends ++ (tip_of s + length own) ∷ [])
+    weighed_so =
+        weighed_behind e.images after.images s.world.log own e.images.tip s.world.committed s.world.batch_ends (tip_of s + length own) counts k.weighed k.present k.is_state.ends new_tip counts_few
+        w.counted.0 (w.counted.1.2 ∙ ap (λ z. e.images.kept_made ++ (z, counts) ∷ []) place_is)
 
     longer_so : IsLongerBy (world_by false)
     longer_so = (
@@ -173,6 +200,7 @@ module _ (e after : Core) (s : State) (writes : List Write) (k : IsEngine e s wr
       subst (Rise s.world.committed (s.world.batch_ends ++ (tip_of s + length own) ∷ [])) new_tip
           (rise_more s.world.committed s.world.batch_ends (tip_of s) (tip_of s + length own) k.is_state.ends (let n = count_is in omega (arith, n))),
       sym new_tip ∙ ap (λ n. tip_of s + n) count_is,
+      weighed_so,
     )
 
     some_longer : IsLonger e after s (r ∷ records)
@@ -188,6 +216,7 @@ module _ (e after : Core) (s : State) (writes : List Write) (k : IsEngine e s wr
           kept = l.7;
           ends = l.8;
           higher = l.9;
+          weighed = l.10;
         }
 
   pub longer_by : (records : List Record) → Writes e after records → IsLonger e after s records
@@ -228,6 +257,7 @@ module _ (e after : Core) (s : State) (writes then : List Write) (k : IsEngine e
         heard_of = heard;
         present = l.present;
         kept = l.kept;
+        weighed = l.weighed;
         waits = waits;
         ordered = ordered;
         is_state = record {

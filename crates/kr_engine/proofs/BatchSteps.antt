@@ -34,6 +34,7 @@ use Rattle.kr_engine.specs.inner.Ready.{IsReady}
 use Rattle.kr_world.specs.Batch as replicas
 use Rattle.kr_world.specs.Batch.{batch_or, end_of, batch, take_batch, unless_ill}
 use Rattle.kr_engine.specs.inner.Batch.{AppliesOrReverts, batch_reason, core_after_batch, core_after_read_batch, items_reason, read_batch_reason}
+use Rattle.kr_world.specs.Weights.{AreWeighed}
 use Rattle.kr_world.specs.World.{State, image_of_tip, is_far, seen_at, tip_of, log_with}
 use Rattle.kr_world.proofs.Places.{near}
 use Rattle.kr_engine.proofs.LeadSteps.{no_writes, none_row}
@@ -51,16 +52,24 @@ use Rattle.kr_engine.proofs.FirstReasons.{IsAccepted, row, unless_refused}
 tip_back : (before : Core) (between : Images) → IsReady before → last_image before.images ≡ Some between.tip → between.tip ≡ before.images.tip
 tip_back before between r back = some_is between.tip before.images.tip (sym back ∙ ap (λ o. option_map (λ (k : ℤ × Image). k.1) o) r.last)
 
+same_images : (a b : Images) → a.kept ≡ b.kept → a.tip ≡ b.tip → a.made ≡ b.made → a.kept_made ≡ b.kept_made → a ≡ b
+same_images a b kept tip made calls =
+    ap (λ (k : List (ℤ × Image)). record a { kept = k }) kept
+    ∙ (ap (λ (i : Image). record a { kept = b.kept; tip = i }) tip
+    ∙ (ap (λ n. record a { kept = b.kept; tip = b.tip; made = n }) made
+    ∙ ap (λ (ms : List (ℤ × ℕ)). record a { kept = b.kept; tip = b.tip; made = b.made; kept_made = ms }) calls))
+
 pub item_refused : (before between after : Core) (end place : ℤ) (cause : Ill) (items : List Item) (image : Image) (reason : Reason) → IsReady before
     → Some (place, cause) ≡ first_ill before.images.tip before.tip items
-    → AppliesOrReverts before.images between.images items (Some (place, cause)) → between.images.kept ≡ before.images.kept → between ≡ record before { images = between.images }
+    → AppliesOrReverts before.images between.images items (Some (place, cause)) → between.images.kept ≡ before.images.kept → between.images.kept_made ≡ before.images.kept_made → between ≡ record before { images = between.images }
     → reason ≡ ill_formed place cause → after ≡ refused_core between reason
     → Settles before after (items_reason (first_ill before.images.tip before.tip items)) (core_at before end image)
-item_refused before between after end place cause items image reason r is back kept same says leaves =
+item_refused before between after end place cause items image reason r is back kept calls same says leaves =
+    let images = same_images between.images before.images kept (tip_back before between.images r back.0) (back.1 ∙ sym r.unmade) calls in
     subst (λ o. Settles before after (items_reason o) (core_at before end image)) is
-    (subst (λ (i : Images). (after ≡ refused_core (record before { images = i }) (ill_formed place cause)) × (i.kept ≡ before.images.kept) × (i.tip ≡ before.images.tip))
-    (sym (ap (λ (a : Core). a.images) leaves))
-    (leaves ∙ (ap (λ (c : Core). refused_core c reason) same ∙ ap (refused_core (record before { images = between.images })) says), kept, tip_back before between.images r back))
+    (leaves
+    ∙ (ap (λ (c : Core). refused_core c reason) (same ∙ ap (λ (i : Images). record before { images = i }) images)
+    ∙ ap (refused_core before) says))
 
 pub items_taken : (before between told after : Core) (end : ℤ) (items : List Item) → None ≡ first_ill before.images.tip before.tip items
     → AppliesOrReverts before.images between.images items None → between ≡ record before { images = between.images }
@@ -220,6 +229,7 @@ module _ (e : Core) (bytes : List ℕ) (d : IsDrained e) where
         heard_of = k.heard_of;
         present = present_then s.world.log batch.items e.images.tip image k.present means;
         kept = kept_so;
+        weighed = record { unmade = refl; rest = []; counted = ap (λ z. (z, 0) ∷ []) end_is; each = subst (λ ns. AreWeighed longer (tip_of s + length batch.items) ns []) (sym none_ends) tt };
         waits = waits_then e s writes d k e.leading (end_of batch) after.world k.leading end_is;
         ordered = k.ordered;
         is_state = state_after;

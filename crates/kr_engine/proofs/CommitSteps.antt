@@ -1,5 +1,5 @@
 -- What a commit makes of an engine.
-use Rattle.std.proofs.Common.{◌≡◌, ◌∙◌, sym, ℤ, pos, Bool, true, false, cond, List, [], ◌∷◌, ◌++◌, refl, ap, arith}
+use Rattle.std.proofs.Common.{◌≡◌, ◌∙◌, ◌≤◌, ◌+◌, sym, ℕ, ℤ, pos, Bool, true, false, cond, List, [], ◌∷◌, ◌++◌, refl, ap, arith}
 use Rattle.std.specs.Prelude.{Some, None, Result, Ok, Err, not, filter, is_some, option_to_list, int_le}
 use Rattle.kr_calls.specs.declared.events.Event.{Event}
 use Rattle.kr_calls.specs.declared.events.Reason.{Reason}
@@ -11,9 +11,10 @@ use Rattle.kr_world.specs.Commit as commits
 use Rattle.kr_world.specs.Commit.{commit, is_end}
 use Rattle.kr_engine.specs.inner.Changes.{cleared_core, counted_core, refused_core_or}
 use Rattle.kr_world.specs.Engine.{Core, IsEngine, IsSound, IsState, IsStep, outputs_left}
-use Rattle.kr_engine.specs.inner.Commit.{commit_reason, core_after_commit}
+use Rattle.kr_engine.specs.inner.Commit.{commit_reason, core_after_commit, forgetting_steps, steps_unless}
 use Rattle.kr_world.specs.Entries.{item_entries}
 use Rattle.kr_world.specs.Events.{with_next_number, next_number}
+use Rattle.kr_world.specs.Weights.{commit_steps}
 use Rattle.kr_world.specs.World.{leads_in, State, tip_of}
 use Rattle.kr_world.specs.Outputs.{answers, answers_in, is_open_in}
 use Rattle.kr_world.specs.Reasons.{bad_commit, not_leading}
@@ -22,6 +23,7 @@ use Rattle.kr_world.proofs.LogEntries.{none_behind}
 use Rattle.kr_world.proofs.Places.{Moves, is_kept, moves}
 use Rattle.kr_world.proofs.Queues.{IsDrained, drained}
 use Rattle.kr_world.proofs.SoundEngines.{stepped_sound}
+use Rattle.kr_world.proofs.Weights.{commit_bound, commit_weighed}
 use Rattle.kr_engine.proofs.Refusals.{refused_step}
 use Rattle.kr_world.proofs.EventsWithoutWrites.{answers_then, fewer_wait, held_then, waits_then}
 
@@ -91,6 +93,7 @@ module _ (e : Core) (epoch end : ℤ) (d : IsDrained e) where
         heard_of = k.heard_of;
         present = k.present;
         kept = ap (λ (kept : List (ℤ × Image)). (forgotten (record e.images { kept = kept }) end).kept) k.kept ∙ moved.kept;
+        weighed = commit_weighed e.images s.world.log s.world.committed s.world.batch_ends (tip_of s) end k.weighed k.is_state.ends (same_end e s writes k end ∙ kept);
         waits = waits_then e s writes d k e.leading end (commits.after_commit s end).world k.leading moved.natural;
         ordered = k.ordered;
         is_state = committed_state s writes epoch end k.is_state (same_leading e s writes k epoch ∙ leads) moved;
@@ -130,3 +133,18 @@ commit_step e epoch end none = step_by e epoch end (drained e none) (leads_in e.
 
 pub commit_sound : (e : Core) (epoch end : ℤ) → outputs_left e ≡ [] → IsSound e → IsSound (counted_core (refused_core_or (cleared_core e) (commit_reason (cleared_core e) epoch end) (core_after_commit (cleared_core e) end)))
 commit_sound e epoch end none sound = stepped_sound e _ (events.Commit epoch end) (commit_step e epoch end none) sound
+
+-- ---- the steps
+
+module _ (e : Core) (epoch end : ℤ) (before steps : ℕ) (s : State) (writes : List Write) (k : IsEngine e s writes) where
+  within_by : (b c : Bool) → is_some (kept_at e.images end) ≡ c
+      → steps ≤ before + steps_unless (cond (not b) (Some (not_leading epoch e.leading)) (cond (not c) (Some (bad_commit end e.committed e.tip)) None)) (forgetting_steps e.images end)
+      → steps ≤ before + commit_steps s end
+  within_by false c is bound = omega (arith, bound)
+  within_by true false is bound = omega (arith, bound)
+  within_by true true is bound =
+      commit_bound e.images s.world.log s.world.committed s.world.batch_ends (tip_of s) end k.weighed k.is_state.ends (same_end e s writes k end ∙ is) before steps (omega (arith, bound))
+
+pub commit_within : (e : Core) (epoch end : ℤ) (before steps : ℕ) → steps ≤ before + steps_unless (commit_reason (cleared_core e) epoch end) (forgetting_steps e.images end)
+    → (s : State) (writes : List Write) → IsEngine e s writes → steps ≤ before + commit_steps s end
+commit_within e epoch end before steps bound s writes k = within_by e epoch end before steps s writes k (leads_in e.leading epoch) (is_some (kept_at e.images end)) refl bound

@@ -7,7 +7,7 @@ use Rattle.std.specs.Ordering.{int_cmp}
 use Rattle.kr_calls.specs.declared.events.Event.TheVariants as events
 use Rattle.kr_batch.specs.BatchBytes.{batch_bytes}
 use Rattle.kr_calls.specs.declared.events.Output.TheVariants as given
-use Rattle.kr_calls.specs.Deciding.{apply_records, has_few_targets, is_request}
+use Rattle.kr_calls.specs.Deciding.{apply_records, has_few_targets, is_request, weights}
 use Rattle.kr_calls.specs.TakingOut.{fencing}
 use Rattle.kr_defs.specs.declared.broker.Broker.{Broker}
 use Rattle.kr_defs.specs.declared.limits.TheConstants.{PLACES_END}
@@ -84,13 +84,13 @@ append_leaves e records =
     ]
 
 pub fences_by : (e between behind after : Core) (broker : ℤ) (records : List Record) → AreValid e.images → records ≡ fencing_of e.options e.images.tip broker → apply_records e.images.tip records ≡ Ok between.images.tip
-    → between.images.kept ≡ e.images.kept → between ≡ record e { images = between.images } → behind ≡ core_after_append between records → after ≡ record behind { heard = leave behind.heard broker } → Fences e after broker
-fences_by e between behind after broker records valid is meaning kept same appends outputs_left =
+    → between.images.kept ≡ e.images.kept → between.images.made ≤ e.images.made + weights e.images.tip records → between.images.kept_made ≡ e.images.kept_made → between ≡ record e { images = between.images } → behind ≡ core_after_append between records → after ≡ record behind { heard = leave behind.heard broker } → Fences e after broker
+fences_by e between behind after broker records valid is meaning kept made calls same appends outputs_left =
     let fits = fencing_fits e between broker records valid is meaning in
     let own = append_leaves between records in
     record {
       writes = subst (λ rs. Writes e after rs) is
-          (writes_by e between after records (same ∙ ap (λ h. record e { images = between.images; heard = h }) (sym (ap (λ (b : Core). b.heard) same))) kept meaning fits.few
+          (writes_by e between after records (same ∙ ap (λ h. record e { images = between.images; heard = h }) (sym (ap (λ (b : Core). b.heard) same))) kept made calls meaning fits.few
           (heard_apart after behind (leave behind.heard broker) outputs_left ∙ ap (λ (b : Core). record b { held = after.held; heard = after.heard }) appends));
       heard = ap (λ (a : Core). a.heard) outputs_left ∙ ap (λ h. leave h broker) (ap (λ (a : Core). a.heard) appends ∙ (own.heard ∙ ap (λ (a : Core). a.heard) same));
       held = ap (λ (a : Core). a.held) outputs_left ∙ (ap (λ (a : Core). a.held) appends ∙ (own.held ∙ ap (λ (a : Core). a.held) same));

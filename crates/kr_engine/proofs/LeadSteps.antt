@@ -31,6 +31,7 @@ use Rattle.kr_world.specs.World as worlds
 use Rattle.kr_world.specs.World.{State, World, image_of_tip, is_far, seen_at, tip_of, with_batch, log_with}
 use Rattle.kr_world.proofs.LongerLogs.{control_at_tip, kept_then, rise_more, seen_then}
 use Rattle.kr_world.proofs.ContactTimes.{begun_now}
+use Rattle.kr_world.proofs.Weights.{weighed_behind}
 use Rattle.kr_world.proofs.LogEntries.{behind, none_behind}
 use Rattle.kr_world.proofs.Logs.{tip_written}
 use Rattle.kr_world.proofs.KeptImages.{none_open}
@@ -136,6 +137,7 @@ module _ (e : Core) (epoch next now : ℤ) (d : IsDrained e) where
         heard_of = heard_so;
         present = k.present;
         kept = k.kept;
+        weighed = k.weighed;
         waits = waits_then e s writes d k (Some epoch) e.committed (state_by true).world refl k.committed;
         ordered = k.ordered;
         is_state = state_at_end;
@@ -195,6 +197,9 @@ module _ (e : Core) (epoch next now : ℤ) (d : IsDrained e) where
               ap (λ (kept : List (ℤ × Image)). kept ++ (next, e.images.tip) ∷ []) k.kept
               ∙ (ap (λ n. map (kept_image log) (s.world.committed ∷ s.world.batch_ends) ++ (n, e.images.tip) ∷ []) next_is
               ∙ kept_then log (items.Control ∷ []) e.images.tip e.images.tip k.present means s.world.committed s.world.batch_ends (tip_of s + 1) k.is_state.ends new_tip);
+          weighed =
+              weighed_behind e.images (marked e.images next) log (items.Control ∷ []) e.images.tip s.world.committed s.world.batch_ends (tip_of s + 1) 0 k.weighed k.present k.is_state.ends new_tip (omega arith) refl
+              (ap (λ z. e.images.kept_made ++ (z, e.images.made) ∷ []) next_is ∙ ap (λ m. e.images.kept_made ++ (pos (tip_of s + 1), m) ∷ []) k.weighed.unmade);
           waits = waits_then e s writes d k (Some epoch) e.committed (state_by false).world refl k.committed;
           ordered = k.ordered;
           is_state = state_above;

@@ -129,6 +129,7 @@ module _ (e : Core) (bytes : List ℕ) (d : IsDrained e) where
         heard_of = k.heard_of;
         present = at_start n image;
         kept = ap (λ z. (z, image) ∷ []) is ∙ ap (λ i. (pos n, i) ∷ []) (sym seen);
+        weighed = record { unmade = refl; rest = []; counted = ap (λ z. (z, 0) ∷ []) is; each = tt };
         waits = waits_then e s writes d k e.leading offset after.world k.leading is;
         ordered = k.ordered;
         is_state = state_after;

@@ -1,5 +1,5 @@
 -- What a lost leadership makes of an engine.
-use Rattle.std.proofs.Common.{◌≡◌, ◌∙◌, sym, subst, ℕ, ℤ, pos, Bool, true, false, cond, ◌≤◌, List, [], ◌∷◌, ◌++◌, map, refl, ap, arith}
+use Rattle.std.proofs.Common.{◌≡◌, ◌∙◌, sym, subst, ℕ, ℤ, pos, Bool, true, false, cond, ◌≤◌, ◌+◌, ◌-◌, List, [], ◌∷◌, ◌++◌, map, refl, ap, arith}
 use Rattle.std.proofs.lemmas.List.Elements.{All-nil}
 use Rattle.std.specs.Prelude.{Option, Some, None, Result, Ok, Err, not, filter, find, int_lt, unwrap_or, option_to_list, int_le, All}
 use Rattle.std.specs.Option.{option_map}
@@ -14,11 +14,13 @@ use Rattle.kr_defs.specs.Log.{image_at, tip}
 use Rattle.kr_store.specs.Images.{Images, reverted}
 use Rattle.kr_world.specs.declared.writes.Write.{Write}
 use Rattle.kr_engine.specs.inner.Changes.{cleared_core, counted_core, refused_core_or}
-use Rattle.kr_engine.specs.inner.Lost.{core_after_lost, lost_reason}
+use Rattle.kr_engine.specs.inner.Commit.{steps_unless}
+use Rattle.kr_engine.specs.inner.Lost.{core_after_lost, lost_reason, reverting_steps}
 use Rattle.kr_world.specs.Engine.{Core, IsEngine, IsSound, IsState, IsStep, kept_image, outputs_left}
 use Rattle.kr_world.specs.Entries.{item_entries}
 use Rattle.kr_world.specs.Events.{with_next_number, next_number}
 use Rattle.kr_world.specs.Lost.{cut, after_lost, lost}
+use Rattle.kr_world.specs.Weights.{lost_steps}
 use Rattle.kr_world.specs.World.{leads_in, State, seen_at, tip_of}
 use Rattle.kr_world.specs.Outputs.{answers, answers_in, is_open_in}
 use Rattle.kr_world.specs.Reasons.{not_leading}
@@ -28,6 +30,7 @@ use Rattle.kr_world.proofs.LogEntries.{cut_behind}
 use Rattle.kr_world.proofs.Logs.{cut_below, cut_tip}
 use Rattle.kr_world.proofs.Queues.{IsDrained, drained, never}
 use Rattle.kr_world.proofs.SoundEngines.{stepped_sound}
+use Rattle.kr_world.proofs.Weights.{lost_bound, lost_weighed}
 use Rattle.kr_engine.proofs.Refusals.{refused_step}
 use Rattle.kr_world.proofs.EventsWithoutWrites.{answers_then, held_then, waits_then}
 use Rattle.kr_world.proofs.KeptImages.{first_found, first_left, none_open, not_higher, seen_below, under}
@@ -114,6 +117,9 @@ module _ (e : Core) (epoch : ℤ) (d : IsDrained e) where
       heard_of = refl;
       present = present ∙ ap tip_in (sym reverted_so);
       kept = ap (λ (images : Images). images.kept) reverted_so ∙ ap (λ (image : Image). under end image ∷ []) (sym same_seen);
+      weighed =
+          lost_weighed e.images after.images s.world.log (cut s.world.log end) end s.world.batch_ends (tip_of s) k.weighed k.is_state.ends
+          (ap (λ (images : Images). images.made) reverted_so) (ap (λ (images : Images). images.kept_made) reverted_so);
       waits = waits_then e s writes d k None e.committed (after_lost s).world refl k.committed;
       ordered = k.ordered;
       is_state = state;
@@ -148,3 +154,15 @@ lost_step e epoch none = step_by e epoch (drained e none) (leads_in e.leading ep
 
 pub lost_sound : (e : Core) (epoch : ℤ) → outputs_left e ≡ [] → IsSound e → IsSound (counted_core (refused_core_or (cleared_core e) (lost_reason (cleared_core e) epoch) (core_after_lost (cleared_core e))))
 lost_sound e epoch none sound = stepped_sound e _ (events.Lost epoch) (lost_step e epoch none) sound
+
+-- ---- the steps
+
+pub lost_within : (e : Core) (epoch : ℤ) (before steps : ℕ) → steps ≤ before + steps_unless (lost_reason (cleared_core e) epoch) (reverting_steps e.images e.committed)
+    → (s : State) (writes : List Write) → IsEngine e s writes → steps ≤ before + lost_steps s
+lost_within e epoch before steps bound s writes k = within_by (lost_reason (cleared_core e) epoch) bound
+  where
+    within_by : (reason : Option Reason) → steps ≤ before + steps_unless reason (reverting_steps e.images e.committed) → steps ≤ before + lost_steps s
+    within_by None bound =
+        let within = lost_bound e.images s.world.log s.world.committed s.world.batch_ends (tip_of s) before steps k.weighed k.is_state.ends
+        (let at_end : steps ≤ before + reverting_steps e.images (pos s.world.committed) = subst (λ c. steps ≤ before + reverting_steps e.images c) k.committed bound in omega (arith, at_end)) in omega (arith, within)
+    within_by (Some reason) bound = omega (arith, bound)

@@ -21,6 +21,7 @@ at_first options = record {
   heard_of = refl;
   present = refl;
   kept = refl;
+  weighed = record { unmade = refl; rest = []; counted = refl; each = tt };
   waits = refl;
   ordered = refl;
   is_state = start_state;

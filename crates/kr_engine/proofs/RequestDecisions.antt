@@ -1,5 +1,5 @@
 -- What is decided of a write, and what it makes of an engine.
-use Rattle.std.proofs.Common.{◌≡◌, ◌∙◌, sym, subst, ℕ, ℤ, pos, negsuc, true, false, cond, ◌-◌, ◌≤◌, List, [], ◌∷◌, ◌++◌, length, refl, ap, arith}
+use Rattle.std.proofs.Common.{◌≡◌, ◌∙◌, sym, subst, ℕ, ℤ, pos, negsuc, true, false, cond, ◌-◌, ◌+◌, ◌≤◌, List, [], ◌∷◌, ◌++◌, length, refl, ap, arith}
 use Rattle.std.proofs.lemmas.Int.{ints}
 use Rattle.std.specs.Prelude.{◌==◌, ◌≤ℤ◌, Option, Some, Result, Ok, Err, IfOk, OnOk, IsTrue, int_lt, slice_get}
 use Rattle.std.specs.Option.{option_map}
@@ -14,7 +14,7 @@ use Rattle.kr_calls.specs.Refuse.{refuse}
 use Rattle.kr_calls.proofs.DecisionMeanings.{requests_stand}
 use Rattle.kr_batch.specs.BatchBytes.{batch_bytes}
 use Rattle.kr_calls.specs.declared.events.Output.TheVariants as given
-use Rattle.kr_calls.specs.Deciding.{apply_records}
+use Rattle.kr_calls.specs.Deciding.{apply_records, weights}
 use Rattle.kr_defs.specs.declared.basis.Basis.{Basis}
 use Rattle.kr_defs.specs.declared.limits.TheConstants.{MOST_RECORDS, PLACES_END}
 use Rattle.kr_defs.specs.declared.options.Options.{Options}
@@ -99,13 +99,16 @@ held_apart a b held is =
 -- what the rule of a request gives, said clause by clause
 pub decides_by : (before after : Core) (request : Request) (out : Effect) → out.records ≡ (decided_by before request).records → out.reply ≡ (decided_by before request).reply
     → after.images.tip ≡ (decided_by before request).image → after.heard ≡ (decided_by before request).heartbeats → after.images.kept ≡ before.images.kept
+    → after.images.made ≤ before.images.made + weights before.images.tip out.records → after.images.kept_made ≡ before.images.kept_made
     → after ≡ record before { images = after.images; heard = after.heard } → Decides before after request out
-decides_by before after request out records reply image heard kept same = record {
+decides_by before after request out records reply image heard kept made calls same = record {
   records = records;
   reply = reply;
   same = same ∙ ap (λ h. record before { images = after.images; heard = h }) heard;
   image = image;
   kept = kept;
+  made = made;
+  calls = calls;
 }
 
 tip_natural : (committed tip : ℤ) → pos 0 ≤ℤ committed → committed ≤ℤ tip → pos 0 ≤ℤ tip
@@ -118,9 +121,10 @@ ready_natural e r = tip_natural e.committed e.tip r.natural r.rising
 
 pub decides_ok : {E : Type 0} (before after : Core) (request : Request) (r : Result Effect E) → IfOk r (λ (out : Effect). out.records ≡ (decided_by before request).records) → IfOk r (λ (out : Effect). out.reply ≡ (decided_by before request).reply)
     → OnOk r (after.images.tip ≡ (decided_by before request).image) → OnOk r (after.heard ≡ (decided_by before request).heartbeats) → after.images.kept ≡ before.images.kept
+    → IfOk r (λ (out : Effect). after.images.made ≤ before.images.made + weights before.images.tip out.records) → after.images.kept_made ≡ before.images.kept_made
     → after ≡ record before { images = after.images; heard = after.heard } → IfOk r (λ (out : Effect). Decides before after request out)
-decides_ok before after request (Ok out) records reply image heard kept same = decides_by before after request out records reply image heard kept same
-decides_ok before after request (Err fault) records reply image heard kept same = tt
+decides_ok before after request (Ok out) records reply image heard kept made calls same = decides_by before after request out records reply image heard kept made calls same
+decides_ok before after request (Err fault) records reply image heard kept made calls same = tt
 
 pub ruleset decides = (ready_natural)
 
@@ -159,6 +163,8 @@ module _ (before between with_appended' after : Core) (client : ℕ) (call : Cal
         writes = writes_by before between after records
             (d.same ∙ ap (λ h. record before { images = between.images; heard = h }) (sym (ap (λ (b : Core). b.heard) d.same)))
             d.kept
+            (subst (λ rs. between.images.made ≤ before.images.made + weights before.images.tip rs) d.records d.made)
+            d.calls
             (subst (λ i. apply_records before.images.tip records ≡ Ok i) (sym d.image) (requests_stand before.options before.time before.heard before.images.tip before.tip call.request))
             fits.few
             (held_apart after with_appended' _ held ∙ ap (λ (a : Core). record a { held = after.held; heard = after.heard }) (is ∙ ap (core_after_append between) d.records));

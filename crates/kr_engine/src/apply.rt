@@ -21,6 +21,7 @@ fn apply_one<S: Store, L: Ledger>(
     requires kept { IsSome (last_kept (S.images store.old)) }
     ensures taken { IfOk result (λ ill. IsTaken (S.images store.old) (S.images store.new) item.now ill) }
     ensures kept { (S.images store.new).kept ≡ (S.images store.old).kept }
+    ensures calls { (S.images store.new).kept_made ≡ (S.images store.old).kept_made }
     ensures later { steps.old ≤ steps.new }
 {
     match store.apply(*at, item, steps) {
@@ -49,6 +50,7 @@ fn apply_items<S: Store, L: Ledger>(
     ensures found { IfOk result (λ ill. ill ≡ logs.first_ill (S.images store.old).tip place.now items.now) }
     ensures all { IfOk result (λ ill. ill ≡ None → logs.apply_all (S.images store.old).tip items.now ≡ Ok (S.images store.new).tip) }
     ensures kept { (S.images store.new).kept ≡ (S.images store.old).kept }
+    ensures calls { (S.images store.new).kept_made ≡ (S.images store.old).kept_made }
     ensures later { steps.old ≤ steps.new }
 {
     let mut at = *place;
@@ -75,6 +77,7 @@ pub(crate) fn apply_or_revert<S: Store, L: Ledger>(
     ensures found { IfOk result (λ ill. ill ≡ logs.first_ill (S.images store.old).tip place.now items.now) }
     ensures applied { IfOk result (λ ill. AppliesOrReverts (S.images store.old) (S.images store.new) items.now ill) }
     ensures kept { (S.images store.new).kept ≡ (S.images store.old).kept }
+    ensures calls { (S.images store.new).kept_made ≡ (S.images store.old).kept_made }
     ensures later { steps.old ≤ steps.new }
 {
     match apply_items(store, place, items, steps)? {

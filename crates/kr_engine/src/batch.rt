@@ -76,6 +76,7 @@ impl Engine {
         ensures found { IfOk result (λ ill. ill ≡ logs.first_ill self.old.images.tip self.old.tip items.now) }
         ensures applied { IfOk result (λ ill. AppliesOrReverts self.old.images self.new.images items.now ill) }
         ensures kept { self.new.images.kept ≡ self.old.images.kept }
+        ensures calls { self.new.images.kept_made ≡ self.old.images.kept_made }
         ensures same { self.new ≡ record self.old { images = self.new.images } }
         ensures later { steps.old ≤ steps.new }
     {

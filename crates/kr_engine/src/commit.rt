@@ -1,11 +1,14 @@
 //! The quorum commits a leader's log, whole batches at a time.
 
-ghost use Rattle.std.specs.Prelude.{◌≡◌, ◌≤◌, [], is_some};
+ghost use Rattle.std.specs.Prelude.{◌≡◌, ◌≤◌, ◌+◌, List, [], is_some};
 ghost use Rattle.kr_calls.specs.declared.events.Event.TheVariants as events;
 ghost use Rattle.kr_store.specs.Images.{image_of_place, kept_at};
 ghost use Rattle.kr_engine.specs.inner.Changes.{counted_core, refused_core_or, cleared_core};
-ghost use Rattle.kr_engine.specs.inner.Commit.{commit_reason, core_after_commit};
-ghost use Rattle.kr_world.specs.Engine.{IsSound, IsStep, outputs_left};
+ghost use Rattle.kr_engine.specs.inner.Commit.{commit_reason, core_after_commit, forgetting_steps, steps_unless};
+ghost use Rattle.kr_world.specs.declared.writes.Write.{Write as AnyWrite};
+ghost use Rattle.kr_world.specs.Engine.{IsEngine, IsSound, IsStep, outputs_left};
+ghost use Rattle.kr_world.specs.Weights.{commit_steps};
+ghost use Rattle.kr_world.specs.World.{State};
 
 use crate::Engine;
 use crate::places::at_epoch;
@@ -50,6 +53,7 @@ impl Engine {
 
     fn commit_to<L: Ledger>(&mut self, end: &i64, steps: &mut Steps<L>)
         ensures images { self.new ≡ core_after_commit self.old end.now }
+        ensures bound { steps.new ≤ steps.old + forgetting_steps self.old.images end.now }
         ensures later { steps.old ≤ steps.new }
     {
         self.store.forget_below(*end, steps);
@@ -58,6 +62,7 @@ impl Engine {
 
     fn take_commit<L: Ledger>(&mut self, epoch: &i32, end: &i64, steps: &mut Steps<L>)
         ensures taken { self.new ≡ counted_core (refused_core_or (cleared_core self.old) (commit_reason (cleared_core self.old) epoch.now end.now) (core_after_commit (cleared_core self.old) end.now)) }
+        ensures bound { steps.new ≤ steps.old + steps_unless (commit_reason (cleared_core self.old) epoch.now end.now) (forgetting_steps self.old.images end.now) }
         ensures later { steps.old ≤ steps.new }
     {
         self.clear_fresh();
@@ -69,12 +74,13 @@ impl Engine {
     }
 
     /// The quorum committed this leader's log up to a place, whole batches at a time. All outputs are handed out before.
-    /// It takes no memory, and no longer with many replies that wait.
+    /// It takes no memory, no longer with many replies that wait, and no more steps than what is newly covered weighs.
     #[tactic(auto, using(crate::proofs::CommitSteps::commit_step, crate::proofs::CommitSteps::commit_sound))]
     pub fn commit<L: Ledger>(&mut self, epoch: i32, end: i64, steps: &mut Steps<L>)
         requires drained { outputs_left self.old ≡ [] }
         ensures step { IsStep self.old self.new (events.Commit epoch end) }
         ensures sound { IsSound self.old → IsSound self.new }
+        ensures bound { (s : State) (writes : List AnyWrite) → IsEngine self.old s writes → steps.new ≤ steps.old + commit_steps s end }
         ensures later { steps.old ≤ steps.new }
     {
         self.take_commit(&epoch, &end, steps);

@@ -1,9 +1,10 @@
 //! Each write is decided by its rule.
 
-ghost use Rattle.std.specs.Prelude.{ℤ, ◌≡◌, ◌≤◌, IfOk, OnOk, IsTrue};
+ghost use Rattle.std.specs.Prelude.{ℤ, ◌≡◌, ◌≤◌, ◌+◌, IfOk, OnOk, IsTrue};
 ghost use Rattle.kr_defs.specs.Heartbeats.{is_not_before, stopping_brokers};
 ghost use Rattle.kr_defs.specs.Ids.{has};
 ghost use Rattle.kr_calls.specs.Decide.{decision_of};
+ghost use Rattle.kr_calls.specs.Deciding.{weights};
 ghost use Rattle.kr_calls.specs.NextBasis.{broker_is_stopping};
 ghost use Rattle.kr_rules.specs.Handlers.{IsAtPlace};
 ghost use Rattle.kr_engine.specs.inner.Ready.{IsReady};
@@ -41,6 +42,8 @@ fn decide_write<L: Ledger>(
     ensures image { OnOk result (store.new.tip ≡ (decision_of options.now time.now sessions.old.heartbeats store.old.tip tip.now request.now).image) }
     ensures heard { OnOk result (sessions.new.heartbeats ≡ (decision_of options.now time.now sessions.old.heartbeats store.old.tip tip.now request.now).heartbeats) }
     ensures kept { store.new.kept ≡ store.old.kept }
+    ensures made { IfOk result (λ out. store.new.made ≤ store.old.made + weights store.old.tip out.records) }
+    ensures calls { store.new.kept_made ≡ store.old.kept_made }
     ensures later { steps.old ≤ steps.new }
 {
     sessions.reserve()?;
@@ -73,6 +76,8 @@ impl Engine {
         ensures image { OnOk result (self.new.images.tip ≡ (decided_by self.old request.now).image) }
         ensures heard { OnOk result (self.new.heard ≡ (decided_by self.old request.now).heartbeats) }
         ensures kept { self.new.images.kept ≡ self.old.images.kept }
+        ensures made { IfOk result (λ out. self.new.images.made ≤ self.old.images.made + weights self.old.images.tip out.records) }
+        ensures calls { self.new.images.kept_made ≡ self.old.images.kept_made }
         ensures same { self.new ≡ record self.old { images = self.new.images; heard = self.new.heard } }
         ensures later { steps.old ≤ steps.new }
     {

@@ -1,11 +1,15 @@
 //! The quorum takes a leadership back.
 
-ghost use Rattle.std.specs.Prelude.{◌≡◌, ◌≤◌, [], unwrap_or};
+ghost use Rattle.std.specs.Prelude.{◌≡◌, ◌≤◌, ◌+◌, List, [], unwrap_or};
 ghost use Rattle.kr_calls.specs.declared.events.Event.TheVariants as events;
 ghost use Rattle.kr_store.specs.Images.{reverted};
 ghost use Rattle.kr_engine.specs.inner.Changes.{counted_core, refused_core_or, cleared_core};
-ghost use Rattle.kr_engine.specs.inner.Lost.{core_after_lost, lost_reason};
-ghost use Rattle.kr_world.specs.Engine.{IsSound, IsStep, outputs_left};
+ghost use Rattle.kr_engine.specs.inner.Commit.{steps_unless};
+ghost use Rattle.kr_engine.specs.inner.Lost.{core_after_lost, lost_reason, reverting_steps};
+ghost use Rattle.kr_world.specs.declared.writes.Write.{Write as AnyWrite};
+ghost use Rattle.kr_world.specs.Engine.{IsEngine, IsSound, IsStep, outputs_left};
+ghost use Rattle.kr_world.specs.Weights.{lost_steps};
+ghost use Rattle.kr_world.specs.World.{State};
 
 use crate::Engine;
 use crate::reasons::not_leading;
@@ -27,6 +31,7 @@ impl Engine {
     // The image at the committed end is always kept.
     fn revert_to_end<L: Ledger>(&mut self, steps: &mut Steps<L>)
         ensures images { self.new ≡ record self.old { images = unwrap_or (reverted self.old.images self.old.committed) self.old.images } }
+        ensures bound { steps.new ≤ steps.old + reverting_steps self.old.images self.old.committed }
         ensures later { steps.old ≤ steps.new }
     {
         match self.store.revert(self.committed, steps) {
@@ -36,6 +41,7 @@ impl Engine {
 
     fn end_leadership<L: Ledger>(&mut self, steps: &mut Steps<L>)
         ensures ended { self.new ≡ core_after_lost self.old }
+        ensures bound { steps.new ≤ steps.old + reverting_steps self.old.images self.old.committed }
         ensures later { steps.old ≤ steps.new }
     {
         self.revert_to_end(steps);
@@ -46,6 +52,7 @@ impl Engine {
 
     fn take_lost<L: Ledger>(&mut self, epoch: &i32, steps: &mut Steps<L>)
         ensures taken { self.new ≡ counted_core (refused_core_or (cleared_core self.old) (lost_reason (cleared_core self.old) epoch.now) (core_after_lost (cleared_core self.old))) }
+        ensures bound { steps.new ≤ steps.old + steps_unless (lost_reason (cleared_core self.old) epoch.now) (reverting_steps self.old.images self.old.committed) }
         ensures later { steps.old ≤ steps.new }
     {
         self.clear_fresh();
@@ -57,12 +64,13 @@ impl Engine {
     }
 
     /// The quorum took the leadership of an epoch back: what isn't committed is gone, and the writes that wait are refused.
-    /// All outputs are handed out before. It takes no memory.
+    /// All outputs are handed out before. It takes no memory, and no more steps than what is undone weighs.
     #[tactic(auto, using(crate::proofs::LostSteps::lost_step, crate::proofs::LostSteps::lost_sound))]
     pub fn lost<L: Ledger>(&mut self, epoch: i32, steps: &mut Steps<L>)
         requires drained { outputs_left self.old ≡ [] }
         ensures step { IsStep self.old self.new (events.Lost epoch) }
         ensures sound { IsSound self.old → IsSound self.new }
+        ensures bound { (s : State) (writes : List AnyWrite) → IsEngine self.old s writes → steps.new ≤ steps.old + lost_steps s }
         ensures later { steps.old ≤ steps.new }
     {
         self.take_lost(&epoch, steps);

@@ -1,8 +1,11 @@
 //! Any event is taken by one call.
 
-ghost use Rattle.std.specs.Prelude.{◌≡◌, ◌≤◌, ℤ, [], IsOk, OnOk};
+ghost use Rattle.std.specs.Prelude.{◌≡◌, ◌≤◌, ◌+◌, ℤ, List, [], IsOk, OnOk};
 ghost use Rattle.kr_calls.specs.declared.events.Event.TheVariants as events;
-ghost use Rattle.kr_world.specs.Engine.{IsSound, IsStep, outputs_left};
+ghost use Rattle.kr_world.specs.declared.writes.Write.{Write as AnyWrite};
+ghost use Rattle.kr_world.specs.Engine.{IsEngine, IsSound, IsStep, outputs_left};
+ghost use Rattle.kr_world.specs.Weights.{commit_steps, lost_steps};
+ghost use Rattle.kr_world.specs.World.{State};
 
 use crate::Engine;
 use kr_base::{NoMemory, Steps};
@@ -19,6 +22,8 @@ impl Engine {
         ensures sound { OnOk result (IsSound self.new) }
         ensures commit { (epoch end : ℤ) → event.now ≡ events.Commit epoch end → IsOk result }
         ensures lost { (epoch : ℤ) → event.now ≡ events.Lost epoch → IsOk result }
+        ensures commit_bound { (epoch end : ℤ) (s : State) (writes : List AnyWrite) → event.now ≡ events.Commit epoch end → IsEngine self.old s writes → steps.new ≤ steps.old + commit_steps s end }
+        ensures lost_bound { (epoch : ℤ) (s : State) (writes : List AnyWrite) → event.now ≡ events.Lost epoch → IsEngine self.old s writes → steps.new ≤ steps.old + lost_steps s }
         ensures later { steps.old ≤ steps.new }
     {
         match event {

@@ -1,12 +1,12 @@
 //! Time goes on.
 
-ghost use Rattle.std.specs.Prelude.{◌≡◌, ◌≤◌, ◌≤ℤ◌, ◌-ℤ◌, ◌&&◌, [], pos, is_some, None, Some, Ok, IfOk, OnOk, IsSome};
+ghost use Rattle.std.specs.Prelude.{◌≡◌, ◌≤◌, ◌+◌, ◌≤ℤ◌, ◌-ℤ◌, ◌&&◌, [], pos, is_some, None, Some, Ok, IfOk, OnOk, IsSome};
 ghost use Rattle.std.specs.Ordering.{int_cmp};
 ghost use Rattle.kr_defs.specs.declared.limits.TheConstants.{PLACES_END as places_end};
 ghost use Rattle.kr_defs.specs.Heartbeats.{AreHeartbeats, leave};
 ghost use Rattle.kr_defs.specs.Map as entries;
 ghost use Rattle.kr_calls.specs.declared.events.Event.TheVariants as events;
-ghost use Rattle.kr_calls.specs.Deciding.{apply_records};
+ghost use Rattle.kr_calls.specs.Deciding.{apply_records, weights};
 ghost use Rattle.kr_store.specs.Images.{AreValid, last_kept};
 ghost use Rattle.kr_world.specs.Engine.{IsSound, IsStep, outputs_left};
 ghost use Rattle.kr_engine.specs.inner.Ready.{IsReady};
@@ -58,6 +58,8 @@ fn fencing_of<L: Ledger>(
     ensures records { IfOk result (λ records. records ≡ fencing_of context.entry.now.options.now store.old.tip broker.now) }
     ensures image { IfOk result (λ records. apply_records store.old.tip records ≡ Ok store.new.tip) }
     ensures kept { store.new.kept ≡ store.old.kept }
+    ensures made { IfOk result (λ records. store.new.made ≤ store.old.made + weights store.old.tip records) }
+    ensures calls { store.new.kept_made ≡ store.old.kept_made }
     ensures later { steps.old ≤ steps.new }
 {
     if !is_registered(&Seen::tip(store), broker) {
@@ -92,6 +94,8 @@ impl Engine {
         ensures records { IfOk result (λ records. records ≡ fencing_of self.old.options self.old.images.tip broker.now) }
         ensures image { IfOk result (λ records. apply_records self.old.images.tip records ≡ Ok self.new.images.tip) }
         ensures kept { self.new.images.kept ≡ self.old.images.kept }
+        ensures made { IfOk result (λ records. self.new.images.made ≤ self.old.images.made + weights self.old.images.tip records) }
+        ensures calls { self.new.images.kept_made ≡ self.old.images.kept_made }
         ensures same { self.new ≡ record self.old { images = self.new.images } }
         ensures later { steps.old ≤ steps.new }
     {

@@ -126,6 +126,7 @@ module _ (e : Core) (event : Event) (outputs : List Output) (refusal : Option Ou
         heard_of = k.heard_of;
         present = k.present;
         kept = k.kept;
+        weighed = k.weighed;
         waits = waits_then e s writes d k e.leading e.committed s.world k.leading k.committed;
         ordered = k.ordered;
         is_state = record {

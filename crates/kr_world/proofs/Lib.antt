@@ -20,5 +20,6 @@ pub mod SoundEngines
 pub mod StandingEngines
 pub mod UnfencedBrokers
 pub mod WaitingWrites
+pub mod Weights
 pub mod WriteEpochs
 pub mod WriteOrders

@@ -45,7 +45,7 @@ module _ (log : Log) (to : ℕ) where
   abbrev ends_above : ℤ → List ℕ → List ℕ
   ends_above end ns = filter (λ n. int_lt end (pos n)) ns
 
-  all_above : (least from : ℕ) (ns : List ℕ) → least ≤ from → Rise from ns to → ends_above (pos least) ns ≡ ns
+  pub all_above : (least from : ℕ) (ns : List ℕ) → least ≤ from → Rise from ns to → ends_above (pos least) ns ≡ ns
   all_above least from [] low rise = refl
   all_above least from (n ∷ ns) low rise =
       ap (λ b. cond b (n ∷ ends_above (pos least) ns) (ends_above (pos least) ns)) (is_below least n (let up = rise.0 in omega (arith, up, low)))

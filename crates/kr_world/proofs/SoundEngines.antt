@@ -39,6 +39,7 @@ taken_stands e s writes k = record {
   heard_of = k.heard_of;
   present = k.present;
   kept = k.kept;
+  weighed = k.weighed;
   waits = k.waits;
   ordered = k.ordered;
   is_state = k.is_state;

@@ -78,27 +78,6 @@ module _ (e : Core) (s : State) (writes : List Write) (k : IsEngine e s writes) 
       let ends = (k.is_state.at_standby (sym k.leading ∙ none)).0 in
       k.committed ∙ (ap pos (tip_only s.world.log s.world.committed s.world.batch_ends (tip_of s) k.is_state.ends ends) ∙ sym k.tip)
 
-abbrev ok : Image → Result Image Ill
-ok image = Ok image
-
--- images that differ in the calls since the last kept epoch alone
-pub same_images : (e : Core) (images : Images) (s : State) (writes : List Write) → images.kept ≡ e.images.kept → images.tip ≡ e.images.tip → IsEngine e s writes → IsEngine (record e { images = images }) s writes
-same_images e images s writes kept tip k = record {
-  tip = k.tip;
-  committed = k.committed;
-  leading = k.leading;
-  greatest = k.greatest;
-  count = k.count;
-  time = k.time;
-  led = k.led;
-  heard_of = k.heard_of;
-  present = k.present ∙ ap ok (sym tip);
-  kept = kept ∙ k.kept;
-  waits = k.waits;
-  ordered = k.ordered;
-  is_state = k.is_state;
-}
-
 -- ---- the start
 
 pub start_state : IsState start []

@@ -20,6 +20,7 @@ use Rattle.kr_world.specs.declared.writes.Write.{Write}
 use Rattle.kr_world.specs.Entries.{log_entries}
 use Rattle.kr_world.specs.Events.{happens}
 use Rattle.kr_world.specs.Outputs.{answers, is_open, new_writes, outputs_of, told_alone, told_answers, waiting_after}
+use Rattle.kr_world.specs.Weights.{IsWeighed}
 use Rattle.kr_world.specs.World.{State, image_of_tip, seen_at, tip_of}
 
 pub record Core : Type 0 where
@@ -98,6 +99,7 @@ pub record IsEngine (e : Core) (s : State) (writes : List Write) : Type 0 where
   pub heard_of : e.heard ≡ hearing.heard s.basis
   pub present : image_at s.world.log (tip_of s) ≡ Ok e.images.tip
   pub kept : e.images.kept ≡ map (kept_image s.world.log) (s.world.committed ∷ s.world.batch_ends)
+  pub weighed : IsWeighed e.images s.world.log s.world.committed s.world.batch_ends
   pub waits : filter (is_open e.leading e.committed) e.held ≡ writes
   pub ordered : IsTrue (writes_in_order e.held)
   pub is_state : IsState s writes

@@ -13,4 +13,5 @@ pub mod RightReplies
 pub mod Runs
 pub mod SafeSteps
 pub mod Tick
+pub mod Weights
 pub mod World

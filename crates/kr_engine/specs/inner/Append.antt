@@ -1,15 +1,15 @@
 -- What a leader's records make of an engine: one batch at the tip, where there are any.
-use Rattle.std.specs.Prelude.{◌≡◌, ◌+ℤ◌, ◌==◌, ℤ, pos, List, [], ◌∷◌, ◌++◌, length, Ok, ◌≤◌, if◌then◌else◌}
+use Rattle.std.specs.Prelude.{◌≡◌, ◌+◌, ◌+ℤ◌, ◌==◌, ℕ, ℤ, pos, List, [], ◌∷◌, ◌++◌, length, Ok, ◌≤◌, if◌then◌else◌}
 use Rattle.kr_batch.specs.declared.Batch.{Batch}
 use Rattle.kr_batch.specs.BatchBytes.{batch_bytes}
 use Rattle.kr_calls.specs.declared.events.Output.{Output}
 use Rattle.kr_calls.specs.declared.events.Output.TheVariants as given
-use Rattle.kr_calls.specs.Deciding.{apply_records}
+use Rattle.kr_calls.specs.Deciding.{apply_records, weights}
 use Rattle.kr_defs.specs.declared.record.Record.{Record}
 use Rattle.kr_defs.specs.Heartbeats.{leave}
 use Rattle.kr_defs.specs.Image.{Image}
 use Rattle.kr_defs.specs.ImageLaws.{as_items}
-use Rattle.kr_store.specs.Images.{marked}
+use Rattle.kr_store.specs.Images.{Images, marked}
 use Rattle.kr_world.specs.Engine.{Core}
 use Rattle.kr_world.specs.Entries.{item_entries}
 use Rattle.kr_world.specs.Reasons.{led_epoch}
@@ -39,9 +39,16 @@ append_output e records = if length records == 0 then [] else given.Append (batc
 abbrev pub kept_behind : Core → List Record → Image → List (ℤ × Image)
 kept_behind e records image = if length records == 0 then e.images.kept else e.images.kept ++ (place_behind e records, image) ∷ []
 
+-- the calls of a batch are counted under its end: at most as many as its records weigh
+abbrev pub CallsAreCounted : Images → Images → ℤ → List Record → Type 0
+CallsAreCounted before after place [] = (after.made ≤ before.made) × (after.kept_made ≡ before.kept_made)
+CallsAreCounted before after place (r ∷ records) =
+    (after.made ≡ 0) × ((made : ℕ) × (made ≤ before.made + weights before.tip (r ∷ records)) × (after.kept_made ≡ before.kept_made ++ (place, made) ∷ []))
+
 pub record Writes (before after : Core) (records : List Record) : Type 0 where
   pub meaning : apply_records before.images.tip records ≡ Ok after.images.tip
   pub kept : after.images.kept ≡ kept_behind before records after.images.tip
+  pub counted : CallsAreCounted before.images after.images (place_behind before records) records
   pub few : length records ≤ 10000
   -- the contacts and the writes that wait are said apart
   pub same : after ≡ record before {

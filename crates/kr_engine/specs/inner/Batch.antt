@@ -26,7 +26,7 @@ IsTaken before after item (Some cause) = apply before.tip item ≡ Err cause
 -- the items are applied, or the image that was kept last is the present one
 abbrev pub AppliesOrReverts : Images → Images → List Item → Option (ℤ × Ill) → Type 0
 AppliesOrReverts before after items None = apply_all before.tip items ≡ Ok after.tip
-AppliesOrReverts before after items (Some ill) = last_image before ≡ Some after.tip
+AppliesOrReverts before after items (Some ill) = (last_image before ≡ Some after.tip) × (after.made ≡ 0)
 
 abbrev pub items_reason : Option (ℤ × Ill) → Option Reason
 items_reason None = None

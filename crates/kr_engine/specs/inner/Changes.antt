@@ -53,11 +53,9 @@ abbrev pub refused_core_or : Core → Option Reason → Core → Core
 refused_core_or e None after = after
 refused_core_or e (Some reason) after = refused_core e reason
 
--- an event is refused and leaves the present image, or makes this of the engine
+-- an event is refused, or makes this of the engine
 abbrev pub Settles : Core → Core → Option Reason → Core → Type 0
-Settles before after None core = after ≡ core
-Settles before after (Some reason) core =
-    (after ≡ refused_core (record before { images = after.images }) reason) × (after.images.kept ≡ before.images.kept) × (after.images.tip ≡ before.images.tip)
+Settles before after reason core = after ≡ refused_core_or before reason core
 
 -- an image is the only one that is kept
 abbrev pub core_at : Core → ℤ → Image → Core

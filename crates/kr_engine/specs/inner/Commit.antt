@@ -1,7 +1,7 @@
 -- What a Commit makes of an engine.
-use Rattle.std.specs.Prelude.{ℤ, not, Option, Some, None, is_some, if◌then◌else◌}
+use Rattle.std.specs.Prelude.{◌+◌, ◌*◌, ℕ, ℤ, length, not, Option, Some, None, is_some, if◌then◌else◌}
 use Rattle.kr_calls.specs.declared.events.Reason.{Reason}
-use Rattle.kr_store.specs.Images.{forgotten, kept_at}
+use Rattle.kr_store.specs.Images.{Images, below, calls_of, forgotten, kept_at, oldest_from}
 use Rattle.kr_world.specs.World.{leads_in}
 use Rattle.kr_world.specs.Reasons.{bad_commit, not_leading}
 use Rattle.kr_world.specs.Engine.{Core}
@@ -14,3 +14,11 @@ commit_reason e epoch end =
 
 abbrev pub core_after_commit : Core → ℤ → Core
 core_after_commit e end = record e { images = forgotten e.images end; committed = end }
+
+-- what it takes at most to forget what stands below the place
+abbrev pub forgetting_steps : Images → ℤ → ℕ
+forgetting_steps images end = calls_of (below images end) + calls_of (oldest_from images end) + 7 * length (below images end) + 6
+
+abbrev pub steps_unless : Option Reason → ℕ → ℕ
+steps_unless None steps = steps
+steps_unless (Some reason) steps = 0

@@ -1,8 +1,8 @@
 -- What a Lost makes of an engine.
-use Rattle.std.specs.Prelude.{ℤ, not, Option, Some, None, unwrap_or, if◌then◌else◌}
+use Rattle.std.specs.Prelude.{◌+◌, ◌*◌, ℕ, ℤ, length, not, Option, Some, None, unwrap_or, if◌then◌else◌}
 use Rattle.kr_calls.specs.declared.events.Reason.{Reason}
 use Rattle.kr_defs.specs.Heartbeats as hearing
-use Rattle.kr_store.specs.Images.{reverted}
+use Rattle.kr_store.specs.Images.{Images, above, calls_of, reverted}
 use Rattle.kr_world.specs.World.{leads_in}
 use Rattle.kr_world.specs.Reasons.{not_leading}
 use Rattle.kr_world.specs.Engine.{Core}
@@ -17,3 +17,7 @@ core_after_lost e = record e {
   tip = e.committed;
   leading = None;
 }
+
+-- what it takes at most to go back to the place
+abbrev pub reverting_steps : Images → ℤ → ℕ
+reverting_steps images end = calls_of (above images end) + images.made + 7 * length (above images end) + 6

@@ -14,6 +14,8 @@ pub record IsReady (e : Core) : Type 0 where
   pub low : e.tip ≤ℤ PLACES_END
   -- the present image is kept under the place of the tip, and none under a later place
   pub last : last_kept e.images ≡ Some (e.tip, e.images.tip)
+  -- no call counts since then
+  pub unmade : e.images.made ≡ 0
   pub above : (place : ℤ) → IsTrue (int_lt e.tip place) → IsAbove e.images.kept place
   pub at_standby : e.leading ≡ None → e.committed ≡ e.tip
   pub in_time : IsTrue (hearing.is_not_before e.heard e.time)

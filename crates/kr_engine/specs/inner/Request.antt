@@ -1,5 +1,5 @@
 -- What a client's message makes of an engine.
-use Rattle.std.specs.Prelude.{◌≡◌, ◌&&◌, ℕ, ℤ, Bool, true, false, not, [], ◌∷◌, ◌++◌, length, Option, Some, None, is_some, unwrap_or, if◌then◌else◌}
+use Rattle.std.specs.Prelude.{◌≡◌, ◌≤◌, ◌+◌, ◌&&◌, ℕ, ℤ, Bool, true, false, not, [], ◌∷◌, ◌++◌, length, Option, Some, None, is_some, unwrap_or, if◌then◌else◌}
 use Rattle.kr_calls.specs.declared.errors.TheConstants.{NOT_CONTROLLER}
 use Rattle.kr_calls.specs.declared.calls.Ask.{Ask}
 use Rattle.kr_calls.specs.declared.calls.Call.{Call}
@@ -12,6 +12,7 @@ use Rattle.kr_calls.specs.declared.calls.Ask.TheVariants as asks
 use Rattle.kr_calls.specs.declared.calls.Reply.TheVariants as replies
 use Rattle.kr_calls.specs.declared.events.Output.TheVariants as given
 use Rattle.kr_calls.specs.Decide.{Decision, decide, is_read, query}
+use Rattle.kr_calls.specs.Deciding.{weights}
 use Rattle.kr_calls.specs.Refuse.{refuse}
 use Rattle.kr_defs.specs.Image.{Image, empty}
 use Rattle.kr_store.specs.Images.{kept_at}
@@ -37,6 +38,8 @@ pub record Decides (before after : Core) (request : Request) (out : Effect) : Ty
   pub same : after ≡ record before { images = after.images; heard = (decided_by before request).heartbeats }
   pub image : after.images.tip ≡ (decided_by before request).image
   pub kept : after.images.kept ≡ before.images.kept
+  pub made : after.images.made ≤ before.images.made + weights before.images.tip out.records
+  pub calls : after.images.kept_made ≡ before.images.kept_made
 
 -- where it is decided, and on what besides the image
 abbrev pub decided_at : Core → Request → Decided

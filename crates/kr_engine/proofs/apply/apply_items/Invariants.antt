@@ -12,6 +12,7 @@ invariant-loop-item g l =
       found : first_ill (images l.store).tip l.at rest ≡ first_ill (images l.fn.store).tip l.place l.items;
       all : apply_all (images l.store).tip rest ≡ apply_all (images l.fn.store).tip l.items;
       kept : (images l.store).kept ≡ (images l.fn.store).kept;
+      calls : (images l.store).kept_made ≡ (images l.fn.store).kept_made;
       some : IsSome (last_kept (images l.store));
       later : l.fn.steps ≤ l.steps;
       at : l.at ≡ l.place +ℤ pos l.item-index;
