@@ -7,7 +7,7 @@ use Rattle.kr_defs.specs.declared.basis.Basis.{Basis}
 use Rattle.kr_defs.specs.declared.limits.TheConstants.{PLACES_END}
 use Rattle.kr_defs.specs.declared.record.Record.{Record}
 use Rattle.kr_defs.specs.Heartbeats as hearing
-use Rattle.kr_defs.specs.Heartbeats.{Heartbeats, leave}
+use Rattle.kr_defs.specs.Heartbeats.{leave}
 use Rattle.kr_defs.specs.Image.{IsValid}
 use Rattle.kr_defs.specs.ImageLaws.{as_items}
 use Rattle.kr_defs.specs.Map as entries

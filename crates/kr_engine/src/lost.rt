@@ -64,7 +64,8 @@ impl Engine {
     }
 
     /// The quorum took the leadership of an epoch back: what isn't committed is gone, and the writes that wait are refused.
-    /// All outputs are handed out before. It takes no memory, and no more steps than what is undone weighs.
+    /// All outputs are handed out before. It takes no memory, and at most the steps that what is undone weighs, and eight for
+    /// each of its batches and once more.
     #[tactic(auto, using(crate::proofs::LostSteps::lost_step, crate::proofs::LostSteps::lost_sound))]
     pub fn lost<L: Ledger>(&mut self, epoch: i32, steps: &mut Steps<L>)
         requires drained { outputs_left self.old ≡ [] }

@@ -1,13 +1,12 @@
 -- What an engine that stands for past events tells of them.
 use Rattle.std.proofs.Common.{◌≡◌, ◌∙◌, sym, ℕ, ℤ, pos, true, List, refl, ap, subst, ◌≤◌, [], ◌∷◌, map, arith}
-use Rattle.std.specs.Prelude.{Option, Some, None, Result, Ok, IsTrue, int_lt, int_le, true}
+use Rattle.std.specs.Prelude.{Option, Some, None, Result, IsTrue, int_lt, int_le, true}
 use Rattle.std.proofs.lemmas.List.Elements.{All-from_recursion, All-nil}
 use Rattle.kr_defs.specs.Heartbeats as hearing
 use Rattle.kr_defs.specs.Heartbeats.{Heartbeats}
-use Rattle.kr_defs.specs.declared.ill.Ill.{Ill}
 use Rattle.kr_defs.specs.Image.{Image}
 use Rattle.kr_defs.specs.Log.{Log}
-use Rattle.kr_store.specs.Images.{Images, IsAbove, last_kept}
+use Rattle.kr_store.specs.Images.{IsAbove, last_kept}
 use Rattle.kr_world.specs.declared.writes.Write.{Write}
 use Rattle.kr_world.specs.Engine.{Core, IsEngine, Rise, kept_image, IsState}
 use Rattle.kr_world.specs.World.{State, tip_of, image_of_tip, start}

@@ -3,7 +3,7 @@ use Rattle.std.proofs.Common.{◌≡◌, ◌∙◌, sym, ℕ, suc, ℤ, pos, ◌
 use Rattle.std.specs.Prelude.{◌||◌, Result, Ok, Err, int_lt, not, sum_by, take, unsigned_abs}
 use Rattle.std.specs.List.{list_any}
 use Rattle.std.specs.Ordering.{int_eq}
-use Rattle.std.proofs.lemmas.List.{take-append-le, take_all, length-append}
+use Rattle.std.proofs.lemmas.List.{take-append-le, take_all}
 use Rattle.std.proofs.lemmas.List.Sums.{sum_by-cons}
 use Rattle.kr_calls.specs.Deciding.{weight_then, weights}
 use Rattle.kr_defs.specs.declared.ill.Ill.{Ill}
