@@ -7,6 +7,7 @@ mod batches;
 mod beats;
 mod changes;
 mod checksum;
+mod copies;
 mod entries;
 mod image;
 mod message;
