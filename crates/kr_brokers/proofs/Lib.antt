@@ -1,4 +1,3 @@
-pub mod LastImage
-pub mod LastKept
+pub mod FencingMeanings
 pub mod StoppingBeats
 pub mod UnfencedBrokers

@@ -14,8 +14,8 @@ use kr_calls::{BrokerHeartbeat, BrokerHeartbeatReply, Draft, Effect, Reply};
 use kr_defs::{Broker, Options, Record, Records};
 use kr_rules::{Handler, Refusal, Rule, Work, decide_one};
 use kr_sessions::{Context, Sessions};
-use kr_store::Store;
-use kr_walks::{active, fencing_records, leads, take_out, tip};
+use kr_store::{Seen, Store};
+use kr_walks::{active, fencing_records, leads, take_out};
 use std::alloc::Global;
 use std::sync::ledger::Ledger;
 
@@ -55,13 +55,13 @@ fn draft_of(
 
 fn of_fenced<S: Store>(
     alloc: Global,
-    store: &S,
+    seen: &Seen<S>,
     minimum: &i32,
     request: &BrokerHeartbeat,
     state: &Broker,
 ) -> Result<Draft<BrokerHeartbeatReply>, NoMemory>
-    requires { entries.get int_cmp (S.images store.now).tip.brokers request.now.broker ≡ Some state.now }
-    ensures { IfOk result (λ draft. draft ≡ broker_heartbeat.told request.now (broker_heartbeat.of_fenced minimum.now (S.images store.now).tip request.now state.now)) }
+    requires { entries.get int_cmp seen.now.brokers request.now.broker ≡ Some state.now }
+    ensures { IfOk result (λ draft. draft ≡ broker_heartbeat.told request.now (broker_heartbeat.of_fenced minimum.now seen.now request.now state.now)) }
 {
     if request.want_shutdown || state.stopping {
         return Ok(draft_of(request, Records::new(alloc), true, true));
@@ -69,7 +69,7 @@ fn of_fenced<S: Store>(
     if request.want_fence || is_behind(request) {
         return Ok(draft_of(request, Records::new(alloc), true, false));
     }
-    let records = unfencing_records(alloc, store, minimum, &request.broker, state)?;
+    let records = unfencing_records(alloc, seen, minimum, &request.broker, state)?;
     Ok(draft_of(request, records, false, false))
 }
 
@@ -86,16 +86,16 @@ fn is_reached(since: &i64, lowest: Option<i64>) -> bool
 // Every active broker has told of an offset that is at least the tip when the broker began to stop.
 fn is_passed_on<S: Store>(
     alloc: Global,
-    store: &S,
+    seen: &Seen<S>,
     sessions: &Sessions,
     broker: &i32,
 ) -> Result<bool, NoMemory>
-    ensures { IfOk result (λ passed. passed ≡ broker_heartbeat.is_passed_on sessions.now.heartbeats (S.images store.now).tip broker.now) }
+    ensures { IfOk result (λ passed. passed ≡ broker_heartbeat.is_passed_on sessions.now.heartbeats seen.now broker.now) }
 {
     let stopped = sessions.stopped_at(*broker);
     match &stopped {
         Some(since) => {
-            let active = active(alloc, store)?;
+            let active = active(alloc, seen)?;
             Ok(is_reached(since, sessions.lowest_offset(&active)))
         }
         None => Ok(false),
@@ -104,15 +104,15 @@ fn is_passed_on<S: Store>(
 
 fn of_stopping<S: Store>(
     alloc: Global,
-    store: &S,
+    seen: &Seen<S>,
     minimum: &i32,
     sessions: &Sessions,
     request: &BrokerHeartbeat,
 ) -> Result<Draft<BrokerHeartbeatReply>, NoMemory>
-    ensures { IfOk result (λ draft. draft ≡ broker_heartbeat.told request.now (broker_heartbeat.of_stopping minimum.now sessions.now.heartbeats (S.images store.now).tip request.now)) }
+    ensures { IfOk result (λ draft. draft ≡ broker_heartbeat.told request.now (broker_heartbeat.of_stopping minimum.now sessions.now.heartbeats seen.now request.now)) }
 {
-    if is_passed_on(alloc, store, sessions, &request.broker)? {
-        let records = fencing_records(alloc, store, minimum, &request.broker, &request.epoch)?;
+    if is_passed_on(alloc, seen, sessions, &request.broker)? {
+        let records = fencing_records(alloc, seen, minimum, &request.broker, &request.epoch)?;
         Ok(draft_of(request, records, true, true))
     } else {
         Ok(draft_of(request, Records::new(alloc), false, false))
@@ -133,39 +133,39 @@ fn stop_record(broker: &i32, epoch: &i64) -> Record
 // The records that tell a broker to stop: the flag, and then it is taken out.
 fn stopping_records<S: Store>(
     alloc: Global,
-    store: &S,
+    seen: &Seen<S>,
     minimum: &i32,
     broker: &i32,
     epoch: &i64,
 ) -> Result<Records, NoMemory>
-    ensures { IfOk result (λ records. records ≡ broker_heartbeat.stopping_records minimum.now (S.images store.now).tip broker.now epoch.now) }
+    ensures { IfOk result (λ records. records ≡ broker_heartbeat.stopping_records minimum.now seen.now broker.now epoch.now) }
 {
     let mut records = Records::new(alloc);
     records.push(stop_record(broker, epoch))?;
-    take_out(alloc, store, minimum, broker, false, &mut records)?;
+    take_out(alloc, seen, minimum, broker, false, &mut records)?;
     Ok(records)
 }
 
 fn of_active<S: Store>(
     alloc: Global,
-    store: &S,
+    seen: &Seen<S>,
     minimum: &i32,
     request: &BrokerHeartbeat,
 ) -> Result<Draft<BrokerHeartbeatReply>, NoMemory>
-    ensures { IfOk result (λ draft. draft ≡ broker_heartbeat.told request.now (broker_heartbeat.of_active minimum.now (S.images store.now).tip request.now)) }
+    ensures { IfOk result (λ draft. draft ≡ broker_heartbeat.told request.now (broker_heartbeat.of_active minimum.now seen.now request.now)) }
 {
     if request.want_fence {
-        let records = fencing_records(alloc, store, minimum, &request.broker, &request.epoch)?;
+        let records = fencing_records(alloc, seen, minimum, &request.broker, &request.epoch)?;
         return Ok(draft_of(request, records, true, request.want_shutdown));
     }
     if !request.want_shutdown {
         return Ok(draft_of(request, Records::new(alloc), false, false));
     }
-    if leads(store, &request.broker) {
-        let records = stopping_records(alloc, store, minimum, &request.broker, &request.epoch)?;
+    if leads(seen, &request.broker) {
+        let records = stopping_records(alloc, seen, minimum, &request.broker, &request.epoch)?;
         return Ok(draft_of(request, records, false, false));
     }
-    let records = fencing_records(alloc, store, minimum, &request.broker, &request.epoch)?;
+    let records = fencing_records(alloc, seen, minimum, &request.broker, &request.epoch)?;
     Ok(draft_of(request, records, true, true))
 }
 
@@ -173,21 +173,21 @@ fn of_active<S: Store>(
 #[tactic(auto, unfolding(kr_calls::specs::BrokerHeartbeat::step))]
 fn step<S: Store>(
     alloc: Global,
-    store: &S,
+    seen: &Seen<S>,
     minimum: &i32,
     sessions: &Sessions,
     request: &BrokerHeartbeat,
     state: &Broker,
 ) -> Result<Draft<BrokerHeartbeatReply>, NoMemory>
-    requires { entries.get int_cmp (S.images store.now).tip.brokers request.now.broker ≡ Some state.now }
-    ensures { IfOk result (λ draft. draft ≡ broker_heartbeat.told request.now (broker_heartbeat.step minimum.now sessions.now.heartbeats (S.images store.now).tip request.now state.now)) }
+    requires { entries.get int_cmp seen.now.brokers request.now.broker ≡ Some state.now }
+    ensures { IfOk result (λ draft. draft ≡ broker_heartbeat.told request.now (broker_heartbeat.step minimum.now sessions.now.heartbeats seen.now request.now state.now)) }
 {
     if state.fenced {
-        of_fenced(alloc, store, minimum, request, state)
+        of_fenced(alloc, seen, minimum, request, state)
     } else if state.stopping {
-        of_stopping(alloc, store, minimum, sessions, request)
+        of_stopping(alloc, seen, minimum, sessions, request)
     } else {
-        of_active(alloc, store, minimum, request)
+        of_active(alloc, seen, minimum, request)
     }
 }
 
@@ -219,11 +219,11 @@ impl<'a> Rule<BrokerHeartbeat, BrokerHeartbeatReply> for HeartbeatRule<'a> {
     fn judge<S: Store>(
         &self,
         alloc: Global,
-        store: &S,
+        seen: &Seen<S>,
         _work: &Work,
         entry: &BrokerHeartbeat,
     ) -> Result<Draft<BrokerHeartbeatReply>, Refusal> {
-        let Some(state) = tip::broker(store, &entry.broker) else {
+        let Some(state) = seen.broker(&entry.broker) else {
             return Err(Refusal::Error(STALE_BROKER_EPOCH));
         };
         if !is_of_epoch(entry, state) {
@@ -231,7 +231,7 @@ impl<'a> Rule<BrokerHeartbeat, BrokerHeartbeatReply> for HeartbeatRule<'a> {
         }
         Ok(step(
             alloc,
-            store,
+            seen,
             &self.options.minimum,
             self.sessions,
             entry,

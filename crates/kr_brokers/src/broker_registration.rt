@@ -12,8 +12,8 @@ use kr_calls::{BrokerRegistration, BrokerRegistrationReply, Draft, Effect, Reply
 use kr_defs::{Broker, Copied, Options, Record, Records};
 use kr_rules::{Handler, Refusal, Rule, Work, decide_one};
 use kr_sessions::{Context, Sessions};
-use kr_store::Store;
-use kr_walks::{take_out, tip};
+use kr_store::{Seen, Store};
+use kr_walks::take_out;
 use std::alloc::Global;
 use std::sync::ledger::Ledger;
 
@@ -52,22 +52,22 @@ fn is_ill(request: &BrokerRegistration) -> bool
 }
 
 // Another incarnation of the broker stands.
-fn is_other<S: Store>(store: &S, request: &BrokerRegistration) -> bool
-    ensures { result ≡ broker_registration.is_other (S.images store.now).tip request.now }
+fn is_other<S: Store>(seen: &Seen<S>, request: &BrokerRegistration) -> bool
+    ensures { result ≡ broker_registration.is_other seen.now request.now }
 {
-    match tip::broker(store, &request.broker) {
+    match seen.broker(&request.broker) {
         Some(old) => old.incarnation != request.incarnation,
         None => false,
     }
 }
 
 // Another incarnation of the broker is in contact.
-fn is_taken<S: Store>(rule: &Registering, store: &S, request: &BrokerRegistration) -> bool
-    ensures { result ≡ broker_registration.is_taken rule.now.options.now rule.now.time rule.now.sessions.now.heartbeats (S.images store.now).tip request.now }
+fn is_taken<S: Store>(rule: &Registering, seen: &Seen<S>, request: &BrokerRegistration) -> bool
+    ensures { result ≡ broker_registration.is_taken rule.now.options.now rule.now.time rule.now.sessions.now.heartbeats seen.now request.now }
 {
     rule.sessions
         .valid(request.broker, rule.time, rule.options.session_ms)
-        && is_other(store, request)
+        && is_other(seen, request)
 }
 
 // The registration, fenced, with its place as its epoch.
@@ -102,42 +102,42 @@ fn is_unclean(request: &BrokerRegistration, old: &Broker) -> bool
 // The broker of this earlier registration is taken out.
 fn take_out_old<S: Store>(
     alloc: Global,
-    store: &S,
+    seen: &Seen<S>,
     minimum: &i32,
     request: &BrokerRegistration,
     old: &Broker,
     records: &mut Records,
 ) -> Result<(), NoMemory>
-    ensures { OnOk result (records.new ≡ records.old ++ broker_registration.earlier_taken_out minimum.now (S.images store.now).tip request.now (Some old.now)) }
+    ensures { OnOk result (records.new ≡ records.old ++ broker_registration.earlier_taken_out minimum.now seen.now request.now (Some old.now)) }
 {
     let restarted = is_unclean(request, old);
-    take_out(alloc, store, minimum, &request.broker, restarted, records)
+    take_out(alloc, seen, minimum, &request.broker, restarted, records)
 }
 
 // The broker of an earlier registration, if there is one, is taken out.
 fn take_out_earlier<S: Store>(
     alloc: Global,
-    store: &S,
+    seen: &Seen<S>,
     minimum: &i32,
     request: &BrokerRegistration,
     records: &mut Records,
 ) -> Result<(), NoMemory>
-    ensures { OnOk result (records.new ≡ records.old ++ broker_registration.earlier_taken_out minimum.now (S.images store.now).tip request.now (entries.get int_cmp (S.images store.now).tip.brokers request.now.broker)) }
+    ensures { OnOk result (records.new ≡ records.old ++ broker_registration.earlier_taken_out minimum.now seen.now request.now (entries.get int_cmp seen.now.brokers request.now.broker)) }
 {
-    match tip::broker(store, &request.broker) {
-        Some(old) => take_out_old(alloc, store, minimum, request, old, records),
+    match seen.broker(&request.broker) {
+        Some(old) => take_out_old(alloc, seen, minimum, request, old, records),
         None => Ok(()),
     }
 }
 
 fn registration_draft<S: Store>(
     alloc: Global,
-    store: &S,
+    seen: &Seen<S>,
     options: &Options,
     work: &Work,
     request: &BrokerRegistration,
 ) -> Result<Draft<BrokerRegistrationReply>, NoMemory>
-    ensures { IfOk result (λ draft. draft ≡ broker_registration.registered options.now (S.images store.now).tip (place_of work.now) request.now) }
+    ensures { IfOk result (λ draft. draft ≡ broker_registration.registered options.now seen.now (place_of work.now) request.now) }
 {
     let state = registration(alloc, work, request)?;
     let mut records = Records::new(alloc);
@@ -145,7 +145,7 @@ fn registration_draft<S: Store>(
         broker: request.broker,
         state,
     })?;
-    take_out_earlier(alloc, store, &options.minimum, request, &mut records)?;
+    take_out_earlier(alloc, seen, &options.minimum, request, &mut records)?;
     Ok(Draft {
         records,
         answer: BrokerRegistrationReply {
@@ -175,7 +175,7 @@ impl<'a> Rule<BrokerRegistration, BrokerRegistrationReply> for Registering<'a> {
     fn judge<S: Store>(
         &self,
         alloc: Global,
-        store: &S,
+        seen: &Seen<S>,
         work: &Work,
         entry: &BrokerRegistration,
     ) -> Result<Draft<BrokerRegistrationReply>, Refusal> {
@@ -185,10 +185,10 @@ impl<'a> Rule<BrokerRegistration, BrokerRegistrationReply> for Registering<'a> {
         if is_ill(entry) {
             return Err(Refusal::Error(INVALID_REQUEST));
         }
-        if is_taken(self, store, entry) {
+        if is_taken(self, seen, entry) {
             return Err(Refusal::Error(DUPLICATE_BROKER_REGISTRATION));
         }
-        Ok(registration_draft(alloc, store, self.options, work, entry)?)
+        Ok(registration_draft(alloc, seen, self.options, work, entry)?)
     }
 }
 

@@ -14,7 +14,7 @@ ghost use Rattle.kr_calls.specs.BrokerHeartbeat as broker_heartbeat;
 use kr_base::NoMemory;
 use kr_change::build;
 use kr_defs::{Broker, Ids, Partition, PartitionChange, Record, Records, Text};
-use kr_store::Store;
+use kr_store::{Seen, Store};
 use kr_walks::{BrokerTest, Change, add_changes, brokers_where, default_want, facts, is_active};
 use std::alloc::Global;
 
@@ -41,16 +41,16 @@ impl BrokerTest for ActiveWith {
 // The brokers that are active once this one is unfenced.
 fn active_with<S: Store>(
     alloc: Global,
-    store: &S,
+    seen: &Seen<S>,
     broker: &i32,
     state: &Broker,
 ) -> Result<Ids, NoMemory>
-    requires { entries.get int_cmp (S.images store.now).tip.brokers broker.now ≡ Some state.now }
-    ensures { IfOk result (λ ids. ids ≡ brokers.active_of (broker_heartbeat.unfenced_brokers (S.images store.now).tip broker.now state.now)) }
+    requires { entries.get int_cmp seen.now.brokers broker.now ≡ Some state.now }
+    ensures { IfOk result (λ ids. ids ≡ brokers.active_of (broker_heartbeat.unfenced_brokers seen.now broker.now state.now)) }
 {
-    let _valid = store.counts();
+    seen.is_valid();
     let test = active_with_test(broker);
-    brokers_where(alloc, store, &test)
+    brokers_where(alloc, seen, &test)
 }
 
 // A broker that is unfenced, and the brokers that are active then.
@@ -83,7 +83,7 @@ impl Change for Candidate {
     fn change<S: Store>(
         &self,
         alloc: Global,
-        store: &S,
+        seen: &Seen<S>,
         topic: &Text,
         _key: &(u128, i32),
         partition: &Partition,
@@ -92,7 +92,7 @@ impl Change for Candidate {
             return Ok(None);
         }
         let want = default_want(alloc, partition)?;
-        let facts = facts(alloc, store, &self.minimum, &self.active, topic)?;
+        let facts = facts(alloc, seen, &self.minimum, &self.active, topic)?;
         build(alloc, partition, &want, &facts)
     }
 }
@@ -100,18 +100,18 @@ impl Change for Candidate {
 // Adds the elections that the broker may win.
 fn add_elections<S: Store>(
     alloc: Global,
-    store: &S,
+    seen: &Seen<S>,
     minimum: &i32,
     broker: &i32,
     state: &Broker,
     records: &mut Records,
 ) -> Result<(), NoMemory>
-    requires { entries.get int_cmp (S.images store.now).tip.brokers broker.now ≡ Some state.now }
-    ensures { OnOk result (records.new ≡ records.old ++ changes_of (broker_heartbeat.electing minimum.now (S.images store.now).tip broker.now state.now) (walk (S.images store.now).tip)) }
+    requires { entries.get int_cmp seen.now.brokers broker.now ≡ Some state.now }
+    ensures { OnOk result (records.new ≡ records.old ++ changes_of (broker_heartbeat.electing minimum.now seen.now broker.now state.now) (walk seen.now)) }
 {
-    let active = active_with(alloc, store, broker, state)?;
+    let active = active_with(alloc, seen, broker, state)?;
     let rule = candidate_of(minimum, active, broker);
-    add_changes(alloc, store, &rule, records)
+    add_changes(alloc, seen, &rule, records)
 }
 
 fn unfence_record(broker: &i32, epoch: &i64) -> Record
@@ -128,16 +128,16 @@ fn unfence_record(broker: &i32, epoch: &i64) -> Record
 /// The records that unfence a broker, and elect leaders where partitions wait for it.
 pub(crate) fn unfencing_records<S: Store>(
     alloc: Global,
-    store: &S,
+    seen: &Seen<S>,
     minimum: &i32,
     broker: &i32,
     state: &Broker,
 ) -> Result<Records, NoMemory>
-    requires { entries.get int_cmp (S.images store.now).tip.brokers broker.now ≡ Some state.now }
-    ensures { IfOk result (λ records. records ≡ broker_heartbeat.unfencing minimum.now (S.images store.now).tip broker.now state.now) }
+    requires { entries.get int_cmp seen.now.brokers broker.now ≡ Some state.now }
+    ensures { IfOk result (λ records. records ≡ broker_heartbeat.unfencing minimum.now seen.now broker.now state.now) }
 {
     let mut records = Records::new(alloc);
     records.push(unfence_record(broker, &state.epoch))?;
-    add_elections(alloc, store, minimum, broker, state, &mut records)?;
+    add_elections(alloc, seen, minimum, broker, state, &mut records)?;
     Ok(records)
 }

@@ -14,8 +14,8 @@ use kr_calls::Effect;
 use kr_calls::laws::taking_out_is_never_refused;
 use kr_defs::Record;
 use kr_sessions::Context;
-use kr_store::{ApplyFault, Store};
-use kr_walks::{fencing_records, tip};
+use kr_store::{ApplyFault, Seen, Store};
+use kr_walks::fencing_records;
 use std::alloc::Global;
 use std::sync::ledger::Ledger;
 
@@ -66,12 +66,13 @@ pub fn fence<S: Store, L: Ledger>(
     ensures later { steps.old ≤ steps.new }
 {
     taking_out_is_never_refused();
-    let _valid = store.counts();
-    let Some(state) = tip::broker(store, broker) else {
+    let seen = Seen::tip(store);
+    seen.is_valid();
+    let Some(state) = seen.broker(broker) else {
         return Ok(());
     };
     let minimum = &context.options.minimum;
-    let records = fencing_records(alloc, store, minimum, broker, &state.epoch)?;
+    let records = fencing_records(alloc, &seen, minimum, broker, &state.epoch)?;
     apply_all(store, &context.place, records.as_slice(), steps)?;
     out.records = records;
     Ok(())

@@ -11,8 +11,8 @@ use kr_calls::{Draft, Effect, Reply, UnregisterBroker, UnregisterBrokerReply};
 use kr_defs::{Options, Record, Records};
 use kr_rules::{Handler, Refusal, Rule, Work, decide_one};
 use kr_sessions::Context;
-use kr_store::Store;
-use kr_walks::{take_out, tip};
+use kr_store::{Seen, Store};
+use kr_walks::take_out;
 use std::alloc::Global;
 use std::sync::ledger::Ledger;
 
@@ -25,19 +25,19 @@ struct Unregistering<'a> {
 // The registration of this epoch goes, and the broker is taken out as restarted.
 fn unregistration<S: Store>(
     alloc: Global,
-    store: &S,
+    seen: &Seen<S>,
     minimum: &i32,
     broker: &i32,
     epoch: &i64,
 ) -> Result<Records, NoMemory>
-    ensures { IfOk result (λ records. records ≡ kinds.UnregisterBroker broker.now epoch.now ∷ taken_out minimum.now (S.images store.now).tip broker.now true) }
+    ensures { IfOk result (λ records. records ≡ kinds.UnregisterBroker broker.now epoch.now ∷ taken_out minimum.now seen.now broker.now true) }
 {
     let mut records = Records::new(alloc);
     records.push(Record::UnregisterBroker {
         broker: *broker,
         epoch: *epoch,
     })?;
-    take_out(alloc, store, minimum, broker, true, &mut records)?;
+    take_out(alloc, seen, minimum, broker, true, &mut records)?;
     Ok(records)
 }
 
@@ -58,16 +58,16 @@ impl<'a> Rule<UnregisterBroker, UnregisterBrokerReply> for Unregistering<'a> {
     fn judge<S: Store>(
         &self,
         alloc: Global,
-        store: &S,
+        seen: &Seen<S>,
         _work: &Work,
         entry: &UnregisterBroker,
     ) -> Result<Draft<UnregisterBrokerReply>, Refusal> {
-        match tip::broker(store, &entry.broker) {
+        match seen.broker(&entry.broker) {
             None => Err(Refusal::Error(BROKER_ID_NOT_REGISTERED)),
             Some(old) => Ok(Draft {
                 records: unregistration(
                     alloc,
-                    store,
+                    seen,
                     &self.options.minimum,
                     &entry.broker,
                     &old.epoch,

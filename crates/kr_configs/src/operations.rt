@@ -12,7 +12,7 @@ use kr_calls::errors::{INVALID_CONFIG, INVALID_REQUEST};
 use kr_calls::{ConfigOperation, ConfigResource};
 use kr_defs::{Copied, Text, is_list_key, is_setting_key, is_setting_value};
 use kr_rules::Refusal;
-use kr_store::Store;
+use kr_store::{Seen, Store};
 use kr_walks::value_at;
 use std::alloc::Global;
 
@@ -44,16 +44,16 @@ fn is_bad_operation(operation: &ConfigOperation) -> bool
 /// The value of a resource's setting, behind the operations so far.
 pub(crate) fn value_now<'v, 'k, S: Store>(
     alloc: Global,
-    store: &'v S,
+    seen: &'v Seen<S>,
     entry: &ConfigResource,
     values: &'v Values<'k>,
     key: &str,
 ) -> Result<Option<&'v Text>, NoMemory>
-    ensures { IfOk result (λ value. option_copied value ≡ incremental_alter_configs.value_now (S.images store.now).tip entry.now values.now key.now) }
+    ensures { IfOk result (λ value. option_copied value ≡ incremental_alter_configs.value_now seen.now entry.now values.now key.now) }
 {
     match values.get(key) {
         Some(value) => Ok(value.as_ref()),
-        None => value_at(alloc, store, &entry.kind, &entry.name, key),
+        None => value_at(alloc, seen, &entry.kind, &entry.name, key),
     }
 }
 
@@ -116,27 +116,27 @@ fn may_result(key: &Text, value: &Option<Text>) -> bool
 // The value that results of an operation.
 fn result_of<S: Store>(
     alloc: Global,
-    store: &S,
+    seen: &Seen<S>,
     entry: &ConfigResource,
     values: &Values,
     operation: &ConfigOperation,
 ) -> Result<Option<Text>, NoMemory>
-    ensures { IfOk result (λ value. value ≡ incremental_alter_configs.operated operation.now (incremental_alter_configs.value_now (S.images store.now).tip entry.now values.now operation.now.name)) }
+    ensures { IfOk result (λ value. value ≡ incremental_alter_configs.operated operation.now (incremental_alter_configs.value_now seen.now entry.now values.now operation.now.name)) }
 {
-    let before = value_now(alloc, store, entry, values, operation.name.as_str())?;
+    let before = value_now(alloc, seen, entry, values, operation.name.as_str())?;
     value_after(alloc, operation, before)
 }
 
 // The operation is done, or refused where it can't be.
 fn operate<'k, S: Store>(
     alloc: Global,
-    store: &S,
+    seen: &Seen<S>,
     entry: &ConfigResource,
     values: &mut Values<'k>,
     operation: &'k ConfigOperation,
 ) -> Result<(), Refusal>
-    ensures done { OnOk result (incremental_alter_configs.after_operation (S.images store.now).tip entry.now values.old operation.now ≡ Ok values.new) }
-    ensures refused { IfErr result (λ refusal. IsRefusal refusal (incremental_alter_configs.after_operation (S.images store.now).tip entry.now values.old operation.now)) }
+    ensures done { OnOk result (incremental_alter_configs.after_operation seen.now entry.now values.old operation.now ≡ Ok values.new) }
+    ensures refused { IfErr result (λ refusal. IsRefusal refusal (incremental_alter_configs.after_operation seen.now entry.now values.old operation.now)) }
 {
     if is_bad_operation(operation) {
         return Err(Refusal::Error(INVALID_REQUEST));
@@ -147,7 +147,7 @@ fn operate<'k, S: Store>(
     if is_of_parts(operation) && !is_list_key(&operation.name) {
         return Err(Refusal::Error(INVALID_CONFIG));
     }
-    let value = result_of(alloc, store, entry, values, operation)?;
+    let value = result_of(alloc, seen, entry, values, operation)?;
     if !may_result(&operation.name, &value) {
         return Err(Refusal::Error(INVALID_CONFIG));
     }
@@ -158,14 +158,14 @@ fn operate<'k, S: Store>(
 /// The values that all operations of a resource leave, in order. The first that can't be done refuses it.
 pub(crate) fn operate_all<'k, S: Store>(
     alloc: Global,
-    store: &S,
+    seen: &Seen<S>,
     entry: &'k ConfigResource,
 ) -> Result<Values<'k>, Refusal>
-    ensures { Judges result (incremental_alter_configs.after_operations (S.images store.now).tip entry.now [] entry.now.configs) }
+    ensures { Judges result (incremental_alter_configs.after_operations seen.now entry.now [] entry.now.configs) }
 {
     let mut values = Values::new(alloc);
     for operation in entry.configs.as_slice() {
-        operate(alloc, store, entry, &mut values, operation)?;
+        operate(alloc, seen, entry, &mut values, operation)?;
     }
     Ok(values)
 }

@@ -9,7 +9,7 @@ use crate::values::Values;
 use kr_base::NoMemory;
 use kr_calls::ConfigResource;
 use kr_defs::{Copied, Record, Records, Text};
-use kr_store::Store;
+use kr_store::{Seen, Store};
 use kr_walks::value_at;
 use std::alloc::Global;
 
@@ -27,14 +27,14 @@ pub(crate) fn is_same_value(value: Option<&Text>, other: Option<&Text>) -> bool
 // The record of a setting whose value differs.
 fn config_record<S: Store>(
     alloc: Global,
-    store: &S,
+    seen: &Seen<S>,
     entry: &ConfigResource,
     key: &str,
     value: &Option<Text>,
 ) -> Result<Option<Record>, NoMemory>
-    ensures { IfOk result (λ made. made ≡ incremental_alter_configs.config_record (S.images store.now).tip entry.now (key.now, value.now)) }
+    ensures { IfOk result (λ made. made ≡ incremental_alter_configs.config_record seen.now entry.now (key.now, value.now)) }
 {
-    let before = value_at(alloc, store, &entry.kind, &entry.name, key)?;
+    let before = value_at(alloc, seen, &entry.kind, &entry.name, key)?;
     if is_same_value(value.as_ref(), before) {
         return Ok(None);
     }
@@ -52,15 +52,15 @@ fn config_record<S: Store>(
 // Adds the record of a setting whose value differs.
 fn add_record<S: Store>(
     alloc: Global,
-    store: &S,
+    seen: &Seen<S>,
     entry: &ConfigResource,
     key: &str,
     value: &Option<Text>,
     records: &mut Records,
 ) -> Result<(), NoMemory>
-    ensures { OnOk result (records.new ≡ records.old ++ cons_option (incremental_alter_configs.config_record (S.images store.now).tip entry.now (key.now, value.now)) []) }
+    ensures { OnOk result (records.new ≡ records.old ++ cons_option (incremental_alter_configs.config_record seen.now entry.now (key.now, value.now)) []) }
 {
-    if let Some(made) = config_record(alloc, store, entry, key, value)? {
+    if let Some(made) = config_record(alloc, seen, entry, key, value)? {
         records.push(made)?;
     }
     Ok(())
@@ -69,15 +69,15 @@ fn add_record<S: Store>(
 /// The records of the settings whose values differ, in order of first naming.
 pub(crate) fn config_records<S: Store>(
     alloc: Global,
-    store: &S,
+    seen: &Seen<S>,
     entry: &ConfigResource,
     values: &Values,
 ) -> Result<Records, NoMemory>
-    ensures { IfOk result (λ records. records ≡ filter_map (incremental_alter_configs.config_record (S.images store.now).tip entry.now) values.now) }
+    ensures { IfOk result (λ records. records ≡ filter_map (incremental_alter_configs.config_record seen.now entry.now) values.now) }
 {
     let mut records = Records::new(alloc);
     for (key, value) in values.entries() {
-        add_record(alloc, store, entry, key, value, &mut records)?;
+        add_record(alloc, seen, entry, key, value, &mut records)?;
     }
     Ok(records)
 }

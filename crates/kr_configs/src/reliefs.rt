@@ -18,7 +18,7 @@ use crate::values::Values;
 use kr_base::NoMemory;
 use kr_calls::ConfigResource;
 use kr_defs::{Ids, MINIMUM_KEY, Options, Partition, PartitionChange, Records, Text, read_minimum};
-use kr_store::Store;
+use kr_store::{Seen, Store};
 use kr_walks::{Change, add_changes, minimum_at, minimum_of, value_at};
 use std::alloc::Global;
 
@@ -86,63 +86,63 @@ fn minimum_in(value: Option<&Text>) -> Option<i32>
 // The minimum that a resource sets afterwards.
 fn minimum_after_at<S: Store>(
     alloc: Global,
-    store: &S,
+    seen: &Seen<S>,
     relief: &Relief,
     kind: &i8,
     name: &Text,
 ) -> Result<Option<i32>, NoMemory>
-    ensures { IfOk result (λ minimum. minimum ≡ option_and_then settings.read_minimum (settings.setting_value (after (S.images store.now).tip relief.now.entry.now relief.now.values.now) kind.now name.now settings.minimum_key)) }
+    ensures { IfOk result (λ minimum. minimum ≡ option_and_then settings.read_minimum (settings.setting_value (after seen.now relief.now.entry.now relief.now.values.now) kind.now name.now settings.minimum_key)) }
 {
-    let _valid = store.counts();
+    seen.is_valid();
     relief.values.are_once();
     if is_own(relief.entry, kind, name) {
-        let value = value_now(alloc, store, relief.entry, relief.values, MINIMUM_KEY)?;
+        let value = value_now(alloc, seen, relief.entry, relief.values, MINIMUM_KEY)?;
         Ok(minimum_in(value))
     } else {
-        minimum_at(alloc, store, kind, name)
+        minimum_at(alloc, seen, kind, name)
     }
 }
 
 // The minimum of the topic itself, or else that of all brokers, afterwards.
 fn minimum_after_set<S: Store>(
     alloc: Global,
-    store: &S,
+    seen: &Seen<S>,
     relief: &Relief,
     topic: &Text,
 ) -> Result<Option<i32>, NoMemory>
-    ensures { IfOk result (λ minimum. minimum ≡ settings.setting settings.read_minimum settings.minimum_key (after (S.images store.now).tip relief.now.entry.now relief.now.values.now) topic.now) }
+    ensures { IfOk result (λ minimum. minimum ≡ settings.setting settings.read_minimum settings.minimum_key (after seen.now relief.now.entry.now relief.now.values.now) topic.now) }
 {
-    match minimum_after_at(alloc, store, relief, &TOPIC, topic)? {
+    match minimum_after_at(alloc, seen, relief, &TOPIC, topic)? {
         Some(minimum) => Ok(Some(minimum)),
-        None => minimum_after_at(alloc, store, relief, &BROKER, &Text::new(alloc)),
+        None => minimum_after_at(alloc, seen, relief, &BROKER, &Text::new(alloc)),
     }
 }
 
 // How many replicas of the topic have to be in sync afterwards.
 fn minimum_after<S: Store>(
     alloc: Global,
-    store: &S,
+    seen: &Seen<S>,
     relief: &Relief,
     topic: &Text,
 ) -> Result<i32, NoMemory>
-    ensures { IfOk result (λ minimum. minimum ≡ settings.minimum_of relief.now.options.now.minimum (after (S.images store.now).tip relief.now.entry.now relief.now.values.now) topic.now) }
+    ensures { IfOk result (λ minimum. minimum ≡ settings.minimum_of relief.now.options.now.minimum (after seen.now relief.now.entry.now relief.now.values.now) topic.now) }
 {
-    let minimum = minimum_after_set(alloc, store, relief, topic)?;
+    let minimum = minimum_after_set(alloc, seen, relief, topic)?;
     Ok(minimum.unwrap_or(relief.options.minimum))
 }
 
 // The topic's minimum is another, and enough are in sync for the new one.
 fn has_enough<S: Store>(
     alloc: Global,
-    store: &S,
+    seen: &Seen<S>,
     relief: &Relief,
     topic: &Text,
     partition: &Partition,
 ) -> Result<bool, NoMemory>
-    ensures { IfOk result (λ enough. enough ≡ later.has_enough relief.now.options.now (S.images store.now).tip (after (S.images store.now).tip relief.now.entry.now relief.now.values.now) topic.now partition.now) }
+    ensures { IfOk result (λ enough. enough ≡ later.has_enough relief.now.options.now seen.now (after seen.now relief.now.entry.now relief.now.values.now) topic.now partition.now) }
 {
-    let before = minimum_of(alloc, store, &relief.options.minimum, topic)?;
-    let after = minimum_after(alloc, store, relief, topic)?;
+    let before = minimum_of(alloc, seen, &relief.options.minimum, topic)?;
+    let after = minimum_after(alloc, seen, relief, topic)?;
     Ok(before != after && is_enough(partition, &after))
 }
 
@@ -159,7 +159,7 @@ impl<'r, 'k> Change for Relief<'r, 'k> {
     fn change<S: Store>(
         &self,
         alloc: Global,
-        store: &S,
+        seen: &Seen<S>,
         topic: &Text,
         _key: &(u128, i32),
         partition: &Partition,
@@ -167,7 +167,7 @@ impl<'r, 'k> Change for Relief<'r, 'k> {
         if !has_standing_by(partition) {
             return Ok(None);
         }
-        if !has_enough(alloc, store, self, topic, partition)? {
+        if !has_enough(alloc, seen, self, topic, partition)? {
             return Ok(None);
         }
         Ok(Some(relief_of(alloc, partition)))
@@ -177,14 +177,14 @@ impl<'r, 'k> Change for Relief<'r, 'k> {
 // The resource's own minimum stays as it is.
 fn keeps_minimum<S: Store>(
     alloc: Global,
-    store: &S,
+    seen: &Seen<S>,
     entry: &ConfigResource,
     values: &Values,
 ) -> Result<bool, NoMemory>
-    ensures { IfOk result (λ keeps. keeps ≡ later.keeps_minimum (S.images store.now).tip entry.now values.now) }
+    ensures { IfOk result (λ keeps. keeps ≡ later.keeps_minimum seen.now entry.now values.now) }
 {
-    let before = value_at(alloc, store, &entry.kind, &entry.name, MINIMUM_KEY)?;
-    let after = value_now(alloc, store, entry, values, MINIMUM_KEY)?;
+    let before = value_at(alloc, seen, &entry.kind, &entry.name, MINIMUM_KEY)?;
+    let after = value_now(alloc, seen, entry, values, MINIMUM_KEY)?;
     Ok(is_same_value(after, before))
 }
 
@@ -192,17 +192,17 @@ fn keeps_minimum<S: Store>(
 /// nobody stands by any more. A minimum that stays needs no walk.
 pub(crate) fn add_reliefs<S: Store>(
     alloc: Global,
-    store: &S,
+    seen: &Seen<S>,
     options: &Options,
     entry: &ConfigResource,
     values: &Values,
     records: &mut Records,
 ) -> Result<(), NoMemory>
-    ensures { OnOk result (records.new ≡ records.old ++ changes_of (incremental_alter_configs.relief options.now (S.images store.now).tip (after (S.images store.now).tip entry.now values.now)) (walk (S.images store.now).tip)) }
+    ensures { OnOk result (records.new ≡ records.old ++ changes_of (incremental_alter_configs.relief options.now seen.now (after seen.now entry.now values.now)) (walk seen.now)) }
 {
-    let _valid = store.counts();
+    seen.is_valid();
     values.are_once();
-    if keeps_minimum(alloc, store, entry, values)? {
+    if keeps_minimum(alloc, seen, entry, values)? {
         return Ok(());
     }
     let relief = Relief {
@@ -210,5 +210,5 @@ pub(crate) fn add_reliefs<S: Store>(
         entry,
         values,
     };
-    add_changes(alloc, store, &relief, records)
+    add_changes(alloc, seen, &relief, records)
 }

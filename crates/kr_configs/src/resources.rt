@@ -16,8 +16,7 @@ use kr_calls::errors::{INVALID_REQUEST, UNKNOWN_TOPIC_OR_PARTITION};
 use kr_calls::{ConfigResource, ConfigResponse, Draft};
 use kr_defs::{Copied, Options, Records, Text, is_broker_name};
 use kr_rules::{Refusal, Rule, Work};
-use kr_store::Store;
-use kr_walks::tip;
+use kr_store::{Seen, Store};
 use std::alloc::Global;
 
 // Kafka's types of resources.
@@ -55,37 +54,37 @@ fn is_broker_kind(entry: &ConfigResource) -> bool
     entry.kind == BROKER
 }
 
-fn is_topic<S: Store>(store: &S, name: &Text) -> bool
-    ensures { result ≡ entries.contains text_order (S.images store.now).tip.topics name.now }
+fn is_topic<S: Store>(seen: &Seen<S>, name: &Text) -> bool
+    ensures { result ≡ entries.contains text_order seen.now.topics name.now }
 {
-    tip::topic_named(store, name).is_some()
+    seen.topic_named(name).is_some()
 }
 
 fn resource_records<S: Store>(
     alloc: Global,
-    store: &S,
+    seen: &Seen<S>,
     options: &Options,
     entry: &ConfigResource,
     values: &Values,
 ) -> Result<Records, NoMemory>
-    ensures { IfOk result (λ records. records ≡ incremental_alter_configs.resource_records options.now (S.images store.now).tip entry.now values.now) }
+    ensures { IfOk result (λ records. records ≡ incremental_alter_configs.resource_records options.now seen.now entry.now values.now) }
 {
-    let mut records = config_records(alloc, store, entry, values)?;
-    add_reliefs(alloc, store, options, entry, values, &mut records)?;
+    let mut records = config_records(alloc, seen, entry, values)?;
+    add_reliefs(alloc, seen, options, entry, values, &mut records)?;
     Ok(records)
 }
 
 // What is said of a resource that there is.
 fn of_resource<S: Store>(
     alloc: Global,
-    store: &S,
+    seen: &Seen<S>,
     options: &Options,
     entry: &ConfigResource,
 ) -> Result<Draft<ConfigResponse>, Refusal>
-    ensures { Judges result (incremental_alter_configs.of_resource options.now (S.images store.now).tip entry.now) }
+    ensures { Judges result (incremental_alter_configs.of_resource options.now seen.now entry.now) }
 {
-    let values = operate_all(alloc, store, entry)?;
-    let records = resource_records(alloc, store, options, entry, &values)?;
+    let values = operate_all(alloc, seen, entry)?;
+    let records = resource_records(alloc, seen, options, entry, &values)?;
     let answer = answer(alloc, &0, entry)?;
     Ok(Draft { records, answer })
 }
@@ -107,19 +106,19 @@ impl<'a> Rule<ConfigResource, ConfigResponse> for ResourceRule<'a> {
     fn judge<S: Store>(
         &self,
         alloc: Global,
-        store: &S,
+        seen: &Seen<S>,
         _work: &Work,
         entry: &ConfigResource,
     ) -> Result<Draft<ConfigResponse>, Refusal> {
         if !is_topic_kind(entry) && !is_broker_kind(entry) {
             return Err(Refusal::Error(INVALID_REQUEST));
         }
-        if is_topic_kind(entry) && !is_topic(store, &entry.name) {
+        if is_topic_kind(entry) && !is_topic(seen, &entry.name) {
             return Err(Refusal::Error(UNKNOWN_TOPIC_OR_PARTITION));
         }
         if is_broker_kind(entry) && !is_broker_name(&entry.name) {
             return Err(Refusal::Error(INVALID_REQUEST));
         }
-        of_resource(alloc, store, self.options, entry)
+        of_resource(alloc, seen, self.options, entry)
     }
 }

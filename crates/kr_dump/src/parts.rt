@@ -7,7 +7,7 @@ use crate::texts::put_bytes;
 use kr_base::NoMemory;
 use kr_defs::{Broker, Bytes, Partition, Text};
 use kr_gather::{BrokerPart, PartitionPart, TopicPart, gather_partitions};
-use kr_store::{At, Store};
+use kr_store::{Seen, Store};
 use std::alloc::Global;
 
 /// The line of a broker.
@@ -60,14 +60,13 @@ impl TopicPart<u8> for TopicLines {
     fn add<S: Store>(
         &self,
         alloc: Global,
-        store: &S,
-        at: At,
+        seen: &Seen<S>,
         name: &Text,
         id: &u128,
         rows: &mut Bytes,
     ) -> Result<(), NoMemory> {
         put_topic(alloc, rows, name, *id)?;
-        let partitions = gather_partitions(alloc, store, at, &PartitionLine { name }, id)?;
+        let partitions = gather_partitions(alloc, seen, &PartitionLine { name }, id)?;
         put_bytes(rows, partitions.as_slice())?;
         Ok(())
     }

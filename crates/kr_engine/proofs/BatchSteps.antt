@@ -1,8 +1,8 @@
 -- What a committed batch of another leader makes of an engine.
-use Rattle.std.proofs.Common.{◌≡◌, ◌∙◌, sym, subst, ℕ, ℤ, pos, true, false, cond, ◌+◌, ◌≤◌, List, [], ◌∷◌, ◌++◌, map, length, refl, ap, arith}
+use Rattle.std.proofs.Common.{◌≡◌, ◌∙◌, sym, subst, ℕ, ℤ, pos, true, false, ◌+◌, ◌≤◌, List, [], ◌∷◌, ◌++◌, map, length, refl, ap, arith}
 use Rattle.std.proofs.lemmas.Int.{ints}
 use Rattle.std.proofs.lemmas.List.Elements.{All-nil}
-use Rattle.std.specs.Prelude.{◌+ℤ◌, ◌≤ℤ◌, Option, Some, None, Result, Ok, Err, not, filter, int_lt, int_le, is_some, option_to_list, unsigned_abs, All, IsTrue, IsSome}
+use Rattle.std.specs.Prelude.{◌+ℤ◌, ◌≤ℤ◌, Option, Some, None, Result, Ok, Err, not, filter, int_lt, int_le, is_some, option_to_list, unsigned_abs, All, IsSome}
 use Rattle.std.specs.Option.{option_map}
 use Rattle.std.specs.Ordering.{int_eq}
 use Rattle.std.specs.Result.{result_unwrap_or}
@@ -17,10 +17,9 @@ use Rattle.kr_calls.specs.declared.events.Event.TheVariants as events
 use Rattle.kr_defs.specs.declared.ill.Ill.{Ill}
 use Rattle.kr_defs.specs.declared.limits.TheConstants.{PLACES_END}
 use Rattle.kr_defs.specs.declared.record.Item.{Item}
-use Rattle.kr_defs.specs.Apply.{apply}
 use Rattle.kr_defs.specs.Guard.{and_then}
 use Rattle.kr_defs.specs.Image.{Image, empty}
-use Rattle.kr_defs.specs.Log.{Log, apply_all, first_ill, ill_or, tip}
+use Rattle.kr_defs.specs.Log.{Log, apply_all, first_ill, tip}
 use Rattle.kr_defs.proofs.IdLists.{same_id}
 use Rattle.kr_defs.proofs.Tests.{none_is, not_false, some_is}
 use Rattle.kr_store.specs.Images.{Images, IsAbove, last_image}
@@ -44,7 +43,7 @@ use Rattle.kr_world.proofs.Logs.{means_unless_ill, tip_written}
 use Rattle.kr_world.proofs.Queues.{IsDrained, drained, never}
 use Rattle.kr_world.proofs.StandingEngines.{same_image, tip_only, core_of, is_core}
 use Rattle.kr_engine.proofs.StandbyOutcomes.{settled_step}
-use Rattle.kr_world.proofs.EventsWithoutWrites.{answers_then, waits_then}
+use Rattle.kr_world.proofs.EventsWithoutWrites.{answers_then, held_then, waits_then}
 use Rattle.kr_engine.proofs.FirstReasons.{IsAccepted, row, unless_refused}
 
 -- ---- items that are applied, or not
@@ -229,6 +228,7 @@ module _ (e : Core) (bytes : List ℕ) (d : IsDrained e) where
           ap (λ g. g ++ option_to_list e.refusal ++ answers e.leading (end_of batch) e.held) d.none_given
           ∙ (ap (λ o. option_to_list o ++ answers e.leading (end_of batch) e.held) d.none_refused
           ∙ answers_then e s writes d k e.leading (end_of batch) after.world k.leading end_is);
+      held = held_then e s writes d k;
       fresh = ap (λ t. item_entries t batch.items) k.tip ∙ ap (item_entries (pos (tip_of s))) (sym (behind s.world.log batch.items));
     }
 

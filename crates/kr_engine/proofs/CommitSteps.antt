@@ -17,13 +17,13 @@ use Rattle.kr_world.specs.Events.{with_next_number, next_number}
 use Rattle.kr_world.specs.World.{leads_in, State, tip_of}
 use Rattle.kr_world.specs.Outputs.{answers, answers_in, is_open_in}
 use Rattle.kr_world.specs.Reasons.{bad_commit, not_leading}
-use Rattle.kr_world.proofs.EventOutcomes.{entries_accepted, outputs_accepted, refuses, stands_accepted}
+use Rattle.kr_world.proofs.EventOutcomes.{entries_accepted, outputs_accepted, refuses, stands_accepted, writes_accepted}
 use Rattle.kr_world.proofs.LogEntries.{none_behind}
 use Rattle.kr_world.proofs.Places.{Moves, is_kept, moves}
 use Rattle.kr_world.proofs.Queues.{IsDrained, drained}
 use Rattle.kr_world.proofs.SoundEngines.{stepped_sound}
 use Rattle.kr_engine.proofs.Refusals.{refused_step}
-use Rattle.kr_world.proofs.EventsWithoutWrites.{answers_then, fewer_wait, waits_then}
+use Rattle.kr_world.proofs.EventsWithoutWrites.{answers_then, fewer_wait, held_then, waits_then}
 
 -- ---- the tests say the same of the engine and of the world
 
@@ -107,6 +107,7 @@ module _ (e : Core) (epoch end : ℤ) (d : IsDrained e) where
       options = refl;
       stands = λ s writes k. stands_accepted after e.options s writes event (commits.after_commit s end) (judged_so true true leads kept s writes k) (stands s writes k);
       outputs = λ s writes k. left_then s writes k ∙ sym (outputs_accepted e e.options s writes event (commits.after_commit s end) (judged_so true true leads kept s writes k));
+      held = λ s writes k. held_then e s writes d k ∙ ap (λ ws. writes ++ ws) (sym (writes_accepted e e.options s writes event (commits.after_commit s end) (judged_so true true leads kept s writes k)));
       fresh = λ s writes k.
           ap (item_entries (pos (tip_of s))) (sym (none_behind s.world.log))
           ∙ sym (entries_accepted e e.options s writes event (commits.after_commit s end) (judged_so true true leads kept s writes k));

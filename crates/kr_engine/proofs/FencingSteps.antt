@@ -1,27 +1,17 @@
 -- What it makes of an engine that a broker is fenced.
-use Rattle.std.proofs.Common.{◌≡◌, ◌∙◌, sym, subst, ℕ, ℤ, pos, Bool, true, false, ◌+◌, ◌*◌, ◌≤◌, List, [], ◌∷◌, ◌++◌, length, refl, ap, arith, not}
+use Rattle.std.proofs.Common.{◌≡◌, ◌∙◌, sym, subst, ℕ, ℤ, pos, ◌+◌, ◌*◌, ◌≤◌, List, [], ◌∷◌, ◌++◌, length, refl, ap, arith, not}
 use Rattle.std.proofs.lemmas.List.{append_assoc, append-nil}
-use Rattle.std.specs.Prelude.{Option, Some, None, Ok, filter, int_le, unsigned_abs, IsSome, ◌&&◌, ◌+ℤ◌}
-use Rattle.std.specs.Option.{option_map_or}
+use Rattle.std.specs.Prelude.{Option, filter, int_le, unsigned_abs, IsSome, ◌+ℤ◌}
 use Rattle.std.specs.Ordering.{int_cmp, int_eq}
-use Rattle.kr_calls.specs.Deciding.{apply_records}
-use Rattle.kr_calls.specs.TakingOut.{fencing}
 use Rattle.kr_defs.specs.declared.basis.Basis.{Basis}
-use Rattle.kr_defs.specs.declared.broker.Broker.{Broker}
 use Rattle.kr_defs.specs.declared.limits.TheConstants.{PLACES_END}
 use Rattle.kr_defs.specs.declared.record.Record.{Record}
-use Rattle.kr_defs.specs.Brokers as brokers
 use Rattle.kr_defs.specs.Heartbeats as hearing
 use Rattle.kr_defs.specs.Heartbeats.{Heartbeats, leave}
-use Rattle.kr_defs.specs.Ids.{has}
-use Rattle.kr_defs.specs.Image.{Image, IsValid}
+use Rattle.kr_defs.specs.Image.{IsValid}
 use Rattle.kr_defs.specs.ImageLaws.{as_items}
 use Rattle.kr_defs.specs.Map as entries
-use Rattle.kr_defs.proofs.HeartbeatLists.{leaves}
-use Rattle.kr_defs.proofs.IdLists.{same_id}
 use Rattle.law_safety.specs.HearingLaws.{HearsOf}
-use Rattle.law_safety.proofs.BrokerTests.{by_get, passing}
-use Rattle.law_safety.proofs.HearingRequests.{fencings_keep_hearing}
 use Rattle.law_safety.proofs.SafeRequests.{valid_after}
 use Rattle.kr_world.specs.declared.writes.Write.{Write}
 use Rattle.kr_world.specs.Engine.{Core, IsEngine, writes_in_order}

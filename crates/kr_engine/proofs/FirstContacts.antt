@@ -1,22 +1,13 @@
 -- Whom a leadership begins to hear of: each broker once, and the stopping ones among the unfenced.
-use Rattle.std.proofs.Common.{◌≡◌, ◌∙◌, sym, ℤ, pos, Bool, true, false, cond, [], ◌∷◌, refl, ap, arith, not}
-use Rattle.std.proofs.lemmas.Bool.{and_from, and_parts}
+use Rattle.std.proofs.Common.{◌≡◌, ◌∙◌, sym, ℤ, pos, true, false, ap, arith, not, List}
 use Rattle.std.proofs.lemmas.Int.{ints}
-use Rattle.std.specs.Prelude.{◌+ℤ◌, ◌||◌, Option, Some, None, map, filter, int_lt, is_some, IsTrue}
-use Rattle.std.specs.declared.cmp.Ordering.TheVariants.{Less}
-use Rattle.std.specs.List.{AllByRecursion}
-use Rattle.std.specs.List.Sorted.{IsStrictlySortedBy}
-use Rattle.std.specs.Map.{keys_of}
-use Rattle.std.specs.Option.{option_map_or}
-use Rattle.std.specs.Ordering.{int_cmp, int_eq, is_eq}
-use Rattle.kr_defs.specs.declared.broker.Broker.{Broker}
+use Rattle.std.specs.Prelude.{◌+ℤ◌, ◌||◌, None, int_lt, is_some, IsTrue}
+use Rattle.std.specs.Ordering.{int_eq}
 use Rattle.kr_defs.specs.Brokers as brokers
-use Rattle.kr_defs.specs.Ids.{has, is_distinct, is_within}
-use Rattle.kr_defs.specs.Map as entries
-use Rattle.kr_defs.specs.Map.{IsMap}
-use Rattle.kr_defs.proofs.IdLists.{all_from, id_itself, same_id}
+use Rattle.kr_defs.specs.Ids.{is_distinct, is_within}
+use Rattle.kr_defs.specs.Image.{Image}
+use Rattle.kr_defs.proofs.IdLists.{same_id}
 use Rattle.kr_defs.proofs.Tests.{none_is, not_false}
-use Rattle.law_safety.proofs.BrokerTests.{Brokers, by_get, passing}
 use Rattle.kr_store.specs.Images.{AreValid, Images, IsAbove}
 use Rattle.kr_world.specs.Engine.{Core}
 use Rattle.kr_engine.specs.inner.Lead.{lead_reason}
@@ -34,7 +25,13 @@ stopping_distinct images valid = stopping_once images.tip valid.tip
 pub stopping_among : (images : Images) → AreValid images → IsTrue (is_within (brokers.stopping images.tip) (brokers.unfenced images.tip))
 stopping_among images valid = stopping_within images.tip valid.tip
 
-pub ruleset heard_of = (unfenced_distinct, stopping_distinct, stopping_among)
+-- of the image that is looked at, which is the present one
+pub seen_among : (images : Images) (seen : Image) (stopping unfenced : List ℤ) → AreValid images → seen ≡ images.tip → stopping ≡ brokers.stopping seen → unfenced ≡ brokers.unfenced seen → IsTrue (is_within stopping unfenced)
+seen_among images seen stopping unfenced valid is stops hears =
+    ap (λ (ids : List ℤ). is_within ids unfenced) (stops ∙ ap brokers.stopping is)
+    ∙ (ap (λ (ids : List ℤ). is_within (brokers.stopping images.tip) ids) (hears ∙ ap brokers.unfenced is) ∙ stopping_among images valid)
+
+pub ruleset heard_of = (unfenced_distinct, stopping_distinct, stopping_among, seen_among)
 
 -- ---- a leadership that begins one above the end
 

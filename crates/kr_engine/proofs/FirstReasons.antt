@@ -1,5 +1,5 @@
 -- An event is refused by its first reason, or accepted.
-use Rattle.std.proofs.Common.{◌≡◌, ◌∙◌, sym, Bool, true, false, cond, List, ◌++◌, refl}
+use Rattle.std.proofs.Common.{◌≡◌, ◌∙◌, sym, Bool, true, false, cond, List, ◌++◌, refl, ap}
 use Rattle.std.specs.Prelude.{Option, Some, None, Result, Ok, Err, filter}
 use Rattle.kr_calls.specs.declared.events.Event.{Event}
 use Rattle.kr_calls.specs.declared.events.Reason.{Reason}
@@ -11,7 +11,7 @@ use Rattle.kr_world.specs.Entries.{entries_added}
 use Rattle.kr_world.specs.Events.{with_next_number, outcome, at_time_of}
 use Rattle.kr_world.specs.Outputs.{is_open_in, outputs_then, writes_of}
 use Rattle.kr_world.specs.World.{State}
-use Rattle.kr_world.proofs.EventOutcomes.{entries_accepted, outputs_accepted, stands_accepted}
+use Rattle.kr_world.proofs.EventOutcomes.{entries_accepted, outputs_accepted, stands_accepted, writes_accepted}
 use Rattle.kr_world.proofs.Queues.{IsDrained}
 use Rattle.kr_engine.proofs.Refusals.{refused_step}
 
@@ -31,6 +31,7 @@ row false reason o r x rest = rest
 pub record IsAccepted (e : Core) (options : Options) (s : State) (writes : List Write) (event : Event) (core : Core) (after : State) : Type 0 where
   pub stands : IsEngine (counted_core core) (with_next_number after) (filter (is_open_in after.world) (writes ++ writes_of options (at_time_of s event) event))
   pub outputs : outputs_left core ≡ outputs_then options (at_time_of s event) writes event after
+  pub held : core.held ≡ writes ++ writes_of options (at_time_of s event) event
   pub fresh : core.fresh ≡ entries_added s event after
 
 module _ (e : Core) (event : Event) (d : IsDrained e) (core : Core) (same : core.options ≡ e.options) (state : State → State) where
@@ -41,6 +42,7 @@ module _ (e : Core) (event : Event) (d : IsDrained e) (core : Core) (same : core
     options = same;
     stands = λ s writes k. stands_accepted (counted_core core) e.options s writes event (state s) (judged s writes k) (accepted s writes k).stands;
     outputs = λ s writes k. (accepted s writes k).outputs ∙ sym (outputs_accepted e e.options s writes event (state s) (judged s writes k));
+    held = λ s writes k. (accepted s writes k).held ∙ ap (λ ws. writes ++ ws) (sym (writes_accepted e e.options s writes event (state s) (judged s writes k)));
     fresh = λ s writes k. (accepted s writes k).fresh ∙ sym (entries_accepted e e.options s writes event (state s) (judged s writes k));
   }
 

@@ -18,7 +18,7 @@ use Rattle.kr_world.proofs.EventOutcomes.{outputs_accepted, stands_accepted}
 use Rattle.kr_world.proofs.LogEntries.{none_behind}
 use Rattle.kr_world.proofs.KeptImages.{first_found}
 use Rattle.kr_world.proofs.Queues.{IsDrained, drained}
-use Rattle.kr_world.proofs.EventsWithoutWrites.{passes, answers_then}
+use Rattle.kr_world.proofs.EventsWithoutWrites.{answers_then, held_then, passes}
 
 module _ (e : Core) (d : IsDrained e) where
   abbrev after : Core
@@ -44,6 +44,7 @@ module _ (e : Core) (d : IsDrained e) where
     options = refl;
     stands = λ s writes k. stands_accepted after e.options s writes events.Image s refl (passes e events.Image after.given e.refusal d s writes k);
     outputs = λ s writes k. left_then s writes k ∙ sym (outputs_accepted e e.options s writes events.Image s refl);
+    held = λ s writes k. held_then e s writes d k;
     fresh = λ s writes k. ap (item_entries (pos (tip_of s))) (sym (none_behind s.world.log));
   }
 

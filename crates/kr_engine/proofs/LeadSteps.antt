@@ -36,7 +36,7 @@ use Rattle.kr_world.proofs.Logs.{tip_written}
 use Rattle.kr_world.proofs.KeptImages.{none_open}
 use Rattle.kr_world.proofs.Queues.{IsDrained, drained}
 use Rattle.kr_world.proofs.StandingEngines.{same_image, tip_only, core_of, is_core}
-use Rattle.kr_world.proofs.EventsWithoutWrites.{answers_then, timed_state, waits_then}
+use Rattle.kr_world.proofs.EventsWithoutWrites.{answers_then, held_then, timed_state, waits_then}
 use Rattle.kr_engine.proofs.FirstReasons.{IsAccepted, row, step_by, unless_refused}
 use Rattle.kr_world.proofs.Places.{near}
 
@@ -143,6 +143,7 @@ module _ (e : Core) (epoch next now : ℤ) (d : IsDrained e) where
       outputs =
           ap (λ g. g ++ option_to_list e.refusal ++ answers (Some epoch) e.committed e.held) d.none_given
           ∙ (ap (λ o. option_to_list o ++ answers (Some epoch) e.committed e.held) d.none_refused ∙ left_so);
+      held = held_then e s writes d k;
       fresh = ap (item_entries (pos (tip_of s))) (sym (none_behind log));
     }
 
@@ -202,6 +203,7 @@ module _ (e : Core) (epoch next now : ℤ) (d : IsDrained e) where
             ap (λ g. g ++ option_to_list e.refusal ++ answers (Some epoch) e.committed e.held) d.none_given
             ∙ (ap (λ o. option_to_list o ++ answers (Some epoch) e.committed e.held) d.none_refused
             ∙ answers_then e s writes d k (Some epoch) e.committed (state_by false).world refl k.committed);
+        held = held_then e s writes d k;
         fresh = ap (λ t. item_entries t (items.Control ∷ [])) k.tip ∙ ap (item_entries (pos (tip_of s))) (sym (behind log (items.Control ∷ [])));
       }
 

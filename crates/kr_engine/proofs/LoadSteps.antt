@@ -29,7 +29,7 @@ use Rattle.kr_engine.proofs.LeadSteps.{no_writes, none_row}
 use Rattle.kr_engine.proofs.BatchSteps.{leads_not}
 use Rattle.kr_world.proofs.Queues.{IsDrained, drained}
 use Rattle.kr_engine.proofs.StandbyOutcomes.{settled_step}
-use Rattle.kr_world.proofs.EventsWithoutWrites.{answers_then, waits_then}
+use Rattle.kr_world.proofs.EventsWithoutWrites.{answers_then, held_then, waits_then}
 use Rattle.kr_engine.proofs.FirstReasons.{IsAccepted, row, unless_refused}
 use Rattle.kr_world.proofs.StandingEngines.{core_of, is_core}
 
@@ -137,6 +137,7 @@ module _ (e : Core) (bytes : List ℕ) (d : IsDrained e) where
           ap (λ g. g ++ option_to_list e.refusal ++ answers e.leading offset e.held) d.none_given
           ∙ (ap (λ o. option_to_list o ++ answers e.leading offset e.held) d.none_refused
           ∙ answers_then e s writes d k e.leading offset after.world k.leading is);
+      held = held_then e s writes d k;
       fresh = ap (λ z. entries.Load z (records_of image) ∷ []) is;
     }
 

@@ -1,5 +1,5 @@
 -- What a lost leadership makes of an engine.
-use Rattle.std.proofs.Common.{◌≡◌, ◌∙◌, sym, subst, ℕ, ℤ, pos, Bool, true, false, cond, ◌≤◌, ◌-◌, List, [], ◌∷◌, ◌++◌, map, refl, ap, arith}
+use Rattle.std.proofs.Common.{◌≡◌, ◌∙◌, sym, subst, ℕ, ℤ, pos, Bool, true, false, cond, ◌≤◌, List, [], ◌∷◌, ◌++◌, map, refl, ap, arith}
 use Rattle.std.proofs.lemmas.List.Elements.{All-nil}
 use Rattle.std.specs.Prelude.{Option, Some, None, Result, Ok, Err, not, filter, find, int_lt, unwrap_or, option_to_list, int_le, All}
 use Rattle.std.specs.Option.{option_map}
@@ -23,13 +23,13 @@ use Rattle.kr_world.specs.World.{leads_in, State, seen_at, tip_of}
 use Rattle.kr_world.specs.Outputs.{answers, answers_in, is_open_in}
 use Rattle.kr_world.specs.Reasons.{not_leading}
 use Rattle.kr_engine.proofs.CommitSteps.{same_leading}
-use Rattle.kr_world.proofs.EventOutcomes.{entries_accepted, outputs_accepted, refuses, stands_accepted}
+use Rattle.kr_world.proofs.EventOutcomes.{entries_accepted, outputs_accepted, refuses, stands_accepted, writes_accepted}
 use Rattle.kr_world.proofs.LogEntries.{cut_behind}
 use Rattle.kr_world.proofs.Logs.{cut_below, cut_tip}
 use Rattle.kr_world.proofs.Queues.{IsDrained, drained, never}
 use Rattle.kr_world.proofs.SoundEngines.{stepped_sound}
 use Rattle.kr_engine.proofs.Refusals.{refused_step}
-use Rattle.kr_world.proofs.EventsWithoutWrites.{answers_then, waits_then}
+use Rattle.kr_world.proofs.EventsWithoutWrites.{answers_then, held_then, waits_then}
 use Rattle.kr_world.proofs.KeptImages.{first_found, first_left, none_open, not_higher, seen_below, under}
 
 -- ---- the step
@@ -130,6 +130,7 @@ module _ (e : Core) (epoch : ℤ) (d : IsDrained e) where
     options = refl;
     stands = λ s writes k. stands_accepted after e.options s writes event (after_lost s) (judged_so true leads s writes k) (stands s writes k);
     outputs = λ s writes k. left_then s writes k ∙ sym (outputs_accepted e e.options s writes event (after_lost s) (judged_so true leads s writes k));
+    held = λ s writes k. held_then e s writes d k ∙ ap (λ ws. writes ++ ws) (sym (writes_accepted e e.options s writes event (after_lost s) (judged_so true leads s writes k)));
     fresh = λ s writes k.
         ap (item_entries (pos (tip_of s))) (sym (cut_behind s.world.log s.world.committed))
         ∙ sym (entries_accepted e e.options s writes event (after_lost s) (judged_so true leads s writes k));

@@ -1,10 +1,10 @@
 -- An engine that stands for past events is ready for the next one.
-use Rattle.std.proofs.Common.{◌≡◌, ◌∙◌, sym, subst, ℕ, ℤ, pos, negsuc, Bool, true, false, cond, ◌≤◌, List, [], ◌∷◌, refl, ap, arith}
+use Rattle.std.proofs.Common.{◌≡◌, ◌∙◌, sym, subst, ℕ, ℤ, pos, negsuc, Bool, true, false, cond, ◌≤◌, List, [], refl, ap, arith}
 use Rattle.std.proofs.lemmas.Bool.{and_parts}
 use Rattle.std.proofs.lemmas.Int.{ints}
 use Rattle.std.specs.Prelude.{◌≤ℤ◌, Option, Some, None, IsSome, int_lt, int_le, not, unsigned_abs}
 use Rattle.std.specs.Int.{int_max}
-use Rattle.std.specs.List.{last_or, list_all}
+use Rattle.std.specs.List.{last_or}
 use Rattle.std.specs.Option.{option_map_or}
 use Rattle.std.specs.Ordering.{int_cmp}
 use Rattle.kr_defs.specs.declared.basis.Contact.{Contact}
@@ -16,7 +16,6 @@ use Rattle.kr_defs.specs.Heartbeats.{Heartbeats}
 use Rattle.kr_defs.specs.Ids.{has}
 use Rattle.kr_defs.specs.Image.{Image, IsValid}
 use Rattle.kr_defs.specs.Map as entries
-use Rattle.kr_defs.proofs.Tests.{both}
 use Rattle.kr_calls.specs.NextBasis.{broker_is_stopping}
 use Rattle.kr_defs.proofs.HeartbeatLists.{le_through}
 use Rattle.law_safety.specs.HearingLaws.{HearsOf}

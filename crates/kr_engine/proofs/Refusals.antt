@@ -11,9 +11,9 @@ use Rattle.kr_world.specs.Engine.{Core, IsEngine, IsStep, outputs_left}
 use Rattle.kr_world.specs.Events.{next_number, outcome, at_time_of}
 use Rattle.kr_world.specs.Outputs.{answers}
 use Rattle.kr_world.specs.World.{State}
-use Rattle.kr_world.proofs.EventOutcomes.{entries_refused, outputs_refused, stands_refused}
+use Rattle.kr_world.proofs.EventOutcomes.{entries_refused, outputs_refused, stands_refused, writes_refused}
 use Rattle.kr_world.proofs.Queues.{IsDrained}
-use Rattle.kr_world.proofs.EventsWithoutWrites.{passes}
+use Rattle.kr_world.proofs.EventsWithoutWrites.{held_then, passes}
 
 abbrev pub after : Core → Event → Reason → Core
 after e event reason = counted_core (refused_core (timed_core e event) reason)
@@ -32,6 +32,7 @@ module _ (e : Core) (event : Event) (reason : Reason) (d : IsDrained e) (is : (s
   refused_step = record {
     options = refl;
     stands = λ s writes k. stands_refused (after e event reason) e.options s writes event reason (is s writes k) (passes e event e.given (Some (refusal e.count)) d s writes k);
+    held = λ s writes k. held_then e s writes d k ∙ ap (λ ws. writes ++ ws) (sym (writes_refused e e.options s writes event reason (is s writes k)));
     fresh = λ s writes k. sym (entries_refused e e.options s writes event reason (is s writes k));
     outputs = λ s writes k. one_left ∙ (ap (λ count. refusal count ∷ []) k.count ∙ sym (outputs_refused e e.options s writes event reason (is s writes k)));
   }

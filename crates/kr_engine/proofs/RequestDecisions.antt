@@ -1,7 +1,7 @@
 -- What is decided of a write, and what it makes of an engine.
 use Rattle.std.proofs.Common.{◌≡◌, ◌∙◌, sym, subst, ℕ, ℤ, pos, negsuc, true, false, cond, ◌-◌, ◌≤◌, List, [], ◌∷◌, ◌++◌, length, refl, ap, arith}
 use Rattle.std.proofs.lemmas.Int.{ints}
-use Rattle.std.specs.Prelude.{◌==◌, ◌≤ℤ◌, Option, Some, Result, Ok, Err, IfOk, OnOk, IsTrue, int_lt, slice_get, unwrap_or}
+use Rattle.std.specs.Prelude.{◌==◌, ◌≤ℤ◌, Option, Some, Result, Ok, Err, IfOk, OnOk, IsTrue, int_lt, slice_get}
 use Rattle.std.specs.Option.{option_map}
 use Rattle.kr_calls.specs.declared.errors.TheConstants.{NOT_CONTROLLER}
 use Rattle.kr_calls.specs.declared.calls.Call.{Call}
@@ -15,22 +15,24 @@ use Rattle.kr_calls.proofs.DecisionMeanings.{requests_stand}
 use Rattle.kr_batch.specs.BatchBytes.{batch_bytes}
 use Rattle.kr_calls.specs.declared.events.Output.TheVariants as given
 use Rattle.kr_calls.specs.Deciding.{apply_records}
-use Rattle.kr_defs.specs.declared.limits.TheConstants.{PLACES_END}
+use Rattle.kr_defs.specs.declared.basis.Basis.{Basis}
+use Rattle.kr_defs.specs.declared.limits.TheConstants.{MOST_RECORDS, PLACES_END}
 use Rattle.kr_defs.specs.declared.options.Options.{Options}
 use Rattle.kr_defs.specs.declared.record.Record.{Record}
 use Rattle.kr_defs.specs.Heartbeats.{Heartbeats, heard, stopping_brokers}
 use Rattle.kr_defs.specs.Ids.{has}
+use Rattle.kr_defs.proofs.Tests.{some_is}
 use Rattle.kr_defs.specs.ImageLaws.{as_items}
-use Rattle.kr_defs.specs.Image.{Image, empty}
+use Rattle.kr_defs.specs.Image.{Image}
 use Rattle.law_fitting.specs.Fitting.{FitsBatch}
 use Rattle.law_fitting.proofs.FittingRecords.{requests_fit}
-use Rattle.kr_rules.specs.Progress.{base_of}
-use Rattle.kr_store.specs.Images.{Images, IsAbove, last_kept, marked}
+use Rattle.kr_store.specs.Images.{Images, IsAbove, last_image, last_kept, marked}
 use Rattle.kr_world.specs.Entries.{item_entries}
+use Rattle.kr_world.specs.declared.writes.Decided.{Decided}
 use Rattle.kr_world.specs.declared.writes.Write.{Write}
 use Rattle.kr_world.specs.Engine.{Core, basis_of}
 use Rattle.kr_engine.specs.inner.Ready.{IsReady}
-use Rattle.kr_engine.specs.inner.Request.{Decides, TakesWrite, decided_by, write_with}
+use Rattle.kr_engine.specs.inner.Request.{Decides, TakesWrite, decided_at, decided_by, write_with}
 use Rattle.kr_engine.specs.inner.Append.{core_after_append, batch_at, place_behind}
 use Rattle.kr_engine.proofs.AppendSteps.{writes_by}
 
@@ -39,32 +41,34 @@ use Rattle.kr_engine.proofs.AppendSteps.{writes_by}
 abbrev last : List (ℤ × Image) → Option (ℤ × Image)
 last kept = slice_get kept (length kept - 1)
 
-pub base_is : (before after : Images) (place : ℤ) → last_kept before ≡ Some (place, before.tip) → after.kept ≡ before.kept → base_of after ≡ before.tip
-base_is before after place is kept =
-    ap (λ (ks : List (ℤ × Image)). unwrap_or (option_map (λ (k : ℤ × Image). k.1) (last ks)) empty) kept
-    ∙ ap (λ (o : Option (ℤ × Image)). unwrap_or (option_map (λ (k : ℤ × Image). k.1) o) empty) is
+module _ (before after : Images) (place : ℤ) (is : last_kept before ≡ Some (place, before.tip)) (kept : after.kept ≡ before.kept) where
+  pub last_place : option_map (λ (k : ℤ × Image). k.0) (last_kept after) ≡ Some place
+  last_place = ap (option_map (λ (k : ℤ × Image). k.0)) (ap last kept ∙ is)
 
-pub last_is : (before after : Images) (place : ℤ) → last_kept before ≡ Some (place, before.tip) → after.kept ≡ before.kept → last_kept after ≡ Some (place, base_of after)
-last_is before after place is kept = ap last kept ∙ (is ∙ ap (λ (i : Image). Some (place, i)) (sym (base_is before after place is kept)))
+  module _ (seen : Image) (seen_is : last_image after ≡ Some seen) where
+    pub seen_before : seen ≡ before.tip
+    seen_before = some_is seen before.tip (sym seen_is ∙ ap (option_map (λ (k : ℤ × Image). k.1)) (ap last kept ∙ is))
 
-pub among_base : (before after : Images) (place : ℤ) (h : Heartbeats) → last_kept before ≡ Some (place, before.tip) → after.kept ≡ before.kept
-    → ((id : ℤ) → IsTrue (has (stopping_brokers h) id) → IsTrue (broker_is_stopping before.tip id)) → (id : ℤ) → IsTrue (has (stopping_brokers h) id) → IsTrue (broker_is_stopping (base_of after) id)
-among_base before after place h is kept among id there = ap (λ (i : Image). broker_is_stopping i id) (base_is before after place is kept) ∙ among id there
+    pub among_seen : (h : Heartbeats) → ((id : ℤ) → IsTrue (has (stopping_brokers h) id) → IsTrue (broker_is_stopping before.tip id)) → (id : ℤ) → IsTrue (has (stopping_brokers h) id) → IsTrue (broker_is_stopping seen id)
+    among_seen h among id there = ap (λ (i : Image). broker_is_stopping i id) seen_before ∙ among id there
 
-pub heard_so : (options : Options) (before after : Images) (time place : ℤ) (h : Heartbeats) (request : Request) (reply : Reply) → last_kept before ≡ Some (place, before.tip) → after.kept ≡ before.kept
-    → after.tip ≡ (decision_of options time h before.tip place request).image → reply ≡ (decision_of options time h before.tip place request).reply
-    → heartbeats_after h (base_of after) after.tip time place request reply ≡ (decision_of options time h before.tip place request).heartbeats
-heard_so options before after time place h request reply is kept image says =
-    ap (λ (i : Image). heartbeats_after h i after.tip time place request reply) (base_is before after place is kept)
-    ∙ (ap (λ (i : Image). heartbeats_after h before.tip i time place request reply) image
-    ∙ ap (heartbeats_after h before.tip (decision_of options time h before.tip place request).image time place request) says)
+    pub heard_so : (options : Options) (time : ℤ) (h : Heartbeats) (request : Request) (reply : Reply) (now : Image) → now ≡ after.tip
+        → after.tip ≡ (decision_of options time h before.tip place request).image → reply ≡ (decision_of options time h before.tip place request).reply
+        → heartbeats_after h seen now time place request reply ≡ (decision_of options time h before.tip place request).heartbeats
+    heard_so options time h request reply now now_is image says =
+        ap (λ (i : Image). heartbeats_after h i now time place request reply) seen_before
+        ∙ (ap (λ (i : Image). heartbeats_after h before.tip i time place request reply) (now_is ∙ image)
+        ∙ ap (heartbeats_after h before.tip (decision_of options time h before.tip place request).image time place request) says)
 
-pub ruleset bases = (last_is, among_base, heard_so)
+pub ruleset bases = (last_place, among_seen, heard_so)
 
 -- ---- the engine
 
 pub write_fits : (before after : Core) (request : Request) (out : Effect) → Decides before after request out → FitsBatch out.records
 write_fits before after request out d = subst FitsBatch (sym d.records) (requests_fit before.options (basis_of before) before.images.tip before.tip request)
+
+pub write_few : (before after : Core) (request : Request) (out : Effect) → Decides before after request out → length out.records ≤ MOST_RECORDS
+write_few before after request out d = (write_fits before after request out d).few
 
 pub write_above : (before after : Core) (request : Request) (out : Effect) → Decides before after request out → IsReady before → (place : ℤ) → IsTrue (int_lt after.tip place) → IsAbove after.images.kept place
 write_above before after request out d r place high =
@@ -133,11 +137,22 @@ module _ (before between with_appended' after : Core) (client : ℕ) (call : Cal
   heard_same : with_appended'.heard ≡ (decided_by before call.request).heartbeats
   heard_same = ap (λ (a : Core). a.heard) is ∙ ((append_keeps between out.records).heard ∙ ap (λ (a : Core). a.heard) d.same)
 
-  abbrev write_of : Option ℤ → ℤ → Reply → Reply → Write
-  write_of leading need reply refusal = write_with client call leading need reply refusal
+  abbrev write_of : Option ℤ → ℤ → Reply → Reply → Decided → Write
+  write_of leading need reply refusal decided = write_with client call leading need reply refusal decided
 
-  pub takes_write : refusal ≡ refuse call.request NOT_CONTROLLER → after ≡ record with_appended' { held = with_appended'.held ++ write_of with_appended'.leading with_appended'.tip out.reply refusal ∷ [] } → TakesWrite before after client call
-  takes_write refuses held =
+  abbrev at : ℤ → List Record → Basis → Decided
+  at place records basis = record { place = place; count = length records; basis = basis }
+
+  decided_so : (decided : Decided) (basis : Basis) → basis ≡ basis_of before → decided ≡ at between.tip out.records basis → decided ≡ decided_at before call.request
+  decided_so decided basis basis_is is =
+      is
+      ∙ (ap (λ t. at t out.records basis) (ap (λ (a : Core). a.tip) d.same)
+      ∙ (ap (λ rs. at before.tip rs basis) d.records
+      ∙ ap (at before.tip (decided_by before call.request).records) basis_is))
+
+  pub takes_write : (decided : Decided) (basis : Basis) → refusal ≡ refuse call.request NOT_CONTROLLER → basis ≡ basis_of before → decided ≡ record { place = between.tip; count = length out.records; basis = basis }
+      → after ≡ record with_appended' { held = with_appended'.held ++ write_of with_appended'.leading with_appended'.tip out.reply refusal decided ∷ [] } → TakesWrite before after client call
+  takes_write decided basis refuses basis_is decided_is held =
       let records = (decided_by before call.request).records in
       let fits = requests_fit before.options (basis_of before) before.images.tip before.tip call.request in
       record {
@@ -150,11 +165,12 @@ module _ (before between with_appended' after : Core) (client : ℕ) (call : Cal
         heard = ap (λ (a : Core). a.heard) held ∙ heard_same;
         held =
             ap (λ (a : Core). a.held) held
-            ∙ (ap (λ hs. hs ++ write_of with_appended'.leading with_appended'.tip out.reply refusal ∷ []) held_same
-            ∙ (ap (λ l. before.held ++ write_of l with_appended'.tip out.reply refusal ∷ []) leading_same
-            ∙ (ap (λ r. before.held ++ write_of before.leading with_appended'.tip r refusal ∷ []) d.reply
-            ∙ (ap (λ r. before.held ++ write_of before.leading with_appended'.tip (decided_by before call.request).reply r ∷ []) refuses
-            ∙ ap (λ t. before.held ++ write_of before.leading t (decided_by before call.request).reply (refuse call.request NOT_CONTROLLER) ∷ []) (sym (ap (λ (a : Core). a.tip) held))))));
+            ∙ (ap (λ hs. hs ++ write_of with_appended'.leading with_appended'.tip out.reply refusal decided ∷ []) held_same
+            ∙ (ap (λ l. before.held ++ write_of l with_appended'.tip out.reply refusal decided ∷ []) leading_same
+            ∙ (ap (λ r. before.held ++ write_of before.leading with_appended'.tip r refusal decided ∷ []) d.reply
+            ∙ (ap (λ r. before.held ++ write_of before.leading with_appended'.tip (decided_by before call.request).reply r decided ∷ []) refuses
+            ∙ (ap (λ (x : Decided). before.held ++ write_of before.leading with_appended'.tip (decided_by before call.request).reply (refuse call.request NOT_CONTROLLER) x ∷ []) (decided_so decided basis basis_is decided_is)
+            ∙ ap (λ t. before.held ++ write_of before.leading t (decided_by before call.request).reply (refuse call.request NOT_CONTROLLER) (decided_at before call.request) ∷ []) (sym (ap (λ (a : Core). a.tip) held)))))));
       }
 
-pub ruleset takes = (write_fits, write_above, write_low, takes_write)
+pub ruleset takes = (write_fits, write_few, write_above, write_low, takes_write)

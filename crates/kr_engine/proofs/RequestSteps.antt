@@ -34,6 +34,7 @@ use Rattle.kr_defs.proofs.HeartbeatLists.{le_itself}
 use Rattle.law_safety.specs.HearingLaws.{HearsOf}
 use Rattle.law_safety.proofs.HearingRequests.{requests_keep_hearing}
 use Rattle.kr_store.specs.Images.{AreValid}
+use Rattle.kr_world.specs.declared.writes.Decided.{Decided}
 use Rattle.kr_world.specs.declared.writes.Write.{Write}
 use Rattle.kr_engine.specs.inner.Changes.{counted_core, timed_core}
 use Rattle.kr_world.specs.Engine.{Core, IsEngine, IsStep, writes_in_order, basis_of, outputs_left}
@@ -45,11 +46,11 @@ use Rattle.kr_world.specs.Request.{after_ask, after_write, decision, is_decided}
 use Rattle.kr_world.specs.World as worlds
 use Rattle.kr_world.specs.World.{State, image_of_end, is_far, tip_of, with_records}
 use Rattle.kr_engine.specs.inner.Append.{append_output}
-use Rattle.kr_engine.specs.inner.Request.{is_led_write, SettlesRequest, TakesCall, TakesWrite, request_reason, decided_by, core_with_output, reply_at_once, waiting_write, write_with}
+use Rattle.kr_engine.specs.inner.Request.{is_led_write, SettlesRequest, TakesCall, TakesWrite, request_reason, decided_at, decided_by, core_with_output, reply_at_once, waiting_write, write_with}
 use Rattle.kr_world.proofs.LogEntries.{Gains, batch_written, gained, gains_none}
 use Rattle.kr_engine.proofs.AppendSteps.{IsLonger, engine_behind, longer_by}
 use Rattle.kr_world.proofs.ContactTimes.{AreInTime, decided_in_time}
-use Rattle.kr_world.proofs.EventsWithoutWrites.{answers_then, passes}
+use Rattle.kr_world.proofs.EventsWithoutWrites.{answers_then, held_then, passes}
 use Rattle.kr_engine.proofs.FirstReasons.{IsAccepted, accepted_step, row, unless_refused}
 use Rattle.kr_world.proofs.StandingEngines.{is_core, same_image}
 use Rattle.kr_world.proofs.WriteOrders.{reached_later, all_behind, all_open, all_reached, order_more}
@@ -96,18 +97,26 @@ module _ (e after : Core) (client : ℕ) (call : Call) (w : TakesWrite e after c
   image_is : after.images.tip ≡ made.image
   image_is = same_ok (apply_records e.images.tip made.records) after.images.tip made.image w.writes.meaning (requests_stand e.options e.time e.heard e.images.tip e.tip request)
 
+  -- where it is decided
+  abbrev decided_in : Image → Decided
+  decided_in image = record { place = pos (tip_of s); count = length (decide e.options image s.basis (pos (tip_of s)) request).records; basis = s.basis }
+
+  decided_is : decided_at e request ≡ decided_in (worlds.image_of_tip s)
+  decided_is = ap (λ (c : Core). decided_at c request) (is_core e s writes k) ∙ ap decided_in (sym (same_image e s writes k))
+
   -- the writes that wait, and the new one
   write_is : waiting_write e client call after.tip ≡ write_of e.options s client call
   write_is =
-      ap (λ l. write_with client call l after.tip made.reply refusal) k.leading
-      ∙ (ap (λ z. write_with client call s.world.leading z made.reply refusal) (longer.tip_is ∙ ap (λ d. pos (tip_of (state_by d))) same_decision)
-      ∙ (ap (λ (d : Decision). write_with client call s.world.leading (pos (tip_of (after_write e.options s request))) d.reply refusal) same_decision
-      ∙ ap (λ b. write_with client call s.world.leading (pos (tip_of (cond b (after_write e.options s request) s))) (decision e.options s request).reply refusal) (sym takes)))
+      ap (λ l. write_with client call l after.tip made.reply refusal (decided_at e request)) k.leading
+      ∙ (ap (λ z. write_with client call s.world.leading z made.reply refusal (decided_at e request)) (longer.tip_is ∙ ap (λ d. pos (tip_of (state_by d))) same_decision)
+      ∙ (ap (λ (d : Decision). write_with client call s.world.leading (pos (tip_of (after_write e.options s request))) d.reply refusal (decided_at e request)) same_decision
+      ∙ (ap (write_with client call s.world.leading (pos (tip_of (after_write e.options s request))) (decision e.options s request).reply refusal) decided_is
+      ∙ ap (λ b. write_with client call s.world.leading (pos (tip_of (cond b (after_write e.options s request) s))) (decision e.options s request).reply refusal (decided_in (worlds.image_of_tip s))) (sym takes))))
 
   abbrev last : Write
   last = write_of e.options s client call
 
-  held_is : after.held ≡ writes ++ last ∷ []
+  pub held_is : after.held ≡ writes ++ last ∷ []
   held_is = w.held ∙ (ap (λ hs. hs ++ waiting_write e client call after.tip ∷ []) (sym all_wait ∙ k.waits) ∙ ap (λ (x : Write). writes ++ x ∷ []) write_is)
 
   leading_is : after.leading ≡ (state_by made).world.leading
@@ -266,6 +275,7 @@ module _ (e : Core) (client : ℕ) (now : ℤ) (ask : Ask) (d : IsDrained e) whe
       stands = subst (λ (ws : List Write). IsEngine (counted_core (core_with_output before output)) (with_next_number (at_time_of s event)) (filter (is_open_in s.world) (writes ++ ws))) (sym has.writes_none)
           (passes e event (e.given ++ output ∷ []) e.refusal d s writes k);
       outputs = reply_left;
+      held = held_then e s writes d k ∙ ap (λ ws. writes ++ ws) (sym has.writes_none);
       fresh = gained [] s.world.log s.world.log (gains_none [] s.world.log);
     }
 
@@ -351,6 +361,7 @@ module _ (e : Core) (client : ℕ) (now : ℤ) (call : Call) (d : IsDrained e) w
         stands = subst (λ (ws : List Write). IsEngine (counted_core core) (with_next_number behind_write) (filter (is_open_in behind_write.world) (writes ++ ws))) one_write
             (counted_engine core behind_write (filter (is_open_in behind_write.world) (writes ++ write_of e.options before_write client call ∷ [])) write_engine);
         outputs = all_left;
+        held = held_is noted core client call w before_write writes (timed_engine e asked s writes k) d.all_wait takes_so ∙ ap (λ (ws : List Write). writes ++ ws) one_write;
         fresh = gained core.fresh s.world.log behind_write.world.log (write_gains noted core client call w before_write writes (timed_engine e asked s writes k) d.all_wait takes_so);
       }
 

@@ -27,6 +27,7 @@ module _ (e : Core) (event : Event) (d : IsDrained e) where
         options = refl;
         stands = λ s writes k. step.stands s writes (same_images e images s writes kept tip k);
         outputs = λ s writes k. step.outputs s writes (same_images e images s writes kept tip k);
+        held = λ s writes k. step.held s writes (same_images e images s writes kept tip k);
         fresh = λ s writes k. step.fresh s writes (same_images e images s writes kept tip k);
       }
 

@@ -1,5 +1,5 @@
 -- What a tick makes of an engine.
-use Rattle.std.proofs.Common.{◌≡◌, ◌∙◌, sym, subst, ℕ, ℤ, pos, Bool, true, false, ◌+◌, ◌≤◌, List, [], ◌∷◌, ◌++◌, take, length, refl, ap, arith, not}
+use Rattle.std.proofs.Common.{◌≡◌, ◌∙◌, sym, subst, ℕ, ℤ, pos, Bool, true, false, ◌≤◌, List, [], ◌∷◌, ◌++◌, take, length, refl, ap, arith, not}
 use Rattle.std.proofs.lemmas.List.{append-nil, length-map, length-take}
 use Rattle.std.proofs.lemmas.List.Sums.{length-filter, count_by-le-length}
 use Rattle.std.specs.Prelude.{◌&&◌, ◌-ℤ◌, Option, Some, None, Ok, filter, int_le, take_while, IsSome, is_some, option_to_list}
@@ -32,7 +32,7 @@ use Rattle.kr_engine.proofs.FencingSteps.{AllFenced, all_fenced, stays_itself}
 use Rattle.kr_world.proofs.Queues.{IsDrained, drained}
 use Rattle.kr_world.proofs.StandingEngines.{same_image, core_of, is_core}
 use Rattle.kr_engine.proofs.Refusals.{refused_step}
-use Rattle.kr_world.proofs.EventsWithoutWrites.{counted_state, timed_state}
+use Rattle.kr_world.proofs.EventsWithoutWrites.{counted_state, held_then, timed_state}
 use Rattle.kr_engine.proofs.FirstReasons.{IsAccepted, accepted_step, row, unless_refused}
 use Rattle.kr_world.proofs.Places.{near_enough}
 
@@ -132,7 +132,7 @@ module _ (e : Core) (now : ℤ) (d : IsDrained e) where
     none_due =
         ap (λ l. answers l core.committed core.held) f.stands.leading
         ∙ (ap (λ c. answers after.world.leading c core.held) f.stands.committed
-        ∙ ap (answers_in after.world) (f.stays.held ∙ (sym d.all_wait ∙ (k.waits ∙ sym (append-nil writes)))))
+        ∙ ap (answers_in after.world) (f.stays.held ∙ held_then e s writes d k))
 
     accepted_by : IsAccepted e e.options s writes event core after
     accepted_by = record {
@@ -142,6 +142,7 @@ module _ (e : Core) (now : ℤ) (d : IsDrained e) where
           ∙ (ap (λ o. (append_fencings e.options (at_time_of s event) ids ++ option_to_list o) ++ answers core.leading core.committed core.held) (f.stays.refusal ∙ d.none_refused)
           ∙ ap (λ due. (append_fencings e.options (at_time_of s event) ids ++ []) ++ due) none_due
           ∙ ap (λ g. g ++ answers_in after.world (writes ++ [])) (right_nil (append_fencings e.options (at_time_of s event) ids)));
+      held = f.stays.held ∙ held_then e s writes d k;
       fresh = gained core.fresh s.world.log after.world.log f.gains;
     }
       where

@@ -17,6 +17,7 @@ use kr_calls::{Effect, Request};
 use kr_defs::Options;
 use kr_image::ImageStore;
 use kr_sessions::Sessions;
+use kr_store::Seen;
 use std::alloc::Global;
 use std::sync::ledger::Ledger;
 
@@ -45,7 +46,17 @@ fn decide_write<L: Ledger>(
     sessions.reserve()?;
     let context = context_of(options, sessions, time, tip);
     let effect = kr_handlers::decide(alloc, store, &context, request, steps)?;
-    hear(sessions, store, *time, *tip, request, &effect.reply);
+    let before = Seen::last(store, tip);
+    let after = Seen::tip(store);
+    hear(
+        sessions,
+        &before,
+        &after,
+        *time,
+        *tip,
+        request,
+        &effect.reply,
+    );
     Ok(effect)
 }
 

@@ -19,6 +19,7 @@ use kr_world::Write;
 use std::alloc::Global;
 use std::collections::VecDeque;
 use std::marker::Model;
+use std::mem;
 
 /// A controller that takes one event after the other.
 pub struct Engine {
@@ -157,6 +158,16 @@ impl Engine {
         ensures { result.now ≡ self.now.fresh }
     {
         &self.fresh
+    }
+
+    /// What the last event added to the log, as `fresh` has it, which is handed out with this and told no more.
+    #[tactic(auto, using(kr_world::proofs::SoundEngines::taken_sound))]
+    pub fn take_fresh(&mut self) -> Vec<Entry>
+        ensures items { result.items ≡ self.old.fresh }
+        ensures taken { self.new ≡ record self.old { fresh = [] } }
+        ensures sound { IsSound self.old → IsSound self.new }
+    {
+        mem::replace(&mut self.fresh, Vec::new(self.alloc))
     }
 
     /// A copy of what decisions rest on besides the image.

@@ -19,7 +19,7 @@ use crate::reasons::{already_leading, bad_next, exhausted, old_epoch};
 use kr_base::NoMemory;
 use kr_calls::Reason;
 use kr_defs::{Broker, Ids, Item};
-use kr_store::Store;
+use kr_store::{Seen, Store};
 use kr_walks::{BrokerTest, brokers_where};
 use std::alloc::Global;
 
@@ -61,16 +61,16 @@ impl BrokerTest for StoppingOnes {
     }
 }
 
-fn unfenced_brokers<S: Store>(alloc: Global, store: &S) -> Result<Ids, NoMemory>
-    ensures { IfOk result (λ ids. ids ≡ brokers.unfenced (S.images store.now).tip) }
+fn unfenced_brokers<S: Store>(alloc: Global, seen: &Seen<S>) -> Result<Ids, NoMemory>
+    ensures { IfOk result (λ ids. ids ≡ brokers.unfenced seen.now) }
 {
-    brokers_where(alloc, store, &UnfencedOnes)
+    brokers_where(alloc, seen, &UnfencedOnes)
 }
 
-fn stopping_brokers<S: Store>(alloc: Global, store: &S) -> Result<Ids, NoMemory>
-    ensures { IfOk result (λ ids. ids ≡ brokers.stopping (S.images store.now).tip) }
+fn stopping_brokers<S: Store>(alloc: Global, seen: &Seen<S>) -> Result<Ids, NoMemory>
+    ensures { IfOk result (λ ids. ids ≡ brokers.stopping seen.now) }
 {
-    brokers_where(alloc, store, &StoppingOnes)
+    brokers_where(alloc, seen, &StoppingOnes)
 }
 
 impl Engine {
@@ -112,9 +112,10 @@ impl Engine {
     fn hear_of_all(&mut self, next: &i64) -> Result<(), NoMemory>
         ensures { OnOk result (self.new ≡ record self.old { heard = hearing.begin (brokers.unfenced self.old.images.tip) (brokers.stopping self.old.images.tip) self.old.time next.now }) }
     {
-        let _valid = self.store.counts();
-        let unfenced = unfenced_brokers(self.alloc, &self.store)?;
-        let stopping = stopping_brokers(self.alloc, &self.store)?;
+        self.look_at_images();
+        let seen = Seen::tip(&self.store);
+        let unfenced = unfenced_brokers(self.alloc, &seen)?;
+        let stopping = stopping_brokers(self.alloc, &seen)?;
         self.sessions.begin(&unfenced, &stopping, self.time, *next)?;
         Ok(())
     }

@@ -19,7 +19,7 @@ use kr_defs::Bytes;
 use kr_gather::records_of;
 use kr_image::ImageStore;
 use kr_snapshot::{ImageFault, Reader};
-use kr_store::At;
+use kr_store::Seen;
 use std::alloc::Global;
 
 // The offset and the store of the image that the bytes stand for.
@@ -37,7 +37,7 @@ impl Engine {
     fn add_image(&mut self, offset: &i64, store: &ImageStore) -> Result<(), NoMemory>
         ensures { OnOk result (self.new ≡ core_with_entries self.old (entries.Load offset.now (records_of store.now.tip) ∷ [])) }
     {
-        let records = records_of(self.alloc, store, At::Tip)?;
+        let records = records_of(self.alloc, &Seen::tip(store))?;
         self.fresh.push(image_entry(offset, records))?;
         Ok(())
     }

@@ -2,13 +2,13 @@
 
 ghost use Rattle.std.specs.Prelude.{◌≡◌, ◌++◌, ◌∷◌, [], option_to_list, filter, not, false, None, IsTrue, IfNone, List};
 ghost use Rattle.kr_world.specs.declared.writes.Write.{Write as AnyWrite};
-ghost use Rattle.kr_world.specs.Engine.{Hands, IsSound, writes_in_order};
+ghost use Rattle.kr_world.specs.Engine.{Hands, IsSound, HandsTold, output_of, writes_in_order};
 ghost use Rattle.kr_world.specs.Outputs as outputs;
 
 use crate::Engine;
-use crate::writes::{due_reply, is_open};
+use crate::writes::{is_open, told_alone, told_reply};
 use kr_calls::Output;
-use kr_world::Write;
+use kr_world::{Told, Write};
 use std::collections::VecDeque;
 
 // The first write waits no more.
@@ -22,12 +22,12 @@ fn is_first_due(leading: &Option<i32>, end: &i64, held: &VecDeque<Write>) -> boo
     }
 }
 
-// The first write's reply, where it waits no more.
+// The first write's reply, where it waits no more, and how the write ended.
 #[tactic(auto, using(kr_world::proofs::Queues::not_due, kr_world::proofs::Queues::due, kr_world::proofs::Queues::still_waits, kr_world::proofs::Queues::still_ordered))]
-fn next_due(leading: &Option<i32>, end: &i64, held: &mut VecDeque<Write>) -> Option<Output>
+fn next_due(leading: &Option<i32>, end: &i64, held: &mut VecDeque<Write>) -> Option<Told>
     requires ordered { IsTrue (writes_in_order held.old.items) }
-    ensures in_order { outputs.answers leading.now end.now held.old.items ≡ option_to_list result ++ outputs.answers leading.now end.now held.new.items }
-    ensures none { IfNone result (outputs.answers leading.now end.now held.new.items ≡ []) }
+    ensures in_order { outputs.told_answers leading.now end.now held.old.items ≡ option_to_list result ++ outputs.told_answers leading.now end.now held.new.items }
+    ensures none { IfNone result (outputs.told_answers leading.now end.now held.new.items ≡ []) }
     ensures waits { filter (outputs.is_open leading.now end.now) held.new.items ≡ filter (outputs.is_open leading.now end.now) held.old.items }
     ensures ordered { IsTrue (writes_in_order held.new.items) }
 {
@@ -35,7 +35,7 @@ fn next_due(leading: &Option<i32>, end: &i64, held: &mut VecDeque<Write>) -> Opt
         return None;
     }
     match held.pop_front() {
-        Some(write) => Some(due_reply(end, write)),
+        Some(write) => Some(told_reply(end, write)),
         None => None,
     }
 }
@@ -56,10 +56,10 @@ impl Engine {
         self.refusal.take()
     }
 
-    fn next_answer(&mut self) -> Option<Output>
+    fn next_answer(&mut self) -> Option<Told>
         requires ordered { IsTrue (writes_in_order self.old.held) }
-        ensures in_order { outputs.answers self.old.leading self.old.committed self.old.held ≡ option_to_list result ++ outputs.answers self.old.leading self.old.committed self.new.held }
-        ensures none { IfNone result (outputs.answers self.old.leading self.old.committed self.new.held ≡ []) }
+        ensures in_order { outputs.told_answers self.old.leading self.old.committed self.old.held ≡ option_to_list result ++ outputs.told_answers self.old.leading self.old.committed self.new.held }
+        ensures none { IfNone result (outputs.told_answers self.old.leading self.old.committed self.new.held ≡ []) }
         ensures waits { filter (outputs.is_open self.old.leading self.old.committed) self.new.held ≡ filter (outputs.is_open self.old.leading self.old.committed) self.old.held }
         ensures ordered { IsTrue (writes_in_order self.new.held) }
         ensures same { self.new ≡ record self.old { held = self.new.held } }
@@ -67,19 +67,33 @@ impl Engine {
         next_due(&self.leading, &self.committed, &mut self.held)
     }
 
+    /// The next output of the last event, as `next_output` hands it out, and with the reply of a write that waited how that
+    /// write ended, and where and on what it was decided. It takes no memory.
+    #[tactic(auto, using(kr_world::proofs::OutputsLeft::handing))]
+    pub fn next_told(&mut self) -> Option<Told>
+        requires { IsTrue (writes_in_order self.old.held) }
+        ensures hands { Hands self.old self.new (output_of result) }
+        ensures tells { HandsTold self.old self.new result }
+        ensures sound { IsSound self.old → IsSound self.new }
+    {
+        if let Some(output) = self.next_given() {
+            return Some(told_alone(output));
+        }
+        if let Some(output) = self.next_refusal() {
+            return Some(told_alone(output));
+        }
+        self.next_answer()
+    }
+
     /// The next output of the last event, in order; none where all are handed out. It takes no memory.
-    #[tactic(auto, using(kr_world::proofs::OutputsLeft::hands_refusal, kr_world::proofs::OutputsLeft::hands_answer))]
     pub fn next_output(&mut self) -> Option<Output>
         requires { IsTrue (writes_in_order self.old.held) }
         ensures hands { Hands self.old self.new result }
         ensures sound { IsSound self.old → IsSound self.new }
     {
-        if let Some(output) = self.next_given() {
-            return Some(output);
+        match self.next_told() {
+            Some(Told { output, .. }) => Some(output),
+            None => None,
         }
-        if let Some(output) = self.next_refusal() {
-            return Some(output);
-        }
-        self.next_answer()
     }
 }

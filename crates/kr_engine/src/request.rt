@@ -1,9 +1,10 @@
 //! A client's message comes.
 
-ghost use Rattle.std.specs.Prelude.{◌≡◌, ◌≤◌, ◌++◌, ◌∷◌, [], IfOk, OnOk, Ok};
+ghost use Rattle.std.specs.Prelude.{◌≡◌, ◌≤◌, ◌++◌, ◌∷◌, [], length, IfOk, OnOk, Ok};
 ghost use Rattle.kr_calls.specs.Decide as rules;
 ghost use Rattle.kr_calls.specs.Refuse as refusals;
 ghost use Rattle.kr_calls.specs.declared.errors.TheConstants.{NOT_CONTROLLER as not_controller};
+ghost use Rattle.kr_defs.specs.declared.limits.TheConstants.{MOST_RECORDS as most_records};
 ghost use Rattle.kr_calls.specs.declared.calls.Reply.TheVariants as replies;
 ghost use Rattle.kr_calls.specs.declared.events.Event.TheVariants as events;
 ghost use Rattle.kr_calls.specs.declared.events.Output.TheVariants as given;
@@ -19,10 +20,11 @@ use crate::reasons::exhausted;
 use kr_base::{NoMemory, Steps};
 use kr_calls::errors::{INVALID_REQUEST, NOT_CONTROLLER, UNSUPPORTED_VERSION};
 use kr_calls::{Ask, AskFault, Call, Effect, Output, Reason, Reply, Request};
+use kr_defs::{Basis, Records};
 use kr_handlers::read;
 use kr_rules::refuse;
 use kr_store::ReadFault;
-use kr_world::Write;
+use kr_world::{Decided, Write};
 use std::alloc::Global;
 use std::sync::ledger::Ledger;
 
@@ -76,6 +78,18 @@ fn read_reply(read: Result<Option<Reply>, ReadFault>) -> Result<Option<Reply>, N
     }
 }
 
+// At the place these records are decided, on the image below it and this basis.
+fn decided_at(place: &i64, records: &Records, basis: Basis) -> Decided
+    requires few { length records.now ≤ most_records }
+    ensures { result ≡ record { place = place.now; count = length records.now; basis = basis } }
+{
+    Decided {
+        place: *place,
+        count: records.len() as u32,
+        basis,
+    }
+}
+
 impl Engine {
     // The reply waits until all that the write saw or made is committed.
     fn hold_reply(
@@ -84,8 +98,9 @@ impl Engine {
         call: &Call,
         reply: Reply,
         refusal: Reply,
+        decided: Decided,
     ) -> Result<(), NoMemory>
-        ensures { OnOk result (self.new ≡ record self.old { held = self.old.held ++ write_with client.now call.now self.old.leading self.old.tip reply refusal ∷ [] }) }
+        ensures { OnOk result (self.new ≡ record self.old { held = self.old.held ++ write_with client.now call.now self.old.leading self.old.tip reply refusal decided ∷ [] }) }
     {
         let write = Write {
             client: *client,
@@ -94,6 +109,7 @@ impl Engine {
             need: self.tip,
             reply,
             refusal,
+            decided,
         };
         self.held.push_back(write)?;
         Ok(())
@@ -112,9 +128,11 @@ impl Engine {
         ensures later { steps.old ≤ steps.new }
     {
         let refusal = not_controller_reply(self.alloc, &call.request)?;
+        let basis = self.basis()?;
         let Effect { records, reply } = self.decide(&call.request, steps)?;
+        let decided = decided_at(&self.tip, &records, basis);
         self.append(records)?;
-        self.hold_reply(client, call, reply, refusal)
+        self.hold_reply(client, call, reply, refusal, decided)
     }
 
     fn give_reply(&mut self, client: &u32, correlation: &i32, reply: Reply) -> Result<(), NoMemory>

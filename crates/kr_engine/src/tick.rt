@@ -23,8 +23,7 @@ use kr_calls::{Effect, Reason, Reply};
 use kr_defs::{Ids, Records};
 use kr_image::ImageStore;
 use kr_sessions::Context;
-use kr_store::Store;
-use kr_walks::tip;
+use kr_store::{Seen, Store};
 use std::alloc::Global;
 use std::sync::ledger::Ledger;
 
@@ -38,10 +37,10 @@ fn no_effect(alloc: Global) -> Effect
     }
 }
 
-fn is_registered<S: Store>(store: &S, broker: &i32) -> bool
-    ensures { result ≡ is_some (entries.get int_cmp (S.images store.now).tip.brokers broker.now) }
+fn is_registered<S: Store>(seen: &Seen<S>, broker: &i32) -> bool
+    ensures { result ≡ is_some (entries.get int_cmp seen.now.brokers broker.now) }
 {
-    tip::broker(store, broker).is_some()
+    seen.broker(broker).is_some()
 }
 
 // The records that fence a broker, with the image behind them; none where it isn't registered.
@@ -61,7 +60,7 @@ fn fencing_of<L: Ledger>(
     ensures kept { store.new.kept ≡ store.old.kept }
     ensures later { steps.old ≤ steps.new }
 {
-    if !is_registered(store, broker) {
+    if !is_registered(&Seen::tip(store), broker) {
         return Ok(Records::new(alloc));
     }
     let mut out = no_effect(alloc);

@@ -17,7 +17,7 @@ use kr_base::{NoMemory, Sink, Source};
 use kr_defs::Bytes;
 use kr_defs::limits::MOST_LOAD_BYTES;
 use kr_image::ImageStore;
-use kr_store::At;
+use kr_store::Seen;
 use std::alloc::Global;
 use std::marker::Brand;
 use std::sync::ledger::Blank;
@@ -42,10 +42,8 @@ fn image_bytes(alloc: Global, store: &ImageStore, offset: i64) -> Result<Vec<u8>
     ensures { IfOk result (λ bytes. bytes.items ≡ image_text offset store.now.tip) }
 {
     let mut bytes = Vec::new(alloc);
-    match kr_snapshot::write(alloc, store, At::Tip, offset, &mut bytes) {
-        Ok(()) => Ok(bytes),
-        Err(_) => Err(NoMemory),
-    }
+    kr_snapshot::write_seen(alloc, &Seen::tip(store), offset, &mut bytes)?;
+    Ok(bytes)
 }
 
 /// Reads batches from place 0 to the end of the input, each at the end of the one before it, and writes the image that
@@ -144,7 +142,7 @@ fn read_text<S: Source>(alloc: Global, input: &mut S) -> Result<Bytes, ToolFault
         Ok(image) => image,
         Err(fault) => return Err(fault),
     };
-    Ok(kr_dump::dump(alloc, &store, At::Tip, offset)?)
+    Ok(kr_dump::dump(alloc, &Seen::tip(&store), offset)?)
 }
 
 fn dump_image<S: Source, K: Sink>(

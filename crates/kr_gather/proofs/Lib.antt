@@ -1,4 +1,3 @@
 pub mod Parts
 pub mod Sections
-pub mod ShownImages
 pub mod WalkGathering

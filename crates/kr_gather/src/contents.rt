@@ -3,16 +3,14 @@
 ghost use Rattle.std.specs.Prelude.{◌≡◌, ◌++◌, IfOk, OnOk};
 ghost use Rattle.std.specs.List.{flat_map};
 ghost use Rattle.kr_defs.specs.Records.{records_of};
-ghost use Rattle.kr_store.specs.Reads.{seen_at};
 ghost use Rattle.kr_gather.specs.inner.Contents as contents;
 
 use crate::lists::add_all;
-use crate::looking::{next_config, next_feature, see};
 use crate::part_records::{Registration, TopicRecords};
 use crate::{gather_brokers, gather_topics};
 use kr_base::NoMemory;
 use kr_defs::{ConfigKey, Copied, Record, Records, Text};
-use kr_store::{At, Store};
+use kr_store::{Seen, Store};
 use std::alloc::Global;
 
 fn add_feature(
@@ -52,15 +50,14 @@ fn add_config(
 
 fn add_features<S: Store>(
     alloc: Global,
-    store: &S,
-    at: At,
+    seen: &Seen<S>,
     records: &mut Records,
 ) -> Result<(), NoMemory>
-    ensures { OnOk result (records.new ≡ records.old ++ flat_map contents.of_feature (seen_at (S.images store.now) at).features) }
+    ensures { OnOk result (records.new ≡ records.old ++ flat_map contents.of_feature seen.now.features) }
 {
-    see(store, at);
+    seen.is_valid();
     let mut after = None;
-    while let Some((name, level)) = next_feature(store, at, after) {
+    while let Some((name, level)) = seen.next_feature(after) {
         add_feature(alloc, name, level, records)?;
         after = Some(name);
     }
@@ -69,33 +66,31 @@ fn add_features<S: Store>(
 
 fn add_configs<S: Store>(
     alloc: Global,
-    store: &S,
-    at: At,
+    seen: &Seen<S>,
     records: &mut Records,
 ) -> Result<(), NoMemory>
-    ensures { OnOk result (records.new ≡ records.old ++ flat_map contents.of_config (seen_at (S.images store.now) at).configs) }
+    ensures { OnOk result (records.new ≡ records.old ++ flat_map contents.of_config seen.now.configs) }
 {
-    see(store, at);
+    seen.is_valid();
     let mut after = None;
-    while let Some((key, value)) = next_config(store, at, after) {
+    while let Some((key, value)) = seen.next_config(after) {
         add_config(alloc, key, value, records)?;
         after = Some(key);
     }
     Ok(())
 }
 
-/// The records that make the image at a place, in the order in which an image is written; none where the place is an epoch
-/// that isn't kept.
+/// The records that make the image, in the order in which one is written.
 #[tactic(auto, using(crate::proofs::Sections::sections))]
-pub fn records_of<S: Store>(alloc: Global, store: &S, at: At) -> Result<Records, NoMemory>
-    ensures { IfOk result (λ records. records ≡ records_of (seen_at (S.images store.now) at)) }
+pub fn records_of<S: Store>(alloc: Global, seen: &Seen<S>) -> Result<Records, NoMemory>
+    ensures { IfOk result (λ records. records ≡ records_of seen.now) }
 {
     let mut records = Records::new(alloc);
-    add_features(alloc, store, at, &mut records)?;
-    let brokers = gather_brokers(alloc, store, at, &Registration)?;
+    add_features(alloc, seen, &mut records)?;
+    let brokers = gather_brokers(alloc, seen, &Registration)?;
     add_all(alloc, &mut records, brokers)?;
-    let topics = gather_topics(alloc, store, at, &TopicRecords)?;
+    let topics = gather_topics(alloc, seen, &TopicRecords)?;
     add_all(alloc, &mut records, topics)?;
-    add_configs(alloc, store, at, &mut records)?;
+    add_configs(alloc, seen, &mut records)?;
     Ok(records)
 }

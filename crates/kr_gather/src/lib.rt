@@ -1,13 +1,11 @@
-//! What requests on partitions and reads share: look-ups at any place of a store; what brokers, topics and partitions give
-//! there, in the order of a walk; lists of replicas; the record of a change; and the records that make an image, in the order
-//! in which it is written.
+//! What requests on partitions and reads share: what the brokers, topics and partitions of an image give, in the order of a
+//! walk; lists of replicas; the record of a change; and the records that make an image, in the order in which it is written.
 #![tactic(auto)]
 
 mod changes;
 mod contents;
 mod gathering;
 mod lists;
-pub mod looking;
 mod part_records;
 mod replicas;
 

@@ -7,7 +7,7 @@ use crate::lists::add_all;
 use crate::{BrokerPart, PartitionPart, TopicPart, gather_partitions};
 use kr_base::NoMemory;
 use kr_defs::{Broker, Copied, Partition, Record, Records, Text};
-use kr_store::{At, Store};
+use kr_store::{Seen, Store};
 use std::alloc::Global;
 
 /// The registration of a broker.
@@ -66,15 +66,14 @@ impl TopicPart<Record> for TopicRecords {
     fn add<S: Store>(
         &self,
         alloc: Global,
-        store: &S,
-        at: At,
+        seen: &Seen<S>,
         name: &Text,
         id: &u128,
         rows: &mut Records,
     ) -> Result<(), NoMemory> {
         let name = name.copied(alloc)?;
         rows.push(Record::Topic { name, id: *id })?;
-        let partitions = gather_partitions(alloc, store, at, &Standing, id)?;
+        let partitions = gather_partitions(alloc, seen, &Standing, id)?;
         add_all(alloc, rows, partitions)
     }
 }

@@ -7,11 +7,10 @@ ghost use Rattle.kr_defs.specs.Ids as ids;
 ghost use Rattle.kr_defs.specs.Map as entries;
 ghost use Rattle.kr_defs.specs.Partition.{are_targets};
 
-use crate::looking;
 use kr_base::NoMemory;
 use kr_defs::limits::MOST_TARGETS;
 use kr_defs::{Ids, is_distinct};
-use kr_store::{At, Store};
+use kr_store::{Seen, Store};
 use std::alloc::{AllocError, Global};
 
 /// 1 to 32 replicas, each once.
@@ -21,17 +20,17 @@ pub fn are_targets(list: &Ids) -> bool
     !list.is_empty() && list.len() <= MOST_TARGETS && is_distinct(list.as_slice())
 }
 
-fn is_registered<S: Store>(store: &S, id: &i32) -> bool
-    ensures { result ≡ entries.contains int_cmp (S.images store.now).tip.brokers id.now }
+fn is_registered<S: Store>(seen: &Seen<S>, id: &i32) -> bool
+    ensures { result ≡ entries.contains int_cmp seen.now.brokers id.now }
 {
-    looking::broker(store, At::Tip, id).is_some()
+    seen.broker(id).is_some()
 }
 
-/// Each of these is a broker of the present image.
-pub fn are_registered<S: Store>(store: &S, ids: &[i32]) -> bool
-    ensures { result ≡ list_all (entries.contains int_cmp (S.images store.now).tip.brokers) ids.now }
+/// Each of these is a broker of the image.
+pub fn are_registered<S: Store>(seen: &Seen<S>, ids: &[i32]) -> bool
+    ensures { result ≡ list_all (entries.contains int_cmp seen.now.brokers) ids.now }
 {
-    ids.iter().all(|id| is_registered(store, id))
+    ids.iter().all(|id| is_registered(seen, id))
 }
 
 fn others(alloc: Global, list: &[i32], those: &Ids) -> Result<Vec<i32>, AllocError>

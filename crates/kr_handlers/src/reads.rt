@@ -5,9 +5,8 @@ ghost use Rattle.kr_store.specs.Reads.{LooksUp};
 
 use kr_calls::{Reply, Request};
 use kr_defs::Options;
-use kr_gather::looking::look;
 use kr_partitions::list_partition_reassignments;
-use kr_store::{At, ReadFault, Store};
+use kr_store::{At, ReadFault, Seen, Store};
 use kr_topics::metadata;
 use std::alloc::Global;
 
@@ -23,15 +22,12 @@ pub fn read<S: Store>(
 ) -> Result<Option<Reply>, ReadFault>
     ensures { LooksUp (S.images store.now) at result (λ image. query options.now image request.now) }
 {
-    match request {
+    let seen = Seen::at(store, at)?;
+    Ok(match request {
         Request::ListPartitionReassignments(q) => {
-            let reply = list_partition_reassignments::answer(alloc, store, at, options, q)?;
-            Ok(Some(reply))
+            Some(list_partition_reassignments::answer(alloc, &seen, options, q)?)
         }
-        Request::Metadata(q) => Ok(Some(metadata::answer(alloc, store, at, options, q)?)),
-        _ => {
-            look(store, at)?;
-            Ok(None)
-        }
-    }
+        Request::Metadata(q) => Some(metadata::answer(alloc, &seen, options, q)?),
+        _ => None,
+    })
 }

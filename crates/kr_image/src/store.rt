@@ -1,10 +1,10 @@
 //! The store: the timelines, and the epochs with their counts.
 
-ghost use Rattle.std.specs.Prelude.{◌≡◌, ◌↔◌, ◌+◌, ◌*◌, ◌≤◌, None, Some, IsErr, IsSome, OnErr, OnOk, length};
+ghost use Rattle.std.specs.Prelude.{◌≡◌, ◌↔◌, ◌+◌, ◌*◌, ◌≤◌, None, Some, IsErr, IsOkAnd, IsSome, MatchOption, OnErr, OnOk, length};
 ghost use Rattle.kr_defs.specs.declared.record.Item.TheVariants as items;
 ghost use Rattle.kr_defs.specs.Weight.{weight};
 ghost use Rattle.kr_store.specs.ItemAnswers.{Applies, Ticks};
-ghost use Rattle.kr_store.specs.Images.{IsAbove, above, below, calls_of, forgotten, kept_at, last_image, last_kept, marked, no_images, oldest_from, reverted};
+ghost use Rattle.kr_store.specs.Images.{IsAbove, above, below, calls_of, counts_of, forgotten, image_of_place, kept_at, last_image, last_kept, marked, no_images, oldest_from, reverted};
 ghost use Rattle.kr_image.specs.Timelines.{keeps_of, made_of, present_image};
 ghost use Rattle.kr_image.specs.KeptImages.{IsKept, IsStore, images_of};
 
@@ -219,6 +219,20 @@ fn apply<L: Ledger>(
     }
 }
 
+// How much the image at the place has.
+fn counts(timelines: &Timelines, kept: &VecDeque<KeptCounts>, at: &At) -> Result<Counts, NoEpoch>
+    requires { IsStore timelines.now kept.now.items }
+    ensures { MatchOption (image_of_place (images_of timelines.now kept.now.items) at.now) (IsErr result) (λ image. IsOkAnd result (λ counts. counts ≡ counts_of image)) }
+{
+    match at {
+        At::Tip => Ok(timelines.counts),
+        At::Epoch(epoch) => match counts_at(kept, epoch) {
+            Some(counts) => Ok(counts),
+            None => Err(NoEpoch),
+        },
+    }
+}
+
 impl Store for ImageStore {
     ghost images = { λ s. s };
 
@@ -288,6 +302,10 @@ impl Store for ImageStore {
 
     fn counts(&self) -> Counts {
         self.timelines.counts
+    }
+
+    fn counts_at(&self, at: At) -> Result<Counts, NoEpoch> {
+        counts(&self.timelines, &self.kept, &at)
     }
 
     fn apply<L: Ledger>(

@@ -10,16 +10,15 @@ use kr_calls::{AlterPartition, AlterPartitionReply, AlterPartitionTopicResults, 
 use kr_defs::{Records, Rows};
 use kr_rules::{Handler, decide_groups};
 use kr_sessions::Context;
-use kr_store::Store;
-use kr_walks::tip;
+use kr_store::{Seen, Store};
 use std::alloc::Global;
 use std::sync::ledger::Ledger;
 
 // The broker that reports isn't registered with this epoch.
-fn is_stale<S: Store>(store: &S, request: &AlterPartition) -> bool
-    ensures { result ≡ alter_partition.is_stale (S.images store.now).tip request.now }
+fn is_stale<S: Store>(seen: &Seen<S>, request: &AlterPartition) -> bool
+    ensures { result ≡ alter_partition.is_stale seen.now request.now }
 {
-    match tip::broker(store, &request.broker) {
+    match seen.broker(&request.broker) {
         Some(state) => request.epoch != state.epoch,
         None => true,
     }
@@ -50,7 +49,7 @@ impl Handler<AlterPartition> for AlterPartitionHandler {
         request: &AlterPartition,
         steps: &mut Steps<L>,
     ) -> Result<Effect, NoMemory> {
-        if is_stale(store, request) {
+        if is_stale(&Seen::tip(store), request) {
             return Ok(Effect {
                 records: Records::new(alloc),
                 reply: reply_of(&STALE_BROKER_EPOCH, Rows::new(alloc)),

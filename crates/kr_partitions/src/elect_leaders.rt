@@ -12,7 +12,7 @@ use kr_calls::{Effect, ElectLeaders, ElectLeadersReply, ReplicaElectionResults, 
 use kr_defs::{Records, Rows};
 use kr_rules::{Handler, decide_groups};
 use kr_sessions::Context;
-use kr_store::Store;
+use kr_store::{Seen, Store};
 use std::alloc::Global;
 use std::sync::ledger::Ledger;
 
@@ -47,7 +47,7 @@ impl Handler<ElectLeaders> for ElectLeadersHandler {
                 reply: reply_of(&INVALID_REQUEST, Rows::new(alloc)),
             });
         }
-        let groups = groups_of(alloc, store, &request.topics)?;
+        let groups = groups_of(alloc, &Seen::tip(store), &request.topics)?;
         let rule = ElectionRule::new(context.options, &request.kind);
         let groups = groups.as_slice();
         let (records, answers) = decide_groups(alloc, store, context.place, &rule, groups, steps)?;

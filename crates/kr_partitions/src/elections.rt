@@ -20,8 +20,8 @@ use kr_change::{Mode, Want, build};
 use kr_defs::{Copied, Ids, Options, Partition, PartitionChange, Text};
 use kr_gather::change_records;
 use kr_rules::{Groups, ItemRule, Refusal, Work};
-use kr_store::Store;
-use kr_walks::{active, default_want, facts, tip};
+use kr_store::{Seen, Store};
+use kr_walks::{active, default_want, facts};
 use std::alloc::Global;
 
 /// The rule for elections of one kind: 0 the preferred leaders, 1 any replica where there is no leader.
@@ -86,52 +86,52 @@ fn first_replica(partition: &Partition) -> i32
 // The change of an election in this mode.
 fn election_change<S: Store>(
     alloc: Global,
-    store: &S,
+    seen: &Seen<S>,
     options: &Options,
     name: &Text,
     partition: &Partition,
     mode: Mode,
 ) -> Result<Option<PartitionChange>, NoMemory>
-    ensures { IfOk result (λ change. change ≡ built partition.now (elect_leaders.in_mode partition.now mode) (facts_of options.now (S.images store.now).tip name.now)) }
+    ensures { IfOk result (λ change. change ≡ built partition.now (elect_leaders.in_mode partition.now mode) (facts_of options.now seen.now name.now)) }
 {
     let want = in_mode(alloc, partition, mode)?;
-    let active = active(alloc, store)?;
-    let facts = facts(alloc, store, &options.minimum, &active, name)?;
+    let active = active(alloc, seen)?;
+    let facts = facts(alloc, seen, &options.minimum, &active, name)?;
     build(alloc, partition, &want, &facts)
 }
 
 fn is_in_sync_and_active<S: Store>(
     alloc: Global,
-    store: &S,
+    seen: &Seen<S>,
     partition: &Partition,
     id: &i32,
 ) -> Result<bool, NoMemory>
-    ensures { IfOk result (λ is. is ≡ (has partition.now.in_sync id.now && has (active (S.images store.now).tip) id.now)) }
+    ensures { IfOk result (λ is. is ≡ (has partition.now.in_sync id.now && has (active seen.now) id.now)) }
 {
-    let active = active(alloc, store)?;
+    let active = active(alloc, seen)?;
     Ok(partition.in_sync.contains(id) && active.contains(id))
 }
 
 // The first replica is to lead.
 fn prefers<S: Store>(
     alloc: Global,
-    store: &S,
+    seen: &Seen<S>,
     options: &Options,
     name: &Text,
     index: &i32,
     topic: &u128,
     partition: &Partition,
 ) -> Result<Draft<PartitionElectionResult>, Refusal>
-    ensures { Judges result (elect_leaders.prefers options.now (S.images store.now).tip (name.now, index.now) topic.now partition.now) }
+    ensures { Judges result (elect_leaders.prefers options.now seen.now (name.now, index.now) topic.now partition.now) }
 {
     let first = first_replica(partition);
     if partition.leader == first {
         return Err(Refusal::Error(ELECTION_NOT_NEEDED));
     }
-    if !is_in_sync_and_active(alloc, store, partition, &first)? {
+    if !is_in_sync_and_active(alloc, seen, partition, &first)? {
         return Err(Refusal::Error(PREFERRED_LEADER_NOT_AVAILABLE));
     }
-    let change = election_change(alloc, store, options, name, partition, Mode::Preferred)?;
+    let change = election_change(alloc, seen, options, name, partition, Mode::Preferred)?;
     Ok(draft_of(alloc, name, index, topic, change)?)
 }
 
@@ -171,19 +171,19 @@ fn has_leader(partition: &Partition) -> bool
 // Where nobody leads, any active replica is to lead.
 fn elects_any<S: Store>(
     alloc: Global,
-    store: &S,
+    seen: &Seen<S>,
     options: &Options,
     name: &Text,
     index: &i32,
     topic: &u128,
     partition: &Partition,
 ) -> Result<Draft<PartitionElectionResult>, Refusal>
-    ensures { Judges result (elect_leaders.elects_any options.now (S.images store.now).tip (name.now, index.now) topic.now partition.now) }
+    ensures { Judges result (elect_leaders.elects_any options.now seen.now (name.now, index.now) topic.now partition.now) }
 {
     if has_leader(partition) {
         return Err(Refusal::Error(ELECTION_NOT_NEEDED));
     }
-    let change = election_change(alloc, store, options, name, partition, Mode::Unclean)?;
+    let change = election_change(alloc, seen, options, name, partition, Mode::Unclean)?;
     with_leader(alloc, name, index, topic, change)
 }
 
@@ -203,19 +203,19 @@ pub(crate) fn is_kind(kind: &i8) -> bool
 // What is said of a partition that stands.
 fn of_partition<S: Store>(
     alloc: Global,
-    store: &S,
+    seen: &Seen<S>,
     rule: &ElectionRule,
     name: &Text,
     index: &i32,
     topic: &u128,
     partition: &Partition,
 ) -> Result<Draft<PartitionElectionResult>, Refusal>
-    ensures { Judges result (elect_leaders.of_partition rule.now.options.now rule.now.kind (S.images store.now).tip (name.now, index.now) topic.now partition.now) }
+    ensures { Judges result (elect_leaders.of_partition rule.now.options.now rule.now.kind seen.now (name.now, index.now) topic.now partition.now) }
 {
     if is_preferred_kind(&rule.kind) {
-        prefers(alloc, store, rule.options, name, index, topic, partition)
+        prefers(alloc, seen, rule.options, name, index, topic, partition)
     } else {
-        elects_any(alloc, store, rule.options, name, index, topic, partition)
+        elects_any(alloc, seen, rule.options, name, index, topic, partition)
     }
 }
 
@@ -237,18 +237,18 @@ impl<'a> ItemRule<Text, i32, PartitionElectionResult> for ElectionRule<'a> {
     fn judge<S: Store>(
         &self,
         alloc: Global,
-        store: &S,
+        seen: &Seen<S>,
         _work: &Work,
         key: &Text,
         item: &i32,
     ) -> Result<Draft<PartitionElectionResult>, Refusal> {
-        let Some(topic) = tip::topic_named(store, key) else {
+        let Some(topic) = seen.topic_named(key) else {
             return Err(Refusal::Error(UNKNOWN_TOPIC_OR_PARTITION));
         };
-        let Some(partition) = tip::partition(store, &topic.id, item) else {
+        let Some(partition) = seen.partition(&topic.id, item) else {
             return Err(Refusal::Error(UNKNOWN_TOPIC_OR_PARTITION));
         };
-        of_partition(alloc, store, self, key, item, &topic.id, partition)
+        of_partition(alloc, seen, self, key, item, &topic.id, partition)
     }
 }
 

@@ -2,13 +2,12 @@
 
 ghost use Rattle.std.specs.Prelude.{◌≡◌, ◌++◌, [], ◌∷◌, IfOk, OnOk, map};
 ghost use Rattle.kr_calls.specs.ElectLeaders as elect_leaders;
-ghost use Rattle.kr_store.specs.Reads.{seen_at};
 
 use kr_base::NoMemory;
 use kr_calls::{ElectLeadersTopic, ElectLeadersTopics};
 use kr_defs::{Copied, Ids, Partition, Rows, Text};
 use kr_gather::{PartitionPart, TopicPart, gather_partitions, gather_topics};
-use kr_store::{At, Store};
+use kr_store::{Seen, Store};
 use std::alloc::Global;
 
 /// The name of a topic, and indexes of its partitions.
@@ -56,15 +55,14 @@ struct WholeTopics;
 #[tactic(auto, using(crate::proofs::WholeTopics::whole))]
 fn whole_topic<S: Store>(
     alloc: Global,
-    store: &S,
-    at: At,
+    seen: &Seen<S>,
     name: &Text,
     id: &u128,
 ) -> Result<Group, NoMemory>
-    ensures { IfOk result (λ group. group ≡ elect_leaders.whole_topic (seen_at (S.images store.now) at) (name.now, id.now)) }
+    ensures { IfOk result (λ group. group ≡ elect_leaders.whole_topic seen.now (name.now, id.now)) }
 {
     let name = name.copied(alloc)?;
-    let indexes = gather_partitions(alloc, store, at, &Indexes, id)?;
+    let indexes = gather_partitions(alloc, seen, &Indexes, id)?;
     Ok((name, indexes))
 }
 
@@ -74,34 +72,33 @@ impl TopicPart<Group> for WholeTopics {
     fn add<S: Store>(
         &self,
         alloc: Global,
-        store: &S,
-        at: At,
+        seen: &Seen<S>,
         name: &Text,
         id: &u128,
         rows: &mut Rows<Group>,
     ) -> Result<(), NoMemory> {
-        rows.push(whole_topic(alloc, store, at, name, id)?)?;
+        rows.push(whole_topic(alloc, seen, name, id)?)?;
         Ok(())
     }
 }
 
 #[tactic(auto, using(crate::proofs::WholeTopics::all_whole))]
-fn all_groups<S: Store>(alloc: Global, store: &S) -> Result<Rows<Group>, NoMemory>
-    ensures { IfOk result (λ groups. groups ≡ map (elect_leaders.whole_topic (S.images store.now).tip) (S.images store.now).tip.topics) }
+fn all_groups<S: Store>(alloc: Global, seen: &Seen<S>) -> Result<Rows<Group>, NoMemory>
+    ensures { IfOk result (λ groups. groups ≡ map (elect_leaders.whole_topic seen.now) seen.now.topics) }
 {
-    gather_topics(alloc, store, At::Tip, &WholeTopics)
+    gather_topics(alloc, seen, &WholeTopics)
 }
 
 /// The partitions that are asked for, all of them at null.
 pub(crate) fn groups_of<S: Store>(
     alloc: Global,
-    store: &S,
+    seen: &Seen<S>,
     topics: &Option<ElectLeadersTopics>,
 ) -> Result<Rows<Group>, NoMemory>
-    ensures { IfOk result (λ groups. groups ≡ elect_leaders.groups_of (S.images store.now).tip topics.now) }
+    ensures { IfOk result (λ groups. groups ≡ elect_leaders.groups_of seen.now topics.now) }
 {
     match topics {
         Some(topics) => given_groups(alloc, topics.as_slice()),
-        None => all_groups(alloc, store),
+        None => all_groups(alloc, seen),
     }
 }

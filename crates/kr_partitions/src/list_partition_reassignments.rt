@@ -5,7 +5,6 @@ ghost use Rattle.std.specs.List.{list_any};
 ghost use Rattle.kr_defs.specs.Ids.{has};
 ghost use Rattle.kr_defs.specs.Partition.{is_moving};
 ghost use Rattle.kr_calls.specs.ListPartitionReassignments as list_partition_reassignments;
-ghost use Rattle.kr_store.specs.Reads.{LooksUp, seen_at};
 
 use crate::lists::is_moving;
 use kr_base::NoMemory;
@@ -14,9 +13,8 @@ use kr_calls::{
     OngoingPartitionReassignment, OngoingPartitionReassignments, OngoingTopicReassignment, Reply,
 };
 use kr_defs::{Copied, Options, Partition, Rows, Text};
-use kr_gather::looking::look;
 use kr_gather::{PartitionPart, TopicPart, gather_partitions, gather_topics};
-use kr_store::{At, ReadFault, Store};
+use kr_store::{Seen, Store};
 use std::alloc::Global;
 
 fn names(topic: &ListedTopic, name: &Text, index: &i32) -> bool
@@ -87,29 +85,27 @@ impl<'a> PartitionPart<OngoingPartitionReassignment> for AskedPartitions<'a> {
 #[tactic(auto, using(crate::proofs::OngoingRows::moving))]
 fn ongoing_of<S: Store>(
     alloc: Global,
-    store: &S,
-    at: At,
+    seen: &Seen<S>,
     asked: &Option<ListedTopics>,
     name: &Text,
     id: &u128,
 ) -> Result<OngoingPartitionReassignments, NoMemory>
-    ensures { IfOk result (λ rows. rows ≡ list_partition_reassignments.ongoing_of (seen_at (S.images store.now) at) asked.now (name.now, id.now)) }
+    ensures { IfOk result (λ rows. rows ≡ list_partition_reassignments.ongoing_of seen.now asked.now (name.now, id.now)) }
 {
-    gather_partitions(alloc, store, at, &AskedPartitions { asked, name }, id)
+    gather_partitions(alloc, seen, &AskedPartitions { asked, name }, id)
 }
 
 // What is shown of a topic, where there is something to show.
 fn topic_row<S: Store>(
     alloc: Global,
-    store: &S,
-    at: At,
+    seen: &Seen<S>,
     asked: &Option<ListedTopics>,
     name: &Text,
     id: &u128,
 ) -> Result<Option<OngoingTopicReassignment>, NoMemory>
-    ensures { IfOk result (λ row. row ≡ list_partition_reassignments.shown (seen_at (S.images store.now) at) asked.now (name.now, id.now)) }
+    ensures { IfOk result (λ row. row ≡ list_partition_reassignments.shown seen.now asked.now (name.now, id.now)) }
 {
-    let partitions = ongoing_of(alloc, store, at, asked, name, id)?;
+    let partitions = ongoing_of(alloc, seen, asked, name, id)?;
     if partitions.is_empty() {
         return Ok(None);
     }
@@ -129,13 +125,12 @@ impl<'a> TopicPart<OngoingTopicReassignment> for AskedTopics<'a> {
     fn add<S: Store>(
         &self,
         alloc: Global,
-        store: &S,
-        at: At,
+        seen: &Seen<S>,
         name: &Text,
         id: &u128,
         rows: &mut Rows<OngoingTopicReassignment>,
     ) -> Result<(), NoMemory> {
-        if let Some(row) = topic_row(alloc, store, at, self.asked, name, id)? {
+        if let Some(row) = topic_row(alloc, seen, self.asked, name, id)? {
             rows.push(row)?;
         }
         Ok(())
@@ -145,28 +140,24 @@ impl<'a> TopicPart<OngoingTopicReassignment> for AskedTopics<'a> {
 #[tactic(auto, using(crate::proofs::OngoingRows::all_shown))]
 fn all_topic_rows<S: Store>(
     alloc: Global,
-    store: &S,
-    at: At,
+    seen: &Seen<S>,
     asked: &Option<ListedTopics>,
 ) -> Result<Rows<OngoingTopicReassignment>, NoMemory>
-    ensures { IfOk result (λ rows. rows ≡ filter_map (list_partition_reassignments.shown (seen_at (S.images store.now) at) asked.now) (seen_at (S.images store.now) at).topics) }
+    ensures { IfOk result (λ rows. rows ≡ filter_map (list_partition_reassignments.shown seen.now asked.now) seen.now.topics) }
 {
-    gather_topics(alloc, store, at, &AskedTopics { asked })
+    gather_topics(alloc, seen, &AskedTopics { asked })
 }
 
-/// The partitions that are being reassigned, all or those that are asked for, at a place of the store. NoEpoch exactly
-/// where the place is an epoch that isn't kept.
+/// The partitions that are being reassigned, all or those that are asked for.
 #[tactic(auto, unfolding(kr_calls::specs::ListPartitionReassignments::queried))]
 pub fn answer<S: Store>(
     alloc: Global,
-    store: &S,
-    at: At,
+    seen: &Seen<S>,
     _options: &Options,
     request: &ListPartitionReassignments,
-) -> Result<Reply, ReadFault>
-    ensures { LooksUp (S.images store.now) at result (λ image. list_partition_reassignments.queried image request.now) }
+) -> Result<Reply, NoMemory>
+    ensures { IfOk result (λ reply. reply ≡ list_partition_reassignments.queried seen.now request.now) }
 {
-    look(store, at)?;
-    let topics = all_topic_rows(alloc, store, at, &request.topics)?;
+    let topics = all_topic_rows(alloc, seen, &request.topics)?;
     Ok(Reply::ListPartitionReassignments(ListPartitionReassignmentsReply { error: 0, topics }))
 }

@@ -18,8 +18,8 @@ use kr_change::{Want, build};
 use kr_defs::{Copied, Ids, Options, Partition, PartitionChange, Text, are_apart};
 use kr_gather::{are_registered, are_targets, change_records, without};
 use kr_rules::{Groups, ItemRule, Refusal, Work};
-use kr_store::Store;
-use kr_walks::{active, default_want, facts, is_unclean, tip};
+use kr_store::{Seen, Store};
+use kr_walks::{active, default_want, facts, is_unclean};
 use std::alloc::Global;
 
 /// The rule for reassignments.
@@ -94,24 +94,24 @@ fn leading_back(alloc: Global, partition: &Partition) -> Result<Want, NoMemory>
     with_replicas(alloc, partition, original, Ids::new(alloc), Ids::new(alloc))
 }
 
-fn is_target<S: Store>(store: &S, ids: &Ids) -> bool
-    ensures { result ≡ alter_partition_reassignments.is_target (S.images store.now).tip ids.now }
+fn is_target<S: Store>(seen: &Seen<S>, ids: &Ids) -> bool
+    ensures { result ≡ alter_partition_reassignments.is_target seen.now ids.now }
 {
-    are_targets(ids) && are_registered(store, ids.as_slice())
+    are_targets(ids) && are_registered(seen, ids.as_slice())
 }
 
 // What is asked of the partition; without replicas the reassignment that runs is cancelled.
 fn want_of<S: Store>(
     alloc: Global,
-    store: &S,
+    seen: &Seen<S>,
     partition: &Partition,
     replicas: &Option<Ids>,
 ) -> Result<Want, Refusal>
-    ensures { Judges result (alter_partition_reassignments.wanted (S.images store.now).tip partition.now replicas.now) }
+    ensures { Judges result (alter_partition_reassignments.wanted seen.now partition.now replicas.now) }
 {
     match replicas {
         Some(target) => {
-            if !is_target(store, target) {
+            if !is_target(seen, target) {
                 return Err(Refusal::Error(INVALID_REPLICA_ASSIGNMENT));
             }
             Ok(leading_to(alloc, partition, target)?)
@@ -128,24 +128,24 @@ fn want_of<S: Store>(
 // All that is in sync would go, and records may not be lost.
 fn loses_all<S: Store>(
     alloc: Global,
-    store: &S,
+    seen: &Seen<S>,
     name: &Text,
     partition: &Partition,
     want: &Want,
 ) -> Result<bool, NoMemory>
-    ensures { IfOk result (λ loses. loses ≡ alter_partition_reassignments.loses_all (S.images store.now).tip name.now partition.now want.now) }
+    ensures { IfOk result (λ loses. loses ≡ alter_partition_reassignments.loses_all seen.now name.now partition.now want.now) }
 {
     if partition.in_sync.is_empty() || !are_apart(partition.in_sync.as_slice(), &want.replicas) {
         return Ok(false);
     }
-    let is_unclean = is_unclean(alloc, store, name)?;
+    let is_unclean = is_unclean(alloc, seen, name)?;
     Ok(!is_unclean)
 }
 
 // What is said of a partition of which this is asked.
 fn of_want<S: Store>(
     alloc: Global,
-    store: &S,
+    seen: &Seen<S>,
     rule: &ReassignmentRule,
     name: &Text,
     entry: &ReassignablePartition,
@@ -153,13 +153,13 @@ fn of_want<S: Store>(
     partition: &Partition,
     want: &Want,
 ) -> Result<Draft<ReassignablePartitionResponse>, Refusal>
-    ensures { Judges result (alter_partition_reassignments.of_want rule.now.options.now (S.images store.now).tip (name.now, entry.now) topic.now partition.now want.now) }
+    ensures { Judges result (alter_partition_reassignments.of_want rule.now.options.now seen.now (name.now, entry.now) topic.now partition.now want.now) }
 {
-    if loses_all(alloc, store, name, partition, want)? {
+    if loses_all(alloc, seen, name, partition, want)? {
         return Err(Refusal::Error(INVALID_REPLICA_ASSIGNMENT));
     }
-    let active = active(alloc, store)?;
-    let facts = facts(alloc, store, &rule.options.minimum, &active, name)?;
+    let active = active(alloc, seen)?;
+    let facts = facts(alloc, seen, &rule.options.minimum, &active, name)?;
     let change = build(alloc, partition, want, &facts)?;
     Ok(draft_of(alloc, name, entry, topic, change)?)
 }
@@ -183,19 +183,19 @@ impl<'a> ItemRule<Text, ReassignablePartition, ReassignablePartitionResponse>
     fn judge<S: Store>(
         &self,
         alloc: Global,
-        store: &S,
+        seen: &Seen<S>,
         _work: &Work,
         key: &Text,
         item: &ReassignablePartition,
     ) -> Result<Draft<ReassignablePartitionResponse>, Refusal> {
-        let Some(topic) = tip::topic_named(store, key) else {
+        let Some(topic) = seen.topic_named(key) else {
             return Err(Refusal::Error(UNKNOWN_TOPIC_OR_PARTITION));
         };
-        let Some(partition) = tip::partition(store, &topic.id, &item.index) else {
+        let Some(partition) = seen.partition(&topic.id, &item.index) else {
             return Err(Refusal::Error(UNKNOWN_TOPIC_OR_PARTITION));
         };
-        let want = want_of(alloc, store, partition, &item.replicas)?;
-        of_want(alloc, store, self, key, item, &topic.id, partition, &want)
+        let want = want_of(alloc, seen, partition, &item.replicas)?;
+        of_want(alloc, seen, self, key, item, &topic.id, partition, &want)
     }
 }
 

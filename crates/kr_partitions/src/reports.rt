@@ -20,8 +20,8 @@ use kr_change::{Want, build, merge};
 use kr_defs::{Broker, Copied, Ids, Options, Partition, PartitionChange, Records, Text};
 use kr_gather::change_records;
 use kr_rules::{Groups, ItemRule, Refusal, Work};
-use kr_store::Store;
-use kr_walks::{active, default_want, facts, is_active, tip};
+use kr_store::{Seen, Store};
+use kr_walks::{active, default_want, facts, is_active};
 use std::alloc::Global;
 
 /// The rule for the reports of one broker.
@@ -91,19 +91,19 @@ fn is_same_epoch(epoch: &i64, state: &Broker) -> bool
 }
 
 // The member may be in sync.
-fn is_ready<S: Store>(store: &S, member: &BrokerState) -> bool
-    ensures { result ≡ alter_partition.is_ready (S.images store.now).tip member.now }
+fn is_ready<S: Store>(seen: &Seen<S>, member: &BrokerState) -> bool
+    ensures { result ≡ alter_partition.is_ready seen.now member.now }
 {
-    match tip::broker(store, &member.broker) {
+    match seen.broker(&member.broker) {
         Some(state) => is_active(state) && is_same_epoch(&member.epoch, state),
         None => false,
     }
 }
 
-fn are_ready<S: Store>(store: &S, members: &[BrokerState]) -> bool
-    ensures { result ≡ list_all (alter_partition.is_ready (S.images store.now).tip) members.now }
+fn are_ready<S: Store>(seen: &Seen<S>, members: &[BrokerState]) -> bool
+    ensures { result ≡ list_all (alter_partition.is_ready seen.now) members.now }
 {
-    members.iter().all(|member| is_ready(store, member))
+    members.iter().all(|member| is_ready(seen, member))
 }
 
 fn want_of(
@@ -177,7 +177,7 @@ fn draft_of(
 #[tactic(auto, unfolding(kr_calls::specs::AlterPartition::accepted))]
 fn accept<S: Store>(
     alloc: Global,
-    store: &S,
+    seen: &Seen<S>,
     rule: &ReportRule,
     topic: &u128,
     report: &PartitionReport,
@@ -186,11 +186,11 @@ fn accept<S: Store>(
     members: Ids,
 ) -> Result<Draft<AlterPartitionResult>, NoMemory>
     requires { members ≡ alter_partition.members report.now }
-    ensures { IfOk result (λ draft. draft ≡ alter_partition.accepted rule.now.options.now rule.now.broker (S.images store.now).tip (topic.now, report.now) name.now partition.now) }
+    ensures { IfOk result (λ draft. draft ≡ alter_partition.accepted rule.now.options.now rule.now.broker seen.now (topic.now, report.now) name.now partition.now) }
 {
     let want = want_of(alloc, partition, report, members)?;
-    let active = active(alloc, store)?;
-    let facts = facts(alloc, store, &rule.options.minimum, &active, name)?;
+    let active = active(alloc, seen)?;
+    let facts = facts(alloc, seen, &rule.options.minimum, &active, name)?;
     let change = build(alloc, partition, &want, &facts)?;
     draft_of(alloc, &rule.broker, topic, report, partition, change)
 }
@@ -199,37 +199,37 @@ fn accept<S: Store>(
 #[tactic(auto, unfolding(crate::specs::inner::EpochReports::of_members))]
 fn of_members<S: Store>(
     alloc: Global,
-    store: &S,
+    seen: &Seen<S>,
     rule: &ReportRule,
     topic: &u128,
     report: &PartitionReport,
     name: &Text,
     partition: &Partition,
 ) -> Result<Draft<AlterPartitionResult>, Refusal>
-    ensures { Judges result (of_members rule.now.options.now rule.now.broker (S.images store.now).tip (topic.now, report.now) name.now partition.now) }
+    ensures { Judges result (of_members rule.now.options.now rule.now.broker seen.now (topic.now, report.now) name.now partition.now) }
 {
     let members = members(alloc, report)?;
     if is_bad(&rule.broker, partition, report, &members) {
         return Err(Refusal::Error(INVALID_REQUEST));
     }
-    if !are_ready(store, report.in_sync.as_slice()) {
+    if !are_ready(seen, report.in_sync.as_slice()) {
         return Err(Refusal::Error(INELIGIBLE_REPLICA));
     }
-    Ok(accept(alloc, store, rule, topic, report, name, partition, members)?)
+    Ok(accept(alloc, seen, rule, topic, report, name, partition, members)?)
 }
 
 // What is said of a partition that stands.
 #[tactic(auto, unfolding(kr_calls::specs::AlterPartition::of_partition, crate::specs::inner::EpochReports::of_members))]
 fn of_partition<S: Store>(
     alloc: Global,
-    store: &S,
+    seen: &Seen<S>,
     rule: &ReportRule,
     topic: &u128,
     report: &PartitionReport,
     name: &Text,
     partition: &Partition,
 ) -> Result<Draft<AlterPartitionResult>, Refusal>
-    ensures { Judges result (alter_partition.of_partition rule.now.options.now rule.now.broker (S.images store.now).tip (topic.now, report.now) name.now partition.now) }
+    ensures { Judges result (alter_partition.of_partition rule.now.options.now rule.now.broker seen.now (topic.now, report.now) name.now partition.now) }
 {
     if report.leader_epoch < partition.leader_epoch {
         return Err(Refusal::Error(FENCED_LEADER_EPOCH));
@@ -240,7 +240,7 @@ fn of_partition<S: Store>(
     if report.partition_epoch != partition.partition_epoch {
         return Err(Refusal::Error(INVALID_UPDATE_VERSION));
     }
-    of_members(alloc, store, rule, topic, report, name, partition)
+    of_members(alloc, seen, rule, topic, report, name, partition)
 }
 
 impl<'a> ItemRule<u128, PartitionReport, AlterPartitionResult> for ReportRule<'a> {
@@ -261,18 +261,18 @@ impl<'a> ItemRule<u128, PartitionReport, AlterPartitionResult> for ReportRule<'a
     fn judge<S: Store>(
         &self,
         alloc: Global,
-        store: &S,
+        seen: &Seen<S>,
         _work: &Work,
         key: &u128,
         item: &PartitionReport,
     ) -> Result<Draft<AlterPartitionResult>, Refusal> {
-        let Some(topic) = tip::topic(store, key) else {
+        let Some(topic) = seen.topic(key) else {
             return Err(Refusal::Error(UNKNOWN_TOPIC_ID));
         };
-        let Some(partition) = tip::partition(store, key, &item.index) else {
+        let Some(partition) = seen.partition(key, &item.index) else {
             return Err(Refusal::Error(UNKNOWN_TOPIC_OR_PARTITION));
         };
-        of_partition(alloc, store, self, key, item, &topic.name, partition)
+        of_partition(alloc, seen, self, key, item, &topic.name, partition)
     }
 }
 

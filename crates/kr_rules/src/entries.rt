@@ -15,7 +15,7 @@ use crate::{Refusal, Rule, Work};
 use kr_base::{NoMemory, Steps};
 use kr_calls::Draft;
 use kr_defs::{Records, Rows};
-use kr_store::Store;
+use kr_store::{Seen, Store};
 use std::alloc::Global;
 use std::sync::ledger::Ledger;
 
@@ -57,7 +57,8 @@ pub(crate) fn one<E, A: Drop, R: Rule<E, A>, S: Store, L: Ledger>(
     ensures own { IfSome (draft_cost (S.images store.old).tip (R.rule rule.now (S.images store.old).tip (place_of work.old) entry.now)) (λ n. OnOk result (steps.new ≤ steps.old + n)) }
     ensures later { steps.old ≤ steps.new }
 {
-    match rule.judge(alloc, store, work, entry) {
+    let seen = Seen::tip(store);
+    match rule.judge(alloc, &seen, work, entry) {
         Ok(Draft { records, answer }) => {
             if take(alloc, store, work, records, steps)? {
                 Ok(answer)

@@ -13,7 +13,7 @@ use crate::{Groups, ItemRule, Refusal, Rule, Work};
 use kr_base::{NoMemory, Steps};
 use kr_calls::Draft;
 use kr_defs::{Records, Rows};
-use kr_store::Store;
+use kr_store::{Seen, Store};
 use std::alloc::Global;
 use std::sync::ledger::Ledger;
 
@@ -36,11 +36,11 @@ impl<'a, K, I, A, R: ItemRule<K, I, A>> Rule<I, A> for Within<'a, K, R> {
     fn judge<S: Store>(
         &self,
         alloc: Global,
-        store: &S,
+        seen: &Seen<S>,
         work: &Work,
         entry: &I,
     ) -> Result<Draft<A>, Refusal> {
-        self.rule.judge(alloc, store, work, self.key, entry)
+        self.rule.judge(alloc, seen, work, self.key, entry)
     }
 }
 

@@ -13,7 +13,7 @@ ghost use Rattle.kr_rules.specs.Room.{Fills, TellsRoom, filled, value_text, with
 use kr_base::NoMemory;
 use kr_defs::limits::{LAST_INDEX, MOST_CONFIG_TEXT, MOST_PARTITIONS, MOST_TOPICS};
 use kr_defs::{ConfigKey, Copied, Record, Text};
-use kr_store::{At, Counts, Store};
+use kr_store::{Counts, Seen, Store};
 use std::alloc::Global;
 use std::collections::BTreeMap;
 use std::marker::Model;
@@ -93,11 +93,11 @@ fn value_text(key: &ConfigKey, value: &Option<Text>) -> u128
     }
 }
 
-// The text of a setting of the present image.
-fn present_text<S: Store>(store: &S, key: &ConfigKey) -> u128
-    ensures { result ≡ value_text key.now (entries.get config_order (S.images store.now).tip.configs key.now) }
+// The text of a setting of the image.
+fn present_text<S: Store>(seen: &Seen<S>, key: &ConfigKey) -> u128
+    ensures { result ≡ value_text key.now (entries.get config_order seen.now.configs key.now) }
 {
-    match store.config(At::Tip, key).unwrap_or(None) {
+    match seen.config(key) {
         Some(value) => entry_text(key, value),
         None => 0,
     }
@@ -139,21 +139,26 @@ impl Filling {
         true
     }
 
-    fn text_at<S: Store>(&self, store: &S, key: &ConfigKey) -> u128
-        ensures { result ≡ room.text_at (S.images store.now).tip.configs self.now.given key.now }
+    fn text_at<S: Store>(&self, seen: &Seen<S>, key: &ConfigKey) -> u128
+        ensures { result ≡ room.text_at seen.now.configs self.now.given key.now }
     {
         match self.given.get(key) {
             Some(text) => *text,
-            None => present_text(store, key),
+            None => present_text(seen, key),
         }
     }
 
     // The setting takes so much text.
-    fn give<S: Store>(&mut self, store: &S, key: ConfigKey, text: u128) -> Result<bool, NoMemory>
+    fn give<S: Store>(
+        &mut self,
+        seen: &Seen<S>,
+        key: ConfigKey,
+        text: u128,
+    ) -> Result<bool, NoMemory>
         requires { text < 2 ^ 66 }
-        ensures { IfOk result (λ fits. Fills (with_text (S.images store.now).tip.configs self.old key text) fits self.new) }
+        ensures { IfOk result (λ fits. Fills (with_text seen.now.configs self.old key text) fits self.new) }
     {
-        let all = self.text.saturating_sub(self.text_at(store, &key)) + text;
+        let all = self.text.saturating_sub(self.text_at(seen, &key)) + text;
         if all > MOST_CONFIG_TEXT as u128 {
             return Ok(false);
         }
@@ -164,19 +169,24 @@ impl Filling {
 
     fn add_setting<S: Store>(
         &mut self,
-        store: &S,
+        seen: &Seen<S>,
         key: ConfigKey,
         value: &Option<Text>,
     ) -> Result<bool, NoMemory>
-        ensures { IfOk result (λ fits. Fills (with_text (S.images store.now).tip.configs self.old key (value_text key value.now)) fits self.new) }
+        ensures { IfOk result (λ fits. Fills (with_text seen.now.configs self.old key (value_text key value.now)) fits self.new) }
     {
         let text = value_text(&key, value);
-        self.give(store, key, text)
+        self.give(seen, key, text)
     }
 
     // A record more, where there is room for it.
-    fn add<S: Store>(&mut self, alloc: Global, store: &S, value: &Record) -> Result<bool, NoMemory>
-        ensures { IfOk result (λ fits. Fills (filled (S.images store.now).tip.configs self.old value.now) fits self.new) }
+    fn add<S: Store>(
+        &mut self,
+        alloc: Global,
+        seen: &Seen<S>,
+        value: &Record,
+    ) -> Result<bool, NoMemory>
+        ensures { IfOk result (λ fits. Fills (filled seen.now.configs self.old value.now) fits self.new) }
     {
         match value {
             Record::Topic { .. } => Ok(self.add_topic()),
@@ -188,28 +198,29 @@ impl Filling {
                 value,
             } => {
                 let key = key_of(alloc, kind, name, key)?;
-                self.add_setting(store, key, value)
+                self.add_setting(seen, key, value)
             }
             _ => Ok(true),
         }
     }
 }
 
-/// The present image has room for the records, as far as it is told of plain ones: for their topics, partitions and
+/// The image has room for the records, as far as it is told of plain ones: for their topics, partitions and
 /// settings, one after the other.
 pub(crate) fn has_room<S: Store>(
     alloc: Global,
-    store: &S,
+    seen: &Seen<S>,
     records: &[Record],
 ) -> Result<bool, NoMemory>
-    ensures { IfOk result (λ fits. TellsRoom records.now (apply_records (S.images store.now).tip records.now) fits) }
+    ensures { IfOk result (λ fits. TellsRoom records.now (apply_records seen.now records.now) fits) }
 {
     if !are_plain(records) {
         return Ok(true);
     }
-    let mut filling = Filling::new(alloc, store.counts());
+    seen.is_valid();
+    let mut filling = Filling::new(alloc, seen.counts());
     for value in records {
-        if !filling.add(alloc, store, value)? {
+        if !filling.add(alloc, seen, value)? {
             return Ok(false);
         }
     }

@@ -10,7 +10,7 @@ use crate::{Refusal, Work};
 use kr_base::NoMemory;
 use kr_calls::Draft;
 use kr_defs::Rows;
-use kr_store::Store;
+use kr_store::{Seen, Store};
 use std::alloc::Global;
 
 /// What is decided of one entry of a request.
@@ -27,11 +27,11 @@ pub trait Rule<E, A>: Sized {
     fn judge<S: Store>(
         &self,
         alloc: Global,
-        store: &S,
+        seen: &Seen<S>,
         work: &Work,
         entry: &E,
     ) -> Result<Draft<A>, Refusal>
-        ensures { Judges result (rule self.now (S.images store.now).tip (place_of work.now) entry.now) };
+        ensures { Judges result (rule self.now seen.now (place_of work.now) entry.now) };
 }
 
 /// What is decided of one item of a group, as of a partition of a topic. The key is the group's.
@@ -48,12 +48,12 @@ pub trait ItemRule<K, I, A>: Sized {
     fn judge<S: Store>(
         &self,
         alloc: Global,
-        store: &S,
+        seen: &Seen<S>,
         work: &Work,
         key: &K,
         item: &I,
     ) -> Result<Draft<A>, Refusal>
-        ensures { Judges result (rule self.now (S.images store.now).tip (place_of work.now) (key.now, item.now)) };
+        ensures { Judges result (rule self.now seen.now (place_of work.now) (key.now, item.now)) };
 }
 
 /// How the entries of a request stand in groups.

@@ -19,7 +19,7 @@ use crate::sizes::value_bytes;
 use kr_base::{NoMemory, Steps};
 use kr_defs::limits::{MOST_REQUEST_BYTES, MOST_REQUEST_RECORDS, MOST_TARGETS};
 use kr_defs::{Partition, Record, Records, Rows};
-use kr_store::{ApplyFault, Store};
+use kr_store::{ApplyFault, Seen, Store};
 use std::alloc::Global;
 use std::marker::Model;
 use std::sync::ledger::Ledger;
@@ -267,7 +267,7 @@ pub fn take<S: Store, L: Ledger>(
     let Some(bytes) = work.room_for(records.as_slice()) else {
         return Ok(false);
     };
-    if !has_room(alloc, store, records.as_slice())? {
+    if !has_room(alloc, &Seen::tip(store), records.as_slice())? {
         return Ok(false);
     }
     match apply_each(store, work.place(), records.as_slice(), steps)? {

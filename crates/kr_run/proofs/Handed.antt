@@ -6,7 +6,7 @@ use Rattle.kr_world.specs.declared.writes.Write.{Write}
 use Rattle.kr_world.specs.Engine.{Core, Hands, IsEngine, IsSound, IsStep, outputs_left}
 use Rattle.kr_world.specs.Entries.{log_entries}
 use Rattle.kr_world.specs.Events.{happens}
-use Rattle.kr_world.specs.Outputs.{outputs_of, waiting_after}
+use Rattle.kr_world.specs.Outputs.{new_writes, outputs_of, waiting_after}
 use Rattle.kr_world.specs.Runs.{HandsAll, Runs}
 use Rattle.kr_world.specs.World.{State}
 use Rattle.kr_run.specs.Endings.{WroteAll, WroteSome}
@@ -55,6 +55,7 @@ step_through a b c event none step = record {
   options = step.options ∙ none.options;
   stands = λ s writes k. subst (λ o. IsEngine c (happens o s event) (waiting_after o s writes event)) none.options (step.stands s writes (none.stands s writes k));
   outputs = λ s writes k. step.outputs s writes (none.stands s writes k) ∙ ap (λ o. outputs_of o s writes event) none.options;
+  held = λ s writes k. step.held s writes (none.stands s writes k) ∙ ap (λ o. writes ++ new_writes o s event) none.options;
   fresh = λ s writes k. step.fresh s writes (none.stands s writes k) ∙ ap (λ o. log_entries o s event) none.options;
 }
 

@@ -3,7 +3,6 @@ pub mod Chunks
 pub mod Faults
 pub mod Fronts
 pub mod Groups
-pub mod Lookups
 pub mod ReaderSteps
 pub mod RecordsRead
 pub mod SmallRecords

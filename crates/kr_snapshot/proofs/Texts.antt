@@ -1,6 +1,6 @@
 -- What is written for an image stands for it.
 use Rattle.std.proofs.Common.{◌≡◌, ℕ, ℤ, pos, ◌+◌, ◌<◌, ◌≤◌, ◌^◌, cond, List, [], ◌∷◌, ◌++◌, length, length-append, append_assoc, Ok, refl, sym, ap, subst, arith, All}
-use Rattle.std.specs.Prelude.{FitsSigned, ◌≤ℤ◌, map, sum_by, Option, Some, None, IfSome, unwrap_or}
+use Rattle.std.specs.Prelude.{FitsSigned, ◌≤ℤ◌, map, sum_by, Result, Err, OnOk}
 use Rattle.std.specs.Int.{w64}
 use Rattle.std.specs.List.{AllByRecursion}
 use Rattle.std.proofs.lemmas.Int.{ints}
@@ -11,7 +11,7 @@ use Rattle.kr_defs.specs.declared.limits.TheConstants.{IMAGE_BATCH, MOST_CONFIG_
 use Rattle.kr_defs.specs.declared.record.Record.{Record}
 use Rattle.kr_defs.specs.declared.record.Item.{Item}
 use Rattle.kr_defs.specs.declared.record.Item.TheVariants as items
-use Rattle.kr_defs.specs.Image.{Image, IsValid, empty}
+use Rattle.kr_defs.specs.Image.{Image, IsValid}
 use Rattle.kr_defs.specs.ImageLaws.{as_items}
 use Rattle.kr_defs.specs.Records.{records_of}
 use Rattle.kr_defs.proofs.OwnRecords.{own_records}
@@ -112,8 +112,8 @@ pub text_again : (offset : ℤ) (image : Image) → IsValid image → pos 0 ≤�
     → image_of (image_text offset image) ≡ Ok (offset, image)
 text_again offset image valid least fits few held = image_complete offset image (image_text offset image) (text_stands offset image valid least fits few held)
 
--- the image at a place, where there is one
-pub text_at_stands : (o : Option Image) (offset : ℤ) → IsValid (unwrap_or o empty) → pos 0 ≤ℤ offset → FitsSigned w64 offset → length (records_of (unwrap_or o empty)) < 2 ^ 63
-    → All IsHeld (records_of (unwrap_or o empty)) → IfSome o (λ (image : Image). IsImage offset image (image_text offset image))
-text_at_stands None offset valid least fits few held = tt
-text_at_stands (Some image) offset valid least fits few held = text_stands offset image valid least fits few held
+-- the same of a call that writes it
+pub on_ok_stands : {T E : Type 0} (offset : ℤ) (image : Image) (result : Result T E) → IsValid image → pos 0 ≤ℤ offset → FitsSigned w64 offset → OnOk result (length (records_of image) < 2 ^ 63)
+    → OnOk result (All IsHeld (records_of image)) → OnOk result (IsImage offset image (image_text offset image))
+on_ok_stands offset image (Ok done) valid least fits few held = text_stands offset image valid least fits few held
+on_ok_stands offset image (Err fault) valid least fits few held = tt

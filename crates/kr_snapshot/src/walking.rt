@@ -1,23 +1,19 @@
 //! The records of an image, in their order, go to a writer.
 
-ghost use Rattle.std.specs.Prelude.{◌≡◌, ◌∷◌, [], negsuc, map, flat_map, IfOk, OnOk, IfSome, IsNone, Some};
+ghost use Rattle.std.specs.Prelude.{◌≡◌, ◌∷◌, [], map, flat_map, IfOk, OnOk, Some};
 ghost use Rattle.kr_defs.specs.declared.record.Record.TheVariants as kinds;
-ghost use Rattle.kr_defs.specs.Image.{IsValid};
 ghost use Rattle.kr_defs.specs.Map.{above, partition_order};
 ghost use Rattle.kr_defs.specs.Records.{topic_records};
 ghost use Rattle.kr_defs.specs.Walk.{of_topic};
 ghost use Rattle.kr_record.specs.RecordRanges.{IsHeld};
-ghost use Rattle.kr_store.specs.Reads.{seen_at};
 ghost use Rattle.kr_snapshot.specs.inner.EntryRecords.{feature_record, broker_record, partition_record, config_record};
 ghost use Rattle.kr_snapshot.specs.inner.Writer.{MayAdd, Adds};
 
-use crate::shown::next_topic;
 use crate::writer::BatchWriter;
 use kr_base::NoMemory;
 use kr_defs::{Broker, ConfigKey, Copied, Partition, Record, Text};
-use kr_gather::looking;
 use kr_record::record_is_held;
-use kr_store::{At, Store};
+use kr_store::{Seen, Store, before_all};
 use std::alloc::Global;
 
 fn feature(alloc: Global, name: &Text, level: &i16) -> Result<Record, NoMemory>
@@ -88,16 +84,15 @@ fn setting(alloc: Global, key: &ConfigKey, value: &Text) -> Result<Record, NoMem
 #[tactic(auto, using(crate::proofs::WriterRecords::adding))]
 pub(crate) fn put_features<S: Store>(
     alloc: Global,
-    store: &S,
-    at: At,
+    seen: &Seen<S>,
     writer: &mut BatchWriter,
 ) -> Result<(), NoMemory>
-    requires valid { IsValid (seen_at (S.images store.now) at) }
-    requires may { MayAdd writer.old (map feature_record (seen_at (S.images store.now) at).features) }
-    ensures { OnOk result (Adds writer.old writer.new (map feature_record (seen_at (S.images store.now) at).features)) }
+    requires { MayAdd writer.old (map feature_record seen.now.features) }
+    ensures { OnOk result (Adds writer.old writer.new (map feature_record seen.now.features)) }
 {
+    seen.is_valid();
     let mut after = None;
-    while let Some((name, level)) = looking::next_feature(store, at, after) {
+    while let Some((name, level)) = seen.next_feature(after) {
         writer.push(feature(alloc, name, level)?)?;
         after = Some(name);
     }
@@ -108,67 +103,36 @@ pub(crate) fn put_features<S: Store>(
 #[tactic(auto, using(crate::proofs::WriterRecords::adding))]
 pub(crate) fn put_brokers<S: Store>(
     alloc: Global,
-    store: &S,
-    at: At,
+    seen: &Seen<S>,
     writer: &mut BatchWriter,
 ) -> Result<(), NoMemory>
-    requires valid { IsValid (seen_at (S.images store.now) at) }
-    requires may { MayAdd writer.old (map broker_record (seen_at (S.images store.now) at).brokers) }
-    ensures { OnOk result (Adds writer.old writer.new (map broker_record (seen_at (S.images store.now) at).brokers)) }
+    requires { MayAdd writer.old (map broker_record seen.now.brokers) }
+    ensures { OnOk result (Adds writer.old writer.new (map broker_record seen.now.brokers)) }
 {
+    seen.is_valid();
     let mut after = None;
-    while let Some((id, state)) = looking::next_broker(store, at, after) {
+    while let Some((id, state)) = seen.next_broker(after) {
         writer.push(registration(alloc, id, state)?)?;
         after = Some(id);
     }
     Ok(())
 }
 
-fn before_all(id: &u128) -> (u128, i32)
-    ensures { result ≡ (id.now, negsuc 0) }
-{
-    (*id, -1)
-}
-
-// The next partition of the same topic.
-fn next_of<'a, S: Store>(
-    store: &'a S,
-    at: At,
-    after: &(u128, i32),
-) -> Option<(&'a (u128, i32), &'a Partition)>
-    requires { IsValid (seen_at (S.images store.now) at) }
-    ensures next { IfSome result (λ e. of_topic after.now.0 (above partition_order (seen_at (S.images store.now) at).partitions (Some after.now)) ≡ (e.0.now, e.1.now) ∷ of_topic e.0.now.0 (above partition_order (seen_at (S.images store.now) at).partitions (Some e.0.now))) }
-    ensures none { IsNone result → of_topic after.now.0 (above partition_order (seen_at (S.images store.now) at).partitions (Some after.now)) ≡ [] }
-{
-    match looking::next_partition(store, at, after) {
-        Some((key, partition)) => {
-            if key.0 == after.0 {
-                Some((key, partition))
-            } else {
-                None
-            }
-        }
-        None => None,
-    }
-}
-
 // The partitions of the topic of this key, above it.
 #[tactic(auto, using(crate::proofs::WriterRecords::adding))]
 fn put_above<S: Store>(
     alloc: Global,
-    store: &S,
-    at: At,
-    first: &(u128, i32),
+    seen: &Seen<S>,
+    first: (u128, i32),
     writer: &mut BatchWriter,
 ) -> Result<(), NoMemory>
-    requires valid { IsValid (seen_at (S.images store.now) at) }
-    requires may { MayAdd writer.old (map partition_record (of_topic first.now.0 (above partition_order (seen_at (S.images store.now) at).partitions (Some first.now)))) }
-    ensures { OnOk result (Adds writer.old writer.new (map partition_record (of_topic first.now.0 (above partition_order (seen_at (S.images store.now) at).partitions (Some first.now))))) }
+    requires { MayAdd writer.old (map partition_record (of_topic first.0 (above partition_order seen.now.partitions (Some first)))) }
+    ensures { OnOk result (Adds writer.old writer.new (map partition_record (of_topic first.0 (above partition_order seen.now.partitions (Some first))))) }
 {
     let mut after = first;
-    while let Some((key, state)) = next_of(store, at, after) {
+    while let Some((key, state)) = seen.next_of_topic(&after) {
         writer.push(partition(alloc, key, state)?)?;
-        after = key;
+        after = *key;
     }
     Ok(())
 }
@@ -176,36 +140,33 @@ fn put_above<S: Store>(
 // A topic, and its partitions by index.
 fn put_topic<S: Store>(
     alloc: Global,
-    store: &S,
-    at: At,
+    seen: &Seen<S>,
     name: &Text,
     id: &u128,
     writer: &mut BatchWriter,
 ) -> Result<(), NoMemory>
-    requires valid { IsValid (seen_at (S.images store.now) at) }
-    requires may { MayAdd writer.old (topic_records (seen_at (S.images store.now) at).partitions (name.now, id.now)) }
-    ensures { OnOk result (Adds writer.old writer.new (topic_records (seen_at (S.images store.now) at).partitions (name.now, id.now))) }
+    requires { MayAdd writer.old (topic_records seen.now.partitions (name.now, id.now)) }
+    ensures { OnOk result (Adds writer.old writer.new (topic_records seen.now.partitions (name.now, id.now))) }
 {
+    seen.is_valid();
     writer.push(topic(alloc, name, id)?)?;
-    let first = before_all(id);
-    put_above(alloc, store, at, &first, writer)
+    put_above(alloc, seen, before_all(id), writer)
 }
 
 /// The topics by name, each with its partitions behind it.
 #[tactic(auto, using(crate::proofs::WriterRecords::adding))]
 pub(crate) fn put_topics<S: Store>(
     alloc: Global,
-    store: &S,
-    at: At,
+    seen: &Seen<S>,
     writer: &mut BatchWriter,
 ) -> Result<(), NoMemory>
-    requires valid { IsValid (seen_at (S.images store.now) at) }
-    requires may { MayAdd writer.old (flat_map (topic_records (seen_at (S.images store.now) at).partitions) (seen_at (S.images store.now) at).topics) }
-    ensures { OnOk result (Adds writer.old writer.new (flat_map (topic_records (seen_at (S.images store.now) at).partitions) (seen_at (S.images store.now) at).topics)) }
+    requires { MayAdd writer.old (flat_map (topic_records seen.now.partitions) seen.now.topics) }
+    ensures { OnOk result (Adds writer.old writer.new (flat_map (topic_records seen.now.partitions) seen.now.topics)) }
 {
+    seen.is_valid();
     let mut after = None;
-    while let Some((name, topic)) = next_topic(store, at, after) {
-        put_topic(alloc, store, at, name, &topic.id, writer)?;
+    while let Some((name, id)) = seen.next_topic(after) {
+        put_topic(alloc, seen, name, id, writer)?;
         after = Some(name);
     }
     Ok(())
@@ -215,16 +176,15 @@ pub(crate) fn put_topics<S: Store>(
 #[tactic(auto, using(crate::proofs::WriterRecords::adding))]
 pub(crate) fn put_configs<S: Store>(
     alloc: Global,
-    store: &S,
-    at: At,
+    seen: &Seen<S>,
     writer: &mut BatchWriter,
 ) -> Result<(), NoMemory>
-    requires valid { IsValid (seen_at (S.images store.now) at) }
-    requires may { MayAdd writer.old (map config_record (seen_at (S.images store.now) at).configs) }
-    ensures { OnOk result (Adds writer.old writer.new (map config_record (seen_at (S.images store.now) at).configs)) }
+    requires { MayAdd writer.old (map config_record seen.now.configs) }
+    ensures { OnOk result (Adds writer.old writer.new (map config_record seen.now.configs)) }
 {
+    seen.is_valid();
     let mut after = None;
-    while let Some((key, value)) = looking::next_config(store, at, after) {
+    while let Some((key, value)) = seen.next_config(after) {
         writer.push(setting(alloc, key, value)?)?;
         after = Some(key);
     }

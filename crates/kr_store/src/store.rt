@@ -9,7 +9,7 @@ ghost use Rattle.kr_defs.specs.Map as entries;
 ghost use Rattle.kr_defs.specs.Map.{text_order, partition_order, config_order};
 ghost use Rattle.kr_defs.specs.Weight.{weight};
 ghost use Rattle.kr_store.specs.ItemAnswers.{Applies, Ticks};
-ghost use Rattle.kr_store.specs.Images.{Images, AreValid, brokers_at, topics_at, partitions_at, configs_at, features_at, topic_of, topic_entry, last_kept, last_image, counts_of};
+ghost use Rattle.kr_store.specs.Images.{Images, AreValid, image_of_place, brokers_at, topics_at, partitions_at, configs_at, features_at, topic_of, topic_entry, last_kept, last_image, counts_of};
 
 use crate::{ApplyFault, At, Counts};
 use kr_base::{NoEpoch, Steps};
@@ -68,6 +68,11 @@ pub trait Store {
     /// How much the present image has. Every image of the store is valid.
     fn counts(&self) -> Counts
         ensures counts { result ≡ counts_of (images self.now).tip }
+        ensures valid { AreValid (images self.now) };
+
+    /// How much the image at the place has. Every image of the store is valid.
+    fn counts_at(&self, at: At) -> Result<Counts, NoEpoch>
+        ensures counts { MatchOption (image_of_place (images self.now) at) (IsErr result) (λ image. IsOkAnd result (λ counts. counts ≡ counts_of image)) }
         ensures valid { AreValid (images self.now) };
 
     /// Makes the present image what the item, which stands at the place, makes of it. An item without meaning changes

@@ -12,7 +12,7 @@ use crate::partitions::{Lists, is_wide};
 use kr_base::NoMemory;
 use kr_calls::CreatableReplicaAssignment;
 use kr_defs::{Copied, Ids, Rows};
-use kr_store::Store;
+use kr_store::{Seen, Store};
 use std::alloc::Global;
 use std::collections::BTreeMap;
 
@@ -31,15 +31,15 @@ pub(crate) fn first_size(assignments: &[CreatableReplicaAssignment]) -> usize
 
 /// Each may be that of a new partition, with as many replicas as the first.
 pub(crate) fn are_assignable<S: Store>(
-    store: &S,
+    seen: &Seen<S>,
     assignments: &[CreatableReplicaAssignment],
 ) -> bool
-    ensures { result ≡ create_topics.are_assignable (S.images store.now).tip assignments.now }
+    ensures { result ≡ create_topics.are_assignable seen.now assignments.now }
 {
     let size = first_size(assignments);
     assignments
         .iter()
-        .all(|assignment| is_wide(store, size, &assignment.brokers))
+        .all(|assignment| is_wide(seen, size, &assignment.brokers))
 }
 
 fn index_of(assignment: &CreatableReplicaAssignment) -> i64

@@ -34,8 +34,8 @@ use kr_defs::{Copied, Records, Rows};
 use kr_place::Grouped;
 use kr_rules::{Handler, Refusal, Rule, Work, decide_or_validate};
 use kr_sessions::Context;
-use kr_store::Store;
-use kr_walks::{count_of, tip};
+use kr_store::{Seen, Store};
+use kr_walks::count_of;
 use std::alloc::Global;
 use std::sync::ledger::Ledger;
 
@@ -76,12 +76,16 @@ fn new_count(entry: &CreatePartitionsTopic, first: u32) -> u32
     entry.count.unsigned_abs().saturating_sub(first)
 }
 
-fn are_wide<S: Store>(store: &S, size: usize, assignments: &[CreatePartitionsAssignment]) -> bool
-    ensures { result ≡ list_all (λ a. partitions.is_assignable (S.images store.now).tip a.brokers && length a.brokers == size) assignments.now }
+fn are_wide<S: Store>(
+    seen: &Seen<S>,
+    size: usize,
+    assignments: &[CreatePartitionsAssignment],
+) -> bool
+    ensures { result ≡ list_all (λ a. partitions.is_assignable seen.now a.brokers && length a.brokers == size) assignments.now }
 {
     assignments
         .iter()
-        .all(|assignment| is_wide(store, size, &assignment.brokers))
+        .all(|assignment| is_wide(seen, size, &assignment.brokers))
 }
 
 fn lists_of(alloc: Global, assignments: &[CreatePartitionsAssignment]) -> Result<Lists, NoMemory>
@@ -98,17 +102,17 @@ fn lists_of(alloc: Global, assignments: &[CreatePartitionsAssignment]) -> Result
 // The records of the new partitions over these replicas.
 fn draft_create_partitions<S: Store>(
     alloc: Global,
-    store: &S,
+    seen: &Seen<S>,
     entry: &CreatePartitionsTopic,
     topic: &u128,
     first: u32,
     lists: &Lists,
 ) -> Result<Draft<CreatePartitionsTopicResult>, NoMemory>
     requires { first + length lists.now ≤ 2 ^ 31 }
-    ensures { IfOk result (λ draft. draft ≡ create_partitions.grown (S.images store.now).tip topic.now first entry.now lists.now) }
+    ensures { IfOk result (λ draft. draft ≡ create_partitions.grown seen.now topic.now first entry.now lists.now) }
 {
     let mut records = Rows::new(alloc);
-    add_partitions(alloc, store, &mut records, topic, first, lists.as_slice())?;
+    add_partitions(alloc, seen, &mut records, topic, first, lists.as_slice())?;
     let answer = answer(alloc, &0, entry)?;
     Ok(Draft { records, answer })
 }
@@ -117,7 +121,7 @@ fn draft_create_partitions<S: Store>(
 #[tactic(auto, using(crate::proofs::Placements::counts))]
 fn grow_as_assigned<S: Store>(
     alloc: Global,
-    store: &S,
+    seen: &Seen<S>,
     entry: &CreatePartitionsTopic,
     topic: &u128,
     first: u32,
@@ -125,26 +129,26 @@ fn grow_as_assigned<S: Store>(
     assignments: &[CreatePartitionsAssignment],
 ) -> Result<Draft<CreatePartitionsTopicResult>, Refusal>
     requires { pos first <ℤ entry.now.count }
-    ensures { Judges result (refuse invalid_replica_assignment when not (create_partitions.are_assignable (S.images store.now).tip (unsigned_abs entry.now.count - first) size assignments.now) else refuse over_a_limit when not (has_room (S.images store.now).tip (length assignments.now)) else Ok (create_partitions.grown (S.images store.now).tip topic.now first entry.now (map (λ a. a.brokers) assignments.now))) }
+    ensures { Judges result (refuse invalid_replica_assignment when not (create_partitions.are_assignable seen.now (unsigned_abs entry.now.count - first) size assignments.now) else refuse over_a_limit when not (has_room seen.now (length assignments.now)) else Ok (create_partitions.grown seen.now topic.now first entry.now (map (λ a. a.brokers) assignments.now))) }
 {
     if assignments.len() != new_count(entry, first) as usize {
         return Err(Refusal::Error(INVALID_REPLICA_ASSIGNMENT));
     }
-    if !are_wide(store, size, assignments) {
+    if !are_wide(seen, size, assignments) {
         return Err(Refusal::Error(INVALID_REPLICA_ASSIGNMENT));
     }
-    if !has_room(store, assignments.len()) {
+    if !has_room(seen, assignments.len()) {
         return Err(Refusal::Error(POLICY_VIOLATION));
     }
     let lists = lists_of(alloc, assignments)?;
-    Ok(draft_create_partitions(alloc, store, entry, topic, first, &lists)?)
+    Ok(draft_create_partitions(alloc, seen, entry, topic, first, &lists)?)
 }
 
 // The new partitions are placed on the active brokers.
 #[tactic(auto, using(crate::proofs::Placements::counts))]
 fn grow_by_placing<S: Store>(
     alloc: Global,
-    store: &S,
+    seen: &Seen<S>,
     rule: &Growing,
     work: &Work,
     entry: &CreatePartitionsTopic,
@@ -153,13 +157,13 @@ fn grow_by_placing<S: Store>(
     size: usize,
 ) -> Result<Draft<CreatePartitionsTopicResult>, Refusal>
     requires { pos first <ℤ entry.now.count }
-    ensures { Judges result (refuse invalid_replication_factor when nat_lt rule.now.those.count size else refuse over_a_limit when not (has_room (S.images store.now).tip (unsigned_abs entry.now.count - first)) else Ok (create_partitions.grown (S.images store.now).tip topic.now first entry.now (room.placements_on rule.now.those (place_of work.now) first (unsigned_abs entry.now.count - first) size))) }
+    ensures { Judges result (refuse invalid_replication_factor when nat_lt rule.now.those.count size else refuse over_a_limit when not (has_room seen.now (unsigned_abs entry.now.count - first)) else Ok (create_partitions.grown seen.now topic.now first entry.now (room.placements_on rule.now.those (place_of work.now) first (unsigned_abs entry.now.count - first) size))) }
 {
     if rule.those.count() < size {
         return Err(Refusal::Error(INVALID_REPLICATION_FACTOR));
     }
     let count = new_count(entry, first);
-    if !has_room(store, count as usize) {
+    if !has_room(seen, count as usize) {
         return Err(Refusal::Error(POLICY_VIOLATION));
     }
     let those = &rule.those;
@@ -171,14 +175,14 @@ fn grow_by_placing<S: Store>(
         count as u64,
         size,
     )?;
-    Ok(draft_create_partitions(alloc, store, entry, topic, first, &lists)?)
+    Ok(draft_create_partitions(alloc, seen, entry, topic, first, &lists)?)
 }
 
 // A topic of so many partitions, of which the first leads to `size` replicas, gets more.
 #[tactic(auto, using(crate::proofs::Placements::counts))]
 fn of_size<S: Store>(
     alloc: Global,
-    store: &S,
+    seen: &Seen<S>,
     rule: &Growing,
     work: &Work,
     entry: &CreatePartitionsTopic,
@@ -187,13 +191,13 @@ fn of_size<S: Store>(
     size: usize,
 ) -> Result<Draft<CreatePartitionsTopicResult>, Refusal>
     requires { pos first <ℤ entry.now.count }
-    ensures { Judges result (room.of_size rule.now.those (S.images store.now).tip (place_of work.now) entry.now topic.now first size) }
+    ensures { Judges result (room.of_size rule.now.those seen.now (place_of work.now) entry.now topic.now first size) }
 {
     match &entry.assignments {
         Some(assignments) => {
             grow_as_assigned(
                 alloc,
-                store,
+                seen,
                 entry,
                 topic,
                 first,
@@ -201,28 +205,28 @@ fn of_size<S: Store>(
                 assignments.as_slice(),
             )
         }
-        None => grow_by_placing(alloc, store, rule, work, entry, topic, first, size),
+        None => grow_by_placing(alloc, seen, rule, work, entry, topic, first, size),
     }
 }
 
 fn of_topic<S: Store>(
     alloc: Global,
-    store: &S,
+    seen: &Seen<S>,
     rule: &Growing,
     work: &Work,
     entry: &CreatePartitionsTopic,
     topic: &u128,
 ) -> Result<Draft<CreatePartitionsTopicResult>, Refusal>
-    ensures { Judges result (room.of_topic rule.now.those (S.images store.now).tip (place_of work.now) entry.now topic.now (topics.count_of (S.images store.now).tip topic.now)) }
+    ensures { Judges result (room.of_topic rule.now.those seen.now (place_of work.now) entry.now topic.now (topics.count_of seen.now topic.now)) }
 {
-    let first = count_of(store, topic);
+    let first = count_of(seen, topic);
     if has_as_many(entry, first) {
         return Err(Refusal::Error(INVALID_PARTITIONS));
     }
-    match tip::partition(store, topic, &0) {
+    match seen.partition(topic, &0) {
         Some(partition) => {
             let size = target_len(partition);
-            of_size(alloc, store, rule, work, entry, topic, first, size)
+            of_size(alloc, seen, rule, work, entry, topic, first, size)
         }
         None => Err(Refusal::Error(INVALID_REPLICA_ASSIGNMENT)),
     }
@@ -245,12 +249,12 @@ impl Rule<CreatePartitionsTopic, CreatePartitionsTopicResult> for Growing {
     fn judge<S: Store>(
         &self,
         alloc: Global,
-        store: &S,
+        seen: &Seen<S>,
         work: &Work,
         entry: &CreatePartitionsTopic,
     ) -> Result<Draft<CreatePartitionsTopicResult>, Refusal> {
-        match tip::topic_named(store, &entry.name) {
-            Some(topic) => of_topic(alloc, store, self, work, entry, &topic.id),
+        match seen.topic_named(&entry.name) {
+            Some(topic) => of_topic(alloc, seen, self, work, entry, &topic.id),
             None => Err(Refusal::Error(UNKNOWN_TOPIC_OR_PARTITION)),
         }
     }
@@ -296,7 +300,7 @@ fn decide_create_partitions<S: Store, L: Ledger>(
     ensures made { IfOk result (λ d. (S.images store.new).made ≤ (S.images store.old).made + weights (S.images store.old).tip d.0) }
     ensures later { steps.old ≤ steps.new }
 {
-    let those = active_by_rack(alloc, store)?;
+    let those = active_by_rack(alloc, &Seen::tip(store))?;
     let topics = request.topics.as_slice();
     decide_on(
         alloc,

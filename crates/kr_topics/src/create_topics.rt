@@ -37,8 +37,8 @@ use kr_defs::{Copied, Options, Record, Records, Rows, Text, is_topic_name};
 use kr_place::Grouped;
 use kr_rules::{Handler, Refusal, Rule, Work, decide_or_validate};
 use kr_sessions::Context;
-use kr_store::Store;
-use kr_walks::{has_agreeing_name, tip};
+use kr_store::{Seen, Store};
+use kr_walks::has_agreeing_name;
 use std::alloc::Global;
 use std::sync::ledger::Ledger;
 
@@ -55,19 +55,19 @@ struct Creating<'a> {
 
 // ---- the id
 
-fn is_free<S: Store>(store: &S, id: u128) -> bool
-    ensures { result ≡ not (has_topic (S.images store.now).tip.topics id) }
+fn is_free<S: Store>(seen: &Seen<S>, id: u128) -> bool
+    ensures { result ≡ not (has_topic seen.now.topics id) }
 {
-    tip::topic(store, &id).is_none()
+    seen.topic(&id).is_none()
 }
 
 // The first id among so many that no topic has.
-fn free_id<S: Store>(store: &S, first: u128, count: u128) -> Option<u128>
+fn free_id<S: Store>(seen: &Seen<S>, first: u128, count: u128) -> Option<u128>
     requires { first + count < 2 ^ 128 }
-    ensures { result ≡ find (λ id. not (has_topic (S.images store.now).tip.topics id)) (range_with_len first count) }
+    ensures { result ≡ find (λ id. not (has_topic seen.now.topics id)) (range_with_len first count) }
 {
     for id in first..first + count {
-        if is_free(store, id) {
+        if is_free(seen, id) {
             return Some(id);
         }
     }
@@ -81,12 +81,12 @@ fn first_id(options: &Options, work: &Work) -> u128
     options.salt as u128 * LOW_IDS + start_of(work) as u128 + 1
 }
 
-fn new_id<S: Store>(store: &S, options: &Options, work: &Work) -> u128
-    ensures { result ≡ create_topics.new_id options.now (S.images store.now).tip (place_of work.now) }
+fn new_id<S: Store>(seen: &Seen<S>, options: &Options, work: &Work) -> u128
+    ensures { result ≡ create_topics.new_id options.now seen.now (place_of work.now) }
 {
     let first = first_id(options, work);
-    let count = store.counts().topics as u128 + 1;
-    free_id(store, first, count).unwrap_or(first)
+    let count = seen.counts().topics as u128 + 1;
+    free_id(seen, first, count).unwrap_or(first)
 }
 
 // ---- the name
@@ -101,12 +101,12 @@ fn may_agree(name: &Text) -> bool
 }
 
 // There is a topic whose name agrees with this one, which is that of no topic.
-fn is_like_another<S: Store>(store: &S, name: &Text) -> bool
-    requires { entries.contains text_order (S.images store.now).tip.topics name.now ≡ false }
-    ensures { result ≡ list_any (λ topic. texts.names_agree topic.0 name.now) (S.images store.now).tip.topics }
+fn is_like_another<S: Store>(seen: &Seen<S>, name: &Text) -> bool
+    requires { entries.contains text_order seen.now.topics name.now ≡ false }
+    ensures { result ≡ list_any (λ topic. texts.names_agree topic.0 name.now) seen.now.topics }
 {
     if may_agree(name) {
-        has_agreeing_name(store, name)
+        has_agreeing_name(seen, name)
     } else {
         false
     }
@@ -151,30 +151,30 @@ fn topic_record(alloc: Global, name: &Text, id: &u128) -> Result<Record, NoMemor
 // The records of a topic, its settings and its partitions.
 fn records_of<S: Store>(
     alloc: Global,
-    store: &S,
+    seen: &Seen<S>,
     entry: &CreatableTopic,
     id: &u128,
     lists: &Lists,
 ) -> Result<Records, NoMemory>
     requires { length lists.now ≤ 2 ^ 31 }
-    ensures { IfOk result (λ records. records ≡ kinds.Topic entry.now.name id.now ∷ create_topics.settings_records (S.images store.now).tip.configs entry.now.name entry.now.configs ++ partitions.new_partitions (S.images store.now).tip id.now 0 lists.now) }
+    ensures { IfOk result (λ records. records ≡ kinds.Topic entry.now.name id.now ∷ create_topics.settings_records seen.now.configs entry.now.name entry.now.configs ++ partitions.new_partitions seen.now id.now 0 lists.now) }
 {
     let mut records = Rows::new(alloc);
     records.push(topic_record(alloc, &entry.name, id)?)?;
     add_settings(
         alloc,
-        store,
+        seen,
         &mut records,
         &entry.name,
         entry.configs.as_slice(),
     )?;
-    add_partitions(alloc, store, &mut records, id, 0, lists.as_slice())?;
+    add_partitions(alloc, seen, &mut records, id, 0, lists.as_slice())?;
     Ok(records)
 }
 
 fn draft_create_topics<S: Store>(
     alloc: Global,
-    store: &S,
+    seen: &Seen<S>,
     rule: &Creating,
     work: &Work,
     entry: &CreatableTopic,
@@ -183,10 +183,10 @@ fn draft_create_topics<S: Store>(
     lists: &Lists,
 ) -> Result<Draft<CreatableTopicResult>, NoMemory>
     requires { length lists.now ≤ 2 ^ 31 }
-    ensures { IfOk result (λ draft. draft ≡ create_topics.created (S.images store.now).tip rule.now.validate_only (create_topics.new_id rule.now.options.now (S.images store.now).tip (place_of work.now)) entry.now (record { partitions = partitions.now; factor = factor.now; replicas = lists.now })) }
+    ensures { IfOk result (λ draft. draft ≡ create_topics.created seen.now rule.now.validate_only (create_topics.new_id rule.now.options.now seen.now (place_of work.now)) entry.now (record { partitions = partitions.now; factor = factor.now; replicas = lists.now })) }
 {
-    let id = new_id(store, rule.options, work);
-    let records = records_of(alloc, store, entry, &id, lists)?;
+    let id = new_id(seen, rule.options, work);
+    let records = records_of(alloc, seen, entry, &id, lists)?;
     let shown = shown_id(rule.validate_only, &id);
     let answer = answer(alloc, entry, &shown, &0, partitions, factor)?;
     Ok(Draft { records, answer })
@@ -212,12 +212,12 @@ fn size_of(assignments: &[CreatableReplicaAssignment]) -> i16
 #[tactic(auto, using(crate::proofs::Assignments::few_first))]
 fn create_as_assigned<S: Store>(
     alloc: Global,
-    store: &S,
+    seen: &Seen<S>,
     rule: &Creating,
     work: &Work,
     entry: &CreatableTopic,
 ) -> Result<Draft<CreatableTopicResult>, Refusal>
-    ensures { Judges result (and_then (create_topics.assigned (S.images store.now).tip entry.now) (λ layout. room.of_layout rule.now.options.now rule.now.validate_only (S.images store.now).tip (place_of work.now) entry.now layout)) }
+    ensures { Judges result (and_then (create_topics.assigned seen.now entry.now) (λ layout. room.of_layout rule.now.options.now rule.now.validate_only seen.now (place_of work.now) entry.now layout)) }
 {
     if entry.partitions != -1 || entry.factor != -1 {
         return Err(Refusal::Error(INVALID_REQUEST));
@@ -226,27 +226,18 @@ fn create_as_assigned<S: Store>(
     let Some(lists) = lists_of(alloc, assignments)? else {
         return Err(Refusal::Error(INVALID_REPLICA_ASSIGNMENT));
     };
-    if !are_assignable(store, assignments) {
+    if !are_assignable(seen, assignments) {
         return Err(Refusal::Error(INVALID_REPLICA_ASSIGNMENT));
     }
     if has_bad_setting(entry.configs.as_slice()) {
         return Err(Refusal::Error(INVALID_CONFIG));
     }
-    if !has_room(store, lists.len()) {
+    if !has_room(seen, lists.len()) {
         return Err(Refusal::Error(POLICY_VIOLATION));
     }
     let partitions = count_of(&lists);
     let factor = size_of(assignments);
-    Ok(draft_create_topics(
-        alloc,
-        store,
-        rule,
-        work,
-        entry,
-        &partitions,
-        &factor,
-        &lists,
-    )?)
+    Ok(draft_create_topics(alloc, seen, rule, work, entry, &partitions, &factor, &lists)?)
 }
 
 // ---- without assignments
@@ -281,12 +272,12 @@ fn is_factor(those: &Grouped, factor: i16) -> bool
 #[tactic(auto, using(crate::proofs::Placements::counts))]
 fn create_by_placing<S: Store>(
     alloc: Global,
-    store: &S,
+    seen: &Seen<S>,
     rule: &Creating,
     work: &Work,
     entry: &CreatableTopic,
 ) -> Result<Draft<CreatableTopicResult>, Refusal>
-    ensures { Judges result (and_then (room.spread rule.now.those (place_of work.now) (create_topics.or_default entry.now.partitions rule.now.options.now.partitions) (create_topics.or_default entry.now.factor rule.now.options.now.factor)) (λ layout. room.of_layout rule.now.options.now rule.now.validate_only (S.images store.now).tip (place_of work.now) entry.now layout)) }
+    ensures { Judges result (and_then (room.spread rule.now.those (place_of work.now) (create_topics.or_default entry.now.partitions rule.now.options.now.partitions) (create_topics.or_default entry.now.factor rule.now.options.now.factor)) (λ layout. room.of_layout rule.now.options.now rule.now.validate_only seen.now (place_of work.now) entry.now layout)) }
 {
     let partitions = partitions_of(rule.options, entry);
     if partitions < 1 {
@@ -299,7 +290,7 @@ fn create_by_placing<S: Store>(
     if has_bad_setting(entry.configs.as_slice()) {
         return Err(Refusal::Error(INVALID_CONFIG));
     }
-    if !has_room(store, partitions.unsigned_abs() as usize) {
+    if !has_room(seen, partitions.unsigned_abs() as usize) {
         return Err(Refusal::Error(POLICY_VIOLATION));
     }
     let lists = placements(
@@ -310,16 +301,7 @@ fn create_by_placing<S: Store>(
         partitions.unsigned_abs() as u64,
         factor.unsigned_abs() as usize,
     )?;
-    Ok(draft_create_topics(
-        alloc,
-        store,
-        rule,
-        work,
-        entry,
-        &partitions,
-        &factor,
-        &lists,
-    )?)
+    Ok(draft_create_topics(alloc, seen, rule, work, entry, &partitions, &factor, &lists)?)
 }
 
 // ---- the rule
@@ -327,17 +309,17 @@ fn create_by_placing<S: Store>(
 // A topic whose name is a new one.
 fn create_new<S: Store>(
     alloc: Global,
-    store: &S,
+    seen: &Seen<S>,
     rule: &Creating,
     work: &Work,
     entry: &CreatableTopic,
 ) -> Result<Draft<CreatableTopicResult>, Refusal>
-    ensures { Judges result (and_then (room.layout rule.now.those rule.now.options.now (S.images store.now).tip (place_of work.now) entry.now) (λ layout. room.of_layout rule.now.options.now rule.now.validate_only (S.images store.now).tip (place_of work.now) entry.now layout)) }
+    ensures { Judges result (and_then (room.layout rule.now.those rule.now.options.now seen.now (place_of work.now) entry.now) (λ layout. room.of_layout rule.now.options.now rule.now.validate_only seen.now (place_of work.now) entry.now layout)) }
 {
     if entry.assignments.is_empty() {
-        create_by_placing(alloc, store, rule, work, entry)
+        create_by_placing(alloc, seen, rule, work, entry)
     } else {
-        create_as_assigned(alloc, store, rule, work, entry)
+        create_as_assigned(alloc, seen, rule, work, entry)
     }
 }
 
@@ -358,20 +340,20 @@ impl<'a> Rule<CreatableTopic, CreatableTopicResult> for Creating<'a> {
     fn judge<S: Store>(
         &self,
         alloc: Global,
-        store: &S,
+        seen: &Seen<S>,
         work: &Work,
         entry: &CreatableTopic,
     ) -> Result<Draft<CreatableTopicResult>, Refusal> {
         if !is_topic_name(&entry.name) {
             return Err(Refusal::Error(INVALID_TOPIC_EXCEPTION));
         }
-        if tip::topic_named(store, &entry.name).is_some() {
+        if seen.topic_named(&entry.name).is_some() {
             return Err(Refusal::Error(TOPIC_ALREADY_EXISTS));
         }
-        if is_like_another(store, &entry.name) {
+        if is_like_another(seen, &entry.name) {
             return Err(Refusal::Error(INVALID_TOPIC_EXCEPTION));
         }
-        create_new(alloc, store, self, work, entry)
+        create_new(alloc, seen, self, work, entry)
     }
 }
 
@@ -421,7 +403,7 @@ fn decide_create_topics<S: Store, L: Ledger>(
     ensures made { IfOk result (λ d. (S.images store.new).made ≤ (S.images store.old).made + weights (S.images store.old).tip d.0) }
     ensures later { steps.old ≤ steps.new }
 {
-    let those = active_by_rack(alloc, store)?;
+    let those = active_by_rack(alloc, &Seen::tip(store))?;
     let topics = request.topics.as_slice();
     decide_on(
         alloc,

@@ -13,8 +13,7 @@ use kr_calls::{
 use kr_defs::{Copied, Record, Rows, Text};
 use kr_rules::{Handler, Refusal, Rule, Work, decide_each};
 use kr_sessions::Context;
-use kr_store::Store;
-use kr_walks::tip;
+use kr_store::{Seen, Store};
 use std::alloc::Global;
 use std::sync::ledger::Ledger;
 
@@ -64,7 +63,7 @@ impl Rule<DeleteTopicState, DeletableTopicResult> for Deleting {
     fn judge<S: Store>(
         &self,
         alloc: Global,
-        store: &S,
+        seen: &Seen<S>,
         _work: &Work,
         entry: &DeleteTopicState,
     ) -> Result<Draft<DeletableTopicResult>, Refusal> {
@@ -72,11 +71,11 @@ impl Rule<DeleteTopicState, DeletableTopicResult> for Deleting {
             return Err(Refusal::Error(INVALID_REQUEST));
         }
         match &entry.name {
-            Some(name) => match tip::topic_named(store, name) {
+            Some(name) => match seen.topic_named(name) {
                 Some(topic) => Ok(draft_delete_topics(alloc, &topic.name, &topic.id)?),
                 None => Err(Refusal::Error(UNKNOWN_TOPIC_OR_PARTITION)),
             },
-            None => match tip::topic(store, &entry.topic) {
+            None => match seen.topic(&entry.topic) {
                 Some(topic) => Ok(draft_delete_topics(alloc, &topic.name, &topic.id)?),
                 None => Err(Refusal::Error(UNKNOWN_TOPIC_ID)),
             },

@@ -4,7 +4,6 @@ ghost use Rattle.std.specs.Prelude.{◌≡◌, [], ◌∷◌, pos, IfOk, if◌th
 ghost use Rattle.std.specs.Option.{option_copied, option_map_or};
 ghost use Rattle.kr_calls.specs.declared.calls.Reply.TheVariants as replies;
 ghost use Rattle.kr_calls.specs.Metadata as metadata;
-ghost use Rattle.kr_store.specs.Reads.{LooksUp, seen_at};
 
 use crate::named_topics::named_topic_rows;
 use crate::topic_rows::all_topic_rows;
@@ -14,9 +13,8 @@ use kr_calls::{
     MetadataTopics, Reply,
 };
 use kr_defs::{Broker, Copied, Endpoint, Options, Text};
-use kr_gather::looking::look;
 use kr_gather::{BrokerPart, gather_brokers};
-use kr_store::{At, ReadFault, Store};
+use kr_store::{Seen, Store};
 use std::alloc::Global;
 
 // ---- brokers
@@ -76,10 +74,10 @@ impl BrokerPart<MetadataBroker> for OnlineOnes {
 }
 
 #[tactic(auto, using(crate::proofs::MetadataRows::brokers))]
-fn online_brokers<S: Store>(alloc: Global, store: &S, at: At) -> Result<MetadataBrokers, NoMemory>
-    ensures { IfOk result (λ rows. rows ≡ metadata.brokers_of (seen_at (S.images store.now) at)) }
+fn online_brokers<S: Store>(alloc: Global, seen: &Seen<S>) -> Result<MetadataBrokers, NoMemory>
+    ensures { IfOk result (λ rows. rows ≡ metadata.brokers_of seen.now) }
 {
-    gather_brokers(alloc, store, at, &OnlineOnes)
+    gather_brokers(alloc, seen, &OnlineOnes)
 }
 
 // ---- the reply
@@ -87,15 +85,14 @@ fn online_brokers<S: Store>(alloc: Global, store: &S, at: At) -> Result<Metadata
 // All topics by name, or those that are asked for.
 fn topic_rows<S: Store>(
     alloc: Global,
-    store: &S,
-    at: At,
+    seen: &Seen<S>,
     asked: &Option<MetadataRequestTopics>,
 ) -> Result<MetadataTopics, NoMemory>
-    ensures { IfOk result (λ rows. rows ≡ metadata.topics_of (seen_at (S.images store.now) at) asked.now) }
+    ensures { IfOk result (λ rows. rows ≡ metadata.topics_of seen.now asked.now) }
 {
     match asked {
-        Some(asked) => named_topic_rows(alloc, store, at, asked.as_slice()),
-        None => all_topic_rows(alloc, store, at),
+        Some(asked) => named_topic_rows(alloc, seen, asked.as_slice()),
+        None => all_topic_rows(alloc, seen),
     }
 }
 
@@ -103,15 +100,14 @@ fn topic_rows<S: Store>(
 #[tactic(auto, unfolding(kr_calls::specs::Metadata::queried))]
 fn reply_of<S: Store>(
     alloc: Global,
-    store: &S,
-    at: At,
+    seen: &Seen<S>,
     options: &Options,
     request: &Metadata,
 ) -> Result<MetadataReply, NoMemory>
-    ensures { IfOk result (λ reply. replies.Metadata reply ≡ metadata.queried options.now (seen_at (S.images store.now) at) request.now) }
+    ensures { IfOk result (λ reply. replies.Metadata reply ≡ metadata.queried options.now seen.now request.now) }
 {
-    let brokers = online_brokers(alloc, store, at)?;
-    let topics = topic_rows(alloc, store, at, &request.topics)?;
+    let brokers = online_brokers(alloc, seen)?;
+    let topics = topic_rows(alloc, seen, &request.topics)?;
     let cluster = options.cluster.copied(alloc)?;
     Ok(MetadataReply {
         brokers,
@@ -121,17 +117,14 @@ fn reply_of<S: Store>(
     })
 }
 
-/// The brokers that aren't fenced, and all topics or those that are asked for, at a place of the store. NoEpoch exactly
-/// where the place is an epoch that isn't kept.
+/// The brokers that aren't fenced, and all topics or those that are asked for.
 pub fn answer<S: Store>(
     alloc: Global,
-    store: &S,
-    at: At,
+    seen: &Seen<S>,
     options: &Options,
     request: &Metadata,
-) -> Result<Reply, ReadFault>
-    ensures { LooksUp (S.images store.now) at result (λ image. metadata.queried options.now image request.now) }
+) -> Result<Reply, NoMemory>
+    ensures { IfOk result (λ reply. reply ≡ metadata.queried options.now seen.now request.now) }
 {
-    look(store, at)?;
-    Ok(Reply::Metadata(reply_of(alloc, store, at, options, request)?))
+    Ok(Reply::Metadata(reply_of(alloc, seen, options, request)?))
 }

@@ -4,7 +4,6 @@ ghost use Rattle.std.specs.Prelude.{◌≡◌, ◌∷◌, ◌==◌, [], ℕ, Lis
 ghost use Rattle.std.specs.List.{list_any};
 ghost use Rattle.kr_defs.specs.Guard.{and_then};
 ghost use Rattle.kr_calls.specs.Metadata as metadata;
-ghost use Rattle.kr_store.specs.Reads.{seen_at};
 ghost use Rattle.kr_topics.specs.inner.NamedTopics.{Marks};
 
 use crate::naming::is_named_once;
@@ -13,28 +12,27 @@ use kr_base::NoMemory;
 use kr_calls::errors::{INVALID_REQUEST, UNKNOWN_TOPIC_ID, UNKNOWN_TOPIC_OR_PARTITION};
 use kr_calls::{MetadataRequestTopic, MetadataTopic, MetadataTopics};
 use kr_defs::{Rows, Topic};
-use kr_gather::looking;
-use kr_store::{At, Store};
+use kr_store::{Seen, Store};
 use std::alloc::Global;
 use std::collections::BTreeSet;
 
 // The ids that were named so far.
-type Seen = BTreeSet<u128>;
+type Named = BTreeSet<u128>;
 
 // The topic with this name or this id, or Kafka's error number.
-fn find<'a, S: Store>(store: &'a S, at: At, entry: &MetadataRequestTopic) -> Result<&'a Topic, i16>
-    ensures some { IfOk result (λ topic. metadata.topic_asked_for (seen_at (S.images store.now) at) entry.now ≡ Ok (topic.now.name, topic.now.id)) }
-    ensures none { IfErr result (λ error. metadata.topic_asked_for (seen_at (S.images store.now) at) entry.now ≡ Err error) }
+fn find<'a, S: Store>(seen: &Seen<'a, S>, entry: &MetadataRequestTopic) -> Result<&'a Topic, i16>
+    ensures some { IfOk result (λ topic. metadata.topic_asked_for seen.now entry.now ≡ Ok (topic.now.name, topic.now.id)) }
+    ensures none { IfErr result (λ error. metadata.topic_asked_for seen.now entry.now ≡ Err error) }
 {
     if !is_named_once(&entry.name, &entry.topic) {
         return Err(INVALID_REQUEST);
     }
     match &entry.name {
-        Some(name) => match looking::topic_named(store, at, name) {
+        Some(name) => match seen.topic_named(name) {
             Some(topic) => Ok(topic),
             None => Err(UNKNOWN_TOPIC_OR_PARTITION),
         },
-        None => match looking::topic(store, at, &entry.topic) {
+        None => match seen.topic(&entry.topic) {
             Some(topic) => Ok(topic),
             None => Err(UNKNOWN_TOPIC_ID),
         },
@@ -43,29 +41,28 @@ fn find<'a, S: Store>(store: &'a S, at: At, entry: &MetadataRequestTopic) -> Res
 
 // The id is named now; whether it is for the first time.
 #[tactic(auto, using(crate::proofs::MetadataRows::marking))]
-fn mark(seen: &mut Seen, id: &u128) -> Result<bool, NoMemory>
-    ensures new { (ids : List ℕ) → Marks seen.old ids → IfOk result (λ new. new ≡ not (list_any (λ i. i == id.now) ids)) }
-    ensures marks { (ids : List ℕ) → Marks seen.old ids → OnOk result (Marks seen.new (id.now ∷ ids)) }
+fn mark(named: &mut Named, id: &u128) -> Result<bool, NoMemory>
+    ensures new { (ids : List ℕ) → Marks named.old ids → IfOk result (λ new. new ≡ not (list_any (λ i. i == id.now) ids)) }
+    ensures marks { (ids : List ℕ) → Marks named.old ids → OnOk result (Marks named.new (id.now ∷ ids)) }
 {
-    Ok(seen.insert(*id)?)
+    Ok(named.insert(*id)?)
 }
 
 // What is shown of an entry behind those that named some topics.
 #[tactic(auto, using(crate::proofs::MetadataRows::entries))]
 fn entry_row<S: Store>(
     alloc: Global,
-    store: &S,
-    at: At,
-    seen: &mut Seen,
+    seen: &Seen<S>,
+    named: &mut Named,
     entry: &MetadataRequestTopic,
 ) -> Result<MetadataTopic, NoMemory>
-    ensures row { (ids : List ℕ) → Marks seen.old ids → IfOk result (λ row. row ≡ metadata.shown (seen_at (S.images store.now) at) entry.now (and_then (metadata.topic_asked_for (seen_at (S.images store.now) at) entry.now) (metadata.new_to ids))) }
-    ensures seen { (ids : List ℕ) → Marks seen.old ids → OnOk result (Marks seen.new (metadata.seen_with ids (metadata.topic_asked_for (seen_at (S.images store.now) at) entry.now))) }
+    ensures row { (ids : List ℕ) → Marks named.old ids → IfOk result (λ row. row ≡ metadata.shown seen.now entry.now (and_then (metadata.topic_asked_for seen.now entry.now) (metadata.new_to ids))) }
+    ensures named { (ids : List ℕ) → Marks named.old ids → OnOk result (Marks named.new (metadata.seen_with ids (metadata.topic_asked_for seen.now entry.now))) }
 {
-    match find(store, at, entry) {
+    match find(seen, entry) {
         Ok(topic) => {
-            if mark(seen, &topic.id)? {
-                topic_row(alloc, store, at, &topic.name, &topic.id)
+            if mark(named, &topic.id)? {
+                topic_row(alloc, seen, &topic.name, &topic.id)
             } else {
                 refusal_row(alloc, INVALID_REQUEST, entry)
             }
@@ -77,16 +74,15 @@ fn entry_row<S: Store>(
 /// Each entry in its order; a topic that an earlier one named is refused.
 pub(crate) fn named_topic_rows<S: Store>(
     alloc: Global,
-    store: &S,
-    at: At,
+    seen: &Seen<S>,
     asked: &[MetadataRequestTopic],
 ) -> Result<MetadataTopics, NoMemory>
-    ensures { IfOk result (λ rows. rows ≡ metadata.topics_named (seen_at (S.images store.now) at) [] asked.now) }
+    ensures { IfOk result (λ rows. rows ≡ metadata.topics_named seen.now [] asked.now) }
 {
     let mut rows = Rows::new(alloc);
-    let mut seen = BTreeSet::new(alloc);
+    let mut named = BTreeSet::new(alloc);
     for entry in asked {
-        rows.push(entry_row(alloc, store, at, &mut seen, entry)?)?;
+        rows.push(entry_row(alloc, seen, &mut named, entry)?)?;
     }
     Ok(rows)
 }

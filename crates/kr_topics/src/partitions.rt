@@ -19,8 +19,8 @@ use kr_defs::{Copied, Ids, Partition, Record, Records, Rows};
 use kr_gather::{are_registered, are_targets};
 use kr_place::Grouped;
 use kr_rules::Work;
-use kr_store::Store;
-use kr_walks::{is_active, tip};
+use kr_store::{Seen, Store};
+use kr_walks::is_active;
 use std::alloc::Global;
 
 /// The replicas of some partitions, in the order of their indexes.
@@ -28,45 +28,45 @@ pub(crate) type Lists = Rows<Ids>;
 
 // ---- brokers
 
-fn is_active_id<S: Store>(store: &S, id: &i32) -> bool
-    ensures { result ≡ has (active (S.images store.now).tip) id.now }
+fn is_active_id<S: Store>(seen: &Seen<S>, id: &i32) -> bool
+    ensures { result ≡ has (active seen.now) id.now }
 {
-    let _valid = store.counts();
-    match tip::broker(store, id) {
+    seen.is_valid();
+    match seen.broker(id) {
         Some(state) => is_active(state),
         None => false,
     }
 }
 
-fn has_active<S: Store>(store: &S, ids: &[i32]) -> bool
-    ensures { result ≡ list_any (has (active (S.images store.now).tip)) ids.now }
+fn has_active<S: Store>(seen: &Seen<S>, ids: &[i32]) -> bool
+    ensures { result ≡ list_any (has (active seen.now)) ids.now }
 {
-    ids.iter().any(|id| is_active_id(store, id))
+    ids.iter().any(|id| is_active_id(seen, id))
 }
 
 // The replicas may be those of a new partition: 1 to 32 registered brokers, each once, of which one is active.
-fn is_assignable<S: Store>(store: &S, replicas: &Ids) -> bool
-    ensures { result ≡ is_assignable (S.images store.now).tip replicas.now }
+fn is_assignable<S: Store>(seen: &Seen<S>, replicas: &Ids) -> bool
+    ensures { result ≡ is_assignable seen.now replicas.now }
 {
     let ids = replicas.as_slice();
-    are_targets(replicas) && are_registered(store, ids) && has_active(store, ids)
+    are_targets(replicas) && are_registered(seen, ids) && has_active(seen, ids)
 }
 
 /// The replicas may be those of a new partition, and are so many.
-pub(crate) fn is_wide<S: Store>(store: &S, size: usize, replicas: &Ids) -> bool
-    ensures { result ≡ (is_assignable (S.images store.now).tip replicas.now && length replicas.now == size) }
+pub(crate) fn is_wide<S: Store>(seen: &Seen<S>, size: usize, replicas: &Ids) -> bool
+    ensures { result ≡ (is_assignable seen.now replicas.now && length replicas.now == size) }
 {
-    is_assignable(store, replicas) && replicas.len() == size
+    is_assignable(seen, replicas) && replicas.len() == size
 }
 
 // ---- numbers of partitions
 
 /// There is room for so many more partitions.
-pub(crate) fn has_room<S: Store>(store: &S, count: usize) -> bool
-    ensures value { result ≡ has_room (S.images store.now).tip count }
+pub(crate) fn has_room<S: Store>(seen: &Seen<S>, count: usize) -> bool
+    ensures value { result ≡ has_room seen.now count }
     ensures few { IsTrue result → count ≤ most_partitions }
 {
-    let taken = store.counts().partitions as usize;
+    let taken = seen.counts().partitions as usize;
     count <= MOST_PARTITIONS.saturating_sub(taken)
 }
 
@@ -128,22 +128,22 @@ pub(crate) fn placements(
 
 // ---- records
 
-fn add_if_active<S: Store>(store: &S, ids: &mut Ids, id: &i32) -> Result<(), NoMemory>
-    ensures { OnOk result (ids.new ≡ ids.old ++ within (id.now ∷ []) (active (S.images store.now).tip)) }
+fn add_if_active<S: Store>(seen: &Seen<S>, ids: &mut Ids, id: &i32) -> Result<(), NoMemory>
+    ensures { OnOk result (ids.new ≡ ids.old ++ within (id.now ∷ []) (active seen.now)) }
 {
-    if is_active_id(store, id) {
+    if is_active_id(seen, id) {
         ids.push(*id)?;
     }
     Ok(())
 }
 
 // The active ones among the replicas.
-fn in_sync<S: Store>(alloc: Global, store: &S, replicas: &[i32]) -> Result<Ids, NoMemory>
-    ensures { IfOk result (λ ids. ids ≡ within replicas.now (active (S.images store.now).tip)) }
+fn in_sync<S: Store>(alloc: Global, seen: &Seen<S>, replicas: &[i32]) -> Result<Ids, NoMemory>
+    ensures { IfOk result (λ ids. ids ≡ within replicas.now (active seen.now)) }
 {
     let mut ids = Ids::new(alloc);
     for id in replicas {
-        add_if_active(store, &mut ids, id)?;
+        add_if_active(seen, &mut ids, id)?;
     }
     Ok(ids)
 }
@@ -175,16 +175,16 @@ fn new_partition(alloc: Global, replicas: &Ids, in_sync: Ids) -> Result<Partitio
 
 fn add_partition<S: Store>(
     alloc: Global,
-    store: &S,
+    seen: &Seen<S>,
     records: &mut Records,
     topic: &u128,
     number: u32,
     replicas: &Ids,
 ) -> Result<(), NoMemory>
     requires { number < 2 ^ 31 }
-    ensures { OnOk result (records.new ≡ records.old ++ kinds.Partition (pos number) topic.now (new_partition replicas.now (within replicas.now (active (S.images store.now).tip))) ∷ []) }
+    ensures { OnOk result (records.new ≡ records.old ++ kinds.Partition (pos number) topic.now (new_partition replicas.now (within replicas.now (active seen.now))) ∷ []) }
 {
-    let in_sync = in_sync(alloc, store, replicas.as_slice())?;
+    let in_sync = in_sync(alloc, seen, replicas.as_slice())?;
     let state = new_partition(alloc, replicas, in_sync)?;
     records.push(Record::Partition {
         index: number as i32,
@@ -197,18 +197,18 @@ fn add_partition<S: Store>(
 /// Adds the records of new partitions over these replicas, from an index on.
 pub(crate) fn add_partitions<S: Store>(
     alloc: Global,
-    store: &S,
+    seen: &Seen<S>,
     records: &mut Records,
     topic: &u128,
     first: u32,
     lists: &[Ids],
 ) -> Result<(), NoMemory>
     requires { first + length lists.now ≤ 2 ^ 31 }
-    ensures { OnOk result (records.new ≡ records.old ++ new_partitions (S.images store.now).tip topic.now first lists.now) }
+    ensures { OnOk result (records.new ≡ records.old ++ new_partitions seen.now topic.now first lists.now) }
 {
     let mut number = first;
     for replicas in lists {
-        add_partition(alloc, store, records, topic, number, replicas)?;
+        add_partition(alloc, seen, records, topic, number, replicas)?;
         number += 1;
     }
     Ok(())

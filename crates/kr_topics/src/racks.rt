@@ -9,7 +9,7 @@ use kr_base::NoMemory;
 use kr_defs::{Broker, Copied, Rows, Text};
 use kr_gather::{BrokerPart, gather_brokers};
 use kr_place::Grouped;
-use kr_store::{At, Store};
+use kr_store::{Seen, Store};
 use kr_walks::is_active;
 use std::alloc::Global;
 
@@ -38,16 +38,16 @@ impl BrokerPart<(i32, Option<Text>)> for ActiveOnes {
 }
 
 #[tactic(auto, using(crate::proofs::ActiveBrokers::racks))]
-fn active_racks<S: Store>(alloc: Global, store: &S) -> Result<Racks, NoMemory>
-    ensures { IfOk result (λ racks. racks ≡ racked (S.images store.now).tip) }
+fn active_racks<S: Store>(alloc: Global, seen: &Seen<S>) -> Result<Racks, NoMemory>
+    ensures { IfOk result (λ racks. racks ≡ racked seen.now) }
 {
-    gather_brokers(alloc, store, At::Tip, &ActiveOnes)
+    gather_brokers(alloc, seen, &ActiveOnes)
 }
 
 /// The active brokers by rack.
-pub(crate) fn active_by_rack<S: Store>(alloc: Global, store: &S) -> Result<Grouped, NoMemory>
-    ensures { IfOk result (λ those. those ≡ grouped (racked (S.images store.now).tip)) }
+pub(crate) fn active_by_rack<S: Store>(alloc: Global, seen: &Seen<S>) -> Result<Grouped, NoMemory>
+    ensures { IfOk result (λ those. those ≡ grouped (racked seen.now)) }
 {
-    let racks = active_racks(alloc, store)?;
+    let racks = active_racks(alloc, seen)?;
     Grouped::of(alloc, racks.as_slice())
 }

@@ -14,8 +14,7 @@ ghost use Rattle.kr_topics.specs.inner.TopicSettings.{is_old};
 use kr_base::NoMemory;
 use kr_calls::CreatableTopicConfig;
 use kr_defs::{ConfigKey, Copied, Record, Records, Text, is_setting_key, is_setting_value};
-use kr_store::Store;
-use kr_walks::tip;
+use kr_store::{Seen, Store};
 use std::alloc::Global;
 use std::collections::BTreeMap;
 
@@ -55,18 +54,18 @@ fn key_of(alloc: Global, topic: &Text, key: &Text) -> Result<ConfigKey, NoMemory
 
 fn value_before<'a, S: Store>(
     alloc: Global,
-    store: &'a S,
+    seen: &'a Seen<S>,
     given: &'a Given,
     topic: &Text,
     key: &Text,
 ) -> Result<Option<&'a Text>, NoMemory>
-    ensures { IfOk result (λ value. option_copied value ≡ given_settings.value_before (S.images store.now).tip.configs given.now.entries topic.now key.now) }
+    ensures { IfOk result (λ value. option_copied value ≡ given_settings.value_before seen.now.configs given.now.entries topic.now key.now) }
 {
     if let Some(value) = given.get(key) {
         return Ok(Some(value));
     }
     let key = key_of(alloc, topic, key)?;
-    Ok(tip::config(store, &key))
+    Ok(seen.config(&key))
 }
 
 fn value_of(alloc: Global, setting: &CreatableTopicConfig) -> Result<Text, NoMemory>
@@ -89,16 +88,16 @@ fn is_value(before: Option<&Text>, value: &Text) -> bool
 
 fn is_old<S: Store>(
     alloc: Global,
-    store: &S,
+    seen: &Seen<S>,
     given: &Given,
     topic: &Text,
     setting: &CreatableTopicConfig,
     value: &Text,
 ) -> Result<bool, NoMemory>
     requires { value.now ≡ given_settings.value_of setting.now }
-    ensures { IfOk result (λ old. old ≡ is_old (S.images store.now).tip.configs given.now.entries topic.now setting.now) }
+    ensures { IfOk result (λ old. old ≡ is_old seen.now.configs given.now.entries topic.now setting.now) }
 {
-    let before = value_before(alloc, store, given, topic, &setting.name)?;
+    let before = value_before(alloc, seen, given, topic, &setting.name)?;
     Ok(is_value(before, value))
 }
 
@@ -132,17 +131,17 @@ fn give(alloc: Global, given: &mut Given, key: &Text, value: Text) -> Result<(),
 
 fn add_setting<S: Store>(
     alloc: Global,
-    store: &S,
+    seen: &Seen<S>,
     records: &mut Records,
     topic: &Text,
     given: &mut Given,
     setting: &CreatableTopicConfig,
 ) -> Result<(), NoMemory>
-    ensures given { OnOk result (given.new.entries ≡ (if is_old (S.images store.now).tip.configs given.old.entries topic.now setting.now then given.old.entries else entries.insert text_order given.old.entries setting.now.name (given_settings.value_of setting.now))) }
-    ensures records { OnOk result (records.new ≡ (if is_old (S.images store.now).tip.configs given.old.entries topic.now setting.now then records.old else records.old ++ kinds.Config topic_kind topic.now setting.now.name (Some (given_settings.value_of setting.now)) ∷ [])) }
+    ensures given { OnOk result (given.new.entries ≡ (if is_old seen.now.configs given.old.entries topic.now setting.now then given.old.entries else entries.insert text_order given.old.entries setting.now.name (given_settings.value_of setting.now))) }
+    ensures records { OnOk result (records.new ≡ (if is_old seen.now.configs given.old.entries topic.now setting.now then records.old else records.old ++ kinds.Config topic_kind topic.now setting.now.name (Some (given_settings.value_of setting.now)) ∷ [])) }
 {
     let value = value_of(alloc, setting)?;
-    if is_old(alloc, store, given, topic, setting, &value)? {
+    if is_old(alloc, seen, given, topic, setting, &value)? {
         return Ok(());
     }
     records.push(config_record(alloc, topic, setting, &value)?)?;
@@ -153,16 +152,16 @@ fn add_setting<S: Store>(
 #[tactic(auto, using(crate::proofs::TopicSettings::begins))]
 pub(crate) fn add_settings<S: Store>(
     alloc: Global,
-    store: &S,
+    seen: &Seen<S>,
     records: &mut Records,
     topic: &Text,
     settings: &[CreatableTopicConfig],
 ) -> Result<(), NoMemory>
-    ensures { OnOk result (records.new ≡ records.old ++ create_topics.settings_records (S.images store.now).tip.configs topic.now settings.now) }
+    ensures { OnOk result (records.new ≡ records.old ++ create_topics.settings_records seen.now.configs topic.now settings.now) }
 {
     let mut given = BTreeMap::new(alloc);
     for setting in settings {
-        add_setting(alloc, store, records, topic, &mut given, setting)?;
+        add_setting(alloc, seen, records, topic, &mut given, setting)?;
     }
     Ok(())
 }

@@ -3,7 +3,6 @@
 ghost use Rattle.std.specs.Prelude.{◌≡◌, [], ◌∷◌, IfOk, filter, map};
 ghost use Rattle.kr_defs.specs.Walk.{of_topic};
 ghost use Rattle.kr_calls.specs.Metadata as metadata;
-ghost use Rattle.kr_store.specs.Reads.{seen_at};
 
 use kr_base::NoMemory;
 use kr_calls::errors::LEADER_NOT_AVAILABLE;
@@ -11,16 +10,16 @@ use kr_calls::{
     MetadataPartition, MetadataPartitions, MetadataRequestTopic, MetadataTopic, MetadataTopics,
 };
 use kr_defs::{Copied, Ids, Partition, Rows, Text};
-use kr_gather::{PartitionPart, TopicPart, gather_partitions, gather_topics, looking};
-use kr_store::{At, Store};
+use kr_gather::{PartitionPart, TopicPart, gather_partitions, gather_topics};
+use kr_store::{Seen, Store};
 use std::alloc::{AllocError, Global};
 
 // ---- partitions
 
-fn is_offline<S: Store>(store: &S, at: At, id: &i32) -> bool
-    ensures { result ≡ metadata.is_offline (seen_at (S.images store.now) at) id.now }
+fn is_offline<S: Store>(seen: &Seen<S>, id: &i32) -> bool
+    ensures { result ≡ metadata.is_offline seen.now id.now }
 {
-    match looking::broker(store, at, id) {
+    match seen.broker(id) {
         Some(state) => state.fenced,
         None => true,
     }
@@ -29,16 +28,15 @@ fn is_offline<S: Store>(store: &S, at: At, id: &i32) -> bool
 // The replicas whose brokers are fenced or not registered.
 fn offline_among<S: Store>(
     alloc: Global,
-    store: &S,
-    at: At,
+    seen: &Seen<S>,
     replicas: &[i32],
 ) -> Result<Vec<i32>, AllocError>
-    ensures { IfOk result (λ ids. ids.items ≡ filter (metadata.is_offline (seen_at (S.images store.now) at)) replicas.now) }
+    ensures { IfOk result (λ ids. ids.items ≡ filter (metadata.is_offline seen.now) replicas.now) }
 {
     replicas
         .iter()
         .copied()
-        .filter(|id| is_offline(store, at, id))
+        .filter(|id| is_offline(seen, id))
         .collect(alloc)
 }
 
@@ -55,16 +53,15 @@ fn leader_error(partition: &Partition) -> i16
 
 fn partition_row<S: Store>(
     alloc: Global,
-    store: &S,
-    at: At,
+    seen: &Seen<S>,
     key: &(u128, i32),
     partition: &Partition,
 ) -> Result<MetadataPartition, NoMemory>
-    ensures { IfOk result (λ row. row ≡ metadata.partition_metadata (seen_at (S.images store.now) at) (key.now, partition.now)) }
+    ensures { IfOk result (λ row. row ≡ metadata.partition_metadata seen.now (key.now, partition.now)) }
 {
     let replicas = partition.replicas.copied(alloc)?;
     let in_sync = partition.in_sync.copied(alloc)?;
-    let offline = offline_among(alloc, store, at, partition.replicas.as_slice())?;
+    let offline = offline_among(alloc, seen, partition.replicas.as_slice())?;
     Ok(MetadataPartition {
         error: leader_error(partition),
         index: key.1,
@@ -76,15 +73,14 @@ fn partition_row<S: Store>(
     })
 }
 
-// A partition, by the brokers at the place.
+// A partition, by the brokers of the image.
 #[derive(Drop)]
-struct ShownPartitions<'a, S> {
-    store: &'a S,
-    at: At,
+struct ShownPartitions<'a, 's, S: Store> {
+    seen: &'a Seen<'s, S>,
 }
 
-impl<'a, S: Store> PartitionPart<MetadataPartition> for ShownPartitions<'a, S> {
-    ghost part = { λ s e. metadata.partition_metadata (seen_at (S.images s.store.now) s.at) e ∷ [] };
+impl<'a, 's, S: Store> PartitionPart<MetadataPartition> for ShownPartitions<'a, 's, S> {
+    ghost part = { λ s e. metadata.partition_metadata s.seen.now e ∷ [] };
 
     fn add(
         &self,
@@ -93,7 +89,7 @@ impl<'a, S: Store> PartitionPart<MetadataPartition> for ShownPartitions<'a, S> {
         partition: &Partition,
         rows: &mut MetadataPartitions,
     ) -> Result<(), NoMemory> {
-        rows.push(partition_row(alloc, self.store, self.at, key, partition)?)?;
+        rows.push(partition_row(alloc, self.seen, key, partition)?)?;
         Ok(())
     }
 }
@@ -101,13 +97,12 @@ impl<'a, S: Store> PartitionPart<MetadataPartition> for ShownPartitions<'a, S> {
 #[tactic(auto, using(crate::proofs::MetadataRows::partitions))]
 fn partition_rows<S: Store>(
     alloc: Global,
-    store: &S,
-    at: At,
+    seen: &Seen<S>,
     id: &u128,
 ) -> Result<MetadataPartitions, NoMemory>
-    ensures { IfOk result (λ rows. rows ≡ map (metadata.partition_metadata (seen_at (S.images store.now) at)) (of_topic id.now (seen_at (S.images store.now) at).partitions)) }
+    ensures { IfOk result (λ rows. rows ≡ map (metadata.partition_metadata seen.now) (of_topic id.now seen.now.partitions)) }
 {
-    gather_partitions(alloc, store, at, &ShownPartitions { store, at }, id)
+    gather_partitions(alloc, seen, &ShownPartitions { seen }, id)
 }
 
 // ---- topics
@@ -115,14 +110,13 @@ fn partition_rows<S: Store>(
 /// A topic that stands, with its partitions.
 pub(crate) fn topic_row<S: Store>(
     alloc: Global,
-    store: &S,
-    at: At,
+    seen: &Seen<S>,
     name: &Text,
     id: &u128,
 ) -> Result<MetadataTopic, NoMemory>
-    ensures { IfOk result (λ row. row ≡ metadata.topic_metadata (seen_at (S.images store.now) at) (name.now, id.now)) }
+    ensures { IfOk result (λ row. row ≡ metadata.topic_metadata seen.now (name.now, id.now)) }
 {
-    let partitions = partition_rows(alloc, store, at, id)?;
+    let partitions = partition_rows(alloc, seen, id)?;
     let name = name.copied(alloc)?;
     Ok(MetadataTopic {
         error: 0,
@@ -162,13 +156,12 @@ impl TopicPart<MetadataTopic> for ShownTopics {
     fn add<S: Store>(
         &self,
         alloc: Global,
-        store: &S,
-        at: At,
+        seen: &Seen<S>,
         name: &Text,
         id: &u128,
         rows: &mut MetadataTopics,
     ) -> Result<(), NoMemory> {
-        rows.push(topic_row(alloc, store, at, name, id)?)?;
+        rows.push(topic_row(alloc, seen, name, id)?)?;
         Ok(())
     }
 }
@@ -177,10 +170,9 @@ impl TopicPart<MetadataTopic> for ShownTopics {
 #[tactic(auto, using(crate::proofs::MetadataRows::topics))]
 pub(crate) fn all_topic_rows<S: Store>(
     alloc: Global,
-    store: &S,
-    at: At,
+    seen: &Seen<S>,
 ) -> Result<MetadataTopics, NoMemory>
-    ensures { IfOk result (λ rows. rows ≡ map (metadata.topic_metadata (seen_at (S.images store.now) at)) (seen_at (S.images store.now) at).topics) }
+    ensures { IfOk result (λ rows. rows ≡ map (metadata.topic_metadata seen.now) seen.now.topics) }
 {
-    gather_topics(alloc, store, at, &ShownTopics)
+    gather_topics(alloc, seen, &ShownTopics)
 }

@@ -2,29 +2,17 @@
 use Rattle.std.proofs.Common.{◌≡◌, ◌∙◌, ℕ, ◌<◌, List, [], ◌∷◌, ◌++◌, length, refl, sym, ap, append_assoc, arith, ℤ, negsuc}
 use Rattle.std.specs.Prelude.{Option, Some, None, map, All, IsTrue}
 use Rattle.std.specs.List.{flat_map, cons_option}
-use Rattle.std.specs.Option.{option_map}
 use Rattle.std.proofs.lemmas.List.{append-nil}
 use Rattle.std.proofs.lemmas.List.Elements.{filter_map-append, recursion_from_All}
 use Rattle.kr_defs.specs.declared.partition.Partition.{Partition}
 use Rattle.kr_defs.specs.declared.partition.PartitionChange.{PartitionChange}
 use Rattle.kr_defs.specs.declared.record.Record.{Record}
-use Rattle.kr_defs.specs.declared.record.Topic.{Topic}
 use Rattle.kr_defs.specs.Image.{is_index}
 use Rattle.kr_defs.specs.Map.{IsMap, above, next, partition_order, text_order}
 use Rattle.kr_defs.specs.Walk.{Walked, walked, of_topic, walk_topic, change_of, changes_of}
 use Rattle.kr_defs.proofs.ImageParts.{text_total}
 use Rattle.kr_defs.proofs.TopicWalks.{group_begin}
 use Rattle.kr_defs.proofs.Walks.{walk_more, walk_over, walk_less}
-use Rattle.kr_store.specs.Images.{topic_entry}
-
--- an entry of the map of topics, by the topic that is found
-pub topic_found : (found : Option (List ℕ × ℕ)) (name : List ℕ) (topic : Topic) → Some (name, topic) ≡ option_map topic_entry found → Some (name, topic.id) ≡ found
-topic_found None name topic is = absurd cc
-topic_found (Some e) name topic is = ap (option_map (λ (p : List ℕ × Topic). (p.0, p.1.id))) is
-
-pub topic_none : (found : Option (List ℕ × ℕ)) → None ≡ option_map topic_entry found → None ≡ found
-topic_none None is = refl
-topic_none (Some e) is = absurd cc
 
 module _ (change : Walked → Option PartitionChange) where
   one_more : (o : Option Record) (rs : List Record) → cons_option o rs ≡ cons_option o [] ++ rs

@@ -4,10 +4,9 @@ ghost use Rattle.std.specs.Prelude.{◌≡◌, ◌++◌, [], ◌∷◌, ℤ, Boo
 ghost use Rattle.kr_defs.specs.declared.broker.Broker.{Broker as AnyBroker};
 ghost use Rattle.kr_defs.specs.Brokers as brokers;
 
-use crate::tip;
 use kr_base::NoMemory;
 use kr_defs::{Broker, Ids};
-use kr_store::Store;
+use kr_store::{Seen, Store};
 use std::alloc::Global;
 
 /// The broker is neither fenced nor stopping.
@@ -37,15 +36,15 @@ fn add_if<T: BrokerTest>(ids: &mut Ids, test: &T, id: &i32, state: &Broker) -> R
 /// The brokers that the test accepts, by id.
 pub fn brokers_where<T: BrokerTest, S: Store>(
     alloc: Global,
-    store: &S,
+    seen: &Seen<S>,
     test: &T,
 ) -> Result<Ids, NoMemory>
-    ensures { IfOk result (λ ids. ids ≡ map (λ e. e.0) (filter (T.accepts test.now) (S.images store.now).tip.brokers)) }
+    ensures { IfOk result (λ ids. ids ≡ map (λ e. e.0) (filter (T.accepts test.now) seen.now.brokers)) }
 {
-    let _valid = store.counts();
+    seen.is_valid();
     let mut ids = Ids::new(alloc);
     let mut after = None;
-    while let Some((id, state)) = tip::next_broker(store, after) {
+    while let Some((id, state)) = seen.next_broker(after) {
         add_if(&mut ids, test, id, state)?;
         after = Some(id);
     }
@@ -64,8 +63,8 @@ impl BrokerTest for ActiveOnes {
 }
 
 /// The active brokers, by id.
-pub fn active<S: Store>(alloc: Global, store: &S) -> Result<Ids, NoMemory>
-    ensures { IfOk result (λ ids. ids ≡ brokers.active (S.images store.now).tip) }
+pub fn active<S: Store>(alloc: Global, seen: &Seen<S>) -> Result<Ids, NoMemory>
+    ensures { IfOk result (λ ids. ids ≡ brokers.active seen.now) }
 {
-    brokers_where(alloc, store, &ActiveOnes)
+    brokers_where(alloc, seen, &ActiveOnes)
 }

@@ -5,7 +5,6 @@ mod brokers;
 mod partitions;
 mod settings;
 mod taking_out;
-pub mod tip;
 mod topics;
 
 pub use brokers::{BrokerTest, active, brokers_where, is_active};

@@ -1,20 +1,19 @@
 //! Walks over the partitions of an image.
 
-ghost use Rattle.std.specs.Prelude.{◌≡◌, ◌++◌, [], ◌∷◌, negsuc, IfOk, OnOk, IfSome, IsNone, map, Option};
+ghost use Rattle.std.specs.Prelude.{◌≡◌, ◌++◌, [], IfOk, OnOk, Some, map, Option};
 ghost use Rattle.std.specs.List.{cons_option};
 ghost use Rattle.std.specs.Option.{option_map};
 ghost use Rattle.std.specs.Ordering.{int_eq};
 ghost use Rattle.kr_defs.specs.declared.partition.PartitionChange.{PartitionChange as AnyChange};
 ghost use Rattle.kr_defs.specs.declared.record.Record.TheVariants as kinds;
-ghost use Rattle.kr_defs.specs.Image.{Image, IsValid};
+ghost use Rattle.kr_defs.specs.Image.{Image};
 ghost use Rattle.kr_defs.specs.Map.{above, partition_order};
 ghost use Rattle.kr_defs.specs.Walk.{Walked, walked, of_topic, walk, walk_topic, changes_of};
 ghost use Rattle.kr_calls.specs.BrokerHeartbeat as broker_heartbeat;
 
-use crate::tip;
 use kr_base::NoMemory;
 use kr_defs::{Partition, PartitionChange, Record, Records, Text};
-use kr_store::Store;
+use kr_store::{Seen, Store, before_all};
 use std::alloc::Global;
 
 /// What changes of a partition, beside the name of its topic.
@@ -25,40 +24,12 @@ pub trait Change {
     fn change<S: Store>(
         &self,
         alloc: Global,
-        store: &S,
+        seen: &Seen<S>,
         topic: &Text,
         key: &(u128, i32),
         partition: &Partition,
     ) -> Result<Option<PartitionChange>, NoMemory>
-        ensures { IfOk result (λ made. made ≡ change self.now (S.images store.now).tip (record { topic = topic.now; key = key.now; partition = partition.now })) };
-}
-
-// A key below all partitions of the topic.
-pub(crate) fn before_all(id: &u128) -> (u128, i32)
-    ensures { result ≡ (id.now, negsuc 0) }
-{
-    (*id, -1)
-}
-
-// The next partition of the same topic.
-pub(crate) fn next_of<'a, S: Store>(
-    store: &'a S,
-    after: &(u128, i32),
-) -> Option<(&'a (u128, i32), &'a Partition)>
-    requires { IsValid (S.images store.now).tip }
-    ensures next { IfSome result (λ e. of_topic after.now.0 (above partition_order (S.images store.now).tip.partitions (Some after.now)) ≡ (e.0.now, e.1.now) ∷ of_topic e.0.now.0 (above partition_order (S.images store.now).tip.partitions (Some e.0.now))) }
-    ensures none { IsNone result → of_topic after.now.0 (above partition_order (S.images store.now).tip.partitions (Some after.now)) ≡ [] }
-{
-    match tip::next_partition(store, Some(after)) {
-        Some((key, partition)) => {
-            if key.0 == after.0 {
-                Some((key, partition))
-            } else {
-                None
-            }
-        }
-        None => None,
-    }
+        ensures { IfOk result (λ made. made ≡ change self.now seen.now (record { topic = topic.now; key = key.now; partition = partition.now })) };
 }
 
 fn add_change(
@@ -82,22 +53,21 @@ fn add_change(
 }
 
 // The changes of the partitions of one topic that stand above a key.
-fn add_above<'a, C: Change, S: Store>(
+fn add_above<C: Change, S: Store>(
     alloc: Global,
-    store: &'a S,
+    seen: &Seen<S>,
     rule: &C,
     name: &Text,
-    first: &'a (u128, i32),
+    first: (u128, i32),
     records: &mut Records,
 ) -> Result<(), NoMemory>
-    requires { IsValid (S.images store.now).tip }
-    ensures { OnOk result (records.new ≡ records.old ++ changes_of (C.change rule.now (S.images store.now).tip) (map (walked name.now) (of_topic first.now.0 (above partition_order (S.images store.now).tip.partitions (Some first.now))))) }
+    ensures { OnOk result (records.new ≡ records.old ++ changes_of (C.change rule.now seen.now) (map (walked name.now) (of_topic first.0 (above partition_order seen.now.partitions (Some first))))) }
 {
     let mut after = first;
-    while let Some((key, partition)) = next_of(store, after) {
-        let change = rule.change(alloc, store, name, key, partition)?;
+    while let Some((key, partition)) = seen.next_of_topic(&after) {
+        let change = rule.change(alloc, seen, name, key, partition)?;
         add_change(records, key, change)?;
-        after = key;
+        after = *key;
     }
     Ok(())
 }
@@ -105,33 +75,32 @@ fn add_above<'a, C: Change, S: Store>(
 // The changes of the partitions of one topic.
 fn add_topic<C: Change, S: Store>(
     alloc: Global,
-    store: &S,
+    seen: &Seen<S>,
     rule: &C,
     name: &Text,
     id: &u128,
     records: &mut Records,
 ) -> Result<(), NoMemory>
-    requires { IsValid (S.images store.now).tip }
-    ensures { OnOk result (records.new ≡ records.old ++ changes_of (C.change rule.now (S.images store.now).tip) (walk_topic (S.images store.now).tip.partitions (name.now, id.now))) }
+    ensures { OnOk result (records.new ≡ records.old ++ changes_of (C.change rule.now seen.now) (walk_topic seen.now.partitions (name.now, id.now))) }
 {
-    let first = before_all(id);
-    add_above(alloc, store, rule, name, &first, records)?;
+    seen.is_valid();
+    add_above(alloc, seen, rule, name, before_all(id), records)?;
     Ok(())
 }
 
 /// Adds the changes of all partitions, by the name of their topic and then by index.
 pub fn add_changes<C: Change, S: Store>(
     alloc: Global,
-    store: &S,
+    seen: &Seen<S>,
     rule: &C,
     records: &mut Records,
 ) -> Result<(), NoMemory>
-    ensures { OnOk result (records.new ≡ records.old ++ changes_of (C.change rule.now (S.images store.now).tip) (walk (S.images store.now).tip)) }
+    ensures { OnOk result (records.new ≡ records.old ++ changes_of (C.change rule.now seen.now) (walk seen.now)) }
 {
-    let _valid = store.counts();
+    seen.is_valid();
     let mut after = None;
-    while let Some((name, topic)) = tip::next_topic(store, after) {
-        add_topic(alloc, store, rule, name, &topic.id, records)?;
+    while let Some((name, id)) = seen.next_topic(after) {
+        add_topic(alloc, seen, rule, name, id, records)?;
         after = Some(name);
     }
     Ok(())
@@ -144,12 +113,12 @@ fn is_led_by(partition: &Partition, broker: &i32) -> bool
 }
 
 /// The broker leads a partition.
-pub fn leads<S: Store>(store: &S, broker: &i32) -> bool
-    ensures { result ≡ broker_heartbeat.leads (S.images store.now).tip broker.now }
+pub fn leads<S: Store>(seen: &Seen<S>, broker: &i32) -> bool
+    ensures { result ≡ broker_heartbeat.leads seen.now broker.now }
 {
-    let _valid = store.counts();
+    seen.is_valid();
     let mut after = None;
-    while let Some((key, partition)) = tip::next_partition(store, after) {
+    while let Some((key, partition)) = seen.next_partition(after) {
         if is_led_by(partition, broker) {
             return true;
         }

@@ -14,7 +14,7 @@ use crate::settings::facts;
 use kr_base::NoMemory;
 use kr_change::build;
 use kr_defs::{Copied, Ids, Mode, Partition, PartitionChange, Record, Records, Text, Want};
-use kr_store::Store;
+use kr_store::{Seen, Store};
 use std::alloc::Global;
 
 /// What is asked of a partition where nothing is named: its own lists.
@@ -104,7 +104,7 @@ impl Change for Leaver {
     fn change<S: Store>(
         &self,
         alloc: Global,
-        store: &S,
+        seen: &Seen<S>,
         topic: &Text,
         _key: &(u128, i32),
         partition: &Partition,
@@ -113,7 +113,7 @@ impl Change for Leaver {
             return Ok(None);
         }
         let want = without_broker(alloc, partition, &self.broker, self.restarted)?;
-        let facts = facts(alloc, store, &self.minimum, &self.active, topic)?;
+        let facts = facts(alloc, seen, &self.minimum, &self.active, topic)?;
         build(alloc, partition, &want, &facts)
     }
 }
@@ -122,18 +122,18 @@ impl Change for Leaver {
 /// options.
 pub fn take_out<S: Store>(
     alloc: Global,
-    store: &S,
+    seen: &Seen<S>,
     minimum: &i32,
     broker: &i32,
     restarted: bool,
     records: &mut Records,
 ) -> Result<(), NoMemory>
-    ensures { OnOk result (records.new ≡ records.old ++ taking.taken_out minimum.now (S.images store.now).tip broker.now restarted) }
+    ensures { OnOk result (records.new ≡ records.old ++ taking.taken_out minimum.now seen.now broker.now restarted) }
 {
-    let everyone = active(alloc, store)?;
+    let everyone = active(alloc, seen)?;
     let active = others(alloc, &everyone, broker)?;
     let rule = leaver_of(minimum, active, broker, restarted);
-    add_changes(alloc, store, &rule, records)
+    add_changes(alloc, seen, &rule, records)
 }
 
 fn fence_record(broker: &i32, epoch: &i64) -> Record
@@ -150,15 +150,15 @@ fn fence_record(broker: &i32, epoch: &i64) -> Record
 /// The records that fence a broker of this epoch.
 pub fn fencing_records<S: Store>(
     alloc: Global,
-    store: &S,
+    seen: &Seen<S>,
     minimum: &i32,
     broker: &i32,
     epoch: &i64,
 ) -> Result<Records, NoMemory>
-    ensures { IfOk result (λ records. records ≡ taking.fencing minimum.now (S.images store.now).tip broker.now epoch.now) }
+    ensures { IfOk result (λ records. records ≡ taking.fencing minimum.now seen.now broker.now epoch.now) }
 {
     let mut records = Records::new(alloc);
     records.push(fence_record(broker, epoch))?;
-    take_out(alloc, store, minimum, broker, false, &mut records)?;
+    take_out(alloc, seen, minimum, broker, false, &mut records)?;
     Ok(records)
 }

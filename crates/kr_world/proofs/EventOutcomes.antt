@@ -10,7 +10,7 @@ use Rattle.kr_world.specs.declared.writes.Write.{Write}
 use Rattle.kr_world.specs.Engine.{Core, IsEngine}
 use Rattle.kr_world.specs.Entries.{entries_added, entries_by, log_entries}
 use Rattle.kr_world.specs.Events.{with_next_number, happens, next_number, outcome, at_time_of}
-use Rattle.kr_world.specs.Outputs.{if_accepted, is_open_in, outputs_by, outputs_of, outputs_then, waiting_after, writes_of}
+use Rattle.kr_world.specs.Outputs.{if_accepted, is_open_in, new_writes, outputs_by, outputs_of, outputs_then, waiting_after, writes_of}
 use Rattle.kr_world.specs.World.{State}
 
 abbrev pub refuses : Reason → Result State Reason
@@ -39,6 +39,12 @@ module _ (e : Core) (options : Options) (s : State) (writes : List Write) (event
   pub outputs_refused : (reason : Reason) → outcome options (at_time_of s event) event ≡ Err reason
       → outputs_of options s writes event ≡ given.Refused (next_number s.world.count) reason ∷ []
   outputs_refused reason is = ap (outputs_by options (at_time_of s event) writes event) is
+
+  pub writes_accepted : (after : State) → outcome options (at_time_of s event) event ≡ Ok after → new_writes options s event ≡ writes_of options (at_time_of s event) event
+  writes_accepted after is = ap (λ r. if_accepted r (writes_of options (at_time_of s event) event)) is
+
+  pub writes_refused : (reason : Reason) → outcome options (at_time_of s event) event ≡ Err reason → new_writes options s event ≡ []
+  writes_refused reason is = ap (λ r. if_accepted r (writes_of options (at_time_of s event) event)) is
 
   pub entries_accepted : (after : State) → outcome options (at_time_of s event) event ≡ Ok after → log_entries options s event ≡ entries_added s event after
   entries_accepted after is = ap (entries_by s event) is

@@ -90,18 +90,21 @@ module _ (e : Core) (s : State) (writes : List Write) (d : IsDrained e) (k : IsE
   pub held_wait : e.held ≡ writes
   held_wait = sym d.all_wait ∙ k.waits
 
+  pub held_then : e.held ≡ writes ++ []
+  held_then = held_wait ∙ sym (append-nil writes)
+
   module _ (leading : Option ℤ) (end : ℤ) (w : World) (led : leading ≡ w.leading) (at : end ≡ pos w.committed) where
     pub waits_then : filter (is_open leading end) e.held ≡ filter (is_open_in w) (writes ++ [])
     waits_then =
         ap (λ l. filter (is_open l end) e.held) led
         ∙ (ap (λ c. filter (is_open w.leading c) e.held) at
-        ∙ ap (filter (is_open_in w)) (held_wait ∙ sym (append-nil writes)))
+        ∙ ap (filter (is_open_in w)) held_then)
 
     pub answers_then : answers leading end e.held ≡ answers_in w (writes ++ [])
     answers_then =
         ap (λ l. answers l end e.held) led
         ∙ (ap (λ c. answers w.leading c e.held) at
-        ∙ ap (answers_in w) (held_wait ∙ sym (append-nil writes)))
+        ∙ ap (answers_in w) held_then)
 
 -- ---- events that change no state
 

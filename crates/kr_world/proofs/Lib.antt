@@ -14,6 +14,7 @@ pub mod OrderlyStates
 pub mod OutputsLeft
 pub mod Places
 pub mod Queues
+pub mod RightReplies
 pub mod SafeEntries
 pub mod SoundEngines
 pub mod StandingEngines

@@ -10,7 +10,7 @@ use Rattle.kr_defs.proofs.Tests.{both, not_false, not_true}
 use Rattle.kr_world.specs.declared.writes.Write.{Write}
 use Rattle.kr_world.specs.Engine.{Core, writes_in_order, outputs_left}
 use Rattle.kr_world.specs.World.{leads_in}
-use Rattle.kr_world.specs.Outputs.{due_reply, answers, is_open}
+use Rattle.kr_world.specs.Outputs.{answers, due_reply, is_open, told_answers, told_reply}
 
 pub never : false ≡ true → ⊥
 never both = cc
@@ -100,18 +100,18 @@ module _ (leading : Option ℤ) (end : ℤ) where
       (waits_behind write later waits tests.0) (all_wait_behind write writes waits tests.1)
 
   -- where the first waits, no reply is due
-  pub none_is_due : (write : Write) (writes : List Write) → is_open leading end write ≡ true → writes_in_order (write ∷ writes) ≡ true → answers leading end (write ∷ writes) ≡ []
+  pub none_is_due : (write : Write) (writes : List Write) → is_open leading end write ≡ true → writes_in_order (write ∷ writes) ≡ true → told_answers leading end (write ∷ writes) ≡ []
   none_is_due write writes waits ordered =
       let tests = both (list_all (is_behind write) writes) (writes_in_order writes) ordered in
-      none_fails (due_reply end) (is_open leading end) (write ∷ writes)
+      none_fails (told_reply end) (is_open leading end) (write ∷ writes)
       (and_from (is_open leading end write) (list_all (is_open leading end) writes) waits (all_wait_behind write writes waits tests.0))
 
-  due_first : (b : Bool) (write : Write) (rest : List Write) → b ≡ false → map (due_reply end) (cond (not b) (write ∷ rest) rest) ≡ due_reply end write ∷ map (due_reply end) rest
+  due_first : (b : Bool) (write : Write) (rest : List Write) → b ≡ false → map (told_reply end) (cond (not b) (write ∷ rest) rest) ≡ told_reply end write ∷ map (told_reply end) rest
   due_first true write rest is = absurd cc
   due_first false write rest is = refl
 
   -- where the first waits no more, its reply is the first that is due
-  pub first_is_due : (write : Write) (writes : List Write) → is_open leading end write ≡ false → answers leading end (write ∷ writes) ≡ due_reply end write ∷ answers leading end writes
+  pub first_is_due : (write : Write) (writes : List Write) → is_open leading end write ≡ false → told_answers leading end (write ∷ writes) ≡ told_reply end write ∷ told_answers leading end writes
   first_is_due write writes is = due_first (is_open leading end write) write (filter (λ later. not (is_open leading end later)) writes) is
 
   not_first : (b : Bool) (write : Write) (rest : List Write) → b ≡ false → cond b (write ∷ rest) rest ≡ rest
@@ -127,12 +127,12 @@ order_behind write writes ordered = (both (list_all (is_behind write) writes) (w
 -- ---- the first of a queue
 
 module _ (leading : Option ℤ) (end : ℤ) where
-  pub not_due : (items : List Write) → writes_in_order items ≡ true → ((write : Write) (rest : List Write) → items ≡ write ∷ rest → false ≡ not (is_open leading end write)) → answers leading end items ≡ []
+  pub not_due : (items : List Write) → writes_in_order items ≡ true → ((write : Write) (rest : List Write) → items ≡ write ∷ rest → false ≡ not (is_open leading end write)) → told_answers leading end items ≡ []
   not_due [] ordered waits = refl
   not_due (write ∷ rest) ordered waits = none_is_due leading end write rest (not_false (is_open leading end write) (sym (waits write rest refl))) ordered
 
-  pub due : (items : List Write) (write : Write) (rest : List Write) → items ≡ write ∷ rest → true ≡ not (is_open leading end write) → answers leading end items ≡ due_reply end write ∷ answers leading end rest
-  due items write rest is closed = ap (answers leading end) is ∙ first_is_due leading end write rest (not_true (is_open leading end write) (sym closed))
+  pub due : (items : List Write) (write : Write) (rest : List Write) → items ≡ write ∷ rest → true ≡ not (is_open leading end write) → told_answers leading end items ≡ told_reply end write ∷ told_answers leading end rest
+  due items write rest is closed = ap (told_answers leading end) is ∙ first_is_due leading end write rest (not_true (is_open leading end write) (sym closed))
 
   pub still_waits : (items : List Write) (write : Write) (rest : List Write) → items ≡ write ∷ rest → true ≡ not (is_open leading end write) → filter (is_open leading end) rest ≡ filter (is_open leading end) items
   still_waits items write rest is closed = sym (ap (filter (is_open leading end)) is ∙ first_waits_not leading end write rest (not_true (is_open leading end write) (sym closed)))

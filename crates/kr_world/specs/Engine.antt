@@ -1,6 +1,7 @@
 -- What a contract sees of an engine, and for which past events it stands.
 use Rattle.std.specs.Prelude.{◌≡◌, ◌≤◌, ◌<◌, ℕ, ℤ, pos, int_le, unsigned_abs, List, [], ◌∷◌, ◌++◌, All, map, filter, option_to_list, Bool, true, ◌&&◌, IsTrue, IsSome, Option, None, Ok}
 use Rattle.std.specs.List.{list_all}
+use Rattle.std.specs.Option.{option_map}
 use Rattle.std.specs.Ordering.{int_eq}
 use Rattle.kr_calls.specs.declared.events.Entry.{Entry}
 use Rattle.kr_calls.specs.declared.events.Event.{Event}
@@ -14,10 +15,11 @@ use Rattle.kr_defs.specs.Image.{Image, IsValid}
 use Rattle.kr_defs.specs.Log.{Log, image_at}
 use Rattle.law_safety.specs.HearingLaws.{HearsOf}
 use Rattle.kr_store.specs.Images.{Images}
+use Rattle.kr_world.specs.declared.writes.Told.{Told}
 use Rattle.kr_world.specs.declared.writes.Write.{Write}
 use Rattle.kr_world.specs.Entries.{log_entries}
 use Rattle.kr_world.specs.Events.{happens}
-use Rattle.kr_world.specs.Outputs.{answers, is_open, outputs_of, waiting_after}
+use Rattle.kr_world.specs.Outputs.{answers, is_open, new_writes, outputs_of, told_alone, told_answers, waiting_after}
 use Rattle.kr_world.specs.World.{State, image_of_tip, seen_at, tip_of}
 
 pub record Core : Type 0 where
@@ -43,6 +45,10 @@ pub record Core : Type 0 where
 -- the outputs of the last event that aren't handed out yet
 abbrev pub outputs_left : Core → List Output
 outputs_left e = e.given ++ option_to_list e.refusal ++ answers e.leading e.committed e.held
+
+-- the same, and with each reply of a write that waited how the write ended
+abbrev pub told_left : Core → List Told
+told_left e = map told_alone (e.given ++ option_to_list e.refusal) ++ told_answers e.leading e.committed e.held
 
 -- a copy of what decisions rest on besides the image
 abbrev pub basis_of : Core → Basis
@@ -103,11 +109,13 @@ pub record IsSound (e : Core) : Type 0 where
   pub stands : IsEngine e state writes
 
 -- What one call makes of an engine, for an event: it stands for the next state and the writes that wait then, and what is
--- left to hand out are the outputs of the event; fresh is what it added to the log.
+-- left to hand out are the outputs of the event; held are the writes that waited and the one of the event, also where a reply is
+-- due now; fresh is what it added to the log.
 pub record IsStep (before after : Core) (event : Event) : Type 0 where
   pub options : after.options ≡ before.options
   pub stands : (s : State) (writes : List Write) → IsEngine before s writes → IsEngine after (happens before.options s event) (waiting_after before.options s writes event)
   pub outputs : (s : State) (writes : List Write) → IsEngine before s writes → outputs_left after ≡ outputs_of before.options s writes event
+  pub held : (s : State) (writes : List Write) → IsEngine before s writes → after.held ≡ writes ++ new_writes before.options s event
   pub fresh : (s : State) (writes : List Write) → IsEngine before s writes → after.fresh ≡ log_entries before.options s event
 
 -- What handing out the next output makes of an engine; none where all is handed out.
@@ -118,3 +126,10 @@ pub record Hands (before after : Core) (output : Option Output) : Type 0 where
   pub ordered : IsTrue (writes_in_order after.held)
   pub fresh : after.fresh ≡ before.fresh
   pub stands : (s : State) (writes : List Write) → IsEngine before s writes → IsEngine after s writes
+
+-- What is told with it: how the write ended of which it is the reply.
+abbrev pub HandsTold : Core → Core → Option Told → Type 0
+HandsTold before after told = told_left before ≡ option_to_list told ++ told_left after
+
+abbrev pub output_of : Option Told → Option Output
+output_of told = option_map (λ (t : Told). t.output) told

@@ -9,6 +9,7 @@ pub mod Lost
 pub mod Outputs
 pub mod Reasons
 pub mod Request
+pub mod RightReplies
 pub mod Runs
 pub mod SafeSteps
 pub mod Tick

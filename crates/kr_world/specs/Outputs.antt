@@ -1,6 +1,6 @@
 -- What a controller gives out: the batches that it appends, refusals and images, and replies. A write's reply comes once all
 -- that it saw or made is committed, or says that the leadership was lost before.
-use Rattle.std.specs.Prelude.{ℕ, ℤ, pos, int_lt, ◌&&◌, ◌==◌, Bool, not, List, [], ◌∷◌, ◌++◌, length, map, filter, option_to_list, is_some, Option, Result, Ok, Err, if◌then◌else◌}
+use Rattle.std.specs.Prelude.{ℕ, ℤ, pos, int_lt, ◌&&◌, ◌==◌, Bool, not, List, [], ◌∷◌, ◌++◌, length, map, filter, option_to_list, is_some, Option, Some, None, Result, Ok, Err, if◌then◌else◌}
 use Rattle.kr_batch.specs.declared.Batch.{Batch}
 use Rattle.kr_batch.specs.BatchBytes.{batch_bytes}
 use Rattle.kr_calls.specs.declared.errors.TheConstants.{INVALID_REQUEST, NOT_CONTROLLER, UNSUPPORTED_VERSION}
@@ -12,6 +12,7 @@ use Rattle.kr_calls.specs.declared.calls.Request.{Request}
 use Rattle.kr_calls.specs.declared.events.Event.{Event}
 use Rattle.kr_calls.specs.declared.events.Output.{Output}
 use Rattle.kr_calls.specs.declared.events.Reason.{Reason}
+use Rattle.kr_calls.specs.declared.answers.AnswerKind.TheVariants as kinds
 use Rattle.kr_calls.specs.declared.calls.Ask.TheVariants as asks
 use Rattle.kr_calls.specs.declared.calls.AskFault.TheVariants as faults
 use Rattle.kr_calls.specs.declared.calls.Reply.TheVariants as replies
@@ -23,6 +24,8 @@ use Rattle.kr_defs.specs.declared.options.Options.{Options}
 use Rattle.kr_defs.specs.declared.record.Record.{Record}
 use Rattle.kr_defs.specs.ImageLaws.{as_items}
 use Rattle.kr_snapshot.specs.ImageText.{image_text}
+use Rattle.kr_world.specs.declared.writes.Ended.{Ended}
+use Rattle.kr_world.specs.declared.writes.Told.{Told}
 use Rattle.kr_world.specs.declared.writes.Write.{Write}
 use Rattle.kr_world.specs.Events.{happens, next_number, outcome, state, at_time_of}
 use Rattle.kr_world.specs.World.{leads_in, State, World, image_of_end, image_of_tip, start, tip_of}
@@ -93,6 +96,7 @@ write_of options s client call = record {
   need = pos (tip_of (after_ask options s (asks.Call call)));
   reply = (decision options s call.request).reply;
   refusal = refuse call.request NOT_CONTROLLER;
+  decided = record { place = pos (tip_of s); count = length (decision options s call.request).records; basis = s.basis };
 }
 
 -- the write of an accepted event
@@ -128,12 +132,33 @@ waiting_writes options past = filter (is_open_in (state options past).world) (wr
 abbrev pub due_reply : ℤ → Write → Output
 due_reply end write = given.Reply write.client write.correlation (if int_lt end write.need then write.refusal else write.reply)
 
--- in order of their requests
+-- those that wait no more, in order of their requests
+abbrev pub due_writes : Option ℤ → ℤ → List Write → List Write
+due_writes leading end writes = filter (λ write. not (is_open leading end write)) writes
+
 abbrev pub answers : Option ℤ → ℤ → List Write → List Output
-answers leading end writes = map (due_reply end) (filter (λ write. not (is_open leading end write)) writes)
+answers leading end writes = map (due_reply end) (due_writes leading end writes)
 
 abbrev pub answers_in : World → List Write → List Output
 answers_in w writes = answers w.leading (pos w.committed) writes
+
+-- ---- how writes end
+
+-- that of a write that waits no more: it stands, or was lost
+abbrev pub end_of_write : ℤ → Write → Ended
+end_of_write end write = record { kind = if int_lt end write.need then kinds.Lost else kinds.Stands; decided = write.decided }
+
+-- its reply, with it
+abbrev pub told_reply : ℤ → Write → Told
+told_reply end write = record { output = due_reply end write; ended = Some (end_of_write end write) }
+
+-- the same as above, each with how the write ended
+abbrev pub told_answers : Option ℤ → ℤ → List Write → List Told
+told_answers leading end writes = map (told_reply end) (due_writes leading end writes)
+
+-- an output that no write waited for
+abbrev pub told_alone : Output → Told
+told_alone output = record { output = output; ended = None }
 
 -- ---- all outputs
 

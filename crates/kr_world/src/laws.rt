@@ -1,5 +1,6 @@
 //! What follows over all events. The function says so in its contract, and does nothing.
 
+ghost use Rattle.kr_world.specs.RightReplies.{RepliesAreRight};
 ghost use Rattle.kr_world.specs.Runs.{RunsGiveOutputs};
 ghost use Rattle.kr_world.specs.SafeSteps.{StepsAreSafe};
 
@@ -13,4 +14,10 @@ pub fn runs_give_outputs()
 /// new partition is led by the first of its replicas in sync, of which there is one.
 pub fn steps_are_safe()
     ensures { StepsAreSafe }
+{}
+
+/// The reply of a write, with where and on what it was decided, makes a right answer in each list of entries that has the log
+/// below that place and the write's records from there on; where the write was lost, in any list.
+pub fn replies_are_right()
+    ensures { RepliesAreRight }
 {}

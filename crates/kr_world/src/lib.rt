@@ -5,4 +5,4 @@
 pub mod laws;
 mod writes;
 
-pub use writes::Write;
+pub use writes::{Decided, Ended, Told, Write};

@@ -1,6 +1,18 @@
-//! Writes whose replies wait.
+//! Writes whose replies wait, and what is told of them.
 
-use kr_calls::Reply;
+use kr_calls::{AnswerKind, Output, Reply};
+use kr_defs::Basis;
+
+/// Where a write was decided, and on what besides the image.
+#[derive(Drop)]
+pub struct Decided {
+    /// The tip of the log then: the write saw the image below it, and its records begin there.
+    pub place: i64,
+    /// How many records it gave.
+    pub count: u32,
+    /// What the decision rested on besides the image; its time is that of the decision.
+    pub basis: Basis,
+}
 
 /// A write that was decided, with both of its replies.
 #[derive(Drop)]
@@ -15,4 +27,20 @@ pub struct Write {
     pub reply: Reply,
     /// The reply where the leadership is lost before: Kafka's NOT_CONTROLLER.
     pub refusal: Reply,
+    pub decided: Decided,
+}
+
+/// How a write ended that waited.
+#[derive(Drop)]
+pub struct Ended {
+    /// It stands, or was lost.
+    pub kind: AnswerKind,
+    pub decided: Decided,
+}
+
+/// What a controller gives out; where it is the reply of a write that waited, also how that write ended.
+#[derive(Drop)]
+pub struct Told {
+    pub output: Output,
+    pub ended: Option<Ended>,
 }

@@ -14,6 +14,7 @@ use Rattle.kr_calls.specs.declared.events.Output.TheVariants as given
 use Rattle.kr_calls.specs.Decide.{Decision, is_read, query}
 use Rattle.kr_calls.specs.Refuse.{refuse}
 use Rattle.kr_calls.specs.declared.errors.TheConstants.{NOT_CONTROLLER}
+use Rattle.kr_defs.specs.declared.basis.Basis.{Basis}
 use Rattle.kr_defs.specs.declared.options.Options.{Options}
 use Rattle.kr_defs.specs.declared.record.Record.{Record}
 use Rattle.kr_defs.specs.Image.{Image}
@@ -30,7 +31,7 @@ use Rattle.kr_world.specs.Tick.{fence, fencing_of, lapsed_contacts}
 use Rattle.kr_world.specs.World.{State, image_of_end, image_of_tip, tip_of}
 use Rattle.law_prefix.specs.ReplacedPrefix.{IsLater, unnumbered}
 use Rattle.law_prefix.proofs.AlikeEvents.{AlikeResults, asked_alike, at_time, outcomes, same_decided, same_lapsed, stays_alike}
-use Rattle.law_prefix.proofs.AlikeStates.{Alike, fenced_alike, is_with_past, same_ends, same_images, same_times, same_tips, with_past}
+use Rattle.law_prefix.proofs.AlikeStates.{Alike, fenced_alike, is_with_past, same_bases, same_ends, same_images, same_times, same_tips, with_past}
 use Rattle.kr_world.proofs.OrderlyStates.{IsOrderly, none_lapses, timed_orderly}
 
 -- ---- batches
@@ -128,21 +129,25 @@ module _ (before : State) (options : Options) (r : State) (log : Log) (greatest 
   same_answers_now events.Image = refl
 
   -- a write, with what it needs and its reply
-  abbrev write_as : ℕ → Call → ℕ → Decision → Write
-  write_as client call need d = record {
+  abbrev write_as : ℕ → Call → ℕ → ℕ → Basis → Decision → Write
+  write_as client call need place basis d = record {
     client = client;
     correlation = call.correlation;
     epoch = led_epoch r.world.leading;
     need = pos need;
     reply = d.reply;
     refusal = refuse call.request NOT_CONTROLLER;
+    decided = record { place = pos place; count = length d.records; basis = basis };
   }
 
   write_by : (client : ℕ) (call : Call) (b : Bool) → (b ≡ true → is_some r.world.leading ≡ true) → cond b (write_of options s client call ∷ []) [] ≡ cond b (write_of options r client call ∷ []) []
   write_by client call false leads = refl
   write_by client call true leads =
-      ap (λ n. write_as client call n (decision options s call.request) ∷ []) (same_tips before _ _ (asked_alike before options r log greatest count time led k o (asks.Call call)))
-      ∙ ap (λ (d : Decision). write_as client call (tip_of (after_ask options r (asks.Call call))) d ∷ []) (decisions (leads refl) call.request)
+      let need = tip_of (after_ask options r (asks.Call call)) in
+      ap (λ n. write_as client call n (tip_of s) s.basis (decision options s call.request) ∷ []) (same_tips before _ _ (asked_alike before options r log greatest count time led k o (asks.Call call)))
+      ∙ (ap (λ n. write_as client call need n s.basis (decision options s call.request) ∷ []) (same_tips before s r k)
+      ∙ (ap (λ (b : Basis). write_as client call need (tip_of r) b (decision options s call.request) ∷ []) (same_bases before s r k (leads refl))
+      ∙ ap (λ (d : Decision). write_as client call need (tip_of r) r.basis d ∷ []) (decisions (leads refl) call.request)))
 
   pub same_writes : (event : Event) → writes_of options s event ≡ writes_of options r event
   same_writes (events.Lead epoch next now) = refl

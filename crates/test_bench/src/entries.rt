@@ -49,7 +49,7 @@ fn registration(alloc: Global, id: i32) -> Result<Record, AllocError> {
     })
 }
 
-fn topic_name(alloc: Global, number: i32) -> Result<Text, AllocError> {
+pub(crate) fn topic_name(alloc: Global, number: i32) -> Result<Text, AllocError> {
     Ok(Text::from_string(format!(in alloc; "topic-{number}")?))
 }
 
@@ -64,7 +64,7 @@ fn add_topic(alloc: Global, number: i32, records: &mut Vec<Record>) -> Result<()
     Ok(())
 }
 
-fn partition(alloc: Global, topic: u128, index: i32) -> Result<Record, AllocError> {
+pub(crate) fn partition(alloc: Global, topic: u128, index: i32) -> Result<Record, AllocError> {
     Ok(Record::Partition {
         index,
         topic,

@@ -5,6 +5,7 @@
 mod batches;
 mod changes;
 mod checksum;
+mod copies;
 mod entries;
 mod image;
 mod message;

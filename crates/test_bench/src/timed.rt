@@ -5,6 +5,7 @@ ghost use Rattle.std.specs.Duration.{as_nanos};
 
 use crate::batches::{Encoded, Kind};
 use crate::checksum::Summed;
+use crate::copies::print_copies;
 use crate::image::Written;
 use crate::placing::{PARTITIONS, brokers, place_all};
 use crate::request::{Form, ask, topics_of};
@@ -13,6 +14,8 @@ use kr_defs::Text;
 use kr_store::Store;
 use std::alloc::Global;
 use std::rt::Clock;
+use std::sync::Wait;
+use std::thread::Threads;
 use std::time::{Duration, Instant};
 
 /// How often each job is done.
@@ -35,7 +38,9 @@ enum Work<'a> {
 }
 
 /// Measures each job and prints a table. Time is the shortest of all rounds, and a MB a million bytes.
-pub(crate) fn print_table<R: Print + Clock + AllocGlobal>(rt: &R) -> Result<()> {
+pub(crate) fn print_table<R: Print + Clock + AllocGlobal + Wait + Threads + Sync>(
+    rt: &R,
+) -> Result<()> {
     print_head(rt)?;
     print_checksum(rt)?;
     print_batch(rt, Kind::Changes)?;
@@ -44,7 +49,8 @@ pub(crate) fn print_table<R: Print + Clock + AllocGlobal>(rt: &R) -> Result<()> 
     print_request(rt, Form::Whole)?;
     print_request(rt, Form::Promising)?;
     print_image(rt)?;
-    print_placing(rt)
+    print_placing(rt)?;
+    print_copies(rt)
 }
 
 fn print_head(rt: &impl Print) -> Result<()> {

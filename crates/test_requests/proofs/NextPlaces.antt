@@ -1,6 +1,6 @@
 -- What is kept under the place of the next record, and behind more records.
 use Rattle.std.proofs.Common.{◌≡◌, ℤ, ℕ, ◌-◌, true, false, ◌&&◌, ◌||◌, cond, List, [], ◌∷◌, ◌++◌, refl, sym, ap, subst, ◌∙◌, map, filter, length, arith}
-use Rattle.std.specs.Prelude.{Some, None, IsSome, IsTrue, int_lt, not, pos, get_or, slice_get}
+use Rattle.std.specs.Prelude.{Some, None, IsSome, IsTrue, int_lt, not, pos, get_or, slice_get, unwrap_or}
 use Rattle.std.specs.Option.{option_map}
 use Rattle.std.specs.Ordering.{int_eq}
 use Rattle.std.proofs.lemmas.Int.{ints}
@@ -9,10 +9,10 @@ use Rattle.std.proofs.lemmas.Bool.Decides.{Decides-int_eq}
 use Rattle.kr_defs.specs.declared.basis.Stopping.{Stopping}
 use Rattle.kr_defs.specs.Heartbeats.{Heartbeats, stopping_brokers}
 use Rattle.kr_defs.specs.Ids.{has}
-use Rattle.kr_defs.specs.Image.{Image}
+use Rattle.kr_defs.specs.Image.{Image, empty}
 use Rattle.kr_defs.proofs.Tests.{some_is}
 use Rattle.kr_calls.specs.NextBasis.{broker_is_stopping}
-use Rattle.kr_store.specs.Images.{Images, IsAbove, no_images, marked, forgotten, kept_at, last_kept, last_image}
+use Rattle.kr_store.specs.Images.{Images, IsAbove, no_images, marked, forgotten, last_kept, last_image}
 use Rattle.test_rule_answers.specs.Histories.{AreEpochs}
 use Rattle.test_rule_answers.proofs.EpochRows.{is_above, some_kept}
 use Rattle.kr_rules.specs.Progress.{base_of}
@@ -20,9 +20,6 @@ use Rattle.test_requests.specs.StoppingBrokers.{are_stopping}
 
 not_below : (x : ℤ) → int_lt x x ≡ false
 not_below x = elim (int_lt x x) as (λ b. int_lt x x ≡ b → b ≡ false) [ true ↦ λ is. grind (arith, ints) | false ↦ λ is. refl ] refl
-
-same_place : (x : ℤ) → int_eq x x ≡ true
-same_place x = (Decides-int_eq x x).1 refl
 
 -- the empty image at the first place
 pub epochs_begun : (images : Images) → images ≡ marked no_images (pos 0) → AreEpochs images.kept (pos 0 ∷ [])
@@ -74,18 +71,14 @@ last_of_one (k ∷ j ∷ ks) images place are = absurd cc
 last_of_one (k ∷ []) images place are = ap (λ p. Some (p, k.1)) (first_is k place are)
 
 -- the image that is kept under the place is where a request begins
-pub last_of : (images : Images) (place : ℤ) → AreEpochs images.kept (place ∷ []) → last_kept images ≡ Some (place, base_of images)
+last_of : (images : Images) (place : ℤ) → AreEpochs images.kept (place ∷ []) → last_kept images ≡ Some (place, base_of images)
 last_of images place are = last_of_one images.kept images place are
 
-found_of_one : (kept : List (ℤ × Image)) (images : Images) (place : ℤ) → AreEpochs kept (place ∷ [])
-    → kept_at (record images { kept = kept }) place ≡ Some (base_of (record images { kept = kept }))
-found_of_one [] images place are = absurd cc
-found_of_one (k ∷ j ∷ ks) images place are = absurd cc
-found_of_one (k ∷ []) images place are =
-    ap (λ b. option_map (λ (e : ℤ × Image). e.1) (cond b (Some k) None)) (ap (λ p. int_eq p place) (first_is k place are) ∙ same_place place)
+pub last_place : (images : Images) (place : ℤ) → AreEpochs images.kept (place ∷ []) → option_map (λ (e : ℤ × Image). e.0) (last_kept images) ≡ Some place
+last_place images place are = ap (option_map (λ (e : ℤ × Image). e.0)) (last_of images place are)
 
-pub base_found : (images : Images) (place : ℤ) → AreEpochs images.kept (place ∷ []) → kept_at images place ≡ Some (base_of images)
-base_found images place are = found_of_one images.kept images place are
+pub base_seen : (images : Images) (seen : Image) → last_image images ≡ Some seen → seen ≡ base_of images
+base_seen images seen is = sym (ap (λ o. unwrap_or o empty) is)
 
 stopping_among : (image : Image) (stops : List Stopping) → are_stopping image stops ≡ true
     → (id : ℤ) → has (map (λ s. s.broker) stops) id ≡ true → broker_is_stopping image id ≡ true
@@ -105,4 +98,4 @@ pub ruleset leading = (epochs_same, one_is_kept, last_after)
 
 pub ruleset advancing = (is_above_place, epochs_on)
 
-pub ruleset hearing = (last_of, all_stopping)
+pub ruleset hearing = (last_place, base_seen, all_stopping)

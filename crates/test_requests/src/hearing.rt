@@ -1,23 +1,18 @@
 //! Whom the controller hears of after a request.
 
-ghost use Rattle.std.specs.Prelude.{◌≡◌, ◌∷◌, [], IfOk, IsErr, IsOkAnd, MatchOption, OnOk};
-ghost use Rattle.std.specs.Option.{option_copied};
-ghost use Rattle.std.specs.Ordering.{int_cmp};
+ghost use Rattle.std.specs.Prelude.{◌≡◌, ◌∷◌, [], IfOk, OnOk};
 ghost use Rattle.kr_defs.specs.Heartbeats as heartbeats;
-ghost use Rattle.kr_defs.specs.Map as entries;
 ghost use Rattle.kr_calls.specs.NextBasis as following;
-ghost use Rattle.kr_store.specs.Images.{brokers_at};
-ghost use Rattle.kr_store.specs.declared.places.At.TheVariants as places;
 ghost use Rattle.test_rule_answers.specs.Histories.{AreEpochs};
 ghost use Rattle.kr_rules.specs.Progress.{base_of};
 ghost use Rattle.test_requests.specs.StoppingBrokers as led;
 
-use kr_base::{NoEpoch, NoMemory};
+use kr_base::NoMemory;
 use kr_calls::{Reply, Request};
-use kr_defs::{Broker, Stopping};
+use kr_defs::Stopping;
 use kr_image::ImageStore;
 use kr_sessions::Sessions;
-use kr_store::{At, Store};
+use kr_store::Seen;
 use test_rule_answers::is_not_before;
 use test_words::RowFault;
 
@@ -38,10 +33,12 @@ pub(crate) fn hear(
     if !is_no_earlier(sessions, &now)? {
         return Err(RowFault::Fields);
     }
-    if !are_all_stopping(sessions, store, &place)? {
+    let before = seen_before(store, &place);
+    if !are_all_stopping(sessions, &before)? {
         return Err(RowFault::Fields);
     }
-    kr_brokers::hear(sessions, store, now, place, request, reply);
+    let after = Seen::tip(store);
+    kr_brokers::hear(sessions, &before, &after, now, place, request, reply);
     Ok(())
 }
 
@@ -53,56 +50,37 @@ fn is_no_earlier(sessions: &Sessions, now: &i64) -> Result<bool, NoMemory>
     Ok(is_not_before(contacts.as_slice(), now))
 }
 
-// Those that are stopping are so in the image that is kept under the place.
-fn are_all_stopping(sessions: &Sessions, store: &ImageStore, place: &i64) -> Result<bool, NoMemory>
+// The image that is kept under the place.
+#[tactic(auto, using(crate::proofs::NextPlaces::hearing))]
+fn seen_before<'a>(store: &'a ImageStore, place: &i64) -> Seen<'a, ImageStore>
     requires { AreEpochs store.now.kept (place.now ∷ []) }
-    ensures { IfOk result (λ are. are ≡ led.are_stopping (base_of store.now) sessions.now.heartbeats.stopping) }
+    ensures { result ≡ base_of store.now }
 {
-    let stops = sessions.stops()?;
-    Ok(are_stopping(store, place, stops.as_slice()))
+    Seen::last(store, place)
 }
 
-fn are_stopping(store: &ImageStore, place: &i64, stops: &[Stopping]) -> bool
-    requires { AreEpochs store.now.kept (place.now ∷ []) }
-    ensures { result ≡ led.are_stopping (base_of store.now) stops.now }
+// Those that are stopping are so in the image.
+fn are_all_stopping(sessions: &Sessions, seen: &Seen<ImageStore>) -> Result<bool, NoMemory>
+    ensures { IfOk result (λ are. are ≡ led.are_stopping seen.now sessions.now.heartbeats.stopping) }
+{
+    let stops = sessions.stops()?;
+    Ok(are_stopping(seen, stops.as_slice()))
+}
+
+fn are_stopping(seen: &Seen<ImageStore>, stops: &[Stopping]) -> bool
+    ensures { result ≡ led.are_stopping seen.now stops.now }
 {
     match stops.split_first() {
         None => true,
-        Some((first, others)) => {
-            was_stopping(store, place, &first.broker) && are_stopping(store, place, others)
-        }
+        Some((first, others)) => { is_stopping(seen, &first.broker) && are_stopping(seen, others) }
     }
 }
 
-fn was_stopping(store: &ImageStore, place: &i64, id: &i32) -> bool
-    requires { AreEpochs store.now.kept (place.now ∷ []) }
-    ensures { result ≡ following.broker_is_stopping (base_of store.now) id.now }
+fn is_stopping(seen: &Seen<ImageStore>, id: &i32) -> bool
+    ensures { result ≡ following.broker_is_stopping seen.now id.now }
 {
-    match broker_before(store, place, id) {
+    match seen.broker(id) {
         Some(state) => state.stopping,
         None => false,
     }
-}
-
-fn broker_before<'a>(store: &'a ImageStore, place: &i64, id: &i32) -> Option<&'a Broker>
-    requires { AreEpochs store.now.kept (place.now ∷ []) }
-    ensures { option_copied result ≡ entries.get int_cmp (base_of store.now).brokers id.now }
-{
-    let at = at_epoch(place);
-    match broker_at(store, at, id) {
-        Ok(found) => found,
-        Err(_) => None,
-    }
-}
-
-fn at_epoch(epoch: &i64) -> At
-    ensures { result ≡ places.Epoch epoch.now }
-{
-    At::Epoch(*epoch)
-}
-
-fn broker_at<'a>(store: &'a ImageStore, at: At, id: &i32) -> Result<Option<&'a Broker>, NoEpoch>
-    ensures { MatchOption (brokers_at store.now at) (IsErr result) (λ map. IsOkAnd result (λ value. option_copied value ≡ entries.get int_cmp map id.now)) }
-{
-    store.broker(at, *id)
 }

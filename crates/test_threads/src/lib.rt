@@ -1,7 +1,9 @@
-//! Tests of the event queue: one thread, and a worker with four clients on threads of their own; and of what a worker asks of
-//! the outside.
+//! Tests of the event queue: one thread, and a worker with four clients on threads of their own; of copies that one thread shows
+//! and another reads; and of what a worker asks of the outside.
 #![tactic(auto)]
 
+#[cfg(test)]
+mod copies;
 #[cfg(test)]
 mod outside;
 #[cfg(test)]

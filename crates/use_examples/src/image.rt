@@ -5,7 +5,7 @@ use kr_defs::Bytes;
 use kr_dump::dump;
 use kr_image::ImageStore;
 use kr_snapshot::{ImageFault, Reader};
-use kr_store::At;
+use kr_store::Seen;
 use std::alloc::Global;
 use std::io::{self, Print, Write};
 
@@ -18,7 +18,7 @@ pub(crate) fn print_image<R: Print + AllocGlobal>(rt: &R, bytes: &[u8]) -> Resul
 
 fn text_of(alloc: Global, bytes: &[u8]) -> Result<Bytes> {
     match read(alloc, bytes) {
-        Ok((offset, store)) => match dump(alloc, &store, At::Tip, offset) {
+        Ok((offset, store)) => match dump(alloc, &Seen::tip(&store), offset) {
             Ok(text) => Ok(text),
             Err(_no_memory) => bail!("out of memory"),
         },

@@ -1,5 +1,5 @@
 -- What a client's message makes of an engine.
-use Rattle.std.specs.Prelude.{◌≡◌, ◌&&◌, ℕ, ℤ, Bool, true, false, not, [], ◌∷◌, ◌++◌, Option, Some, None, is_some, unwrap_or, if◌then◌else◌}
+use Rattle.std.specs.Prelude.{◌≡◌, ◌&&◌, ℕ, ℤ, Bool, true, false, not, [], ◌∷◌, ◌++◌, length, Option, Some, None, is_some, unwrap_or, if◌then◌else◌}
 use Rattle.kr_calls.specs.declared.errors.TheConstants.{NOT_CONTROLLER}
 use Rattle.kr_calls.specs.declared.calls.Ask.{Ask}
 use Rattle.kr_calls.specs.declared.calls.Call.{Call}
@@ -15,6 +15,7 @@ use Rattle.kr_calls.specs.Decide.{Decision, decide, is_read, query}
 use Rattle.kr_calls.specs.Refuse.{refuse}
 use Rattle.kr_defs.specs.Image.{Image, empty}
 use Rattle.kr_store.specs.Images.{kept_at}
+use Rattle.kr_world.specs.declared.writes.Decided.{Decided}
 use Rattle.kr_world.specs.declared.writes.Write.{Write}
 use Rattle.kr_world.specs.Engine.{Core, basis_of}
 use Rattle.kr_engine.specs.inner.Changes.{refused_core}
@@ -37,21 +38,26 @@ pub record Decides (before after : Core) (request : Request) (out : Effect) : Ty
   pub image : after.images.tip ≡ (decided_by before request).image
   pub kept : after.images.kept ≡ before.images.kept
 
+-- where it is decided, and on what besides the image
+abbrev pub decided_at : Core → Request → Decided
+decided_at e request = record { place = e.tip; count = length (decided_by e request).records; basis = basis_of e }
+
 -- a write with its replies, which waits for the place
-abbrev pub write_with : ℕ → Call → Option ℤ → ℤ → Reply → Reply → Write
-write_with client call leading need reply refusal = record {
+abbrev pub write_with : ℕ → Call → Option ℤ → ℤ → Reply → Reply → Decided → Write
+write_with client call leading need reply refusal decided = record {
   client = client;
   correlation = call.correlation;
   epoch = led_epoch leading;
   need = need;
   reply = reply;
   refusal = refusal;
+  decided = decided;
 }
 
 -- a write that was decided, and whose records are below the place
 abbrev pub waiting_write : Core → ℕ → Call → ℤ → Write
 waiting_write e client call need =
-    write_with client call e.leading need (decided_by e call.request).reply (refuse call.request NOT_CONTROLLER)
+    write_with client call e.leading need (decided_by e call.request).reply (refuse call.request NOT_CONTROLLER) (decided_at e call.request)
 
 pub record TakesWrite (before after : Core) (client : ℕ) (call : Call) : Type 0 where
   pub writes : Writes before after (decided_by before call.request).records

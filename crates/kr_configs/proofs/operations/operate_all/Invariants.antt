@@ -4,5 +4,5 @@ use Rattle.kr_configs.proofs.operations.operate_all.Given as goal
 
 abbrev pub invariant-loop-operation : goal.invariant-loop-operation
 invariant-loop-operation g l =
-    let image = (g.S.Store.images l.store).tip in
+    let image = l.seen in
     after_operations image l.entry l.values (drop l.operation-index l.entry.configs) ≡ after_operations image l.entry [] l.entry.configs

@@ -6,5 +6,5 @@ use Rattle.kr_configs.proofs.records.config_records.Given as goal
 
 abbrev pub invariant-loop-key : goal.invariant-loop-key
 invariant-loop-key g l =
-    let image = (g.S.Store.images l.store).tip in
+    let image = l.seen in
     l.records ++ filter_map (config_record image l.entry) (seen l.key-iterator) ≡ filter_map (config_record image l.entry) l.values

@@ -1,5 +1,4 @@
 use Rattle.std.specs.Option.{option_copied}
-use Rattle.kr_store.specs.Reads.{seen_at}
 use Rattle.kr_defs.proofs.ImageParts.{text_total}
 use Rattle.kr_gather.proofs.WalkGathering.{entry_more, entry_over, entry_less}
 use Rattle.kr_dump.specs.DumpText.{feature_line}
@@ -7,15 +6,15 @@ use Rattle.kr_dump.proofs.dumping.put_features.Goals as goal
 
 pub loop-name-preserved : goal.loop-name-preserved
 loop-name-preserved g c =
-    let features = (seen_at (g.S.Store.images c.args.store.now) c.args.at).features in
-    entry_more text_total feature_line features (option_copied c.loop-name.after) (c.in-Some.name.now, c.in-Some.level.now) c.see.ensures.features.ordered c.in-Some.ensures c.loop-name.out _ _ c.in_ok-put_feature.ensures c.loop-name.invariant
+    let features = c.args.seen.now.features in
+    entry_more text_total feature_line features (option_copied c.loop-name.after) (c.in-Some.name.now, c.in-Some.level.now) c.is_valid.ensures.features.ordered c.in-Some.ensures c.loop-name.out _ _ c.in_ok-put_feature.ensures c.loop-name.invariant
 
 pub loop-name-smaller : goal.loop-name-smaller
 loop-name-smaller g c =
-    let features = (seen_at (g.S.Store.images c.args.store.now) c.args.at).features in
-    entry_less text_total features (option_copied c.loop-name.after) (c.in-Some.name.now, c.in-Some.level.now) c.see.ensures.features.ordered c.in-Some.ensures
+    let features = c.args.seen.now.features in
+    entry_less text_total features (option_copied c.loop-name.after) (c.in-Some.name.now, c.in-Some.level.now) c.is_valid.ensures.features.ordered c.in-Some.ensures
 
 pub returns : goal.returns
 returns g c =
-    let features = (seen_at (g.S.Store.images c.args.store.now) c.args.at).features in
+    let features = c.args.seen.now.features in
     entry_over text_total feature_line features (option_copied c.loop-name.after) c.in_default.ensures c.loop-name.out _ c.loop-name.invariant

@@ -1,5 +1,4 @@
 use Rattle.std.specs.Option.{option_copied}
-use Rattle.kr_store.specs.Reads.{seen_at}
 use Rattle.kr_defs.proofs.ImageParts.{config_total}
 use Rattle.kr_gather.proofs.WalkGathering.{entry_more, entry_over, entry_less}
 use Rattle.kr_gather.specs.inner.Contents.{of_config}
@@ -7,15 +6,15 @@ use Rattle.kr_gather.proofs.contents.add_configs.Goals as goal
 
 pub loop-key-preserved : goal.loop-key-preserved
 loop-key-preserved g c =
-    let configs = (seen_at (g.S.Store.images c.args.store.now) c.args.at).configs in
-    entry_more config_total of_config configs (option_copied c.loop-key.after) (c.in-Some.key.now, c.in-Some.value.now) c.see.ensures.configs.ordered c.in-Some.ensures c.loop-key.records _ _ c.in_ok-add_config.ensures c.loop-key.invariant
+    let configs = c.args.seen.now.configs in
+    entry_more config_total of_config configs (option_copied c.loop-key.after) (c.in-Some.key.now, c.in-Some.value.now) c.is_valid.ensures.configs.ordered c.in-Some.ensures c.loop-key.records _ _ c.in_ok-add_config.ensures c.loop-key.invariant
 
 pub loop-key-smaller : goal.loop-key-smaller
 loop-key-smaller g c =
-    let configs = (seen_at (g.S.Store.images c.args.store.now) c.args.at).configs in
-    entry_less config_total configs (option_copied c.loop-key.after) (c.in-Some.key.now, c.in-Some.value.now) c.see.ensures.configs.ordered c.in-Some.ensures
+    let configs = c.args.seen.now.configs in
+    entry_less config_total configs (option_copied c.loop-key.after) (c.in-Some.key.now, c.in-Some.value.now) c.is_valid.ensures.configs.ordered c.in-Some.ensures
 
 pub returns : goal.returns
 returns g c =
-    let configs = (seen_at (g.S.Store.images c.args.store.now) c.args.at).configs in
+    let configs = c.args.seen.now.configs in
     entry_over config_total of_config configs (option_copied c.loop-key.after) c.in_default.ensures c.loop-key.records _ c.loop-key.invariant

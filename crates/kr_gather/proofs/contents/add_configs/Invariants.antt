@@ -2,14 +2,13 @@ use Rattle.std.proofs.Common.{◌≡◌, ◌++◌, length}
 use Rattle.std.specs.List.{flat_map}
 use Rattle.std.specs.Option.{option_copied}
 use Rattle.kr_defs.specs.Map.{above, config_order}
-use Rattle.kr_store.specs.Reads.{seen_at}
 use Rattle.kr_gather.specs.inner.Contents.{of_config}
 use Rattle.kr_gather.proofs.contents.add_configs.Given as goal
 
 abbrev pub invariant-loop-key : goal.invariant-loop-key
 invariant-loop-key g l =
-    let configs = (seen_at (g.S.Store.images l.store) l.at).configs in
+    let configs = l.seen.configs in
     l.records ++ flat_map of_config (above config_order configs (option_copied l.after)) ≡ l.fn.records ++ flat_map of_config configs
 
 abbrev pub decreases-loop-key : goal.decreases-loop-key
-decreases-loop-key g l = length (above config_order (seen_at (g.S.Store.images l.store) l.at).configs (option_copied l.after))
+decreases-loop-key g l = length (above config_order l.seen.configs (option_copied l.after))

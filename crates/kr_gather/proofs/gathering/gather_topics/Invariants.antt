@@ -2,14 +2,13 @@ use Rattle.std.proofs.Common.{◌≡◌, ◌++◌, length}
 use Rattle.std.specs.List.{flat_map}
 use Rattle.std.specs.Option.{option_copied}
 use Rattle.kr_defs.specs.Map.{above, text_order}
-use Rattle.kr_store.specs.Reads.{seen_at}
 use Rattle.kr_gather.proofs.gathering.gather_topics.Given as goal
 
 abbrev pub invariant-loop-name : goal.invariant-loop-name
 invariant-loop-name g l =
-    let image = seen_at (g.S.Store.images l.store) l.at in
+    let image = l.seen in
     let part = g.P.TopicPart.part l.part image in
     l.rows ++ flat_map part (above text_order image.topics (option_copied l.after)) ≡ flat_map part image.topics
 
 abbrev pub decreases-loop-name : goal.decreases-loop-name
-decreases-loop-name g l = length (above text_order (seen_at (g.S.Store.images l.store) l.at).topics (option_copied l.after))
+decreases-loop-name g l = length (above text_order l.seen.topics (option_copied l.after))

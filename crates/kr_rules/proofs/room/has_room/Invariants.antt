@@ -7,9 +7,9 @@ use Rattle.kr_rules.proofs.room.has_room.Given as goal
 
 abbrev pub invariant-loop-value : goal.invariant-loop-value
 invariant-loop-value g l =
-    let tip = (g.S.Store.images l.store).tip in
+    let image = l.seen in
     let rest = drop l.value-index l.records in
     record {
       plain : list_all takes_room rest ≡ true;
-      far : IsAsFar tip.configs (apply_records tip l.records) rest l.filling;
+      far : IsAsFar image.configs (apply_records image l.records) rest l.filling;
     }

@@ -1,12 +1,11 @@
 use Rattle.std.proofs.lemmas.Result.{IfOk-weaker}
-use Rattle.kr_store.specs.Reads.{seen_at}
 use Rattle.kr_snapshot.proofs.WriterRecords.{all_bytes, all_count}
 use Rattle.kr_snapshot.proofs.SmallRecords.{may_begin}
 use Rattle.kr_snapshot.proofs.writing.batches.Goals as goal
 
-pub put_records-requires-clause-may : goal.put_records-requires-clause-may
-put_records-requires-clause-may g c =
-    may_begin (seen_at (g.S.Store.images c.args.store.now) c.args.at) _ c.requires c.new-writer.ensures.sound c.new-writer.ensures.group
+pub put_records-requires : goal.put_records-requires
+put_records-requires g c =
+    may_begin c.args.seen.now _ c.is_valid.ensures c.new-writer.ensures.sound c.new-writer.ensures.group
 
 pub returns-clause-bytes : goal.returns-clause-bytes
 returns-clause-bytes g c =

@@ -10,10 +10,10 @@ pub returns-clause-answers : goal.returns-clause-answers
 returns-clause-answers g c =
     let those = c.in_ok-those.those in
     let start : Work = nothing_decided c.args.place.now (g.S.Store.images c.args.store.now).tip in
-    IfOk-weaker c.decide_on.result _ _ (λ d is. is ∙ (ap (answers refused_create_partitions (create_partitions_by_racks those) start) c.as_slice-topics.ensures ∙ create_partitions_answers those start c.args.request.now.topics c.in_ok-those.ensures)) c.decide_on.ensures.answers
+    IfOk-weaker c.decide_on.result _ _ (λ d is. is ∙ (ap (answers refused_create_partitions (create_partitions_by_racks those) start) c.as_slice-topics.ensures ∙ create_partitions_answers those start c.args.request.now.topics (rw c.tip.ensures at c.in_ok-those.ensures))) c.decide_on.ensures.answers
 
 pub returns-clause-after : goal.returns-clause-after
 returns-clause-after g c =
     let those = c.in_ok-those.those in
     let start : Work = nothing_decided c.args.place.now (g.S.Store.images c.args.store.now).tip in
-    IfOk-weaker c.decide_on.result _ _ (λ d is. is ∙ ap (unless_validating c.args.request.now.validate_only start) (ap (after_all refused_create_partitions (create_partitions_by_racks those) start) c.as_slice-topics.ensures ∙ create_partitions_after those start c.args.request.now.topics c.in_ok-those.ensures)) c.decide_on.ensures.after
+    IfOk-weaker c.decide_on.result _ _ (λ d is. is ∙ ap (unless_validating c.args.request.now.validate_only start) (ap (after_all refused_create_partitions (create_partitions_by_racks those) start) c.as_slice-topics.ensures ∙ create_partitions_after those start c.args.request.now.topics (rw c.tip.ensures at c.in_ok-those.ensures))) c.decide_on.ensures.after

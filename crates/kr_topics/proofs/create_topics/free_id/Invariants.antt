@@ -6,5 +6,5 @@ use Rattle.kr_topics.proofs.create_topics.free_id.Given as goal
 
 abbrev pub invariant-loop-id : goal.invariant-loop-id
 invariant-loop-id g l =
-    let free = λ (id : ℕ). not (has_topic (g.S.Store.images l.store).tip.topics id) in
+    let free = λ (id : ℕ). not (has_topic l.seen.topics id) in
     find free (range_with_len l.id (l.first + l.count - l.id)) ≡ find free (range_with_len l.first l.count)

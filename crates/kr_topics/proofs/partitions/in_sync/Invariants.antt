@@ -5,5 +5,5 @@ use Rattle.kr_topics.proofs.partitions.in_sync.Given as goal
 
 abbrev pub invariant-loop-id : goal.invariant-loop-id
 invariant-loop-id g l =
-    let those = active (g.S.Store.images l.store).tip in
+    let those = active l.seen in
     l.ids ++ within (drop l.id-index l.replicas) those ≡ within l.replicas those

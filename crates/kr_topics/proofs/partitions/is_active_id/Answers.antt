@@ -6,10 +6,10 @@ use Rattle.kr_topics.proofs.partitions.is_active_id.Goals as goal
 
 pub returns-in-Some : goal.returns-in-Some
 returns-in-Some g c =
-    let tip = (g.S.Store.images c.args.store.now).tip in
-    c.is_active.ensures ∙ ap (λ o. option_map_or is_active o false) c.in-Some.ensures ∙ active_by_id tip.brokers c.args.id.now c.counts-valid.ensures.valid.tip.brokers.ordered
+    let image = c.args.seen.now in
+    c.is_active.ensures ∙ ap (λ o. option_map_or is_active o false) c.in-Some.ensures ∙ active_by_id image.brokers c.args.id.now c.is_valid.ensures.brokers.ordered
 
 pub returns-in-None : goal.returns-in-None
 returns-in-None g c =
-    let tip = (g.S.Store.images c.args.store.now).tip in
-    ap (λ o. option_map_or is_active o false) c.in-None.ensures ∙ active_by_id tip.brokers c.args.id.now c.counts-valid.ensures.valid.tip.brokers.ordered
+    let image = c.args.seen.now in
+    ap (λ o. option_map_or is_active o false) c.in-None.ensures ∙ active_by_id image.brokers c.args.id.now c.is_valid.ensures.brokers.ordered

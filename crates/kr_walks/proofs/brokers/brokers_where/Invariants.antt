@@ -7,9 +7,9 @@ use Rattle.kr_walks.proofs.brokers.brokers_where.Given as goal
 
 abbrev pub invariant-loop-id : goal.invariant-loop-id
 invariant-loop-id g l =
-    let brokers = (g.S.Store.images l.store).tip.brokers in
+    let brokers = l.seen.brokers in
     let test = g.T.BrokerTest.accepts l.test in
     l.ids ++ ids_where test (above int_cmp brokers (option_copied l.after)) ≡ ids_where test brokers
 
 abbrev pub decreases-loop-id : goal.decreases-loop-id
-decreases-loop-id g l = length (above int_cmp (g.S.Store.images l.store).tip.brokers (option_copied l.after))
+decreases-loop-id g l = length (above int_cmp l.seen.brokers (option_copied l.after))

@@ -4,15 +4,15 @@ use Rattle.kr_walks.proofs.partitions.add_above.Goals as goal
 
 pub loop-key-preserved : goal.loop-key-preserved
 loop-key-preserved g c =
-    let tip = (g.S.Store.images c.args.store.now).tip in
+    let image = c.args.seen.now in
     let new = rw c.in_ok-change.ensures at c.in_ok-add_change.ensures in
-    key_more (g.C.Change.change c.args.rule.now tip) tip.partitions c.args.name.now c.loop-key.after.now (c.in-Some.key.now, c.in-Some.partition.now) c.in-Some.ensures.next c.loop-key.records _ _ new c.loop-key.invariant
+    key_more (g.C.Change.change c.args.rule.now image) image.partitions c.args.name.now c.loop-key.after (c.in-Some.key.now, c.in-Some.partition.now) c.in-Some.ensures.next c.loop-key.records _ _ new c.loop-key.invariant
 
 pub loop-key-smaller : goal.loop-key-smaller
 loop-key-smaller g c =
-    key_less (g.S.Store.images c.args.store.now).tip.partitions c.loop-key.after.now (c.in-Some.key.now, c.in-Some.partition.now) c.in-Some.ensures.next
+    key_less c.args.seen.now.partitions c.loop-key.after (c.in-Some.key.now, c.in-Some.partition.now) c.in-Some.ensures.next
 
 pub returns : goal.returns
 returns g c =
-    let tip = (g.S.Store.images c.args.store.now).tip in
-    key_over (g.C.Change.change c.args.rule.now tip) tip.partitions c.args.name.now c.loop-key.after.now (c.in_default.ensures.none refl) c.loop-key.records _ c.loop-key.invariant
+    let image = c.args.seen.now in
+    key_over (g.C.Change.change c.args.rule.now image) image.partitions c.args.name.now c.loop-key.after (c.in_default.ensures.none refl) c.loop-key.records _ c.loop-key.invariant

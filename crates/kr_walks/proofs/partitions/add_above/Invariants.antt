@@ -7,9 +7,9 @@ use Rattle.kr_walks.proofs.partitions.add_above.Given as goal
 
 abbrev pub invariant-loop-key : goal.invariant-loop-key
 invariant-loop-key g l =
-    let tip = (g.S.Store.images l.store).tip in
-    let change = g.C.Change.change l.rule tip in
-    l.records ++ left change tip.partitions l.name l.after ≡ l.fn.records ++ left change tip.partitions l.name l.first
+    let image = l.seen in
+    let change = g.C.Change.change l.rule image in
+    l.records ++ left change image.partitions l.name l.after ≡ l.fn.records ++ left change image.partitions l.name l.fn.first
 
 abbrev pub decreases-loop-key : goal.decreases-loop-key
-decreases-loop-key g l = length (of_topic l.after.0 (above partition_order (g.S.Store.images l.store).tip.partitions (Some l.after)))
+decreases-loop-key g l = length (of_topic l.after.0 (above partition_order l.seen.partitions (Some l.after)))

@@ -7,9 +7,9 @@ use Rattle.kr_walks.proofs.partitions.add_changes.Given as goal
 
 abbrev pub invariant-loop-name : goal.invariant-loop-name
 invariant-loop-name g l =
-    let tip = (g.S.Store.images l.store).tip in
-    let change = g.C.Change.change l.rule tip in
-    l.records ++ topics_left change tip.partitions (above text_order tip.topics (option_copied l.after)) ≡ l.fn.records ++ changes_of change (walk tip)
+    let image = l.seen in
+    let change = g.C.Change.change l.rule image in
+    l.records ++ topics_left change image.partitions (above text_order image.topics (option_copied l.after)) ≡ l.fn.records ++ changes_of change (walk image)
 
 abbrev pub decreases-loop-name : goal.decreases-loop-name
-decreases-loop-name g l = length (above text_order (g.S.Store.images l.store).tip.topics (option_copied l.after))
+decreases-loop-name g l = length (above text_order l.seen.topics (option_copied l.after))

@@ -9,9 +9,9 @@ use Rattle.kr_walks.proofs.partitions.leads.Given as goal
 
 abbrev pub invariant-loop-key : goal.invariant-loop-key
 invariant-loop-key g l =
-    let partitions = (g.S.Store.images l.store).tip.partitions in
+    let partitions = l.seen.partitions in
     let test = λ (e : (ℕ × ℤ) × Partition). int_eq e.1.leader l.broker in
     list_any test partitions ≡ list_any test (above partition_order partitions (option_copied l.after))
 
 abbrev pub decreases-loop-key : goal.decreases-loop-key
-decreases-loop-key g l = length (above partition_order (g.S.Store.images l.store).tip.partitions (option_copied l.after))
+decreases-loop-key g l = length (above partition_order l.seen.partitions (option_copied l.after))

@@ -7,8 +7,8 @@ use Rattle.kr_walks.proofs.topics.count_above.Given as goal
 
 abbrev pub invariant-loop-key : goal.invariant-loop-key
 invariant-loop-key g l =
-    let partitions = (g.S.Store.images l.store).tip.partitions in
-    counted_above partitions l.count l.after ≡ counted_above partitions 0 l.first
+    let partitions = l.seen.partitions in
+    counted_above partitions l.count l.after ≡ counted_above partitions 0 l.fn.first
 
 abbrev pub decreases-loop-key : goal.decreases-loop-key
-decreases-loop-key g l = length (of_topic l.after.0 (above partition_order (g.S.Store.images l.store).tip.partitions (Some l.after)))
+decreases-loop-key g l = length (of_topic l.after.0 (above partition_order l.seen.partitions (Some l.after)))

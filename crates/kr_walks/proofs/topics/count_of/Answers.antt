@@ -4,4 +4,4 @@ use Rattle.kr_walks.proofs.topics.count_of.Goals as goal
 
 pub returns : goal.returns
 returns g c =
-    rw c.before_all-first.ensures at c.count_above.ensures ∙ count_begin (g.S.Store.images c.args.store.now).tip.partitions c.args.id.now c.counts-valid.ensures.valid.tip.partitions.indexes
+    rw c.before_all.ensures at c.count_above.ensures ∙ count_begin c.args.seen.now.partitions c.args.id.now c.is_valid.ensures.partitions.indexes

@@ -7,9 +7,9 @@ use Rattle.kr_walks.proofs.topics.has_agreeing_name.Given as goal
 
 abbrev pub invariant-loop-other : goal.invariant-loop-other
 invariant-loop-other g l =
-    let topics = (g.S.Store.images l.store).tip.topics in
+    let topics = l.seen.topics in
     let test = λ (topic : List ℕ × ℕ). names_agree topic.0 l.name in
     list_any test topics ≡ list_any test (above text_order topics (option_copied l.after))
 
 abbrev pub decreases-loop-other : goal.decreases-loop-other
-decreases-loop-other g l = length (above text_order (g.S.Store.images l.store).tip.topics (option_copied l.after))
+decreases-loop-other g l = length (above text_order l.seen.topics (option_copied l.after))

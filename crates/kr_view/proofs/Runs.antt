@@ -1,0 +1,84 @@
+-- The end rises where a run of entries changes the image.
+use Rattle.std.proofs.Common.{◌≡◌, ◌≢◌, ◌⊎◌, inl, inr, ⊎_elim, ℤ, pos, Bool, true, false, ◌&&◌, cond, true≢false, List, [], ◌∷◌, fold, refl, sym, ap, ◌∙◌, subst, arith}
+use Rattle.std.proofs.lemmas.Int.{ints}
+use Rattle.std.proofs.lemmas.List.Elements.{All-head, All-tail}
+use Rattle.std.proofs.lemmas.Bool.Decides.{Decides-int_eq}
+use Rattle.std.specs.Prelude.{◌+ℤ◌, negsuc, int_lt, Result, Ok, Err}
+use Rattle.std.specs.Ordering.{int_eq}
+use Rattle.kr_defs.specs.declared.ill.Ill.{Ill}
+use Rattle.kr_defs.specs.declared.limits.TheConstants.{PLACES_END}
+use Rattle.kr_defs.specs.Apply.{apply}
+use Rattle.kr_defs.specs.Image.{Image}
+use Rattle.kr_calls.specs.declared.events.Entry.{Entry}
+use Rattle.kr_calls.specs.declared.events.Entry.TheVariants as entries
+use Rattle.kr_calls.specs.SeatList.{Reached, with_image, reached_with}
+use Rattle.kr_view.specs.Runs.{is_load, AreNoLoads}
+use Rattle.kr_view.specs.Standing.{run_with}
+
+abbrev Rises : Reached → Reached → Type 0
+Rises r after = (after ≡ r) ⊎ (int_lt r.end after.end ≡ true)
+
+below_next : (place end : ℤ) → place ≡ end → int_lt end (place +ℤ pos 1) ≡ true
+below_next place end same = grind (arith, ints)
+
+through : (a b c : ℤ) → int_lt a b ≡ true → int_lt b c ≡ true → int_lt a c ≡ true
+through a b c p q = grind (arith, ints)
+
+at_end : (r : Reached) (place : ℤ) (result : Result Image Ill) (is : Bool) → int_eq place r.end ≡ is → (low : Bool) → Rises r (cond (is && low) (with_image r (place +ℤ pos 1) result) r)
+at_end r place (Ok image) true is true = inr (below_next place r.end ((Decides-int_eq place r.end).0 is))
+at_end r place (Err cause) true is true = inl refl
+at_end r place result true is false = inl refl
+at_end r place result false is low = inl refl
+
+one : (r : Reached) (e : Entry) → Rises r (run_with r e)
+one r (entries.Item place item) = at_end r place (apply r.image item) (int_eq place r.end) refl (int_lt place PLACES_END)
+one r (entries.Load offset records) = inl refl
+one r (entries.Answer answer) = inl refl
+one r (entries.Stop number) = inl refl
+
+both : (r s t : Reached) → Rises r s → Rises s t → Rises r t
+both r s t p q =
+    ⊎_elim (λ (same : s ≡ r). subst (λ (x : Reached). Rises x t) same q)
+    (λ (up : int_lt r.end s.end ≡ true).
+    ⊎_elim (λ (same : t ≡ s). inr (subst (λ (x : Reached). int_lt r.end x.end ≡ true) (sym same) up))
+    (λ (on : int_lt s.end t.end ≡ true). inr (through r.end s.end t.end up on)) q)
+    p
+
+pub risen : (r : Reached) (es : List Entry) → Rises r (fold run_with r es)
+risen r [] = inl refl
+risen r (e ∷ es) = both r (run_with r e) (fold run_with (run_with r e) es) (one r e) (risen (run_with r e) es)
+
+not_itself : (z : ℤ) → int_lt z z ≡ true → ⊥
+not_itself z h = grind (arith, ints)
+
+pub still_there : (r : Reached) (es : List Entry) → (fold run_with r es).end ≡ r.end → fold run_with r es ≡ r
+still_there r es same =
+    ⊎_elim (λ (is : fold run_with r es ≡ r). is)
+    (λ (up : int_lt r.end (fold run_with r es).end ≡ true). absurd (not_itself r.end (subst (λ (z : ℤ). int_lt r.end z ≡ true) same up)))
+    (risen r es)
+
+pub gone_on : (r : Reached) (es : List Entry) → (fold run_with r es).end ≢ r.end → int_lt r.end (fold run_with r es).end ≡ true
+gone_on r es other =
+    ⊎_elim (λ (is : fold run_with r es ≡ r). absurd (other (ap (λ (x : Reached). x.end) is))) (λ (up : int_lt r.end (fold run_with r es).end ≡ true). up) (risen r es)
+
+-- the end doesn't fall below the first place
+pub never_back : (r : Reached) (es : List Entry) → int_lt (negsuc 0) r.end ≡ true → int_lt (negsuc 0) (fold run_with r es).end ≡ true
+never_back r es from =
+    ⊎_elim (λ (is : fold run_with r es ≡ r). subst (λ (x : Reached). int_lt (negsuc 0) x.end ≡ true) (sym is) from)
+    (λ (up : int_lt r.end (fold run_with r es).end ≡ true). through (negsuc 0) r.end (fold run_with r es).end from up)
+    (risen r es)
+
+alike : (r : Reached) (e : Entry) → is_load e ≡ false → run_with r e ≡ reached_with r e
+alike r (entries.Item place item) plain = refl
+alike r (entries.Load offset records) plain = absurd (true≢false plain)
+alike r (entries.Answer answer) plain = refl
+alike r (entries.Stop number) plain = refl
+
+-- without loads a run is what its entries say
+pub same_without_loads : (r : Reached) (es : List Entry) → AreNoLoads es → fold run_with r es ≡ fold reached_with r es
+same_without_loads r [] plain = refl
+same_without_loads r (e ∷ es) plain = ap (λ (x : Reached). fold run_with x es) (alike r e (All-head (λ (x : Entry). is_load x ≡ false) e es plain)) ∙ same_without_loads (reached_with r e) es (All-tail (λ (x : Entry). is_load x ≡ false) e es plain)
+
+-- the same of what is known to equal it
+pub stays_up : (r after : Reached) (es : List Entry) → after ≡ fold run_with r es → int_lt (negsuc 0) r.end ≡ true → int_lt (negsuc 0) after.end ≡ true
+stays_up r after es is from = subst (λ (x : Reached). int_lt (negsuc 0) x.end ≡ true) (sym is) (never_back r es from)

@@ -1,0 +1,24 @@
+-- What a copy shows. This project's own.
+use Rattle.std.specs.Prelude.{◌≡◌, List, ◌++◌, Option, ℕ}
+use Rattle.kr_defs.specs.declared.options.Options.{Options}
+use Rattle.kr_calls.specs.declared.answers.Answer.{Answer}
+use Rattle.kr_calls.specs.declared.events.Entry.{Entry}
+use Rattle.kr_calls.specs.SeatList.{Reached, reached, stop_of}
+use Rattle.kr_view.specs.Tables.{table_of}
+
+-- the options of the opening, and the entries
+pub record Showing : Type 0 where
+  pub options : Options
+  pub list : List Entry
+
+abbrev pub showing : Options → List Entry → Showing
+showing options list = record { options = options; list = list }
+
+abbrev pub showing_more : Showing → List Entry → Showing
+showing_more s more = showing s.options (s.list ++ more)
+
+-- what a copy holds is what its entries say
+pub record IsHeld (at : Reached) (answers : List (Option Answer)) (first : Option ℕ) (entries : List Entry) : Type 0 where
+  pub standing : at ≡ reached entries
+  pub table : answers ≡ table_of entries
+  pub stop : first ≡ stop_of entries

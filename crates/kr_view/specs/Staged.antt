@@ -1,0 +1,22 @@
+-- What a publish shows of what is staged. This project's own.
+use Rattle.std.specs.Prelude.{ℤ, Bool, true, false, List, [], ◌∷◌, ◌++◌, if◌then◌else◌}
+use Rattle.kr_calls.specs.declared.events.Entry.{Entry}
+use Rattle.kr_calls.specs.declared.events.Entry.TheVariants as entries
+use Rattle.kr_calls.specs.SeatList.{is_below}
+
+-- the entries up to the first that is not below the end
+abbrev pub below : ℤ → List Entry → List Entry
+below end [] = []
+below end (e ∷ es) = if is_below end e then e ∷ below end es else []
+
+-- and the others
+abbrev pub above : ℤ → List Entry → List Entry
+above end [] = []
+above end (e ∷ es) = if is_below end e then above end es else e ∷ es
+
+-- it is of the log: an item, or an image in place of all
+abbrev pub is_logged : Entry → Bool
+is_logged (entries.Item place item) = true
+is_logged (entries.Load offset records) = true
+is_logged (entries.Answer answer) = false
+is_logged (entries.Stop number) = false

@@ -1,0 +1,154 @@
+//! The worker's side: what is staged, and its publishing.
+
+ghost use Rattle.std.specs.Prelude.{◌≡◌, [], ◌∷◌, ◌++◌, drop, MatchResult, OnOk};
+ghost use Rattle.kr_calls.specs.RightAnswers.{AreRightAfter};
+ghost use Rattle.kr_calls.specs.SeatList.{is_below};
+ghost use Rattle.kr_view.specs.Staged.{above, below, is_logged};
+ghost use Rattle.kr_view.specs.Steps.{entries_in};
+
+use crate::window::{Copies, Window};
+use kr_base::NoMemory;
+use kr_calls::Entry;
+use std::alloc::Global;
+use std::collections::VecDeque;
+use std::marker::Model;
+use std::sync::Wait;
+
+/// What stages entries and makes them visible. It is not `Drop`: end it by `close`.
+pub struct Publisher {
+    window: Window,
+    items: VecDeque<Entry>,
+    notes: VecDeque<Entry>,
+}
+
+impl Model for Publisher {
+    ghost use Rattle.kr_view.specs.Shelves.{Shelf};
+
+    ghost Value = { Shelf };
+
+    ghost use Rattle.kr_view.specs.Publishers.{shelf_of};
+
+    ghost view = { shelf_of };
+}
+
+fn is_below(entry: &Entry, end: &i64) -> bool
+    ensures { result ≡ is_below end.now entry.now }
+{
+    match entry {
+        Entry::Item { place, .. } => place < end,
+        Entry::Load { offset, .. } => offset <= end,
+        Entry::Answer { .. } | Entry::Stop { .. } => true,
+    }
+}
+
+fn is_logged(entry: &Entry) -> bool
+    ensures { result ≡ is_logged entry.now }
+{
+    match entry {
+        Entry::Item { .. } | Entry::Load { .. } => true,
+        Entry::Answer { .. } | Entry::Stop { .. } => false,
+    }
+}
+
+// Adds an entry at the back. It comes back where there is no memory for it.
+fn put(queue: &mut VecDeque<Entry>, entry: Entry) -> Result<(), Entry>
+    ensures { MatchResult result (λ _. queue.new.items ≡ queue.old.items ++ entry ∷ []) (λ refused. (refused ≡ entry) × (queue.new.items ≡ queue.old.items)) }
+{
+    match queue.push_back(entry) {
+        Ok(()) => Ok(()),
+        Err(failed) => Err(failed.value),
+    }
+}
+
+// Chooses what is below the end. Without memory the rest stays staged.
+fn choose_items(window: &mut Window, items: &mut VecDeque<Entry>, end: &i64) -> Result<(), NoMemory>
+    ensures options { window.new.options ≡ window.old.options }
+    ensures list { window.new.list ≡ window.old.list }
+    ensures same { window.new.waiting ++ below end.now items.new.items ≡ window.old.waiting ++ below end.now items.old.items }
+    ensures left { above end.now items.new.items ≡ above end.now items.old.items }
+    ensures all { OnOk result (items.new.items ≡ above end.now items.old.items) }
+    ensures none { OnOk result (below end.now items.new.items ≡ []) }
+{
+    while let Some(entry) = items.pop_front() {
+        if !is_below(&entry, end) {
+            items.push_front_reserved(entry);
+            return Ok(());
+        }
+        if let Err(entry) = window.choose(entry) {
+            items.push_front_reserved(entry);
+            return Err(NoMemory);
+        }
+    }
+    Ok(())
+}
+
+// Chooses all notes. Without memory the rest stays staged.
+fn choose_notes(window: &mut Window, notes: &mut VecDeque<Entry>) -> Result<(), NoMemory>
+    ensures options { window.new.options ≡ window.old.options }
+    ensures list { window.new.list ≡ window.old.list }
+    ensures same { window.new.waiting ++ notes.new.items ≡ window.old.waiting ++ notes.old.items }
+    ensures all { OnOk result (notes.new.items ≡ []) }
+{
+    while let Some(entry) = notes.pop_front() {
+        if let Err(entry) = window.choose(entry) {
+            notes.push_front_reserved(entry);
+            return Err(NoMemory);
+        }
+    }
+    Ok(())
+}
+
+impl Publisher {
+    ghost use Rattle.kr_view.specs.Shelves.{next_at, shown_at, with_staged, IsDelayed};
+
+    pub(crate) fn new(alloc: Global, copies: Copies) -> Publisher
+        ensures { result ≡ record { options = copies.desk.shown.value.options; list = copies.desk.shown.value.list; waiting = entries_in (drop copies.behind copies.log.items); items = []; notes = [] } }
+    {
+        Publisher {
+            window: Window::new(alloc, copies),
+            items: VecDeque::new(alloc),
+            notes: VecDeque::new(alloc),
+        }
+    }
+
+    /// Stages an entry behind the ones staged before. It comes back where there is no memory for it.
+    pub fn stage(&mut self, entry: Entry) -> Result<(), Entry>
+        ensures { MatchResult result (λ _. self.new ≡ with_staged self.old entry) (λ refused. (refused ≡ entry) × (self.new ≡ self.old)) }
+    {
+        if is_logged(&entry) {
+            put(&mut self.items, entry)
+        } else {
+            put(&mut self.notes, entry)
+        }
+    }
+
+    /// Makes visible, at one step, the staged items and images below the end, and behind them the staged answers and stops.
+    /// Each of these answers is right in the entries before it. Without memory what is visible is as before, and a publish
+    /// at this end shows the same; a later publish shows first what this one chose.
+    pub fn publish<R: Wait>(&mut self, rt: &R, end: i64) -> Result<(), NoMemory>
+        requires { AreRightAfter self.old.options self.old.list (next_at end self.old) }
+        ensures { MatchResult result (λ _. self.new ≡ shown_at end self.old) (λ _. IsDelayed end self.old self.new) }
+    {
+        choose_items(&mut self.window, &mut self.items, &end)?;
+        choose_notes(&mut self.window, &mut self.notes)?;
+        self.window.show(rt)
+    }
+
+    /// Drops the staged items and images. All that the last publish chose is visible. It takes no memory.
+    pub fn drop_staged(&mut self)
+        requires { self.old.waiting ≡ [] }
+        ensures { self.new ≡ record self.old { items = [] } }
+    {
+        self.items.clear();
+    }
+
+    /// Ends the publisher. A seat that is used afterwards may get no copy.
+    pub fn close<R: Wait>(self, rt: &R) {
+        let Publisher {
+            window,
+            items: _items,
+            notes: _notes,
+        } = self;
+        window.close(rt);
+    }
+}

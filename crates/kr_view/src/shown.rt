@@ -1,0 +1,148 @@
+//! One copy of what is shown, and how it takes in more.
+
+ghost use Rattle.std.specs.Prelude.{◌≡◌, ◌<◌, [], IfOk, OnOk, OnErr, IsTrue, Some, fold};
+ghost use Rattle.kr_calls.specs.Decide.{is_read, query};
+ghost use Rattle.kr_calls.specs.SeatList.{end_of, image_of, stop_with};
+ghost use Rattle.kr_view.specs.Looks.{looked};
+ghost use Rattle.kr_view.specs.Showing.{showing};
+ghost use Rattle.kr_view.specs.ShownSteps.{with_step};
+ghost use Rattle.kr_view.specs.Steps.{entries_of};
+
+use crate::looks::{Look, look_at};
+use crate::run::Step;
+use crate::standing::Standing;
+use crate::table::{Table, answers_of};
+use kr_base::{History, NoMemory, Shared};
+use kr_calls::{Entry, Reply, Request};
+use kr_defs::Options;
+use kr_store::At;
+use left_right::Absorb;
+use std::alloc::{AllocError, Global};
+use std::marker::Model;
+
+/// The image at the end of the entries, the last answer of each seat and the first stop. What was taken in is known to
+/// proofs alone.
+#[derive(Drop)]
+pub(crate) struct Shown {
+    options: Shared<Options>,
+    alloc: Global,
+    standing: Standing,
+    table: Table,
+    stop: Option<u64>,
+    history: History<Step>,
+}
+
+impl Model for Shown {
+    ghost use Rattle.kr_view.specs.Showing.{Showing, IsHeld, showing};
+    ghost use Rattle.kr_view.specs.Steps.{entries_in};
+
+    ghost Value = { Showing };
+
+    ghost view = { λ s. showing s.options (entries_in s.history) };
+
+    ghost invariant = { λ s. IsHeld s.standing s.table s.stop (entries_in s.history) };
+}
+
+fn stop_after(stop: Option<u64>, entry: &Entry) -> Option<u64>
+    ensures { result ≡ stop_with stop entry.now }
+{
+    match (stop, entry) {
+        (None, Entry::Stop { number }) => Some(*number),
+        _ => stop,
+    }
+}
+
+fn stop_after_all(stop: Option<u64>, entries: &[Entry]) -> Option<u64>
+    ensures { result ≡ fold stop_with stop entries.now }
+{
+    let mut first = stop;
+    for entry in entries {
+        first = stop_after(first, entry);
+    }
+    first
+}
+
+fn stop_behind(stop: Option<u64>, step: &Step) -> Option<u64>
+    ensures { result ≡ fold stop_with stop (entries_of step.now) }
+{
+    match step {
+        Step::Run { run } => stop_after_all(stop, run.entries()),
+        Step::Load { load } => stop_after(stop, load.entry()),
+    }
+}
+
+impl Shown {
+    /// Nothing is shown yet.
+    pub(crate) fn new(alloc: Global, options: Shared<Options>) -> Result<Shown, NoMemory>
+        ensures { IfOk result (λ s. s ≡ showing options []) }
+    {
+        Ok(Shown {
+            options,
+            alloc,
+            standing: Standing::new(alloc)?,
+            table: Table::new(alloc)?,
+            stop: None,
+            history: History::new(),
+        })
+    }
+
+    // The entries of one step more. Without memory nothing changes.
+    #[tactic(auto, using(crate::proofs::Tables::noted_alike))]
+    fn take_in(&mut self, step: &Step) -> Result<(), NoMemory>
+        ensures ok { OnOk result (self.new ≡ with_step self.old step.now) }
+        ensures err { OnErr result (self.new ≡ self.old) }
+    {
+        let answers = answers_of(self.alloc, step)?;
+        self.standing.take_in(self.alloc, step)?;
+        self.table.note_all(answers);
+        self.stop = stop_behind(self.stop, step);
+        self.history = self.history.and(step);
+        Ok(())
+    }
+
+    /// The end of the entries.
+    pub(crate) fn end(&self) -> i64
+        ensures { result ≡ end_of self.now.list }
+    {
+        self.standing.end()
+    }
+
+    /// The reply to a read, on the image at the end of the entries.
+    #[tactic(auto, using(crate::proofs::Replied::no_read_without_reply))]
+    pub(crate) fn reply(&self, request: &Request) -> Result<Reply, NoMemory>
+        requires { IsTrue (is_read request.now) }
+        ensures { IfOk result (λ reply. query self.now.options (image_of self.now.list) request.now ≡ Some reply) }
+    {
+        let store = self.standing.store();
+        match kr_handlers::read(self.alloc, store, At::Tip, self.options.get(), request) {
+            Ok(Some(reply)) => Ok(reply),
+            Ok(None) => unreachable!(),
+            Err(_) => Err(NoMemory),
+        }
+    }
+
+    /// What the entries say of a seat's ticket.
+    pub(crate) fn look(&self, seat: u32, ticket: u64) -> Result<Look, NoMemory>
+        requires { seat < 65 }
+        ensures { IfOk result (λ look. look ≡ looked seat ticket self.now.list) }
+    {
+        look_at(self.table.of(seat), self.stop, ticket)
+    }
+}
+
+impl Absorb<Step> for Shown {
+    ghost use Rattle.kr_view.specs.ShownSteps.{with_step};
+
+    type State = Shown;
+
+    ghost state = { λ s. s };
+
+    ghost applied = { with_step };
+
+    fn absorb_first(&mut self, operation: &Step, _other: &Shown) -> Result<(), AllocError> {
+        match self.take_in(operation) {
+            Ok(()) => Ok(()),
+            Err(NoMemory) => Err(AllocError),
+        }
+    }
+}

@@ -1,0 +1,5 @@
+use Rattle.kr_view.specs.StagedLaws.{HasNothing}
+use Rattle.test_threads.proofs.copies.show_all.Given as goal
+
+abbrev pub invariant-loop-run : goal.invariant-loop-run
+invariant-loop-run l = HasNothing l.publisher
