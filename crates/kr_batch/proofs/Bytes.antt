@@ -11,7 +11,7 @@ use Rattle.kr_wire.proofs.WrittenBytes.{OfBytes, ◌and◌, none_fits, number_fi
 use Rattle.kr_record.proofs.RecordForms.{record_fits as value_fits}
 use Rattle.kr_batch.specs.Crc.{crc32c}
 use Rattle.kr_batch.specs.declared.Batch.{Batch}
-use Rattle.kr_batch.specs.BatchBytes.{IsWritable, IsHeldItem, item_value, values_size, record_body, record_bytes, records_bytes, no_producer, fixed_bytes, checked_bytes, start_bytes, head_bytes, batch_bytes}
+use Rattle.kr_batch.specs.BatchBytes.{VALUES_END, IsWritable, IsHeldItem, item_value, values_size, record_body, record_bytes, records_bytes, no_producer, fixed_bytes, checked_bytes, start_bytes, head_bytes, batch_bytes}
 use Rattle.kr_batch.proofs.Sizes.{body_short}
 
 -- ---- records
@@ -30,11 +30,11 @@ body_fits delta value few short fit =
     and fit
     and size_fits 0 (lit< tt)
 
-record_fits : (delta : ℕ) (value : List ℕ) → delta < 10000 → length value < 2 ^ 30 → OfBytes value → OfBytes (record_bytes delta value)
+record_fits : (delta : ℕ) (value : List ℕ) → delta < 10000 → length value < VALUES_END → OfBytes value → OfBytes (record_bytes delta value)
 record_fits delta value few short fit =
     size_fits (length (record_body delta value)) (body_short delta value short) and body_fits delta value (omega arith) (omega arith) fit
 
-records_fit : (all : List Item) (at : ℕ) → at + length all ≤ 10000 → AllByRecursion IsWritable all → AllByRecursion IsHeldItem all → values_size all < 2 ^ 30
+records_fit : (all : List Item) (at : ℕ) → at + length all ≤ 10000 → AllByRecursion IsWritable all → AllByRecursion IsHeldItem all → values_size all < VALUES_END
     → OfBytes (records_bytes at all)
 unfolding records_bytes
 records_fit [] at few each held short = none_fits
@@ -59,13 +59,13 @@ head_fits : (base : ℤ) (size : ℕ) (epoch : ℤ) (crc : ℕ) → OfBytes (hea
 unfolding head_bytes start_bytes
 head_fits base size epoch crc = (signed_fits w64 base and number_fits w32 size and signed_fits w32 epoch) and signed_fits w8 (pos 2) and number_fits w32 crc
 
-pub checked_fits : (batch : Batch) → length batch.items ≤ 10000 → All IsWritable batch.items → All IsHeldItem batch.items → values_size batch.items < 2 ^ 30 → OfBytes (checked_bytes batch)
+pub checked_fits : (batch : Batch) → length batch.items ≤ 10000 → All IsWritable batch.items → All IsHeldItem batch.items → values_size batch.items < VALUES_END → OfBytes (checked_bytes batch)
 unfolding checked_bytes
 checked_fits batch few each held short =
     fixed_fits (length batch.items) batch.time
     and records_fit batch.items 0 (omega arith) (recursion_from_All IsWritable batch.items each) (recursion_from_All IsHeldItem batch.items held) short
 
-pub batch_fits : (batch : Batch) → length batch.items ≤ 10000 → All IsWritable batch.items → All IsHeldItem batch.items → values_size batch.items < 2 ^ 30 → OfBytes (batch_bytes batch)
+pub batch_fits : (batch : Batch) → length batch.items ≤ 10000 → All IsWritable batch.items → All IsHeldItem batch.items → values_size batch.items < VALUES_END → OfBytes (batch_bytes batch)
 unfolding batch_bytes
 batch_fits batch few each held short =
     head_fits batch.base (length (checked_bytes batch) + 9) batch.epoch (crc32c (checked_bytes batch)) and checked_fits batch few each held short

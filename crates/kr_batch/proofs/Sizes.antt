@@ -6,7 +6,7 @@ use Rattle.kr_wire.specs.Spelling.{groups, varint32, varint64, number, signed}
 use Rattle.kr_wire.proofs.Lengths.{one_group, more_groups, groups_few}
 use Rattle.kr_defs.specs.declared.record.Item.{Item}
 use Rattle.kr_batch.specs.declared.Batch.{Batch}
-use Rattle.kr_batch.specs.BatchBytes.{record_body, record_bytes, records_bytes, no_producer, fixed_bytes, checked_bytes, item_value, values_size}
+use Rattle.kr_batch.specs.BatchBytes.{VALUES_END, record_body, record_bytes, records_bytes, no_producer, fixed_bytes, checked_bytes, item_value, values_size}
 
 pub one : (n : ℕ) → n < 64 → 1 ≡ length (varint32 (pos n))
 unfolding varint32
@@ -66,7 +66,7 @@ body_length delta value =
     let b = fixed_parts in
     omega (arith, a, b)
 
-pub body_short : (delta : ℕ) (value : List ℕ) → length value < 2 ^ 30 → length (record_body delta value) < 2 ^ 31
+pub body_short : (delta : ℕ) (value : List ℕ) → length value < VALUES_END → length (record_body delta value) < 2 ^ 31
 body_short delta value short =
     let a = body_length delta value in
     let b = varint_few delta in
@@ -96,7 +96,7 @@ fixed_length : (count : ℕ) (time : ℤ) → length (fixed_bytes count time) �
 unfolding fixed_bytes no_producer signed number
 fixed_length count time = refl
 
-pub checked_length : (batch : Batch) → length batch.items ≤ 10000 → values_size batch.items < 2 ^ 30 → length (checked_bytes batch) + 9 < 2 ^ 31
+pub checked_length : (batch : Batch) → length batch.items ≤ 10000 → values_size batch.items < VALUES_END → length (checked_bytes batch) + 9 < 2 ^ 31
 unfolding checked_bytes
 checked_length batch few small =
     let a = fixed_length (length batch.items) batch.time in

@@ -20,7 +20,7 @@ use Rattle.kr_record.proofs.RecordForms.{stands}
 use Rattle.kr_batch.specs.Crc.{polynomial, bit_step, bit_steps, byte_step, crc32c}
 use Rattle.kr_batch.specs.declared.Batch.{Batch}
 use Rattle.kr_batch.specs.Grammar.{IsSized, IsKey, IsBody, IsEntry, AreEntries, IsFixed, IsSum, IsBatch}
-use Rattle.kr_batch.specs.BatchBytes.{IsWritable, IsHeldItem, IsRegular, item_value, values_size, record_body, record_bytes, records_bytes, no_producer, fixed_bytes, checked_bytes, start_bytes, head_bytes, batch_bytes}
+use Rattle.kr_batch.specs.BatchBytes.{VALUES_END, IsWritable, IsHeldItem, IsRegular, item_value, values_size, record_body, record_bytes, records_bytes, no_producer, fixed_bytes, checked_bytes, start_bytes, head_bytes, batch_bytes}
 use Rattle.kr_batch.specs.Reading.{batch_of}
 use Rattle.kr_batch.proofs.Batches.{of_complete}
 use Rattle.kr_batch.proofs.Sizes.{body_short, checked_length}
@@ -61,7 +61,7 @@ body_spelled delta value few short =
     (joined _ _ (record { value = []; spelled = no_key_spelled })
     (joined _ _ (sized_spelled value short) (size_spelled 0 (omega arith)))))))
 
-entry_spelled : (at : ℕ) (r : Record) → at < 10000 → IsRecord r (record_value r) → length (record_value r) < 2 ^ 30 → IsEntry at r (record_bytes at (record_value r))
+entry_spelled : (at : ℕ) (r : Record) → at < 10000 → IsRecord r (record_value r) → length (record_value r) < VALUES_END → IsEntry at r (record_bytes at (record_value r))
 entry_spelled at r few is short = record {
   value = record_value r;
   is = is;
@@ -72,7 +72,7 @@ entry_spelled at r few is short = record {
   };
 }
 
-entries_spelled : (all : List Item) (at : ℕ) → at + length all ≤ 10000 → AllByRecursion IsWritable all → AllByRecursion IsHeldItem all → values_size all < 2 ^ 30
+entries_spelled : (all : List Item) (at : ℕ) → at + length all ≤ 10000 → AllByRecursion IsWritable all → AllByRecursion IsHeldItem all → values_size all < VALUES_END
     → AreEntries at all (records_bytes at all)
 unfolding records_bytes
 entries_spelled [] at few each held short = refl
@@ -156,7 +156,7 @@ unfolding batch_bytes head_bytes start_bytes
 batch_is batch = simp append_assoc
 
 pub batch_spelled : (batch : Batch) → pos 0 ≤ℤ batch.base → FitsSigned w64 batch.base → FitsSigned w32 batch.epoch → FitsSigned w64 batch.time
-    → 1 ≤ length batch.items → length batch.items ≤ 10000 → All IsWritable batch.items → All IsHeldItem batch.items → values_size batch.items < 2 ^ 30
+    → 1 ≤ length batch.items → length batch.items ≤ 10000 → All IsWritable batch.items → All IsHeldItem batch.items → values_size batch.items < VALUES_END
     → IsBatch batch (batch_bytes batch)
 batch_spelled batch based base epoch time some few each held short =
     let checked : List ℕ = checked_bytes batch in

@@ -72,6 +72,10 @@ batch_bytes batch =
     let checked = checked_bytes batch in
     head_bytes batch.base (length checked + 9) batch.epoch (crc32c checked) ++ checked
 
+-- The values of a batch take fewer bytes together than this, so that each length in it fits its field of four bytes.
+abbrev pub VALUES_END : ℕ
+VALUES_END = 2 ^ 30
+
 -- A batch whose written form stands for it: the base is at least 0, it has 1 to 10,000 records that have a written
 -- form, and its numbers and texts are those of their types.
 pub record IsRegular (batch : Batch) : Type 0 where
@@ -83,4 +87,4 @@ pub record IsRegular (batch : Batch) : Type 0 where
   pub few : length batch.items ≤ MOST_RECORDS
   pub each : All IsWritable batch.items
   pub held : All IsHeldItem batch.items
-  pub small : values_size batch.items < 2 ^ 30
+  pub small : values_size batch.items < VALUES_END

@@ -6,7 +6,7 @@ ghost use Rattle.std.specs.List.{All};
 ghost use Rattle.kr_defs.specs.declared.limits.TheConstants.{MOST_RECORDS};
 ghost use Rattle.kr_wire.specs.Spelling.{varint32};
 ghost use Rattle.kr_batch.specs.Grammar.{IsBatch};
-ghost use Rattle.kr_batch.specs.BatchBytes.{IsHeldItem, IsWritable, batch_bytes, checked_bytes, fixed_bytes, head_bytes, no_producer, record_body, record_bytes, records_bytes, start_bytes, item_value, values_size};
+ghost use Rattle.kr_batch.specs.BatchBytes.{VALUES_END, IsHeldItem, IsWritable, batch_bytes, checked_bytes, fixed_bytes, head_bytes, no_producer, record_body, record_bytes, records_bytes, start_bytes, item_value, values_size};
 
 use crate::{Batch, crc32c};
 use kr_base::NoMemory;
@@ -22,7 +22,7 @@ pub fn encode(batch: &Batch, out: &mut Vec<u8>) -> Result<(), NoMemory>
     requires some { 1 ≤ length batch.now.items }
     requires few { length batch.now.items ≤ MOST_RECORDS }
     requires each { All IsWritable batch.now.items }
-    requires small { values_size batch.now.items < 2 ^ 30 }
+    requires small { values_size batch.now.items < VALUES_END }
     ensures ok { OnOk result (out.new.items ≡ out.old.items ++ batch_bytes batch.now) }
     ensures err { OnErr result (out.new.items ≡ out.old.items) }
     // What is appended stands for the batch, where its base is at least 0.
@@ -41,7 +41,7 @@ pub fn encode(batch: &Batch, out: &mut Vec<u8>) -> Result<(), NoMemory>
 #[tactic(auto, using(crate::proofs::Sizes::checked_length))]
 fn size_with(batch: &Batch, checked: &[u8]) -> u32
     requires few { length batch.now.items ≤ MOST_RECORDS }
-    requires small { values_size batch.now.items < 2 ^ 30 }
+    requires small { values_size batch.now.items < VALUES_END }
     requires checked { checked.now ≡ checked_bytes batch.now }
     ensures { result ≡ length checked.now + 9 }
 {
@@ -73,7 +73,7 @@ fn put_checked(batch: &Batch, out: &mut Vec<u8>) -> Result<(), NoMemory>
     requires some { 1 ≤ length batch.now.items }
     requires few { length batch.now.items ≤ MOST_RECORDS }
     requires each { All IsWritable batch.now.items }
-    requires small { values_size batch.now.items < 2 ^ 30 }
+    requires small { values_size batch.now.items < VALUES_END }
     ensures ok { OnOk result (out.new.items ≡ out.old.items ++ checked_bytes batch.now) }
     ensures time { FitsSigned w64 batch.now.time }
 {
@@ -106,7 +106,7 @@ fn put_no_producer(out: &mut Vec<u8>) -> Result<(), AllocError>
 fn put_records(items: &[Item], out: &mut Vec<u8>) -> Result<(), NoMemory>
     requires few { length items.now ≤ MOST_RECORDS }
     requires each { All IsWritable items.now }
-    requires small { values_size items.now < 2 ^ 30 }
+    requires small { values_size items.now < VALUES_END }
     ensures { OnOk result (out.new.items ≡ out.old.items ++ records_bytes 0 items.now) }
 {
     let mut value = Vec::new(*out.allocator());
@@ -130,7 +130,7 @@ fn put_value(item: &Item, out: &mut Vec<u8>) -> Result<(), NoMemory>
 
 fn put_record(delta: u32, value: &[u8], out: &mut Vec<u8>) -> Result<(), AllocError>
     requires delta { delta < MOST_RECORDS }
-    requires value { length value.now < 2 ^ 30 }
+    requires value { length value.now < VALUES_END }
     ensures { OnOk result (out.new.items ≡ out.old.items ++ record_bytes delta value.now) }
 {
     put_length(out, body_len(delta, value))?;
@@ -140,7 +140,7 @@ fn put_record(delta: u32, value: &[u8], out: &mut Vec<u8>) -> Result<(), AllocEr
 #[tactic(auto, unfolding(crate::specs::BatchBytes::record_body))]
 fn put_body(delta: u32, value: &[u8], out: &mut Vec<u8>) -> Result<(), AllocError>
     requires delta { delta < MOST_RECORDS }
-    requires value { length value.now < 2 ^ 30 }
+    requires value { length value.now < VALUES_END }
     ensures { OnOk result (out.new.items ≡ out.old.items ++ record_body delta value.now) }
 {
     put_i8(out, 0)?;
@@ -164,7 +164,7 @@ fn put_length(out: &mut Vec<u8>, len: u32) -> Result<(), AllocError>
 #[tactic(auto, using(crate::proofs::Sizes::body_length))]
 fn body_len(delta: u32, value: &[u8]) -> u32
     requires delta { delta < MOST_RECORDS }
-    requires value { length value.now < 2 ^ 30 }
+    requires value { length value.now < VALUES_END }
     ensures size { result ≡ length (record_body delta value.now) }
     ensures small { result < 2 ^ 31 }
 {

@@ -17,7 +17,7 @@ use Rattle.kr_defs.specs.declared.record.ConfigKey.{ConfigKey}
 use Rattle.kr_defs.specs.declared.record.Record.{Record}
 use Rattle.kr_defs.specs.declared.record.Record.TheVariants as kinds
 use Rattle.kr_defs.specs.Image.{Image, IsValid}
-use Rattle.kr_defs.specs.ImageOrder.{Rank, Seen, named, rank_order, rank_of, topic_after, seen_with, is_later, are_in_order, nothing_seen}
+use Rattle.kr_defs.specs.ImageOrder.{Rank, ReadSoFar, named, rank_order, rank_of, topic_after, seen_with, is_later, are_in_order, nothing_seen}
 use Rattle.kr_defs.specs.Map.{IsMap, text_order, partition_order, config_order}
 use Rattle.kr_defs.specs.Records.{partition_record, topic_records, records_of}
 use Rattle.kr_defs.specs.Walk.{walked, of_topic, walk_topic}
@@ -63,8 +63,8 @@ later_section : (last : Option Rank) (rank : Rank) → Below rank.section last �
 later_section None rank below = refl
 later_section (Some before) rank below = rw (less before.section rank.section below) refl
 
-module _ {K V : Type 0} (R : K → K → Ordering) (f : K × V → Record) (rank : K → Rank) (P : Option (List ℕ × ℕ) → Type 0) (B : Option Rank → Type 0) (Q : K × V → Type 0) (ranks : (t : Option (List ℕ × ℕ)) (e : K × V) → P t → Q e → rank_of t (f e) ≡ Some (rank e.0)) (keeps : (t : Option (List ℕ × ℕ)) (e : K × V) → P t → P (topic_after t (f e))) (bound : (k : K) → B (Some (rank k))) (rises : (x y : K) → R x y ≡ Less → rank_order (rank x) (rank y) ≡ Less) (rest : List Record) (next : (seen : Seen) → P seen.topic → B seen.rank → are_in_order seen rest ≡ true) where
-  stretch : (es : List (K × V)) → IsMap R es → AllByRecursion Q es → (seen : Seen) → P seen.topic → B seen.rank → AllByRecursion (λ k. later seen.rank (rank k) ≡ true) (keys_of es) → are_in_order seen (map f es ++ rest) ≡ true
+module _ {K V : Type 0} (R : K → K → Ordering) (f : K × V → Record) (rank : K → Rank) (P : Option (List ℕ × ℕ) → Type 0) (B : Option Rank → Type 0) (Q : K × V → Type 0) (ranks : (t : Option (List ℕ × ℕ)) (e : K × V) → P t → Q e → rank_of t (f e) ≡ Some (rank e.0)) (keeps : (t : Option (List ℕ × ℕ)) (e : K × V) → P t → P (topic_after t (f e))) (bound : (k : K) → B (Some (rank k))) (rises : (x y : K) → R x y ≡ Less → rank_order (rank x) (rank y) ≡ Less) (rest : List Record) (next : (seen : ReadSoFar) → P seen.topic → B seen.rank → are_in_order seen rest ≡ true) where
+  stretch : (es : List (K × V)) → IsMap R es → AllByRecursion Q es → (seen : ReadSoFar) → P seen.topic → B seen.rank → AllByRecursion (λ k. later seen.rank (rank k) ≡ true) (keys_of es) → are_in_order seen (map f es ++ rest) ≡ true
   unfolding IsStrictlySortedBy
   stretch [] sorted all seen topic last a = next seen topic last
   stretch (e ∷ es) sorted all seen topic last a =
@@ -155,8 +155,8 @@ maps_once : {X Y Z : Type 0} (g : Y → Z) (h : X → Y) (xs : List X) → map g
 maps_once g h [] = refl
 maps_once g h (x ∷ xs) = ap (λ zs. g (h x) ∷ zs) (maps_once g h xs)
 
-module _ (partitions : List ((ℕ × ℤ) × Partition)) (sorted : IsMap partition_order partitions) (rest : List Record) (next : (seen : Seen) → Below 3 seen.rank → are_in_order seen rest ≡ true) where
-  topics_in_order : (ts : List (List ℕ × ℕ)) → IsMap text_order ts → (seen : Seen) → Below 3 seen.rank → AllByRecursion (λ name. later seen.rank (named 2 name None) ≡ true) (keys_of ts) → are_in_order seen (flat_map (topic_records partitions) ts ++ rest) ≡ true
+module _ (partitions : List ((ℕ × ℤ) × Partition)) (sorted : IsMap partition_order partitions) (rest : List Record) (next : (seen : ReadSoFar) → Below 3 seen.rank → are_in_order seen rest ≡ true) where
+  topics_in_order : (ts : List (List ℕ × ℕ)) → IsMap text_order ts → (seen : ReadSoFar) → Below 3 seen.rank → AllByRecursion (λ name. later seen.rank (named 2 name None) ≡ true) (keys_of ts) → are_in_order seen (flat_map (topic_records partitions) ts ++ rest) ≡ true
   unfolding IsStrictlySortedBy
   topics_in_order [] up seen below a = next seen below
   topics_in_order (t ∷ ts) up seen below a =
@@ -165,7 +165,7 @@ module _ (partitions : List ((ℕ × ℤ) × Partition)) (sorted : IsMap partiti
       let own : List ((ℕ × ℤ) × Partition) = of_topic id partitions in
       let f : (ℕ × ℤ) × Partition → Record = λ e. partition_record (walked name e) in
       let others : List Record = flat_map (topic_records partitions) ts ++ rest in
-      let read : Seen = record { rank = Some (named 2 name None); topic = Some (name, id) } in
+      let read : ReadSoFar = record { rank = Some (named 2 name None); topic = Some (name, id) } in
       let joined : (map partition_record (walk_topic partitions t) ++ flat_map (topic_records partitions) ts) ++ rest ≡ map f own ++ others =
       append_assoc (map partition_record (walk_topic partitions t)) (flat_map (topic_records partitions) ts) rest ∙ ap (λ (xs : List Record). xs ++ others) (maps_once partition_record (walked name) own) in
       let all = all_of_topic name id partitions in
@@ -201,19 +201,19 @@ module _ (image : Image) (valid : IsValid image) where
   abbrev brokers : List Record
   brokers = map broker_record image.brokers
 
-  settings_in_order : (seen : Seen) → Below 3 seen.rank → are_in_order seen settings ≡ true
+  settings_in_order : (seen : ReadSoFar) → Below 3 seen.rank → are_in_order seen settings ≡ true
   settings_in_order seen below =
       ap (are_in_order seen) (sym (append-nil settings))
       ∙ stretch config_order setting_record setting_rank (λ t. Unit {0}) (Below 4) (λ e. Unit {0}) (λ t e p q. refl) (λ t e p. tt) (λ k. refl) setting_rises [] (λ after p b. refl)
       image.configs valid.configs.ordered (all_of (λ e. Unit {0}) image.configs (λ e. tt)) seen tt (below_more 3 4 (omega arith) seen.rank below)
       (all_of (λ k. later seen.rank (setting_rank k) ≡ true) (keys_of image.configs) (λ k. later_section seen.rank (setting_rank k) below))
 
-  rest_in_order : (seen : Seen) → Below 2 seen.rank → are_in_order seen (topics ++ settings) ≡ true
+  rest_in_order : (seen : ReadSoFar) → Below 2 seen.rank → are_in_order seen (topics ++ settings) ≡ true
   rest_in_order seen below =
       topics_in_order image.partitions valid.partitions.ordered settings settings_in_order image.topics valid.topics.ordered seen (below_more 2 3 (omega arith) seen.rank below)
       (all_of (λ name. later seen.rank (named 2 name None) ≡ true) (keys_of image.topics) (λ name. later_section seen.rank (named 2 name None) below))
 
-  brokers_in_order : (seen : Seen) → Below 1 seen.rank → are_in_order seen (brokers ++ (topics ++ settings)) ≡ true
+  brokers_in_order : (seen : ReadSoFar) → Below 1 seen.rank → are_in_order seen (brokers ++ (topics ++ settings)) ≡ true
   brokers_in_order seen below =
       stretch int_cmp broker_record broker_rank (λ t. Unit {0}) (Below 2) (λ e. Unit {0}) (λ t e p q. refl) (λ t e p. tt) (λ k. refl) broker_rises (topics ++ settings) (λ after p b. rest_in_order after b)
       image.brokers valid.brokers.ordered (all_of (λ e. Unit {0}) image.brokers (λ e. tt)) seen tt (below_more 1 2 (omega arith) seen.rank below)

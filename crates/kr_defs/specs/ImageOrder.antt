@@ -40,11 +40,11 @@ rank_of last (kinds.Config kind name key value) = Some (record { section = 3; ki
 rank_of last _ = None
 
 -- what was read so far: the rank of the last record, and the last topic
-pub record Seen : Type 0 where
+pub record ReadSoFar : Type 0 where
   pub rank : Option Rank
   pub topic : Option (List ℕ × ℕ)
 
-abbrev pub nothing_seen : Seen
+abbrev pub nothing_seen : ReadSoFar
 nothing_seen = record { rank = None; topic = None }
 
 -- the last topic once the record is read
@@ -52,14 +52,14 @@ abbrev pub topic_after : Option (List ℕ × ℕ) → Record → Option (List �
 topic_after last (kinds.Topic name id) = Some (name, id)
 topic_after last _ = last
 
-abbrev pub seen_with : Seen → Record → Seen
+abbrev pub seen_with : ReadSoFar → Record → ReadSoFar
 seen_with seen r = record { rank = rank_of seen.topic r; topic = topic_after seen.topic r }
 
 -- the record has a rank, and it is later than that of the record before
-abbrev pub is_later : Seen → Record → Bool
+abbrev pub is_later : ReadSoFar → Record → Bool
 is_later seen r = option_map_or (λ rank. option_map_or (λ before. is_lt (rank_order before rank)) seen.rank true) (rank_of seen.topic r) false
 
 -- each record is later than the one before it
-abbrev pub are_in_order : Seen → List Record → Bool
+abbrev pub are_in_order : ReadSoFar → List Record → Bool
 are_in_order seen [] = true
 are_in_order seen (r ∷ records) = if is_later seen r then are_in_order (seen_with seen r) records else false

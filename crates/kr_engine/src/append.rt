@@ -4,7 +4,7 @@ ghost use Rattle.std.specs.Prelude.{◌≡◌, ◌+ℤ◌, ◌≤ℤ◌, ◌≤�
 ghost use Rattle.kr_defs.specs.declared.limits.TheConstants.{MOST_RECORDS as most_records, PLACES_END as places_end};
 ghost use Rattle.kr_defs.specs.declared.record.Item.TheVariants as items;
 ghost use Rattle.kr_defs.specs.ImageLaws.{as_items};
-ghost use Rattle.kr_batch.specs.BatchBytes.{IsWritable, batch_bytes, values_size};
+ghost use Rattle.kr_batch.specs.BatchBytes.{VALUES_END, IsWritable, batch_bytes, values_size};
 ghost use Rattle.kr_calls.specs.declared.events.Output.TheVariants as given;
 ghost use Rattle.law_fitting.specs.Fitting.{FitsBatch};
 ghost use Rattle.kr_store.specs.Images.{IsAbove};
@@ -50,7 +50,7 @@ fn append_output(alloc: Global, batch: &Batch) -> Result<Output, NoMemory>
     requires some { 1 ≤ length batch.now.items }
     requires few { length batch.now.items ≤ most_records }
     requires each { All IsWritable batch.now.items }
-    requires small { values_size batch.now.items < 2 ^ 30 }
+    requires small { values_size batch.now.items < VALUES_END }
     ensures { IfOk result (λ output. output ≡ given.Append (batch_bytes batch.now)) }
 {
     let mut bytes = Vec::new(alloc);

@@ -7,7 +7,7 @@ ghost use Rattle.kr_defs.specs.Image.{empty};
 ghost use Rattle.kr_defs.specs.Log as logs;
 ghost use Rattle.kr_batch.specs.Reading.{batch_of};
 ghost use Rattle.kr_calls.specs.declared.events.Event.TheVariants as events;
-ghost use Rattle.kr_snapshot.specs.ReaderState.{kept_once};
+ghost use Rattle.kr_store.specs.Images.{kept_once};
 ghost use Rattle.kr_store.specs.Images.{IsAbove};
 ghost use Rattle.kr_world.specs.Engine.{IsSound, IsStep, outputs_left};
 ghost use Rattle.kr_engine.specs.inner.Changes.{core_with_entries, core_at, Settles};

@@ -1,5 +1,5 @@
 -- Records in groups, and the batches of them.
-use Rattle.std.proofs.Common.{pos, negsuc, ◌≡◌, ◌∙◌, ℕ, ◌+◌, ◌*◌, ◌<◌, ◌≤◌, ◌^◌, List, [], ◌∷◌, ◌++◌, length, length-append, append_assoc, refl, sym, ap, subst, arith, All}
+use Rattle.std.proofs.Common.{pos, negsuc, ◌≡◌, ◌∙◌, ℕ, ◌+◌, ◌*◌, ◌<◌, ◌≤◌, List, [], ◌∷◌, ◌++◌, length, length-append, append_assoc, refl, sym, ap, subst, arith, All}
 use Rattle.std.specs.Prelude.{sum_by}
 use Rattle.std.specs.List.{AllByRecursion}
 use Rattle.std.proofs.lemmas.List.{append-nil}
@@ -11,7 +11,7 @@ use Rattle.kr_defs.specs.declared.record.Item.{Item}
 use Rattle.kr_defs.specs.declared.record.Item.TheVariants as items
 use Rattle.kr_wire.specs.Spelling.{signed, varint32, varint64}
 use Rattle.kr_record.specs.RecordRanges.{IsHeld}
-use Rattle.kr_batch.specs.BatchBytes.{IsWritable, item_value, values_size, record_body, record_bytes, records_bytes, fixed_bytes, checked_bytes, head_bytes, batch_bytes}
+use Rattle.kr_batch.specs.BatchBytes.{VALUES_END, IsWritable, item_value, values_size, record_body, record_bytes, records_bytes, fixed_bytes, checked_bytes, head_bytes, batch_bytes}
 use Rattle.kr_batch.specs.Crc.{crc32c}
 use Rattle.std.specs.Int.{w8}
 use Rattle.kr_snapshot.specs.ImageText.{chunks, batch_of_group, batches_bytes}
@@ -39,7 +39,7 @@ weighed (items.Control ∷ group) each = absurd each.0
 pub group_writable : (group : List Item) → All IsLightItem group → All IsWritable group
 group_writable group each = All-from_recursion IsWritable group (writable group (recursion_from_All IsLightItem group each))
 
-pub group_small : (group : List Item) → All IsLightItem group → length group ≤ IMAGE_BATCH → sum_by item_text group ≤ MOST_CONFIG_TEXT → values_size group < 2 ^ 30
+pub group_small : (group : List Item) → All IsLightItem group → length group ≤ IMAGE_BATCH → sum_by item_text group ≤ MOST_CONFIG_TEXT → values_size group < VALUES_END
 group_small group each few little =
     let a = weighed group (recursion_from_All IsLightItem group each) in
     omega (arith, a, few, little)

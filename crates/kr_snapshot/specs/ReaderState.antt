@@ -4,8 +4,8 @@ use Rattle.std.specs.Option.{option_map, option_and_then}
 use Rattle.kr_defs.specs.declared.record.Topic.{Topic}
 use Rattle.kr_defs.specs.Image.{Image, empty}
 use Rattle.kr_defs.specs.ImageOrder as ranks
-use Rattle.kr_defs.specs.ImageOrder.{Seen}
-use Rattle.kr_store.specs.Images.{Images, no_images}
+use Rattle.kr_defs.specs.ImageOrder.{ReadSoFar}
+use Rattle.kr_store.specs.Images.{Images, kept_once, no_images}
 use Rattle.kr_wire.specs.Answers as answers
 use Rattle.kr_batch.specs.declared.fault.BatchFault.{BatchFault}
 use Rattle.kr_batch.specs.declared.fault.BatchFault.TheVariants as refusals
@@ -64,7 +64,7 @@ partition_rank last topic index = option_and_then (λ t. if t.1 == topic then So
 abbrev pub setting_rank : ℤ → List ℕ → List ℕ → ranks.Rank
 setting_rank kind name key = record { section = 3; kind = kind; name = name; key = key; number = None }
 
-abbrev pub seen_in : Order → Seen
+abbrev pub seen_in : Order → ReadSoFar
 seen_in o = record { rank = option_map rank_in o.rank; topic = topic_in o.topic }
 
 -- ---- records
@@ -104,10 +104,6 @@ Waits body held most = (more : List ℕ) → length held + length more < most �
 -- the bytes of a batch that isn't whole
 abbrev pub IsUnfinished : List ℕ → Type 0
 IsUnfinished held = 12 ≤ length held → (size : ℕ) × (size_at held ≡ Ok size) × (length held < extent size)
-
--- the store of an image at an offset: it is the present image, and the one that is kept
-abbrev pub kept_once : ℤ → Image → Images
-kept_once offset image = record { kept = (offset, image) ∷ []; tip = image; made = 0; kept_made = (offset, 0) ∷ [] }
 
 -- the offset and the store of the image that is read, or the fault that is
 abbrev pub Restores : Result (ℤ × Images) ImageFault → Result (ℤ × Image) ImageFault → Type 0

@@ -9,7 +9,7 @@ use Rattle.kr_defs.specs.declared.record.Item.{Item}
 use Rattle.kr_defs.specs.declared.record.Item.TheVariants as items
 use Rattle.kr_defs.specs.Apply.{apply}
 use Rattle.kr_defs.specs.Image.{Image, empty}
-use Rattle.kr_defs.specs.ImageOrder.{Seen, nothing_seen, seen_with, is_later}
+use Rattle.kr_defs.specs.ImageOrder.{ReadSoFar, nothing_seen, seen_with, is_later}
 use Rattle.kr_wire.specs.declared.WireFault.{WireFault}
 use Rattle.kr_wire.specs.declared.WireFault.TheVariants as wire
 use Rattle.kr_wire.specs.Reading.{◌>>=◌, refuse◌when◌else◌, Read, signed_at}
@@ -44,7 +44,7 @@ headed (Err fault) = Err (batch_fault_behind 0 causes.Head)
 pub record Progress : Type 0 where
   pub expected : ℕ
   pub found : ℕ
-  pub seen : Seen
+  pub seen : ReadSoFar
   pub image : Image
 
 abbrev pub nothing_found : ℕ → Progress

@@ -3,7 +3,8 @@
 ghost use Rattle.std.specs.Prelude.{◌≡◌, ◌≤◌, ◌<◌, ◌+◌, ◌++◌, length, drop, IfOk, IfErr, MatchResult, OnOk, Ok, Err, pos, negsuc, [], ◌∷◌, ℤ, ◌≤ℤ◌, ◌^◌, Some};
 ghost use Rattle.kr_defs.specs.Image.{empty};
 ghost use Rattle.kr_store.specs.Images.{no_images};
-ghost use Rattle.kr_snapshot.specs.ReaderState.{HasRoom, IsBegun, IsFault, IsUnfinished, IsWaiting, LeadsTo, Restores, Waits, body_in, kept_once, progress_in, taken_in};
+ghost use Rattle.kr_snapshot.specs.ReaderState.{HasRoom, IsBegun, IsFault, IsUnfinished, IsWaiting, LeadsTo, Restores, Waits, body_in, progress_in, taken_in};
+ghost use Rattle.kr_store.specs.Images.{kept_once};
 ghost use Rattle.kr_snapshot.specs.Reading as reading;
 
 use crate::fault::{BatchCause, ImageFault};

@@ -82,6 +82,10 @@ counts_of image = record {
 abbrev pub no_images : Images
 no_images = record { kept = []; tip = empty; made = 0; kept_made = [] }
 
+-- the store of an image at an offset: it is the present image, and the one that is kept
+abbrev pub kept_once : ℤ → Image → Images
+kept_once offset image = record { kept = (offset, image) ∷ []; tip = image; made = 0; kept_made = (offset, 0) ∷ [] }
+
 -- the present image is kept under the epoch
 abbrev pub marked : Images → ℤ → Images
 marked images epoch = record { kept = images.kept ++ (epoch, images.tip) ∷ []; tip = images.tip; made = 0; kept_made = images.kept_made ++ (epoch, images.made) ∷ [] }

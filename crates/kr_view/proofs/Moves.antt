@@ -6,7 +6,7 @@ use Rattle.left_right.specs.Register.{Admits, TurnsAt, Forks, Merges}
 use Rattle.atomic_table.proofs.Lists.{at_set, at_snoc}
 use Rattle.kr_defs.specs.declared.options.Options.{Options}
 use Rattle.kr_calls.specs.declared.events.Entry.{Entry}
-use Rattle.kr_view.specs.declared.rule.Seen.{Seen}
+use Rattle.kr_view.specs.declared.rule.ThreadView.{ThreadView}
 use Rattle.kr_calls.specs.RightAnswers.{AreRightAfter, AreRight}
 use Rattle.kr_view.specs.AtomicSteps.{SeatIsMade, Publishes, Enters}
 use Rattle.kr_view.specs.CopiesRule.{seen, unseen, FitsShowing, CopiesRuleHolds, GoesOn, Saw}
@@ -22,7 +22,7 @@ pub right-append : (o : Options) (before xs ys : List Entry) → AreRightAfter o
 right-append o before [] ys a b = subst (λ l. AreRightAfter o l ys) (append-nil before) b
 right-append o before (x ∷ xs) ys a b = (a.0, right-append o (before ++ x ∷ []) xs ys a.1 (subst (λ l. AreRightAfter o l ys) (sym (append_assoc before (x ∷ []) xs)) b))
 
-set_fits : (x : Showing) (views : List Seen) (pass : ℕ) (w : Seen) → ((j : ℕ) (u : Seen) → j ≢ pass → get_elem? views j ≡ some u → FitsShowing x u) → FitsShowing x w → (j : ℕ) (u : Seen) → get_elem? (set views pass w) j ≡ some u → FitsShowing x u
+set_fits : (x : Showing) (views : List ThreadView) (pass : ℕ) (w : ThreadView) → ((j : ℕ) (u : ThreadView) → j ≢ pass → get_elem? views j ≡ some u → FitsShowing x u) → FitsShowing x w → (j : ℕ) (u : ThreadView) → get_elem? (set views pass w) j ≡ some u → FitsShowing x u
 set_fits x views pass w old new j u e =
     ⊎_elim (λ (t : (j ≡ pass) × (w ≡ u)). subst (FitsShowing x) t.1 new) (λ (t : (j ≢ pass) × (get_elem? views j ≡ some u)). old j u t.0 t.1) (at_set views pass j w u e)
 
@@ -37,29 +37,29 @@ admits x views h = record {
 }
 
 -- what was seen stays a beginning of what is shown, where that goes on
-onward : (x y : Showing) (u : Seen) → y.options ≡ x.options → GoesOn y.list x.list → FitsShowing x u → FitsShowing y u
+onward : (x y : Showing) (u : ThreadView) → y.options ≡ x.options → GoesOn y.list x.list → FitsShowing x u → FitsShowing y u
 onward x y u same more fits = record { begins = goes-on-trans y.list x.list u.list more fits.begins; options = λ s. fits.options s ∙ sym same }
 
 -- what is shown goes on, and one thread sees all of it
-turned : (x y : Showing) (views : List Seen) (number : ℕ) → y.options ≡ x.options → GoesOn y.list x.list → AreRight y.options y.list → CopiesRuleHolds x views → CopiesRuleHolds y (set views number (seen true y.options y.list))
+turned : (x y : Showing) (views : List ThreadView) (number : ℕ) → y.options ≡ x.options → GoesOn y.list x.list → AreRight y.options y.list → CopiesRuleHolds x views → CopiesRuleHolds y (set views number (seen true y.options y.list))
 turned x y views number same more right h = record {
   right = right;
   fits = set_fits y views number (seen true y.options y.list) (λ j u _ e. onward x y u same more (h.fits j u e)) (record { begins = goes-on-refl y.list; options = λ _. refl });
 }
 
-pub turns : (pass : ℕ) (v : Seen) (x y : Showing) → y.options ≡ x.options → GoesOn y.list x.list → (AreRight x.options x.list → AreRight y.options y.list) → TurnsAt CopiesRuleHolds pass v x y Saw
+pub turns : (pass : ℕ) (v : ThreadView) (x y : Showing) → y.options ≡ x.options → GoesOn y.list x.list → (AreRight x.options x.list → AreRight y.options y.list) → TurnsAt CopiesRuleHolds pass v x y Saw
 turns pass v x y same more right views h at =
     let all : AreRight y.options y.list = right h.right in
     let mine : FitsShowing y v = onward x y v same more (h.fits pass v at) in
     (seen true y.options y.list, turned x y views pass same more all h, record { later = mine.begins; is = refl; right = all; same = mine.options })
 
-pub forks : (pass : ℕ) (v : Seen) → Forks CopiesRuleHolds pass v v v
+pub forks : (pass : ℕ) (v : ThreadView) → Forks CopiesRuleHolds pass v v v
 forks pass v x views h at = record {
   right = h.right;
   fits = λ j u e. ⊎_elim (set_fits x views pass v (λ i t _ at'. h.fits i t at') (h.fits pass v at) j u) (λ (is : v ≡ u). subst (FitsShowing x) is (h.fits pass v at)) (at_snoc (set views pass v) v u j e);
 }
 
-pub merges : (pass : ℕ) (v : Seen) (other : ℕ) (w : Seen) → Merges CopiesRuleHolds pass v other w w unseen
+pub merges : (pass : ℕ) (v : ThreadView) (other : ℕ) (w : ThreadView) → Merges CopiesRuleHolds pass v other w w unseen
 merges pass v other w x views h at apart there =
     let theirs : FitsShowing x w = ⊎_elim (λ (t : (other ≡ pass) × (w ≡ w)). absurd (apart t.0)) (λ (t : (other ≢ pass) × (get_elem? views other ≡ some w)). h.fits other w t.1) (at_set views pass other w w there) in
     record {
@@ -71,7 +71,7 @@ merges pass v other w x views h at apart there =
 
 pub seat_is_made : SeatIsMade
 seat_is_made o views h =
-    let v : Seen = seen true o [] in
+    let v : ThreadView = seen true o [] in
     let new : FitsShowing (showing o []) v = record { begins = goes-on-refl []; options = λ _. refl } in
     record {
       right = h.right;

@@ -4,7 +4,7 @@ use Rattle.core.specs.declared.result.Result.{Result}
 use Rattle.left_right.specs.Register.{TurnsAt}
 use Rattle.kr_defs.specs.declared.options.Options.{Options}
 use Rattle.kr_calls.specs.declared.events.Entry.{Entry}
-use Rattle.kr_view.specs.declared.rule.Seen.{Seen}
+use Rattle.kr_view.specs.declared.rule.ThreadView.{ThreadView}
 use Rattle.kr_calls.specs.RightAnswers.{AreRightAfter}
 use Rattle.kr_view.specs.declared.run.Step.{Step}
 use Rattle.kr_view.specs.CopiesRule.{CopiesRuleHolds, Saw, seen}
@@ -28,7 +28,7 @@ Folded old new steps = new ≡ fold with_step old steps
 shows : (old new : Showing) (steps : List Step) → Folded old new steps → new ≡ showing_more old (entries_in steps)
 shows old new steps is = is ∙ all_steps old steps ∙ ap (showing old.options) (behind old.list steps)
 
-pub may_publish : (pass : ℕ) (v : Seen) (old new : Showing) (steps : List Step) → AreRightAfter old.options old.list (entries_in steps) → Folded old new steps → TurnsAt CopiesRuleHolds pass v old new Saw
+pub may_publish : (pass : ℕ) (v : ThreadView) (old new : Showing) (steps : List Step) → AreRightAfter old.options old.list (entries_in steps) → Folded old new steps → TurnsAt CopiesRuleHolds pass v old new Saw
 may_publish pass v old new steps right is =
     let es = entries_in steps in
     let s = shows old new steps is in
@@ -46,6 +46,6 @@ module _ {T E : Type 0} (old new : Showing) (steps left : List Step) where
   options_after (Ok x) h = ap (λ (s : Showing). s.options) (shows old new steps h.0)
   options_after (Err e) h = ap (λ (s : Showing). s.options) h.0
 
-pub view_after : {T E : Type 0} (v : Seen) (x y : Showing) (w : Seen) (r : Result T E) → MatchResult r (λ _. Saw v x y w) (λ _. w ≡ v) → IfOk r (λ _. w ≡ seen true y.options y.list)
+pub view_after : {T E : Type 0} (v : ThreadView) (x y : Showing) (w : ThreadView) (r : Result T E) → MatchResult r (λ _. Saw v x y w) (λ _. w ≡ v) → IfOk r (λ _. w ≡ seen true y.options y.list)
 view_after v x y w (Ok u) h = h.is
 view_after v x y w (Err e) h = tt

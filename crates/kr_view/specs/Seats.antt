@@ -3,18 +3,18 @@ use Rattle.std.specs.Prelude.{◌≡◌, ℕ, true, MatchResult}
 use Rattle.core.specs.declared.result.Result.{Result}
 use Rattle.kr_base.specs.Causes.{Rose}
 use Rattle.kr_view.specs.CopiesRule.{GoesOn}
-use Rattle.kr_view.specs.declared.rule.Seen.{Seen}
+use Rattle.kr_view.specs.declared.rule.ThreadView.{ThreadView}
 use Rattle.kr_view.specs.declared.seat.CopyFault.{CopyFault}
 use Rattle.kr_view.specs.declared.seat.CopyFault.TheVariants.{NoCopy, NoMemory}
 
 -- its number, what it has seen, and how often it got no copy
 pub record Seat : Type 0 where
   pub number : ℕ
-  pub seen : Seen
+  pub seen : ThreadView
   pub misses : ℕ
 
 -- the list goes on, under the same options
-pub record Onward (v w : Seen) : Type 0 where
+pub record Onward (v w : ThreadView) : Type 0 where
   pub list : GoesOn w.list v.list
   pub options : v.seated ≡ true → (w.seated ≡ true) × (w.options ≡ v.options)
 

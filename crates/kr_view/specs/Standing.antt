@@ -1,15 +1,10 @@
 -- What a store holds that stands at the end of a list of entries. This project's own.
-use Rattle.std.specs.Prelude.{◌≡◌, ℤ, Bool, true, false, [], ◌∷◌, Result, Ok, IsErr}
+use Rattle.std.specs.Prelude.{◌≡◌, ℤ, Bool, true, false, Result, Ok, IsErr}
 use Rattle.kr_defs.specs.declared.ill.Ill.{Ill}
 use Rattle.kr_defs.specs.Image.{Image}
 use Rattle.kr_calls.specs.declared.events.Entry.{Entry}
 use Rattle.kr_calls.specs.declared.events.Entry.TheVariants as entries
 use Rattle.kr_calls.specs.SeatList.{Reached, with_item}
-use Rattle.kr_store.specs.Images.{Images}
-
--- its present image is the one that is kept, at the end; of the oldest kept epoch no calls count
-abbrev pub kept_alone : ℤ → Image → Images
-kept_alone end image = record { kept = (end, image) ∷ []; tip = image; made = 0; kept_made = (end, 0) ∷ [] }
 
 -- the image, where all records had a meaning
 abbrev pub StandsIf : Bool → Result Image Ill → Image → Type 0

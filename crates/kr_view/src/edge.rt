@@ -6,25 +6,25 @@ ghost use Rattle.kr_base.specs.Causes.{Rose};
 ghost use Rattle.kr_view.specs.CopiesRule.{Saw};
 ghost use Rattle.kr_view.specs.Edges.{seen_by};
 
-use crate::rule::{CopiesRule, Seen, Sees};
+use crate::rule::{CopiesRule, Sees, ThreadView};
 use crate::shown::Shown;
 use left_right::reader::{Reader, Reading};
 
 /// A reader outside of the copies.
 #[derive(Drop)]
 pub(crate) struct Edge {
-    reader: Reader<Shown, Seen, CopiesRule>,
+    reader: Reader<Shown, ThreadView, CopiesRule>,
     misses: u64,
 }
 
 /// A reader that has a copy.
 pub(crate) struct Entered {
-    reading: Reading<Shown, Seen, CopiesRule>,
+    reading: Reading<Shown, ThreadView, CopiesRule>,
     misses: u64,
 }
 
 impl Edge {
-    pub(crate) fn over(reader: Reader<Shown, Seen, CopiesRule>) -> Edge
+    pub(crate) fn over(reader: Reader<Shown, ThreadView, CopiesRule>) -> Edge
         ensures { (seen_by result ≡ view reader.place) × (result.misses ≡ 0) }
     {
         Edge { reader, misses: 0 }

@@ -19,5 +19,5 @@ mod window;
 pub use looks::Look;
 pub use opening::{Opening, ReaderSeats, ViewFault, open};
 pub use publisher::Publisher;
-pub use rule::Seen;
+pub use rule::ThreadView;
 pub use seat::{CopyFault, ReaderSeat};

@@ -8,7 +8,7 @@ ghost use Rattle.kr_view.specs.Opened.{AreSeats, IsOpened, IsViewCause};
 ghost use Rattle.kr_view.specs.Showing.{showing};
 
 use crate::publisher::Publisher;
-use crate::rule::{CopiesRule, Note, Seen};
+use crate::rule::{CopiesRule, Note, ThreadView};
 use crate::seat::ReaderSeat;
 use crate::shown::Shown;
 use crate::window::{Copies, show};
@@ -53,7 +53,7 @@ impl Opening {
     }
 
     // One more reader, which has seen what the writer has. Where the crate refuses it, the count rises.
-    fn place(&mut self, copies: &mut Copies) -> Option<Reader<Shown, Seen, CopiesRule>>
+    fn place(&mut self, copies: &mut Copies) -> Option<Reader<Shown, ThreadView, CopiesRule>>
         ensures copies { (copies.new.desk.shown ≡ copies.old.desk.shown) × (copies.new.log ≡ copies.old.log) × (copies.new.behind ≡ copies.old.behind) × (view copies.new.desk.place ≡ view copies.old.desk.place) }
         ensures place { MatchOption result (Rose self.old.refused self.new.refused) (λ r. (view r.place ≡ view copies.old.desk.place) × (self.new.refused ≡ self.old.refused)) }
     {

@@ -8,7 +8,7 @@ use kr_defs::Options;
 use std::collections::LinkedList;
 
 /// What a thread has seen of the copies. It stands in clauses alone: no value of it is made.
-pub struct Seen {
+pub struct ThreadView {
     /// It is the worker, or has a seat.
     pub seated: bool,
     /// The options of the opening.
@@ -20,7 +20,7 @@ pub struct Seen {
 // What each thread has seen is a beginning of what is shown.
 pub(crate) struct CopiesRule;
 
-impl Protocol<Shown, Seen> for CopiesRule {
+impl Protocol<Shown, ThreadView> for CopiesRule {
     ghost use Rattle.kr_view.specs.CopiesRule.{CopiesRuleHolds, unseen};
 
     ghost holds = { CopiesRuleHolds };
@@ -30,7 +30,7 @@ impl Protocol<Shown, Seen> for CopiesRule {
 
 pub(crate) struct Sees;
 
-impl Outcome<Shown, Seen> for Sees {
+impl Outcome<Shown, ThreadView> for Sees {
     ghost use Rattle.kr_view.specs.CopiesRule.{Saw};
 
     ghost then = { Saw };
@@ -39,13 +39,13 @@ impl Outcome<Shown, Seen> for Sees {
 // What the worker has seen, for a new seat.
 pub(crate) struct Note;
 
-impl Split<Seen> for Note {
+impl Split<ThreadView> for Note {
     ghost left = { λ v. v };
 
     ghost right = { λ v. v };
 }
 
-impl Join<Seen> for Note {
+impl Join<ThreadView> for Note {
     ghost use Rattle.kr_view.specs.CopiesRule.{unseen};
 
     ghost both = { λ v w. w };

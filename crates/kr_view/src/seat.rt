@@ -11,7 +11,7 @@ ghost use Rattle.kr_view.specs.HeldEdges.{HasEdgeCause};
 
 use crate::edge::Edge;
 use crate::looks::Look;
-use crate::rule::{CopiesRule, Seen};
+use crate::rule::{CopiesRule, ThreadView};
 use crate::shown::Shown;
 use core::mem::replace_with;
 use kr_base::NoMemory;
@@ -99,7 +99,7 @@ fn read_once(held: Held, call: &Call) -> (Held, Result<Reply, CopyFault>)
 impl ReaderSeat {
     ghost use Rattle.kr_view.specs.Seats.{HasCopyCause};
 
-    pub(crate) fn new(number: u32, reader: Reader<Shown, Seen, CopiesRule>) -> ReaderSeat
+    pub(crate) fn new(number: u32, reader: Reader<Shown, ThreadView, CopiesRule>) -> ReaderSeat
         requires { (number ≤ 64) × ((view reader.place).list ≡ []) }
         ensures { result ≡ record { number = number; seen = view reader.place; misses = 0 } }
     {

@@ -12,10 +12,10 @@ pub(crate) fn a_copy_is_shared(shown: &Shown) {
     is_shared(shown);
 }
 
-pub fn a_seat_is_sent(seat: &ReaderSeat) {
+pub(crate) fn a_seat_is_sent(seat: &ReaderSeat) {
     is_sent(seat);
 }
 
-pub fn a_publisher_is_sent(publisher: &Publisher) {
+pub(crate) fn a_publisher_is_sent(publisher: &Publisher) {
     is_sent(publisher);
 }

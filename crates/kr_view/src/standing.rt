@@ -7,7 +7,8 @@ ghost use Rattle.kr_calls.specs.Deciding.{apply_records};
 ghost use Rattle.kr_calls.specs.SeatList.{nothing_reached, reached_with, with_item, with_load};
 ghost use Rattle.kr_store.specs.Images.{last_image, last_kept};
 ghost use Rattle.kr_view.specs.Runs.{AreNoLoads};
-ghost use Rattle.kr_view.specs.Standing.{kept_alone, StandsIf, run_with};
+ghost use Rattle.kr_store.specs.Images.{kept_once};
+ghost use Rattle.kr_view.specs.Standing.{StandsIf, run_with};
 ghost use Rattle.kr_view.specs.Steps.{entries_of};
 
 use crate::run::Step;
@@ -31,13 +32,13 @@ pub(crate) struct Standing {
 impl Model for Standing {
     ghost use Rattle.std.specs.Prelude.{◌≡◌, negsuc, int_lt, IsTrue};
     ghost use Rattle.kr_calls.specs.SeatList.{Reached};
-    ghost use Rattle.kr_view.specs.Standing.{kept_alone};
+    ghost use Rattle.kr_store.specs.Images.{kept_once};
 
     ghost Value = { Reached };
 
     ghost view = { λ s. record { image = s.store.tip; end = s.end } };
 
-    ghost invariant = { λ s. (s.store ≡ kept_alone s.end s.store.tip) × IsTrue (int_lt (negsuc 0) s.end) };
+    ghost invariant = { λ s. (s.store ≡ kept_once s.end s.store.tip) × IsTrue (int_lt (negsuc 0) s.end) };
 }
 
 // Applies an item, where it counts, without keeping its image. It answers the end.
@@ -94,9 +95,9 @@ fn advance<L: Ledger>(
     entries: &[Entry],
     steps: &mut Steps<L>,
 ) -> Result<i64, NoMemory>
-    requires stands { store.old ≡ kept_alone end.now store.old.tip }
+    requires stands { store.old ≡ kept_once end.now store.old.tip }
     ensures ok { IfOk result (λ next. record { image = store.new.tip; end = next } ≡ fold run_with (record { image = store.old.tip; end = end.now }) entries.now) }
-    ensures stands { IfOk result (λ next. store.new ≡ kept_alone next store.new.tip) }
+    ensures stands { IfOk result (λ next. store.new ≡ kept_once next store.new.tip) }
     ensures err { OnErr result (store.new ≡ store.old) }
 {
     let next = apply_run(store, end, entries, steps)?;
@@ -142,7 +143,7 @@ fn store_of<L: Ledger>(
     steps: &mut Steps<L>,
 ) -> Result<Option<ImageStore>, NoMemory>
     requires { IsTrue (int_lt (negsuc 0) offset) }
-    ensures { IfOk result (λ made. MatchOption made (IsErr (apply_records empty records.now)) (λ s. (apply_records empty records.now ≡ Ok s.tip) × (s ≡ kept_alone offset s.tip))) }
+    ensures { IfOk result (λ made. MatchOption made (IsErr (apply_records empty records.now)) (λ s. (apply_records empty records.now ≡ Ok s.tip) × (s ≡ kept_once offset s.tip))) }
 {
     let mut store = ImageStore::new(alloc);
     store.mark(-1)?;

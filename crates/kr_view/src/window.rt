@@ -7,7 +7,7 @@ ghost use Rattle.kr_view.specs.CopiesRule.{seen};
 ghost use Rattle.kr_view.specs.Runs.{is_load};
 ghost use Rattle.kr_view.specs.Steps.{entries_in};
 
-use crate::rule::{CopiesRule, Seen, Sees};
+use crate::rule::{CopiesRule, Sees, ThreadView};
 use crate::run::{Load, Run, Step, is_load};
 use crate::shown::Shown;
 use core::mem::{replace, replace_with};
@@ -19,7 +19,7 @@ use std::marker::Model;
 use std::sync::Wait;
 
 /// The writer of the copies.
-pub(crate) type Copies = Writer<Shown, Step, Seen, CopiesRule>;
+pub(crate) type Copies = Writer<Shown, Step, ThreadView, CopiesRule>;
 
 /// The copies, and a run that no copy has yet. It is not `Drop`: end it by `close`.
 pub(crate) struct Window {

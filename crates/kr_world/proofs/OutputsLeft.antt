@@ -1,6 +1,7 @@
 -- What is left once an output is handed out.
 use Rattle.std.proofs.Common.{◌≡◌, ◌∙◌, sym, subst, ℤ, true, List, [], ◌∷◌, ◌++◌, map, refl, ap}
 use Rattle.std.specs.Prelude.{Option, Some, None, IfNone, filter, option_to_list}
+use Rattle.kr_calls.specs.declared.events.Entry.{Entry}
 use Rattle.kr_calls.specs.declared.events.Output.{Output}
 use Rattle.kr_world.specs.declared.writes.Told.{Told}
 use Rattle.kr_world.specs.declared.writes.Write.{Write}
@@ -11,8 +12,10 @@ use Rattle.kr_world.specs.World.{State}
 abbrev due : Core → List Output
 due e = answers e.leading e.committed e.held
 
-given_stands : (e : Core) (outputs : List Output) (refusal : Option Output) (s : State) (writes : List Write) → IsEngine e s writes → IsEngine (record e { given = outputs; refusal = refusal }) s writes
-given_stands e outputs refusal s writes k = record {
+-- what an engine has to hand out yet is no part of what it stands for
+pub handing_out_stands : (e : Core) (outputs : List Output) (refusal : Option Output) (fresh : List Entry) (s : State) (writes : List Write)
+    → IsEngine e s writes → IsEngine (record e { given = outputs; refusal = refusal; fresh = fresh }) s writes
+handing_out_stands e outputs refusal fresh s writes k = record {
   tip = k.tip;
   committed = k.committed;
   leading = k.leading;
@@ -56,7 +59,7 @@ module _ (e : Core) (ordered : writes_in_order e.held ≡ true) where
     all = λ none. absurd cc;
     ordered = ordered;
     fresh = refl;
-    stands = given_stands e rest e.refusal;
+    stands = handing_out_stands e rest e.refusal e.fresh;
   }
 
   then_refusal : (output : Output) → e.given ≡ [] → e.refusal ≡ Some output → Hands e (record e { refusal = None }) (Some output)
@@ -69,7 +72,7 @@ module _ (e : Core) (ordered : writes_in_order e.held ≡ true) where
     all = λ none. absurd cc;
     ordered = ordered;
     fresh = refl;
-    stands = given_stands e e.given None;
+    stands = handing_out_stands e e.given None e.fresh;
   }
 
   only_due : (held : List Write) → e.given ≡ [] → e.refusal ≡ None → outputs_left (record e { held = held }) ≡ answers e.leading e.committed held

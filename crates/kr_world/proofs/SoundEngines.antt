@@ -8,6 +8,7 @@ use Rattle.kr_world.specs.Engine.{Core, Hands, IsEngine, IsSound, IsStep, writes
 use Rattle.kr_world.specs.Events.{happens}
 use Rattle.kr_world.specs.Outputs.{waiting_after}
 use Rattle.kr_world.specs.World.{State, start}
+use Rattle.kr_world.proofs.OutputsLeft.{handing_out_stands}
 
 pub opened_sound : (e : Core) → IsEngine e start [] → IsSound e
 opened_sound e stands = record { state = start; writes = []; stands = stands }
@@ -27,26 +28,8 @@ handed_sound before after output hands sound = record {
 }
 
 -- what the last event added to the log is taken out of the engine
-pub taken_stands : (e : Core) (s : State) (writes : List Write) → IsEngine e s writes → IsEngine (record e { fresh = [] }) s writes
-taken_stands e s writes k = record {
-  tip = k.tip;
-  committed = k.committed;
-  leading = k.leading;
-  greatest = k.greatest;
-  count = k.count;
-  time = k.time;
-  led = k.led;
-  heard_of = k.heard_of;
-  present = k.present;
-  kept = k.kept;
-  weighed = k.weighed;
-  waits = k.waits;
-  ordered = k.ordered;
-  is_state = k.is_state;
-}
-
 pub taken_sound : (e after : Core) → after ≡ record e { fresh = [] } → IsSound e → IsSound after
-taken_sound e after is sound = subst (λ (a : Core). IsSound a) (sym is) (record { state = sound.state; writes = sound.writes; stands = taken_stands e sound.state sound.writes sound.stands })
+taken_sound e after is sound = subst (λ (a : Core). IsSound a) (sym is) (record { state = sound.state; writes = sound.writes; stands = handing_out_stands e e.given e.refusal [] sound.state sound.writes sound.stands })
 
 pub sound_order : (e : Core) → IsSound e → IsTrue (writes_in_order e.held)
 sound_order e sound = sound.stands.ordered

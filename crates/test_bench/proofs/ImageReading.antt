@@ -4,7 +4,8 @@ use Rattle.std.specs.Prelude.{IfOk}
 use Rattle.kr_defs.specs.Image.{Image}
 use Rattle.kr_store.specs.Images.{Images}
 use Rattle.kr_snapshot.specs.declared.fault.ImageFault.{ImageFault}
-use Rattle.kr_snapshot.specs.ReaderState.{Restores, kept_once}
+use Rattle.kr_snapshot.specs.ReaderState.{Restores}
+use Rattle.kr_store.specs.Images.{kept_once}
 
 abbrev found : ℤ × Image → Result (ℤ × Image) ImageFault → ℤ × Image
 found other (Ok x) = x

@@ -2,7 +2,7 @@
 
 ghost use Rattle.std.specs.Prelude.{◌≡◌, ◌<◌, ◌++◌, IfOk, IsSome, Ok, OnOk};
 ghost use Rattle.test_bench.specs.declared.image.TheConstants.{OFFSET};
-ghost use Rattle.kr_snapshot.specs.ReaderState.{kept_once};
+ghost use Rattle.kr_store.specs.Images.{kept_once};
 ghost use Rattle.kr_snapshot.specs.Reading.{image_of};
 ghost use Rattle.kr_snapshot.specs.ImageText.{image_text};
 ghost use Rattle.kr_store.specs.Images.{last_kept};

@@ -10,7 +10,7 @@ use Rattle.kr_store.specs.Images.{marked, no_images}
 use Rattle.kr_world.specs.Events.{time_after, next_number}
 use Rattle.kr_world.specs.Engine.{Core}
 use Rattle.kr_defs.specs.Image.{Image}
-use Rattle.kr_snapshot.specs.ReaderState.{kept_once}
+use Rattle.kr_store.specs.Images.{kept_once}
 
 -- to which nothing has happened
 abbrev pub new_core : Options → Core
