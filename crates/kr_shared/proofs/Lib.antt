@@ -1,0 +1,11 @@
+pub mod Answered
+pub mod Ends
+pub mod Fronts
+pub mod LastSeats
+pub mod Onwards
+pub mod Published
+pub mod Served
+pub mod Serving
+pub mod Standings
+pub mod Writes
+pub mod Written
