@@ -7,7 +7,7 @@ use Rattle.kr_calls.specs.SeatList.{end_of}
 use Rattle.kr_defs.specs.declared.options.Options.{Options}
 use Rattle.kr_queue.specs.declared.jobs.Job.{Job}
 use Rattle.kr_queue.specs.declared.jobs.Job.TheVariants as jobs
-use Rattle.kr_view.specs.declared.rule.Seen.{Seen}
+use Rattle.kr_view.specs.declared.rule.ThreadView.{ThreadView}
 use Rattle.kr_view.specs.CopiesRule.{seen}
 use Rattle.kr_view.specs.declared.seat.CopyFault.{CopyFault}
 use Rattle.kr_view.specs.declared.seat.CopyFault.TheVariants.{NoCopy, NoMemory}
@@ -15,7 +15,7 @@ use Rattle.kr_view.specs.declared.seat.CopyFault.TheVariants.{NoCopy, NoMemory}
 -- the seat's number, what it has seen, how often it got no copy, the number of its last call, and the jobs that it pushed
 pub record Client : Type 0 where
   pub number : ℕ
-  pub seen : Seen
+  pub seen : ThreadView
   pub misses : ℕ
   pub ticket : ℕ
   pub pushed : List Job
