@@ -2,10 +2,13 @@ pub mod Answered
 pub mod Ends
 pub mod Fronts
 pub mod LastSeats
+pub mod Noting
 pub mod Onwards
 pub mod Published
+pub mod Replied
 pub mod Served
 pub mod Serving
 pub mod Standings
+pub mod Turning
 pub mod Writes
 pub mod Written

@@ -22,7 +22,7 @@ use Rattle.kr_world.specs.declared.writes.Write.{Write}
 use Rattle.kr_world.specs.Engine.{Core, IsEngine, writes_in_order}
 use Rattle.kr_world.specs.Entries.{items_from, log_entries}
 use Rattle.kr_world.specs.Events.{at_time_of, happens, outcome}
-use Rattle.kr_world.specs.Outputs.{if_accepted, is_open, is_open_in, new_writes, told_alone, told_answers, waiting_after, writes_of}
+use Rattle.kr_world.specs.Outputs.{answers, answers_in, answers_now, if_accepted, is_open, is_open_in, new_writes, outputs_of, told_alone, told_answers, waiting_after, writes_of}
 use Rattle.kr_world.specs.World.{State, World, log_with, tip_of}
 use Rattle.kr_world.proofs.DueWrites.{event_goes}
 use Rattle.kr_world.proofs.KeptImages.{none_open, not_higher}
@@ -32,12 +32,13 @@ use Rattle.law_following.specs.Following.{AreNotes, Shows}
 use Rattle.law_following.proofs.Decided.{decided_on}
 use Rattle.law_following.proofs.Evolving.{Evolved, Longer, evolves}
 use Rattle.kr_shared.specs.declared.asked.Asked.{Asked}
-use Rattle.kr_shared.specs.Answers.{Answering, answer_all, answered_of, answering, with_told}
+use Rattle.kr_shared.specs.Answers.{Answering, AreReplied, answer_all, answered_of, answering, with_told}
 use Rattle.kr_shared.specs.Standing.{AreWaiting, IsWaiting, Standing}
 use Rattle.kr_shared.specs.Takes.{Takes}
 use Rattle.kr_shared.specs.Works.{Work, is_lost, staged_after}
 use Rattle.kr_shared.proofs.Answered.{AreAnswers, Ends, alone_told, ends_all}
 use Rattle.kr_shared.proofs.Published.{Publishes}
+use Rattle.kr_shared.proofs.Replied.{AreSilent, all_replied, event_replied}
 use Rattle.kr_shared.proofs.Standings.{Rests, loaded_staged, longer_staged, lost_by, none_staged, shorter_staged}
 
 -- ---- who waits, in a longer log
@@ -167,14 +168,31 @@ module _ (old : Work) (between : Core) (event : Event) (told : List Told) (s : S
     pub waits : AreWaiting o next.world.log r.waiting later
     pub bare : AreNotes r.notes
     pub right : AreRightAfter o shown r.notes
+    pub replied : AreReplied r.notes (outputs_of o s writes event)
 
-  pub answered_longer : (as : List Asked) → AreWaiting o next.world.log as held → Answers (fold with_told (answering as []) told)
-  answered_longer as waits =
+  abbrev s1 : State
+  s1 = at_time_of s event
+
+  -- what is told is all that the event gives out
+  pub outputs_told : map (λ (t : Told). t.output) told ≡ outputs_of o s writes event
+  outputs_told = t.emptied.outputs ∙ t.step.outputs s writes k.engine
+
+  pub replied_by : (notes : List Entry) → AreSilent (answers_now o s1 event) → AreReplied notes (answers_in next.world held) → AreReplied notes (outputs_of o s writes event)
+  replied_by notes silent h = event_replied o s1 writes event (outcome o s1 event) notes silent h
+
+  pub waits_on : (as : List Asked) → AreWaiting o next.world.log as held → AreWaiting o next.world.log (fold with_told (answering as []) told).waiting later
+  waits_on as waits =
+      subst (λ (r : Answering). AreWaiting o next.world.log r.waiting later) (sym (answers_are (answering as [])))
+      (ends_all o next.world.log next.world.committed next.world.leading as held [] waits ordered).waits
+
+  pub answered_longer : (as : List Asked) → AreSilent (answers_now o s1 event) → AreWaiting o next.world.log as held → Answers (fold with_told (answering as []) told)
+  answered_longer as silent waits =
       let e = ends_all o next.world.log next.world.committed next.world.leading as held [] waits ordered in
       subst Answers (sym (answers_are (answering as []))) (record {
         waits = e.waits;
         bare = subst AreNotes (sym e.answers.added) e.answers.bare;
         right = subst (AreRightAfter o shown) (sym e.answers.added) (e.answers.right shown publishes.shows);
+        replied = replied_by (fold with_told (answering as []) answers_told).notes silent (all_replied o next.world.log next.world.committed next.world.leading as held [] waits ordered);
       })
 
   -- on standby no write waits
@@ -188,7 +206,7 @@ module _ (old : Work) (between : Core) (event : Event) (told : List Told) (s : S
   waits_longer l =
       subst (λ (g : Log). AreWaiting o g old.waiting writes) (sym l.writes) (waiting_longer o s.world.log l.items old.waiting writes k.waits)
 
-  module _ (none : new_writes o s event ≡ []) where
+  module _ (none : new_writes o s event ≡ []) (silent : AreSilent (answers_now o s1 event)) where
     held_is : held ≡ writes
     held_is = ap (λ (l : List Write). writes ++ l) none ∙ append-nil writes
 
@@ -209,13 +227,17 @@ module _ (old : Work) (between : Core) (event : Event) (told : List Told) (s : S
               (none_wait o s.world.log next.world.log r.waiting (filter (is_open next.world.leading (pos s.world.committed)) held) (over c.over (pos s.world.committed)) e.waits);
           bare = subst AreNotes (sym e.answers.added) e.answers.bare;
           right = subst (AreRightAfter o shown) (sym e.answers.added) (e.answers.right shown (subst (Shows s.world.log s.world.committed) (sym here) k.shows));
+          replied =
+              replied_by r.notes silent
+              (subst (λ n. AreReplied r.notes (answers next.world.leading (pos n) held)) (sym c.same)
+              (all_replied o s.world.log s.world.committed next.world.leading old.waiting held [] (subst (AreWaiting o s.world.log old.waiting) (sym held_is) k.waits) ordered));
         })
 
     answered_by : Evolved s.world next.world between.fresh → Answers (fold with_told (answering old.waiting []) told)
-    answered_by (inl (l, is)) = answered_longer old.waiting (subst (AreWaiting o next.world.log old.waiting) (sym held_is) (waits_longer l))
+    answered_by (inl (l, is)) = answered_longer old.waiting silent (subst (AreWaiting o next.world.log old.waiting) (sym held_is) (waits_longer l))
     answered_by (inr (inl (c, is))) = answered_shorter c is
     answered_by (inr (inr (l, is))) =
-        answered_longer old.waiting
+        answered_longer old.waiting silent
         (subst (AreWaiting o next.world.log old.waiting) (sym held_is) (none_wait o s.world.log next.world.log old.waiting writes (none_waits l.standby) k.waits))
 
     pub answered : Answers (fold with_told (answering old.waiting []) told)

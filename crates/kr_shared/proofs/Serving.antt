@@ -16,13 +16,14 @@ use Rattle.kr_view.specs.Staged.{staged_above, staged_below}
 use Rattle.kr_world.specs.declared.writes.Told.{Told}
 use Rattle.kr_world.specs.declared.writes.Write.{Write}
 use Rattle.kr_world.specs.Engine.{Core, IsEngine, IsSound, outputs_left}
-use Rattle.kr_world.specs.Events.{happens}
+use Rattle.kr_world.specs.Events.{at_time_of, happens}
 use Rattle.kr_world.specs.Outputs.{waiting_after}
 use Rattle.kr_world.specs.World.{State}
+use Rattle.kr_world.proofs.OutputsLeft.{handing_out_stands}
 use Rattle.law_following.proofs.Shown.{shown_logs_go_on}
 use Rattle.kr_shared.specs.declared.answers.Asking.{Asking}
 use Rattle.kr_shared.specs.declared.asked.Asked.{Asked}
-use Rattle.kr_shared.specs.Answers.{Answering, refusal_in}
+use Rattle.kr_shared.specs.Answers.{Answering, AreReplied, refusal_in}
 use Rattle.kr_shared.specs.Appends.{Appends}
 use Rattle.kr_shared.specs.Serves.{Serves}
 use Rattle.kr_shared.specs.Standing.{AreWaiting, IsStanding, Standing}
@@ -30,7 +31,8 @@ use Rattle.kr_shared.specs.Takes.{Takes}
 use Rattle.kr_shared.specs.Tasks.{IsTask}
 use Rattle.kr_shared.specs.Works.{Work, answers_of, is_lost, resting, staged_after}
 use Rattle.kr_shared.proofs.Published.{AreLogged, Publishes}
-use Rattle.kr_shared.proofs.Served.{Answers, answered, holds_none, next, publishes, shown, staged, stands}
+use Rattle.kr_shared.proofs.Replied.{link_silent}
+use Rattle.kr_shared.proofs.Served.{Answers, answered, holds_none, next, outputs_told, publishes, shown, staged, stands}
 use Rattle.kr_shared.proofs.Writes.{written}
 
 -- ---- items and images are right wherever they stand
@@ -81,21 +83,7 @@ all_staged shelf (entries.Stop number ∷ es) h = absurd h
 -- ---- an engine from which what was added is taken
 
 pub taken_stands : (e : Core) (s : State) (writes : List Write) → IsEngine e s writes → IsEngine (record e { fresh = [] }) s writes
-taken_stands e s writes k = record {
-  tip = k.tip;
-  committed = k.committed;
-  leading = k.leading;
-  greatest = k.greatest;
-  count = k.count;
-  time = k.time;
-  led = k.led;
-  heard_of = k.heard_of;
-  present = k.present;
-  kept = k.kept;
-  waits = k.waits;
-  ordered = k.ordered;
-  is_state = k.is_state;
-}
+taken_stands e s writes k = handing_out_stands e e.given e.refusal [] s writes k
 
 -- ---- the event
 
@@ -131,7 +119,7 @@ module _ (old : Work) (between : Core) (event : Event) (asking : Option Asking) 
     answers_ask events.Image a x h = absurd h
 
     answers_by : (q : Option Asking) → IsTask old.engine event q → Answers old between event told s writes k t (answers_of q event led old.waiting told)
-    answers_by None h = answered old between event told s writes k t (holds_none o s event h)
+    answers_by None h = answered old between event told s writes k t (holds_none o s event h) (link_silent o (at_time_of s event) event h)
     answers_by (Some a) h = answers_ask event a t h
 
     is : Answers old between event told s writes k t r
@@ -256,6 +244,7 @@ module _ (old w1 w2 w3 w4 : Work) (event : Event) (asking : Option Asking) (told
       engine = ap (λ (w : Work). w.engine) five_so;
       answers = r old e1 event asking told task takes;
       answered = refl;
+      replied = subst (AreReplied (r old e1 event asking told task takes).notes) (sym (outputs_told old e1 event told k.state k.writes k.stands takes)) (is old e1 event asking told task takes k.state k.writes k.stands).replied;
       waiting = ap (λ (w : Work). w.waiting) five_so;
       staged = stage old e1 event asking told task takes;
       added = refl;

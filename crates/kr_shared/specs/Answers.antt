@@ -1,5 +1,5 @@
 -- What clients are answered. This project's own.
-use Rattle.std.specs.Prelude.{ℕ, ℤ, pos, Bool, true, false, List, [], ◌∷◌, ◌++◌, Option, Some, None, fold, if◌then◌else◌}
+use Rattle.std.specs.Prelude.{◌≡◌, ℕ, ℤ, pos, Bool, true, false, List, [], ◌∷◌, ◌++◌, Option, Some, None, fold, Contains, if◌then◌else◌}
 use Rattle.kr_calls.specs.declared.answers.Answer.{Answer}
 use Rattle.kr_calls.specs.declared.answers.AnswerKind.{AnswerKind}
 use Rattle.kr_calls.specs.declared.answers.AnswerKind.TheVariants as kinds
@@ -54,6 +54,27 @@ with_told_end s output (Some ended) = with_ended s output ended
 -- where it is the reply of a write that waited, that is answered
 abbrev pub with_told : Answering → Told → Answering
 with_told s told = with_told_end s told.output told.ended
+
+-- an answer among the notes says what the reply says, to a call of the client with its correlation
+pub record IsReplied (notes : List Entry) (client : ℕ) (correlation : ℤ) (reply : Reply) : Type 0 where
+  pub answer : Answer
+  pub answered : Answered
+  pub noted : Contains notes (entries.Answer answer)
+  pub holds : answer.answered ≡ Some answered
+  pub of_client : answered.seat ≡ client
+  pub of_call : answered.call.correlation ≡ correlation
+  pub of_reply : answered.reply ≡ reply
+
+abbrev pub IsNoted : List Entry → Output → Type 0
+IsNoted notes (given.Append bytes) = Unit {0}
+IsNoted notes (given.Reply client correlation reply) = IsReplied notes client correlation reply
+IsNoted notes (given.Refused event reason) = Unit {0}
+IsNoted notes (given.Image bytes) = Unit {0}
+
+-- each reply among the outputs has its answer among the notes
+abbrev pub AreReplied : List Entry → List Output → Type 0
+AreReplied notes [] = Unit {0}
+AreReplied notes (output ∷ outputs) = IsNoted notes output × AreReplied notes outputs
 
 -- all that is told, in order
 abbrev pub answer_all : Answering → List Told → Answering

@@ -1,9 +1,12 @@
 -- What was opened. This project's own.
 use Rattle.std.specs.Prelude.{◌≡◌, ℕ, ◌+◌, false, List, [], length, None}
+use Rattle.kr_base.specs.Causes.{Rose}
 use Rattle.kr_defs.specs.declared.options.Options.{Options}
 use Rattle.kr_queue.specs.declared.jobs.Job.{Job}
 use Rattle.kr_queue.specs.declared.passes.Role.TheVariants as roles
 use Rattle.kr_queue.specs.QueueRule.{a_pass}
+use Rattle.kr_view.specs.declared.opening.ViewFault.{ViewFault}
+use Rattle.kr_view.specs.declared.opening.ViewFault.TheVariants.{NoPlace, NoMemory}
 use Rattle.kr_world.specs.World.{start}
 use Rattle.kr_shared.specs.Clients.{AreClients, Client}
 use Rattle.kr_shared.specs.Standing.{Standing}
@@ -22,3 +25,8 @@ pub record IsOpened (options : Options) (seats : ℕ) (worker : Bench) (link : L
   pub nothing : link ≡ []
   pub many : length clients ≡ seats
   pub seated : AreClients options clients
+
+-- no place only where the count of refused places rose; of want of memory nothing is said
+abbrev pub IsOpenCause : ℕ → ℕ → ViewFault → Type 0
+IsOpenCause old new NoPlace = Rose old new
+IsOpenCause old new NoMemory = Unit {0}

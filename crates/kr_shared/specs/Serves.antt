@@ -1,5 +1,5 @@
 -- What serving an event makes of what a worker keeps. This project's own.
-use Rattle.std.specs.Prelude.{◌≡◌, ℕ, Bool, List, [], ◌++◌, Option, is_some}
+use Rattle.std.specs.Prelude.{◌≡◌, ℕ, Bool, List, [], ◌++◌, Option, is_some, map}
 use Rattle.kr_calls.specs.declared.events.Entry.{Entry}
 use Rattle.kr_calls.specs.declared.events.Event.{Event}
 use Rattle.kr_calls.specs.declared.events.Reason.{Reason}
@@ -11,7 +11,7 @@ use Rattle.kr_world.specs.Events.{happens}
 use Rattle.kr_world.specs.Outputs.{waiting_after}
 use Rattle.kr_world.specs.World.{State}
 use Rattle.kr_shared.specs.declared.answers.Asking.{Asking}
-use Rattle.kr_shared.specs.Answers.{Answering, refusal_in}
+use Rattle.kr_shared.specs.Answers.{Answering, AreReplied, refusal_in}
 use Rattle.kr_shared.specs.Appends.{Appends}
 use Rattle.kr_shared.specs.Standing.{Standing}
 use Rattle.kr_shared.specs.Takes.{Takes}
@@ -28,6 +28,7 @@ pub record Serves (pieces pieces' : Option (List (List ℕ))) (faults faults' : 
   pub engine : new.engine ≡ record between { fresh = [] }
   pub answers : Answering
   pub answered : answers ≡ answers_of asking event (is_some old.engine.leading) old.waiting told
+  pub replied : AreReplied answers.notes (map (λ (t : Told). t.output) told)
   pub waiting : new.waiting ≡ answers.waiting
   pub staged : List Entry
   pub added : staged ≡ staged_after (is_lost old.engine between) old.shelf.items between.fresh

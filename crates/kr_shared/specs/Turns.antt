@@ -115,8 +115,8 @@ pub record Works (o : Outside) (old new : Bench) (job : Job) : Type 0 where
 abbrev pub Turned : Outside → Bench → Bench → Turn → Type 0
 Turned o old new turns.Did = (job : Job) × (turn_of job ≡ turns.Did) × Works o old new job
 Turned o old new turns.Stopped =
-    ((old.stopped ≡ true) × (new ≡ record old { refusal = None })) ⊎ ((job : Job) × (turn_of job ≡ turns.Stopped) × Works o old new job)
-Turned o old new turns.Idle = (old.stopped ≡ false) × (new ≡ record old { refusal = None }) × Holds old.knows []
+    ((old.stopped ≡ true) × (new ≡ record old { refusal = None }) × IsQuiet o) ⊎ ((job : Job) × (turn_of job ≡ turns.Stopped) × Works o old new job)
+Turned o old new turns.Idle = (old.stopped ≡ false) × (new ≡ record old { refusal = None }) × Holds old.knows [] × IsQuiet o
 
 -- without memory the published list goes on, and each later turn finds none
 pub record IsBroken (old new : Bench) : Type 0 where

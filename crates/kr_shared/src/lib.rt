@@ -10,6 +10,7 @@ mod clients;
 mod desk;
 mod links;
 mod opening;
+mod probe;
 mod taking;
 mod worker;
 

@@ -7,11 +7,11 @@ ghost use Rattle.kr_queue.specs.declared.passes.Role.TheVariants as roles;
 ghost use Rattle.kr_queue.specs.Passes.{view, IsPassOf, AreClients as ArePasses};
 ghost use Rattle.kr_queue.specs.QueueRule.{a_pass};
 ghost use Rattle.kr_view.specs.declared.opening.ViewFault.TheVariants as view_faults;
-ghost use Rattle.kr_view.specs.Opened.{AreSeats, IsViewCause};
+ghost use Rattle.kr_view.specs.Opened.{AreSeats};
 ghost use Rattle.kr_world.specs.Engine.{IsEngine, outputs_left};
 ghost use Rattle.kr_world.specs.World.{start};
 ghost use Rattle.kr_shared.specs.Clients.{AreClients, a_client};
-ghost use Rattle.kr_shared.specs.Opened.{IsOpened};
+ghost use Rattle.kr_shared.specs.Opened.{IsOpenCause, IsOpened};
 ghost use Rattle.kr_shared.specs.Works.{resting};
 
 use crate::clients::{Bells, ClientSeat, ClientSeats};
@@ -211,7 +211,7 @@ pub fn open<R: Wait>(
 ) -> Result<(WorkerSeat, LinkSeat, ClientSeats), ViewFault>
     requires clients { (0 < clients) × (clients ≤ 64) }
     requires options { IsTrue (are_options options) }
-    ensures { MatchResult result (λ r. IsOpened options clients r.0 r.1 r.2) (IsViewCause opening.old.refused opening.new.refused) }
+    ensures { MatchResult result (λ r. IsOpened options clients r.0 r.1 r.2) (IsOpenCause opening.old.refused opening.new.refused) }
 {
     let Ok(own) = options_again(&options, alloc) else {
         return Err(ViewFault::NoMemory);
