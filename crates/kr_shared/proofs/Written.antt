@@ -33,7 +33,7 @@ use Rattle.kr_world.specs.Request.{after_ask, after_write, decision, is_decided}
 use Rattle.kr_world.specs.World.{State, World, is_far, log_with, seen_at, tip_of}
 use Rattle.kr_world.proofs.LogEntries.{batch_written, behind}
 use Rattle.kr_world.proofs.Logs.{tip_written, written_below}
-use Rattle.law_following.specs.Following.{IsDecided, decided_at}
+use Rattle.law_following.specs.Following.{IsDecided, decision_at}
 use Rattle.kr_shared.specs.declared.answers.Asking.{Asking}
 use Rattle.kr_shared.specs.declared.asked.Asked.{Asked}
 use Rattle.kr_shared.specs.Answers.{Answering, answer_of, answered_of, answering, asked_by, exhausted as exhausted_entry, first_reply, or_reason, or_reply, reason_in, refusal_in, reply_in, with_ended, with_told, with_told_end}
@@ -128,7 +128,7 @@ module _ (o : Options) (s1 : State) (client : ℕ) (call : Call) (a : Asking) (l
     few : length (as_items d.records) ≡ length d.records
     few = length-map d.records items_record
 
-    same : decided_at o longer (tip_of s1) ws ≡ d
+    same : decision_at o longer (tip_of s1) ws ≡ d
     same =
         ap (λ (i : Image). decide o i s1.basis (pos (tip_of s1)) call.request)
         (ap (λ (g : Log). seen_at g (tip_of s1)) is ∙ ap (λ r. result_unwrap_or r empty) (written_below s1.world.log (as_items d.records) (tip_of s1) (omega arith)))

@@ -130,7 +130,12 @@ fn commit_all<R: Wait>(rt: &R, link: &mut LinkSeat, end: &AtomicU64, done: &Atom
     unreachable!()
 }
 
-fn turn_all<R: Wait>(rt: &R, worker: &mut WorkerSeat, quorum: &mut TellingQuorum<'_>) -> bool {
+fn turn_all<R: Wait>(
+    rt: &R,
+    alloc: Global,
+    worker: &mut WorkerSeat,
+    quorum: &mut TellingQuorum<'_>,
+) -> bool {
     let mut gate = OpenGate;
     let mut clock = MemoryClock::new(Vec::new(alloc));
     for _ in rt.forever() {

@@ -167,7 +167,7 @@ fn all_topics() -> Call
 
 // How many topics the seat sees.
 fn count_topics(seat: &mut ClientSeat) -> Option<usize> {
-    match seat.read(&all_topics()) {
+    match &seat.read(&all_topics()) {
         Ok(Reply::Metadata(reply)) => Some(reply.topics.len()),
         Ok(_) | Err(CopyFault::NoCopy) | Err(CopyFault::NoMemory) => None,
     }
