@@ -1,4 +1,5 @@
 pub mod Answered
+pub mod Appending
 pub mod Ends
 pub mod Fronts
 pub mod LastSeats
@@ -6,6 +7,7 @@ pub mod Noting
 pub mod Onwards
 pub mod Published
 pub mod Replied
+pub mod Sent
 pub mod Served
 pub mod Serving
 pub mod Standings

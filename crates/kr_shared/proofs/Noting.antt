@@ -83,14 +83,20 @@ module _ (old : Work) (e : Entry) (bare : IsBareNote e) (s : State) (writes : Li
     waits = k.waits;
   }
 
-pub may_note : (old : Work) (e : Entry) → IsStanding old → IsBareNote e → AreRightAfter (with_staged old.shelf e).options (with_staged old.shelf e).list (next_at old.engine.committed (with_staged old.shelf e))
-may_note old e k bare =
-    subst (λ (h : Shelf). AreRightAfter h.options h.list (next_at old.engine.committed h)) (sym (noted old.shelf e bare)) (may_show old e bare k.state k.writes k.stands)
+abbrev staged : Work → Entry → Work
+staged old e = record old { shelf = with_staged old.shelf e }
 
-pub notes_so : (old new : Work) (e : Entry) → IsStanding old → IsBareNote e → new ≡ record old { shelf = shown_at old.engine.committed (with_staged old.shelf e) } → Notes old new e
-notes_so old new e k bare is =
+pub may_note : (old mid : Work) (e : Entry) → IsStanding old → IsBareNote e → mid ≡ staged old e → AreRightAfter mid.shelf.options mid.shelf.list (next_at mid.engine.committed mid.shelf)
+may_note old mid e k bare is =
+    subst (λ (w : Work). AreRightAfter w.shelf.options w.shelf.list (next_at w.engine.committed w.shelf)) (sym is)
+    (subst (λ (h : Shelf). AreRightAfter h.options h.list (next_at old.engine.committed h)) (sym (noted old.shelf e bare)) (may_show old e bare k.state k.writes k.stands))
+
+pub notes_so : (old mid new : Work) (e : Entry) → IsStanding old → IsBareNote e → mid ≡ staged old e → new ≡ record mid { shelf = shown_at mid.engine.committed mid.shelf } → Notes old new e
+notes_so old mid new e k bare mid_is is =
     let so : new ≡ record old { shelf = record old.shelf { list = old.shelf.list ++ e ∷ [] } } =
-    is ∙ ap (λ (h : Shelf). record old { shelf = h }) (ap (λ (h : Shelf). shown_at old.engine.committed h) (noted old.shelf e bare) ∙ shown_is old e bare k.state k.writes k.stands) in record {
+    is
+    ∙ (ap (λ (w : Work). record w { shelf = shown_at w.engine.committed w.shelf }) mid_is
+    ∙ ap (λ (h : Shelf). record old { shelf = h }) (ap (λ (h : Shelf). shown_at old.engine.committed h) (noted old.shelf e bare) ∙ shown_is old e bare k.state k.writes k.stands)) in record {
       is = so;
       stands = λ s writes h. subst (λ (w : Work). Standing w s writes) (sym so) (stands_still old e bare s writes h);
     }

@@ -1,11 +1,12 @@
 -- Lists that go on.
-use Rattle.std.proofs.Common.{◌≡◌, ◌∙◌, List, [], ◌++◌, sym, ap, refl}
+use Rattle.std.proofs.Common.{◌≡◌, ◌∙◌, Bool, true, false, cond, List, [], ◌∷◌, ◌++◌, sym, ap, refl}
 use Rattle.std.proofs.lemmas.List.{append_assoc, append-nil}
 use Rattle.kr_calls.specs.declared.events.Entry.{Entry}
 use Rattle.kr_view.specs.CopiesRule.{GoesOn}
 use Rattle.kr_view.specs.declared.rule.ThreadView.{ThreadView}
 use Rattle.kr_view.specs.Seats.{Onward}
-use Rattle.kr_view.specs.Shelves.{Shelf}
+use Rattle.kr_view.specs.Shelves.{Shelf, with_staged}
+use Rattle.kr_view.specs.Staged.{is_logged}
 use Rattle.kr_shared.specs.Works.{Keeps, Onwards}
 
 goes_on : (x y z : List Entry) → GoesOn y x → GoesOn z y → GoesOn z x
@@ -36,3 +37,10 @@ onwards_trans s t u h k = record { options = k.options ∙ h.options; list = goe
 
 pub keeps_onwards : (s t u : Shelf) → Keeps s t → Onwards t u → Onwards s u
 keeps_onwards s t u h k = onwards_trans s t u (still_onwards s t h) k
+
+staged_if : (b : Bool) (s : Shelf) (xs ys : List Entry) → Keeps s (cond b (record s { items = xs }) (record s { notes = ys }))
+staged_if true s xs ys = record { options = refl; list = refl }
+staged_if false s xs ys = record { options = refl; list = refl }
+
+pub staged_keeps : (s : Shelf) (e : Entry) → Keeps s (with_staged s e)
+staged_keeps s e = staged_if (is_logged e) s (s.items ++ e ∷ []) (s.notes ++ e ∷ [])

@@ -1,6 +1,6 @@
 -- Each reply that is told has its answer among the notes.
 use Rattle.std.proofs.Common.{◌≡◌, ◌∙◌, sym, subst, ℕ, ℤ, pos, Bool, true, false, cond, List, [], ◌∷◌, ◌++◌, map, fold, refl, ap, Contains}
-use Rattle.std.specs.Prelude.{Option, Some, None, int_lt, is_some, Result, Ok, Err, option_to_list}
+use Rattle.std.specs.Prelude.{Option, Some, None, int_lt, is_some, ◌==◌, Result, Ok, Err, option_to_list}
 use Rattle.std.specs.Result.{result_unwrap_or}
 use Rattle.std.proofs.lemmas.List.Elements.{Contains-append_left, Contains-append_right}
 use Rattle.kr_calls.specs.declared.answers.AnswerKind.TheVariants as kinds
@@ -45,37 +45,39 @@ module _ (options : Options) (log : Log) (end : ℕ) (leading : Option ℤ) wher
   told_of ws = told_answers leading (pos end) ws
 
   abbrev Replies : List Asked → List Write → List Entry → List Told → Type 0
-  Replies as ws notes told = AreReplied (fold with_told (answering as notes) told).notes (outputs told)
+  Replies ones ws notes told = AreReplied (fold with_told (answering ones notes) told).notes (outputs told)
 
-  told_replied : (as : List Asked) (ws : List Write) (notes : List Entry) → AreWaiting options log as ws → writes_in_order ws ≡ true → Replies as ws notes (told_of ws)
+  told_replied : (ones : List Asked) (ws : List Write) (notes : List Entry) → AreWaiting options log ones ws → writes_in_order ws ≡ true → Replies ones ws notes (told_of ws)
   told_replied [] [] notes waits ordered = tt
-  told_replied (a ∷ as) [] notes waits ordered = absurd waits
+  told_replied (a ∷ ones) [] notes waits ordered = absurd waits
   told_replied [] (w ∷ ws) notes waits ordered = absurd waits
-  told_replied (a ∷ as) (w ∷ ws) notes waits ordered =
-      elim (is_open leading (pos end) w) as (λ b. is_open leading (pos end) w ≡ b → Replies (a ∷ as) (w ∷ ws) notes (told_of (w ∷ ws))) [
-        | true ↦ λ is. subst (Replies (a ∷ as) (w ∷ ws) notes) (sym (none_is_due leading (pos end) w ws is ordered)) tt
+  told_replied (a ∷ ones) (w ∷ ws) notes waits ordered =
+      elim (is_open leading (pos end) w) as (λ b. is_open leading (pos end) w ≡ b → Replies (a ∷ ones) (w ∷ ws) notes (told_of (w ∷ ws))) [
+        | true ↦ λ is. subst (Replies (a ∷ ones) (w ∷ ws) notes) (sym (none_is_due leading (pos end) w ws is ordered)) tt
         | false ↦ λ is.
             let lost = int_lt (pos end) w.need in
             let reply = cond lost w.refusal w.reply in
             let answer = answer_of a (cond lost kinds.Lost kinds.Stands) w.decided reply in
             let behind = notes ++ entries.Answer answer ∷ [] in
-            let ends = ends_all options log end leading as ws behind waits.1 (order_behind w ws ordered) in
-            subst (Replies (a ∷ as) (w ∷ ws) notes) (sym (first_is_due leading (pos end) w ws is))
-            (record {
-              answer = answer;
-              answered = answered_of a w.decided reply;
-              noted = noted notes ends.answers.more (fold with_told (answering as behind) (told_of ws)).notes (entries.Answer answer) ends.answers.added;
-              holds = refl;
-              of_client = sym waits.0.client;
-              of_call = sym waits.0.correlation;
-              of_reply = refl;
-            }, told_replied as ws behind waits.1 (order_behind w ws ordered))
+            let ends = ends_all options log end leading ones ws behind waits.1 (order_behind w ws ordered) in
+            subst (Replies (a ∷ ones) (w ∷ ws) notes) (sym (first_is_due leading (pos end) w ws is)) (
+              record {
+                answer = answer;
+                answered = answered_of a w.decided reply;
+                noted = noted notes ends.answers.more (fold with_told (answering ones behind) (told_of ws)).notes (entries.Answer answer) ends.answers.added;
+                holds = refl;
+                of_client = sym waits.0.client;
+                of_call = sym waits.0.correlation;
+                of_reply = refl;
+              },
+              told_replied ones ws behind waits.1 (order_behind w ws ordered),
+            )
       ] refl
 
-  pub all_replied : (as : List Asked) (ws : List Write) (notes : List Entry) → AreWaiting options log as ws → writes_in_order ws ≡ true
-      → AreReplied (fold with_told (answering as notes) (told_answers leading (pos end) ws)).notes (answers leading (pos end) ws)
-  all_replied as ws notes waits ordered =
-      subst (λ (os : List Output). AreReplied (fold with_told (answering as notes) (told_of ws)).notes os) (outputs_due (pos end) (Rattle.kr_world.specs.Outputs.due_writes leading (pos end) ws)) (told_replied as ws notes waits ordered)
+  pub all_replied : (ones : List Asked) (ws : List Write) (notes : List Entry) → AreWaiting options log ones ws → writes_in_order ws ≡ true
+      → AreReplied (fold with_told (answering ones notes) (told_answers leading (pos end) ws)).notes (answers leading (pos end) ws)
+  all_replied ones ws notes waits ordered =
+      subst (λ (os : List Output). AreReplied (fold with_told (answering ones notes) (told_of ws)).notes os) (outputs_due (pos end) (Rattle.kr_world.specs.Outputs.due_writes leading (pos end) ws)) (told_replied ones ws notes waits ordered)
 
 -- ---- outputs that are no reply
 

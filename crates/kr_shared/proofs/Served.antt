@@ -43,20 +43,21 @@ use Rattle.kr_shared.proofs.Standings.{Rests, loaded_staged, longer_staged, lost
 
 -- ---- who waits, in a longer log
 
-waiting_longer : (options : Options) (log : Log) (xs : List Rattle.kr_defs.specs.declared.record.Item.Item) (as : List Asked) (ws : List Write) → AreWaiting options log as ws → AreWaiting options (log_with log xs) as ws
+waiting_longer : (options : Options) (log : Log) (xs : List Rattle.kr_defs.specs.declared.record.Item.Item) (ones : List Asked) (ws : List Write) → AreWaiting options log ones ws → AreWaiting options (log_with log xs) ones ws
 waiting_longer options log xs [] [] h = tt
 waiting_longer options log xs [] (w ∷ ws) h = absurd h
-waiting_longer options log xs (a ∷ as) [] h = absurd h
-waiting_longer options log xs (a ∷ as) (w ∷ ws) h =
-    let i = h.0 in
-    (record { client = i.client; correlation = i.correlation; floor = i.floor; decided = decided_on options log xs (answered_of a w.decided w.reply) i.decided; need = i.need; refusal = i.refusal },
-      waiting_longer options log xs as ws h.1)
+waiting_longer options log xs (a ∷ ones) [] h = absurd h
+waiting_longer options log xs (a ∷ ones) (w ∷ ws) h =
+    let i = h.0 in (
+      record { client = i.client; correlation = i.correlation; floor = i.floor; decided = decided_on options log xs (answered_of a w.decided w.reply) i.decided; need = i.need; refusal = i.refusal },
+      waiting_longer options log xs ones ws h.1,
+    )
 
-pub none_wait : (options : Options) (log other : Log) (as : List Asked) (ws : List Write) → ws ≡ [] → AreWaiting options log as ws → AreWaiting options other as ws
+pub none_wait : (options : Options) (log other : Log) (ones : List Asked) (ws : List Write) → ws ≡ [] → AreWaiting options log ones ws → AreWaiting options other ones ws
 none_wait options log other [] [] none h = tt
 none_wait options log other [] (w ∷ ws) none h = absurd h
-none_wait options log other (a ∷ as) [] none h = absurd h
-none_wait options log other (a ∷ as) (w ∷ ws) none h = absurd cc
+none_wait options log other (a ∷ ones) [] none h = absurd h
+none_wait options log other (a ∷ ones) (w ∷ ws) none h = absurd cc
 
 -- ---- events of the link hold no write
 
@@ -180,19 +181,19 @@ module _ (old : Work) (between : Core) (event : Event) (told : List Told) (s : S
   pub replied_by : (notes : List Entry) → AreSilent (answers_now o s1 event) → AreReplied notes (answers_in next.world held) → AreReplied notes (outputs_of o s writes event)
   replied_by notes silent h = event_replied o s1 writes event (outcome o s1 event) notes silent h
 
-  pub waits_on : (as : List Asked) → AreWaiting o next.world.log as held → AreWaiting o next.world.log (fold with_told (answering as []) told).waiting later
-  waits_on as waits =
-      subst (λ (r : Answering). AreWaiting o next.world.log r.waiting later) (sym (answers_are (answering as [])))
-      (ends_all o next.world.log next.world.committed next.world.leading as held [] waits ordered).waits
+  pub waits_on : (ones : List Asked) → AreWaiting o next.world.log ones held → AreWaiting o next.world.log (fold with_told (answering ones []) told).waiting later
+  waits_on ones waits =
+      subst (λ (r : Answering). AreWaiting o next.world.log r.waiting later) (sym (answers_are (answering ones [])))
+      (ends_all o next.world.log next.world.committed next.world.leading ones held [] waits ordered).waits
 
-  pub answered_longer : (as : List Asked) → AreSilent (answers_now o s1 event) → AreWaiting o next.world.log as held → Answers (fold with_told (answering as []) told)
-  answered_longer as silent waits =
-      let e = ends_all o next.world.log next.world.committed next.world.leading as held [] waits ordered in
-      subst Answers (sym (answers_are (answering as []))) (record {
+  pub answered_longer : (ones : List Asked) → AreSilent (answers_now o s1 event) → AreWaiting o next.world.log ones held → Answers (fold with_told (answering ones []) told)
+  answered_longer ones silent waits =
+      let e = ends_all o next.world.log next.world.committed next.world.leading ones held [] waits ordered in
+      subst Answers (sym (answers_are (answering ones []))) (record {
         waits = e.waits;
         bare = subst AreNotes (sym e.answers.added) e.answers.bare;
         right = subst (AreRightAfter o shown) (sym e.answers.added) (e.answers.right shown publishes.shows);
-        replied = replied_by (fold with_told (answering as []) answers_told).notes silent (all_replied o next.world.log next.world.committed next.world.leading as held [] waits ordered);
+        replied = replied_by (fold with_told (answering ones []) answers_told).notes silent (all_replied o next.world.log next.world.committed next.world.leading ones held [] waits ordered);
       })
 
   -- on standby no write waits
@@ -218,7 +219,7 @@ module _ (old : Work) (between : Core) (event : Event) (told : List Told) (s : S
         let e = ends_all o s.world.log s.world.committed next.world.leading old.waiting held [] (subst (AreWaiting o s.world.log old.waiting) (sym held_is) k.waits) ordered in
         let r = fold with_told (answering old.waiting []) (told_answers next.world.leading (pos s.world.committed) held) in
         let here : shown ≡ list =
-            ap (λ (l : List Entry). list ++ staged_below (pos next.world.committed) l) (staged_so ∙ none_staged s.world next.world list between.fresh rests k.shows c is) ∙ append-nil list in
+        ap (λ (l : List Entry). list ++ staged_below (pos next.world.committed) l) (staged_so ∙ none_staged s.world next.world list between.fresh rests k.shows c is) ∙ append-nil list in
         subst Answers
         (sym (answers_are (answering old.waiting []) ∙ ap (λ n. fold with_told (answering old.waiting []) (told_answers next.world.leading (pos n) held)) c.same))
         (record {

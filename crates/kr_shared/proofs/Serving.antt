@@ -29,7 +29,7 @@ use Rattle.kr_shared.specs.Serves.{Serves}
 use Rattle.kr_shared.specs.Standing.{AreWaiting, IsStanding, Standing}
 use Rattle.kr_shared.specs.Takes.{Takes}
 use Rattle.kr_shared.specs.Tasks.{IsTask}
-use Rattle.kr_shared.specs.Works.{Work, answers_of, is_lost, resting, staged_after}
+use Rattle.kr_shared.specs.Works.{Keeps, Work, answers_of, is_lost, resting, staged_after}
 use Rattle.kr_shared.proofs.Published.{AreLogged, Publishes}
 use Rattle.kr_shared.proofs.Replied.{link_silent}
 use Rattle.kr_shared.proofs.Served.{Answers, answered, holds_none, next, outputs_told, publishes, shown, staged, stands}
@@ -166,17 +166,23 @@ module _ (old : Work) (between : Core) (event : Event) (asking : Option Asking) 
 pub sound_then : (w : Work) → IsStanding w → IsSound w.engine × (outputs_left w.engine ≡ [])
 sound_then w k = (record { state = k.state; writes = k.writes; stands = k.stands.engine }, k.stands.none)
 
+kept : (lost : Bool) (s : Shelf) → Keeps s (cond lost (record s { items = [] }) s)
+kept true s = record { options = refl; list = refl }
+kept false s = record { options = refl; list = refl }
+
+pub two_keep : (old w1 w2 : Work) (lost : Bool) → w1 ≡ record old { engine = w1.engine } → w2 ≡ record w1 { shelf = cond lost (record w1.shelf { items = [] }) w1.shelf } → Keeps old.shelf w2.shelf
+two_keep old w1 w2 lost one two =
+    subst (Keeps old.shelf) (sym (ap (λ (w : Work). w.shelf) two ∙ ap (λ (w : Work). cond lost (record w.shelf { items = [] }) w.shelf) one)) (kept lost old.shelf)
+
 dropped : (lost : Bool) (s : Shelf) → cond lost (record s { items = [] }) s ≡ record s { items = cond lost [] s.items }
 dropped true s = refl
 dropped false s = refl
 
-module _ (old w1 w2 w3 w4 : Work) (event : Event) (asking : Option Asking) (told : List Told) (before lost : Bool) (k : IsStanding old) (task : IsTask old.engine event asking)
+module _ (old w1 w2 w3 : Work) (event : Event) (asking : Option Asking) (told : List Told) (before lost : Bool) (k : IsStanding old) (task : IsTask old.engine event asking)
     (takes : Takes old.engine w1.engine event told) (one : w1 ≡ record old { engine = w1.engine })
     (before_is : before ≡ is_some old.engine.leading) (lost_is : lost ≡ (before && not (is_some w1.engine.leading)))
     (two : w2 ≡ record w1 { shelf = cond lost (record w1.shelf { items = [] }) w1.shelf })
-    (three : w3 ≡ record w2 { shelf = fold with_staged w2.shelf w2.engine.fresh; engine = record w2.engine { fresh = [] } })
-    (answers : Rattle.kr_shared.specs.Answers.answering w4.waiting w4.shelf.notes ≡ answers_of asking event before w3.waiting told)
-    (four : w4 ≡ record w3 { shelf = record w3.shelf { notes = w4.shelf.notes }; waiting = w4.waiting }) where
+    (three : w3 ≡ record w2 { shelf = fold with_staged w2.shelf w2.engine.fresh; engine = record w2.engine { fresh = [] } }) where
   abbrev e1 : Core
   e1 = w1.engine
 
@@ -202,52 +208,58 @@ module _ (old w1 w2 w3 w4 : Work) (event : Event) (asking : Option Asking) (told
   waiting_three : w3.waiting ≡ old.waiting
   waiting_three = ap (λ (w : Work). w.waiting) three ∙ (ap (λ (w : Work). w.waiting) two ∙ ap (λ (w : Work). w.waiting) one)
 
-  answers_so : Rattle.kr_shared.specs.Answers.answering w4.waiting w4.shelf.notes ≡ r old e1 event asking told task takes
-  answers_so =
-      answers
-      ∙ (ap (λ (ws : List Asked). answers_of asking event before ws told) waiting_three
-      ∙ ap (λ b. answers_of asking event b old.waiting told) before_is)
+  -- no answer is staged yet
+  pub none_noted : w3.shelf.notes ≡ []
+  none_noted = ap (λ (h : Shelf). h.notes) shelf_three ∙ ap (λ (h : Shelf). h.notes) k.stands.rests
 
-  rests_so : old.shelf ≡ record (record old.shelf { waiting = [] }) { notes = [] }
-  rests_so = k.stands.rests ∙ sym (ap (λ (h : Shelf). record (record h { waiting = [] }) { notes = [] }) k.stands.rests)
+  module _ (w4 : Work) (answers : Rattle.kr_shared.specs.Answers.answering w4.waiting w4.shelf.notes ≡ answers_of asking event before w3.waiting told)
+      (four : w4 ≡ record w3 { shelf = record w3.shelf { notes = w4.shelf.notes }; waiting = w4.waiting }) where
+    answers_so : Rattle.kr_shared.specs.Answers.answering w4.waiting w4.shelf.notes ≡ r old e1 event asking told task takes
+    answers_so =
+        answers
+        ∙ (ap (λ (ws : List Asked). answers_of asking event before ws told) waiting_three
+        ∙ ap (λ b. answers_of asking event b old.waiting told) before_is)
 
-  -- what is there before the publish
-  abbrev pub due : Work
-  due = record { shelf = ready old e1 event asking told task takes; engine = record e1 { fresh = [] }; waiting = (r old e1 event asking told task takes).waiting }
+    rests_so : old.shelf ≡ record (record old.shelf { waiting = [] }) { notes = [] }
+    rests_so = k.stands.rests ∙ sym (ap (λ (h : Shelf). record (record h { waiting = [] }) { notes = [] }) k.stands.rests)
 
-  pub due_so : w4 ≡ due
-  due_so =
-      four
-      ∙ (ap (λ (a : Answering). record w3 { shelf = record w3.shelf { notes = a.notes }; waiting = a.waiting }) answers_so
-      ∙ (ap (λ (h : Shelf). record w3 { shelf = record h { notes = (r old e1 event asking told task takes).notes }; waiting = (r old e1 event asking told task takes).waiting }) shelf_three
-      ∙ (ap (λ (h : Shelf). record w3 { shelf = record (record h { items = stage old e1 event asking told task takes }) { notes = (r old e1 event asking told task takes).notes }; waiting = (r old e1 event asking told task takes).waiting }) rests_so
-      ∙ ap (λ (e : Core). record { shelf = ready old e1 event asking told task takes; engine = e; waiting = (r old e1 event asking told task takes).waiting })
-      (ap (λ (w : Work). w.engine) three ∙ ap (λ (e : Core). record e { fresh = [] }) engine_two))))
+    -- what is there before the publish
+    abbrev pub due : Work
+    due = record { shelf = ready old e1 event asking told task takes; engine = record e1 { fresh = [] }; waiting = (r old e1 event asking told task takes).waiting }
 
-  pub publish_may : AreRightAfter w4.shelf.options w4.shelf.list (next_at w4.engine.committed w4.shelf)
-  publish_may =
-      subst (λ (w : Work). AreRightAfter w.shelf.options w.shelf.list (next_at w.engine.committed w.shelf)) (sym due_so)
-      (may_publish old e1 event asking told task takes k.state k.writes k.stands)
+    pub due_so : w4 ≡ due
+    due_so =
+        four
+        ∙ (ap (λ (a : Answering). record w3 { shelf = record w3.shelf { notes = a.notes }; waiting = a.waiting }) answers_so
+        ∙ (ap (λ (h : Shelf). record w3 { shelf = record h { notes = (r old e1 event asking told task takes).notes }; waiting = (r old e1 event asking told task takes).waiting }) shelf_three
+        ∙ (ap (λ (h : Shelf). record w3 { shelf = record (record h { items = stage old e1 event asking told task takes }) { notes = (r old e1 event asking told task takes).notes }; waiting = (r old e1 event asking told task takes).waiting }) rests_so
+        ∙ ap (λ (e : Core). record { shelf = ready old e1 event asking told task takes; engine = e; waiting = (r old e1 event asking told task takes).waiting })
+        (ap (λ (w : Work). w.engine) three ∙ ap (λ (e : Core). record e { fresh = [] }) engine_two))))
 
-  module _ (pieces pieces' : Option (List (List ℕ))) (faults faults' : ℕ) (appended : Bool) (refusal : Option Reason) (w5 : Work) (appends : Appends pieces pieces' faults faults' told appended) (refused : refusal ≡ refusal_in told)
-      (five : w5 ≡ record w4 { shelf = shown_at w4.engine.committed w4.shelf }) where
-    five_so : w5 ≡ after old e1 event asking told task takes
-    five_so = five ∙ ap (λ (w : Work). record w { shelf = shown_at w.engine.committed w.shelf }) due_so
+    pub publish_may : AreRightAfter w4.shelf.options w4.shelf.list (next_at w4.engine.committed w4.shelf)
+    publish_may =
+        subst (λ (w : Work). AreRightAfter w.shelf.options w.shelf.list (next_at w.engine.committed w.shelf)) (sym due_so)
+        (may_publish old e1 event asking told task takes k.state k.writes k.stands)
 
-    pub serves_so : Serves pieces pieces' faults faults' old w5 event asking appended refusal
-    serves_so = record {
-      between = e1;
-      told = told;
-      takes = takes;
-      appends = appends;
-      refused = refused;
-      engine = ap (λ (w : Work). w.engine) five_so;
-      answers = r old e1 event asking told task takes;
-      answered = refl;
-      replied = subst (AreReplied (r old e1 event asking told task takes).notes) (sym (outputs_told old e1 event told k.state k.writes k.stands takes)) (is old e1 event asking told task takes k.state k.writes k.stands).replied;
-      waiting = ap (λ (w : Work). w.waiting) five_so;
-      staged = stage old e1 event asking told task takes;
-      added = refl;
-      shelf = ap (λ (w : Work). w.shelf) five_so;
-      stands = λ s writes h. subst (λ (w : Work). Standing w (happens old.engine.options s event) (waiting_after old.engine.options s writes event)) (sym five_so) (stands_after old e1 event asking told task takes s writes h);
-    }
+    module _ (pieces pieces' : Option (List (List ℕ))) (faults faults' : ℕ) (appended : Bool) (refusal : Option Reason) (w5 : Work) (appends : Appends pieces pieces' faults faults' told appended) (refused : refusal ≡ refusal_in told)
+        (five : w5 ≡ record w4 { shelf = shown_at w4.engine.committed w4.shelf }) where
+      five_so : w5 ≡ after old e1 event asking told task takes
+      five_so = five ∙ ap (λ (w : Work). record w { shelf = shown_at w.engine.committed w.shelf }) due_so
+
+      pub serves_so : Serves pieces pieces' faults faults' old w5 event asking appended refusal
+      serves_so = record {
+        between = e1;
+        told = told;
+        takes = takes;
+        appends = appends;
+        refused = refused;
+        engine = ap (λ (w : Work). w.engine) five_so;
+        answers = r old e1 event asking told task takes;
+        answered = refl;
+        replied = subst (AreReplied (r old e1 event asking told task takes).notes) (sym (outputs_told old e1 event told k.state k.writes k.stands takes)) (is old e1 event asking told task takes k.state k.writes k.stands).replied;
+        waiting = ap (λ (w : Work). w.waiting) five_so;
+        staged = stage old e1 event asking told task takes;
+        added = refl;
+        shelf = ap (λ (w : Work). w.shelf) five_so;
+        stands = λ s writes h. subst (λ (w : Work). Standing w (happens old.engine.options s event) (waiting_after old.engine.options s writes event)) (sym five_so) (stands_after old e1 event asking told task takes s writes h);
+      }

@@ -1,9 +1,12 @@
 -- Behind a job the worker stands for a state again.
-use Rattle.std.proofs.Common.{◌≡◌, sym, subst, ℕ, ℤ, Bool, true, false, List}
+use Rattle.std.proofs.Common.{◌≡◌, sym, subst, ℕ, ℤ, Bool, true, false, List, refl, inr}
 use Rattle.std.specs.Prelude.{Option, Some, None, IsTrue, int_lt}
+use Rattle.kr_base.specs.Causes.{Rose}
+use Rattle.kr_calls.specs.declared.calls.Ask.TheVariants as asks
 use Rattle.kr_calls.specs.declared.calls.Call.{Call}
 use Rattle.kr_calls.specs.declared.events.Entry.{Entry}
 use Rattle.kr_calls.specs.declared.events.Event.{Event}
+use Rattle.kr_calls.specs.declared.events.Event.TheVariants as events
 use Rattle.kr_calls.specs.declared.events.Reason.{Reason}
 use Rattle.kr_defs.proofs.Tests.{both}
 use Rattle.kr_queue.specs.declared.jobs.Job.{Job}
@@ -12,12 +15,15 @@ use Rattle.kr_queue.specs.declared.passes.View.{View}
 use Rattle.kr_queue.specs.Jobs.{is_fit, is_of}
 use Rattle.kr_queue.specs.QueueRule.{role_at}
 use Rattle.kr_queue.specs.Steps.{IsPop}
+use Rattle.kr_world.specs.declared.writes.Decided.{Decided}
 use Rattle.kr_world.specs.Events.{happens}
 use Rattle.kr_world.specs.Outputs.{waiting_after}
 use Rattle.kr_shared.specs.declared.answers.Asking.{Asking}
+use Rattle.kr_shared.specs.declared.worker.Turn.{Turn}
 use Rattle.kr_shared.specs.Serves.{Serves}
 use Rattle.kr_shared.specs.Standing.{IsStanding}
-use Rattle.kr_shared.specs.Turns.{DoesJob, DoesWhole, DoesWrite, LosesLed, LosesUnless, Notes, Outside}
+use Rattle.kr_shared.specs.Tasks.{decided_on}
+use Rattle.kr_shared.specs.Turns.{Bench, DoesJob, DoesWhole, DoesWrite, LosesLed, LosesUnless, Notes, Outside, Turned, Works, turn_of}
 use Rattle.kr_shared.specs.Works.{Work}
 
 same_stands : (old new : Work) → new ≡ old → IsStanding old → IsStanding new
@@ -59,3 +65,35 @@ job_stands o old new (jobs.Write seat ticket floor call) refusal x k = write_sta
 -- what the worker pops is fit
 pub popped_fit : (v w : View) (job : Job) → IsPop v job w → IsTrue (is_fit job)
 popped_fit v w job x = (both (is_of (role_at x.1.0.0) job) (is_fit job) x.1.0.1.1).1
+
+-- ---- what serving and losing come to
+
+pub both_done : (pieces pieces_then pieces' : Option (List (List ℕ))) (faults faults_then faults' : ℕ) (old between new : Work) (event : Event) (asking : Option Asking) (appended : Bool) (refusal : Option Reason)
+    → Serves pieces pieces_then faults faults_then old between event asking appended refusal → LosesUnless appended pieces_then pieces' faults_then faults' between new → DoesWhole pieces pieces' faults faults' old new event asking refusal
+both_done pieces pieces_then pieces' faults faults_then faults' old between new event asking appended refusal serves loses =
+    record { between = between; pieces_then = pieces_then; faults_then = faults_then; appended = appended; serves = serves; loses = loses }
+
+pub loses_so : (pieces pieces' : Option (List (List ℕ))) (faults faults' : ℕ) (old new : Work) (leading : Option ℤ) (epoch : ℤ) (appended : Bool) (refusal : Option Reason)
+    → leading ≡ Some epoch → Serves pieces pieces' faults faults' old new (events.Lost epoch) None appended refusal → LosesLed pieces pieces' faults faults' old new leading
+loses_so pieces pieces' faults faults' old new leading epoch appended refusal is serves =
+    subst (LosesLed pieces pieces' faults faults' old new) (sym is) (record { appended = appended; refusal = refusal; serves = serves })
+
+pub loses_none : (pieces : Option (List (List ℕ))) (faults : ℕ) (old : Work) (leading : Option ℤ) → leading ≡ None → LosesLed pieces pieces faults faults old old leading
+loses_none pieces faults old leading is = subst (LosesLed pieces pieces faults faults old old) (sym is) (refl, refl, refl)
+
+-- what a client asks for is done at the time that the clock said
+pub write_done : (o : Outside) (old new : Work) (seat ticket : ℕ) (floor now : ℤ) (call : Call) (at : Decided) (refusal : Option Reason)
+    → o.last ≡ now → at ≡ decided_on old.engine now → Rose o.asks o.asks' → int_lt old.engine.tip floor ≡ false
+    → DoesWhole o.pieces o.pieces' o.faults o.faults' old new (events.Request seat now (asks.Call call)) (Some (record { seat = seat; ticket = ticket; floor = floor; at = at })) refusal
+    → DoesWrite (int_lt old.engine.tip floor) o old new seat ticket floor call
+write_done o old new seat ticket floor now call at refusal last is rose enough done =
+    let whole : ℤ → Decided → Type 0 = λ z d. DoesWhole o.pieces o.pieces' o.faults o.faults' old new (events.Request seat z (asks.Call call)) (Some (record { seat = seat; ticket = ticket; floor = floor; at = d })) refusal in
+    subst (λ b. DoesWrite b o old new seat ticket floor call) (sym enough)
+    (rose, (refusal, subst (λ z. whole z (decided_on old.engine z)) (sym last) (subst (whole now) is done)))
+
+-- a job that was done is a turn
+pub turned_so : (o : Outside) (before new old : Bench) (job : Job) (turn : Turn) → before ≡ old → turn ≡ turn_of job → Works o before new job → Turned o old new turn
+turned_so o before new old (jobs.Link event) turn same is w = subst (λ (b : Bench). Turned o b new turn) same (subst (Turned o before new) (sym is) (jobs.Link event, refl, w))
+turned_so o before new old (jobs.Stop number) turn same is w = subst (λ (b : Bench). Turned o b new turn) same (subst (Turned o before new) (sym is) (inr (jobs.Stop number, refl, w)))
+turned_so o before new old (jobs.Write seat ticket floor call) turn same is w =
+    subst (λ (b : Bench). Turned o b new turn) same (subst (Turned o before new) (sym is) (jobs.Write seat ticket floor call, refl, w))

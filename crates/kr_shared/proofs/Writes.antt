@@ -195,7 +195,7 @@ module _ (old : Work) (between : Core) (client : ℕ) (now : ℤ) (call : Call) 
       standby : s.world.leading ≡ None
       standby = led_none s.world.leading (sym (and_true (is_some s.world.leading) (not (is_read call.request)) task.1) ∙ no)
 
-      reply : Reply
+      abbrev reply : Reply
       reply = refuse call.request NOT_CONTROLLER
 
       replies : replies_now o s1 call.request ≡ reply ∷ []
@@ -228,16 +228,18 @@ module _ (old : Work) (between : Core) (client : ℕ) (now : ℤ) (call : Call) 
       told_so : AreReplied note (map (given.Reply client call.correlation) (replies_now o s1 call.request) ++ at_last)
       told_so =
           subst (λ (rs : List Reply). AreReplied note (map (given.Reply client call.correlation) rs ++ at_last)) (sym replies)
-          (subst (λ (os : List Output). AreReplied note (given.Reply client call.correlation reply ∷ os)) (sym none_left)
-          (record {
-            answer = answer_of (asked_by a call) kinds.Lost a.at reply;
-            answered = answered_of (asked_by a call) a.at reply;
-            noted = has_first (entries.Answer (answer_of (asked_by a call) kinds.Lost a.at reply)) [];
-            holds = refl;
-            of_client = sym task.0;
-            of_call = refl;
-            of_reply = refl;
-          }, tt))
+          (subst (λ (os : List Output). AreReplied note (given.Reply client call.correlation reply ∷ os)) (sym none_left) (
+            record {
+              answer = answer_of (asked_by a call) kinds.Lost a.at reply;
+              answered = answered_of (asked_by a call) a.at reply;
+              noted = has_first (entries.Answer (answer_of (asked_by a call) kinds.Lost a.at reply)) [];
+              holds = refl;
+              of_client = sym task.0;
+              of_call = refl;
+              of_reply = refl;
+            },
+            tt,
+          ))
 
       all_told : AreReplied note (outputs_of o s writes event)
       all_told =

@@ -66,13 +66,13 @@ fn stage_answer(publisher: &mut Publisher, answer: Answer) -> Result<(), NoMemor
 }
 
 /// An answer without a decision, at the place.
-pub(crate) fn bare_answer(seat: u32, ticket: u64, place: i64, kind: AnswerKind) -> Answer
-    ensures { result ≡ rules.bare_answer seat ticket place kind }
+pub(crate) fn bare_answer(seat: u32, ticket: u64, place: &i64, kind: AnswerKind) -> Answer
+    ensures { result ≡ rules.bare_answer seat ticket place.now kind }
 {
     Answer {
         seat,
         ticket,
-        place,
+        place: *place,
         kind,
         answered: None,
     }
@@ -240,7 +240,7 @@ pub(crate) fn answer_asked(
         at,
     } = asking;
     if refusal_in(told.as_slice()).is_some() {
-        let answer = bare_answer(seat, ticket, at.place, AnswerKind::Exhausted);
+        let answer = bare_answer(seat, ticket, &at.place, AnswerKind::Exhausted);
         return stage_answer(publisher, answer);
     }
     let asked = Asked {

@@ -77,7 +77,7 @@ fn ending(
                 None
             }
         }
-        None => bare_ending(answer.kind, answer.place, floor),
+        None => bare_ending(answer.kind, &answer.place, floor),
     }
 }
 
@@ -94,22 +94,25 @@ fn once_more(answered: &Shared<Answered>) -> Result<Shared<Answered>, SubmitFaul
 // Where nothing was decided, the place shows why.
 fn bare_ending(
     kind: AnswerKind,
-    tip: i64,
+    tip: &i64,
     floor: &i64,
 ) -> Option<Result<Shared<Answered>, SubmitFault>>
-    ensures { IfSome result (λ end. EndsBare kind tip floor.now end) }
+    ensures { IfSome result (λ end. EndsBare kind tip.now floor.now end) }
 {
     match kind {
         AnswerKind::Ahead => {
-            if tip < *floor {
-                Some(Err(SubmitFault::Ahead { floor: *floor, tip }))
+            if *tip < *floor {
+                Some(Err(SubmitFault::Ahead {
+                    floor: *floor,
+                    tip: *tip,
+                }))
             } else {
                 None
             }
         }
         AnswerKind::Exhausted => {
-            if GREATEST_TIP < tip {
-                Some(Err(SubmitFault::Exhausted { tip }))
+            if GREATEST_TIP < *tip {
+                Some(Err(SubmitFault::Exhausted { tip: *tip }))
             } else {
                 None
             }

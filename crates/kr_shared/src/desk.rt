@@ -1,6 +1,6 @@
 //! What a worker keeps between its turns, and how it serves an event.
 
-ghost use Rattle.std.specs.Prelude.{◌≡◌, [], OnOk, IfOk, is_some, fold, int_lt, IsTrue, not, if◌then◌else◌};
+ghost use Rattle.std.specs.Prelude.{◌≡◌, ◌&&◌, [], OnOk, IfOk, is_some, fold, int_lt, IsTrue, not, if◌then◌else◌};
 ghost use Rattle.kr_calls.specs.Decide.{is_read};
 ghost use Rattle.kr_queue.specs.Jobs.{is_fit};
 ghost use Rattle.std.specs.Int.{int_max};
@@ -118,6 +118,13 @@ impl Desk {
         self.engine.leading().is_some()
     }
 
+    // This node led, and leads no more.
+    fn has_lost(&self, led: bool) -> bool
+        ensures { result ≡ (led && not (is_some self.now.engine.leading)) }
+    {
+        led && self.engine.leading().is_none()
+    }
+
     // The engine takes an event, and hands out all that it gives for it.
     #[tactic(auto, using(crate::proofs::Serving::sound_then))]
     fn take_event<L: Ledger>(
@@ -181,6 +188,18 @@ impl Desk {
         )
     }
 
+    // Stages an entry.
+    #[tactic(auto, using(crate::proofs::Onwards::staged_keeps))]
+    fn stage(&mut self, entry: Entry) -> Result<(), NoMemory>
+        ensures done { OnOk result (self.new ≡ record self.old { shelf = with_staged self.old.shelf entry }) }
+        ensures keeps { Keeps self.old.shelf self.new.shelf }
+    {
+        match self.publisher.stage(entry) {
+            Ok(()) => Ok(()),
+            Err(_) => Err(NoMemory),
+        }
+    }
+
     // Publishes up to the committed end.
     fn publish<R: Wait>(&mut self, rt: &R) -> Result<(), NoMemory>
         requires { AreRightAfter self.old.shelf.options self.old.shelf.list (next_at self.old.engine.committed self.old.shelf) }
@@ -210,7 +229,7 @@ impl Desk {
         let told = self.take_event(&event, steps)?;
         let appended = append_all(quorum, told.as_slice());
         let refusal = refusal_in(told.as_slice());
-        let lost = led && !self.is_led();
+        let lost = self.has_lost(led);
         self.drop_lost(lost);
         self.stage_fresh()?;
         self.answer(asking, event, led, told)?;
@@ -262,15 +281,14 @@ impl Desk {
     }
 
     // Publishes an answer or a stop at once.
+    #[tactic(auto, using(crate::proofs::Onwards::still_onwards, crate::proofs::Onwards::keeps_onwards))]
     fn note<R: Wait>(&mut self, rt: &R, entry: Entry) -> Result<(), NoMemory>
         requires stands { IsStanding self.old }
         requires bare { IsBareNote entry }
         ensures done { OnOk result (Notes self.old self.new entry) }
         ensures onwards { Onwards self.old.shelf self.new.shelf }
     {
-        if self.publisher.stage(entry).is_err() {
-            return Err(NoMemory);
-        }
+        self.stage(entry)?;
         self.publish(rt)
     }
 
@@ -309,7 +327,7 @@ impl Desk {
         } = asked;
         let tip = self.engine.tip();
         if tip < floor {
-            let answer = bare_answer(seat, ticket, tip, AnswerKind::Ahead);
+            let answer = bare_answer(seat, ticket, &tip, AnswerKind::Ahead);
             return self.note(rt, Entry::Answer { answer });
         }
         let now = clock.now();

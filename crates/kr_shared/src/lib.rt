@@ -11,6 +11,7 @@ mod desk;
 mod links;
 mod opening;
 mod probe;
+mod sharing;
 mod taking;
 mod worker;
 

@@ -1,11 +1,12 @@
 //! The worker's seat, and its turn.
 
 ghost use Rattle.std.specs.Prelude.{◌≡◌, ◌<◌, [], true, false, None, OnErr, IfOk, IsErr};
+ghost use Rattle.std.specs.Option.{option_copied};
 ghost use Rattle.std.specs.Arc.{arc_value};
 ghost use Rattle.kr_queue.specs.declared.passes.Role.TheVariants as roles;
 ghost use Rattle.kr_queue.specs.Passes.{view, IsPassOf};
 ghost use Rattle.kr_shared.specs.Standing.{IsStanding};
-ghost use Rattle.kr_shared.specs.Turns.{IsBroken, Turned, turn_of};
+ghost use Rattle.kr_shared.specs.Turns.{IsBroken, Turned, is_stop, turn_of};
 
 use crate::bell::Bell;
 use crate::clients::Bells;
@@ -62,6 +63,12 @@ fn turn_of(job: &Job) -> Turn
     }
 }
 
+fn is_stop(job: &Job) -> bool
+    ensures { result ≡ is_stop job.now }
+{
+    matches!(job, Job::Stop { .. })
+}
+
 impl WorkerSeat {
     pub(crate) fn new(queue: Arc<Queue, Global>, pass: Pass, bells: Bells, desk: Desk) -> WorkerSeat
         requires pass { IsPassOf (arc_value queue) pass }
@@ -83,7 +90,7 @@ impl WorkerSeat {
 
     /// Why the last turn's event of the link was refused; none where it was not.
     pub fn refusal(&self) -> Option<&Reason>
-        ensures { result ≡ self.now.refusal }
+        ensures { option_copied result ≡ self.now.refusal }
     {
         self.refusal.as_ref()
     }
@@ -139,11 +146,12 @@ impl WorkerSeat {
         self.pops = self.pops.saturating_add(1);
         gate.before(self.pops);
         let turn = turn_of(&job);
+        let stops = is_stop(&job);
         let mut steps: Steps<L> = Steps::new(blank);
         match self.desk.do_job(rt, quorum, clock, job, &mut steps) {
             Ok(refusal) => {
                 self.refusal = refusal;
-                self.stopped = turn == Turn::Stopped;
+                self.stopped = stops;
                 self.bells.copies.ring(rt);
                 Ok(turn)
             }
