@@ -70,7 +70,7 @@ fn commit<R: Wait>(rt: &R, link: &mut LinkSeat, quorum: &mut LocalQuorum) -> boo
     false
 }
 
-// Turns until it is stopped, which it is once so many clients are done. True where nothing failed.
+// Turns until it is stopped, which it is once the writing client is done. True where nothing failed.
 fn turns<R: Wait, G: Gate>(
     rt: &R,
     worker: &mut WorkerSeat,
@@ -79,7 +79,6 @@ fn turns<R: Wait, G: Gate>(
     quorum: &mut LocalQuorum,
     clock: &mut MemoryClock,
     done: &AtomicU64,
-    clients: u64,
 ) -> bool {
     let mut stopping = false;
     for _ in rt.forever() {
@@ -91,7 +90,7 @@ fn turns<R: Wait, G: Gate>(
                 }
             }
             Ok(Turn::Idle) => {
-                if !stopping && done.load(Ordering::SeqCst) == clients {
+                if !stopping && done.load(Ordering::SeqCst) == 1 {
                     stopping = link.stop(rt, 3).is_ok();
                 }
                 thread::yield_now();
@@ -274,7 +273,6 @@ fn readers_are_answered_while_the_worker_is_held(rt: HostRuntime) -> Result<(), 
                 &mut quorum,
                 &mut clock,
                 &done,
-                1,
             ),
             || thread::join(
                 &rt,
@@ -361,7 +359,6 @@ fn a_failed_append_loses_the_leadership(rt: HostRuntime) -> Result<(), Fail> {
                 &mut quorum,
                 &mut clock,
                 &done,
-                1,
             ),
             || are_lost(&rt, alloc, &mut seat, &done),
         );
