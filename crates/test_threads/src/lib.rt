@@ -5,6 +5,10 @@
 #[cfg(test)]
 mod copies;
 #[cfg(test)]
+mod many_clients;
+#[cfg(test)]
 mod outside;
 #[cfg(test)]
 mod threads;
+#[cfg(test)]
+mod workers;

@@ -1,0 +1,16 @@
+pub mod Answered
+pub mod Appending
+pub mod Ends
+pub mod Fronts
+pub mod LastSeats
+pub mod Noting
+pub mod Onwards
+pub mod Published
+pub mod Replied
+pub mod Sent
+pub mod Served
+pub mod Serving
+pub mod Standings
+pub mod Turning
+pub mod Writes
+pub mod Written

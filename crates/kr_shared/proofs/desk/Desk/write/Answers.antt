@@ -1,0 +1,7 @@
+use Rattle.kr_shared.proofs.Turning.{write_done}
+use Rattle.kr_shared.proofs.desk.Desk.write.Goals as goal
+
+pub returns-clause-done : goal.returns-clause-done
+returns-clause-done g c =
+    write_done _ c.args.self.now c.serve_whole.new.self c.args.asked.seat c.args.asked.ticket c.args.asked.floor c.now-now.result c.args.asked.call c.in_ok-at.at c.in_ok-serve_whole.field-0
+    c.now-now.ensures.last c.in_ok-at.ensures c.now-now.ensures.asks c.if-tip-floor.false c.in_ok-serve_whole.ensures.done

@@ -1,0 +1,48 @@
+-- What a quorum is given of a step's outputs. This project's own.
+use Rattle.std.specs.Prelude.{◌≡◌, ◌≤◌, ℕ, Bool, true, false, List, ◌∷◌, ◌++◌, Option, Some, None, IsSome, fold}
+use Rattle.kr_base.specs.Appends.{with_piece}
+use Rattle.kr_base.specs.Causes.{Rose}
+use Rattle.kr_calls.specs.declared.events.Output.{Output}
+use Rattle.kr_calls.specs.declared.events.Output.TheVariants as given
+use Rattle.kr_world.specs.declared.writes.Told.{Told}
+
+-- the batch of an output, if it is one
+abbrev pub batch_in : Output → Option (List ℕ)
+batch_in (given.Append bytes) = Some bytes
+batch_in (given.Reply client correlation reply) = None
+batch_in (given.Refused event reason) = None
+batch_in (given.Image bytes) = None
+
+abbrev pub batch_of : Told → Option (List ℕ)
+batch_of told = batch_in told.output
+
+abbrev pub with_some : Option (List (List ℕ)) → Option (List ℕ) → Option (List (List ℕ))
+with_some pieces (Some batch) = with_piece pieces batch
+with_some pieces None = pieces
+
+-- the quorum's pieces, where it tells them, with the output's batch
+abbrev pub with_batch : Option (List (List ℕ)) → Told → Option (List (List ℕ))
+with_batch pieces told = with_some pieces (batch_of told)
+
+-- it got the batches of these outputs, in order
+abbrev pub with_batches : Option (List (List ℕ)) → List Told → Option (List (List ℕ))
+with_batches pieces told = fold with_batch pieces told
+
+-- up to the first that failed
+pub record FailsAt (old new : Option (List (List ℕ))) (faults faults' : ℕ) (told : List Told) : Type 0 where
+  pub before : List Told
+  pub failed : Told
+  pub behind : List Told
+  pub in_order : told ≡ before ++ failed ∷ behind
+  pub batch : IsSome (batch_of failed)
+  pub pieces : new ≡ with_batches old before
+  pub cause : Rose faults faults'
+
+-- the quorum got all batches of the outputs, or those before the first that failed
+abbrev pub Appends : Option (List (List ℕ)) → Option (List (List ℕ)) → ℕ → ℕ → List Told → Bool → Type 0
+Appends old new faults faults' told true = (new ≡ with_batches old told) × (faults ≤ faults')
+Appends old new faults faults' told false = FailsAt old new faults faults' told
+
+abbrev pub AppendsOne : Option (List (List ℕ)) → Option (List (List ℕ)) → ℕ → ℕ → Told → Bool → Type 0
+AppendsOne old new faults faults' told true = (new ≡ with_batch old told) × (faults ≤ faults')
+AppendsOne old new faults faults' told false = IsSome (batch_of told) × (new ≡ old) × Rose faults faults' × (faults ≤ faults')

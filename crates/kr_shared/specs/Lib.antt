@@ -1,0 +1,15 @@
+pub mod Answers
+pub mod Appends
+pub mod ClientFields
+pub mod Clients
+pub mod Ends
+pub mod LinkFields
+pub mod Opened
+pub mod Serves
+pub mod Standing
+pub mod Submit
+pub mod Takes
+pub mod Tasks
+pub mod Turns
+pub mod WorkerFields
+pub mod Works

@@ -1,0 +1,29 @@
+-- What a worker serves: an event of the link, or a client's write. This project's own.
+use Rattle.std.specs.Prelude.{◌≡◌, ℕ, ℤ, int_lt, not, IsTrue, Option, Some, None}
+use Rattle.std.specs.Int.{int_max}
+use Rattle.kr_calls.specs.declared.calls.Ask.TheVariants as asks
+use Rattle.kr_calls.specs.declared.calls.Call.{Call}
+use Rattle.kr_calls.specs.declared.events.Event.{Event}
+use Rattle.kr_calls.specs.declared.events.Event.TheVariants as events
+use Rattle.kr_calls.specs.Decide.{is_read}
+use Rattle.kr_queue.specs.Jobs.{is_link_event}
+use Rattle.kr_world.specs.declared.writes.Decided.{Decided}
+use Rattle.kr_world.specs.Engine.{Core, basis_of}
+use Rattle.kr_shared.specs.declared.answers.Asking.{Asking}
+
+-- where the log ends, and what decisions rest on at a time
+abbrev pub decided_on : Core → ℤ → Decided
+decided_on e now = record { place = e.tip; count = 0; basis = record (basis_of e) { time = int_max e.time now } }
+
+abbrev pub asking_of : Core → ℕ → ℕ → ℤ → ℤ → Asking
+asking_of e seat ticket floor now = record { seat = seat; ticket = ticket; floor = floor; at = decided_on e now }
+
+-- a request is the write of a client that has seen no more than the log; what comes without a client is no request
+abbrev pub IsWrite : Core → Asking → ℕ → ℤ → Call → Type 0
+IsWrite e a client now call =
+    (client ≡ a.seat) × IsTrue (not (is_read call.request)) × IsTrue (not (int_lt e.tip a.floor)) × (a.at ≡ decided_on e now)
+
+abbrev pub IsTask : Core → Event → Option Asking → Type 0
+IsTask e event None = IsTrue (is_link_event event)
+IsTask e (events.Request client now (asks.Call call)) (Some a) = IsWrite e a client now call
+IsTask e other (Some a) = ⊥

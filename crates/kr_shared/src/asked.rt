@@ -1,0 +1,16 @@
+//! What clients asked and waits for its answer.
+
+use kr_calls::Call;
+
+/// A client's write, until it is answered.
+#[derive(Drop)]
+pub struct Asked {
+    /// The client's number, from 1.
+    pub seat: u32,
+    /// The number of the call among those of the client.
+    pub ticket: u64,
+    /// The place in the log up to which the client had seen it.
+    pub floor: i64,
+    /// What is asked.
+    pub call: Call,
+}

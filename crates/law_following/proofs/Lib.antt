@@ -1,0 +1,4 @@
+pub mod Lists
+pub mod Shown
+pub mod Decided
+pub mod Evolving
