@@ -2,6 +2,8 @@
 use denote.Param.Send.{IsSend, sendable, view_send}
 use denote.Param.SendFields.{declared_send}
 use Rattle.std.proofs.Crossing as heap
+use Rattle.std.proofs.option.Option.TheSendSync as option
+use Rattle.kr_calls.proofs.events.Reason.TheSendSync as reason
 use Rattle.kr_engine.proofs.engine.Engine.TheSendSync as engine
 use Rattle.kr_queue.specs.contracts.queue.Queue.{the_row as queue_row}
 use Rattle.kr_queue.proofs.passes.Pass.TheSendSync as pass
@@ -30,4 +32,4 @@ desk_send = view_send _ _ _ _ _ (declared_send desk_type (search sendable depth 
 -- the queue with its pass, the bells, the desk, and what the last turns left
 pub worker_send : IsSend worker_row
 worker_send =
-    view_send _ _ _ _ _ (declared_send worker_type (heap.Arc-send queue_row queue.the_send queue.the_sync, (pass.the_send, (bells.the_send, (desk_send, (search sendable depth 20, (search sendable depth 20, (search sendable depth 20, (search sendable depth 20, tt)))))))))
+    view_send _ _ _ _ _ (declared_send worker_type (heap.Arc-send queue_row queue.the_send queue.the_sync, (pass.the_send, (bells.the_send, (desk_send, (search (sendable, option.the_send, reason.the_send) depth 20, (search sendable depth 20, (search sendable depth 20, (search sendable depth 20, tt)))))))))

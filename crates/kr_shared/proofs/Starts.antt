@@ -1,5 +1,5 @@
 -- What is opened stands for the state before all events.
-use Rattle.std.proofs.Common.{◌≡◌, ◌∙◌, sym, subst, ℕ, zero, suc, pos, ◌≤◌, List, [], refl, ap, absurd, arith}
+use Rattle.std.proofs.Common.{◌≡◌, ◌∙◌, sym, subst, ℕ, zero, suc, pos, ◌≤◌, List, [], refl, ap, arith}
 use Rattle.std.specs.Prelude.{drop, take}
 use Rattle.std.proofs.lemmas.List.{drop_all}
 use Rattle.std.proofs.lemmas.List.Elements.{All-nil}
@@ -27,7 +27,7 @@ shows_none : Shows first 0 none
 unfolding image_at
 shows_none = record {
   whole = refl;
-  low = All-nil;
+  low = All-nil _;
   images = λ place from low. same_below place low;
   items = tt;
 }

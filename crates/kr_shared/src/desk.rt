@@ -326,6 +326,13 @@ impl Desk {
         })
     }
 
+    // The client has seen more of the log than there is.
+    fn is_behind(&self, asked: &Asked) -> bool
+        ensures { result ≡ int_lt self.now.engine.tip asked.now.floor }
+    {
+        self.engine.tip() < asked.floor
+    }
+
     // A client's write.
     fn write<R: Wait, Q: Quorum, C: Clock, L: Ledger>(
         &mut self,
@@ -350,17 +357,17 @@ impl Desk {
             asked.ticket asked.floor asked.call) }
         ensures onwards { Onwards self.old.shelf self.new.shelf }
     {
+        if self.is_behind(&asked) {
+            let tip = self.engine.tip();
+            let answer = bare_answer(asked.seat, asked.ticket, &tip, AnswerKind::Ahead);
+            return self.note(rt, Entry::Answer { answer });
+        }
         let Asked {
             seat,
             ticket,
             floor,
             call,
         } = asked;
-        let tip = self.engine.tip();
-        if tip < floor {
-            let answer = bare_answer(seat, ticket, &tip, AnswerKind::Ahead);
-            return self.note(rt, Entry::Answer { answer });
-        }
         let now = clock.now();
         let at = self.decided_on(&now)?;
         let asking = Asking {
