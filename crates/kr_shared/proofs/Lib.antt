@@ -2,6 +2,7 @@ pub mod Answered
 pub mod Ends
 pub mod Fronts
 pub mod LastSeats
+pub mod Misses
 pub mod Onwards
 pub mod Published
 pub mod Served
