@@ -16,6 +16,9 @@ pub record IsMessageThat (Holds : List ℕ → Type 0) (bytes : List ℕ) : Type
   pub sized : IsSizedMessage message bytes
   pub holds : Holds message
 
+abbrev pub AnyMessage : List ℕ → Type 0
+AnyMessage message = Unit {0}
+
 -- The bytes begin a message, as far as its size tells, and are fewer than it has.
 pub data IsMessageBegun (bytes : List ℕ) : Type 0 where
   within_size : length bytes < 4 → IsMessageBegun bytes

@@ -11,7 +11,7 @@ use Rattle.kr_server.specs.declared.end.ServeEnd.{ServeEnd}
 use Rattle.kr_server.specs.declared.end.ServeEnd.TheVariants as ends
 use Rattle.kr_server.specs.declared.exchange.Exchange.{Exchange}
 use Rattle.kr_server.specs.Exchanges.{IsMessageOf, SizedReplyFits, sized_replies, sized_reply}
-use Rattle.kr_server.specs.Messages.{IsBrokenMessage, IsMessageBegun, IsMessageCut, IsMessageThat}
+use Rattle.kr_server.specs.Messages.{IsBrokenMessage, IsMessageBegun, IsMessageCut, IsMessageThat, IsSizedMessage}
 use Rattle.kr_server.specs.SeatCalls.{AreExchanged, IsRefusedRead, IsRefusedWrite, IsWithoutMemory, PushesWrites, pushed_writes}
 use Rattle.kr_server.specs.Told.{TellsMore}
 
@@ -87,12 +87,13 @@ pub record Served (before after : Connection) (end : ServeEnd) : Type 0 where
 
 -- ---- where nothing failed
 
-abbrev pub AnyMessage : List ℕ → Type 0
-AnyMessage message = Unit {0}
+-- these bytes are these messages, each behind its size
+abbrev pub AreMessages : List (List ℕ) → List ℕ → Type 0
+AreMessages messages = Each IsSizedMessage messages
 
--- these bytes are whole messages, each behind its size
-abbrev pub AreMessages : List ℕ → Type 0
-AreMessages bytes = (messages : List (List ℕ)) × Each (λ message. IsMessageThat (λ m. m ≡ message)) messages bytes
+-- no front of the bytes is a message behind its size
+abbrev pub NoMessageBegins : List ℕ → Type 0
+NoMessageBegins bytes = (message front behind : List ℕ) → bytes ≡ front ++ behind → IsSizedMessage message front → ⊥
 
 -- to its end, or to a call that the seat refused, or to want of memory
 abbrev pub IsServedOut : ServeEnd → Type 0
@@ -107,6 +108,24 @@ IsServedOut (ends.Exhausted tip) = Unit {0}
 IsServedOut ends.NoCopy = ⊥
 IsServedOut ends.NoMemory = Unit {0}
 
--- whole messages, shorter than the most bytes of one connection, are served out
+-- up to this place, or to the most bytes of one connection, to a call that the seat refused, or to want of memory
+abbrev pub IsServedUpTo : ℕ → ServeEnd → Type 0
+IsServedUpTo at ends.Closed = ⊥
+IsServedUpTo at (ends.Malformed place) = place ≡ at
+IsServedUpTo at ends.ReadFault = ⊥
+IsServedUpTo at ends.WriteFault = ⊥
+IsServedUpTo at ends.TooLong = Unit {0}
+IsServedUpTo at (ends.Ended number) = Unit {0}
+IsServedUpTo at (ends.Ahead floor tip) = Unit {0}
+IsServedUpTo at (ends.Exhausted tip) = Unit {0}
+IsServedUpTo at ends.NoCopy = ⊥
+IsServedUpTo at ends.NoMemory = Unit {0}
+
+-- whole messages, of fewer bytes than one connection may have, are served out
 abbrev pub ServesMessages : Option (List ℕ) → ServeEnd → Type 0
-ServesMessages left end = IfSome left (λ stream. AreMessages stream → length stream < MOST_SESSION_BYTES → IsServedOut end)
+ServesMessages left end = IfSome left (λ stream. (messages : List (List ℕ)) → AreMessages messages stream → length stream < MOST_SESSION_BYTES → IsServedOut end)
+
+-- where bytes come behind whole messages, with which no message begins, the serving ends there
+abbrev pub ServesUpToBreak : Option (List ℕ) → ServeEnd → Type 0
+ServesUpToBreak left end = IfSome left (λ stream. (messages : List (List ℕ)) (front behind : List ℕ) →
+    stream ≡ front ++ behind → AreMessages messages front → 0 < length behind → NoMessageBegins behind → IsServedUpTo (length front) end)
