@@ -1,0 +1,6 @@
+mod Lists
+mod Readings
+mod Replies
+mod Steps
+mod Streams
+mod Writes
