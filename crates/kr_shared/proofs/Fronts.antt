@@ -5,7 +5,7 @@ use Rattle.std.proofs.lemmas.List.{append_assoc, append-nil, map-append}
 use Rattle.kr_calls.specs.declared.events.Output.{Output}
 use Rattle.kr_world.specs.declared.writes.Told.{Told}
 use Rattle.kr_world.specs.declared.writes.Write.{Write}
-use Rattle.kr_world.specs.Engine.{Core, Hands, IsEngine, Tells, output_of, outputs_left, told_left}
+use Rattle.kr_world.specs.Engine.{Core, Hands, IsEngine, HandsTold, output_of, outputs_left, told_left}
 use Rattle.kr_world.specs.Outputs.{due_reply, due_writes, told_alone, told_answers, told_reply}
 use Rattle.kr_world.specs.World.{State}
 use Rattle.kr_shared.specs.Takes.{IsEmptied}
@@ -19,7 +19,7 @@ pub record IsFront (before now : Core) (told : List Told) : Type 0 where
 pub nothing_yet : (e : Core) → IsFront e e []
 nothing_yet e = record { options = refl; all = refl; fresh = refl; stands = λ s writes k. k }
 
-pub one_more : (before now after : Core) (told : List Told) (t : Told) → IsFront before now told → Hands now after (output_of (Some t)) → Tells now after (Some t) → IsFront before after (told ++ t ∷ [])
+pub one_more : (before now after : Core) (told : List Told) (t : Told) → IsFront before now told → Hands now after (output_of (Some t)) → HandsTold now after (Some t) → IsFront before after (told ++ t ∷ [])
 one_more before now after told t f h tells = record {
   options = h.options ∙ f.options;
   all = f.all ∙ (ap (λ (l : List Told). told ++ l) tells ∙ sym (append_assoc told (t ∷ []) (told_left after)));

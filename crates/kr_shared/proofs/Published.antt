@@ -12,7 +12,7 @@ use Rattle.kr_defs.specs.declared.record.Item.{Item}
 use Rattle.kr_defs.specs.declared.record.Record.{Record}
 use Rattle.kr_defs.specs.Image.{Image, empty}
 use Rattle.kr_defs.specs.Log.{Log, image_at, tip}
-use Rattle.kr_view.specs.Staged.{above, below}
+use Rattle.kr_view.specs.Staged.{staged_above, staged_below}
 use Rattle.kr_world.specs.Entries.{items_from}
 use Rattle.kr_world.specs.Lost.{cut}
 use Rattle.kr_world.specs.World.{log_with}
@@ -27,38 +27,38 @@ use Rattle.law_following.proofs.Shown.{shown_logs_go_on}
 next : (n : ℕ) → pos n +ℤ pos 1 ≡ pos (suc n)
 next n = grind (arith, ints)
 
-nothing_below : (from : ℕ) (items : List Item) → below (pos from) (item_entries (pos from) items) ≡ []
+nothing_below : (from : ℕ) (items : List Item) → staged_below (pos from) (item_entries (pos from) items) ≡ []
 nothing_below from [] = refl
 nothing_below from (x ∷ xs) =
-    ap (λ b. cond b (entries.Item (pos from) x ∷ below (pos from) (item_entries (pos from +ℤ pos 1) xs)) []) (isnt_below from from (omega arith))
+    ap (λ b. cond b (entries.Item (pos from) x ∷ staged_below (pos from) (item_entries (pos from +ℤ pos 1) xs)) []) (isnt_below from from (omega arith))
 
-all_above : (from : ℕ) (items : List Item) → above (pos from) (item_entries (pos from) items) ≡ item_entries (pos from) items
+all_above : (from : ℕ) (items : List Item) → staged_above (pos from) (item_entries (pos from) items) ≡ item_entries (pos from) items
 all_above from [] = refl
 all_above from (x ∷ xs) =
     let rest = item_entries (pos from +ℤ pos 1) xs in
-    ap (λ b. cond b (above (pos from) rest) (entries.Item (pos from) x ∷ rest)) (isnt_below from from (omega arith))
+    ap (λ b. cond b (staged_above (pos from) rest) (entries.Item (pos from) x ∷ rest)) (isnt_below from from (omega arith))
 
-pub below_so : (n from : ℕ) (items : List Item) → below (pos (from + n)) (item_entries (pos from) items) ≡ item_entries (pos from) (take n items)
-below_so zero from items = ap (λ m. below (pos m) (item_entries (pos from) items)) (let e : from + zero ≡ from = omega arith in e) ∙ nothing_below from items
+pub below_so : (n from : ℕ) (items : List Item) → staged_below (pos (from + n)) (item_entries (pos from) items) ≡ item_entries (pos from) (take n items)
+below_so zero from items = ap (λ m. staged_below (pos m) (item_entries (pos from) items)) (let e : from + zero ≡ from = omega arith in e) ∙ nothing_below from items
 below_so (suc n) from [] = refl
 below_so (suc n) from (x ∷ xs) =
-    ap (λ b. cond b (entries.Item (pos from) x ∷ below (pos (from + suc n)) (item_entries (pos from +ℤ pos 1) xs)) []) (is_lower from (from + suc n) (omega arith))
+    ap (λ b. cond b (entries.Item (pos from) x ∷ staged_below (pos (from + suc n)) (item_entries (pos from +ℤ pos 1) xs)) []) (is_lower from (from + suc n) (omega arith))
     ∙ ap (λ (l : List Entry). entries.Item (pos from) x ∷ l)
-    (ap (λ p. below (pos (from + suc n)) (item_entries p xs)) (next from)
-    ∙ (ap (λ m. below (pos m) (item_entries (pos (suc from)) xs)) (let e : from + suc n ≡ suc from + n = omega arith in e)
+    (ap (λ p. staged_below (pos (from + suc n)) (item_entries p xs)) (next from)
+    ∙ (ap (λ m. staged_below (pos m) (item_entries (pos (suc from)) xs)) (let e : from + suc n ≡ suc from + n = omega arith in e)
     ∙ (below_so n (suc from) xs ∙ ap (λ p. item_entries p (take n xs)) (sym (next from)))))
 
-pub above_so : (n from : ℕ) (items : List Item) → above (pos (from + n)) (item_entries (pos from) items) ≡ item_entries (pos (from + n)) (drop n items)
+pub above_so : (n from : ℕ) (items : List Item) → staged_above (pos (from + n)) (item_entries (pos from) items) ≡ item_entries (pos (from + n)) (drop n items)
 above_so zero from items =
     let e : from + zero ≡ from = omega arith in
-    ap (λ m. above (pos m) (item_entries (pos from) items)) e ∙ (all_above from items ∙ ap (λ m. item_entries (pos m) items) (sym e))
+    ap (λ m. staged_above (pos m) (item_entries (pos from) items)) e ∙ (all_above from items ∙ ap (λ m. item_entries (pos m) items) (sym e))
 above_so (suc n) from [] = refl
 above_so (suc n) from (x ∷ xs) =
     let e : from + suc n ≡ suc from + n = omega arith in
     let rest = item_entries (pos from +ℤ pos 1) xs in
-    ap (λ b. cond b (above (pos (from + suc n)) rest) (entries.Item (pos from) x ∷ rest)) (is_lower from (from + suc n) (omega arith))
-    ∙ (ap (λ p. above (pos (from + suc n)) (item_entries p xs)) (next from)
-    ∙ (ap (λ m. above (pos m) (item_entries (pos (suc from)) xs)) e
+    ap (λ b. cond b (staged_above (pos (from + suc n)) rest) (entries.Item (pos from) x ∷ rest)) (is_lower from (from + suc n) (omega arith))
+    ∙ (ap (λ p. staged_above (pos (from + suc n)) (item_entries p xs)) (next from)
+    ∙ (ap (λ m. staged_above (pos m) (item_entries (pos (suc from)) xs)) e
     ∙ (above_so n (suc from) xs ∙ ap (λ m. item_entries (pos m) (drop n xs)) (sym e))))
 
 -- ---- what is published
@@ -80,8 +80,8 @@ items_logged place (x ∷ xs) = items_logged (place +ℤ pos 1) xs
 
 -- the list with what is below the end shows the log, and the rest of the log stays staged
 pub record Publishes (log : Log) (end : ℕ) (list staged : List Entry) : Type 0 where
-  pub shows : Shows log end (list ++ below (pos end) staged)
-  pub rest : above (pos end) staged ≡ item_entries (pos end) (items_from log end)
+  pub shows : Shows log end (list ++ staged_below (pos end) staged)
+  pub rest : staged_above (pos end) staged ≡ item_entries (pos end) (items_from log end)
   pub logged : AreLogged staged
 
 staged_longer : (log : Log) (end : ℕ) (xs : List Item) → log.offset ≤ end → end ≤ tip log
@@ -105,10 +105,10 @@ longer_publishes log end later list xs image means few started low up within sho
     subst (λ (l : List Entry). Publishes long later list l) (sym staged) (record {
       shows =
           subst (λ (l : List Entry). Shows long later (list ++ l))
-          (sym (ap (λ m. below (pos m) (item_entries (pos end) ys)) (sym e) ∙ below_so n end ys))
+          (sym (ap (λ m. staged_below (pos m) (item_entries (pos end) ys)) (sym e) ∙ below_so n end ys))
           (shown_logs_go_on.further long end later list image means few started up within (shown_logs_go_on.longer log end list xs low shows));
       rest =
-          ap (λ m. above (pos m) (item_entries (pos end) ys)) (sym e)
+          ap (λ m. staged_above (pos m) (item_entries (pos end) ys)) (sym e)
           ∙ (above_so n end ys
           ∙ (ap (λ m. item_entries (pos m) (drop n ys)) e
           ∙ ap (λ (l : List Item). item_entries (pos later) l)

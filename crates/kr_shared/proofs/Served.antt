@@ -16,7 +16,7 @@ use Rattle.kr_defs.specs.Records.{records_of}
 use Rattle.kr_defs.proofs.OwnRecords.{own_records}
 use Rattle.kr_queue.specs.Jobs.{is_link_event}
 use Rattle.kr_view.specs.Shelves.{Shelf}
-use Rattle.kr_view.specs.Staged.{below}
+use Rattle.kr_view.specs.Staged.{staged_below}
 use Rattle.kr_world.specs.declared.writes.Told.{Told}
 use Rattle.kr_world.specs.declared.writes.Write.{Write}
 use Rattle.kr_world.specs.Engine.{Core, IsEngine, writes_in_order}
@@ -51,7 +51,7 @@ waiting_longer options log xs (a ∷ as) (w ∷ ws) h =
     (record { client = i.client; correlation = i.correlation; floor = i.floor; decided = decided_on options log xs (answered_of a w.decided w.reply) i.decided; need = i.need; refusal = i.refusal },
       waiting_longer options log xs as ws h.1)
 
-none_wait : (options : Options) (log other : Log) (as : List Asked) (ws : List Write) → ws ≡ [] → AreWaiting options log as ws → AreWaiting options other as ws
+pub none_wait : (options : Options) (log other : Log) (as : List Asked) (ws : List Write) → ws ≡ [] → AreWaiting options log as ws → AreWaiting options other as ws
 none_wait options log other [] [] none h = tt
 none_wait options log other [] (w ∷ ws) none h = absurd h
 none_wait options log other (a ∷ as) [] none h = absurd h
@@ -66,7 +66,7 @@ none_of : (r : Result State Reason) → if_accepted r no_write ≡ []
 none_of (Ok after) = refl
 none_of (Err reason) = refl
 
-holds_none : (options : Options) (s : State) (event : Event) → is_link_event event ≡ true → new_writes options s event ≡ []
+pub holds_none : (options : Options) (s : State) (event : Event) → is_link_event event ≡ true → new_writes options s event ≡ []
 holds_none options s (events.Lead epoch next now) link = none_of (outcome options (at_time_of s (events.Lead epoch next now)) (events.Lead epoch next now))
 holds_none options s (events.Commit epoch end) link = none_of (outcome options (at_time_of s (events.Commit epoch end)) (events.Commit epoch end))
 holds_none options s (events.Lost epoch) link = none_of (outcome options (at_time_of s (events.Lost epoch)) (events.Lost epoch))
@@ -139,7 +139,7 @@ module _ (old : Work) (between : Core) (event : Event) (told : List Told) (s : S
   publishes = subst (Publishes next.world.log next.world.committed list) (sym staged_so) (publishes_by evolved)
 
   abbrev pub shown : List Entry
-  shown = list ++ below (pos next.world.committed) staged
+  shown = list ++ staged_below (pos next.world.committed) staged
 
   -- ---- what is told
 
@@ -200,7 +200,7 @@ module _ (old : Work) (between : Core) (event : Event) (told : List Told) (s : S
         let e = ends_all o s.world.log s.world.committed next.world.leading old.waiting held [] (subst (AreWaiting o s.world.log old.waiting) (sym held_is) k.waits) ordered in
         let r = fold with_told (answering old.waiting []) (told_answers next.world.leading (pos s.world.committed) held) in
         let here : shown ≡ list =
-            ap (λ (l : List Entry). list ++ below (pos next.world.committed) l) (staged_so ∙ none_staged s.world next.world list between.fresh rests k.shows c is) ∙ append-nil list in
+            ap (λ (l : List Entry). list ++ staged_below (pos next.world.committed) l) (staged_so ∙ none_staged s.world next.world list between.fresh rests k.shows c is) ∙ append-nil list in
         subst Answers
         (sym (answers_are (answering old.waiting []) ∙ ap (λ n. fold with_told (answering old.waiting []) (told_answers next.world.leading (pos n) held)) c.same))
         (record {

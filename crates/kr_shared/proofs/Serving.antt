@@ -12,7 +12,7 @@ use Rattle.kr_calls.specs.declared.events.Event.TheVariants as events
 use Rattle.kr_calls.specs.RightAnswers.{AreRightAfter}
 use Rattle.kr_defs.specs.declared.options.Options.{Options}
 use Rattle.kr_view.specs.Shelves.{Shelf, next_at, shown_at, with_staged}
-use Rattle.kr_view.specs.Staged.{above, below}
+use Rattle.kr_view.specs.Staged.{staged_above, staged_below}
 use Rattle.kr_world.specs.declared.writes.Told.{Told}
 use Rattle.kr_world.specs.declared.writes.Write.{Write}
 use Rattle.kr_world.specs.Engine.{Core, IsEngine, IsSound, outputs_left}
@@ -51,10 +51,10 @@ logged_if true (entries.Load offset records) rest h k = k
 logged_if true (entries.Answer answer) rest h k = absurd h
 logged_if true (entries.Stop number) rest h k = absurd h
 
-below_logged : (end : ℤ) (es : List Entry) → AreLogged es → AreLogged (below end es)
+below_logged : (end : ℤ) (es : List Entry) → AreLogged es → AreLogged (staged_below end es)
 below_logged end [] h = tt
-below_logged end (entries.Item place item ∷ es) h = logged_if (Rattle.kr_calls.specs.SeatList.is_below end (entries.Item place item)) (entries.Item place item) (below end es) tt (below_logged end es h)
-below_logged end (entries.Load offset records ∷ es) h = logged_if (Rattle.kr_calls.specs.SeatList.is_below end (entries.Load offset records)) (entries.Load offset records) (below end es) tt (below_logged end es h)
+below_logged end (entries.Item place item ∷ es) h = logged_if (Rattle.kr_calls.specs.SeatList.is_below end (entries.Item place item)) (entries.Item place item) (staged_below end es) tt (below_logged end es h)
+below_logged end (entries.Load offset records ∷ es) h = logged_if (Rattle.kr_calls.specs.SeatList.is_below end (entries.Load offset records)) (entries.Load offset records) (staged_below end es) tt (below_logged end es h)
 below_logged end (entries.Answer answer ∷ es) h = absurd h
 below_logged end (entries.Stop number ∷ es) h = absurd h
 
@@ -151,9 +151,9 @@ module _ (old : Work) (between : Core) (event : Event) (asking : Option Asking) 
 
     pub may_publish : AreRightAfter ready.options ready.list (next_at between.committed ready)
     may_publish =
-        subst (λ (q : Options). AreRightAfter q old.shelf.list (below between.committed stage ++ r.notes)) k.options
-        (subst (λ z. AreRightAfter o old.shelf.list (below z stage ++ r.notes)) (sym at_end)
-        (right_behind o old.shelf.list (below (pos end) stage) r.notes (below_logged (pos end) stage p.logged) is.right))
+        subst (λ (q : Options). AreRightAfter q old.shelf.list (staged_below between.committed stage ++ r.notes)) k.options
+        (subst (λ z. AreRightAfter o old.shelf.list (staged_below z stage ++ r.notes)) (sym at_end)
+        (right_behind o old.shelf.list (staged_below (pos end) stage) r.notes (below_logged (pos end) stage p.logged) is.right))
 
     pub fresh_logged : AreLogged between.fresh
     fresh_logged = logged_behind (cond (is_lost old.engine between) [] old.shelf.items) between.fresh p.logged
@@ -164,12 +164,12 @@ module _ (old : Work) (between : Core) (event : Event) (asking : Option Asking) 
       none = t.emptied.none;
       options = t.emptied.options ∙ (t.step.options ∙ k.options);
       rests =
-          ap (λ (l : List Entry). resting old.shelf.options (old.shelf.list ++ (below between.committed stage ++ r.notes)) l)
-          (ap (λ z. above z stage) at_end ∙ p.rest);
+          ap (λ (l : List Entry). resting old.shelf.options (old.shelf.list ++ (staged_below between.committed stage ++ r.notes)) l)
+          (ap (λ z. staged_above z stage) at_end ∙ p.rest);
       shows =
           subst (Rattle.law_following.specs.Following.Shows (happens o s event).world.log end)
-          (append_assoc old.shelf.list (below (pos end) stage) r.notes ∙ ap (λ z. old.shelf.list ++ (below z stage ++ r.notes)) (sym at_end))
-          (shown_logs_go_on.notes (happens o s event).world.log end (old.shelf.list ++ below (pos end) stage) r.notes p.shows is.bare);
+          (append_assoc old.shelf.list (staged_below (pos end) stage) r.notes ∙ ap (λ z. old.shelf.list ++ (staged_below z stage ++ r.notes)) (sym at_end))
+          (shown_logs_go_on.notes (happens o s event).world.log end (old.shelf.list ++ staged_below (pos end) stage) r.notes p.shows is.bare);
       waits = subst (λ (q : Options). AreWaiting q (happens o s event).world.log r.waiting (waiting_after o s writes event)) (sym (t.emptied.options ∙ t.step.options)) is.waits;
     }
 

@@ -3,7 +3,7 @@ use Rattle.std.specs.Prelude.{◌≡◌, ℕ, Bool, List, [], ◌++◌, Option, 
 use Rattle.kr_calls.specs.declared.events.Entry.{Entry}
 use Rattle.kr_calls.specs.declared.events.Event.{Event}
 use Rattle.kr_calls.specs.declared.events.Reason.{Reason}
-use Rattle.kr_view.specs.Staged.{above, below}
+use Rattle.kr_view.specs.Staged.{staged_above, staged_below}
 use Rattle.kr_world.specs.declared.writes.Told.{Told}
 use Rattle.kr_world.specs.declared.writes.Write.{Write}
 use Rattle.kr_world.specs.Engine.{Core}
@@ -31,6 +31,6 @@ pub record Serves (pieces pieces' : Option (List (List ℕ))) (faults faults' : 
   pub waiting : new.waiting ≡ answers.waiting
   pub staged : List Entry
   pub added : staged ≡ staged_after (is_lost old.engine between) old.shelf.items between.fresh
-  pub shelf : new.shelf ≡ resting old.shelf.options (old.shelf.list ++ (below between.committed staged ++ answers.notes)) (above between.committed staged)
+  pub shelf : new.shelf ≡ resting old.shelf.options (old.shelf.list ++ (staged_below between.committed staged ++ answers.notes)) (staged_above between.committed staged)
   -- and then the worker stands for the next state
   pub stands : (s : State) (writes : List Write) → Standing old s writes → Standing new (happens old.engine.options s event) (waiting_after old.engine.options s writes event)

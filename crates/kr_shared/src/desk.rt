@@ -369,10 +369,10 @@ impl Desk {
 
     pub(crate) fn close<R: Wait>(self, rt: &R) {
         let Desk {
+            alloc: _alloc,
             publisher,
             engine: _engine,
             waiting: _waiting,
-            ..
         } = self;
         publisher.close(rt);
     }

@@ -161,7 +161,10 @@ impl WorkerSeat {
             pass: _pass,
             bells: _bells,
             desk,
-            ..
+            refusal: _refusal,
+            pops: _pops,
+            stopped: _stopped,
+            broken: _broken,
         } = self;
         desk.close(rt);
     }
