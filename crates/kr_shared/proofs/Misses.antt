@@ -1,9 +1,6 @@
 -- Counts that stay or rise.
-use Rattle.std.proofs.Common.{◌≡◌, ◌≤◌, ◌+◌, ◌-◌, ◌^◌, ℕ, min, inl, inr, refl, sym, subst, arith, ◌∙◌}
-use Rattle.std.specs.Prelude.{MatchResult}
-use Rattle.core.specs.declared.result.Result.{Result}
-use Rattle.core.specs.declared.result.Result.TheVariants.{Ok, Err}
-use Rattle.kr_base.specs.Causes.{Rose, raised}
+use Rattle.std.proofs.Common.{◌≡◌, ◌≤◌, ◌+◌, ◌-◌, ◌^◌, ℕ, min, inl, inr, Result, Ok, Err, refl, sym, subst, arith, ◌∙◌}
+use Rattle.kr_base.specs.Causes.{Rose}
 use Rattle.kr_view.specs.declared.seat.CopyFault.{CopyFault}
 use Rattle.kr_view.specs.declared.seat.CopyFault.TheVariants as copies
 use Rattle.kr_view.specs.Seats.{HasCopyCause, Seat}
