@@ -11,10 +11,10 @@ abbrev pub TakesFewer : Option (List ℕ) → Option (List ℕ) → ℕ → Type
 TakesFewer before now most = (taken : List ℕ) × Consumes before now taken × (length taken < most)
 
 -- so many bytes came, of so many that were asked for, out of so many that are needed
-abbrev pub IsShortage : ℕ → ℕ → ℕ → Shortage → Type 0
-IsShortage count most len (shortages.Ended came) = (came ≡ count) × (count < most)
-IsShortage count most len shortages.TooLong = (count ≡ most) × (most < len)
-IsShortage count most len shortages.ReadFault = ⊥
+abbrev pub IsShortOf : ℕ → ℕ → ℕ → Shortage → Type 0
+IsShortOf count most len (shortages.Ended came) = (came ≡ count) × (count < most)
+IsShortOf count most len shortages.TooLong = (count ≡ most) × (most < len)
+IsShortOf count most len shortages.ReadFault = ⊥
 
 -- why no more than these came, of which the last stands before the place `end` of the stream
 abbrev pub ShortageCause : ℕ → ℕ → Option (List ℕ) → ℕ → ℕ → Shortage → Type 0

@@ -5,7 +5,7 @@ ghost use Rattle.std.specs.Io.KnownBytes.{Consumes, IsAtEnd, Keeps};
 ghost use Rattle.kr_wire.specs.Laws.{IsBytes};
 ghost use Rattle.kr_base.specs.Causes.{HasCause};
 ghost use Rattle.kr_defs.specs.declared.limits.TheConstants.{MOST_SESSION_BYTES};
-ghost use Rattle.kr_intake.specs.Shortages.{FallsShort, IsShortage, TakesFewer};
+ghost use Rattle.kr_intake.specs.Shortages.{FallsShort, IsShortOf, TakesFewer};
 
 use kr_base::{Failed, Source};
 use kr_defs::limits::MOST_SESSION_BYTES;
@@ -90,7 +90,7 @@ fn judge(count: usize, most: usize, len: usize) -> Result<(), Shortage>
     requires read { count ≤ most }
     requires asked { most ≤ len }
     ensures ok { OnOk result ((count ≡ most) × (most ≡ len)) }
-    ensures cause { IfErr result (λ shortage. IsShortage count most len shortage) }
+    ensures cause { IfErr result (λ shortage. IsShortOf count most len shortage) }
 {
     if count < most {
         Err(Shortage::Ended { count })

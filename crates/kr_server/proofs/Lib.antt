@@ -1,5 +1,7 @@
+mod Ends
 mod Lists
 mod Readings
+mod Refusals
 mod Replies
 mod Steps
 mod Streams
