@@ -1,6 +1,7 @@
 -- How the serving of a connection goes on by one message, and how it ends.
-use Rattle.std.proofs.Common.{◌≡◌, ◌∙◌, ℕ, ◌+◌, ◌<◌, ◌≤◌, List, [], ◌∷◌, ◌++◌, length, Option, refl, sym, ap, subst, inl, inr, arith, append_assoc, append-nil, length-append}
-use Rattle.std.specs.Io.KnownBytes.{Consumes, IsAtEnd}
+use Rattle.std.proofs.Common.{◌≡◌, ◌∙◌, ℕ, ◌+◌, ◌<◌, ◌≤◌, List, [], ◌∷◌, ◌++◌, length, Option, Result, Ok, Err, refl, sym, ap, subst, inl, inr, arith, append_assoc, append-nil, length-append}
+use Rattle.std.specs.Prelude.{IsErrOf}
+use Rattle.std.specs.Io.KnownBytes.{Consumes}
 use Rattle.std.proofs.KnownBytes.{Appends-nil, Consumes-nil, Consumes-trans}
 use Rattle.kr_defs.specs.declared.limits.TheConstants.{MOST_SESSION_BYTES}
 use Rattle.kr_wire.specs.Grammar.{Each}
@@ -19,6 +20,20 @@ use Rattle.kr_server.specs.inner.Serving.{IsAnsweredBy, IsAnsweredInPart, IsNotA
 use Rattle.kr_server.proofs.Lists.{each_both, each_one, tells_more, tells_none, tells_same}
 use Rattle.kr_server.proofs.Replies.{wrote_in_part, wrote_more, wrote_none, wrote_same}
 use Rattle.kr_server.proofs.Writes.{exchanged_more, exchanged_none, pushes_refused, pushes_those, pushes_unread, pushes_without_memory}
+
+-- ---- a read fault comes of the source alone
+
+abbrev err_of : {T : Type 0} → ServeEnd → Result T ServeEnd → ServeEnd
+err_of other (Ok t) = other
+err_of other (Err end) = end
+
+pub never_reads : {T : Type 0} (message : List ℕ) (old new : Connection) (end : ServeEnd) → IsNotAnswered message old new end → IsErrOf {T = T} (Err end) ends.ReadFault → ⊥
+never_reads message old new end n is =
+    let same : end ≡ ends.ReadFault = ap (err_of end) is in
+    let none = subst (IsNotAnswered message old new) same n in
+    none.1
+
+-- ---- one message after the other
 
 -- before the first message
 pub begins : (first : Connection) → ServedSoFar first first 0

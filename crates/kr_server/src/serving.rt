@@ -27,9 +27,9 @@ fn answer_message<R: Wait, K: Sink, T: Transcript>(
     transcript: &mut T,
 ) -> Result<(), ServeEnd>
     ensures answered {
-        (left : Option (List ℕ)) →
+        (left left' : Option (List ℕ)) →
         let before = connection left (K.written sink.old) (T.list transcript.old) seat.old in
-        let after = connection left (K.written sink.new) (T.list transcript.new) seat.new in
+        let after = connection left' (K.written sink.new) (T.list transcript.new) seat.new in
         MatchResult result (λ _. IsAnsweredBy message.now before after)
             (λ end. IsNotAnswered message.now before after end)
     }
