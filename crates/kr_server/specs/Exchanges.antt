@@ -27,18 +27,18 @@ IsMessageOf x = IsMessageThat (IsAskedFor x)
 
 -- ---- replies
 
-abbrev pub told_correlation : Exchange → ℤ
-told_correlation (exchanges.Write a) = a.call.correlation
-told_correlation (exchanges.Read call reply) = call.correlation
-told_correlation (exchanges.Bare correlation error) = correlation
+abbrev pub exchange_correlation : Exchange → ℤ
+exchange_correlation (exchanges.Write a) = a.call.correlation
+exchange_correlation (exchanges.Read call reply) = call.correlation
+exchange_correlation (exchanges.Bare correlation error) = correlation
 
-abbrev pub told_reply : Exchange → Reply
-told_reply (exchanges.Write a) = a.reply
-told_reply (exchanges.Read call reply) = reply
-told_reply (exchanges.Bare correlation error) = replies.Bare error
+abbrev pub exchange_reply : Exchange → Reply
+exchange_reply (exchanges.Write a) = a.reply
+exchange_reply (exchanges.Read call reply) = reply
+exchange_reply (exchanges.Bare correlation error) = replies.Bare error
 
 abbrev pub reply_message : Exchange → List ℕ
-reply_message x = reply_bytes (told_correlation x) (told_reply x)
+reply_message x = reply_bytes (exchange_correlation x) (exchange_reply x)
 
 -- behind its size
 abbrev pub sized_reply : Exchange → List ℕ
@@ -50,5 +50,5 @@ sized_replies xs = flat_map sized_reply xs
 
 -- its values fit their fields, and its length is a size that isn't negative
 pub record SizedReplyFits (x : Exchange) : Type 0 where
-  pub values : ReplyFits (told_correlation x) (told_reply x)
+  pub values : ReplyFits (exchange_correlation x) (exchange_reply x)
   pub size : length (reply_message x) < 2 ^ 31

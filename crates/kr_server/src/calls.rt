@@ -66,14 +66,11 @@ fn is_read(request: &Request) -> bool
 // A read, by its seat.
 fn query(seat: &mut ClientSeat, call: Call) -> Result<Exchange, ServeEnd>
     requires { IsTrue (is_read call.request) }
-    ensures asked {
-        (message : List ℕ) → IsAsk (asks.Call call) message → IfOk result (λ x. IsAskedFor x message)
-    }
+    ensures asked { (message : List ℕ) → IsAsk (asks.Call call) message
+        → IfOk result (λ x. IsAskedFor x message) }
     ensures exchanged { IfOk result (λ x. IsExchanged seat.old seat.new x) }
-    ensures err {
-        (message : List ℕ) → IsAsk (asks.Call call) message
-        → IfErr result (λ end. IsNotExchanged message seat.old seat.new end)
-    }
+    ensures err { (message : List ℕ) → IsAsk (asks.Call call) message
+        → IfErr result (λ end. IsNotExchanged message seat.old seat.new end) }
 {
     match seat.read(&call) {
         Err(fault) => Err(copy_end(fault)),
@@ -84,14 +81,11 @@ fn query(seat: &mut ClientSeat, call: Call) -> Result<Exchange, ServeEnd>
 // A write, by its seat.
 fn submit<R: Wait>(rt: &R, seat: &mut ClientSeat, call: Call) -> Result<Exchange, ServeEnd>
     requires { IsTrue (not (is_read call.request)) }
-    ensures asked {
-        (message : List ℕ) → IsAsk (asks.Call call) message → IfOk result (λ x. IsAskedFor x message)
-    }
+    ensures asked { (message : List ℕ) → IsAsk (asks.Call call) message
+        → IfOk result (λ x. IsAskedFor x message) }
     ensures exchanged { IfOk result (λ x. IsExchanged seat.old seat.new x) }
-    ensures err {
-        (message : List ℕ) → IsAsk (asks.Call call) message
-        → IfErr result (λ end. IsNotExchanged message seat.old seat.new end)
-    }
+    ensures err { (message : List ℕ) → IsAsk (asks.Call call) message
+        → IfErr result (λ end. IsNotExchanged message seat.old seat.new end) }
 {
     match seat.submit(rt, &call) {
         Err(fault) => Err(refusal_end(fault)),

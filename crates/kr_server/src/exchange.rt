@@ -9,13 +9,7 @@ pub enum Exchange {
     /// A write, and what was decided of it.
     Write(Shared<Answered>),
     /// A read, and its reply.
-    Read {
-        call: Call,
-        reply: Reply,
-    },
+    Read { call: Call, reply: Reply },
     /// A message that was no call, and the error with which it was replied.
-    Bare {
-        correlation: i32,
-        error: i16,
-    },
+    Bare { correlation: i32, error: i16 },
 }

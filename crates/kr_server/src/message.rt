@@ -21,8 +21,10 @@ pub(crate) fn read_message<S: Source>(
     at: u64,
 ) -> Result<(Vec<u8>, u64), ServeEnd>
     requires { at ≤ MOST_SESSION_BYTES }
-    ensures message { IfOk result (λ x. TookPiece (IsSizedMessage x.0.items) (S.left source.old) (S.left source.new) at x.1) }
-    ensures unread { IfErr result (λ end. IsUnread at (S.left source.old) (S.left source.new) (S.faults source.old) (S.faults source.new) end) }
+    ensures message { IfOk result (λ x.
+        TookPiece (IsSizedMessage x.0.items) (S.left source.old) (S.left source.new) at x.1) }
+    ensures unread { IfErr result (λ end. IsUnread at (S.left source.old) (S.left source.new)
+        (S.faults source.old) (S.faults source.new) end) }
     ensures further { IfOk result (λ x. at < x.1) }
     ensures later { S.faults source.old ≤ S.faults source.new }
 {
@@ -43,9 +45,11 @@ pub(crate) fn read_message<S: Source>(
 // The size of the message that begins at `at`.
 fn read_size<S: Source>(source: &mut S, at: u64) -> Result<u32, ServeEnd>
     requires { at ≤ MOST_SESSION_BYTES }
-    ensures size { IfOk result (λ size. TookPiece (IsNumber w32 size) (S.left source.old) (S.left source.new) at (at + 4)) }
+    ensures size { IfOk result (λ size.
+        TookPiece (IsNumber w32 size) (S.left source.old) (S.left source.new) at (at + 4)) }
     ensures short { IfOk result (λ size. size ≤ MOST_MESSAGE_BYTES) }
-    ensures unread { IfErr result (λ end. IsUnread at (S.left source.old) (S.left source.new) (S.faults source.old) (S.faults source.new) end) }
+    ensures unread { IfErr result (λ end. IsUnread at (S.left source.old) (S.left source.new)
+        (S.faults source.old) (S.faults source.new) end) }
     ensures later { S.faults source.old ≤ S.faults source.new }
 {
     let mut bytes = [0; 4];
@@ -72,9 +76,12 @@ fn body_room(alloc: Global, len: usize) -> Result<Vec<u8>, NoMemory>
 // The body of the message that begins at `at`, as long as the vector.
 fn read_body<S: Source>(source: &mut S, mut body: Vec<u8>, at: u64) -> Result<Vec<u8>, Shortage>
     requires { at + 4 ≤ MOST_SESSION_BYTES }
-    ensures body { IfOk result (λ read. TookPiece (Exactly read.items) (S.left source.old) (S.left source.new) (at + 4) (at + 4 + length body.items)) }
+    ensures body { IfOk result (λ read. TookPiece (Exactly read.items)
+        (S.left source.old) (S.left source.new) (at + 4) (at + 4 + length body.items)) }
     ensures len { IfOk result (λ read. length read.items ≡ length body.items) }
-    ensures short { IfErr result (λ shortage. FallsShort (at + 4) (length body.items) (S.left source.old) (S.left source.new) (S.faults source.old) (S.faults source.new) shortage) }
+    ensures short { IfErr result (λ shortage. FallsShort (at + 4) (length body.items)
+        (S.left source.old) (S.left source.new)
+        (S.faults source.old) (S.faults source.new) shortage) }
     ensures later { S.faults source.old ≤ S.faults source.new }
 {
     match take(source, body.as_mut_slice(), at + 4) {

@@ -24,21 +24,19 @@ pub(crate) fn sized_reply(alloc: Global, exchange: &Exchange) -> Result<Vec<u8>,
     match exchange {
         Exchange::Write(answered) => {
             let answered = answered.get();
-            sized(alloc, &answered.call.correlation, &answered.reply)
+            encode_sized(alloc, &answered.call.correlation, &answered.reply)
         }
-        Exchange::Read { call, reply } => sized(alloc, &call.correlation, reply),
+        Exchange::Read { call, reply } => encode_sized(alloc, &call.correlation, reply),
         Exchange::Bare { correlation, error } => {
-            sized(alloc, correlation, &Reply::Bare { error: *error })
+            encode_sized(alloc, correlation, &Reply::Bare { error: *error })
         }
     }
 }
 
 // The reply's message, behind its size.
-fn sized(alloc: Global, correlation: &i32, reply: &Reply) -> Result<Vec<u8>, NoMemory>
-    ensures bytes {
-        let message = reply_bytes correlation.now reply.now in
-        IfOk result (λ bytes. bytes.items ≡ number w32 (length message) ++ message)
-    }
+fn encode_sized(alloc: Global, correlation: &i32, reply: &Reply) -> Result<Vec<u8>, NoMemory>
+    ensures bytes { let message = reply_bytes correlation.now reply.now in
+        IfOk result (λ bytes. bytes.items ≡ number w32 (length message) ++ message) }
     ensures values { OnOk result (ReplyFits correlation.now reply.now) }
     ensures size { OnOk result (length (reply_bytes correlation.now reply.now) < 2 ^ 31) }
 {
@@ -56,9 +54,8 @@ fn int32(number: &i32) -> i32
 }
 
 fn behind_size(alloc: Global, message: &[u8]) -> Result<Vec<u8>, NoMemory>
-    ensures bytes {
-        IfOk result (λ bytes. bytes.items ≡ number w32 (length message.now) ++ message.now)
-    }
+    ensures bytes { IfOk result
+        (λ bytes. bytes.items ≡ number w32 (length message.now) ++ message.now) }
     ensures size { OnOk result (length message.now < 2 ^ 31) }
 {
     if message.len() > LONGEST_REPLY {

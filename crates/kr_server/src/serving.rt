@@ -26,16 +26,13 @@ fn answer_message<R: Wait, K: Sink, T: Transcript>(
     sink: &mut K,
     transcript: &mut T,
 ) -> Result<(), ServeEnd>
-    ensures answered {
-        (left left' : Option (List ℕ)) →
+    ensures answered { (left left' : Option (List ℕ)) →
         let before = connection left (K.written sink.old) (T.list transcript.old) seat.old in
         let after = connection left' (K.written sink.new) (T.list transcript.new) seat.new in
         MatchResult result (λ _. IsAnsweredBy message.now before after)
-            (λ end. IsNotAnswered message.now before after end)
-    }
-    ensures write {
-        IsErrOf result ServeEnd.WriteFault → Rose (K.faults sink.old) (K.faults sink.new)
-    }
+        (λ end. IsNotAnswered message.now before after end) }
+    ensures write { IsErrOf result ServeEnd.WriteFault →
+        Rose (K.faults sink.old) (K.faults sink.new) }
     ensures later { K.faults sink.old ≤ K.faults sink.new }
 {
     let exchange = match exchange(rt, alloc, seat, message) {
@@ -67,22 +64,18 @@ fn serve_message<R: Wait, S: Source, K: Sink, T: Transcript>(
     at: u64,
 ) -> Result<u64, ServeEnd>
     requires { at ≤ MOST_SESSION_BYTES }
-    ensures goes {
-        (first : AnyConnection) →
+    ensures goes { (first : AnyConnection) →
         let before =
-            connection (S.left source.old) (K.written sink.old) (T.list transcript.old) seat.old in
+        connection (S.left source.old) (K.written sink.old) (T.list transcript.old) seat.old in
         let after =
-            connection (S.left source.new) (K.written sink.new) (T.list transcript.new) seat.new in
+        connection (S.left source.new) (K.written sink.new) (T.list transcript.new) seat.new in
         ServedSoFar first before at →
-        MatchResult result (λ next. ServedSoFar first after next) (λ end. Served first after end)
-    }
+        MatchResult result (λ next. ServedSoFar first after next) (λ end. Served first after end) }
     ensures further { IfOk result (λ next. (at < next) × (next ≤ MOST_SESSION_BYTES)) }
-    ensures read {
-        IsErrOf result ServeEnd.ReadFault → Rose (S.faults source.old) (S.faults source.new)
-    }
-    ensures write {
-        IsErrOf result ServeEnd.WriteFault → Rose (K.faults sink.old) (K.faults sink.new)
-    }
+    ensures read { IsErrOf result ServeEnd.ReadFault →
+        Rose (S.faults source.old) (S.faults source.new) }
+    ensures write { IsErrOf result ServeEnd.WriteFault →
+        Rose (K.faults sink.old) (K.faults sink.new) }
     ensures source_later { S.faults source.old ≤ S.faults source.new }
     ensures sink_later { K.faults sink.old ≤ K.faults sink.new }
 {
@@ -106,11 +99,11 @@ fn serve_messages<R: Wait, S: Source, K: Sink, T: Transcript>(
     sink: &mut K,
     transcript: &mut T,
 ) -> ServeEnd
-    ensures served {
-        Served (connection (S.left source.old) (K.written sink.old) (T.list transcript.old) seat.old)
-            (connection (S.left source.new) (K.written sink.new) (T.list transcript.new) seat.new)
-            result
-    }
+    ensures served { let before =
+        connection (S.left source.old) (K.written sink.old) (T.list transcript.old) seat.old in
+        let after =
+        connection (S.left source.new) (K.written sink.new) (T.list transcript.new) seat.new in
+        Served before after result }
     ensures read { result ≡ ServeEnd.ReadFault → Rose (S.faults source.old) (S.faults source.new) }
     ensures write { result ≡ ServeEnd.WriteFault → Rose (K.faults sink.old) (K.faults sink.new) }
 {
@@ -135,11 +128,11 @@ pub fn serve_client<R: Wait, S: Source, K: Sink, T: Transcript>(
     transcript: &mut T,
 ) -> ServeEnd
     // What was taken, written, told and asked of the seat, at each end.
-    ensures served {
-        Served (connection (S.left source.old) (K.written sink.old) (T.list transcript.old) seat.old)
-            (connection (S.left source.new) (K.written sink.new) (T.list transcript.new) seat.new)
-            result
-    }
+    ensures served { let before =
+        connection (S.left source.old) (K.written sink.old) (T.list transcript.old) seat.old in
+        let after =
+        connection (S.left source.new) (K.written sink.new) (T.list transcript.new) seat.new in
+        Served before after result }
     // The seat's list goes on.
     ensures onward { Onward seat.old.seen seat.new.seen }
 
@@ -149,16 +142,12 @@ pub fn serve_client<R: Wait, S: Source, K: Sink, T: Transcript>(
     ensures copy { result ≡ ServeEnd.NoCopy → Rose seat.old.misses seat.new.misses }
 
     // Where no count rose: whole messages are served out, and others up to where they break.
-    ensures complete {
-        (Rose (S.faults source.old) (S.faults source.new) → ⊥) →
+    ensures complete { (Rose (S.faults source.old) (S.faults source.new) → ⊥) →
         (Rose (K.faults sink.old) (K.faults sink.new) → ⊥) →
-        (Rose seat.old.misses seat.new.misses → ⊥) → ServesMessages (S.left source.old) result
-    }
-    ensures broken {
-        (Rose (S.faults source.old) (S.faults source.new) → ⊥) →
+        (Rose seat.old.misses seat.new.misses → ⊥) → ServesMessages (S.left source.old) result }
+    ensures broken { (Rose (S.faults source.old) (S.faults source.new) → ⊥) →
         (Rose (K.faults sink.old) (K.faults sink.new) → ⊥) →
-        (Rose seat.old.misses seat.new.misses → ⊥) → ServesUpToBreak (S.left source.old) result
-    }
+        (Rose seat.old.misses seat.new.misses → ⊥) → ServesUpToBreak (S.left source.old) result }
 {
     serve_messages(rt, alloc, seat, source, sink, transcript)
 }
