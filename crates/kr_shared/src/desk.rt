@@ -226,7 +226,7 @@ impl Desk {
         self.publisher.publish(rt, end)
     }
 
-    /// ServesEvent an event: the engine takes it, the quorum gets what it appends, what is committed is published, and behind it
+    /// Serves an event: the engine takes it, the quorum gets what it appends, what is committed is published, and behind it
     /// the answers.
     pub(crate) fn serve<R: Wait, Q: Quorum, L: Ledger>(
         &mut self,
@@ -280,7 +280,7 @@ impl Desk {
         }
     }
 
-    /// ServesEvent an event, and where an append failed the loss of the leadership.
+    /// Serves an event, and where an append failed the loss of the leadership.
     fn serve_whole<R: Wait, Q: Quorum, L: Ledger>(
         &mut self,
         rt: &R,

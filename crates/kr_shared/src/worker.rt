@@ -106,7 +106,7 @@ impl WorkerSeat {
         &self.bells.jobs
     }
 
-    /// TakesEvent the next job and does it: an event of the link or a client's write is a step of the engine, what the step appends
+    /// Takes the next job and does it: an event of the link or a client's write is a step of the engine, what the step appends
     /// goes to the quorum, what is committed is published, and behind it an answer for each write that ends. Where an append
     /// failed, the leadership is lost in the same turn. Idle only where the queue was empty; after a stop each turn is
     /// Stopped. After NoMemory each turn answers it again.
