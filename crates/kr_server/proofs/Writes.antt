@@ -10,7 +10,7 @@ use Rattle.kr_view.specs.declared.seat.CopyFault.TheVariants as copies
 use Rattle.kr_view.specs.Seats.{Onward}
 use Rattle.kr_shared.specs.declared.clients.SubmitFault.{SubmitFault}
 use Rattle.kr_shared.specs.declared.clients.SubmitFault.TheVariants as submits
-use Rattle.kr_shared.specs.Clients.{Client, MayRise, write_of}
+use Rattle.kr_shared.specs.Clients.{Client, MayRise, job_of_call}
 use Rattle.kr_shared.specs.Submit.{PushedAtFault}
 use Rattle.kr_shared.proofs.Misses.{may_rise_behind}
 use Rattle.kr_shared.proofs.Onwards.{onward_refl, onward_trans}
@@ -21,7 +21,7 @@ use Rattle.kr_server.specs.SeatCalls.{AreExchanged, IsExchanged, IsRefusedRead, 
 -- ---- one exchange
 
 -- the write that was pushed is that of the answer
-write_is : (old new : Client) (a : Answered) → Submits old new a.call (Ok a) → write_of old new.ticket a.call ≡ jobs.Write a.seat a.ticket a.floor a.call
+write_is : (old new : Client) (a : Answered) → Submits old new a.call (Ok a) → job_of_call old new.ticket a.call ≡ jobs.Write a.seat a.ticket a.floor a.call
 write_is old new a s =
     let is = s.answer in
     ap (λ (n : ℕ). jobs.Write n new.ticket (end_of old.seen.list) a.call) (sym is.of_seat)
@@ -69,7 +69,7 @@ misses_all old mid (x ∷ xs) all = may_rise_behind old.misses all.0.misses mid.
 -- ---- what comes behind them
 
 -- a write without an answer
-pushed_at_fault : (mid new : Client) (call : Call) (fault : SubmitFault) → PushedAtFault mid new call fault → (new.pushed ≡ mid.pushed) ⊎ (new.pushed ≡ mid.pushed ++ write_of mid new.ticket call ∷ [])
+pushed_at_fault : (mid new : Client) (call : Call) (fault : SubmitFault) → PushedAtFault mid new call fault → (new.pushed ≡ mid.pushed) ⊎ (new.pushed ≡ mid.pushed ++ job_of_call mid new.ticket call ∷ [])
 pushed_at_fault mid new call (submits.Ended number) p = p
 pushed_at_fault mid new call (submits.Ahead floor tip) p = inr p
 pushed_at_fault mid new call (submits.Exhausted tip) p = inr p
@@ -82,14 +82,14 @@ module _ (old mid new : Client) (xs : List Exchange) (all : AreExchanged old xs 
   pub pushes_refused : (fault : SubmitFault) (message : List ℕ) → IsRefusedWrite mid new fault message → PushesWrites old mid new (pushed_writes xs)
   pushes_refused fault message r = elim (pushed_at_fault mid new r.call fault r.told.pushed) [
     | inl none ↦ those (none ∙ pushed_all old mid xs all)
-    | inr one ↦ one_more new.ticket r.call (one ∙ ap (λ (l : List Job). l ++ write_of mid new.ticket r.call ∷ []) (pushed_all old mid xs all))
+    | inr one ↦ one_more new.ticket r.call (one ∙ ap (λ (l : List Job). l ++ job_of_call mid new.ticket r.call ∷ []) (pushed_all old mid xs all))
   ]
 
   pub pushes_unread : (fault : CopyFault) (message : List ℕ) → IsRefusedRead mid new fault message → PushesWrites old mid new (pushed_writes xs)
   pushes_unread fault message r = those (ap (λ (c : Client). c.pushed) r.told.same ∙ pushed_all old mid xs all)
 
   pushes_exchange : (x : Exchange) → IsExchanged mid new x → PushesWrites old mid new (pushed_writes xs)
-  pushes_exchange (exchanges.Write a) s = one_more new.ticket a.call (s.pushed ∙ ap (λ (l : List Job). l ++ write_of mid new.ticket a.call ∷ []) (pushed_all old mid xs all))
+  pushes_exchange (exchanges.Write a) s = one_more new.ticket a.call (s.pushed ∙ ap (λ (l : List Job). l ++ job_of_call mid new.ticket a.call ∷ []) (pushed_all old mid xs all))
   pushes_exchange (exchanges.Read call reply) q = those (ap (λ (c : Client). c.pushed) q.same ∙ pushed_all old mid xs all)
   pushes_exchange (exchanges.Bare correlation error) same = pushes_those same
 

@@ -16,7 +16,7 @@ use Rattle.kr_view.specs.declared.seat.CopyFault.TheVariants as copies
 use Rattle.kr_view.specs.Seats.{Onward}
 use Rattle.kr_shared.specs.declared.clients.SubmitFault.{SubmitFault}
 use Rattle.kr_shared.specs.declared.clients.SubmitFault.TheVariants as submits
-use Rattle.kr_shared.specs.Clients.{Client, HasReadCause, MayRise, write_of}
+use Rattle.kr_shared.specs.Clients.{Client, HasReadCause, MayRise, job_of_call}
 use Rattle.kr_shared.specs.Submit.{IsAnswered, IsSubmitCause, Pushed, PushedAtFault}
 use Rattle.kr_server.specs.declared.exchange.Exchange.{Exchange}
 use Rattle.kr_server.specs.declared.exchange.Exchange.TheVariants as exchanges
@@ -89,4 +89,4 @@ pushed_writes xs = flat_map pushed_write xs
 -- the seat pushed these writes, and perhaps one more, when it was in this state
 pub data PushesWrites (old mid new : Client) (writes : List Job) : Type 0 where
   those : new.pushed ≡ old.pushed ++ writes → PushesWrites old mid new writes
-  one_more : (ticket : ℕ) (call : Call) → new.pushed ≡ (old.pushed ++ writes) ++ write_of mid ticket call ∷ [] → PushesWrites old mid new writes
+  one_more : (ticket : ℕ) (call : Call) → new.pushed ≡ (old.pushed ++ writes) ++ job_of_call mid ticket call ∷ [] → PushesWrites old mid new writes

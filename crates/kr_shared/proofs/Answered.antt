@@ -1,7 +1,8 @@
 -- The answers to the writes whose replies are told are right, and the other writes wait on.
 use Rattle.std.proofs.Common.{◌≡◌, ◌∙◌, sym, subst, ℕ, ℤ, pos, negsuc, Bool, true, false, cond, ◌+◌, ◌≤◌, List, [], ◌∷◌, ◌++◌, map, refl, ap, arith}
-use Rattle.std.specs.Prelude.{Option, Some, None, filter, fold, int_lt, not}
+use Rattle.std.specs.Prelude.{◌+ℤ◌, Option, Some, None, filter, fold, int_lt, not}
 use Rattle.std.proofs.lemmas.Bool.Decides.{nat_tests}
+use Rattle.std.proofs.lemmas.Int.{ints}
 use Rattle.std.proofs.lemmas.List.{append_assoc, append-nil}
 use Rattle.kr_calls.specs.declared.answers.Answer.{Answer}
 use Rattle.kr_calls.specs.declared.answers.AnswerKind.TheVariants as kinds
@@ -20,8 +21,11 @@ use Rattle.law_following.specs.Following.{AreNotes, Shows}
 use Rattle.law_following.proofs.Decided.{decided_answers_are_right}
 use Rattle.law_following.proofs.Shown.{shown_logs_go_on}
 use Rattle.kr_shared.specs.declared.asked.Asked.{Asked}
-use Rattle.kr_shared.specs.Answers.{Answering, answer_of, answered_of, answering, with_told}
-use Rattle.kr_shared.specs.Standing.{AreWaiting, IsWaiting}
+use Rattle.kr_shared.specs.Answers.{Answering, decided_answer, answered_of, answering, with_told}
+use Rattle.kr_shared.specs.Standing.{AreWaiting, IsWaitingWrite}
+
+pub pos_sum : (m n : ℕ) → pos (m + n) ≡ pos m +ℤ pos n
+pos_sum m n = grind (arith, ints)
 
 -- ---- outputs that no write waited for
 
@@ -44,13 +48,14 @@ all_pass f p (w ∷ ws) none =
 
 module _ (options : Options) (log : Log) (end : ℕ) where
   abbrev answer_by : Bool → Asked → Write → Answer
-  answer_by b a w = answer_of a (cond b kinds.Lost kinds.Stands) w.decided (cond b w.refusal w.reply)
+  answer_by b a w = decided_answer a (cond b kinds.Lost kinds.Stands) w.decided (cond b w.refusal w.reply)
 
-  right_by : (b : Bool) (a : Asked) (w : Write) (base : List Entry) → int_lt (pos end) w.need ≡ b → IsWaiting options log a w → Shows log end base → IsRight options base (answer_by b a w)
+  right_by : (b : Bool) (a : Asked) (w : Write) (base : List Entry) → int_lt (pos end) w.need ≡ b → IsWaitingWrite options log a w → Shows log end base → IsRight options base (answer_by b a w)
   right_by true a w base is i shows = (record { seat = refl; ticket = refl; place = refl; floor = i.floor }, i.refusal)
-  right_by false a w base is i shows =
-      (record { seat = refl; ticket = refl; place = refl; floor = i.floor },
-        decided_answers_are_right options log end base (answered_of a w.decided w.reply) i.decided (not_later end w.need (i.decided.at + w.decided.count) i.need is) shows)
+  right_by false a w base is i shows = (
+    record { seat = refl; ticket = refl; place = refl; floor = i.floor },
+    decided_answers_are_right options log end base (answered_of a w.decided w.reply) i.decided (not_later end w.need (i.decided.at + w.decided.count) (i.need ∙ (ap (λ z. z +ℤ pos w.decided.count) i.decided.place ∙ sym (pos_sum i.decided.at w.decided.count))) is) shows,
+  )
 
   -- ---- all of them
 
@@ -78,25 +83,25 @@ module _ (options : Options) (log : Log) (end : ℕ) where
       pub waits : AreWaiting options log r.waiting (filter (is_open leading (pos end)) writes)
       pub answers : AreAnswers notes r
 
-    still : (as : List Asked) (w : Write) (ws : List Write) (notes : List Entry) → AreWaiting options log as (w ∷ ws) → told_answers leading (pos end) (w ∷ ws) ≡ [] → Ends (w ∷ ws) notes (fold with_told (answering as notes) (told_answers leading (pos end) (w ∷ ws)))
-    still as w ws notes waits none =
-        subst (λ (told : List Told). Ends (w ∷ ws) notes (fold with_told (answering as notes) told)) (sym none) (record {
-          waits = subst (AreWaiting options log as) (sym (all_pass (told_reply (pos end)) (is_open leading (pos end)) (w ∷ ws) none)) waits;
-          answers = none_added notes as;
+    still : (ones : List Asked) (w : Write) (ws : List Write) (notes : List Entry) → AreWaiting options log ones (w ∷ ws) → told_answers leading (pos end) (w ∷ ws) ≡ [] → Ends (w ∷ ws) notes (fold with_told (answering ones notes) (told_answers leading (pos end) (w ∷ ws)))
+    still ones w ws notes waits none =
+        subst (λ (told : List Told). Ends (w ∷ ws) notes (fold with_told (answering ones notes) told)) (sym none) (record {
+          waits = subst (AreWaiting options log ones) (sym (all_pass (told_reply (pos end)) (is_open leading (pos end)) (w ∷ ws) none)) waits;
+          answers = none_added notes ones;
         })
 
-    pub ends_all : (as : List Asked) (ws : List Write) (notes : List Entry) → AreWaiting options log as ws → writes_in_order ws ≡ true → Ends ws notes (fold with_told (answering as notes) (told_answers leading (pos end) ws))
+    pub ends_all : (ones : List Asked) (ws : List Write) (notes : List Entry) → AreWaiting options log ones ws → writes_in_order ws ≡ true → Ends ws notes (fold with_told (answering ones notes) (told_answers leading (pos end) ws))
     ends_all [] [] notes waits ordered = record { waits = tt; answers = none_added notes [] }
-    ends_all (a ∷ as) [] notes waits ordered = absurd waits
+    ends_all (a ∷ ones) [] notes waits ordered = absurd waits
     ends_all [] (w ∷ ws) notes waits ordered = absurd waits
-    ends_all (a ∷ as) (w ∷ ws) notes waits ordered =
-        elim (is_open leading (pos end) w) as (λ b. is_open leading (pos end) w ≡ b → Ends (w ∷ ws) notes (fold with_told (answering (a ∷ as) notes) (told_answers leading (pos end) (w ∷ ws)))) [
-          | true ↦ λ is. still (a ∷ as) w ws notes waits (none_is_due leading (pos end) w ws is ordered)
+    ends_all (a ∷ ones) (w ∷ ws) notes waits ordered =
+        elim (is_open leading (pos end) w) as (λ b. is_open leading (pos end) w ≡ b → Ends (w ∷ ws) notes (fold with_told (answering (a ∷ ones) notes) (told_answers leading (pos end) (w ∷ ws)))) [
+          | true ↦ λ is. still (a ∷ ones) w ws notes waits (none_is_due leading (pos end) w ws is ordered)
           | false ↦ λ is.
               let answer = answer_by (int_lt (pos end) w.need) a w in
-              let rest = ends_all as ws (notes ++ entries.Answer answer ∷ []) waits.1 (order_behind w ws ordered) in
-              subst (λ (told : List Told). Ends (w ∷ ws) notes (fold with_told (answering (a ∷ as) notes) told)) (sym (first_is_due leading (pos end) w ws is)) (record {
-                waits = subst (AreWaiting options log (fold with_told (answering as (notes ++ entries.Answer answer ∷ [])) (told_answers leading (pos end) ws)).waiting) (sym (first_waits_not leading (pos end) w ws is)) rest.waits;
-                answers = one_added notes answer (fold with_told (answering as (notes ++ entries.Answer answer ∷ [])) (told_answers leading (pos end) ws)) (λ base shows. right_by (int_lt (pos end) w.need) a w base refl waits.0 shows) rest.answers;
+              let rest = ends_all ones ws (notes ++ entries.Answer answer ∷ []) waits.1 (order_behind w ws ordered) in
+              subst (λ (told : List Told). Ends (w ∷ ws) notes (fold with_told (answering (a ∷ ones) notes) told)) (sym (first_is_due leading (pos end) w ws is)) (record {
+                waits = subst (AreWaiting options log (fold with_told (answering ones (notes ++ entries.Answer answer ∷ [])) (told_answers leading (pos end) ws)).waiting) (sym (first_waits_not leading (pos end) w ws is)) rest.waits;
+                answers = one_added notes answer (fold with_told (answering ones (notes ++ entries.Answer answer ∷ [])) (told_answers leading (pos end) ws)) (λ base shows. right_by (int_lt (pos end) w.need) a w base refl waits.0 shows) rest.answers;
               })
         ] refl

@@ -31,7 +31,7 @@ outputs_alone : (outputs : List Output) → map (λ (t : Told). t.output) (map t
 outputs_alone [] = refl
 outputs_alone (output ∷ outputs) = ap (λ (l : List Output). output ∷ l) (outputs_alone outputs)
 
-outputs_due : (end : ℤ) (writes : List Write) → map (λ (t : Told). t.output) (map (told_reply end) writes) ≡ map (due_reply end) writes
+pub outputs_due : (end : ℤ) (writes : List Write) → map (λ (t : Told). t.output) (map (told_reply end) writes) ≡ map (due_reply end) writes
 outputs_due end [] = refl
 outputs_due end (w ∷ writes) = ap (λ (l : List Output). due_reply end w ∷ l) (outputs_due end writes)
 

@@ -1,5 +1,5 @@
 -- The last of the readers' seats, by itself.
-use Rattle.std.proofs.Common.{◌≡◌, ◌∙◌, ℕ, zero, suc, ◌+◌, List, [], ◌∷◌, ◌++◌, length, length-append, refl, sym, ap, arith}
+use Rattle.std.proofs.Common.{◌≡◌, ℕ, zero, suc, ◌+◌, List, [], ◌∷◌, ◌++◌, length, refl}
 use Rattle.std.specs.Prelude.{Some, slice_get}
 use Rattle.kr_defs.specs.declared.options.Options.{Options}
 use Rattle.kr_view.specs.CopiesRule.{seen}
@@ -15,10 +15,5 @@ at_end : {A : Type 0} (ys : List A) (x : A) → slice_get (ys ++ x ∷ []) (leng
 at_end [] x = refl
 at_end (y ∷ ys) x = at_end ys x
 
-pub last_seat : (options : Options) (all left : List Seat) (s : Seat) → all ≡ left ++ s ∷ [] → AreSeats options all
-    → AreSeats options left × (s ≡ record { number = length left + 1; seen = seen Rattle.std.specs.Prelude.true options []; misses = 0 }) × (length left + 1 ≡ length all)
-last_seat options all left s is seats = (
-  (λ k x e. seats k x (ap (λ l. slice_get l k) is ∙ still left s k x e)),
-  seats (length left) s (ap (λ l. slice_get l (length left)) is ∙ at_end left s),
-  (let l = length-append left (s ∷ []) in omega (arith, l)) ∙ ap length (sym is),
-)
+pub last_seat : (options : Options) (left : List Seat) (s : Seat) → AreSeats options (left ++ s ∷ []) → AreSeats options left × (s ≡ record { number = length left + 1; seen = seen Rattle.std.specs.Prelude.true options []; misses = 0 })
+last_seat options left s seats = ((λ k x e. seats k x (still left s k x e)), seats (length left) s (at_end left s))

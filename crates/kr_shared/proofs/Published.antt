@@ -27,12 +27,12 @@ use Rattle.law_following.proofs.Shown.{shown_logs_go_on}
 next : (n : ℕ) → pos n +ℤ pos 1 ≡ pos (suc n)
 next n = grind (arith, ints)
 
-nothing_below : (from : ℕ) (items : List Item) → staged_below (pos from) (item_entries (pos from) items) ≡ []
+pub nothing_below : (from : ℕ) (items : List Item) → staged_below (pos from) (item_entries (pos from) items) ≡ []
 nothing_below from [] = refl
 nothing_below from (x ∷ xs) =
     ap (λ b. cond b (entries.Item (pos from) x ∷ staged_below (pos from) (item_entries (pos from +ℤ pos 1) xs)) []) (isnt_below from from (omega arith))
 
-all_above : (from : ℕ) (items : List Item) → staged_above (pos from) (item_entries (pos from) items) ≡ item_entries (pos from) items
+pub all_above : (from : ℕ) (items : List Item) → staged_above (pos from) (item_entries (pos from) items) ≡ item_entries (pos from) items
 all_above from [] = refl
 all_above from (x ∷ xs) =
     let rest = item_entries (pos from +ℤ pos 1) xs in

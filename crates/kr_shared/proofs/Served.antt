@@ -22,7 +22,7 @@ use Rattle.kr_world.specs.declared.writes.Write.{Write}
 use Rattle.kr_world.specs.Engine.{Core, IsEngine, writes_in_order}
 use Rattle.kr_world.specs.Entries.{items_from, log_entries}
 use Rattle.kr_world.specs.Events.{at_time_of, happens, outcome}
-use Rattle.kr_world.specs.Outputs.{if_accepted, is_open, is_open_in, new_writes, told_alone, told_answers, waiting_after, writes_of}
+use Rattle.kr_world.specs.Outputs.{answers, answers_in, answers_now, if_accepted, is_open, is_open_in, new_writes, outputs_of, told_alone, told_answers, waiting_after, writes_of}
 use Rattle.kr_world.specs.World.{State, World, log_with, tip_of}
 use Rattle.kr_world.proofs.DueWrites.{event_goes}
 use Rattle.kr_world.proofs.KeptImages.{none_open, not_higher}
@@ -32,30 +32,32 @@ use Rattle.law_following.specs.Following.{AreNotes, Shows}
 use Rattle.law_following.proofs.Decided.{decided_on}
 use Rattle.law_following.proofs.Evolving.{Evolved, Longer, evolves}
 use Rattle.kr_shared.specs.declared.asked.Asked.{Asked}
-use Rattle.kr_shared.specs.Answers.{Answering, answer_all, answered_of, answering, with_told}
-use Rattle.kr_shared.specs.Standing.{AreWaiting, IsWaiting, Standing}
-use Rattle.kr_shared.specs.Takes.{Takes}
-use Rattle.kr_shared.specs.Works.{Work, is_lost, staged_after}
+use Rattle.kr_shared.specs.Answers.{Answering, AreReplied, answer_all, answered_of, answering, with_told}
+use Rattle.kr_shared.specs.Standing.{AreWaiting, IsWaitingWrite, Standing}
+use Rattle.kr_shared.specs.Takes.{TakesEvent}
+use Rattle.kr_shared.specs.Works.{DeskView, is_lost, staged_after}
 use Rattle.kr_shared.proofs.Answered.{AreAnswers, Ends, alone_told, ends_all}
 use Rattle.kr_shared.proofs.Published.{Publishes}
+use Rattle.kr_shared.proofs.Replied.{AreSilent, all_replied, event_replied}
 use Rattle.kr_shared.proofs.Standings.{Rests, loaded_staged, longer_staged, lost_by, none_staged, shorter_staged}
 
 -- ---- who waits, in a longer log
 
-waiting_longer : (options : Options) (log : Log) (xs : List Rattle.kr_defs.specs.declared.record.Item.Item) (as : List Asked) (ws : List Write) → AreWaiting options log as ws → AreWaiting options (log_with log xs) as ws
+waiting_longer : (options : Options) (log : Log) (xs : List Rattle.kr_defs.specs.declared.record.Item.Item) (ones : List Asked) (ws : List Write) → AreWaiting options log ones ws → AreWaiting options (log_with log xs) ones ws
 waiting_longer options log xs [] [] h = tt
 waiting_longer options log xs [] (w ∷ ws) h = absurd h
-waiting_longer options log xs (a ∷ as) [] h = absurd h
-waiting_longer options log xs (a ∷ as) (w ∷ ws) h =
-    let i = h.0 in
-    (record { client = i.client; correlation = i.correlation; floor = i.floor; decided = decided_on options log xs (answered_of a w.decided w.reply) i.decided; need = i.need; refusal = i.refusal },
-      waiting_longer options log xs as ws h.1)
+waiting_longer options log xs (a ∷ ones) [] h = absurd h
+waiting_longer options log xs (a ∷ ones) (w ∷ ws) h =
+    let i = h.0 in (
+      record { client = i.client; correlation = i.correlation; floor = i.floor; decided = decided_on options log xs (answered_of a w.decided w.reply) i.decided; need = i.need; refusal = i.refusal },
+      waiting_longer options log xs ones ws h.1,
+    )
 
-pub none_wait : (options : Options) (log other : Log) (as : List Asked) (ws : List Write) → ws ≡ [] → AreWaiting options log as ws → AreWaiting options other as ws
+pub none_wait : (options : Options) (log other : Log) (ones : List Asked) (ws : List Write) → ws ≡ [] → AreWaiting options log ones ws → AreWaiting options other ones ws
 none_wait options log other [] [] none h = tt
 none_wait options log other [] (w ∷ ws) none h = absurd h
-none_wait options log other (a ∷ as) [] none h = absurd h
-none_wait options log other (a ∷ as) (w ∷ ws) none h = absurd cc
+none_wait options log other (a ∷ ones) [] none h = absurd h
+none_wait options log other (a ∷ ones) (w ∷ ws) none h = absurd cc
 
 -- ---- events of the link hold no write
 
@@ -78,7 +80,7 @@ holds_none options s events.Image link = absurd cc
 
 -- ---- an event
 
-module _ (old : Work) (between : Core) (event : Event) (told : List Told) (s : State) (writes : List Write) (k : Standing old s writes) (t : Takes old.engine between event told) where
+module _ (old : DeskView) (between : Core) (event : Event) (told : List Told) (s : State) (writes : List Write) (k : Standing old s writes) (t : TakesEvent old.engine between event told) where
   abbrev o : Options
   o = old.engine.options
 
@@ -167,14 +169,31 @@ module _ (old : Work) (between : Core) (event : Event) (told : List Told) (s : S
     pub waits : AreWaiting o next.world.log r.waiting later
     pub bare : AreNotes r.notes
     pub right : AreRightAfter o shown r.notes
+    pub replied : AreReplied r.notes (outputs_of o s writes event)
 
-  pub answered_longer : (as : List Asked) → AreWaiting o next.world.log as held → Answers (fold with_told (answering as []) told)
-  answered_longer as waits =
-      let e = ends_all o next.world.log next.world.committed next.world.leading as held [] waits ordered in
-      subst Answers (sym (answers_are (answering as []))) (record {
+  abbrev s1 : State
+  s1 = at_time_of s event
+
+  -- what is told is all that the event gives out
+  pub outputs_told : map (λ (t : Told). t.output) told ≡ outputs_of o s writes event
+  outputs_told = t.emptied.outputs ∙ t.step.outputs s writes k.engine
+
+  pub replied_by : (notes : List Entry) → AreSilent (answers_now o s1 event) → AreReplied notes (answers_in next.world held) → AreReplied notes (outputs_of o s writes event)
+  replied_by notes silent h = event_replied o s1 writes event (outcome o s1 event) notes silent h
+
+  pub waits_on : (ones : List Asked) → AreWaiting o next.world.log ones held → AreWaiting o next.world.log (fold with_told (answering ones []) told).waiting later
+  waits_on ones waits =
+      subst (λ (r : Answering). AreWaiting o next.world.log r.waiting later) (sym (answers_are (answering ones [])))
+      (ends_all o next.world.log next.world.committed next.world.leading ones held [] waits ordered).waits
+
+  pub answered_longer : (ones : List Asked) → AreSilent (answers_now o s1 event) → AreWaiting o next.world.log ones held → Answers (fold with_told (answering ones []) told)
+  answered_longer ones silent waits =
+      let e = ends_all o next.world.log next.world.committed next.world.leading ones held [] waits ordered in
+      subst Answers (sym (answers_are (answering ones []))) (record {
         waits = e.waits;
         bare = subst AreNotes (sym e.answers.added) e.answers.bare;
         right = subst (AreRightAfter o shown) (sym e.answers.added) (e.answers.right shown publishes.shows);
+        replied = replied_by (fold with_told (answering ones []) answers_told).notes silent (all_replied o next.world.log next.world.committed next.world.leading ones held [] waits ordered);
       })
 
   -- on standby no write waits
@@ -188,7 +207,7 @@ module _ (old : Work) (between : Core) (event : Event) (told : List Told) (s : S
   waits_longer l =
       subst (λ (g : Log). AreWaiting o g old.waiting writes) (sym l.writes) (waiting_longer o s.world.log l.items old.waiting writes k.waits)
 
-  module _ (none : new_writes o s event ≡ []) where
+  module _ (none : new_writes o s event ≡ []) (silent : AreSilent (answers_now o s1 event)) where
     held_is : held ≡ writes
     held_is = ap (λ (l : List Write). writes ++ l) none ∙ append-nil writes
 
@@ -200,7 +219,7 @@ module _ (old : Work) (between : Core) (event : Event) (told : List Told) (s : S
         let e = ends_all o s.world.log s.world.committed next.world.leading old.waiting held [] (subst (AreWaiting o s.world.log old.waiting) (sym held_is) k.waits) ordered in
         let r = fold with_told (answering old.waiting []) (told_answers next.world.leading (pos s.world.committed) held) in
         let here : shown ≡ list =
-            ap (λ (l : List Entry). list ++ staged_below (pos next.world.committed) l) (staged_so ∙ none_staged s.world next.world list between.fresh rests k.shows c is) ∙ append-nil list in
+        ap (λ (l : List Entry). list ++ staged_below (pos next.world.committed) l) (staged_so ∙ none_staged s.world next.world list between.fresh rests k.shows c is) ∙ append-nil list in
         subst Answers
         (sym (answers_are (answering old.waiting []) ∙ ap (λ n. fold with_told (answering old.waiting []) (told_answers next.world.leading (pos n) held)) c.same))
         (record {
@@ -209,13 +228,17 @@ module _ (old : Work) (between : Core) (event : Event) (told : List Told) (s : S
               (none_wait o s.world.log next.world.log r.waiting (filter (is_open next.world.leading (pos s.world.committed)) held) (over c.over (pos s.world.committed)) e.waits);
           bare = subst AreNotes (sym e.answers.added) e.answers.bare;
           right = subst (AreRightAfter o shown) (sym e.answers.added) (e.answers.right shown (subst (Shows s.world.log s.world.committed) (sym here) k.shows));
+          replied =
+              replied_by r.notes silent
+              (subst (λ n. AreReplied r.notes (answers next.world.leading (pos n) held)) (sym c.same)
+              (all_replied o s.world.log s.world.committed next.world.leading old.waiting held [] (subst (AreWaiting o s.world.log old.waiting) (sym held_is) k.waits) ordered));
         })
 
     answered_by : Evolved s.world next.world between.fresh → Answers (fold with_told (answering old.waiting []) told)
-    answered_by (inl (l, is)) = answered_longer old.waiting (subst (AreWaiting o next.world.log old.waiting) (sym held_is) (waits_longer l))
+    answered_by (inl (l, is)) = answered_longer old.waiting silent (subst (AreWaiting o next.world.log old.waiting) (sym held_is) (waits_longer l))
     answered_by (inr (inl (c, is))) = answered_shorter c is
     answered_by (inr (inr (l, is))) =
-        answered_longer old.waiting
+        answered_longer old.waiting silent
         (subst (AreWaiting o next.world.log old.waiting) (sym held_is) (none_wait o s.world.log next.world.log old.waiting writes (none_waits l.standby) k.waits))
 
     pub answered : Answers (fold with_told (answering old.waiting []) told)

@@ -2,7 +2,7 @@
 use Rattle.std.proofs.Common.{◌≡◌, ◌∙◌, sym, subst, ℕ, ℤ, pos, Bool, true, false, cond, ◌+◌, List, [], ◌∷◌, ◌++◌, map, length, refl, ap}
 use Rattle.std.specs.Prelude.{Option, Some, None, is_some, not, filter, fold, int_lt, ◌&&◌, ◌==◌, option_to_list, Result, Ok, Err}
 use Rattle.std.specs.Result.{result_unwrap_or}
-use Rattle.std.proofs.lemmas.List.{append-nil}
+use Rattle.std.proofs.lemmas.List.{append_assoc, append-nil}
 use Rattle.kr_calls.specs.declared.answers.AnswerKind.TheVariants as kinds
 use Rattle.kr_calls.specs.declared.calls.Ask.TheVariants as asks
 use Rattle.kr_calls.specs.declared.calls.Call.{Call}
@@ -11,6 +11,8 @@ use Rattle.kr_calls.specs.declared.errors.TheConstants.{NOT_CONTROLLER}
 use Rattle.kr_calls.specs.declared.events.Event.{Event}
 use Rattle.kr_calls.specs.declared.events.Output.{Output}
 use Rattle.kr_calls.specs.declared.events.Reason.{Reason}
+use Rattle.kr_calls.specs.declared.events.Entry.{Entry}
+use Rattle.kr_calls.specs.declared.events.Entry.TheVariants as entries
 use Rattle.kr_calls.specs.declared.events.Event.TheVariants as events
 use Rattle.kr_calls.specs.declared.events.Output.TheVariants as given
 use Rattle.kr_calls.specs.Decide.{is_read, query}
@@ -24,7 +26,7 @@ use Rattle.kr_world.specs.declared.writes.Told.{Told}
 use Rattle.kr_world.specs.declared.writes.Write.{Write}
 use Rattle.kr_world.specs.Engine.{Core, IsEngine}
 use Rattle.kr_world.specs.Events.{at_time_of, happens, next_number, outcome, with_next_number}
-use Rattle.kr_world.specs.Outputs.{answers_in, append, is_open_in, new_writes, outputs_of, outputs_then, replies_now, write_of, writes_of}
+use Rattle.kr_world.specs.Outputs.{answers_in, answers_now, append, is_open_in, new_writes, outputs_of, outputs_then, replies_now, write_of, writes_of}
 use Rattle.kr_world.specs.Reasons.{exhausted}
 use Rattle.kr_world.specs.Request.{after_ask, after_write, decision, is_decided}
 use Rattle.kr_world.specs.World.{State, World, image_of_end, is_far, log_with, tip_of}
@@ -34,12 +36,14 @@ use Rattle.law_following.specs.Following.{AreNotes}
 use Rattle.law_following.proofs.Evolving.{request_longer}
 use Rattle.kr_shared.specs.declared.answers.Asking.{Asking}
 use Rattle.kr_shared.specs.declared.asked.Asked.{Asked}
-use Rattle.kr_shared.specs.Answers.{Answering, answer_all, answer_write, answering, asked_by, first_reply, lost_at_once, refusal_in, with_told}
+use Rattle.kr_shared.specs.Answers.{Answering, AreReplied, answer_all, decided_answer, answer_write, answered_of, answering, asked_by, exhausted_answer, first_reply, lost_at_once, refusal_in, with_told}
 use Rattle.kr_shared.specs.Standing.{AreWaiting, Standing}
-use Rattle.kr_shared.specs.Takes.{Takes}
+use Rattle.kr_shared.specs.Takes.{TakesEvent}
 use Rattle.kr_shared.specs.Tasks.{IsWrite}
-use Rattle.kr_shared.specs.Works.{Work}
-use Rattle.kr_shared.proofs.Served.{Answers, answered_longer, none_wait, none_waits, shown, waits_longer}
+use Rattle.kr_shared.specs.Works.{DeskView}
+use Rattle.law_following.proofs.Lists.{has_first}
+use Rattle.kr_shared.proofs.Replied.{AreSilent, appends_silent, both_silent, silent_replied}
+use Rattle.kr_shared.proofs.Served.{Answers, answered_longer, none_waits, shown, waits_longer, waits_on}
 use Rattle.kr_shared.proofs.Written.{AreAccepted, both_accepted, kept_reply, no_reason, or_reason_of, or_reply_of, outputs, reasons_in, refused_told, replies_accepted, replies_in, waiting_write, waits_more}
 
 and_true : (a b : Bool) → b ≡ true → (a && b) ≡ a
@@ -50,8 +54,8 @@ led_none : (leading : Option ℤ) → is_some leading ≡ false → leading ≡ 
 led_none None is = refl
 led_none (Some epoch) is = absurd cc
 
-module _ (old : Work) (between : Core) (client : ℕ) (now : ℤ) (call : Call) (a : Asking) (told : List Told) (s : State) (writes : List Write) (k : Standing old s writes)
-    (t : Takes old.engine between (events.Request client now (asks.Call call)) told) (task : IsWrite old.engine a client now call) where
+module _ (old : DeskView) (between : Core) (client : ℕ) (now : ℤ) (call : Call) (a : Asking) (told : List Told) (s : State) (writes : List Write) (k : Standing old s writes)
+    (t : TakesEvent old.engine between (events.Request client now (asks.Call call)) told) (task : IsWrite old.engine a client now call) where
   abbrev event : Event
   event = events.Request client now (asks.Call call)
 
@@ -105,12 +109,13 @@ module _ (old : Work) (between : Core) (client : ℕ) (now : ℤ) (call : Call) 
 
     refused : Ends answer
     refused =
-        let e = answered_longer old between event told s writes k t old.waiting still in
+        let e = waits_on old between event told s writes k t old.waiting still in
         let same = refused_told (answering old.waiting []) told (next_number s.world.count) reason out in
         subst (λ (r : Option Reason). Ends (answer_write a call led r old.waiting told)) (sym why) (record {
-          waits = subst (λ (r : Answering). AreWaiting o next.world.log r.waiting (Rattle.kr_world.specs.Outputs.waiting_after o s writes event)) same e.waits;
+          waits = subst (λ (r : Answering). AreWaiting o next.world.log r.waiting (Rattle.kr_world.specs.Outputs.waiting_after o s writes event)) same e;
           bare = tt;
           right = (tt, tt);
+          replied = subst (AreReplied (exhausted_answer a ∷ [])) (sym (outputs_refused old.engine o s writes event reason is)) (tt, tt);
         })
 
   -- ---- it is taken
@@ -165,11 +170,22 @@ module _ (old : Work) (between : Core) (client : ℕ) (now : ℤ) (call : Call) 
           ap (λ b. tip_of (cond b (after_write o s1 call.request) s1)) yes
           ∙ (ap tip (batch_written s.world (as_items (decision o s1 call.request).records)) ∙ ap tip (sym log_is))
 
+      leads : is_some s.world.leading ≡ true
+      leads = sym (and_true (is_some s.world.leading) (not (is_read call.request)) task.1) ∙ yes
+
+      none_now : replies_now o s1 call.request ≡ []
+      none_now =
+          ap (λ b. cond b (option_to_list (query o (image_of_end s1) call.request)) (cond (is_some s.world.leading) [] (refuse call.request NOT_CONTROLLER ∷ []))) no_read
+          ∙ ap (λ b. cond b [] (refuse call.request NOT_CONTROLLER ∷ [])) leads
+
+      silent : AreSilent (answers_now o s1 event)
+      silent = subst (λ (rs : List Reply). AreSilent (map (given.Reply client call.correlation) rs)) (sym none_now) tt
+
       taken : Ends answer
       taken =
           subst (λ (r : Option Reason). Ends (answer_write a call led r old.waiting told)) (sym no_why)
           (subst (λ b. Ends (answer_write a call b None old.waiting told)) (sym (led_is ∙ yes))
-          (answered_longer old between event told s writes k t (old.waiting ++ asked_by a call ∷ [])
+          (answered_longer old between event told s writes k t (old.waiting ++ asked_by a call ∷ []) silent
           (subst (λ (ws : List Write). AreWaiting o next.world.log (old.waiting ++ asked_by a call ∷ []) (writes ++ ws)) (sym held)
           (waits_more o next.world.log old.waiting writes (asked_by a call) (write_of o s1 client call) longer
           (waiting_write o s1 client call a next.world.log log_is task.0 tip_is floor)))))
@@ -179,7 +195,7 @@ module _ (old : Work) (between : Core) (client : ℕ) (now : ℤ) (call : Call) 
       standby : s.world.leading ≡ None
       standby = led_none s.world.leading (sym (and_true (is_some s.world.leading) (not (is_read call.request)) task.1) ∙ no)
 
-      reply : Reply
+      abbrev reply : Reply
       reply = refuse call.request NOT_CONTROLLER
 
       replies : replies_now o s1 call.request ≡ reply ∷ []
@@ -201,6 +217,39 @@ module _ (old : Work) (between : Core) (client : ℕ) (now : ℤ) (call : Call) 
           ap (λ (ws : List Write). filter (is_open_in next.world) (ws ++ new_writes o s event)) (none_waits old between event told s writes k t standby)
           ∙ ap (filter (is_open_in next.world)) (writes_then ∙ ap (λ b. cond b (write_of o s1 client call ∷ []) []) no)
 
+      none_left : at_last ≡ []
+      none_left =
+          ap (λ (ws : List Write). answers_in after.world (ws ++ writes_of o s1 event)) (none_waits old between event told s writes k t standby)
+          ∙ ap (λ b. answers_in after.world (cond b (write_of o s1 client call ∷ []) [])) no
+
+      abbrev note : List Entry
+      note = entries.Answer (decided_answer (asked_by a call) kinds.Lost a.at reply) ∷ []
+
+      told_so : AreReplied note (map (given.Reply client call.correlation) (replies_now o s1 call.request) ++ at_last)
+      told_so =
+          subst (λ (rs : List Reply). AreReplied note (map (given.Reply client call.correlation) rs ++ at_last)) (sym replies)
+          (subst (λ (os : List Output). AreReplied note (given.Reply client call.correlation reply ∷ os)) (sym none_left) (
+            record {
+              answer = decided_answer (asked_by a call) kinds.Lost a.at reply;
+              answered = answered_of (asked_by a call) a.at reply;
+              noted = has_first (entries.Answer (decided_answer (asked_by a call) kinds.Lost a.at reply)) [];
+              holds = refl;
+              of_client = sym task.0;
+              of_call = refl;
+              of_reply = refl;
+            },
+            tt,
+          ))
+
+      all_told : AreReplied note (outputs_of o s writes event)
+      all_told =
+          subst (AreReplied note)
+          (sym (outputs_accepted old.engine o s writes event after is
+          ∙ append_assoc (cond decided batches [] ++ []) (map (given.Reply client call.correlation) (replies_now o s1 call.request)) at_last))
+          (silent_replied note (cond decided batches [] ++ []) (map (given.Reply client call.correlation) (replies_now o s1 call.request) ++ at_last)
+          (both_silent (cond decided batches []) [] (appends_silent o s1 event) tt)
+          told_so)
+
       at_once : Ends answer
       at_once =
           subst (λ (r : Option Reason). Ends (answer_write a call led r old.waiting told)) (sym no_why)
@@ -210,6 +259,7 @@ module _ (old : Work) (between : Core) (client : ℕ) (now : ℤ) (call : Call) 
                 subst (AreWaiting o next.world.log old.waiting) (none_waits old between event told s writes k t standby ∙ sym none_then) longer;
             bare = tt;
             right = ((record { seat = refl; ticket = refl; place = refl; floor = subst (λ (d : Rattle.kr_world.specs.declared.writes.Decided.Decided). not (int_lt d.place a.floor) ≡ true) (sym task.3) task.2 }, refl), tt);
+            replied = all_told;
           })))
 
   accepted : outcome o s1 event ≡ Ok (after_ask o s1 (asks.Call call)) → Ends answer

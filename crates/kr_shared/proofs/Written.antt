@@ -33,11 +33,12 @@ use Rattle.kr_world.specs.Request.{after_ask, after_write, decision, is_decided}
 use Rattle.kr_world.specs.World.{State, World, is_far, log_with, seen_at, tip_of}
 use Rattle.kr_world.proofs.LogEntries.{batch_written, behind}
 use Rattle.kr_world.proofs.Logs.{tip_written, written_below}
-use Rattle.law_following.specs.Following.{IsDecided, decided_at}
+use Rattle.law_following.specs.Following.{IsDecided, decision_at}
 use Rattle.kr_shared.specs.declared.answers.Asking.{Asking}
 use Rattle.kr_shared.specs.declared.asked.Asked.{Asked}
-use Rattle.kr_shared.specs.Answers.{Answering, answer_of, answered_of, answering, asked_by, exhausted as exhausted_entry, first_reply, or_reason, or_reply, reason_in, refusal_in, reply_in, with_ended, with_told, with_told_end}
-use Rattle.kr_shared.specs.Standing.{AreWaiting, IsWaiting}
+use Rattle.kr_shared.specs.Answers.{Answering, decided_answer, answered_of, answering, asked_by, exhausted_answer, first_reply, or_reason, or_reply, reason_in, refusal_in, reply_in, with_ended, with_told, with_told_end}
+use Rattle.kr_shared.specs.Standing.{AreWaiting, IsWaitingWrite}
+use Rattle.kr_shared.proofs.Answered.{pos_sum}
 
 abbrev items_record : Rattle.kr_defs.specs.declared.record.Record.Record → Item
 items_record r = items.Record r
@@ -121,19 +122,19 @@ module _ (o : Options) (s1 : State) (client : ℕ) (call : Call) (a : Asking) (l
   abbrev asked : Asked
   asked = asked_by a call
 
-  abbrev ws : Answered
-  ws = answered_of asked w.decided w.reply
+  abbrev answered : Answered
+  answered = answered_of asked w.decided w.reply
 
   module _ (is : longer ≡ log_with s1.world.log (as_items d.records)) where
     few : length (as_items d.records) ≡ length d.records
     few = length-map d.records items_record
 
-    same : decided_at o longer (tip_of s1) ws ≡ d
+    same : decision_at o longer (tip_of s1) answered ≡ d
     same =
         ap (λ (i : Image). decide o i s1.basis (pos (tip_of s1)) call.request)
         (ap (λ (g : Log). seen_at g (tip_of s1)) is ∙ ap (λ r. result_unwrap_or r empty) (written_below s1.world.log (as_items d.records) (tip_of s1) (omega arith)))
 
-    is_decided_write : IsDecided o longer ws
+    is_decided_write : IsDecided o longer answered
     is_decided_write = record {
       at = tip_of s1;
       place = refl;
@@ -148,19 +149,19 @@ module _ (o : Options) (s1 : State) (client : ℕ) (call : Call) (a : Asking) (l
       reply = ap (λ (x : Decision). x.reply) (sym same);
     }
 
-    pub waiting_write : client ≡ a.seat → tip_of (after_ask o s1 (asks.Call call)) ≡ tip longer → IsTrue (not (int_lt (pos (tip_of s1)) a.floor)) → IsWaiting o longer asked w
+    pub waiting_write : client ≡ a.seat → tip_of (after_ask o s1 (asks.Call call)) ≡ tip longer → IsTrue (not (int_lt (pos (tip_of s1)) a.floor)) → IsWaitingWrite o longer asked w
     waiting_write seat after floor = record {
       client = seat;
       correlation = refl;
       floor = floor;
       decided = is_decided_write;
-      need = ap pos (after ∙ (ap tip is ∙ (tip_written s1.world.log (as_items d.records) ∙ ap (λ n. tip_of s1 + n) few)));
+      need = ap pos (after ∙ (ap tip is ∙ (tip_written s1.world.log (as_items d.records) ∙ ap (λ n. tip_of s1 + n) few))) ∙ pos_sum (tip_of s1) (length d.records);
       refusal = refl;
     }
 
 -- one more waits
-pub waits_more : (o : Options) (log : Log) (as : List Asked) (ws : List Write) (a : Asked) (w : Write) → AreWaiting o log as ws → IsWaiting o log a w → AreWaiting o log (as ++ a ∷ []) (ws ++ w ∷ [])
+pub waits_more : (o : Options) (log : Log) (ones : List Asked) (ws : List Write) (a : Asked) (w : Write) → AreWaiting o log ones ws → IsWaitingWrite o log a w → AreWaiting o log (ones ++ a ∷ []) (ws ++ w ∷ [])
 waits_more o log [] [] a w h i = (i, tt)
 waits_more o log [] (v ∷ ws) a w h i = absurd h
-waits_more o log (b ∷ as) [] a w h i = absurd h
-waits_more o log (b ∷ as) (v ∷ ws) a w h i = (h.0, waits_more o log as ws a w h.1 i)
+waits_more o log (b ∷ ones) [] a w h i = absurd h
+waits_more o log (b ∷ ones) (v ∷ ws) a w h i = (h.0, waits_more o log ones ws a w h.1 i)

@@ -1,5 +1,5 @@
 -- What clients are answered. This project's own.
-use Rattle.std.specs.Prelude.{ℕ, ℤ, pos, Bool, true, false, List, [], ◌∷◌, ◌++◌, Option, Some, None, fold, if◌then◌else◌}
+use Rattle.std.specs.Prelude.{◌≡◌, ℕ, ℤ, pos, Bool, true, false, List, [], ◌∷◌, ◌++◌, Option, Some, None, fold, Contains, if◌then◌else◌}
 use Rattle.kr_calls.specs.declared.answers.Answer.{Answer}
 use Rattle.kr_calls.specs.declared.answers.AnswerKind.{AnswerKind}
 use Rattle.kr_calls.specs.declared.answers.AnswerKind.TheVariants as kinds
@@ -21,8 +21,8 @@ use Rattle.kr_shared.specs.declared.asked.Asked.{Asked}
 abbrev pub answered_of : Asked → Decided → Reply → Answered
 answered_of a d reply = record { seat = a.seat; call = a.call; ticket = a.ticket; floor = a.floor; place = d.place; count = d.count; basis = d.basis; reply = reply }
 
-abbrev pub answer_of : Asked → AnswerKind → Decided → Reply → Answer
-answer_of a kind d reply = record { seat = a.seat; ticket = a.ticket; place = d.place; kind = kind; answered = Some (answered_of a d reply) }
+abbrev pub decided_answer : Asked → AnswerKind → Decided → Reply → Answer
+decided_answer a kind d reply = record { seat = a.seat; ticket = a.ticket; place = d.place; kind = kind; answered = Some (answered_of a d reply) }
 
 -- an answer without a decision, at the place
 abbrev pub bare_answer : ℕ → ℕ → ℤ → AnswerKind → Answer
@@ -39,7 +39,7 @@ answering waiting notes = record { waiting = waiting; notes = notes }
 -- the reply is to what waited longest
 abbrev pub with_reply : List Asked → List Entry → Ended → Reply → Answering
 with_reply [] notes ended reply = answering [] notes
-with_reply (a ∷ waiting) notes ended reply = answering waiting (notes ++ entries.Answer (answer_of a ended.kind ended.decided reply) ∷ [])
+with_reply (a ∷ waiting) notes ended reply = answering waiting (notes ++ entries.Answer (decided_answer a ended.kind ended.decided reply) ∷ [])
 
 abbrev pub with_ended : Answering → Output → Ended → Answering
 with_ended s (given.Append bytes) ended = s
@@ -54,6 +54,27 @@ with_told_end s output (Some ended) = with_ended s output ended
 -- where it is the reply of a write that waited, that is answered
 abbrev pub with_told : Answering → Told → Answering
 with_told s told = with_told_end s told.output told.ended
+
+-- an answer among the notes says what the reply says, to a call of the client with its correlation
+pub record IsReplied (notes : List Entry) (client : ℕ) (correlation : ℤ) (reply : Reply) : Type 0 where
+  pub answer : Answer
+  pub answered : Answered
+  pub noted : Contains notes (entries.Answer answer)
+  pub holds : answer.answered ≡ Some answered
+  pub of_client : answered.seat ≡ client
+  pub of_call : answered.call.correlation ≡ correlation
+  pub of_reply : answered.reply ≡ reply
+
+abbrev pub IsNoted : List Entry → Output → Type 0
+IsNoted notes (given.Append bytes) = Unit {0}
+IsNoted notes (given.Reply client correlation reply) = IsReplied notes client correlation reply
+IsNoted notes (given.Refused event reason) = Unit {0}
+IsNoted notes (given.Image bytes) = Unit {0}
+
+-- each reply among the outputs has its answer among the notes
+abbrev pub AreReplied : List Entry → List Output → Type 0
+AreReplied notes [] = Unit {0}
+AreReplied notes (output ∷ outputs) = IsNoted notes output × AreReplied notes outputs
 
 -- all that is told, in order
 abbrev pub answer_all : Answering → List Told → Answering
@@ -94,14 +115,14 @@ first_reply told = fold or_reply None told
 
 -- a write on standby is lost at once
 abbrev pub lost_at_once : Asked → Decided → Option Reply → List Entry
-lost_at_once a at (Some reply) = entries.Answer (answer_of a kinds.Lost at reply) ∷ []
+lost_at_once a at (Some reply) = entries.Answer (decided_answer a kinds.Lost at reply) ∷ []
 lost_at_once a at None = []
 
-abbrev pub exhausted : Asking → Entry
-exhausted a = entries.Answer (bare_answer a.seat a.ticket a.at.place kinds.Exhausted)
+abbrev pub exhausted_answer : Asking → Entry
+exhausted_answer a = entries.Answer (bare_answer a.seat a.ticket a.at.place kinds.Exhausted)
 
 -- a refused write is answered so; one that a leader takes waits behind those that wait
 abbrev pub answer_write : Asking → Call → Bool → Option Reason → List Asked → List Told → Answering
-answer_write a call led (Some reason) waiting told = answering waiting (exhausted a ∷ [])
+answer_write a call led (Some reason) waiting told = answering waiting (exhausted_answer a ∷ [])
 answer_write a call true None waiting told = answer_all (answering (waiting ++ asked_by a call ∷ []) []) told
 answer_write a call false None waiting told = answering waiting (lost_at_once (asked_by a call) a.at (first_reply told))

@@ -1,5 +1,5 @@
 -- What serving an event makes of what a worker keeps. This project's own.
-use Rattle.std.specs.Prelude.{◌≡◌, ℕ, Bool, List, [], ◌++◌, Option, is_some}
+use Rattle.std.specs.Prelude.{◌≡◌, ℕ, Bool, List, [], ◌++◌, Option, is_some, map}
 use Rattle.kr_calls.specs.declared.events.Entry.{Entry}
 use Rattle.kr_calls.specs.declared.events.Event.{Event}
 use Rattle.kr_calls.specs.declared.events.Reason.{Reason}
@@ -11,23 +11,24 @@ use Rattle.kr_world.specs.Events.{happens}
 use Rattle.kr_world.specs.Outputs.{waiting_after}
 use Rattle.kr_world.specs.World.{State}
 use Rattle.kr_shared.specs.declared.answers.Asking.{Asking}
-use Rattle.kr_shared.specs.Answers.{Answering, refusal_in}
+use Rattle.kr_shared.specs.Answers.{Answering, AreReplied, refusal_in}
 use Rattle.kr_shared.specs.Appends.{Appends}
 use Rattle.kr_shared.specs.Standing.{Standing}
-use Rattle.kr_shared.specs.Takes.{Takes}
-use Rattle.kr_shared.specs.Works.{Work, answers_of, is_lost, resting, staged_after}
+use Rattle.kr_shared.specs.Takes.{TakesEvent}
+use Rattle.kr_shared.specs.Works.{DeskView, answers_of, is_lost, resting, staged_after}
 
 -- The engine takes the event; what it gives is appended, as far as that went; what it added up to its committed end is
 -- published, with the answers behind it, and the rest is staged.
-pub record Serves (pieces pieces' : Option (List (List ℕ))) (faults faults' : ℕ) (old new : Work) (event : Event) (asking : Option Asking) (appended : Bool) (refusal : Option Reason) : Type 0 where
+pub record ServesEvent (pieces pieces' : Option (List (List ℕ))) (faults faults' : ℕ) (old new : DeskView) (event : Event) (asking : Option Asking) (appended : Bool) (refusal : Option Reason) : Type 0 where
   pub between : Core
   pub told : List Told
-  pub takes : Takes old.engine between event told
+  pub takes : TakesEvent old.engine between event told
   pub appends : Appends pieces pieces' faults faults' told appended
   pub refused : refusal ≡ refusal_in told
   pub engine : new.engine ≡ record between { fresh = [] }
   pub answers : Answering
   pub answered : answers ≡ answers_of asking event (is_some old.engine.leading) old.waiting told
+  pub replied : AreReplied answers.notes (map (λ (t : Told). t.output) told)
   pub waiting : new.waiting ≡ answers.waiting
   pub staged : List Entry
   pub added : staged ≡ staged_after (is_lost old.engine between) old.shelf.items between.fresh

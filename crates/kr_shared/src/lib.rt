@@ -10,6 +10,7 @@ mod clients;
 mod desk;
 mod links;
 mod opening;
+mod sharing;
 mod taking;
 mod worker;
 

@@ -1,11 +1,12 @@
 //! The worker's seat, and its turn.
 
 ghost use Rattle.std.specs.Prelude.{◌≡◌, ◌<◌, [], true, false, None, OnErr, IfOk, IsErr};
+ghost use Rattle.std.specs.Option.{option_copied};
 ghost use Rattle.std.specs.Arc.{arc_value};
 ghost use Rattle.kr_queue.specs.declared.passes.Role.TheVariants as roles;
 ghost use Rattle.kr_queue.specs.Passes.{view, IsPassOf};
-ghost use Rattle.kr_shared.specs.Standing.{IsStanding};
-ghost use Rattle.kr_shared.specs.Turns.{IsBroken, Turned, turn_of};
+ghost use Rattle.kr_shared.specs.Standing.{StandsForSome};
+ghost use Rattle.kr_shared.specs.Turns.{IsBroken, Turned, is_stop, turn_of};
 
 use crate::bell::Bell;
 use crate::clients::Bells;
@@ -62,12 +63,24 @@ fn turn_of(job: &Job) -> Turn
     }
 }
 
+fn is_stop(job: &Job) -> bool
+    ensures { result ≡ is_stop job.now }
+{
+    matches!(job, Job::Stop { .. })
+}
+
 impl WorkerSeat {
     pub(crate) fn new(queue: Arc<Queue, Global>, pass: Pass, bells: Bells, desk: Desk) -> WorkerSeat
         requires pass { IsPassOf (arc_value queue) pass }
         requires role { (view pass).role ≡ roles.Worker }
-        requires stands { IsStanding desk }
-        ensures { result ≡ record { knows = view pass; work = desk; refusal = None; stopped = false; broken = false } }
+        requires stands { StandsForSome desk }
+        ensures { result ≡ record {
+          knows = view pass;
+          work = desk;
+          refusal = None;
+          stopped = false;
+          broken = false;
+        } }
     {
         WorkerSeat {
             queue,
@@ -83,7 +96,7 @@ impl WorkerSeat {
 
     /// Why the last turn's event of the link was refused; none where it was not.
     pub fn refusal(&self) -> Option<&Reason>
-        ensures { result ≡ self.now.refusal }
+        ensures { option_copied result ≡ self.now.refusal }
     {
         self.refusal.as_ref()
     }
@@ -93,7 +106,7 @@ impl WorkerSeat {
         &self.bells.jobs
     }
 
-    /// Takes the next job and does it: an event of the link or a client's write is a step of the engine, what the step appends
+    /// TakesEvent the next job and does it: an event of the link or a client's write is a step of the engine, what the step appends
     /// goes to the quorum, what is committed is published, and behind it an answer for each write that ends. Where an append
     /// failed, the leadership is lost in the same turn. Idle only where the queue was empty; after a stop each turn is
     /// Stopped. After NoMemory each turn answers it again.
@@ -104,7 +117,15 @@ impl WorkerSeat {
         quorum: &mut Q,
         clock: &mut C,
     ) -> Result<Turn, NoMemory>
-        ensures turned { IfOk result (λ turn. Turned (record { pieces = Q.pieces quorum.old; pieces' = Q.pieces quorum.new; faults = Q.faults quorum.old; faults' = Q.faults quorum.new; asks = C.asks clock.old; asks' = C.asks clock.new; last = C.last clock.new }) self.old self.new turn) }
+        ensures turned { IfOk result (λ turn. Turned (record {
+          pieces = Q.pieces quorum.old;
+          pieces' = Q.pieces quorum.new;
+          faults = Q.faults quorum.old;
+          faults' = Q.faults quorum.new;
+          asks = C.asks clock.old;
+          asks' = C.asks clock.new;
+          last = C.last clock.new;
+        }) self.old self.new turn) }
         ensures broken { OnErr result (IsBroken self.old self.new) }
         ensures before { self.old.broken ≡ true → IsErr result }
     {
@@ -122,7 +143,15 @@ impl WorkerSeat {
         requires name { blank.name ≡ L.name }
         requires parts { blank.parts ≡ L.parts }
         requires some { 0 < L.parts }
-        ensures turned { IfOk result (λ turn. Turned (record { pieces = Q.pieces quorum.old; pieces' = Q.pieces quorum.new; faults = Q.faults quorum.old; faults' = Q.faults quorum.new; asks = C.asks clock.old; asks' = C.asks clock.new; last = C.last clock.new }) self.old self.new turn) }
+        ensures turned { IfOk result (λ turn. Turned (record {
+          pieces = Q.pieces quorum.old;
+          pieces' = Q.pieces quorum.new;
+          faults = Q.faults quorum.old;
+          faults' = Q.faults quorum.new;
+          asks = C.asks clock.old;
+          asks' = C.asks clock.new;
+          last = C.last clock.new;
+        }) self.old self.new turn) }
         ensures broken { OnErr result (IsBroken self.old self.new) }
         ensures before { self.old.broken ≡ true → IsErr result }
     {
@@ -139,11 +168,12 @@ impl WorkerSeat {
         self.pops = self.pops.saturating_add(1);
         gate.before(self.pops);
         let turn = turn_of(&job);
+        let stops = is_stop(&job);
         let mut steps: Steps<L> = Steps::new(blank);
         match self.desk.do_job(rt, quorum, clock, job, &mut steps) {
             Ok(refusal) => {
                 self.refusal = refusal;
-                self.stopped = turn == Turn::Stopped;
+                self.stopped = stops;
                 self.bells.copies.ring(rt);
                 Ok(turn)
             }

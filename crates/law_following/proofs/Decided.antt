@@ -1,5 +1,5 @@
 -- Answers that the rules gave on a log are right in lists that show it.
-use Rattle.std.proofs.Common.{◌≡◌, ◌∙◌, sym, subst, ℕ, ℤ, pos, ◌+◌, ◌-◌, ◌≤◌, List, [], ◌∷◌, ◌++◌, take, drop, length, refl, ap, arith}
+use Rattle.std.proofs.Common.{◌≡◌, ◌∙◌, sym, subst, ℕ, ℤ, pos, ◌+◌, ◌-◌, ◌≤◌, List, [], ◌∷◌, take, drop, length, ap, arith}
 use Rattle.std.specs.Prelude.{◌+ℤ◌}
 use Rattle.std.proofs.lemmas.List.{drop-take, drop-append-le, length-drop, take-append-le, take-take}
 use Rattle.kr_defs.specs.declared.options.Options.{Options}
@@ -7,15 +7,15 @@ use Rattle.kr_defs.specs.declared.record.Item.{Item}
 use Rattle.kr_defs.specs.declared.record.Record.{Record}
 use Rattle.kr_defs.specs.Image.{Image, empty}
 use Rattle.kr_defs.specs.ImageLaws.{as_items}
-use Rattle.kr_defs.specs.Log.{Log, tip}
+use Rattle.kr_defs.specs.Log.{Log}
 use Rattle.kr_calls.specs.declared.answers.Answered.{Answered}
 use Rattle.kr_calls.specs.declared.events.Entry.{Entry}
 use Rattle.kr_calls.specs.Decide.{Decision, decide}
 use Rattle.kr_calls.specs.RightAnswers.{HaveRecords, IsStanding, decided_below}
 use Rattle.kr_calls.specs.SeatList.{image_below}
-use Rattle.kr_world.specs.World.{log_with, seen_at}
+use Rattle.kr_world.specs.World.{log_with}
 use Rattle.kr_world.proofs.Logs.{tip_written, written_below}
-use Rattle.law_following.specs.Following.{HaveItems, IsDecided, Shows, decided_at}
+use Rattle.law_following.specs.Following.{HaveItems, IsDecided, Shows, decision_at}
 use Rattle.law_following.specs.FollowingLaws.{DecidedAnswersAreRight}
 use Rattle.law_following.proofs.Lists.{have_from, have_some}
 
@@ -25,7 +25,7 @@ have_records list place (r ∷ records) h = (h.0, have_records list (place +ℤ 
 
 module _ (options : Options) (log : Log) (end : ℕ) (list : List Entry) (a : Answered) (d : IsDecided options log a) (low : (d.at + a.count) ≤ end) (h : Shows log end list) where
   abbrev by_log : Decision
-  by_log = decided_at options log d.at a
+  by_log = decision_at options log d.at a
 
   same : decided_below options list a ≡ by_log
   same =
@@ -65,7 +65,7 @@ decided_on options log items a d =
     let n = d.at - log.offset in
     let enough = d.within in
     let started = d.started in
-    let same : decided_at options log d.at a ≡ decided_at options (log_with log items) d.at a =
+    let same : decision_at options log d.at a ≡ decision_at options (log_with log items) d.at a =
     ap (λ (i : Image). decide options i a.basis a.place a.call.request) (ap (λ r. Rattle.std.specs.Result.result_unwrap_or r empty) (sym (written_below log items d.at (omega (arith, enough))))) in record {
       at = d.at;
       place = d.place;

@@ -1,6 +1,6 @@
 -- What an event makes of a log: it is longer, is cut at its committed end, or starts from an image.
-use Rattle.std.proofs.Common.{◌≡◌, ◌∙◌, sym, subst, ℕ, ℤ, pos, negsuc, Bool, true, false, cond, ◌+◌, ◌≤◌, ◌<◌, List, [], ◌∷◌, ◌++◌, length, refl, ap, arith, inl, inr}
-use Rattle.std.specs.Prelude.{◌⊎◌, Option, Some, None, Result, Ok, Err, int_lt, is_some, not, unsigned_abs, ◌&&◌, ◌==◌}
+use Rattle.std.proofs.Common.{◌≡◌, ◌∙◌, sym, ℕ, ℤ, pos, negsuc, Bool, true, false, cond, ◌≤◌, ◌<◌, List, [], ◌∷◌, ◌++◌, refl, ap, arith, inl, inr}
+use Rattle.std.specs.Prelude.{◌⊎◌, Option, Some, None, Result, Ok, Err, int_lt, is_some, not, unsigned_abs, ◌&&◌}
 use Rattle.std.specs.Ordering.{int_eq}
 use Rattle.std.proofs.lemmas.Bool.Decides.{nat_tests}
 use Rattle.std.proofs.lemmas.List.{append_assoc, append-nil}
@@ -25,14 +25,14 @@ use Rattle.kr_defs.specs.ImageLaws.{as_items}
 use Rattle.kr_defs.specs.Log.{Log, first_ill, tip}
 use Rattle.kr_defs.specs.Records.{records_of}
 use Rattle.std.specs.Result.{result_unwrap_or}
-use Rattle.kr_defs.proofs.Tests.{Gives, both, gives_done, gives_refuse, gives_then, none_is, not_false, ok_or_this}
+use Rattle.kr_defs.proofs.Tests.{Gives, gives_done, gives_refuse, gives_then, none_is, not_false, ok_or_this}
 use Rattle.kr_snapshot.specs.declared.fault.ImageFault.{ImageFault}
 use Rattle.kr_snapshot.specs.Reading.{image_of}
 use Rattle.kr_world.specs.Batch.{batch_or, end_of, batch, take_batch, after_batch, unless_ill}
 use Rattle.kr_world.specs.Commit.{commit, after_commit, is_end}
 use Rattle.kr_world.specs.Entries.{entries_added, entries_by, items_from, log_entries}
 use Rattle.kr_world.specs.Events.{at_time_of, happens, outcome, with_next_number}
-use Rattle.kr_world.specs.Lead.{after_lead, lead, may_begin_at, up_to}
+use Rattle.kr_world.specs.Lead.{after_lead, lead, may_begin_at}
 use Rattle.kr_world.specs.Load.{image_or, load, take_image, after_load}
 use Rattle.kr_world.specs.Lost.{after_lost, cut, lost}
 use Rattle.kr_world.specs.Reasons as reasons
@@ -228,20 +228,20 @@ Evolved w after fresh =
     ⊎ ((l : Loaded w after) × (fresh ≡ entries.Load (pos l.offset) (records_of l.image) ∷ [])))
 
 module _ (s : State) (after : State) where
-  abbrev next : World
-  next = (with_next_number after).world
+  abbrev next_world : World
+  next_world = (with_next_number after).world
 
   abbrev added : List Entry
   added = item_entries (pos (tip_of s)) (items_from after.world.log (tip_of s))
 
-  by_longer : Longer s.world after.world → Evolved s.world next added
+  by_longer : Longer s.world after.world → Evolved s.world next_world added
   by_longer l =
       inl (
         record { items = l.items; writes = l.writes; led = l.led },
         ap (λ (is : List Item). item_entries (pos (tip_of s)) is) (ap (λ (log : Log). items_from log (tip_of s)) l.writes ∙ behind s.world.log l.items),
       )
 
-  by_moves : Moves s.world after.world → Evolved s.world next added
+  by_moves : Moves s.world after.world → Evolved s.world next_world added
   by_moves (inl l) = by_longer l
   by_moves (inr c) =
       inr (inl (
@@ -249,7 +249,7 @@ module _ (s : State) (after : State) where
         ap (λ (is : List Item). item_entries (pos (tip_of s)) is) (ap (λ (log : Log). items_from log (tip_of s)) c.cuts ∙ cut_behind s.world.log s.world.committed),
       ))
 
-  by_load : Loaded s.world after.world → Evolved s.world next (entries.Load (pos after.world.log.offset) (records_of after.world.log.image) ∷ [])
+  by_load : Loaded s.world after.world → Evolved s.world next_world (entries.Load (pos after.world.log.offset) (records_of after.world.log.image) ∷ [])
   by_load l =
       inr (inr (
         record { offset = l.offset; image = l.image; starts = l.starts; committed = l.committed; above = l.above; few = l.few; valid = l.valid; standby = l.standby; still = l.still },

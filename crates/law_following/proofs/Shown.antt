@@ -1,9 +1,8 @@
 -- A list that shows a log goes on with the log.
-use Rattle.std.proofs.Common.{◌≡◌, ◌∙◌, sym, subst, ℕ, zero, suc, ℤ, pos, Bool, true, false, cond, ◌+◌, ◌-◌, ◌≤◌, ◌<◌, List, [], ◌∷◌, ◌++◌, take, drop, length, refl, ap, arith, All, inl, inr}
-use Rattle.std.specs.Prelude.{◌+ℤ◌, ◌≤ℤ◌, ◌⊎◌, IsTrue, int_lt, not, ◌&&◌, filter, fold, unsigned_abs, Result, Ok, Err}
+use Rattle.std.proofs.Common.{◌≡◌, ◌∙◌, sym, subst, ℕ, pos, cond, ◌+◌, ◌-◌, ◌≤◌, ◌<◌, List, [], ◌∷◌, ◌++◌, take, length, ap, arith, All, inl, inr}
+use Rattle.std.specs.Prelude.{◌+ℤ◌, IsTrue, int_lt, not, ◌&&◌, filter, fold, unsigned_abs, Result, Ok}
 use Rattle.std.specs.Result.{result_unwrap_or}
 use Rattle.std.proofs.Math.Seq.{take-add}
-use Rattle.std.proofs.lemmas.Bool.Decides.{nat_tests}
 use Rattle.std.proofs.lemmas.Int.{ints}
 use Rattle.std.proofs.lemmas.List.{append-nil, take-append-le, take-take, length-take, length-drop}
 use Rattle.std.proofs.lemmas.List.Elements.{All-append, All-cons, All-nil, filter-append}
@@ -19,7 +18,7 @@ use Rattle.kr_defs.specs.Log.{Log, apply_all, image_at, tip}
 use Rattle.kr_calls.specs.declared.events.Entry.{Entry}
 use Rattle.kr_calls.specs.declared.events.Entry.TheVariants as entries
 use Rattle.kr_calls.specs.Deciding.{apply_records}
-use Rattle.kr_calls.specs.SeatList.{Reached, image_below, image_of, is_below, item_entries, nothing_reached, reached, reached_with, with_image, with_load}
+use Rattle.kr_calls.specs.SeatList.{Reached, image_below, image_of, is_below, item_entries, nothing_reached, reached, reached_with, with_image}
 use Rattle.kr_calls.proofs.CountedItems.{all_count}
 use Rattle.kr_world.specs.Entries.{items_from}
 use Rattle.kr_world.specs.Lost.{cut}
@@ -108,10 +107,10 @@ module _ (log : Log) (end : ℕ) (list : List Entry) (image : Image) (means : im
     more = item_entries (pos end) (between later)
 
     early : (place : ℕ) → log.offset ≤ place → place ≤ end → image_below (pos place) (list ++ more) ≡ seen_at log place
-    early place first early =
+    early place first before =
         ap image_of (filter-append (is_below (pos place)) list more
-        ∙ (ap (λ l. filter (is_below (pos place)) list ++ l) (none_below place end (between later) early) ∙ append-nil (filter (is_below (pos place)) list)))
-        ∙ h.images place first early
+        ∙ (ap (λ l. filter (is_below (pos place)) list ++ l) (none_below place end (between later) before) ∙ append-nil (filter (is_below (pos place)) list)))
+        ∙ h.images place first before
 
     late : (place : ℕ) → end ≤ place → place ≤ later → image_below (pos place) (list ++ more) ≡ seen_at log place
     late place after before =

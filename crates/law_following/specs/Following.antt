@@ -1,5 +1,5 @@
 -- A list of entries that shows a log up to a place, and answers that rest on a log. This project's own.
-use Rattle.std.specs.Prelude.{◌≡◌, ◌+ℤ◌, ◌≤◌, ℕ, ◌+◌, ◌-◌, ℤ, pos, int_lt, not, IsTrue, List, [], ◌∷◌, length, take, drop, All, Contains}
+use Rattle.std.specs.Prelude.{◌≡◌, ◌+ℤ◌, ◌≤◌, ℕ, ◌+◌, ◌-◌, ℤ, pos, IsTrue, List, [], ◌∷◌, length, take, drop, All, Contains}
 use Rattle.kr_defs.specs.declared.options.Options.{Options}
 use Rattle.kr_defs.specs.declared.record.Item.{Item}
 use Rattle.kr_defs.specs.ImageLaws.{as_items}
@@ -17,7 +17,7 @@ HaveItems list place [] = Unit {0}
 HaveItems list place (item ∷ items) = Contains list (entries.Item place item) × HaveItems list (place +ℤ pos 1) items
 
 -- The list shows the log up to the end: its image and end are those of the log there, its image below each earlier place is
--- the log's, the log's items stand in it, and nothing of it is at the end or above.
+-- the log's, the log's items stand in it, and all of it is below the end.
 pub record Shows (log : Log) (end : ℕ) (list : List Entry) : Type 0 where
   pub whole : reached list ≡ record { image = seen_at log end; end = pos end }
   pub low : All (λ e. IsTrue (is_below (pos end) e)) list
@@ -33,8 +33,8 @@ AreNotes (entries.Answer answer ∷ es) = AreNotes es
 AreNotes (entries.Stop number ∷ es) = AreNotes es
 
 -- what the rules say of the call on the log's image at the place
-abbrev pub decided_at : Options → Log → ℕ → Answered → Decision
-decided_at options log place a = decide options (seen_at log place) a.basis a.place a.call.request
+abbrev pub decision_at : Options → Log → ℕ → Answered → Decision
+decision_at options log place a = decide options (seen_at log place) a.basis a.place a.call.request
 
 -- the answer is what the rules gave at its place of the log, and the records stand there
 pub record IsDecided (options : Options) (log : Log) (a : Answered) : Type 0 where
@@ -42,6 +42,6 @@ pub record IsDecided (options : Options) (log : Log) (a : Answered) : Type 0 whe
   pub place : a.place ≡ pos at
   pub started : log.offset ≤ at
   pub within : (at + a.count) ≤ tip log
-  pub count : length (decided_at options log at a).records ≡ a.count
-  pub records : take a.count (drop (at - log.offset) log.items) ≡ as_items (decided_at options log at a).records
-  pub reply : a.reply ≡ (decided_at options log at a).reply
+  pub count : length (decision_at options log at a).records ≡ a.count
+  pub records : take a.count (drop (at - log.offset) log.items) ≡ as_items (decision_at options log at a).records
+  pub reply : a.reply ≡ (decision_at options log at a).reply

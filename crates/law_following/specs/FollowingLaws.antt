@@ -1,5 +1,5 @@
 -- What is true of lists that show a log. This project's own.
-use Rattle.std.specs.Prelude.{◌≡◌, ◌≤◌, ◌<◌, ℕ, ◌+◌, ◌-◌, pos, unsigned_abs, List, [], ◌∷◌, ◌++◌, take, IsOk, Ok}
+use Rattle.std.specs.Prelude.{◌≡◌, ◌≤◌, ◌<◌, ℕ, ◌+◌, ◌-◌, pos, unsigned_abs, List, [], ◌∷◌, ◌++◌, take, Ok}
 use Rattle.kr_defs.specs.declared.limits.TheConstants.{PLACES_END}
 use Rattle.kr_defs.specs.declared.options.Options.{Options}
 use Rattle.kr_defs.specs.declared.record.Item.{Item}
@@ -21,16 +21,26 @@ use Rattle.law_following.specs.Following.{AreNotes, IsDecided, Shows}
 abbrev pub log_from : ℕ → Image → Log
 log_from offset image = record { offset = offset; image = image; items = [] }
 
+-- A list that shows a log up to a place also shows:
 pub record ShownLogsGoOn : Type 0 where
+  -- with answers and stops behind, the same
   pub notes : (log : Log) (end : ℕ) (list notes : List Entry) → Shows log end list → AreNotes notes → Shows log end (list ++ notes)
-  pub longer : (log : Log) (end : ℕ) (list : List Entry) (items : List Item) → end ≤ tip log → Shows log end list → Shows (log_with log items) end list
-  -- with the items between the end and a later place
-  pub further : (log : Log) (end later : ℕ) (list : List Entry) (image : Image) → image_at log (tip log) ≡ Ok image → tip log ≤ unsigned_abs PLACES_END → log.offset ≤ end → end ≤ later → later ≤ tip log
+  -- the longer log, up to there
+  pub longer : (log : Log) (end : ℕ) (list : List Entry) (items : List Item)
+      → end ≤ tip log → Shows log end list → Shows (log_with log items) end list
+  -- with the items between, the log up to a later place
+  pub further : (log : Log) (end later : ℕ) (list : List Entry) (image : Image)
+      → image_at log (tip log) ≡ Ok image → tip log ≤ unsigned_abs PLACES_END → log.offset ≤ end → end ≤ later → later ≤ tip log
       → Shows log end list → Shows log later (list ++ item_entries (pos end) (take (later - end) (items_from log end)))
+  -- the log that is cut there
   pub cut : (log : Log) (end : ℕ) (list : List Entry) → Shows log end list → Shows (cut log end) end list
-  pub loaded : (log : Log) (end offset : ℕ) (list : List Entry) (image : Image) (records : List Record) → end ≤ offset → offset < unsigned_abs PLACES_END → apply_records empty records ≡ Ok image
+  -- with an image in place of all, the log that starts from it
+  pub loaded : (log : Log) (end offset : ℕ) (list : List Entry) (image : Image) (records : List Record)
+      → end ≤ offset → offset < unsigned_abs PLACES_END → apply_records empty records ≡ Ok image
       → Shows log end list → Shows (log_from offset image) offset (list ++ entries.Load (pos offset) records ∷ [])
 
+-- an answer that the rules gave is right where its records are shown
 abbrev pub DecidedAnswersAreRight : Type 0
 DecidedAnswersAreRight =
-    (options : Options) (log : Log) (end : ℕ) (list : List Entry) (a : Answered) (d : IsDecided options log a) → (d.at + a.count) ≤ end → Shows log end list → IsStanding options list a
+    (options : Options) (log : Log) (end : ℕ) (list : List Entry) (a : Answered) (d : IsDecided options log a)
+    → (d.at + a.count) ≤ end → Shows log end list → IsStanding options list a

@@ -12,7 +12,6 @@ pub fn shown_logs_go_on()
 {}
 
 /// An answer that the rules gave on a log is right in each list that shows the log up to the end of the answer's records.
-#[tactic(auto, using(crate::proofs::Decided::decided_answers_are_right))]
 pub fn decided_answers_are_right()
     ensures { DecidedAnswersAreRight }
 {}

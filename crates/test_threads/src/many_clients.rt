@@ -8,7 +8,7 @@ use kr_calls::{
     Answered, Call, ConfigOperation, ConfigResource, Event, IncrementalAlterConfigs, Reply, Request,
 };
 use kr_defs::{Item, Options, Record, Rows, Text};
-use kr_shared::{ClientSeat, LinkSeat, Turn, WorkerSeat, open};
+use kr_shared::{Bell, ClientSeat, LinkSeat, Turn, WorkerSeat, open};
 use kr_view::Opening;
 use std::alloc::Global;
 use std::sync::Wait;
@@ -86,11 +86,10 @@ fn is_done(answered: &Answered) -> bool {
 }
 
 // Where each value of the client came to stand; one place less where a write failed.
-fn write_all<R: Wait>(
+fn write_each<R: Wait>(
     rt: &R,
     alloc: Global,
     seat: ClientSeat,
-    done: &AtomicU64,
 ) -> Result<Vec<(i64, u64)>, NoMemory> {
     let mut seat = seat;
     let mut told = Vec::new(alloc);
@@ -103,14 +102,34 @@ fn write_all<R: Wait>(
             }
         }
     }
-    done.fetch_add(1, Ordering::SeqCst);
     Ok(told)
 }
 
+// Writes, and is done then.
+fn write_all<R: Wait>(
+    rt: &R,
+    alloc: Global,
+    seat: ClientSeat,
+    done: &AtomicU64,
+    news: &Bell,
+) -> Result<Vec<(i64, u64)>, NoMemory> {
+    let told = write_each(rt, alloc, seat);
+    done.fetch_add(1, Ordering::SeqCst);
+    news.ring(rt);
+    told
+}
+
 // Commits what is appended, until all clients are done. True where nothing failed.
-fn commit_all<R: Wait>(rt: &R, link: &mut LinkSeat, end: &AtomicU64, done: &AtomicU64) -> bool {
+fn commit_all<R: Wait>(
+    rt: &R,
+    link: &mut LinkSeat,
+    end: &AtomicU64,
+    done: &AtomicU64,
+    news: &Bell,
+) -> bool {
     let mut committed = 0u64;
     for _ in rt.forever() {
+        let seen = news.number(rt);
         let now = end.load(Ordering::SeqCst);
         if now > committed {
             committed = now;
@@ -124,20 +143,28 @@ fn commit_all<R: Wait>(rt: &R, link: &mut LinkSeat, end: &AtomicU64, done: &Atom
         } else if done.load(Ordering::SeqCst) == u64::from(CLIENTS) {
             return link.stop(rt, 1).is_ok();
         } else {
-            thread::yield_now();
+            news.wait_past(rt, seen);
         }
     }
     unreachable!()
 }
 
-fn turn_all<R: Wait>(rt: &R, worker: &mut WorkerSeat, quorum: &mut TellingQuorum<'_>) -> bool {
+// Turns until a stop comes, and rings after each job. True where nothing failed.
+fn turn_all<R: Wait>(
+    rt: &R,
+    alloc: Global,
+    worker: &mut WorkerSeat,
+    quorum: &mut TellingQuorum<'_>,
+    news: &Bell,
+) -> bool {
     let mut gate = OpenGate;
     let mut clock = MemoryClock::new(Vec::new(alloc));
     for _ in rt.forever() {
+        let seen = worker.jobs().number(rt);
         match worker.turn(rt, &mut gate, quorum, &mut clock) {
             Ok(Turn::Stopped) => return true,
-            Ok(Turn::Did) => {}
-            Ok(Turn::Idle) => thread::yield_now(),
+            Ok(Turn::Did) => news.ring(rt),
+            Ok(Turn::Idle) => worker.jobs().wait_past(rt, seen),
             Err(_) => return false,
         }
     }
@@ -196,16 +223,17 @@ fn all_told<R: Threads + Wait + Sync>(
     end: &AtomicU64,
 ) -> Result<Vec<(i64, u64)>, NoMemory> {
     let done = AtomicU64::new(0);
+    let news = Bell::new();
     let (turned, (committed, told)) = thread::join(
         rt,
-        || turn_all(rt, alloc, worker, quorum),
+        || turn_all(rt, alloc, worker, quorum, &news),
         || thread::join(
             rt,
-            || commit_all(rt, link, end, &done),
+            || commit_all(rt, link, end, &done, &news),
             || thread::map_vec(
                 rt,
                 seats,
-                &|seat: ClientSeat| write_all(rt, alloc, seat, &done),
+                &|seat: ClientSeat| write_all(rt, alloc, seat, &done, &news),
             ),
         ),
     );

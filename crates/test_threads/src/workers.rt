@@ -8,7 +8,7 @@ use kr_calls::{
     Answered, BrokerHeartbeat, BrokerRegistration, Call, CreatableTopic, CreatableTopics,
     CreateTopics, Event, Metadata, Reply, Request,
 };
-use kr_defs::{Endpoints, Options, Ranges, Rows, Text};
+use kr_defs::{Endpoint, Endpoints, Options, Ranges, Rows, Text};
 use kr_local::LocalQuorum;
 use kr_shared::{ClientSeat, LinkSeat, Turn, WorkerSeat, open};
 use kr_view::{CopyFault, Opening};
@@ -105,11 +105,18 @@ fn turns<R: Wait, G: Gate>(
 fn registration(alloc: Global) -> Result<Call, NoMemory>
     ensures { IfOk result (λ call. IsTrue (not (is_read call.request))) }
 {
+    let mut listeners = Endpoints::new(alloc);
+    listeners.push(Endpoint {
+        name: Text::from_str(alloc, "PLAINTEXT")?,
+        host: Text::from_str(alloc, "host1")?,
+        port: 9092,
+        protocol: 0,
+    })?;
     let request = Request::BrokerRegistration(BrokerRegistration {
         broker: 1,
         cluster: Text::from_str(alloc, "c1")?,
         incarnation: 9,
-        listeners: Endpoints::new(alloc),
+        listeners,
         features: Ranges::new(alloc),
         rack: None,
         migrating: false,
@@ -167,7 +174,7 @@ fn all_topics() -> Call
 
 // How many topics the seat sees.
 fn count_topics(seat: &mut ClientSeat) -> Option<usize> {
-    match seat.read(&all_topics()) {
+    match &seat.read(&all_topics()) {
         Ok(Reply::Metadata(reply)) => Some(reply.topics.len()),
         Ok(_) | Err(CopyFault::NoCopy) | Err(CopyFault::NoMemory) => None,
     }
@@ -205,9 +212,15 @@ fn writer<R: Wait>(rt: &R, alloc: Global, seat: &mut ClientSeat, done: &AtomicU6
 }
 
 // Reads so often while the worker is held, and sees no topic.
-fn reader(seat: &mut ClientSeat, times: u64, reached: &AtomicU64, opened: &AtomicU64) -> bool {
+fn reader(
+    seat: &mut ClientSeat,
+    times: u64,
+    reached: &AtomicU64,
+    opened: &AtomicU64,
+    done: &AtomicU64,
+) -> bool {
     for _ in 0..500_000_000u64 {
-        if reached.load(Ordering::SeqCst) == 1 {
+        if reached.load(Ordering::SeqCst) == 1 || done.load(Ordering::SeqCst) == 1 {
             break;
         }
     }
@@ -268,8 +281,8 @@ fn readers_are_answered_while_the_worker_is_held(rt: HostRuntime) -> Result<(), 
                 || writer(&rt, alloc, &mut first, &done),
                 || thread::join(
                     &rt,
-                    || reader(&mut second, 1000, &reached, &opened),
-                    || reader(&mut third, 1, &reached, &opened),
+                    || reader(&mut second, 1000, &reached, &opened, &done),
+                    || reader(&mut third, 1, &reached, &opened, &done),
                 ),
             ),
         );
@@ -289,20 +302,32 @@ fn registered_error(answered: &Answered) -> Option<i16> {
     }
 }
 
-// What the client's write is answered.
+// The error of the reply to the client's registration, and the place at which it was decided.
 fn register<R: Wait>(
     rt: &R,
     alloc: Global,
     seat: &mut ClientSeat,
-    done: &AtomicU64,
-) -> Result<Option<i16>, NoMemory> {
+) -> Result<Option<(i16, i64)>, NoMemory> {
     let call = registration(alloc)?;
-    let error = match seat.submit(rt, &call) {
-        Ok(answered) => registered_error(answered.get()),
+    Ok(match seat.submit(rt, &call) {
+        Ok(answered) => {
+            let answered = answered.get();
+            match registered_error(answered) {
+                Some(error) => Some((error, answered.place)),
+                None => None,
+            }
+        }
         Err(_) => None,
-    };
+    })
+}
+
+// Kafka's NOT_CONTROLLER, at the place where the log began: to the write whose append fails, and to the next one.
+fn are_lost<R: Wait>(rt: &R, alloc: Global, seat: &mut ClientSeat, done: &AtomicU64) -> bool {
+    let lost = Ok(Some((41, 0)));
+    let first = register(rt, alloc, seat);
+    let second = register(rt, alloc, seat);
     done.store(1, Ordering::SeqCst);
-    Ok(error)
+    first == lost && second == lost
 }
 
 #[test]
@@ -326,7 +351,7 @@ fn a_failed_append_loses_the_leadership(rt: HostRuntime) -> Result<(), Fail> {
     if let Some(mut seat) = seats.pop() {
         let done = AtomicU64::new(0);
         let mut gate = OpenGate;
-        let (turned, error) = thread::join(
+        let (turned, lost) = thread::join(
             &rt,
             || turns(
                 &rt,
@@ -338,10 +363,9 @@ fn a_failed_append_loses_the_leadership(rt: HostRuntime) -> Result<(), Fail> {
                 &done,
                 1,
             ),
-            || register(&rt, alloc, &mut seat, &done),
+            || are_lost(&rt, alloc, &mut seat, &done),
         );
-        // Kafka's NOT_CONTROLLER.
-        fine = fine && turned && error == Ok(Some(41));
+        fine = fine && turned && lost;
     } else {
         fine = false;
     }

@@ -6,8 +6,8 @@ use Rattle.kr_view.specs.Opened.{AreSeats}
 use Rattle.kr_shared.specs.Clients.{Client, a_client}
 use Rattle.kr_shared.proofs.opening.seats_down.Given as goal
 
-abbrev pub invariant-loop-seat : goal.invariant-loop-seat
-invariant-loop-seat l = record {
+abbrev pub invariant-loop-made : goal.invariant-loop-made
+invariant-loop-made l = record {
   passes : AreClients (arc_value l.queue) l.passes.items;
   readers : AreSeats l.options l.readers.items;
   alike : length l.readers.items ≡ length l.passes.items;
@@ -15,5 +15,5 @@ invariant-loop-seat l = record {
   seated : (k : ℕ) (s : Client) → slice_get l.made.items k ≡ Some s → s ≡ a_client l.options (length l.readers.items + k + 1);
 }
 
-abbrev pub decreases-loop-seat : goal.decreases-loop-seat
-decreases-loop-seat l = length l.readers.items
+abbrev pub decreases-loop-made : goal.decreases-loop-made
+decreases-loop-made l = length l.readers.items
