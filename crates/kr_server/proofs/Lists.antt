@@ -1,5 +1,5 @@
 -- Lists that are told, and bytes of one thing behind the other.
-use Rattle.std.proofs.Common.{◌≡◌, ◌∙◌, ℕ, List, [], ◌∷◌, ◌++◌, Option, Some, None, refl, sym, ap, subst, append_assoc, append-nil}
+use Rattle.std.proofs.Common.{◌∙◌, ℕ, List, [], ◌∷◌, ◌++◌, Option, Some, None, refl, sym, ap, subst, append_assoc, append-nil}
 use Rattle.kr_wire.specs.Grammar.{Each}
 use Rattle.kr_server.specs.Told.{TellsMore}
 

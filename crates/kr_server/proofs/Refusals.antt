@@ -1,5 +1,5 @@
 -- How a write without an answer ends a connection.
-use Rattle.std.proofs.Common.{◌≡◌, ℕ, List, Err}
+use Rattle.std.proofs.Common.{ℕ, List, Err}
 use Rattle.kr_calls.specs.declared.calls.Ask.TheVariants as asks
 use Rattle.kr_calls.specs.declared.calls.Call.{Call}
 use Rattle.kr_req.specs.Messages.{IsAsk}

@@ -1,13 +1,12 @@
 -- How the serving of a connection goes on by one message, and how it ends.
-use Rattle.std.proofs.Common.{◌≡◌, ◌∙◌, ℕ, ◌+◌, ◌<◌, ◌≤◌, List, [], ◌∷◌, ◌++◌, length, Option, Result, Ok, Err, refl, sym, ap, subst, inl, inr, arith, append_assoc, append-nil, length-append}
+use Rattle.std.proofs.Common.{◌≡◌, ◌∙◌, ℕ, ◌+◌, ◌≤◌, List, [], ◌∷◌, ◌++◌, length, Option, Result, Ok, Err, refl, sym, ap, subst, inl, inr, arith, append-nil, length-append}
 use Rattle.std.specs.Prelude.{IsErrOf}
 use Rattle.std.specs.Io.KnownBytes.{Consumes}
-use Rattle.std.proofs.KnownBytes.{Appends-nil, Consumes-nil, Consumes-trans}
+use Rattle.std.proofs.KnownBytes.{Consumes-nil, Consumes-trans}
 use Rattle.kr_defs.specs.declared.limits.TheConstants.{MOST_SESSION_BYTES}
 use Rattle.kr_wire.specs.Grammar.{Each}
 use Rattle.kr_view.specs.declared.seat.CopyFault.TheVariants as copies
 use Rattle.kr_shared.specs.declared.clients.SubmitFault.TheVariants as submits
-use Rattle.kr_shared.specs.Clients.{Client}
 use Rattle.kr_server.specs.declared.end.ServeEnd.{ServeEnd}
 use Rattle.kr_server.specs.declared.end.ServeEnd.TheVariants as ends
 use Rattle.kr_server.specs.declared.exchange.Exchange.{Exchange}

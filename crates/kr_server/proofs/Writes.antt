@@ -1,7 +1,5 @@
 -- What a seat did over exchanges: what it pushed, that its list goes on, and its count of misses.
-use Rattle.std.proofs.Common.{◌≡◌, ◌∙◌, ℕ, ℤ, List, [], ◌∷◌, ◌++◌, Option, Some, None, Ok, Err, ◌⊎◌, inl, inr, refl, sym, ap, subst, append_assoc, append-nil}
-use Rattle.std.proofs.lemmas.Grind.{flat_map-append}
-use Rattle.kr_base.specs.Causes.{Rose}
+use Rattle.std.proofs.Common.{◌≡◌, ◌∙◌, ℕ, ℤ, List, [], ◌∷◌, ◌++◌, Ok, ◌⊎◌, inl, inr, refl, sym, ap, subst, append_assoc, append-nil}
 use Rattle.kr_calls.specs.declared.calls.Call.{Call}
 use Rattle.kr_calls.specs.declared.answers.Answered.{Answered}
 use Rattle.kr_calls.specs.SeatList.{end_of}
@@ -9,19 +7,16 @@ use Rattle.kr_queue.specs.declared.jobs.Job.{Job}
 use Rattle.kr_queue.specs.declared.jobs.Job.TheVariants as jobs
 use Rattle.kr_view.specs.declared.seat.CopyFault.{CopyFault}
 use Rattle.kr_view.specs.declared.seat.CopyFault.TheVariants as copies
-use Rattle.kr_view.specs.declared.rule.ThreadView.{ThreadView}
 use Rattle.kr_view.specs.Seats.{Onward}
 use Rattle.kr_shared.specs.declared.clients.SubmitFault.{SubmitFault}
 use Rattle.kr_shared.specs.declared.clients.SubmitFault.TheVariants as submits
 use Rattle.kr_shared.specs.Clients.{Client, MayRise, job_of_call}
-use Rattle.kr_shared.specs.Submit.{IsAnswered, PushedAtFault}
-use Rattle.kr_shared.proofs.Misses.{may_rise_behind, rose_behind, stays}
+use Rattle.kr_shared.specs.Submit.{PushedAtFault}
+use Rattle.kr_shared.proofs.Misses.{may_rise_behind}
 use Rattle.kr_shared.proofs.Onwards.{onward_refl, onward_trans}
-use Rattle.kr_server.specs.declared.end.ServeEnd.{ServeEnd}
-use Rattle.kr_server.specs.declared.end.ServeEnd.TheVariants as ends
 use Rattle.kr_server.specs.declared.exchange.Exchange.{Exchange}
 use Rattle.kr_server.specs.declared.exchange.Exchange.TheVariants as exchanges
-use Rattle.kr_server.specs.SeatCalls.{AreExchanged, IsExchanged, IsRefusedRead, IsRefusedWrite, IsWithoutMemory, for_ask, for_exchange, for_read, for_write, PushesWrites, Queries, Submits, one_more, pushed_write, pushed_writes, those}
+use Rattle.kr_server.specs.SeatCalls.{AreExchanged, IsExchanged, IsRefusedRead, IsRefusedWrite, IsWithoutMemory, for_ask, for_exchange, for_read, for_write, PushesWrites, Submits, one_more, pushed_write, pushed_writes, those}
 
 -- ---- one exchange
 

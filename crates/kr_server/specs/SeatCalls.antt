@@ -1,5 +1,5 @@
 -- What a client's seat tells of the calls of a connection. This project's own.
-use Rattle.std.specs.Prelude.{◌≡◌, ◌⊎◌, ℕ, not, IsTrue, List, [], ◌∷◌, ◌++◌, Some, Result, Ok, Err, MatchResult, IfOk}
+use Rattle.std.specs.Prelude.{◌≡◌, ℕ, not, IsTrue, List, [], ◌∷◌, ◌++◌, Some, Result, Ok, Err, MatchResult, IfOk}
 use Rattle.std.specs.List.{flat_map}
 use Rattle.kr_base.specs.Causes.{raised}
 use Rattle.kr_calls.specs.declared.answers.Answered.{Answered}

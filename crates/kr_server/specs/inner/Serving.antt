@@ -1,5 +1,5 @@
 -- How the serving of a connection goes on, message by message.
-use Rattle.std.specs.Prelude.{◌≡◌, ℕ, List, [], ◌∷◌, length, Option}
+use Rattle.std.specs.Prelude.{◌≡◌, ℕ, List, [], ◌∷◌, length}
 use Rattle.std.specs.Io.KnownBytes.{Appends, Consumes}
 use Rattle.kr_base.specs.FailedPuts.{AppendsFront}
 use Rattle.kr_wire.specs.Grammar.{Each}

@@ -1,4 +1,4 @@
-use Rattle.std.proofs.Common.{◌≡◌, ◌+◌, sym, subst}
+use Rattle.std.proofs.Common.{◌+◌, sym, subst}
 use Rattle.kr_intake.specs.Shortages.{FallsShort}
 use Rattle.kr_server.specs.inner.Reading.{IsUnread}
 use Rattle.kr_server.proofs.Readings.{in_the_body, message_took, no_room}
