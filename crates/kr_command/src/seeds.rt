@@ -1,30 +1,13 @@
 //! The number of `make`.
 
-ghost use Rattle.std.specs.Prelude.{◌≡◌, ◌<◌, ◌^◌, ℕ, IfNone, IfSome, IsTrue, ◌↔◌};
+ghost use Rattle.std.specs.Prelude.{◌≡◌, ◌<◌, ◌^◌, ◌↔◌, ℕ, Some};
 ghost use Rattle.std.specs.Fmt.{decimal};
 
-use itoa::Buffer;
+use kr_defs::decimal_up_to;
 
-fn is_decimal(word: &str, number: u32) -> bool
-    ensures { IsTrue result ↔ (word.now ≡ decimal number) }
-{
-    let mut buffer = Buffer::new();
-    buffer.format(number) == word
-}
-
-/// The number of 32 bits that the word is, without leading zeros.
+/// The number of 32 bits that the word spells in decimal, without sign or leading zero.
 pub(crate) fn seed_of(word: &str) -> Option<u32>
-    ensures some { IfSome result (λ seed. word.now ≡ decimal seed) }
-    ensures none { IfNone result ((seed : ℕ) → seed < 2 ^ 32 → word.now ≡ decimal seed → ⊥) }
+    ensures { (seed : ℕ) → (result ≡ Some seed) ↔ ((seed < 2 ^ 32) × (word.now ≡ decimal seed)) }
 {
-    match word.parse() {
-        Ok(seed) => {
-            if is_decimal(word, seed) {
-                Some(seed)
-            } else {
-                None
-            }
-        }
-        Err(_) => None,
-    }
+    decimal_up_to(u32::MAX, word.as_bytes())
 }

@@ -125,7 +125,7 @@ has_event t entries events records ok refused has = record {
 abbrev pub joined : List (List Output) → List Output
 joined given = flat_map (λ (outputs : List Output). outputs) given
 
-replies_behind : (given : List (List Output)) (outputs : List Output) → replies_of (joined (given ++ outputs ∷ [])) ≡ replies_of (joined given) ++ replies_of outputs
+pub replies_behind : (given : List (List Output)) (outputs : List Output) → replies_of (joined (given ++ outputs ∷ [])) ≡ replies_of (joined given) ++ replies_of outputs
 replies_behind given outputs =
     ap replies_of (flat_map-append (λ (outputs : List Output). outputs) given (outputs ∷ []) ∙ ap (λ (l : List Output). joined given ++ l) (append-nil outputs))
     ∙ flat_map-append _ (joined given) outputs

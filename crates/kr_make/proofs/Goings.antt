@@ -8,7 +8,7 @@ use Rattle.kr_calls.specs.declared.events.Event.TheVariants as events
 use Rattle.kr_world.specs.World.{image_of_tip, tip_of}
 use Rattle.kr_make.specs.declared.chances.Chances.{Chances}
 use Rattle.kr_make.specs.declared.host.Host.{Host}
-use Rattle.kr_make.specs.inner.Standing.{Goes, IsReady, MayGo, Stands, Takes}
+use Rattle.kr_make.specs.inner.Standing.{Goes, IsMade, IsReady, MayGo, Stands, Takes}
 use Rattle.kr_make.specs.Session.{Made, after_draw, ask, chances, commit, lead, lose, options, request_event, state_of, steps}
 use Rattle.kr_make.specs.Requests.{heartbeat}
 use Rattle.kr_make.proofs.Playing.{engine_so, image_so, ready_then, stands_then}
@@ -39,7 +39,7 @@ module _ (before after : Host) (event : Event) (ready : IsReady before.engine) (
   asked request is requests epoch = record {
     stands = λ seed made stands.
         subst (λ (e : Event). Stands seed (record { events = made.events ++ e ∷ []; requests = made.requests + 1; epoch = made.epoch; drawn = made.drawn }) after) (is ∙ ap (λ (n : ℕ). request_event (n + 1) request) stands.requests)
-        (stands_then before after event ready t seed made stands _ _ _ (requests ∙ ap (λ (n : ℕ). n + 1) stands.requests) (epoch ∙ stands.epoch) (drawn ∙ stands.drawn));
+        (stands_then before after event ready t seed made stands (subst IsMade (sym is) tt) _ _ _ (requests ∙ ap (λ (n : ℕ). n + 1) stands.requests) (epoch ∙ stands.epoch) (drawn ∙ stands.drawn));
     ready = ready_then before after event ready t;
     room = omega (arith, requests);
     few = omega (arith, epoch);
@@ -51,7 +51,7 @@ module _ (before after : Host) (event : Event) (ready : IsReady before.engine) (
     stands = λ seed made stands.
         subst (λ (e : Event). Stands seed (record { events = made.events ++ e ∷ []; requests = made.requests; epoch = made.epoch; drawn = made.drawn }) after)
         (is ∙ (ap (λ (n : ℕ). events.Commit (pos n) end) stands.epoch ∙ ap (λ (z : ℤ). events.Commit (pos made.epoch) z) (end_so ∙ tip_seen seed made before stands)))
-        (stands_then before after event ready t seed made stands _ _ _ (requests ∙ stands.requests) (epoch ∙ stands.epoch) (drawn ∙ stands.drawn));
+        (stands_then before after event ready t seed made stands (subst IsMade (sym is) tt) _ _ _ (requests ∙ stands.requests) (epoch ∙ stands.epoch) (drawn ∙ stands.drawn));
     ready = ready_then before after event ready t;
     room = omega (arith, requests);
     few = omega (arith, epoch);
@@ -63,7 +63,7 @@ module _ (before after : Host) (event : Event) (ready : IsReady before.engine) (
     stands = λ seed made stands.
         subst (λ (e : Event). Stands seed (record { events = made.events ++ e ∷ []; requests = made.requests; epoch = made.epoch; drawn = made.drawn }) after)
         (is ∙ ap (λ (n : ℕ). events.Lost (pos n)) stands.epoch)
-        (stands_then before after event ready t seed made stands _ _ _ (requests ∙ stands.requests) (epoch ∙ stands.epoch) (drawn ∙ stands.drawn));
+        (stands_then before after event ready t seed made stands (subst IsMade (sym is) tt) _ _ _ (requests ∙ stands.requests) (epoch ∙ stands.epoch) (drawn ∙ stands.drawn));
     ready = ready_then before after event ready t;
     room = omega (arith, requests);
     few = omega (arith, epoch);
@@ -75,7 +75,7 @@ module _ (before after : Host) (event : Event) (ready : IsReady before.engine) (
     stands = λ seed made stands.
         subst (λ (e : Event). Stands seed (record { events = made.events ++ e ∷ []; requests = made.requests; epoch = made.epoch + 1; drawn = made.drawn }) after)
         (is ∙ (ap (λ (n : ℕ). events.Lead (pos (n + 1)) next (pos 0)) stands.epoch ∙ ap (λ (z : ℤ). events.Lead (pos (made.epoch + 1)) z (pos 0)) (next_so ∙ end_seen seed made before stands)))
-        (stands_then before after event ready t seed made stands _ _ _ (requests ∙ stands.requests) (epoch ∙ ap (λ (n : ℕ). n + 1) stands.epoch) (drawn ∙ stands.drawn));
+        (stands_then before after event ready t seed made stands (subst IsMade (sym is) tt) _ _ _ (requests ∙ stands.requests) (epoch ∙ ap (λ (n : ℕ). n + 1) stands.epoch) (drawn ∙ stands.drawn));
     ready = ready_then before after event ready t;
     room = omega (arith, requests);
     few = omega (arith, epoch);
@@ -91,6 +91,7 @@ draws before after c ready is same =
       stands = λ seed made stands. record {
         played = stands.played;
         counted = stands.counted;
+        small = stands.small;
         requests = stands.requests;
         epoch = stands.epoch;
         drawn = ap (λ (d : Chances). d.last) (is ∙ ap chances stands.drawn);

@@ -2,6 +2,7 @@
 use Rattle.std.proofs.Common.{◌≡◌, ℕ, ◌+◌, List, [], ◌∷◌, ◌++◌, length, length-append, None, refl, sym, ap, subst, ◌∙◌, arith}
 use Rattle.std.specs.Prelude.{filter, pos}
 use Rattle.std.specs.Result.{result_unwrap_or}
+use Rattle.kr_calls.specs.declared.calls.Reply.{Reply}
 use Rattle.kr_calls.specs.declared.events.Entry.{Entry}
 use Rattle.kr_calls.specs.declared.events.Event.{Event}
 use Rattle.kr_calls.specs.declared.events.Output.{Output}
@@ -11,17 +12,21 @@ use Rattle.kr_run.specs.inner.Serving.{Drains}
 use Rattle.kr_run.proofs.Handed.{run_further, runs_options, sound_behind, step_through}
 use Rattle.kr_world.specs.Engine.{Core, Hands, IsEngine, IsSound, IsStep, outputs_left}
 use Rattle.kr_world.specs.Entries.{log_entries}
+use Rattle.kr_world.specs.declared.writes.Write.{Write}
 use Rattle.kr_world.specs.Events.{state}
-use Rattle.kr_world.specs.Outputs.{outputs, waiting_writes}
-use Rattle.kr_world.specs.World.{image_of_tip, start, tip_of}
+use Rattle.kr_world.specs.Outputs.{outputs, outputs_of, waiting_after, waiting_writes}
+use Rattle.kr_world.specs.Runs.{HandsAll}
+use Rattle.kr_world.specs.World.{State, image_of_tip, start, tip_of}
 use Rattle.kr_world.proofs.AllEvents.{runs_give_outputs}
 use Rattle.kr_make.specs.declared.host.Host.{Host}
 use Rattle.kr_make.specs.declared.tally.Tally.{Tally}
 use Rattle.kr_make.specs.inner.Counting.{no_tally, with_event, with_outputs}
-use Rattle.kr_make.specs.inner.Standing.{Counted, IsReady, Played, Stands, Takes}
+use Rattle.kr_make.specs.inner.Standing.{AreFew, Counted, IsMade, IsReady, Played, Stands, Takes}
 use Rattle.kr_make.specs.Session.{Made, nothing, options, state_of}
 use Rattle.kr_make.specs.Summary.{is_record, records_from, replies_of}
-use Rattle.kr_make.proofs.Counts.{Has, has_event, has_outputs, has_so, joined, oks, oks_behind, others, others_behind, records_more}
+use Rattle.kr_make.proofs.Counts.{Has, has_event, has_outputs, has_so, joined, oks, oks_behind, others, others_behind, records_more, replies_behind}
+use Rattle.kr_make.proofs.FewRecords.{few_records}
+use Rattle.kr_make.proofs.FewReplies.{few_replies}
 
 -- ---- nothing has happened
 
@@ -33,6 +38,7 @@ pub new_stands : (seed : ℕ) (host : Host) → host.engine.options ≡ options 
 new_stands seed host opened begins none requests epoch drawn tally = record {
   played = record { first = host.engine; opened = opened; begins = begins; given = []; last = host.engine; runs = refl; none = drained host.engine begins none };
   counted = subst (Counted seed [] []) (sym tally) (record { events_so = refl; records_so = refl; ok_so = refl; refused_so = refl });
+  small = record { records = omega arith; replies = omega arith };
   requests = requests;
   epoch = epoch;
   drawn = drawn;
@@ -99,6 +105,16 @@ module _ (seed : ℕ) (events : List Event) (engine : Core) (played : Played see
         subst (Counted seed (events ++ event ∷ []) (played.given ++ given ∷ [])) (sym is) (counted_from_has seed _ _ _
         (has_so _ _ _ _ _ _ _ _ _ (sym long) records_so (oks_behind played.given given) (others_behind played.given given) both))
 
+-- ---- outputs that are all handed out
+
+drained_of : (before after : Core) (given : List Output) → HandsAll before given after → outputs_left before ≡ given
+drained_of before after [] (none, is) = none
+drained_of before after (output ∷ given) (next, first, rest) = first.in_order ∙ ap (λ (l : List Output). output ∷ l) (drained_of next after given rest)
+
+stands_on : (before after : Core) (given : List Output) → HandsAll before given after → (s : State) (writes : List Write) → IsEngine before s writes → IsEngine after s writes
+stands_on before after [] (none, is) s writes k = subst (λ (e : Core). IsEngine e s writes) (sym is) k
+stands_on before after (output ∷ given) (next, first, rest) s writes k = stands_on next after given rest s writes (first.stands s writes k)
+
 -- ---- a host that took an event
 
 module _ (before after : Host) (event : Event) (ready : IsReady before.engine) (t : Takes before.engine after.engine before.tally after.tally event) where
@@ -114,6 +130,36 @@ module _ (before after : Host) (event : Event) (ready : IsReady before.engine) (
     counted_behind : Counted seed (made.events ++ event ∷ []) (stands.played.given ++ t.given ∷ []) after.tally
     counted_behind = counted_on seed made.events before.engine stands.played event after.engine t.stepped t.given t.step t.drains before.tally after.tally t.counted stands.counted
 
-    pub stands_then : (requests epoch drawn : ℕ) → after.requests ≡ requests → after.epoch ≡ epoch → after.drawn ≡ drawn
+    abbrev now : State
+    now = state (options seed) made.events
+
+    abbrev writes : List Write
+    writes = waiting_writes (options seed) made.events
+
+    given_of : t.given ≡ outputs_of (options seed) now writes event
+    given_of =
+        sym (drained_of t.stepped t.drains.last t.given t.drains.all)
+        ∙ (t.step.outputs _ _ (engine_so seed made.events before.engine stands.played)
+        ∙ ap (λ (o : Options). outputs_of o now writes event) (options_so seed made.events before.engine stands.played))
+
+    waiting_of : waiting_writes (options seed) (made.events ++ event ∷ []) ≡ waiting_after (options seed) now writes event
+    waiting_of =
+        let one = engine_so seed (made.events ++ event ∷ []) after.engine behind in
+        let other = t.drains.none.stands _ _ (stands_on t.stepped t.drains.last t.given t.drains.all _ _ (t.step.stands _ _ (engine_so seed made.events before.engine stands.played))) in
+        sym one.waits ∙ (other.waits ∙ ap (λ (o : Options). waiting_after o now writes event) (options_so seed made.events before.engine stands.played))
+
+    small_behind : IsMade event → AreFew seed (made.events ++ event ∷ []) (stands.played.given ++ t.given ∷ [])
+    small_behind is_made =
+        let small = stands.small in
+        let long = length-append made.events (event ∷ []) in
+        let more = records_more (options seed) made.events start event in
+        let few = few_records (options seed) now event is_made in
+        let split = ap (λ (replies : List Reply). length replies) (replies_behind stands.played.given t.given) ∙ length-append (replies_of (joined stands.played.given)) (replies_of t.given) in
+        let told = ap (λ (outputs : List Output). length (replies_of outputs)) given_of in
+        let waits = ap (λ (writes : List Write). length writes) waiting_of in
+        let one = few_replies (options seed) now writes event is_made in
+        record { records = omega (arith, small.records, long, more, few); replies = omega (arith, small.replies, long, split, told, waits, one) }
+
+    pub stands_then : IsMade event → (requests epoch drawn : ℕ) → after.requests ≡ requests → after.epoch ≡ epoch → after.drawn ≡ drawn
         → Stands seed (record { events = made.events ++ event ∷ []; requests = requests; epoch = epoch; drawn = drawn }) after
-    stands_then requests epoch drawn a b c = record { played = behind; counted = counted_behind; requests = a; epoch = b; drawn = c }
+    stands_then is_made requests epoch drawn a b c = record { played = behind; counted = counted_behind; small = small_behind is_made; requests = a; epoch = b; drawn = c }

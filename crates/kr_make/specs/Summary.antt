@@ -1,5 +1,5 @@
 -- What comes of a session, in six numbers.
-use Rattle.std.specs.Prelude.{ℕ, ◌+◌, ◌-◌, ◌^◌, min, ℤ, List, [], ◌∷◌, ◌++◌, length, filter, codes, Bool, true, false, not}
+use Rattle.std.specs.Prelude.{ℕ, ◌+◌, ℤ, List, [], ◌∷◌, ◌++◌, length, filter, codes, Bool, true, false, not}
 use Rattle.std.specs.Fmt.{decimal}
 use Rattle.std.specs.List.{flat_map}
 use Rattle.kr_calls.specs.declared.calls.Reply.{Reply}
@@ -68,14 +68,6 @@ summary options events = record {
   refused = length (filter (λ reply. not (is_ok reply)) (replies options events));
   led = led_of (image_of_tip (state options events));
 }
-
--- a count of 64 bits stays at the greatest
-abbrev pub more : ℕ → ℕ → ℕ
-more count n = min (count + n) (2 ^ 64 - 1)
-
--- the same summary, whose counts of events, records and replies stay there
-abbrev pub capped : Summary → Summary
-capped s = record s { events = more s.events 0; records = more s.records 0; ok = more s.ok 0; refused = more s.refused 0 }
 
 -- six lines, each a word and a number
 abbrev pub line : List ℕ → ℕ → List ℕ

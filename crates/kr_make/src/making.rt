@@ -2,7 +2,7 @@
 
 ghost use Rattle.std.specs.Prelude.{◌≡◌, ◌≤◌, ◌<◌, IfOk};
 ghost use Rattle.kr_make.specs.Session.{made_session, options};
-ghost use Rattle.kr_make.specs.Summary.{capped, summary};
+ghost use Rattle.kr_make.specs.Summary.{summary};
 
 use crate::host::Host;
 use crate::summary::Summary;
@@ -21,7 +21,7 @@ fn make_with<L: Ledger>(
     requires name { blank.name ≡ L.name }
     requires parts { blank.parts ≡ L.parts }
     requires some { 0 < L.parts }
-    ensures { IfOk result (λ found. found ≡ capped (summary (options seed) (made_session seed rounds).events)) }
+    ensures { IfOk result (λ found. found ≡ summary (options seed) (made_session seed rounds).events) }
 {
     let mut steps: Steps<L> = Steps::new(blank);
     let mut host = Host::new(alloc, seed)?;
@@ -30,11 +30,10 @@ fn make_with<L: Ledger>(
     Ok(host.summary())
 }
 
-/// Leads a controller through the session of a number, with so many rounds. Of the counts in the answer, those of events,
-/// records and replies stay at the greatest of 64 bits.
+/// Leads a controller through the session of a number, with so many rounds, and sums up what came of it.
 pub fn make(alloc: Global, seed: u32, rounds: u32) -> Result<Summary, NoMemory>
     requires { rounds ≤ 1000000000 }
-    ensures { IfOk result (λ found. found ≡ capped (summary (options seed) (made_session seed rounds).events)) }
+    ensures { IfOk result (λ found. found ≡ summary (options seed) (made_session seed rounds).events) }
 {
     make_with::<Brand>(alloc, seed, rounds, Blank::new(1))
 }

@@ -8,7 +8,11 @@ use Rattle.kr_defs.specs.declared.partition.Partition.{Partition}
 use Rattle.kr_make.specs.declared.tally.Tally.{Tally}
 use Rattle.kr_make.specs.Replies.{is_ok}
 use Rattle.kr_make.specs.Requests.{has_leader}
-pub use Rattle.kr_make.specs.Summary.{is_record, more}
+pub use Rattle.kr_make.specs.Summary.{is_record}
+
+-- a count of 64 bits stays at the greatest
+abbrev pub more : ℕ → ℕ → ℕ
+more count n = min (count + n) (2 ^ 64 - 1)
 
 abbrev pub no_tally : Tally
 no_tally = record { events = 0; records = 0; ok = 0; refused = 0 }

@@ -1,10 +1,14 @@
 -- For which part of the session a controller stands that was led through it.
-use Rattle.std.specs.Prelude.{◌≡◌, ◌≤◌, ℕ, ◌+◌, List, [], length, filter, not, None}
+use Rattle.std.specs.Prelude.{◌≡◌, ◌≤◌, ℕ, ◌+◌, ◌*◌, List, [], length, filter, not, None}
 use Rattle.std.specs.List.{flat_map}
+use Rattle.kr_calls.specs.declared.calls.Ask.TheVariants as asks
 use Rattle.kr_calls.specs.declared.events.Event.{Event}
+use Rattle.kr_calls.specs.declared.events.Event.TheVariants as events
 use Rattle.kr_calls.specs.declared.events.Output.{Output}
+use Rattle.kr_defs.specs.declared.limits.TheConstants.{MOST_RECORDS}
 use Rattle.kr_run.specs.inner.Serving.{Drains}
 use Rattle.kr_world.specs.Engine.{Core, Hands, IsEngine, IsSound, IsStep, outputs_left}
+use Rattle.kr_world.specs.Outputs.{waiting_writes}
 use Rattle.kr_world.specs.Runs.{Runs}
 use Rattle.kr_world.specs.World.{start}
 use Rattle.kr_make.specs.declared.host.Host.{Host}
@@ -44,9 +48,23 @@ pub record Counted (seed : ℕ) (events : List Event) (given : List (List Output
   pub ok_so : tally.ok ≡ more (length (filter is_ok (replies_of (flat_map (λ outputs. outputs) given)))) 0
   pub refused_so : tally.refused ≡ more (length (filter (λ reply. not (is_ok reply)) (replies_of (flat_map (λ outputs. outputs) given)))) 0
 
+-- the kinds of events that a session has
+abbrev pub IsMade : Event → Type 0
+IsMade (events.Request client now (asks.Call call)) = Unit {0}
+IsMade (events.Commit epoch end) = Unit {0}
+IsMade (events.Lost epoch) = Unit {0}
+IsMade (events.Lead epoch next now) = Unit {0}
+IsMade other = ⊥
+
+-- the counts are small: no event adds more records than a batch has, and of each event there is at most one reply, now or later
+pub record AreFew (seed : ℕ) (events : List Event) (given : List (List Output)) : Type 0 where
+  pub records : records_from (options seed) start events ≤ length events * MOST_RECORDS
+  pub replies : length (replies_of (flat_map (λ outputs. outputs) given)) + length (waiting_writes (options seed) events) ≤ length events
+
 pub record Stands (seed : ℕ) (made : Made) (host : Host) : Type 0 where
   pub played : Played seed made.events host.engine
   pub counted : Counted seed made.events played.given host.tally
+  pub small : AreFew seed made.events played.given
   pub requests : host.requests ≡ made.requests
   pub epoch : host.epoch ≡ made.epoch
   pub drawn : host.drawn ≡ made.drawn

@@ -2,6 +2,7 @@ use Rattle.std.proofs.Common.{arith, subst}
 use Rattle.kr_make.specs.inner.Standing.{Stands}
 use Rattle.kr_make.specs.Session.{Made, made_session}
 use Rattle.kr_make.proofs.Goings.{may_go_on}
+use Rattle.kr_make.proofs.Lengths.{session_few}
 use Rattle.kr_make.proofs.Parts.{made_session_is}
 use Rattle.kr_make.proofs.making.make_with.Goals as goal
 
@@ -19,4 +20,5 @@ pub returns : goal.returns
 returns g c =
     let opened = c.in_ok-open.ensures.stands c.args.seed _ c.in_ok-host.ensures.stands in
     let played = c.in_ok-rounds.ensures.stands c.args.seed _ opened in
-    c.summary.ensures c.args.seed (made_session c.args.seed c.args.rounds) (subst (λ (made : Made). Stands c.args.seed made _) (made_session_is c.args.seed c.args.rounds) played)
+    let few = session_few c.args.seed c.args.rounds in
+    c.summary.ensures c.args.seed (made_session c.args.seed c.args.rounds) (subst (λ (made : Made). Stands c.args.seed made _) (made_session_is c.args.seed c.args.rounds) played) (omega (arith, few, c.requires.rounds))

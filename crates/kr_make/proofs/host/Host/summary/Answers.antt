@@ -5,4 +5,4 @@ use Rattle.kr_make.proofs.Sums.{summed}
 use Rattle.kr_make.proofs.host.Host.summary.Goals as goal
 
 pub returns : goal.returns
-returns c = λ seed made stands. summed seed made c.args.self.now stands _ _ (c.unsigned_abs.ensures ∙ ap unsigned_abs c.committed.ensures) (c.count_led.ensures ∙ ap led_of (c.tip-seen.ensures ∙ c.store.ensures))
+returns c = λ seed made stands few. summed seed made c.args.self.now stands few _ _ (c.unsigned_abs.ensures ∙ ap unsigned_abs c.committed.ensures) (c.count_led.ensures ∙ ap led_of (c.tip-seen.ensures ∙ c.store.ensures))
