@@ -48,15 +48,11 @@ new_stands seed host opened begins none requests epoch drawn tally = record {
 
 module _ (seed : ℕ) (events : List Event) (given : List (List Output)) (tally : Tally) where
   has_from_counted : Counted seed events given tally → Has tally (length events) (records_from (options seed) start events) (oks (replies_of (joined given))) (others (replies_of (joined given)))
-  unfolding oks
-
-  unfolding others
+  unfolding oks others
   has_from_counted c = record { events_so = c.events_so; records_so = c.records_so; ok_so = c.ok_so; refused_so = c.refused_so }
 
   counted_from_has : Has tally (length events) (records_from (options seed) start events) (oks (replies_of (joined given))) (others (replies_of (joined given))) → Counted seed events given tally
-  unfolding oks
-
-  unfolding others
+  unfolding oks others
   counted_from_has h = record { events_so = h.events_so; records_so = h.records_so; ok_so = h.ok_so; refused_so = h.refused_so }
 
 -- ---- for what it stands
