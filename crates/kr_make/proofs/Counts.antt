@@ -37,10 +37,10 @@ pub record Has (tally : Tally) (events records ok refused : ℕ) : Type 0 where
   pub ok_so : tally.ok ≡ more ok 0
   pub refused_so : tally.refused ≡ more refused 0
 
-pub oks : List Reply → ℕ
+unfoldable pub oks : List Reply → ℕ
 oks replies = length (filter is_ok replies)
 
-pub others : List Reply → ℕ
+unfoldable pub others : List Reply → ℕ
 others replies = length (filter (λ reply. not (is_ok reply)) replies)
 
 one : Bool → ℕ

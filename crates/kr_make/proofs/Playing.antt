@@ -158,4 +158,5 @@ module _ (before after : Host) (event : Event) (ready : IsReady before.engine) (
 
     pub stands_then : IsMade event → (requests epoch drawn : ℕ) → after.requests ≡ requests → after.epoch ≡ epoch → after.drawn ≡ drawn
         → Stands seed (record { events = made.events ++ event ∷ []; requests = requests; epoch = epoch; drawn = drawn }) after
+    unfolding behind played_on
     stands_then is_made requests epoch drawn a b c = record { played = behind; counted = counted_behind; small = small_behind is_made; requests = a; epoch = b; drawn = c }
