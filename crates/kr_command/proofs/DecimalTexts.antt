@@ -45,14 +45,14 @@ so_low n is = grind (arith, nat_tests)
 pub spells : (text : List ℕ) (number : ℕ) → (decimal_up_to (2 ^ 32 - 1) text ≡ Some number) ↔ ((number < 2 ^ 32) × (text ≡ decimal number))
 spells text number = (
   λ is.
-    let found = spelled (is_led text) (are_digits text) _ (number_behind 0 text) number is in
-    let first = led_first text found.is_led in
-    let low = low_so (number_behind 0 text) found.is_low in
-    (subst (λ (n : ℕ). n < 2 ^ 32) found.value low, sym (decimal-digits_value own text found.are_digits first.0 first.1 (omega (arith, low))) ∙ ap decimal found.value),
+      let found = spelled (is_led text) (are_digits text) _ (number_behind 0 text) number is in
+      let first = led_first text found.is_led in
+      let low = low_so (number_behind 0 text) found.is_low in
+      (subst (λ (n : ℕ). n < 2 ^ 32) found.value low, sym (decimal-digits_value own text found.are_digits first.0 first.1 (omega (arith, low))) ∙ ap decimal found.value),
   λ (low, is).
-    let wide : number < 2 ^ 64 = omega (arith, low) in
-    let led = ap is_led is ∙ is_led_decimal number wide in
-    let digits = ap are_digits is ∙ digits_decimal own number wide in
-    let value = ap (number_behind 0) is ∙ digits_value-decimal own number wide in
-    rw (led, digits, value, so_low number low) refl,
+      let wide : number < 2 ^ 64 = omega (arith, low) in
+      let led = ap is_led is ∙ is_led_decimal number wide in
+      let digits = ap are_digits is ∙ digits_decimal own number wide in
+      let value = ap (number_behind 0) is ∙ digits_value-decimal own number wide in
+      rw (led, digits, value, so_low number low) refl,
 )

@@ -12,15 +12,15 @@ abbrev pub make_text : ℕ → List ℕ
 make_text seed = summary_text (summary (options seed) (made_session seed 2000).events)
 
 -- the whole text; a front of it where a write failed; and nothing where memory ran out
-abbrev pub Makes : ℕ → Option (List ℕ) → Option (List ℕ) → Result (Unit {0}) ToolFault → Type 0
-Makes seed written written' (Ok done) = Appends written written' (make_text seed)
-Makes seed written written' (Err faults.WriteFault) = AppendsFront written written' (make_text seed)
-Makes seed written written' (Err faults.NoMemory) = Keeps written written'
-Makes seed written written' (Err other) = ⊥
+abbrev pub WritesSummary : ℕ → Option (List ℕ) → Option (List ℕ) → Result (Unit {0}) ToolFault → Type 0
+WritesSummary seed written written' (Ok done) = Appends written written' (make_text seed)
+WritesSummary seed written written' (Err faults.WriteFault) = AppendsFront written written' (make_text seed)
+WritesSummary seed written written' (Err faults.NoMemory) = Keeps written written'
+WritesSummary seed written written' (Err other) = ⊥
 
 -- and no input is taken
 abbrev pub MakeEnds : ℕ → Option (List ℕ) → Option (List ℕ) → Option (List ℕ) → Option (List ℕ) → Result (Unit {0}) ToolFault → Type 0
-MakeEnds seed left left' written written' result = Keeps left left' × Makes seed written written' result
+MakeEnds seed left left' written written' result = Keeps left left' × WritesSummary seed written written' result
 
 -- where no write failed it is done, if there is memory
 abbrev pub MakesWhole : Result (Unit {0}) ToolFault → Type 0

@@ -2,7 +2,7 @@
 
 ghost use Rattle.std.specs.Prelude.{◌≡◌, ◌≤◌, IfOk, IsErrOf, OnErr, string_bytes};
 ghost use Rattle.kr_base.specs.Causes.{Rose};
-ghost use Rattle.kr_command.specs.Making.{Makes, MakesWhole, make_text};
+ghost use Rattle.kr_command.specs.Making.{WritesSummary, MakesWhole, make_text};
 
 use kr_base::{NoMemory, Sink};
 use kr_fold::ToolFault;
@@ -17,14 +17,15 @@ fn make_lines(alloc: Global, seed: u32) -> Result<String, NoMemory>
     Ok(summary_text(alloc, &summary)?)
 }
 
-/// Makes the session of this number, and writes what came of it by one put.
+/// WritesSummary the session of this number, and writes what came of it by one put.
 pub(crate) fn write_summary<K: Sink>(
     alloc: Global,
     seed: u32,
     output: &mut K,
 ) -> Result<(), ToolFault>
-    ensures ends { Makes seed (K.written output.old) (K.written output.new) result }
-    ensures write { IsErrOf result ToolFault.WriteFault → Rose (K.faults output.old) (K.faults output.new) }
+    ensures ends { WritesSummary seed (K.written output.old) (K.written output.new) result }
+    ensures write { IsErrOf result ToolFault.WriteFault →
+        Rose (K.faults output.old) (K.faults output.new) }
     ensures complete { (Rose (K.faults output.old) (K.faults output.new) → ⊥) → MakesWhole result }
     ensures read { IsErrOf result ToolFault.ReadFault → ⊥ }
 {

@@ -34,7 +34,8 @@ pub fn run<S: Source, K: Sink, E: Sink>(
     ensures session { IsSession words.now → EndsWith (S.left input.old) (S.left input.new) (K.written output.old) (K.written output.new) result }
     ensures fold { IsFold words.now → IsOf (FoldEnds (S.left input.old) (S.left input.new) (K.written output.old) (K.written output.new)) result }
     ensures dump { IsDump words.now → IsOf (DumpEnds (S.left input.old) (S.left input.new) (K.written output.old) (K.written output.new)) result }
-    ensures make { (seed : ℕ) → IsMake words.now seed → IsOf (MakeEnds seed (S.left input.old) (S.left input.new) (K.written output.old) (K.written output.new)) result }
+    ensures make { (seed : ℕ) → IsMake words.now seed → IsOf (MakeEnds seed (S.left input.old)
+        (S.left input.new) (K.written output.old) (K.written output.new)) result }
 
     // Usage is told exactly where the words aren't served, and then nothing is taken or written.
     ensures usage { result ≡ Status.Usage → AreServed words.now → ⊥ }
@@ -58,7 +59,8 @@ pub fn run<S: Source, K: Sink, E: Sink>(
     ensures dump_complete { IsDump words.now → (Rose (S.faults input.old) (S.faults input.new) → ⊥) → (Rose (K.faults output.old) (K.faults output.new) → ⊥) → IsOf (DumpsWhole (S.left input.old)) result }
     ensures dump_broken { IsDump words.now → (Rose (S.faults input.old) (S.faults input.new) → ⊥) → (Rose (K.faults output.old) (K.faults output.new) → ⊥) → IsOf (RefusesBrokenImage (S.left input.old)) result }
     ensures dump_longer { IsDump words.now → (Rose (S.faults input.old) (S.faults input.new) → ⊥) → (Rose (K.faults output.old) (K.faults output.new) → ⊥) → IsOf (RefusesLonger (S.left input.old)) result }
-    ensures make_complete { (seed : ℕ) → IsMake words.now seed → (Rose (K.faults output.old) (K.faults output.new) → ⊥) → IsOf MakesWhole result }
+    ensures make_complete { (seed : ℕ) → IsMake words.now seed →
+        (Rose (K.faults output.old) (K.faults output.new) → ⊥) → IsOf MakesWhole result }
 
     // The notes get exactly the status's line.
     ensures notes { (Rose (E.faults notes.old) (E.faults notes.new) → ⊥) → Appends (E.written notes.old) (E.written notes.new) (note_of result) }
@@ -91,7 +93,8 @@ fn serve_words<S: Source, K: Sink>(
     ensures session { IsSession words.now → EndsWith (S.left input.old) (S.left input.new) (K.written output.old) (K.written output.new) result }
     ensures fold { IsFold words.now → IsOf (FoldEnds (S.left input.old) (S.left input.new) (K.written output.old) (K.written output.new)) result }
     ensures dump { IsDump words.now → IsOf (DumpEnds (S.left input.old) (S.left input.new) (K.written output.old) (K.written output.new)) result }
-    ensures make { (seed : ℕ) → IsMake words.now seed → IsOf (MakeEnds seed (S.left input.old) (S.left input.new) (K.written output.old) (K.written output.new)) result }
+    ensures make { (seed : ℕ) → IsMake words.now seed → IsOf (MakeEnds seed (S.left input.old)
+        (S.left input.new) (K.written output.old) (K.written output.new)) result }
     ensures usage { result ≡ Status.Usage → AreServed words.now → ⊥ }
     ensures served { (AreServed words.now → ⊥) → result ≡ Status.Usage }
     ensures idle { result ≡ Status.Usage → EndsWith (S.left input.old) (S.left input.new) (K.written output.old) (K.written output.new) Status.Usage }
@@ -105,7 +108,8 @@ fn serve_words<S: Source, K: Sink>(
     ensures dump_complete { IsDump words.now → (Rose (S.faults input.old) (S.faults input.new) → ⊥) → (Rose (K.faults output.old) (K.faults output.new) → ⊥) → IsOf (DumpsWhole (S.left input.old)) result }
     ensures dump_broken { IsDump words.now → (Rose (S.faults input.old) (S.faults input.new) → ⊥) → (Rose (K.faults output.old) (K.faults output.new) → ⊥) → IsOf (RefusesBrokenImage (S.left input.old)) result }
     ensures dump_longer { IsDump words.now → (Rose (S.faults input.old) (S.faults input.new) → ⊥) → (Rose (K.faults output.old) (K.faults output.new) → ⊥) → IsOf (RefusesLonger (S.left input.old)) result }
-    ensures make_complete { (seed : ℕ) → IsMake words.now seed → (Rose (K.faults output.old) (K.faults output.new) → ⊥) → IsOf MakesWhole result }
+    ensures make_complete { (seed : ℕ) → IsMake words.now seed →
+        (Rose (K.faults output.old) (K.faults output.new) → ⊥) → IsOf MakesWhole result }
 {
     match word_of(words) {
         None => Status::Usage,
@@ -142,8 +146,11 @@ fn lone_word(word: &Text) -> Option<Word>
 
 // `make` and its number.
 fn make_word(word: &Text, number: &Text) -> Option<Word>
-    ensures lone { (result ≡ Some Word.Session → ⊥) × (result ≡ Some Word.Fold → ⊥) × (result ≡ Some Word.Dump → ⊥) }
-    ensures make { (seed : ℕ) → (result ≡ Some (Word.Make seed)) ↔ IsMake (word.now ∷ number.now ∷ []) seed }
+    ensures session { result ≡ Some Word.Session → ⊥ }
+    ensures fold { result ≡ Some Word.Fold → ⊥ }
+    ensures dump { result ≡ Some Word.Dump → ⊥ }
+    ensures make { (seed : ℕ) →
+        (result ≡ Some (Word.Make seed)) ↔ IsMake (word.now ∷ number.now ∷ []) seed }
 {
     if word.as_str() != "make" {
         return None;

@@ -15,27 +15,27 @@ use Rattle.kr_world.specs.Events.{happens}
 use Rattle.kr_world.specs.World.{State}
 use Rattle.kr_make.specs.declared.tally.Tally.{Tally}
 use Rattle.kr_make.specs.Replies.{is_ok}
-use Rattle.kr_make.specs.Summary.{is_record, records_from, replies_of}
-use Rattle.kr_make.specs.inner.Counting.{more, with_event, with_output, with_outputs}
+use Rattle.kr_make.specs.Summary.{is_record, event_records, replies_of}
+use Rattle.kr_make.specs.inner.Counting.{capped_sum, with_appended, with_output, with_outputs}
 
 -- ---- counts that stay at the greatest
 
 capped_more : (n m top : ℕ) → min (min (n + 0) top + m) top ≡ min (n + m + 0) top
 capped_more n m top = omega arith
 
-more_of : (count n m : ℕ) → count ≡ more n 0 → more count m ≡ more (n + m) 0
-more_of count n m is = ap (λ (k : ℕ). more k m) is ∙ capped_more n m _
+more_of : (count n m : ℕ) → count ≡ capped_sum n 0 → capped_sum count m ≡ capped_sum (n + m) 0
+more_of count n m is = ap (λ (k : ℕ). capped_sum k m) is ∙ capped_more n m _
 
-none_more : (count n : ℕ) → count ≡ more n 0 → count ≡ more (n + 0) 0
-none_more count n is = is ∙ ap (λ (k : ℕ). more k 0) (omega arith)
+none_more : (count n : ℕ) → count ≡ capped_sum n 0 → count ≡ capped_sum (n + 0) 0
+none_more count n is = is ∙ ap (λ (k : ℕ). capped_sum k 0) (omega arith)
 
 -- ---- a tally that has counted so many
 
 pub record Has (tally : Tally) (events records ok refused : ℕ) : Type 0 where
-  pub events_so : tally.events ≡ more events 0
-  pub records_so : tally.records ≡ more records 0
-  pub ok_so : tally.ok ≡ more ok 0
-  pub refused_so : tally.refused ≡ more refused 0
+  pub events_so : tally.events ≡ capped_sum events 0
+  pub records_so : tally.records ≡ capped_sum records 0
+  pub ok_so : tally.ok ≡ capped_sum ok 0
+  pub refused_so : tally.refused ≡ capped_sum refused 0
 
 unfoldable pub oks : List Reply → ℕ
 oks replies = length (filter is_ok replies)
@@ -49,10 +49,10 @@ one b = cond b 1 0
 module _ (events records : ℕ) where
   has_same : (t : Tally) (ok ok' refused refused' : ℕ) → ok ≡ ok' → refused ≡ refused' → Has t events records ok refused → Has t events records ok' refused'
   has_same t ok ok' refused refused' a b has =
-      record { events_so = has.events_so; records_so = has.records_so; ok_so = has.ok_so ∙ ap (λ (n : ℕ). more n 0) a; refused_so = has.refused_so ∙ ap (λ (n : ℕ). more n 0) b }
+      record { events_so = has.events_so; records_so = has.records_so; ok_so = has.ok_so ∙ ap (λ (n : ℕ). capped_sum n 0) a; refused_so = has.refused_so ∙ ap (λ (n : ℕ). capped_sum n 0) b }
 
   has_reply : (t : Tally) (ok refused : ℕ) (b : Bool) → Has t events records ok refused
-      → Has (cond b (record t { ok = more t.ok 1 }) (record t { refused = more t.refused 1 })) events records (ok + one b) (refused + one (not b))
+      → Has (cond b (record t { ok = capped_sum t.ok 1 }) (record t { refused = capped_sum t.refused 1 })) events records (ok + one b) (refused + one (not b))
   unfolding one
   has_reply t ok refused true has =
       record { events_so = has.events_so; records_so = has.records_so; ok_so = more_of t.ok ok 1 has.ok_so; refused_so = none_more t.refused refused has.refused_so }
@@ -100,10 +100,10 @@ module _ (events records : ℕ) where
 
 pub has_so : (t : Tally) (events events' records records' ok ok' refused refused' : ℕ) → events ≡ events' → records ≡ records' → ok ≡ ok' → refused ≡ refused' → Has t events records ok refused → Has t events' records' ok' refused'
 has_so t events events' records records' ok ok' refused refused' a b c d has = record {
-  events_so = has.events_so ∙ ap (λ (n : ℕ). more n 0) a;
-  records_so = has.records_so ∙ ap (λ (n : ℕ). more n 0) b;
-  ok_so = has.ok_so ∙ ap (λ (n : ℕ). more n 0) c;
-  refused_so = has.refused_so ∙ ap (λ (n : ℕ). more n 0) d;
+  events_so = has.events_so ∙ ap (λ (n : ℕ). capped_sum n 0) a;
+  records_so = has.records_so ∙ ap (λ (n : ℕ). capped_sum n 0) b;
+  ok_so = has.ok_so ∙ ap (λ (n : ℕ). capped_sum n 0) c;
+  refused_so = has.refused_so ∙ ap (λ (n : ℕ). capped_sum n 0) d;
 }
 
 -- one output more
@@ -112,7 +112,7 @@ outputs_more t given output = fold-append with_output t given (output ∷ [])
 
 -- an event is counted
 pub has_event : (t : Tally) (entries : List Entry) (events records ok refused : ℕ) → Has t events records ok refused
-    → Has (with_event t entries) (events + 1) (records + length (filter is_record entries)) ok refused
+    → Has (with_appended t entries) (events + 1) (records + length (filter is_record entries)) ok refused
 has_event t entries events records ok refused has = record {
   events_so = more_of t.events events 1 has.events_so;
   records_so = more_of t.records records (length (filter is_record entries)) has.records_so;
@@ -145,7 +145,7 @@ others_behind given outputs =
 
 module _ (options : Options) where
   pub records_more : (past : List Event) (s : State) (event : Event)
-      → records_from options s past + length (filter is_record (log_entries options (fold (happens options) s past) event)) ≡ records_from options s (past ++ event ∷ [])
+      → event_records options s past + length (filter is_record (log_entries options (fold (happens options) s past) event)) ≡ event_records options s (past ++ event ∷ [])
   records_more [] s event = omega arith
   records_more (first ∷ past) s event =
       let e = records_more past (happens options s first) event in

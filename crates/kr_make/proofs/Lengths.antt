@@ -7,7 +7,7 @@ use Rattle.kr_calls.specs.declared.events.Event.{Event}
 use Rattle.kr_world.specs.World.{image_of_tip}
 use Rattle.kr_make.specs.declared.chances.Chances.{Chances}
 use Rattle.kr_make.specs.Requests.{election, note, reassignment, report}
-use Rattle.kr_make.specs.Session.{Made, act, after_draw, ask, ask_and_commit, beat, chances, commit, create, fail_over, first_beat, lead, lose, made_session, nothing, open_session, play_round, register, request_event, send_report, state_of, steps}
+use Rattle.kr_make.specs.Session.{Made, act, after_draw, ask, ask_and_commit, send_heartbeat, chances, commit_all, create, fail_over, first_heartbeat, lead_next, lose, made_session, nothing_made, open_session, play_round, register, request_event, send_report, state_behind, steps}
 
 -- at most so many events more
 record Adds (k : ℕ) (before after : Made) : Type 0 where
@@ -27,28 +27,28 @@ module _ (seed : ℕ) where
   unfolding ask
   ask_adds made request = record { few = one_more made.events _ }
 
-  commit_adds : (made : Made) → Adds 1 made (commit seed made)
-  unfolding commit
+  commit_adds : (made : Made) → Adds 1 made (commit_all seed made)
+  unfolding commit_all
   commit_adds made = record { few = one_more made.events _ }
 
   lose_adds : (made : Made) → Adds 1 made (lose made)
   unfolding lose
   lose_adds made = record { few = one_more made.events _ }
 
-  lead_adds : (made : Made) → Adds 1 made (lead seed made)
-  unfolding lead
+  lead_adds : (made : Made) → Adds 1 made (lead_next seed made)
+  unfolding lead_next
   lead_adds made = record { few = one_more made.events _ }
 
   asked_adds : (made : Made) (request : Request) → Adds 2 made (ask_and_commit seed made request)
   unfolding ask_and_commit
-  asked_adds made request = both 1 1 made (ask made request) (commit seed (ask made request)) (ask_adds made request) (commit_adds (ask made request))
+  asked_adds made request = both 1 1 made (ask made request) (commit_all seed (ask made request)) (ask_adds made request) (commit_adds (ask made request))
 
   register_adds : (n : ℕ) (made : Made) → Adds 2 made (register seed n made)
   unfolding register
   register_adds n made = asked_adds made _
 
-  beat_adds : (broker : ℕ) (want_fence : Bool) (made : Made) → Adds 2 made (beat seed broker want_fence made)
-  unfolding beat
+  beat_adds : (broker : ℕ) (want_fence : Bool) (made : Made) → Adds 2 made (send_heartbeat seed broker want_fence made)
+  unfolding send_heartbeat
   beat_adds broker want_fence made = asked_adds made _
 
   create_adds : (n : ℕ) (made : Made) → Adds 2 made (create seed n made)
@@ -69,9 +69,9 @@ module _ (seed : ℕ) where
   unfolding open_session
   open_adds made =
       let first = lead_adds made in
-      let second = steps_add (register seed) 2 register_adds 6 (lead seed made) in
-      let third = steps_add (first_beat seed) 2 (λ n. beat_adds (n + 1) false) 6 (steps 6 (register seed) (lead seed made)) in
-      let fourth = steps_add (create seed) 2 create_adds 300 (steps 6 (first_beat seed) (steps 6 (register seed) (lead seed made))) in
+      let second = steps_add (register seed) 2 register_adds 6 (lead_next seed made) in
+      let third = steps_add (first_heartbeat seed) 2 (λ n. beat_adds (n + 1) false) 6 (steps 6 (register seed) (lead_next seed made)) in
+      let fourth = steps_add (create seed) 2 create_adds 300 (steps 6 (first_heartbeat seed) (steps 6 (register seed) (lead_next seed made))) in
       record { few = omega (arith, first.few, second.few, third.few, fourth.few) }
 
   -- ---- rounds
@@ -82,7 +82,7 @@ module _ (seed : ℕ) where
 
   report_adds : (topic partition : ℕ) (made : Made) → Adds 2 made (send_report seed topic partition made)
   unfolding send_report
-  report_adds topic partition made = sent_adds made (report (image_of_tip (state_of seed made)) topic (pos partition))
+  report_adds topic partition made = sent_adds made (report (image_of_tip (state_behind seed made)) topic (pos partition))
 
   fail_over_adds : (round : ℕ) (made : Made) → Adds 4 made (fail_over seed round made)
   unfolding fail_over
@@ -91,7 +91,7 @@ module _ (seed : ℕ) where
       let first = ask_adds made (note round) in
       let second = lose_adds asked in
       let third = lead_adds (lose asked) in
-      let fourth = commit_adds (lead seed (lose asked)) in
+      let fourth = commit_adds (lead_next seed (lose asked)) in
       record { few = omega (arith, first.few, second.few, third.few, fourth.few) }
 
   adds_if : (k : ℕ) (b : Bool) (made x y : Made) → Adds k made x → Adds k made y → Adds k made (cond b x y)
@@ -102,8 +102,8 @@ module _ (seed : ℕ) where
   unfolding act
   act_adds round c made =
       let two : (next : Made) → Adds 2 made next → Adds 4 made next = λ next. less 2 4 made next (omega arith) in
-      adds_if 4 (c.kind == 0) made (beat seed c.broker true made) _ (two _ (beat_adds c.broker true made))
-      (adds_if 4 (c.kind == 1) made (beat seed c.broker false made) _ (two _ (beat_adds c.broker false made))
+      adds_if 4 (c.kind == 0) made (send_heartbeat seed c.broker true made) _ (two _ (beat_adds c.broker true made))
+      (adds_if 4 (c.kind == 1) made (send_heartbeat seed c.broker false made) _ (two _ (beat_adds c.broker false made))
       (adds_if 4 (c.kind == 2) made (ask_and_commit seed made (reassignment c.topic (pos c.partition) c.broker)) _ (two _ (asked_adds made (reassignment c.topic (pos c.partition) c.broker)))
       (adds_if 4 (c.kind == 3) made (send_report seed c.topic c.partition made) _ (two _ (report_adds c.topic c.partition made))
       (adds_if 4 (c.kind == 4) made (ask_and_commit seed made (election c.topic (pos c.partition))) (fail_over seed round made) (two _ (asked_adds made (election c.topic (pos c.partition)))) (fail_over_adds round made)))))
@@ -115,6 +115,6 @@ module _ (seed : ℕ) where
   pub session_few : (rounds : ℕ) → length (made_session seed rounds).events ≤ 625 + rounds * 4
   unfolding made_session
   session_few rounds =
-      let first = open_adds (nothing seed) in
-      let second = steps_add (play_round seed) 4 round_adds rounds (open_session seed (nothing seed)) in
+      let first = open_adds (nothing_made seed) in
+      let second = steps_add (play_round seed) 4 round_adds rounds (open_session seed (nothing_made seed)) in
       omega (arith, first.few, second.few)

@@ -5,39 +5,39 @@ use Rattle.std.specs.Option.{option_map_or}
 use Rattle.kr_calls.specs.declared.calls.Request.{Request}
 use Rattle.kr_make.specs.declared.chances.Chances.{Chances}
 use Rattle.kr_world.specs.World.{image_of_tip, tip_of}
-use Rattle.kr_make.specs.Requests.{creation, election, heartbeat, note, reassignment, registration, report}
-use Rattle.kr_make.specs.Session.{Made, act, after_draw, ask, ask_and_commit, beat, chances, commit, create, fail_over, first_beat, lead, lose, made_session, nothing, open_session, play_round, register, send_report, state_of, steps}
+use Rattle.kr_make.specs.Requests.{creation, election, heartbeat, note, reassignment, first_registration, report}
+use Rattle.kr_make.specs.Session.{Made, act, after_draw, ask, ask_and_commit, send_heartbeat, chances, commit_all, create, fail_over, first_heartbeat, lead_next, lose, made_session, nothing_made, open_session, play_round, register, send_report, state_behind, steps}
 
 module _ (seed : ℕ) (made : Made) where
-  pub ask_and_commit_is : (request : Request) → commit seed (ask made request) ≡ ask_and_commit seed made request
+  pub ask_and_commit_is : (request : Request) → commit_all seed (ask made request) ≡ ask_and_commit seed made request
   unfolding ask_and_commit
   ask_and_commit_is request = refl
 
-  pub register_is : (n : ℕ) → ask_and_commit seed made (registration (n + 1)) ≡ register seed n made
+  pub register_is : (n : ℕ) → ask_and_commit seed made (first_registration (n + 1)) ≡ register seed n made
   unfolding register
   register_is n = refl
 
-  pub beat_is : (broker : ℕ) (want_fence : Bool) → ask_and_commit seed made (heartbeat (image_of_tip (state_of seed made)) (pos (tip_of (state_of seed made))) broker want_fence) ≡ beat seed broker want_fence made
-  unfolding beat
+  pub beat_is : (broker : ℕ) (want_fence : Bool) → ask_and_commit seed made (heartbeat (image_of_tip (state_behind seed made)) (pos (tip_of (state_behind seed made))) broker want_fence) ≡ send_heartbeat seed broker want_fence made
+  unfolding send_heartbeat
   beat_is broker want_fence = refl
 
   pub create_is : (topic : ℕ) → ask_and_commit seed made (creation topic) ≡ create seed topic made
   unfolding create
   create_is topic = refl
 
-  pub open_is : steps 300 (create seed) (steps 6 (first_beat seed) (steps 6 (register seed) (lead seed made))) ≡ open_session seed made
+  pub open_is : steps 300 (create seed) (steps 6 (first_heartbeat seed) (steps 6 (register seed) (lead_next seed made))) ≡ open_session seed made
   unfolding open_session
   open_is = refl
 
-  pub sent : (topic partition : ℕ) (request : Request) → Some request ≡ report (image_of_tip (state_of seed made)) topic (pos partition) → ask_and_commit seed made request ≡ send_report seed topic partition made
+  pub sent : (topic partition : ℕ) (request : Request) → Some request ≡ report (image_of_tip (state_behind seed made)) topic (pos partition) → ask_and_commit seed made request ≡ send_report seed topic partition made
   unfolding send_report
   sent topic partition request is = ap (λ (r : Option Request). option_map_or (ask_and_commit seed made) r made) is
 
-  pub not_sent : (topic partition : ℕ) → None ≡ report (image_of_tip (state_of seed made)) topic (pos partition) → made ≡ send_report seed topic partition made
+  pub not_sent : (topic partition : ℕ) → None ≡ report (image_of_tip (state_behind seed made)) topic (pos partition) → made ≡ send_report seed topic partition made
   unfolding send_report
   not_sent topic partition is = ap (λ (r : Option Request). option_map_or (ask_and_commit seed made) r made) is
 
-  pub fail_over_is : (round : ℕ) → commit seed (lead seed (lose (ask made (note round)))) ≡ fail_over seed round made
+  pub fail_over_is : (round : ℕ) → commit_all seed (lead_next seed (lose (ask made (note round)))) ≡ fail_over seed round made
   unfolding fail_over
   fail_over_is round = refl
 
@@ -45,7 +45,7 @@ module _ (seed : ℕ) (made : Made) where
   unfolding play_round
   play_round_is round = refl
 
-pub made_session_is : (seed rounds : ℕ) → steps rounds (play_round seed) (open_session seed (nothing seed)) ≡ made_session seed rounds
+pub made_session_is : (seed rounds : ℕ) → steps rounds (play_round seed) (open_session seed (nothing_made seed)) ≡ made_session seed rounds
 unfolding made_session
 made_session_is seed rounds = refl
 
@@ -55,11 +55,11 @@ differ : (a b : ℕ) → (a ≡ b → ⊥) → (a == b) ≡ false
 differ a b apart = search (rules, tests)
 
 module _ (seed round : ℕ) (c : Chances) (made : Made) where
-  pub act_fence : c.kind ≡ 0 → beat seed c.broker true made ≡ act seed round c made
+  pub act_fence : c.kind ≡ 0 → send_heartbeat seed c.broker true made ≡ act seed round c made
   unfolding act
   act_fence is = rw is refl
 
-  pub act_beat : c.kind ≡ 1 → beat seed c.broker false made ≡ act seed round c made
+  pub act_beat : c.kind ≡ 1 → send_heartbeat seed c.broker false made ≡ act seed round c made
   unfolding act
   act_beat is = rw is refl
 

@@ -20,10 +20,10 @@ use Rattle.kr_world.specs.World.{State, image_of_tip, start, tip_of}
 use Rattle.kr_world.proofs.AllEvents.{runs_give_outputs}
 use Rattle.kr_make.specs.declared.host.Host.{Host}
 use Rattle.kr_make.specs.declared.tally.Tally.{Tally}
-use Rattle.kr_make.specs.inner.Counting.{no_tally, with_event, with_outputs}
-use Rattle.kr_make.specs.inner.Standing.{AreFew, Counted, IsMade, IsReady, Played, Stands, Takes}
-use Rattle.kr_make.specs.Session.{Made, nothing, options, state_of}
-use Rattle.kr_make.specs.Summary.{is_record, records_from, replies_of}
+use Rattle.kr_make.specs.inner.Counting.{no_tally, with_appended, with_outputs}
+use Rattle.kr_make.specs.inner.Standing.{AreFew, Counted, IsMade, IsIdle, Played, HasMade, TakesEvent}
+use Rattle.kr_make.specs.Session.{Made, nothing_made, options, state_behind}
+use Rattle.kr_make.specs.Summary.{is_record, event_records, replies_of}
 use Rattle.kr_make.proofs.Counts.{Has, has_event, has_outputs, has_so, joined, oks, oks_behind, others, others_behind, records_more, replies_behind}
 use Rattle.kr_make.proofs.FewRecords.{few_records}
 use Rattle.kr_make.proofs.FewReplies.{few_replies}
@@ -34,7 +34,7 @@ drained : (engine : Core) → IsEngine engine start [] → outputs_left engine �
 drained engine stands none = record { options = refl; in_order = refl; all = λ is. none; ordered = stands.ordered; fresh = refl; stands = λ s writes k. k }
 
 pub new_stands : (seed : ℕ) (host : Host) → host.engine.options ≡ options seed → IsEngine host.engine start [] → outputs_left host.engine ≡ [] → host.requests ≡ 0 → host.epoch ≡ 0 → host.drawn ≡ seed → host.tally ≡ no_tally
-    → Stands seed (nothing seed) host
+    → HasMade seed (nothing_made seed) host
 new_stands seed host opened begins none requests epoch drawn tally = record {
   played = record { first = host.engine; opened = opened; begins = begins; given = []; last = host.engine; runs = refl; none = drained host.engine begins none };
   counted = subst (Counted seed [] []) (sym tally) (record { events_so = refl; records_so = refl; ok_so = refl; refused_so = refl });
@@ -47,11 +47,11 @@ new_stands seed host opened begins none requests epoch drawn tally = record {
 -- ---- what was counted
 
 module _ (seed : ℕ) (events : List Event) (given : List (List Output)) (tally : Tally) where
-  has_from_counted : Counted seed events given tally → Has tally (length events) (records_from (options seed) start events) (oks (replies_of (joined given))) (others (replies_of (joined given)))
+  has_from_counted : Counted seed events given tally → Has tally (length events) (event_records (options seed) start events) (oks (replies_of (joined given))) (others (replies_of (joined given)))
   unfolding oks others
   has_from_counted c = record { events_so = c.events_so; records_so = c.records_so; ok_so = c.ok_so; refused_so = c.refused_so }
 
-  counted_from_has : Has tally (length events) (records_from (options seed) start events) (oks (replies_of (joined given))) (others (replies_of (joined given))) → Counted seed events given tally
+  counted_from_has : Has tally (length events) (event_records (options seed) start events) (oks (replies_of (joined given))) (others (replies_of (joined given))) → Counted seed events given tally
   unfolding oks others
   counted_from_has h = record { events_so = h.events_so; records_so = h.records_so; ok_so = h.ok_so; refused_so = h.refused_so }
 
@@ -90,13 +90,13 @@ module _ (seed : ℕ) (events : List Event) (engine : Core) (played : Played see
     fresh_so : stepped.fresh ≡ log_entries (options seed) (state (options seed) events) event
     fresh_so = step.fresh _ _ engine_so ∙ ap (λ (o : Options). log_entries o (state (options seed) events) event) options_so
 
-    records_so : records_from (options seed) start events + length (filter is_record stepped.fresh) ≡ records_from (options seed) start (events ++ event ∷ [])
-    records_so = ap (λ (entries : List Entry). records_from (options seed) start events + length (filter is_record entries)) fresh_so ∙ records_more (options seed) events start event
+    records_so : event_records (options seed) start events + length (filter is_record stepped.fresh) ≡ event_records (options seed) start (events ++ event ∷ [])
+    records_so = ap (λ (entries : List Entry). event_records (options seed) start events + length (filter is_record entries)) fresh_so ∙ records_more (options seed) events start event
 
-    counted_on : (tally tally' : Tally) → tally' ≡ with_outputs (with_event tally stepped.fresh) given → Counted seed events played.given tally → Counted seed (events ++ event ∷ []) (played.given ++ given ∷ []) tally'
+    counted_on : (tally tally' : Tally) → tally' ≡ with_outputs (with_appended tally stepped.fresh) given → Counted seed events played.given tally → Counted seed (events ++ event ∷ []) (played.given ++ given ∷ []) tally'
     counted_on tally tally' is counted =
         let first = has_event tally stepped.fresh _ _ _ _ (has_from_counted seed events played.given tally counted) in
-        let both = has_outputs (length events + 1) _ given (with_event tally stepped.fresh) _ _ first in
+        let both = has_outputs (length events + 1) _ given (with_appended tally stepped.fresh) _ _ first in
         let long = length-append events (event ∷ []) in
         subst (Counted seed (events ++ event ∷ []) (played.given ++ given ∷ [])) (sym is) (counted_from_has seed _ _ _
         (has_so _ _ _ _ _ _ _ _ _ (sym long) records_so (oks_behind played.given given) (others_behind played.given given) both))
@@ -113,13 +113,13 @@ stands_on before after (output ∷ given) (next, first, rest) s writes k = stand
 
 -- ---- a host that took an event
 
-module _ (before after : Host) (event : Event) (ready : IsReady before.engine) (t : Takes before.engine after.engine before.tally after.tally event) where
-  pub ready_then : IsReady after.engine
+module _ (before after : Host) (event : Event) (ready : IsIdle before.engine) (t : TakesEvent before.engine after.engine before.tally after.tally event) where
+  pub ready_then : IsIdle after.engine
   ready_then =
       let s = sound_behind before.engine t.stepped after.engine event t.given ready.sound t.step t.drains in
       record { sound = s.0; drained = s.1 }
 
-  module _ (seed : ℕ) (made : Made) (stands : Stands seed made before) where
+  module _ (seed : ℕ) (made : Made) (stands : HasMade seed made before) where
     behind : Played seed (made.events ++ event ∷ []) after.engine
     behind = played_on seed made.events before.engine stands.played event after.engine t.stepped t.given t.step t.drains
 
@@ -157,6 +157,6 @@ module _ (before after : Host) (event : Event) (ready : IsReady before.engine) (
         record { records = omega (arith, small.records, long, more, few); replies = omega (arith, small.replies, long, split, told, waits, one) }
 
     pub stands_then : IsMade event → (requests epoch drawn : ℕ) → after.requests ≡ requests → after.epoch ≡ epoch → after.drawn ≡ drawn
-        → Stands seed (record { events = made.events ++ event ∷ []; requests = requests; epoch = epoch; drawn = drawn }) after
+        → HasMade seed (record { events = made.events ++ event ∷ []; requests = requests; epoch = epoch; drawn = drawn }) after
     unfolding behind played_on
     stands_then is_made requests epoch drawn a b c = record { played = behind; counted = counted_behind; small = small_behind is_made; requests = a; epoch = b; drawn = c }

@@ -5,11 +5,11 @@ use Rattle.kr_calls.specs.declared.events.Output.{Output}
 use Rattle.kr_defs.proofs.Maps.{length-filter_le}
 use Rattle.kr_make.specs.declared.host.Host.{Host}
 use Rattle.kr_make.specs.declared.summary.Summary.{Summary}
-use Rattle.kr_make.specs.inner.Standing.{Stands}
+use Rattle.kr_make.specs.inner.Standing.{HasMade}
 use Rattle.kr_make.specs.Replies.{is_ok}
 use Rattle.kr_make.specs.Session.{Made, options}
 use Rattle.kr_make.specs.Summary.{led_of, replies_of, summary}
-use Rattle.kr_make.specs.inner.Counting.{more}
+use Rattle.kr_make.specs.inner.Counting.{capped_sum}
 use Rattle.kr_make.proofs.Counts.{joined}
 use Rattle.kr_make.proofs.Goings.{end_seen, image_seen}
 use Rattle.kr_make.proofs.Playing.{given_so}
@@ -29,10 +29,10 @@ same_numbers a a' b b' c c' d d' e e' f f' p q r s t u =
 low : (n top : ℕ) → n ≤ top → min (n + 0) top ≡ n
 low n top few = omega arith
 
-counts_low : (count n : ℕ) → count ≡ more n 0 → n ≤ 2 ^ 64 - 1 → count ≡ n
+counts_low : (count n : ℕ) → count ≡ capped_sum n 0 → n ≤ 2 ^ 64 - 1 → count ≡ n
 counts_low count n is few = is ∙ low n (2 ^ 64 - 1) few
 
-pub summed : (seed : ℕ) (made : Made) (host : Host) (stands : Stands seed made host) → length made.events ≤ 10000000000 → (kept led : ℕ) → kept ≡ unsigned_abs host.engine.committed → led ≡ led_of host.engine.images.tip
+pub summed : (seed : ℕ) (made : Made) (host : Host) (stands : HasMade seed made host) → length made.events ≤ 10000000000 → (kept led : ℕ) → kept ≡ unsigned_abs host.engine.committed → led ≡ led_of host.engine.images.tip
     → (let found : Summary = record { events = host.tally.events; records = host.tally.records; kept = kept; ok = host.tally.ok; refused = host.tally.refused; led = led } in
     found ≡ summary (options seed) made.events)
 unfolding summary

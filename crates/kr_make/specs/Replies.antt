@@ -46,11 +46,11 @@ is_elected t = list_all (λ (p : PartitionElectionResult). is_none p.error) t.pa
 abbrev pub are_elected : List ReplicaElectionResult → Bool
 are_elected topics = list_all is_elected topics
 
-abbrev pub is_reassigned : ReassignableTopicResponse → Bool
-is_reassigned t = list_all (λ (p : ReassignablePartitionResponse). is_none p.error) t.partitions
+abbrev pub is_assigned : ReassignableTopicResponse → Bool
+is_assigned t = list_all (λ (p : ReassignablePartitionResponse). is_none p.error) t.partitions
 
-abbrev pub are_reassigned : List ReassignableTopicResponse → Bool
-are_reassigned topics = list_all is_reassigned topics
+abbrev pub are_assigned : List ReassignableTopicResponse → Bool
+are_assigned topics = list_all is_assigned topics
 
 abbrev pub are_partitions_shown : List MetadataPartition → Bool
 are_partitions_shown partitions = list_all (λ (p : MetadataPartition). is_none p.error) partitions
@@ -72,7 +72,7 @@ is_ok (replies.DeleteTopics r) = are_deleted r.responses
 is_ok (replies.CreatePartitions r) = are_grown r.results
 is_ok (replies.AlterPartition r) = is_none r.error && are_altered r.topics
 is_ok (replies.ElectLeaders r) = is_none r.error && are_elected r.results
-is_ok (replies.AlterPartitionReassignments r) = is_none r.error && are_reassigned r.responses
+is_ok (replies.AlterPartitionReassignments r) = is_none r.error && are_assigned r.responses
 is_ok (replies.ListPartitionReassignments r) = is_none r.error
 is_ok (replies.IncrementalAlterConfigs r) = are_set r.responses
 is_ok (replies.Metadata r) = are_shown r.topics

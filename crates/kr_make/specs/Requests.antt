@@ -23,8 +23,8 @@ rack_of broker = if nat_le broker 2 then codes "a" else if nat_le broker 4 then 
 abbrev pub listener : ℕ → Endpoint
 listener broker = record { name = codes "PLAINTEXT"; host = codes "localhost"; port = 9000 + broker; protocol = pos 0 }
 
-abbrev pub registration : ℕ → Request
-registration broker = requests.BrokerRegistration (record {
+abbrev pub first_registration : ℕ → Request
+first_registration broker = requests.BrokerRegistration (record {
   broker = pos broker;
   cluster = codes "make";
   incarnation = broker;
@@ -51,12 +51,12 @@ heartbeat image offset broker want_fence = requests.BrokerHeartbeat (record {
 -- ---- topics
 
 -- `t` and the topic's number
-abbrev pub topic_name : ℕ → List ℕ
-topic_name topic = codes "t" ++ decimal topic
+abbrev pub name_of_topic : ℕ → List ℕ
+name_of_topic topic = codes "t" ++ decimal topic
 
 abbrev pub creation : ℕ → Request
 creation topic = requests.CreateTopics (record {
-  topics = record { name = topic_name topic; partitions = pos 10; factor = pos 3; assignments = []; configs = [] } ∷ [];
+  topics = record { name = name_of_topic topic; partitions = pos 10; factor = pos 3; assignments = []; configs = [] } ∷ [];
   validate_only = false;
 })
 
@@ -72,34 +72,34 @@ targets broker = pos broker ∷ pos (next_broker broker) ∷ pos (next_broker (n
 
 abbrev pub reassignment : ℕ → ℤ → ℕ → Request
 reassignment topic partition broker = requests.AlterPartitionReassignments (record {
-  topics = record { name = topic_name topic; partitions = record { index = partition; replicas = Some (targets broker) } ∷ [] } ∷ [];
+  topics = record { name = name_of_topic topic; partitions = record { index = partition; replicas = Some (targets broker) } ∷ [] } ∷ [];
 })
 
 -- of the preferred leader
 abbrev pub election : ℕ → ℤ → Request
 election topic partition = requests.ElectLeaders (record {
   kind = pos 0;
-  topics = Some (record { topic = topic_name topic; partitions = partition ∷ [] } ∷ []);
+  topics = Some (record { topic = name_of_topic topic; partitions = partition ∷ [] } ∷ []);
 })
 
 -- ---- reports
 
-abbrev pub state_of : Image → ℤ → BrokerState
-state_of image broker = record { broker = broker; epoch = epoch_of image broker }
+abbrev pub state_of_broker : Image → ℤ → BrokerState
+state_of_broker image broker = record { broker = broker; epoch = epoch_of image broker }
 
-abbrev pub is_active : Image → ℤ → Bool
-is_active image broker = option_map_or brokers.is_active (get int_cmp image.brokers broker) false
+abbrev pub is_active_broker : Image → ℤ → Bool
+is_active_broker image broker = option_map_or brokers.is_active (get int_cmp image.brokers broker) false
 
 abbrev pub active_states : Image → List ℤ → List BrokerState
-active_states image ids = map (state_of image) (filter (is_active image) ids)
+active_states image ids = map (state_of_broker image) (filter (is_active_broker image) ids)
 
 -- the leader alone while it recovers, else all active replicas
 abbrev pub in_sync : Image → Partition → List BrokerState
-in_sync image p = if int_eq p.recovery (pos 1) then state_of image p.leader ∷ [] else active_states image p.replicas
+in_sync image p = if int_eq p.recovery (pos 1) then state_of_broker image p.leader ∷ [] else active_states image p.replicas
 
 -- a recovery has ended
-abbrev pub partition_report : Image → ℤ → Partition → PartitionReport
-partition_report image index p = record {
+abbrev pub reported_partition : Image → ℤ → Partition → PartitionReport
+reported_partition image index p = record {
   index = index;
   leader_epoch = p.leader_epoch;
   in_sync = in_sync image p;
@@ -111,7 +111,7 @@ abbrev pub leader_report : Image → ℕ → ℤ → Partition → Request
 leader_report image id index p = requests.AlterPartition (record {
   broker = p.leader;
   epoch = epoch_of image p.leader;
-  topics = record { topic = id; partitions = partition_report image index p ∷ [] } ∷ [];
+  topics = record { topic = id; partitions = reported_partition image index p ∷ [] } ∷ [];
 })
 
 -- a leader's number isn't negative
@@ -126,7 +126,7 @@ report_of_topic image index id = option_map_or (report_where_led image id index)
 
 -- none where nobody leads the partition
 abbrev pub report : Image → ℕ → ℤ → Option Request
-report image topic index = option_map_or (report_of_topic image index) (get text_order image.topics (topic_name topic)) None
+report image topic index = option_map_or (report_of_topic image index) (get text_order image.topics (name_of_topic topic)) None
 
 -- ---- settings
 

@@ -33,36 +33,36 @@ is_record (entries.Item place item) = is_record_item item
 is_record other = false
 
 -- the events' records, behind a state
-abbrev pub records_from : Options → State → List Event → ℕ
-records_from options s [] = 0
-records_from options s (event ∷ events) = length (filter is_record (log_entries options s event)) + records_from options (happens options s event) events
+abbrev pub event_records : Options → State → List Event → ℕ
+event_records options s [] = 0
+event_records options s (event ∷ events) = length (filter is_record (log_entries options s event)) + event_records options (happens options s event) events
 
 -- ---- replies
 
-abbrev pub reply_of : Output → List Reply
-reply_of (given.Reply client correlation reply) = reply ∷ []
-reply_of other = []
+abbrev pub reply_in : Output → List Reply
+reply_in (given.Reply client correlation reply) = reply ∷ []
+reply_in other = []
 
 abbrev pub replies_of : List Output → List Reply
-replies_of outputs = flat_map reply_of outputs
+replies_of outputs = flat_map reply_in outputs
 
 abbrev pub replies : Options → List Event → List Reply
 replies options events = replies_of (flat_map (λ outputs. outputs) (outputs options events))
 
 -- ---- partitions with a leader
 
-abbrev pub is_led : (ℕ × ℤ) × Partition → Bool
-is_led e = has_leader e.1
+abbrev pub is_led_entry : (ℕ × ℤ) × Partition → Bool
+is_led_entry e = has_leader e.1
 
 abbrev pub led_of : Image → ℕ
-led_of image = length (filter is_led image.partitions)
+led_of image = length (filter is_led_entry image.partitions)
 
 -- ---- all of them
 
 unfoldable pub summary : Options → List Event → Summary
 summary options events = record {
   events = length events;
-  records = records_from options start events;
+  records = event_records options start events;
   kept = (state options events).world.committed;
   ok = length (filter is_ok (replies options events));
   refused = length (filter (λ reply. not (is_ok reply)) (replies options events));
@@ -70,10 +70,10 @@ summary options events = record {
 }
 
 -- six lines, each a word and a number
-abbrev pub line : List ℕ → ℕ → List ℕ
-line word number = word ++ decimal number ++ 10 ∷ []
+abbrev pub number_line : List ℕ → ℕ → List ℕ
+number_line word number = word ++ decimal number ++ 10 ∷ []
 
 unfoldable pub summary_text : Summary → List ℕ
 summary_text s =
-    line (codes "events ") s.events ++ line (codes "records ") s.records ++ line (codes "kept ") s.kept
-    ++ line (codes "ok ") s.ok ++ line (codes "refused ") s.refused ++ line (codes "led ") s.led
+    number_line (codes "events ") s.events ++ number_line (codes "records ") s.records ++ number_line (codes "kept ") s.kept
+    ++ number_line (codes "ok ") s.ok ++ number_line (codes "refused ") s.refused ++ number_line (codes "led ") s.led

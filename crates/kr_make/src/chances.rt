@@ -19,19 +19,19 @@ pub(crate) struct Chances {
 }
 
 // The number behind this one.
-#[tactic(auto, unfolding(crate::specs::Chances::next))]
+#[tactic(auto, unfolding(crate::specs::Chances::next_drawn))]
 fn next(x: u64) -> u64
-    ensures { result ≡ drawing.next x }
+    ensures { result ≡ drawing.next_drawn x }
 {
     x.wrapping_mul(6364136223846793005)
         .wrapping_add(1442695040888963407)
 }
 
 // A number below the given one.
-#[tactic(auto, unfolding(crate::specs::Chances::below))]
+#[tactic(auto, unfolding(crate::specs::Chances::drawn_below))]
 fn below(x: u64, most: u64) -> u64
     requires { 0 < most }
-    ensures value { result ≡ drawing.below x most }
+    ensures value { result ≡ drawing.drawn_below x most }
     ensures less { result < most }
 {
     x / 4294967296 % most

@@ -3,7 +3,7 @@
 ghost use Rattle.std.specs.Prelude.{◌≡◌, ◌≤◌, IfOk, IsTrue, OnOk};
 ghost use Rattle.kr_defs.specs.OpenOptions.{are_options};
 ghost use Rattle.kr_make.specs.Session as session;
-ghost use Rattle.kr_make.specs.inner.Standing.{Goes, IsReady, MayGo, Stands};
+ghost use Rattle.kr_make.specs.inner.Standing.{Goes, IsIdle, MayGo, HasMade};
 
 use crate::chances::{Chances, draw_round};
 use crate::taking::take;
@@ -70,8 +70,8 @@ fn request_event(number: u32, request: Request) -> Event
 impl Host {
     /// Nothing has happened.
     pub(crate) fn new(alloc: Global, seed: u32) -> Result<Host, NoMemory>
-        ensures stands { IfOk result (λ host. Stands seed (session.nothing seed) host) }
-        ensures ready { IfOk result (λ host. IsReady host.engine) }
+        ensures stands { IfOk result (λ host. HasMade seed (session.nothing_made seed) host) }
+        ensures ready { IfOk result (λ host. IsIdle host.engine) }
         ensures requests { IfOk result (λ host. host.requests ≡ 0) }
         ensures epoch { IfOk result (λ host. host.epoch ≡ 0) }
     {
@@ -104,7 +104,7 @@ impl Host {
     /// All that was appended is committed.
     pub(crate) fn commit<L: Ledger>(&mut self, steps: &mut Steps<L>) -> Result<(), NoMemory>
         requires { MayGo self.old 0 0 }
-        ensures { OnOk result (Goes self.old self.new session.commit 0 0) }
+        ensures { OnOk result (Goes self.old self.new session.commit_all 0 0) }
     {
         let event = Event::Commit {
             epoch: self.epoch as i32,
@@ -127,7 +127,7 @@ impl Host {
     /// A leadership begins, in the next epoch, at the end.
     pub(crate) fn lead<L: Ledger>(&mut self, steps: &mut Steps<L>) -> Result<(), NoMemory>
         requires { MayGo self.old 0 1 }
-        ensures { OnOk result (Goes self.old self.new session.lead 0 1) }
+        ensures { OnOk result (Goes self.old self.new session.lead_next 0 1) }
     {
         self.epoch += 1;
         let event = Event::Lead {
@@ -145,7 +145,8 @@ impl Host {
         steps: &mut Steps<L>,
     ) -> Result<(), NoMemory>
         requires { MayGo self.old 1 0 }
-        ensures { OnOk result (Goes self.old self.new (λ seed made. session.ask_and_commit seed made request) 1 0) }
+        ensures { OnOk result
+            (Goes self.old self.new (λ seed made. session.ask_and_commit seed made request) 1 0) }
     {
         self.ask(request, steps)?;
         self.commit(steps)

@@ -21,7 +21,8 @@ fn make_with<L: Ledger>(
     requires name { blank.name ≡ L.name }
     requires parts { blank.parts ≡ L.parts }
     requires some { 0 < L.parts }
-    ensures { IfOk result (λ found. found ≡ summary (options seed) (made_session seed rounds).events) }
+    ensures { IfOk result
+        (λ found. found ≡ summary (options seed) (made_session seed rounds).events) }
 {
     let mut steps: Steps<L> = Steps::new(blank);
     let mut host = Host::new(alloc, seed)?;
@@ -33,7 +34,8 @@ fn make_with<L: Ledger>(
 /// Leads a controller through the session of a number, with so many rounds, and sums up what came of it.
 pub fn make(alloc: Global, seed: u32, rounds: u32) -> Result<Summary, NoMemory>
     requires { rounds ≤ 1000000000 }
-    ensures { IfOk result (λ found. found ≡ summary (options seed) (made_session seed rounds).events) }
+    ensures { IfOk result
+        (λ found. found ≡ summary (options seed) (made_session seed rounds).events) }
 {
     make_with::<Brand>(alloc, seed, rounds, Blank::new(1))
 }

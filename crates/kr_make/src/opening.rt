@@ -4,8 +4,8 @@ ghost use Rattle.std.specs.Prelude.{◌≡◌, ◌<◌, ◌≤◌, ◌+◌, ℕ,
 ghost use Rattle.kr_world.specs.World.{image_of_tip, tip_of};
 ghost use Rattle.kr_make.specs.Requests as asking;
 ghost use Rattle.kr_make.specs.Session as session;
-ghost use Rattle.kr_make.specs.Session.{Made, state_of};
-ghost use Rattle.kr_make.specs.inner.Standing.{Goes, MayGo, Stands};
+ghost use Rattle.kr_make.specs.Session.{Made, state_behind};
+ghost use Rattle.kr_make.specs.inner.Standing.{Goes, MayGo, HasMade};
 
 use crate::host::Host;
 use crate::requests::{creation, heartbeat, registration};
@@ -26,7 +26,9 @@ impl Host {
 
     // The heartbeat of a broker that has read the whole log.
     fn heartbeat_now(&self, broker: u16, want_fence: bool) -> Request
-        ensures { (seed : ℕ) (made : Made) → Stands seed made self.now → result ≡ asking.heartbeat (image_of_tip (state_of seed made)) (pos (tip_of (state_of seed made))) broker want_fence }
+        ensures { (seed : ℕ) (made : Made) → HasMade seed made self.now →
+            result ≡ asking.heartbeat (image_of_tip (state_behind seed made))
+            (pos (tip_of (state_behind seed made))) broker want_fence }
     {
         let seen = Seen::tip(self.engine.store());
         heartbeat(&seen, self.engine.tip(), broker, want_fence)
@@ -40,7 +42,8 @@ impl Host {
         steps: &mut Steps<L>,
     ) -> Result<(), NoMemory>
         requires { MayGo self.old 1 0 }
-        ensures { OnOk result (Goes self.old self.new (λ seed. session.beat seed broker want_fence) 1 0) }
+        ensures { OnOk result
+            (Goes self.old self.new (λ seed. session.send_heartbeat seed broker want_fence) 1 0) }
     {
         let request = self.heartbeat_now(broker, want_fence);
         self.ask_and_commit(request, steps)
@@ -56,7 +59,8 @@ impl Host {
 
     fn register_brokers<L: Ledger>(&mut self, steps: &mut Steps<L>) -> Result<(), NoMemory>
         requires { MayGo self.old 6 0 }
-        ensures { OnOk result (Goes self.old self.new (λ seed. session.steps 6 (session.register seed)) 6 0) }
+        ensures { OnOk result
+            (Goes self.old self.new (λ seed. session.steps 6 (session.register seed)) 6 0) }
     {
         for n in 0u16..6 {
             self.register(n, steps)?;
@@ -66,7 +70,8 @@ impl Host {
 
     fn beat_brokers<L: Ledger>(&mut self, steps: &mut Steps<L>) -> Result<(), NoMemory>
         requires { MayGo self.old 6 0 }
-        ensures { OnOk result (Goes self.old self.new (λ seed. session.steps 6 (session.first_beat seed)) 6 0) }
+        ensures { OnOk result
+            (Goes self.old self.new (λ seed. session.steps 6 (session.first_heartbeat seed)) 6 0) }
     {
         for n in 0u16..6 {
             self.beat(n + 1, false, steps)?;
@@ -76,7 +81,8 @@ impl Host {
 
     fn create_topics<L: Ledger>(&mut self, steps: &mut Steps<L>) -> Result<(), NoMemory>
         requires { MayGo self.old 300 0 }
-        ensures { OnOk result (Goes self.old self.new (λ seed. session.steps 300 (session.create seed)) 300 0) }
+        ensures { OnOk result
+            (Goes self.old self.new (λ seed. session.steps 300 (session.create seed)) 300 0) }
     {
         for n in 0u64..300 {
             self.create(n, steps)?;

@@ -72,7 +72,7 @@ fn are_elected(topics: &[ReplicaElectionResult]) -> bool
 }
 
 fn is_reassigned(topic: &ReassignableTopicResponse) -> bool
-    ensures { result ≡ replies.is_reassigned topic.now }
+    ensures { result ≡ replies.is_assigned topic.now }
 {
     topic
         .partitions
@@ -82,7 +82,7 @@ fn is_reassigned(topic: &ReassignableTopicResponse) -> bool
 }
 
 fn are_reassigned(topics: &[ReassignableTopicResponse]) -> bool
-    ensures { result ≡ replies.are_reassigned topics.now }
+    ensures { result ≡ replies.are_assigned topics.now }
 {
     topics.iter().all(|topic| is_reassigned(topic))
 }

@@ -50,7 +50,7 @@ fn listener(alloc: Global, broker: u16) -> Result<Endpoint, NoMemory>
 /// A broker registers.
 pub(crate) fn registration(alloc: Global, broker: u16) -> Result<Request, NoMemory>
     requires { broker ≤ 6 }
-    ensures { IfOk result (λ request. request ≡ asking.registration broker) }
+    ensures { IfOk result (λ request. request ≡ asking.first_registration broker) }
 {
     Ok(Request::BrokerRegistration(BrokerRegistration {
         broker: i32::from(broker),
@@ -94,7 +94,7 @@ pub(crate) fn heartbeat<S: Store>(
 }
 
 fn topic_name(alloc: Global, topic: u64) -> Result<Text, NoMemory>
-    ensures { IfOk result (λ name. name ≡ asking.topic_name topic) }
+    ensures { IfOk result (λ name. name ≡ asking.name_of_topic topic) }
 {
     Ok(Text::from_string(format!(in alloc; "t{topic}")?))
 }
@@ -196,7 +196,7 @@ pub(crate) fn note(alloc: Global, round: u32) -> Result<Request, NoMemory>
 }
 
 fn is_active<S: Store>(seen: &Seen<S>, broker: &i32) -> bool
-    ensures { result ≡ asking.is_active seen.now broker.now }
+    ensures { result ≡ asking.is_active_broker seen.now broker.now }
 {
     match seen.broker(broker) {
         Some(state) => !state.fenced && !state.stopping,
@@ -205,7 +205,7 @@ fn is_active<S: Store>(seen: &Seen<S>, broker: &i32) -> bool
 }
 
 fn state_of<S: Store>(seen: &Seen<S>, broker: &i32) -> BrokerState
-    ensures { result ≡ asking.state_of seen.now broker.now }
+    ensures { result ≡ asking.state_of_broker seen.now broker.now }
 {
     BrokerState {
         broker: *broker,
@@ -219,7 +219,8 @@ fn add_if_active<S: Store>(
     broker: &i32,
     states: &mut BrokerStates,
 ) -> Result<(), NoMemory>
-    ensures { OnOk result (states.new ≡ states.old ++ asking.active_states seen.now (broker.now ∷ [])) }
+    ensures { OnOk result
+        (states.new ≡ states.old ++ asking.active_states seen.now (broker.now ∷ [])) }
 {
     if is_active(seen, broker) {
         states.push(state_of(seen, broker))?;
@@ -264,7 +265,8 @@ fn partition_report<S: Store>(
     index: i32,
     partition: &Partition,
 ) -> Result<PartitionReport, NoMemory>
-    ensures { IfOk result (λ report. report ≡ asking.partition_report seen.now index partition.now) }
+    ensures { IfOk result
+        (λ report. report ≡ asking.reported_partition seen.now index partition.now) }
 {
     Ok(PartitionReport {
         index,
@@ -294,7 +296,8 @@ fn leader_report<S: Store>(
     index: i32,
     partition: &Partition,
 ) -> Result<Request, NoMemory>
-    ensures { IfOk result (λ request. request ≡ asking.leader_report seen.now topic index partition.now) }
+    ensures { IfOk result
+        (λ request. request ≡ asking.leader_report seen.now topic index partition.now) }
 {
     let topic = AlterPartitionTopic {
         topic,
@@ -314,7 +317,8 @@ fn report_where_led<S: Store>(
     index: i32,
     partition: &Partition,
 ) -> Result<Option<Request>, NoMemory>
-    ensures { IfOk result (λ request. request ≡ asking.report_where_led seen.now topic index partition.now) }
+    ensures { IfOk result
+        (λ request. request ≡ asking.report_where_led seen.now topic index partition.now) }
 {
     if has_leader(partition) {
         Ok(Some(leader_report(alloc, seen, topic, index, partition)?))
@@ -329,7 +333,8 @@ fn report_of_topic<S: Store>(
     topic: &u128,
     index: &i32,
 ) -> Result<Option<Request>, NoMemory>
-    ensures { IfOk result (λ request. request ≡ asking.report_of_topic seen.now index.now topic.now) }
+    ensures { IfOk result
+        (λ request. request ≡ asking.report_of_topic seen.now index.now topic.now) }
 {
     match seen.partition(topic, index) {
         Some(partition) => report_where_led(alloc, seen, *topic, *index, partition),

@@ -4,8 +4,8 @@ ghost use Rattle.std.specs.Prelude.{◌≡◌, ◌≤◌, ℕ, pos, IfOk, OnOk};
 ghost use Rattle.kr_world.specs.World.{image_of_tip};
 ghost use Rattle.kr_make.specs.Requests as asking;
 ghost use Rattle.kr_make.specs.Session as session;
-ghost use Rattle.kr_make.specs.Session.{Made, state_of};
-ghost use Rattle.kr_make.specs.inner.Standing.{Goes, MayGo, Stands};
+ghost use Rattle.kr_make.specs.Session.{Made, state_behind};
+ghost use Rattle.kr_make.specs.inner.Standing.{Goes, MayGo, HasMade};
 
 use crate::chances::Chances;
 use crate::host::Host;
@@ -26,7 +26,8 @@ impl Host {
     // The report of a partition's leader, where there is one.
     fn report_now(&self, topic: u64, partition: u32) -> Result<Option<Request>, NoMemory>
         requires { partition ≤ 9 }
-        ensures { IfOk result (λ request. (seed : ℕ) (made : Made) → Stands seed made self.now → request ≡ asking.report (image_of_tip (state_of seed made)) topic (pos partition)) }
+        ensures { IfOk result (λ request. (seed : ℕ) (made : Made) → HasMade seed made self.now →
+            request ≡ asking.report (image_of_tip (state_behind seed made)) topic (pos partition)) }
     {
         let seen = Seen::tip(self.engine.store());
         report(self.alloc, &seen, topic, index_of(partition))
@@ -41,7 +42,8 @@ impl Host {
     ) -> Result<(), NoMemory>
         requires may { MayGo self.old 1 0 }
         requires few { partition ≤ 9 }
-        ensures { OnOk result (Goes self.old self.new (λ seed. session.send_report seed topic partition) 1 0) }
+        ensures { OnOk result
+            (Goes self.old self.new (λ seed. session.send_report seed topic partition) 1 0) }
     {
         match self.report_now(topic, partition)? {
             Some(request) => self.ask_and_commit(request, steps),
@@ -57,7 +59,8 @@ impl Host {
         requires may { MayGo self.old 1 0 }
         requires broker { chances.now.broker ≤ 6 }
         requires few { chances.now.partition ≤ 9 }
-        ensures { OnOk result (Goes self.old self.new (λ seed made. session.ask_and_commit seed made (asking.reassignment chances.now.topic (pos chances.now.partition) chances.now.broker)) 1 0) }
+        ensures { OnOk result
+            (Goes self.old self.new (λ seed. session.reassign_partition seed chances.now) 1 0) }
     {
         let index = index_of(chances.partition);
         let request = reassignment(self.alloc, chances.topic, index, chances.broker)?;
@@ -72,7 +75,8 @@ impl Host {
     ) -> Result<(), NoMemory>
         requires may { MayGo self.old 1 0 }
         requires few { partition ≤ 9 }
-        ensures { OnOk result (Goes self.old self.new (λ seed made. session.ask_and_commit seed made (asking.election topic (pos partition))) 1 0) }
+        ensures { OnOk result
+            (Goes self.old self.new (λ seed. session.elect_preferred seed topic partition) 1 0) }
     {
         let request = election(self.alloc, topic, index_of(partition))?;
         self.ask_and_commit(request, steps)
@@ -100,7 +104,8 @@ impl Host {
         requires may { MayGo self.old 1 1 }
         requires broker { chances.now.broker ≤ 6 }
         requires few { chances.now.partition ≤ 9 }
-        ensures { OnOk result (Goes self.old self.new (λ seed. session.act seed round chances.now) 1 1) }
+        ensures { OnOk result
+            (Goes self.old self.new (λ seed. session.act seed round chances.now) 1 1) }
     {
         match chances.kind {
             0 => self.beat(chances.broker, true, steps),
@@ -127,7 +132,8 @@ impl Host {
         steps: &mut Steps<L>,
     ) -> Result<(), NoMemory>
         requires { MayGo self.old rounds rounds }
-        ensures { OnOk result (Goes self.old self.new (λ seed. session.steps rounds (session.play_round seed)) rounds rounds) }
+        ensures { OnOk result (Goes self.old self.new
+            (λ seed. session.steps rounds (session.play_round seed)) rounds rounds) }
     {
         for n in 0..rounds {
             self.play_round(n, steps)?;

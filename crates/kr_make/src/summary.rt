@@ -5,7 +5,7 @@ ghost use Rattle.kr_make.specs.Session as session;
 ghost use Rattle.kr_make.specs.Session.{Made};
 ghost use Rattle.kr_make.specs.Summary as sums;
 ghost use Rattle.kr_make.specs.inner.Counting.{led_with};
-ghost use Rattle.kr_make.specs.inner.Standing.{Stands};
+ghost use Rattle.kr_make.specs.inner.Standing.{HasMade};
 
 use crate::host::Host;
 use crate::requests::has_leader;
@@ -56,7 +56,9 @@ fn count_led<S: Store>(seen: &Seen<S>) -> u64
 impl Host {
     /// What came of the session so far.
     pub(crate) fn summary(&self) -> Summary
-        ensures { (seed : ℕ) (made : Made) → Stands seed made self.now → length made.events ≤ 10000000000 → result ≡ sums.summary (session.options seed) made.events }
+        ensures { (seed : ℕ) (made : Made) → HasMade seed made self.now →
+            length made.events ≤ 10000000000 →
+            result ≡ sums.summary (session.options seed) made.events }
     {
         let seen = Seen::tip(self.engine.store());
         Summary {

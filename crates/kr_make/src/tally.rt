@@ -50,7 +50,7 @@ fn count_records(entries: &[Entry]) -> u64
 
 /// An event happened, and added these entries to the log.
 pub(crate) fn count_event(tally: &mut Tally, entries: &[Entry])
-    ensures { tally.new ≡ counting.with_event tally.old entries.now }
+    ensures { tally.new ≡ counting.with_appended tally.old entries.now }
 {
     tally.events = tally.events.saturating_add(1);
     tally.records = tally.records.saturating_add(count_records(entries));

@@ -11,17 +11,17 @@ use Rattle.kr_make.specs.Requests.{has_leader}
 pub use Rattle.kr_make.specs.Summary.{is_record}
 
 -- a count of 64 bits stays at the greatest
-abbrev pub more : ℕ → ℕ → ℕ
-more count n = min (count + n) (2 ^ 64 - 1)
+abbrev pub capped_sum : ℕ → ℕ → ℕ
+capped_sum count n = min (count + n) (2 ^ 64 - 1)
 
 abbrev pub no_tally : Tally
 no_tally = record { events = 0; records = 0; ok = 0; refused = 0 }
 
-abbrev pub with_event : Tally → List Entry → Tally
-with_event tally entries = record tally { events = more tally.events 1; records = more tally.records (length (filter is_record entries)) }
+abbrev pub with_appended : Tally → List Entry → Tally
+with_appended tally entries = record tally { events = capped_sum tally.events 1; records = capped_sum tally.records (length (filter is_record entries)) }
 
 abbrev pub with_reply : Tally → Reply → Tally
-with_reply tally reply = if is_ok reply then record tally { ok = more tally.ok 1 } else record tally { refused = more tally.refused 1 }
+with_reply tally reply = if is_ok reply then record tally { ok = capped_sum tally.ok 1 } else record tally { refused = capped_sum tally.refused 1 }
 
 abbrev pub with_output : Tally → Output → Tally
 with_output tally (given.Reply client correlation reply) = with_reply tally reply

@@ -1,5 +1,5 @@
 use Rattle.std.proofs.Common.{arith, subst}
-use Rattle.kr_make.specs.inner.Standing.{Stands}
+use Rattle.kr_make.specs.inner.Standing.{HasMade}
 use Rattle.kr_make.specs.Session.{Made, made_session}
 use Rattle.kr_make.proofs.Goings.{may_go_on}
 use Rattle.kr_make.proofs.Lengths.{session_few}
@@ -21,4 +21,4 @@ returns g c =
     let opened = c.in_ok-open.ensures.stands c.args.seed _ c.in_ok-host.ensures.stands in
     let played = c.in_ok-rounds.ensures.stands c.args.seed _ opened in
     let few = session_few c.args.seed c.args.rounds in
-    c.summary.ensures c.args.seed (made_session c.args.seed c.args.rounds) (subst (λ (made : Made). Stands c.args.seed made _) (made_session_is c.args.seed c.args.rounds) played) (omega (arith, few, c.requires.rounds))
+    c.summary.ensures c.args.seed (made_session c.args.seed c.args.rounds) (subst (λ (made : Made). HasMade c.args.seed made _) (made_session_is c.args.seed c.args.rounds) played) (omega (arith, few, c.requires.rounds))

@@ -1,7 +1,7 @@
 use Rattle.std.proofs.Common.{List, ap, ◌∙◌}
 use Rattle.kr_calls.specs.declared.events.Entry.{Entry}
 use Rattle.kr_make.specs.declared.tally.Tally.{Tally}
-use Rattle.kr_make.specs.inner.Counting.{with_event, with_outputs}
+use Rattle.kr_make.specs.inner.Counting.{with_appended, with_outputs}
 use Rattle.kr_make.proofs.taking.take.Goals as goal
 
 pub hand_out-requires : goal.hand_out-requires
@@ -17,5 +17,5 @@ returns g c =
       given = w.0;
       step = c.in_ok-step.ensures.step;
       drains = w.1;
-      counted = w.2 ∙ ap (λ (t : Tally). with_outputs t w.0) (c.count_event.ensures ∙ ap (λ (entries : List Entry). with_event c.args.tally.now entries) c.fresh.ensures);
+      counted = w.2 ∙ ap (λ (t : Tally). with_outputs t w.0) (c.count_event.ensures ∙ ap (λ (entries : List Entry). with_appended c.args.tally.now entries) c.fresh.ensures);
     }
