@@ -10,7 +10,7 @@ use Rattle.kr_calls.specs.declared.events.Event.TheVariants as events
 use Rattle.kr_world.specs.World.{image_of_tip, tip_of}
 use Rattle.kr_make.specs.declared.chances.Chances.{Chances}
 use Rattle.kr_make.specs.declared.host.Host.{Host}
-use Rattle.kr_make.specs.inner.Standing.{Goes, IsMade, IsIdle, MayGo, HasMade, TakesEvent}
+use Rattle.kr_make.specs.inner.Standing.{Goes, IsMade, IsIdle, MayGo, HasMade, HostTakes}
 use Rattle.kr_make.specs.Session.{Made, after_draw, ask, chances, commit_all, lead_next, lose, request_event, state_behind, steps}
 use Rattle.kr_make.specs.Requests.{heartbeat}
 use Rattle.kr_make.proofs.Playing.{engine_so, image_so, ready_then, stands_then}
@@ -49,7 +49,7 @@ module _ (epoch : ℕ) where
 
 -- ---- by one event
 
-module _ (before after : Host) (event : Event) (ready : IsIdle before.engine) (t : TakesEvent before.engine after.engine before.tally after.tally event) (drawn : after.drawn ≡ before.drawn) where
+module _ (before after : Host) (event : Event) (ready : IsIdle before.engine) (t : HostTakes before.engine after.engine before.tally after.tally event) (drawn : after.drawn ≡ before.drawn) where
   pub asked : (request : Request) → event ≡ request_event (before.requests + 1) request → after.requests ≡ before.requests + 1 → after.epoch ≡ before.epoch → Goes before after (λ seed made. ask made request) 1 0
   unfolding ask
   asked request is requests epoch = record {

@@ -21,7 +21,7 @@ use Rattle.kr_world.proofs.AllEvents.{runs_give_outputs}
 use Rattle.kr_make.specs.declared.host.Host.{Host}
 use Rattle.kr_make.specs.declared.tally.Tally.{Tally}
 use Rattle.kr_make.specs.inner.Counting.{no_tally, with_appended, with_outputs}
-use Rattle.kr_make.specs.inner.Standing.{AreFew, Counted, IsMade, IsIdle, Played, HasMade, TakesEvent}
+use Rattle.kr_make.specs.inner.Standing.{AreFew, Counted, IsMade, IsIdle, Played, HasMade, HostTakes}
 use Rattle.kr_make.specs.Session.{Made, nothing_made, options}
 use Rattle.kr_make.specs.Summary.{is_record, event_records, replies_of}
 use Rattle.kr_make.proofs.Counts.{Has, has_event, has_outputs, has_so, joined, oks, oks_behind, others, others_behind, records_more, replies_behind}
@@ -113,7 +113,7 @@ stands_on before after (output ∷ given) (next, first, rest) s writes k = stand
 
 -- ---- a host that took an event
 
-module _ (before after : Host) (event : Event) (ready : IsIdle before.engine) (t : TakesEvent before.engine after.engine before.tally after.tally event) where
+module _ (before after : Host) (event : Event) (ready : IsIdle before.engine) (t : HostTakes before.engine after.engine before.tally after.tally event) where
   pub ready_then : IsIdle after.engine
   ready_then =
       let s = sound_behind before.engine t.stepped after.engine event t.given ready.sound t.step t.drains in

@@ -39,12 +39,12 @@ event_records options s (event ∷ events) = length (filter is_record (log_entri
 
 -- ---- replies
 
-abbrev pub reply_in : Output → List Reply
-reply_in (given.Reply client correlation reply) = reply ∷ []
-reply_in other = []
+abbrev pub reply_of_output : Output → List Reply
+reply_of_output (given.Reply client correlation reply) = reply ∷ []
+reply_of_output other = []
 
 abbrev pub replies_of : List Output → List Reply
-replies_of outputs = flat_map reply_in outputs
+replies_of outputs = flat_map reply_of_output outputs
 
 abbrev pub replies : Options → List Event → List Reply
 replies options events = replies_of (flat_map (λ outputs. outputs) (outputs options events))

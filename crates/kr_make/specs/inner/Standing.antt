@@ -24,7 +24,7 @@ pub record IsIdle (engine : Core) : Type 0 where
   pub drained : outputs_left engine ≡ []
 
 -- an event happened, its outputs were handed out, and both were counted
-pub record TakesEvent (before after : Core) (tally tally' : Tally) (event : Event) : Type 0 where
+pub record HostTakes (before after : Core) (tally tally' : Tally) (event : Event) : Type 0 where
   pub stepped : Core
   pub given : List Output
   pub step : IsStep before stepped event
