@@ -5,10 +5,6 @@
 #[cfg(test)]
 mod copies;
 #[cfg(test)]
-mod many_clients;
-#[cfg(test)]
 mod outside;
 #[cfg(test)]
 mod threads;
-#[cfg(test)]
-mod workers;
