@@ -1,8 +1,10 @@
 //! Why bytes are no record.
 
 ghost use Rattle.std.specs.Prelude.{◌≡◌};
+ghost use Rattle.kr_record.specs.Answers.{of_read_fault};
 ghost use Rattle.kr_record.specs.declared.fault.RecordFault.TheVariants.{NoMemory, Wire};
 
+use kr_layout::ReadFault;
 use kr_wire::WireFault;
 use std::alloc::{AllocError, AllocFailed};
 use thiserror::Error;
@@ -30,6 +32,17 @@ impl From<WireFault> for RecordFault {
 
     fn from(fault: WireFault) -> RecordFault {
         RecordFault::Wire(fault)
+    }
+}
+
+impl From<ReadFault> for RecordFault {
+    ghost from_gives = { λ f e. e ≡ of_read_fault f };
+
+    fn from(fault: ReadFault) -> RecordFault {
+        match fault {
+            ReadFault::Wire(fault) => RecordFault::Wire(fault),
+            ReadFault::NoMemory => RecordFault::NoMemory,
+        }
     }
 }
 

@@ -1,21 +1,21 @@
-//! Metadata records: decoded and encoded as their grammar says.
+//! Metadata records: decoded and encoded as their layouts say.
 #![tactic(auto)]
 
-mod broker;
-mod change;
+mod broker_registration_change;
+mod config;
 mod fault;
+mod feature_level;
+mod fence_broker;
 mod fields;
-mod flags;
 mod held;
 mod laws;
-mod listed;
-mod lists;
 mod partition;
+mod partition_change;
 mod reading;
+mod register_broker;
+mod source;
 mod tagged;
-mod texts;
 mod topic;
-mod whole;
 mod writing;
 
 pub use fault::RecordFault;

@@ -1,85 +1,45 @@
-//! Topics, configuration and features from bytes.
+//! Topic and RemoveTopic.
 
-ghost use Rattle.std.specs.Prelude.{◌≤◌, length, drop};
-ghost use Rattle.kr_defs.specs.declared.record.Record.TheVariants as kinds;
-ghost use Rattle.kr_record.specs.Reading.{ReadsKind, config_at, feature_at, topic_at, topic_id_at};
+ghost use Rattle.std.specs.Prelude.{◌≡◌, ◌++◌, OnOk};
+ghost use Rattle.kr_record.specs.Answers.{TakesValue};
+ghost use Rattle.kr_record.specs.Kind.{kind_record_at};
+ghost use Rattle.kr_record.specs.Spelling.{written};
+ghost use Rattle.kr_record.specs.Topic as topics;
 
 use crate::fault::RecordFault;
-use crate::texts::{read_text, text_of};
-use kr_defs::Record;
-use kr_wire::{read_i8, read_i16, read_id, read_text_or_null, skip_tags};
-use std::alloc::Global;
+use crate::source::{Source, put};
+use kr_base::NoMemory;
+use kr_defs::{Record, Text};
+use kr_layout::put_end;
 
-/// The name and the id of a topic, as a record.
-#[tactic(auto, unfolding(crate::specs::Reading::topic_at))]
-#[inline(never)]
-pub(crate) fn read_topic(
-    alloc: Global,
-    bytes: &[u8],
-    at: usize,
-) -> Result<(Record, usize), RecordFault>
-    requires { at ≤ length bytes.now }
-    ensures { ReadsKind result bytes.now (λ t. kinds.Topic t.0 t.1) (topic_at (drop at bytes.now)) }
+pub(crate) fn read_topic(from: &mut Source<'_>) -> Result<Record, RecordFault>
+    ensures { TakesValue result from.new (kind_record_at topics.topic 0 from.old) }
 {
-    let (name, next) = read_text(alloc, bytes, at)?;
-    let (id, next) = read_id(bytes, next)?;
-    let end = skip_tags(bytes, next)?;
-    Ok((Record::Topic { name, id }, end))
+    let name = from.get()?;
+    let id = from.get()?;
+    from.end()?;
+    Ok(Record::Topic { name, id })
 }
 
-/// The id of a topic that is removed, as a record.
-#[tactic(auto, unfolding(crate::specs::Reading::topic_id_at))]
-#[inline(never)]
-pub(crate) fn read_remove_topic(bytes: &[u8], at: usize) -> Result<(Record, usize), RecordFault>
-    requires { at ≤ length bytes.now }
-    ensures { ReadsKind result bytes.now (λ t. kinds.RemoveTopic t) (topic_id_at (drop at bytes.now)) }
+pub(crate) fn read_remove_topic(from: &mut Source<'_>) -> Result<Record, RecordFault>
+    ensures { TakesValue result from.new (kind_record_at topics.remove_topic 0 from.old) }
 {
-    let (topic, next) = read_id(bytes, at)?;
-    let end = skip_tags(bytes, next)?;
-    Ok((Record::RemoveTopic { topic }, end))
+    let topic = from.get()?;
+    from.end()?;
+    Ok(Record::RemoveTopic { topic })
 }
 
-/// The kind and the name of a resource, a key, and its value, as a record.
-#[tactic(auto, unfolding(crate::specs::Reading::config_at))]
-#[inline(never)]
-pub(crate) fn read_config(
-    alloc: Global,
-    bytes: &[u8],
-    at: usize,
-) -> Result<(Record, usize), RecordFault>
-    requires { at ≤ length bytes.now }
-    ensures { ReadsKind result bytes.now (λ t. kinds.Config t.0 t.1 t.2 t.3) (config_at (drop at bytes.now)) }
+pub(crate) fn put_topic(out: &mut Vec<u8>, name: &Text, id: &u128) -> Result<(), NoMemory>
+    ensures { OnOk result (out.new.items ≡ out.old.items ++ written topics.topic.layout (name.now, (id.now, tt))) }
 {
-    let (kind, next) = read_i8(bytes, at)?;
-    let (name, next) = read_text(alloc, bytes, next)?;
-    let (key, next) = read_text(alloc, bytes, next)?;
-    let (value, next) = read_text_or_null(bytes, next)?;
-    let end = skip_tags(bytes, next)?;
-    let value = text_of(alloc, value)?;
-    Ok((
-        Record::Config {
-            kind,
-            name,
-            key,
-            value,
-        },
-        end,
-    ))
+    put(out, name)?;
+    put(out, id)?;
+    put_end(out)
 }
 
-/// The name and the level of a feature, as a record.
-#[tactic(auto, unfolding(crate::specs::Reading::feature_at))]
-#[inline(never)]
-pub(crate) fn read_feature_level(
-    alloc: Global,
-    bytes: &[u8],
-    at: usize,
-) -> Result<(Record, usize), RecordFault>
-    requires { at ≤ length bytes.now }
-    ensures { ReadsKind result bytes.now (λ t. kinds.FeatureLevel t.0 t.1) (feature_at (drop at bytes.now)) }
+pub(crate) fn put_remove_topic(out: &mut Vec<u8>, topic: &u128) -> Result<(), NoMemory>
+    ensures { OnOk result (out.new.items ≡ out.old.items ++ written topics.remove_topic.layout (topic.now, tt)) }
 {
-    let (name, next) = read_text(alloc, bytes, at)?;
-    let (level, next) = read_i16(bytes, next)?;
-    let end = skip_tags(bytes, next)?;
-    Ok((Record::FeatureLevel { name, level }, end))
+    put(out, topic)?;
+    put_end(out)
 }
