@@ -68,7 +68,8 @@ impl Held for Endpoint {
     fn look(&self) {
         self.name.look();
         self.host.look();
-        let _numbers = (self.port, self.protocol);
+        let _port = self.port;
+        let _protocol = self.protocol;
     }
 }
 
@@ -77,14 +78,17 @@ impl Held for Range {
 
     fn look(&self) {
         self.name.look();
-        let _numbers = (self.min, self.max);
+        let _min = self.min;
+        let _max = self.max;
     }
 }
 
 fn broker_is_held(broker: &i32, state: &Broker)
     ensures { HasHeld registrations.register_broker.layout (registrations.registration_parts broker.now state.now) }
 {
-    let _numbers = (*broker, state.epoch, state.incarnation);
+    let _broker = *broker;
+    let _epoch = state.epoch;
+    let _incarnation = state.incarnation;
     state.endpoints.look();
     state.features.look();
     state.rack.look();
@@ -94,8 +98,10 @@ fn partition_is_held(index: &i32, topic: &u128, state: &Partition)
     ensures { HasHeld partitions.partition.layout (partitions.partition_parts index.now topic.now state.now) }
 {
     let _place = (*index, *topic);
-    let _epochs = (state.leader_epoch, state.partition_epoch);
-    let _leader = (state.leader, state.recovery);
+    let _leader = state.leader;
+    let _recovery = state.recovery;
+    let _leader_epoch = state.leader_epoch;
+    let _partition_epoch = state.partition_epoch;
     state.replicas.look();
     state.in_sync.look();
     state.removing.look();
