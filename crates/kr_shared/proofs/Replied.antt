@@ -1,5 +1,5 @@
 -- Each reply that is told has its answer among the notes.
-use Rattle.std.proofs.Common.{◌≡◌, ◌∙◌, sym, subst, ℕ, ℤ, pos, Bool, true, false, cond, List, [], ◌∷◌, ◌++◌, map, fold, length, refl, ap, Contains}
+use Rattle.std.proofs.Common.{◌≡◌, ◌∙◌, sym, subst, ℕ, ℤ, pos, Bool, true, false, cond, List, [], ◌∷◌, ◌++◌, map, fold, refl, ap, Contains}
 use Rattle.std.specs.Prelude.{Option, Some, None, int_lt, is_some, ◌==◌, Result, Ok, Err, option_to_list}
 use Rattle.std.specs.Result.{result_unwrap_or}
 use Rattle.std.proofs.lemmas.List.Elements.{Contains-append_left, Contains-append_right}
@@ -108,7 +108,7 @@ one_silent true bytes = tt
 one_silent false bytes = tt
 
 append_silent : (s : State) (records : List Record) → AreSilent (append s records)
-append_silent s records = one_silent (length records == 0) _
+append_silent s records = one_silent (Rattle.std.specs.Prelude.length records == 0) (Rattle.kr_batch.specs.BatchBytes.batch_bytes (Rattle.kr_world.specs.Outputs.next_batch s records))
 
 fencings_silent : (options : Options) (s : State) (brokers : List ℤ) → AreSilent (append_fencings options s brokers)
 fencings_silent options s [] = tt

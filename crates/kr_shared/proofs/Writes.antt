@@ -144,7 +144,7 @@ module _ (old : DeskView) (between : Core) (client : ℕ) (now : ℤ) (call : Ca
         let now_given = map (given.Reply client call.correlation) (replies_now o s1 call.request) in
         both_accepted ((first ++ []) ++ now_given) at_last
         (both_accepted (first ++ []) now_given
-        (both_accepted first [] (one_append decided batches (appended (length (decision o s1 call.request).records == 0) _)) tt)
+        (both_accepted first [] (one_append decided batches (appended (length (decision o s1 call.request).records == 0) (Rattle.kr_batch.specs.BatchBytes.batch_bytes (Rattle.kr_world.specs.Outputs.next_batch s1 (decision o s1 call.request).records)))) tt)
         (replies_accepted (λ _. client) (λ _. call.correlation) (λ (r : Reply). r) (replies_now o s1 call.request)))
         (replies_accepted (λ (w : Write). w.client) (λ (w : Write). w.correlation) (λ (w : Write). cond (int_lt (pos after.world.committed) w.need) w.refusal w.reply)
         (Rattle.kr_world.specs.Outputs.due_writes after.world.leading (pos after.world.committed) (writes ++ writes_of o s1 event)))
