@@ -1,11 +1,9 @@
 -- An event of a session adds few records.
-use Rattle.std.proofs.Common.{◌≡◌, ◌≤◌, ℕ, suc, ◌+◌, ℤ, pos, Bool, true, false, cond, List, [], ◌∷◌, length, refl, ap, ◌∙◌, arith}
+use Rattle.std.proofs.Common.{◌≡◌, ◌≤◌, ℕ, suc, ℤ, pos, Bool, true, false, cond, List, [], ◌∷◌, length, refl, ap, ◌∙◌, arith}
 use Rattle.std.proofs.lemmas.List.{length-map}
 use Rattle.std.specs.Prelude.{filter, not, is_some, int_lt, ◌+ℤ◌, ◌&&◌, Result, Ok, Err}
-use Rattle.kr_calls.specs.declared.calls.Ask.{Ask}
 use Rattle.kr_calls.specs.declared.calls.Ask.TheVariants as asks
 use Rattle.kr_calls.specs.declared.calls.Call.{Call}
-use Rattle.kr_calls.specs.declared.events.Entry.{Entry}
 use Rattle.kr_calls.specs.declared.events.Event.{Event}
 use Rattle.kr_calls.specs.declared.events.Event.TheVariants as events
 use Rattle.kr_calls.specs.declared.events.Reason.{Reason}
@@ -24,7 +22,7 @@ use Rattle.law_fitting.proofs.FittingRecords.{requests_fit}
 use Rattle.kr_world.specs.Commit.{after_commit, commit, is_end}
 use Rattle.kr_world.specs.Entries.{entries_by, item_entries, items_from, log_entries}
 use Rattle.kr_world.specs.Events.{at_time_of, outcome}
-use Rattle.kr_world.specs.Lead.{after_lead, lead, may_begin_at, up_to}
+use Rattle.kr_world.specs.Lead.{after_lead, lead, may_begin_at}
 use Rattle.kr_world.specs.Lost.{after_lost, cut, lost}
 use Rattle.kr_world.specs.Reasons as reasons
 use Rattle.kr_world.specs.Request.{after_ask, after_write, decision, is_decided, request}

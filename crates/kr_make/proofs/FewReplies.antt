@@ -4,7 +4,6 @@ use Rattle.std.proofs.lemmas.Grind.{flat_map-append}
 use Rattle.std.proofs.lemmas.List.Filters.{length-filter_both}
 use Rattle.std.specs.Prelude.{filter, not, is_some, ◌&&◌, ◌==◌, option_to_list, Option, Some, None, Result, Ok, Err}
 use Rattle.std.specs.Result.{result_unwrap_or}
-use Rattle.kr_batch.specs.BatchBytes.{batch_bytes}
 use Rattle.kr_calls.specs.declared.calls.Ask.TheVariants as asks
 use Rattle.kr_calls.specs.declared.calls.Call.{Call}
 use Rattle.kr_calls.specs.declared.calls.Reply.{Reply}
@@ -21,7 +20,7 @@ use Rattle.kr_defs.specs.declared.record.Record.{Record}
 use Rattle.kr_defs.proofs.Maps.{length-filter_le}
 use Rattle.kr_world.specs.declared.writes.Write.{Write}
 use Rattle.kr_world.specs.Events.{at_time_of, next_number, outcome, with_next_number}
-use Rattle.kr_world.specs.Outputs.{answers_in, answers_now, append, appends, due_reply, if_accepted, images, is_open_in, next_batch, outputs_by, outputs_of, replies_now, waiting_after, write_of, writes_of}
+use Rattle.kr_world.specs.Outputs.{answers_in, answers_now, append, appends, due_reply, if_accepted, images, is_open_in, outputs_by, outputs_of, replies_now, waiting_after, write_of, writes_of}
 use Rattle.kr_world.specs.Request.{decision, is_decided}
 use Rattle.kr_world.specs.World.{State, image_of_end}
 use Rattle.kr_make.specs.inner.Standing.{IsMade}
@@ -53,7 +52,7 @@ counts_append false bytes = refl
 
 counts_appended : (b : Bool) (s : State) (records : List Record) → count (cond b (append s records) []) ≡ 0
 unfolding count
-counts_appended true s records = counts_append (length records == 0) (batch_bytes (next_batch s records))
+counts_appended true s records = counts_append (length records == 0) _
 counts_appended false s records = refl
 
 counts_none : count [] ≡ 0

@@ -1,5 +1,7 @@
 -- How the session goes on: by one event, and by one step after the other.
-use Rattle.std.proofs.Common.{◌≡◌, ◌≤◌, ℕ, ◌+◌, suc, List, [], ◌∷◌, ◌++◌, add-one, refl, sym, ap, subst, ◌∙◌, arith}
+use Rattle.std.proofs.Common.{◌≡◌, ◌≤◌, ℕ, ◌+◌, suc, [], ◌∷◌, ◌++◌, add-one, refl, sym, ap, subst, ◌∙◌, arith}
+use Rattle.std.proofs.Common.{SFits, to_z, of_z, w32, w64}
+use Rattle.std.proofs.lemmas.Int.{to_z-of_z, to_z_pos}
 use Rattle.std.specs.Prelude.{ℤ, pos, Bool}
 use Rattle.kr_defs.specs.Image.{Image}
 use Rattle.kr_calls.specs.declared.calls.Request.{Request}
@@ -8,8 +10,8 @@ use Rattle.kr_calls.specs.declared.events.Event.TheVariants as events
 use Rattle.kr_world.specs.World.{image_of_tip, tip_of}
 use Rattle.kr_make.specs.declared.chances.Chances.{Chances}
 use Rattle.kr_make.specs.declared.host.Host.{Host}
-use Rattle.kr_make.specs.inner.Standing.{Goes, IsMade, IsIdle, MayGo, HasMade, TakesEvent}
-use Rattle.kr_make.specs.Session.{Made, after_draw, ask, chances, commit_all, lead_next, lose, options, request_event, state_behind, steps}
+use Rattle.kr_make.specs.inner.Standing.{Goes, IsMade, IsIdle, MayGo, HasMade, HostTakes}
+use Rattle.kr_make.specs.Session.{Made, after_draw, ask, chances, commit_all, lead_next, lose, request_event, state_behind, steps}
 use Rattle.kr_make.specs.Requests.{heartbeat}
 use Rattle.kr_make.proofs.Playing.{engine_so, image_so, ready_then, stands_then}
 
@@ -31,9 +33,23 @@ module _ (seed : ℕ) (made : Made) (host : Host) (stands : HasMade seed made ho
       ap (λ (i : Image). heartbeat i offset broker want_fence) (here ∙ sym image_seen)
       ∙ ap (λ (z : ℤ). heartbeat (image_of_tip (state_behind seed made)) z broker want_fence) (there ∙ tip_seen)
 
+-- ---- numbers of events
+
+module _ (epoch : ℕ) where
+  pub lost_so : epoch ≤ 2000000000 → events.Lost (to_z w32 epoch) ≡ events.Lost (pos epoch)
+  lost_so few = ap (λ (z : ℤ). events.Lost z) (to_z_pos w32 epoch (omega (arith, few)))
+
+  pub commit_so : (end : ℤ) → epoch ≤ 2000000000 → SFits w64 end → events.Commit (to_z w32 epoch) (to_z w64 (of_z w64 end)) ≡ events.Commit (pos epoch) end
+  commit_so end few fits =
+      ap (λ (z : ℤ). events.Commit z (to_z w64 (of_z w64 end))) (to_z_pos w32 epoch (omega (arith, few))) ∙ ap (λ (z : ℤ). events.Commit (pos epoch) z) (to_z-of_z w64 end fits)
+
+  pub lead_so : (next : ℤ) → epoch ≤ 2000000000 → SFits w64 next → events.Lead (to_z w32 epoch) (to_z w64 (of_z w64 next)) (pos 0) ≡ events.Lead (pos epoch) next (pos 0)
+  lead_so next few fits =
+      ap (λ (z : ℤ). events.Lead z (to_z w64 (of_z w64 next)) (pos 0)) (to_z_pos w32 epoch (omega (arith, few))) ∙ ap (λ (z : ℤ). events.Lead (pos epoch) z (pos 0)) (to_z-of_z w64 next fits)
+
 -- ---- by one event
 
-module _ (before after : Host) (event : Event) (ready : IsIdle before.engine) (t : TakesEvent before.engine after.engine before.tally after.tally event) (drawn : after.drawn ≡ before.drawn) where
+module _ (before after : Host) (event : Event) (ready : IsIdle before.engine) (t : HostTakes before.engine after.engine before.tally after.tally event) (drawn : after.drawn ≡ before.drawn) where
   pub asked : (request : Request) → event ≡ request_event (before.requests + 1) request → after.requests ≡ before.requests + 1 → after.epoch ≡ before.epoch → Goes before after (λ seed made. ask made request) 1 0
   unfolding ask
   asked request is requests epoch = record {
@@ -127,6 +143,10 @@ goes_as a b f g m n k l same fewer less goes = record {
   few = omega (arith, goes.few, less);
 }
 
+-- nothing happened
+pub goes_itself : (a : Host) → IsIdle a.engine → Goes a a (λ seed made. made) 0 0
+goes_itself a ready = record { stands = λ seed made stands. stands; ready = ready; room = omega arith; few = omega arith }
+
 module _ (step : ℕ → ℕ → Made → Made) where
   steps_none : (seed : ℕ) (made : Made) → made ≡ steps 0 (step seed) made
   unfolding steps
@@ -152,4 +172,12 @@ module _ (step : ℕ → ℕ → Made → Made) where
     ready = second.ready;
     room = omega (arith, first.room, second.room);
     few = omega (arith, first.few, second.few);
+  }
+
+  pub goes_times : (a b : Host) (n k x y l : ℕ) → n ≡ k → x ≡ k → y ≡ l → Goes a b (λ seed. steps n (step seed)) x y → Goes a b (λ seed. steps k (step seed)) k l
+  goes_times a b n k x y l is so few goes = record {
+    stands = λ seed made stands. subst (λ (i : ℕ). HasMade seed (steps i (step seed) made) b) is (goes.stands seed made stands);
+    ready = goes.ready;
+    room = omega (arith, goes.room, so);
+    few = omega (arith, goes.few, few);
   }

@@ -1,5 +1,5 @@
 -- How many events a session has.
-use Rattle.std.proofs.Common.{◌≡◌, ◌≤◌, ℕ, ◌+◌, ◌*◌, zero, suc, Bool, true, false, cond, List, [], ◌∷◌, ◌++◌, length, length-append, arith}
+use Rattle.std.proofs.Common.{◌≤◌, ℕ, ◌+◌, ◌*◌, zero, suc, Bool, true, false, cond, List, [], ◌∷◌, ◌++◌, length, length-append, arith}
 use Rattle.std.specs.Option.{option_map_or}
 use Rattle.std.specs.Prelude.{◌==◌, pos, Option, Some, None}
 use Rattle.kr_calls.specs.declared.calls.Request.{Request}
@@ -7,7 +7,7 @@ use Rattle.kr_calls.specs.declared.events.Event.{Event}
 use Rattle.kr_world.specs.World.{image_of_tip}
 use Rattle.kr_make.specs.declared.chances.Chances.{Chances}
 use Rattle.kr_make.specs.Requests.{election, note, reassignment, report}
-use Rattle.kr_make.specs.Session.{Made, act, after_draw, ask, ask_and_commit, send_heartbeat, chances, commit_all, create, fail_over, first_heartbeat, lead_next, lose, made_session, nothing_made, open_session, play_round, register, request_event, send_report, state_behind, steps}
+use Rattle.kr_make.specs.Session.{Made, act, after_draw, ask, ask_and_commit, send_heartbeat, chances, commit_all, create, fail_over, first_heartbeat, lead_next, lose, made_session, nothing_made, open_session, play_round, register, send_report, state_behind, steps}
 
 -- at most so many events more
 record Adds (k : ℕ) (before after : Made) : Type 0 where

@@ -2,6 +2,7 @@ pub mod Remainders
 pub mod ActiveStates
 pub mod LedPartitions
 pub mod Counts
+pub mod HandedOut
 pub mod Lengths
 pub mod FewRecords
 pub mod FewReplies

@@ -1,28 +1,28 @@
 -- A controller that was led through a part of the session goes on by one event.
 use Rattle.std.proofs.Common.{◌≡◌, ℕ, ◌+◌, List, [], ◌∷◌, ◌++◌, length, length-append, None, refl, sym, ap, subst, ◌∙◌, arith}
-use Rattle.std.specs.Prelude.{filter, pos}
+use Rattle.std.specs.Prelude.{filter}
 use Rattle.std.specs.Result.{result_unwrap_or}
 use Rattle.kr_calls.specs.declared.calls.Reply.{Reply}
 use Rattle.kr_calls.specs.declared.events.Entry.{Entry}
 use Rattle.kr_calls.specs.declared.events.Event.{Event}
 use Rattle.kr_calls.specs.declared.events.Output.{Output}
 use Rattle.kr_defs.specs.declared.options.Options.{Options}
-use Rattle.kr_defs.specs.Image.{Image, empty}
+use Rattle.kr_defs.specs.Image.{empty}
 use Rattle.kr_run.specs.inner.Serving.{Drains}
 use Rattle.kr_run.proofs.Handed.{run_further, runs_options, sound_behind, step_through}
-use Rattle.kr_world.specs.Engine.{Core, Hands, IsEngine, IsSound, IsStep, outputs_left}
+use Rattle.kr_world.specs.Engine.{Core, Hands, IsEngine, IsStep, outputs_left}
 use Rattle.kr_world.specs.Entries.{log_entries}
 use Rattle.kr_world.specs.declared.writes.Write.{Write}
 use Rattle.kr_world.specs.Events.{state}
 use Rattle.kr_world.specs.Outputs.{outputs, outputs_of, waiting_after, waiting_writes}
 use Rattle.kr_world.specs.Runs.{HandsAll}
-use Rattle.kr_world.specs.World.{State, image_of_tip, start, tip_of}
+use Rattle.kr_world.specs.World.{State, image_of_tip, start}
 use Rattle.kr_world.proofs.AllEvents.{runs_give_outputs}
 use Rattle.kr_make.specs.declared.host.Host.{Host}
 use Rattle.kr_make.specs.declared.tally.Tally.{Tally}
 use Rattle.kr_make.specs.inner.Counting.{no_tally, with_appended, with_outputs}
-use Rattle.kr_make.specs.inner.Standing.{AreFew, Counted, IsMade, IsIdle, Played, HasMade, TakesEvent}
-use Rattle.kr_make.specs.Session.{Made, nothing_made, options, state_behind}
+use Rattle.kr_make.specs.inner.Standing.{AreFew, Counted, IsMade, IsIdle, Played, HasMade, HostTakes}
+use Rattle.kr_make.specs.Session.{Made, nothing_made, options}
 use Rattle.kr_make.specs.Summary.{is_record, event_records, replies_of}
 use Rattle.kr_make.proofs.Counts.{Has, has_event, has_outputs, has_so, joined, oks, oks_behind, others, others_behind, records_more, replies_behind}
 use Rattle.kr_make.proofs.FewRecords.{few_records}
@@ -113,7 +113,7 @@ stands_on before after (output ∷ given) (next, first, rest) s writes k = stand
 
 -- ---- a host that took an event
 
-module _ (before after : Host) (event : Event) (ready : IsIdle before.engine) (t : TakesEvent before.engine after.engine before.tally after.tally event) where
+module _ (before after : Host) (event : Event) (ready : IsIdle before.engine) (t : HostTakes before.engine after.engine before.tally after.tally event) where
   pub ready_then : IsIdle after.engine
   ready_then =
       let s = sound_behind before.engine t.stepped after.engine event t.given ready.sound t.step t.drains in

@@ -1,5 +1,5 @@
 -- What is counted of a session is its summary.
-use Rattle.std.proofs.Common.{◌≡◌, ◌≤◌, ℕ, ◌+◌, ◌-◌, ◌^◌, List, length, refl, sym, ap, ◌∙◌, arith}
+use Rattle.std.proofs.Common.{◌≡◌, ◌≤◌, ℕ, ◌+◌, ◌-◌, ◌^◌, List, length, sym, ap, ◌∙◌, arith}
 use Rattle.std.specs.Prelude.{filter, min, not, unsigned_abs}
 use Rattle.kr_calls.specs.declared.events.Output.{Output}
 use Rattle.kr_defs.proofs.Maps.{length-filter_le}

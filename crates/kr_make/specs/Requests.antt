@@ -1,5 +1,5 @@
 -- What the six brokers and the administrator ask, by the controller's image.
-use Rattle.std.specs.Prelude.{ℕ, ℤ, pos, negsuc, int_lt, ◌+◌, ◌==◌, nat_le, List, [], ◌∷◌, ◌++◌, map, filter, codes, Bool, true, false, Option, Some, None, option_map, if◌then◌else◌}
+use Rattle.std.specs.Prelude.{ℕ, ℤ, pos, negsuc, int_lt, ◌+◌, ◌==◌, nat_le, List, [], ◌∷◌, ◌++◌, map, filter, codes, Bool, true, false, Option, Some, None, if◌then◌else◌}
 use Rattle.std.specs.Fmt.{decimal}
 use Rattle.std.specs.Option.{option_map_or}
 use Rattle.std.specs.Ordering.{int_cmp, int_eq}

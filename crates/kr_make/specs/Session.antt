@@ -1,13 +1,12 @@
 -- The session of a number (this project's own): what a leading controller is told, each event by the controller's image at the
 -- tip. All times are 0, and all requests are of client 1.
-use Rattle.std.specs.Prelude.{ℕ, ◌+◌, ◌==◌, zero, suc, ℤ, pos, List, [], ◌∷◌, ◌++◌, codes, Bool, true, false, Option, Some, None, if◌then◌else◌}
+use Rattle.std.specs.Prelude.{ℕ, ◌+◌, ◌==◌, zero, suc, pos, List, [], ◌∷◌, ◌++◌, codes, Bool, true, false, if◌then◌else◌}
 use Rattle.std.specs.Option.{option_map_or}
 use Rattle.kr_calls.specs.declared.calls.Ask.TheVariants as asks
 use Rattle.kr_calls.specs.declared.calls.Request.{Request}
 use Rattle.kr_calls.specs.declared.events.Event.{Event}
 use Rattle.kr_calls.specs.declared.events.Event.TheVariants as events
 use Rattle.kr_defs.specs.declared.options.Options.{Options}
-use Rattle.kr_defs.specs.Image.{Image}
 use Rattle.kr_world.specs.Events.{state}
 use Rattle.kr_world.specs.World.{State, image_of_tip, tip_of}
 use Rattle.kr_make.specs.declared.chances.Chances.{Chances}

@@ -20,7 +20,7 @@ use Rattle.kr_world.specs.World.{State, image_of_tip, start}
 use Rattle.kr_make.specs.declared.summary.Summary.{Summary}
 use Rattle.kr_make.specs.Replies.{is_ok}
 use Rattle.kr_make.specs.Requests.{has_leader}
-use Rattle.kr_make.specs.Session.{Made, made_session, options}
+use Rattle.kr_make.specs.Session.{options}
 
 -- ---- records: what the events add to the log
 
@@ -28,7 +28,7 @@ abbrev pub is_record_item : Item → Bool
 is_record_item (items.Record r) = true
 is_record_item items.Control = false
 
-abbrev pub is_record : Entry → Bool
+unfoldable pub is_record : Entry → Bool
 is_record (entries.Item place item) = is_record_item item
 is_record other = false
 
@@ -39,12 +39,12 @@ event_records options s (event ∷ events) = length (filter is_record (log_entri
 
 -- ---- replies
 
-abbrev pub reply_in : Output → List Reply
-reply_in (given.Reply client correlation reply) = reply ∷ []
-reply_in other = []
+abbrev pub reply_of_output : Output → List Reply
+reply_of_output (given.Reply client correlation reply) = reply ∷ []
+reply_of_output other = []
 
 abbrev pub replies_of : List Output → List Reply
-replies_of outputs = flat_map reply_in outputs
+replies_of outputs = flat_map reply_of_output outputs
 
 abbrev pub replies : Options → List Event → List Reply
 replies options events = replies_of (flat_map (λ outputs. outputs) (outputs options events))
@@ -69,11 +69,11 @@ summary options events = record {
   led = led_of (image_of_tip (state options events));
 }
 
--- six lines, each a word and a number
+-- a word, a space and a number
 abbrev pub number_line : List ℕ → ℕ → List ℕ
-number_line word number = word ++ decimal number ++ 10 ∷ []
+number_line word number = word ++ codes " " ++ decimal number ++ codes "\n"
 
 unfoldable pub summary_text : Summary → List ℕ
 summary_text s =
-    number_line (codes "events ") s.events ++ number_line (codes "records ") s.records ++ number_line (codes "kept ") s.kept
-    ++ number_line (codes "ok ") s.ok ++ number_line (codes "refused ") s.refused ++ number_line (codes "led ") s.led
+    number_line (codes "events") s.events ++ number_line (codes "records") s.records ++ number_line (codes "kept") s.kept
+    ++ number_line (codes "ok") s.ok ++ number_line (codes "refused") s.refused ++ number_line (codes "led") s.led

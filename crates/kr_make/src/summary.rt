@@ -1,6 +1,6 @@
 //! What came of the session.
 
-ghost use Rattle.std.specs.Prelude.{◌≡◌, ◌≤◌, ℕ, IfOk, length, string_bytes};
+ghost use Rattle.std.specs.Prelude.{◌≡◌, ◌≤◌, ◌++◌, ℕ, IfOk, OnOk, length, string_bytes};
 ghost use Rattle.kr_make.specs.Session as session;
 ghost use Rattle.kr_make.specs.Session.{Made};
 ghost use Rattle.kr_make.specs.Summary as sums;
@@ -72,19 +72,26 @@ impl Host {
     }
 }
 
+// Adds a line of a word and a number.
+fn add_line(alloc: Global, text: &mut String, word: &str, number: u64) -> Result<(), AllocError>
+    ensures { OnOk result
+        (string_bytes text.new ≡ string_bytes text.old ++ sums.number_line word.now number) }
+{
+    let line = format!(in alloc; "{word} {number}\n")?;
+    text.push_str(&line)
+}
+
 /// Six lines, each a word and a number.
+#[tactic(auto, unfolding(crate::specs::Summary::summary_text))]
 pub fn summary_text(alloc: Global, summary: &Summary) -> Result<String, AllocError>
     ensures { IfOk result (λ text. string_bytes text ≡ sums.summary_text summary.now) }
 {
-    let Summary {
-        events,
-        records,
-        kept,
-        ok,
-        refused,
-        led,
-    } = *summary;
-    format!(in alloc;
-        "events {events}\nrecords {records}\nkept {kept}\nok {ok}\nrefused {refused}\nled {led}\n"
-    )
+    let mut text = String::new(alloc);
+    add_line(alloc, &mut text, "events", summary.events)?;
+    add_line(alloc, &mut text, "records", summary.records)?;
+    add_line(alloc, &mut text, "kept", summary.kept)?;
+    add_line(alloc, &mut text, "ok", summary.ok)?;
+    add_line(alloc, &mut text, "refused", summary.refused)?;
+    add_line(alloc, &mut text, "led", summary.led)?;
+    Ok(text)
 }

@@ -5,7 +5,7 @@ ghost use Rattle.kr_calls.specs.declared.events.Output.{Output as AnyOutput};
 ghost use Rattle.kr_run.specs.inner.Serving.{Drains};
 ghost use Rattle.kr_world.specs.Engine.{IsSound, outputs_left, writes_in_order};
 ghost use Rattle.kr_make.specs.inner.Counting as counting;
-ghost use Rattle.kr_make.specs.inner.Standing.{TakesEvent};
+ghost use Rattle.kr_make.specs.inner.Standing.{HostTakes};
 
 use crate::tally::{Tally, count_event, count_output};
 use kr_base::{NoMemory, Steps};
@@ -33,7 +33,7 @@ pub(crate) fn take<L: Ledger>(
 ) -> Result<(), NoMemory>
     requires sound { IsSound engine.old }
     requires drained { outputs_left engine.old ≡ [] }
-    ensures { OnOk result (TakesEvent engine.old engine.new tally.old tally.new event.now) }
+    ensures { OnOk result (HostTakes engine.old engine.new tally.old tally.new event.now) }
 {
     engine.step(event, steps)?;
     count_event(tally, engine.fresh());

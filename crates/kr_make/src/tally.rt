@@ -29,6 +29,7 @@ pub(crate) fn no_tally() -> Tally
     }
 }
 
+#[tactic(auto, unfolding(crate::specs::Summary::is_record))]
 fn is_record(entry: &Entry) -> bool
     ensures { result ≡ sums.is_record entry.now }
 {

@@ -1,7 +1,12 @@
 //! Connections that end in each way that memory can show.
 
-use crate::controller::{Outcome, PLAIN, STOP, Settings, Talk, talk_to};
+ghost use Rattle.std.specs.Prelude.{IfOk, IsTrue};
+ghost use Rattle.kr_defs.specs.OpenOptions.{are_options};
+
+use crate::controller::{Outcome, STOP, Talk, plain_options, talk_to};
 use crate::rows::{DELETIONS, MANY_REQUESTS};
+use kr_base::NoMemory;
+use kr_defs::{Options, Text};
 use kr_server::ServeEnd;
 use std::alloc::Global;
 use std::sync::Wait;
@@ -50,7 +55,12 @@ fn sizes(outcome: &Outcome) -> (ServeEnd, usize, usize) {
 #[test]
 fn a_write_and_a_message_that_is_not_served(rt: HostRuntime) -> Result<(), Fail> {
     let alloc = rt.alloc();
-    let outcome = talk_to(&rt, alloc, PLAIN, talk(alloc, &[WRITE, UNSERVED])?)?;
+    let outcome = talk_to(
+        &rt,
+        alloc,
+        plain_options(alloc)?,
+        talk(alloc, &[WRITE, UNSERVED])?,
+    )?;
     assert_eq!(rt; outcome.end, ServeEnd::Closed);
     assert!(rt; outcome.written == bytes_of(alloc, &[WRITTEN, BARE])?);
     assert_eq!(rt; outcome.puts, 2);
@@ -63,10 +73,15 @@ fn messages_that_break(rt: HostRuntime) -> Result<(), Fail> {
     let alloc = rt.alloc();
     let first = ServeEnd::Malformed { at: 0 };
     for text in ["000000", "ffffffff", "00800001", "00000004616263"] {
-        let outcome = talk_to(&rt, alloc, PLAIN, talk(alloc, &[text])?)?;
+        let outcome = talk_to(&rt, alloc, plain_options(alloc)?, talk(alloc, &[text])?)?;
         assert_eq!(rt; sizes(&outcome), (first, 0, 0));
     }
-    let outcome = talk_to(&rt, alloc, PLAIN, talk(alloc, &[UNSERVED, "00"])?)?;
+    let outcome = talk_to(
+        &rt,
+        alloc,
+        plain_options(alloc)?,
+        talk(alloc, &[UNSERVED, "00"])?,
+    )?;
     assert_eq!(rt; sizes(&outcome), (ServeEnd::Malformed { at: 15 }, 11, 1));
     Ok(())
 }
@@ -76,11 +91,11 @@ fn a_put_fails(rt: HostRuntime) -> Result<(), Fail> {
     let alloc = rt.alloc();
     let mut asked = talk(alloc, &[WRITE, UNSERVED])?;
     asked.failing.push(1)?;
-    let outcome = talk_to(&rt, alloc, PLAIN, asked)?;
+    let outcome = talk_to(&rt, alloc, plain_options(alloc)?, asked)?;
     assert_eq!(rt; sizes(&outcome), (ServeEnd::WriteFault, 0, 1));
     let mut asked = talk(alloc, &[WRITE, UNSERVED])?;
     asked.failing.push(2)?;
-    let outcome = talk_to(&rt, alloc, PLAIN, asked)?;
+    let outcome = talk_to(&rt, alloc, plain_options(alloc)?, asked)?;
     assert_eq!(rt; outcome.end, ServeEnd::WriteFault);
     assert!(rt; outcome.written == bytes_of(alloc, &[WRITTEN])?);
     assert_eq!(rt; outcome.exchanges, 2);
@@ -92,7 +107,7 @@ fn the_worker_stops(rt: HostRuntime) -> Result<(), Fail> {
     let alloc = rt.alloc();
     let mut asked = talk(alloc, &[UNSERVED, WRITE, UNSERVED])?;
     asked.is_stopped = true;
-    let outcome = talk_to(&rt, alloc, PLAIN, asked)?;
+    let outcome = talk_to(&rt, alloc, plain_options(alloc)?, asked)?;
     assert_eq!(rt; outcome.end, ServeEnd::Ended { number: STOP });
     assert!(rt; outcome.written == bytes_of(alloc, &[BARE])?);
     assert_eq!(rt; outcome.exchanges, 1);
@@ -110,7 +125,11 @@ struct Expected {
 // A message in hex behind its size.
 fn push_sized(bytes: &mut Vec<u8>, alloc: Global, text: &str) -> Result<(), Fail> {
     let message = hex::decode(alloc, text)?;
-    bytes.extend_from_slice(&(message.len() as u32).to_be_bytes())?;
+    bytes.extend_from_slice(
+        &u32::try_from(message.len())
+            .unwrap_or(u32::MAX)
+            .to_be_bytes(),
+    )?;
     bytes.extend_from_slice(&message)?;
     Ok(())
 }
@@ -123,7 +142,7 @@ fn add_row(alloc: Global, expected: &mut Expected, row: &str) -> Result<(), Fail
     }
     push_sized(&mut expected.asked.bytes, alloc, message)?;
     push_sized(&mut expected.replies, alloc, reply)?;
-    expected.rows += 1;
+    expected.rows = expected.rows.saturating_add(1);
     Ok(())
 }
 
@@ -144,19 +163,51 @@ fn expected_of(alloc: Global, rows: &str) -> Result<Expected, Fail> {
     Ok(expected)
 }
 
+// Two replicas of each partition, three partitions of each topic.
+fn two_replicas(alloc: Global) -> Result<Options, NoMemory>
+    ensures { IfOk result (λ options. IsTrue (are_options options)) }
+{
+    Ok(Options {
+        node: 2147483647,
+        salt: 7,
+        session_ms: 100,
+        partitions: 3,
+        factor: 2,
+        minimum: 1,
+        cluster: Text::from_str(alloc, "c1")?,
+    })
+}
+
+// Three replicas of each partition, one partition of each topic.
+fn three_replicas(alloc: Global) -> Result<Options, NoMemory>
+    ensures { IfOk result (λ options. IsTrue (are_options options)) }
+{
+    Ok(Options {
+        node: 1,
+        salt: 7,
+        session_ms: 9_000,
+        partitions: 1,
+        factor: 3,
+        minimum: 2,
+        cluster: Text::from_str(alloc, "c1")?,
+    })
+}
+
 // Each reply is the row's, written by one put, and each exchange is told.
 fn hold<R: Threads + Wait + Sync>(
     rt: &R,
     alloc: Global,
-    settings: Settings,
+    options: Options,
     rows: &str,
-) -> Result<bool, Fail> {
+) -> Result<bool, Fail>
+    requires { IsTrue (are_options options) }
+{
     let Expected {
         asked,
         replies,
         rows,
     } = expected_of(alloc, rows)?;
-    let outcome = talk_to(rt, alloc, settings, asked)?;
+    let outcome = talk_to(rt, alloc, options, asked)?;
     Ok(
         outcome.end == ServeEnd::Closed
             && outcome.written == replies
@@ -168,19 +219,7 @@ fn hold<R: Threads + Wait + Sync>(
 #[test]
 fn all_requests_are_answered(rt: HostRuntime) -> Result<(), Fail> {
     let alloc = rt.alloc();
-    let two = Settings {
-        node: 2147483647,
-        session_ms: 100,
-        partitions: 3,
-        factor: 2,
-        minimum: 1,
-    };
-    assert!(rt; hold(&rt, alloc, two, MANY_REQUESTS)?);
-    let three = Settings {
-        factor: 3,
-        minimum: 2,
-        ..PLAIN
-    };
-    assert!(rt; hold(&rt, alloc, three, DELETIONS)?);
+    assert!(rt; hold(&rt, alloc, two_replicas(alloc)?, MANY_REQUESTS)?);
+    assert!(rt; hold(&rt, alloc, three_replicas(alloc)?, DELETIONS)?);
     Ok(())
 }

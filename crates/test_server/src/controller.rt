@@ -19,25 +19,6 @@ use std::thread::Threads;
 // The number of the stop that ends the worker.
 pub(crate) const STOP: u64 = 3;
 
-/// Settings of a controller, as far as they differ from test to test.
-#[derive(Clone, Copy, Drop)]
-pub(crate) struct Settings {
-    pub node: i32,
-    pub session_ms: u32,
-    pub partitions: i32,
-    pub factor: i16,
-    pub minimum: i32,
-}
-
-/// One replica of each partition, one partition of each topic.
-pub(crate) const PLAIN: Settings = Settings {
-    node: 1,
-    session_ms: 9_000,
-    partitions: 1,
-    factor: 1,
-    minimum: 1,
-};
-
 /// What a client sends, the time of each of its writes, the numbers of the puts that fail, and whether the worker is stopped
 /// before.
 #[derive(Drop)]
@@ -81,23 +62,17 @@ impl Source for Dripping {
     }
 }
 
-fn options_of(alloc: Global, settings: Settings) -> Result<Options, NoMemory>
+/// One replica of each partition, one partition of each topic.
+pub(crate) fn plain_options(alloc: Global) -> Result<Options, NoMemory>
     ensures { IfOk result (λ options. IsTrue (are_options options)) }
 {
-    let Settings {
-        node,
-        session_ms,
-        partitions,
-        factor,
-        minimum,
-    } = settings;
     Ok(Options {
-        node,
+        node: 1,
         salt: 7,
-        session_ms,
-        partitions,
-        factor,
-        minimum,
+        session_ms: 9_000,
+        partitions: 1,
+        factor: 1,
+        minimum: 1,
         cluster: Text::from_str(alloc, "c1")?,
     })
 }
@@ -163,20 +138,22 @@ fn connect<R: Wait>(
     end
 }
 
+#[tactic(auto, using(kr_shared::proofs::Sent::worker_send))]
 /// Serves the connection of the one client of a controller that leads since place 0 and time 0.
 pub(crate) fn talk_to<R: Threads + Wait + Sync>(
     rt: &R,
     alloc: Global,
-    settings: Settings,
+    options: Options,
     talk: Talk,
-) -> Result<Outcome, NoMemory> {
+) -> Result<Outcome, NoMemory>
+    requires { IsTrue (are_options options) }
+{
     let Talk {
         bytes,
         times,
         failing,
         is_stopped,
     } = talk;
-    let options = options_of(alloc, settings)?;
     let mut source = Dripping {
         inner: MemorySource::new(bytes, Vec::new(alloc)),
     };

@@ -1,5 +1,5 @@
 -- What is counted while events happen.
-use Rattle.std.specs.Prelude.{ℕ, ◌+◌, ◌-◌, ◌^◌, min, List, [], ◌∷◌, length, filter, fold, if◌then◌else◌}
+use Rattle.std.specs.Prelude.{ℕ, ◌+◌, ◌-◌, ◌^◌, min, List, length, filter, fold, if◌then◌else◌}
 use Rattle.kr_calls.specs.declared.calls.Reply.{Reply}
 use Rattle.kr_calls.specs.declared.events.Entry.{Entry}
 use Rattle.kr_calls.specs.declared.events.Output.{Output}
@@ -20,11 +20,11 @@ no_tally = record { events = 0; records = 0; ok = 0; refused = 0 }
 abbrev pub with_appended : Tally → List Entry → Tally
 with_appended tally entries = record tally { events = capped_sum tally.events 1; records = capped_sum tally.records (length (filter is_record entries)) }
 
-abbrev pub with_reply : Tally → Reply → Tally
-with_reply tally reply = if is_ok reply then record tally { ok = capped_sum tally.ok 1 } else record tally { refused = capped_sum tally.refused 1 }
+abbrev pub with_counted_reply : Tally → Reply → Tally
+with_counted_reply tally reply = if is_ok reply then record tally { ok = capped_sum tally.ok 1 } else record tally { refused = capped_sum tally.refused 1 }
 
 abbrev pub with_output : Tally → Output → Tally
-with_output tally (given.Reply client correlation reply) = with_reply tally reply
+with_output tally (given.Reply client correlation reply) = with_counted_reply tally reply
 with_output tally other = tally
 
 abbrev pub with_outputs : Tally → List Output → Tally

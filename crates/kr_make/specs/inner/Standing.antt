@@ -13,7 +13,7 @@ use Rattle.kr_world.specs.Runs.{Runs}
 use Rattle.kr_world.specs.World.{start}
 use Rattle.kr_make.specs.declared.host.Host.{Host}
 use Rattle.kr_make.specs.declared.tally.Tally.{Tally}
-use Rattle.kr_make.specs.inner.Counting.{capped_sum, no_tally, with_appended, with_outputs}
+use Rattle.kr_make.specs.inner.Counting.{capped_sum, with_appended, with_outputs}
 use Rattle.kr_make.specs.Replies.{is_ok}
 use Rattle.kr_make.specs.Session.{Made, options}
 use Rattle.kr_make.specs.Summary.{event_records, replies_of}
@@ -24,7 +24,7 @@ pub record IsIdle (engine : Core) : Type 0 where
   pub drained : outputs_left engine ≡ []
 
 -- an event happened, its outputs were handed out, and both were counted
-pub record TakesEvent (before after : Core) (tally tally' : Tally) (event : Event) : Type 0 where
+pub record HostTakes (before after : Core) (tally tally' : Tally) (event : Event) : Type 0 where
   pub stepped : Core
   pub given : List Output
   pub step : IsStep before stepped event

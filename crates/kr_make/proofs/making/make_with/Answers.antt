@@ -1,6 +1,6 @@
-use Rattle.std.proofs.Common.{arith, subst}
-use Rattle.kr_make.specs.inner.Standing.{HasMade}
-use Rattle.kr_make.specs.Session.{Made, made_session}
+use Rattle.std.proofs.Common.{◌∙◌, length, ap, arith}
+use Rattle.kr_make.specs.Summary.{summary}
+use Rattle.kr_make.specs.Session.{Made, options}
 use Rattle.kr_make.proofs.Goings.{may_go_on}
 use Rattle.kr_make.proofs.Lengths.{session_few}
 use Rattle.kr_make.proofs.Parts.{made_session_is}
@@ -21,4 +21,6 @@ returns g c =
     let opened = c.in_ok-open.ensures.stands c.args.seed _ c.in_ok-host.ensures.stands in
     let played = c.in_ok-rounds.ensures.stands c.args.seed _ opened in
     let few = session_few c.args.seed c.args.rounds in
-    c.summary.ensures c.args.seed (made_session c.args.seed c.args.rounds) (subst (λ (made : Made). HasMade c.args.seed made _) (made_session_is c.args.seed c.args.rounds) played) (omega (arith, few, c.requires.rounds))
+    let is = made_session_is c.args.seed c.args.rounds in
+    let long = ap (λ (made : Made). length made.events) is in
+    c.summary.ensures c.args.seed _ played (omega (arith, few, long, c.requires.rounds)) ∙ ap (λ (made : Made). summary (options c.args.seed) made.events) is

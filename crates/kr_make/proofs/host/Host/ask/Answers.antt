@@ -1,4 +1,4 @@
-use Rattle.std.proofs.Common.{refl, arith}
+use Rattle.std.proofs.Common.{refl}
 use Rattle.std.proofs.lemmas.Result.{on_ok_weaker}
 use Rattle.kr_make.proofs.Goings.{asked}
 use Rattle.kr_make.proofs.host.Host.ask.Goals as goal

@@ -1,7 +1,6 @@
-use Rattle.std.proofs.Common.{◌≡◌, ℕ, ◌+◌, subst, arith}
-use Rattle.kr_make.specs.inner.Standing.{Goes}
-use Rattle.kr_make.specs.Session.{first_heartbeat, steps}
-use Rattle.kr_make.proofs.Goings.{goes_more, goes_none, may_go_on, may_less}
+use Rattle.std.proofs.Common.{◌+◌, refl, arith}
+use Rattle.kr_make.specs.Session.{first_heartbeat}
+use Rattle.kr_make.proofs.Goings.{goes_more, goes_none, goes_times, may_go_on, may_less}
 use Rattle.kr_make.proofs.host.Host.beat_brokers.Goals as goal
 
 pub loop-n-init : goal.loop-n-init
@@ -14,6 +13,4 @@ pub loop-n-preserved : goal.loop-n-preserved
 loop-n-preserved g c = goes_more first_heartbeat _ _ _ c.loop-n.n c.loop-n.n 0 1 0 c.loop-n.invariant c.in_ok-beat.ensures
 
 pub returns : goal.returns
-returns g c =
-    let is : c.loop-n.n ≡ 6 = omega arith in
-    subst (λ (n : ℕ). Goes _ _ (λ (seed : ℕ). steps n (first_heartbeat seed)) n 0) is c.loop-n.invariant
+returns g c = goes_times first_heartbeat _ _ c.loop-n.n 6 c.loop-n.n 0 0 (omega arith) (omega arith) refl c.loop-n.invariant

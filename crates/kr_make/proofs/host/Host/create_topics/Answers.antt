@@ -1,7 +1,6 @@
-use Rattle.std.proofs.Common.{◌≡◌, ℕ, ◌+◌, subst, arith}
-use Rattle.kr_make.specs.inner.Standing.{Goes}
-use Rattle.kr_make.specs.Session.{create, steps}
-use Rattle.kr_make.proofs.Goings.{goes_more, goes_none, may_go_on, may_less}
+use Rattle.std.proofs.Common.{◌+◌, refl, arith}
+use Rattle.kr_make.specs.Session.{create}
+use Rattle.kr_make.proofs.Goings.{goes_more, goes_none, goes_times, may_go_on, may_less}
 use Rattle.kr_make.proofs.host.Host.create_topics.Goals as goal
 
 pub loop-n-init : goal.loop-n-init
@@ -14,6 +13,4 @@ pub loop-n-preserved : goal.loop-n-preserved
 loop-n-preserved g c = goes_more create _ _ _ c.loop-n.n c.loop-n.n 0 1 0 c.loop-n.invariant c.in_ok-create.ensures
 
 pub returns : goal.returns
-returns g c =
-    let is : c.loop-n.n ≡ 300 = omega arith in
-    subst (λ (n : ℕ). Goes _ _ (λ (seed : ℕ). steps n (create seed)) n 0) is c.loop-n.invariant
+returns g c = goes_times create _ _ c.loop-n.n 300 c.loop-n.n 0 0 (omega arith) (omega arith) refl c.loop-n.invariant
