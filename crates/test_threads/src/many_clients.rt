@@ -3,11 +3,12 @@
 ghost use Rattle.std.specs.Prelude.{IfOk, IsTrue, not, Some};
 ghost use Rattle.kr_calls.specs.Decide.{is_read};
 
+use crate::workers::settings;
 use kr_base::{Failed, MemoryClock, MemoryQuorum, NoMemory, OpenGate, Quorum};
 use kr_calls::{
     Answered, Call, ConfigOperation, ConfigResource, Event, IncrementalAlterConfigs, Reply, Request,
 };
-use kr_defs::{Item, Options, Record, Rows, Text};
+use kr_defs::{Item, Record, Rows, Text};
 use kr_shared::{Bell, ClientSeat, LinkSeat, Turn, WorkerSeat, open};
 use kr_view::Opening;
 use std::alloc::Global;
@@ -258,15 +259,7 @@ fn the_log_holds_what_63_clients_were_told(rt: HostRuntime) -> Result<(), Fail> 
         kept: MemoryQuorum::new(alloc, 1_000_000, 4000, Vec::new(alloc))?,
         end: &end,
     };
-    let options = Options {
-        node: 1,
-        salt: 7,
-        session_ms: 9000,
-        partitions: 1,
-        factor: 1,
-        minimum: 1,
-        cluster: Text::new(alloc),
-    };
+    let options = settings(alloc)?;
     let Ok((mut worker, mut link, seats)) = open(&rt, alloc, &mut opening, options, CLIENTS) else {
         assert!(rt; false);
         return Ok(());

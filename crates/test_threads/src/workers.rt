@@ -2,6 +2,7 @@
 
 ghost use Rattle.std.specs.Prelude.{IfOk, IsTrue, not};
 ghost use Rattle.kr_calls.specs.Decide.{is_read};
+ghost use Rattle.kr_defs.specs.OpenOptions.{are_options};
 
 use kr_base::{Gate, MemoryClock, NoMemory, OpenGate, Quorum};
 use kr_calls::{
@@ -43,7 +44,9 @@ impl Gate for HoldingGate<'_> {
     }
 }
 
-fn settings(alloc: Global) -> Result<Options, NoMemory> {
+pub(crate) fn settings(alloc: Global) -> Result<Options, NoMemory>
+    ensures { IfOk result (λ options. IsTrue (are_options options)) }
+{
     Ok(Options {
         node: 1,
         salt: 7,
