@@ -21,8 +21,8 @@ use Rattle.law_following.specs.Following.{AreNotes, Shows}
 use Rattle.law_following.proofs.Decided.{decided_answers_are_right}
 use Rattle.law_following.proofs.Shown.{shown_logs_go_on}
 use Rattle.kr_shared.specs.declared.asked.Asked.{Asked}
-use Rattle.kr_shared.specs.Answers.{Answering, answer_of, answered_of, answering, with_told}
-use Rattle.kr_shared.specs.Standing.{AreWaiting, IsWaiting}
+use Rattle.kr_shared.specs.Answers.{Answering, decided_answer, answered_of, answering, with_told}
+use Rattle.kr_shared.specs.Standing.{AreWaiting, IsWaitingWrite}
 
 pub pos_sum : (m n : ℕ) → pos (m + n) ≡ pos m +ℤ pos n
 pos_sum m n = grind (arith, ints)
@@ -48,9 +48,9 @@ all_pass f p (w ∷ ws) none =
 
 module _ (options : Options) (log : Log) (end : ℕ) where
   abbrev answer_by : Bool → Asked → Write → Answer
-  answer_by b a w = answer_of a (cond b kinds.Lost kinds.Stands) w.decided (cond b w.refusal w.reply)
+  answer_by b a w = decided_answer a (cond b kinds.Lost kinds.Stands) w.decided (cond b w.refusal w.reply)
 
-  right_by : (b : Bool) (a : Asked) (w : Write) (base : List Entry) → int_lt (pos end) w.need ≡ b → IsWaiting options log a w → Shows log end base → IsRight options base (answer_by b a w)
+  right_by : (b : Bool) (a : Asked) (w : Write) (base : List Entry) → int_lt (pos end) w.need ≡ b → IsWaitingWrite options log a w → Shows log end base → IsRight options base (answer_by b a w)
   right_by true a w base is i shows = (record { seat = refl; ticket = refl; place = refl; floor = i.floor }, i.refusal)
   right_by false a w base is i shows = (
     record { seat = refl; ticket = refl; place = refl; floor = i.floor },

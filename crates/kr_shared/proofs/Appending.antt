@@ -4,7 +4,7 @@ use Rattle.std.specs.Prelude.{Option, IsSome, OnErr}
 use Rattle.std.proofs.lemmas.List.{drop_more, take-append-drop}
 use Rattle.kr_base.specs.Causes.{Rose, raised}
 use Rattle.kr_world.specs.declared.writes.Told.{Told}
-use Rattle.kr_shared.specs.Appends.{AppendsOne, FailsAt, batch_of, with_batches}
+use Rattle.kr_shared.specs.Appends.{AppendsOne, FailsAt, batch_told, with_batches}
 
 around : (told : List Told) (n : ℕ) (t : Told) → n < length told → t ≡ get_or told n t → told ≡ take n told ++ t ∷ drop (n + 1) told
 around told n t within is =
@@ -21,6 +21,6 @@ fails_at told n t old mid new faults then faults' within is so_far low fails = r
   behind = drop (n + 1) told;
   in_order = around told n t within is;
   batch = fails.0;
-  pieces = fails.1.0 ∙ so_far;
-  cause = rose_before faults then faults' low fails.1.1.0;
+  pieces = fails.1 ∙ so_far;
+  cause = rose_before faults then faults' low fails.2;
 }

@@ -11,6 +11,7 @@ pub mod Sent
 pub mod Served
 pub mod Serving
 pub mod Standings
+pub mod Starts
 pub mod Turning
 pub mod Writes
 pub mod Written

@@ -15,9 +15,9 @@ use Rattle.kr_world.specs.Entries.{items_from}
 use Rattle.kr_world.specs.World.{State}
 use Rattle.law_following.specs.Following.{AreNotes}
 use Rattle.law_following.proofs.Shown.{shown_logs_go_on}
-use Rattle.kr_shared.specs.Standing.{IsStanding, Standing}
+use Rattle.kr_shared.specs.Standing.{StandsForSome, Standing}
 use Rattle.kr_shared.specs.Turns.{Notes}
-use Rattle.kr_shared.specs.Works.{IsBareNote, Work, resting}
+use Rattle.kr_shared.specs.Works.{IsBareNote, DeskView, resting}
 use Rattle.kr_shared.proofs.Published.{all_above, nothing_below}
 
 noted : (s : Shelf) (e : Entry) → IsBareNote e → with_staged s e ≡ record s { notes = s.notes ++ e ∷ [] }
@@ -38,7 +38,7 @@ is_right o list (entries.Load offset records) bare = tt
 is_right o list (entries.Answer answer) bare = subst (λ (q : Option Answered). MatchOption q (Unit {0}) (λ a. IsTo a answer × IsRightAs answer.kind o list a)) (sym bare) tt
 is_right o list (entries.Stop number) bare = tt
 
-module _ (old : Work) (e : Entry) (bare : IsBareNote e) (s : State) (writes : List Write) (k : Standing old s writes) where
+module _ (old : DeskView) (e : Entry) (bare : IsBareNote e) (s : State) (writes : List Write) (k : Standing old s writes) where
   abbrev items : List Entry
   items = item_entries (pos s.world.committed) (items_from s.world.log s.world.committed)
 
@@ -83,20 +83,20 @@ module _ (old : Work) (e : Entry) (bare : IsBareNote e) (s : State) (writes : Li
     waits = k.waits;
   }
 
-abbrev staged : Work → Entry → Work
+abbrev staged : DeskView → Entry → DeskView
 staged old e = record old { shelf = with_staged old.shelf e }
 
-pub may_note : (old mid : Work) (e : Entry) → IsStanding old → IsBareNote e → mid ≡ staged old e → AreRightAfter mid.shelf.options mid.shelf.list (next_at mid.engine.committed mid.shelf)
+pub may_note : (old mid : DeskView) (e : Entry) → StandsForSome old → IsBareNote e → mid ≡ staged old e → AreRightAfter mid.shelf.options mid.shelf.list (next_at mid.engine.committed mid.shelf)
 may_note old mid e k bare is =
-    subst (λ (w : Work). AreRightAfter w.shelf.options w.shelf.list (next_at w.engine.committed w.shelf)) (sym is)
+    subst (λ (w : DeskView). AreRightAfter w.shelf.options w.shelf.list (next_at w.engine.committed w.shelf)) (sym is)
     (subst (λ (h : Shelf). AreRightAfter h.options h.list (next_at old.engine.committed h)) (sym (noted old.shelf e bare)) (may_show old e bare k.state k.writes k.stands))
 
-pub notes_so : (old mid new : Work) (e : Entry) → IsStanding old → IsBareNote e → mid ≡ staged old e → new ≡ record mid { shelf = shown_at mid.engine.committed mid.shelf } → Notes old new e
+pub notes_so : (old mid new : DeskView) (e : Entry) → StandsForSome old → IsBareNote e → mid ≡ staged old e → new ≡ record mid { shelf = shown_at mid.engine.committed mid.shelf } → Notes old new e
 notes_so old mid new e k bare mid_is is =
     let so : new ≡ record old { shelf = record old.shelf { list = old.shelf.list ++ e ∷ [] } } =
     is
-    ∙ (ap (λ (w : Work). record w { shelf = shown_at w.engine.committed w.shelf }) mid_is
+    ∙ (ap (λ (w : DeskView). record w { shelf = shown_at w.engine.committed w.shelf }) mid_is
     ∙ ap (λ (h : Shelf). record old { shelf = h }) (ap (λ (h : Shelf). shown_at old.engine.committed h) (noted old.shelf e bare) ∙ shown_is old e bare k.state k.writes k.stands)) in record {
       is = so;
-      stands = λ s writes h. subst (λ (w : Work). Standing w s writes) (sym so) (stands_still old e bare s writes h);
+      stands = λ s writes h. subst (λ (w : DeskView). Standing w s writes) (sym so) (stands_still old e bare s writes h);
     }

@@ -7,7 +7,7 @@ use Rattle.kr_view.specs.declared.rule.ThreadView.{ThreadView}
 use Rattle.kr_view.specs.Seats.{Onward}
 use Rattle.kr_view.specs.Shelves.{Shelf, with_staged}
 use Rattle.kr_view.specs.Staged.{is_logged}
-use Rattle.kr_shared.specs.Works.{Keeps, Onwards}
+use Rattle.kr_shared.specs.Works.{KeepsShown, Onwards}
 
 goes_on : (x y z : List Entry) → GoesOn y x → GoesOn z y → GoesOn z x
 goes_on x y z g h = (g.0 ++ h.0, h.1 ∙ (ap (λ l. l ++ h.0) g.1 ∙ append_assoc x g.0 h.0))
@@ -23,24 +23,24 @@ onward_trans u v w p q = record {
 
 -- ---- of a publisher's list
 
-pub keeps_refl : (s : Shelf) → Keeps s s
+pub keeps_refl : (s : Shelf) → KeepsShown s s
 keeps_refl s = record { options = refl; list = refl }
 
-pub keeps_trans : (s t u : Shelf) → Keeps s t → Keeps t u → Keeps s u
+pub keeps_trans : (s t u : Shelf) → KeepsShown s t → KeepsShown t u → KeepsShown s u
 keeps_trans s t u h k = record { options = k.options ∙ h.options; list = k.list ∙ h.list }
 
-pub still_onwards : (s t : Shelf) → Keeps s t → Onwards s t
+pub still_onwards : (s t : Shelf) → KeepsShown s t → Onwards s t
 still_onwards s t h = record { options = h.options; list = ([], h.list ∙ sym (append-nil s.list)) }
 
 pub onwards_trans : (s t u : Shelf) → Onwards s t → Onwards t u → Onwards s u
 onwards_trans s t u h k = record { options = k.options ∙ h.options; list = goes_on s.list t.list u.list h.list k.list }
 
-pub keeps_onwards : (s t u : Shelf) → Keeps s t → Onwards t u → Onwards s u
+pub keeps_onwards : (s t u : Shelf) → KeepsShown s t → Onwards t u → Onwards s u
 keeps_onwards s t u h k = onwards_trans s t u (still_onwards s t h) k
 
-staged_if : (b : Bool) (s : Shelf) (xs ys : List Entry) → Keeps s (cond b (record s { items = xs }) (record s { notes = ys }))
+staged_if : (b : Bool) (s : Shelf) (xs ys : List Entry) → KeepsShown s (cond b (record s { items = xs }) (record s { notes = ys }))
 staged_if true s xs ys = record { options = refl; list = refl }
 staged_if false s xs ys = record { options = refl; list = refl }
 
-pub staged_keeps : (s : Shelf) (e : Entry) → Keeps s (with_staged s e)
+pub staged_keeps : (s : Shelf) (e : Entry) → KeepsShown s (with_staged s e)
 staged_keeps s e = staged_if (is_logged e) s (s.items ++ e ∷ []) (s.notes ++ e ∷ [])

@@ -28,7 +28,7 @@ use Rattle.kr_world.specs.World.{State, World, image_of_tip}
 use Rattle.kr_world.proofs.Queues.{first_is_due, none_is_due, order_behind}
 use Rattle.law_following.proofs.Lists.{has_first}
 use Rattle.kr_shared.specs.declared.asked.Asked.{Asked}
-use Rattle.kr_shared.specs.Answers.{AreReplied, Answering, answer_of, answered_of, answering, with_told}
+use Rattle.kr_shared.specs.Answers.{AreReplied, Answering, decided_answer, answered_of, answering, with_told}
 use Rattle.kr_shared.specs.Standing.{AreWaiting}
 use Rattle.kr_shared.proofs.Answered.{ends_all}
 use Rattle.kr_shared.proofs.Fronts.{outputs_due}
@@ -57,7 +57,7 @@ module _ (options : Options) (log : Log) (end : ℕ) (leading : Option ℤ) wher
         | false ↦ λ is.
             let lost = int_lt (pos end) w.need in
             let reply = cond lost w.refusal w.reply in
-            let answer = answer_of a (cond lost kinds.Lost kinds.Stands) w.decided reply in
+            let answer = decided_answer a (cond lost kinds.Lost kinds.Stands) w.decided reply in
             let behind = notes ++ entries.Answer answer ∷ [] in
             let ends = ends_all options log end leading ones ws behind waits.1 (order_behind w ws ordered) in
             subst (Replies (a ∷ ones) (w ∷ ws) notes) (sym (first_is_due leading (pos end) w ws is)) (

@@ -2,6 +2,8 @@
 use denote.Param.Send.{IsSend, sendable, view_send}
 use denote.Param.SendFields.{declared_send}
 use Rattle.std.proofs.Crossing as heap
+use Rattle.std.proofs.option.Option.TheSendSync as option
+use Rattle.kr_calls.proofs.events.Reason.TheSendSync as reason
 use Rattle.kr_engine.proofs.engine.Engine.TheSendSync as engine
 use Rattle.kr_queue.specs.contracts.queue.Queue.{the_row as queue_row}
 use Rattle.kr_queue.proofs.passes.Pass.TheSendSync as pass
@@ -20,15 +22,9 @@ use Rattle.kr_shared.specs.contracts.desk.Desk.TheInside.{the_type as desk_type}
 use Rattle.kr_shared.specs.contracts.worker.WorkerSeat.{the_row as worker_row}
 use Rattle.kr_shared.specs.contracts.worker.WorkerSeat.TheInside.{the_type as worker_type}
 
-bell_send : IsSend _
-bell_send = heap.Arc-send bell_row bell.the_send bell.the_sync
-
-queue_send : IsSend _
-queue_send = heap.Arc-send queue_row queue.the_send queue.the_sync
-
 -- the allocator, the queue with its pass, the bells, the reader, and the number of the last call
 pub client_send : IsSend client_row
-client_send = view_send _ _ _ _ _ (declared_send client_type (search sendable depth 20, (queue_send, (pass.the_send, (bell_send, (bell_send, (seat_send, (search sendable depth 20, tt))))))))
+client_send = view_send _ _ _ _ _ (declared_send client_type (search sendable depth 20, (heap.Arc-send queue_row queue.the_send queue.the_sync, (pass.the_send, (heap.Arc-send bell_row bell.the_send bell.the_sync, (heap.Arc-send bell_row bell.the_send bell.the_sync, (seat_send, (search sendable depth 20, tt))))))))
 
 desk_send : IsSend desk_row
 desk_send = view_send _ _ _ _ _ (declared_send desk_type (search sendable depth 20, (publisher_send, (engine.the_send, (heap.Deque-send asked_row asked.the_send, tt)))))
@@ -36,4 +32,4 @@ desk_send = view_send _ _ _ _ _ (declared_send desk_type (search sendable depth 
 -- the queue with its pass, the bells, the desk, and what the last turns left
 pub worker_send : IsSend worker_row
 worker_send =
-    view_send _ _ _ _ _ (declared_send worker_type (queue_send, (pass.the_send, (bells.the_send, (desk_send, (search sendable depth 20, (search sendable depth 20, (search sendable depth 20, (search sendable depth 20, tt)))))))))
+    view_send _ _ _ _ _ (declared_send worker_type (heap.Arc-send queue_row queue.the_send queue.the_sync, (pass.the_send, (bells.the_send, (desk_send, (search (sendable, option.the_send, reason.the_send) depth 20, (search sendable depth 20, (search sendable depth 20, (search sendable depth 20, tt)))))))))

@@ -33,9 +33,9 @@ use Rattle.law_following.proofs.Decided.{decided_on}
 use Rattle.law_following.proofs.Evolving.{Evolved, Longer, evolves}
 use Rattle.kr_shared.specs.declared.asked.Asked.{Asked}
 use Rattle.kr_shared.specs.Answers.{Answering, AreReplied, answer_all, answered_of, answering, with_told}
-use Rattle.kr_shared.specs.Standing.{AreWaiting, IsWaiting, Standing}
-use Rattle.kr_shared.specs.Takes.{Takes}
-use Rattle.kr_shared.specs.Works.{Work, is_lost, staged_after}
+use Rattle.kr_shared.specs.Standing.{AreWaiting, IsWaitingWrite, Standing}
+use Rattle.kr_shared.specs.Takes.{TakesEvent}
+use Rattle.kr_shared.specs.Works.{DeskView, is_lost, staged_after}
 use Rattle.kr_shared.proofs.Answered.{AreAnswers, Ends, alone_told, ends_all}
 use Rattle.kr_shared.proofs.Published.{Publishes}
 use Rattle.kr_shared.proofs.Replied.{AreSilent, all_replied, event_replied}
@@ -80,7 +80,7 @@ holds_none options s events.Image link = absurd cc
 
 -- ---- an event
 
-module _ (old : Work) (between : Core) (event : Event) (told : List Told) (s : State) (writes : List Write) (k : Standing old s writes) (t : Takes old.engine between event told) where
+module _ (old : DeskView) (between : Core) (event : Event) (told : List Told) (s : State) (writes : List Write) (k : Standing old s writes) (t : TakesEvent old.engine between event told) where
   abbrev o : Options
   o = old.engine.options
 

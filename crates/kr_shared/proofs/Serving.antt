@@ -25,11 +25,11 @@ use Rattle.kr_shared.specs.declared.answers.Asking.{Asking}
 use Rattle.kr_shared.specs.declared.asked.Asked.{Asked}
 use Rattle.kr_shared.specs.Answers.{Answering, AreReplied, refusal_in}
 use Rattle.kr_shared.specs.Appends.{Appends}
-use Rattle.kr_shared.specs.Serves.{Serves}
-use Rattle.kr_shared.specs.Standing.{AreWaiting, IsStanding, Standing}
-use Rattle.kr_shared.specs.Takes.{Takes}
+use Rattle.kr_shared.specs.Serves.{ServesEvent}
+use Rattle.kr_shared.specs.Standing.{AreWaiting, StandsForSome, Standing}
+use Rattle.kr_shared.specs.Takes.{TakesEvent}
 use Rattle.kr_shared.specs.Tasks.{IsTask}
-use Rattle.kr_shared.specs.Works.{Keeps, Work, answers_of, is_lost, resting, staged_after}
+use Rattle.kr_shared.specs.Works.{KeepsShown, DeskView, answers_of, is_lost, resting, staged_after}
 use Rattle.kr_shared.proofs.Published.{AreLogged, Publishes}
 use Rattle.kr_shared.proofs.Replied.{link_silent}
 use Rattle.kr_shared.proofs.Served.{Answers, answered, holds_none, next, outputs_told, publishes, shown, staged, stands}
@@ -87,7 +87,7 @@ taken_stands e s writes k = handing_out_stands e e.given e.refusal [] s writes k
 
 -- ---- the event
 
-module _ (old : Work) (between : Core) (event : Event) (asking : Option Asking) (told : List Told) (task : IsTask old.engine event asking) (t : Takes old.engine between event told) where
+module _ (old : DeskView) (between : Core) (event : Event) (asking : Option Asking) (told : List Told) (task : IsTask old.engine event asking) (t : TakesEvent old.engine between event told) where
   abbrev pub led : Bool
   led = is_some old.engine.leading
 
@@ -103,11 +103,11 @@ module _ (old : Work) (between : Core) (event : Event) (asking : Option Asking) 
   abbrev pub ready : Shelf
   ready = record { options = old.shelf.options; list = old.shelf.list; waiting = []; items = stage; notes = r.notes }
 
-  abbrev pub after : Work
+  abbrev pub after : DeskView
   after = record { shelf = shown_at between.committed ready; engine = record between { fresh = [] }; waiting = r.waiting }
 
   module _ (s : State) (writes : List Write) (k : Standing old s writes) where
-    answers_ask : (e : Event) (a : Asking) (x : Takes old.engine between e told) → IsTask old.engine e (Some a) → Answers old between e told s writes k x (answers_of (Some a) e led old.waiting told)
+    answers_ask : (e : Event) (a : Asking) (x : TakesEvent old.engine between e told) → IsTask old.engine e (Some a) → Answers old between e told s writes k x (answers_of (Some a) e led old.waiting told)
     answers_ask (events.Lead epoch n now) a x h = absurd h
     answers_ask (events.Commit epoch end) a x h = absurd h
     answers_ask (events.Lost epoch) a x h = absurd h
@@ -163,23 +163,23 @@ module _ (old : Work) (between : Core) (event : Event) (asking : Option Asking) 
 
 -- ---- the steps of serving, one after the other
 
-pub sound_then : (w : Work) → IsStanding w → IsSound w.engine × (outputs_left w.engine ≡ [])
+pub sound_then : (w : DeskView) → StandsForSome w → IsSound w.engine × (outputs_left w.engine ≡ [])
 sound_then w k = (record { state = k.state; writes = k.writes; stands = k.stands.engine }, k.stands.none)
 
-kept : (lost : Bool) (s : Shelf) → Keeps s (cond lost (record s { items = [] }) s)
+kept : (lost : Bool) (s : Shelf) → KeepsShown s (cond lost (record s { items = [] }) s)
 kept true s = record { options = refl; list = refl }
 kept false s = record { options = refl; list = refl }
 
-pub two_keep : (old w1 w2 : Work) (lost : Bool) → w1 ≡ record old { engine = w1.engine } → w2 ≡ record w1 { shelf = cond lost (record w1.shelf { items = [] }) w1.shelf } → Keeps old.shelf w2.shelf
+pub two_keep : (old w1 w2 : DeskView) (lost : Bool) → w1 ≡ record old { engine = w1.engine } → w2 ≡ record w1 { shelf = cond lost (record w1.shelf { items = [] }) w1.shelf } → KeepsShown old.shelf w2.shelf
 two_keep old w1 w2 lost one two =
-    subst (Keeps old.shelf) (sym (ap (λ (w : Work). w.shelf) two ∙ ap (λ (w : Work). cond lost (record w.shelf { items = [] }) w.shelf) one)) (kept lost old.shelf)
+    subst (KeepsShown old.shelf) (sym (ap (λ (w : DeskView). w.shelf) two ∙ ap (λ (w : DeskView). cond lost (record w.shelf { items = [] }) w.shelf) one)) (kept lost old.shelf)
 
 dropped : (lost : Bool) (s : Shelf) → cond lost (record s { items = [] }) s ≡ record s { items = cond lost [] s.items }
 dropped true s = refl
 dropped false s = refl
 
-module _ (old w1 w2 w3 : Work) (event : Event) (asking : Option Asking) (told : List Told) (before lost : Bool) (k : IsStanding old) (task : IsTask old.engine event asking)
-    (takes : Takes old.engine w1.engine event told) (one : w1 ≡ record old { engine = w1.engine })
+module _ (old w1 w2 w3 : DeskView) (event : Event) (asking : Option Asking) (told : List Told) (before lost : Bool) (k : StandsForSome old) (task : IsTask old.engine event asking)
+    (takes : TakesEvent old.engine w1.engine event told) (one : w1 ≡ record old { engine = w1.engine })
     (before_is : before ≡ is_some old.engine.leading) (lost_is : lost ≡ (before && not (is_some w1.engine.leading)))
     (two : w2 ≡ record w1 { shelf = cond lost (record w1.shelf { items = [] }) w1.shelf })
     (three : w3 ≡ record w2 { shelf = fold with_staged w2.shelf w2.engine.fresh; engine = record w2.engine { fresh = [] } }) where
@@ -191,28 +191,28 @@ module _ (old w1 w2 w3 : Work) (event : Event) (asking : Option Asking) (told : 
 
   shelf_two : w2.shelf ≡ record old.shelf { items = cond (is_lost old.engine e1) [] old.shelf.items }
   shelf_two =
-      ap (λ (w : Work). w.shelf) two
-      ∙ (ap (λ (w : Work). cond lost (record w.shelf { items = [] }) w.shelf) one
+      ap (λ (w : DeskView). w.shelf) two
+      ∙ (ap (λ (w : DeskView). cond lost (record w.shelf { items = [] }) w.shelf) one
       ∙ (dropped lost old.shelf ∙ ap (λ b. record old.shelf { items = cond b [] old.shelf.items }) lost_so))
 
   engine_two : w2.engine ≡ e1
-  engine_two = ap (λ (w : Work). w.engine) two
+  engine_two = ap (λ (w : DeskView). w.engine) two
 
   shelf_three : w3.shelf ≡ record old.shelf { items = stage old e1 event asking told task takes }
   shelf_three =
-      ap (λ (w : Work). w.shelf) three
+      ap (λ (w : DeskView). w.shelf) three
       ∙ (ap (λ (e : Core). fold with_staged w2.shelf e.fresh) engine_two
       ∙ (ap (λ (h : Shelf). fold with_staged h e1.fresh) shelf_two
       ∙ all_staged (record old.shelf { items = cond (is_lost old.engine e1) [] old.shelf.items }) e1.fresh (fresh_logged old e1 event asking told task takes k.state k.writes k.stands)))
 
   waiting_three : w3.waiting ≡ old.waiting
-  waiting_three = ap (λ (w : Work). w.waiting) three ∙ (ap (λ (w : Work). w.waiting) two ∙ ap (λ (w : Work). w.waiting) one)
+  waiting_three = ap (λ (w : DeskView). w.waiting) three ∙ (ap (λ (w : DeskView). w.waiting) two ∙ ap (λ (w : DeskView). w.waiting) one)
 
   -- no answer is staged yet
   pub none_noted : w3.shelf.notes ≡ []
   none_noted = ap (λ (h : Shelf). h.notes) shelf_three ∙ ap (λ (h : Shelf). h.notes) k.stands.rests
 
-  module _ (w4 : Work) (answers : Rattle.kr_shared.specs.Answers.answering w4.waiting w4.shelf.notes ≡ answers_of asking event before w3.waiting told)
+  module _ (w4 : DeskView) (answers : Rattle.kr_shared.specs.Answers.answering w4.waiting w4.shelf.notes ≡ answers_of asking event before w3.waiting told)
       (four : w4 ≡ record w3 { shelf = record w3.shelf { notes = w4.shelf.notes }; waiting = w4.waiting }) where
     answers_so : Rattle.kr_shared.specs.Answers.answering w4.waiting w4.shelf.notes ≡ r old e1 event asking told task takes
     answers_so =
@@ -224,7 +224,7 @@ module _ (old w1 w2 w3 : Work) (event : Event) (asking : Option Asking) (told : 
     rests_so = k.stands.rests ∙ sym (ap (λ (h : Shelf). record (record h { waiting = [] }) { notes = [] }) k.stands.rests)
 
     -- what is there before the publish
-    abbrev pub due : Work
+    abbrev pub due : DeskView
     due = record { shelf = ready old e1 event asking told task takes; engine = record e1 { fresh = [] }; waiting = (r old e1 event asking told task takes).waiting }
 
     pub due_so : w4 ≡ due
@@ -234,32 +234,32 @@ module _ (old w1 w2 w3 : Work) (event : Event) (asking : Option Asking) (told : 
         ∙ (ap (λ (h : Shelf). record w3 { shelf = record h { notes = (r old e1 event asking told task takes).notes }; waiting = (r old e1 event asking told task takes).waiting }) shelf_three
         ∙ (ap (λ (h : Shelf). record w3 { shelf = record (record h { items = stage old e1 event asking told task takes }) { notes = (r old e1 event asking told task takes).notes }; waiting = (r old e1 event asking told task takes).waiting }) rests_so
         ∙ ap (λ (e : Core). record { shelf = ready old e1 event asking told task takes; engine = e; waiting = (r old e1 event asking told task takes).waiting })
-        (ap (λ (w : Work). w.engine) three ∙ ap (λ (e : Core). record e { fresh = [] }) engine_two))))
+        (ap (λ (w : DeskView). w.engine) three ∙ ap (λ (e : Core). record e { fresh = [] }) engine_two))))
 
     pub publish_may : AreRightAfter w4.shelf.options w4.shelf.list (next_at w4.engine.committed w4.shelf)
     publish_may =
-        subst (λ (w : Work). AreRightAfter w.shelf.options w.shelf.list (next_at w.engine.committed w.shelf)) (sym due_so)
+        subst (λ (w : DeskView). AreRightAfter w.shelf.options w.shelf.list (next_at w.engine.committed w.shelf)) (sym due_so)
         (may_publish old e1 event asking told task takes k.state k.writes k.stands)
 
-    module _ (pieces pieces' : Option (List (List ℕ))) (faults faults' : ℕ) (appended : Bool) (refusal : Option Reason) (w5 : Work) (appends : Appends pieces pieces' faults faults' told appended) (refused : refusal ≡ refusal_in told)
+    module _ (pieces pieces' : Option (List (List ℕ))) (faults faults' : ℕ) (appended : Bool) (refusal : Option Reason) (w5 : DeskView) (appends : Appends pieces pieces' faults faults' told appended) (refused : refusal ≡ refusal_in told)
         (five : w5 ≡ record w4 { shelf = shown_at w4.engine.committed w4.shelf }) where
       five_so : w5 ≡ after old e1 event asking told task takes
-      five_so = five ∙ ap (λ (w : Work). record w { shelf = shown_at w.engine.committed w.shelf }) due_so
+      five_so = five ∙ ap (λ (w : DeskView). record w { shelf = shown_at w.engine.committed w.shelf }) due_so
 
-      pub serves_so : Serves pieces pieces' faults faults' old w5 event asking appended refusal
+      pub serves_so : ServesEvent pieces pieces' faults faults' old w5 event asking appended refusal
       serves_so = record {
         between = e1;
         told = told;
         takes = takes;
         appends = appends;
         refused = refused;
-        engine = ap (λ (w : Work). w.engine) five_so;
+        engine = ap (λ (w : DeskView). w.engine) five_so;
         answers = r old e1 event asking told task takes;
         answered = refl;
         replied = subst (AreReplied (r old e1 event asking told task takes).notes) (sym (outputs_told old e1 event told k.state k.writes k.stands takes)) (is old e1 event asking told task takes k.state k.writes k.stands).replied;
-        waiting = ap (λ (w : Work). w.waiting) five_so;
+        waiting = ap (λ (w : DeskView). w.waiting) five_so;
         staged = stage old e1 event asking told task takes;
         added = refl;
-        shelf = ap (λ (w : Work). w.shelf) five_so;
-        stands = λ s writes h. subst (λ (w : Work). Standing w (happens old.engine.options s event) (waiting_after old.engine.options s writes event)) (sym five_so) (stands_after old e1 event asking told task takes s writes h);
+        shelf = ap (λ (w : DeskView). w.shelf) five_so;
+        stands = λ s writes h. subst (λ (w : DeskView). Standing w (happens old.engine.options s event) (waiting_after old.engine.options s writes event)) (sym five_so) (stands_after old e1 event asking told task takes s writes h);
       }

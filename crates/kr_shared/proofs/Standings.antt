@@ -31,8 +31,8 @@ use Rattle.law_following.specs.Following.{Shows}
 use Rattle.law_following.specs.FollowingLaws.{log_from}
 use Rattle.law_following.proofs.Evolving.{Evolved, Loaded, Longer, Shorter, evolves}
 use Rattle.kr_shared.specs.Standing.{Standing}
-use Rattle.kr_shared.specs.Takes.{Takes}
-use Rattle.kr_shared.specs.Works.{Work, is_lost, staged_after}
+use Rattle.kr_shared.specs.Takes.{TakesEvent}
+use Rattle.kr_shared.specs.Works.{DeskView, is_lost, staged_after}
 use Rattle.kr_shared.proofs.Published.{Publishes, load_publishes, longer_publishes, shorter_publishes}
 
 -- ---- what is staged, by how the log went on

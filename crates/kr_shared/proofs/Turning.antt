@@ -20,69 +20,69 @@ use Rattle.kr_world.specs.Events.{happens}
 use Rattle.kr_world.specs.Outputs.{waiting_after}
 use Rattle.kr_shared.specs.declared.answers.Asking.{Asking}
 use Rattle.kr_shared.specs.declared.worker.Turn.{Turn}
-use Rattle.kr_shared.specs.Serves.{Serves}
-use Rattle.kr_shared.specs.Standing.{IsStanding}
+use Rattle.kr_shared.specs.Serves.{ServesEvent}
+use Rattle.kr_shared.specs.Standing.{StandsForSome}
 use Rattle.kr_shared.specs.Tasks.{decided_on}
 use Rattle.kr_shared.specs.Turns.{Bench, DoesJob, DoesWhole, DoesWrite, LosesLed, LosesUnless, Notes, Outside, Turned, Works, turn_of}
-use Rattle.kr_shared.specs.Works.{Work}
+use Rattle.kr_shared.specs.Works.{DeskView}
 
-same_stands : (old new : Work) → new ≡ old → IsStanding old → IsStanding new
-same_stands old new is k = subst IsStanding (sym is) k
+same_stands : (old new : DeskView) → new ≡ old → StandsForSome old → StandsForSome new
+same_stands old new is k = subst StandsForSome (sym is) k
 
-notes_stand : (old new : Work) (e : Entry) → Notes old new e → IsStanding old → IsStanding new
+notes_stand : (old new : DeskView) (e : Entry) → Notes old new e → StandsForSome old → StandsForSome new
 notes_stand old new e n k = record { state = k.state; writes = k.writes; stands = n.stands k.state k.writes k.stands }
 
-module _ (pieces pieces' : Option (List (List ℕ))) (faults faults' : ℕ) (old new : Work) where
-  pub served_stands : (event : Event) (asking : Option Asking) (appended : Bool) (refusal : Option Reason) → Serves pieces pieces' faults faults' old new event asking appended refusal → IsStanding old → IsStanding new
+module _ (pieces pieces' : Option (List (List ℕ))) (faults faults' : ℕ) (old new : DeskView) where
+  pub served_stands : (event : Event) (asking : Option Asking) (appended : Bool) (refusal : Option Reason) → ServesEvent pieces pieces' faults faults' old new event asking appended refusal → StandsForSome old → StandsForSome new
   served_stands event asking appended refusal x k = record {
     state = happens old.engine.options k.state event;
     writes = waiting_after old.engine.options k.state k.writes event;
     stands = x.stands k.state k.writes k.stands;
   }
 
-  led_stands : (leading : Option ℤ) → LosesLed pieces pieces' faults faults' old new leading → IsStanding old → IsStanding new
+  led_stands : (leading : Option ℤ) → LosesLed pieces pieces' faults faults' old new leading → StandsForSome old → StandsForSome new
   led_stands None x k = same_stands old new x.0 k
   led_stands (Some epoch) x k = served_stands _ _ x.appended x.refusal x.serves k
 
-  pub lost_stands : (appended : Bool) → LosesUnless appended pieces pieces' faults faults' old new → IsStanding old → IsStanding new
+  pub lost_stands : (appended : Bool) → LosesUnless appended pieces pieces' faults faults' old new → StandsForSome old → StandsForSome new
   lost_stands true x k = same_stands old new x.0 k
   lost_stands false x k = led_stands old.engine.leading x k
 
-pub whole_stands : (pieces pieces' : Option (List (List ℕ))) (faults faults' : ℕ) (old new : Work) (event : Event) (asking : Option Asking) (refusal : Option Reason) → DoesWhole pieces pieces' faults faults' old new event asking refusal → IsStanding old → IsStanding new
+pub whole_stands : (pieces pieces' : Option (List (List ℕ))) (faults faults' : ℕ) (old new : DeskView) (event : Event) (asking : Option Asking) (refusal : Option Reason) → DoesWhole pieces pieces' faults faults' old new event asking refusal → StandsForSome old → StandsForSome new
 whole_stands pieces pieces' faults faults' old new event asking refusal x k =
     lost_stands x.pieces_then pieces' x.faults_then faults' x.between new x.appended x.loses
     (served_stands pieces x.pieces_then faults x.faults_then old x.between event asking x.appended refusal x.serves k)
 
-write_stands : (ahead : Bool) (o : Outside) (old new : Work) (seat ticket : ℕ) (floor : ℤ) (call : Call) → DoesWrite ahead o old new seat ticket floor call → IsStanding old → IsStanding new
+write_stands : (ahead : Bool) (o : Outside) (old new : DeskView) (seat ticket : ℕ) (floor : ℤ) (call : Call) → DoesWrite ahead o old new seat ticket floor call → StandsForSome old → StandsForSome new
 write_stands true o old new seat ticket floor call x k = notes_stand old new _ x.1 k
 write_stands false o old new seat ticket floor call x k = whole_stands o.pieces o.pieces' o.faults o.faults' old new _ _ x.1.0 x.1.1 k
 
-pub job_stands : (o : Outside) (old new : Work) (job : Job) (refusal : Option Reason) → DoesJob o old new job refusal → IsStanding old → IsStanding new
+pub job_stands : (o : Outside) (old new : DeskView) (job : Job) (refusal : Option Reason) → DoesJob o old new job refusal → StandsForSome old → StandsForSome new
 job_stands o old new (jobs.Link event) refusal x k = whole_stands o.pieces o.pieces' o.faults o.faults' old new event None refusal x k
-job_stands o old new (jobs.Stop number) refusal x k = notes_stand old new _ x.1.1 k
+job_stands o old new (jobs.Stop number) refusal x k = notes_stand old new _ x.2 k
 job_stands o old new (jobs.Write seat ticket floor call) refusal x k = write_stands (int_lt old.engine.tip floor) o old new seat ticket floor call x.1 k
 
 -- what the worker pops is fit
 pub popped_fit : (v w : View) (job : Job) → IsPop v job w → IsTrue (is_fit job)
-popped_fit v w job x = (both (is_of (role_at x.1.0.0) job) (is_fit job) x.1.0.1.1).1
+popped_fit v w job x = (both (is_of (role_at x.1.0) job) (is_fit job) x.1.2).1
 
 -- ---- what serving and losing come to
 
-pub both_done : (pieces pieces_then pieces' : Option (List (List ℕ))) (faults faults_then faults' : ℕ) (old between new : Work) (event : Event) (asking : Option Asking) (appended : Bool) (refusal : Option Reason)
-    → Serves pieces pieces_then faults faults_then old between event asking appended refusal → LosesUnless appended pieces_then pieces' faults_then faults' between new → DoesWhole pieces pieces' faults faults' old new event asking refusal
+pub both_done : (pieces pieces_then pieces' : Option (List (List ℕ))) (faults faults_then faults' : ℕ) (old between new : DeskView) (event : Event) (asking : Option Asking) (appended : Bool) (refusal : Option Reason)
+    → ServesEvent pieces pieces_then faults faults_then old between event asking appended refusal → LosesUnless appended pieces_then pieces' faults_then faults' between new → DoesWhole pieces pieces' faults faults' old new event asking refusal
 both_done pieces pieces_then pieces' faults faults_then faults' old between new event asking appended refusal serves loses =
     record { between = between; pieces_then = pieces_then; faults_then = faults_then; appended = appended; serves = serves; loses = loses }
 
-pub loses_so : (pieces pieces' : Option (List (List ℕ))) (faults faults' : ℕ) (old new : Work) (leading : Option ℤ) (epoch : ℤ) (appended : Bool) (refusal : Option Reason)
-    → leading ≡ Some epoch → Serves pieces pieces' faults faults' old new (events.Lost epoch) None appended refusal → LosesLed pieces pieces' faults faults' old new leading
+pub loses_so : (pieces pieces' : Option (List (List ℕ))) (faults faults' : ℕ) (old new : DeskView) (leading : Option ℤ) (epoch : ℤ) (appended : Bool) (refusal : Option Reason)
+    → leading ≡ Some epoch → ServesEvent pieces pieces' faults faults' old new (events.Lost epoch) None appended refusal → LosesLed pieces pieces' faults faults' old new leading
 loses_so pieces pieces' faults faults' old new leading epoch appended refusal is serves =
     subst (LosesLed pieces pieces' faults faults' old new) (sym is) (record { appended = appended; refusal = refusal; serves = serves })
 
-pub loses_none : (pieces : Option (List (List ℕ))) (faults : ℕ) (old : Work) (leading : Option ℤ) → leading ≡ None → LosesLed pieces pieces faults faults old old leading
+pub loses_none : (pieces : Option (List (List ℕ))) (faults : ℕ) (old : DeskView) (leading : Option ℤ) → leading ≡ None → LosesLed pieces pieces faults faults old old leading
 loses_none pieces faults old leading is = subst (LosesLed pieces pieces faults faults old old) (sym is) (refl, refl, refl)
 
 -- what a client asks for is done at the time that the clock said
-pub write_done : (o : Outside) (old new : Work) (seat ticket : ℕ) (floor now : ℤ) (call : Call) (at : Decided) (refusal : Option Reason)
+pub write_done : (o : Outside) (old new : DeskView) (seat ticket : ℕ) (floor now : ℤ) (call : Call) (at : Decided) (refusal : Option Reason)
     → o.last ≡ now → at ≡ decided_on old.engine now → Rose o.asks o.asks' → int_lt old.engine.tip floor ≡ false
     → DoesWhole o.pieces o.pieces' o.faults o.faults' old new (events.Request seat now (asks.Call call)) (Some (record { seat = seat; ticket = ticket; floor = floor; at = at })) refusal
     → DoesWrite (int_lt old.engine.tip floor) o old new seat ticket floor call

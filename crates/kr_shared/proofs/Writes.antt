@@ -36,11 +36,11 @@ use Rattle.law_following.specs.Following.{AreNotes}
 use Rattle.law_following.proofs.Evolving.{request_longer}
 use Rattle.kr_shared.specs.declared.answers.Asking.{Asking}
 use Rattle.kr_shared.specs.declared.asked.Asked.{Asked}
-use Rattle.kr_shared.specs.Answers.{Answering, AreReplied, answer_all, answer_of, answer_write, answered_of, answering, asked_by, exhausted as exhausted_entry, first_reply, lost_at_once, refusal_in, with_told}
+use Rattle.kr_shared.specs.Answers.{Answering, AreReplied, answer_all, decided_answer, answer_write, answered_of, answering, asked_by, exhausted_answer, first_reply, lost_at_once, refusal_in, with_told}
 use Rattle.kr_shared.specs.Standing.{AreWaiting, Standing}
-use Rattle.kr_shared.specs.Takes.{Takes}
+use Rattle.kr_shared.specs.Takes.{TakesEvent}
 use Rattle.kr_shared.specs.Tasks.{IsWrite}
-use Rattle.kr_shared.specs.Works.{Work}
+use Rattle.kr_shared.specs.Works.{DeskView}
 use Rattle.law_following.proofs.Lists.{has_first}
 use Rattle.kr_shared.proofs.Replied.{AreSilent, appends_silent, both_silent, silent_replied}
 use Rattle.kr_shared.proofs.Served.{Answers, answered_longer, none_waits, shown, waits_longer, waits_on}
@@ -54,8 +54,8 @@ led_none : (leading : Option ℤ) → is_some leading ≡ false → leading ≡ 
 led_none None is = refl
 led_none (Some epoch) is = absurd cc
 
-module _ (old : Work) (between : Core) (client : ℕ) (now : ℤ) (call : Call) (a : Asking) (told : List Told) (s : State) (writes : List Write) (k : Standing old s writes)
-    (t : Takes old.engine between (events.Request client now (asks.Call call)) told) (task : IsWrite old.engine a client now call) where
+module _ (old : DeskView) (between : Core) (client : ℕ) (now : ℤ) (call : Call) (a : Asking) (told : List Told) (s : State) (writes : List Write) (k : Standing old s writes)
+    (t : TakesEvent old.engine between (events.Request client now (asks.Call call)) told) (task : IsWrite old.engine a client now call) where
   abbrev event : Event
   event = events.Request client now (asks.Call call)
 
@@ -115,7 +115,7 @@ module _ (old : Work) (between : Core) (client : ℕ) (now : ℤ) (call : Call) 
           waits = subst (λ (r : Answering). AreWaiting o next.world.log r.waiting (Rattle.kr_world.specs.Outputs.waiting_after o s writes event)) same e;
           bare = tt;
           right = (tt, tt);
-          replied = subst (AreReplied (exhausted_entry a ∷ [])) (sym (outputs_refused old.engine o s writes event reason is)) (tt, tt);
+          replied = subst (AreReplied (exhausted_answer a ∷ [])) (sym (outputs_refused old.engine o s writes event reason is)) (tt, tt);
         })
 
   -- ---- it is taken
@@ -223,16 +223,16 @@ module _ (old : Work) (between : Core) (client : ℕ) (now : ℤ) (call : Call) 
           ∙ ap (λ b. answers_in after.world (cond b (write_of o s1 client call ∷ []) [])) no
 
       abbrev note : List Entry
-      note = entries.Answer (answer_of (asked_by a call) kinds.Lost a.at reply) ∷ []
+      note = entries.Answer (decided_answer (asked_by a call) kinds.Lost a.at reply) ∷ []
 
       told_so : AreReplied note (map (given.Reply client call.correlation) (replies_now o s1 call.request) ++ at_last)
       told_so =
           subst (λ (rs : List Reply). AreReplied note (map (given.Reply client call.correlation) rs ++ at_last)) (sym replies)
           (subst (λ (os : List Output). AreReplied note (given.Reply client call.correlation reply ∷ os)) (sym none_left) (
             record {
-              answer = answer_of (asked_by a call) kinds.Lost a.at reply;
+              answer = decided_answer (asked_by a call) kinds.Lost a.at reply;
               answered = answered_of (asked_by a call) a.at reply;
-              noted = has_first (entries.Answer (answer_of (asked_by a call) kinds.Lost a.at reply)) [];
+              noted = has_first (entries.Answer (decided_answer (asked_by a call) kinds.Lost a.at reply)) [];
               holds = refl;
               of_client = sym task.0;
               of_call = refl;

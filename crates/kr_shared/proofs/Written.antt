@@ -36,8 +36,8 @@ use Rattle.kr_world.proofs.Logs.{tip_written, written_below}
 use Rattle.law_following.specs.Following.{IsDecided, decision_at}
 use Rattle.kr_shared.specs.declared.answers.Asking.{Asking}
 use Rattle.kr_shared.specs.declared.asked.Asked.{Asked}
-use Rattle.kr_shared.specs.Answers.{Answering, answer_of, answered_of, answering, asked_by, exhausted as exhausted_entry, first_reply, or_reason, or_reply, reason_in, refusal_in, reply_in, with_ended, with_told, with_told_end}
-use Rattle.kr_shared.specs.Standing.{AreWaiting, IsWaiting}
+use Rattle.kr_shared.specs.Answers.{Answering, decided_answer, answered_of, answering, asked_by, exhausted_answer, first_reply, or_reason, or_reply, reason_in, refusal_in, reply_in, with_ended, with_told, with_told_end}
+use Rattle.kr_shared.specs.Standing.{AreWaiting, IsWaitingWrite}
 use Rattle.kr_shared.proofs.Answered.{pos_sum}
 
 abbrev items_record : Rattle.kr_defs.specs.declared.record.Record.Record → Item
@@ -149,7 +149,7 @@ module _ (o : Options) (s1 : State) (client : ℕ) (call : Call) (a : Asking) (l
       reply = ap (λ (x : Decision). x.reply) (sym same);
     }
 
-    pub waiting_write : client ≡ a.seat → tip_of (after_ask o s1 (asks.Call call)) ≡ tip longer → IsTrue (not (int_lt (pos (tip_of s1)) a.floor)) → IsWaiting o longer asked w
+    pub waiting_write : client ≡ a.seat → tip_of (after_ask o s1 (asks.Call call)) ≡ tip longer → IsTrue (not (int_lt (pos (tip_of s1)) a.floor)) → IsWaitingWrite o longer asked w
     waiting_write seat after floor = record {
       client = seat;
       correlation = refl;
@@ -160,7 +160,7 @@ module _ (o : Options) (s1 : State) (client : ℕ) (call : Call) (a : Asking) (l
     }
 
 -- one more waits
-pub waits_more : (o : Options) (log : Log) (ones : List Asked) (ws : List Write) (a : Asked) (w : Write) → AreWaiting o log ones ws → IsWaiting o log a w → AreWaiting o log (ones ++ a ∷ []) (ws ++ w ∷ [])
+pub waits_more : (o : Options) (log : Log) (ones : List Asked) (ws : List Write) (a : Asked) (w : Write) → AreWaiting o log ones ws → IsWaitingWrite o log a w → AreWaiting o log (ones ++ a ∷ []) (ws ++ w ∷ [])
 waits_more o log [] [] a w h i = (i, tt)
 waits_more o log [] (v ∷ ws) a w h i = absurd h
 waits_more o log (b ∷ ones) [] a w h i = absurd h

@@ -21,8 +21,8 @@ use Rattle.kr_shared.specs.declared.asked.Asked.{Asked}
 abbrev pub answered_of : Asked → Decided → Reply → Answered
 answered_of a d reply = record { seat = a.seat; call = a.call; ticket = a.ticket; floor = a.floor; place = d.place; count = d.count; basis = d.basis; reply = reply }
 
-abbrev pub answer_of : Asked → AnswerKind → Decided → Reply → Answer
-answer_of a kind d reply = record { seat = a.seat; ticket = a.ticket; place = d.place; kind = kind; answered = Some (answered_of a d reply) }
+abbrev pub decided_answer : Asked → AnswerKind → Decided → Reply → Answer
+decided_answer a kind d reply = record { seat = a.seat; ticket = a.ticket; place = d.place; kind = kind; answered = Some (answered_of a d reply) }
 
 -- an answer without a decision, at the place
 abbrev pub bare_answer : ℕ → ℕ → ℤ → AnswerKind → Answer
@@ -39,7 +39,7 @@ answering waiting notes = record { waiting = waiting; notes = notes }
 -- the reply is to what waited longest
 abbrev pub with_reply : List Asked → List Entry → Ended → Reply → Answering
 with_reply [] notes ended reply = answering [] notes
-with_reply (a ∷ waiting) notes ended reply = answering waiting (notes ++ entries.Answer (answer_of a ended.kind ended.decided reply) ∷ [])
+with_reply (a ∷ waiting) notes ended reply = answering waiting (notes ++ entries.Answer (decided_answer a ended.kind ended.decided reply) ∷ [])
 
 abbrev pub with_ended : Answering → Output → Ended → Answering
 with_ended s (given.Append bytes) ended = s
@@ -115,14 +115,14 @@ first_reply told = fold or_reply None told
 
 -- a write on standby is lost at once
 abbrev pub lost_at_once : Asked → Decided → Option Reply → List Entry
-lost_at_once a at (Some reply) = entries.Answer (answer_of a kinds.Lost at reply) ∷ []
+lost_at_once a at (Some reply) = entries.Answer (decided_answer a kinds.Lost at reply) ∷ []
 lost_at_once a at None = []
 
-abbrev pub exhausted : Asking → Entry
-exhausted a = entries.Answer (bare_answer a.seat a.ticket a.at.place kinds.Exhausted)
+abbrev pub exhausted_answer : Asking → Entry
+exhausted_answer a = entries.Answer (bare_answer a.seat a.ticket a.at.place kinds.Exhausted)
 
 -- a refused write is answered so; one that a leader takes waits behind those that wait
 abbrev pub answer_write : Asking → Call → Bool → Option Reason → List Asked → List Told → Answering
-answer_write a call led (Some reason) waiting told = answering waiting (exhausted a ∷ [])
+answer_write a call led (Some reason) waiting told = answering waiting (exhausted_answer a ∷ [])
 answer_write a call true None waiting told = answer_all (answering (waiting ++ asked_by a call ∷ []) []) told
 answer_write a call false None waiting told = answering waiting (lost_at_once (asked_by a call) a.at (first_reply told))

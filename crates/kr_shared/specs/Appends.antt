@@ -13,20 +13,20 @@ batch_in (given.Reply client correlation reply) = None
 batch_in (given.Refused event reason) = None
 batch_in (given.Image bytes) = None
 
-abbrev pub batch_of : Told → Option (List ℕ)
-batch_of told = batch_in told.output
+abbrev pub batch_told : Told → Option (List ℕ)
+batch_told told = batch_in told.output
 
 abbrev pub with_some : Option (List (List ℕ)) → Option (List ℕ) → Option (List (List ℕ))
 with_some pieces (Some batch) = with_piece pieces batch
 with_some pieces None = pieces
 
 -- the quorum's pieces, where it tells them, with the output's batch
-abbrev pub with_batch : Option (List (List ℕ)) → Told → Option (List (List ℕ))
-with_batch pieces told = with_some pieces (batch_of told)
+abbrev pub with_told_batch : Option (List (List ℕ)) → Told → Option (List (List ℕ))
+with_told_batch pieces told = with_some pieces (batch_told told)
 
 -- it got the batches of these outputs, in order
 abbrev pub with_batches : Option (List (List ℕ)) → List Told → Option (List (List ℕ))
-with_batches pieces told = fold with_batch pieces told
+with_batches pieces told = fold with_told_batch pieces told
 
 -- up to the first that failed
 pub record FailsAt (old new : Option (List (List ℕ))) (faults faults' : ℕ) (told : List Told) : Type 0 where
@@ -34,7 +34,7 @@ pub record FailsAt (old new : Option (List (List ℕ))) (faults faults' : ℕ) (
   pub failed : Told
   pub behind : List Told
   pub in_order : told ≡ before ++ failed ∷ behind
-  pub batch : IsSome (batch_of failed)
+  pub batch : IsSome (batch_told failed)
   pub pieces : new ≡ with_batches old before
   pub cause : Rose faults faults'
 
@@ -44,5 +44,5 @@ Appends old new faults faults' told true = (new ≡ with_batches old told) × (f
 Appends old new faults faults' told false = FailsAt old new faults faults' told
 
 abbrev pub AppendsOne : Option (List (List ℕ)) → Option (List (List ℕ)) → ℕ → ℕ → Told → Bool → Type 0
-AppendsOne old new faults faults' told true = (new ≡ with_batch old told) × (faults ≤ faults')
-AppendsOne old new faults faults' told false = IsSome (batch_of told) × (new ≡ old) × Rose faults faults' × (faults ≤ faults')
+AppendsOne old new faults faults' told true = (new ≡ with_told_batch old told) × (faults ≤ faults')
+AppendsOne old new faults faults' told false = IsSome (batch_told told) × (new ≡ old) × Rose faults faults' × (faults ≤ faults')

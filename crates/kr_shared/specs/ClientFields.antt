@@ -10,5 +10,5 @@ abbrev pub client_of : Inside → Client
 client_of s = record { number = s.reader.number; seen = s.reader.seen; misses = s.reader.misses; ticket = s.ticket; pushed = (view s.pass).pushed }
 
 -- its pass is that of its number
-abbrev pub IsClient : Inside → Type 0
-IsClient s = IsPassOf (arc_value s.queue) s.pass × ((view s.pass).role ≡ roles.Client s.reader.number)
+abbrev pub IsClientSeat : Inside → Type 0
+IsClientSeat s = IsPassOf (arc_value s.queue) s.pass × ((view s.pass).role ≡ roles.Client s.reader.number)

@@ -21,8 +21,8 @@ pub record Client : Type 0 where
   pub pushed : List Job
 
 -- the write of a call, which names the end of all that the seat has seen
-abbrev pub write_of : Client → ℕ → Call → Job
-write_of s ticket call = jobs.Write s.number ticket (end_of s.seen.list) call
+abbrev pub job_of_call : Client → ℕ → Call → Job
+job_of_call s ticket call = jobs.Write s.number ticket (end_of s.seen.list) call
 
 -- no copy only where the count rose, and then nothing else changed
 abbrev pub IsReadCause : Client → Client → CopyFault → Type 0
@@ -37,5 +37,5 @@ abbrev pub a_client : Options → ℕ → Client
 a_client options number = record { number = number; seen = seen true options []; misses = 0; ticket = 0; pushed = [] }
 
 -- seat 1, seat 2 and so on
-abbrev pub AreClients : Options → List Client → Type 0
-AreClients options seats = (k : ℕ) (s : Client) → slice_get seats k ≡ Some s → s ≡ a_client options (k + 1)
+abbrev pub AreClientSeats : Options → List Client → Type 0
+AreClientSeats options seats = (k : ℕ) (s : Client) → slice_get seats k ≡ Some s → s ≡ a_client options (k + 1)

@@ -8,14 +8,14 @@ use Rattle.kr_queue.specs.QueueRule.{a_pass}
 use Rattle.kr_view.specs.declared.opening.ViewFault.{ViewFault}
 use Rattle.kr_view.specs.declared.opening.ViewFault.TheVariants.{NoPlace, NoMemory}
 use Rattle.kr_world.specs.World.{start}
-use Rattle.kr_shared.specs.Clients.{AreClients, Client}
+use Rattle.kr_shared.specs.Clients.{AreClientSeats, Client}
 use Rattle.kr_shared.specs.Standing.{Standing}
 use Rattle.kr_shared.specs.Turns.{Bench}
 use Rattle.kr_shared.specs.Works.{resting}
 
 -- the worker stands for the state before all events and shows an empty list; the link pushed nothing, and the clients asked
 -- nothing
-pub record IsOpened (options : Options) (seats : ℕ) (worker : Bench) (link : List Job) (clients : List Client) : Type 0 where
+pub record AreSeated (options : Options) (seats : ℕ) (worker : Bench) (link : List Job) (clients : List Client) : Type 0 where
   pub knows : worker.knows ≡ a_pass roles.Worker (seats + 2)
   pub stands : Standing worker.work start []
   pub shelf : worker.work.shelf ≡ resting options [] []
@@ -24,7 +24,7 @@ pub record IsOpened (options : Options) (seats : ℕ) (worker : Bench) (link : L
   pub broken : worker.broken ≡ false
   pub nothing : link ≡ []
   pub many : length clients ≡ seats
-  pub seated : AreClients options clients
+  pub seated : AreClientSeats options clients
 
 -- no place only where the count of refused places rose; of want of memory nothing is said
 abbrev pub IsOpenCause : ℕ → ℕ → ViewFault → Type 0

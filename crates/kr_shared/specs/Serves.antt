@@ -14,15 +14,15 @@ use Rattle.kr_shared.specs.declared.answers.Asking.{Asking}
 use Rattle.kr_shared.specs.Answers.{Answering, AreReplied, refusal_in}
 use Rattle.kr_shared.specs.Appends.{Appends}
 use Rattle.kr_shared.specs.Standing.{Standing}
-use Rattle.kr_shared.specs.Takes.{Takes}
-use Rattle.kr_shared.specs.Works.{Work, answers_of, is_lost, resting, staged_after}
+use Rattle.kr_shared.specs.Takes.{TakesEvent}
+use Rattle.kr_shared.specs.Works.{DeskView, answers_of, is_lost, resting, staged_after}
 
 -- The engine takes the event; what it gives is appended, as far as that went; what it added up to its committed end is
 -- published, with the answers behind it, and the rest is staged.
-pub record Serves (pieces pieces' : Option (List (List ℕ))) (faults faults' : ℕ) (old new : Work) (event : Event) (asking : Option Asking) (appended : Bool) (refusal : Option Reason) : Type 0 where
+pub record ServesEvent (pieces pieces' : Option (List (List ℕ))) (faults faults' : ℕ) (old new : DeskView) (event : Event) (asking : Option Asking) (appended : Bool) (refusal : Option Reason) : Type 0 where
   pub between : Core
   pub told : List Told
-  pub takes : Takes old.engine between event told
+  pub takes : TakesEvent old.engine between event told
   pub appends : Appends pieces pieces' faults faults' told appended
   pub refused : refusal ≡ refusal_in told
   pub engine : new.engine ≡ record between { fresh = [] }

@@ -12,10 +12,10 @@ use Rattle.kr_world.specs.World.{State}
 use Rattle.law_following.specs.Following.{IsDecided, Shows}
 use Rattle.kr_shared.specs.declared.asked.Asked.{Asked}
 use Rattle.kr_shared.specs.Answers.{answered_of}
-use Rattle.kr_shared.specs.Works.{Work, resting}
+use Rattle.kr_shared.specs.Works.{DeskView, resting}
 
 -- what a client asked is the write that waits: it was decided on the log, not below the client's floor
-pub record IsWaiting (options : Options) (log : Log) (a : Asked) (w : Write) : Type 0 where
+pub record IsWaitingWrite (options : Options) (log : Log) (a : Asked) (w : Write) : Type 0 where
   pub client : w.client ≡ a.seat
   pub correlation : w.correlation ≡ a.call.correlation
   pub floor : IsTrue (not (int_lt w.decided.place a.floor))
@@ -27,11 +27,11 @@ abbrev pub AreWaiting : Options → Log → List Asked → List Write → Type 0
 AreWaiting options log [] [] = Unit {0}
 AreWaiting options log [] (w ∷ ws) = ⊥
 AreWaiting options log (a ∷ ones) [] = ⊥
-AreWaiting options log (a ∷ ones) (w ∷ ws) = IsWaiting options log a w × AreWaiting options log ones ws
+AreWaiting options log (a ∷ ones) (w ∷ ws) = IsWaitingWrite options log a w × AreWaiting options log ones ws
 
 -- The engine stands for the state and all its outputs are handed out; the published list shows the log up to the committed
 -- end, what is staged is the rest of the log, and the clients that wait are those of the writes that wait.
-pub record Standing (w : Work) (s : State) (writes : List Write) : Type 0 where
+pub record Standing (w : DeskView) (s : State) (writes : List Write) : Type 0 where
   pub engine : IsEngine w.engine s writes
   pub none : outputs_left w.engine ≡ []
   pub options : w.engine.options ≡ w.shelf.options
@@ -40,7 +40,7 @@ pub record Standing (w : Work) (s : State) (writes : List Write) : Type 0 where
   pub waits : AreWaiting w.engine.options s.world.log w.waiting writes
 
 -- it stands for some
-pub record IsStanding (w : Work) : Type 0 where
+pub record StandsForSome (w : DeskView) : Type 0 where
   pub state : State
   pub writes : List Write
   pub stands : Standing w state writes

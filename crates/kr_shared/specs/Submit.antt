@@ -14,7 +14,7 @@ use Rattle.kr_view.specs.declared.rule.ThreadView.{ThreadView}
 use Rattle.kr_view.specs.Looks.{HasRight}
 use Rattle.kr_shared.specs.declared.clients.SubmitFault.{SubmitFault}
 use Rattle.kr_shared.specs.declared.clients.SubmitFault.TheVariants as faults
-use Rattle.kr_shared.specs.Clients.{Client, write_of}
+use Rattle.kr_shared.specs.Clients.{Client, job_of_call}
 
 -- the list holds a right answer to the seat's ticket
 pub record HasAnswer (seen : ThreadView) (seat ticket : ℕ) (answer : Answer) : Type 0 where
@@ -48,7 +48,7 @@ IsSubmitCause seen seat ticket floor faults.NoMemory = Unit {0}
 
 -- the seat pushed the write
 abbrev pub Pushed : Client → Client → Call → Type 0
-Pushed old new call = new.pushed ≡ old.pushed ++ write_of old new.ticket call ∷ []
+Pushed old new call = new.pushed ≡ old.pushed ++ job_of_call old new.ticket call ∷ []
 
 abbrev pub PushedAtFault : Client → Client → Call → SubmitFault → Type 0
 PushedAtFault old new call (faults.Ended number) = (new.pushed ≡ old.pushed) ⊎ Pushed old new call

@@ -16,7 +16,7 @@ pub record IsEmptied (before after : Core) (told : List Told) : Type 0 where
   pub stands : (s : State) (writes : List Write) → IsEngine before s writes → IsEngine after s writes
 
 -- the core's step on the event, and what it gives
-pub record Takes (before after : Core) (event : Event) (told : List Told) : Type 0 where
+pub record TakesEvent (before after : Core) (event : Event) (told : List Told) : Type 0 where
   pub between : Core
   pub step : IsStep before between event
   pub emptied : IsEmptied between after told

@@ -19,10 +19,10 @@ use Rattle.kr_shared.specs.declared.answers.Asking.{Asking}
 use Rattle.kr_shared.specs.declared.worker.Turn.{Turn}
 use Rattle.kr_shared.specs.declared.worker.Turn.TheVariants as turns
 use Rattle.kr_shared.specs.Answers.{bare_answer}
-use Rattle.kr_shared.specs.Serves.{Serves}
+use Rattle.kr_shared.specs.Serves.{ServesEvent}
 use Rattle.kr_shared.specs.Standing.{Standing}
 use Rattle.kr_shared.specs.Tasks.{asking_of}
-use Rattle.kr_shared.specs.Works.{Onwards, Work}
+use Rattle.kr_shared.specs.Works.{Onwards, DeskView}
 
 -- what a turn finds and leaves outside: the quorum's pieces, where it tells them, and how many appends failed; how often the
 -- clock was asked, and what it said last
@@ -41,44 +41,44 @@ IsQuiet o = (o.pieces' ≡ o.pieces) × (o.faults' ≡ o.faults)
 
 -- ---- an event, and the loss of the leadership where an append failed
 
-pub record Loses (pieces pieces' : Option (List (List ℕ))) (faults faults' : ℕ) (old new : Work) (epoch : ℤ) : Type 0 where
+pub record Loses (pieces pieces' : Option (List (List ℕ))) (faults faults' : ℕ) (old new : DeskView) (epoch : ℤ) : Type 0 where
   pub appended : Bool
   pub refusal : Option Reason
-  pub serves : Serves pieces pieces' faults faults' old new (events.Lost epoch) None appended refusal
+  pub serves : ServesEvent pieces pieces' faults faults' old new (events.Lost epoch) None appended refusal
 
-abbrev pub LosesLed : Option (List (List ℕ)) → Option (List (List ℕ)) → ℕ → ℕ → Work → Work → Option ℤ → Type 0
+abbrev pub LosesLed : Option (List (List ℕ)) → Option (List (List ℕ)) → ℕ → ℕ → DeskView → DeskView → Option ℤ → Type 0
 LosesLed pieces pieces' faults faults' old new None = (new ≡ old) × (pieces' ≡ pieces) × (faults' ≡ faults)
 LosesLed pieces pieces' faults faults' old new (Some epoch) = Loses pieces pieces' faults faults' old new epoch
 
 -- where an append failed, the led leadership is lost
-abbrev pub LosesUnless : Bool → Option (List (List ℕ)) → Option (List (List ℕ)) → ℕ → ℕ → Work → Work → Type 0
+abbrev pub LosesUnless : Bool → Option (List (List ℕ)) → Option (List (List ℕ)) → ℕ → ℕ → DeskView → DeskView → Type 0
 LosesUnless true pieces pieces' faults faults' old new = (new ≡ old) × (pieces' ≡ pieces) × (faults' ≡ faults)
 LosesUnless false pieces pieces' faults faults' old new = LosesLed pieces pieces' faults faults' old new old.engine.leading
 
-pub record DoesWhole (pieces pieces' : Option (List (List ℕ))) (faults faults' : ℕ) (old new : Work) (event : Event) (asking : Option Asking) (refusal : Option Reason) : Type 0 where
-  pub between : Work
+pub record DoesWhole (pieces pieces' : Option (List (List ℕ))) (faults faults' : ℕ) (old new : DeskView) (event : Event) (asking : Option Asking) (refusal : Option Reason) : Type 0 where
+  pub between : DeskView
   pub pieces_then : Option (List (List ℕ))
   pub faults_then : ℕ
   pub appended : Bool
-  pub serves : Serves pieces pieces_then faults faults_then old between event asking appended refusal
+  pub serves : ServesEvent pieces pieces_then faults faults_then old between event asking appended refusal
   pub loses : LosesUnless appended pieces_then pieces' faults_then faults' between new
 
 -- ---- jobs
 
 -- the entry is published at once
-pub record Notes (old new : Work) (e : Entry) : Type 0 where
+pub record Notes (old new : DeskView) (e : Entry) : Type 0 where
   pub is : new ≡ record old { shelf = record old.shelf { list = old.shelf.list ++ e ∷ [] } }
   pub stands : (s : State) (writes : List Write) → Standing old s writes → Standing new s writes
 
 -- a write of a client that has seen more than the log is answered so; else it is a request, at the time that the clock says
-abbrev pub DoesWrite : Bool → Outside → Work → Work → ℕ → ℕ → ℤ → Call → Type 0
+abbrev pub DoesWrite : Bool → Outside → DeskView → DeskView → ℕ → ℕ → ℤ → Call → Type 0
 DoesWrite true o old new seat ticket floor call = IsQuiet o × Notes old new (entries.Answer (bare_answer seat ticket old.engine.tip kinds.Ahead))
 DoesWrite false o old new seat ticket floor call =
     Rose o.asks o.asks'
     × ((refusal : Option Reason)
     × DoesWhole o.pieces o.pieces' o.faults o.faults' old new (events.Request seat o.last (asks.Call call)) (Some (asking_of old.engine seat ticket floor o.last)) refusal)
 
-abbrev pub DoesJob : Outside → Work → Work → Job → Option Reason → Type 0
+abbrev pub DoesJob : Outside → DeskView → DeskView → Job → Option Reason → Type 0
 DoesJob o old new (jobs.Link event) refusal = DoesWhole o.pieces o.pieces' o.faults o.faults' old new event None refusal
 DoesJob o old new (jobs.Stop number) refusal = (refusal ≡ None) × IsQuiet o × Notes old new (entries.Stop number)
 DoesJob o old new (jobs.Write seat ticket floor call) refusal = (refusal ≡ None) × DoesWrite (int_lt old.engine.tip floor) o old new seat ticket floor call
@@ -89,7 +89,7 @@ DoesJob o old new (jobs.Write seat ticket floor call) refusal = (refusal ≡ Non
 -- whether it found no memory
 pub record Bench : Type 0 where
   pub knows : View
-  pub work : Work
+  pub work : DeskView
   pub refusal : Option Reason
   pub stopped : Bool
   pub broken : Bool

@@ -17,7 +17,7 @@ use Rattle.kr_shared.specs.declared.asked.Asked.{Asked}
 use Rattle.kr_shared.specs.Answers.{Answering, answer_all, answer_write, answering, refusal_in}
 
 -- what is published and staged, the engine, and what waits for its answer
-pub record Work : Type 0 where
+pub record DeskView : Type 0 where
   pub shelf : Shelf
   pub engine : Core
   pub waiting : List Asked
@@ -59,7 +59,7 @@ IsBareNote (entries.Answer answer) = answer.answered ≡ None
 IsBareNote (entries.Stop number) = Unit {0}
 
 -- the published list stays, or goes on, under the same options
-pub record Keeps (old new : Shelf) : Type 0 where
+pub record KeepsShown (old new : Shelf) : Type 0 where
   pub options : new.options ≡ old.options
   pub list : new.list ≡ old.list
 

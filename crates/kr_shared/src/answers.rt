@@ -4,7 +4,7 @@ ghost use Rattle.std.specs.Prelude.{◌≡◌, ◌++◌, ◌∷◌, [], IfOk, On
 ghost use Rattle.kr_calls.specs.declared.events.Entry.TheVariants as entries;
 ghost use Rattle.kr_shared.specs.Answers as rules;
 ghost use Rattle.kr_shared.specs.Answers.{answering};
-ghost use Rattle.kr_shared.specs.Works.{Keeps};
+ghost use Rattle.kr_shared.specs.Works.{KeepsShown};
 
 use crate::asked::Asked;
 use kr_base::{NoMemory, Shared};
@@ -15,14 +15,14 @@ use std::alloc::Global;
 use std::collections::VecDeque;
 
 // The answer to what was asked, with its reply.
-fn answer_of(
+fn decided_answer(
     alloc: Global,
     asked: Asked,
     kind: AnswerKind,
     decided: Decided,
     reply: Reply,
 ) -> Result<Answer, NoMemory>
-    ensures { IfOk result (λ answer. answer ≡ rules.answer_of asked kind decided reply) }
+    ensures { IfOk result (λ answer. answer ≡ rules.decided_answer asked kind decided reply) }
 {
     let Asked {
         seat,
@@ -56,8 +56,9 @@ fn answer_of(
 
 // Stages an answer.
 fn stage_answer(publisher: &mut Publisher, answer: Answer) -> Result<(), NoMemory>
-    ensures done { OnOk result (publisher.new ≡ record publisher.old { notes = publisher.old.notes ++ entries.Answer answer ∷ [] }) }
-    ensures keeps { Keeps publisher.old publisher.new }
+    ensures done { OnOk result (publisher.new
+        ≡ record publisher.old { notes = publisher.old.notes ++ entries.Answer answer ∷ [] }) }
+    ensures keeps { KeepsShown publisher.old publisher.new }
 {
     match publisher.stage(Entry::Answer { answer }) {
         Ok(()) => Ok(()),
@@ -86,15 +87,17 @@ fn answer_first(
     ended: Ended,
     reply: Reply,
 ) -> Result<(), NoMemory>
-    ensures answered { OnOk result (answering waiting.new.items publisher.new.notes ≡ rules.with_reply waiting.old.items publisher.old.notes ended reply) }
-    ensures same { OnOk result (publisher.new ≡ record publisher.old { notes = publisher.new.notes }) }
-    ensures keeps { Keeps publisher.old publisher.new }
+    ensures answered { OnOk result (answering waiting.new.items publisher.new.notes
+        ≡ rules.with_reply waiting.old.items publisher.old.notes ended reply) }
+    ensures same { OnOk result (publisher.new
+        ≡ record publisher.old { notes = publisher.new.notes }) }
+    ensures keeps { KeepsShown publisher.old publisher.new }
 {
     let Some(asked) = waiting.pop_front() else {
         return Ok(());
     };
     let Ended { kind, decided } = ended;
-    let answer = answer_of(alloc, asked, kind, decided, reply)?;
+    let answer = decided_answer(alloc, asked, kind, decided, reply)?;
     stage_answer(publisher, answer)
 }
 
@@ -105,9 +108,11 @@ fn answer_told(
     publisher: &mut Publisher,
     told: Told,
 ) -> Result<(), NoMemory>
-    ensures answered { OnOk result (answering waiting.new.items publisher.new.notes ≡ rules.with_told (answering waiting.old.items publisher.old.notes) told) }
-    ensures same { OnOk result (publisher.new ≡ record publisher.old { notes = publisher.new.notes }) }
-    ensures keeps { Keeps publisher.old publisher.new }
+    ensures answered { OnOk result (answering waiting.new.items publisher.new.notes
+        ≡ rules.with_told (answering waiting.old.items publisher.old.notes) told) }
+    ensures same { OnOk result (publisher.new
+        ≡ record publisher.old { notes = publisher.new.notes }) }
+    ensures keeps { KeepsShown publisher.old publisher.new }
 {
     let Told { output, ended } = told;
     let Some(ended) = ended else {
@@ -126,9 +131,11 @@ pub(crate) fn answer_all(
     publisher: &mut Publisher,
     all: Vec<Told>,
 ) -> Result<(), NoMemory>
-    ensures answered { OnOk result (answering waiting.new.items publisher.new.notes ≡ rules.answer_all (answering waiting.old.items publisher.old.notes) all.items) }
-    ensures same { OnOk result (publisher.new ≡ record publisher.old { notes = publisher.new.notes }) }
-    ensures keeps { Keeps publisher.old publisher.new }
+    ensures answered { OnOk result (answering waiting.new.items publisher.new.notes
+        ≡ rules.answer_all (answering waiting.old.items publisher.old.notes) all.items) }
+    ensures same { OnOk result (publisher.new
+        ≡ record publisher.old { notes = publisher.new.notes }) }
+    ensures keeps { KeepsShown publisher.old publisher.new }
 {
     for told in all {
         answer_told(alloc, waiting, publisher, told)?;
@@ -197,12 +204,15 @@ fn answer_at_once(
     at: Decided,
     reply: Option<Reply>,
 ) -> Result<(), NoMemory>
-    ensures done { OnOk result (publisher.new ≡ record publisher.old { notes = publisher.old.notes ++ rules.lost_at_once asked at reply }) }
-    ensures keeps { Keeps publisher.old publisher.new }
+    ensures done { OnOk result (publisher.new
+        ≡ record publisher.old {
+          notes = publisher.old.notes ++ rules.lost_at_once asked at reply;
+        }) }
+    ensures keeps { KeepsShown publisher.old publisher.new }
 {
     match reply {
         Some(reply) => {
-            let answer = answer_of(alloc, asked, AnswerKind::Lost, at, reply)?;
+            let answer = decided_answer(alloc, asked, AnswerKind::Lost, at, reply)?;
             stage_answer(publisher, answer)
         }
         None => Ok(()),
@@ -229,9 +239,12 @@ pub(crate) fn answer_asked(
     told: Vec<Told>,
 ) -> Result<(), NoMemory>
     requires { publisher.old.notes ≡ [] }
-    ensures answered { OnOk result (answering waiting.new.items publisher.new.notes ≡ rules.answer_write asking call led (rules.refusal_in told.items) waiting.old.items told.items) }
-    ensures same { OnOk result (publisher.new ≡ record publisher.old { notes = publisher.new.notes }) }
-    ensures keeps { Keeps publisher.old publisher.new }
+    ensures answered { OnOk result (answering waiting.new.items publisher.new.notes
+        ≡ rules.answer_write asking call led (rules.refusal_in told.items) waiting.old.items
+        told.items) }
+    ensures same { OnOk result (publisher.new
+        ≡ record publisher.old { notes = publisher.new.notes }) }
+    ensures keeps { KeepsShown publisher.old publisher.new }
 {
     let Asking {
         seat,

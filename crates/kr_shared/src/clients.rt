@@ -10,7 +10,7 @@ ghost use Rattle.kr_queue.specs.declared.passes.Role.TheVariants as roles;
 ghost use Rattle.kr_queue.specs.Passes.{view, IsPassOf};
 ghost use Rattle.kr_queue.specs.QueueRule.{a_pass};
 ghost use Rattle.kr_view.specs.Seats.{Onward};
-ghost use Rattle.kr_shared.specs.Clients.{HasReadCause, write_of};
+ghost use Rattle.kr_shared.specs.Clients.{HasReadCause, job_of_call};
 ghost use Rattle.kr_shared.specs.Ends.{Ends, EndsBare};
 ghost use Rattle.kr_shared.specs.Submit.{IsAnswered, IsSubmitCause, Pushed, PushedAtFault};
 
@@ -62,7 +62,7 @@ fn is_to(answered: &Answered, floor: &i64, call: &Call) -> bool
 }
 
 // What an answer says to the call: how it ends, or nothing, where it isn't this call's.
-fn ending(
+fn end_of_call(
     answer: &Answer,
     floor: &i64,
     call: &Call,
@@ -133,13 +133,15 @@ fn wait_for<R: Wait>(
 ) -> Result<Shared<Answered>, SubmitFault>
     ensures same { reader.new.number ≡ reader.old.number }
     ensures onward { Onward reader.old.seen reader.new.seen }
-    ensures ok { IfOk result (λ a. IsAnswered reader.new.seen reader.old.number ticket floor.now call.now a) }
-    ensures err { IfErr result (λ fault. IsSubmitCause reader.new.seen reader.old.number ticket floor.now fault) }
+    ensures ok { IfOk result (λ a. IsAnswered reader.new.seen reader.old.number ticket floor.now
+        call.now a) }
+    ensures err { IfErr result (λ fault. IsSubmitCause reader.new.seen reader.old.number ticket
+        floor.now fault) }
 {
     for _ in rt.forever() {
         let seen = bell.number(rt);
         match reader.look(ticket) {
-            Ok(Look::Found { answer }) => match ending(&answer, floor, call) {
+            Ok(Look::Found { answer }) => match end_of_call(&answer, floor, call) {
                 Some(end) => return end,
                 None => bell.wait_past(rt, seen),
             },
@@ -170,11 +172,11 @@ impl Model for ClientSeat {
 
     ghost Value = { Client };
 
-    ghost use Rattle.kr_shared.specs.ClientFields.{client_of, IsClient};
+    ghost use Rattle.kr_shared.specs.ClientFields.{client_of, IsClientSeat};
 
     ghost view = { client_of };
 
-    ghost invariant = { IsClient };
+    ghost invariant = { IsClientSeat };
 }
 
 // The bells of a worker and its clients: of what was pushed, and of what was published.
@@ -210,7 +212,13 @@ impl ClientSeat {
     ) -> ClientSeat
         requires pass { IsPassOf (arc_value queue) pass }
         requires new { view pass ≡ a_pass (roles.Client reader.number) 0 }
-        ensures { result ≡ record { number = reader.number; seen = reader.seen; misses = reader.misses; ticket = 0; pushed = [] } }
+        ensures { result ≡ record {
+          number = reader.number;
+          seen = reader.seen;
+          misses = reader.misses;
+          ticket = 0;
+          pushed = [];
+        } }
     {
         let Bells { jobs, copies } = bells;
         ClientSeat {
@@ -243,9 +251,13 @@ impl ClientSeat {
     pub fn read(&mut self, call: &Call) -> Result<Reply, CopyFault>
         requires { IsTrue (is_read call.now.request) }
         ensures onward { Onward self.old.seen self.new.seen }
-        ensures reply { IfOk result (λ reply. query self.new.seen.options (image_of self.new.seen.list) call.now.request ≡ Some reply) }
+        ensures reply { IfOk result (λ reply. query self.new.seen.options
+            (image_of self.new.seen.list) call.now.request ≡ Some reply) }
         ensures cause { HasReadCause self.old self.new result }
-        ensures same { self.new ≡ record self.old { seen = self.new.seen; misses = self.new.misses } }
+        ensures same { self.new ≡ record self.old {
+          seen = self.new.seen;
+          misses = self.new.misses;
+        } }
     {
         self.reader.read(call)
     }
@@ -254,8 +266,13 @@ impl ClientSeat {
     fn ask<R: Wait>(&mut self, rt: &R, call: &Call, floor: &i64) -> Result<(), NoMemory>
         requires write { IsTrue (not (is_read call.now.request)) }
         requires floor { floor.now ≡ end_of self.old.seen.list }
-        ensures ok { OnOk result (self.new ≡ record self.old { ticket = raised self.old.ticket; pushed = self.old.pushed ++ write_of self.old (raised self.old.ticket) call.now ∷ [] }) }
-        ensures err { OnErr result (self.new ≡ record self.old { ticket = raised self.old.ticket }) }
+        ensures ok { OnOk result (self.new ≡ record self.old {
+          ticket = raised self.old.ticket;
+          pushed = self.old.pushed ++ job_of_call self.old
+              (raised self.old.ticket) call.now ∷ [];
+        }) }
+        ensures err { OnErr result (self.new
+            ≡ record self.old { ticket = raised self.old.ticket }) }
     {
         self.ticket = self.ticket.saturating_add(1);
         let call = write_again(call, self.alloc)?;
@@ -282,9 +299,12 @@ impl ClientSeat {
     pub fn submit<R: Wait>(&mut self, rt: &R, call: &Call) -> Result<Shared<Answered>, SubmitFault>
         requires { IsTrue (not (is_read call.now.request)) }
         ensures onward { Onward self.old.seen self.new.seen }
-        ensures answered { IfOk result (λ a. IsAnswered self.new.seen self.old.number self.new.ticket (end_of self.old.seen.list) call.now a) }
-        ensures cause { IfErr result (λ fault. IsSubmitCause self.new.seen self.old.number self.new.ticket (end_of self.old.seen.list) fault) }
-        ensures pushed { MatchResult result (λ a. Pushed self.old self.new call.now) (λ fault. PushedAtFault self.old self.new call.now fault) }
+        ensures answered { IfOk result (λ a. IsAnswered self.new.seen self.old.number
+            self.new.ticket (end_of self.old.seen.list) call.now a) }
+        ensures cause { IfErr result (λ fault. IsSubmitCause self.new.seen self.old.number
+            self.new.ticket (end_of self.old.seen.list) fault) }
+        ensures pushed { MatchResult result (λ a. Pushed self.old self.new call.now)
+            (λ fault. PushedAtFault self.old self.new call.now fault) }
         ensures number { self.new.number ≡ self.old.number }
         ensures ticket { self.new.ticket ≡ raised self.old.ticket }
     {

@@ -7,12 +7,12 @@ ghost use Rattle.std.specs.Int.{int_max};
 ghost use Rattle.kr_calls.specs.RightAnswers.{AreRightAfter};
 ghost use Rattle.kr_view.specs.Shelves.{next_at, shown_at, with_staged};
 ghost use Rattle.kr_shared.specs.Answers.{answering};
-ghost use Rattle.kr_shared.specs.Standing.{IsStanding};
-ghost use Rattle.kr_shared.specs.Serves.{Serves};
+ghost use Rattle.kr_shared.specs.Standing.{StandsForSome};
+ghost use Rattle.kr_shared.specs.Serves.{ServesEvent};
 ghost use Rattle.kr_shared.specs.Turns.{DoesJob, DoesWhole, DoesWrite, LosesUnless, Notes};
 ghost use Rattle.kr_shared.specs.Tasks.{IsTask, decided_on};
-ghost use Rattle.kr_shared.specs.Takes.{Takes};
-ghost use Rattle.kr_shared.specs.Works.{IsBareNote, Keeps, Onwards, answers_of, call_in, call_of};
+ghost use Rattle.kr_shared.specs.Takes.{TakesEvent};
+ghost use Rattle.kr_shared.specs.Works.{IsBareNote, KeepsShown, Onwards, answers_of, call_in, call_of};
 
 use crate::answers::{Asking, answer_all, answer_asked, bare_answer, refusal_in};
 use crate::appends::append_all;
@@ -39,9 +39,9 @@ pub(crate) struct Desk {
 }
 
 impl Model for Desk {
-    ghost use Rattle.kr_shared.specs.Works.{Work};
+    ghost use Rattle.kr_shared.specs.Works.{DeskView};
 
-    ghost Value = { Work };
+    ghost Value = { DeskView };
 
     ghost view = { λ d. record { shelf = d.publisher; engine = d.engine; waiting = d.waiting.items } };
 }
@@ -82,7 +82,7 @@ fn later(time: &i64, other: &i64) -> i64
 // Stages what a step added to the log.
 fn stage_all(publisher: &mut Publisher, fresh: Vec<Entry>) -> Result<(), NoMemory>
     ensures done { OnOk result (publisher.new ≡ fold with_staged publisher.old fresh.items) }
-    ensures keeps { Keeps publisher.old publisher.new }
+    ensures keeps { KeepsShown publisher.old publisher.new }
 {
     for entry in fresh {
         if publisher.stage(entry).is_err() {
@@ -105,7 +105,7 @@ impl Desk {
     }
 
     /// The epoch in which this node leads.
-    fn leading(&self) -> Option<i32>
+    fn led_epoch(&self) -> Option<i32>
         ensures { result ≡ self.now.engine.leading }
     {
         self.engine.leading()
@@ -132,8 +132,9 @@ impl Desk {
         event: &Event,
         steps: &mut Steps<L>,
     ) -> Result<Vec<Told>, NoMemory>
-        requires { IsStanding self.old }
-        ensures takes { IfOk result (λ told. Takes self.old.engine self.new.engine event.now told.items) }
+        requires { StandsForSome self.old }
+        ensures takes { IfOk result (λ told. TakesEvent self.old.engine self.new.engine event.now
+            told.items) }
         ensures same { self.new ≡ record self.old { engine = self.new.engine } }
     {
         take(self.alloc, &mut self.engine, event, steps)
@@ -142,7 +143,10 @@ impl Desk {
     // What was staged is gone with a leadership.
     fn drop_lost(&mut self, lost: bool)
         requires { self.old.shelf.waiting ≡ [] }
-        ensures { self.new ≡ record self.old { shelf = (if lost then record self.old.shelf { items = [] } else self.old.shelf) } }
+        ensures { self.new ≡ record self.old {
+          shelf =
+              (if lost then record self.old.shelf { items = [] } else self.old.shelf);
+        } }
     {
         if lost {
             self.publisher.drop_staged();
@@ -151,8 +155,12 @@ impl Desk {
 
     // What the step added is staged.
     fn stage_fresh(&mut self) -> Result<(), NoMemory>
-        ensures done { OnOk result (self.new ≡ record self.old { shelf = fold with_staged self.old.shelf self.old.engine.fresh; engine = record self.old.engine { fresh = [] } }) }
-        ensures keeps { Keeps self.old.shelf self.new.shelf }
+        ensures done { OnOk result (self.new
+            ≡ record self.old {
+              shelf = fold with_staged self.old.shelf self.old.engine.fresh;
+              engine = record self.old.engine { fresh = [] };
+            }) }
+        ensures keeps { KeepsShown self.old.shelf self.new.shelf }
     {
         let fresh = self.engine.take_fresh();
         stage_all(&mut self.publisher, fresh)
@@ -167,9 +175,14 @@ impl Desk {
         told: Vec<Told>,
     ) -> Result<(), NoMemory>
         requires { self.old.shelf.notes ≡ [] }
-        ensures answered { OnOk result (answering self.new.waiting self.new.shelf.notes ≡ answers_of asking event led self.old.waiting told.items) }
-        ensures same { OnOk result (self.new ≡ record self.old { shelf = record self.old.shelf { notes = self.new.shelf.notes }; waiting = self.new.waiting }) }
-        ensures keeps { Keeps self.old.shelf self.new.shelf }
+        ensures answered { OnOk result (answering self.new.waiting self.new.shelf.notes
+            ≡ answers_of asking event led self.old.waiting told.items) }
+        ensures same { OnOk result (self.new
+            ≡ record self.old {
+              shelf = record self.old.shelf { notes = self.new.shelf.notes };
+              waiting = self.new.waiting;
+            }) }
+        ensures keeps { KeepsShown self.old.shelf self.new.shelf }
     {
         let Some(asking) = asking else {
             return answer_all(self.alloc, &mut self.waiting, &mut self.publisher, told);
@@ -191,8 +204,9 @@ impl Desk {
     // Stages an entry.
     #[tactic(auto, using(crate::proofs::Onwards::staged_keeps))]
     fn stage(&mut self, entry: Entry) -> Result<(), NoMemory>
-        ensures done { OnOk result (self.new ≡ record self.old { shelf = with_staged self.old.shelf entry }) }
-        ensures keeps { Keeps self.old.shelf self.new.shelf }
+        ensures done { OnOk result (self.new
+            ≡ record self.old { shelf = with_staged self.old.shelf entry }) }
+        ensures keeps { KeepsShown self.old.shelf self.new.shelf }
     {
         match self.publisher.stage(entry) {
             Ok(()) => Ok(()),
@@ -202,8 +216,10 @@ impl Desk {
 
     // Publishes up to the committed end.
     fn publish<R: Wait>(&mut self, rt: &R) -> Result<(), NoMemory>
-        requires { AreRightAfter self.old.shelf.options self.old.shelf.list (next_at self.old.engine.committed self.old.shelf) }
-        ensures done { OnOk result (self.new ≡ record self.old { shelf = shown_at self.old.engine.committed self.old.shelf }) }
+        requires { AreRightAfter self.old.shelf.options self.old.shelf.list
+            (next_at self.old.engine.committed self.old.shelf) }
+        ensures done { OnOk result (self.new
+            ≡ record self.old { shelf = shown_at self.old.engine.committed self.old.shelf }) }
         ensures onwards { Onwards self.old.shelf self.new.shelf }
     {
         let end = self.engine.committed();
@@ -220,9 +236,11 @@ impl Desk {
         asking: Option<Asking>,
         steps: &mut Steps<L>,
     ) -> Result<Served, NoMemory>
-        requires stands { IsStanding self.old }
+        requires stands { StandsForSome self.old }
         requires task { IsTask self.old.engine event asking }
-        ensures done { IfOk result (λ served. Serves (Q.pieces quorum.old) (Q.pieces quorum.new) (Q.faults quorum.old) (Q.faults quorum.new) self.old self.new event asking served.appended served.refusal) }
+        ensures done { IfOk result (λ served. ServesEvent (Q.pieces quorum.old)
+            (Q.pieces quorum.new) (Q.faults quorum.old)
+            (Q.faults quorum.new) self.old self.new event asking served.appended served.refusal) }
         ensures onwards { Onwards self.old.shelf self.new.shelf }
     {
         let led = self.is_led();
@@ -245,14 +263,15 @@ impl Desk {
         appended: bool,
         steps: &mut Steps<L>,
     ) -> Result<(), NoMemory>
-        requires { IsStanding self.old }
-        ensures done { OnOk result (LosesUnless appended (Q.pieces quorum.old) (Q.pieces quorum.new) (Q.faults quorum.old) (Q.faults quorum.new) self.old self.new) }
+        requires { StandsForSome self.old }
+        ensures done { OnOk result (LosesUnless appended (Q.pieces quorum.old)
+            (Q.pieces quorum.new) (Q.faults quorum.old) (Q.faults quorum.new) self.old self.new) }
         ensures onwards { Onwards self.old.shelf self.new.shelf }
     {
         if appended {
             return Ok(());
         }
-        match self.leading() {
+        match self.led_epoch() {
             Some(epoch) => {
                 self.serve(rt, quorum, Event::Lost { epoch }, None, steps)?;
                 Ok(())
@@ -270,9 +289,11 @@ impl Desk {
         asking: Option<Asking>,
         steps: &mut Steps<L>,
     ) -> Result<Option<Reason>, NoMemory>
-        requires stands { IsStanding self.old }
+        requires stands { StandsForSome self.old }
         requires task { IsTask self.old.engine event asking }
-        ensures done { IfOk result (λ refusal. DoesWhole (Q.pieces quorum.old) (Q.pieces quorum.new) (Q.faults quorum.old) (Q.faults quorum.new) self.old self.new event asking refusal) }
+        ensures done { IfOk result (λ refusal. DoesWhole (Q.pieces quorum.old)
+            (Q.pieces quorum.new) (Q.faults quorum.old)
+            (Q.faults quorum.new) self.old self.new event asking refusal) }
         ensures onwards { Onwards self.old.shelf self.new.shelf }
     {
         let Served { appended, refusal } = self.serve(rt, quorum, event, asking, steps)?;
@@ -283,7 +304,7 @@ impl Desk {
     // Publishes an answer or a stop at once.
     #[tactic(auto, using(crate::proofs::Onwards::still_onwards, crate::proofs::Onwards::keeps_onwards))]
     fn note<R: Wait>(&mut self, rt: &R, entry: Entry) -> Result<(), NoMemory>
-        requires stands { IsStanding self.old }
+        requires stands { StandsForSome self.old }
         requires bare { IsBareNote entry }
         ensures done { OnOk result (Notes self.old self.new entry) }
         ensures onwards { Onwards self.old.shelf self.new.shelf }
@@ -305,6 +326,13 @@ impl Desk {
         })
     }
 
+    // The client has seen more of the log than there is.
+    fn is_behind(&self, asked: &Asked) -> bool
+        ensures { result ≡ int_lt self.now.engine.tip asked.now.floor }
+    {
+        self.engine.tip() < asked.floor
+    }
+
     // A client's write.
     fn write<R: Wait, Q: Quorum, C: Clock, L: Ledger>(
         &mut self,
@@ -314,22 +342,32 @@ impl Desk {
         asked: Asked,
         steps: &mut Steps<L>,
     ) -> Result<(), NoMemory>
-        requires stands { IsStanding self.old }
+        requires stands { StandsForSome self.old }
         requires write { IsTrue (not (is_read asked.call.request)) }
-        ensures done { OnOk result (DoesWrite (int_lt self.old.engine.tip asked.floor) (record { pieces = Q.pieces quorum.old; pieces' = Q.pieces quorum.new; faults = Q.faults quorum.old; faults' = Q.faults quorum.new; asks = C.asks clock.old; asks' = C.asks clock.new; last = C.last clock.new }) self.old self.new asked.seat asked.ticket asked.floor asked.call) }
+        ensures done { OnOk result (DoesWrite (int_lt self.old.engine.tip asked.floor)
+            (record {
+              pieces = Q.pieces quorum.old;
+              pieces' = Q.pieces quorum.new;
+              faults = Q.faults quorum.old;
+              faults' = Q.faults quorum.new;
+              asks = C.asks clock.old;
+              asks' = C.asks clock.new;
+              last = C.last clock.new;
+            }) self.old self.new asked.seat
+            asked.ticket asked.floor asked.call) }
         ensures onwards { Onwards self.old.shelf self.new.shelf }
     {
+        if self.is_behind(&asked) {
+            let tip = self.engine.tip();
+            let answer = bare_answer(asked.seat, asked.ticket, &tip, AnswerKind::Ahead);
+            return self.note(rt, Entry::Answer { answer });
+        }
         let Asked {
             seat,
             ticket,
             floor,
             call,
         } = asked;
-        let tip = self.engine.tip();
-        if tip < floor {
-            let answer = bare_answer(seat, ticket, &tip, AnswerKind::Ahead);
-            return self.note(rt, Entry::Answer { answer });
-        }
         let now = clock.now();
         let at = self.decided_on(&now)?;
         let asking = Asking {
@@ -356,9 +394,17 @@ impl Desk {
         job: Job,
         steps: &mut Steps<L>,
     ) -> Result<Option<Reason>, NoMemory>
-        requires stands { IsStanding self.old }
+        requires stands { StandsForSome self.old }
         requires fit { IsTrue (is_fit job) }
-        ensures done { IfOk result (λ refusal. DoesJob (record { pieces = Q.pieces quorum.old; pieces' = Q.pieces quorum.new; faults = Q.faults quorum.old; faults' = Q.faults quorum.new; asks = C.asks clock.old; asks' = C.asks clock.new; last = C.last clock.new }) self.old self.new job refusal) }
+        ensures done { IfOk result (λ refusal. DoesJob (record {
+          pieces = Q.pieces quorum.old;
+          pieces' = Q.pieces quorum.new;
+          faults = Q.faults quorum.old;
+          faults' = Q.faults quorum.new;
+          asks = C.asks clock.old;
+          asks' = C.asks clock.new;
+          last = C.last clock.new;
+        }) self.old self.new job refusal) }
         ensures onwards { Onwards self.old.shelf self.new.shelf }
     {
         match job {

@@ -10,7 +10,6 @@ mod clients;
 mod desk;
 mod links;
 mod opening;
-mod probe;
 mod sharing;
 mod taking;
 mod worker;

@@ -10,8 +10,8 @@ ghost use Rattle.kr_view.specs.declared.opening.ViewFault.TheVariants as view_fa
 ghost use Rattle.kr_view.specs.Opened.{AreSeats};
 ghost use Rattle.kr_world.specs.Engine.{IsEngine, outputs_left};
 ghost use Rattle.kr_world.specs.World.{start};
-ghost use Rattle.kr_shared.specs.Clients.{AreClients, a_client};
-ghost use Rattle.kr_shared.specs.Opened.{IsOpenCause, IsOpened};
+ghost use Rattle.kr_shared.specs.Clients.{AreClientSeats, a_client};
+ghost use Rattle.kr_shared.specs.Opened.{IsOpenCause, AreSeated};
 ghost use Rattle.kr_shared.specs.Works.{resting};
 
 use crate::clients::{Bells, ClientSeat, ClientSeats};
@@ -59,7 +59,8 @@ fn last_seat(
     ensures passes { OnOk result (ArePasses (arc_value queue.now) passes.new.items) }
     ensures readers { OnOk result (AreSeats options.now readers.new.items) }
     ensures alike { OnOk result (length readers.new.items ≡ length passes.new.items) }
-    ensures some { IfOk result (λ seat. IfSome seat (λ s. (length readers.new.items + 1 ≡ length readers.old.items) × (s ≡ a_client options.now (length readers.new.items + 1)))) }
+    ensures some { IfOk result (λ seat. IfSome seat (λ s. (length readers.new.items + 1
+        ≡ length readers.old.items) × (s ≡ a_client options.now (length readers.new.items + 1)))) }
     ensures none { IfOk result (λ seat. IfNone seat (length readers.old.items ≡ 0)) }
 {
     let Some(reader) = readers.pop() else {
@@ -85,7 +86,8 @@ fn seats_down(
     requires passes { ArePasses (arc_value queue.now) passes.old.items }
     requires readers { AreSeats options.now readers.old.items }
     requires alike { length readers.old.items ≡ length passes.old.items }
-    ensures { IfOk result (λ made. (length made.items ≡ length readers.old.items) × AreClients options.now made.items) }
+    ensures { IfOk result (λ made. (length made.items ≡ length readers.old.items)
+        × AreClientSeats options.now made.items) }
 {
     let mut made = VecDeque::new(alloc);
     while let Some(seat) = last_seat(alloc, queue, bells, passes, readers, options)? {
@@ -118,10 +120,13 @@ struct Parts {
 
 fn parts_of(alloc: Global, options: Options, clients: u32) -> Result<Parts, NoMemory>
     requires { IsTrue (are_options options) }
-    ensures worker { IfOk result (λ g. IsPassOf (arc_value g.queue) g.worker × (view g.worker ≡ a_pass roles.Worker (clients + 2))) }
+    ensures worker { IfOk result (λ g. IsPassOf (arc_value g.queue) g.worker × (view g.worker
+        ≡ a_pass roles.Worker (clients + 2))) }
     ensures link { IfOk result (λ g. g.link ≡ []) }
-    ensures clients { IfOk result (λ g. (length g.clients ≡ clients) × ArePasses (arc_value g.queue) g.clients) }
-    ensures engine { IfOk result (λ g. IsEngine g.engine start [] × (outputs_left g.engine ≡ []) × (g.engine.options ≡ options)) }
+    ensures clients { IfOk result (λ g. (length g.clients ≡ clients)
+        × ArePasses (arc_value g.queue) g.clients) }
+    ensures engine { IfOk result (λ g. IsEngine g.engine start [] × (outputs_left g.engine ≡ [])
+        × (g.engine.options ≡ options)) }
 {
     let engine = Engine::new(alloc, options)?;
     let bells = Bells::new(alloc)?;
@@ -152,13 +157,16 @@ fn seat_all<R: Wait>(
     publisher: Publisher,
     readers: ReaderSeats,
 ) -> Result<(WorkerSeat, LinkSeat, ClientSeats), ViewFault>
-    requires pass { IsPassOf (arc_value parts.queue) parts.worker × (view parts.worker ≡ a_pass roles.Worker (length readers + 2)) }
+    requires pass { IsPassOf (arc_value parts.queue) parts.worker × (view parts.worker
+        ≡ a_pass roles.Worker (length readers + 2)) }
     requires link { parts.link ≡ [] }
-    requires clients { (length parts.clients ≡ length readers) × ArePasses (arc_value parts.queue) parts.clients }
-    requires engine { IsEngine parts.engine start [] × (outputs_left parts.engine ≡ []) × (parts.engine.options ≡ options.now) }
+    requires clients { (length parts.clients ≡ length readers)
+        × ArePasses (arc_value parts.queue) parts.clients }
+    requires engine { IsEngine parts.engine start [] × (outputs_left parts.engine ≡ [])
+        × (parts.engine.options ≡ options.now) }
     requires publisher { publisher ≡ resting options.now [] [] }
     requires readers { AreSeats options.now readers }
-    ensures ok { IfOk result (λ r. IsOpened options.now (length readers) r.0 r.1 r.2) }
+    ensures ok { IfOk result (λ r. AreSeated options.now (length readers) r.0 r.1 r.2) }
     ensures err { IfErr result (λ fault. fault ≡ view_faults.NoMemory) }
 {
     let Parts {
@@ -192,7 +200,8 @@ fn clients_over(
     requires passes { ArePasses (arc_value queue.now) passes }
     requires readers { AreSeats options.now readers }
     requires alike { length passes ≡ length readers }
-    ensures { IfOk result (λ seats. (length seats ≡ length readers) × AreClients options.now seats) }
+    ensures { IfOk result (λ seats. (length seats ≡ length readers)
+        × AreClientSeats options.now seats) }
 {
     let mut passes = passes.into_vec();
     let mut readers = readers.into_vec();
@@ -211,7 +220,8 @@ pub fn open<R: Wait>(
 ) -> Result<(WorkerSeat, LinkSeat, ClientSeats), ViewFault>
     requires clients { (0 < clients) × (clients ≤ 64) }
     requires options { IsTrue (are_options options) }
-    ensures { MatchResult result (λ r. IsOpened options clients r.0 r.1 r.2) (IsOpenCause opening.old.refused opening.new.refused) }
+    ensures { MatchResult result (λ r. AreSeated options clients r.0 r.1 r.2)
+        (IsOpenCause opening.old.refused opening.new.refused) }
 {
     let Ok(own) = options_again(&options, alloc) else {
         return Err(ViewFault::NoMemory);

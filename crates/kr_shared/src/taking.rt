@@ -2,7 +2,7 @@
 
 ghost use Rattle.std.specs.Prelude.{◌≡◌, [], ◌++◌, IfOk, IsTrue, OnOk};
 ghost use Rattle.kr_world.specs.Engine.{IsSound, outputs_left, told_left, writes_in_order};
-ghost use Rattle.kr_shared.specs.Takes.{IsEmptied, Takes};
+ghost use Rattle.kr_shared.specs.Takes.{IsEmptied, TakesEvent};
 
 use kr_base::{NoMemory, Steps};
 use kr_calls::Event;
@@ -34,7 +34,7 @@ pub(crate) fn take<L: Ledger>(
 ) -> Result<Vec<Told>, NoMemory>
     requires sound { IsSound engine.old }
     requires drained { outputs_left engine.old ≡ [] }
-    ensures { IfOk result (λ told. Takes engine.old engine.new event.now told.items) }
+    ensures { IfOk result (λ told. TakesEvent engine.old engine.new event.now told.items) }
 {
     engine.step(event, steps)?;
     hand_out(alloc, engine)

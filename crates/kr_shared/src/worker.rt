@@ -5,7 +5,7 @@ ghost use Rattle.std.specs.Option.{option_copied};
 ghost use Rattle.std.specs.Arc.{arc_value};
 ghost use Rattle.kr_queue.specs.declared.passes.Role.TheVariants as roles;
 ghost use Rattle.kr_queue.specs.Passes.{view, IsPassOf};
-ghost use Rattle.kr_shared.specs.Standing.{IsStanding};
+ghost use Rattle.kr_shared.specs.Standing.{StandsForSome};
 ghost use Rattle.kr_shared.specs.Turns.{IsBroken, Turned, is_stop, turn_of};
 
 use crate::bell::Bell;
@@ -73,8 +73,14 @@ impl WorkerSeat {
     pub(crate) fn new(queue: Arc<Queue, Global>, pass: Pass, bells: Bells, desk: Desk) -> WorkerSeat
         requires pass { IsPassOf (arc_value queue) pass }
         requires role { (view pass).role ≡ roles.Worker }
-        requires stands { IsStanding desk }
-        ensures { result ≡ record { knows = view pass; work = desk; refusal = None; stopped = false; broken = false } }
+        requires stands { StandsForSome desk }
+        ensures { result ≡ record {
+          knows = view pass;
+          work = desk;
+          refusal = None;
+          stopped = false;
+          broken = false;
+        } }
     {
         WorkerSeat {
             queue,
@@ -111,7 +117,15 @@ impl WorkerSeat {
         quorum: &mut Q,
         clock: &mut C,
     ) -> Result<Turn, NoMemory>
-        ensures turned { IfOk result (λ turn. Turned (record { pieces = Q.pieces quorum.old; pieces' = Q.pieces quorum.new; faults = Q.faults quorum.old; faults' = Q.faults quorum.new; asks = C.asks clock.old; asks' = C.asks clock.new; last = C.last clock.new }) self.old self.new turn) }
+        ensures turned { IfOk result (λ turn. Turned (record {
+          pieces = Q.pieces quorum.old;
+          pieces' = Q.pieces quorum.new;
+          faults = Q.faults quorum.old;
+          faults' = Q.faults quorum.new;
+          asks = C.asks clock.old;
+          asks' = C.asks clock.new;
+          last = C.last clock.new;
+        }) self.old self.new turn) }
         ensures broken { OnErr result (IsBroken self.old self.new) }
         ensures before { self.old.broken ≡ true → IsErr result }
     {
@@ -129,7 +143,15 @@ impl WorkerSeat {
         requires name { blank.name ≡ L.name }
         requires parts { blank.parts ≡ L.parts }
         requires some { 0 < L.parts }
-        ensures turned { IfOk result (λ turn. Turned (record { pieces = Q.pieces quorum.old; pieces' = Q.pieces quorum.new; faults = Q.faults quorum.old; faults' = Q.faults quorum.new; asks = C.asks clock.old; asks' = C.asks clock.new; last = C.last clock.new }) self.old self.new turn) }
+        ensures turned { IfOk result (λ turn. Turned (record {
+          pieces = Q.pieces quorum.old;
+          pieces' = Q.pieces quorum.new;
+          faults = Q.faults quorum.old;
+          faults' = Q.faults quorum.new;
+          asks = C.asks clock.old;
+          asks' = C.asks clock.new;
+          last = C.last clock.new;
+        }) self.old self.new turn) }
         ensures broken { OnErr result (IsBroken self.old self.new) }
         ensures before { self.old.broken ≡ true → IsErr result }
     {

@@ -28,4 +28,4 @@ returns-clause-done g c =
     serves_so c.args.self.now c.take_event.new.self c.drop_lost.new.self c.stage_fresh.new.self c.args.event c.args.asking c.in_ok-told.told.items c.is_led-led.result c.has_lost-lost.result
     c.requires.stands c.requires.task c.in_ok-told.ensures.takes c.in_ok-told.ensures.same c.is_led-led.ensures c.has_lost-lost.ensures c.drop_lost.ensures c.in_ok-stage_fresh.ensures.done
     c.answer.new.self c.in_ok-answer.ensures.answered c.in_ok-answer.ensures.same
-    _ _ _ _ c.append_all-appended.result c.refusal_in-refusal.result c.publish.new.self c.append_all-appended.ensures c.refusal_in-refusal.ensures c.in_ok-publish.ensures.done
+    _ _ _ _ c.append_all-appended.result c.refusal_in-refusal.result c.publish.new.self (rw c.as_slice.ensures.value at c.append_all-appended.ensures) (rw c.as_slice-2.ensures.value at c.refusal_in-refusal.ensures) c.in_ok-publish.ensures.done

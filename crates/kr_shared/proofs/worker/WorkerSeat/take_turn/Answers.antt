@@ -5,7 +5,7 @@ use Rattle.kr_shared.proofs.worker.WorkerSeat.take_turn.Goals as goal
 
 pub invariant_of-self-in-Ok : goal.invariant_of-self-in-Ok
 invariant_of-self-in-Ok g c = record {
-  pass = c.pop.ensures.pass;
+  pass = rw c.deref.ensures at c.pop.ensures.pass;
   role = ap (λ (v : View). v.role) c.in-Some.ensures.some.0 ∙ c.self.invariant.role;
   stands = λ _. job_stands _ c.self.inside.desk c.do_job.new.self c.in-Some.job c.in-Ok.refusal c.in-Ok.ensures.done (c.self.invariant.stands c.if-self.false);
 }
