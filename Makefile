@@ -17,6 +17,7 @@ run: tools
 	@cd crates/kr_pipe && rt try --steps 1000 <$(out)/failover.in >$(out)/failover.out 2>$(out)/failover.log || { cat $(out)/failover.log >&2; exit 1; }
 	@echo "Out:"
 	@tools/show-frames <$(out)/failover.out
+	@tools/frames <tools/failover.answer | cmp -s - $(out)/failover.out || { echo "This isn't what tools/failover.answer has." >&2; exit 1; }
 	@tools/batches <$(out)/failover.out >$(out)/failover.batches
 	@echo "The batches that it appended are folded to an image (the tool is built, without its proofs) ..."
 	@cd crates/kr_tool && rt try --steps 1000 -- fold <$(out)/failover.batches >$(out)/failover.image 2>$(out)/failover.log || { cat $(out)/failover.log >&2; exit 1; }

@@ -3,6 +3,7 @@ pub mod Appending
 pub mod Ends
 pub mod Fronts
 pub mod LastSeats
+pub mod Misses
 pub mod Noting
 pub mod Onwards
 pub mod Published

@@ -1,6 +1,5 @@
 -- What a clause sees of a client's seat. This project's own.
-use Rattle.std.specs.Prelude.{◌≡◌, ℕ, ◌+◌, ◌<◌, true, List, [], Some, slice_get, MatchResult}
-use Rattle.core.specs.declared.result.Result.{Result}
+use Rattle.std.specs.Prelude.{◌≡◌, ◌⊎◌, ℕ, ◌+◌, ◌<◌, true, List, [], Some, Result, slice_get, MatchResult}
 use Rattle.kr_base.specs.Causes.{Rose}
 use Rattle.kr_calls.specs.declared.calls.Call.{Call}
 use Rattle.kr_calls.specs.SeatList.{end_of}
@@ -23,6 +22,10 @@ pub record Client : Type 0 where
 -- the write of a call, which names the end of all that the seat has seen
 abbrev pub job_of_call : Client → ℕ → Call → Job
 job_of_call s ticket call = jobs.Write s.number ticket (end_of s.seen.list) call
+
+-- a count stays, or rose
+abbrev pub MayRise : ℕ → ℕ → Type 0
+MayRise before now = (now ≡ before) ⊎ Rose before now
 
 -- no copy only where the count rose, and then nothing else changed
 abbrev pub IsReadCause : Client → Client → CopyFault → Type 0

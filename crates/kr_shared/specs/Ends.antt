@@ -1,7 +1,5 @@
 -- How an answer ends the wait of a client. This project's own.
-use Rattle.std.specs.Prelude.{◌≡◌, ℤ, int_lt, IsTrue, Some}
-use Rattle.core.specs.declared.result.Result.{Result}
-use Rattle.core.specs.declared.result.Result.TheVariants.{Ok, Err}
+use Rattle.std.specs.Prelude.{◌≡◌, ℤ, int_lt, IsTrue, Some, Result, Ok, Err}
 use Rattle.kr_calls.specs.declared.answers.Answer.{Answer}
 use Rattle.kr_calls.specs.declared.answers.AnswerKind.{AnswerKind}
 use Rattle.kr_calls.specs.declared.answers.AnswerKind.TheVariants as kinds

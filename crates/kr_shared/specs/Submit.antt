@@ -1,6 +1,5 @@
 -- What a submit tells. This project's own.
-use Rattle.std.specs.Prelude.{◌≡◌, ◌⊎◌, ◌++◌, ◌∷◌, [], ℕ, ℤ, int_lt, IsTrue, List, Some, MatchResult}
-use Rattle.core.specs.declared.result.Result.{Result}
+use Rattle.std.specs.Prelude.{◌≡◌, ◌⊎◌, ◌++◌, ◌∷◌, [], ℕ, ℤ, int_lt, IsTrue, List, Some, Result, MatchResult}
 use Rattle.kr_calls.specs.declared.answers.Answer.{Answer}
 use Rattle.kr_calls.specs.declared.answers.AnswerKind.{AnswerKind}
 use Rattle.kr_calls.specs.declared.answers.AnswerKind.TheVariants as kinds

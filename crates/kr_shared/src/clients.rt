@@ -10,7 +10,7 @@ ghost use Rattle.kr_queue.specs.declared.passes.Role.TheVariants as roles;
 ghost use Rattle.kr_queue.specs.Passes.{view, IsPassOf};
 ghost use Rattle.kr_queue.specs.QueueRule.{a_pass};
 ghost use Rattle.kr_view.specs.Seats.{Onward};
-ghost use Rattle.kr_shared.specs.Clients.{HasReadCause, job_of_call};
+ghost use Rattle.kr_shared.specs.Clients.{HasReadCause, MayRise, job_of_call};
 ghost use Rattle.kr_shared.specs.Ends.{Ends, EndsBare};
 ghost use Rattle.kr_shared.specs.Submit.{IsAnswered, IsSubmitCause, Pushed, PushedAtFault};
 
@@ -122,7 +122,7 @@ fn bare_ending(
 }
 
 // Looks until the answer to this call is found, or a stop is there.
-#[tactic(auto, using(crate::proofs::Onwards::onward_refl, crate::proofs::Onwards::onward_trans, crate::proofs::Ends::ends_found))]
+#[tactic(auto, using(crate::proofs::Onwards::onward_refl, crate::proofs::Onwards::onward_trans, crate::proofs::Ends::ends_found, crate::proofs::Misses::stays, crate::proofs::Misses::looked_on))]
 fn wait_for<R: Wait>(
     rt: &R,
     bell: &Bell,
@@ -137,6 +137,7 @@ fn wait_for<R: Wait>(
         call.now a) }
     ensures err { IfErr result (λ fault. IsSubmitCause reader.new.seen reader.old.number ticket
         floor.now fault) }
+    ensures misses { MayRise reader.old.misses reader.new.misses }
 {
     for _ in rt.forever() {
         let seen = bell.number(rt);
@@ -295,7 +296,7 @@ impl ClientSeat {
     /// once its records stand in the list that the seat then holds; or Kafka's NOT_CONTROLLER, where the leadership was lost
     /// before. Ended where the worker stops, Ahead where the seat has seen more of the log than this controller has, and
     /// Exhausted where the log takes no more.
-    #[tactic(auto, using(crate::proofs::Onwards::onward_refl))]
+    #[tactic(auto, using(crate::proofs::Onwards::onward_refl, crate::proofs::Misses::stays))]
     pub fn submit<R: Wait>(&mut self, rt: &R, call: &Call) -> Result<Shared<Answered>, SubmitFault>
         requires { IsTrue (not (is_read call.now.request)) }
         ensures onward { Onward self.old.seen self.new.seen }
@@ -307,6 +308,7 @@ impl ClientSeat {
             (λ fault. PushedAtFault self.old self.new call.now fault) }
         ensures number { self.new.number ≡ self.old.number }
         ensures ticket { self.new.ticket ≡ raised self.old.ticket }
+        ensures misses { MayRise self.old.misses self.new.misses }
     {
         let floor = self.reader.end();
         if self.ask(rt, call, &floor).is_err() {

@@ -9,6 +9,9 @@ use Rattle.kr_base.specs.Causes.{Rose}
 use Rattle.kr_base.proofs.Pieces.{consumes_more}
 use Rattle.kr_wire.specs.Grammar.{Exactly, IsNumber}
 use Rattle.kr_defs.specs.declared.limits.TheConstants.{MOST_SESSION_BYTES}
+use Rattle.kr_intake.specs.declared.taking.Shortage.{Shortage}
+use Rattle.kr_intake.specs.declared.taking.Shortage.TheVariants as shortages
+use Rattle.kr_intake.specs.Shortages.{FallsShort}
 use Rattle.kr_stream.specs.declared.fault.StreamFault.{StreamFault}
 use Rattle.kr_stream.specs.declared.fault.StreamFault.TheVariants as faults
 use Rattle.kr_stream.specs.declared.kind.FrameKind.{FrameKind}
@@ -17,37 +20,16 @@ use Rattle.kr_stream.specs.Kinds.{number_of, longest_body, may_stand}
 use Rattle.kr_stream.specs.Frames.{IsFrame}
 use Rattle.kr_stream.specs.Reader.{Took, IsHead, IsAllowed, IsUnfinished, in_size, at_kind, in_body, IsWhole, no_size, no_place, no_fit, Cause, Stopped}
 use Rattle.kr_stream.specs.inner.Bodies.{IsBodyOf}
-use Rattle.kr_stream.specs.inner.Taken.{TakesFewer, Short, ShortCause, IsShortage}
+use Rattle.kr_stream.specs.inner.Taken.{Short, ShortCause, shortage_fault}
 use Rattle.kr_stream.proofs.Parts.{frame_of, fits_none, consumes_none}
 
 -- ---- taking
 
--- a read that failed
-pub short_by_fault : (a b : Option (List ℕ)) (start at most len f g : ℕ) → TakesFewer a b most → most ≤ len → at + most ≤ MOST_SESSION_BYTES → Rose f g
-    → Short start at len a b f g faults.ReadFault
-short_by_fault a b start at most len f g t within top rose =
-    let few = t.2 in record { taken = t.0; took = t.1; few = omega (arith, few, within); cause = (rose, omega (arith, few, top)) }
-
--- so many bytes came, and fewer than are needed
-module _ (a b : Option (List ℕ)) (start at most len count f g : ℕ) (front : List ℕ) (took : Consumes a b (take count front)) (within : count ≤ length front)
-    (long : length front ≡ most) (fits : most ≤ len) (end : count < length front → IsAtEnd b) (top : at + most ≤ MOST_SESSION_BYTES) (room : most < len → at + most ≡ MOST_SESSION_BYTES) where
-  short_by : (fault : StreamFault) → IsShortage start count most len fault → Short start at len a b f g fault
-  short_by (faults.Malformed place) s =
-      let size : length (take count front) ≡ count = length-take-le count front within in
-      let few = s.1 in
-      record { taken = take count front; took = took; few = omega (arith, size, few, fits); cause = (s.0, end (omega (arith, few, long)), omega (arith, size, few, top)) }
-  short_by faults.TooLong s =
-      let size : length (take count front) ≡ count = length-take-le count front within in
-      let all = s.0 in
-      let lt = s.1 in
-      let full = room lt in
-      record { taken = take count front; took = took; few = omega (arith, size, lt, all); cause = omega (arith, size, all, full) }
-  short_by faults.ReadFault s = absurd s
-  short_by faults.NoMemory s = absurd s
-
-  pub short_of : (result : Result (Unit {0}) StreamFault) → IfErr result (λ fault. IsShortage start count most len fault) → IfErr result (λ fault. Short start at len a b f g fault)
-  short_of (Ok u) s = tt
-  short_of (Err fault) s = short_by fault s
+-- too few bytes of a stream are too few of a frame
+pub short_of : (a b : Option (List ℕ)) (start at most f g : ℕ) (shortage : Shortage) → FallsShort at most a b f g shortage → Short start at most a b f g (shortage_fault start shortage)
+short_of a b start at most f g (shortages.Ended came) s = record { taken = s.taken; took = s.took; few = s.few; cause = (refl, s.cause.1, s.cause.2) }
+short_of a b start at most f g shortages.ReadFault s = record { taken = s.taken; took = s.took; few = s.few; cause = s.cause }
+short_of a b start at most f g shortages.TooLong s = record { taken = s.taken; took = s.took; few = s.few; cause = s.cause }
 
 cause_within : (start end : ℕ) (left : Option (List ℕ)) (f g : ℕ) (fault : StreamFault) → ShortCause start end left f g fault → end ≤ MOST_SESSION_BYTES
 cause_within start end left f g (faults.Malformed place) s = let below = s.2 in omega (arith, below)

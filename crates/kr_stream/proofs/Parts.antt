@@ -1,8 +1,7 @@
 -- A frame that is taken in parts.
-use Rattle.std.proofs.Common.{◌≡◌, ℕ, ◌+◌, Bool, true, List, [], ◌∷◌, ◌++◌, length, take, drop, Option, Some, None, append_assoc, length-append, refl, sym, ap, subst, ◌∙◌, arith}
+use Rattle.std.proofs.Common.{◌≡◌, ℕ, ◌+◌, Bool, true, List, [], ◌∷◌, ◌++◌, length, Option, Some, None, append_assoc, length-append, refl, sym, ap, subst, ◌∙◌, arith}
 use Rattle.std.specs.Int.{w32}
 use Rattle.std.specs.Io.KnownBytes.{Consumes}
-use Rattle.std.proofs.Math.Seq.{take-add}
 use Rattle.kr_base.proofs.Pieces.{consumes_more}
 use Rattle.kr_wire.specs.Grammar.{◌⌢◌, Exactly, IsNumber}
 use Rattle.kr_wire.specs.Laws.{IsBytes}
@@ -16,13 +15,6 @@ use Rattle.kr_stream.specs.Reader.{Took, IsHead, Stands}
 use Rattle.kr_stream.specs.inner.Bodies.{IsBodyOf}
 use Rattle.kr_stream.proofs.Sizes.{kind_once}
 use Rattle.kr_stream.proofs.FrameForms.{frame_form}
-
--- bytes that are read behind those that were read before
-pub read_more : (a b c : Option (List ℕ)) (at count : ℕ) (before after : List ℕ) → take at after ≡ take at before
-    → Consumes a b (take at before) → Consumes b c (take count (drop at after)) → Consumes a c (take (at + count) after)
-read_more a b c at count before after same first second =
-    let front : Consumes a b (take at after) = rw same first in
-    rw (take-add at count after) (consumes_more a b c (take at after) (take count (drop at after)) front second)
 
 -- nothing is taken
 pub consumes_none : (a : Option (List ℕ)) → Consumes a a []

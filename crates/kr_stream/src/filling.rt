@@ -1,49 +1,14 @@
-//! Taking bytes from a source.
+//! Taking the bytes of a frame.
 
-ghost use Rattle.std.specs.Prelude.{◌≡◌, ◌+◌, ◌-◌, ◌<◌, ◌≤◌, take, drop, length, IfOk, IfErr, OnErr, OnOk};
-ghost use Rattle.std.specs.Io.KnownBytes.{Consumes, IsAtEnd, Keeps};
+ghost use Rattle.std.specs.Prelude.{◌≡◌, ◌+◌, ◌≤◌, length, IfErr, OnOk};
+ghost use Rattle.std.specs.Io.KnownBytes.{Consumes};
 ghost use Rattle.kr_wire.specs.Laws.{IsBytes};
-ghost use Rattle.kr_base.specs.Causes.{HasCause};
 ghost use Rattle.kr_defs.specs.declared.limits.TheConstants.{MOST_SESSION_BYTES};
-ghost use Rattle.kr_stream.specs.inner.Taken.{TakesFewer, Short, IsShortage};
+ghost use Rattle.kr_stream.specs.inner.Taken.{Short, shortage_fault};
 
 use crate::StreamFault;
-use kr_base::{Failed, Source};
-use kr_defs::limits::MOST_SESSION_BYTES;
-
-// Reads until `into` is full or the input ends, and answers how many bytes were read. It never asks for more than there
-// is room for.
-fn fill<S: Source>(source: &mut S, into: &mut [u8]) -> Result<usize, Failed>
-    ensures bound { IfOk result (λ count. count ≤ length into.new) }
-    ensures bytes { IfOk result (λ count. Consumes (S.left source.old) (S.left source.new) (take count into.new)) }
-    ensures short { IfOk result (λ count. count < length into.new → IsAtEnd (S.left source.new)) }
-    ensures failed { OnErr result (TakesFewer (S.left source.old) (S.left source.new) (length into.old)) }
-    ensures cause { HasCause (S.faults source.old) (S.faults source.new) result }
-{
-    let mut at = 0;
-    while at < into.len() {
-        let count = read_behind(source, into, at)?;
-        if count == 0 {
-            break;
-        }
-        at += count;
-    }
-    Ok(at)
-}
-
-// One read, into what is behind `at`.
-fn read_behind<S: Source>(source: &mut S, into: &mut [u8], at: usize) -> Result<usize, Failed>
-    requires { at < length into.old }
-    ensures before { take at into.new ≡ take at into.old }
-    ensures bound { IfOk result (λ count. at + count ≤ length into.new) }
-    ensures bytes { IfOk result (λ count. Consumes (S.left source.old) (S.left source.new) (take count (drop at into.new))) }
-    ensures end { IfOk result (λ count. count ≡ 0 → IsAtEnd (S.left source.new)) }
-    ensures failed { OnErr result (Keeps (S.left source.old) (S.left source.new)) }
-    ensures cause { HasCause (S.faults source.old) (S.faults source.new) result }
-{
-    let (_, rest) = into.split_at_mut(at);
-    source.read(rest)
-}
+use kr_base::Source;
+use kr_intake::Shortage;
 
 /// Fills a slice with the bytes from `at` on, of a frame that begins at `start`. No more are taken than one stream may
 /// have.
@@ -60,38 +25,19 @@ pub(crate) fn take<S: Source>(
     ensures short { IfErr result (λ fault. Short start at (length into.old) (S.left source.old) (S.left source.new) (S.faults source.old) (S.faults source.new) fault) }
     ensures later { S.faults source.old ≤ S.faults source.new }
 {
-    let len = into.len();
-    let most = room(len, at);
-    let (front, _) = into.split_at_mut(most);
-    match fill(source, front) {
-        Err(_) => Err(StreamFault::ReadFault),
-        Ok(count) => judge(count, most, len, start),
+    match kr_intake::take(source, into, at) {
+        Err(shortage) => Err(shortage_fault(shortage, start)),
+        Ok(()) => Ok(()),
     }
 }
 
-// How many of so many bytes one stream has room for.
-fn room(len: usize, at: u64) -> usize
-    requires { at ≤ MOST_SESSION_BYTES }
-    ensures within { result ≤ len }
-    ensures fits { at + result ≤ MOST_SESSION_BYTES }
-    ensures all { at + len ≤ MOST_SESSION_BYTES → result ≡ len }
-    ensures short { result < len → at + result ≡ MOST_SESSION_BYTES }
+// What it means that too few bytes came of the frame that begins at `start`.
+fn shortage_fault(shortage: Shortage, start: u64) -> StreamFault
+    ensures { result ≡ shortage_fault start shortage }
 {
-    len.min((MOST_SESSION_BYTES - at) as usize)
-}
-
-// What it means that so many bytes came of so many that were asked for, out of so many that are needed.
-fn judge(count: usize, most: usize, len: usize, start: u64) -> Result<(), StreamFault>
-    requires read { count ≤ most }
-    requires asked { most ≤ len }
-    ensures ok { OnOk result ((count ≡ most) × (most ≡ len)) }
-    ensures cause { IfErr result (λ fault. IsShortage start count most len fault) }
-{
-    if count < most {
-        Err(StreamFault::Malformed { at: start })
-    } else if most < len {
-        Err(StreamFault::TooLong)
-    } else {
-        Ok(())
+    match shortage {
+        Shortage::Ended { .. } => StreamFault::Malformed { at: start },
+        Shortage::ReadFault => StreamFault::ReadFault,
+        Shortage::TooLong => StreamFault::TooLong,
     }
 }

@@ -3,18 +3,16 @@ use Rattle.std.specs.Prelude.{◌≡◌, ℕ, ◌+◌, ◌<◌, List, length, Op
 use Rattle.std.specs.Io.KnownBytes.{Consumes, IsAtEnd}
 use Rattle.kr_base.specs.Causes.{Rose}
 use Rattle.kr_defs.specs.declared.limits.TheConstants.{MOST_SESSION_BYTES}
+use Rattle.kr_intake.specs.declared.taking.Shortage.{Shortage}
+use Rattle.kr_intake.specs.declared.taking.Shortage.TheVariants as shortages
 use Rattle.kr_stream.specs.declared.fault.StreamFault.{StreamFault}
 use Rattle.kr_stream.specs.declared.fault.StreamFault.TheVariants as faults
 
--- known bytes lose fewer than so many at their front
-abbrev pub TakesFewer : Option (List ℕ) → Option (List ℕ) → ℕ → Type 0
-TakesFewer before now most = (taken : List ℕ) × Consumes before now taken × (length taken < most)
-
--- so many bytes came, of so many that were asked for, out of so many that are needed
-abbrev pub IsShortage : ℕ → ℕ → ℕ → ℕ → StreamFault → Type 0
-IsShortage start count most len (faults.Malformed place) = (place ≡ start) × (count < most)
-IsShortage start count most len faults.TooLong = (count ≡ most) × (most < len)
-IsShortage start count most len other = ⊥
+-- what it means that too few bytes came of a frame that begins at `start`
+abbrev pub shortage_fault : ℕ → Shortage → StreamFault
+shortage_fault start (shortages.Ended came) = faults.Malformed start
+shortage_fault start shortages.ReadFault = faults.ReadFault
+shortage_fault start shortages.TooLong = faults.TooLong
 
 -- why bytes are too few, of a frame that begins at `start`, where the last one taken stands before `end`
 abbrev pub ShortCause : ℕ → ℕ → Option (List ℕ) → ℕ → ℕ → StreamFault → Type 0

@@ -1,6 +1,6 @@
 use Rattle.std.proofs.Common.{arith}
-use Rattle.kr_stream.proofs.Parts.{read_more}
-use Rattle.kr_stream.proofs.filling.fill.Goals as goal
+use Rattle.kr_intake.proofs.Parts.{read_more}
+use Rattle.kr_intake.proofs.taking.fill.Goals as goal
 
 pub loop-at-preserved : goal.loop-at-preserved
 loop-at-preserved g c = record {

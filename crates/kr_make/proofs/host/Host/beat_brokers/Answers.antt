@@ -1,0 +1,19 @@
+use Rattle.std.proofs.Common.{◌≡◌, ℕ, ◌+◌, subst, arith}
+use Rattle.kr_make.specs.inner.Standing.{Goes}
+use Rattle.kr_make.specs.Session.{first_heartbeat, steps}
+use Rattle.kr_make.proofs.Goings.{goes_more, goes_none, may_go_on, may_less}
+use Rattle.kr_make.proofs.host.Host.beat_brokers.Goals as goal
+
+pub loop-n-init : goal.loop-n-init
+loop-n-init g c = goes_none first_heartbeat _ c.requires.ready
+
+pub beat-requires : goal.beat-requires
+beat-requires g c = may_go_on _ _ _ _ _ c.loop-n.invariant 1 0 (may_less _ 6 0 (c.loop-n.n + 1) 0 (omega arith) (omega arith) c.requires)
+
+pub loop-n-preserved : goal.loop-n-preserved
+loop-n-preserved g c = goes_more first_heartbeat _ _ _ c.loop-n.n c.loop-n.n 0 1 0 c.loop-n.invariant c.in_ok-beat.ensures
+
+pub returns : goal.returns
+returns g c =
+    let is : c.loop-n.n ≡ 6 = omega arith in
+    subst (λ (n : ℕ). Goes _ _ (λ (seed : ℕ). steps n (first_heartbeat seed)) n 0) is c.loop-n.invariant

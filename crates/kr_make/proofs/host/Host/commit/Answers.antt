@@ -1,0 +1,7 @@
+use Rattle.std.proofs.Common.{refl}
+use Rattle.std.proofs.lemmas.Result.{on_ok_weaker}
+use Rattle.kr_make.proofs.Goings.{committed}
+use Rattle.kr_make.proofs.host.Host.commit.Goals as goal
+
+pub returns : goal.returns
+returns g c = on_ok_weaker c.take.result (λ t. committed c.args.self.now _ _ c.requires.ready t refl c.tip.result refl c.tip.ensures refl refl) c.take.ensures

@@ -1,0 +1,6 @@
+pub mod Exchanges
+pub mod Messages
+pub mod SeatCalls
+pub mod Served
+pub mod Told
+pub mod inner

@@ -1,0 +1,131 @@
+-- What the serving of a client's connection comes to: the messages that were taken, the replies that were written, the exchanges
+-- that were told, and what the seat did. This project's own.
+use Rattle.std.specs.Prelude.{◌≡◌, ◌⊎◌, ℕ, ◌+◌, ◌<◌, ◌≤◌, List, [], ◌∷◌, ◌++◌, length, take, All, Option, IfSome}
+use Rattle.std.specs.Io.KnownBytes.{Appends, Consumes, IsAtEnd}
+use Rattle.kr_wire.specs.Grammar.{Each}
+use Rattle.kr_defs.specs.declared.limits.TheConstants.{MOST_SESSION_BYTES}
+use Rattle.kr_view.specs.declared.seat.CopyFault.TheVariants as copies
+use Rattle.kr_shared.specs.declared.clients.SubmitFault.TheVariants as submits
+use Rattle.kr_shared.specs.Clients.{Client}
+use Rattle.kr_server.specs.declared.end.ServeEnd.{ServeEnd}
+use Rattle.kr_server.specs.declared.end.ServeEnd.TheVariants as ends
+use Rattle.kr_server.specs.declared.exchange.Exchange.{Exchange}
+use Rattle.kr_server.specs.Exchanges.{IsMessageOf, SizedReplyFits, sized_replies, sized_reply}
+use Rattle.kr_server.specs.Messages.{IsBrokenMessage, IsMessageBegun, IsMessageCut, IsMessageThat, IsSizedMessage}
+use Rattle.kr_server.specs.SeatCalls.{AreExchanged, IsRefusedRead, IsRefusedWrite, IsWithoutMemory, PushesWrites, pushed_writes}
+use Rattle.kr_server.specs.Told.{TellsMore}
+
+-- the bytes that the source has left and those that were written to the sink, where they are told; the exchanges, where the
+-- transcript tells them; and the client's seat
+pub record Connection : Type 0 where
+  pub left : Option (List ℕ)
+  pub written : Option (List ℕ)
+  pub told : Option (List Exchange)
+  pub seat : Client
+
+abbrev pub connection : Option (List ℕ) → Option (List ℕ) → Option (List Exchange) → Client → Connection
+connection left written told seat = record { left = left; written = written; told = told; seat = seat }
+
+-- ---- what was written
+
+-- all replies, each behind its size, in order
+pub record WroteReplies (written written' : Option (List ℕ)) (xs : List Exchange) : Type 0 where
+  pub fit : All SizedReplyFits xs
+  pub bytes : Appends written written' (sized_replies xs)
+
+-- all but the last, and a front of that
+pub record WroteAllButLast (written written' : Option (List ℕ)) (xs : List Exchange) : Type 0 where
+  pub before : List Exchange
+  pub last : Exchange
+  pub parts : xs ≡ before ++ last ∷ []
+  pub fit : All SizedReplyFits xs
+  pub count : ℕ
+  pub bytes : Appends written written' (sized_replies before ++ take count (sized_reply last))
+
+-- a reply lacks only where a write failed
+abbrev pub WroteRepliesUpTo : ServeEnd → Option (List ℕ) → Option (List ℕ) → List Exchange → Type 0
+WroteRepliesUpTo ends.WriteFault written written' xs = WroteAllButLast written written' xs
+WroteRepliesUpTo other written written' xs = WroteReplies written written' xs
+
+-- ---- the ends
+
+-- What was taken behind the messages of the exchanges, which end before the place `at`, and what the seat did then:
+-- at Closed, nothing, and the source is at its end;
+-- at Malformed, what tells that no message stands there, or all that there is of one;
+-- at ReadFault, too few bytes of a message; at TooLong too, and no more bytes of one connection are taken;
+-- at WriteFault, nothing;
+-- at Ended, Ahead and Exhausted, a write to which `submit` answered so; at NoCopy, a read to which `read` answered so;
+-- at NoMemory, too few bytes of a message, or a whole one without memory.
+abbrev pub EndsBehind : ℕ → List ℕ → Option (List ℕ) → Client → Client → ServeEnd → Type 0
+EndsBehind at rest left' mid new ends.Closed = (new ≡ mid) × (rest ≡ []) × IsAtEnd left' × (at < MOST_SESSION_BYTES)
+EndsBehind at rest left' mid new (ends.Malformed place) = (new ≡ mid) × (place ≡ at) × IsBrokenMessage at rest left'
+EndsBehind at rest left' mid new ends.ReadFault = (new ≡ mid) × IsMessageCut at rest
+EndsBehind at rest left' mid new ends.WriteFault = (new ≡ mid) × (rest ≡ [])
+EndsBehind at rest left' mid new ends.TooLong = (new ≡ mid) × IsMessageBegun rest × (at + length rest ≡ MOST_SESSION_BYTES)
+EndsBehind at rest left' mid new (ends.Ended number) = IsMessageThat (IsRefusedWrite mid new (submits.Ended number)) rest
+EndsBehind at rest left' mid new (ends.Ahead floor tip) = IsMessageThat (IsRefusedWrite mid new (submits.Ahead floor tip)) rest
+EndsBehind at rest left' mid new (ends.Exhausted tip) = IsMessageThat (IsRefusedWrite mid new (submits.Exhausted tip)) rest
+EndsBehind at rest left' mid new ends.NoCopy = IsMessageThat (IsRefusedRead mid new copies.NoCopy) rest
+EndsBehind at rest left' mid new ends.NoMemory = ((new ≡ mid) × IsMessageBegun rest) ⊎ IsMessageThat (IsWithoutMemory mid new) rest
+
+-- The messages that were taken whole are those of the exchanges, in order, but for one without an exchange; the replies that were
+-- written are those of the exchanges, in order; the transcript tells them; each came of one call of the seat; and the seat pushed
+-- their writes and at most one more.
+pub record Served (before after : Connection) (end : ServeEnd) : Type 0 where
+  pub xs : List Exchange
+  pub front : List ℕ
+  pub rest : List ℕ
+  pub mid : Client
+  pub asked : Each IsMessageOf xs front
+  pub took : Consumes before.left after.left (front ++ rest)
+  pub within : length front + length rest ≤ MOST_SESSION_BYTES
+  pub exchanged : AreExchanged before.seat xs mid
+  pub behind : EndsBehind (length front) rest after.left mid after.seat end
+  pub wrote : WroteRepliesUpTo end before.written after.written xs
+  pub tells : TellsMore before.told after.told xs
+  pub pushed : PushesWrites before.seat mid after.seat (pushed_writes xs)
+
+-- ---- where nothing failed
+
+-- these bytes are these messages, each behind its size
+abbrev pub AreMessages : List (List ℕ) → List ℕ → Type 0
+AreMessages messages = Each IsSizedMessage messages
+
+-- no front of the bytes is a message behind its size
+abbrev pub NoMessageBegins : List ℕ → Type 0
+NoMessageBegins bytes = (message front behind : List ℕ) → bytes ≡ front ++ behind → IsSizedMessage message front → ⊥
+
+-- to its end, or to a call that the seat refused, or to want of memory
+abbrev pub IsServedOut : ServeEnd → Type 0
+IsServedOut ends.Closed = Unit {0}
+IsServedOut (ends.Malformed place) = ⊥
+IsServedOut ends.ReadFault = ⊥
+IsServedOut ends.WriteFault = ⊥
+IsServedOut ends.TooLong = ⊥
+IsServedOut (ends.Ended number) = Unit {0}
+IsServedOut (ends.Ahead floor tip) = Unit {0}
+IsServedOut (ends.Exhausted tip) = Unit {0}
+IsServedOut ends.NoCopy = ⊥
+IsServedOut ends.NoMemory = Unit {0}
+
+-- up to this place, or to the most bytes of one connection, to a call that the seat refused, or to want of memory
+abbrev pub IsServedUpTo : ℕ → ServeEnd → Type 0
+IsServedUpTo at ends.Closed = ⊥
+IsServedUpTo at (ends.Malformed place) = place ≡ at
+IsServedUpTo at ends.ReadFault = ⊥
+IsServedUpTo at ends.WriteFault = ⊥
+IsServedUpTo at ends.TooLong = Unit {0}
+IsServedUpTo at (ends.Ended number) = Unit {0}
+IsServedUpTo at (ends.Ahead floor tip) = Unit {0}
+IsServedUpTo at (ends.Exhausted tip) = Unit {0}
+IsServedUpTo at ends.NoCopy = ⊥
+IsServedUpTo at ends.NoMemory = Unit {0}
+
+-- whole messages, of fewer bytes than one connection may have, are served out
+abbrev pub ServesMessages : Option (List ℕ) → ServeEnd → Type 0
+ServesMessages left end = IfSome left (λ stream. (messages : List (List ℕ)) → AreMessages messages stream → length stream < MOST_SESSION_BYTES → IsServedOut end)
+
+-- where bytes come behind whole messages, with which no message begins, the serving ends there
+abbrev pub ServesUpToBreak : Option (List ℕ) → ServeEnd → Type 0
+ServesUpToBreak left end = IfSome left (λ stream. (messages : List (List ℕ)) (front behind : List ℕ) →
+    stream ≡ front ++ behind → AreMessages messages front → 0 < length behind → NoMessageBegins behind → IsServedUpTo (length front) end)

@@ -1,0 +1,79 @@
+-- How the serving of a connection goes on, message by message.
+use Rattle.std.specs.Prelude.{◌≡◌, ℕ, List, [], ◌∷◌, length}
+use Rattle.std.specs.Io.KnownBytes.{Appends, Consumes}
+use Rattle.kr_base.specs.FailedPuts.{AppendsFront}
+use Rattle.kr_wire.specs.Grammar.{Each}
+use Rattle.kr_view.specs.declared.seat.CopyFault.{CopyFault}
+use Rattle.kr_view.specs.declared.seat.CopyFault.TheVariants as copies
+use Rattle.kr_shared.specs.declared.clients.SubmitFault.{SubmitFault}
+use Rattle.kr_shared.specs.declared.clients.SubmitFault.TheVariants as submits
+use Rattle.kr_shared.specs.Clients.{Client}
+use Rattle.kr_server.specs.declared.end.ServeEnd.{ServeEnd}
+use Rattle.kr_server.specs.declared.end.ServeEnd.TheVariants as ends
+use Rattle.kr_server.specs.declared.exchange.Exchange.{Exchange}
+use Rattle.kr_server.specs.Exchanges.{IsAskedFor, IsMessageOf, SizedReplyFits, sized_reply}
+use Rattle.kr_server.specs.SeatCalls.{AreExchanged, IsExchanged, IsRefusedRead, IsRefusedWrite, IsWithoutMemory}
+use Rattle.kr_server.specs.Served.{Connection, WroteReplies}
+use Rattle.kr_server.specs.Told.{TellsMore}
+
+-- Whole messages were taken up to this place, and their exchanges told and replied.
+pub record ServedSoFar (before now : Connection) (at : ℕ) : Type 0 where
+  pub xs : List Exchange
+  pub front : List ℕ
+  pub asked : Each IsMessageOf xs front
+  pub took : Consumes before.left now.left front
+  pub place : at ≡ length front
+  pub exchanged : AreExchanged before.seat xs now.seat
+  pub wrote : WroteReplies before.written now.written xs
+  pub tells : TellsMore before.told now.told xs
+
+-- ---- one message, which doesn't touch the source
+
+-- its exchange came of the seat, was told, and replied
+pub record IsAnsweredBy (message : List ℕ) (old new : Connection) : Type 0 where
+  pub x : Exchange
+  pub asked : IsAskedFor x message
+  pub exchanged : IsExchanged old.seat new.seat x
+  pub fits : SizedReplyFits x
+  pub wrote : Appends old.written new.written (sized_reply x)
+  pub tells : TellsMore old.told new.told (x ∷ [])
+
+-- the same, with a front of the reply
+pub record IsAnsweredInPart (message : List ℕ) (old new : Connection) : Type 0 where
+  pub x : Exchange
+  pub asked : IsAskedFor x message
+  pub exchanged : IsExchanged old.seat new.seat x
+  pub fits : SizedReplyFits x
+  pub wrote : AppendsFront old.written new.written (sized_reply x)
+  pub tells : TellsMore old.told new.told (x ∷ [])
+
+-- why it has no exchange
+abbrev pub IsNotExchanged : List ℕ → Client → Client → ServeEnd → Type 0
+IsNotExchanged message old new (ends.Ended number) = IsRefusedWrite old new (submits.Ended number) message
+IsNotExchanged message old new (ends.Ahead floor tip) = IsRefusedWrite old new (submits.Ahead floor tip) message
+IsNotExchanged message old new (ends.Exhausted tip) = IsRefusedWrite old new (submits.Exhausted tip) message
+IsNotExchanged message old new ends.NoCopy = IsRefusedRead old new copies.NoCopy message
+IsNotExchanged message old new ends.NoMemory = IsWithoutMemory old new message
+IsNotExchanged message old new other = ⊥
+
+-- nothing was written and nothing told
+pub record IsSilent (old new : Connection) : Type 0 where
+  pub wrote : Appends old.written new.written []
+  pub tells : TellsMore old.told new.told []
+
+-- why it isn't answered
+abbrev pub IsNotAnswered : List ℕ → Connection → Connection → ServeEnd → Type 0
+IsNotAnswered message old new ends.WriteFault = IsAnsweredInPart message old new
+IsNotAnswered message old new other = IsSilent old new × IsNotExchanged message old.seat new.seat other
+
+-- how a refused write ends the connection
+abbrev pub refusal_end : SubmitFault → ServeEnd
+refusal_end (submits.Ended number) = ends.Ended number
+refusal_end (submits.Ahead floor tip) = ends.Ahead floor tip
+refusal_end (submits.Exhausted tip) = ends.Exhausted tip
+refusal_end submits.NoMemory = ends.NoMemory
+
+-- how a refused read does
+abbrev pub copy_end : CopyFault → ServeEnd
+copy_end copies.NoCopy = ends.NoCopy
+copy_end copies.NoMemory = ends.NoMemory

@@ -1,0 +1,15 @@
+//! A client's connection: messages behind their sizes in, replies behind theirs out, exchanges told.
+#![tactic(auto)]
+
+mod calls;
+mod end;
+mod exchange;
+mod message;
+mod reply;
+mod serving;
+mod transcript;
+
+pub use end::ServeEnd;
+pub use exchange::Exchange;
+pub use serving::serve_client;
+pub use transcript::{MemoryTranscript, NoTranscript, Transcript};

@@ -1,0 +1,153 @@
+//! Serving one connection.
+
+ghost use Rattle.std.specs.Prelude.{◌≡◌, ◌<◌, ◌≤◌, ℕ, List, Option, OnOk, IfOk, IfErr, IsErrOf, MatchResult};
+ghost use Rattle.kr_base.specs.Causes.{Rose};
+ghost use Rattle.kr_defs.specs.declared.limits.TheConstants.{MOST_SESSION_BYTES};
+ghost use Rattle.kr_view.specs.Seats.{Onward};
+ghost use Rattle.kr_server.specs.Served.{Connection as AnyConnection, connection, Served, ServesMessages, ServesUpToBreak};
+ghost use Rattle.kr_server.specs.inner.Serving.{IsAnsweredBy, IsNotAnswered, ServedSoFar};
+
+use crate::calls::exchange;
+use crate::end::ServeEnd;
+use crate::message::read_message;
+use crate::reply::sized_reply;
+use crate::transcript::Transcript;
+use kr_base::{Sink, Source};
+use kr_shared::ClientSeat;
+use std::alloc::Global;
+use std::sync::Wait;
+
+// Answers one message: it is asked of the seat, its exchange is told, and its reply is written by one put.
+fn answer_message<R: Wait, K: Sink, T: Transcript>(
+    rt: &R,
+    alloc: Global,
+    seat: &mut ClientSeat,
+    message: &[u8],
+    sink: &mut K,
+    transcript: &mut T,
+) -> Result<(), ServeEnd>
+    ensures answered { (left left' : Option (List ℕ)) →
+        let before = connection left (K.written sink.old) (T.list transcript.old) seat.old in
+        let after = connection left' (K.written sink.new) (T.list transcript.new) seat.new in
+        MatchResult result (λ _. IsAnsweredBy message.now before after)
+        (λ end. IsNotAnswered message.now before after end) }
+    ensures write { IsErrOf result ServeEnd.WriteFault →
+        Rose (K.faults sink.old) (K.faults sink.new) }
+    ensures later { K.faults sink.old ≤ K.faults sink.new }
+{
+    let exchange = match exchange(rt, alloc, seat, message) {
+        Err(end) => return Err(end),
+        Ok(exchange) => exchange,
+    };
+    let reply = match sized_reply(alloc, &exchange) {
+        Err(_) => return Err(ServeEnd::NoMemory),
+        Ok(reply) => reply,
+    };
+    if transcript.add(exchange).is_err() {
+        return Err(ServeEnd::NoMemory);
+    }
+    match sink.put(reply.as_slice()) {
+        Err(_) => Err(ServeEnd::WriteFault),
+        Ok(()) => Ok(()),
+    }
+}
+
+// Takes the message that begins at `at` and answers it, or tells how the connection ends. It answers the place behind the
+// message.
+fn serve_message<R: Wait, S: Source, K: Sink, T: Transcript>(
+    rt: &R,
+    alloc: Global,
+    seat: &mut ClientSeat,
+    source: &mut S,
+    sink: &mut K,
+    transcript: &mut T,
+    at: u64,
+) -> Result<u64, ServeEnd>
+    requires { at ≤ MOST_SESSION_BYTES }
+    ensures goes { (first : AnyConnection) →
+        let before =
+        connection (S.left source.old) (K.written sink.old) (T.list transcript.old) seat.old in
+        let after =
+        connection (S.left source.new) (K.written sink.new) (T.list transcript.new) seat.new in
+        ServedSoFar first before at →
+        MatchResult result (λ next. ServedSoFar first after next) (λ end. Served first after end) }
+    ensures further { IfOk result (λ next. (at < next) × (next ≤ MOST_SESSION_BYTES)) }
+    ensures read { IsErrOf result ServeEnd.ReadFault →
+        Rose (S.faults source.old) (S.faults source.new) }
+    ensures write { IsErrOf result ServeEnd.WriteFault →
+        Rose (K.faults sink.old) (K.faults sink.new) }
+    ensures source_later { S.faults source.old ≤ S.faults source.new }
+    ensures sink_later { K.faults sink.old ≤ K.faults sink.new }
+{
+    match read_message(alloc, source, at) {
+        Err(end) => Err(end),
+        Ok((message, next)) => {
+            match answer_message(rt, alloc, seat, message.as_slice(), sink, transcript) {
+                Err(end) => Err(end),
+                Ok(()) => Ok(next),
+            }
+        }
+    }
+}
+
+// Serves one message after the other.
+fn serve_messages<R: Wait, S: Source, K: Sink, T: Transcript>(
+    rt: &R,
+    alloc: Global,
+    seat: &mut ClientSeat,
+    source: &mut S,
+    sink: &mut K,
+    transcript: &mut T,
+) -> ServeEnd
+    ensures served { let before =
+        connection (S.left source.old) (K.written sink.old) (T.list transcript.old) seat.old in
+        let after =
+        connection (S.left source.new) (K.written sink.new) (T.list transcript.new) seat.new in
+        Served before after result }
+    ensures read { result ≡ ServeEnd.ReadFault → Rose (S.faults source.old) (S.faults source.new) }
+    ensures write { result ≡ ServeEnd.WriteFault → Rose (K.faults sink.old) (K.faults sink.new) }
+{
+    let mut at = 0;
+    loop {
+        match serve_message(rt, alloc, seat, source, sink, transcript, at) {
+            Err(end) => return end,
+            Ok(next) => at = next,
+        }
+    }
+}
+
+/// Serves one client's connection until it ends. Each message is answered before the next one is taken: a write by `submit`, a
+/// read by `read`, and what is no call by its error; then the exchange is told, and the reply is written behind its size, by one
+/// put.
+pub fn serve_client<R: Wait, S: Source, K: Sink, T: Transcript>(
+    rt: &R,
+    alloc: Global,
+    seat: &mut ClientSeat,
+    source: &mut S,
+    sink: &mut K,
+    transcript: &mut T,
+) -> ServeEnd
+    // What was taken, written, told and asked of the seat, at each end.
+    ensures served { let before =
+        connection (S.left source.old) (K.written sink.old) (T.list transcript.old) seat.old in
+        let after =
+        connection (S.left source.new) (K.written sink.new) (T.list transcript.new) seat.new in
+        Served before after result }
+    // The seat's list goes on.
+    ensures onward { Onward seat.old.seen seat.new.seen }
+
+    // A fault is told only where that object's count rose in this call, and no copy only where the seat's did.
+    ensures read { result ≡ ServeEnd.ReadFault → Rose (S.faults source.old) (S.faults source.new) }
+    ensures write { result ≡ ServeEnd.WriteFault → Rose (K.faults sink.old) (K.faults sink.new) }
+    ensures copy { result ≡ ServeEnd.NoCopy → Rose seat.old.misses seat.new.misses }
+
+    // Where no count rose: whole messages are served out, and others up to where they break.
+    ensures complete { (Rose (S.faults source.old) (S.faults source.new) → ⊥) →
+        (Rose (K.faults sink.old) (K.faults sink.new) → ⊥) →
+        (Rose seat.old.misses seat.new.misses → ⊥) → ServesMessages (S.left source.old) result }
+    ensures broken { (Rose (S.faults source.old) (S.faults source.new) → ⊥) →
+        (Rose (K.faults sink.old) (K.faults sink.new) → ⊥) →
+        (Rose seat.old.misses seat.new.misses → ⊥) → ServesUpToBreak (S.left source.old) result }
+{
+    serve_messages(rt, alloc, seat, source, sink, transcript)
+}
