@@ -76,7 +76,10 @@ impl LocalQuorum {
     // The batch was appended.
     fn count(&mut self, heading: &Heading)
         requires { IsInLog heading.now }
-        ensures { self.new ≡ record self.old { left = after_append self.old.left; due = due_after self.old heading.now } }
+        ensures { self.new ≡ record self.old {
+          left = after_append self.old.left;
+          due = due_after self.old heading.now;
+        } }
     {
         if !self.plan.count() {
             return;
