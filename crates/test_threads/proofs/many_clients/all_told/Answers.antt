@@ -1,0 +1,7 @@
+use denote.Param.Send.{sendable}
+use denote.Param.SendFields.{declared_send}
+use Rattle.kr_shared.proofs.Sent.{worker_send}
+use Rattle.test_threads.proofs.many_clients.all_told.Goals as goal
+
+pub join-turned-requires-send-F : goal.join-turned-requires-send-F
+join-turned-requires-send-F g c κs within = search (sendable, declared_send, worker_send) depth 20
