@@ -17,7 +17,7 @@ fn make_lines(alloc: Global, seed: u32) -> Result<String, NoMemory>
     Ok(summary_text(alloc, &summary)?)
 }
 
-/// WritesSummary the session of this number, and writes what came of it by one put.
+/// Makes the session of this number, and writes what came of it by one put.
 pub(crate) fn write_summary<K: Sink>(
     alloc: Global,
     seed: u32,

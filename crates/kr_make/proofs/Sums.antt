@@ -1,5 +1,5 @@
 -- What is counted of a session is its summary.
-use Rattle.std.proofs.Common.{◌≡◌, ◌≤◌, ℕ, ◌+◌, ◌-◌, ◌^◌, List, length, sym, ap, ◌∙◌, arith}
+use Rattle.std.proofs.Common.{◌≡◌, ◌≤◌, ℕ, ◌+◌, ◌*◌, ◌-◌, ◌^◌, List, length, sym, ap, ◌∙◌, arith}
 use Rattle.std.specs.Prelude.{filter, min, not, unsigned_abs}
 use Rattle.kr_calls.specs.declared.events.Output.{Output}
 use Rattle.kr_defs.proofs.Maps.{length-filter_le}
@@ -7,11 +7,12 @@ use Rattle.kr_make.specs.declared.host.Host.{Host}
 use Rattle.kr_make.specs.declared.summary.Summary.{Summary}
 use Rattle.kr_make.specs.inner.Standing.{HasMade}
 use Rattle.kr_make.specs.Replies.{is_ok}
-use Rattle.kr_make.specs.Session.{Made, options}
+use Rattle.kr_make.specs.Session.{Made, made_session, options}
 use Rattle.kr_make.specs.Summary.{led_of, replies_of, summary}
 use Rattle.kr_make.specs.inner.Counting.{capped_sum}
 use Rattle.kr_make.proofs.Counts.{joined}
 use Rattle.kr_make.proofs.Goings.{end_seen, image_seen}
+use Rattle.kr_make.proofs.Lengths.{session_few}
 use Rattle.kr_make.proofs.Playing.{given_so}
 
 same_numbers : (a a' b b' c c' d d' e e' f f' : ℕ) → a ≡ a' → b ≡ b' → c ≡ c' → d ≡ d' → e ≡ e' → f ≡ f'
@@ -49,3 +50,11 @@ summed seed made host stands few kept led kept_is led_is =
     (counts_low _ _ stands.counted.ok_so (omega (arith, few, told, oks)) ∙ ap (λ (g : List (List Output)). length (filter is_ok (replies_of (joined g)))) given)
     (counts_low _ _ stands.counted.refused_so (omega (arith, few, told, others)) ∙ ap (λ (g : List (List Output)). length (filter (λ reply. not (is_ok reply)) (replies_of (joined g)))) given)
     (led_is ∙ ap led_of (sym (image_seen seed made host stands)))
+
+-- the events of a session are few
+pub sum_is_few : (seed rounds : ℕ) (found : Summary) → found ≡ summary (options seed) (made_session seed rounds).events → found.events ≤ 625 + 4 * rounds
+unfolding summary
+sum_is_few seed rounds found is =
+    let few = session_few seed rounds in
+    let same = ap (λ (sum : Summary). sum.events) is in
+    omega (arith, few, same)

@@ -12,8 +12,6 @@ mod costs;
 #[cfg(test)]
 mod encoders;
 #[cfg(test)]
-mod makes;
-#[cfg(test)]
 mod objects;
 #[cfg(test)]
 mod rounds;

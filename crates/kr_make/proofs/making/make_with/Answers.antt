@@ -4,6 +4,7 @@ use Rattle.kr_make.specs.Session.{Made, options}
 use Rattle.kr_make.proofs.Goings.{may_go_on}
 use Rattle.kr_make.proofs.Lengths.{session_few}
 use Rattle.kr_make.proofs.Parts.{made_session_is}
+use Rattle.kr_make.proofs.Sums.{sum_is_few}
 use Rattle.kr_make.proofs.making.make_with.Goals as goal
 
 pub open-requires : goal.open-requires
@@ -16,11 +17,14 @@ rounds-requires g c = may_go_on _ _ _ 312 1 c.in_ok-open.ensures c.args.rounds c
   few = omega (arith, c.in_ok-host.ensures.epoch, c.requires.rounds);
 })
 
-pub returns : goal.returns
-returns g c =
+pub returns-clause-value : goal.returns-clause-value
+returns-clause-value g c =
     let opened = c.in_ok-open.ensures.stands c.args.seed _ c.in_ok-host.ensures.stands in
     let played = c.in_ok-rounds.ensures.stands c.args.seed _ opened in
     let few = session_few c.args.seed c.args.rounds in
     let is = made_session_is c.args.seed c.args.rounds in
     let long = ap (λ (made : Made). length made.events) is in
     c.summary.ensures c.args.seed _ played (omega (arith, few, long, c.requires.rounds)) ∙ ap (λ (made : Made). summary (options c.args.seed) made.events) is
+
+pub returns-clause-linear : goal.returns-clause-linear
+returns-clause-linear g c = sum_is_few c.args.seed c.args.rounds c.summary.result (returns-clause-value g c)
