@@ -50,7 +50,9 @@ impl Termination for Ended {
 pub fn tell_refused<R: Eprint>(rt: &R) -> Ended
     ensures { result ≡ Ended.Usage }
 {
-    let _ = eprintln!(rt; "usage: kr_daemon --listen ADDR --node N --cluster TEXT --salt N [--link ADDR] [--clients N]");
+    let _ = eprintln!(rt;
+        "usage: kr_daemon --listen ADDR --node N --cluster TEXT --salt N [--link ADDR] [--clients N]"
+    );
     Ended::Usage
 }
 

@@ -6,9 +6,8 @@ ghost use Rattle.kr_queue.specs.Jobs.{is_link_event};
 use kr_calls::Event;
 use kr_shared::LinkSeat;
 use std::sync::Wait;
-use std::thread;
-use std::time;
 use std::time::Duration;
+use std::{thread, time};
 
 // How long a thread rests before it tries again what failed, in milliseconds.
 const REST_MS: u64 = 10;

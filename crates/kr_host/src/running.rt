@@ -88,10 +88,7 @@ fn connect_to<R: Net<Stream = TcpStream> + Eprint>(
     }
 }
 
-fn halves<R: Net<Stream = TcpStream>>(
-    rt: &R,
-    address: &str,
-) -> io::Result<(TcpStream, TcpStream)> {
+fn halves<R: Net<Stream = TcpStream>>(rt: &R, address: &str) -> io::Result<(TcpStream, TcpStream)> {
     let stream = TcpStream::connect(rt, address)?;
     stream.set_nodelay(true)?;
     let other = stream.try_clone()?;

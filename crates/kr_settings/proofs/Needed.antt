@@ -1,5 +1,5 @@
 -- Each option that is needed has a value where a parse succeeds.
-use Rattle.std.proofs.Common.{◌≡◌, true, false, ◌<◌, ℕ, List, [], ◌∷◌, map, length, codes, refl, ap, sym, subst, arith}
+use Rattle.std.proofs.Common.{◌≡◌, true, false, ◌<◌, ℕ, List, [], ◌∷◌, map, codes, refl, ap, sym, subst, arith}
 use Rattle.std.specs.Prelude.{is_some}
 use Rattle.std.specs.List.{All, slice_index_or}
 use Rattle.std.proofs.lemmas.List.Elements.{All-cons, All-nil}

@@ -1,15 +1,8 @@
-use Rattle.std.proofs.Common.{rules, ◌≡◌, ◌∙◌, true, false, IfOk, Some, ℕ, ◌<◌, length, List, [], ◌∷◌, codes, refl, sym, ap, ap₂, arith}
+use Rattle.std.proofs.Common.{◌≡◌, ◌∙◌, true, false, [], refl, ap, ap₂}
 use Rattle.std.proofs.lemmas.Result.{IfOk-weaker}
-use Rattle.std.proofs.lemmas.List.Elements.{All-cons, All-nil}
-use Rattle.clap.specs.Words.{App, AddsInTurn, AddsArg, IsParsedFrom, app_of, args_of, groups_of, new_app, rule_of, with_rule, first_value, found_of}
+use Rattle.clap.specs.Words.{app_of, args_of, groups_of, with_rule}
 use Rattle.clap.specs.Simple.{on_top}
-use Rattle.clap.specs.Built.{FitsChain}
-use Rattle.clap.specs.declared.builder.arg.Arg.{Arg}
-use Rattle.clap.specs.declared.builder.command.Command.{Command}
 use Rattle.clap.specs.declared.builder.command.Command.TheViews.{out-Command}
-use Rattle.clap.specs.declared.parser.matches.ArgMatches.{ArgMatches}
-use Rattle.clap.proofs.CallerLemmas.{required_in_chain}
-use Rattle.std.specs.Prelude.{is_some, map}
 use Rattle.kr_settings.specs.Words as words
 use Rattle.kr_settings.specs.Words.{HasNeeded, IsOption}
 use Rattle.kr_settings.proofs.Needed.{IsBare, Six, has_needed}

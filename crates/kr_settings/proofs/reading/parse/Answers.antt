@@ -1,6 +1,6 @@
-use Rattle.std.proofs.Common.{◌≡◌, ◌∙◌, ℕ, List, true, false, Bool, IsErrOf, map, refl, sym, ap, ap₂, rules}
+use Rattle.std.proofs.Common.{◌≡◌, ◌∙◌, true, false, Bool, map, refl, ap, ap₂}
 use Rattle.clap.proofs.WalkLemmas.{first_value-rows}
-use Rattle.clap.specs.Words.{first_of, first_value, matches_of, found_of, is_simple, kind_of, takes}
+use Rattle.clap.specs.Words.{first_of, matches_of, found_of, is_simple, takes}
 use Rattle.std.specs.Prelude.{Result, Ok, Err}
 use Rattle.kr_settings.specs.declared.told.SettingsFault.TheVariants.{Refused}
 use Rattle.kr_settings.specs.Words as spec

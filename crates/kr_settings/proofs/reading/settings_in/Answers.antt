@@ -1,10 +1,8 @@
-use Rattle.std.proofs.Common.{rules, ◌≡◌, ◌∙◌, ◌≤◌, ◌<◌, ◌⊎◌, ℕ, List, Option, Some, None, codes, length, map, option_map, refl, sym, ap, inl, inr, pos, arith}
+use Rattle.std.proofs.Common.{rules, ◌≡◌, ◌∙◌, ◌<◌, ◌⊎◌, ℕ, List, Option, Some, None, codes, map, option_map, refl, sym, ap, inl, inr, pos}
 use Rattle.std.specs.Prelude.{option_and_then, IsSomeAnd}
 use Rattle.std.specs.Borrow.{Bor}
-use Rattle.clap.specs.Words.{first_value, found_of}
 use Rattle.kr_defs.specs.Texts.{decimal_up_to}
-use Rattle.kr_settings.specs.Words as spec
-use Rattle.kr_settings.specs.Words.{AreWrong, HasNeeded, Says, SaysClients, value_of, number_of}
+use Rattle.kr_settings.specs.Words.{AreWrong, SaysClients, value_of}
 use Rattle.kr_settings.proofs.reading.settings_in.Goals as goal
 
 -- the answer of `get_str` and what the words say are the same
