@@ -52,6 +52,7 @@ fn accept_all<R: Wait + Eprint + time::Clock + Copy>(
     }
 }
 
+#[tactic(auto, using(kr_shared::proofs::Sent::client_send))]
 /// A thread for each seat, which serves one connection after the other, until the worker is stopped.
 pub fn spawn_clients<R: Threads + Wait + Eprint + time::Clock + Send + Copy + 'static>(
     rt: R,

@@ -1,6 +1,6 @@
 //! The events that the link's seat takes.
 
-ghost use Rattle.std.specs.Prelude.{◌≡◌, IfSome, IfNone, IsTrue};
+ghost use Rattle.std.specs.Prelude.{◌≡◌, false, IfSome, IfNone, IsTrue};
 ghost use Rattle.kr_queue.specs.Jobs.{is_link_event};
 
 use kr_calls::Event;
