@@ -2,7 +2,6 @@
 
 use crate::door::Door;
 use crate::events::rest;
-use crate::local::{Ticking, tick};
 use kr_base::{NoMemory, ReadSource, WriteSink};
 use kr_server::{NoTranscript, ServeEnd, serve_client};
 use kr_shared::ClientSeat;
@@ -22,14 +21,13 @@ fn serve<R: Wait>(rt: &R, alloc: Global, seat: &mut ClientSeat, stream: &TcpStre
     serve_client(rt, alloc, seat, &mut source, &mut sink, &mut NoTranscript)
 }
 
-/// Accepts one connection after the other and serves it at the seat, until the worker is stopped. Where `ticking` is there,
-/// the controller is told the time at each connection.
+/// Accepts one connection after the other and serves it at the seat, until the worker is stopped. At each connection the
+/// controller is told the time, where its quorum doesn't.
 fn accept_all<R: Wait + Eprint + time::Clock + Copy>(
     rt: &R,
     alloc: Global,
     mut seat: ClientSeat,
     door: &Door,
-    ticking: &Option<Ticking>,
 ) {
     for _ in rt.forever() {
         let Ok((stream, _)) = door.listener.accept() else {
@@ -39,9 +37,7 @@ fn accept_all<R: Wait + Eprint + time::Clock + Copy>(
         if door.is_closed() {
             return;
         }
-        if let Some(link) = ticking {
-            tick(rt, link);
-        }
+        door.tick(rt);
         match serve(rt, alloc, &mut seat, &stream) {
             ServeEnd::Ended { .. } => return,
             ServeEnd::NoMemory => {
@@ -52,32 +48,20 @@ fn accept_all<R: Wait + Eprint + time::Clock + Copy>(
     }
 }
 
-#[tactic(auto, using(kr_shared::proofs::Sent::client_send))]
 /// A thread for each seat, which serves one connection after the other, until the worker is stopped.
 pub fn spawn_clients<R: Threads + Wait + Eprint + time::Clock + Send + Copy + 'static>(
     rt: R,
     alloc: Global,
     door: &Arc<Door, Global>,
     seats: Vec<ClientSeat>,
-    ticking: &Option<Ticking>,
 ) -> Result<Vec<JoinHandle<()>>, NoMemory> {
     let mut threads = Vec::new(alloc);
     for seat in seats {
         let door = Arc::try_clone(door)?;
-        let ticking = again(ticking)?;
-        let thread = thread::spawn(&rt, move || accept_all(&rt, alloc, seat, &door, &ticking));
-        match thread {
+        match thread::spawn(&rt, move || accept_all(&rt, alloc, seat, &door)) {
             Ok(thread) => threads.push(thread)?,
             Err(_) => return Err(NoMemory),
         }
     }
     Ok(threads)
-}
-
-// The same link once more.
-fn again(ticking: &Option<Ticking>) -> Result<Option<Ticking>, NoMemory> {
-    match ticking {
-        Some(link) => Ok(Some(Arc::try_clone(link)?)),
-        None => Ok(None),
-    }
 }

@@ -20,6 +20,6 @@ pub use ended::{Ended, tell_no_memory, tell_refused};
 pub use link::spawn_link;
 pub use link_quorum::LinkQuorum;
 pub use linked::turn_linked;
-pub use local::{Ticking, lead_alone, turn_alone};
+pub use local::{lead_alone, turn_alone};
 pub use opening::{Opened, open_seats, options_of};
 pub use running::run;

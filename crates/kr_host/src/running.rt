@@ -129,15 +129,13 @@ where
     R: Threads + Wait + Print + Eprint + AllocGlobal + time::Clock + Send + Copy + 'static,
 {
     let alloc = rt.alloc();
-    let door = Arc::new(alloc, Door::new(listener))?;
+    let mut link = link;
     let mut quorum = LocalQuorum::new(alloc, Vec::new(alloc), Vec::new(alloc))?;
-    let ticking = Some(lead_alone(&rt, alloc, link)?);
-    let _threads = spawn_clients(rt, alloc, &door, seats, &ticking)?;
+    lead_alone(&rt, &mut link);
+    let door = Arc::new(alloc, Door::alone(listener, link))?;
+    let _threads = spawn_clients(rt, alloc, &door, seats)?;
     let _ = println!(&rt; "listening");
-    match &ticking {
-        Some(link) => Ok(turn_alone(&rt, worker, &mut quorum, link)),
-        None => Ok(Ended::Done),
-    }
+    Ok(turn_alone(&rt, worker, &mut quorum, &door))
 }
 
 // Serves clients of a controller whose quorum is at the other end of the link.
@@ -154,9 +152,9 @@ where
 {
     let alloc = rt.alloc();
     let (there, back) = halves;
-    let door = Arc::new(alloc, Door::new(listener))?;
+    let door = Arc::new(alloc, Door::linked(listener))?;
     let mut quorum = LinkQuorum::new(rt, alloc, there)?;
-    let _threads = spawn_clients(rt, alloc, &door, seats, &None)?;
+    let _threads = spawn_clients(rt, alloc, &door, seats)?;
     let _thread = spawn_link(rt, alloc, back, link)?;
     let _ = println!(&rt; "listening");
     Ok(turn_linked(&rt, worker, &mut quorum))
