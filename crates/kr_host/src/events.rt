@@ -1,6 +1,7 @@
 //! The events that the link's seat takes.
 
-ghost use Rattle.std.specs.Prelude.{◌≡◌, false, IfSome, IfNone, IsTrue};
+ghost use Rattle.std.specs.Prelude.{◌≡◌, ◌++◌, ◌∷◌, [], false, IfSome, IfNone, IsTrue};
+ghost use Rattle.kr_queue.specs.declared.jobs.Job.TheVariants as jobs;
 ghost use Rattle.kr_queue.specs.Jobs.{is_link_event};
 
 use kr_calls::Event;
@@ -34,6 +35,7 @@ pub(crate) fn link_event(event: Event) -> Option<Event>
 /// Pushes an event, again and again where there is no memory for it: nothing is pushed before it.
 pub(crate) fn push<R: Wait + time::Clock>(rt: &R, link: &mut LinkSeat, event: Event)
     requires { IsTrue (is_link_event event) }
+    ensures { link.new ≡ link.old ++ jobs.Link event ∷ [] }
 {
     let mut event = event;
     for _ in rt.forever() {
@@ -45,14 +47,18 @@ pub(crate) fn push<R: Wait + time::Clock>(rt: &R, link: &mut LinkSeat, event: Ev
             }
         }
     }
+    unreachable!()
 }
 
 /// Stops the worker: again and again where there is no memory for it.
-pub(crate) fn stop<R: Wait + time::Clock>(rt: &R, link: &mut LinkSeat) {
+pub(crate) fn stop<R: Wait + time::Clock>(rt: &R, link: &mut LinkSeat)
+    ensures { link.new ≡ link.old ++ jobs.Stop 1 ∷ [] }
+{
     for _ in rt.forever() {
         match link.stop(rt, STOP) {
             Ok(()) => return,
             Err(_) => rest(rt),
         }
     }
+    unreachable!()
 }

@@ -1,5 +1,7 @@
 //! A controller with a quorum of its own, which commits at once.
 
+ghost use Rattle.kr_host.specs.Leading.{Leads};
+
 use crate::door::Door;
 use crate::ended::{Ended, tell_no_memory};
 use crate::events::{link_event, push};
@@ -15,7 +17,9 @@ use std::time;
 const EPOCH: i32 = 1;
 
 /// Leads from the first place of the log on.
-pub fn lead_alone<R: Wait + time::Clock + Copy>(rt: &R, link: &mut LinkSeat) {
+pub fn lead_alone<R: Wait + time::Clock + Copy>(rt: &R, link: &mut LinkSeat)
+    ensures { Leads link.old link.new }
+{
     let lead = Event::Lead {
         epoch: EPOCH,
         next: 0,

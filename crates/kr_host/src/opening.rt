@@ -1,7 +1,8 @@
 //! The seats of a daemon.
 
-ghost use Rattle.std.specs.Prelude.{◌≡◌, ◌<◌, ◌≤◌, length, IsTrue, pos, ◌≤ℤ◌};
+ghost use Rattle.std.specs.Prelude.{◌≡◌, ◌<◌, ◌≤◌, ◌≤ℤ◌, ◌⊎◌, pos, length, IsTrue, IfOk, IfErr};
 ghost use Rattle.kr_defs.specs.OpenOptions.{are_options};
+ghost use Rattle.kr_shared.specs.Opened.{AreSeated};
 
 use crate::ended::{Ended, tell_no_memory, tell_no_place};
 use kr_defs::{Options, Text};
@@ -44,6 +45,8 @@ pub fn open_seats<R: Wait + Eprint>(
 ) -> Result<Opened, Ended>
     requires options { IsTrue (are_options options) }
     requires clients { (0 < clients) × (clients ≤ 64) }
+    ensures ok { IfOk result (λ r. AreSeated options clients r.0 r.1 r.2.items) }
+    ensures err { IfErr result (λ end. (end ≡ Ended.NoMemory) ⊎ (end ≡ Ended.NoPlace)) }
 {
     match open(rt, alloc, &mut Opening::new(), options, clients) {
         Ok((worker, link, seats)) => Ok((worker, link, seats.into_vec())),
