@@ -5,13 +5,13 @@ use kr_base::NoMemory;
 use kr_defs::Text;
 use kr_host::{Door, Ended, lead_alone, open_seats, options_of, spawn_clients, turn_alone};
 use kr_local::LocalQuorum;
-use kr_shared::{ClientSeat, WorkerSeat};
+use kr_shared::{ClientSeat, LinkSeat, WorkerSeat};
 use std::alloc::Global;
 use std::io::Eprint;
 use std::net::{Net, SocketAddr, TcpListener, TcpStream};
 use std::sync::{Arc, Wait};
 use std::test::Fail;
-use std::thread::Threads;
+use std::thread::{JoinHandle, Threads};
 use std::{io, thread, time};
 
 fn is_served<R: Net<Stream = TcpStream>>(rt: &R, address: SocketAddr) -> io::Result<bool> {
@@ -33,7 +33,16 @@ fn ask_and_stop<R: Net<Stream = TcpStream> + Wait + time::Clock>(
     served
 }
 
-// The daemon's part, until it is stopped; then all threads are ended.
+type Doors = (Arc<Door, Global>, Arc<Door, Global>);
+
+// The door, twice.
+fn doors(alloc: Global, listener: TcpListener, link: LinkSeat) -> Result<Doors, NoMemory> {
+    let door = Arc::new(alloc, Door::alone(listener, link))?;
+    let theirs = Arc::try_clone(&door)?;
+    Ok((door, theirs))
+}
+
+// The daemon's part, until the client has stopped it; then all threads are ended.
 fn serve<R>(
     rt: R,
     alloc: Global,
@@ -41,16 +50,13 @@ fn serve<R>(
     door: &Arc<Door, Global>,
     worker: &mut WorkerSeat,
     seats: Vec<ClientSeat>,
+    client: JoinHandle<bool>,
 ) -> Result<bool, NoMemory>
 where
     R: Net<Stream = TcpStream> + Threads + Wait + Eprint + time::Clock + Send + Copy + 'static,
 {
     let mut quorum = LocalQuorum::new(alloc, Vec::new(alloc), Vec::new(alloc))?;
     let threads = spawn_clients(rt, alloc, door, seats)?;
-    let theirs = Arc::try_clone(door)?;
-    let Ok(client) = thread::spawn(&rt, move || ask_and_stop(&rt, address, &theirs)) else {
-        return Err(NoMemory);
-    };
     let ended = turn_alone(&rt, worker, &mut quorum, door);
     let served = client.join(&rt);
     end_all(&rt, address, door, threads);
@@ -65,9 +71,14 @@ fn a_client_is_served(rt: HostRuntime) -> Result<(), Fail> {
     let options = options_of(1, Text::from_str(alloc, "c1")?, 7);
     let (mut worker, mut link, seats) = open_seats(&rt, alloc, options, 2).ok().ok_or("seats")?;
     lead_alone(&rt, &mut link);
-    let served = match Arc::new(alloc, Door::alone(listener, link)) {
-        Ok(door) => serve(rt, alloc, address, &door, &mut worker, seats),
-        Err(_) => Err(NoMemory),
+    let served = match doors(alloc, listener, link) {
+        Err(fault) => Err(fault),
+        Ok((door, theirs)) => {
+            match thread::spawn(&rt, move || ask_and_stop(&rt, address, &theirs)) {
+                Err(_) => Err(NoMemory),
+                Ok(client) => serve(rt, alloc, address, &door, &mut worker, seats, client),
+            }
+        }
     };
     worker.close(&rt);
     assert!(rt; served?);

@@ -89,22 +89,6 @@ fn is_served<R: Net<Stream = TcpStream>>(
     Ok(written && bare)
 }
 
-fn spawn_askers<R: Net<Stream = TcpStream> + Threads + Send + Copy + 'static>(
-    rt: R,
-    alloc: Global,
-    address: SocketAddr,
-) -> Result<Vec<JoinHandle<bool>>, NoMemory> {
-    let mut askers = Vec::new(alloc);
-    for number in 0..CLIENTS {
-        let digit = b'2'.saturating_add(number);
-        match thread::spawn(&rt, move || is_served(&rt, address, digit).unwrap_or(false)) {
-            Ok(asker) => askers.push(asker)?,
-            Err(_) => return Err(NoMemory),
-        }
-    }
-    Ok(askers)
-}
-
 // The daemon's part, until the link ends; then all threads are ended.
 fn serve<R>(
     rt: R,
@@ -113,6 +97,7 @@ fn serve<R>(
     address: SocketAddr,
     halves: (TcpStream, TcpStream),
     opened: (&mut WorkerSeat, LinkSeat, Vec<ClientSeat>),
+    askers: Vec<JoinHandle<bool>>,
 ) -> Result<bool, NoMemory>
 where
     R: Net<Stream = TcpStream> + Threads + Wait + Eprint + time::Clock + Send + Copy + 'static,
@@ -122,7 +107,6 @@ where
     let door = Arc::new(alloc, Door::linked(listener))?;
     let mut quorum = LinkQuorum::new(rt, alloc, there)?;
     let threads = spawn_clients(rt, alloc, &door, seats)?;
-    let askers = spawn_askers(rt, alloc, address)?;
     let reading = spawn_link(rt, alloc, back, link)?;
     let ended = turn_linked(&rt, worker, &mut quorum);
     reading.join(&rt);
@@ -145,6 +129,14 @@ fn three_clients_are_served_over_a_link(rt: HostRuntime) -> Result<(), Fail> {
     let leading = thread::spawn(&rt, move || be_quorum(&quorum))
         .ok()
         .ok_or("a thread")?;
+    let mut askers = Vec::new(alloc);
+    for number in 0..CLIENTS {
+        let digit = b'2'.saturating_add(number);
+        let asker = thread::spawn(&rt, move || is_served(&rt, address, digit).unwrap_or(false))
+            .ok()
+            .ok_or("a thread")?;
+        askers.push(asker)?;
+    }
     let options = options_of(1, Text::from_str(alloc, "c1")?, 7);
     let (mut worker, link, seats) = open_seats(&rt, alloc, options, 3).ok().ok_or("seats")?;
     let served = serve(
@@ -154,6 +146,7 @@ fn three_clients_are_served_over_a_link(rt: HostRuntime) -> Result<(), Fail> {
         address,
         (there, back),
         (&mut worker, link, seats),
+        askers,
     );
     worker.close(&rt);
     assert!(rt; served?);
