@@ -12,7 +12,9 @@ use std::io::{Read, Write};
 /// A source over a reader. It tells what is left only where the reader does.
 #[derive(Drop)]
 pub struct ReadSource<R: Read> {
+    // What is read.
     inner: R,
+    // How many reads failed; the count stands still at the greatest u64.
     faults: u64,
 }
 
@@ -50,7 +52,9 @@ impl<R: Read> Source for ReadSource<R> {
 /// that isn't empty is a fault.
 #[derive(Drop)]
 pub struct WriteSink<W: Write> {
+    // What is written to.
     inner: W,
+    // How many puts failed; the count stands still at the greatest u64.
     faults: u64,
 }
 

@@ -35,8 +35,11 @@ pub trait Clock {
 /// The system's clock: the time since the year 1970. Where the system doesn't tell it, the last answer stands.
 #[derive(Drop)]
 pub struct SystemClock<C: time::Clock> {
+    // The clock that is asked.
     clock: C,
+    // The last answer, in milliseconds.
     last: i64,
+    // How often it was asked.
     asks: u64,
     ghost first: { asks ≡ 0 → last ≡ pos 0 },
     ghost natural: { pos 0 ≤ℤ last },
@@ -90,8 +93,11 @@ impl<C: time::Clock> Clock for SystemClock<C> {
 /// A clock that answers by a list of times, and after its end by the last of them. A negative one counts as 0.
 #[derive(Drop)]
 pub struct MemoryClock {
+    // All times, in milliseconds.
     times: Vec<i64>,
+    // The last answer, in milliseconds.
     last: i64,
+    // How often it was asked.
     asks: u64,
 }
 

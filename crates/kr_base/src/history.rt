@@ -18,6 +18,7 @@ pub(crate) enum Past<A> {
 /// The values that something has come through, in order. A clause sees the list; a program has no bytes of it.
 #[derive(Drop)]
 pub struct History<A> {
+    // The values, which clauses alone see.
     past: Snapshot<Past<A>>,
 }
 

@@ -14,10 +14,15 @@ use std::marker::Model;
 /// Bytes in memory, and the numbers of the reads that are to fail, counted from 1.
 #[derive(Drop)]
 pub struct MemorySource {
+    // All bytes, those that were read too.
     bytes: Vec<u8>,
+    // How many were read.
     at: usize,
+    // The numbers of the reads that fail.
     failing: Vec<u64>,
+    // How many reads there were.
     calls: u64,
+    // How many of them failed.
     faults: u64,
 }
 
@@ -109,11 +114,17 @@ fn copy_front(bytes: &[u8], at: usize, into: &mut [u8]) -> usize
 /// the sink is made.
 #[derive(Drop)]
 pub struct MemorySink {
+    // What was put so far.
     bytes: Vec<u8>,
+    // How many bytes are taken at most.
     room: usize,
+    // How many puts are taken at most.
     most: u64,
+    // The numbers of the puts that fail.
     failing: Vec<u64>,
+    // How many puts there were.
     calls: u64,
+    // How many of them failed.
     faults: u64,
 }
 

@@ -32,12 +32,19 @@ pub trait Quorum {
 /// the quorum is made.
 #[derive(Drop)]
 pub struct MemoryQuorum {
+    // The batches that were appended, one behind the other.
     bytes: Vec<u8>,
+    // The length of each of them, in bytes.
     sizes: Vec<usize>,
+    // How many bytes are taken at most.
     room: usize,
+    // How many batches are taken at most.
     most: u64,
+    // The numbers of the appends that fail.
     failing: Vec<u64>,
+    // How many appends there were.
     calls: u64,
+    // How many of them failed.
     faults: u64,
 }
 

@@ -9,6 +9,7 @@ use std::sync::Arc;
 /// A value that is held in several places at once, and freed with its last holder. A clause sees the value.
 #[derive(Drop)]
 pub struct Shared<T> {
+    // The value, with the count of its holders.
     held: Arc<T, Global>,
 }
 

@@ -8,7 +8,9 @@ use std::sync::ledger::{Blank, Book, Ledger, Share};
 /// How many steps were taken. It takes no bytes, and only `tick` changes it.
 #[derive(Drop)]
 pub struct Steps<L: Ledger> {
+    // The count, which clauses alone see.
     book: Book<L>,
+    // The right to raise it.
     share: Share<L>,
 }
 

@@ -27,5 +27,6 @@ pub struct Batch {
     pub epoch: i32,
     /// The greatest time that the leader had seen, in milliseconds.
     pub time: i64,
+    /// The records, or the one control record.
     pub items: Items,
 }

@@ -132,7 +132,7 @@ pub enum Reason {
     /// The log would pass its last place.
     #[error("no event of this kind fits behind {place}")]
     Exhausted {
-        /// The place that the event would begin at.
+        /// For a Lead its `next`, for a Batch its end, for a Load its offset, for a Tick and a Request the tip.
         place: i64,
     },
 }

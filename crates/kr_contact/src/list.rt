@@ -15,6 +15,7 @@ use std::sync::ledger::{Blank, Ledger};
 /// Brokers as they were heard of, in order of the last contact.
 #[derive(Drop)]
 pub struct ContactList {
+    // Where memory comes from.
     alloc: Global,
     // None until there is room.
     ring: Option<Ring>,

@@ -12,6 +12,7 @@ use std::marker::Model;
 /// A list of values, in order.
 #[derive(Debug, Drop)]
 pub struct Rows<T> {
+    // The values.
     list: Vec<T>,
 }
 

@@ -74,8 +74,8 @@ impl Engine {
     }
 
     /// The quorum committed this leader's log up to a place, whole batches at a time. All outputs are handed out before.
-    /// It takes no memory, and no longer with many replies that wait. It takes at most the steps that what is newly covered
-    /// weighs, and eight for each of its batches and once more.
+    /// It takes no memory, and at most the steps that what is newly covered weighs, and eight for each of its batches and
+    /// once more.
     #[tactic(auto, using(crate::proofs::CommitSteps::commit_step, crate::proofs::CommitSteps::commit_sound))]
     pub fn commit<L: Ledger>(&mut self, epoch: i32, end: i64, steps: &mut Steps<L>)
         requires drained { outputs_left self.old ≡ [] }

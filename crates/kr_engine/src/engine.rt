@@ -23,20 +23,35 @@ use std::mem;
 
 /// A controller that takes one event after the other.
 pub struct Engine {
+    /// Where memory comes from.
     pub(crate) alloc: Global,
+    /// The settings of the cluster, which never change.
     pub(crate) options: Options,
+    /// The image at the tip, and those kept at the committed end and at the ends of the batches above it.
     pub(crate) store: ImageStore,
+    /// Which brokers were heard of, and when, since this node leads.
     pub(crate) sessions: Sessions,
+    /// The place of the next record.
     pub(crate) tip: i64,
+    /// The place up to which the quorum has committed the log.
     pub(crate) committed: i64,
+    /// The leader epoch, while the node leads.
     pub(crate) leading: Option<i32>,
+    /// The greatest leader epoch that it was told of, -1 before the first.
     pub(crate) greatest: i32,
+    /// The number of events so far.
     pub(crate) count: u64,
+    /// The greatest time so far, in milliseconds.
     pub(crate) time: i64,
+    /// The place that the last leadership began at.
     pub(crate) led: i64,
+    /// The writes whose replies are not handed out yet, in the order in which they were decided.
     pub(crate) held: VecDeque<Write>,
+    /// The outputs of the last event that are not handed out yet.
     pub(crate) given: VecDeque<Output>,
+    /// The refusal of the last event, until it is handed out.
     pub(crate) refusal: Option<Output>,
+    /// The entries that the last step appended.
     pub(crate) fresh: Vec<Entry>,
 }
 

@@ -22,7 +22,9 @@ use std::sync::ledger::Ledger;
 
 /// An image with kept epochs.
 pub struct ImageStore {
+    // The maps of the image, and those of its kept epochs.
     timelines: Timelines,
+    // The kept epochs, each with its counts.
     kept: VecDeque<KeptCounts>,
 }
 

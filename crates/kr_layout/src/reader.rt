@@ -18,9 +18,13 @@ use std::marker::{Model, PhantomData};
 /// Bytes, of which those from a place on are still to be read. A clause sees these.
 #[derive(Drop)]
 pub struct Reader<'a, M> {
+    // Where memory comes from.
     alloc: Global,
+    // The kind of message that is read.
     mine: PhantomData<M>,
+    // All bytes.
     bytes: &'a [u8],
+    // How many were read.
     at: usize,
 }
 
@@ -55,12 +59,14 @@ impl<'a, M> Reader<'a, M> {
         self.bytes.len() - self.at
     }
 
+    /// Nothing is left.
     pub fn is_empty(&self) -> bool
         ensures { result ≡ (length self.now == 0) }
     {
         self.at == self.bytes.len()
     }
 
+    /// The next value, a signed number of one byte.
     pub fn i8(&mut self) -> Result<i8, ReadFault>
         ensures { Takes result self.new (signed_at w8 self.old) }
     {
@@ -69,6 +75,7 @@ impl<'a, M> Reader<'a, M> {
         Ok(number)
     }
 
+    /// The next value, a signed number of two bytes, the high byte first.
     pub fn i16(&mut self) -> Result<i16, ReadFault>
         ensures { Takes result self.new (signed_at w16 self.old) }
     {
@@ -77,6 +84,7 @@ impl<'a, M> Reader<'a, M> {
         Ok(number)
     }
 
+    /// The next value, a signed number of four bytes, the high byte first.
     pub fn i32(&mut self) -> Result<i32, ReadFault>
         ensures { Takes result self.new (signed_at w32 self.old) }
     {
@@ -85,6 +93,7 @@ impl<'a, M> Reader<'a, M> {
         Ok(number)
     }
 
+    /// The next value, a signed number of eight bytes, the high byte first.
     pub fn i64(&mut self) -> Result<i64, ReadFault>
         ensures { Takes result self.new (signed_at w64 self.old) }
     {
@@ -93,6 +102,7 @@ impl<'a, M> Reader<'a, M> {
         Ok(value)
     }
 
+    /// The next value, an unsigned number of two bytes, the high byte first.
     pub fn u16(&mut self) -> Result<u16, ReadFault>
         ensures { Takes result self.new (number_at w16 self.old) }
     {
@@ -110,6 +120,7 @@ impl<'a, M> Reader<'a, M> {
         Ok(value)
     }
 
+    /// The next value, a byte that is 0 for false.
     pub fn bool(&mut self) -> Result<bool, ReadFault>
         ensures { Takes result self.new (bool_at self.old) }
     {
@@ -118,6 +129,7 @@ impl<'a, M> Reader<'a, M> {
         Ok(value)
     }
 
+    /// The next value, a text behind its length.
     pub fn text(&mut self) -> Result<Text, ReadFault>
         ensures { Takes result self.new (text_at self.old) }
     {
@@ -127,6 +139,7 @@ impl<'a, M> Reader<'a, M> {
         Ok(text)
     }
 
+    /// The next value, a text behind its length, or null.
     pub fn text_or_null(&mut self) -> Result<Option<Text>, ReadFault>
         ensures { Takes result self.new (text_or_null_at self.old) }
     {

@@ -17,10 +17,15 @@ use std::marker::Model;
 /// heading of a batch alone, and keeps none.
 #[derive(Drop)]
 pub struct LocalQuorum {
+    // What is done at each append.
     plan: Plan,
+    // The events that wait to be taken.
     due: VecDeque<Event>,
+    // The numbers of the appends that fail, counted from 1.
     failing: Vec<u64>,
+    // How many appends there were.
     calls: u64,
+    // How many of them failed.
     faults: u64,
 }
 
@@ -76,7 +81,10 @@ impl LocalQuorum {
     // The batch was appended.
     fn count(&mut self, heading: &Heading)
         requires { IsInLog heading.now }
-        ensures { self.new ≡ record self.old { left = after_append self.old.left; due = due_after self.old heading.now } }
+        ensures { self.new ≡ record self.old {
+          left = after_append self.old.left;
+          due = due_after self.old heading.now;
+        } }
     {
         if !self.plan.count() {
             return;

@@ -12,7 +12,9 @@ use std::marker::Model;
 /// Brokers that are grouped by rack, for any number of placements.
 #[derive(Drop)]
 pub struct Grouped {
+    // The brokers of each rack.
     racks: Vec<Ids>,
+    // How many brokers there are.
     count: usize,
 }
 

@@ -12,6 +12,7 @@ use std::marker::Model;
 /// A list of brokers, each with the name of its rack, if it has one. No broker stands in it twice.
 #[derive(Debug, Drop)]
 pub struct Racked {
+    // The brokers, in the order of naming.
     list: Vec<(i32, Option<Text>)>,
 }
 
@@ -46,12 +47,14 @@ impl Racked {
         self.list.as_slice()
     }
 
+    /// How many brokers there are.
     pub fn len(&self) -> usize
         ensures { result ≡ length self.now }
     {
         self.list.len()
     }
 
+    /// No broker is there.
     pub fn is_empty(&self) -> bool
         ensures { result ≡ (length self.now == 0) }
     {

@@ -17,6 +17,7 @@ pub enum Role {
 
 /// What a pass knows. It stands in clauses alone: no value of it is made.
 pub struct View {
+    /// Whose pass it is.
     pub role: Role,
     /// The jobs that were pushed under this pass, in order.
     pub pushed: LinkedList<Job>,
@@ -29,6 +30,7 @@ pub struct View {
 /// The right to use a queue in one role. It takes no bytes.
 #[derive(Drop)]
 pub struct Pass {
+    /// What the queue library asks for.
     pub(crate) seat: SegPass<Job, View>,
 }
 
@@ -38,7 +40,10 @@ pub type ClientPasses = Rows<Pass>;
 /// All passes of a queue.
 #[derive(Drop)]
 pub struct Passes {
+    /// For the one that pops.
     pub worker: Pass,
+    /// For the one that pushes the quorum's events and the stops.
     pub link: Pass,
+    /// One for each client, in the order of their seats.
     pub clients: ClientPasses,
 }

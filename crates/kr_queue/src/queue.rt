@@ -18,6 +18,7 @@ use std::sync::{Arc, Wait};
 
 /// Jobs in the order in which they were pushed.
 pub struct Queue {
+    // The queue itself, with the rule on what each pass may do.
     ruled: RuledSegQueue<Job, View, QueueRule>,
 }
 

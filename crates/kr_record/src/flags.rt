@@ -16,7 +16,9 @@ use std::alloc::Global;
 /// The tagged fields of a change of a broker's registration.
 #[derive(Drop)]
 pub struct Flags {
+    /// 1 where the broker is fenced by it, -1 where it is unfenced, 0 where neither.
     pub fenced: i8,
+    /// 1 where the broker begins to stop, 0 where not.
     pub stopping: i8,
 }
 

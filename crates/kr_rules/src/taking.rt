@@ -27,8 +27,11 @@ use std::sync::ledger::Ledger;
 /// The records of a request so far, from its first place on.
 #[derive(Drop)]
 pub struct Work {
+    // The offset of the first record.
     start: i64,
+    // The records, in order.
     records: Vec<Record>,
+    // How many bytes their values take.
     bytes: usize,
 }
 

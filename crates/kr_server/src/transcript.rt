@@ -23,6 +23,7 @@ pub trait Transcript {
 /// Keeps the exchanges in memory.
 #[derive(Drop)]
 pub struct MemoryTranscript {
+    // The exchanges, in order.
     exchanges: Vec<Exchange>,
 }
 

@@ -16,8 +16,11 @@ use std::sync::ledger::Ledger;
 /// The brokers that were heard of since this node leads, and when they began to stop.
 #[derive(Drop)]
 pub struct Sessions {
+    // Where memory comes from.
     alloc: Global,
+    // The brokers in the order of their last contact.
     contacts: ContactList,
+    // Those of them that began to stop, and at which place.
     stopping: Vec<Stopping>,
 }
 

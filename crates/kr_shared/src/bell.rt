@@ -5,7 +5,9 @@ use std::sync::{Condvar, Mutex, Wait};
 /// A number behind a lock. Who waits for it to rise sleeps.
 #[derive(Drop)]
 pub struct Bell {
+    // Raised by each ring.
     number: Mutex<u64>,
+    // Wakes those that wait.
     rung: Condvar,
 }
 

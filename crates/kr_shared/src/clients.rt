@@ -159,12 +159,19 @@ fn wait_for<R: Wait>(
 /// call, and what it pushed.
 #[derive(Drop)]
 pub struct ClientSeat {
+    // Where memory comes from.
     alloc: Global,
+    // Where writes are pushed.
     queue: Arc<Queue, Global>,
+    // The right to push them.
     pass: Pass,
+    // Rung at each push, for the worker.
     jobs: Arc<Bell, Global>,
+    // Rung by the worker when it has published.
     copies: Arc<Bell, Global>,
+    // The committed copies.
     reader: ReaderSeat,
+    // The number of the last write.
     ticket: u64,
 }
 

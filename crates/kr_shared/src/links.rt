@@ -19,8 +19,11 @@ use std::sync::{Arc, Wait};
 /// What pushes the quorum's events, and the stops. A clause sees what it pushed so far.
 #[derive(Drop)]
 pub struct LinkSeat {
+    // Where events and stops are pushed.
     queue: Arc<Queue, Global>,
+    // The right to push them.
     pass: Pass,
+    // Rung at each push, for the worker.
     bell: Arc<Bell, Global>,
 }
 

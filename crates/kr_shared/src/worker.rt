@@ -32,13 +32,21 @@ pub enum Turn {
 
 /// The seat of the worker. It is not `Drop`: end it by `close`.
 pub struct WorkerSeat {
+    // Where jobs are popped.
     queue: Arc<Queue, Global>,
+    // The right to pop them.
     pass: Pass,
+    // The bell of the queue, and that of the copies.
     bells: Bells,
+    // The engine, with what it published and what waits.
     desk: Desk,
+    // Why the last turn's event was refused, if it was.
     refusal: Option<Reason>,
+    // How many jobs were popped.
     pops: u64,
+    // A stop was popped, and published.
     stopped: bool,
+    // A turn found no memory, so nothing more is done.
     broken: bool,
 }
 

@@ -17,7 +17,9 @@ use std::marker::Model;
 /// records before.
 #[derive(Drop)]
 pub struct Reader {
+    // What was read so far.
     pieces: Pieces,
+    // The fault that it answers from now on, if it met one.
     fault: Option<ImageFault>,
 }
 

@@ -16,10 +16,15 @@ pub enum At {
 /// How much an image has. `config_bytes` are the bytes of the resource names, keys and values of all settings.
 #[derive(Clone, Copy, Debug, Drop, PartialEq, Eq)]
 pub struct Counts {
+    /// Registered brokers.
     pub brokers: u32,
+    /// Topics.
     pub topics: u32,
+    /// Partitions of all topics.
     pub partitions: u32,
+    /// Bytes of the resource names, keys and values of all settings.
     pub config_bytes: u32,
+    /// Features with a level.
     pub features: u32,
 }
 

@@ -20,7 +20,9 @@ use std::marker::Model;
 /// answer. A walk gives the entry with the least key above the given one, or the first entry.
 #[derive(Drop)]
 pub struct Seen<'a, S: Store> {
+    // The store that has the image.
     store: &'a S,
+    // Where in it.
     at: At,
 }
 

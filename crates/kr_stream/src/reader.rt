@@ -20,8 +20,11 @@ use std::marker::Model;
 /// A reader of frames. It keeps no byte between two calls.
 #[derive(Drop)]
 pub struct Reader {
+    // Where memory comes from.
     alloc: Global,
+    // How many bytes were taken.
     at: u64,
+    // What comes next.
     stage: Stage,
 }
 

@@ -25,11 +25,15 @@ use std::sync::ledger::Ledger;
 /// marks in which they were written. The map of an interval has at each key the value of the newest version up to its number.
 #[derive(Drop)]
 pub struct Timeline<K: Ord, V> {
+    // Where memory comes from.
     alloc: Global,
+    // The versions of each key.
     chains: BTreeMap<K, Chain<V>>,
+    // The intervals that end at a kept epoch.
     kept: VecDeque<Interval<K>>,
     number: u64, // of the present interval
     keys: Vec<K>, // that changed in it
+    // How many calls changed the present map since the last mark.
     made: u64,
 }
 

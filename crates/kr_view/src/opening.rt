@@ -25,6 +25,7 @@ pub type ReaderSeats = Rows<ReaderSeat>;
 /// The lines that ask the reader crate for places. A trusted edge: only here is a refusal counted.
 #[derive(Drop)]
 pub struct Opening {
+    // How many places were refused; the count stands still at the greatest u64.
     refused: u64,
 }
 

@@ -16,8 +16,11 @@ use std::sync::Wait;
 
 /// What stages entries and makes them visible. It is not `Drop`: end it by `close`.
 pub struct Publisher {
+    // The copies, and the writer's side of them.
     window: Window,
+    // Staged items and loads, in order.
     items: VecDeque<Entry>,
+    // Staged answers and stops, in order.
     notes: VecDeque<Entry>,
 }
 

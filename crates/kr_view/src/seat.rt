@@ -39,7 +39,9 @@ struct Held {
 /// The seat of one reader. It sees a list of entries, and each look into the copies may take it further.
 #[derive(Drop)]
 pub struct ReaderSeat {
+    // The seat's number, from 1.
     number: u32,
+    // The reader, with the list that it has seen.
     held: Held,
     ghost placed: { number ≤ 64 },
 }

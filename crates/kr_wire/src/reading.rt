@@ -227,7 +227,9 @@ pub fn read_id(bytes: &[u8], at: usize) -> Result<(u128, usize), WireFault>
 /// Where the bytes of a text stand.
 #[derive(Clone, Copy, Debug, Drop, PartialEq, Eq)]
 pub struct Span {
+    /// The place of the first byte.
     pub start: usize,
+    /// The place behind the last.
     pub end: usize,
 }
 
@@ -387,7 +389,9 @@ fn with_room(bytes: &[u8], at: usize, count: u32) -> Result<(u32, usize), WireFa
 /// A tagged field: its number, and the place behind its data.
 #[derive(Clone, Copy, Debug, Drop, PartialEq, Eq)]
 pub struct Tag {
+    /// The field's number.
     pub number: u32,
+    /// The place behind its data.
     pub end: usize,
 }
 

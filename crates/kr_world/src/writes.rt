@@ -17,7 +17,9 @@ pub struct Decided {
 /// A write that was decided, with both of its replies.
 #[derive(Drop)]
 pub struct Write {
+    /// The client that asked.
     pub client: u32,
+    /// The number that the client gave its request.
     pub correlation: i32,
     /// The epoch of the leadership that decided it.
     pub epoch: i32,
@@ -27,6 +29,7 @@ pub struct Write {
     pub reply: Reply,
     /// The reply where the leadership is lost before: Kafka's NOT_CONTROLLER.
     pub refusal: Reply,
+    /// What it was decided on.
     pub decided: Decided,
 }
 
@@ -35,12 +38,15 @@ pub struct Write {
 pub struct Ended {
     /// It stands, or was lost.
     pub kind: AnswerKind,
+    /// What it was decided on.
     pub decided: Decided,
 }
 
 /// What a controller gives out; where it is the reply of a write that waited, also how that write ended.
 #[derive(Drop)]
 pub struct Told {
+    /// What is given out.
     pub output: Output,
+    /// How the write ended, where the output is its reply.
     pub ended: Option<Ended>,
 }

@@ -17,7 +17,9 @@ use test_words::RowFault;
 /// An image that records are applied to, and those that it keeps.
 #[derive(Drop)]
 pub struct History {
+    // The image.
     store: ImageStore,
+    // The kept epochs.
     epochs: Vec<i64>,
 }
 

@@ -76,7 +76,9 @@ fn compare_line<R: Print + AllocGlobal, J: Judge>(
 /// How many rows there were, and how many of them hold.
 #[derive(Clone, Copy, Drop)]
 pub struct Counts {
+    // All rows.
     rows: u64,
+    // Those that hold.
     held: u64,
 }
 

@@ -9,6 +9,7 @@ use std::str::FromStr;
 /// The fields that are left of a row.
 #[derive(Drop)]
 pub struct Fields<'a> {
+    // The text that is left, if any.
     left: Option<&'a str>,
 }
 
