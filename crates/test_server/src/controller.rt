@@ -1,4 +1,4 @@
-//! A controller whose worker turns in another thread and commits each append at once, and one client's connection over memory.
+//! A controller that commits each append at once, and its one client's connection over memory, in another thread.
 
 use crate::replies::ReplySink;
 use crate::talk::Talk;
@@ -98,8 +98,7 @@ fn begin<R: Wait>(rt: &R, link: &mut LinkSeat, is_stopped: bool) -> Result<(), N
     }
 }
 
-#[tactic(auto, using(kr_shared::proofs::Sent::worker_send))]
-// Serves the client with the last of the seats, while the worker turns.
+// Serves the client with the last of the seats, in another thread, while the worker turns in this one.
 fn serve_first<R: Threads + Wait + Sync>(
     rt: &R,
     alloc: Global,
@@ -118,14 +117,15 @@ fn serve_first<R: Threads + Wait + Sync>(
         sink,
     } = outside;
     let done = AtomicU64::new(0);
-    let (has_turned, (end, exchanges)) = thread::join(
+    let (served, has_turned) = thread::join(
         rt,
-        || turn_all(rt, worker, link, quorum, clock, &done),
         || connect(rt, alloc, &mut seat, source, sink, &done),
+        || turn_all(rt, worker, link, quorum, clock, &done),
     );
     if !has_turned {
         return Err(NoMemory);
     }
+    let (end, exchanges) = served;
     let (same, puts) = sink.counts();
     Ok(Outcome {
         end,
@@ -176,7 +176,7 @@ fn commit<R: Wait>(rt: &R, link: &mut LinkSeat, quorum: &mut LocalQuorum) -> boo
     }
 }
 
-// The client's part, in a thread of its own: how it ended, and how many exchanges were told.
+// The client's part: how it ended, and how many exchanges were told.
 fn connect<R: Wait>(
     rt: &R,
     alloc: Global,

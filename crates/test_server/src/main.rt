@@ -1,5 +1,5 @@
-//! Compares how a client's connection is served with rows of expected replies and ends: over memory, by a controller whose
-//! worker turns in another thread. A row that differs is printed, and at the end how many rows hold.
+//! Compares how a client's connection is served, over memory and in another thread than the controller's worker, with rows of
+//! expected replies and ends. A row that differs is printed, and at the end how many rows hold.
 #![tactic(auto)]
 
 mod controller;
@@ -10,39 +10,56 @@ mod talk;
 use rows::do_row;
 use std::alloc::{AllocError, Global};
 use std::io;
-use std::io::Print;
+use std::io::{BufRead, BufReader, Eprint, Input, Print};
 use std::process::ExitCode;
 use std::sync::Wait;
 use std::thread::Threads;
 use talk::Talk;
-use test_words::{Counts, Judge, RowFault, compare_input};
-
-// The connection that the rows prepare, none before an `open`, and how many rows there were.
-#[derive(Drop)]
-struct Connections<'a, R: Threads + Wait + Sync> {
-    rt: &'a R,
-    talk: Option<Talk>,
-    counts: Counts,
-}
+use test_words::{Counts, RowFault};
 
 fn main(rt: HostRuntime) -> ExitCode {
-    let mut connections = Connections {
-        rt: &rt,
-        talk: None,
-        counts: Counts::NONE,
-    };
-    compare_input(&rt, &mut connections)
+    match compare_lines(&rt) {
+        Ok(true) => ExitCode::from(0),
+        Ok(false) => ExitCode::from(1),
+        Err(fault) => {
+            let _ = eprintln!(&rt; "{fault}");
+            ExitCode::from(2)
+        }
+    }
 }
 
-impl<R: Threads + Wait + Sync> Judge for Connections<'_, R> {
-    fn judge(&mut self, alloc: Global, row: &str) -> Result<Option<String>, AllocError> {
-        let text = differences(self.rt, alloc, &mut self.talk, row)?;
-        self.counts.add(text.is_none());
-        Ok(text)
+// Whether each row of the input holds.
+fn compare_lines<R: Threads + Wait + Sync + Input + Print + AllocGlobal>(
+    rt: &R,
+) -> io::Result<bool> {
+    let mut talk = None;
+    let mut counts = Counts::NONE;
+    let mut all_hold = true;
+    for line in BufReader::new(rt.alloc(), rt.reader())?.lines(rt.alloc()) {
+        let line = line?;
+        if line.is_empty() || line.starts_with('#') {
+            continue;
+        }
+        let holds = compare_row(rt, &mut talk, line.as_str())?;
+        counts.add(holds);
+        all_hold = all_hold && holds;
     }
+    counts.print(rt, "connections")?;
+    Ok(all_hold)
+}
 
-    fn print_counts<P: Print>(&self, rt: &P) -> io::Result<()> {
-        self.counts.print(rt, "connections")
+// Whether the row holds. One that doesn't is printed, with what came of it.
+fn compare_row<R: Threads + Wait + Sync + Print + AllocGlobal>(
+    rt: &R,
+    talk: &mut Option<Talk>,
+    row: &str,
+) -> io::Result<bool> {
+    match differences(rt, rt.alloc(), talk, row)? {
+        None => Ok(true),
+        Some(text) => {
+            println!(rt; "{row}: {text}")?;
+            Ok(false)
+        }
     }
 }
 

@@ -1,6 +1,7 @@
 //! What a client sends and what it expects.
 
-ghost use Rattle.std.specs.Prelude.{◌≡◌};
+ghost use Rattle.std.specs.Prelude.{◌≡◌, ◌&&◌, IsTrue, pos, int_le};
+ghost use Rattle.kr_defs.specs.declared.limits.TheConstants.{MOST_DEFAULT_PARTITIONS, MOST_TARGETS};
 ghost use Rattle.kr_defs.specs.OpenOptions as opening;
 
 use kr_defs::limits::{LONGEST_CLUSTER, MOST_DEFAULT_PARTITIONS, MOST_TARGETS};
@@ -107,13 +108,23 @@ fn options_of(alloc: Global, fields: &str) -> Result<Options, RowFault> {
 fn are_options(o: &Options) -> bool
     ensures { result ≡ opening.are_options o.now }
 {
-    let Options {
-        partitions, factor, ..
-    } = *o;
     o.node >= 0
         && 0 < o.session_ms
-        && (1 <= partitions && partitions <= MOST_DEFAULT_PARTITIONS)
-        && (1 <= factor && factor <= MOST_TARGETS as i16)
+        && has_partitions(&o.partitions)
+        && has_factor(&o.factor)
         && o.minimum >= 1
         && o.cluster.as_bytes().len() <= LONGEST_CLUSTER
+}
+
+fn has_partitions(partitions: &i32) -> bool
+    ensures { result ≡ (int_le (pos 1) partitions.now
+        && int_le partitions.now MOST_DEFAULT_PARTITIONS) }
+{
+    1 <= *partitions && *partitions <= MOST_DEFAULT_PARTITIONS
+}
+
+fn has_factor(factor: &i16) -> bool
+    ensures { result ≡ (int_le (pos 1) factor.now && int_le factor.now (pos MOST_TARGETS)) }
+{
+    1 <= *factor && *factor <= MOST_TARGETS as i16
 }
