@@ -1,7 +1,13 @@
-//! Tests of the worker and its clients on threads of their own.
+//! Tests of the worker, with its link and its clients on threads of their own.
 #![tactic(auto)]
 
 #[cfg(test)]
-mod many_clients;
+mod beside;
 #[cfg(test)]
-mod workers;
+mod held;
+#[cfg(test)]
+mod lost;
+#[cfg(test)]
+mod many;
+#[cfg(test)]
+mod writes;
