@@ -1,1 +1,2 @@
+pub mod DecimalTexts
 pub mod Statuses

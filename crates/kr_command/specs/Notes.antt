@@ -1,12 +1,12 @@
 -- The words of the tool, and the line of notes of each status (this project's own).
-use Rattle.std.specs.Prelude.{◌≡◌, ℕ, ◌⊎◌, Result, Ok, Err, List, [], ◌∷◌, ◌++◌, codes}
+use Rattle.std.specs.Prelude.{◌≡◌, ◌<◌, ℕ, ◌^◌, ◌⊎◌, Result, Ok, Err, List, [], ◌∷◌, ◌++◌, codes}
 use Rattle.std.specs.Fmt.{decimal}
 use Rattle.kr_fold.specs.declared.fault.ToolFault.{ToolFault}
 use Rattle.kr_fold.specs.declared.fault.ToolFault.TheVariants as faults
 use Rattle.kr_run.specs.declared.status.Status.{Status}
 use Rattle.kr_run.specs.declared.status.Status.TheVariants as statuses
 
--- the words that are served: so far three of the tool's four forms
+-- the words that are served
 abbrev pub IsSession : List (List ℕ) → Type 0
 IsSession words = words ≡ codes "session" ∷ []
 
@@ -16,8 +16,12 @@ IsFold words = words ≡ codes "fold" ∷ []
 abbrev pub IsDump : List (List ℕ) → Type 0
 IsDump words = words ≡ codes "dump" ∷ []
 
+-- `make` and a number of 32 bits, without leading zeros
+abbrev pub IsMake : List (List ℕ) → ℕ → Type 0
+IsMake words seed = (seed < 2 ^ 32) × (words ≡ codes "make" ∷ decimal seed ∷ [])
+
 abbrev pub AreServed : List (List ℕ) → Type 0
-AreServed words = IsSession words ⊎ IsFold words ⊎ IsDump words
+AreServed words = IsSession words ⊎ IsFold words ⊎ IsDump words ⊎ ((seed : ℕ) × IsMake words seed)
 
 -- the status of what `fold` and `dump` answer
 abbrev pub status_of : Result (Unit {0}) ToolFault → Status

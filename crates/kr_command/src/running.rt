@@ -1,14 +1,17 @@
 //! The top call: one run of the tool.
 
-ghost use Rattle.std.specs.Prelude.{◌≡◌, ◌⊎◌, ◌↔◌, Some, [], ◌++◌, ◌∷◌, IfOk, IsTrue, codes, string_bytes};
+ghost use Rattle.std.specs.Prelude.{◌≡◌, ◌⊎◌, ◌↔◌, ℕ, Some, [], ◌++◌, ◌∷◌, IfOk, IsTrue, codes, string_bytes};
 ghost use Rattle.std.specs.Fmt.{decimal};
 ghost use Rattle.std.specs.Io.KnownBytes.{Appends};
 ghost use Rattle.kr_base.specs.Causes.{Rose};
 ghost use Rattle.kr_run.specs.Endings.{BreaksRightly, EndsWith, RefusesBroken, ServesWhole};
 ghost use Rattle.kr_fold.specs.Endings.{DumpEnds, DumpsWhole, FoldEnds, FoldsNoMore, FoldsWhole, RefusesBroken as RefusesBrokenImage, RefusesLonger};
 ghost use Rattle.kr_command.specs.Notes as notes;
-ghost use Rattle.kr_command.specs.Notes.{AreServed, IsDump, IsFold, IsOf, IsSession, note_of, line, IsMalformed};
+ghost use Rattle.kr_command.specs.Making.{MakeEnds, MakesWhole};
+ghost use Rattle.kr_command.specs.Notes.{AreServed, IsDump, IsFold, IsMake, IsOf, IsSession, note_of, line, IsMalformed};
 
+use crate::making::write_summary;
+use crate::seeds::seed_of;
 use kr_base::{Sink, Source};
 use kr_defs::Text;
 use kr_fold::{ToolFault, dump, fold};
@@ -17,8 +20,9 @@ use std::alloc::{AllocError, Global};
 
 /// Runs the tool by its word: `session` serves the session that comes from `input` and writes its output frames to
 /// `output`; `fold` reads record batches from place 0 to the end of the input and writes the image that they make;
-/// `dump` reads an image and writes its text. The line of a status other than Done goes to `notes`; a fault of `notes`
-/// changes no status. All other words are answered Usage.
+/// `dump` reads an image and writes its text; `make N` leads a controller through the session of the number, and writes what
+/// came of it. The line of a status other than Done goes to `notes`; a fault of `notes` changes no status. All other words
+/// are answered Usage.
 pub fn run<S: Source, K: Sink, E: Sink>(
     alloc: Global,
     words: &[Text],
@@ -30,6 +34,8 @@ pub fn run<S: Source, K: Sink, E: Sink>(
     ensures session { IsSession words.now → EndsWith (S.left input.old) (S.left input.new) (K.written output.old) (K.written output.new) result }
     ensures fold { IsFold words.now → IsOf (FoldEnds (S.left input.old) (S.left input.new) (K.written output.old) (K.written output.new)) result }
     ensures dump { IsDump words.now → IsOf (DumpEnds (S.left input.old) (S.left input.new) (K.written output.old) (K.written output.new)) result }
+    ensures make { (seed : ℕ) → IsMake words.now seed → IsOf (MakeEnds seed (S.left input.old)
+        (S.left input.new) (K.written output.old) (K.written output.new)) result }
 
     // Usage is told exactly where the words aren't served, and then nothing is taken or written.
     ensures usage { result ≡ Status.Usage → AreServed words.now → ⊥ }
@@ -53,6 +59,8 @@ pub fn run<S: Source, K: Sink, E: Sink>(
     ensures dump_complete { IsDump words.now → (Rose (S.faults input.old) (S.faults input.new) → ⊥) → (Rose (K.faults output.old) (K.faults output.new) → ⊥) → IsOf (DumpsWhole (S.left input.old)) result }
     ensures dump_broken { IsDump words.now → (Rose (S.faults input.old) (S.faults input.new) → ⊥) → (Rose (K.faults output.old) (K.faults output.new) → ⊥) → IsOf (RefusesBrokenImage (S.left input.old)) result }
     ensures dump_longer { IsDump words.now → (Rose (S.faults input.old) (S.faults input.new) → ⊥) → (Rose (K.faults output.old) (K.faults output.new) → ⊥) → IsOf (RefusesLonger (S.left input.old)) result }
+    ensures make_complete { (seed : ℕ) → IsMake words.now seed →
+        (Rose (K.faults output.old) (K.faults output.new) → ⊥) → IsOf MakesWhole result }
 
     // The notes get exactly the status's line.
     ensures notes { (Rose (E.faults notes.old) (E.faults notes.new) → ⊥) → Appends (E.written notes.old) (E.written notes.new) (note_of result) }
@@ -85,6 +93,8 @@ fn serve_words<S: Source, K: Sink>(
     ensures session { IsSession words.now → EndsWith (S.left input.old) (S.left input.new) (K.written output.old) (K.written output.new) result }
     ensures fold { IsFold words.now → IsOf (FoldEnds (S.left input.old) (S.left input.new) (K.written output.old) (K.written output.new)) result }
     ensures dump { IsDump words.now → IsOf (DumpEnds (S.left input.old) (S.left input.new) (K.written output.old) (K.written output.new)) result }
+    ensures make { (seed : ℕ) → IsMake words.now seed → IsOf (MakeEnds seed (S.left input.old)
+        (S.left input.new) (K.written output.old) (K.written output.new)) result }
     ensures usage { result ≡ Status.Usage → AreServed words.now → ⊥ }
     ensures served { (AreServed words.now → ⊥) → result ≡ Status.Usage }
     ensures idle { result ≡ Status.Usage → EndsWith (S.left input.old) (S.left input.new) (K.written output.old) (K.written output.new) Status.Usage }
@@ -98,12 +108,15 @@ fn serve_words<S: Source, K: Sink>(
     ensures dump_complete { IsDump words.now → (Rose (S.faults input.old) (S.faults input.new) → ⊥) → (Rose (K.faults output.old) (K.faults output.new) → ⊥) → IsOf (DumpsWhole (S.left input.old)) result }
     ensures dump_broken { IsDump words.now → (Rose (S.faults input.old) (S.faults input.new) → ⊥) → (Rose (K.faults output.old) (K.faults output.new) → ⊥) → IsOf (RefusesBrokenImage (S.left input.old)) result }
     ensures dump_longer { IsDump words.now → (Rose (S.faults input.old) (S.faults input.new) → ⊥) → (Rose (K.faults output.old) (K.faults output.new) → ⊥) → IsOf (RefusesLonger (S.left input.old)) result }
+    ensures make_complete { (seed : ℕ) → IsMake words.now seed →
+        (Rose (K.faults output.old) (K.faults output.new) → ⊥) → IsOf MakesWhole result }
 {
     match word_of(words) {
         None => Status::Usage,
         Some(Word::Session) => session(alloc, input, output),
         Some(Word::Fold) => status_of(fold(alloc, input, output)),
         Some(Word::Dump) => status_of(dump(alloc, input, output)),
+        Some(Word::Make(seed)) => status_of(write_summary(alloc, seed, output)),
     }
 }
 
@@ -113,21 +126,51 @@ enum Word {
     Session,
     Fold,
     Dump,
+    Make(u32),
 }
 
-// The word that is all of the words.
-fn word_of(words: &[Text]) -> Option<Word>
-    ensures session { (result ≡ Some Word.Session) ↔ IsSession words.now }
-    ensures fold { (result ≡ Some Word.Fold) ↔ IsFold words.now }
-    ensures dump { (result ≡ Some Word.Dump) ↔ IsDump words.now }
+// The word that is one text alone.
+fn lone_word(word: &Text) -> Option<Word>
+    ensures session { (result ≡ Some Word.Session) ↔ (word.now ≡ codes "session") }
+    ensures fold { (result ≡ Some Word.Fold) ↔ (word.now ≡ codes "fold") }
+    ensures dump { (result ≡ Some Word.Dump) ↔ (word.now ≡ codes "dump") }
+    ensures make { (seed : ℕ) → result ≡ Some (Word.Make seed) → ⊥ }
 {
-    let [word] = words else {
-        return None;
-    };
     match word.as_str() {
         "session" => Some(Word::Session),
         "fold" => Some(Word::Fold),
         "dump" => Some(Word::Dump),
+        _ => None,
+    }
+}
+
+// `make` and its number.
+fn make_word(word: &Text, number: &Text) -> Option<Word>
+    ensures session { result ≡ Some Word.Session → ⊥ }
+    ensures fold { result ≡ Some Word.Fold → ⊥ }
+    ensures dump { result ≡ Some Word.Dump → ⊥ }
+    ensures make { (seed : ℕ) →
+        (result ≡ Some (Word.Make seed)) ↔ IsMake (word.now ∷ number.now ∷ []) seed }
+{
+    if word.as_str() != "make" {
+        return None;
+    }
+    match seed_of(number.as_str()) {
+        Some(seed) => Some(Word::Make(seed)),
+        None => None,
+    }
+}
+
+// The word that the words are.
+fn word_of(words: &[Text]) -> Option<Word>
+    ensures session { (result ≡ Some Word.Session) ↔ IsSession words.now }
+    ensures fold { (result ≡ Some Word.Fold) ↔ IsFold words.now }
+    ensures dump { (result ≡ Some Word.Dump) ↔ IsDump words.now }
+    ensures make { (seed : ℕ) → (result ≡ Some (Word.Make seed)) ↔ IsMake words.now seed }
+{
+    match words {
+        [word] => lone_word(word),
+        [word, number] => make_word(word, number),
         _ => None,
     }
 }

@@ -1,3 +1,4 @@
+use Rattle.std.proofs.Common.{inr, refl}
 use Rattle.kr_run.specs.declared.status.Status.TheVariants as statuses
 use Rattle.kr_command.proofs.Statuses.{breaks_told, ends_told, no_dump_line, no_dumps_broken, no_dumps_longer, no_dumps_whole, no_fold_line, no_folds_more, no_folds_whole, of_told, refuses_told, same_but_memory, serves_told}
 use Rattle.kr_command.proofs.running.run.Goals as goal
@@ -45,3 +46,9 @@ returns-clause-dump_broken g c = λ is read write. of_told _ c.tell.result c.ser
 
 pub returns-clause-dump_longer : goal.returns-clause-dump_longer
 returns-clause-dump_longer g c = λ is read write. of_told _ c.tell.result c.serve_words-status.result c.tell.ensures.same (λ at. no_dumps_longer at _) (c.serve_words-status.ensures.dump_longer is read write)
+
+pub returns-clause-make : goal.returns-clause-make
+returns-clause-make g c = λ seed is. of_told _ c.tell.result c.serve_words-status.result c.tell.ensures.same (λ at none. absurd none.1) (c.serve_words-status.ensures.make seed is)
+
+pub returns-clause-make_complete : goal.returns-clause-make_complete
+returns-clause-make_complete g c = λ seed is write. of_told _ c.tell.result c.serve_words-status.result c.tell.ensures.same (λ at whole. inr refl) (c.serve_words-status.ensures.make_complete seed is write)

@@ -1,0 +1,12 @@
+pub mod Remainders
+pub mod ActiveStates
+pub mod LedPartitions
+pub mod Counts
+pub mod HandedOut
+pub mod Lengths
+pub mod FewRecords
+pub mod FewReplies
+pub mod Playing
+pub mod Goings
+pub mod Parts
+pub mod Sums

@@ -1,0 +1,130 @@
+//! What a client sends and what it expects.
+
+ghost use Rattle.std.specs.Prelude.{◌≡◌, ◌&&◌, IsTrue, pos, int_le};
+ghost use Rattle.kr_defs.specs.declared.limits.TheConstants.{MOST_DEFAULT_PARTITIONS, MOST_TARGETS};
+ghost use Rattle.kr_defs.specs.OpenOptions as opening;
+
+use kr_defs::limits::{LONGEST_CLUSTER, MOST_DEFAULT_PARTITIONS, MOST_TARGETS};
+use kr_defs::{Options, Text};
+use std::alloc::Global;
+use test_words::{Fields, RowFault, bytes_of};
+
+/// Options with which a controller may be started.
+#[derive(Drop)]
+pub(crate) struct Setting {
+    pub options: Options,
+    ghost fit: { IsTrue (opening.are_options options) },
+}
+
+/// What a client sends to a controller with these settings, the time of each of its writes, the numbers of the reads and of the
+/// puts that fail, and the replies that are expected. The controller leads, or its worker is stopped.
+#[derive(Drop)]
+pub(crate) struct Talk {
+    pub setting: Setting,
+    pub is_stopped: bool,
+    pub bytes: Vec<u8>,
+    pub times: Vec<i64>,
+    pub failing_reads: Vec<u64>,
+    pub failing_puts: Vec<usize>,
+    pub replies: Vec<Vec<u8>>,
+}
+
+impl Talk {
+    /// Nothing is sent yet, and nothing fails.
+    pub(crate) fn new(alloc: Global, fields: &str) -> Result<Talk, RowFault> {
+        let setting = setting_of(alloc, fields)?;
+        Ok(Talk {
+            setting,
+            is_stopped: false,
+            bytes: Vec::new(alloc),
+            times: Vec::new(alloc),
+            failing_reads: Vec::new(alloc),
+            failing_puts: Vec::new(alloc),
+            replies: Vec::new(alloc),
+        })
+    }
+
+    /// Adds what a row asks: to send a message, or that a read or a put fails, or that the worker is stopped.
+    pub(crate) fn add(
+        &mut self,
+        alloc: Global,
+        word: &str,
+        fields: &str,
+        expected: &str,
+    ) -> Result<(), RowFault> {
+        let mut fields = Fields::new(fields);
+        match word {
+            "send" => self.send(alloc, &mut fields, expected),
+            "fail-read" => push(&mut self.failing_reads, fields.number()?),
+            "fail-put" => push(&mut self.failing_puts, fields.number()?),
+            "stop" => {
+                self.is_stopped = true;
+                Ok(())
+            }
+            _ => Err(RowFault::Fields),
+        }
+    }
+
+    // A time, where it is a write, and a message; and its reply. Both are behind their sizes.
+    fn send(&mut self, alloc: Global, fields: &mut Fields, expected: &str) -> Result<(), RowFault> {
+        if let Some(time) = fields.number_or_none()? {
+            push(&mut self.times, time)?;
+        }
+        self.bytes.extend_from_slice(&fields.bytes(alloc)?)?;
+        push(&mut self.replies, bytes_of(alloc, expected)?)
+    }
+}
+
+fn push<T: Drop>(list: &mut Vec<T>, item: T) -> Result<(), RowFault> {
+    match list.push(item) {
+        Ok(()) => Ok(()),
+        Err(_) => Err(RowFault::NoMemory),
+    }
+}
+
+fn setting_of(alloc: Global, fields: &str) -> Result<Setting, RowFault> {
+    let options = options_of(alloc, fields)?;
+    if !are_options(&options) {
+        return Err(RowFault::Fields);
+    }
+    Ok(Setting { options })
+}
+
+// Node, salt, length of a session, partitions, factor, minimum, and the cluster's id.
+fn options_of(alloc: Global, fields: &str) -> Result<Options, RowFault> {
+    let mut fields = Fields::new(fields);
+    Ok(Options {
+        node: fields.number()?,
+        salt: fields.number()?,
+        session_ms: fields.number()?,
+        partitions: fields.number()?,
+        factor: fields.number()?,
+        minimum: fields.number()?,
+        cluster: Text::from_str(alloc, fields.word()?)?,
+    })
+}
+
+// A controller may be started with these.
+fn are_options(o: &Options) -> bool
+    ensures { result ≡ opening.are_options o.now }
+{
+    o.node >= 0
+        && 0 < o.session_ms
+        && has_partitions(&o.partitions)
+        && has_factor(&o.factor)
+        && o.minimum >= 1
+        && o.cluster.as_bytes().len() <= LONGEST_CLUSTER
+}
+
+fn has_partitions(partitions: &i32) -> bool
+    ensures { result ≡ (int_le (pos 1) partitions.now
+        && int_le partitions.now MOST_DEFAULT_PARTITIONS) }
+{
+    1 <= *partitions && *partitions <= MOST_DEFAULT_PARTITIONS
+}
+
+fn has_factor(factor: &i16) -> bool
+    ensures { result ≡ (int_le (pos 1) factor.now && int_le factor.now (pos MOST_TARGETS)) }
+{
+    1 <= *factor && *factor <= MOST_TARGETS as i16
+}
