@@ -1,7 +1,7 @@
 //! Readers are answered while the worker is held.
 
 use crate::beside::{Part, Signs, TellingQuorum, lead, options, run};
-use crate::writes::{heartbeat, registration, submitted, topic, topics_seen};
+use crate::writes::{answer_of, heartbeat, registration, topic, topics_seen};
 use kr_base::{Gate, NoMemory};
 use kr_shared::{ClientSeat, open};
 use kr_view::Opening;
@@ -77,9 +77,9 @@ impl Held {
     fn are_written<R: Wait>(&self, rt: &R, seat: &mut ClientSeat) -> Result<bool, NoMemory> {
         let register = registration(self.alloc)?;
         let create = topic(self.alloc)?;
-        let registered = submitted(rt, seat, &register) == Some((0, 0));
-        let heard = submitted(rt, seat, &heartbeat()) == Some((1, 0));
-        let created = submitted(rt, seat, &create) == Some((2, 0));
+        let registered = answer_of(rt, seat, &register) == Some((0, 0));
+        let heard = answer_of(rt, seat, &heartbeat()) == Some((1, 0));
+        let created = answer_of(rt, seat, &create) == Some((2, 0));
         Ok(registered && heard && created)
     }
 

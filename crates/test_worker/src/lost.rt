@@ -1,7 +1,7 @@
 //! A failed append loses the leadership.
 
 use crate::beside::{Part, Signs, TellingQuorum, lead, options, run};
-use crate::writes::{registration, submitted};
+use crate::writes::{answer_of, registration};
 use kr_base::OpenGate;
 use kr_shared::{ClientSeat, open};
 use kr_view::Opening;
@@ -23,8 +23,8 @@ impl Part for Lost {
         let mut seat = seat;
         match registration(self.alloc) {
             Ok(call) => {
-                let first = submitted(rt, &mut seat, &call);
-                let second = submitted(rt, &mut seat, &call);
+                let first = answer_of(rt, &mut seat, &call);
+                let second = answer_of(rt, &mut seat, &call);
                 first == LOST && second == LOST
             }
             Err(_) => false,

@@ -1,7 +1,7 @@
 //! 63 clients write at once, while a link commits: the log holds exactly what they were told.
 
 use crate::beside::{Part, Signs, TellingQuorum, lead, options, run};
-use crate::writes::{setting, submitted};
+use crate::writes::{answer_of, setting};
 use kr_base::{MemoryQuorum, NoMemory, OpenGate};
 use kr_batch::decode;
 use kr_defs::{Item, Record};
@@ -55,7 +55,7 @@ impl Settings {
         let Ok(call) = setting(self.alloc, value) else {
             return false;
         };
-        match submitted(rt, seat, &call) {
+        match answer_of(rt, seat, &call) {
             Some((place, 0)) => self.is_first(place, value),
             _ => false,
         }
