@@ -1,6 +1,7 @@
-# `make run` shows a session, and the image that it leaves, by an unproved build; `make build` makes the proved tool; `make test` is the gate (.ci/run: the pages against the code, then all proofs, edits, tests and programs); `make bench` measures.
+# `make run` shows a session, and the image that it leaves, by an unproved build; `make build` makes the proved tool and the proved daemon; `make test` is the gate (.ci/run: the pages against the code, then all proofs, edits, tests and programs); `make bench` measures.
+# `make demo` starts the daemon, asks it by tools/client, and ends it.
 # `make edits` tries the edits of edits/ (or those of some crates: make edits crates="kr_change kr_wire").
-.PHONY: run build test edits bench tools
+.PHONY: run demo build test edits bench tools
 
 tools:
 	@command -v rt >/dev/null 2>&1 || { echo "rt, the command of the Rattle toolchain, isn't on the PATH: install the toolchain and run this again" >&2; exit 127; }
@@ -23,6 +24,9 @@ run: tools
 	@cd crates/kr_tool && rt try --steps 1000 -- fold <$(out)/failover.batches >$(out)/failover.image 2>$(out)/failover.log || { cat $(out)/failover.log >&2; exit 1; }
 	@echo "The image as text (the tool is built again):"
 	@cd crates/kr_tool && rt try --steps 1000 -- dump <$(out)/failover.image 2>$(out)/failover.log || { cat $(out)/failover.log >&2; exit 1; }
+
+demo: tools
+	@tools/demo
 
 build: tools
 	@tools/build

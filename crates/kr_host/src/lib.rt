@@ -1,0 +1,25 @@
+//! The daemon's threads: a worker, the seats of clients that are served over TCP, and the quorum, over a link or of this
+//! process alone.
+#![tactic(auto)]
+
+mod clients;
+mod door;
+mod ended;
+mod events;
+mod link;
+mod link_quorum;
+mod linked;
+mod local;
+mod opening;
+mod running;
+mod watched;
+
+pub use clients::spawn_clients;
+pub use door::Door;
+pub use ended::{Ended, tell_no_memory, tell_refused};
+pub use link::spawn_link;
+pub use link_quorum::LinkQuorum;
+pub use linked::turn_linked;
+pub use local::{lead_alone, turn_alone};
+pub use opening::{Opened, open_seats, options_of};
+pub use running::run;

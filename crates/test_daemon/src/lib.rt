@@ -1,0 +1,11 @@
+//! Tests of the daemon: its command line, and its threads over loopback.
+#![tactic(auto)]
+
+#[cfg(test)]
+mod alone;
+#[cfg(test)]
+mod linked;
+#[cfg(test)]
+mod talking;
+#[cfg(test)]
+mod words;

@@ -1,0 +1,123 @@
+//! The words of the command line, each side of each limit.
+
+use kr_defs::Text;
+use kr_settings::{Settings, SettingsFault, help, settings};
+use std::alloc::{AllocError, Global};
+use std::test::Fail;
+
+const LONGEST_CLUSTER: usize = 255;
+
+// Lines that the daemon takes.
+const TAKEN: [&str; 5] = [
+    "--listen a --node 1 --cluster c --salt 7",
+    "--listen=a --node=0 --cluster=c --salt=0 --link=b --clients=1",
+    "--salt 18446744073709551615 --clients 63 --cluster c --node 2147483647 --listen a",
+    "--listen a --node 10 --cluster=-c --salt 7 --link [::1]:9",
+    "--listen a --node 1 --cluster 7 --salt 7 --clients 10",
+];
+
+// Lines that it refuses.
+const REFUSED: [&str; 23] = [
+    "--listen a --node 1 --cluster c",
+    "--listen a --node 1 --salt 7",
+    "--listen a --cluster c --salt 7",
+    "--node 1 --cluster c --salt 7",
+    "--listen a --node 2147483648 --cluster c --salt 7",
+    "--listen a --node +1 --cluster c --salt 7",
+    "--listen a --node=-1 --cluster c --salt 7",
+    "--listen a --node 01 --cluster c --salt 7",
+    "--listen a --node= --cluster c --salt 7",
+    "--listen a --node 1x --cluster c --salt 7",
+    "--listen a --node 1 --cluster c --salt 18446744073709551616",
+    "--listen a --node 1 --cluster c --salt 07",
+    "--listen a --node 1 --cluster c --salt +7",
+    "--listen a --node 1 --cluster c --salt 7 --clients 0",
+    "--listen a --node 1 --cluster c --salt 7 --clients 64",
+    "--listen a --node 1 --cluster c --salt 7 --clients 08",
+    "--listen a --node 1 --cluster c --salt 7 --node 2",
+    "--listen a --node 1 --cluster c --salt 7 more",
+    "--listen a --node 1 --cluster c --salt 7 --more",
+    "--listen a --node 1 --cluster c --salt 7 --link",
+    "--listen a --node 1 --cluster c --salt 7 --link --clients",
+    "--help",
+    "--version",
+];
+
+// The words of a line.
+fn words_of(alloc: Global, line: &str) -> Result<Vec<Text>, AllocError> {
+    let mut words = Vec::new(alloc);
+    for word in line.split(' ') {
+        words.push(Text::from_str(alloc, word)?)?;
+    }
+    Ok(words)
+}
+
+fn read(alloc: Global, line: &str) -> Result<Result<Settings, SettingsFault>, AllocError> {
+    let words = words_of(alloc, line)?;
+    Ok(settings(alloc, &words))
+}
+
+// A line with a cluster of so many bytes.
+fn line_with_cluster(alloc: Global, len: usize) -> Result<String, AllocError> {
+    let mut line = String::from_str(alloc, "--listen a --node 1 --salt 7 --cluster ")?;
+    for _ in 0..len {
+        line.push('c')?;
+    }
+    Ok(line)
+}
+
+#[test]
+fn lines_that_are_taken(rt: HostRuntime) -> Result<(), Fail> {
+    let alloc = rt.alloc();
+    for line in TAKEN {
+        assert!(rt; read(alloc, line)?.is_ok());
+    }
+    let longest = line_with_cluster(alloc, LONGEST_CLUSTER)?;
+    assert!(rt; read(alloc, longest.as_str())?.is_ok());
+    Ok(())
+}
+
+#[test]
+fn lines_that_are_refused(rt: HostRuntime) -> Result<(), Fail> {
+    let alloc = rt.alloc();
+    for line in REFUSED {
+        assert_eq!(rt; read(alloc, line)?.err(), Some(SettingsFault::Refused));
+    }
+    let longer = line_with_cluster(alloc, LONGEST_CLUSTER + 1)?;
+    assert_eq!(rt;
+        read(alloc, longer.as_str())?.err(),
+        Some(SettingsFault::Refused)
+    );
+    Ok(())
+}
+
+#[test]
+fn what_the_words_say(rt: HostRuntime) -> Result<(), Fail> {
+    let alloc = rt.alloc();
+    let least = read(alloc, TAKEN[0])?.ok().ok_or("settings")?;
+    assert!(rt; least.listen.as_str() == "a" && least.cluster.as_str() == "c");
+    assert!(rt; least.node == 1 && least.salt == 7 && least.clients == 8);
+    assert!(rt; least.link.is_none());
+    let most = read(alloc, TAKEN[2])?.ok().ok_or("settings")?;
+    assert!(rt; most.node == 2147483647 && most.salt == u64::MAX && most.clients == 63);
+    let linked = read(alloc, TAKEN[1])?.ok().ok_or("settings")?;
+    assert!(rt; linked.link.is_some_and(|link| link.as_str() == "b"));
+    Ok(())
+}
+
+#[test]
+fn help_is_shown_where_it_is_asked_for(rt: HostRuntime) -> Result<(), Fail> {
+    let alloc = rt.alloc();
+    for (line, is_shown) in [
+        ("--help", true),
+        ("-h", true),
+        ("--version", true),
+        ("-V", true),
+        (TAKEN[0], false),
+        (REFUSED[0], false),
+    ] {
+        let words = words_of(alloc, line)?;
+        assert_eq!(rt; help(alloc, &words).is_some(), is_shown);
+    }
+    Ok(())
+}
