@@ -1,0 +1,209 @@
+//! A worker, and beside it a link that commits and the clients, each on a thread of its own.
+
+ghost use Rattle.std.specs.Prelude.{IfOk, IsTrue, Some};
+ghost use Rattle.kr_defs.specs.OpenOptions.{are_options};
+
+use kr_base::{Failed, Gate, MemoryClock, MemoryQuorum, NoMemory, Quorum};
+use kr_batch::head;
+use kr_calls::Event;
+use kr_defs::{Options, Text};
+use kr_shared::{Bell, ClientSeat, LinkSeat, Turn, WorkerSeat};
+use std::alloc::Global;
+use std::sync::Wait;
+use std::sync::atomic::{AtomicBool, AtomicI64, Ordering};
+use std::thread;
+use std::thread::Threads;
+
+// What each client does on its thread.
+pub(crate) trait Part {
+    // True where all came as it should.
+    fn play<R: Wait>(&self, rt: &R, seat: ClientSeat) -> bool;
+}
+
+// What the threads tell the link's.
+#[derive(Drop)]
+pub(crate) struct Signs {
+    // Where the quorum's log ends.
+    end: AtomicI64,
+    // All clients are done.
+    done: AtomicBool,
+    // Rung where the link may have something to do.
+    news: Bell,
+}
+
+impl Signs {
+    pub(crate) fn new() -> Signs {
+        Signs {
+            end: AtomicI64::new(0),
+            done: AtomicBool::new(false),
+            news: Bell::new(),
+        }
+    }
+}
+
+// It keeps what is appended, and tells where the log ends.
+#[derive(Drop)]
+pub(crate) struct TellingQuorum<'a> {
+    pub kept: MemoryQuorum,
+    signs: &'a Signs,
+}
+
+impl TellingQuorum<'_> {
+    // The appends of the listed numbers fail.
+    pub(crate) fn new(
+        alloc: Global,
+        failing: Vec<u64>,
+        signs: &Signs,
+    ) -> Result<TellingQuorum<'_>, NoMemory> {
+        Ok(TellingQuorum {
+            kept: MemoryQuorum::new(alloc, 1_000_000, 4_000, failing)?,
+            signs,
+        })
+    }
+}
+
+impl Quorum for TellingQuorum<'_> {
+    ghost use Rattle.std.specs.Prelude.{Some};
+
+    ghost pieces = { λ s. Some s.kept.pieces };
+
+    ghost faults = { λ s. s.kept.faults };
+
+    fn append(&mut self, bytes: &[u8]) -> Result<(), Failed> {
+        self.kept.append(bytes)?;
+        self.signs.end.store(end_after(bytes), Ordering::SeqCst);
+        Ok(())
+    }
+
+    fn faults(&self) -> u64 {
+        self.kept.faults()
+    }
+}
+
+fn end_after(batch: &[u8]) -> i64 {
+    match head(batch) {
+        Some(heading) => heading.base.saturating_add(i64::from(heading.count)),
+        None => 0,
+    }
+}
+
+pub(crate) fn options(alloc: Global) -> Result<Options, NoMemory>
+    ensures { IfOk result (λ options. IsTrue (are_options options)) }
+{
+    Ok(Options {
+        node: 1,
+        salt: 7,
+        session_ms: 9000,
+        partitions: 1,
+        factor: 1,
+        minimum: 1,
+        cluster: Text::from_str(alloc, "c1")?,
+    })
+}
+
+// Commits what is appended, until all clients are done, and then stops the worker. True where nothing failed.
+fn commit_all<R: Wait>(rt: &R, link: LinkSeat, signs: &Signs) -> bool {
+    let mut link = link;
+    let mut committed = 0i64;
+    for _ in rt.forever() {
+        let seen = signs.news.number(rt);
+        let end = signs.end.load(Ordering::SeqCst);
+        if end > committed {
+            committed = end;
+            if link.push(rt, Event::Commit { epoch: 1, end }).is_err() {
+                return false;
+            }
+        } else if signs.done.load(Ordering::SeqCst) {
+            return link.stop(rt, 1).is_ok();
+        } else {
+            signs.news.wait_past(rt, seen);
+        }
+    }
+    unreachable!()
+}
+
+// All clients play at once, and the link hears when all are done. True where all came as it should.
+fn play_all<R: Threads + Wait + Sync, P: Part + Sync>(
+    rt: &R,
+    seats: Vec<ClientSeat>,
+    part: &P,
+    signs: &Signs,
+) -> bool {
+    let played = thread::map_vec(rt, seats, &|seat: ClientSeat| part.play(rt, seat));
+    signs.done.store(true, Ordering::SeqCst);
+    signs.news.ring(rt);
+    match played {
+        Ok(played) => played.as_slice().iter().all(|fine| *fine),
+        Err(_) => false,
+    }
+}
+
+// Turns until the stop comes. Where no job is left, the link hears of it. True where nothing failed.
+fn turn_all<R: Wait, G: Gate>(
+    rt: &R,
+    alloc: Global,
+    worker: &mut WorkerSeat,
+    gate: &mut G,
+    quorum: &mut TellingQuorum<'_>,
+    signs: &Signs,
+) -> bool {
+    let mut clock = MemoryClock::new(Vec::new(alloc));
+    for _ in rt.forever() {
+        let seen = worker.jobs().number(rt);
+        match worker.turn(rt, gate, quorum, &mut clock) {
+            Ok(Turn::Stopped) => return true,
+            Ok(Turn::Did) => {}
+            Ok(Turn::Idle) => {
+                signs.news.ring(rt);
+                worker.jobs().wait_past(rt, seen);
+            }
+            Err(_) => return false,
+        }
+    }
+    unreachable!()
+}
+
+// This node leads from place 0 on.
+pub(crate) fn lead<R: Wait>(rt: &R, link: &mut LinkSeat) -> bool {
+    let lead = Event::Lead {
+        epoch: 1,
+        next: 0,
+        now: 1000,
+    };
+    link.push(rt, lead).is_ok()
+}
+
+fn play_and_commit<R: Threads + Wait + Sync, P: Part + Sync>(
+    rt: &R,
+    link: LinkSeat,
+    seats: Vec<ClientSeat>,
+    part: &P,
+    signs: &Signs,
+) -> bool {
+    let (committed, played) = thread::join(
+        rt,
+        move || commit_all(rt, link, signs),
+        move || play_all(rt, seats, part, signs),
+    );
+    committed && played
+}
+
+// The worker turns on this thread while the link commits and the clients play on others. True where all came as it should.
+pub(crate) fn run<R: Threads + Wait + Sync, G: Gate, P: Part + Sync>(
+    rt: &R,
+    alloc: Global,
+    worker: &mut WorkerSeat,
+    link: LinkSeat,
+    seats: Vec<ClientSeat>,
+    gate: &mut G,
+    quorum: &mut TellingQuorum<'_>,
+    part: &P,
+    signs: &Signs,
+) -> bool {
+    let (played, turned) = thread::join(
+        rt,
+        move || play_and_commit(rt, link, seats, part, signs),
+        || turn_all(rt, alloc, worker, gate, quorum, signs),
+    );
+    played && turned
+}
