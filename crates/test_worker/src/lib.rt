@@ -2,12 +2,12 @@
 #![tactic(auto)]
 
 #[cfg(test)]
-mod beside;
+mod calls;
 #[cfg(test)]
-mod held;
+mod failed_append;
 #[cfg(test)]
-mod lost;
+mod held_worker;
 #[cfg(test)]
-mod many;
+mod many_clients;
 #[cfg(test)]
-mod writes;
+mod threads;

@@ -1,12 +1,11 @@
 //! 63 clients write at once, while a link commits: the log holds exactly what they were told.
 
-use crate::beside::{Part, Signs, TellingQuorum, lead, options, run};
-use crate::writes::{answer_of, setting};
+use crate::calls::{place_and_error, setting};
+use crate::threads::{Part, Signs, TellingQuorum, serve};
 use kr_base::{MemoryQuorum, NoMemory, OpenGate};
 use kr_batch::decode;
 use kr_defs::{Item, Record};
-use kr_shared::{ClientSeat, open};
-use kr_view::Opening;
+use kr_shared::ClientSeat;
 use std::alloc::Global;
 use std::sync::Wait;
 use std::sync::atomic::{AtomicU64, Ordering};
@@ -29,11 +28,10 @@ struct Settings {
 }
 
 impl Part for Settings {
-    fn play<R: Wait>(&self, rt: &R, seat: ClientSeat) -> bool {
-        let mut seat = seat;
+    fn play<R: Wait>(&self, rt: &R, seat: &mut ClientSeat) -> bool {
         let first = u64::from(seat.number()) * 100;
         for n in 0..EACH {
-            if !self.is_set(rt, &mut seat, first + n) {
+            if !self.is_set(rt, seat, first + n) {
                 return false;
             }
         }
@@ -55,7 +53,7 @@ impl Settings {
         let Ok(call) = setting(self.alloc, value) else {
             return false;
         };
-        match answer_of(rt, seat, &call) {
+        match place_and_error(rt, seat, &call) {
             Some((place, 0)) => self.is_first(place, value),
             _ => false,
         }
@@ -126,31 +124,10 @@ fn value_in(alloc: Global, bytes: &[u8]) -> Option<(i64, u64)> {
 #[test]
 fn the_log_holds_what_63_clients_were_told(rt: HostRuntime) -> Result<(), Fail> {
     let alloc = rt.alloc();
-    let mut opening = Opening::new();
     let signs = Signs::new();
     let mut quorum = TellingQuorum::new(alloc, Vec::new(alloc), &signs)?;
     let part = Settings::new(alloc)?;
-    let options = options(alloc)?;
-    let Ok((mut worker, mut link, seats)) = open(&rt, alloc, &mut opening, options, CLIENTS) else {
-        assert!(rt; false);
-        return Ok(());
-    };
-    let leads = lead(&rt, &mut link);
-    let seats = seats.into_vec();
-    let mut gate = OpenGate;
-    let played = run(
-        &rt,
-        alloc,
-        &mut worker,
-        link,
-        seats,
-        &mut gate,
-        &mut quorum,
-        &part,
-        &signs,
-    );
-    worker.close(&rt);
-    assert!(rt; leads && played);
+    assert!(rt; serve(&rt, alloc, CLIENTS, &mut OpenGate, &mut quorum, &part)?);
     assert!(rt; part.stand_in(&quorum.kept));
     Ok(())
 }

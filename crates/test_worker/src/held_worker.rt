@@ -1,10 +1,9 @@
 //! Readers are answered while the worker is held.
 
-use crate::beside::{Part, Signs, TellingQuorum, lead, options, run};
-use crate::writes::{answer_of, heartbeat, registration, topic, topics_seen};
+use crate::calls::{heartbeat, place_and_error, registration, topic, topics_seen};
+use crate::threads::{Part, Signs, TellingQuorum, serve};
 use kr_base::{Gate, NoMemory};
-use kr_shared::{ClientSeat, open};
-use kr_view::Opening;
+use kr_shared::ClientSeat;
 use std::alloc::Global;
 use std::sync::Wait;
 use std::sync::atomic::{AtomicU64, Ordering};
@@ -19,7 +18,7 @@ const HELD: u64 = 6;
 
 // The first client writes, and the others read while the worker is held before its last write.
 #[derive(Drop)]
-struct Held {
+struct HeldWorker {
     alloc: Global,
     // 1 once the worker is held.
     reached: AtomicU64,
@@ -41,7 +40,7 @@ fn is_given(sign: &AtomicU64, times: u64) -> bool {
 // It holds the worker before one job, until both readers are done, or it gives up.
 #[derive(Drop)]
 struct HoldingGate<'a> {
-    signs: &'a Held,
+    signs: &'a HeldWorker,
     // The worker was held there, and both readers let it go.
     held: bool,
 }
@@ -55,18 +54,17 @@ impl Gate for HoldingGate<'_> {
     }
 }
 
-impl Part for Held {
-    fn play<R: Wait>(&self, rt: &R, seat: ClientSeat) -> bool {
-        let mut seat = seat;
+impl Part for HeldWorker {
+    fn play<R: Wait>(&self, rt: &R, seat: &mut ClientSeat) -> bool {
         match seat.number() {
-            1 => self.write(rt, &mut seat),
-            2 => self.read(&mut seat, 1000),
-            _ => self.read(&mut seat, 1),
+            1 => self.write(rt, seat),
+            2 => self.read(seat, 1000),
+            _ => self.read(seat, 1),
         }
     }
 }
 
-impl Held {
+impl HeldWorker {
     // Writes, and then sees the topic.
     fn write<R: Wait>(&self, rt: &R, seat: &mut ClientSeat) -> bool {
         let written = self.are_written(rt, seat).unwrap_or(false);
@@ -77,9 +75,9 @@ impl Held {
     fn are_written<R: Wait>(&self, rt: &R, seat: &mut ClientSeat) -> Result<bool, NoMemory> {
         let register = registration(self.alloc)?;
         let create = topic(self.alloc)?;
-        let registered = answer_of(rt, seat, &register) == Some((0, 0));
-        let heard = answer_of(rt, seat, &heartbeat()) == Some((1, 0));
-        let created = answer_of(rt, seat, &create) == Some((2, 0));
+        let registered = place_and_error(rt, seat, &register) == Some((0, 0));
+        let heard = place_and_error(rt, seat, &heartbeat()) == Some((1, 0));
+        let created = place_and_error(rt, seat, &create) == Some((2, 0));
         Ok(registered && heard && created)
     }
 
@@ -97,10 +95,9 @@ impl Held {
 #[test]
 fn readers_are_answered_while_the_worker_is_held(rt: HostRuntime) -> Result<(), Fail> {
     let alloc = rt.alloc();
-    let mut opening = Opening::new();
     let signs = Signs::new();
     let mut quorum = TellingQuorum::new(alloc, Vec::new(alloc), &signs)?;
-    let part = Held {
+    let part = HeldWorker {
         alloc,
         reached: AtomicU64::new(0),
         opened: AtomicU64::new(0),
@@ -109,25 +106,7 @@ fn readers_are_answered_while_the_worker_is_held(rt: HostRuntime) -> Result<(), 
         signs: &part,
         held: false,
     };
-    let options = options(alloc)?;
-    let Ok((mut worker, mut link, seats)) = open(&rt, alloc, &mut opening, options, 3) else {
-        assert!(rt; false);
-        return Ok(());
-    };
-    let leads = lead(&rt, &mut link);
-    let seats = seats.into_vec();
-    let played = run(
-        &rt,
-        alloc,
-        &mut worker,
-        link,
-        seats,
-        &mut gate,
-        &mut quorum,
-        &part,
-        &signs,
-    );
-    worker.close(&rt);
-    assert!(rt; leads && played && gate.held);
+    assert!(rt; serve(&rt, alloc, 3, &mut gate, &mut quorum, &part)?);
+    assert!(rt; gate.held);
     Ok(())
 }

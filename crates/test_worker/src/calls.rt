@@ -135,7 +135,11 @@ fn error_of(answered: &Answered) -> Option<i16> {
 }
 
 // The place at which a write was decided, and the error of its reply; none where no answer came.
-pub(crate) fn answer_of<R: Wait>(rt: &R, seat: &mut ClientSeat, call: &Call) -> Option<(i64, i16)>
+pub(crate) fn place_and_error<R: Wait>(
+    rt: &R,
+    seat: &mut ClientSeat,
+    call: &Call,
+) -> Option<(i64, i16)>
     requires { IsTrue (not (is_read call.now.request)) }
 {
     match seat.submit(rt, call) {

@@ -1,13 +1,14 @@
 //! A worker, and beside it a link that commits and the clients, each on a thread of its own.
 
-ghost use Rattle.std.specs.Prelude.{IfOk, IsTrue, Some};
+ghost use Rattle.std.specs.Prelude.{◌<◌, ◌≤◌, IfOk, IsTrue};
 ghost use Rattle.kr_defs.specs.OpenOptions.{are_options};
 
 use kr_base::{Failed, Gate, MemoryClock, MemoryQuorum, NoMemory, Quorum};
 use kr_batch::head;
 use kr_calls::Event;
 use kr_defs::{Options, Text};
-use kr_shared::{Bell, ClientSeat, LinkSeat, Turn, WorkerSeat};
+use kr_shared::{Bell, ClientSeat, LinkSeat, Turn, WorkerSeat, open};
+use kr_view::Opening;
 use std::alloc::Global;
 use std::sync::Wait;
 use std::sync::atomic::{AtomicBool, AtomicI64, Ordering};
@@ -17,7 +18,7 @@ use std::thread::Threads;
 // What each client does on its thread.
 pub(crate) trait Part {
     // True where all came as it should.
-    fn play<R: Wait>(&self, rt: &R, seat: ClientSeat) -> bool;
+    fn play<R: Wait>(&self, rt: &R, seat: &mut ClientSeat) -> bool;
 }
 
 // What the threads tell the link's.
@@ -87,7 +88,7 @@ fn end_after(batch: &[u8]) -> i64 {
     }
 }
 
-pub(crate) fn options(alloc: Global) -> Result<Options, NoMemory>
+fn options(alloc: Global) -> Result<Options, NoMemory>
     ensures { IfOk result (λ options. IsTrue (are_options options)) }
 {
     Ok(Options {
@@ -102,8 +103,7 @@ pub(crate) fn options(alloc: Global) -> Result<Options, NoMemory>
 }
 
 // Commits what is appended, until all clients are done, and then stops the worker. True where nothing failed.
-fn commit_all<R: Wait>(rt: &R, link: LinkSeat, signs: &Signs) -> bool {
-    let mut link = link;
+fn commit_all<R: Wait>(rt: &R, mut link: LinkSeat, signs: &Signs) -> bool {
     let mut committed = 0i64;
     for _ in rt.forever() {
         let seen = signs.news.number(rt);
@@ -122,55 +122,20 @@ fn commit_all<R: Wait>(rt: &R, link: LinkSeat, signs: &Signs) -> bool {
     unreachable!()
 }
 
-// All clients play at once, and the link hears when all are done. True where all came as it should.
+// Each client plays on a thread of its own, and the link hears when all are done. True where all came as it should.
 fn play_all<R: Threads + Wait + Sync, P: Part + Sync>(
     rt: &R,
     seats: Vec<ClientSeat>,
     part: &P,
     signs: &Signs,
 ) -> bool {
-    let played = thread::map_vec(rt, seats, &|seat: ClientSeat| part.play(rt, seat));
+    let played = thread::map_vec(rt, seats, &|mut seat: ClientSeat| part.play(rt, &mut seat));
     signs.done.store(true, Ordering::SeqCst);
     signs.news.ring(rt);
     match played {
         Ok(played) => played.as_slice().iter().all(|fine| *fine),
         Err(_) => false,
     }
-}
-
-// Turns until the stop comes. Where no job is left, the link hears of it. True where nothing failed.
-fn turn_all<R: Wait, G: Gate>(
-    rt: &R,
-    alloc: Global,
-    worker: &mut WorkerSeat,
-    gate: &mut G,
-    quorum: &mut TellingQuorum<'_>,
-    signs: &Signs,
-) -> bool {
-    let mut clock = MemoryClock::new(Vec::new(alloc));
-    for _ in rt.forever() {
-        let seen = worker.jobs().number(rt);
-        match worker.turn(rt, gate, quorum, &mut clock) {
-            Ok(Turn::Stopped) => return true,
-            Ok(Turn::Did) => {}
-            Ok(Turn::Idle) => {
-                signs.news.ring(rt);
-                worker.jobs().wait_past(rt, seen);
-            }
-            Err(_) => return false,
-        }
-    }
-    unreachable!()
-}
-
-// This node leads from place 0 on.
-pub(crate) fn lead<R: Wait>(rt: &R, link: &mut LinkSeat) -> bool {
-    let lead = Event::Lead {
-        epoch: 1,
-        next: 0,
-        now: 1000,
-    };
-    link.push(rt, lead).is_ok()
 }
 
 fn play_and_commit<R: Threads + Wait + Sync, P: Part + Sync>(
@@ -188,8 +153,33 @@ fn play_and_commit<R: Threads + Wait + Sync, P: Part + Sync>(
     committed && played
 }
 
-// The worker turns on this thread while the link commits and the clients play on others. True where all came as it should.
-pub(crate) fn run<R: Threads + Wait + Sync, G: Gate, P: Part + Sync>(
+// Turns until the stop comes. Where no job is left, the link hears of it. True where nothing failed.
+fn turn_all<R: Wait, G: Gate>(
+    rt: &R,
+    alloc: Global,
+    worker: &mut WorkerSeat,
+    gate: &mut G,
+    quorum: &mut TellingQuorum<'_>,
+) -> bool {
+    let signs = quorum.signs;
+    let mut clock = MemoryClock::new(Vec::new(alloc));
+    for _ in rt.forever() {
+        let seen = worker.jobs().number(rt);
+        match worker.turn(rt, gate, quorum, &mut clock) {
+            Ok(Turn::Stopped) => return true,
+            Ok(Turn::Did) => {}
+            Ok(Turn::Idle) => {
+                signs.news.ring(rt);
+                worker.jobs().wait_past(rt, seen);
+            }
+            Err(_) => return false,
+        }
+    }
+    unreachable!()
+}
+
+// The worker turns on this thread, and the others are beside it.
+fn turn_beside<R: Threads + Wait + Sync, G: Gate, P: Part + Sync>(
     rt: &R,
     alloc: Global,
     worker: &mut WorkerSeat,
@@ -198,12 +188,44 @@ pub(crate) fn run<R: Threads + Wait + Sync, G: Gate, P: Part + Sync>(
     gate: &mut G,
     quorum: &mut TellingQuorum<'_>,
     part: &P,
-    signs: &Signs,
 ) -> bool {
+    let signs = quorum.signs;
     let (played, turned) = thread::join(
         rt,
         move || play_and_commit(rt, link, seats, part, signs),
-        || turn_all(rt, alloc, worker, gate, quorum, signs),
+        || turn_all(rt, alloc, worker, gate, quorum),
     );
     played && turned
+}
+
+fn lead<R: Wait>(rt: &R, link: &mut LinkSeat) -> bool {
+    let lead = Event::Lead {
+        epoch: 1,
+        next: 0,
+        now: 1000,
+    };
+    link.push(rt, lead).is_ok()
+}
+
+// A controller that leads from place 0 on serves so many clients, which play their parts. True where all came as it should.
+pub(crate) fn serve<R: Threads + Wait + Sync, G: Gate, P: Part + Sync>(
+    rt: &R,
+    alloc: Global,
+    clients: u32,
+    gate: &mut G,
+    quorum: &mut TellingQuorum<'_>,
+    part: &P,
+) -> Result<bool, NoMemory>
+    requires { (0 < clients) × (clients ≤ 64) }
+{
+    let options = options(alloc)?;
+    let mut opening = Opening::new();
+    let Ok((mut worker, mut link, seats)) = open(rt, alloc, &mut opening, options, clients) else {
+        return Ok(false);
+    };
+    let leads = lead(rt, &mut link);
+    let seats = seats.into_vec();
+    let played = turn_beside(rt, alloc, &mut worker, link, seats, gate, quorum, part);
+    worker.close(rt);
+    Ok(leads && played)
 }
