@@ -23,7 +23,7 @@ pub struct Door {
 
 impl Door {
     /// An open door, of a daemon whose quorum is at the other end of a link.
-    pub fn linked(listener: TcpListener) -> Door {
+    pub fn of_link(listener: TcpListener) -> Door {
         Door {
             listener,
             closed: AtomicU64::new(0),

@@ -1,6 +1,6 @@
 //! A controller with a quorum of its own, which commits at once.
 
-ghost use Rattle.kr_host.specs.Leading.{Leads};
+ghost use Rattle.kr_host.specs.Leading.{PushesLead};
 
 use crate::door::Door;
 use crate::ended::{Ended, tell_no_memory};
@@ -18,7 +18,7 @@ const EPOCH: i32 = 1;
 
 /// Leads from the first place of the log on.
 pub fn lead_alone<R: Wait + time::Clock + Copy>(rt: &R, link: &mut LinkSeat)
-    ensures { Leads link.old link.new }
+    ensures { PushesLead link.old link.new }
 {
     let lead = Event::Lead {
         epoch: EPOCH,

@@ -152,7 +152,7 @@ where
 {
     let alloc = rt.alloc();
     let (there, back) = halves;
-    let door = Arc::new(alloc, Door::linked(listener))?;
+    let door = Arc::new(alloc, Door::of_link(listener))?;
     let mut quorum = LinkQuorum::new(rt, alloc, there)?;
     let _threads = spawn_clients(rt, alloc, &door, seats)?;
     let _thread = spawn_link(rt, alloc, back, link)?;

@@ -10,7 +10,7 @@ use Rattle.clap.specs.declared.builder.command.Command.{Command}
 use Rattle.clap.specs.declared.builder.command.Command.TheViews.{out-Command}
 use Rattle.clap.specs.declared.parser.matches.ArgMatches.{ArgMatches}
 use Rattle.clap.proofs.CallerLemmas.{required_in_chain}
-use Rattle.kr_settings.specs.Words.{HasNeeded, IsOption, needed, optional}
+use Rattle.kr_settings.specs.Words.{HasNeeded, IsOption, mandatory, optional}
 use Rattle.kr_settings.proofs.Chains.{are_distinct, distinct, fits, id_of, takes_value}
 
 pub record IsBare (start : Command) : Type 0 where
@@ -20,10 +20,10 @@ pub record IsBare (start : Command) : Type 0 where
   pub negates : (out-Command start).subcommand_negates_reqs ≡ false
 
 pub record Six (a b d e f g : Arg) : Type 0 where
-  pub listen : IsOption (needed (codes "listen")) a
-  pub node : IsOption (needed (codes "node")) b
-  pub cluster : IsOption (needed (codes "cluster")) d
-  pub salt : IsOption (needed (codes "salt")) e
+  pub listen : IsOption (mandatory (codes "listen")) a
+  pub node : IsOption (mandatory (codes "node")) b
+  pub cluster : IsOption (mandatory (codes "cluster")) d
+  pub salt : IsOption (mandatory (codes "salt")) e
   pub link : IsOption (optional (codes "link")) f
   pub clients : IsOption (optional (codes "clients")) g
 
@@ -38,20 +38,20 @@ id_by rule a o = ap (λ (r : Rule). r.id) o.same
 
 ids : (a b d e f g : Arg) → Six a b d e f g → map id_of (all_of a b d e f g) ≡ six
 ids a b d e f g s = rw (
-  id_by (needed (codes "listen")) a s.listen,
-  id_by (needed (codes "node")) b s.node,
-  id_by (needed (codes "cluster")) d s.cluster,
-  id_by (needed (codes "salt")) e s.salt,
+  id_by (mandatory (codes "listen")) a s.listen,
+  id_by (mandatory (codes "node")) b s.node,
+  id_by (mandatory (codes "cluster")) d s.cluster,
+  id_by (mandatory (codes "salt")) e s.salt,
   id_by (optional (codes "link")) f s.link,
   id_by (optional (codes "clients")) g s.clients,
 ) refl
 
 all_fit : (a b d e f g : Arg) → Six a b d e f g → All FitsChain (all_of a b d e f g)
 all_fit a b d e f g s =
-    All-cons FitsChain a (b ∷ d ∷ e ∷ f ∷ g ∷ []) (fits (needed (codes "listen")) a s.listen refl)
-    (All-cons FitsChain b (d ∷ e ∷ f ∷ g ∷ []) (fits (needed (codes "node")) b s.node refl)
-    (All-cons FitsChain d (e ∷ f ∷ g ∷ []) (fits (needed (codes "cluster")) d s.cluster refl)
-    (All-cons FitsChain e (f ∷ g ∷ []) (fits (needed (codes "salt")) e s.salt refl)
+    All-cons FitsChain a (b ∷ d ∷ e ∷ f ∷ g ∷ []) (fits (mandatory (codes "listen")) a s.listen refl)
+    (All-cons FitsChain b (d ∷ e ∷ f ∷ g ∷ []) (fits (mandatory (codes "node")) b s.node refl)
+    (All-cons FitsChain d (e ∷ f ∷ g ∷ []) (fits (mandatory (codes "cluster")) d s.cluster refl)
+    (All-cons FitsChain e (f ∷ g ∷ []) (fits (mandatory (codes "salt")) e s.salt refl)
     (All-cons FitsChain f (g ∷ []) (fits (optional (codes "link")) f s.link refl)
     (All-cons FitsChain g [] (fits (optional (codes "clients")) g s.clients refl)
     (All-nil FitsChain))))))
@@ -66,8 +66,8 @@ value_at start cmd a b d e f g bare s chain m parsed k lt takes =
 pub has_needed : (start cmd : Command) (a b d e f g : Arg) → IsBare start → Six a b d e f g → AddsInTurn AddsArg start (all_of a b d e f g) cmd
     → (m : ArgMatches) → IsParsedFrom cmd m → HasNeeded m
 has_needed start cmd a b d e f g bare s chain m parsed = record {
-  listen = subst (λ id. is_some (first_value (found_of m) id) ≡ true) (id_by (needed (codes "listen")) a s.listen) (value_at start cmd a b d e f g bare s chain m parsed 0 (omega arith) (takes_value (needed (codes "listen")) a s.listen refl));
-  node = subst (λ id. is_some (first_value (found_of m) id) ≡ true) (id_by (needed (codes "node")) b s.node) (value_at start cmd a b d e f g bare s chain m parsed 1 (omega arith) (takes_value (needed (codes "node")) b s.node refl));
-  cluster = subst (λ id. is_some (first_value (found_of m) id) ≡ true) (id_by (needed (codes "cluster")) d s.cluster) (value_at start cmd a b d e f g bare s chain m parsed 2 (omega arith) (takes_value (needed (codes "cluster")) d s.cluster refl));
-  salt = subst (λ id. is_some (first_value (found_of m) id) ≡ true) (id_by (needed (codes "salt")) e s.salt) (value_at start cmd a b d e f g bare s chain m parsed 3 (omega arith) (takes_value (needed (codes "salt")) e s.salt refl));
+  listen = subst (λ id. is_some (first_value (found_of m) id) ≡ true) (id_by (mandatory (codes "listen")) a s.listen) (value_at start cmd a b d e f g bare s chain m parsed 0 (omega arith) (takes_value (mandatory (codes "listen")) a s.listen refl));
+  node = subst (λ id. is_some (first_value (found_of m) id) ≡ true) (id_by (mandatory (codes "node")) b s.node) (value_at start cmd a b d e f g bare s chain m parsed 1 (omega arith) (takes_value (mandatory (codes "node")) b s.node refl));
+  cluster = subst (λ id. is_some (first_value (found_of m) id) ≡ true) (id_by (mandatory (codes "cluster")) d s.cluster) (value_at start cmd a b d e f g bare s chain m parsed 2 (omega arith) (takes_value (mandatory (codes "cluster")) d s.cluster refl));
+  salt = subst (λ id. is_some (first_value (found_of m) id) ≡ true) (id_by (mandatory (codes "salt")) e s.salt) (value_at start cmd a b d e f g bare s chain m parsed 3 (omega arith) (takes_value (mandatory (codes "salt")) e s.salt refl));
 }

@@ -15,8 +15,8 @@ use Rattle.kr_settings.specs.declared.told.Settings.{Settings}
 abbrev pub optional : List ℕ → Rule
 optional name = record (new_rule name) { long = Some name; action = Some Set; value_names = 1 }
 
-abbrev pub needed : List ℕ → Rule
-needed name = record (optional name) { required = true }
+abbrev pub mandatory : List ℕ → Rule
+mandatory name = record (optional name) { required = true }
 
 -- the words have no program's name before them
 abbrev pub bare : App
@@ -25,10 +25,10 @@ bare = on_top (λ s. record s { no_binary_name = true; has_version = true }) (ne
 abbrev pub kr_daemon : App
 kr_daemon =
     with_rule (with_rule (with_rule (with_rule (with_rule (with_rule bare
-    (needed (codes "listen")))
-    (needed (codes "node")))
-    (needed (codes "cluster")))
-    (needed (codes "salt")))
+    (mandatory (codes "listen")))
+    (mandatory (codes "node")))
+    (mandatory (codes "cluster")))
+    (mandatory (codes "salt")))
     (optional (codes "link")))
     (optional (codes "clients"))
 
@@ -37,26 +37,26 @@ abbrev pub AreTaken : List (List ℕ) → Type 0
 AreTaken words = takes kr_daemon words ≡ true
 
 -- the value that the words give the option of this name
-abbrev pub value_of : List ℕ → List (List ℕ) → Option (List ℕ)
-value_of name words = first_of name (matches_of kr_daemon words)
+abbrev pub value_given : List ℕ → List (List ℕ) → Option (List ℕ)
+value_given name words = first_of name (matches_of kr_daemon words)
 
 -- the number up to the greatest that the words give the option of this name, in decimal without sign or leading zero
 abbrev pub number_of : ℕ → List ℕ → List (List ℕ) → Option ℕ
-number_of greatest name words = option_and_then (decimal_up_to greatest) (value_of name words)
+number_of greatest name words = option_and_then (decimal_up_to greatest) (value_given name words)
 
 -- ---- what is answered
 
 -- eight where there is no such option
 abbrev pub SaysClients : List (List ℕ) → ℕ → Type 0
-SaysClients words clients = ((value_of (codes "clients") words ≡ None) × (clients ≡ 8)) ⊎ ((number_of 63 (codes "clients") words ≡ Some clients) × (0 < clients))
+SaysClients words clients = ((value_given (codes "clients") words ≡ None) × (clients ≡ 8)) ⊎ ((number_of 63 (codes "clients") words ≡ Some clients) × (0 < clients))
 
 pub record Says (words : List (List ℕ)) (settings : Settings) : Type 0 where
-  pub listen : value_of (codes "listen") words ≡ Some settings.listen
+  pub listen : value_given (codes "listen") words ≡ Some settings.listen
   pub node : option_map pos (number_of 2147483647 (codes "node") words) ≡ Some settings.node
-  pub cluster : value_of (codes "cluster") words ≡ Some settings.cluster
+  pub cluster : value_given (codes "cluster") words ≡ Some settings.cluster
   pub short : length settings.cluster ≤ 255
   pub salt : number_of 18446744073709551615 (codes "salt") words ≡ Some settings.salt
-  pub link : value_of (codes "link") words ≡ settings.link
+  pub link : value_given (codes "link") words ≡ settings.link
   pub clients : SaysClients words settings.clients
 
 -- the ranges of what is told
@@ -70,9 +70,9 @@ pub record AreInRange (settings : Settings) : Type 0 where
 pub data AreWrong (words : List (List ℕ)) : Type 0 where
   untaken : takes kr_daemon words ≡ false → AreWrong words
   node : number_of 2147483647 (codes "node") words ≡ None → AreWrong words
-  cluster : (text : List ℕ) → value_of (codes "cluster") words ≡ Some text → 255 < length text → AreWrong words
+  cluster : (text : List ℕ) → value_given (codes "cluster") words ≡ Some text → 255 < length text → AreWrong words
   salt : number_of 18446744073709551615 (codes "salt") words ≡ None → AreWrong words
-  clients : (text : List ℕ) → value_of (codes "clients") words ≡ Some text → (number_of 63 (codes "clients") words ≡ None) ⊎ (number_of 63 (codes "clients") words ≡ Some 0) → AreWrong words
+  clients : (text : List ℕ) → value_given (codes "clients") words ≡ Some text → (number_of 63 (codes "clients") words ≡ None) ⊎ (number_of 63 (codes "clients") words ≡ Some 0) → AreWrong words
 
 -- ---- what a parse gives
 

@@ -21,8 +21,8 @@ fn optional<'a>(alloc: Global, name: &'a str, value: &'a str, help: &'a str) -> 
 }
 
 // One that has to be there.
-fn needed<'a>(alloc: Global, name: &'a str, value: &'a str, help: &'a str) -> Arg<'a>
-    ensures { IsOption (spec.needed name.now) result }
+fn mandatory<'a>(alloc: Global, name: &'a str, value: &'a str, help: &'a str) -> Arg<'a>
+    ensures { IsOption (spec.mandatory name.now) result }
 {
     optional(alloc, name, value, help).required(true)
 }
@@ -37,25 +37,25 @@ pub(crate) fn kr_daemon<'a>(alloc: Global) -> Result<Command<'a>, AllocError>
         .no_binary_name(true)
         .version("0.1")
         .about("The controller of a Kafka cluster in KRaft mode, served over TCP.")
-        .arg(needed(
+        .arg(mandatory(
             alloc,
             "listen",
             "ADDR",
             "The address on which clients are served, host:port; no default",
         ))?
-        .arg(needed(
+        .arg(mandatory(
             alloc,
             "node",
             "N",
             "This node's id, 0 to 2147483647; no default",
         ))?
-        .arg(needed(
+        .arg(mandatory(
             alloc,
             "cluster",
             "TEXT",
             "The cluster id, at most 255 bytes; no default",
         ))?
-        .arg(needed(
+        .arg(mandatory(
             alloc,
             "salt",
             "N",

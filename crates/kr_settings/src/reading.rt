@@ -4,7 +4,7 @@ ghost use Rattle.std.specs.Prelude.{◌≡◌, ◌≢◌, ◌<◌, ◌≤◌, �
 ghost use Rattle.clap.specs.Words.{first_value, found_of, kind_of, takes};
 ghost use Rattle.kr_defs.specs.Texts.{decimal_up_to};
 ghost use Rattle.kr_settings.specs.Words as spec;
-ghost use Rattle.kr_settings.specs.Words.{AreInRange, AreWrong, HasNeeded, Says, value_of};
+ghost use Rattle.kr_settings.specs.Words.{AreInRange, AreWrong, HasNeeded, Says, value_given};
 
 use crate::command::kr_daemon;
 use crate::numbers::long_up_to;
@@ -47,7 +47,7 @@ fn strs<'a>(alloc: Global, words: &'a [Text]) -> Result<Vec<&'a str>, AllocError
 // The matches of the words.
 fn parse<'a>(alloc: Global, words: &'a [&'a str]) -> Result<ArgMatches<'a>, SettingsFault>
     ensures values { IfOk result (λ m. (name : List ℕ) → first_value (found_of m) name
-        ≡ value_of name (map (λ s. s.now) words.now)) }
+        ≡ value_given name (map (λ s. s.now) words.now)) }
     ensures needed { IfOk result HasNeeded }
     ensures refused { IsErrOf result SettingsFault.Refused
         → takes spec.kr_daemon (map (λ s. s.now) words.now) ≡ false }

@@ -104,7 +104,7 @@ where
 {
     let (worker, link, seats) = opened;
     let (there, back) = halves;
-    let door = Arc::new(alloc, Door::linked(listener))?;
+    let door = Arc::new(alloc, Door::of_link(listener))?;
     let mut quorum = LinkQuorum::new(rt, alloc, there)?;
     let threads = spawn_clients(rt, alloc, &door, seats)?;
     let reading = spawn_link(rt, alloc, back, link)?;

@@ -2,18 +2,18 @@ use Rattle.std.proofs.Common.{rules, ◌≡◌, ◌∙◌, ◌<◌, ◌⊎◌, �
 use Rattle.std.specs.Prelude.{option_and_then, IsSomeAnd}
 use Rattle.std.specs.Borrow.{Bor}
 use Rattle.kr_defs.specs.Texts.{decimal_up_to}
-use Rattle.kr_settings.specs.Words.{AreWrong, SaysClients, value_of}
+use Rattle.kr_settings.specs.Words.{AreWrong, SaysClients, value_given}
 use Rattle.kr_settings.proofs.reading.settings_in.Goals as goal
 
 -- the answer of `get_str` and what the words say are the same
-clients_said : (words : List (List ℕ)) (text : Option (Bor (List ℕ))) (n : ℕ) → option_map (λ t. t.now) text ≡ value_of (codes "clients") words
+clients_said : (words : List (List ℕ)) (text : Option (Bor (List ℕ))) (n : ℕ) → option_map (λ t. t.now) text ≡ value_given (codes "clients") words
     → ((text ≡ None) × (n ≡ 8)) ⊎ IsSomeAnd text (λ t. (decimal_up_to 63 t.now ≡ Some n) × (0 < n)) → SaysClients words n
 clients_said words None n same (inl h) = inl (sym same, h.1)
 clients_said words None n same (inr h) = absurd h
 clients_said words (Some t) n same (inl h) = cc
 clients_said words (Some t) n same (inr h) = inr (ap (option_and_then (decimal_up_to 63)) (sym same) ∙ h.0, h.1)
 
-clients_wrong : (words : List (List ℕ)) (text : Option (Bor (List ℕ))) → option_map (λ t. t.now) text ≡ value_of (codes "clients") words
+clients_wrong : (words : List (List ℕ)) (text : Option (Bor (List ℕ))) → option_map (λ t. t.now) text ≡ value_given (codes "clients") words
     → IsSomeAnd text (λ t. (decimal_up_to 63 t.now ≡ None) ⊎ (decimal_up_to 63 t.now ≡ Some 0)) → AreWrong words
 clients_wrong words None same h = absurd h
 clients_wrong words (Some t) same (inl h) = AreWrong.clients t.now (sym same) (inl (ap (option_and_then (decimal_up_to 63)) (sym same) ∙ h))
