@@ -1,0 +1,63 @@
+"""The two transactions that change the log in etcd, and why what they leave is one log. Nothing of this is proved.
+
+Under a prefix stand `log/PLACE`, a batch by the place of its first record; `end`, the place behind the last batch; `leader`, who
+leads, under a lease; and `epoch`, the greatest epoch that was led. No other code writes these keys (`parts/`, for large batches,
+is written before a batch refers to it). Of etcd it is taken that a transaction happens whole or not at all, that they happen one
+after the other, each at a revision of its own, that no revision is lost once it was answered, and that a read shows at least
+what was answered before it was asked. No clock is trusted: a lease says when to try, and never what stands.
+
+The log at a revision is its batches from place 0 up to `end`.
+
+1. It has no gaps and only grows. `append` compares `end` with the place where its first batch begins, its batches meet, and the
+   new `end` is where the last one ends: so it adds a piece behind the log, and writes no place below `end`.
+2. An epoch belongs to one leadership. `campaign` takes an absent `leader` and raises `epoch` in one transaction, so two that took
+   effect have different epochs, and the later one's is greater.
+3. While `leader` is the key that a leadership made, nobody else appends: each append compares the revision at which `leader` was
+   made. A key that ran out and was made again has another revision, so an append that arrives late is refused, however late.
+4. So from `campaign` on, the log is what it was then (the controller was fed that) and behind it the batches of this leadership,
+   in the order in which its controller wrote them. One that is refused makes all behind it be refused, as none begins at `end`.
+5. True is answered only where the batches stand. Where the answer to a try was lost, the same is tried again. If that is refused,
+   it is seen whether the place holds these very bytes: they name the epoch, and a controller writes one batch for a place in an
+   epoch, so they are this append's own, and the batches that went with it stand too. Otherwise they don't stand; and no later try
+   can make them, as `leader` never becomes this key again and `end` never falls.
+6. What a link commits was answered True; what it feeds is a piece of the log up to an `end` that it read. So each controller's
+   committed log is a beginning of this one log, and of two links that both believe that they lead one alone can append.
+"""
+from batches import at_place, span, value_for
+from gateway import get, made_at, put, value_is
+
+
+def number(read, default=0):
+    return int(read[0][1]) if read else default
+
+
+def campaign(etcd, prefix, token, lease):
+    """Takes the leadership where nobody has it: (epoch, mark, end of the log), or None. The token is this call's alone."""
+    leader, epoch, end = prefix + b"leader", prefix + b"epoch", prefix + b"end"
+    _, (before,) = etcd.transact([], [get(epoch)], [])
+    mine = number(before) + 1
+    same = value_is(epoch, b"%d" % (mine - 1)) if before else made_at(epoch, 0)
+    _, (led, highest, last) = etcd.transact(
+        [made_at(leader, 0), same],
+        [put(leader, token, lease), put(epoch, b"%d" % mine), get(leader), get(epoch), get(end)],
+        [get(leader), get(epoch), get(end)])
+    if led and led[0][1] == token:          # taken now, or by an earlier try of this call whose answer was lost
+        return number(highest), led[0][2], number(last)
+    return None
+
+
+def append(etcd, prefix, mark, batches):
+    """Appends batches that meet. True: they stand. False: they don't, and never will. Unknown is raised: try the same again."""
+    leader, end = prefix + b"leader", prefix + b"end"
+    base = behind = span(batches[0])[0]
+    for batch in batches:
+        if span(batch)[0] != behind:
+            return False
+        behind = span(batch)[1]
+    values = [value_for(etcd, prefix, made_at(leader, mark), batch) for batch in batches]
+    places = [prefix + at_place(span(batch)[0]) for batch in batches]
+    stands, reads = etcd.transact(
+        [made_at(leader, mark), value_is(end, b"%d" % base) if base else made_at(end, 0)],
+        [put(place, value) for place, value in zip(places, values)] + [put(end, b"%d" % behind)],
+        [get(places[0])])
+    return stands or [value for _, value, _ in reads[0]] == values[:1]
