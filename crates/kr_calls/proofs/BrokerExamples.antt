@@ -7,6 +7,7 @@ use Rattle.kr_defs.specs.Elect.{elected}
 use Rattle.kr_defs.specs.Eligible.{eligible_after}
 use Rattle.kr_defs.specs.Heartbeats.{Heartbeats, heard}
 use Rattle.kr_defs.specs.Image.{Image}
+use Rattle.kr_calls.specs.declared.errors.TheConstants.{BROKER_ID_NOT_REGISTERED, DUPLICATE_BROKER_REGISTRATION, INCONSISTENT_CLUSTER_ID, INVALID_REQUEST, STALE_BROKER_EPOCH}
 use Rattle.kr_calls.specs.declared.broker_heartbeat.BrokerHeartbeat.{BrokerHeartbeat}
 use Rattle.kr_calls.specs.declared.broker_heartbeat.BrokerHeartbeatReply.{BrokerHeartbeatReply}
 use Rattle.kr_calls.specs.declared.broker_registration.BrokerRegistration.{BrokerRegistration}
@@ -29,20 +30,20 @@ asks = record {
   previous_epoch = pos 13;
 }
 
-other_cluster : broker_registration.rule options basis.time (heard basis) image (pos 30) (record asks { cluster = codes "c2"; broker = negsuc 0 }) ≡ Err (pos 104)
+other_cluster : broker_registration.rule options basis.time (heard basis) image (pos 30) (record asks { cluster = codes "c2"; broker = negsuc 0 }) ≡ Err INCONSISTENT_CLUSTER_ID
 other_cluster = refl
 
-negative_id : broker_registration.rule options basis.time (heard basis) image (pos 30) (record asks { broker = negsuc 0 }) ≡ Err (pos 42)
+negative_id : broker_registration.rule options basis.time (heard basis) image (pos 30) (record asks { broker = negsuc 0 }) ≡ Err INVALID_REQUEST
 negative_id = refl
 
-migrating : broker_registration.rule options basis.time (heard basis) image (pos 30) (record asks { migrating = true }) ≡ Err (pos 42)
+migrating : broker_registration.rule options basis.time (heard basis) image (pos 30) (record asks { migrating = true }) ≡ Err INVALID_REQUEST
 migrating = refl
 
-no_listener : broker_registration.rule options basis.time (heard basis) image (pos 30) (record asks { listeners = [] }) ≡ Err (pos 42)
+no_listener : broker_registration.rule options basis.time (heard basis) image (pos 30) (record asks { listeners = [] }) ≡ Err INVALID_REQUEST
 no_listener = refl
 
 -- broker 1 was heard of a second ago
-other_incarnation : broker_registration.rule options basis.time (heard basis) image (pos 30) (record asks { broker = pos 1 }) ≡ Err (pos 101)
+other_incarnation : broker_registration.rule options basis.time (heard basis) image (pos 30) (record asks { broker = pos 1 }) ≡ Err DUPLICATE_BROKER_REGISTRATION
 other_incarnation = refl
 
 -- its session has just ended
@@ -50,7 +51,7 @@ late : OnOk (broker_registration.rule options (pos 10000) (heard basis) image (p
 late = tt
 
 -- one millisecond before that it hasn't
-in_time : broker_registration.rule options (pos 9999) (heard basis) image (pos 30) (record asks { broker = pos 1 }) ≡ Err (pos 101)
+in_time : broker_registration.rule options (pos 9999) (heard basis) image (pos 30) (record asks { broker = pos 1 }) ≡ Err DUPLICATE_BROKER_REGISTRATION
 in_time = refl
 
 -- a fenced broker registers anew; it is in sync nowhere
@@ -69,10 +70,10 @@ fenced_beats = record beats { broker = pos 4; epoch = pos 13 }
 abbrev answers : Bool → Bool → Bool → BrokerHeartbeatReply
 answers caught_up fenced shuts_down = record { error = pos 0; caught_up = caught_up; fenced = fenced; should_shut_down = shuts_down }
 
-unknown_broker : broker_heartbeat.rule options (heard basis) image (pos 30) (record beats { broker = pos 9 }) ≡ Err (pos 77)
+unknown_broker : broker_heartbeat.rule options (heard basis) image (pos 30) (record beats { broker = pos 9 }) ≡ Err STALE_BROKER_EPOCH
 unknown_broker = refl
 
-stale_epoch : broker_heartbeat.rule options (heard basis) image (pos 30) (record beats { epoch = pos 12 }) ≡ Err (pos 77)
+stale_epoch : broker_heartbeat.rule options (heard basis) image (pos 30) (record beats { epoch = pos 12 }) ≡ Err STALE_BROKER_EPOCH
 stale_epoch = refl
 
 active_stays : broker_heartbeat.rule options (heard basis) image (pos 30) beats ≡ Ok (record { records = []; answer = answers true false false })
@@ -171,7 +172,7 @@ leads_again = refl
 
 -- ---- unregistrations
 
-not_registered : unregister_broker.rule options image (pos 30) (record { broker = pos 9 }) ≡ Err (pos 102)
+not_registered : unregister_broker.rule options image (pos 30) (record { broker = pos 9 }) ≡ Err BROKER_ID_NOT_REGISTERED
 not_registered = refl
 
 -- broker 3 goes uncleanly: it is neither in sync nor eligible afterwards

@@ -18,6 +18,7 @@ use Rattle.kr_defs.specs.Image.{Image, topic_name, has_topic, is_index, config_t
 use Rattle.kr_defs.specs.Merge.{merged}
 use Rattle.kr_defs.specs.Texts.{is_topic_name, names_agree}
 use Rattle.kr_defs.specs.declared.limits.TheConstants.{MOST_TOPICS, MOST_PARTITIONS, MOST_CONFIG_TEXT, MOST_FEATURES, LONGEST_FEATURE}
+use Rattle.kr_calls.specs.declared.errors.TheConstants.{ELECTION_NOT_NEEDED, ELIGIBLE_LEADERS_NOT_AVAILABLE, FENCED_LEADER_EPOCH, INELIGIBLE_REPLICA, INVALID_CONFIG, INVALID_PARTITIONS, INVALID_REPLICA_ASSIGNMENT, INVALID_REQUEST, INVALID_TOPIC_EXCEPTION, INVALID_UPDATE_VERSION, PREFERRED_LEADER_NOT_AVAILABLE, TOPIC_ALREADY_EXISTS, UNKNOWN_LEADER_EPOCH, UNKNOWN_TOPIC_ID, UNKNOWN_TOPIC_OR_PARTITION}
 use Rattle.kr_calls.specs.Refuse.{refused_incremental_alter_configs}
 use Rattle.kr_defs.specs.Map as entries
 use Rattle.kr_defs.specs.Map.{config_order, partition_order, text_order}
@@ -138,23 +139,23 @@ AreBrokerless rule = (image : Image) (place : ℤ) (entry : _) → Gives IsBroke
 
 pub creates : (options : Options) (validate_only : Bool) → AreBrokerless (create_topics.rule options validate_only)
 creates options validate_only image place entry =
-    gives_refuse IsBrokerless (pos 17) (not (is_topic_name entry.name)) _ (λ _. gives_refuse IsBrokerless (pos 36) (entries.contains text_order image.topics entry.name) _ (λ _. gives_refuse IsBrokerless (pos 17) (list_any (λ topic. names_agree topic.0 entry.name) image.topics) _ (λ _.
+    gives_refuse IsBrokerless INVALID_TOPIC_EXCEPTION (not (is_topic_name entry.name)) _ (λ _. gives_refuse IsBrokerless TOPIC_ALREADY_EXISTS (entries.contains text_order image.topics entry.name) _ (λ _. gives_refuse IsBrokerless INVALID_TOPIC_EXCEPTION (list_any (λ topic. names_agree topic.0 entry.name) image.topics) _ (λ _.
     gives_then (λ _. Unit {0}) IsBrokerless (create_topics.layout options image place entry) (create_topics.of_layout options validate_only image place entry) (λ _ _. tt) (λ layout _.
-    gives_refuse IsBrokerless (pos 40) (list_any create_topics.is_bad_setting entry.configs) _ (λ _. gives_done IsBrokerless (create_topics.created image validate_only (create_topics.new_id options image place) entry layout)
+    gives_refuse IsBrokerless INVALID_CONFIG (list_any create_topics.is_bad_setting entry.configs) _ (λ _. gives_done IsBrokerless (create_topics.created image validate_only (create_topics.new_id options image place) entry layout)
     (both_are (create_topics.settings_records image.configs entry.name entry.configs) (new_partitions image (create_topics.new_id options image place) 0 layout.replicas)
     (settings_are image.configs entry.name entry.configs) (partitions_are image (create_topics.new_id options image place) 0 layout.replicas)))))))
 
 deletes_named : (image : Image) (name : Option (List ℕ)) (id : ℕ) → Gives IsBrokerless (delete_topics.by_name_or_id image name id)
-deletes_named image (Some name) id = gives_found IsBrokerless (pos 3) (entries.get text_order image.topics name) _ (λ _ _. gives_done IsBrokerless _ refl)
-deletes_named image None id = gives_found IsBrokerless (pos 100) (topic_name image.topics id) _ (λ _ _. gives_done IsBrokerless _ refl)
+deletes_named image (Some name) id = gives_found IsBrokerless UNKNOWN_TOPIC_OR_PARTITION (entries.get text_order image.topics name) _ (λ _ _. gives_done IsBrokerless _ refl)
+deletes_named image None id = gives_found IsBrokerless UNKNOWN_TOPIC_ID (topic_name image.topics id) _ (λ _ _. gives_done IsBrokerless _ refl)
 
 pub deletes : AreBrokerless delete_topics.rule
-deletes image place entry = gives_refuse IsBrokerless (pos 42) _ _ (λ _. deletes_named image entry.name entry.topic)
+deletes image place entry = gives_refuse IsBrokerless INVALID_REQUEST _ _ (λ _. deletes_named image entry.name entry.topic)
 
 pub grows : AreBrokerless create_partitions.rule
 grows image place entry =
-    gives_found IsBrokerless (pos 3) (entries.get text_order image.topics entry.name) _ (λ id _. let first = count_of image id in
-    gives_refuse IsBrokerless (pos 37) _ _ (λ _. gives_found IsBrokerless (pos 39) (entries.get partition_order image.partitions (id, pos 0)) _ (λ p _.
+    gives_found IsBrokerless UNKNOWN_TOPIC_OR_PARTITION (entries.get text_order image.topics entry.name) _ (λ id _. let first = count_of image id in
+    gives_refuse IsBrokerless INVALID_PARTITIONS _ _ (λ _. gives_found IsBrokerless INVALID_REPLICA_ASSIGNMENT (entries.get partition_order image.partitions (id, pos 0)) _ (λ p _.
     gives_then (λ _. Unit {0}) IsBrokerless (create_partitions.new_replicas image place first (unsigned_abs entry.count - first) (length (target p)) entry.assignments) _ (λ _ _. tt) (λ lists _. gives_done IsBrokerless (create_partitions.grown image id first entry lists) (partitions_are image id first lists)))))
 
 drafted_is : (broker : ℤ) (entry : alter_partition.Entry) (p : Partition) (o : Option PartitionChange) → IsBrokerless (alter_partition.drafted broker entry p o)
@@ -164,28 +165,28 @@ drafted_is broker entry p (Some change) = refl
 pub reports : (options : Options) (broker : ℤ) → AreBrokerless (alter_partition.rule options broker)
 unfolding alter_partition.of_partition alter_partition.accepted
 reports options broker image place entry =
-    gives_found IsBrokerless (pos 100) (topic_name image.topics entry.0) _ (λ name _. gives_found IsBrokerless (pos 3) (entries.get partition_order image.partitions (entry.0, entry.1.index)) _ (λ p _.
-    gives_refuse IsBrokerless (pos 74) (int_lt entry.1.leader_epoch p.leader_epoch) _ (λ _. gives_refuse IsBrokerless (pos 75) (int_lt p.leader_epoch entry.1.leader_epoch) _ (λ _. gives_refuse IsBrokerless (pos 95) (not (int_eq entry.1.partition_epoch p.partition_epoch)) _ (λ _. gives_refuse IsBrokerless (pos 42) (alter_partition.is_bad broker p entry.1) _ (λ _. gives_refuse IsBrokerless (pos 107) (not (list_all (alter_partition.is_ready image) entry.1.in_sync)) _ (λ _.
+    gives_found IsBrokerless UNKNOWN_TOPIC_ID (topic_name image.topics entry.0) _ (λ name _. gives_found IsBrokerless UNKNOWN_TOPIC_OR_PARTITION (entries.get partition_order image.partitions (entry.0, entry.1.index)) _ (λ p _.
+    gives_refuse IsBrokerless FENCED_LEADER_EPOCH (int_lt entry.1.leader_epoch p.leader_epoch) _ (λ _. gives_refuse IsBrokerless UNKNOWN_LEADER_EPOCH (int_lt p.leader_epoch entry.1.leader_epoch) _ (λ _. gives_refuse IsBrokerless INVALID_UPDATE_VERSION (not (int_eq entry.1.partition_epoch p.partition_epoch)) _ (λ _. gives_refuse IsBrokerless INVALID_REQUEST (alter_partition.is_bad broker p entry.1) _ (λ _. gives_refuse IsBrokerless INELIGIBLE_REPLICA (not (list_all (alter_partition.is_ready image) entry.1.in_sync)) _ (λ _.
     gives_done IsBrokerless (alter_partition.drafted broker entry p (built p (alter_partition.wanted p entry.1) (facts_of options image name))) (drafted_is broker entry p (built p (alter_partition.wanted p entry.1) (facts_of options image name))))))))))
 
 elects_one : (options : Options) (kind : ℤ) (image : Image) (entry : elect_leaders.Entry) (id : ℕ) (p : Partition) → Gives IsBrokerless (elect_leaders.of_partition options kind image entry id p)
 elects_one options kind image entry id p =
     gives_if IsBrokerless (elect_leaders.is_preferred_kind kind) (elect_leaders.prefers options image entry id p) (elect_leaders.elects_any options image entry id p)
-    (λ _. gives_refuse IsBrokerless (pos 84) (int_eq p.leader (elect_leaders.first_replica p)) _ (λ _. gives_refuse IsBrokerless (pos 80) (not (has p.in_sync (elect_leaders.first_replica p) && has (active image) (elect_leaders.first_replica p))) _ (λ _. gives_done IsBrokerless _ (change_is id entry.1 (built p (elect_leaders.in_mode p modes.Preferred) (facts_of options image entry.0))))))
-    (λ _. gives_refuse IsBrokerless (pos 84) (not (int_eq p.leader (negsuc 0))) _ (λ _. gives_refuse IsBrokerless (pos 83) (elect_leaders.finds_nobody options image entry p) _ (λ _. gives_done IsBrokerless _ (change_is id entry.1 (built p (elect_leaders.in_mode p modes.Unclean) (facts_of options image entry.0))))))
+    (λ _. gives_refuse IsBrokerless ELECTION_NOT_NEEDED (int_eq p.leader (elect_leaders.first_replica p)) _ (λ _. gives_refuse IsBrokerless PREFERRED_LEADER_NOT_AVAILABLE (not (has p.in_sync (elect_leaders.first_replica p) && has (active image) (elect_leaders.first_replica p))) _ (λ _. gives_done IsBrokerless _ (change_is id entry.1 (built p (elect_leaders.in_mode p modes.Preferred) (facts_of options image entry.0))))))
+    (λ _. gives_refuse IsBrokerless ELECTION_NOT_NEEDED (not (int_eq p.leader (negsuc 0))) _ (λ _. gives_refuse IsBrokerless ELIGIBLE_LEADERS_NOT_AVAILABLE (elect_leaders.finds_nobody options image entry p) _ (λ _. gives_done IsBrokerless _ (change_is id entry.1 (built p (elect_leaders.in_mode p modes.Unclean) (facts_of options image entry.0))))))
 
 pub elects : (options : Options) (kind : ℤ) → AreBrokerless (elect_leaders.rule options kind)
 elects options kind image place entry =
-    gives_found IsBrokerless (pos 3) (entries.get text_order image.topics entry.0) _ (λ id _. gives_found IsBrokerless (pos 3) (entries.get partition_order image.partitions (id, entry.1)) _ (λ p _. elects_one options kind image entry id p))
+    gives_found IsBrokerless UNKNOWN_TOPIC_OR_PARTITION (entries.get text_order image.topics entry.0) _ (λ id _. gives_found IsBrokerless UNKNOWN_TOPIC_OR_PARTITION (entries.get partition_order image.partitions (id, entry.1)) _ (λ p _. elects_one options kind image entry id p))
 
 pub reassigns : (options : Options) → AreBrokerless (alter_partition_reassignments.rule options)
 reassigns options image place entry =
-    gives_found IsBrokerless (pos 3) (entries.get text_order image.topics entry.0) _ (λ id _. gives_found IsBrokerless (pos 3) (entries.get partition_order image.partitions (id, entry.1.index)) _ (λ p _.
-    gives_then (λ _. Unit {0}) IsBrokerless (alter_partition_reassignments.wanted image p entry.1.replicas) _ (λ _ _. tt) (λ want _. gives_refuse IsBrokerless (pos 39) (alter_partition_reassignments.loses_all image entry.0 p want) _ (λ _. gives_done IsBrokerless _ (change_is id entry.1.index (built p want (facts_of options image entry.0)))))))
+    gives_found IsBrokerless UNKNOWN_TOPIC_OR_PARTITION (entries.get text_order image.topics entry.0) _ (λ id _. gives_found IsBrokerless UNKNOWN_TOPIC_OR_PARTITION (entries.get partition_order image.partitions (id, entry.1.index)) _ (λ p _.
+    gives_then (λ _. Unit {0}) IsBrokerless (alter_partition_reassignments.wanted image p entry.1.replicas) _ (λ _ _. tt) (λ want _. gives_refuse IsBrokerless INVALID_REPLICA_ASSIGNMENT (alter_partition_reassignments.loses_all image entry.0 p want) _ (λ _. gives_done IsBrokerless _ (change_is id entry.1.index (built p want (facts_of options image entry.0)))))))
 
 pub configures : (options : Options) → AreBrokerless (incremental_alter_configs.rule options)
 configures options image place entry =
-    gives_refuse IsBrokerless (pos 42) (not (incremental_alter_configs.is_topic_kind entry || incremental_alter_configs.is_broker_kind entry)) _ (λ _. gives_refuse IsBrokerless (pos 3) (incremental_alter_configs.is_topic_kind entry && not (entries.contains text_order image.topics entry.name)) _ (λ _. gives_refuse IsBrokerless (pos 42) (incremental_alter_configs.is_broker_kind entry && not (is_broker_name entry.name)) _ (λ _.
+    gives_refuse IsBrokerless INVALID_REQUEST (not (incremental_alter_configs.is_topic_kind entry || incremental_alter_configs.is_broker_kind entry)) _ (λ _. gives_refuse IsBrokerless UNKNOWN_TOPIC_OR_PARTITION (incremental_alter_configs.is_topic_kind entry && not (entries.contains text_order image.topics entry.name)) _ (λ _. gives_refuse IsBrokerless INVALID_REQUEST (incremental_alter_configs.is_broker_kind entry && not (is_broker_name entry.name)) _ (λ _.
     gives_then (λ _. Unit {0}) IsBrokerless (incremental_alter_configs.after_operations image entry [] entry.configs) (λ (values : incremental_alter_configs.Values). Ok (record { records = incremental_alter_configs.resource_records options image entry values; answer = refused_incremental_alter_configs (pos 0) entry })) (λ _ _. tt) (λ values _.
     let after : Image = record image { configs = incremental_alter_configs.with_values image.configs entry values } in
     let relieved = changes_of (incremental_alter_configs.relief options image after) (walk image) in

@@ -6,6 +6,7 @@ use Rattle.kr_defs.specs.declared.record.Record.{Record}
 use Rattle.kr_defs.specs.declared.record.Record.TheVariants as kinds
 use Rattle.kr_defs.specs.Apply.{apply_record}
 use Rattle.kr_defs.specs.Sizes.{value_bytes}
+use Rattle.kr_calls.specs.declared.errors.TheConstants.{INVALID_CONFIG, INVALID_REQUEST, UNKNOWN_TOPIC_OR_PARTITION}
 use Rattle.kr_calls.specs.declared.incremental_alter_configs.ConfigOperation.{ConfigOperation}
 use Rattle.kr_calls.specs.declared.incremental_alter_configs.ConfigResource.{ConfigResource}
 use Rattle.kr_calls.specs.declared.incremental_alter_configs.ConfigResponse.{ConfigResponse}
@@ -24,34 +25,34 @@ of_brokers configs = record { kind = pos 4; name = []; configs = configs }
 abbrev configure : ConfigOperation → Result (Draft ConfigResponse) ℤ
 configure o = incremental_alter_configs.rule options image (pos 30) (of_brokers (o ∷ []))
 
-unknown_kind : incremental_alter_configs.rule options image (pos 30) (record (of_brokers []) { kind = pos 3 }) ≡ Err (pos 42)
+unknown_kind : incremental_alter_configs.rule options image (pos 30) (record (of_brokers []) { kind = pos 3 }) ≡ Err INVALID_REQUEST
 unknown_kind = refl
 
-unknown_topic : incremental_alter_configs.rule options image (pos 30) (record (of_brokers []) { kind = pos 2; name = codes "x" }) ≡ Err (pos 3)
+unknown_topic : incremental_alter_configs.rule options image (pos 30) (record (of_brokers []) { kind = pos 2; name = codes "x" }) ≡ Err UNKNOWN_TOPIC_OR_PARTITION
 unknown_topic = refl
 
-bad_broker : incremental_alter_configs.rule options image (pos 30) (record (of_brokers []) { name = codes "01" }) ≡ Err (pos 42)
+bad_broker : incremental_alter_configs.rule options image (pos 30) (record (of_brokers []) { name = codes "01" }) ≡ Err INVALID_REQUEST
 bad_broker = refl
 
-unknown_operation : configure (operation (codes "k") (pos 4) (Some [])) ≡ Err (pos 42)
+unknown_operation : configure (operation (codes "k") (pos 4) (Some [])) ≡ Err INVALID_REQUEST
 unknown_operation = refl
 
-set_without_value : configure (operation (codes "k") (pos 0) None) ≡ Err (pos 42)
+set_without_value : configure (operation (codes "k") (pos 0) None) ≡ Err INVALID_REQUEST
 set_without_value = refl
 
-append_without_value : configure (operation (codes "cleanup.policy") (pos 2) None) ≡ Err (pos 42)
+append_without_value : configure (operation (codes "cleanup.policy") (pos 2) None) ≡ Err INVALID_REQUEST
 append_without_value = refl
 
-bad_key : configure (operation (codes "k k") (pos 0) (Some [])) ≡ Err (pos 40)
+bad_key : configure (operation (codes "k k") (pos 0) (Some [])) ≡ Err INVALID_CONFIG
 bad_key = refl
 
-not_a_list : configure (operation (codes "k") (pos 3) (Some (codes "x"))) ≡ Err (pos 40)
+not_a_list : configure (operation (codes "k") (pos 3) (Some (codes "x"))) ≡ Err INVALID_CONFIG
 not_a_list = refl
 
-bad_minimum : configure (operation (codes "min.insync.replicas") (pos 0) (Some (codes "0"))) ≡ Err (pos 40)
+bad_minimum : configure (operation (codes "min.insync.replicas") (pos 0) (Some (codes "0"))) ≡ Err INVALID_CONFIG
 bad_minimum = refl
 
-bad_switch : configure (operation (codes "unclean.leader.election.enable") (pos 0) (Some (codes "yes"))) ≡ Err (pos 40)
+bad_switch : configure (operation (codes "unclean.leader.election.enable") (pos 0) (Some (codes "yes"))) ≡ Err INVALID_CONFIG
 bad_switch = refl
 
 -- ---- values

@@ -4,6 +4,7 @@ use Rattle.std.proofs.Common.{refl}
 use Rattle.kr_defs.specs.declared.partition.Partition.{Partition}
 use Rattle.kr_defs.specs.Heartbeats.{heard}
 use Rattle.kr_defs.specs.Image.{Image}
+use Rattle.kr_calls.specs.declared.errors.TheConstants.{INVALID_REQUEST, LEADER_NOT_AVAILABLE, STALE_BROKER_EPOCH, UNKNOWN_TOPIC_ID, UNKNOWN_TOPIC_OR_PARTITION}
 use Rattle.kr_calls.specs.declared.broker_heartbeat.BrokerHeartbeat.{BrokerHeartbeat}
 use Rattle.kr_calls.specs.declared.broker_heartbeat.BrokerHeartbeatReply.{BrokerHeartbeatReply}
 use Rattle.kr_calls.specs.declared.calls.Reply.{Reply}
@@ -71,12 +72,12 @@ all_topics = refl
 
 -- a topic is shown once; an unknown name may be asked for again
 some_topics : metadata_rules.topics_of image (Some (entry (Some (codes "x")) 0 ∷ entry None 78 ∷ entry None 0 ∷ entry (Some (codes "t.a")) 0 ∷ entry None 77 ∷ entry (Some (codes "x")) 0 ∷ []))
-    ≡ unknown (pos 3) (Some (codes "x")) 0 ∷ unknown (pos 100) None 78 ∷ unknown (pos 42) None 0 ∷ shown ∷ unknown (pos 42) None 77 ∷ unknown (pos 3) (Some (codes "x")) 0 ∷ []
+    ≡ unknown UNKNOWN_TOPIC_OR_PARTITION (Some (codes "x")) 0 ∷ unknown UNKNOWN_TOPIC_ID None 78 ∷ unknown INVALID_REQUEST None 0 ∷ shown ∷ unknown INVALID_REQUEST None 77 ∷ unknown UNKNOWN_TOPIC_OR_PARTITION (Some (codes "x")) 0 ∷ []
 some_topics = refl
 
 -- nobody leads, and broker 4 is fenced
 offline : metadata_rules.partition_metadata image ((77, pos 0), record leaderless { replicas = pos 3 ∷ pos 4 ∷ pos 9 ∷ [] })
-    ≡ record { error = pos 5; index = pos 0; leader = negsuc 0; leader_epoch = pos 5; replicas = pos 3 ∷ pos 4 ∷ pos 9 ∷ []; in_sync = []; offline = pos 4 ∷ pos 9 ∷ [] }
+    ≡ record { error = LEADER_NOT_AVAILABLE; index = pos 0; leader = negsuc 0; leader_epoch = pos 5; replicas = pos 3 ∷ pos 4 ∷ pos 9 ∷ []; in_sync = []; offline = pos 4 ∷ pos 9 ∷ [] }
 offline = refl
 
 -- three brokers aren't fenced
@@ -106,7 +107,7 @@ unfolding heartbeats_after
 is_fenced = refl
 
 -- a refused request isn't heard of
-refused : heartbeats_after (heard basis) image image (pos 2000) (pos 30) (requests.BrokerHeartbeat beats) (replies.BrokerHeartbeat (record (answered true) { error = pos 77 })) ≡ heard basis
+refused : heartbeats_after (heard basis) image image (pos 2000) (pos 30) (requests.BrokerHeartbeat beats) (replies.BrokerHeartbeat (record (answered true) { error = STALE_BROKER_EPOCH })) ≡ heard basis
 unfolding heartbeats_after
 refused = refl
 

@@ -4,6 +4,7 @@ use Rattle.std.proofs.Common.{arith, refl}
 use Rattle.kr_defs.specs.declared.record.Item.TheVariants as items
 use Rattle.kr_defs.specs.declared.record.Record.TheVariants as kinds
 use Rattle.kr_defs.specs.Apply.{apply, apply_record}
+use Rattle.kr_calls.specs.declared.errors.TheConstants.{BROKER_ID_NOT_REGISTERED, NOT_CONTROLLER}
 use Rattle.kr_calls.specs.declared.answers.Answer.{Answer}
 use Rattle.kr_calls.specs.declared.answers.AnswerKind.{AnswerKind}
 use Rattle.kr_calls.specs.declared.answers.AnswerKind.TheVariants as answer_kinds
@@ -46,17 +47,17 @@ records_there : HaveRecords (registered ∷ taken_out ∷ []) (pos 0) (kinds.Reg
 records_there = ((0, omega arith, refl), ((1, omega arith, refl), tt))
 
 -- behind that the broker isn't known, and there is no record
-stands_without_records : IsRight options (registered ∷ taken_out ∷ []) (answer answer_kinds.Stands (pos 2) (Some (answered (pos 2) 0 (pos 102))))
+stands_without_records : IsRight options (registered ∷ taken_out ∷ []) (answer answer_kinds.Stands (pos 2) (Some (answered (pos 2) 0 BROKER_ID_NOT_REGISTERED)))
 unfolding apply apply_record work_of unregister_broker.decided done taken
 stands_without_records = (record { seat = refl; ticket = refl; place = refl; floor = refl }, record { count = refl; records = tt; reply = refl })
 
 -- what was appended and lost is refused, whatever the rules say
-lost : IsRight options (registered ∷ []) (answer answer_kinds.Lost (pos 1) (Some (answered (pos 1) 1 (pos 41))))
+lost : IsRight options (registered ∷ []) (answer answer_kinds.Lost (pos 1) (Some (answered (pos 1) 1 NOT_CONTROLLER)))
 unfolding refuse
 lost = (record { seat = refl; ticket = refl; place = refl; floor = refl }, refl)
 
 -- the client had seen the log up to the place 1
-below_the_floor : IsRight options [] (answer answer_kinds.Lost (pos 0) (Some (answered (pos 0) 1 (pos 41)))) → ⊥
+below_the_floor : IsRight options [] (answer answer_kinds.Lost (pos 0) (Some (answered (pos 0) 1 NOT_CONTROLLER))) → ⊥
 below_the_floor right = let above = right.0.floor in absurd cc
 
 nothing_decided : AreRight options (entries.Answer (answer answer_kinds.Ahead (pos 0) None) ∷ entries.Stop 4 ∷ [])

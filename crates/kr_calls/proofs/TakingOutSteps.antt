@@ -21,6 +21,7 @@ use Rattle.kr_defs.specs.Settings.{facts_with}
 use Rattle.kr_defs.proofs.Changes.{kept}
 use Rattle.kr_defs.proofs.IdLists.{id_itself}
 use Rattle.kr_defs.proofs.NewPartitions.{defaults_sensible}
+use Rattle.kr_calls.specs.declared.errors.TheConstants.{BROKER_ID_NOT_REGISTERED}
 use Rattle.kr_calls.specs.declared.deciding.Draft.{Draft}
 use Rattle.kr_calls.specs.declared.unregister_broker.UnregisterBrokerReply.{UnregisterBrokerReply}
 use Rattle.kr_calls.specs.TakingOut.{taken_out, taking_out, fencing, without_broker, is_held}
@@ -68,7 +69,7 @@ unregistering_stands options image place request draft valid is =
     let key = request.broker in
     let brokers = entries.remove int_cmp image.brokers key in
     let own = λ (old : Broker). let d : Draft UnregisterBrokerReply = record { records = kinds.UnregisterBroker key old.epoch ∷ taken_out options.minimum image key true; answer = record { error = pos 0 } } in d in
-    elim (entries.get int_cmp image.brokers key) as (λ o. entries.get int_cmp image.brokers key ≡ o → found (pos 102) o (λ old. Ok (own old)) ≡ Ok draft → LeaveWith image brokers draft.records) [
+    elim (entries.get int_cmp image.brokers key) as (λ o. entries.get int_cmp image.brokers key ≡ o → found BROKER_ID_NOT_REGISTERED o (λ old. Ok (own old)) ≡ Ok draft → LeaveWith image brokers draft.records) [
       | None ↦ λ there is. absurd cc
       | Some old ↦ λ there is.
           let rest = taken_out_leaves options.minimum image brokers key true valid in

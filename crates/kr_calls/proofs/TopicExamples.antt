@@ -4,6 +4,7 @@ use Rattle.std.proofs.Common.{refl}
 use Rattle.kr_defs.specs.declared.record.Record.{Record}
 use Rattle.kr_defs.specs.declared.record.Record.TheVariants as kinds
 use Rattle.kr_defs.specs.Placed.{placed, racks_of, visit, visited}
+use Rattle.kr_calls.specs.declared.errors.TheConstants.{INVALID_CONFIG, INVALID_PARTITIONS, INVALID_REPLICATION_FACTOR, INVALID_REPLICA_ASSIGNMENT, INVALID_REQUEST, INVALID_TOPIC_EXCEPTION, TOPIC_ALREADY_EXISTS, UNKNOWN_TOPIC_ID, UNKNOWN_TOPIC_OR_PARTITION}
 use Rattle.kr_calls.specs.declared.deciding.Draft.{Draft}
 use Rattle.kr_calls.specs.declared.create_topics.CreatableReplicaAssignment.{CreatableReplicaAssignment}
 use Rattle.kr_calls.specs.declared.create_topics.CreatableTopic.{CreatableTopic}
@@ -32,59 +33,59 @@ asks_for assignments = record asks { partitions = negsuc 0; factor = negsuc 0; a
 abbrev create : CreatableTopic → Result (Draft CreatableTopicResult) ℤ
 create entry = create_topics.rule options false image (pos 30) entry
 
-bad_name : create (record asks { name = codes "a/b" }) ≡ Err (pos 17)
+bad_name : create (record asks { name = codes "a/b" }) ≡ Err INVALID_TOPIC_EXCEPTION
 bad_name = refl
 
-name_exists : create (record asks { name = codes "t.a" }) ≡ Err (pos 36)
+name_exists : create (record asks { name = codes "t.a" }) ≡ Err TOPIC_ALREADY_EXISTS
 name_exists = refl
 
-names_agree_up_to_dots : create (record asks { name = codes "t_a" }) ≡ Err (pos 17)
+names_agree_up_to_dots : create (record asks { name = codes "t_a" }) ≡ Err INVALID_TOPIC_EXCEPTION
 names_agree_up_to_dots = refl
 
-partitions_beside_assignments : create (record (asks_for (assigned_to (pos 1 ∷ []) ∷ [])) { partitions = pos 1 }) ≡ Err (pos 42)
+partitions_beside_assignments : create (record (asks_for (assigned_to (pos 1 ∷ []) ∷ [])) { partitions = pos 1 }) ≡ Err INVALID_REQUEST
 partitions_beside_assignments = refl
 
-factor_beside_assignments : create (record (asks_for (assigned_to (pos 1 ∷ []) ∷ [])) { factor = pos 1 }) ≡ Err (pos 42)
+factor_beside_assignments : create (record (asks_for (assigned_to (pos 1 ∷ []) ∷ [])) { factor = pos 1 }) ≡ Err INVALID_REQUEST
 factor_beside_assignments = refl
 
-index_missing : create (asks_for (record (assigned_to (pos 1 ∷ [])) { index = pos 1 } ∷ [])) ≡ Err (pos 39)
+index_missing : create (asks_for (record (assigned_to (pos 1 ∷ [])) { index = pos 1 } ∷ [])) ≡ Err INVALID_REPLICA_ASSIGNMENT
 index_missing = refl
 
-index_twice : create (asks_for (assigned_to (pos 1 ∷ []) ∷ assigned_to (pos 2 ∷ []) ∷ [])) ≡ Err (pos 39)
+index_twice : create (asks_for (assigned_to (pos 1 ∷ []) ∷ assigned_to (pos 2 ∷ []) ∷ [])) ≡ Err INVALID_REPLICA_ASSIGNMENT
 index_twice = refl
 
-no_replicas : create (asks_for (assigned_to [] ∷ [])) ≡ Err (pos 39)
+no_replicas : create (asks_for (assigned_to [] ∷ [])) ≡ Err INVALID_REPLICA_ASSIGNMENT
 no_replicas = refl
 
-replica_twice : create (asks_for (assigned_to (pos 1 ∷ pos 1 ∷ []) ∷ [])) ≡ Err (pos 39)
+replica_twice : create (asks_for (assigned_to (pos 1 ∷ pos 1 ∷ []) ∷ [])) ≡ Err INVALID_REPLICA_ASSIGNMENT
 replica_twice = refl
 
-lists_differ : create (asks_for (assigned_to (pos 1 ∷ pos 2 ∷ []) ∷ record (assigned_to (pos 1 ∷ [])) { index = pos 1 } ∷ [])) ≡ Err (pos 39)
+lists_differ : create (asks_for (assigned_to (pos 1 ∷ pos 2 ∷ []) ∷ record (assigned_to (pos 1 ∷ [])) { index = pos 1 } ∷ [])) ≡ Err INVALID_REPLICA_ASSIGNMENT
 lists_differ = refl
 
-not_registered : create (asks_for (assigned_to (pos 1 ∷ pos 9 ∷ []) ∷ [])) ≡ Err (pos 39)
+not_registered : create (asks_for (assigned_to (pos 1 ∷ pos 9 ∷ []) ∷ [])) ≡ Err INVALID_REPLICA_ASSIGNMENT
 not_registered = refl
 
-none_active : create (asks_for (assigned_to (pos 4 ∷ []) ∷ [])) ≡ Err (pos 39)
+none_active : create (asks_for (assigned_to (pos 4 ∷ []) ∷ [])) ≡ Err INVALID_REPLICA_ASSIGNMENT
 none_active = refl
 
-no_partitions : create (record asks { partitions = pos 0 }) ≡ Err (pos 37)
+no_partitions : create (record asks { partitions = pos 0 }) ≡ Err INVALID_PARTITIONS
 no_partitions = refl
 
-no_factor : create (record asks { factor = pos 0 }) ≡ Err (pos 38)
+no_factor : create (record asks { factor = pos 0 }) ≡ Err INVALID_REPLICATION_FACTOR
 no_factor = refl
 
 -- three brokers are active
-many_replicas : create (record asks { factor = pos 4 }) ≡ Err (pos 38)
+many_replicas : create (record asks { factor = pos 4 }) ≡ Err INVALID_REPLICATION_FACTOR
 many_replicas = refl
 
-setting_without_value : create (record asks { configs = record { name = codes "k"; value = None } ∷ [] }) ≡ Err (pos 40)
+setting_without_value : create (record asks { configs = record { name = codes "k"; value = None } ∷ [] }) ≡ Err INVALID_CONFIG
 setting_without_value = refl
 
-setting_with_bad_key : create (record asks { configs = record { name = []; value = Some [] } ∷ [] }) ≡ Err (pos 40)
+setting_with_bad_key : create (record asks { configs = record { name = []; value = Some [] } ∷ [] }) ≡ Err INVALID_CONFIG
 setting_with_bad_key = refl
 
-setting_with_bad_value : create (record asks { configs = record { name = codes "min.insync.replicas"; value = Some (codes "0") } ∷ [] }) ≡ Err (pos 40)
+setting_with_bad_value : create (record asks { configs = record { name = codes "min.insync.replicas"; value = Some (codes "0") } ∷ [] }) ≡ Err INVALID_CONFIG
 setting_with_bad_value = refl
 
 -- 7 * 2 ^ 64 + 31
@@ -139,16 +140,16 @@ value_again = refl
 
 -- ---- topics that go
 
-neither_name_nor_id : delete_topics.rule image (pos 30) (record { name = None; topic = 0 }) ≡ Err (pos 42)
+neither_name_nor_id : delete_topics.rule image (pos 30) (record { name = None; topic = 0 }) ≡ Err INVALID_REQUEST
 neither_name_nor_id = refl
 
-name_and_id : delete_topics.rule image (pos 30) (record { name = Some (codes "t.a"); topic = 77 }) ≡ Err (pos 42)
+name_and_id : delete_topics.rule image (pos 30) (record { name = Some (codes "t.a"); topic = 77 }) ≡ Err INVALID_REQUEST
 name_and_id = refl
 
-unknown_name : delete_topics.rule image (pos 30) (record { name = Some (codes "x"); topic = 0 }) ≡ Err (pos 3)
+unknown_name : delete_topics.rule image (pos 30) (record { name = Some (codes "x"); topic = 0 }) ≡ Err UNKNOWN_TOPIC_OR_PARTITION
 unknown_name = refl
 
-unknown_id : delete_topics.rule image (pos 30) (record { name = None; topic = 78 }) ≡ Err (pos 100)
+unknown_id : delete_topics.rule image (pos 30) (record { name = None; topic = 78 }) ≡ Err UNKNOWN_TOPIC_ID
 unknown_id = refl
 
 abbrev gone : Draft DeletableTopicResult
@@ -168,25 +169,25 @@ grows count assignments = record { name = codes "t.a"; count = count; assignment
 abbrev grow : CreatePartitionsTopic → Result (Draft CreatePartitionsTopicResult) ℤ
 grow entry = create_partitions.rule image (pos 30) entry
 
-unknown_topic : create_partitions.rule image (pos 30) (record (grows (pos 2) None) { name = codes "x" }) ≡ Err (pos 3)
+unknown_topic : create_partitions.rule image (pos 30) (record (grows (pos 2) None) { name = codes "x" }) ≡ Err UNKNOWN_TOPIC_OR_PARTITION
 unknown_topic = refl
 
-no_more : grow (grows (pos 1) None) ≡ Err (pos 37)
+no_more : grow (grows (pos 1) None) ≡ Err INVALID_PARTITIONS
 no_more = refl
 
 -- the topic has partition 1 alone
-first_missing : create_partitions.rule (record image { partitions = ((77, pos 1), whole) ∷ [] }) (pos 30) (grows (pos 3) None) ≡ Err (pos 39)
+first_missing : create_partitions.rule (record image { partitions = ((77, pos 1), whole) ∷ [] }) (pos 30) (grows (pos 3) None) ≡ Err INVALID_REPLICA_ASSIGNMENT
 first_missing = refl
 
 -- one new partition, and no list
-too_few_lists : grow (grows (pos 2) (Some [])) ≡ Err (pos 39)
+too_few_lists : grow (grows (pos 2) (Some [])) ≡ Err INVALID_REPLICA_ASSIGNMENT
 too_few_lists = refl
 
 -- the first partition has three replicas
-short_list : grow (grows (pos 2) (Some (record { brokers = pos 1 ∷ pos 2 ∷ [] } ∷ []))) ≡ Err (pos 39)
+short_list : grow (grows (pos 2) (Some (record { brokers = pos 1 ∷ pos 2 ∷ [] } ∷ []))) ≡ Err INVALID_REPLICA_ASSIGNMENT
 short_list = refl
 
-too_few_active : create_partitions.rule (record image { brokers = (pos 1, broker (pos 10) false) ∷ (pos 2, broker (pos 11) false) ∷ [] }) (pos 30) (grows (pos 2) None) ≡ Err (pos 38)
+too_few_active : create_partitions.rule (record image { brokers = (pos 1, broker (pos 10) false) ∷ (pos 2, broker (pos 11) false) ∷ [] }) (pos 30) (grows (pos 2) None) ≡ Err INVALID_REPLICATION_FACTOR
 too_few_active = refl
 
 grown : grow (grows (pos 2) (Some (record { brokers = pos 3 ∷ pos 4 ∷ pos 1 ∷ [] } ∷ []))) ≡ Ok (record {

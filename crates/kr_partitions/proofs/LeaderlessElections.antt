@@ -16,6 +16,7 @@ use Rattle.kr_defs.specs.declared.options.Options.{Options}
 use Rattle.kr_defs.specs.Guard.{refuse◌when◌else◌}
 use Rattle.kr_defs.specs.Image.{Image}
 use Rattle.kr_defs.specs.Settings.{facts_of}
+use Rattle.kr_calls.specs.declared.errors.TheConstants.{ELECTION_NOT_NEEDED, ELIGIBLE_LEADERS_NOT_AVAILABLE}
 use Rattle.kr_calls.specs.ElectLeaders.{Entry, drafted, elects_any, in_mode}
 use Rattle.kr_partitions.specs.inner.NamedLeader.{names_nobody, with_leader}
 
@@ -72,6 +73,6 @@ elects_by options image entry id p change none is =
     let want = in_mode p modes.Unclean in
     let facts = facts_of options image entry.0 in
     let made = built p want facts in
-    passed (pos 84) (not (int_eq p.leader (negsuc 0))) (refuse pos 83 when int_eq (aimed p want facts).leader (negsuc 0) else Ok (drafted entry id made)) none
-    ∙ (ap (λ (b : Bool). refuse pos 83 when b else Ok (drafted entry id made)) (nobody p want facts made (same_id p.leader (negsuc 0) (not_false (int_eq p.leader (negsuc 0)) none)) refl)
+    passed ELECTION_NOT_NEEDED (not (int_eq p.leader (negsuc 0))) (refuse ELIGIBLE_LEADERS_NOT_AVAILABLE when int_eq (aimed p want facts).leader (negsuc 0) else Ok (drafted entry id made)) none
+    ∙ (ap (λ (b : Bool). refuse ELIGIBLE_LEADERS_NOT_AVAILABLE when b else Ok (drafted entry id made)) (nobody p want facts made (same_id p.leader (negsuc 0) (not_false (int_eq p.leader (negsuc 0)) none)) refl)
     ∙ ap (λ (c : Option PartitionChange). with_leader entry id c) (sym is))

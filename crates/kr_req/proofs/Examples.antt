@@ -4,6 +4,7 @@ use Rattle.std.specs.Prelude.{codes}
 use Rattle.kr_wire.specs.Reading.{uvarint_at, tags_at, fields_at}
 use Rattle.kr_wire.specs.Spelling.{number, signed, uvarint}
 use Rattle.kr_layout.specs.Answers.{whole}
+use Rattle.kr_calls.specs.declared.errors.TheConstants.{NOT_CONTROLLER}
 use Rattle.kr_calls.specs.declared.calls.Ask.TheVariants as asks
 use Rattle.kr_calls.specs.declared.calls.AskFault.TheVariants as faults
 use Rattle.kr_calls.specs.declared.calls.Request.TheVariants as requests
@@ -51,7 +52,7 @@ heartbeat_answered = refl
 
 -- the entries are refused in their order
 pub refused_in_order :
-    refuse (requests.DeleteTopics (record { topics = record { name = None; topic = 7 } ∷ record { name = Some (codes "t"); topic = 0 } ∷ [] })) (pos 41)
-    ≡ replies.DeleteTopics (record { responses = record { name = None; topic = 7; error = pos 41 } ∷ record { name = Some (codes "t"); topic = 0; error = pos 41 } ∷ [] })
+    refuse (requests.DeleteTopics (record { topics = record { name = None; topic = 7 } ∷ record { name = Some (codes "t"); topic = 0 } ∷ [] })) NOT_CONTROLLER
+    ≡ replies.DeleteTopics (record { responses = record { name = None; topic = 7; error = NOT_CONTROLLER } ∷ record { name = Some (codes "t"); topic = 0; error = NOT_CONTROLLER } ∷ [] })
 unfolding refuse
 refused_in_order = refl

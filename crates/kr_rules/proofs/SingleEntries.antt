@@ -3,6 +3,7 @@ use Rattle.std.proofs.Common.{◌≡◌, ◌∙◌, ℤ, pos, List, [], ◌∷�
 use Rattle.std.specs.Prelude.{Some, None, Result, Ok, Err, OnOk}
 use Rattle.std.proofs.lemmas.List.{drop_more}
 use Rattle.kr_defs.specs.Image.{Image}
+use Rattle.kr_calls.specs.declared.errors.TheConstants.{POLICY_VIOLATION}
 use Rattle.kr_calls.specs.declared.deciding.Draft.{Draft}
 use Rattle.kr_calls.specs.Deciding.{Work, taken, settled, done, one, answers, after_all, group_answers, after_groups}
 use Rattle.kr_rules.specs.Refusals.{IsRefusal, IfError}
@@ -22,7 +23,7 @@ module _ {E A : Type 0} (refused : ℤ → E → A) (rule : Image → ℤ → E 
   unfolding done
   one_taken draft after meaning took = rw (meaning, took) refl
 
-  pub one_limited : (draft : Draft A) (answer : A) → rule w.image w.place entry ≡ Ok draft → taken w draft.records ≡ None → answer ≡ refused (pos 44) entry → one refused rule w entry ≡ (w, answer)
+  pub one_limited : (draft : Draft A) (answer : A) → rule w.image w.place entry ≡ Ok draft → taken w draft.records ≡ None → answer ≡ refused POLICY_VIOLATION entry → one refused rule w entry ≡ (w, answer)
   unfolding done
   one_limited draft answer meaning none is = rw (meaning, none, is) refl
 

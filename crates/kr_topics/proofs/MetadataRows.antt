@@ -10,6 +10,7 @@ use Rattle.kr_defs.specs.declared.broker.Broker.{Broker}
 use Rattle.kr_defs.specs.declared.partition.Partition.{Partition}
 use Rattle.kr_defs.specs.Guard.{and_then}
 use Rattle.kr_defs.specs.Image.{Image}
+use Rattle.kr_calls.specs.declared.errors.TheConstants.{INVALID_REQUEST}
 use Rattle.kr_calls.specs.declared.metadata.MetadataBroker.{MetadataBroker}
 use Rattle.kr_calls.specs.declared.metadata.MetadataPartition.{MetadataPartition}
 use Rattle.kr_calls.specs.declared.metadata.MetadataRequestTopic.{MetadataRequestTopic}
@@ -42,7 +43,7 @@ module _ (image : Image) (entry : MetadataRequestTopic) (ids : List ℕ) (topic 
   pub row-first : topic_asked_for image entry ≡ Ok topic → true ≡ not (list_any (λ i. i == topic.1) ids) → topic_metadata image topic ≡ shown image entry (and_then (topic_asked_for image entry) (new_to ids))
   row-first is new = rw (is, not_true (list_any (λ i. i == topic.1) ids) (sym new)) refl
 
-  pub row-again : topic_asked_for image entry ≡ Ok topic → false ≡ not (list_any (λ i. i == topic.1) ids) → refused (pos 42) entry ≡ shown image entry (and_then (topic_asked_for image entry) (new_to ids))
+  pub row-again : topic_asked_for image entry ≡ Ok topic → false ≡ not (list_any (λ i. i == topic.1) ids) → refused INVALID_REQUEST entry ≡ shown image entry (and_then (topic_asked_for image entry) (new_to ids))
   row-again is old = rw (is, not_false (list_any (λ i. i == topic.1) ids) (sym old)) refl
 
 pub row-refused : (image : Image) (entry : MetadataRequestTopic) (ids : List ℕ) (error : ℤ) → topic_asked_for image entry ≡ Err error → refused error entry ≡ shown image entry (and_then (topic_asked_for image entry) (new_to ids))

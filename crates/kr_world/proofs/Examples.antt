@@ -1,6 +1,7 @@
 -- The abstract controller computed on small logs.
 use Rattle.std.specs.Prelude.{◌≡◌, ℕ, ℤ, pos, false, List, [], ◌∷◌, Some, Ok, Err, codes}
 use Rattle.std.proofs.Common.{refl, ap}
+use Rattle.kr_calls.specs.declared.errors.TheConstants.{INVALID_REQUEST, NOT_CONTROLLER, UNSUPPORTED_VERSION}
 use Rattle.kr_calls.specs.declared.calls.Reply.{Reply}
 use Rattle.kr_calls.specs.declared.calls.Request.{Request}
 use Rattle.kr_calls.specs.declared.calls.Ask.TheVariants as asks
@@ -140,7 +141,7 @@ standby = after led (lost_lead ∷ [])
 -- both are answered that this node isn't the controller, in order
 pub leadership_lost :
     outputs_from led [] (asked (pos 1) ∷ asked (pos 2) ∷ lost_lead ∷ [])
-    ≡ (given.Append (batch_bytes settings_batch) ∷ []) ∷ [] ∷ (replied (pos 1) (pos 41) ∷ replied (pos 2) (pos 41) ∷ []) ∷ []
+    ≡ (given.Append (batch_bytes settings_batch) ∷ []) ∷ [] ∷ (replied (pos 1) NOT_CONTROLLER ∷ replied (pos 2) NOT_CONTROLLER ∷ []) ∷ []
 unfolding work_of incremental_alter_configs.decided done taken apply_record apply image_at value_bytes heartbeats_after refusals.refuse
 leadership_lost = refl
 
@@ -149,7 +150,7 @@ pub nothing_left : image_of_tip (after led (asked (pos 1) ∷ lost_lead ∷ []))
 unfolding work_of incremental_alter_configs.decided done taken apply_record apply image_at value_bytes
 nothing_left = refl
 
-pub on_standby : outputs_of options start [] (asked (pos 7)) ≡ replied (pos 7) (pos 41) ∷ []
+pub on_standby : outputs_of options start [] (asked (pos 7)) ≡ replied (pos 7) NOT_CONTROLLER ∷ []
 unfolding refusals.refuse
 on_standby = refl
 
@@ -222,8 +223,8 @@ refused_late = refl
 
 -- ---- messages that are no calls
 
-pub unserved : outputs_of options start [] (events.Request 9 (pos 0) (asks.Bare (pos 1) (faults.Unsupported (pos 18) (pos 3)))) ≡ given.Reply 9 (pos 1) (replies.Bare (pos 35)) ∷ []
+pub unserved : outputs_of options start [] (events.Request 9 (pos 0) (asks.Bare (pos 1) (faults.Unsupported (pos 18) (pos 3)))) ≡ given.Reply 9 (pos 1) (replies.Bare UNSUPPORTED_VERSION) ∷ []
 unserved = refl
 
-pub unread : outputs_of options start [] (events.Request 9 (pos 0) (asks.Bare (pos 1) faults.Wire)) ≡ given.Reply 9 (pos 1) (replies.Bare (pos 42)) ∷ []
+pub unread : outputs_of options start [] (events.Request 9 (pos 0) (asks.Bare (pos 1) faults.Wire)) ≡ given.Reply 9 (pos 1) (replies.Bare INVALID_REQUEST) ∷ []
 unread = refl

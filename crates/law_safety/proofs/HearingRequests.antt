@@ -21,6 +21,7 @@ use Rattle.kr_defs.specs.Map as entries
 use Rattle.kr_defs.specs.Walk.{Walked, changes_of, walk}
 use Rattle.kr_defs.proofs.Tests.{Gives, gives_refuse, gives_found, gives_done, gives_then, neither, some_is}
 use Rattle.kr_defs.proofs.Walks.{get_other}
+use Rattle.kr_calls.specs.declared.errors.TheConstants.{BROKER_ID_NOT_REGISTERED, DUPLICATE_BROKER_REGISTRATION, INCONSISTENT_CLUSTER_ID, INVALID_REQUEST, POLICY_VIOLATION, STALE_BROKER_EPOCH}
 use Rattle.kr_calls.specs.declared.broker_heartbeat.BrokerHeartbeat.{BrokerHeartbeat}
 use Rattle.kr_calls.specs.declared.broker_registration.BrokerRegistration.{BrokerRegistration}
 use Rattle.kr_calls.specs.declared.unregister_broker.UnregisterBroker.{UnregisterBroker}
@@ -202,21 +203,21 @@ module _ (options : Options) (b : Basis) (image : Image) (place : ℤ) (valid : 
   registration_hears : (q : BrokerRegistration) → let d = one broker_registration.refused (broker_registration.rule options b.time h) (nothing_decided place image) q in HearsOf (hearing.after_leaving h d.1.error q.broker) d.0.image
   registration_hears q =
       done_by broker_registration.refused (λ (d : Work × _). HearsOf (hearing.after_leaving h d.1.error q.broker) d.0.image) (nothing_decided place image) q (broker_registration.rule options b.time h image place q)
-      (λ error is. refused_hears error q.broker (refuse_has (pos 104) (not (bytes_eq q.cluster options.cluster)) _ refl (refuse_has (pos 42) (int_lt q.broker (pos 0) || q.migrating || length q.listeners == 0) _ refl (refuse_has (pos 101) (broker_registration.is_taken options b.time h image q) _ refl (done_has (broker_registration.registered options image place q)))) error is))
-      (refused_hears (pos 44) q.broker refl)
+      (λ error is. refused_hears error q.broker (refuse_has INCONSISTENT_CLUSTER_ID (not (bytes_eq q.cluster options.cluster)) _ refl (refuse_has INVALID_REQUEST (int_lt q.broker (pos 0) || q.migrating || length q.listeners == 0) _ refl (refuse_has DUPLICATE_BROKER_REGISTRATION (broker_registration.is_taken options b.time h image q) _ refl (done_has (broker_registration.registered options image place q)))) error is))
+      (refused_hears POLICY_VIOLATION q.broker refl)
       (λ draft after is by.
       let P = λ (draft : Draft _). (int_eq draft.answer.error (pos 0) ≡ true) × ((after : Image) → IsValid after → apply_records image draft.records ≡ Ok after → HearsOf (leave h q.broker) after) in
-      let told = gives_refuse P (pos 104) (not (bytes_eq q.cluster options.cluster)) _ (λ _. gives_refuse P (pos 42) (int_lt q.broker (pos 0) || q.migrating || length q.listeners == 0) _ (λ _. gives_refuse P (pos 101) (broker_registration.is_taken options b.time h image q) _ (λ _. gives_done P (broker_registration.registered options image place q) (refl, registered_hears q (entries.get int_cmp image.brokers q.broker))))) draft is in
+      let told = gives_refuse P INCONSISTENT_CLUSTER_ID (not (bytes_eq q.cluster options.cluster)) _ (λ _. gives_refuse P INVALID_REQUEST (int_lt q.broker (pos 0) || q.migrating || length q.listeners == 0) _ (λ _. gives_refuse P DUPLICATE_BROKER_REGISTRATION (broker_registration.is_taken options b.time h image q) _ (λ _. gives_done P (broker_registration.registered options image place q) (refl, registered_hears q (entries.get int_cmp image.brokers q.broker))))) draft is in
       rw told.0 (told.1 after.image (valid_after image draft.records valid after.image by.applied) by.applied))
 
   unregistration_hears : (q : UnregisterBroker) → let d = one unregister_broker.refused (unregister_broker.rule options) (nothing_decided place image) q in HearsOf (hearing.after_leaving h d.1.error q.broker) d.0.image
   unregistration_hears q =
       done_by unregister_broker.refused (λ (d : Work × _). HearsOf (hearing.after_leaving h d.1.error q.broker) d.0.image) (nothing_decided place image) q (unregister_broker.rule options image place q)
-      (λ error is. refused_hears error q.broker (found_has (pos 102) (entries.get int_cmp image.brokers q.broker) _ refl (λ old. done_has _) error is))
-      (refused_hears (pos 44) q.broker refl)
+      (λ error is. refused_hears error q.broker (found_has BROKER_ID_NOT_REGISTERED (entries.get int_cmp image.brokers q.broker) _ refl (λ old. done_has _) error is))
+      (refused_hears POLICY_VIOLATION q.broker refl)
       (λ draft after is by.
       let P = λ (draft : Draft _). (int_eq draft.answer.error (pos 0) ≡ true) × ((after : Image) → IsValid after → apply_records image draft.records ≡ Ok after → HearsOf (leave h q.broker) after) in
-      let told = gives_found P (pos 102) (entries.get int_cmp image.brokers q.broker) _ (λ old _. gives_done P _ (
+      let told = gives_found P BROKER_ID_NOT_REGISTERED (entries.get int_cmp image.brokers q.broker) _ (λ old _. gives_done P _ (
         refl,
         λ after good applied.
             let gone = removed_then image q.broker old.epoch (taking_out options.minimum image q.broker true) (walk image) after applied in
@@ -229,11 +230,11 @@ module _ (options : Options) (b : Basis) (image : Image) (place : ℤ) (valid : 
   heartbeat_hears q =
       let told = λ (state : Broker). broker_heartbeat.told q (broker_heartbeat.step options.minimum h image q state) in
       done_by broker_heartbeat.refused (λ (d : Work × _). HearsOf (hearing.after_heartbeat h image d.0.image b.time place q d.1) d.0.image) (nothing_decided place image) q (broker_heartbeat.rule options h image place q)
-      (λ error is. rw (found_has (pos 77) (entries.get int_cmp image.brokers q.broker) _ refl (λ state. refuse_has (pos 77) (not (int_eq q.epoch state.epoch)) _ refl (done_has (told state))) error is) hears)
+      (λ error is. rw (found_has STALE_BROKER_EPOCH (entries.get int_cmp image.brokers q.broker) _ refl (λ state. refuse_has STALE_BROKER_EPOCH (not (int_eq q.epoch state.epoch)) _ refl (done_has (told state))) error is) hears)
       hears
       (λ draft after is by.
       let P = λ (draft : Draft _). (after : Image) → IsValid after → apply_records image draft.records ≡ Ok after → HearsOf (hearing.after_heartbeat h image after b.time place q draft.answer) after in
-      gives_found P (pos 77) (entries.get int_cmp image.brokers q.broker) _ (λ state there. gives_refuse P (pos 77) (not (int_eq q.epoch state.epoch)) _ (λ _. gives_done P (told state)
+      gives_found P STALE_BROKER_EPOCH (entries.get int_cmp image.brokers q.broker) _ (λ state there. gives_refuse P STALE_BROKER_EPOCH (not (int_eq q.epoch state.epoch)) _ (λ _. gives_done P (told state)
       (step_heard options.minimum image b.time place q state valid there h hears))) draft is
       after.image (valid_after image draft.records valid after.image by.applied) by.applied)
 

@@ -16,6 +16,7 @@ use Rattle.kr_defs.specs.Merge.{merged}
 use Rattle.kr_defs.specs.NewPartition.{new_partition}
 use Rattle.kr_defs.specs.Partition.{is_well_formed}
 use Rattle.kr_defs.specs.Sizes.{value_bytes}
+use Rattle.kr_calls.specs.declared.errors.TheConstants.{POLICY_VIOLATION}
 use Rattle.kr_calls.specs.declared.broker_registration.BrokerRegistration.{BrokerRegistration}
 use Rattle.kr_calls.specs.declared.calls.Reply.{Reply}
 use Rattle.kr_calls.specs.declared.calls.Reply.TheVariants as replies
@@ -96,7 +97,7 @@ as_old : registered_at (pos 13) ≡ replies.BrokerRegistration (record { error =
 unfolding broker_registration.decided done taken apply_record value_bytes
 as_old = refl
 
-older : registered_at (pos 12) ≡ replies.BrokerRegistration (record { error = pos 44; epoch = negsuc 0 })
+older : registered_at (pos 12) ≡ replies.BrokerRegistration (record { error = POLICY_VIOLATION; epoch = negsuc 0 })
 unfolding broker_registration.decided done taken apply_record value_bytes
 older = refl
 
@@ -112,7 +113,7 @@ index_8999 : grown_from 8998 ≡ replies.CreatePartitions (record { results = re
 unfolding create_partitions.decided done taken apply_record value_bytes is_well_formed
 index_8999 = refl
 
-index_9000 : grown_from 8999 ≡ replies.CreatePartitions (record { results = record { name = codes "t"; error = pos 44 } ∷ [] })
+index_9000 : grown_from 8999 ≡ replies.CreatePartitions (record { results = record { name = codes "t"; error = POLICY_VIOLATION } ∷ [] })
 unfolding create_partitions.decided done taken apply_record value_bytes is_well_formed
 index_9000 = refl
 
@@ -132,6 +133,6 @@ replicas_64 : moved_from 32 ≡ moves (pos 0)
 unfolding alter_partition_reassignments.decided built aimed ended completes elected settled standing_by eligible_after difference merged done taken apply_record value_bytes is_well_formed
 replicas_64 = refl
 
-replicas_65 : moved_from 33 ≡ moves (pos 44)
+replicas_65 : moved_from 33 ≡ moves POLICY_VIOLATION
 unfolding alter_partition_reassignments.decided built aimed ended completes elected settled standing_by eligible_after difference merged done taken apply_record value_bytes is_well_formed
 replicas_65 = refl

@@ -49,7 +49,7 @@ use Rattle.kr_calls.specs.declared.alter_partition_reassignments.ReassignablePar
 use Rattle.kr_calls.specs.declared.alter_partition_reassignments.ReassignableTopic.{ReassignableTopic}
 use Rattle.kr_calls.specs.declared.alter_partition_reassignments.ReassignableTopicResponse.{ReassignableTopicResponse}
 use Rattle.kr_calls.specs.declared.create_topics.CreatableTopicConfig.{CreatableTopicConfig}
-use Rattle.kr_calls.specs.declared.errors.TheConstants.{NEW_LEADER_ELECTED}
+use Rattle.kr_calls.specs.declared.errors.TheConstants.{BROKER_ID_NOT_REGISTERED, DUPLICATE_BROKER_REGISTRATION, ELECTION_NOT_NEEDED, ELIGIBLE_LEADERS_NOT_AVAILABLE, FENCED_LEADER_EPOCH, INCONSISTENT_CLUSTER_ID, INELIGIBLE_REPLICA, INVALID_CONFIG, INVALID_PARTITIONS, INVALID_REPLICA_ASSIGNMENT, INVALID_REQUEST, INVALID_TOPIC_EXCEPTION, INVALID_UPDATE_VERSION, NEW_LEADER_ELECTED, NO_REASSIGNMENT_IN_PROGRESS, PREFERRED_LEADER_NOT_AVAILABLE, STALE_BROKER_EPOCH, TOPIC_ALREADY_EXISTS, UNKNOWN_LEADER_EPOCH, UNKNOWN_TOPIC_ID, UNKNOWN_TOPIC_OR_PARTITION}
 use Rattle.kr_calls.specs.AlterPartition as alter_partition
 use Rattle.kr_calls.specs.AlterPartitionReassignments as alter_partition_reassignments
 use Rattle.kr_calls.specs.BrokerHeartbeat as broker_heartbeat
@@ -103,32 +103,32 @@ module _ (exchange : Option Exchange) (image : Image) where
 
   pub creates : IsValid image → (options : Options) (validate_only : Bool) (place : ℤ) (entry : _) → Gives P (create_topics.rule options validate_only image place entry)
   creates valid options validate_only place entry =
-      gives_refuse P (pos 17) (not (is_topic_name entry.name)) _ (λ _. gives_refuse P (pos 36) (entries.contains text_order image.topics entry.name) _ (λ _. gives_refuse P (pos 17) (list_any (λ topic. names_agree topic.0 entry.name) image.topics) _ (λ _.
+      gives_refuse P INVALID_TOPIC_EXCEPTION (not (is_topic_name entry.name)) _ (λ _. gives_refuse P TOPIC_ALREADY_EXISTS (entries.contains text_order image.topics entry.name) _ (λ _. gives_refuse P INVALID_TOPIC_EXCEPTION (list_any (λ topic. names_agree topic.0 entry.name) image.topics) _ (λ _.
       gives_then (λ (layout : create_topics.Layout). AllByRecursion (IsNew image) layout.replicas) P (create_topics.layout options image place entry) (create_topics.of_layout options validate_only image place entry) (gives_from (λ (layout : create_topics.Layout). AllByRecursion (IsNew image) layout.replicas) IsOwn (create_topics.layout options image place entry) (created_new image valid options place entry)) (λ layout new.
-      gives_refuse P (pos 40) (list_any create_topics.is_bad_setting entry.configs) _ (λ _. gives_done P (create_topics.created image validate_only (create_topics.new_id options image place) entry layout)
+      gives_refuse P INVALID_CONFIG (list_any create_topics.is_bad_setting entry.configs) _ (λ _. gives_done P (create_topics.created image validate_only (create_topics.new_id options image place) entry layout)
       (created_safe validate_only (create_topics.new_id options image place) entry layout new))))))
 
   removal_safe : (name : List ℕ) (id : ℕ) → P (delete_topics.deleted name id)
   removal_safe name id = (tt, if_ok (λ after. AreSafe exchange after []) _ (λ after is. tt))
 
   deletes_named : (name : Option (List ℕ)) (id : ℕ) → Gives P (delete_topics.by_name_or_id image name id)
-  deletes_named (Some name) id = gives_found P (pos 3) (entries.get text_order image.topics name) _ (λ there _. gives_done P _ (removal_safe name there))
-  deletes_named None id = gives_found P (pos 100) (topic_name image.topics id) _ (λ there _. gives_done P _ (removal_safe there id))
+  deletes_named (Some name) id = gives_found P UNKNOWN_TOPIC_OR_PARTITION (entries.get text_order image.topics name) _ (λ there _. gives_done P _ (removal_safe name there))
+  deletes_named None id = gives_found P UNKNOWN_TOPIC_ID (topic_name image.topics id) _ (λ there _. gives_done P _ (removal_safe there id))
 
   pub deletes : (place : ℤ) (entry : _) → Gives P (delete_topics.rule image place entry)
-  deletes place entry = gives_refuse P (pos 42) (not (Rattle.kr_defs.specs.Topics.is_named_once entry.name entry.topic)) _ (λ _. deletes_named entry.name entry.topic)
+  deletes place entry = gives_refuse P INVALID_REQUEST (not (Rattle.kr_defs.specs.Topics.is_named_once entry.name entry.topic)) _ (λ _. deletes_named entry.name entry.topic)
 
   pub grows : IsValid image → (place : ℤ) (entry : _) → Gives P (create_partitions.rule image place entry)
   grows valid place entry =
-      gives_found P (pos 3) (entries.get text_order image.topics entry.name) _ (λ id _. let first = count_of image id in
-      gives_refuse P (pos 37) (int_le entry.count (pos first)) _ (λ _. gives_found P (pos 39) (entries.get partition_order image.partitions (id, pos 0)) _ (λ p there.
+      gives_found P UNKNOWN_TOPIC_OR_PARTITION (entries.get text_order image.topics entry.name) _ (λ id _. let first = count_of image id in
+      gives_refuse P INVALID_PARTITIONS (int_le entry.count (pos first)) _ (λ _. gives_found P INVALID_REPLICA_ASSIGNMENT (entries.get partition_order image.partitions (id, pos 0)) _ (λ p there.
       gives_then (AllByRecursion (IsNew image)) P (create_partitions.new_replicas image place first (unsigned_abs entry.count - first) (length (target p)) entry.assignments) _ (gives_from (AllByRecursion (IsNew image)) IsOwn _ (grown_new image valid place first (unsigned_abs entry.count - first) p entry.assignments (formed_at image valid (id, pos 0) p there))) (λ lists new. gives_done P (create_partitions.grown image id first entry lists) (partitions_safe exchange image image id first lists new)))))
 
   -- ---- settings
 
   pub configures : IsValid image → (options : Options) (place : ℤ) (entry : _) → Gives P (incremental_alter_configs.rule options image place entry)
   configures valid options place entry =
-      gives_refuse P (pos 42) (not (incremental_alter_configs.is_topic_kind entry || incremental_alter_configs.is_broker_kind entry)) _ (λ _. gives_refuse P (pos 3) (incremental_alter_configs.is_topic_kind entry && not (entries.contains text_order image.topics entry.name)) _ (λ _. gives_refuse P (pos 42) (incremental_alter_configs.is_broker_kind entry && not (is_broker_name entry.name)) _ (λ _.
+      gives_refuse P INVALID_REQUEST (not (incremental_alter_configs.is_topic_kind entry || incremental_alter_configs.is_broker_kind entry)) _ (λ _. gives_refuse P UNKNOWN_TOPIC_OR_PARTITION (incremental_alter_configs.is_topic_kind entry && not (entries.contains text_order image.topics entry.name)) _ (λ _. gives_refuse P INVALID_REQUEST (incremental_alter_configs.is_broker_kind entry && not (is_broker_name entry.name)) _ (λ _.
       gives_then (λ _. Unit {0}) P (incremental_alter_configs.after_operations image entry [] entry.configs) (λ (values : incremental_alter_configs.Values). Ok (record { records = incremental_alter_configs.resource_records options image entry values; answer = refused_incremental_alter_configs (pos 0) entry })) (λ _ _. tt) (λ values _.
       let next : Image = record image { configs = incremental_alter_configs.with_values image.configs entry values } in
       let settings = filter_map (incremental_alter_configs.config_record image entry) values in
@@ -140,7 +140,7 @@ module _ (exchange : Option Exchange) (image : Image) where
 
   pub unregisters : IsValid image → (options : Options) (place : ℤ) (q : UnregisterBroker) → Gives P (unregister_broker.rule options image place q)
   unregisters valid options place q =
-      gives_found P (pos 102) (entries.get int_cmp image.brokers q.broker) _ (λ old _. gives_done P _ (unregistered_safe exchange image (taken_out options.minimum image q.broker true) q.broker old.epoch (taken_out_safe exchange image options.minimum q.broker true valid)))
+      gives_found P BROKER_ID_NOT_REGISTERED (entries.get int_cmp image.brokers q.broker) _ (λ old _. gives_done P _ (unregistered_safe exchange image (taken_out options.minimum image q.broker true) q.broker old.epoch (taken_out_safe exchange image options.minimum q.broker true valid)))
 
   earlier_safe : IsValid image → (minimum : ℤ) (q : BrokerRegistration) (old : Option Broker) (after : Image) → Rattle.law_safety.proofs.SafeWalks.WithBrokersOf image after → AreSafe exchange after (broker_registration.earlier_taken_out minimum image q old)
   earlier_safe valid minimum q None after same = tt
@@ -148,7 +148,7 @@ module _ (exchange : Option Exchange) (image : Image) where
 
   pub registers : IsValid image → (options : Options) (time : ℤ) (heartbeats : Heartbeats) (place : ℤ) (q : BrokerRegistration) → Gives P (broker_registration.rule options time heartbeats image place q)
   registers valid options time heartbeats place q =
-      gives_refuse P (pos 104) (not (bytes_eq q.cluster options.cluster)) _ (λ _. gives_refuse P (pos 42) (int_lt q.broker (pos 0) || q.migrating || length q.listeners == 0) _ (λ _. gives_refuse P (pos 101) (broker_registration.is_taken options time heartbeats image q) _ (λ _. gives_done P (broker_registration.registered options image place q)
+      gives_refuse P INCONSISTENT_CLUSTER_ID (not (bytes_eq q.cluster options.cluster)) _ (λ _. gives_refuse P INVALID_REQUEST (int_lt q.broker (pos 0) || q.migrating || length q.listeners == 0) _ (λ _. gives_refuse P DUPLICATE_BROKER_REGISTRATION (broker_registration.is_taken options time heartbeats image q) _ (λ _. gives_done P (broker_registration.registered options image place q)
       (registered_safe exchange image (broker_registration.earlier_taken_out options.minimum image q (entries.get int_cmp image.brokers q.broker)) q.broker (broker_registration.registration q place) (earlier_safe valid options.minimum q (entries.get int_cmp image.brokers q.broker))))))
 
   -- what becomes of a broker
@@ -178,7 +178,7 @@ module _ (exchange : Option Exchange) (image : Image) where
 
   pub beats : IsValid image → (options : Options) (heartbeats : Heartbeats) (place : ℤ) (q : BrokerHeartbeat) → Gives P (broker_heartbeat.rule options heartbeats image place q)
   beats valid options heartbeats place q =
-      gives_found P (pos 77) (entries.get int_cmp image.brokers q.broker) _ (λ state _. gives_refuse P (pos 77) (not (int_eq q.epoch state.epoch)) _ (λ _. gives_done P (broker_heartbeat.told q (broker_heartbeat.step options.minimum heartbeats image q state)) (step_safe valid options.minimum heartbeats q state)))
+      gives_found P STALE_BROKER_EPOCH (entries.get int_cmp image.brokers q.broker) _ (λ state _. gives_refuse P STALE_BROKER_EPOCH (not (int_eq q.epoch state.epoch)) _ (λ _. gives_done P (broker_heartbeat.told q (broker_heartbeat.step options.minimum heartbeats image q state)) (step_safe valid options.minimum heartbeats q state)))
 
 -- ---- partitions that are named, each with its answer
 
@@ -213,8 +213,8 @@ module _ (image : Image) where
   reports options q r fresh place entry =
       let exchange : Option Exchange = Some (requests.AlterPartition q, replies.AlterPartition r) in
       let P : Draft AlterPartitionResult → Type 0 = λ draft. IsReportOf (zip q.topics r.topics) entry draft.answer → IsSafeDraft exchange image draft in
-      gives_found P (pos 100) (topic_name image.topics entry.0) _ (λ name named. gives_found P (pos 3) (entries.get partition_order image.partitions (entry.0, entry.1.index)) _ (λ p there.
-      gives_refuse P (pos 74) (int_lt entry.1.leader_epoch p.leader_epoch) _ (λ a. gives_refuse P (pos 75) (int_lt p.leader_epoch entry.1.leader_epoch) _ (λ b. gives_refuse P (pos 95) (not (int_eq entry.1.partition_epoch p.partition_epoch)) _ (λ c. gives_refuse P (pos 42) (alter_partition.is_bad q.broker p entry.1) _ (λ d. gives_refuse P (pos 107) (not (list_all (alter_partition.is_ready image) entry.1.in_sync)) _ (λ e.
+      gives_found P UNKNOWN_TOPIC_ID (topic_name image.topics entry.0) _ (λ name named. gives_found P UNKNOWN_TOPIC_OR_PARTITION (entries.get partition_order image.partitions (entry.0, entry.1.index)) _ (λ p there.
+      gives_refuse P FENCED_LEADER_EPOCH (int_lt entry.1.leader_epoch p.leader_epoch) _ (λ a. gives_refuse P UNKNOWN_LEADER_EPOCH (int_lt p.leader_epoch entry.1.leader_epoch) _ (λ b. gives_refuse P INVALID_UPDATE_VERSION (not (int_eq entry.1.partition_epoch p.partition_epoch)) _ (λ c. gives_refuse P INVALID_REQUEST (alter_partition.is_bad q.broker p entry.1) _ (λ d. gives_refuse P INELIGIBLE_REPLICA (not (list_all (alter_partition.is_ready image) entry.1.in_sync)) _ (λ e.
       let change = built p (alter_partition.wanted p entry.1) (facts_of options image name) in
       gives_done P (alter_partition.drafted q.broker entry p change) (λ is. subst (AreSafe exchange image) (drafted_change q.broker entry p change)
       (change_safe exchange image name (entry.0, entry.1.index) p (alter_partition.wanted p entry.1) (facts_of options image name) named there (record {
@@ -231,13 +231,13 @@ module _ (image : Image) where
         let P = IsSafeDraft exchange image in
         let safe = λ (want : Want). change_safe exchange image entry.0 (id, entry.1) p want (facts_of options image entry.0) named there in
         gives_if P (elect_leaders.is_preferred_kind q.kind) (elect_leaders.prefers options image entry id p) (elect_leaders.elects_any options image entry id p)
-        (λ _. gives_refuse P (pos 84) (int_eq p.leader (elect_leaders.first_replica p)) _ (λ _. gives_refuse P (pos 80) (not (has p.in_sync (elect_leaders.first_replica p) && has (active image) (elect_leaders.first_replica p))) _ (λ _. gives_done P _ (safe (elect_leaders.in_mode p modes.Preferred) (record {
+        (λ _. gives_refuse P ELECTION_NOT_NEEDED (int_eq p.leader (elect_leaders.first_replica p)) _ (λ _. gives_refuse P PREFERRED_LEADER_NOT_AVAILABLE (not (has p.in_sync (elect_leaders.first_replica p) && has (active image) (elect_leaders.first_replica p))) _ (λ _. gives_done P _ (safe (elect_leaders.in_mode p modes.Preferred) (record {
           unclean = refl;
           mode = λ asked. absurd cc;
           in_sync = λ id there. inl there;
           lists = inl (record { replicas = refl; adding = refl; removing = refl });
         })))))
-        (λ other. gives_refuse P (pos 84) (not (int_eq p.leader (negsuc 0))) _ (λ _. gives_refuse P (pos 83) (elect_leaders.finds_nobody options image entry p) _ (λ _. gives_done P _ (safe (elect_leaders.in_mode p modes.Unclean) (record {
+        (λ other. gives_refuse P ELECTION_NOT_NEEDED (not (int_eq p.leader (negsuc 0))) _ (λ _. gives_refuse P ELIGIBLE_LEADERS_NOT_AVAILABLE (elect_leaders.finds_nobody options image entry p) _ (λ _. gives_done P _ (safe (elect_leaders.in_mode p modes.Unclean) (record {
           unclean = refl;
           mode = λ asked. elim (or_cases (elect_leaders.is_preferred_kind q.kind) (int_eq q.kind (pos 1)) kind) [ inl k ↦ absurd cc | inr k ↦ k ];
           in_sync = λ id there. inl there;
@@ -247,7 +247,7 @@ module _ (image : Image) where
     pub elects : (q : ElectLeaders) (reply : Reply) → elect_leaders.is_kind q.kind ≡ true → (place : ℤ) (entry : elect_leaders.Entry) → Gives (IsSafeDraft (Some (requests.ElectLeaders q, reply)) image) (elect_leaders.rule options q.kind image place entry)
     elects q reply kind place entry =
         let P = IsSafeDraft (Some (requests.ElectLeaders q, reply)) image in
-        gives_found P (pos 3) (entries.get text_order image.topics entry.0) _ (λ id named. gives_found P (pos 3) (entries.get partition_order image.partitions (id, entry.1)) _ (λ p there.
+        gives_found P UNKNOWN_TOPIC_OR_PARTITION (entries.get text_order image.topics entry.0) _ (λ id named. gives_found P UNKNOWN_TOPIC_OR_PARTITION (entries.get partition_order image.partitions (id, entry.1)) _ (λ p there.
         elects_one q reply kind entry id p (named_back image.topics valid.topics entry.0 id named) there))
 
     -- who is in sync stays so, and no election is unclean
@@ -255,15 +255,15 @@ module _ (image : Image) where
     IsKept p want = (want.in_sync ≡ p.in_sync) × (want.mode ≡ modes.Plain)
 
     wants_kept : (p : Partition) (o : Option (List ℤ)) → Gives (IsKept p) (alter_partition_reassignments.wanted image p o)
-    wants_kept p None = gives_refuse (IsKept p) (pos 85) (not (Rattle.kr_defs.specs.Partition.is_moving p)) _ (λ _. gives_done (IsKept p) _ (refl, refl))
-    wants_kept p (Some target) = gives_refuse (IsKept p) (pos 39) (not (alter_partition_reassignments.is_target image target)) _ (λ _. gives_done (IsKept p) _ (refl, refl))
+    wants_kept p None = gives_refuse (IsKept p) NO_REASSIGNMENT_IN_PROGRESS (not (Rattle.kr_defs.specs.Partition.is_moving p)) _ (λ _. gives_done (IsKept p) _ (refl, refl))
+    wants_kept p (Some target) = gives_refuse (IsKept p) INVALID_REPLICA_ASSIGNMENT (not (alter_partition_reassignments.is_target image target)) _ (λ _. gives_done (IsKept p) _ (refl, refl))
 
     pub reassigns : (q : AlterPartitionReassignments) (r : AlterPartitionReassignmentsReply) (place : ℤ) (entry : alter_partition_reassignments.Entry) → Gives (λ draft. IsMoveOf (zip q.topics r.responses) entry draft.answer → IsSafeDraft (Some (requests.AlterPartitionReassignments q, replies.AlterPartitionReassignments r)) image draft) (alter_partition_reassignments.rule options image place entry)
     reassigns q r place entry =
         let exchange : Option Exchange = Some (requests.AlterPartitionReassignments q, replies.AlterPartitionReassignments r) in
         let P : Draft ReassignablePartitionResponse → Type 0 = λ draft. IsMoveOf (zip q.topics r.responses) entry draft.answer → IsSafeDraft exchange image draft in
-        gives_found P (pos 3) (entries.get text_order image.topics entry.0) _ (λ id named. gives_found P (pos 3) (entries.get partition_order image.partitions (id, entry.1.index)) _ (λ p there.
-        gives_then (IsKept p) P (alter_partition_reassignments.wanted image p entry.1.replicas) _ (wants_kept p entry.1.replicas) (λ want kept. gives_refuse P (pos 39) (alter_partition_reassignments.loses_all image entry.0 p want) _ (λ _. gives_done P _ (λ is.
+        gives_found P UNKNOWN_TOPIC_OR_PARTITION (entries.get text_order image.topics entry.0) _ (λ id named. gives_found P UNKNOWN_TOPIC_OR_PARTITION (entries.get partition_order image.partitions (id, entry.1.index)) _ (λ p there.
+        gives_then (IsKept p) P (alter_partition_reassignments.wanted image p entry.1.replicas) _ (wants_kept p entry.1.replicas) (λ want kept. gives_refuse P INVALID_REPLICA_ASSIGNMENT (alter_partition_reassignments.loses_all image entry.0 p want) _ (λ _. gives_done P _ (λ is.
         change_safe exchange image entry.0 (id, entry.1.index) p want (facts_of options image entry.0) (named_back image.topics valid.topics entry.0 id named) there (record {
           unclean = refl;
           mode = rw kept.1 (λ asked. absurd cc);
