@@ -2,12 +2,11 @@
 
 ghost use Rattle.std.specs.Prelude.{◌≡◌, ◌≤◌, ◌+◌, Ok, Some, IsOk, IsSome, OnOk, OnErr};
 ghost use Rattle.std.specs.Ordering.{int_cmp};
-ghost use Rattle.kr_defs.specs.declared.broker.Broker.{Broker as AnyBroker};
 ghost use Rattle.kr_defs.specs.Map as entries;
 ghost use Rattle.kr_calls.specs.Deciding.{apply_records, weights};
-ghost use Rattle.kr_calls.specs.TakingOut as taking;
 ghost use Rattle.kr_rules.specs.Handlers.{IsAtPlace};
 ghost use Rattle.kr_store.specs.Images.{last_kept};
+ghost use Rattle.kr_brokers.specs.Expiry.{FencesExpired};
 
 use kr_base::{NoMemory, Steps};
 use kr_calls::Effect;
@@ -29,10 +28,12 @@ fn apply_all<S: Store, L: Ledger>(
 ) -> Result<(), NoMemory>
     requires kept { IsSome (last_kept (S.images store.old)) }
     requires meanings { IsOk (apply_records (S.images store.old).tip records.now) }
-    ensures image { OnOk result (apply_records (S.images store.old).tip records.now ≡ Ok (S.images store.new).tip) }
+    ensures image { OnOk result (apply_records (S.images store.old).tip records.now ≡
+        Ok (S.images store.new).tip) }
     ensures kept { (S.images store.new).kept ≡ (S.images store.old).kept }
     ensures calls { (S.images store.new).kept_made ≡ (S.images store.old).kept_made }
-    ensures made { OnOk result ((S.images store.new).made ≤ (S.images store.old).made + weights (S.images store.old).tip records.now) }
+    ensures made { OnOk result ((S.images store.new).made ≤
+        (S.images store.old).made + weights (S.images store.old).tip records.now) }
     ensures later { steps.old ≤ steps.new }
 {
     for record in records {
@@ -56,13 +57,16 @@ pub fn fence<S: Store, L: Ledger>(
 ) -> Result<(), NoMemory>
     requires here { IsAtPlace (S.images store.old) context.now.place }
     requires registered { IsSome (entries.get int_cmp (S.images store.old).tip.brokers broker.now) }
-    ensures records { (state : AnyBroker) → entries.get int_cmp (S.images store.old).tip.brokers broker.now ≡ Some state → OnOk result (out.new.records ≡ taking.fencing context.entry.now.options.now.minimum (S.images store.old).tip broker.now state.epoch) }
-    ensures image { OnOk result (apply_records (S.images store.old).tip out.new.records ≡ Ok (S.images store.new).tip) }
+    ensures records { FencesExpired result context.entry.now.options.now.minimum
+        (S.images store.old).tip broker.now out.new.records }
+    ensures image { OnOk result (apply_records (S.images store.old).tip out.new.records ≡
+        Ok (S.images store.new).tip) }
     ensures reply { out.new.reply ≡ out.old.reply }
     ensures same { OnErr result (out.new ≡ out.old) }
     ensures kept { (S.images store.new).kept ≡ (S.images store.old).kept }
     ensures calls { (S.images store.new).kept_made ≡ (S.images store.old).kept_made }
-    ensures made { OnOk result ((S.images store.new).made ≤ (S.images store.old).made + weights (S.images store.old).tip out.new.records) }
+    ensures made { OnOk result ((S.images store.new).made ≤
+        (S.images store.old).made + weights (S.images store.old).tip out.new.records) }
     ensures later { steps.old ≤ steps.new }
 {
     taking_out_is_never_refused();

@@ -1,9 +1,9 @@
 //! The change of a partition that follows from what is asked of it.
 
-ghost use Rattle.std.specs.Prelude.{◌≡◌, IfOk, IfSome, IsTrue, [], ◌∷◌};
+ghost use Rattle.std.specs.Prelude.{◌≡◌, IfOk, IsTrue, [], ◌∷◌};
 ghost use Rattle.kr_defs.specs.Build as builds;
-ghost use Rattle.kr_defs.specs.Merge as merges;
 ghost use Rattle.kr_defs.specs.Partition as formed;
+ghost use Rattle.kr_change.specs.Built.{IsWellFormedUnder};
 
 use crate::completing::end_reassignment;
 use crate::differing::difference;
@@ -65,7 +65,8 @@ fn standing_by(
     minimum: i32,
     restarted: Option<i32>,
 ) -> Result<(Ids, Ids), NoMemory>
-    ensures { IfOk result (λ ids. ids ≡ builds.standing_by partition.now lists.now choice minimum restarted) }
+    ensures { IfOk result (λ ids. ids ≡
+        builds.standing_by partition.now lists.now choice minimum restarted) }
 {
     match choice {
         Choice::Unclean => Ok((Ids::new(alloc), Ids::new(alloc))),
@@ -156,7 +157,7 @@ pub fn build(
 ) -> Result<Option<PartitionChange>, NoMemory>
     ensures exact { IfOk result (λ change. change ≡ builds.built partition.now want.now facts.now) }
     ensures well_formed { IsTrue (formed.is_well_formed partition.now) → IsTrue (builds.is_sensible want.now) →
-        IfOk result (λ built. IfSome built (λ change. IsTrue (formed.is_well_formed (merges.merged partition.now change)))) }
+        IfOk result (λ built. IsWellFormedUnder partition.now built) }
 {
     change_of(alloc, partition, want, facts)
 }

@@ -1,7 +1,7 @@
 //! The word `make`.
 
 ghost use Rattle.std.specs.Prelude.{◌≡◌, ◌≤◌, IfOk, IsErrOf, OnErr, string_bytes};
-ghost use Rattle.kr_base.specs.Causes.{Rose};
+ghost use Rattle.kr_base.specs.Causes.{Rose, Still};
 ghost use Rattle.kr_command.specs.Making.{WritesSummary, MakesWhole, make_text};
 
 use kr_base::{NoMemory, Sink};
@@ -26,7 +26,7 @@ pub(crate) fn write_summary<K: Sink>(
     ensures ends { WritesSummary seed (K.written output.old) (K.written output.new) result }
     ensures write { IsErrOf result ToolFault.WriteFault →
         Rose (K.faults output.old) (K.faults output.new) }
-    ensures complete { (Rose (K.faults output.old) (K.faults output.new) → ⊥) → MakesWhole result }
+    ensures complete { Still (K.faults output.old) (K.faults output.new) → MakesWhole result }
     ensures read { IsErrOf result ToolFault.ReadFault → ⊥ }
 {
     let text = make_lines(alloc, seed)?;

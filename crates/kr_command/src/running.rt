@@ -3,7 +3,7 @@
 ghost use Rattle.std.specs.Prelude.{◌≡◌, ◌⊎◌, ◌↔◌, ℕ, Some, [], ◌++◌, ◌∷◌, IfOk, IsTrue, codes, string_bytes};
 ghost use Rattle.std.specs.Fmt.{decimal};
 ghost use Rattle.std.specs.Io.KnownBytes.{Appends};
-ghost use Rattle.kr_base.specs.Causes.{Rose};
+ghost use Rattle.kr_base.specs.Causes.{Rose, Still};
 ghost use Rattle.kr_run.specs.Endings.{BreaksRightly, EndsWith, RefusesBroken, ServesWhole};
 ghost use Rattle.kr_fold.specs.Endings.{DumpEnds, DumpsWhole, FoldEnds, FoldsNoMore, FoldsWhole, RefusesBroken as RefusesBrokenImage, RefusesLonger};
 ghost use Rattle.kr_command.specs.Notes as notes;
@@ -31,39 +31,56 @@ pub fn run<S: Source, K: Sink, E: Sink>(
     notes: &mut E,
 ) -> Status
     // The bytes that were taken and those that were written, at each status.
-    ensures session { IsSession words.now → EndsWith (S.left input.old) (S.left input.new) (K.written output.old) (K.written output.new) result }
-    ensures fold { IsFold words.now → IsOf (FoldEnds (S.left input.old) (S.left input.new) (K.written output.old) (K.written output.new)) result }
-    ensures dump { IsDump words.now → IsOf (DumpEnds (S.left input.old) (S.left input.new) (K.written output.old) (K.written output.new)) result }
+    ensures session { IsSession words.now → EndsWith (S.left input.old) (S.left input.new)
+        (K.written output.old) (K.written output.new) result }
+    ensures fold { IsFold words.now → IsOf (FoldEnds (S.left input.old) (S.left input.new)
+        (K.written output.old) (K.written output.new)) result }
+    ensures dump { IsDump words.now → IsOf (DumpEnds (S.left input.old) (S.left input.new)
+        (K.written output.old) (K.written output.new)) result }
     ensures make { (seed : ℕ) → IsMake words.now seed → IsOf (MakeEnds seed (S.left input.old)
         (S.left input.new) (K.written output.old) (K.written output.new)) result }
 
     // Usage is told exactly where the words aren't served, and then nothing is taken or written.
     ensures usage { result ≡ Status.Usage → AreServed words.now → ⊥ }
     ensures served { (AreServed words.now → ⊥) → result ≡ Status.Usage }
-    ensures idle { result ≡ Status.Usage → EndsWith (S.left input.old) (S.left input.new) (K.written output.old) (K.written output.new) Status.Usage }
+    ensures idle { result ≡ Status.Usage → EndsWith (S.left input.old) (S.left input.new)
+        (K.written output.old) (K.written output.new) Status.Usage }
 
     // A fault is told only where that object's count rose in this call.
     ensures read { result ≡ Status.ReadFault → Rose (S.faults input.old) (S.faults input.new) }
     ensures write { result ≡ Status.WriteFault → Rose (K.faults output.old) (K.faults output.new) }
 
     // Where no read and no write failed: a whole session is served, and a broken one is refused at that frame.
-    ensures complete { IsSession words.now → (Rose (S.faults input.old) (S.faults input.new) → ⊥) → (Rose (K.faults output.old) (K.faults output.new) → ⊥) → ServesWhole (S.left input.old) result }
-    ensures broken { IsSession words.now → (Rose (S.faults input.old) (S.faults input.new) → ⊥) → (Rose (K.faults output.old) (K.faults output.new) → ⊥) → RefusesBroken (S.left input.old) result }
+    ensures complete { IsSession words.now → Still (S.faults input.old) (S.faults input.new) →
+        Still (K.faults output.old) (K.faults output.new) → ServesWhole (S.left input.old) result }
+    ensures broken { IsSession words.now → Still (S.faults input.old) (S.faults input.new) → Still
+        (K.faults output.old) (K.faults output.new) → RefusesBroken (S.left input.old) result }
 
     // Where it is refused, no frame stands.
     ensures breaks { IsSession words.now → BreaksRightly (S.left input.old) result }
 
     // Where no read and no write failed: a log is folded and an image dumped, and what breaks is refused at that batch.
-    ensures fold_complete { IsFold words.now → (Rose (S.faults input.old) (S.faults input.new) → ⊥) → (Rose (K.faults output.old) (K.faults output.new) → ⊥) → IsOf (FoldsWhole (S.left input.old)) result }
-    ensures fold_broken { IsFold words.now → (Rose (S.faults input.old) (S.faults input.new) → ⊥) → (Rose (K.faults output.old) (K.faults output.new) → ⊥) → IsOf (FoldsNoMore (S.left input.old)) result }
-    ensures dump_complete { IsDump words.now → (Rose (S.faults input.old) (S.faults input.new) → ⊥) → (Rose (K.faults output.old) (K.faults output.new) → ⊥) → IsOf (DumpsWhole (S.left input.old)) result }
-    ensures dump_broken { IsDump words.now → (Rose (S.faults input.old) (S.faults input.new) → ⊥) → (Rose (K.faults output.old) (K.faults output.new) → ⊥) → IsOf (RefusesBrokenImage (S.left input.old)) result }
-    ensures dump_longer { IsDump words.now → (Rose (S.faults input.old) (S.faults input.new) → ⊥) → (Rose (K.faults output.old) (K.faults output.new) → ⊥) → IsOf (RefusesLonger (S.left input.old)) result }
+    ensures fold_complete { IsFold words.now → Still (S.faults input.old) (S.faults input.new) →
+        Still (K.faults output.old) (K.faults output.new) →
+        IsOf (FoldsWhole (S.left input.old)) result }
+    ensures fold_broken { IsFold words.now → Still (S.faults input.old) (S.faults input.new) →
+        Still (K.faults output.old) (K.faults output.new) →
+        IsOf (FoldsNoMore (S.left input.old)) result }
+    ensures dump_complete { IsDump words.now → Still (S.faults input.old) (S.faults input.new) →
+        Still (K.faults output.old) (K.faults output.new) →
+        IsOf (DumpsWhole (S.left input.old)) result }
+    ensures dump_broken { IsDump words.now → Still (S.faults input.old) (S.faults input.new) →
+        Still (K.faults output.old) (K.faults output.new) →
+        IsOf (RefusesBrokenImage (S.left input.old)) result }
+    ensures dump_longer { IsDump words.now → Still (S.faults input.old) (S.faults input.new) →
+        Still (K.faults output.old) (K.faults output.new) →
+        IsOf (RefusesLonger (S.left input.old)) result }
     ensures make_complete { (seed : ℕ) → IsMake words.now seed →
-        (Rose (K.faults output.old) (K.faults output.new) → ⊥) → IsOf MakesWhole result }
+        Still (K.faults output.old) (K.faults output.new) → IsOf MakesWhole result }
 
     // The notes get exactly the status's line.
-    ensures notes { (Rose (E.faults notes.old) (E.faults notes.new) → ⊥) → Appends (E.written notes.old) (E.written notes.new) (note_of result) }
+    ensures notes { Still (E.faults notes.old) (E.faults notes.new) →
+        Appends (E.written notes.old) (E.written notes.new) (note_of result) }
 {
     let status = serve_words(alloc, words, input, output);
     tell(alloc, status, notes)
@@ -74,7 +91,8 @@ pub fn run<S: Source, K: Sink, E: Sink>(
 pub fn refuse<E: Sink>(alloc: Global, fault: WordsFault, notes: &mut E) -> Status
     ensures usage { fault ≡ WordsFault.NotText → result ≡ Status.Usage }
     ensures no_memory { fault ≡ WordsFault.NoMemory → result ≡ Status.NoMemory }
-    ensures notes { (Rose (E.faults notes.old) (E.faults notes.new) → ⊥) → Appends (E.written notes.old) (E.written notes.new) (note_of result) }
+    ensures notes { Still (E.faults notes.old) (E.faults notes.new) →
+        Appends (E.written notes.old) (E.written notes.new) (note_of result) }
 {
     let status = match fault {
         WordsFault::NotText => Status::Usage,
@@ -90,26 +108,42 @@ fn serve_words<S: Source, K: Sink>(
     input: &mut S,
     output: &mut K,
 ) -> Status
-    ensures session { IsSession words.now → EndsWith (S.left input.old) (S.left input.new) (K.written output.old) (K.written output.new) result }
-    ensures fold { IsFold words.now → IsOf (FoldEnds (S.left input.old) (S.left input.new) (K.written output.old) (K.written output.new)) result }
-    ensures dump { IsDump words.now → IsOf (DumpEnds (S.left input.old) (S.left input.new) (K.written output.old) (K.written output.new)) result }
+    ensures session { IsSession words.now → EndsWith (S.left input.old) (S.left input.new)
+        (K.written output.old) (K.written output.new) result }
+    ensures fold { IsFold words.now → IsOf (FoldEnds (S.left input.old) (S.left input.new)
+        (K.written output.old) (K.written output.new)) result }
+    ensures dump { IsDump words.now → IsOf (DumpEnds (S.left input.old) (S.left input.new)
+        (K.written output.old) (K.written output.new)) result }
     ensures make { (seed : ℕ) → IsMake words.now seed → IsOf (MakeEnds seed (S.left input.old)
         (S.left input.new) (K.written output.old) (K.written output.new)) result }
     ensures usage { result ≡ Status.Usage → AreServed words.now → ⊥ }
     ensures served { (AreServed words.now → ⊥) → result ≡ Status.Usage }
-    ensures idle { result ≡ Status.Usage → EndsWith (S.left input.old) (S.left input.new) (K.written output.old) (K.written output.new) Status.Usage }
+    ensures idle { result ≡ Status.Usage → EndsWith (S.left input.old) (S.left input.new)
+        (K.written output.old) (K.written output.new) Status.Usage }
     ensures read { result ≡ Status.ReadFault → Rose (S.faults input.old) (S.faults input.new) }
     ensures write { result ≡ Status.WriteFault → Rose (K.faults output.old) (K.faults output.new) }
-    ensures complete { IsSession words.now → (Rose (S.faults input.old) (S.faults input.new) → ⊥) → (Rose (K.faults output.old) (K.faults output.new) → ⊥) → ServesWhole (S.left input.old) result }
-    ensures broken { IsSession words.now → (Rose (S.faults input.old) (S.faults input.new) → ⊥) → (Rose (K.faults output.old) (K.faults output.new) → ⊥) → RefusesBroken (S.left input.old) result }
+    ensures complete { IsSession words.now → Still (S.faults input.old) (S.faults input.new) →
+        Still (K.faults output.old) (K.faults output.new) → ServesWhole (S.left input.old) result }
+    ensures broken { IsSession words.now → Still (S.faults input.old) (S.faults input.new) → Still
+        (K.faults output.old) (K.faults output.new) → RefusesBroken (S.left input.old) result }
     ensures breaks { IsSession words.now → BreaksRightly (S.left input.old) result }
-    ensures fold_complete { IsFold words.now → (Rose (S.faults input.old) (S.faults input.new) → ⊥) → (Rose (K.faults output.old) (K.faults output.new) → ⊥) → IsOf (FoldsWhole (S.left input.old)) result }
-    ensures fold_broken { IsFold words.now → (Rose (S.faults input.old) (S.faults input.new) → ⊥) → (Rose (K.faults output.old) (K.faults output.new) → ⊥) → IsOf (FoldsNoMore (S.left input.old)) result }
-    ensures dump_complete { IsDump words.now → (Rose (S.faults input.old) (S.faults input.new) → ⊥) → (Rose (K.faults output.old) (K.faults output.new) → ⊥) → IsOf (DumpsWhole (S.left input.old)) result }
-    ensures dump_broken { IsDump words.now → (Rose (S.faults input.old) (S.faults input.new) → ⊥) → (Rose (K.faults output.old) (K.faults output.new) → ⊥) → IsOf (RefusesBrokenImage (S.left input.old)) result }
-    ensures dump_longer { IsDump words.now → (Rose (S.faults input.old) (S.faults input.new) → ⊥) → (Rose (K.faults output.old) (K.faults output.new) → ⊥) → IsOf (RefusesLonger (S.left input.old)) result }
+    ensures fold_complete { IsFold words.now → Still (S.faults input.old) (S.faults input.new) →
+        Still (K.faults output.old) (K.faults output.new) →
+        IsOf (FoldsWhole (S.left input.old)) result }
+    ensures fold_broken { IsFold words.now → Still (S.faults input.old) (S.faults input.new) →
+        Still (K.faults output.old) (K.faults output.new) →
+        IsOf (FoldsNoMore (S.left input.old)) result }
+    ensures dump_complete { IsDump words.now → Still (S.faults input.old) (S.faults input.new) →
+        Still (K.faults output.old) (K.faults output.new) →
+        IsOf (DumpsWhole (S.left input.old)) result }
+    ensures dump_broken { IsDump words.now → Still (S.faults input.old) (S.faults input.new) →
+        Still (K.faults output.old) (K.faults output.new) →
+        IsOf (RefusesBrokenImage (S.left input.old)) result }
+    ensures dump_longer { IsDump words.now → Still (S.faults input.old) (S.faults input.new) →
+        Still (K.faults output.old) (K.faults output.new) →
+        IsOf (RefusesLonger (S.left input.old)) result }
     ensures make_complete { (seed : ℕ) → IsMake words.now seed →
-        (Rose (K.faults output.old) (K.faults output.new) → ⊥) → IsOf MakesWhole result }
+        Still (K.faults output.old) (K.faults output.new) → IsOf MakesWhole result }
 {
     match word_of(words) {
         None => Status::Usage,
@@ -191,7 +225,8 @@ fn status_of(answer: Result<(), ToolFault>) -> Status
 // Writes the line of a status, and answers it: or NoMemory, where memory for the line of a bad frame ran out.
 fn tell<E: Sink>(alloc: Global, status: Status, notes: &mut E) -> Status
     ensures same { (result ≡ status) ⊎ ((result ≡ Status.NoMemory) × IsMalformed status) }
-    ensures told { (Rose (E.faults notes.old) (E.faults notes.new) → ⊥) → Appends (E.written notes.old) (E.written notes.new) (note_of result) }
+    ensures told { Still (E.faults notes.old) (E.faults notes.new) →
+        Appends (E.written notes.old) (E.written notes.new) (note_of result) }
 {
     match status {
         Status::Done => {}
@@ -207,7 +242,8 @@ fn tell<E: Sink>(alloc: Global, status: Status, notes: &mut E) -> Status
 
 fn tell_malformed<E: Sink>(alloc: Global, at: u64, notes: &mut E) -> Status
     ensures same { (result ≡ Status.Malformed at) ⊎ (result ≡ Status.NoMemory) }
-    ensures told { (Rose (E.faults notes.old) (E.faults notes.new) → ⊥) → Appends (E.written notes.old) (E.written notes.new) (note_of result) }
+    ensures told { Still (E.faults notes.old) (E.faults notes.new) →
+        Appends (E.written notes.old) (E.written notes.new) (note_of result) }
 {
     match malformed_line(alloc, at) {
         Ok(text) => {
@@ -229,7 +265,8 @@ fn malformed_line(alloc: Global, at: u64) -> Result<String, AllocError>
 
 // A fault of the notes is passed over.
 fn put_line<E: Sink>(text: &[u8], notes: &mut E)
-    ensures { (Rose (E.faults notes.old) (E.faults notes.new) → ⊥) → Appends (E.written notes.old) (E.written notes.new) text.now }
+    ensures { Still (E.faults notes.old) (E.faults notes.new) →
+        Appends (E.written notes.old) (E.written notes.new) text.now }
 {
     let _ = notes.put(text);
 }

@@ -1,9 +1,10 @@
 //! What one resource's operations do to the values of its settings.
 
-ghost use Rattle.std.specs.Prelude.{◌≡◌, [], Ok, IfErr, IfOk, OnOk, unwrap_or, if◌then◌else◌};
+ghost use Rattle.std.specs.Prelude.{◌≡◌, [], Ok, IfErr, IfOk, OnOk, unwrap_or};
 ghost use Rattle.std.specs.Option.{option_copied};
 ghost use Rattle.kr_calls.specs.IncrementalAlterConfigs as incremental_alter_configs;
 ghost use Rattle.kr_rules.specs.Refusals.{IsRefusal, Judges};
+ghost use Rattle.kr_configs.specs.inner.NewSettings.{list_of_parts};
 
 use crate::parts::{append, subtract};
 use crate::values::Values;
@@ -49,7 +50,8 @@ pub(crate) fn value_now<'v, 'k, S: Store>(
     values: &'v Values<'k>,
     key: &str,
 ) -> Result<Option<&'v Text>, NoMemory>
-    ensures { IfOk result (λ value. option_copied value ≡ incremental_alter_configs.value_now seen.now entry.now values.now key.now) }
+    ensures { IfOk result (λ value. option_copied value ≡
+        incremental_alter_configs.value_now seen.now entry.now values.now key.now) }
 {
     match values.get(key) {
         Some(value) => Ok(value.as_ref()),
@@ -73,7 +75,8 @@ fn list_after(
     operation: &ConfigOperation,
     value: Option<&Text>,
 ) -> Result<Text, NoMemory>
-    ensures { IfOk result (λ list. list ≡ (if incremental_alter_configs.is_append operation.now then incremental_alter_configs.appended (unwrap_or (option_copied value.entry) []) (unwrap_or operation.now.value []) else incremental_alter_configs.subtracted (unwrap_or (option_copied value.entry) []) (unwrap_or operation.now.value []))) }
+    ensures { IfOk result (λ list. list ≡
+        list_of_parts operation.now (unwrap_or (option_copied value.entry) [])) }
 {
     let empty = Text::new(alloc);
     let value = or_empty(value, &empty);
@@ -91,7 +94,8 @@ fn value_after(
     operation: &ConfigOperation,
     value: Option<&Text>,
 ) -> Result<Option<Text>, NoMemory>
-    ensures { IfOk result (λ after. after ≡ incremental_alter_configs.operated operation.now (option_copied value.entry)) }
+    ensures { IfOk result (λ after. after ≡
+        incremental_alter_configs.operated operation.now (option_copied value.entry)) }
 {
     if operation.operation == DELETE {
         return Ok(None);
@@ -121,7 +125,8 @@ fn result_of<S: Store>(
     values: &Values,
     operation: &ConfigOperation,
 ) -> Result<Option<Text>, NoMemory>
-    ensures { IfOk result (λ value. value ≡ incremental_alter_configs.operated operation.now (incremental_alter_configs.value_now seen.now entry.now values.now operation.now.name)) }
+    ensures { IfOk result (λ value. value ≡ incremental_alter_configs.operated operation.now
+        (incremental_alter_configs.value_now seen.now entry.now values.now operation.now.name)) }
 {
     let before = value_now(alloc, seen, entry, values, operation.name.as_str())?;
     value_after(alloc, operation, before)
@@ -136,7 +141,8 @@ fn operate<'k, S: Store>(
     operation: &'k ConfigOperation,
 ) -> Result<(), Refusal>
     ensures done { OnOk result (incremental_alter_configs.after_operation seen.now entry.now values.old operation.now ≡ Ok values.new) }
-    ensures refused { IfErr result (λ refusal. IsRefusal refusal (incremental_alter_configs.after_operation seen.now entry.now values.old operation.now)) }
+    ensures refused { IfErr result (λ refusal. IsRefusal refusal
+        (incremental_alter_configs.after_operation seen.now entry.now values.old operation.now)) }
 {
     if is_bad_operation(operation) {
         return Err(Refusal::Error(INVALID_REQUEST));
@@ -161,7 +167,8 @@ pub(crate) fn operate_all<'k, S: Store>(
     seen: &Seen<S>,
     entry: &'k ConfigResource,
 ) -> Result<Values<'k>, Refusal>
-    ensures { Judges result (incremental_alter_configs.after_operations seen.now entry.now [] entry.now.configs) }
+    ensures { Judges result
+        (incremental_alter_configs.after_operations seen.now entry.now [] entry.now.configs) }
 {
     let mut values = Values::new(alloc);
     for operation in entry.configs.as_slice() {

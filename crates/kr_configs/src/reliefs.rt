@@ -91,7 +91,8 @@ fn minimum_after_at<S: Store>(
     kind: &i8,
     name: &Text,
 ) -> Result<Option<i32>, NoMemory>
-    ensures { IfOk result (λ minimum. minimum ≡ option_and_then settings.read_minimum (settings.setting_value (after seen.now relief.now.entry.now relief.now.values.now) kind.now name.now settings.minimum_key)) }
+    ensures { IfOk result (λ minimum. minimum ≡ later.minimum_set
+        (after seen.now relief.now.entry.now relief.now.values.now) kind.now name.now) }
 {
     seen.is_valid();
     relief.values.are_once();
@@ -110,7 +111,9 @@ fn minimum_after_set<S: Store>(
     relief: &Relief,
     topic: &Text,
 ) -> Result<Option<i32>, NoMemory>
-    ensures { IfOk result (λ minimum. minimum ≡ settings.setting settings.read_minimum settings.minimum_key (after seen.now relief.now.entry.now relief.now.values.now) topic.now) }
+    ensures { IfOk result (λ minimum. minimum ≡
+        settings.setting settings.read_minimum settings.minimum_key
+        (after seen.now relief.now.entry.now relief.now.values.now) topic.now) }
 {
     match minimum_after_at(alloc, seen, relief, &TOPIC, topic)? {
         Some(minimum) => Ok(Some(minimum)),
@@ -125,7 +128,8 @@ fn minimum_after<S: Store>(
     relief: &Relief,
     topic: &Text,
 ) -> Result<i32, NoMemory>
-    ensures { IfOk result (λ minimum. minimum ≡ settings.minimum_of relief.now.options.now.minimum (after seen.now relief.now.entry.now relief.now.values.now) topic.now) }
+    ensures { IfOk result (λ minimum. minimum ≡ settings.minimum_of relief.now.options.now.minimum
+        (after seen.now relief.now.entry.now relief.now.values.now) topic.now) }
 {
     let minimum = minimum_after_set(alloc, seen, relief, topic)?;
     Ok(minimum.unwrap_or(relief.options.minimum))
@@ -139,7 +143,8 @@ fn has_enough<S: Store>(
     topic: &Text,
     partition: &Partition,
 ) -> Result<bool, NoMemory>
-    ensures { IfOk result (λ enough. enough ≡ later.has_enough relief.now.options.now seen.now (after seen.now relief.now.entry.now relief.now.values.now) topic.now partition.now) }
+    ensures { IfOk result (λ enough. enough ≡ later.has_enough relief.now.options.now seen.now
+        (after seen.now relief.now.entry.now relief.now.values.now) topic.now partition.now) }
 {
     let before = minimum_of(alloc, seen, &relief.options.minimum, topic)?;
     let after = minimum_after(alloc, seen, relief, topic)?;
@@ -198,7 +203,9 @@ pub(crate) fn add_reliefs<S: Store>(
     values: &Values,
     records: &mut Records,
 ) -> Result<(), NoMemory>
-    ensures { OnOk result (records.new ≡ records.old ++ changes_of (incremental_alter_configs.relief options.now seen.now (after seen.now entry.now values.now)) (walk seen.now)) }
+    ensures { OnOk result (records.new ≡ records.old ++
+        changes_of (incremental_alter_configs.relief options.now seen.now
+        (after seen.now entry.now values.now)) (walk seen.now)) }
 {
     seen.is_valid();
     values.are_once();

@@ -59,6 +59,10 @@ linked first nodes place next =
     let before = (node_at nodes (index_of first next)).before in
     with_before (with_after (with_after (with_before nodes (index_of first place) before) (index_of first place) next) (index_of first before) place) (index_of first next) place
 
+-- the nodes without the one at the place in the ring, which has the time and the offset of the contact
+abbrev pub unlinked_with_news : Ptr → List Node → Place → Contact → List Node
+unlinked_with_news first nodes place contact = with_news (unlinked first nodes (index_of first place)) (index_of first place) contact
+
 -- the node at the place becomes the last one before the first, with the time and the offset of the contact
 unfoldable pub moved_last : Ptr → List Node → Place → Place → Contact → List Node
 moved_last first nodes place next contact =

@@ -2,7 +2,7 @@
 
 ghost use Rattle.std.specs.Prelude.{◌≡◌, ◌+◌, ◌<◌, ◌∷◌, [], vec_len, vec_capacity};
 ghost use Rattle.std.specs.Vec.{vec_ptr};
-ghost use Rattle.kr_contact.specs.Nodes.{IsKnown, LiesAt, closing_node, contact_in, index_of, node_at, node_of, with_after, with_before, with_news, unlinked, linked, moved_last, added_last};
+ghost use Rattle.kr_contact.specs.Nodes.{IsKnown, LiesAt, closing_node, contact_in, index_of, node_at, node_of, with_after, with_before, with_news, unlinked, linked, moved_last, added_last, unlinked_with_news};
 
 use crate::places;
 use kr_base::Steps;
@@ -86,7 +86,8 @@ pub(crate) fn set_after<L: Ledger>(
     steps: &mut Steps<L>,
 )
     requires { IsKnown (vec_ptr nodes.old) (vec_len nodes.old) place }
-    ensures items { nodes.new.items ≡ with_after nodes.old.items (index_of (vec_ptr nodes.old) place) after }
+    ensures items { nodes.new.items ≡
+        with_after nodes.old.items (index_of (vec_ptr nodes.old) place) after }
     ensures len { vec_len nodes.new ≡ vec_len nodes.old }
     ensures capacity { vec_capacity nodes.new ≡ vec_capacity nodes.old }
     ensures in_place { vec_ptr nodes.new ≡ vec_ptr nodes.old }
@@ -103,7 +104,8 @@ pub(crate) fn set_before<L: Ledger>(
     steps: &mut Steps<L>,
 )
     requires { IsKnown (vec_ptr nodes.old) (vec_len nodes.old) place }
-    ensures items { nodes.new.items ≡ with_before nodes.old.items (index_of (vec_ptr nodes.old) place) before }
+    ensures items { nodes.new.items ≡
+        with_before nodes.old.items (index_of (vec_ptr nodes.old) place) before }
     ensures len { vec_len nodes.new ≡ vec_len nodes.old }
     ensures capacity { vec_capacity nodes.new ≡ vec_capacity nodes.old }
     ensures in_place { vec_ptr nodes.new ≡ vec_ptr nodes.old }
@@ -120,7 +122,8 @@ pub(crate) fn set_news<L: Ledger>(
     steps: &mut Steps<L>,
 )
     requires { IsKnown (vec_ptr nodes.old) (vec_len nodes.old) place }
-    ensures items { nodes.new.items ≡ with_news nodes.old.items (index_of (vec_ptr nodes.old) place) contact.now }
+    ensures items { nodes.new.items ≡
+        with_news nodes.old.items (index_of (vec_ptr nodes.old) place) contact.now }
     ensures len { vec_len nodes.new ≡ vec_len nodes.old }
     ensures capacity { vec_capacity nodes.new ≡ vec_capacity nodes.old }
     ensures in_place { vec_ptr nodes.new ≡ vec_ptr nodes.old }
@@ -136,9 +139,12 @@ pub(crate) fn set_news<L: Ledger>(
 // Links the nodes before and after the node to one another.
 pub(crate) fn unlink<L: Ledger>(nodes: &mut Vec<Node>, place: Place, steps: &mut Steps<L>)
     requires node { IsKnown (vec_ptr nodes.old) (vec_len nodes.old) place }
-    requires before { IsKnown (vec_ptr nodes.old) (vec_len nodes.old) (node_at nodes.old.items (index_of (vec_ptr nodes.old) place)).before }
-    requires after { IsKnown (vec_ptr nodes.old) (vec_len nodes.old) (node_at nodes.old.items (index_of (vec_ptr nodes.old) place)).after }
-    ensures items { nodes.new.items ≡ unlinked (vec_ptr nodes.old) nodes.old.items (index_of (vec_ptr nodes.old) place) }
+    requires before { IsKnown (vec_ptr nodes.old) (vec_len nodes.old)
+        (node_at nodes.old.items (index_of (vec_ptr nodes.old) place)).before }
+    requires after { IsKnown (vec_ptr nodes.old) (vec_len nodes.old)
+        (node_at nodes.old.items (index_of (vec_ptr nodes.old) place)).after }
+    ensures items { nodes.new.items ≡
+        unlinked (vec_ptr nodes.old) nodes.old.items (index_of (vec_ptr nodes.old) place) }
     ensures len { vec_len nodes.new ≡ vec_len nodes.old }
     ensures capacity { vec_capacity nodes.new ≡ vec_capacity nodes.old }
     ensures in_place { vec_ptr nodes.new ≡ vec_ptr nodes.old }
@@ -159,7 +165,8 @@ pub(crate) fn link<L: Ledger>(
 )
     requires node { IsKnown (vec_ptr nodes.old) (vec_len nodes.old) place }
     requires next { IsKnown (vec_ptr nodes.old) (vec_len nodes.old) next }
-    requires before { IsKnown (vec_ptr nodes.old) (vec_len nodes.old) (node_at nodes.old.items (index_of (vec_ptr nodes.old) next)).before }
+    requires before { IsKnown (vec_ptr nodes.old) (vec_len nodes.old)
+        (node_at nodes.old.items (index_of (vec_ptr nodes.old) next)).before }
     ensures items { nodes.new.items ≡ linked (vec_ptr nodes.old) nodes.old.items place next }
     ensures len { vec_len nodes.new ≡ vec_len nodes.old }
     ensures capacity { vec_capacity nodes.new ≡ vec_capacity nodes.old }
@@ -184,10 +191,15 @@ pub(crate) fn move_last<L: Ledger>(
 )
     requires node { IsKnown (vec_ptr nodes.old) (vec_len nodes.old) place }
     requires first { IsKnown (vec_ptr nodes.old) (vec_len nodes.old) first }
-    requires before { IsKnown (vec_ptr nodes.old) (vec_len nodes.old) (node_at nodes.old.items (index_of (vec_ptr nodes.old) place)).before }
-    requires after { IsKnown (vec_ptr nodes.old) (vec_len nodes.old) (node_at nodes.old.items (index_of (vec_ptr nodes.old) place)).after }
-    requires last { IsKnown (vec_ptr nodes.old) (vec_len nodes.old) (node_at (with_news (unlinked (vec_ptr nodes.old) nodes.old.items (index_of (vec_ptr nodes.old) place)) (index_of (vec_ptr nodes.old) place) contact.now) (index_of (vec_ptr nodes.old) first)).before }
-    ensures items { nodes.new.items ≡ moved_last (vec_ptr nodes.old) nodes.old.items place first contact.now }
+    requires before { IsKnown (vec_ptr nodes.old) (vec_len nodes.old)
+        (node_at nodes.old.items (index_of (vec_ptr nodes.old) place)).before }
+    requires after { IsKnown (vec_ptr nodes.old) (vec_len nodes.old)
+        (node_at nodes.old.items (index_of (vec_ptr nodes.old) place)).after }
+    requires last { IsKnown (vec_ptr nodes.old) (vec_len nodes.old)
+        (node_at (unlinked_with_news (vec_ptr nodes.old) nodes.old.items place contact.now)
+        (index_of (vec_ptr nodes.old) first)).before }
+    ensures items { nodes.new.items ≡
+        moved_last (vec_ptr nodes.old) nodes.old.items place first contact.now }
     ensures len { vec_len nodes.new ≡ vec_len nodes.old }
     ensures capacity { vec_capacity nodes.new ≡ vec_capacity nodes.old }
     ensures in_place { vec_ptr nodes.new ≡ vec_ptr nodes.old }
@@ -222,8 +234,10 @@ pub(crate) fn add_last<L: Ledger>(
     requires room { vec_len nodes.old < vec_capacity nodes.old }
     requires here { first.at ≡ vec_ptr nodes.old }
     requires first { IsKnown (vec_ptr nodes.old) (vec_len nodes.old) first }
-    requires last { IsKnown (vec_ptr nodes.old) (vec_len nodes.old) (node_at nodes.old.items (index_of (vec_ptr nodes.old) first)).before }
-    ensures items { nodes.new.items ≡ added_last (vec_ptr nodes.old) nodes.old.items result first contact.now }
+    requires last { IsKnown (vec_ptr nodes.old) (vec_len nodes.old)
+        (node_at nodes.old.items (index_of (vec_ptr nodes.old) first)).before }
+    ensures items { nodes.new.items ≡
+        added_last (vec_ptr nodes.old) nodes.old.items result first contact.now }
     ensures place { LiesAt (vec_ptr nodes.old) (vec_len nodes.new) result (vec_len nodes.old) }
     ensures len { vec_len nodes.new ≡ vec_len nodes.old + 1 }
     ensures capacity { vec_capacity nodes.new ≡ vec_capacity nodes.old }

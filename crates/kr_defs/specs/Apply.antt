@@ -1,5 +1,5 @@
 -- KIP-631: the meaning of a record is the image after it. The causes why there is none, and the limits, are this project's own.
-use Rattle.std.specs.Prelude.{ℕ, ℤ, pos, negsuc, int_lt, false, Bool, not, ◌&&◌, ◌||◌, List, length, bytes_eq, filter, Option, Some, None, Result, Ok, ◌==◌, nat_le, nat_lt, if◌then◌else◌}
+use Rattle.std.specs.Prelude.{◌≡◌, ℕ, ℤ, pos, negsuc, int_lt, false, Bool, not, ◌&&◌, ◌||◌, List, length, bytes_eq, filter, Option, Some, None, Result, Ok, ◌==◌, nat_le, nat_lt, if◌then◌else◌}
 use Rattle.std.specs.Ordering.{int_cmp, int_eq}
 use Rattle.std.specs.Option.{option_map_or}
 use Rattle.kr_defs.specs.declared.broker.Broker.{Broker}
@@ -140,3 +140,7 @@ apply_record image kinds.NoOp = Ok image
 unfoldable pub apply : Image → Item → Result Image Ill
 apply image items.Control = Ok image
 apply image (items.Record r) = apply_record image r
+
+-- this is the image after a topic's removal
+abbrev pub Removes : Image → ℕ → Image → Type 0
+Removes image id after = apply image (items.Record (kinds.RemoveTopic id)) ≡ Ok after

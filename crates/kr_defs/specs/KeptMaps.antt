@@ -1,5 +1,5 @@
 -- A map with kept epochs. This project's own.
-use Rattle.std.specs.Prelude.{ℕ, ℤ, List, [], ◌∷◌, ◌++◌, Option, ◌+◌, ◌-◌, ◌^◌, min, not, filter, find, map, All, IsTrue, int_lt}
+use Rattle.std.specs.Prelude.{ℕ, ℤ, List, [], ◌∷◌, ◌++◌, Option, ◌+◌, ◌-◌, ◌^◌, ◌≤◌, min, sum_by, take, not, filter, find, map, All, IsTrue, int_lt}
 use Rattle.std.specs.Option.{option_map}
 use Rattle.std.specs.Ordering.{int_cmp, int_eq}
 use Rattle.std.specs.List.Sorted.{IsStrictlySortedBy}
@@ -59,6 +59,38 @@ module _ {K V : Type 0} where
   -- the entries below the epoch are dropped
   unfoldable pub forgotten : KeptMaps K V → ℤ → KeptMaps K V
   forgotten maps epoch = record maps { kept = oldest_unmade (filter (λ (k : Kept K V). not (int_lt k.epoch epoch)) maps.kept) }
+
+-- ---- what it takes to go back to an epoch, and to drop those below one: a step each call, each epoch and each change
+
+module _ {K V : Type 0} where
+  -- the entries above the epoch
+  abbrev pub kept_above : KeptMaps K V → ℤ → List (Kept K V)
+  kept_above maps epoch = filter (λ (k : Kept K V). int_lt epoch k.epoch) maps.kept
+
+  -- the entries below the epoch
+  abbrev pub kept_below : KeptMaps K V → ℤ → List (Kept K V)
+  kept_below maps epoch = filter (λ (k : Kept K V). int_lt k.epoch epoch) maps.kept
+
+  -- the oldest entry that isn't below the epoch, if there is one
+  abbrev pub oldest_kept_from : KeptMaps K V → ℤ → List (Kept K V)
+  oldest_kept_from maps epoch = take 1 (filter (λ (k : Kept K V). not (int_lt k.epoch epoch)) maps.kept)
+
+  -- the calls of these entries
+  abbrev pub calls_in : List (Kept K V) → ℕ
+  calls_in kept = sum_by (λ (k : Kept K V). k.made) kept
+
+  -- the same, and one each
+  abbrev pub calls_and_epochs : List (Kept K V) → ℕ
+  calls_and_epochs kept = sum_by (λ (k : Kept K V). k.made + 1) kept
+
+  -- going back counts at most this
+  abbrev pub RevertsMapWithin : KeptMaps K V → ℤ → ℕ → ℕ → Type 0
+  RevertsMapWithin maps epoch before after = after ≤ before + calls_and_epochs (kept_above maps epoch) + maps.made + 1
+
+  -- dropping counts at most this
+  abbrev pub ForgetsMapWithin : KeptMaps K V → ℤ → ℕ → ℕ → Type 0
+  ForgetsMapWithin maps epoch before after =
+      after ≤ before + calls_and_epochs (kept_below maps epoch) + calls_in (oldest_kept_from maps epoch) + 1
 
 module _ {K V : Type 0} (order : K → K → Ordering) where
   -- the key has the value in the present map

@@ -77,6 +77,11 @@ registration_bytes state =
     + rows_bytes (λ r. text_bytes r.name + 2 + 2 + no_tags_bytes) state.features
     + text_or_null_bytes state.rack + 1 + 1 + no_tags_bytes
 
+-- what is tagged of a partition
+abbrev pub partition_tags_bytes : Partition → ℕ
+partition_tags_bytes state =
+    tags_bytes (number_field 1 (pos 0) state.recovery ∷ ids_field state.eligible ∷ ids_field state.last_known ∷ [])
+
 -- index, topic, four lists, leader, two epochs, one directory id for each replica, and what is tagged
 abbrev pub partition_bytes : Partition → ℕ
 partition_bytes state =
@@ -84,16 +89,18 @@ partition_bytes state =
     + list_bytes 4 state.replicas + list_bytes 4 state.in_sync + list_bytes 4 state.removing + list_bytes 4 state.adding
     + 4 + 4 + 4
     + list_bytes 16 state.replicas
-    + tags_bytes (number_field 1 (pos 0) state.recovery ∷ ids_field state.eligible ∷ ids_field state.last_known ∷ [])
+    + partition_tags_bytes state
 
--- index, topic, and what is changed
-abbrev pub change_bytes : PartitionChange → ℕ
-change_bytes change =
-    4 + 16
-    + tags_bytes (
+-- what is changed of a partition
+abbrev pub change_tags_bytes : PartitionChange → ℕ
+change_tags_bytes change = tags_bytes (
     ids_field_or change.in_sync ∷ number_field_or 4 (negsuc 1) change.leader ∷ ids_field_or change.replicas
     ∷ ids_field_or change.removing ∷ ids_field_or change.adding ∷ number_field_or 1 (negsuc 0) change.recovery
     ∷ ids_field_or change.eligible ∷ ids_field_or change.last_known ∷ [])
+
+-- index, topic, and what is changed
+abbrev pub change_bytes : PartitionChange → ℕ
+change_bytes change = 4 + 16 + change_tags_bytes change
 
 -- the three numbers before a layout: frame version, key and version
 abbrev pub frame_bytes : ℕ

@@ -5,6 +5,7 @@ use Rattle.kr_defs.specs.declared.partition.PartitionChange.{PartitionChange}
 use Rattle.kr_defs.specs.declared.record.Record.{Record}
 use Rattle.kr_defs.specs.declared.record.Record.TheVariants as kinds
 use Rattle.kr_defs.specs.Image.{Image}
+use Rattle.kr_defs.specs.Map.{above, partition_order}
 
 -- a partition, with its key and the name of its topic
 pub record Walked : Type 0 where
@@ -18,6 +19,10 @@ walked topic e = record { topic = topic; key = e.0; partition = e.1 }
 -- the partitions of one topic, by index
 abbrev pub of_topic : ℕ → List ((ℕ × ℤ) × Partition) → List ((ℕ × ℤ) × Partition)
 of_topic id partitions = filter (λ e. e.0.0 == id) partitions
+
+-- the partitions above the key that are of its topic
+abbrev pub rest_of_topic : ℕ × ℤ → List ((ℕ × ℤ) × Partition) → List ((ℕ × ℤ) × Partition)
+rest_of_topic key partitions = of_topic key.0 (above partition_order partitions (Some key))
 
 abbrev pub walk_topic : List ((ℕ × ℤ) × Partition) → List ℕ × ℕ → List Walked
 walk_topic partitions topic = map (walked topic.0) (of_topic topic.1 partitions)

@@ -10,6 +10,7 @@ ghost use Rattle.kr_defs.specs.ImageOrder.{are_in_order, nothing_seen};
 ghost use Rattle.kr_defs.specs.Records.{records_of};
 ghost use Rattle.kr_defs.specs.Log.{Log, first, tip, more, image_at, apply_all, first_ill, IsBehindGood};
 ghost use Rattle.kr_defs.specs.Apply as apply;
+ghost use Rattle.kr_defs.specs.Apply.{Removes};
 ghost use Rattle.kr_defs.specs.declared.record.Item.{Item as AnyItem};
 
 /// The empty image is valid.
@@ -19,12 +20,14 @@ pub fn empty_is_valid()
 
 /// Every item that has a meaning keeps a valid image valid.
 pub fn apply_keeps_valid()
-    ensures { (image after : Image) (item : AnyItem) → IsValid image → apply.apply image item ≡ Ok after → IsValid after }
+    ensures { (image after : Image) (item : AnyItem) → IsValid image →
+        apply.apply image item ≡ Ok after → IsValid after }
 {}
 
 /// So does a whole log: its image at each place is valid.
 pub fn logs_are_valid()
-    ensures { (log : Log) (place : ℕ) (image : Image) → IsValid log.image → image_at log place ≡ Ok image → IsValid image }
+    ensures { (log : Log) (place : ℕ) (image : Image) → IsValid log.image →
+        image_at log place ≡ Ok image → IsValid image }
 {}
 
 /// Control and NoOp change nothing.
@@ -35,25 +38,34 @@ pub fn nothing_changes()
 
 /// After RemoveTopic neither the topic is there, nor a partition or a setting of it.
 pub fn removed_whole()
-    ensures topic { (image after : Image) (id : ℕ) → apply.apply image (items.Record (kinds.RemoveTopic id)) ≡ Ok after → has_topic after.topics id ≡ false }
-    ensures partitions { (image after : Image) (id : ℕ) → apply.apply image (items.Record (kinds.RemoveTopic id)) ≡ Ok after → All (λ e. IsTrue (not (e.0.0 == id))) after.partitions }
-    ensures configs { (image after : Image) (id : ℕ) (name : List ℕ) → apply.apply image (items.Record (kinds.RemoveTopic id)) ≡ Ok after → topic_name image.topics id ≡ Some name → All (λ e. IsTrue (not (apply.is_setting_of name e.0))) after.configs }
+    ensures topic { (image after : Image) (id : ℕ) → Removes image id after →
+        has_topic after.topics id ≡ false }
+    ensures partitions { (image after : Image) (id : ℕ) → Removes image id after →
+        All (λ e. IsTrue (not (e.0.0 == id))) after.partitions }
+    ensures configs { (image after : Image) (id : ℕ) (name : List ℕ) → Removes image id after →
+        topic_name image.topics id ≡ Some name →
+        All (λ e. IsTrue (not (apply.is_setting_of name e.0))) after.configs }
 {}
 
 /// The image at the tip of a log that is longer by one item is what the item makes of the image before. Below, nothing changes.
 pub fn one_item_more()
     ensures start { (log : Log) → image_at log log.offset ≡ Ok log.image }
-    ensures tip { (log : Log) (item : AnyItem) (image : Image) → image_at log (tip log) ≡ Ok image → image_at (more log item) (tip log + 1) ≡ apply.apply image item }
-    ensures below { (log : Log) (item : AnyItem) (place : ℕ) → place ≤ tip log → image_at (more log item) place ≡ image_at log place }
+    ensures tip { (log : Log) (item : AnyItem) (image : Image) → image_at log (tip log) ≡
+        Ok image → image_at (more log item) (tip log + 1) ≡ apply.apply image item }
+    ensures below { (log : Log) (item : AnyItem) (place : ℕ) → place ≤ tip log →
+        image_at (more log item) place ≡ image_at log place }
 {}
 
 /// The first ill item is named exactly where the items have no image, with the cause that there is none, and all before it have one.
 pub fn first_ill_is_named()
-    ensures cause { (image : Image) (place : ℤ) (items : List AnyItem) → option_map (λ ill. ill.1) (first_ill image place items) ≡ result_err (apply_all image items) }
-    ensures place { (image : Image) (place : ℤ) (items : List AnyItem) → IfSome (first_ill image place items) (IsBehindGood image place items) }
+    ensures cause { (image : Image) (place : ℤ) (items : List AnyItem) → option_map (λ ill. ill.1)
+        (first_ill image place items) ≡ result_err (apply_all image items) }
+    ensures place { (image : Image) (place : ℤ) (items : List AnyItem) →
+        IfSome (first_ill image place items) (IsBehindGood image place items) }
 {}
 
 /// The records that make a valid image are in the order in which an image is read.
 pub fn records_are_in_order()
-    ensures { (image : Image) → IsValid image → IsTrue (are_in_order nothing_seen (records_of image)) }
+    ensures { (image : Image) → IsValid image →
+        IsTrue (are_in_order nothing_seen (records_of image)) }
 {}

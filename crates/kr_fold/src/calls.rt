@@ -2,7 +2,7 @@
 
 ghost use Rattle.std.specs.Prelude.{◌≡◌, ◌≤◌, ◌≤ℤ◌, pos, IfOk, IfErr, IsErrOf, OnOk, OnErr};
 ghost use Rattle.std.specs.Io.KnownBytes.{Appends};
-ghost use Rattle.kr_base.specs.Causes.{Rose};
+ghost use Rattle.kr_base.specs.Causes.{Rose, Still};
 ghost use Rattle.kr_base.specs.FailedPuts.{AppendsFront};
 ghost use Rattle.kr_wire.specs.Grammar.{Exactly};
 ghost use Rattle.kr_snapshot.specs.ImageText.{image_text};
@@ -25,7 +25,8 @@ use std::sync::ledger::Blank;
 // Writes bytes by one put.
 fn put<K: Sink>(output: &mut K, bytes: &[u8]) -> Result<(), ToolFault>
     ensures ok { OnOk result (Appends (K.written output.old) (K.written output.new) bytes.now) }
-    ensures err { OnErr result (AppendsFront (K.written output.old) (K.written output.new) bytes.now) }
+    ensures err { OnErr result
+        (AppendsFront (K.written output.old) (K.written output.new) bytes.now) }
     ensures fault { IfErr result (λ fault. fault ≡ ToolFault.WriteFault) }
     ensures rose { OnErr result (Rose (K.faults output.old) (K.faults output.new)) }
     ensures later { K.faults output.old ≤ K.faults output.new }
@@ -58,13 +59,18 @@ pub fn fold<S: Source, K: Sink>(
     output: &mut K,
 ) -> Result<(), ToolFault>
     // What was taken and what was written at each answer.
-    ensures ends { FoldEnds (S.left input.old) (S.left input.new) (K.written output.old) (K.written output.new) result }
+    ensures ends { FoldEnds (S.left input.old) (S.left input.new) (K.written output.old)
+        (K.written output.new) result }
     // A fault is told only where that object's count rose in this call.
-    ensures read { IsErrOf result ToolFault.ReadFault → Rose (S.faults input.old) (S.faults input.new) }
-    ensures write { IsErrOf result ToolFault.WriteFault → Rose (K.faults output.old) (K.faults output.new) }
+    ensures read { IsErrOf result ToolFault.ReadFault →
+        Rose (S.faults input.old) (S.faults input.new) }
+    ensures write { IsErrOf result ToolFault.WriteFault →
+        Rose (K.faults output.old) (K.faults output.new) }
     // Where no read and no write failed: a whole log is folded, and a broken one is refused at that batch.
-    ensures complete { (Rose (S.faults input.old) (S.faults input.new) → ⊥) → (Rose (K.faults output.old) (K.faults output.new) → ⊥) → FoldsWhole (S.left input.old) result }
-    ensures broken { (Rose (S.faults input.old) (S.faults input.new) → ⊥) → (Rose (K.faults output.old) (K.faults output.new) → ⊥) → FoldsNoMore (S.left input.old) result }
+    ensures complete { Still (S.faults input.old) (S.faults input.new) →
+        Still (K.faults output.old) (K.faults output.new) → FoldsWhole (S.left input.old) result }
+    ensures broken { Still (S.faults input.old) (S.faults input.new) →
+        Still (K.faults output.old) (K.faults output.new) → FoldsNoMore (S.left input.old) result }
 {
     fold_log(alloc, input, output)
 }
@@ -74,9 +80,12 @@ fn fold_log<S: Source, K: Sink>(
     input: &mut S,
     output: &mut K,
 ) -> Result<(), ToolFault>
-    ensures ends { FoldEnds (S.left input.old) (S.left input.new) (K.written output.old) (K.written output.new) result }
-    ensures read { IsErrOf result ToolFault.ReadFault → Rose (S.faults input.old) (S.faults input.new) }
-    ensures write { IsErrOf result ToolFault.WriteFault → Rose (K.faults output.old) (K.faults output.new) }
+    ensures ends { FoldEnds (S.left input.old) (S.left input.new) (K.written output.old)
+        (K.written output.new) result }
+    ensures read { IsErrOf result ToolFault.ReadFault →
+        Rose (S.faults input.old) (S.faults input.new) }
+    ensures write { IsErrOf result ToolFault.WriteFault →
+        Rose (K.faults output.old) (K.faults output.new) }
 {
     let (store, tip) = match read_log::<S, Brand>(alloc, input, Blank::new(1)) {
         Ok(log) => log,
@@ -88,9 +97,12 @@ fn fold_log<S: Source, K: Sink>(
 
 // All bytes of the input, where they are no more than an image may have.
 fn read_all<S: Source>(alloc: Global, input: &mut S) -> Result<Vec<u8>, ToolFault>
-    ensures all { IfOk result (λ bytes. TookAll (Exactly bytes.items) (S.left input.old) (S.left input.new)) }
-    ensures fault { IfErr result (λ fault. IsLongInput (S.left input.old) (S.left input.new) fault) }
-    ensures read { IsErrOf result ToolFault.ReadFault → Rose (S.faults input.old) (S.faults input.new) }
+    ensures all { IfOk result (λ bytes. TookAll (Exactly bytes.items) (S.left input.old)
+        (S.left input.new)) }
+    ensures fault { IfErr result
+        (λ fault. IsLongInput (S.left input.old) (S.left input.new) fault) }
+    ensures read { IsErrOf result ToolFault.ReadFault →
+        Rose (S.faults input.old) (S.faults input.new) }
     ensures later { S.faults input.old ≤ S.faults input.new }
 {
     let mut bytes = Vec::new(alloc);
@@ -115,24 +127,33 @@ pub fn dump<S: Source, K: Sink>(
     output: &mut K,
 ) -> Result<(), ToolFault>
     // What was taken and what was written at each answer.
-    ensures ends { DumpEnds (S.left input.old) (S.left input.new) (K.written output.old) (K.written output.new) result }
+    ensures ends { DumpEnds (S.left input.old) (S.left input.new) (K.written output.old)
+        (K.written output.new) result }
     // A fault is told only where that object's count rose in this call.
-    ensures read { IsErrOf result ToolFault.ReadFault → Rose (S.faults input.old) (S.faults input.new) }
-    ensures write { IsErrOf result ToolFault.WriteFault → Rose (K.faults output.old) (K.faults output.new) }
+    ensures read { IsErrOf result ToolFault.ReadFault →
+        Rose (S.faults input.old) (S.faults input.new) }
+    ensures write { IsErrOf result ToolFault.WriteFault →
+        Rose (K.faults output.old) (K.faults output.new) }
     // Where no read and no write failed: an image is dumped, a broken one is refused at that batch, and a longer one at
     // its limit.
-    ensures complete { (Rose (S.faults input.old) (S.faults input.new) → ⊥) → (Rose (K.faults output.old) (K.faults output.new) → ⊥) → DumpsWhole (S.left input.old) result }
-    ensures broken { (Rose (S.faults input.old) (S.faults input.new) → ⊥) → (Rose (K.faults output.old) (K.faults output.new) → ⊥) → RefusesBroken (S.left input.old) result }
-    ensures longer { (Rose (S.faults input.old) (S.faults input.new) → ⊥) → (Rose (K.faults output.old) (K.faults output.new) → ⊥) → RefusesLonger (S.left input.old) result }
+    ensures complete { Still (S.faults input.old) (S.faults input.new) →
+        Still (K.faults output.old) (K.faults output.new) → DumpsWhole (S.left input.old) result }
+    ensures broken { Still (S.faults input.old) (S.faults input.new) → Still (K.faults output.old)
+        (K.faults output.new) → RefusesBroken (S.left input.old) result }
+    ensures longer { Still (S.faults input.old) (S.faults input.new) → Still (K.faults output.old)
+        (K.faults output.new) → RefusesLonger (S.left input.old) result }
 {
     dump_image(alloc, input, output)
 }
 
 // The text of the image that all of the input is.
 fn read_text<S: Source>(alloc: Global, input: &mut S) -> Result<Bytes, ToolFault>
-    ensures text { IfOk result (λ text. Dumps (Exactly text) (S.left input.old) (S.left input.new)) }
-    ensures fault { IfErr result (λ fault. IsInputFault (S.left input.old) (S.left input.new) fault) }
-    ensures read { IsErrOf result ToolFault.ReadFault → Rose (S.faults input.old) (S.faults input.new) }
+    ensures text { IfOk result (λ text. Dumps (Exactly text) (S.left input.old)
+        (S.left input.new)) }
+    ensures fault { IfErr result
+        (λ fault. IsInputFault (S.left input.old) (S.left input.new) fault) }
+    ensures read { IsErrOf result ToolFault.ReadFault →
+        Rose (S.faults input.old) (S.faults input.new) }
 {
     let bytes = match read_all(alloc, input) {
         Ok(bytes) => bytes,
@@ -150,9 +171,12 @@ fn dump_image<S: Source, K: Sink>(
     input: &mut S,
     output: &mut K,
 ) -> Result<(), ToolFault>
-    ensures ends { DumpEnds (S.left input.old) (S.left input.new) (K.written output.old) (K.written output.new) result }
-    ensures read { IsErrOf result ToolFault.ReadFault → Rose (S.faults input.old) (S.faults input.new) }
-    ensures write { IsErrOf result ToolFault.WriteFault → Rose (K.faults output.old) (K.faults output.new) }
+    ensures ends { DumpEnds (S.left input.old) (S.left input.new) (K.written output.old)
+        (K.written output.new) result }
+    ensures read { IsErrOf result ToolFault.ReadFault →
+        Rose (S.faults input.old) (S.faults input.new) }
+    ensures write { IsErrOf result ToolFault.WriteFault →
+        Rose (K.faults output.old) (K.faults output.new) }
 {
     let text = match read_text(alloc, input) {
         Ok(text) => text,

@@ -1,13 +1,13 @@
 //! A log's batches, one after the other, and the image that their items make.
 
-ghost use Rattle.std.specs.Prelude.{◌≡◌, ◌+◌, ◌≤◌, ◌<◌, ◌≤ℤ◌, ◌+ℤ◌, pos, length, IfOk, IfErr, IfSome, IsErrOf, IsSome, MatchResult, Option, List, ℕ};
+ghost use Rattle.std.specs.Prelude.{◌≡◌, ◌+◌, ◌≤◌, ◌<◌, ◌≤ℤ◌, ◌+ℤ◌, pos, length, IfOk, IfErr, IfSome, IsErrOf, IsSome, Option};
 ghost use Rattle.std.specs.Ordering.{int_eq};
 ghost use Rattle.kr_defs.specs.declared.limits.TheConstants.{MOST_RECORDS as most_records, PLACES_END as places_end};
 ghost use Rattle.kr_base.specs.Causes.{Rose};
 ghost use Rattle.kr_store.specs.Images.{last_kept};
-ghost use Rattle.kr_fold.specs.Endings.{EndsLog, IsLogFault, ReadsLog};
+ghost use Rattle.kr_fold.specs.Endings.{EndsLog, IsLogFault};
 ghost use Rattle.kr_fold.specs.inner.NextBatches as followed;
-ghost use Rattle.kr_fold.specs.inner.NextBatches.{AreApplied, IsItemApplied, IsFollowed, IsBatchOrNone, IsReadTo, IsWithin, log_at};
+ghost use Rattle.kr_fold.specs.inner.NextBatches.{AreApplied, IsItemApplied, IsFollowed, IsBatchOrNone, IsWithin, ReadsOn};
 ghost use Rattle.kr_fold.specs.SourceBytes.{longest};
 
 use crate::batch::read_batch;
@@ -28,7 +28,8 @@ fn apply_one<S: Store, L: Ledger>(
     steps: &mut Steps<L>,
 ) -> Result<Option<Ill>, NoMemory>
     requires kept { IsSome (last_kept (S.images store.old)) }
-    ensures applied { IfOk result (λ ill. IsItemApplied (S.images store.old).tip (S.images store.new).tip item.now ill) }
+    ensures applied { IfOk result (λ ill. IsItemApplied (S.images store.old).tip
+        (S.images store.new).tip item.now ill) }
     ensures kept { (S.images store.new).kept ≡ (S.images store.old).kept }
 {
     match store.apply(*place, item, steps) {
@@ -48,7 +49,8 @@ fn apply_items<S: Store, L: Ledger>(
     requires kept { IsSome (last_kept (S.images store.old)) }
     requires low { place.now ≤ℤ places_end }
     requires few { length items.now ≤ most_records }
-    ensures applied { IfOk result (λ ill. AreApplied (S.images store.old).tip (S.images store.new).tip items.now ill) }
+    ensures applied { IfOk result (λ ill. AreApplied (S.images store.old).tip
+        (S.images store.new).tip items.now ill) }
     ensures kept { (S.images store.new).kept ≡ (S.images store.old).kept }
 {
     let mut at = *place;
@@ -98,7 +100,8 @@ fn follow<S: Store, L: Ledger>(
     requires kept { IsSome (last_kept (S.images store.old)) }
     requires low { tip.now ≤ℤ places_end }
     requires few { length batch.now.items ≤ most_records }
-    ensures next { IfOk result (λ next. IsFollowed tip.now (S.images store.old).tip (S.images store.new).tip batch.now next) }
+    ensures next { IfOk result (λ next. IsFollowed tip.now (S.images store.old).tip
+        (S.images store.new).tip batch.now next) }
     ensures kept { (S.images store.new).kept ≡ (S.images store.old).kept }
 {
     if !stands_at(&batch.base, tip) {
@@ -149,11 +152,12 @@ fn read_next<S: Source, L: Ledger>(
 ) -> Result<Option<Place>, ToolFault>
     requires kept { IsSome (last_kept store.old) }
     requires within { IsWithin place.now }
-    ensures next { (left : Option (List ℕ)) → ReadsLog left (S.left source.old) (log_at place.now store.old.tip) place.now.at
-        → MatchResult result (λ next. IsReadTo left (S.left source.new) place.now store.new.tip next) (λ fault. IsLogFault left (S.left source.new) fault) }
+    ensures next { ReadsOn (S.left source.old)
+        (S.left source.new) place.now store.old.tip store.new.tip result }
     ensures within { IfOk result (λ next. IfSome next (λ p. IsWithin p × (place.now.at < p.at))) }
     ensures kept { store.new.kept ≡ store.old.kept }
-    ensures read { IsErrOf result ToolFault.ReadFault → Rose (S.faults source.old) (S.faults source.new) }
+    ensures read { IsErrOf result ToolFault.ReadFault →
+        Rose (S.faults source.old) (S.faults source.new) }
     ensures later { S.faults source.old ≤ S.faults source.new }
 {
     let bytes = match read_batch(alloc, source, place.at) {
@@ -182,10 +186,13 @@ pub(crate) fn read_log<S: Source, L: Ledger>(
     requires name { blank.name ≡ L.name }
     requires parts { blank.parts ≡ L.parts }
     requires whole { 0 < L.parts }
-    ensures log { IfOk result (λ x. EndsLog (S.left source.old) (S.left source.new) (record { tip = x.1; image = x.0.tip })) }
+    ensures log { IfOk result (λ x. EndsLog (S.left source.old) (S.left source.new)
+        (record { tip = x.1; image = x.0.tip })) }
     ensures natural { IfOk result (λ x. pos 0 ≤ℤ x.1) }
-    ensures fault { IfErr result (λ fault. IsLogFault (S.left source.old) (S.left source.new) fault) }
-    ensures read { IsErrOf result ToolFault.ReadFault → Rose (S.faults source.old) (S.faults source.new) }
+    ensures fault { IfErr result
+        (λ fault. IsLogFault (S.left source.old) (S.left source.new) fault) }
+    ensures read { IsErrOf result ToolFault.ReadFault →
+        Rose (S.faults source.old) (S.faults source.new) }
     ensures later { S.faults source.old ≤ S.faults source.new }
 {
     let mut steps: Steps<L> = Steps::new(blank);

@@ -1,9 +1,9 @@
 //! Each request that changes the image, decided by its handler.
 
 ghost use Rattle.std.specs.Prelude.{◌≡◌, ◌≤◌, ◌+◌, [], pos, IfOk, OnOk};
-ghost use Rattle.kr_calls.specs.Decide.{work_of};
 ghost use Rattle.kr_calls.specs.Deciding.{weights};
 ghost use Rattle.kr_calls.specs.declared.calls.Reply.TheVariants as replies;
+ghost use Rattle.kr_handlers.specs.Decided.{decided_in};
 ghost use Rattle.kr_rules.specs.Handlers.{IsAtPlace};
 
 use kr_base::{NoMemory, Steps};
@@ -44,10 +44,14 @@ pub fn decide<S: Store, L: Ledger>(
     steps: &mut Steps<L>,
 ) -> Result<Effect, NoMemory>
     requires here { IsAtPlace (S.images store.old) context.now.place }
-    ensures records { IfOk result (λ effect. effect.records ≡ (work_of context.entry.now.options.now context.entry.now.now context.entry.now.sessions.now.heartbeats (S.images store.old).tip context.entry.now.place request.now).0.records) }
-    ensures reply { IfOk result (λ effect. effect.reply ≡ (work_of context.entry.now.options.now context.entry.now.now context.entry.now.sessions.now.heartbeats (S.images store.old).tip context.entry.now.place request.now).1) }
-    ensures image { OnOk result ((S.images store.new).tip ≡ (work_of context.entry.now.options.now context.entry.now.now context.entry.now.sessions.now.heartbeats (S.images store.old).tip context.entry.now.place request.now).0.image) }
-    ensures made { IfOk result (λ effect. (S.images store.new).made ≤ (S.images store.old).made + weights (S.images store.old).tip effect.records) }
+    ensures records { IfOk result (λ effect. effect.records ≡
+        (decided_in context.entry.now (S.images store.old).tip request.now).0.records) }
+    ensures reply { IfOk result (λ effect. effect.reply ≡
+        (decided_in context.entry.now (S.images store.old).tip request.now).1) }
+    ensures image { OnOk result ((S.images store.new).tip ≡
+        (decided_in context.entry.now (S.images store.old).tip request.now).0.image) }
+    ensures made { IfOk result (λ effect. (S.images store.new).made ≤
+        (S.images store.old).made + weights (S.images store.old).tip effect.records) }
     ensures kept { (S.images store.new).kept ≡ (S.images store.old).kept }
     ensures calls { (S.images store.new).kept_made ≡ (S.images store.old).kept_made }
     ensures later { steps.old ≤ steps.new }

@@ -17,7 +17,7 @@ use Rattle.kr_store.specs.Images.{last_image}
 use Rattle.kr_image.specs.declared.kept_counts.KeptCounts.{KeptCounts}
 use Rattle.kr_image.specs.declared.timelines.Timelines.{Timelines}
 use Rattle.kr_image.specs.Timelines.{Keeps, keeps_of, kept_in, image_in, present_image}
-use Rattle.kr_image.specs.KeptImages.{images_in, images_of, HaveEpochs, IsKept, IsStore, Reverts, AreAbove, AreKept}
+use Rattle.kr_image.specs.KeptImages.{images_in, images_of, HaveEpochs, IsKept, IsStore, RevertsAll, AreAbove, AreKept}
 use Rattle.kr_image.proofs.KeptLists.{apart_before, find_last, find_map, map_push, all_weaker, all_push, all_map, all_mapped}
 use Rattle.kr_image.proofs.EpochEnds.{last, last_later, Split, split, filter_all, less_lt}
 use Rattle.kr_image.proofs.Stores.{reverted_store}
@@ -77,7 +77,7 @@ module _ (kept : Keeps) (list : List KeptCounts) (k : KeptCounts) (rising : IsMa
 
 -- ---- back to the last epoch
 
-module _ (t after : Timelines) (list : List KeptCounts) (k : KeptCounts) (is_last : last list ≡ Some k) (is : IsKept (keeps_of t) list) (reverts : Reverts t after k.epoch) (counts : after.counts ≡ k.counts) where
+module _ (t after : Timelines) (list : List KeptCounts) (k : KeptCounts) (is_last : last list ≡ Some k) (is : IsKept (keeps_of t) list) (reverts : RevertsAll t after k.epoch) (counts : after.counts ≡ k.counts) where
   pub back_keeps : keeps_of after ≡ keeps_of t
   back_keeps =
       let brokers : after.brokers.maps.kept ≡ t.brokers.maps.kept = reverts.brokers ∙ maps_left (keeps_of t) list k is.rising is_last t.brokers.maps.kept is.epochs.brokers in

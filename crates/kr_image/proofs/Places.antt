@@ -17,7 +17,7 @@ use Rattle.kr_store.specs.declared.places.At.TheVariants as places
 use Rattle.kr_image.specs.declared.kept_counts.KeptCounts.{KeptCounts}
 use Rattle.kr_image.specs.declared.timelines.Timelines.{Timelines}
 use Rattle.kr_image.specs.Timelines.{Keeps, keeps_of, kept_in, map_in, image_in, IsIndex}
-use Rattle.kr_image.specs.KeptImages.{images_in, images_of, IsRight, IsStore}
+use Rattle.kr_image.specs.KeptImages.{images_in, images_of, IsCountedRight, IsStore}
 use Rattle.kr_image.specs.inner.TimelineMaps.{entries_at}
 use Rattle.kr_defs.proofs.Tests.{some_is}
 use Rattle.kr_image.proofs.KeptLists.{find_map, all_map}
@@ -105,7 +105,7 @@ index_there t list is (places.Epoch epoch) =
     (elim (find (λ (k : KeptCounts). int_eq k.epoch epoch) list) as (λ o. find (λ (k : KeptCounts). int_eq k.epoch epoch) list ≡ o → Indexed (option_map (λ (k : KeptCounts). map_in t.names.maps.kept epoch) o) (option_map (λ (k : KeptCounts). map_in t.topics.maps.kept epoch) o)) [
       | None ↦ λ none. tt
       | Some k ↦ λ found.
-          let right : IsRight (keeps_of t) k = found_has (IsRight (keeps_of t)) (λ (k : KeptCounts). int_eq k.epoch epoch) list k (recursion_from_All (IsRight (keeps_of t)) list is.kept.right) found in
+          let right : IsCountedRight (keeps_of t) k = found_has (IsCountedRight (keeps_of t)) (λ (k : KeptCounts). int_eq k.epoch epoch) list k (recursion_from_All (IsCountedRight (keeps_of t)) list is.kept.right) found in
           let valid : IsValid (image_in (keeps_of t) k.epoch) = found_has (λ (k : KeptCounts). IsValid (image_in (keeps_of t) k.epoch)) (λ (k : KeptCounts). int_eq k.epoch epoch) list k (all_map (λ (k : KeptCounts). (k.epoch, image_in (keeps_of t) k.epoch)) (λ (e : ℤ × Image). IsValid e.1) list (recursion_from_All (λ (e : ℤ × Image). IsValid e.1) (images_in (keeps_of t) list) is.kept.valid)) found in
           let same : k.epoch ≡ epoch = (Decides-int_eq k.epoch epoch).0 (found_passes (λ (k : KeptCounts). int_eq k.epoch epoch) list k found) in
           subst (λ (x : ℤ). IsIndex (map_in t.names.maps.kept x) (map_in t.topics.maps.kept x) × (are_distinct (values_of (map_in t.names.maps.kept x)) ≡ true)) same (right.index, valid.topics.distinct)

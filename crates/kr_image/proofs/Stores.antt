@@ -22,7 +22,7 @@ use Rattle.kr_store.specs.declared.places.Counts.{Counts}
 use Rattle.kr_image.specs.declared.kept_counts.KeptCounts.{KeptCounts}
 use Rattle.kr_image.specs.declared.timelines.Timelines.{Timelines}
 use Rattle.kr_image.specs.Timelines.{Keeps, keeps_of, no_keeps, map_in, image_in, present_image, made_of, IsIndex, Agrees}
-use Rattle.kr_image.specs.KeptImages.{images_in, images_of, made_in, HaveEpochs, IsKept, IsRight, IsStore, Same, Marks, Reverts, Forgets}
+use Rattle.kr_image.specs.KeptImages.{images_in, images_of, made_in, HaveEpochs, IsKept, IsCountedRight, IsStore, Same, MarksAll, RevertsAll, ForgetsAll}
 use Rattle.kr_image.proofs.KeptCalls.{made_epochs, made_left, made_more, made_unmade}
 use Rattle.kr_image.proofs.KeptLists.{find_map, filter_map_is, map_again, map_push, map_same, all_weaker, all_push, all_map, all_mapped, all_passing, in_more, in_last, in_left, in_unmade, epochs_unmade, rising_push}
 
@@ -81,7 +81,7 @@ none_kept : IsKept no_keeps []
 unfolding IsStrictlySortedBy
 none_kept = record {
   epochs = record { brokers = refl; names = refl; topics = refl; partitions = refl; configs = refl; features = refl };
-  right = All-from_recursion (IsRight no_keeps) [] tt;
+  right = All-from_recursion (IsCountedRight no_keeps) [] tt;
   rising = tt;
   valid = All-from_recursion (λ (e : ℤ × Image). IsValid e.1) [] tt;
 }
@@ -95,7 +95,7 @@ new_store t list tip kept agrees none valid = record {
 
 -- ---- one more epoch
 
-module _ (t after : Timelines) (epoch : ℤ) (marks : Marks t after epoch) where
+module _ (t after : Timelines) (epoch : ℤ) (marks : MarksAll t after epoch) where
   image_more : (x : ℤ) → int_lt x epoch ≡ true → image_in (keeps_of after) x ≡ image_in (keeps_of t) x
   image_more x below =
       let brokers : map_in after.brokers.maps.kept x ≡ map_in t.brokers.maps.kept x = ap (λ (ks : List (KeptMap ℤ Broker)). map_in ks x) marks.brokers ∙ in_more t.brokers.maps.kept _ x below in
@@ -137,13 +137,13 @@ module _ (t after : Timelines) (epoch : ℤ) (marks : Marks t after epoch) where
         (images_more t.counts) marks.tip marks.unmade
         (made_more (keeps_of t) kept have (record { epoch = epoch; counts = t.counts }) (record { epoch = epoch; map = t.brokers.maps.present; made = t.brokers.maps.made }) (record { epoch = epoch; map = t.names.maps.present; made = t.names.maps.made }) (record { epoch = epoch; map = t.topics.maps.present; made = t.topics.maps.made }) (record { epoch = epoch; map = t.partitions.maps.present; made = t.partitions.maps.made }) (record { epoch = epoch; map = t.configs.maps.present; made = t.configs.maps.made }) (record { epoch = epoch; map = t.features.maps.present; made = t.features.maps.made }) (keeps_of after) marks.brokers marks.names marks.topics marks.partitions marks.configs marks.features)
 
-    right_more : (k : KeptCounts) → IsRight (keeps_of t) k → int_lt k.epoch epoch ≡ true → IsRight (keeps_of after) k
+    right_more : (k : KeptCounts) → IsCountedRight (keeps_of t) k → int_lt k.epoch epoch ≡ true → IsCountedRight (keeps_of after) k
     right_more k is below = record {
       counts = is.counts ∙ ap counts_of (sym (image_more k.epoch below));
       index = subst (λ (i : Image). IsIndex i.topics (map_in after.topics.maps.kept k.epoch)) (sym (image_more k.epoch below)) (subst (λ (ts : List (ℕ × Topic)). IsIndex (map_in t.names.maps.kept k.epoch) ts) (sym (by_id_more k.epoch below)) is.index);
     }
 
-    right_all : (ks : List KeptCounts) → AllByRecursion (IsRight (keeps_of t)) ks → AllByRecursion (λ (k : KeptCounts). int_lt k.epoch epoch ≡ true) ks → AllByRecursion (IsRight (keeps_of after)) ks
+    right_all : (ks : List KeptCounts) → AllByRecursion (IsCountedRight (keeps_of t)) ks → AllByRecursion (λ (k : KeptCounts). int_lt k.epoch epoch ≡ true) ks → AllByRecursion (IsCountedRight (keeps_of after)) ks
     right_all [] a b = tt
     right_all (k ∷ ks) a b = (right_more k a.0 b.0, right_all ks a.1 b.1)
 
@@ -159,7 +159,7 @@ module _ (t after : Timelines) (epoch : ℤ) (marks : Marks t after epoch) where
               configs = ap (map (λ (k : KeptMap ConfigKey (List ℕ)). k.epoch)) marks.configs ∙ (map_push (λ (k : KeptMap ConfigKey (List ℕ)). k.epoch) t.configs.maps.kept _ ∙ (ap (λ (es : List ℤ). es ++ epoch ∷ []) have.configs ∙ sym (map_push (λ (k : KeptCounts). k.epoch) kept _)));
               features = ap (map (λ (k : KeptMap (List ℕ) ℤ). k.epoch)) marks.features ∙ (map_push (λ (k : KeptMap (List ℕ) ℤ). k.epoch) t.features.maps.kept _ ∙ (ap (λ (es : List ℤ). es ++ epoch ∷ []) have.features ∙ sym (map_push (λ (k : KeptCounts). k.epoch) kept _)));
             };
-            right = All-from_recursion (IsRight (keeps_of after)) (kept ++ record { epoch = epoch; counts = t.counts } ∷ []) (all_push (IsRight (keeps_of after)) kept (record { epoch = epoch; counts = t.counts }) (right_all kept (recursion_from_All (IsRight (keeps_of t)) kept is.kept.right) above) (record {
+            right = All-from_recursion (IsCountedRight (keeps_of after)) (kept ++ record { epoch = epoch; counts = t.counts } ∷ []) (all_push (IsCountedRight (keeps_of after)) kept (record { epoch = epoch; counts = t.counts }) (right_all kept (recursion_from_All (IsCountedRight (keeps_of t)) kept is.kept.right) above) (record {
               counts = is.present.counts ∙ ap counts_of (sym image_last);
               index = subst (λ (i : Image). IsIndex i.topics (map_in after.topics.maps.kept epoch)) (sym image_last) (subst (λ (ts : List (ℕ × Topic)). IsIndex t.names.maps.present ts) (sym by_id_last) is.present.index);
             }));
@@ -200,11 +200,11 @@ module _ (q : ℤ → Bool) (t after : Timelines) (fewer : (x : ℤ) → q x ≡
       (all_weaker (λ (k : KeptCounts). Unit {0} × (q k.epoch ≡ true)) (λ (k : KeptCounts). ◌≡◌ {A = ℤ × Image} (k.epoch, image_in (keeps_of after) k.epoch) (k.epoch, image_in (keeps_of t) k.epoch)) (λ k is. ap (λ (i : Image). (k.epoch, i)) (fewer k.epoch is.1)) left (all_passing (λ (k : KeptCounts). Unit {0}) (λ (k : KeptCounts). q k.epoch) kept (all_unit kept)))
       ∙ sym (filter_map_is (λ (k : KeptCounts). (k.epoch, image_in (keeps_of t) k.epoch)) (λ (e : ℤ × Image). q e.0) kept)
 
-  right_left : All (IsRight (keeps_of t)) kept → All (IsRight (keeps_of after)) left
-  right_left right = All-from_recursion (IsRight (keeps_of after)) left (all_weaker (λ (k : KeptCounts). IsRight (keeps_of t) k × (q k.epoch ≡ true)) (IsRight (keeps_of after)) (λ k is. record {
+  right_left : All (IsCountedRight (keeps_of t)) kept → All (IsCountedRight (keeps_of after)) left
+  right_left right = All-from_recursion (IsCountedRight (keeps_of after)) left (all_weaker (λ (k : KeptCounts). IsCountedRight (keeps_of t) k × (q k.epoch ≡ true)) (IsCountedRight (keeps_of after)) (λ k is. record {
     counts = is.0.counts ∙ ap counts_of (sym (fewer k.epoch is.1));
     index = subst (λ (i : Image). IsIndex i.topics (map_in after.topics.maps.kept k.epoch)) (sym (fewer k.epoch is.1)) (subst (λ (ts : List (ℕ × Topic)). IsIndex (map_in t.names.maps.kept k.epoch) ts) (sym (fewer_by_id k.epoch is.1)) is.0.index);
-  }) left (all_passing (IsRight (keeps_of t)) (λ (k : KeptCounts). q k.epoch) kept (recursion_from_All (IsRight (keeps_of t)) kept right)))
+  }) left (all_passing (IsCountedRight (keeps_of t)) (λ (k : KeptCounts). q k.epoch) kept (recursion_from_All (IsCountedRight (keeps_of t)) kept right)))
 
   pub left_kept : HaveEpochs (keeps_of after) (epochs_of left) → IsKept (keeps_of t) kept → IsKept (keeps_of after) left
   left_kept have is = record {
@@ -253,7 +253,7 @@ kept_image kept list k epoch found =
 pub not_kept : (kept : Keeps) (list : List KeptCounts) (epoch : ℤ) → find (λ (k : KeptCounts). int_eq k.epoch epoch) list ≡ None → find (λ (e : ℤ × Image). int_eq e.0 epoch) (images_in kept list) ≡ None
 not_kept kept list epoch none = find_map (λ (k : KeptCounts). (k.epoch, image_in kept k.epoch)) (λ (e : ℤ × Image). int_eq e.0 epoch) list ∙ ap (option_map (λ (k : KeptCounts). (k.epoch, image_in kept k.epoch))) none
 
-module _ (t after : Timelines) (epoch : ℤ) (reverts : Reverts t after epoch) (kept : List KeptCounts) where
+module _ (t after : Timelines) (epoch : ℤ) (reverts : RevertsAll t after epoch) (kept : List KeptCounts) where
   abbrev up_to : ℤ → Bool
   up_to x = not (int_lt epoch x)
 
@@ -283,8 +283,8 @@ module _ (t after : Timelines) (epoch : ℤ) (reverts : Reverts t after epoch) (
     epoch_is : k.epoch ≡ epoch
     epoch_is = (Decides-int_eq k.epoch epoch).0 (found_passes (λ (k : KeptCounts). int_eq k.epoch epoch) kept k found)
 
-    right_there : IsRight (keeps_of t) k
-    right_there = found_has (IsRight (keeps_of t)) (λ (k : KeptCounts). int_eq k.epoch epoch) kept k (recursion_from_All (IsRight (keeps_of t)) kept is.right) found
+    right_there : IsCountedRight (keeps_of t) k
+    right_there = found_has (IsCountedRight (keeps_of t)) (λ (k : KeptCounts). int_eq k.epoch epoch) kept k (recursion_from_All (IsCountedRight (keeps_of t)) kept is.right) found
 
     valid_there : IsValid (image_in (keeps_of t) epoch)
     valid_there = subst (λ (x : ℤ). IsValid (image_in (keeps_of t) x)) epoch_is (found_has (λ (k : KeptCounts). IsValid (image_in (keeps_of t) k.epoch)) (λ (k : KeptCounts). int_eq k.epoch epoch) kept k (all_map (λ (k : KeptCounts). (k.epoch, image_in (keeps_of t) k.epoch)) (λ (e : ℤ × Image). IsValid e.1) kept (recursion_from_All (λ (e : ℤ × Image). IsValid e.1) (images_in (keeps_of t) kept) is.valid)) found)
@@ -312,7 +312,7 @@ module _ (t after : Timelines) (epoch : ℤ) (reverts : Reverts t after epoch) (
 
 -- ---- the epochs from one on
 
-module _ (t after : Timelines) (epoch : ℤ) (forgets : Forgets t after epoch) (kept : List KeptCounts) where
+module _ (t after : Timelines) (epoch : ℤ) (forgets : ForgetsAll t after epoch) (kept : List KeptCounts) where
   abbrev from : ℤ → Bool
   from x = not (int_lt x epoch)
 

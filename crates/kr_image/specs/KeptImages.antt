@@ -43,14 +43,14 @@ pub record HaveEpochs (kept : Keeps) (epochs : List ℤ) : Type 0 where
   pub features : map (λ (k : KeptMap (List ℕ) ℤ). k.epoch) kept.features ≡ epochs
 
 -- the counts and the topics by id are those of the kept image
-pub record IsRight (kept : Keeps) (k : KeptCounts) : Type 0 where
+pub record IsCountedRight (kept : Keeps) (k : KeptCounts) : Type 0 where
   pub counts : k.counts ≡ counts_of (image_in kept k.epoch)
   pub index : IsIndex (map_in kept.names k.epoch) (map_in kept.topics k.epoch)
 
 -- what is true of the kept epochs of every store
 pub record IsKept (kept : Keeps) (list : List KeptCounts) : Type 0 where
   pub epochs : HaveEpochs kept (map (λ (k : KeptCounts). k.epoch) list)
-  pub right : All (IsRight kept) list
+  pub right : All (IsCountedRight kept) list
   pub rising : IsMap int_cmp (images_in kept list)
   pub valid : All (λ (e : ℤ × Image). IsValid e.1) (images_in kept list)
 
@@ -61,7 +61,7 @@ pub record IsStore (t : Timelines) (list : List KeptCounts) : Type 0 where
   pub valid : IsValid (present_image t)
 
 -- what a mark makes of the timelines
-pub record Marks (t after : Timelines) (epoch : ℤ) : Type 0 where
+pub record MarksAll (t after : Timelines) (epoch : ℤ) : Type 0 where
   pub brokers : after.brokers.maps.kept ≡ t.brokers.maps.kept ++ record { epoch = epoch; map = t.brokers.maps.present; made = t.brokers.maps.made } ∷ []
   pub names : after.names.maps.kept ≡ t.names.maps.kept ++ record { epoch = epoch; map = t.names.maps.present; made = t.names.maps.made } ∷ []
   pub topics : after.topics.maps.kept ≡ t.topics.maps.kept ++ record { epoch = epoch; map = t.topics.maps.present; made = t.topics.maps.made } ∷ []
@@ -74,7 +74,7 @@ pub record Marks (t after : Timelines) (epoch : ℤ) : Type 0 where
   pub unmade : made_of after ≡ 0
 
 -- what a revert makes of them, with the counts of the epoch
-pub record Reverts (t after : Timelines) (epoch : ℤ) : Type 0 where
+pub record RevertsAll (t after : Timelines) (epoch : ℤ) : Type 0 where
   pub brokers : after.brokers.maps.kept ≡ filter (λ (k : KeptMap ℤ Broker). not (int_lt epoch k.epoch)) t.brokers.maps.kept
   pub names : after.names.maps.kept ≡ filter (λ (k : KeptMap (List ℕ) ℕ). not (int_lt epoch k.epoch)) t.names.maps.kept
   pub topics : after.topics.maps.kept ≡ filter (λ (k : KeptMap ℕ Topic). not (int_lt epoch k.epoch)) t.topics.maps.kept
@@ -86,7 +86,7 @@ pub record Reverts (t after : Timelines) (epoch : ℤ) : Type 0 where
   pub unmade : made_of after ≡ 0
 
 -- what is left of them where the epochs below this one are dropped
-pub record Forgets (t after : Timelines) (epoch : ℤ) : Type 0 where
+pub record ForgetsAll (t after : Timelines) (epoch : ℤ) : Type 0 where
   pub brokers : after.brokers.maps.kept ≡ oldest_unmade (filter (λ (k : KeptMap ℤ Broker). not (int_lt k.epoch epoch)) t.brokers.maps.kept)
   pub names : after.names.maps.kept ≡ oldest_unmade (filter (λ (k : KeptMap (List ℕ) ℕ). not (int_lt k.epoch epoch)) t.names.maps.kept)
   pub topics : after.topics.maps.kept ≡ oldest_unmade (filter (λ (k : KeptMap ℕ Topic). not (int_lt k.epoch epoch)) t.topics.maps.kept)

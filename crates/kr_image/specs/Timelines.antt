@@ -1,5 +1,5 @@
 -- What the timelines of a store hold: the present image, and those that are kept.
-use Rattle.std.specs.Prelude.{◌≡◌, ◌+◌, ℕ, ℤ, List, [], find, unwrap_or, Option, filter, sum_by, take, not, int_lt}
+use Rattle.std.specs.Prelude.{◌≡◌, ◌+◌, ℕ, ℤ, List, [], find, unwrap_or, Option, filter, take, not, int_lt}
 use Rattle.std.specs.Option.{option_map}
 use Rattle.std.specs.Ordering.{nat_cmp, int_eq}
 use Rattle.kr_defs.specs.declared.broker.Broker.{Broker}
@@ -8,7 +8,7 @@ use Rattle.kr_defs.specs.declared.record.ConfigKey.{ConfigKey}
 use Rattle.kr_defs.specs.declared.record.Topic.{Topic}
 use Rattle.kr_defs.specs.Apply.{topic_kind}
 use Rattle.kr_defs.specs.Image.{Image, topic_name}
-use Rattle.kr_defs.specs.KeptMaps.{Kept}
+use Rattle.kr_defs.specs.KeptMaps.{Kept, calls_and_epochs, calls_in}
 use Rattle.kr_defs.specs.Map as map
 use Rattle.kr_store.specs.Images.{topic_of, counts_of}
 use Rattle.kr_image.specs.declared.timelines.Timelines.{Timelines}
@@ -73,7 +73,7 @@ made_of t = t.brokers.maps.made + t.names.maps.made + t.topics.maps.made + t.par
 
 -- the entries above an epoch, and the calls of each
 abbrev pub undone_in : {K V : Type 0} → List (Kept K V) → ℤ → ℕ
-undone_in {K} {V} kept epoch = sum_by (λ (k : Kept K V). k.made + 1) (filter (λ (k : Kept K V). int_lt epoch k.epoch) kept)
+undone_in {K} {V} kept epoch = calls_and_epochs (filter (λ (k : Kept K V). int_lt epoch k.epoch) kept)
 
 -- the same in all of them
 abbrev pub undone_of : Keeps → ℤ → ℕ
@@ -81,7 +81,7 @@ undone_of kept epoch = undone_in kept.brokers epoch + undone_in kept.names epoch
 
 -- the entries below an epoch, and the calls of each and of the first one that isn't
 abbrev pub covered_in : {K V : Type 0} → List (Kept K V) → ℤ → ℕ
-covered_in {K} {V} kept epoch = sum_by (λ (k : Kept K V). k.made + 1) (filter (λ (k : Kept K V). int_lt k.epoch epoch) kept) + sum_by (λ (k : Kept K V). k.made) (take 1 (filter (λ (k : Kept K V). not (int_lt k.epoch epoch)) kept))
+covered_in {K} {V} kept epoch = calls_and_epochs (filter (λ (k : Kept K V). int_lt k.epoch epoch) kept) + calls_in (take 1 (filter (λ (k : Kept K V). not (int_lt k.epoch epoch)) kept))
 
 -- the same in all of them
 abbrev pub covered_of : Keeps → ℤ → ℕ

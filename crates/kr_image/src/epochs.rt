@@ -3,7 +3,7 @@
 ghost use Rattle.std.specs.Prelude.{◌≡◌, ◌≤◌, ◌+◌, OnOk};
 ghost use Rattle.kr_defs.specs.Image.{empty};
 ghost use Rattle.kr_image.specs.Timelines.{Agrees, covered_of, keeps_of, made_of, no_keeps, present_image, undone_of};
-ghost use Rattle.kr_image.specs.KeptImages.{AreAbove, AreKept, Forgets, HaveRoom, Marks, Reverts, Same};
+ghost use Rattle.kr_image.specs.KeptImages.{AreAbove, AreKept, ForgetsAll, HaveRoom, MarksAll, RevertsAll, Same};
 
 use crate::keeping::{forget_below, mark, revert};
 use crate::timelines::Timelines;
@@ -57,7 +57,7 @@ impl Timelines {
     pub fn mark(&mut self, epoch: &i64)
         requires room { HaveRoom self.old }
         requires above { AreAbove (keeps_of self.old) epoch.now }
-        ensures { Marks self.old self.new epoch.now }
+        ensures { MarksAll self.old self.new epoch.now }
     {
         mark(&mut self.brokers, epoch);
         mark(&mut self.names, epoch);
@@ -70,7 +70,7 @@ impl Timelines {
     /// Makes the maps of the epoch the present ones, with the counts that were kept with it, and drops the later epochs.
     pub fn revert<L: Ledger>(&mut self, epoch: &i64, counts: Counts, steps: &mut Steps<L>)
         requires { AreKept (keeps_of self.old) epoch.now }
-        ensures back { Reverts self.old self.new epoch.now }
+        ensures back { RevertsAll self.old self.new epoch.now }
         ensures counts { self.new.counts ≡ counts }
         ensures counted { steps.old ≤ steps.new }
         ensures bound { steps.new ≤ steps.old + undone_of (keeps_of self.old) epoch.now + made_of self.old + 6 }
@@ -86,7 +86,7 @@ impl Timelines {
 
     /// Drops the epochs below this one.
     pub fn forget_below<L: Ledger>(&mut self, epoch: &i64, steps: &mut Steps<L>)
-        ensures left { Forgets self.old self.new epoch.now }
+        ensures left { ForgetsAll self.old self.new epoch.now }
         ensures counted { steps.old ≤ steps.new }
         ensures bound { steps.new ≤ steps.old + covered_of (keeps_of self.old) epoch.now + 6 }
     {

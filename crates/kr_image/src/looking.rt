@@ -1,7 +1,7 @@
 //! A map of a timeline is looked at: the present one, or that of a kept epoch.
 
-ghost use Rattle.std.specs.Prelude.{◌≡◌, IsErr, IsOkAnd, MatchOption};
-ghost use Rattle.std.specs.Option.{option_copied, option_map};
+ghost use Rattle.std.specs.Option.{option_copied};
+ghost use Rattle.kr_defs.specs.Lookups.{Finds, FindsEntry};
 ghost use Rattle.kr_defs.specs.Map as map;
 ghost use Rattle.kr_image.specs.inner.TimelineMaps.{entries_at};
 
@@ -15,7 +15,8 @@ pub(crate) fn find_at<'a, K: Ord + Drop, V: Drop>(
     at: At,
     key: &K,
 ) -> Result<Option<&'a V>, NoEpoch>
-    ensures { MatchOption (entries_at timeline.now.maps at) (IsErr result) (λ entries. IsOkAnd result (λ value. option_copied value ≡ map.get K.cmp entries key.now)) }
+    ensures { Finds (entries_at timeline.now.maps at) result
+        (λ entries. map.get K.cmp entries key.now) }
 {
     match at {
         At::Tip => Ok(timeline.get(key)),
@@ -29,7 +30,8 @@ pub(crate) fn next<'a, K: Ord + Drop, V: Drop>(
     at: At,
     after: Option<&K>,
 ) -> Result<Option<(&'a K, &'a V)>, NoEpoch>
-    ensures { MatchOption (entries_at timeline.now.maps at) (IsErr result) (λ entries. IsOkAnd result (λ entry. option_map (λ e. (e.0.now, e.1.now)) entry ≡ map.next K.cmp entries (option_copied after.entry))) }
+    ensures { FindsEntry (entries_at timeline.now.maps at) result
+        (λ entries. map.next K.cmp entries (option_copied after.entry)) }
 {
     match at {
         At::Tip => Ok(timeline.next(after)),

@@ -1,10 +1,10 @@
 //! The store: the timelines, and the epochs with their counts.
 
-ghost use Rattle.std.specs.Prelude.{◌≡◌, ◌↔◌, ◌+◌, ◌*◌, ◌≤◌, None, Some, IsErr, IsOkAnd, IsSome, MatchOption, OnErr, OnOk, length};
+ghost use Rattle.std.specs.Prelude.{◌≡◌, ◌↔◌, ◌+◌, ◌≤◌, None, Some, IsErr, IsOkAnd, IsSome, MatchOption, OnErr, OnOk};
 ghost use Rattle.kr_defs.specs.declared.record.Item.TheVariants as items;
 ghost use Rattle.kr_defs.specs.Weight.{weight};
 ghost use Rattle.kr_store.specs.ItemAnswers.{Applies, Ticks};
-ghost use Rattle.kr_store.specs.Images.{IsAbove, above, below, calls_of, counts_of, forgotten, image_of_place, kept_at, last_image, last_kept, marked, no_images, oldest_from, reverted};
+ghost use Rattle.kr_store.specs.Images.{ForgetsWithin, IsAbove, RevertsWithin, counts_of, forgotten, image_of_place, kept_at, last_image, last_kept, marked, no_images, reverted};
 ghost use Rattle.kr_image.specs.Timelines.{keeps_of, made_of, present_image};
 ghost use Rattle.kr_image.specs.KeptImages.{IsKept, IsStore, images_of};
 
@@ -56,8 +56,10 @@ fn mark(
     requires store { IsStore timelines.old kept.old.items }
     requires above { IsAbove (images_of timelines.old kept.old.items).kept epoch.now }
     ensures store { IsStore timelines.new kept.new.items }
-    ensures ok { OnOk result (images_of timelines.new kept.new.items ≡ marked (images_of timelines.old kept.old.items) epoch.now) }
-    ensures err { OnErr result (images_of timelines.new kept.new.items ≡ images_of timelines.old kept.old.items) }
+    ensures ok { OnOk result (images_of timelines.new kept.new.items ≡
+        marked (images_of timelines.old kept.old.items) epoch.now) }
+    ensures err { OnErr result
+        (images_of timelines.new kept.new.items ≡ images_of timelines.old kept.old.items) }
 {
     timelines.reserve()?;
     let counts = timelines.counts;
@@ -75,11 +77,15 @@ fn revert<L: Ledger>(
 ) -> Result<(), NoEpoch>
     requires { IsKept (keeps_of timelines.old) kept.old.items }
     ensures store { OnOk result (IsStore timelines.new kept.new.items) }
-    ensures ok { OnOk result (reverted (images_of timelines.old kept.old.items) epoch.now ≡ Some (images_of timelines.new kept.new.items)) }
-    ensures err { OnErr result ((timelines.new ≡ timelines.old) × (kept.new.items ≡ kept.old.items)) }
-    ensures no_epoch { IsErr result ↔ (kept_at (images_of timelines.old kept.old.items) epoch.now ≡ None) }
+    ensures ok { OnOk result (reverted (images_of timelines.old kept.old.items) epoch.now ≡
+        Some (images_of timelines.new kept.new.items)) }
+    ensures err { OnErr result
+        ((timelines.new ≡ timelines.old) × (kept.new.items ≡ kept.old.items)) }
+    ensures no_epoch { IsErr result ↔
+        (kept_at (images_of timelines.old kept.old.items) epoch.now ≡ None) }
     ensures counted { steps.old ≤ steps.new }
-    ensures bound { steps.new ≤ steps.old + calls_of (above (images_of timelines.old kept.old.items) epoch.now) + made_of timelines.old + 7 * length (above (images_of timelines.old kept.old.items) epoch.now) + 6 }
+    ensures bound { RevertsWithin
+        (images_of timelines.old kept.old.items) epoch.now steps.old steps.new }
 {
     let Some(counts) = counts_at(kept, epoch) else {
         return Err(NoEpoch);
@@ -98,9 +104,11 @@ fn forget_below<L: Ledger>(
 )
     requires { IsStore timelines.old kept.old.items }
     ensures store { IsStore timelines.new kept.new.items }
-    ensures images { images_of timelines.new kept.new.items ≡ forgotten (images_of timelines.old kept.old.items) epoch.now }
+    ensures images { images_of timelines.new kept.new.items ≡
+        forgotten (images_of timelines.old kept.old.items) epoch.now }
     ensures counted { steps.old ≤ steps.new }
-    ensures bound { steps.new ≤ steps.old + calls_of (below (images_of timelines.old kept.old.items) epoch.now) + calls_of (oldest_from (images_of timelines.old kept.old.items) epoch.now) + 7 * length (below (images_of timelines.old kept.old.items) epoch.now) + 6 }
+    ensures bound { ForgetsWithin
+        (images_of timelines.old kept.old.items) epoch.now steps.old steps.new }
 {
     timelines.forget_below(epoch, steps);
     keep_from(kept, epoch, steps);
@@ -134,7 +142,7 @@ impl ImageStore {
         ensures err { OnErr result (self.new ≡ self.old) }
         ensures no_epoch { IsErr result ↔ (kept_at self.old epoch ≡ None) }
         ensures counted { steps.old ≤ steps.new }
-        ensures bound { steps.new ≤ steps.old + calls_of (above self.old epoch) + self.old.made + 7 * length (above self.old epoch) + 6 }
+        ensures bound { RevertsWithin self.old epoch steps.old steps.new }
     {
         revert(&mut self.timelines, &mut self.kept, &epoch, steps)
     }
@@ -144,7 +152,7 @@ impl ImageStore {
     pub fn forget_below<L: Ledger>(&mut self, epoch: i64, steps: &mut Steps<L>)
         ensures images { self.new ≡ forgotten self.old epoch }
         ensures counted { steps.old ≤ steps.new }
-        ensures bound { steps.new ≤ steps.old + calls_of (below self.old epoch) + calls_of (oldest_from self.old epoch) + 7 * length (below self.old epoch) + 6 }
+        ensures bound { ForgetsWithin self.old epoch steps.old steps.new }
     {
         forget_below(&mut self.timelines, &mut self.kept, &epoch, steps);
     }
@@ -156,7 +164,8 @@ fn go_back<L: Ledger>(timelines: &mut Timelines, kept: &VecDeque<KeptCounts>, st
     requires some { IsSome (last_kept (images_of timelines.old kept.now.items)) }
     ensures store { IsStore timelines.new kept.now.items }
     ensures same { keeps_of timelines.new ≡ keeps_of timelines.old }
-    ensures tip { last_image (images_of timelines.old kept.now.items) ≡ Some (present_image timelines.new) }
+    ensures tip { last_image (images_of timelines.old kept.now.items) ≡
+        Some (present_image timelines.new) }
     ensures made { made_of timelines.new ≡ 0 }
     ensures counted { steps.old ≤ steps.new }
 {
@@ -178,9 +187,11 @@ fn apply_record<L: Ledger>(
     requires store { IsStore timelines.old kept.now.items }
     requires some { IsSome (last_kept (images_of timelines.old kept.now.items)) }
     ensures store { IsStore timelines.new kept.now.items }
-    ensures applied { Applies (images_of timelines.old kept.now.items) (images_of timelines.new kept.now.items) result place (items.Record value.now) }
+    ensures applied { Applies (images_of timelines.old kept.now.items)
+        (images_of timelines.new kept.now.items) result place (items.Record value.now) }
     ensures same { keeps_of timelines.new ≡ keeps_of timelines.old }
-    ensures made { OnOk result (made_of timelines.new ≤ made_of timelines.old + weight (present_image timelines.old) (items.Record value.now)) }
+    ensures made { OnOk result (made_of timelines.new ≤
+        made_of timelines.old + weight (present_image timelines.old) (items.Record value.now)) }
     ensures counted { Ticks steps.old steps.new result }
 {
     apply_keeps_valid();
@@ -207,9 +218,11 @@ fn apply<L: Ledger>(
     requires store { IsStore timelines.old kept.now.items }
     requires some { IsSome (last_kept (images_of timelines.old kept.now.items)) }
     ensures store { IsStore timelines.new kept.now.items }
-    ensures applied { Applies (images_of timelines.old kept.now.items) (images_of timelines.new kept.now.items) result place item.now }
+    ensures applied { Applies (images_of timelines.old kept.now.items)
+        (images_of timelines.new kept.now.items) result place item.now }
     ensures same { keeps_of timelines.new ≡ keeps_of timelines.old }
-    ensures made { OnOk result (made_of timelines.new ≤ made_of timelines.old + weight (present_image timelines.old) item.now) }
+    ensures made { OnOk result (made_of timelines.new ≤
+        made_of timelines.old + weight (present_image timelines.old) item.now) }
     ensures counted { Ticks steps.old steps.new result }
 {
     match item {
@@ -224,7 +237,8 @@ fn apply<L: Ledger>(
 // How much the image at the place has.
 fn counts(timelines: &Timelines, kept: &VecDeque<KeptCounts>, at: &At) -> Result<Counts, NoEpoch>
     requires { IsStore timelines.now kept.now.items }
-    ensures { MatchOption (image_of_place (images_of timelines.now kept.now.items) at.now) (IsErr result) (λ image. IsOkAnd result (λ counts. counts ≡ counts_of image)) }
+    ensures { MatchOption (image_of_place (images_of timelines.now kept.now.items) at.now)
+        (IsErr result) (λ image. IsOkAnd result (λ counts. counts ≡ counts_of image)) }
 {
     match at {
         At::Tip => Ok(timelines.counts),

@@ -1,16 +1,16 @@
 //! Topics, by name and by id: added, and removed with their partitions and settings.
 
-ghost use Rattle.std.specs.Prelude.{◌≡◌, ◌≤◌, ◌+◌, OnOk, ◌==◌, ◌||◌, false, not, filter, count_by, All, IsTrue, Some};
-ghost use Rattle.std.specs.Option.{option_copied, option_map};
+ghost use Rattle.std.specs.Prelude.{◌≡◌, ◌≤◌, ◌+◌, OnOk, ◌==◌, ◌||◌, false, not, filter, All, IsTrue, Some};
+ghost use Rattle.std.specs.Option.{option_copied};
 ghost use Rattle.kr_defs.specs.Apply as apply;
 ghost use Rattle.kr_defs.specs.Image as images;
 ghost use Rattle.kr_defs.specs.Image.{AreConfigs, IsValid, topic_name};
 ghost use Rattle.kr_defs.specs.Map as map;
 ghost use Rattle.kr_defs.specs.Map.{partition_order, text_order};
 ghost use Rattle.kr_defs.specs.Weight.{partitions_removed, settings_removed};
-ghost use Rattle.kr_image.specs.inner.RecordAnswers.{Changes};
+ghost use Rattle.kr_image.specs.inner.RecordAnswers.{Changes, PartsGo, without_parts};
 ghost use Rattle.kr_image.specs.Timelines.{Agrees, keeps_of, made_of, present_image};
-ghost use Rattle.kr_store.specs.Images.{topic_of};
+ghost use Rattle.kr_store.specs.Images.{topic_with};
 
 use crate::entries::{contains, is_full, set, set_counted, unset, unset_counted};
 use crate::partitions::remove_partitions;
@@ -24,7 +24,7 @@ impl Timelines {
     /// The topic with this id.
     pub fn topic_with(&self, id: &u128) -> Option<&Topic>
         requires { Agrees self.now }
-        ensures { option_copied result ≡ option_map (λ name. topic_of name id.now) (topic_name (present_image self.now).topics id.now) }
+        ensures { option_copied result ≡ topic_with (present_image self.now).topics id.now }
     {
         self.topics.get(id)
     }
@@ -42,7 +42,11 @@ impl Timelines {
         requires agrees { Agrees self.old }
         requires name { map.contains text_order (present_image self.old).topics name.now ≡ false }
         requires id { images.has_topic (present_image self.old).topics id.now ≡ false }
-        ensures tip { OnOk result (present_image self.new ≡ record (present_image self.old) { topics = map.insert text_order (present_image self.old).topics name.now id.now }) }
+        ensures tip { OnOk result (present_image self.new ≡
+            record (present_image self.old) {
+              topics = map.insert text_order
+                  (present_image self.old).topics name.now id.now;
+            }) }
         ensures agrees { OnOk result (Agrees self.new) }
         ensures kept { keeps_of self.new ≡ keeps_of self.old }
         ensures made { OnOk result (made_of self.new ≤ made_of self.old + 2) }
@@ -60,7 +64,9 @@ impl Timelines {
     // The name or the id stands already, or the id is zero.
     fn is_taken(&self, name: &Text, id: &u128) -> bool
         requires { Agrees self.now }
-        ensures { result ≡ (map.contains text_order (present_image self.now).topics name.now || images.has_topic (present_image self.now).topics id.now || id.now == 0) }
+        ensures { result ≡ (map.contains text_order
+            (present_image self.now).topics name.now || images.has_topic
+            (present_image self.now).topics id.now || id.now == 0) }
     {
         contains(&self.names, name) || self.has_topic(id) || *id == 0
     }
@@ -69,7 +75,8 @@ impl Timelines {
     pub fn add_topic(&mut self, name: &Text, id: &u128) -> Result<(), ChangeFault>
         requires valid { IsValid (present_image self.old) }
         requires agrees { Agrees self.old }
-        ensures changes { Changes self.old self.new result (apply.add_topic (present_image self.old) name.now id.now) }
+        ensures changes { Changes self.old self.new result
+            (apply.add_topic (present_image self.old) name.now id.now) }
         ensures agrees { OnOk result (Agrees self.new) }
         ensures kept { keeps_of self.new ≡ keeps_of self.old }
         ensures made { OnOk result (made_of self.new ≤ made_of self.old + 2) }
@@ -92,7 +99,11 @@ impl Timelines {
         requires valid { IsValid (present_image self.old) }
         requires agrees { Agrees self.old }
         requires named { topic_name (present_image self.old).topics id.now ≡ Some name.now }
-        ensures tip { OnOk result (present_image self.new ≡ record (present_image self.old) { topics = filter (λ e. not (e.1 == id.now)) (present_image self.old).topics }) }
+        ensures tip { OnOk result (present_image self.new ≡
+            record (present_image self.old) {
+              topics = filter (λ e. not (e.1 == id.now))
+                  (present_image self.old).topics;
+            }) }
         ensures agrees { OnOk result (Agrees self.new) }
         ensures kept { keeps_of self.new ≡ keeps_of self.old }
         ensures made { OnOk result (made_of self.new ≤ made_of self.old + 2) }
@@ -105,13 +116,16 @@ impl Timelines {
     // Takes out what the topic has: its partitions, and its settings.
     fn unset_parts(&mut self, name: &Text, id: &u128) -> Result<(), NoMemory>
         requires ordered { map.IsMap partition_order (present_image self.old).partitions }
-        requires indexes { All (λ e. IsTrue (images.is_index e.0.1)) (present_image self.old).partitions }
+        requires indexes { All (λ e. IsTrue (images.is_index e.0.1))
+            (present_image self.old).partitions }
         requires configs { AreConfigs (present_image self.old).configs }
         requires agrees { Agrees self.old }
-        ensures tip { OnOk result (present_image self.new ≡ record (present_image self.old) { partitions = filter (λ e. not (e.0.0 == id.now)) (present_image self.old).partitions; configs = filter (λ e. not (apply.is_setting_of name.now e.0)) (present_image self.old).configs }) }
+        ensures tip { OnOk result (present_image self.new ≡
+            without_parts (present_image self.old) name.now id.now) }
         ensures agrees { OnOk result (Agrees self.new) }
         ensures kept { keeps_of self.new ≡ keeps_of self.old }
-        ensures made { OnOk result (made_of self.new ≤ made_of self.old + count_by (λ e. e.0.0 == id.now) (present_image self.old).partitions + count_by (λ e. apply.is_setting_of name.now e.0) (present_image self.old).configs) }
+        ensures made { OnOk result (PartsGo (present_image self.old) name.now id.now
+            (made_of self.old) (made_of self.new)) }
     {
         remove_partitions(
             self.alloc,
@@ -132,10 +146,12 @@ impl Timelines {
     pub fn remove_topic(&mut self, id: &u128) -> Result<(), ChangeFault>
         requires valid { IsValid (present_image self.old) }
         requires agrees { Agrees self.old }
-        ensures changes { Changes self.old self.new result (apply.remove_topic (present_image self.old) id.now) }
+        ensures changes { Changes self.old self.new result
+            (apply.remove_topic (present_image self.old) id.now) }
         ensures agrees { OnOk result (Agrees self.new) }
         ensures kept { keeps_of self.new ≡ keeps_of self.old }
-        ensures made { OnOk result (made_of self.new ≤ made_of self.old + (2 + partitions_removed (present_image self.old) id.now + settings_removed (present_image self.old) id.now)) }
+        ensures made { OnOk result (made_of self.new ≤ made_of self.old + (2 + partitions_removed
+            (present_image self.old) id.now + settings_removed (present_image self.old) id.now)) }
     {
         let Some(topic) = self.topic_with(id) else {
             return Err(ChangeFault::IllFormed(Ill::NoTopic));

@@ -1,4 +1,5 @@
 pub mod Costs
+pub mod Decisions
 pub mod Handlers
 pub mod Progress
 pub mod Refusals

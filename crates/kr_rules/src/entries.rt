@@ -1,26 +1,24 @@
 //! A request's entries, each decided on the image after the earlier ones.
 
-ghost use Rattle.std.specs.Prelude.{◌≡◌, ◌≤◌, ◌+◌, ℕ, ℤ, pos, ◌≤ℤ◌, List, [], Ok, Some, Result, IfOk, OnOk, IfSome, IsSome, false};
+ghost use Rattle.std.specs.Prelude.{◌≡◌, ◌≤◌, ◌+◌, ℤ, ◌≤ℤ◌, Ok, Some, Result, IfOk, OnOk, IsSome, false};
 ghost use Rattle.kr_defs.specs.declared.limits.TheConstants.{PLACES_END as places_end};
-ghost use Rattle.kr_defs.specs.Image.{Image};
 ghost use Rattle.kr_calls.specs.Deciding as deciding;
-ghost use Rattle.kr_calls.specs.Deciding.{nothing_decided, unless_validating, weights};
+ghost use Rattle.kr_calls.specs.Deciding.{weights};
 ghost use Rattle.kr_store.specs.Images.{last_kept, last_image};
 ghost use Rattle.kr_rules.specs.Costs.{cost, draft_cost};
-ghost use Rattle.kr_rules.specs.Progress.{work_at, base_of, place_of, Leads};
+ghost use Rattle.kr_rules.specs.Progress.{work_at, place_of, Leads};
 ghost use Rattle.kr_rules.specs.Refusals.{IfError};
+ghost use Rattle.kr_rules.specs.Decisions.{AnswersEach, CostsAtMost, DecidesEach, DecidesOne, DecidesUnless, GoesThrough, CallsStayWithin, begun};
 
 use crate::taking::take;
 use crate::{Refusal, Rule, Work};
 use kr_base::{NoMemory, Steps};
 use kr_calls::Draft;
+use kr_calls::errors::POLICY_VIOLATION;
 use kr_defs::{Records, Rows};
 use kr_store::{Seen, Store};
 use std::alloc::Global;
 use std::sync::ledger::Ledger;
-
-// Kafka's POLICY_VIOLATION: a limit is passed.
-const OVER_A_LIMIT: i16 = 44;
 
 // The answer to an entry that is refused.
 fn answer_to<E, A: Drop, R: Rule<E, A>>(
@@ -29,7 +27,8 @@ fn answer_to<E, A: Drop, R: Rule<E, A>>(
     refusal: &Refusal,
     entry: &E,
 ) -> Result<A, NoMemory>
-    ensures { IfOk result (λ answer. IfError refusal.now (λ error. answer ≡ R.refusal rule.now error entry.now)) }
+    ensures { IfOk result (λ answer. IfError refusal.now
+        (λ error. answer ≡ R.refusal rule.now error entry.now)) }
 {
     match refusal {
         Refusal::Error(error) => rule.refusal(alloc, error, entry),
@@ -48,13 +47,17 @@ pub(crate) fn one<E, A: Drop, R: Rule<E, A>, S: Store, L: Ledger>(
 ) -> Result<A, NoMemory>
     requires some { IsSome (last_kept (S.images store.old)) }
     requires leads { Leads (S.images store.old) work.old.records }
-    ensures done { IfOk result (λ answer. deciding.one (R.refusal rule.now) (R.rule rule.now) (work_at work.old (S.images store.old).tip) entry.now ≡ (work_at work.new (S.images store.new).tip, answer)) }
+    ensures done { IfOk result (λ answer. deciding.one (R.refusal rule.now) (R.rule rule.now)
+        (work_at work.old (S.images store.old).tip) entry.now ≡
+        (work_at work.new (S.images store.new).tip, answer)) }
     ensures leads { OnOk result (Leads (S.images store.new) work.new.records) }
     ensures kept { (S.images store.new).kept ≡ (S.images store.old).kept }
     ensures calls { (S.images store.new).kept_made ≡ (S.images store.old).kept_made }
     ensures start { OnOk result (work.new.start ≡ work.old.start) }
-    ensures made { (so_far : ℕ) → (S.images store.old).made ≤ so_far + weights (base_of (S.images store.old)) work.old.records → OnOk result ((S.images store.new).made ≤ so_far + weights (base_of (S.images store.new)) work.new.records) }
-    ensures own { IfSome (draft_cost (S.images store.old).tip (R.rule rule.now (S.images store.old).tip (place_of work.old) entry.now)) (λ n. OnOk result (steps.new ≤ steps.old + n)) }
+    ensures made { CallsStayWithin result (S.images store.old)
+        (S.images store.new) work.old.records work.new.records }
+    ensures own { CostsAtMost result (draft_cost (S.images store.old).tip (R.rule rule.now
+        (S.images store.old).tip (place_of work.old) entry.now)) steps.old steps.new }
     ensures later { steps.old ≤ steps.new }
 {
     let seen = Seen::tip(store);
@@ -63,7 +66,7 @@ pub(crate) fn one<E, A: Drop, R: Rule<E, A>, S: Store, L: Ledger>(
             if take(alloc, store, work, records, steps)? {
                 Ok(answer)
             } else {
-                rule.refusal(alloc, &OVER_A_LIMIT, entry)
+                rule.refusal(alloc, &POLICY_VIOLATION, entry)
             }
         }
         Err(refusal) => answer_to(alloc, rule, &refusal, entry),
@@ -81,14 +84,18 @@ pub fn over_entries<E, A: Drop, R: Rule<E, A>, S: Store, L: Ledger>(
 ) -> Result<Rows<A>, NoMemory>
     requires some { IsSome (last_kept (S.images store.old)) }
     requires leads { Leads (S.images store.old) work.old.records }
-    ensures answers { IfOk result (λ answers. answers ≡ deciding.answers (R.refusal rule.now) (R.rule rule.now) (work_at work.old (S.images store.old).tip) entries.now) }
-    ensures after { OnOk result (work_at work.new (S.images store.new).tip ≡ deciding.after_all (R.refusal rule.now) (R.rule rule.now) (work_at work.old (S.images store.old).tip) entries.now) }
+    ensures answers { IfOk result (λ answers. answers ≡ deciding.answers (R.refusal rule.now)
+        (R.rule rule.now) (work_at work.old (S.images store.old).tip) entries.now) }
+    ensures after { OnOk result (GoesThrough (R.refusal rule.now)
+        (R.rule rule.now) entries.now work.old work.new (S.images store.old) (S.images store.new)) }
     ensures leads { OnOk result (Leads (S.images store.new) work.new.records) }
     ensures kept { (S.images store.new).kept ≡ (S.images store.old).kept }
     ensures calls { (S.images store.new).kept_made ≡ (S.images store.old).kept_made }
     ensures start { OnOk result (work.new.start ≡ work.old.start) }
-    ensures made { (so_far : ℕ) → (S.images store.old).made ≤ so_far + weights (base_of (S.images store.old)) work.old.records → OnOk result ((S.images store.new).made ≤ so_far + weights (base_of (S.images store.new)) work.new.records) }
-    ensures own { IfSome (cost (R.refusal rule.now) (R.rule rule.now) (work_at work.old (S.images store.old).tip) entries.now) (λ n. OnOk result (steps.new ≤ steps.old + n)) }
+    ensures made { CallsStayWithin result (S.images store.old)
+        (S.images store.new) work.old.records work.new.records }
+    ensures own { CostsAtMost result (cost (R.refusal rule.now) (R.rule rule.now)
+        (work_at work.old (S.images store.old).tip) entries.now) steps.old steps.new }
     ensures later { steps.old ≤ steps.new }
 {
     let mut answers = Rows::new(alloc);
@@ -111,11 +118,14 @@ pub fn decide_one<E, A: Drop, R: Rule<E, A>, S: Store, L: Ledger>(
 ) -> Result<(Records, A), NoMemory>
     requires low { place ≤ℤ places_end }
     requires kept { last_image (S.images store.old) ≡ Some (S.images store.old).tip }
-    ensures decided { IfOk result (λ d. deciding.one (R.refusal rule.now) (R.rule rule.now) (nothing_decided place (S.images store.old).tip) entry.now ≡ (work_at (record { start = place; records = d.0 }) (S.images store.new).tip, d.1)) }
+    ensures decided { IfOk result (λ d. DecidesOne (R.refusal rule.now)
+        (R.rule rule.now) place entry.now (S.images store.old) (S.images store.new) d) }
     ensures kept { (S.images store.new).kept ≡ (S.images store.old).kept }
     ensures calls { (S.images store.new).kept_made ≡ (S.images store.old).kept_made }
-    ensures made { IfOk result (λ d. (S.images store.new).made ≤ (S.images store.old).made + weights (S.images store.old).tip d.0) }
-    ensures own { IfSome (draft_cost (S.images store.old).tip (R.rule rule.now (S.images store.old).tip place entry.now)) (λ n. OnOk result (steps.new ≤ steps.old + n)) }
+    ensures made { IfOk result (λ d. (S.images store.new).made ≤
+        (S.images store.old).made + weights (S.images store.old).tip d.0) }
+    ensures own { CostsAtMost result (draft_cost (S.images store.old).tip
+        (R.rule rule.now (S.images store.old).tip place entry.now)) steps.old steps.new }
     ensures later { steps.old ≤ steps.new }
 {
     let mut work = Work::new(alloc, place);
@@ -135,12 +145,16 @@ pub fn decide_each<E, A: Drop, R: Rule<E, A>, S: Store, L: Ledger>(
 ) -> Result<(Records, Rows<A>), NoMemory>
     requires low { place ≤ℤ places_end }
     requires kept { last_image (S.images store.old) ≡ Some (S.images store.old).tip }
-    ensures answers { IfOk result (λ d. d.1 ≡ deciding.answers (R.refusal rule.now) (R.rule rule.now) (nothing_decided place (S.images store.old).tip) entries.now) }
-    ensures after { IfOk result (λ d. work_at (record { start = place; records = d.0 }) (S.images store.new).tip ≡ deciding.after_all (R.refusal rule.now) (R.rule rule.now) (nothing_decided place (S.images store.old).tip) entries.now) }
+    ensures answers { IfOk result (λ d. AnswersEach (R.refusal rule.now)
+        (R.rule rule.now) place entries.now (S.images store.old) d.1) }
+    ensures after { IfOk result (λ d. DecidesEach (R.refusal rule.now)
+        (R.rule rule.now) place entries.now (S.images store.old) (S.images store.new) d.0) }
     ensures kept { (S.images store.new).kept ≡ (S.images store.old).kept }
     ensures calls { (S.images store.new).kept_made ≡ (S.images store.old).kept_made }
-    ensures made { IfOk result (λ d. (S.images store.new).made ≤ (S.images store.old).made + weights (S.images store.old).tip d.0) }
-    ensures own { IfSome (cost (R.refusal rule.now) (R.rule rule.now) (nothing_decided place (S.images store.old).tip) entries.now) (λ n. OnOk result (steps.new ≤ steps.old + n)) }
+    ensures made { IfOk result (λ d. (S.images store.new).made ≤
+        (S.images store.old).made + weights (S.images store.old).tip d.0) }
+    ensures own { CostsAtMost result (cost (R.refusal rule.now) (R.rule rule.now)
+        (begun place (S.images store.old)) entries.now) steps.old steps.new }
     ensures later { steps.old ≤ steps.new }
 {
     let mut work = Work::new(alloc, place);
@@ -161,12 +175,17 @@ pub fn decide_or_validate<E, A: Drop, R: Rule<E, A>, S: Store, L: Ledger>(
 ) -> Result<(Records, Rows<A>), NoMemory>
     requires low { place ≤ℤ places_end }
     requires kept { last_image (S.images store.old) ≡ Some (S.images store.old).tip }
-    ensures answers { IfOk result (λ d. d.1 ≡ deciding.answers (R.refusal rule.now) (R.rule rule.now) (nothing_decided place (S.images store.old).tip) entries.now) }
-    ensures after { IfOk result (λ d. work_at (record { start = place; records = d.0 }) (S.images store.new).tip ≡ unless_validating validate_only (nothing_decided place (S.images store.old).tip) (deciding.after_all (R.refusal rule.now) (R.rule rule.now) (nothing_decided place (S.images store.old).tip) entries.now)) }
+    ensures answers { IfOk result (λ d. AnswersEach (R.refusal rule.now)
+        (R.rule rule.now) place entries.now (S.images store.old) d.1) }
+    ensures after { IfOk result (λ d. DecidesUnless (R.refusal rule.now)
+        (R.rule rule.now) validate_only place entries.now (S.images store.old)
+        (S.images store.new) d.0) }
     ensures kept { (S.images store.new).kept ≡ (S.images store.old).kept }
     ensures calls { (S.images store.new).kept_made ≡ (S.images store.old).kept_made }
-    ensures made { IfOk result (λ d. (S.images store.new).made ≤ (S.images store.old).made + weights (S.images store.old).tip d.0) }
-    ensures own { validate_only ≡ false → IfSome (cost (R.refusal rule.now) (R.rule rule.now) (nothing_decided place (S.images store.old).tip) entries.now) (λ n. OnOk result (steps.new ≤ steps.old + n)) }
+    ensures made { IfOk result (λ d. (S.images store.new).made ≤
+        (S.images store.old).made + weights (S.images store.old).tip d.0) }
+    ensures own { validate_only ≡ false → CostsAtMost result (cost (R.refusal rule.now)
+        (R.rule rule.now) (begun place (S.images store.old)) entries.now) steps.old steps.new }
     ensures later { steps.old ≤ steps.new }
 {
     let (records, answers) = decide_each(alloc, store, place, rule, entries, steps)?;

@@ -1,12 +1,13 @@
 //! A request's entries in groups, as the partitions of topics.
 
-ghost use Rattle.std.specs.Prelude.{◌≡◌, ◌≤◌, ◌+◌, ℕ, pos, ◌≤ℤ◌, [], Ok, Some, IfOk, OnOk, IfSome, IsSome};
+ghost use Rattle.std.specs.Prelude.{◌≡◌, ◌≤◌, ◌+◌, ◌≤ℤ◌, Ok, Some, IfOk, OnOk, IsSome};
 ghost use Rattle.kr_defs.specs.declared.limits.TheConstants.{PLACES_END as places_end};
 ghost use Rattle.kr_calls.specs.Deciding as deciding;
-ghost use Rattle.kr_calls.specs.Deciding.{nothing_decided, weights};
+ghost use Rattle.kr_calls.specs.Deciding.{weights};
 ghost use Rattle.kr_store.specs.Images.{last_kept, last_image};
 ghost use Rattle.kr_rules.specs.Costs.{cost, group_cost};
-ghost use Rattle.kr_rules.specs.Progress.{work_at, base_of, Leads};
+ghost use Rattle.kr_rules.specs.Progress.{work_at, Leads};
+ghost use Rattle.kr_rules.specs.Decisions.{CostsAtMost, DecidesGroups, GoesThrough, GoesThroughGroups, CallsStayWithin, begun};
 
 use crate::entries::over_entries;
 use crate::{Groups, ItemRule, Refusal, Rule, Work};
@@ -64,14 +65,19 @@ fn over_group<
 ) -> Result<B, NoMemory>
     requires some { IsSome (last_kept (S.images store.old)) }
     requires leads { Leads (S.images store.old) work.old.records }
-    ensures answer { IfOk result (λ answer. answer ≡ R.answer_of group.now (deciding.answers (R.refusal rule.now) (R.rule rule.now) (work_at work.old (S.images store.old).tip) (R.entries_of group.now))) }
-    ensures after { OnOk result (work_at work.new (S.images store.new).tip ≡ deciding.after_all (R.refusal rule.now) (R.rule rule.now) (work_at work.old (S.images store.old).tip) (R.entries_of group.now)) }
+    ensures answer { IfOk result (λ answer. answer ≡
+        R.answer_of group.now (deciding.answers (R.refusal rule.now) (R.rule rule.now)
+        (work_at work.old (S.images store.old).tip) (R.entries_of group.now))) }
+    ensures after { OnOk result (GoesThrough (R.refusal rule.now) (R.rule rule.now)
+        (R.entries_of group.now) work.old work.new (S.images store.old) (S.images store.new)) }
     ensures leads { OnOk result (Leads (S.images store.new) work.new.records) }
     ensures kept { (S.images store.new).kept ≡ (S.images store.old).kept }
     ensures calls { (S.images store.new).kept_made ≡ (S.images store.old).kept_made }
     ensures start { OnOk result (work.new.start ≡ work.old.start) }
-    ensures made { (so_far : ℕ) → (S.images store.old).made ≤ so_far + weights (base_of (S.images store.old)) work.old.records → OnOk result ((S.images store.new).made ≤ so_far + weights (base_of (S.images store.new)) work.new.records) }
-    ensures own { IfSome (cost (R.refusal rule.now) (R.rule rule.now) (work_at work.old (S.images store.old).tip) (R.entries_of group.now)) (λ n. OnOk result (steps.new ≤ steps.old + n)) }
+    ensures made { CallsStayWithin result (S.images store.old)
+        (S.images store.new) work.old.records work.new.records }
+    ensures own { CostsAtMost result (cost (R.refusal rule.now) (R.rule rule.now)
+        (work_at work.old (S.images store.old).tip) (R.entries_of group.now)) steps.old steps.new }
     ensures later { steps.old ≤ steps.new }
 {
     let (key, items) = rule.members(group);
@@ -99,14 +105,21 @@ pub fn over_groups<
 ) -> Result<Rows<B>, NoMemory>
     requires some { IsSome (last_kept (S.images store.old)) }
     requires leads { Leads (S.images store.old) work.old.records }
-    ensures answers { IfOk result (λ answers. answers ≡ deciding.group_answers (R.refusal rule.now) (R.rule rule.now) R.entries_of R.answer_of (work_at work.old (S.images store.old).tip) groups.now) }
-    ensures after { OnOk result (work_at work.new (S.images store.new).tip ≡ deciding.after_groups (R.refusal rule.now) (R.rule rule.now) R.entries_of R.answer_of (work_at work.old (S.images store.old).tip) groups.now) }
+    ensures answers { IfOk result (λ answers. answers ≡
+        deciding.group_answers (R.refusal rule.now) (R.rule rule.now) R.entries_of R.answer_of
+        (work_at work.old (S.images store.old).tip) groups.now) }
+    ensures after { OnOk result (GoesThroughGroups (R.refusal rule.now)
+        (R.rule rule.now) R.entries_of R.answer_of groups.now work.old work.new
+        (S.images store.old) (S.images store.new)) }
     ensures leads { OnOk result (Leads (S.images store.new) work.new.records) }
     ensures kept { (S.images store.new).kept ≡ (S.images store.old).kept }
     ensures calls { (S.images store.new).kept_made ≡ (S.images store.old).kept_made }
     ensures start { OnOk result (work.new.start ≡ work.old.start) }
-    ensures made { (so_far : ℕ) → (S.images store.old).made ≤ so_far + weights (base_of (S.images store.old)) work.old.records → OnOk result ((S.images store.new).made ≤ so_far + weights (base_of (S.images store.new)) work.new.records) }
-    ensures own { IfSome (group_cost (R.refusal rule.now) (R.rule rule.now) R.entries_of (work_at work.old (S.images store.old).tip) groups.now) (λ n. OnOk result (steps.new ≤ steps.old + n)) }
+    ensures made { CallsStayWithin result (S.images store.old)
+        (S.images store.new) work.old.records work.new.records }
+    ensures own { CostsAtMost result
+        (group_cost (R.refusal rule.now) (R.rule rule.now) R.entries_of
+        (work_at work.old (S.images store.old).tip) groups.now) steps.old steps.new }
     ensures later { steps.old ≤ steps.new }
 {
     let mut answers = Rows::new(alloc);
@@ -137,12 +150,18 @@ pub fn decide_groups<
 ) -> Result<(Records, Rows<B>), NoMemory>
     requires low { place ≤ℤ places_end }
     requires kept { last_image (S.images store.old) ≡ Some (S.images store.old).tip }
-    ensures answers { IfOk result (λ d. d.1 ≡ deciding.group_answers (R.refusal rule.now) (R.rule rule.now) R.entries_of R.answer_of (nothing_decided place (S.images store.old).tip) groups.now) }
-    ensures after { IfOk result (λ d. work_at (record { start = place; records = d.0 }) (S.images store.new).tip ≡ deciding.after_groups (R.refusal rule.now) (R.rule rule.now) R.entries_of R.answer_of (nothing_decided place (S.images store.old).tip) groups.now) }
+    ensures answers { IfOk result (λ d. d.1 ≡ deciding.group_answers (R.refusal rule.now)
+        (R.rule rule.now) R.entries_of R.answer_of (begun place (S.images store.old)) groups.now) }
+    ensures after { IfOk result (λ d. DecidesGroups (R.refusal rule.now)
+        (R.rule rule.now) R.entries_of R.answer_of place groups.now (S.images store.old)
+        (S.images store.new) d.0) }
     ensures kept { (S.images store.new).kept ≡ (S.images store.old).kept }
     ensures calls { (S.images store.new).kept_made ≡ (S.images store.old).kept_made }
-    ensures made { IfOk result (λ d. (S.images store.new).made ≤ (S.images store.old).made + weights (S.images store.old).tip d.0) }
-    ensures own { IfSome (group_cost (R.refusal rule.now) (R.rule rule.now) R.entries_of (nothing_decided place (S.images store.old).tip) groups.now) (λ n. OnOk result (steps.new ≤ steps.old + n)) }
+    ensures made { IfOk result (λ d. (S.images store.new).made ≤
+        (S.images store.old).made + weights (S.images store.old).tip d.0) }
+    ensures own { CostsAtMost result
+        (group_cost (R.refusal rule.now) (R.rule rule.now) R.entries_of
+        (begun place (S.images store.old)) groups.now) steps.old steps.new }
     ensures later { steps.old ≤ steps.new }
 {
     let mut work = Work::new(alloc, place);

@@ -1,7 +1,6 @@
 //! The bytes of a record's value, without writing it.
 
-ghost use Rattle.std.specs.Prelude.{pos, negsuc, ◌≡◌, ◌≤◌, ◌<◌, ◌+◌, ◌*◌, ◌∷◌, [], ◌^◌, length, sum_by, option_map, IfSome, IsNone, Some, None, nat_lt, if◌then◌else◌};
-ghost use Rattle.std.specs.Ordering.{int_eq};
+ghost use Rattle.std.specs.Prelude.{pos, negsuc, ◌≡◌, ◌≤◌, ◌<◌, ◌+◌, ◌*◌, ◌∷◌, [], ◌^◌, IfSome, IsNone, Some, None};
 ghost use Rattle.kr_defs.specs.declared.limits.TheConstants.{MOST_REQUEST_BYTES as most};
 ghost use Rattle.kr_defs.specs.Sizes as sizes;
 
@@ -92,8 +91,10 @@ fn endpoints_bytes(endpoints: &[Endpoint]) -> Option<u128>
 
 // The bytes of the levels of all features, where they aren't too many.
 fn ranges_bytes(ranges: &[Range]) -> Option<u128>
-    ensures some { IfSome result (λ n. (n ≡ sizes.rows_bytes (λ r. sizes.text_bytes r.name + 2 + 2 + sizes.no_tags_bytes) ranges.now) × (n ≤ most + 5)) }
-    ensures none { IsNone result → most < sizes.rows_bytes (λ r. sizes.text_bytes r.name + 2 + 2 + sizes.no_tags_bytes) ranges.now }
+    ensures some { IfSome result (λ n. (n ≡ sizes.rows_bytes
+        (λ r. sizes.text_bytes r.name + 2 + 2 + sizes.no_tags_bytes) ranges.now) × (n ≤ most + 5)) }
+    ensures none { IsNone result → most < sizes.rows_bytes
+        (λ r. sizes.text_bytes r.name + 2 + 2 + sizes.no_tags_bytes) ranges.now }
 {
     let mut total = 0;
     for range in ranges {
@@ -182,7 +183,7 @@ fn lists_bytes(state: &Partition) -> u128
 
 #[tactic(auto, using(crate::proofs::Tags::tags))]
 fn partition_tags_bytes(state: &Partition) -> u128
-    ensures value { result ≡ sizes.tags_bytes (sizes.number_field 1 (pos 0) state.now.recovery ∷ sizes.ids_field state.now.eligible ∷ sizes.ids_field state.now.last_known ∷ []) }
+    ensures value { result ≡ sizes.partition_tags_bytes state.now }
     ensures small { result ≤ 2 ^ 69 }
 {
     1 + byte_field(0, state.recovery) + ids_field(&state.eligible) + ids_field(&state.last_known)
@@ -197,7 +198,7 @@ fn partition_bytes(state: &Partition) -> u128
 
 #[tactic(auto, using(crate::proofs::Tags::tags))]
 fn change_tags_bytes(change: &PartitionChange) -> u128
-    ensures value { result ≡ sizes.tags_bytes (sizes.ids_field_or change.now.in_sync ∷ sizes.number_field_or 4 (negsuc 1) change.now.leader ∷ sizes.ids_field_or change.now.replicas ∷ sizes.ids_field_or change.now.removing ∷ sizes.ids_field_or change.now.adding ∷ sizes.number_field_or 1 (negsuc 0) change.now.recovery ∷ sizes.ids_field_or change.now.eligible ∷ sizes.ids_field_or change.now.last_known ∷ []) }
+    ensures value { result ≡ sizes.change_tags_bytes change.now }
     ensures small { result ≤ 2 ^ 71 }
 {
     1 + ids_field_or(&change.in_sync)
@@ -219,7 +220,8 @@ fn change_bytes(change: &PartitionChange) -> u128
 
 #[tactic(auto, using(crate::proofs::Tags::tags))]
 fn flags_bytes(fenced: i8, stopping: i8) -> u128
-    ensures value { result ≡ sizes.tags_bytes (sizes.number_field 1 (pos 0) fenced ∷ sizes.number_field 1 (pos 0) stopping ∷ []) }
+    ensures value { result ≡ sizes.tags_bytes
+        (sizes.number_field 1 (pos 0) fenced ∷ sizes.number_field 1 (pos 0) stopping ∷ []) }
     ensures small { result ≤ 7 }
 {
     1 + byte_field(0, fenced) + byte_field(0, stopping)

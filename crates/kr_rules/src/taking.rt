@@ -1,6 +1,6 @@
 //! Records are added to those of a request, all or none.
 
-ghost use Rattle.std.specs.Prelude.{◌≡◌, ◌≤◌, ◌<◌, ◌+◌, ◌++◌, ℕ, ℤ, false, pos, ◌+ℤ◌, ◌≤ℤ◌, [], length, Ok, IfOk, OnOk, IfSome, IsNone, IsSome, is_some, option_map, sum_by, cond, Some, None, Option, if◌then◌else◌};
+ghost use Rattle.std.specs.Prelude.{◌≡◌, ◌≤◌, ◌<◌, ◌+◌, ◌++◌, ℤ, false, pos, ◌+ℤ◌, ◌≤ℤ◌, [], length, Ok, IfOk, OnOk, IfSome, IsNone, IsSome, is_some, sum_by, Some, None, Option, if◌then◌else◌};
 ghost use Rattle.std.specs.List.{list_all};
 ghost use Rattle.kr_defs.specs.declared.limits.TheConstants.{MOST_REQUEST_RECORDS as most_records, MOST_REQUEST_BYTES as most_bytes, PLACES_END as places_end};
 ghost use Rattle.kr_defs.specs.Sizes.{value_bytes};
@@ -13,6 +13,7 @@ ghost use Rattle.kr_calls.specs.Deciding.{apply_records, is_within_limits, weigh
 ghost use Rattle.kr_store.specs.Images.{last_kept};
 ghost use Rattle.kr_rules.specs.Costs.{is_undone};
 ghost use Rattle.kr_rules.specs.Progress.{work_at, base_of, Leads, IsApplied, Stands, Reaches, TakesRecords, IsCounted};
+ghost use Rattle.kr_rules.specs.Decisions.{CallsStayWithin};
 
 use crate::room::has_room;
 use crate::sizes::value_bytes;
@@ -56,7 +57,8 @@ enum Extent {
 // The bytes with those of the records' values, where they aren't too many.
 fn total_bytes(bytes: usize, records: &[Record]) -> Option<usize>
     requires { bytes ≤ most_bytes }
-    ensures some { IfSome result (λ total. (total ≡ bytes + sum_by value_bytes records.now) × (total ≤ most_bytes)) }
+    ensures some { IfSome result
+        (λ total. (total ≡ bytes + sum_by value_bytes records.now) × (total ≤ most_bytes)) }
     ensures none { IsNone result → most_bytes < bytes + sum_by value_bytes records.now }
 {
     let mut total = bytes;
@@ -79,10 +81,12 @@ fn apply_one<S: Store, L: Ledger>(
     steps: &mut Steps<L>,
 ) -> Result<bool, NoMemory>
     requires kept { IsSome (last_kept (S.images store.old)) }
-    ensures applied { IfOk result (λ applied. IsApplied (S.images store.old) (S.images store.new) value.now applied) }
+    ensures applied { IfOk result (λ applied. IsApplied (S.images store.old)
+        (S.images store.new) value.now applied) }
     ensures kept { (S.images store.new).kept ≡ (S.images store.old).kept }
     ensures calls { (S.images store.new).kept_made ≡ (S.images store.old).kept_made }
-    ensures made { OnOk result ((S.images store.new).made ≤ (S.images store.old).made + weight (S.images store.old).tip (items.Record value.now)) }
+    ensures made { OnOk result ((S.images store.new).made ≤
+        (S.images store.old).made + weight (S.images store.old).tip (items.Record value.now)) }
     ensures counted { OnOk result (steps.new ≡ steps.old + 1) }
     ensures later { steps.old ≤ steps.new }
 {
@@ -103,11 +107,13 @@ fn apply_all<S: Store, L: Ledger>(
     requires kept { IsSome (last_kept (S.images store.old)) }
     requires low { place ≤ℤ (places_end +ℤ pos (most_records + 1)) }
     requires few { length records.now ≤ most_records }
-    ensures stood { IfOk result (λ all. Stands all (apply_records (S.images store.old).tip records.now) (S.images store.new).tip) }
+    ensures stood { IfOk result (λ all. Stands all
+        (apply_records (S.images store.old).tip records.now) (S.images store.new).tip) }
     ensures few { OnOk result (steps.new ≤ steps.old + length records.now) }
     ensures kept { (S.images store.new).kept ≡ (S.images store.old).kept }
     ensures calls { (S.images store.new).kept_made ≡ (S.images store.old).kept_made }
-    ensures made { OnOk result ((S.images store.new).made ≤ (S.images store.old).made + weights (S.images store.old).tip records.now) }
+    ensures made { OnOk result ((S.images store.new).made ≤
+        (S.images store.old).made + weights (S.images store.old).tip records.now) }
     ensures later { steps.old ≤ steps.new }
 {
     let mut at = place;
@@ -130,11 +136,13 @@ fn apply_each<S: Store, L: Ledger>(
     requires kept { IsSome (last_kept (S.images store.old)) }
     requires low { place ≤ℤ (places_end +ℤ pos most_records) }
     requires few { length records.now ≤ most_records }
-    ensures reached { IfOk result (λ extent. Reaches (S.images store.old) (S.images store.new) records.now extent) }
+    ensures reached { IfOk result (λ extent. Reaches (S.images store.old)
+        (S.images store.new) records.now extent) }
     ensures few { OnOk result (steps.new ≤ steps.old + length records.now) }
     ensures kept { (S.images store.new).kept ≡ (S.images store.old).kept }
     ensures calls { (S.images store.new).kept_made ≡ (S.images store.old).kept_made }
-    ensures made { OnOk result ((S.images store.new).made ≤ (S.images store.old).made + weights (S.images store.old).tip records.now) }
+    ensures made { OnOk result ((S.images store.new).made ≤
+        (S.images store.old).made + weights (S.images store.old).tip records.now) }
     ensures later { steps.old ≤ steps.new }
 {
     match records.split_first() {
@@ -160,10 +168,12 @@ fn undo<S: Store, L: Ledger>(
     requires kept { IsSome (last_kept (S.images store.old)) }
     requires low { place ≤ℤ places_end }
     requires few { length records.now ≤ most_records }
-    ensures again { (image : Image) → apply_records (base_of (S.images store.old)) records.now ≡ Ok image → OnOk result ((S.images store.new).tip ≡ image) }
+    ensures again { (image : Image) → apply_records (base_of (S.images store.old)) records.now ≡
+        Ok image → OnOk result ((S.images store.new).tip ≡ image) }
     ensures kept { (S.images store.new).kept ≡ (S.images store.old).kept }
     ensures calls { (S.images store.new).kept_made ≡ (S.images store.old).kept_made }
-    ensures made { OnOk result ((S.images store.new).made ≤ weights (base_of (S.images store.old)) records.now) }
+    ensures made { OnOk result ((S.images store.new).made ≤
+        weights (base_of (S.images store.old)) records.now) }
     ensures later { steps.old ≤ steps.new }
 {
     store.revert_to_last(steps);
@@ -221,7 +231,8 @@ impl Work {
     // The bytes of all values with those of the records, where no limit is passed.
     fn room_for(&self, records: &[Record]) -> Option<usize>
         ensures within { is_some result ≡ is_within_limits self.now.records records.now }
-        ensures counted { IfSome result (λ bytes. IsCounted self.now.start (self.now.records ++ records.now) bytes) }
+        ensures counted { IfSome result
+            (λ bytes. IsCounted self.now.start (self.now.records ++ records.now) bytes) }
     {
         if records.len() > MOST_REQUEST_RECORDS - self.records.len() || !have_few_targets(records) {
             return None;
@@ -231,7 +242,8 @@ impl Work {
 
     fn add(&mut self, records: Records, bytes: usize) -> Result<(), NoMemory>
         requires { IsCounted self.old.start (self.old.records ++ records) bytes }
-        ensures { OnOk result (self.new ≡ record { start = self.old.start; records = self.old.records ++ records }) }
+        ensures { OnOk result (self.new ≡
+            record { start = self.old.start; records = self.old.records ++ records }) }
     {
         self.records.append(&mut records.into_vec())?;
         self.bytes = bytes;
@@ -258,13 +270,16 @@ pub fn take<S: Store, L: Ledger>(
 ) -> Result<bool, NoMemory>
     requires some { IsSome (last_kept (S.images store.old)) }
     requires leads { Leads (S.images store.old) work.old.records }
-    ensures taken { IfOk result (λ took. TakesRecords (work_at work.old (S.images store.old).tip) records took (work_at work.new (S.images store.new).tip)) }
-    ensures own { is_undone (S.images store.old).tip records ≡ false → OnOk result (steps.new ≤ steps.old + length records) }
+    ensures taken { IfOk result (λ took. TakesRecords (work_at work.old
+        (S.images store.old).tip) records took (work_at work.new (S.images store.new).tip)) }
+    ensures own { is_undone (S.images store.old).tip records ≡ false →
+        OnOk result (steps.new ≤ steps.old + length records) }
     ensures leads { OnOk result (Leads (S.images store.new) work.new.records) }
     ensures kept { (S.images store.new).kept ≡ (S.images store.old).kept }
     ensures calls { (S.images store.new).kept_made ≡ (S.images store.old).kept_made }
     ensures start { OnOk result (work.new.start ≡ work.old.start) }
-    ensures made { (so_far : ℕ) → (S.images store.old).made ≤ so_far + weights (base_of (S.images store.old)) work.old.records → OnOk result ((S.images store.new).made ≤ so_far + weights (base_of (S.images store.new)) work.new.records) }
+    ensures made { CallsStayWithin result (S.images store.old)
+        (S.images store.new) work.old.records work.new.records }
     ensures later { steps.old ≤ steps.new }
 {
     let Some(bytes) = work.room_for(records.as_slice()) else {

@@ -3,12 +3,9 @@
 ghost use Rattle.std.specs.Prelude.{◌≡◌, [], ◌∷◌, ◌≤◌, List, OnOk, OnErr, IsErrOf, IsTrue};
 ghost use Rattle.kr_base.specs.Causes.{Rose};
 ghost use Rattle.kr_calls.specs.declared.events.Output.{Output as AnyOutput};
-ghost use Rattle.kr_world.specs.declared.writes.Write.{Write};
-ghost use Rattle.kr_world.specs.Engine.{IsEngine, IsSound, writes_in_order, outputs_left};
-ghost use Rattle.kr_world.specs.Outputs.{outputs_of};
-ghost use Rattle.kr_world.specs.World.{State};
+ghost use Rattle.kr_world.specs.Engine.{IsSound, writes_in_order, outputs_left};
 ghost use Rattle.kr_run.specs.Endings.{WroteAll, WroteSome};
-ghost use Rattle.kr_run.specs.inner.Serving.{Drains, Serves};
+ghost use Rattle.kr_run.specs.inner.Serving.{Drains, Serves, WritesSomeOf};
 
 use kr_base::{Sink, Steps};
 use kr_calls::{Event, Output};
@@ -21,7 +18,8 @@ use std::sync::ledger::Ledger;
 fn write_output<K: Sink>(alloc: Global, output: Output, sink: &mut K) -> Result<(), WriteFault>
     ensures ok { OnOk result (WroteAll (K.written sink.old) (K.written sink.new) (output ∷ [])) }
     ensures err { OnErr result (WroteSome (K.written sink.old) (K.written sink.new) (output ∷ [])) }
-    ensures failed { IsErrOf result WriteFault.Failed → Rose (K.faults sink.old) (K.faults sink.new) }
+    ensures failed { IsErrOf result WriteFault.Failed →
+        Rose (K.faults sink.old) (K.faults sink.new) }
     ensures later { K.faults sink.old ≤ K.faults sink.new }
 {
     write_frame(alloc, &output, sink)
@@ -34,9 +32,12 @@ fn write_outputs<K: Sink>(
     sink: &mut K,
 ) -> Result<(), WriteFault>
     requires { IsTrue (writes_in_order engine.old.held) }
-    ensures ok { OnOk result ((given : List AnyOutput) × Drains engine.old engine.new given × WroteAll (K.written sink.old) (K.written sink.new) given) }
-    ensures err { OnErr result (WroteSome (K.written sink.old) (K.written sink.new) (outputs_left engine.old)) }
-    ensures failed { IsErrOf result WriteFault.Failed → Rose (K.faults sink.old) (K.faults sink.new) }
+    ensures ok { OnOk result ((given : List AnyOutput) × Drains engine.old engine.new given ×
+        WroteAll (K.written sink.old) (K.written sink.new) given) }
+    ensures err { OnErr result
+        (WroteSome (K.written sink.old) (K.written sink.new) (outputs_left engine.old)) }
+    ensures failed { IsErrOf result WriteFault.Failed →
+        Rose (K.faults sink.old) (K.faults sink.new) }
     ensures later { K.faults sink.old ≤ K.faults sink.new }
 {
     while let Some(output) = engine.next_output() {
@@ -58,9 +59,12 @@ pub(crate) fn serve_event<L: Ledger, K: Sink>(
 ) -> Result<(), WriteFault>
     requires sound { IsSound engine.old }
     requires drained { outputs_left engine.old ≡ [] }
-    ensures ok { OnOk result (Serves engine.old engine.new event.now (K.written sink.old) (K.written sink.new)) }
-    ensures err { OnErr result ((state : State) (writes : List Write) → IsEngine engine.old state writes → WroteSome (K.written sink.old) (K.written sink.new) (outputs_of engine.old.options state writes event.now)) }
-    ensures failed { IsErrOf result WriteFault.Failed → Rose (K.faults sink.old) (K.faults sink.new) }
+    ensures ok { OnOk result (Serves engine.old engine.new event.now (K.written sink.old)
+        (K.written sink.new)) }
+    ensures err { OnErr result
+        (WritesSomeOf engine.old event.now (K.written sink.old) (K.written sink.new)) }
+    ensures failed { IsErrOf result WriteFault.Failed →
+        Rose (K.faults sink.old) (K.faults sink.new) }
     ensures later { K.faults sink.old ≤ K.faults sink.new }
 {
     match engine.step(event, steps) {

@@ -1,7 +1,7 @@
 //! One session: frames in, outputs out.
 
-ghost use Rattle.std.specs.Prelude.{◌≡◌, [], ◌<◌, ◌≤◌, ℕ, List, Option, IfOk, IfErr, OnOk, IsErrOf, IsTrue, MatchResult};
-ghost use Rattle.kr_base.specs.Causes.{Rose};
+ghost use Rattle.std.specs.Prelude.{◌≡◌, [], ◌<◌, ◌≤◌, ℕ, List, Option, IfOk, IfErr, OnOk, IsErrOf, IsTrue};
+ghost use Rattle.kr_base.specs.Causes.{Rose, Still};
 ghost use Rattle.kr_defs.specs.declared.limits.TheConstants.{MOST_SESSION_BYTES};
 ghost use Rattle.kr_defs.specs.OpenOptions.{are_options};
 ghost use Rattle.kr_world.specs.Engine as engines;
@@ -9,10 +9,10 @@ ghost use Rattle.kr_world.specs.Engine.{IsEngine, IsSound};
 ghost use Rattle.kr_world.specs.World.{start};
 ghost use Rattle.kr_stream.specs.declared.frame.Frame.TheVariants as frames;
 ghost use Rattle.kr_stream.specs.declared.stage.Stage.TheVariants as stages;
-ghost use Rattle.kr_stream.specs.Frames.{IsOpen, IsEvent};
+ghost use Rattle.kr_stream.specs.Frames.{IsOpen};
 ghost use Rattle.kr_stream.specs.Reader.{Took};
 ghost use Rattle.kr_run.specs.Endings.{BreaksRightly, EndsWith, RefusesBroken, ServesWhole};
-ghost use Rattle.kr_run.specs.inner.Serving.{Going, unread_status, unwritten_status};
+ghost use Rattle.kr_run.specs.inner.Serving.{unread_status, unwritten_status, GoesOnWith, GoesOnFrom, EndsFrom};
 
 use crate::outputs::serve_event;
 use crate::status::Status;
@@ -52,10 +52,13 @@ fn read_options<S: Source>(reader: &mut Reader, input: &mut S) -> Result<Options
     requires place { reader.old.at ≡ 0 }
     requires stage { reader.old.stage ≡ stages.Unopened }
     ensures fits { IfOk result (λ options. IsTrue (are_options options)) }
-    ensures open { IfOk result (λ options. Took (IsOpen options) (S.left input.old) (S.left input.new) 0 reader.new.at) }
+    ensures open { IfOk result (λ options. Took (IsOpen options) (S.left input.old)
+        (S.left input.new) 0 reader.new.at) }
     ensures stage { OnOk result (reader.new.stage ≡ stages.Opened) }
-    ensures stopped { IfErr result (λ status. (written : Option (List ℕ)) → EndsWith (S.left input.old) (S.left input.new) written written status) }
-    ensures read { IsErrOf result Status.ReadFault → Rose (S.faults input.old) (S.faults input.new) }
+    ensures stopped { IfErr result (λ status. (written : Option (List ℕ)) →
+        EndsWith (S.left input.old) (S.left input.new) written written status) }
+    ensures read { IsErrOf result Status.ReadFault →
+        Rose (S.faults input.old) (S.faults input.new) }
     ensures write { IsErrOf result Status.WriteFault → ⊥ }
     ensures usage { IsErrOf result Status.Usage → ⊥ }
     ensures later { S.faults input.old ≤ S.faults input.new }
@@ -78,11 +81,12 @@ fn take_event<L: Ledger, K: Sink>(
 ) -> Result<(), Status>
     requires sound { IsSound engine.old }
     requires drained { engines.outputs_left engine.old ≡ [] }
-    ensures goes { (left mid left' written : Option (List ℕ)) (at end : ℕ) → Going left mid written (K.written output.old) engine.old at → Took (IsEvent event) mid left' at end
-        → MatchResult result (λ _. Going left left' written (K.written output.new) engine.new end) (λ status. EndsWith left left' written (K.written output.new) status) }
+    ensures goes { GoesOnWith event (K.written output.old)
+        (K.written output.new) engine.old engine.new result }
     ensures ready { OnOk result (IsSound engine.new × (engines.outputs_left engine.new ≡ [])) }
     ensures read { IsErrOf result Status.ReadFault → ⊥ }
-    ensures write { IsErrOf result Status.WriteFault → Rose (K.faults output.old) (K.faults output.new) }
+    ensures write { IsErrOf result Status.WriteFault →
+        Rose (K.faults output.old) (K.faults output.new) }
     ensures usage { IsErrOf result Status.Usage → ⊥ }
     ensures later { K.faults output.old ≤ K.faults output.new }
 {
@@ -104,13 +108,16 @@ fn serve_frame<L: Ledger, S: Source, K: Sink>(
     requires stage { reader.old.stage ≡ stages.Opened }
     requires sound { IsSound engine.old }
     requires drained { engines.outputs_left engine.old ≡ [] }
-    ensures goes { (left written : Option (List ℕ)) → Going left (S.left input.old) written (K.written output.old) engine.old reader.old.at
-        → MatchResult result (λ _. Going left (S.left input.new) written (K.written output.new) engine.new reader.new.at) (λ status. EndsWith left (S.left input.new) written (K.written output.new) status) }
+    ensures goes { GoesOnFrom (S.left input.old) (S.left input.new) (K.written output.old)
+        (K.written output.new) engine.old engine.new reader.old.at reader.new.at result }
     ensures ready { OnOk result (IsSound engine.new × (engines.outputs_left engine.new ≡ [])) }
     ensures stage { OnOk result (reader.new.stage ≡ stages.Opened) }
-    ensures further { OnOk result ((reader.old.at < reader.new.at) × (reader.new.at ≤ MOST_SESSION_BYTES)) }
-    ensures read { IsErrOf result Status.ReadFault → Rose (S.faults input.old) (S.faults input.new) }
-    ensures write { IsErrOf result Status.WriteFault → Rose (K.faults output.old) (K.faults output.new) }
+    ensures further { OnOk result ((reader.old.at < reader.new.at) ×
+        (reader.new.at ≤ MOST_SESSION_BYTES)) }
+    ensures read { IsErrOf result Status.ReadFault →
+        Rose (S.faults input.old) (S.faults input.new) }
+    ensures write { IsErrOf result Status.WriteFault →
+        Rose (K.faults output.old) (K.faults output.new) }
     ensures usage { IsErrOf result Status.Usage → ⊥ }
     ensures input_later { S.faults input.old ≤ S.faults input.new }
     ensures output_later { K.faults output.old ≤ K.faults output.new }
@@ -136,7 +143,8 @@ fn serve_frames<L: Ledger, S: Source, K: Sink>(
     requires stage { reader.old.stage ≡ stages.Opened }
     requires sound { IsSound engine.old }
     requires drained { engines.outputs_left engine.old ≡ [] }
-    ensures ends { (left written : Option (List ℕ)) → Going left (S.left input.old) written (K.written output.old) engine.old reader.old.at → EndsWith left (S.left input.new) written (K.written output.new) result }
+    ensures ends { EndsFrom (S.left input.old) (S.left input.new) (K.written output.old)
+        (K.written output.new) engine.old reader.old.at result }
     ensures read { result ≡ Status.ReadFault → Rose (S.faults input.old) (S.faults input.new) }
     ensures write { result ≡ Status.WriteFault → Rose (K.faults output.old) (K.faults output.new) }
     ensures usage { result ≡ Status.Usage → ⊥ }
@@ -159,7 +167,8 @@ fn serve<L: Ledger, S: Source, K: Sink>(
     requires name { blank.name ≡ L.name }
     requires parts { blank.parts ≡ L.parts }
     requires some { 0 < L.parts }
-    ensures ends { EndsWith (S.left input.old) (S.left input.new) (K.written output.old) (K.written output.new) result }
+    ensures ends { EndsWith (S.left input.old) (S.left input.new) (K.written output.old)
+        (K.written output.new) result }
     ensures read { result ≡ Status.ReadFault → Rose (S.faults input.old) (S.faults input.new) }
     ensures write { result ≡ Status.WriteFault → Rose (K.faults output.old) (K.faults output.new) }
     ensures usage { result ≡ Status.Usage → ⊥ }
@@ -181,7 +190,8 @@ fn serve<L: Ledger, S: Source, K: Sink>(
 /// `output`. The status says how it ended, and is never Usage.
 pub fn session<S: Source, K: Sink>(alloc: Global, input: &mut S, output: &mut K) -> Status
     // The bytes that were taken and those that were written, at each status.
-    ensures ends { EndsWith (S.left input.old) (S.left input.new) (K.written output.old) (K.written output.new) result }
+    ensures ends { EndsWith (S.left input.old) (S.left input.new) (K.written output.old)
+        (K.written output.new) result }
     ensures usage { result ≡ Status.Usage → ⊥ }
 
     // A fault is told only where that object's count rose in this call.
@@ -189,8 +199,10 @@ pub fn session<S: Source, K: Sink>(alloc: Global, input: &mut S, output: &mut K)
     ensures write { result ≡ Status.WriteFault → Rose (K.faults output.old) (K.faults output.new) }
 
     // Where no read and no write failed: a whole session is served, and a broken one is refused at that frame.
-    ensures complete { (Rose (S.faults input.old) (S.faults input.new) → ⊥) → (Rose (K.faults output.old) (K.faults output.new) → ⊥) → ServesWhole (S.left input.old) result }
-    ensures broken { (Rose (S.faults input.old) (S.faults input.new) → ⊥) → (Rose (K.faults output.old) (K.faults output.new) → ⊥) → RefusesBroken (S.left input.old) result }
+    ensures complete { Still (S.faults input.old) (S.faults input.new) →
+        Still (K.faults output.old) (K.faults output.new) → ServesWhole (S.left input.old) result }
+    ensures broken { Still (S.faults input.old) (S.faults input.new) → Still (K.faults output.old)
+        (K.faults output.new) → RefusesBroken (S.left input.old) result }
 
     // Where it is refused, no frame stands.
     ensures breaks { BreaksRightly (S.left input.old) result }

@@ -1,11 +1,11 @@
 //! Serving one connection.
 
-ghost use Rattle.std.specs.Prelude.{◌≡◌, ◌<◌, ◌≤◌, ℕ, List, Option, OnOk, IfOk, IfErr, IsErrOf, MatchResult};
-ghost use Rattle.kr_base.specs.Causes.{Rose};
+ghost use Rattle.std.specs.Prelude.{◌≡◌, ◌<◌, ◌≤◌, ℕ, List, Option, OnOk, IfOk, IfErr, IsErrOf};
+ghost use Rattle.kr_base.specs.Causes.{Rose, Still};
 ghost use Rattle.kr_defs.specs.declared.limits.TheConstants.{MOST_SESSION_BYTES};
 ghost use Rattle.kr_view.specs.Seats.{Onward};
-ghost use Rattle.kr_server.specs.Served.{Connection as AnyConnection, connection, Served, ServesMessages, ServesUpToBreak};
-ghost use Rattle.kr_server.specs.inner.Serving.{IsAnsweredBy, IsNotAnswered, ServedSoFar};
+ghost use Rattle.kr_server.specs.Served.{connection, Served, ServesMessages, ServesUpToBreak};
+ghost use Rattle.kr_server.specs.inner.Serving.{ServesOn, AnswersMessage};
 
 use crate::calls::exchange;
 use crate::end::ServeEnd;
@@ -17,7 +17,7 @@ use kr_shared::ClientSeat;
 use std::alloc::Global;
 use std::sync::Wait;
 
-// Answers one message: it is asked of the seat, its exchange is told, and its reply is written by one put.
+// AnswersMessage one message: it is asked of the seat, its exchange is told, and its reply is written by one put.
 fn answer_message<R: Wait, K: Sink, T: Transcript>(
     rt: &R,
     alloc: Global,
@@ -26,11 +26,9 @@ fn answer_message<R: Wait, K: Sink, T: Transcript>(
     sink: &mut K,
     transcript: &mut T,
 ) -> Result<(), ServeEnd>
-    ensures answered { (left left' : Option (List ℕ)) →
-        let before = connection left (K.written sink.old) (T.list transcript.old) seat.old in
-        let after = connection left' (K.written sink.new) (T.list transcript.new) seat.new in
-        MatchResult result (λ _. IsAnsweredBy message.now before after)
-        (λ end. IsNotAnswered message.now before after end) }
+    ensures answered { (left left' : Option (List ℕ)) → AnswersMessage message.now
+        (connection left (K.written sink.old) (T.list transcript.old) seat.old)
+        (connection left' (K.written sink.new) (T.list transcript.new) seat.new) result }
     ensures write { IsErrOf result ServeEnd.WriteFault →
         Rose (K.faults sink.old) (K.faults sink.new) }
     ensures later { K.faults sink.old ≤ K.faults sink.new }
@@ -64,13 +62,10 @@ fn serve_message<R: Wait, S: Source, K: Sink, T: Transcript>(
     at: u64,
 ) -> Result<u64, ServeEnd>
     requires { at ≤ MOST_SESSION_BYTES }
-    ensures goes { (first : AnyConnection) →
-        let before =
-        connection (S.left source.old) (K.written sink.old) (T.list transcript.old) seat.old in
-        let after =
-        connection (S.left source.new) (K.written sink.new) (T.list transcript.new) seat.new in
-        ServedSoFar first before at →
-        MatchResult result (λ next. ServedSoFar first after next) (λ end. Served first after end) }
+    ensures goes { ServesOn
+        (connection (S.left source.old) (K.written sink.old) (T.list transcript.old) seat.old)
+        (connection (S.left source.new) (K.written sink.new) (T.list transcript.new) seat.new)
+        at result }
     ensures further { IfOk result (λ next. (at < next) × (next ≤ MOST_SESSION_BYTES)) }
     ensures read { IsErrOf result ServeEnd.ReadFault →
         Rose (S.faults source.old) (S.faults source.new) }
@@ -99,11 +94,9 @@ fn serve_messages<R: Wait, S: Source, K: Sink, T: Transcript>(
     sink: &mut K,
     transcript: &mut T,
 ) -> ServeEnd
-    ensures served { let before =
-        connection (S.left source.old) (K.written sink.old) (T.list transcript.old) seat.old in
-        let after =
-        connection (S.left source.new) (K.written sink.new) (T.list transcript.new) seat.new in
-        Served before after result }
+    ensures served { Served
+        (connection (S.left source.old) (K.written sink.old) (T.list transcript.old) seat.old)
+        (connection (S.left source.new) (K.written sink.new) (T.list transcript.new) seat.new) result }
     ensures read { result ≡ ServeEnd.ReadFault → Rose (S.faults source.old) (S.faults source.new) }
     ensures write { result ≡ ServeEnd.WriteFault → Rose (K.faults sink.old) (K.faults sink.new) }
 {
@@ -128,11 +121,9 @@ pub fn serve_client<R: Wait, S: Source, K: Sink, T: Transcript>(
     transcript: &mut T,
 ) -> ServeEnd
     // What was taken, written, told and asked of the seat, at each end.
-    ensures served { let before =
-        connection (S.left source.old) (K.written sink.old) (T.list transcript.old) seat.old in
-        let after =
-        connection (S.left source.new) (K.written sink.new) (T.list transcript.new) seat.new in
-        Served before after result }
+    ensures served { Served
+        (connection (S.left source.old) (K.written sink.old) (T.list transcript.old) seat.old)
+        (connection (S.left source.new) (K.written sink.new) (T.list transcript.new) seat.new) result }
     // The seat's list goes on.
     ensures onward { Onward seat.old.seen seat.new.seen }
 
@@ -142,12 +133,12 @@ pub fn serve_client<R: Wait, S: Source, K: Sink, T: Transcript>(
     ensures copy { result ≡ ServeEnd.NoCopy → Rose seat.old.misses seat.new.misses }
 
     // Where no count rose: whole messages are served out, and others up to where they break.
-    ensures complete { (Rose (S.faults source.old) (S.faults source.new) → ⊥) →
-        (Rose (K.faults sink.old) (K.faults sink.new) → ⊥) →
-        (Rose seat.old.misses seat.new.misses → ⊥) → ServesMessages (S.left source.old) result }
-    ensures broken { (Rose (S.faults source.old) (S.faults source.new) → ⊥) →
-        (Rose (K.faults sink.old) (K.faults sink.new) → ⊥) →
-        (Rose seat.old.misses seat.new.misses → ⊥) → ServesUpToBreak (S.left source.old) result }
+    ensures complete { Still (S.faults source.old) (S.faults source.new) →
+        Still (K.faults sink.old) (K.faults sink.new) →
+        Still seat.old.misses seat.new.misses → ServesMessages (S.left source.old) result }
+    ensures broken { Still (S.faults source.old) (S.faults source.new) →
+        Still (K.faults sink.old) (K.faults sink.new) →
+        Still seat.old.misses seat.new.misses → ServesUpToBreak (S.left source.old) result }
 {
     serve_messages(rt, alloc, seat, source, sink, transcript)
 }

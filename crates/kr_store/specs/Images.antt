@@ -1,5 +1,5 @@
 -- An image with kept epochs, and where it is looked at. This project's own.
-use Rattle.std.specs.Prelude.{◌≡◌, ℕ, ℤ, List, length, filter, find, not, int_lt, slice_get, sum_by, take, All, IsTrue, ◌-◌, ◌++◌, [], ◌∷◌, map, Option, Some}
+use Rattle.std.specs.Prelude.{◌≡◌, ◌≤◌, ◌+◌, ◌*◌, ℕ, ℤ, List, length, filter, find, not, int_lt, slice_get, sum_by, take, All, IsTrue, ◌-◌, ◌++◌, [], ◌∷◌, map, Option, Some}
 use Rattle.std.specs.Option.{option_map}
 use Rattle.std.specs.Ordering.{int_cmp, int_eq}
 use Rattle.std.specs.List.Sorted.{IsStrictlySortedBy}
@@ -7,7 +7,9 @@ use Rattle.kr_defs.specs.declared.broker.Broker.{Broker}
 use Rattle.kr_defs.specs.declared.partition.Partition.{Partition}
 use Rattle.kr_defs.specs.declared.record.ConfigKey.{ConfigKey}
 use Rattle.kr_defs.specs.declared.record.Topic.{Topic}
-use Rattle.kr_defs.specs.Image.{Image, IsValid, empty, config_text}
+use Rattle.kr_defs.specs.Image.{Image, IsValid, empty, config_text, topic_name}
+use Rattle.kr_defs.specs.Map as entries
+use Rattle.kr_defs.specs.Map.{text_order}
 use Rattle.kr_store.specs.declared.places.At.{At}
 use Rattle.kr_store.specs.declared.places.At.TheVariants as places
 use Rattle.kr_store.specs.declared.places.Counts.{Counts}
@@ -57,9 +59,21 @@ features_at images place = option_map (λ (i : Image). i.features) (image_of_pla
 abbrev pub topic_of : List ℕ → ℕ → Topic
 topic_of name id = record { name = name; id = id }
 
--- the same under its name
+-- the topic of this name
+abbrev pub topic_under : List (List ℕ × ℕ) → List ℕ → Option Topic
+topic_under topics name = option_map (λ id. topic_of name id) (entries.get text_order topics name)
+
+-- the topic of this id
+abbrev pub topic_with : List (List ℕ × ℕ) → ℕ → Option Topic
+topic_with topics id = option_map (λ name. topic_of name id) (topic_name topics id)
+
+-- a topic under its name
 abbrev pub topic_entry : List ℕ × ℕ → List ℕ × Topic
 topic_entry e = (e.0, topic_of e.0 e.1)
+
+-- the topic with the least name above the given one, or the first of all
+abbrev pub next_topic : List (List ℕ × ℕ) → Option (List ℕ) → Option (List ℕ × Topic)
+next_topic topics after = option_map topic_entry (entries.next text_order topics after)
 
 -- the last kept epoch with its image, if an epoch is kept
 abbrev pub last_kept : Images → Option (ℤ × Image)
@@ -133,3 +147,13 @@ below images epoch = filter (λ (m : ℤ × ℕ). int_lt m.0 epoch) images.kept_
 -- the oldest kept epoch that isn't below this one, if there is one
 abbrev pub oldest_from : Images → ℤ → List (ℤ × ℕ)
 oldest_from images epoch = take 1 (filter (λ (m : ℤ × ℕ). not (int_lt m.0 epoch)) images.kept_made)
+
+-- going back counts at most this: a call that is undone is a step, and an epoch seven
+abbrev pub RevertsWithin : Images → ℤ → ℕ → ℕ → Type 0
+RevertsWithin images epoch before after =
+    after ≤ before + calls_of (above images epoch) + images.made + 7 * length (above images epoch) + 6
+
+-- dropping counts at most this
+abbrev pub ForgetsWithin : Images → ℤ → ℕ → ℕ → Type 0
+ForgetsWithin images epoch before after =
+    after ≤ before + calls_of (below images epoch) + calls_of (oldest_from images epoch) + 7 * length (below images epoch) + 6

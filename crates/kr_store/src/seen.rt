@@ -3,11 +3,12 @@
 ghost use Rattle.std.specs.Prelude.{◌≡◌, ◌∷◌, [], Some, IfSome, IsNone, IsErr, IsOkAnd, MatchOption, negsuc};
 ghost use Rattle.std.specs.Option.{option_copied, option_map};
 ghost use Rattle.std.specs.Ordering.{int_cmp};
-ghost use Rattle.kr_defs.specs.Image.{IsValid, topic_name};
+ghost use Rattle.kr_defs.specs.Image.{IsValid};
+ghost use Rattle.kr_defs.specs.Lookups.{entry_copied};
 ghost use Rattle.kr_defs.specs.Map as entries;
-ghost use Rattle.kr_defs.specs.Map.{above, config_order, partition_order, text_order};
-ghost use Rattle.kr_defs.specs.Walk.{of_topic};
-ghost use Rattle.kr_store.specs.Images.{counts_of, image_of_place, last_image, last_kept, topic_of};
+ghost use Rattle.kr_defs.specs.Map.{config_order, partition_order, text_order};
+ghost use Rattle.kr_defs.specs.Walk.{rest_of_topic};
+ghost use Rattle.kr_store.specs.Images.{counts_of, image_of_place, last_image, last_kept, topic_under, topic_with};
 ghost use Rattle.kr_store.specs.declared.places.At.TheVariants as places;
 
 use crate::{At, Counts, Store};
@@ -56,7 +57,8 @@ impl<'a, S: Store> Seen<'a, S> {
 
     /// The image at the place; NoEpoch exactly where that is an epoch that isn't kept.
     pub fn at(store: &'a S, at: At) -> Result<Seen<'a, S>, NoEpoch>
-        ensures { MatchOption (image_of_place (S.images store.now) at) (IsErr result) (λ image. IsOkAnd result (λ seen. seen ≡ image)) }
+        ensures { MatchOption (image_of_place (S.images store.now) at) (IsErr result)
+            (λ image. IsOkAnd result (λ seen. seen ≡ image)) }
     {
         empty_is_valid();
         store.counts_at(at)?;
@@ -92,7 +94,7 @@ impl<'a, S: Store> Seen<'a, S> {
 
     /// The topic of this name.
     pub fn topic_named(&self, name: &Text) -> Option<&'a Topic>
-        ensures { option_copied result ≡ option_map (λ id. topic_of name.now id) (entries.get text_order self.now.topics name.now) }
+        ensures { option_copied result ≡ topic_under self.now.topics name.now }
     {
         let store = self.store;
         store.topic_named(self.at, name).unwrap()
@@ -100,7 +102,7 @@ impl<'a, S: Store> Seen<'a, S> {
 
     /// The topic of this id.
     pub fn topic(&self, id: &u128) -> Option<&'a Topic>
-        ensures { option_copied result ≡ option_map (λ name. topic_of name id.now) (topic_name self.now.topics id.now) }
+        ensures { option_copied result ≡ topic_with self.now.topics id.now }
     {
         let store = self.store;
         store.topic(self.at, *id).unwrap()
@@ -108,7 +110,8 @@ impl<'a, S: Store> Seen<'a, S> {
 
     /// The partition of a topic with this index.
     pub fn partition(&self, id: &u128, index: &i32) -> Option<&'a Partition>
-        ensures { option_copied result ≡ entries.get partition_order self.now.partitions (id.now, index.now) }
+        ensures { option_copied result ≡
+            entries.get partition_order self.now.partitions (id.now, index.now) }
     {
         let store = self.store;
         store.partition(self.at, *id, *index).unwrap()
@@ -140,7 +143,8 @@ impl<'a, S: Store> Seen<'a, S> {
 
     /// By id.
     pub fn next_broker(&self, after: Option<&i32>) -> Option<(&'a i32, &'a Broker)>
-        ensures { option_map (λ e. (e.0.now, e.1.now)) result ≡ entries.next int_cmp self.now.brokers (option_copied after.entry) }
+        ensures { entry_copied result ≡
+            entries.next int_cmp self.now.brokers (option_copied after.entry) }
     {
         let store = self.store;
         store.next_broker(self.at, after).unwrap()
@@ -148,7 +152,8 @@ impl<'a, S: Store> Seen<'a, S> {
 
     /// By name: a topic's name and its id.
     pub fn next_topic(&self, after: Option<&Text>) -> Option<(&'a Text, &'a u128)>
-        ensures { option_map (λ e. (e.0.now, e.1.now)) result ≡ entries.next text_order self.now.topics (option_copied after.entry) }
+        ensures { entry_copied result ≡
+            entries.next text_order self.now.topics (option_copied after.entry) }
     {
         let store = self.store;
         match store.next_topic(self.at, after).unwrap() {
@@ -162,7 +167,8 @@ impl<'a, S: Store> Seen<'a, S> {
         &self,
         after: Option<&(u128, i32)>,
     ) -> Option<(&'a (u128, i32), &'a Partition)>
-        ensures { option_map (λ e. (e.0.now, e.1.now)) result ≡ entries.next partition_order self.now.partitions (option_copied after.entry) }
+        ensures { entry_copied result ≡
+            entries.next partition_order self.now.partitions (option_copied after.entry) }
     {
         let store = self.store;
         store.next_partition(self.at, after).unwrap()
@@ -170,8 +176,9 @@ impl<'a, S: Store> Seen<'a, S> {
 
     /// The next partition of the same topic, by index.
     pub fn next_of_topic(&self, after: &(u128, i32)) -> Option<(&'a (u128, i32), &'a Partition)>
-        ensures next { IfSome result (λ e. of_topic after.now.0 (above partition_order self.now.partitions (Some after.now)) ≡ (e.0.now, e.1.now) ∷ of_topic e.0.now.0 (above partition_order self.now.partitions (Some e.0.now))) }
-        ensures none { IsNone result → of_topic after.now.0 (above partition_order self.now.partitions (Some after.now)) ≡ [] }
+        ensures next { IfSome result (λ e. rest_of_topic after.now self.now.partitions ≡
+            (e.0.now, e.1.now) ∷ rest_of_topic e.0.now self.now.partitions) }
+        ensures none { IsNone result → rest_of_topic after.now self.now.partitions ≡ [] }
     {
         self.is_valid();
         match self.next_partition(Some(after)) {
@@ -188,7 +195,8 @@ impl<'a, S: Store> Seen<'a, S> {
 
     /// By the resource's type and name, and the key.
     pub fn next_config(&self, after: Option<&ConfigKey>) -> Option<(&'a ConfigKey, &'a Text)>
-        ensures { option_map (λ e. (e.0.now, e.1.now)) result ≡ entries.next config_order self.now.configs (option_copied after.entry) }
+        ensures { entry_copied result ≡
+            entries.next config_order self.now.configs (option_copied after.entry) }
     {
         let store = self.store;
         store.next_config(self.at, after).unwrap()
@@ -196,7 +204,8 @@ impl<'a, S: Store> Seen<'a, S> {
 
     /// By name.
     pub fn next_feature(&self, after: Option<&Text>) -> Option<(&'a Text, &'a i16)>
-        ensures { option_map (λ e. (e.0.now, e.1.now)) result ≡ entries.next text_order self.now.features (option_copied after.entry) }
+        ensures { entry_copied result ≡
+            entries.next text_order self.now.features (option_copied after.entry) }
     {
         let store = self.store;
         store.next_feature(self.at, after).unwrap()

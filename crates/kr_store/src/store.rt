@@ -1,15 +1,15 @@
 //! The store of an image.
 
 ghost use Rattle.std.specs.Prelude.{◌≡◌, ◌≤◌, ◌+◌, IsOkAnd, IsErr, IsSome, Some, MatchOption, OnOk};
-ghost use Rattle.std.specs.Option.{option_copied, option_map};
+ghost use Rattle.std.specs.Option.{option_copied};
 ghost use Rattle.std.specs.Ordering.{int_cmp};
 ghost use Rattle.kr_defs.specs.declared.record.Item.TheVariants as items;
-ghost use Rattle.kr_defs.specs.Image.{topic_name};
+ghost use Rattle.kr_defs.specs.Lookups.{Finds, FindsEntry};
 ghost use Rattle.kr_defs.specs.Map as entries;
 ghost use Rattle.kr_defs.specs.Map.{text_order, partition_order, config_order};
 ghost use Rattle.kr_defs.specs.Weight.{weight};
 ghost use Rattle.kr_store.specs.ItemAnswers.{Applies, Ticks};
-ghost use Rattle.kr_store.specs.Images.{Images, AreValid, image_of_place, brokers_at, topics_at, partitions_at, configs_at, features_at, topic_of, topic_entry, last_kept, last_image, counts_of};
+ghost use Rattle.kr_store.specs.Images.{Images, AreValid, image_of_place, brokers_at, topics_at, partitions_at, configs_at, features_at, topic_under, topic_with, next_topic, last_kept, last_image, counts_of};
 
 use crate::{ApplyFault, At, Counts};
 use kr_base::{NoEpoch, Steps};
@@ -24,46 +24,56 @@ pub trait Store {
     ghost images: { Self → Images };
 
     fn broker(&self, at: At, id: i32) -> Result<Option<&Broker>, NoEpoch>
-        ensures { MatchOption (brokers_at (images self.now) at) (IsErr result) (λ map. IsOkAnd result (λ value. option_copied value ≡ entries.get int_cmp map id)) };
+        ensures { Finds (brokers_at (images self.now) at) result
+            (λ map. entries.get int_cmp map id) };
 
     fn topic_named(&self, at: At, name: &Text) -> Result<Option<&Topic>, NoEpoch>
-        ensures { MatchOption (topics_at (images self.now) at) (IsErr result) (λ map. IsOkAnd result (λ value. option_copied value ≡ option_map (λ id. topic_of name.now id) (entries.get text_order map name.now))) };
+        ensures { Finds (topics_at (images self.now) at) result
+            (λ topics. topic_under topics name.now) };
 
     fn topic(&self, at: At, id: u128) -> Result<Option<&Topic>, NoEpoch>
-        ensures { MatchOption (topics_at (images self.now) at) (IsErr result) (λ map. IsOkAnd result (λ value. option_copied value ≡ option_map (λ name. topic_of name id) (topic_name map id))) };
+        ensures { Finds (topics_at (images self.now) at) result (λ topics. topic_with topics id) };
 
     fn partition(&self, at: At, id: u128, index: i32) -> Result<Option<&Partition>, NoEpoch>
-        ensures { MatchOption (partitions_at (images self.now) at) (IsErr result) (λ map. IsOkAnd result (λ value. option_copied value ≡ entries.get partition_order map (id, index))) };
+        ensures { Finds (partitions_at (images self.now) at) result
+            (λ map. entries.get partition_order map (id, index)) };
 
     fn config(&self, at: At, key: &ConfigKey) -> Result<Option<&Text>, NoEpoch>
-        ensures { MatchOption (configs_at (images self.now) at) (IsErr result) (λ map. IsOkAnd result (λ value. option_copied value ≡ entries.get config_order map key.now)) };
+        ensures { Finds (configs_at (images self.now) at) result
+            (λ map. entries.get config_order map key.now) };
 
     fn feature(&self, at: At, name: &Text) -> Result<Option<&i16>, NoEpoch>
-        ensures { MatchOption (features_at (images self.now) at) (IsErr result) (λ map. IsOkAnd result (λ value. option_copied value ≡ entries.get text_order map name.now)) };
+        ensures { Finds (features_at (images self.now) at) result
+            (λ map. entries.get text_order map name.now) };
 
     fn next_broker(&self, at: At, after: Option<&i32>) -> Result<Option<(&i32, &Broker)>, NoEpoch>
-        ensures { MatchOption (brokers_at (images self.now) at) (IsErr result) (λ map. IsOkAnd result (λ entry. option_map (λ e. (e.0.now, e.1.now)) entry ≡ entries.next int_cmp map (option_copied after.entry))) };
+        ensures { FindsEntry (brokers_at (images self.now) at) result
+            (λ map. entries.next int_cmp map (option_copied after.entry)) };
 
     /// By name.
     fn next_topic(&self, at: At, after: Option<&Text>) -> Result<Option<(&Text, &Topic)>, NoEpoch>
-        ensures { MatchOption (topics_at (images self.now) at) (IsErr result) (λ map. IsOkAnd result (λ entry. option_map (λ e. (e.0.now, e.1.now)) entry ≡ option_map topic_entry (entries.next text_order map (option_copied after.entry)))) };
+        ensures { FindsEntry (topics_at (images self.now) at) result
+            (λ topics. next_topic topics (option_copied after.entry)) };
 
     fn next_partition(
         &self,
         at: At,
         after: Option<&(u128, i32)>,
     ) -> Result<Option<(&(u128, i32), &Partition)>, NoEpoch>
-        ensures { MatchOption (partitions_at (images self.now) at) (IsErr result) (λ map. IsOkAnd result (λ entry. option_map (λ e. (e.0.now, e.1.now)) entry ≡ entries.next partition_order map (option_copied after.entry))) };
+        ensures { FindsEntry (partitions_at (images self.now) at) result
+            (λ map. entries.next partition_order map (option_copied after.entry)) };
 
     fn next_config(
         &self,
         at: At,
         after: Option<&ConfigKey>,
     ) -> Result<Option<(&ConfigKey, &Text)>, NoEpoch>
-        ensures { MatchOption (configs_at (images self.now) at) (IsErr result) (λ map. IsOkAnd result (λ entry. option_map (λ e. (e.0.now, e.1.now)) entry ≡ entries.next config_order map (option_copied after.entry))) };
+        ensures { FindsEntry (configs_at (images self.now) at) result
+            (λ map. entries.next config_order map (option_copied after.entry)) };
 
     fn next_feature(&self, at: At, after: Option<&Text>) -> Result<Option<(&Text, &i16)>, NoEpoch>
-        ensures { MatchOption (features_at (images self.now) at) (IsErr result) (λ map. IsOkAnd result (λ entry. option_map (λ e. (e.0.now, e.1.now)) entry ≡ entries.next text_order map (option_copied after.entry))) };
+        ensures { FindsEntry (features_at (images self.now) at) result
+            (λ map. entries.next text_order map (option_copied after.entry)) };
 
     /// How much the present image has. Every image of the store is valid.
     fn counts(&self) -> Counts
@@ -72,7 +82,8 @@ pub trait Store {
 
     /// How much the image at the place has. Every image of the store is valid.
     fn counts_at(&self, at: At) -> Result<Counts, NoEpoch>
-        ensures counts { MatchOption (image_of_place (images self.now) at) (IsErr result) (λ image. IsOkAnd result (λ counts. counts ≡ counts_of image)) }
+        ensures counts { MatchOption (image_of_place (images self.now) at) (IsErr result)
+            (λ image. IsOkAnd result (λ counts. counts ≡ counts_of image)) }
         ensures valid { AreValid (images self.now) };
 
     /// Makes the present image what the item, which stands at the place, makes of it. An item without meaning changes
@@ -88,7 +99,8 @@ pub trait Store {
         ensures applied { Applies (images self.old) (images self.new) result place item.now }
         ensures kept { (images self.new).kept ≡ (images self.old).kept }
         ensures calls { (images self.new).kept_made ≡ (images self.old).kept_made }
-        ensures made { OnOk result ((images self.new).made ≤ (images self.old).made + weight (images self.old).tip item.now) }
+        ensures made { OnOk result ((images self.new).made ≤
+            (images self.old).made + weight (images self.old).tip item.now) }
         ensures valid { AreValid (images self.new) }
         ensures counted { Ticks steps.old steps.new result };
 
@@ -100,10 +112,12 @@ pub trait Store {
         steps: &mut Steps<L>,
     ) -> Result<(), ApplyFault>
         requires { IsSome (last_kept (images self.old)) }
-        ensures applied { Applies (images self.old) (images self.new) result place (items.Record value.now) }
+        ensures applied { Applies (images self.old) (images self.new) result place
+            (items.Record value.now) }
         ensures kept { (images self.new).kept ≡ (images self.old).kept }
         ensures calls { (images self.new).kept_made ≡ (images self.old).kept_made }
-        ensures made { OnOk result ((images self.new).made ≤ (images self.old).made + weight (images self.old).tip (items.Record value.now)) }
+        ensures made { OnOk result ((images self.new).made ≤
+            (images self.old).made + weight (images self.old).tip (items.Record value.now)) }
         ensures valid { AreValid (images self.new) }
         ensures counted { Ticks steps.old steps.new result };
 

@@ -6,7 +6,7 @@ ghost use Rattle.kr_defs.specs.OpenOptions as opening;
 ghost use Rattle.kr_defs.specs.Partition.{is_natural};
 ghost use Rattle.kr_defs.specs.declared.options.Options.{Options as AnyOptions};
 ghost use Rattle.kr_stream.specs.Frames.{IsOptions};
-ghost use Rattle.kr_stream.specs.inner.Bodies.{options_at};
+ghost use Rattle.kr_stream.specs.inner.Bodies.{options_at, options_with};
 
 use crate::bodies::BodyFault;
 use kr_defs::limits::{LONGEST_CLUSTER, MOST_DEFAULT_PARTITIONS, MOST_TARGETS};
@@ -30,7 +30,7 @@ struct Opening {
 fn read_opening(body: &[u8]) -> Result<Opening, WireFault>
     ensures bound { IfOk result (λ o. o.cluster ≤ length body.now) }
     ensures read { MatchResult result
-        (λ o. options_at body.now ≡ Ok (record { node = o.node; salt = o.salt; session_ms = o.session_ms; partitions = o.partitions; factor = o.factor; minimum = o.minimum; cluster = drop o.cluster body.now }, []))
+        (λ o. options_at body.now ≡ Ok (options_with o (drop o.cluster body.now), []))
         (λ e. options_at body.now ≡ Err e) }
 {
     let (node, at) = read_i32(body, 0)?;
@@ -53,7 +53,8 @@ fn read_opening(body: &[u8]) -> Result<Opening, WireFault>
 /// The settings of an Open frame's body.
 pub(crate) fn options(alloc: Global, body: &[u8]) -> Result<Options, BodyFault>
     ensures found { IfOk result (λ options. IsOptions options body.now) }
-    ensures misfit { IsErrOf result BodyFault.Misfit → (options : AnyOptions) → IsOptions options body.now → ⊥ }
+    ensures misfit { IsErrOf result BodyFault.Misfit → (options : AnyOptions) →
+        IsOptions options body.now → ⊥ }
 {
     match read_opening(body) {
         Err(_) => Err(BodyFault::Misfit),
@@ -67,8 +68,9 @@ pub(crate) fn options(alloc: Global, body: &[u8]) -> Result<Options, BodyFault>
 // The settings with the cluster id of these bytes.
 fn options_with(alloc: Global, o: Opening, cluster: &[u8]) -> Result<Options, BodyFault>
     ensures found { IfOk result (λ options. IsTrue (opening.are_options options) × IsUtf8 cluster.now
-        × (options ≡ record { node = o.node; salt = o.salt; session_ms = o.session_ms; partitions = o.partitions; factor = o.factor; minimum = o.minimum; cluster = cluster.now })) }
-    ensures misfit { IsErrOf result BodyFault.Misfit → IsTrue (opening.are_options (record { node = o.node; salt = o.salt; session_ms = o.session_ms; partitions = o.partitions; factor = o.factor; minimum = o.minimum; cluster = cluster.now })) → IsUtf8 cluster.now → ⊥ }
+        × (options ≡ options_with o cluster.now)) }
+    ensures misfit { IsErrOf result BodyFault.Misfit →
+        IsTrue (opening.are_options (options_with o cluster.now)) → IsUtf8 cluster.now → ⊥ }
 {
     if !is_text(cluster) {
         return Err(BodyFault::Misfit);
@@ -104,7 +106,8 @@ fn are_options(o: &Options) -> bool
 }
 
 fn has_partitions(partitions: &i32) -> bool
-    ensures { result ≡ (int_le (pos 1) partitions.now && int_le partitions.now MOST_DEFAULT_PARTITIONS) }
+    ensures { result ≡ (int_le
+        (pos 1) partitions.now && int_le partitions.now MOST_DEFAULT_PARTITIONS) }
 {
     1 <= *partitions && *partitions <= MOST_DEFAULT_PARTITIONS
 }

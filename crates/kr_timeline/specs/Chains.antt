@@ -128,9 +128,13 @@ module _ {K V : Type 0} where
     pub found : lookup test chains ≡ Some chain
     pub first : is_written number chain ≡ true
 
+  -- of the chain that stands under the key this is made
+  abbrev pub Rewrites : (K → K → Ordering) → K → (List (ℕ × Option V) → List (ℕ × Option V)) → List (K × List (ℕ × Option V)) → List (K × List (ℕ × Option V)) → Type 0
+  Rewrites order key rewritten before after = (chain : List (ℕ × Option V)) → entries.get order before key ≡ Some chain → after ≡ set_value (is_at (order key)) before (rewritten chain)
+
   -- the key has the value from the number on
   pub record Writes (order : K → K → Ordering) (number : ℕ) (key : K) (value : Option V) (before after : List (K × List (ℕ × Option V))) : Type 0 where
-    pub over : (chain : List (ℕ × Option V)) → entries.get order before key ≡ Some chain → after ≡ set_value (is_at (order key)) before (written number value chain)
+    pub over : Rewrites order key (written number value) before after
     pub new : entries.get order before key ≡ None → after ≡ insert_entry order before key ((number, value) ∷ [])
 
   -- the key with what is left of its chain, where that isn't empty

@@ -2,11 +2,12 @@
 
 ghost use Rattle.std.specs.Prelude.{◌≡◌, ℕ, [], ◌∷◌, List, Option, Some, None, OnOk, OnErr, IsTrue, IsSome, true, false, slice_get};
 ghost use Rattle.std.specs.Bool.{OnTrue};
-ghost use Rattle.std.specs.Option.{option_copied, option_map};
-ghost use Rattle.std.specs.Map.{set_value, remove_entry};
+ghost use Rattle.std.specs.Option.{option_copied};
+ghost use Rattle.std.specs.Map.{remove_entry};
 ghost use Rattle.std.specs.BTreeMap.{is_at, insert_entry};
+ghost use Rattle.kr_defs.specs.Lookups.{entry_copied};
 ghost use Rattle.kr_defs.specs.Map as entries;
-ghost use Rattle.kr_timeline.specs.Chains.{map_of, written, AreFalling, HasVersion, Writes, is_left, left_of, trimmed};
+ghost use Rattle.kr_timeline.specs.Chains.{map_of, written, AreFalling, HasVersion, Rewrites, Writes, is_left, left_of, trimmed};
 
 use crate::chain::{Chain, Trim};
 use crate::key::Key;
@@ -21,7 +22,8 @@ pub(crate) fn get<'a, K: Ord + Drop, V: Drop>(
     number: u64,
     key: &K,
 ) -> Option<&'a V>
-    ensures value { option_copied result ≡ entries.get K.cmp (map_of number chains.now.entries) key.now }
+    ensures value { option_copied result ≡
+        entries.get K.cmp (map_of number chains.now.entries) key.now }
 {
     chains.len();
     match chains.get(key) {
@@ -52,10 +54,14 @@ fn trim_chain<K: Ord + Drop, V: Drop>(
     number: u64,
 ) -> bool
     requires { AreFalling chains.old.entries }
-    ensures absent { entries.get K.cmp chains.old.entries key.now ≡ None → (result ≡ true) × (chains.new.entries ≡ chains.old.entries) }
-    ensures answer { (chain : List (ℕ × Option V)) → entries.get K.cmp chains.old.entries key.now ≡ Some chain → result ≡ is_left (left_of trim number chain) }
-    ensures left { (chain : List (ℕ × Option V)) → entries.get K.cmp chains.old.entries key.now ≡ Some chain → OnTrue result (chains.new.entries ≡ set_value (is_at (K.cmp key.now)) chains.old.entries (left_of trim number chain)) }
-    ensures others { remove_entry (is_at (K.cmp key.now)) chains.new.entries ≡ remove_entry (is_at (K.cmp key.now)) chains.old.entries }
+    ensures absent { entries.get K.cmp chains.old.entries key.now ≡ None → (result ≡ true) ×
+        (chains.new.entries ≡ chains.old.entries) }
+    ensures answer { (chain : List (ℕ × Option V)) → entries.get K.cmp chains.old.entries key.now ≡
+        Some chain → result ≡ is_left (left_of trim number chain) }
+    ensures left { OnTrue result
+        (Rewrites K.cmp key.now (left_of trim number) chains.old.entries chains.new.entries) }
+    ensures others { remove_entry (is_at (K.cmp key.now)) chains.new.entries ≡
+        remove_entry (is_at (K.cmp key.now)) chains.old.entries }
 {
     let Some(chain) = chains.get_mut(key) else {
         return true;
@@ -77,7 +83,8 @@ pub(crate) fn trim<K: Ord + Drop, V: Drop>(
     number: u64,
 )
     requires { AreFalling chains.old.entries }
-    ensures { chains.new.entries ≡ trimmed (is_at (K.cmp key.now)) (left_of trim number) chains.old.entries }
+    ensures { chains.new.entries ≡
+        trimmed (is_at (K.cmp key.now)) (left_of trim number) chains.old.entries }
 {
     if !trim_chain(chains, key, trim, number) {
         drop_key(chains, key);
@@ -92,7 +99,8 @@ fn write_over<K: Ord + Drop, V: Drop>(
     value: Option<V>,
 ) -> Result<(), NoMemory>
     requires { IsSome (entries.get K.cmp chains.old.entries key.now) }
-    ensures ok { OnOk result ((chain : List (ℕ × Option V)) → entries.get K.cmp chains.old.entries key.now ≡ Some chain → chains.new.entries ≡ set_value (is_at (K.cmp key.now)) chains.old.entries (written number value chain)) }
+    ensures ok { OnOk result (Rewrites K.cmp key.now
+        (written number value) chains.old.entries chains.new.entries) }
     ensures err { OnErr result (chains.new.entries ≡ chains.old.entries) }
 {
     let Some(chain) = chains.get_mut(key) else {
@@ -109,7 +117,8 @@ fn write_new<K: Key + Drop, V: Drop>(
     key: K,
     value: Option<V>,
 ) -> Result<(), NoMemory>
-    ensures ok { OnOk result (chains.new.entries ≡ insert_entry K.cmp chains.old.entries key ((number, value) ∷ [])) }
+    ensures ok { OnOk result (chains.new.entries ≡
+        insert_entry K.cmp chains.old.entries key ((number, value) ∷ [])) }
     ensures err { OnErr result (chains.new.entries ≡ chains.old.entries) }
 {
     chains.insert(key, Chain::of(alloc, number, value))?;
@@ -138,7 +147,7 @@ pub(crate) fn write<K: Key + Drop, V: Drop>(
 
 // The first entry of the map at the number.
 fn first_of<K: Ord + Drop, V: Drop>(chains: &BTreeMap<K, Chain<V>>, number: u64) -> Option<(&K, &V)>
-    ensures { option_map (λ e. (e.0.now, e.1.now)) result ≡ slice_get (map_of number chains.now.entries) 0 }
+    ensures { entry_copied result ≡ slice_get (map_of number chains.now.entries) 0 }
 {
     for (key, chain) in chains {
         if let Some(value) = chain.at(number) {
@@ -154,7 +163,8 @@ fn first_above<'a, K: Ord + Drop, V: Drop>(
     number: u64,
     after: &K,
 ) -> Option<(&'a K, &'a V)>
-    ensures { option_map (λ e. (e.0.now, e.1.now)) result ≡ slice_get (map_of number (entries.above K.cmp chains.now.entries (Some after.now))) 0 }
+    ensures { entry_copied result ≡
+        slice_get (map_of number (entries.above K.cmp chains.now.entries (Some after.now))) 0 }
 {
     for (key, chain) in chains.range((Bound::Excluded(after), Bound::Unbounded)) {
         if let Some(value) = chain.at(number) {
@@ -172,7 +182,8 @@ pub(crate) fn next<'a, K: Ord + Drop, V: Drop>(
     number: u64,
     after: Option<&K>,
 ) -> Option<(&'a K, &'a V)>
-    ensures { option_map (λ e. (e.0.now, e.1.now)) result ≡ entries.next K.cmp (map_of number chains.now.entries) (option_copied after.entry) }
+    ensures { entry_copied result ≡
+        entries.next K.cmp (map_of number chains.now.entries) (option_copied after.entry) }
 {
     match after {
         None => first_of(chains, number),

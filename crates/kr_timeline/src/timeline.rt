@@ -1,9 +1,10 @@
 //! A map with kept epochs: the versions of each key, and for each kept epoch the keys that changed since the one before.
 
-ghost use Rattle.std.specs.Prelude.{◌≡◌, ◌↔◌, ◌≤◌, ◌+◌, Some, None, OnOk, OnErr, IfOk, IsOk, IsErr, IsOkAnd, IsTrue, MatchOption, All, not, filter, int_lt, length, sum_by, take};
-ghost use Rattle.std.specs.Option.{option_copied, option_map};
+ghost use Rattle.std.specs.Prelude.{◌≡◌, ◌↔◌, ◌≤◌, ◌+◌, Some, None, OnOk, OnErr, IfOk, IsOk, IsErr, IsTrue, All, length};
+ghost use Rattle.std.specs.Option.{option_copied};
 ghost use Rattle.kr_defs.specs.Map as entries;
-ghost use Rattle.kr_defs.specs.KeptMaps.{Kept, AreRising, IsAbove, no_maps, map_at, marked, inserted, removed, reverted, forgotten, one_call_more};
+ghost use Rattle.kr_defs.specs.KeptMaps.{AreRising, ForgetsMapWithin, IsAbove, RevertsMapWithin, no_maps, map_at, kept_above, kept_below, marked, inserted, removed, reverted, forgotten, one_call_more};
+ghost use Rattle.kr_defs.specs.Lookups.{Finds, FindsEntry, entry_copied};
 ghost use Rattle.kr_timeline.specs.Chains.{put};
 ghost use Rattle.kr_timeline.specs.Intervals.{WritesListed};
 
@@ -133,7 +134,7 @@ impl<K: Ord + Drop, V: Drop> Timeline<K, V> {
 
     /// The value of the key in the map that is kept under the epoch.
     pub fn get_at(&self, epoch: i64, key: &K) -> Result<Option<&V>, NoEpoch>
-        ensures { MatchOption (map_at self.now.maps epoch) (IsErr result) (λ map. IsOkAnd result (λ value. option_copied value ≡ entries.get K.cmp map key.now)) }
+        ensures { Finds (map_at self.now.maps epoch) result (λ map. entries.get K.cmp map key.now) }
     {
         match find_place(&self.kept, &epoch) {
             Some(place) => Ok(chains::get(&self.chains, number_at(&self.kept, place), key)),
@@ -143,14 +144,16 @@ impl<K: Ord + Drop, V: Drop> Timeline<K, V> {
 
     /// The entry with the least key above the given one, or the first entry, in the present map.
     pub fn next(&self, after: Option<&K>) -> Option<(&K, &V)>
-        ensures { option_map (λ e. (e.0.now, e.1.now)) result ≡ entries.next K.cmp self.now.maps.present (option_copied after.entry) }
+        ensures { entry_copied result ≡
+            entries.next K.cmp self.now.maps.present (option_copied after.entry) }
     {
         chains::next(&self.chains, self.number, after)
     }
 
     /// The entry with the least key above the given one, or the first entry, in the map that is kept under the epoch.
     pub fn next_at(&self, epoch: i64, after: Option<&K>) -> Result<Option<(&K, &V)>, NoEpoch>
-        ensures { MatchOption (map_at self.now.maps epoch) (IsErr result) (λ map. IsOkAnd result (λ entry. option_map (λ e. (e.0.now, e.1.now)) entry ≡ entries.next K.cmp map (option_copied after.entry))) }
+        ensures { FindsEntry (map_at self.now.maps epoch) result
+            (λ map. entries.next K.cmp map (option_copied after.entry)) }
     {
         match find_place(&self.kept, &epoch) {
             Some(place) => Ok(chains::next(&self.chains, number_at(&self.kept, place), after)),
@@ -167,8 +170,9 @@ impl<K: Ord + Drop, V: Drop> Timeline<K, V> {
         ensures no_epoch { IsErr result ↔ (map_at self.old.maps epoch ≡ None) }
         ensures room { IsTrue self.old.has_room → IsTrue self.new.has_room }
         ensures counted { steps.old ≤ steps.new }
-        ensures least { OnOk result (steps.old + length (filter (λ (k : Kept _ _). int_lt epoch k.epoch) self.old.maps.kept) + 1 ≤ steps.new) }
-        ensures bound { steps.new ≤ steps.old + sum_by (λ (k : Kept _ _). k.made + 1) (filter (λ (k : Kept _ _). int_lt epoch k.epoch) self.old.maps.kept) + self.old.maps.made + 1 }
+        ensures least { OnOk result (steps.old + length (kept_above self.old.maps epoch) + 1 ≤
+            steps.new) }
+        ensures bound { RevertsMapWithin self.old.maps epoch steps.old steps.new }
     {
         match find_place(&self.kept, &epoch) {
             Some(place) => {
@@ -192,8 +196,8 @@ impl<K: Ord + Drop, V: Drop> Timeline<K, V> {
         ensures maps { self.new.maps ≡ forgotten self.old.maps epoch }
         ensures room { IsTrue self.old.has_room → IsTrue self.new.has_room }
         ensures counted { steps.old ≤ steps.new }
-        ensures least { steps.old + length (filter (λ (k : Kept _ _). int_lt k.epoch epoch) self.old.maps.kept) + 1 ≤ steps.new }
-        ensures bound { steps.new ≤ steps.old + sum_by (λ (k : Kept _ _). k.made + 1) (filter (λ (k : Kept _ _). int_lt k.epoch epoch) self.old.maps.kept) + sum_by (λ (k : Kept _ _). k.made) (take 1 (filter (λ (k : Kept _ _). not (int_lt k.epoch epoch)) self.old.maps.kept)) + 1 }
+        ensures least { steps.old + length (kept_below self.old.maps epoch) + 1 ≤ steps.new }
+        ensures bound { ForgetsMapWithin self.old.maps epoch steps.old steps.new }
     {
         steps.tick();
         self.chains.len();
@@ -235,7 +239,8 @@ impl<K: Key + Drop, V: Drop> Timeline<K, V> {
     /// Takes the key out of the present map, and says whether it was there.
     #[tactic(auto, unfolding(kr_defs::specs::KeptMaps::removed))]
     pub fn remove(&mut self, key: K) -> Result<bool, NoMemory>
-        ensures found { IfOk result (λ found. found ≡ entries.contains K.cmp self.old.maps.present key) }
+        ensures found { IfOk result (λ found. found ≡
+            entries.contains K.cmp self.old.maps.present key) }
         ensures ok { OnOk result (self.new.maps ≡ removed K.cmp self.old.maps key) }
         ensures err { OnErr result (self.new.maps ≡ self.old.maps) }
         ensures room { IsTrue self.old.has_room → IsTrue self.new.has_room }

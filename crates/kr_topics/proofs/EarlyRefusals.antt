@@ -30,6 +30,7 @@ use Rattle.kr_defs.specs.Placed.{placed}
 use Rattle.kr_defs.specs.Texts.{is_topic_name, names_agree}
 use Rattle.kr_defs.specs.Topics.{count_of}
 use Rattle.kr_defs.proofs.Tests.{Gives, gives_refuse, gives_done, gives_then}
+use Rattle.kr_calls.specs.declared.errors.TheConstants.{INVALID_CONFIG, INVALID_PARTITIONS, INVALID_REPLICATION_FACTOR, INVALID_REPLICA_ASSIGNMENT, INVALID_TOPIC_EXCEPTION, TOPIC_ALREADY_EXISTS, UNKNOWN_TOPIC_OR_PARTITION}
 use Rattle.kr_calls.specs.declared.deciding.Draft.{Draft}
 use Rattle.kr_calls.specs.declared.create_topics.CreatableTopic.{CreatableTopic}
 use Rattle.kr_calls.specs.declared.create_topics.CreatableTopicConfig.{CreatableTopicConfig}
@@ -172,12 +173,12 @@ count_is : (image : Image) → length (racked image) ≡ length (active image)
 count_is image =
     length-map (filter (λ (e : ℤ × Broker). is_active e.1) image.brokers) (λ (e : ℤ × Broker). (e.0, e.1.rack)) ∙ sym (length-map (filter (λ (e : ℤ × Broker). is_active e.1) image.brokers) (λ (e : ℤ × Broker). e.0))
 
-same_replicas : (image : Image) (place : ℤ) (first count size : ℕ) (assignments : Option (List CreatePartitionsAssignment)) → room.new_replicas (grouped (racked image)) image place first count size assignments ≡ create_partitions.new_replicas image place first count size assignments
+same_replicas : (image : Image) (place : ℤ) (first count size : ℕ) (assignments : Option (List CreatePartitionsAssignment)) → room.new_replicas_among (grouped (racked image)) image place first count size assignments ≡ create_partitions.new_replicas image place first count size assignments
 unfolding placed
 same_replicas image place first count size (Some assignments) = refl
-same_replicas image place first count size None = ap (λ n. cond (nat_lt n size) (Err (pos 38)) (Ok (placements image place first count size))) (count_is image)
+same_replicas image place first count size None = ap (λ n. cond (nat_lt n size) (Err INVALID_REPLICATION_FACTOR) (Ok (placements image place first count size))) (count_is image)
 
-same_layout : (options : Options) (image : Image) (place : ℤ) (entry : CreatableTopic) → room.layout (grouped (racked image)) options image place entry ≡ create_topics.layout options image place entry
+same_layout : (options : Options) (image : Image) (place : ℤ) (entry : CreatableTopic) → room.layout_among (grouped (racked image)) options image place entry ≡ create_topics.layout options image place entry
 unfolding placed
 same_layout options image place entry = rw (count_is image) refl
 
@@ -187,10 +188,10 @@ IsOf those image = those ≡ grouped (racked image)
 
 create_partitions_alike : (those : Grouped) (w : Work) (entry : CreatePartitionsTopic) → IsOf those w.image → one refused_create_partitions (room.create_partitions_by_racks those) w entry ≡ one refused_create_partitions create_partitions.rule w entry
 create_partitions_alike those w entry is =
-    ap (λ (t : Grouped). one refused_create_partitions (room.create_partitions_by_racks t) w entry) is ∙ under_found refused_create_partitions w entry (pos 3) (get text_order w.image.topics entry.name) _ _ (λ id.
+    ap (λ (t : Grouped). one refused_create_partitions (room.create_partitions_by_racks t) w entry) is ∙ under_found refused_create_partitions w entry UNKNOWN_TOPIC_OR_PARTITION (get text_order w.image.topics entry.name) _ _ (λ id.
     let first : ℕ = count_of w.image id in
-    under_refusal refused_create_partitions w entry (pos 37) (int_le entry.count (pos first)) _ _ (
-    under_found refused_create_partitions w entry (pos 39) (get partition_order w.image.partitions (id, pos 0)) _ _ (λ p.
+    under_refusal refused_create_partitions w entry INVALID_PARTITIONS (int_le entry.count (pos first)) _ _ (
+    under_found refused_create_partitions w entry INVALID_REPLICA_ASSIGNMENT (get partition_order w.image.partitions (id, pos 0)) _ _ (λ p.
     let lists_of : Result (List (List ℤ)) ℤ = create_partitions.new_replicas w.image w.place first (unsigned_abs entry.count - first) (length (target p)) entry.assignments in
     ap (λ (x : Result (List (List ℤ)) ℤ). done refused_create_partitions w entry (and_then x (λ lists. cond (not (has_room w.image (length lists))) (Err over_a_limit) (Ok (create_partitions.grown w.image id first entry lists))))) (same_replicas w.image w.place first (unsigned_abs entry.count - first) (length (target p)) entry.assignments)
     ∙ under_then refused_create_partitions w entry lists_of _ _ (λ lists.
@@ -198,12 +199,12 @@ create_partitions_alike those w entry is =
 
 create_topics_alike : (those : Grouped) (options : Options) (validate_only : Bool) (w : Work) (entry : CreatableTopic) → IsOf those w.image → one refused_create_topics (room.create_topics_by_racks those options validate_only) w entry ≡ one refused_create_topics (create_topics.rule options validate_only) w entry
 create_topics_alike those options validate_only w entry is =
-    ap (λ (t : Grouped). one refused_create_topics (room.create_topics_by_racks t options validate_only) w entry) is ∙ under_refusal refused_create_topics w entry (pos 17) (not (is_topic_name entry.name)) _ _ (
-    under_refusal refused_create_topics w entry (pos 36) (contains text_order w.image.topics entry.name) _ _ (
-    under_refusal refused_create_topics w entry (pos 17) (list_any (λ topic. names_agree topic.0 entry.name) w.image.topics) _ _ (
-    ap (λ (x : Result Layout ℤ). done refused_create_topics w entry (and_then x (room.of_layout options validate_only w.image w.place entry))) (same_layout options w.image w.place entry)
+    ap (λ (t : Grouped). one refused_create_topics (room.create_topics_by_racks t options validate_only) w entry) is ∙ under_refusal refused_create_topics w entry INVALID_TOPIC_EXCEPTION (not (is_topic_name entry.name)) _ _ (
+    under_refusal refused_create_topics w entry TOPIC_ALREADY_EXISTS (contains text_order w.image.topics entry.name) _ _ (
+    under_refusal refused_create_topics w entry INVALID_TOPIC_EXCEPTION (list_any (λ topic. names_agree topic.0 entry.name) w.image.topics) _ _ (
+    ap (λ (x : Result Layout ℤ). done refused_create_topics w entry (and_then x (room.of_layout_with_room options validate_only w.image w.place entry))) (same_layout options w.image w.place entry)
     ∙ under_then refused_create_topics w entry (create_topics.layout options w.image w.place entry) _ _ (λ layout.
-    under_refusal refused_create_topics w entry (pos 40) (list_any create_topics.is_bad_setting entry.configs) _ _ (
+    under_refusal refused_create_topics w entry INVALID_CONFIG (list_any create_topics.is_bad_setting entry.configs) _ _ (
     let id : ℕ = create_topics.new_id options w.image w.place in
     let before : List Record = kinds.Topic entry.name id ∷ create_topics.settings_records w.image.configs entry.name entry.configs in
     early refused_create_topics w entry (create_topics.created w.image validate_only id entry layout) (has_room w.image (length layout.replicas)) (λ lacks. not_taken w _ (crowded_behind w.image before id layout.replicas

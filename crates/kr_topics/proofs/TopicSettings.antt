@@ -15,7 +15,7 @@ use Rattle.kr_calls.specs.declared.create_topics.CreatableTopicConfig.{Creatable
 use Rattle.kr_calls.specs.CreateTopics.{settings_records}
 use Rattle.kr_rules.proofs.KeyLookups.{get_inserted}
 use Rattle.kr_rules.proofs.SingleEntries.{here_of}
-use Rattle.kr_topics.specs.inner.TopicSettings.{topic_setting_key, value_before, value_of, is_old}
+use Rattle.kr_topics.specs.inner.TopicSettings.{topic_setting_key, value_before, value_of, is_set_already}
 
 pub mirrored : (r : Ordering) → r ≡ ordering_reverse r → r ≡ Equal
 mirrored Less e = absurd cc
@@ -45,17 +45,17 @@ module _ (base : List (ConfigKey × List ℕ)) (topic : List ℕ) where
         first ∙ elim (is_eq (text_order q k)) as (λ b. cond b (Some v) (get config_order configs (topic_setting_key topic q)) ≡ option_or (cond b (Some v) (get text_order given q)) (get config_order base (topic_setting_key topic q))) [ true ↦ refl | false ↦ stands q ] ∙ sym then
 
     -- what the records of a setting and those of others are, by whether its value is old
-    records_by : (s : CreatableTopicConfig) (rest : List CreatableTopicConfig) → settings_records configs topic (s ∷ rest) ≡ cond (is_old base given topic s) (settings_records configs topic rest) (kinds.Config topic_kind topic s.name (Some (value_of s)) ∷ settings_records (insert config_order configs (topic_setting_key topic s.name) (value_of s)) topic rest)
+    records_by : (s : CreatableTopicConfig) (rest : List CreatableTopicConfig) → settings_records configs topic (s ∷ rest) ≡ cond (is_set_already base given topic s) (settings_records configs topic rest) (kinds.Config topic_kind topic s.name (Some (value_of s)) ∷ settings_records (insert config_order configs (topic_setting_key topic s.name) (value_of s)) topic rest)
     records_by s rest = ap (λ o. cond (option_map_or (bytes_eq (value_of s)) o false) (settings_records configs topic rest) (kinds.Config topic_kind topic s.name (Some (value_of s)) ∷ settings_records (insert config_order configs (topic_setting_key topic s.name) (value_of s)) topic rest)) (stands s.name)
 
   -- one setting more
   pub setting_more : (given given' : List (List ℕ × List ℕ)) (records records' : List Record) (s : CreatableTopicConfig) (rest : List CreatableTopicConfig) (all : List Record)
-      → given' ≡ cond (is_old base given topic s) given (insert text_order given s.name (value_of s))
-      → records' ≡ cond (is_old base given topic s) records (records ++ kinds.Config topic_kind topic s.name (Some (value_of s)) ∷ [])
+      → given' ≡ cond (is_set_already base given topic s) given (insert text_order given s.name (value_of s))
+      → records' ≡ cond (is_set_already base given topic s) records (records ++ kinds.Config topic_kind topic s.name (Some (value_of s)) ∷ [])
       → IsUnder base topic given records (s ∷ rest) all → IsUnder base topic given' records' rest all
   setting_more given given' records records' s rest all is_given is_records under =
       let told = ap (λ rs. records ++ rs) (sym (records_by given under.configs under.stands s rest)) ∙ under.told in
-      elim (is_old base given topic s) as (λ b. given' ≡ cond b given (insert text_order given s.name (value_of s)) → records' ≡ cond b records (records ++ kinds.Config topic_kind topic s.name (Some (value_of s)) ∷ []) → records ++ cond b (settings_records under.configs topic rest) (kinds.Config topic_kind topic s.name (Some (value_of s)) ∷ settings_records (insert config_order under.configs (topic_setting_key topic s.name) (value_of s)) topic rest) ≡ all → IsUnder base topic given' records' rest all) [
+      elim (is_set_already base given topic s) as (λ b. given' ≡ cond b given (insert text_order given s.name (value_of s)) → records' ≡ cond b records (records ++ kinds.Config topic_kind topic s.name (Some (value_of s)) ∷ []) → records ++ cond b (settings_records under.configs topic rest) (kinds.Config topic_kind topic s.name (Some (value_of s)) ∷ settings_records (insert config_order under.configs (topic_setting_key topic s.name) (value_of s)) topic rest) ≡ all → IsUnder base topic given' records' rest all) [
         | true ↦ λ is_given is_records told. rw (is_given, is_records) (record { configs = under.configs; stands = under.stands; told = told })
         | false ↦ λ is_given is_records told. rw (is_given, is_records) (record {
           configs = insert config_order under.configs (topic_setting_key topic s.name) (value_of s);
@@ -66,8 +66,8 @@ module _ (base : List (ConfigKey × List ℕ)) (topic : List ℕ) where
 
   -- the setting at an index of a list
   pub setting_at : (given given' : List (List ℕ × List ℕ)) (records records' : List Record) (settings : List CreatableTopicConfig) (i : ℕ) (s : CreatableTopicConfig) (all : List Record) → i < length settings → s ≡ get_or settings i s
-      → given' ≡ cond (is_old base given topic s) given (insert text_order given s.name (value_of s))
-      → records' ≡ cond (is_old base given topic s) records (records ++ kinds.Config topic_kind topic s.name (Some (value_of s)) ∷ [])
+      → given' ≡ cond (is_set_already base given topic s) given (insert text_order given s.name (value_of s))
+      → records' ≡ cond (is_set_already base given topic s) records (records ++ kinds.Config topic_kind topic s.name (Some (value_of s)) ∷ [])
       → IsUnder base topic given records (drop i settings) all → IsUnder base topic given' records' (drop (i + 1) settings) all
   setting_at given given' records records' settings i s all lt here is_given is_records under =
       setting_more given given' records records' s (drop (i + 1) settings) all is_given is_records (subst (λ left. IsUnder base topic given records left all) (here_of settings i s lt here) under)

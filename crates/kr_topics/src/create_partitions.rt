@@ -1,17 +1,15 @@
 //! Topics get more partitions.
 
-ghost use Rattle.std.specs.Prelude.{◌≡◌, ◌≤◌, ◌+◌, ◌-◌, ◌^◌, ◌&&◌, ◌==◌, pos, ◌≤ℤ◌, ◌<ℤ◌, Some, not, false, ◌<◌, int_le, length, map, nat_lt, unsigned_abs, Ok, IfOk};
+ghost use Rattle.std.specs.Prelude.{◌≡◌, ◌≤◌, ◌+◌, ◌-◌, ◌^◌, ◌&&◌, ◌==◌, pos, ◌≤ℤ◌, ◌<ℤ◌, Some, false, ◌<◌, int_le, length, map, unsigned_abs, Ok, IfOk};
 ghost use Rattle.std.specs.List.{list_all};
 ghost use Rattle.kr_defs.specs.declared.limits.TheConstants.{PLACES_END as places_end};
-ghost use Rattle.kr_defs.specs.Guard.{refuse◌when◌else◌};
 ghost use Rattle.kr_defs.specs.Topics as topics;
-ghost use Rattle.kr_calls.specs.declared.errors.TheConstants.{INVALID_REPLICATION_FACTOR as invalid_replication_factor, INVALID_REPLICA_ASSIGNMENT as invalid_replica_assignment};
 ghost use Rattle.kr_calls.specs.CreatePartitions as create_partitions;
-ghost use Rattle.kr_calls.specs.Deciding as deciding;
-ghost use Rattle.kr_calls.specs.Deciding.{nothing_decided, over_a_limit, unless_validating, weights};
+ghost use Rattle.kr_calls.specs.Deciding.{weights};
 ghost use Rattle.kr_calls.specs.NewPartitions as partitions;
 ghost use Rattle.kr_calls.specs.Refuse.{refused_create_partitions};
-ghost use Rattle.kr_rules.specs.Progress.{place_of, work_at};
+ghost use Rattle.kr_rules.specs.Decisions.{AnswersEach, DecidesUnless};
+ghost use Rattle.kr_rules.specs.Progress.{place_of};
 ghost use Rattle.kr_rules.specs.Refusals.{Judges};
 ghost use Rattle.kr_store.specs.Images.{last_image};
 ghost use Rattle.kr_topics.specs.inner.EntryRules as room;
@@ -81,7 +79,8 @@ fn are_wide<S: Store>(
     size: usize,
     assignments: &[CreatePartitionsAssignment],
 ) -> bool
-    ensures { result ≡ list_all (λ a. partitions.is_assignable seen.now a.brokers && length a.brokers == size) assignments.now }
+    ensures { result ≡ list_all (λ a.
+        partitions.is_assignable seen.now a.brokers && length a.brokers == size) assignments.now }
 {
     assignments
         .iter()
@@ -109,7 +108,8 @@ fn draft_create_partitions<S: Store>(
     lists: &Lists,
 ) -> Result<Draft<CreatePartitionsTopicResult>, NoMemory>
     requires { first + length lists.now ≤ 2 ^ 31 }
-    ensures { IfOk result (λ draft. draft ≡ create_partitions.grown seen.now topic.now first entry.now lists.now) }
+    ensures { IfOk result (λ draft. draft ≡
+        create_partitions.grown seen.now topic.now first entry.now lists.now) }
 {
     let mut records = Rows::new(alloc);
     add_partitions(alloc, seen, &mut records, topic, first, lists.as_slice())?;
@@ -129,7 +129,8 @@ fn grow_as_assigned<S: Store>(
     assignments: &[CreatePartitionsAssignment],
 ) -> Result<Draft<CreatePartitionsTopicResult>, Refusal>
     requires { pos first <ℤ entry.now.count }
-    ensures { Judges result (refuse invalid_replica_assignment when not (create_partitions.are_assignable seen.now (unsigned_abs entry.now.count - first) size assignments.now) else refuse over_a_limit when not (has_room seen.now (length assignments.now)) else Ok (create_partitions.grown seen.now topic.now first entry.now (map (λ a. a.brokers) assignments.now))) }
+    ensures { Judges result
+        (room.grown_as_assigned seen.now entry.now topic.now first size assignments.now) }
 {
     if assignments.len() != new_count(entry, first) as usize {
         return Err(Refusal::Error(INVALID_REPLICA_ASSIGNMENT));
@@ -157,7 +158,8 @@ fn grow_by_placing<S: Store>(
     size: usize,
 ) -> Result<Draft<CreatePartitionsTopicResult>, Refusal>
     requires { pos first <ℤ entry.now.count }
-    ensures { Judges result (refuse invalid_replication_factor when nat_lt rule.now.those.count size else refuse over_a_limit when not (has_room seen.now (unsigned_abs entry.now.count - first)) else Ok (create_partitions.grown seen.now topic.now first entry.now (room.placements_on rule.now.those (place_of work.now) first (unsigned_abs entry.now.count - first) size))) }
+    ensures { Judges result (room.grown_by_placing rule.now.those seen.now
+        (place_of work.now) entry.now topic.now first size) }
 {
     if rule.those.count() < size {
         return Err(Refusal::Error(INVALID_REPLICATION_FACTOR));
@@ -191,7 +193,8 @@ fn of_size<S: Store>(
     size: usize,
 ) -> Result<Draft<CreatePartitionsTopicResult>, Refusal>
     requires { pos first <ℤ entry.now.count }
-    ensures { Judges result (room.of_size rule.now.those seen.now (place_of work.now) entry.now topic.now first size) }
+    ensures { Judges result
+        (room.of_size rule.now.those seen.now (place_of work.now) entry.now topic.now first size) }
 {
     match &entry.assignments {
         Some(assignments) => {
@@ -217,7 +220,8 @@ fn of_topic<S: Store>(
     entry: &CreatePartitionsTopic,
     topic: &u128,
 ) -> Result<Draft<CreatePartitionsTopicResult>, Refusal>
-    ensures { Judges result (room.of_topic rule.now.those seen.now (place_of work.now) entry.now topic.now (topics.count_of seen.now topic.now)) }
+    ensures { Judges result (room.of_topic rule.now.those seen.now
+        (place_of work.now) entry.now topic.now (topics.count_of seen.now topic.now)) }
 {
     let first = count_of(seen, topic);
     if has_as_many(entry, first) {
@@ -272,11 +276,15 @@ fn decide_on<S: Store, L: Ledger>(
 ) -> Result<(Records, CreatePartitionsTopicResults), NoMemory>
     requires low { place.now ≤ℤ places_end }
     requires kept { last_image (S.images store.old) ≡ Some (S.images store.old).tip }
-    ensures answers { IfOk result (λ d. d.1 ≡ deciding.answers refused_create_partitions (room.create_partitions_by_racks those) (nothing_decided place.now (S.images store.old).tip) topics.now) }
-    ensures after { IfOk result (λ d. work_at (record { start = place.now; records = d.0 }) (S.images store.new).tip ≡ unless_validating validate_only (nothing_decided place.now (S.images store.old).tip) (deciding.after_all refused_create_partitions (room.create_partitions_by_racks those) (nothing_decided place.now (S.images store.old).tip) topics.now)) }
+    ensures answers { IfOk result (λ d. AnswersEach refused_create_partitions
+        (room.create_partitions_by_racks those) place.now topics.now (S.images store.old) d.1) }
+    ensures after { IfOk result (λ d. DecidesUnless refused_create_partitions
+        (room.create_partitions_by_racks those) validate_only place.now topics.now
+        (S.images store.old) (S.images store.new) d.0) }
     ensures kept { (S.images store.new).kept ≡ (S.images store.old).kept }
     ensures calls { (S.images store.new).kept_made ≡ (S.images store.old).kept_made }
-    ensures made { IfOk result (λ d. (S.images store.new).made ≤ (S.images store.old).made + weights (S.images store.old).tip d.0) }
+    ensures made { IfOk result (λ d. (S.images store.new).made ≤
+        (S.images store.old).made + weights (S.images store.old).tip d.0) }
     ensures later { steps.old ≤ steps.new }
 {
     let rule = Growing { those };
@@ -293,11 +301,14 @@ fn decide_create_partitions<S: Store, L: Ledger>(
 ) -> Result<(Records, CreatePartitionsTopicResults), NoMemory>
     requires low { place.now ≤ℤ places_end }
     requires kept { last_image (S.images store.old) ≡ Some (S.images store.old).tip }
-    ensures answers { IfOk result (λ d. d.1 ≡ deciding.answers refused_create_partitions create_partitions.rule (nothing_decided place.now (S.images store.old).tip) request.now.topics) }
-    ensures after { IfOk result (λ d. work_at (record { start = place.now; records = d.0 }) (S.images store.new).tip ≡ unless_validating request.now.validate_only (nothing_decided place.now (S.images store.old).tip) (deciding.after_all refused_create_partitions create_partitions.rule (nothing_decided place.now (S.images store.old).tip) request.now.topics)) }
+    ensures answers { IfOk result (λ d.
+        AnswersEach refused_create_partitions create_partitions.rule place.now request.now.topics
+        (S.images store.old) d.1) }
+    ensures after { IfOk result (λ d. DecidesUnless refused_create_partitions create_partitions.rule request.now.validate_only place.now request.now.topics (S.images store.old) (S.images store.new) d.0) }
     ensures kept { (S.images store.new).kept ≡ (S.images store.old).kept }
     ensures calls { (S.images store.new).kept_made ≡ (S.images store.old).kept_made }
-    ensures made { IfOk result (λ d. (S.images store.new).made ≤ (S.images store.old).made + weights (S.images store.old).tip d.0) }
+    ensures made { IfOk result (λ d. (S.images store.new).made ≤
+        (S.images store.old).made + weights (S.images store.old).tip d.0) }
     ensures later { steps.old ≤ steps.new }
 {
     let those = active_by_rack(alloc, &Seen::tip(store))?;

@@ -1,20 +1,19 @@
 //! Topics are created.
 
-ghost use Rattle.std.specs.Prelude.{◌≡◌, ◌≤◌, ◌<◌, ◌+◌, ◌*◌, ◌^◌, ◌||◌, ◌==◌, ◌∷◌, ◌++◌, pos, ◌≤ℤ◌, Some, not, false, length, find, unsigned_abs, IfOk, if◌then◌else◌};
+ghost use Rattle.std.specs.Prelude.{◌≡◌, ◌≤◌, ◌<◌, ◌+◌, ◌*◌, ◌^◌, ◌||◌, ◌==◌, pos, ◌≤ℤ◌, Some, not, false, length, find, unsigned_abs, IfOk, if◌then◌else◌};
 ghost use Rattle.std.specs.List.{list_any, range_with_len};
 ghost use Rattle.kr_defs.specs.declared.limits.TheConstants.{PLACES_END as places_end};
 ghost use Rattle.kr_defs.specs.declared.record.Record.TheVariants as kinds;
-ghost use Rattle.kr_defs.specs.Guard.{and_then};
 ghost use Rattle.kr_defs.specs.Image.{has_topic};
 ghost use Rattle.kr_defs.specs.Map as entries;
 ghost use Rattle.kr_defs.specs.Map.{text_order};
 ghost use Rattle.kr_defs.specs.Texts as texts;
 ghost use Rattle.kr_calls.specs.CreateTopics as create_topics;
-ghost use Rattle.kr_calls.specs.Deciding as deciding;
-ghost use Rattle.kr_calls.specs.Deciding.{nothing_decided, unless_validating, weights};
+ghost use Rattle.kr_calls.specs.Deciding.{weights};
 ghost use Rattle.kr_calls.specs.NewPartitions as partitions;
 ghost use Rattle.kr_calls.specs.Refuse.{refused_create_topics};
-ghost use Rattle.kr_rules.specs.Progress.{place_of, work_at};
+ghost use Rattle.kr_rules.specs.Decisions.{AnswersEach};
+ghost use Rattle.kr_rules.specs.Progress.{place_of};
 ghost use Rattle.kr_rules.specs.Refusals.{Judges};
 ghost use Rattle.kr_store.specs.Images.{last_image};
 ghost use Rattle.kr_topics.specs.inner.EntryRules as room;
@@ -64,7 +63,8 @@ fn is_free<S: Store>(seen: &Seen<S>, id: u128) -> bool
 // The first id among so many that no topic has.
 fn free_id<S: Store>(seen: &Seen<S>, first: u128, count: u128) -> Option<u128>
     requires { first + count < 2 ^ 128 }
-    ensures { result ≡ find (λ id. not (has_topic seen.now.topics id)) (range_with_len first count) }
+    ensures { result ≡ find (λ id. not (has_topic seen.now.topics id))
+        (range_with_len first count) }
 {
     for id in first..first + count {
         if is_free(seen, id) {
@@ -157,7 +157,8 @@ fn records_of<S: Store>(
     lists: &Lists,
 ) -> Result<Records, NoMemory>
     requires { length lists.now ≤ 2 ^ 31 }
-    ensures { IfOk result (λ records. records ≡ kinds.Topic entry.now.name id.now ∷ create_topics.settings_records seen.now.configs entry.now.name entry.now.configs ++ partitions.new_partitions seen.now id.now 0 lists.now) }
+    ensures { IfOk result (λ records. records ≡
+        room.new_topic_records seen.now id.now entry.now lists.now) }
 {
     let mut records = Rows::new(alloc);
     records.push(topic_record(alloc, &entry.name, id)?)?;
@@ -183,7 +184,9 @@ fn draft_create_topics<S: Store>(
     lists: &Lists,
 ) -> Result<Draft<CreatableTopicResult>, NoMemory>
     requires { length lists.now ≤ 2 ^ 31 }
-    ensures { IfOk result (λ draft. draft ≡ create_topics.created seen.now rule.now.validate_only (create_topics.new_id rule.now.options.now seen.now (place_of work.now)) entry.now (record { partitions = partitions.now; factor = factor.now; replicas = lists.now })) }
+    ensures { IfOk result (λ draft. draft ≡
+        room.topic_draft rule.now.options.now rule.now.validate_only seen.now
+        (place_of work.now) entry.now (room.laid partitions.now factor.now lists.now)) }
 {
     let id = new_id(seen, rule.options, work);
     let records = records_of(alloc, seen, entry, &id, lists)?;
@@ -217,7 +220,8 @@ fn create_as_assigned<S: Store>(
     work: &Work,
     entry: &CreatableTopic,
 ) -> Result<Draft<CreatableTopicResult>, Refusal>
-    ensures { Judges result (and_then (create_topics.assigned seen.now entry.now) (λ layout. room.of_layout rule.now.options.now rule.now.validate_only seen.now (place_of work.now) entry.now layout)) }
+    ensures { Judges result (room.created_over rule.now.options.now rule.now.validate_only seen.now
+        (place_of work.now) entry.now (create_topics.assigned seen.now entry.now)) }
 {
     if entry.partitions != -1 || entry.factor != -1 {
         return Err(Refusal::Error(INVALID_REQUEST));
@@ -263,7 +267,7 @@ fn factor_of(options: &Options, entry: &CreatableTopic) -> i16
 }
 
 fn is_factor(those: &Grouped, factor: i16) -> bool
-    ensures { result ≡ room.is_factor those.now factor }
+    ensures { result ≡ room.is_factor_among those.now factor }
 {
     1 <= factor && factor as usize <= MOST_TARGETS && factor as usize <= those.count()
 }
@@ -277,7 +281,7 @@ fn create_by_placing<S: Store>(
     work: &Work,
     entry: &CreatableTopic,
 ) -> Result<Draft<CreatableTopicResult>, Refusal>
-    ensures { Judges result (and_then (room.spread rule.now.those (place_of work.now) (create_topics.or_default entry.now.partitions rule.now.options.now.partitions) (create_topics.or_default entry.now.factor rule.now.options.now.factor)) (λ layout. room.of_layout rule.now.options.now rule.now.validate_only seen.now (place_of work.now) entry.now layout)) }
+    ensures { Judges result (room.created_by_placing rule.now.those rule.now.options.now rule.now.validate_only seen.now (place_of work.now) entry.now) }
 {
     let partitions = partitions_of(rule.options, entry);
     if partitions < 1 {
@@ -314,7 +318,9 @@ fn create_new<S: Store>(
     work: &Work,
     entry: &CreatableTopic,
 ) -> Result<Draft<CreatableTopicResult>, Refusal>
-    ensures { Judges result (and_then (room.layout rule.now.those rule.now.options.now seen.now (place_of work.now) entry.now) (λ layout. room.of_layout rule.now.options.now rule.now.validate_only seen.now (place_of work.now) entry.now layout)) }
+    ensures { Judges result
+        (room.created_new rule.now.those rule.now.options.now rule.now.validate_only seen.now
+        (place_of work.now) entry.now) }
 {
     if entry.assignments.is_empty() {
         create_by_placing(alloc, seen, rule, work, entry)
@@ -370,11 +376,16 @@ fn decide_on<S: Store, L: Ledger>(
 ) -> Result<(Records, CreatableTopicResults), NoMemory>
     requires low { place.now ≤ℤ places_end }
     requires kept { last_image (S.images store.old) ≡ Some (S.images store.old).tip }
-    ensures answers { IfOk result (λ d. d.1 ≡ deciding.answers refused_create_topics (room.create_topics_by_racks those options.now validate_only) (nothing_decided place.now (S.images store.old).tip) topics.now) }
-    ensures after { IfOk result (λ d. work_at (record { start = place.now; records = d.0 }) (S.images store.new).tip ≡ unless_validating validate_only (nothing_decided place.now (S.images store.old).tip) (deciding.after_all refused_create_topics (room.create_topics_by_racks those options.now validate_only) (nothing_decided place.now (S.images store.old).tip) topics.now)) }
+    ensures answers { IfOk result (λ d. AnswersEach refused_create_topics
+        (room.create_topics_by_racks those options.now validate_only) place.now topics.now
+        (S.images store.old) d.1) }
+    ensures after { IfOk result (λ d.
+        room.CreatesOn those options.now validate_only place.now topics.now (S.images store.old)
+        (S.images store.new) d.0) }
     ensures kept { (S.images store.new).kept ≡ (S.images store.old).kept }
     ensures calls { (S.images store.new).kept_made ≡ (S.images store.old).kept_made }
-    ensures made { IfOk result (λ d. (S.images store.new).made ≤ (S.images store.old).made + weights (S.images store.old).tip d.0) }
+    ensures made { IfOk result (λ d. (S.images store.new).made ≤
+        (S.images store.old).made + weights (S.images store.old).tip d.0) }
     ensures later { steps.old ≤ steps.new }
 {
     let rule = Creating {
@@ -396,11 +407,15 @@ fn decide_create_topics<S: Store, L: Ledger>(
 ) -> Result<(Records, CreatableTopicResults), NoMemory>
     requires low { place.now ≤ℤ places_end }
     requires kept { last_image (S.images store.old) ≡ Some (S.images store.old).tip }
-    ensures answers { IfOk result (λ d. d.1 ≡ deciding.answers refused_create_topics (create_topics.rule options.now request.now.validate_only) (nothing_decided place.now (S.images store.old).tip) request.now.topics) }
-    ensures after { IfOk result (λ d. work_at (record { start = place.now; records = d.0 }) (S.images store.new).tip ≡ unless_validating request.now.validate_only (nothing_decided place.now (S.images store.old).tip) (deciding.after_all refused_create_topics (create_topics.rule options.now request.now.validate_only) (nothing_decided place.now (S.images store.old).tip) request.now.topics)) }
+    ensures answers { IfOk result (λ d. AnswersEach refused_create_topics
+        (create_topics.rule options.now request.now.validate_only) place.now request.now.topics
+        (S.images store.old) d.1) }
+    ensures after { IfOk result (λ d. room.CreatesTopics options.now place.now request.now
+        (S.images store.old) (S.images store.new) d.0) }
     ensures kept { (S.images store.new).kept ≡ (S.images store.old).kept }
     ensures calls { (S.images store.new).kept_made ≡ (S.images store.old).kept_made }
-    ensures made { IfOk result (λ d. (S.images store.new).made ≤ (S.images store.old).made + weights (S.images store.old).tip d.0) }
+    ensures made { IfOk result (λ d. (S.images store.new).made ≤
+        (S.images store.old).made + weights (S.images store.old).tip d.0) }
     ensures later { steps.old ≤ steps.new }
 {
     let those = active_by_rack(alloc, &Seen::tip(store))?;

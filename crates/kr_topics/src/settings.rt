@@ -1,6 +1,6 @@
 //! The settings of a new topic.
 
-ghost use Rattle.std.specs.Prelude.{◌≡◌, ◌++◌, [], ◌∷◌, Some, false, bytes_eq, IfOk, OnOk, if◌then◌else◌};
+ghost use Rattle.std.specs.Prelude.{◌≡◌, ◌++◌, Some, false, bytes_eq, IfOk, OnOk};
 ghost use Rattle.std.specs.List.{list_any};
 ghost use Rattle.std.specs.Option.{option_copied, option_map_or};
 ghost use Rattle.kr_defs.specs.declared.record.Record.TheVariants as kinds;
@@ -9,7 +9,7 @@ ghost use Rattle.kr_defs.specs.Map as entries;
 ghost use Rattle.kr_defs.specs.Map.{text_order};
 ghost use Rattle.kr_calls.specs.CreateTopics as create_topics;
 ghost use Rattle.kr_topics.specs.inner.TopicSettings as given_settings;
-ghost use Rattle.kr_topics.specs.inner.TopicSettings.{is_old};
+ghost use Rattle.kr_topics.specs.inner.TopicSettings.{is_set_already};
 
 use kr_base::NoMemory;
 use kr_calls::CreatableTopicConfig;
@@ -59,7 +59,8 @@ fn value_before<'a, S: Store>(
     topic: &Text,
     key: &Text,
 ) -> Result<Option<&'a Text>, NoMemory>
-    ensures { IfOk result (λ value. option_copied value ≡ given_settings.value_before seen.now.configs given.now.entries topic.now key.now) }
+    ensures { IfOk result (λ value. option_copied value ≡
+        given_settings.value_before seen.now.configs given.now.entries topic.now key.now) }
 {
     if let Some(value) = given.get(key) {
         return Ok(Some(value));
@@ -95,7 +96,8 @@ fn is_old<S: Store>(
     value: &Text,
 ) -> Result<bool, NoMemory>
     requires { value.now ≡ given_settings.value_of setting.now }
-    ensures { IfOk result (λ old. old ≡ is_old seen.now.configs given.now.entries topic.now setting.now) }
+    ensures { IfOk result (λ old. old ≡
+        is_set_already seen.now.configs given.now.entries topic.now setting.now) }
 {
     let before = value_before(alloc, seen, given, topic, &setting.name)?;
     Ok(is_value(before, value))
@@ -107,7 +109,8 @@ fn config_record(
     setting: &CreatableTopicConfig,
     value: &Text,
 ) -> Result<Record, NoMemory>
-    ensures { IfOk result (λ config. config ≡ kinds.Config topic_kind topic.now setting.now.name (Some value.now)) }
+    ensures { IfOk result (λ config. config ≡
+        kinds.Config topic_kind topic.now setting.now.name (Some value.now)) }
 {
     let name = topic.copied(alloc)?;
     let key = setting.name.copied(alloc)?;
@@ -122,7 +125,8 @@ fn config_record(
 
 // Gives a value to a setting.
 fn give(alloc: Global, given: &mut Given, key: &Text, value: Text) -> Result<(), NoMemory>
-    ensures { OnOk result (given.new.entries ≡ entries.insert text_order given.old.entries key.now value) }
+    ensures { OnOk result (given.new.entries ≡
+        entries.insert text_order given.old.entries key.now value) }
 {
     let key = key.copied(alloc)?;
     given.insert(key, value)?;
@@ -137,8 +141,9 @@ fn add_setting<S: Store>(
     given: &mut Given,
     setting: &CreatableTopicConfig,
 ) -> Result<(), NoMemory>
-    ensures given { OnOk result (given.new.entries ≡ (if is_old seen.now.configs given.old.entries topic.now setting.now then given.old.entries else entries.insert text_order given.old.entries setting.now.name (given_settings.value_of setting.now))) }
-    ensures records { OnOk result (records.new ≡ (if is_old seen.now.configs given.old.entries topic.now setting.now then records.old else records.old ++ kinds.Config topic_kind topic.now setting.now.name (Some (given_settings.value_of setting.now)) ∷ [])) }
+    ensures given { OnOk result (given.new.entries ≡
+        given_settings.given_with seen.now.configs given.old.entries topic.now setting.now) }
+    ensures records { OnOk result (records.new ≡ given_settings.records_after seen.now.configs given.old.entries topic.now setting.now records.old) }
 {
     let value = value_of(alloc, setting)?;
     if is_old(alloc, seen, given, topic, setting, &value)? {
@@ -157,7 +162,8 @@ pub(crate) fn add_settings<S: Store>(
     topic: &Text,
     settings: &[CreatableTopicConfig],
 ) -> Result<(), NoMemory>
-    ensures { OnOk result (records.new ≡ records.old ++ create_topics.settings_records seen.now.configs topic.now settings.now) }
+    ensures { OnOk result (records.new ≡ records.old ++
+        create_topics.settings_records seen.now.configs topic.now settings.now) }
 {
     let mut given = BTreeMap::new(alloc);
     for setting in settings {

@@ -1,14 +1,13 @@
 //! Walks over the partitions of an image.
 
-ghost use Rattle.std.specs.Prelude.{◌≡◌, ◌++◌, [], IfOk, OnOk, Some, map, Option};
+ghost use Rattle.std.specs.Prelude.{◌≡◌, ◌++◌, [], IfOk, OnOk, map, Option};
 ghost use Rattle.std.specs.List.{cons_option};
 ghost use Rattle.std.specs.Option.{option_map};
 ghost use Rattle.std.specs.Ordering.{int_eq};
 ghost use Rattle.kr_defs.specs.declared.partition.PartitionChange.{PartitionChange as AnyChange};
 ghost use Rattle.kr_defs.specs.declared.record.Record.TheVariants as kinds;
 ghost use Rattle.kr_defs.specs.Image.{Image};
-ghost use Rattle.kr_defs.specs.Map.{above, partition_order};
-ghost use Rattle.kr_defs.specs.Walk.{Walked, walked, of_topic, walk, walk_topic, changes_of};
+ghost use Rattle.kr_defs.specs.Walk.{Walked, walked, walk, walk_topic, changes_of, rest_of_topic};
 ghost use Rattle.kr_calls.specs.BrokerHeartbeat as broker_heartbeat;
 
 use kr_base::NoMemory;
@@ -29,7 +28,8 @@ pub trait Change {
         key: &(u128, i32),
         partition: &Partition,
     ) -> Result<Option<PartitionChange>, NoMemory>
-        ensures { IfOk result (λ made. made ≡ change self.now seen.now (record { topic = topic.now; key = key.now; partition = partition.now })) };
+        ensures { IfOk result (λ made. made ≡ change self.now seen.now
+            (record { topic = topic.now; key = key.now; partition = partition.now })) };
 }
 
 fn add_change(
@@ -37,7 +37,8 @@ fn add_change(
     key: &(u128, i32),
     change: Option<PartitionChange>,
 ) -> Result<(), NoMemory>
-    ensures { OnOk result (records.new ≡ records.old ++ cons_option (option_map (λ c. kinds.PartitionChange key.now.1 key.now.0 c) change) []) }
+    ensures { OnOk result (records.new ≡ records.old ++
+        cons_option (option_map (λ c. kinds.PartitionChange key.now.1 key.now.0 c) change) []) }
 {
     match change {
         Some(change) => {
@@ -61,7 +62,8 @@ fn add_above<C: Change, S: Store>(
     first: (u128, i32),
     records: &mut Records,
 ) -> Result<(), NoMemory>
-    ensures { OnOk result (records.new ≡ records.old ++ changes_of (C.change rule.now seen.now) (map (walked name.now) (of_topic first.0 (above partition_order seen.now.partitions (Some first))))) }
+    ensures { OnOk result (records.new ≡ records.old ++ changes_of (C.change rule.now seen.now)
+        (map (walked name.now) (rest_of_topic first seen.now.partitions))) }
 {
     let mut after = first;
     while let Some((key, partition)) = seen.next_of_topic(&after) {
@@ -81,7 +83,8 @@ fn add_topic<C: Change, S: Store>(
     id: &u128,
     records: &mut Records,
 ) -> Result<(), NoMemory>
-    ensures { OnOk result (records.new ≡ records.old ++ changes_of (C.change rule.now seen.now) (walk_topic seen.now.partitions (name.now, id.now))) }
+    ensures { OnOk result (records.new ≡ records.old ++ changes_of (C.change rule.now seen.now)
+        (walk_topic seen.now.partitions (name.now, id.now))) }
 {
     seen.is_valid();
     add_above(alloc, seen, rule, name, before_all(id), records)?;
@@ -95,7 +98,8 @@ pub fn add_changes<C: Change, S: Store>(
     rule: &C,
     records: &mut Records,
 ) -> Result<(), NoMemory>
-    ensures { OnOk result (records.new ≡ records.old ++ changes_of (C.change rule.now seen.now) (walk seen.now)) }
+    ensures { OnOk result (records.new ≡ records.old ++
+        changes_of (C.change rule.now seen.now) (walk seen.now)) }
 {
     seen.is_valid();
     let mut after = None;

@@ -1,12 +1,11 @@
 //! The topics of an image: their names, and how many partitions one counts.
 
-ghost use Rattle.std.specs.Prelude.{◌≡◌, ◌+◌, ℕ, ℤ, Some, max, fold, unsigned_abs};
+ghost use Rattle.std.specs.Prelude.{◌≡◌, ◌+◌, ℕ, ℤ, max, fold, unsigned_abs};
 ghost use Rattle.std.specs.List.{list_any};
 ghost use Rattle.kr_defs.specs.declared.partition.Partition.{Partition as AnyPartition};
-ghost use Rattle.kr_defs.specs.Map.{above, partition_order};
 ghost use Rattle.kr_defs.specs.Texts as texts;
 ghost use Rattle.kr_defs.specs.Topics as topics;
-ghost use Rattle.kr_defs.specs.Walk.{of_topic};
+ghost use Rattle.kr_defs.specs.Walk.{rest_of_topic};
 
 use kr_defs::{Text, names_agree};
 use kr_store::{Seen, Store, before_all};
@@ -20,7 +19,8 @@ fn count_with(count: u32, index: &i32) -> u32
 
 // The count of the partitions of one topic that stand above a key.
 fn count_above<S: Store>(seen: &Seen<S>, first: (u128, i32)) -> u32
-    ensures { result ≡ fold (λ (count : ℕ) (e : (ℕ × ℤ) × AnyPartition). max count (unsigned_abs e.0.1 + 1)) 0 (of_topic first.0 (above partition_order seen.now.partitions (Some first))) }
+    ensures { result ≡ fold (λ (count : ℕ) (e : (ℕ × ℤ) × AnyPartition). max count
+        (unsigned_abs e.0.1 + 1)) 0 (rest_of_topic first seen.now.partitions) }
 {
     let mut count = 0;
     let mut after = first;

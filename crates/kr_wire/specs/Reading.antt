@@ -25,6 +25,10 @@ Read X = Result (X × List ℕ) WireFault
 abbrev pub Reads : {X Y : Type 0} → (X → Y) → Result (X × ℕ) WireFault → List ℕ → Read Y → Type 0
 Reads view result bytes read = MatchResult result (λ x. (read ≡ Ok (view x.0, drop x.1 bytes)) × (x.1 ≤ length bytes)) (λ e. read ≡ Err e)
 
+-- where nothing is kept of what is read: the place behind it, or the first fault
+abbrev pub Skips : Result (Unit {0} × List ℕ) WireFault → List ℕ → Result ℕ WireFault → Type 0
+Skips read bytes result = MatchResult result (λ next. read ≡ Ok (tt, drop next bytes)) (λ e. read ≡ Err e)
+
 -- ---- numbers
 
 -- so many bytes

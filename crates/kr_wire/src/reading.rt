@@ -5,7 +5,7 @@ ghost use Rattle.std.specs.Int.{w8, w16, w32, w64};
 ghost use Rattle.std.specs.Option.{option_map};
 ghost use Rattle.std.specs.Str.{is_utf8};
 ghost use Rattle.kr_wire.specs.Reading;
-ghost use Rattle.kr_wire.specs.Reading.{Reads, bool_at, count_at, count_or_null_at, fields_at, groups_at, id_at, none_known, number_at, piece_at, room_at, signed_at, tag_at, tags_at, text_at, text_or_null_at, utf8_at, uvarint_at, uvarlong_at, varint32_at, varint64_at, varint_at};
+ghost use Rattle.kr_wire.specs.Reading.{Reads, Skips, bool_at, count_at, count_or_null_at, fields_at, groups_at, id_at, none_known, number_at, piece_at, room_at, signed_at, tag_at, tags_at, text_at, text_or_null_at, utf8_at, uvarint_at, uvarlong_at, varint32_at, varint64_at, varint_at};
 
 use crate::WireFault;
 
@@ -435,9 +435,7 @@ pub fn read_tag(bytes: &[u8], at: usize, last: Option<u32>) -> Result<(Tag, usiz
 #[tactic(auto, unfolding(crate::specs::Reading::tags_at))]
 pub fn skip_tags(bytes: &[u8], at: usize) -> Result<usize, WireFault>
     requires { at ≤ length bytes.now }
-    ensures read { MatchResult result
-        (λ next. tags_at none_known tt (drop at bytes.now) ≡ Ok (tt, drop next bytes.now))
-        (λ e. tags_at none_known tt (drop at bytes.now) ≡ Err e) }
+    ensures read { Skips (tags_at none_known tt (drop at bytes.now)) bytes.now result }
     ensures within { IfOk result (λ next. next ≤ length bytes.now) }
 {
     let (count, start) = read_uvarint(bytes, at)?;
@@ -446,9 +444,7 @@ pub fn skip_tags(bytes: &[u8], at: usize) -> Result<usize, WireFault>
 
 fn skip_fields(bytes: &[u8], start: usize, count: u32) -> Result<usize, WireFault>
     requires { start ≤ length bytes.now }
-    ensures read { MatchResult result
-        (λ next. fields_at none_known count None tt (drop start bytes.now) ≡ Ok (tt, drop next bytes.now))
-        (λ e. fields_at none_known count None tt (drop start bytes.now) ≡ Err e) }
+    ensures read { Skips (fields_at none_known count None tt (drop start bytes.now)) bytes.now result }
     ensures within { IfOk result (λ next. next ≤ length bytes.now) }
 {
     let mut next = start;

@@ -1,13 +1,14 @@
 -- The image once a resource's settings have their new values.
-use Rattle.std.specs.Prelude.{Bool, not, ◌&&◌, ◌==◌, List, ℕ, length}
+use Rattle.std.specs.Prelude.{Bool, not, ◌&&◌, ◌==◌, if◌then◌else◌, List, [], ℕ, ℤ, length, Option, option_and_then, unwrap_or}
 use Rattle.std.specs.Ordering.{int_eq}
 use Rattle.kr_defs.specs.declared.options.Options.{Options}
 use Rattle.kr_defs.specs.declared.partition.Partition.{Partition}
 use Rattle.kr_defs.specs.Eligible.{is_enough}
 use Rattle.kr_defs.specs.Image.{Image}
-use Rattle.kr_defs.specs.Settings.{minimum_key, minimum_of, setting_value}
+use Rattle.kr_defs.specs.Settings.{minimum_key, minimum_of, read_minimum, setting_value}
+use Rattle.kr_calls.specs.declared.incremental_alter_configs.ConfigOperation.{ConfigOperation}
 use Rattle.kr_calls.specs.declared.incremental_alter_configs.ConfigResource.{ConfigResource}
-use Rattle.kr_calls.specs.IncrementalAlterConfigs.{Values, is_same_value, value_now, with_values}
+use Rattle.kr_calls.specs.IncrementalAlterConfigs.{Values, appended, is_append, is_same_value, subtracted, value_now, with_values}
 
 abbrev pub after : Image → ConfigResource → Values → Image
 after image entry values = record image { configs = with_values image.configs entry values }
@@ -26,3 +27,11 @@ keeps_minimum image entry values =
 -- a replica stands by
 abbrev pub has_standing_by : Partition → Bool
 has_standing_by p = not (length p.eligible == 0 && length p.last_known == 0)
+
+-- the minimum that a resource sets, where it reads
+abbrev pub minimum_set : Image → ℤ → List ℕ → Option ℤ
+minimum_set image kind name = option_and_then read_minimum (setting_value image kind name minimum_key)
+
+-- the list that an operation on parts makes of the value before
+abbrev pub list_of_parts : ConfigOperation → List ℕ → List ℕ
+list_of_parts o before = if is_append o then appended before (unwrap_or o.value []) else subtracted before (unwrap_or o.value [])

@@ -1,5 +1,5 @@
 -- A log's next batch, as the code judges it.
-use Rattle.std.specs.Prelude.{◌≡◌, ℕ, ℤ, pos, ◌+ℤ◌, ◌*◌, ◌≤◌, ◌≤ℤ◌, Option, Some, None, List, length, Result, Ok, Err}
+use Rattle.std.specs.Prelude.{◌≡◌, ℕ, ℤ, pos, ◌+ℤ◌, ◌*◌, ◌≤◌, ◌≤ℤ◌, Option, Some, None, List, length, Result, Ok, Err, MatchResult}
 use Rattle.kr_base.specs.declared.answers.NoMemory.{NoMemory}
 use Rattle.kr_batch.specs.declared.fault.BatchFault.{BatchFault}
 use Rattle.kr_batch.specs.declared.fault.BatchFault.TheVariants as faults
@@ -11,10 +11,11 @@ use Rattle.kr_defs.specs.Image.{Image}
 use Rattle.kr_defs.specs.Log.{apply_all}
 use Rattle.kr_batch.specs.declared.Batch.{Batch}
 use Rattle.kr_batch.specs.Grammar.{IsBatch}
+use Rattle.kr_fold.specs.declared.fault.ToolFault.{ToolFault}
 use Rattle.kr_fold.specs.declared.log.Place.{Place}
 use Rattle.kr_fold.specs.Logs.{Folded, folded_with}
 use Rattle.kr_fold.specs.SourceBytes.{longest}
-use Rattle.kr_fold.specs.Endings.{ReadsLog, EndsLog}
+use Rattle.kr_fold.specs.Endings.{ReadsLog, EndsLog, IsLogFault}
 
 -- the image after an item, or why it has no meaning
 abbrev pub IsItemApplied : Image → Image → Item → Option Ill → Type 0
@@ -56,3 +57,9 @@ log_at p image = record { tip = p.tip; image = image }
 abbrev pub IsReadTo : Option (List ℕ) → Option (List ℕ) → Place → Image → Option Place → Type 0
 IsReadTo left left' place image (Some next) = ReadsLog left left' (log_at next image) next.at
 IsReadTo left left' place image None = EndsLog left left' (log_at place image)
+
+-- a log that was read to a place is read on, or isn't read to its end
+abbrev pub ReadsOn : Option (List ℕ) → Option (List ℕ) → Place → Image → Image → Result (Option Place) ToolFault → Type 0
+ReadsOn mid left' place image image' result =
+    (left : Option (List ℕ)) → ReadsLog left mid (log_at place image) place.at
+    → MatchResult result (λ next. IsReadTo left left' place image' next) (λ fault. IsLogFault left left' fault)

@@ -1,5 +1,5 @@
 -- How the serving of a connection goes on, message by message.
-use Rattle.std.specs.Prelude.{◌≡◌, ℕ, List, [], ◌∷◌, length}
+use Rattle.std.specs.Prelude.{◌≡◌, ℕ, List, [], ◌∷◌, length, Result, MatchResult}
 use Rattle.std.specs.Io.KnownBytes.{Appends, Consumes}
 use Rattle.kr_base.specs.FailedPuts.{AppendsFront}
 use Rattle.kr_wire.specs.Grammar.{Each}
@@ -13,7 +13,7 @@ use Rattle.kr_server.specs.declared.end.ServeEnd.TheVariants as ends
 use Rattle.kr_server.specs.declared.exchange.Exchange.{Exchange}
 use Rattle.kr_server.specs.Exchanges.{IsAskedFor, IsMessageOf, SizedReplyFits, sized_reply}
 use Rattle.kr_server.specs.SeatCalls.{AreExchanged, IsExchanged, IsRefusedRead, IsRefusedWrite, IsWithoutMemory}
-use Rattle.kr_server.specs.Served.{Connection, WroteReplies}
+use Rattle.kr_server.specs.Served.{Connection, Served, WroteReplies}
 use Rattle.kr_server.specs.Told.{TellsMore}
 
 -- Whole messages were taken up to this place, and their exchanges told and replied.
@@ -26,6 +26,12 @@ pub record ServedSoFar (before now : Connection) (at : ℕ) : Type 0 where
   pub exchanged : AreExchanged before.seat xs now.seat
   pub wrote : WroteReplies before.written now.written xs
   pub tells : TellsMore before.told now.told xs
+
+-- a connection that was served up to `at` is served on, or ends
+abbrev pub ServesOn : Connection → Connection → ℕ → Result ℕ ServeEnd → Type 0
+ServesOn before after at result =
+    (first : Connection) → ServedSoFar first before at
+    → MatchResult result (λ next. ServedSoFar first after next) (λ end. Served first after end)
 
 -- ---- one message, which doesn't touch the source
 
@@ -65,6 +71,11 @@ pub record IsSilent (old new : Connection) : Type 0 where
 abbrev pub IsNotAnswered : List ℕ → Connection → Connection → ServeEnd → Type 0
 IsNotAnswered message old new ends.WriteFault = IsAnsweredInPart message old new
 IsNotAnswered message old new other = IsSilent old new × IsNotExchanged message old.seat new.seat other
+
+-- it is answered, or not
+abbrev pub AnswersMessage : List ℕ → Connection → Connection → Result (Unit {0}) ServeEnd → Type 0
+AnswersMessage message before after result =
+    MatchResult result (λ _. IsAnsweredBy message before after) (λ end. IsNotAnswered message before after end)
 
 -- how a refused write ends the connection
 abbrev pub refusal_end : SubmitFault → ServeEnd

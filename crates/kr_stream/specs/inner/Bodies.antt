@@ -10,6 +10,7 @@ use Rattle.kr_calls.specs.declared.events.Event.TheVariants as events
 use Rattle.kr_calls.specs.declared.calls.Ask.{Ask}
 use Rattle.kr_stream.specs.declared.frame.Frame.{Frame}
 use Rattle.kr_stream.specs.declared.kind.FrameKind.{FrameKind}
+use Rattle.kr_stream.specs.declared.opening.Opening.{Opening}
 use Rattle.kr_stream.specs.declared.kind.FrameKind.TheVariants as kinds
 use Rattle.kr_stream.specs.Frames.{IsTime, IsMessage, IsBody, IsEventBody, frame_kind, kind_of_event}
 
@@ -103,3 +104,7 @@ options_at bytes = do
   factor ← signed_at w16 partitions.1
   minimum ← signed_at w32 factor.1
   Ok (record { node = node.0; salt = salt.0; session_ms = session.0; partitions = partitions.0; factor = factor.0; minimum = minimum.0; cluster = minimum.1 }, [])
+
+-- the settings that were opened, with this cluster id
+abbrev pub options_with : Opening → List ℕ → Options
+options_with o cluster = record { node = o.node; salt = o.salt; session_ms = o.session_ms; partitions = o.partitions; factor = o.factor; minimum = o.minimum; cluster = cluster }

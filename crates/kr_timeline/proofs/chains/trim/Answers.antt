@@ -9,4 +9,4 @@ returns-then-not-trim_chain g c = c.drop_key.ensures ∙ trim_gone _ (left_of c.
 
 pub returns-else-not-trim_chain : goal.returns-else-not-trim_chain
 returns-else-not-trim_chain g c = trim_left _ (left_of c.args.trim c.args.number) c.args.chains.now.entries c.trim_chain.new.chains.entries c.trim_chain.result (λ h. (c.trim_chain.ensures.absent h).1) c.trim_chain.ensures.answer
-    (λ chain h. OnTrue_at c.if-not-trim_chain.false (c.trim_chain.ensures.left chain h)) c.if-not-trim_chain.false
+    (OnTrue_at c.if-not-trim_chain.false c.trim_chain.ensures.left) c.if-not-trim_chain.false
