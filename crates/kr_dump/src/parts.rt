@@ -1,14 +1,32 @@
-//! What each broker, partition and topic gives to the text.
+//! What each entry of an image gives to the text.
 
 ghost use Rattle.kr_dump.specs.DumpText as texts;
 
-use crate::lines::{put_broker, put_partition, put_topic};
-use crate::texts::put_bytes;
+use crate::lines::{put_broker, put_config, put_feature, put_partition, put_topic};
 use kr_base::NoMemory;
-use kr_defs::{Broker, Bytes, Partition, Text};
-use kr_gather::{BrokerPart, PartitionPart, TopicPart, gather_partitions};
+use kr_defs::{Broker, Bytes, ConfigKey, Partition, Text};
+use kr_gather::{BrokerPart, ConfigPart, FeaturePart, PartitionPart, TopicPart, add_partitions};
 use kr_store::{Seen, Store};
 use std::alloc::Global;
+
+/// The line of a feature.
+#[derive(Drop)]
+pub(crate) struct FeatureLine;
+
+impl FeaturePart<u8> for FeatureLine {
+    ghost part = { λ _ entry. texts.feature_line entry };
+
+    fn add(
+        &self,
+        alloc: Global,
+        name: &Text,
+        level: &i16,
+        rows: &mut Bytes,
+    ) -> Result<(), NoMemory> {
+        put_feature(alloc, rows, name, level)?;
+        Ok(())
+    }
+}
 
 /// The line of a broker.
 #[derive(Drop)]
@@ -66,8 +84,25 @@ impl TopicPart<u8> for TopicLines {
         rows: &mut Bytes,
     ) -> Result<(), NoMemory> {
         put_topic(alloc, rows, name, *id)?;
-        let partitions = gather_partitions(alloc, seen, &PartitionLine { name }, id)?;
-        put_bytes(rows, partitions.as_slice())?;
+        add_partitions(alloc, seen, &PartitionLine { name }, id, rows)
+    }
+}
+
+/// The line of a setting.
+#[derive(Drop)]
+pub(crate) struct ConfigLine;
+
+impl ConfigPart<u8> for ConfigLine {
+    ghost part = { λ _ entry. texts.config_line entry };
+
+    fn add(
+        &self,
+        alloc: Global,
+        key: &ConfigKey,
+        value: &Text,
+        rows: &mut Bytes,
+    ) -> Result<(), NoMemory> {
+        put_config(alloc, rows, key, value)?;
         Ok(())
     }
 }

@@ -49,7 +49,7 @@ pub(crate) fn put_quoted(out: &mut Bytes, text: &Text) -> Result<(), AllocError>
     out.push(b'"')
 }
 
-pub(crate) fn put_bytes(out: &mut Bytes, bytes: &[u8]) -> Result<(), AllocError>
+fn put_bytes(out: &mut Bytes, bytes: &[u8]) -> Result<(), AllocError>
     ensures { OnOk result (out.new ≡ out.old ++ bytes.now) }
 {
     for byte in bytes {

@@ -10,6 +10,7 @@ use Rattle.kr_defs.specs.declared.record.Record.TheVariants as kinds
 use Rattle.kr_defs.specs.Image.{Image}
 use Rattle.kr_defs.specs.Records.{partition_record, records_of, topic_records}
 use Rattle.kr_defs.specs.Walk.{of_topic, walked}
+use Rattle.kr_gather.specs.ImageParts.{with_parts}
 use Rattle.kr_gather.specs.inner.Contents.{of_broker, of_config, of_feature, of_partition}
 
 -- ---- the partitions of a topic
@@ -18,13 +19,14 @@ one_by_one : (name : List ℕ) (es : List ((ℕ × ℤ) × Partition)) → map p
 one_by_one name [] = refl
 one_by_one name (e ∷ es) = ap (λ (rs : List Record). kinds.Partition e.0.1 e.0.0 e.1 ∷ rs) (one_by_one name es)
 
-pub topic_behind : (name : List ℕ) (id : ℕ) (ps : List ((ℕ × ℤ) × Partition)) (old new after partitions : List Record) → new ≡ old ++ kinds.Topic name id ∷ []
-    → partitions ≡ flat_map of_partition (of_topic id ps) → after ≡ new ++ partitions → after ≡ old ++ topic_records ps (name, id)
-topic_behind name id ps old new after partitions first own then =
+pub topic_behind : (name : List ℕ) (id : ℕ) (ps : List ((ℕ × ℤ) × Partition)) (old new after : List Record) → new ≡ old ++ kinds.Topic name id ∷ []
+    → after ≡ new ++ flat_map of_partition (of_topic id ps) → after ≡ old ++ topic_records ps (name, id)
+topic_behind name id ps old new after first then =
+    let partitions = flat_map of_partition (of_topic id ps) in
     then
     ∙ (ap (λ (rs : List Record). rs ++ partitions) first
     ∙ (append_assoc old (kinds.Topic name id ∷ []) partitions
-    ∙ ap (λ (rs : List Record). old ++ kinds.Topic name id ∷ rs) (own ∙ sym (one_by_one name (of_topic id ps)))))
+    ∙ ap (λ (rs : List Record). old ++ kinds.Topic name id ∷ rs) (sym (one_by_one name (of_topic id ps)))))
 
 pub ruleset topics = (topic_behind)
 
@@ -43,21 +45,16 @@ one_each : {X : Type 0} (f : X → Record) (xs : List X) → flat_map (λ (x : X
 one_each f [] = refl
 one_each f (x ∷ xs) = ap (λ (rs : List Record). f x ∷ rs) (one_each f xs)
 
-pub all_sections : (image : Image) (features two brokers three topics four : List Record) → features ≡ [] ++ flat_map of_feature image.features
-    → brokers ≡ flat_map of_broker image.brokers → two ≡ features ++ brokers → topics ≡ flat_map (topic_records image.partitions) image.topics → three ≡ two ++ topics
-    → four ≡ three ++ flat_map of_config image.configs → four ≡ records_of image
+pub all_sections : (image : Image) (records : List Record)
+    → records ≡ with_parts [] of_feature of_broker (λ (i : Image). topic_records i.partitions) of_config image → records ≡ records_of image
 unfolding records_of
-all_sections image features two brokers three topics four a b c d e f =
+all_sections image records is =
     let configs = flat_map of_config image.configs in
     let all = flat_map (topic_records image.partitions) image.topics in
-    let own = map broker_record image.brokers in
     let first = map feature_record image.features in
-    f
-    ∙ (ap (λ (rs : List Record). rs ++ configs) e
-    ∙ (ap (λ (rs : List Record). (rs ++ topics) ++ configs) c
-    ∙ (ap (λ (rs : List Record). ((features ++ brokers) ++ rs) ++ configs) d
-    ∙ (ap (λ (rs : List Record). ((features ++ rs) ++ all) ++ configs) (b ∙ one_each broker_record image.brokers)
-    ∙ (ap (λ (rs : List Record). ((rs ++ own) ++ all) ++ configs) (a ∙ one_each feature_record image.features)
-    ∙ ap (λ (rs : List Record). ((first ++ own) ++ all) ++ rs) (one_each config_record image.configs))))))
+    is
+    ∙ (ap (λ (rs : List Record). ((rs ++ flat_map of_broker image.brokers) ++ all) ++ configs) (one_each feature_record image.features)
+    ∙ (ap (λ (rs : List Record). ((first ++ rs) ++ all) ++ configs) (one_each broker_record image.brokers)
+    ∙ ap (λ (rs : List Record). ((first ++ map broker_record image.brokers) ++ all) ++ rs) (one_each config_record image.configs)))
 
 pub ruleset sections = (all_sections)

@@ -32,6 +32,9 @@ module _ (ps : List ((ℕ × ℤ) × Partition)) where
     pub key_begin : (id : ℕ) → All (λ (e : (ℕ × ℤ) × Partition). IsTrue (is_index e.0.1)) ps → flat_map f (left (id, negsuc 0)) ≡ flat_map f (of_topic id ps)
     key_begin id indexes = ap (flat_map f) (group_begin id ps (recursion_from_All (λ (e : (ℕ × ℤ) × Partition). IsTrue (is_index e.0.1)) ps indexes))
 
+    pub key_begun : (id : ℕ) → All (λ (e : (ℕ × ℤ) × Partition). IsTrue (is_index e.0.1)) ps → (old new : List Y) → new ≡ old ++ flat_map f (left (id, negsuc 0)) → new ≡ old ++ flat_map f (of_topic id ps)
+    key_begun id indexes old new is = is ∙ ap (λ ys. old ++ ys) (key_begin id indexes)
+
 -- the same over all entries of a map
 module _ {K V : Type 0} {R : K → K → Ordering} (o : IsTotalOrder R) where
   module _ {Y : Type 0} (f : K × V → List Y) where

@@ -1,17 +1,33 @@
-//! What brokers, topics and partitions give, in the order of a walk.
+//! What the entries of an image give, in the order of a walk.
 
-ghost use Rattle.std.specs.Prelude.{◌≡◌, ◌++◌, ℕ, ℤ, List, Some, IfOk, OnOk};
+ghost use Rattle.std.specs.Prelude.{◌≡◌, ◌++◌, ℕ, ℤ, List, IfOk, OnOk};
 ghost use Rattle.std.specs.List.{flat_map};
 ghost use Rattle.kr_defs.specs.declared.broker.Broker.{Broker as AnyBroker};
 ghost use Rattle.kr_defs.specs.declared.partition.Partition.{Partition as AnyPartition};
+ghost use Rattle.kr_defs.specs.declared.record.ConfigKey.{ConfigKey as AnyConfigKey};
 ghost use Rattle.kr_defs.specs.Image.{Image};
-ghost use Rattle.kr_defs.specs.Map.{above, partition_order};
-ghost use Rattle.kr_defs.specs.Walk.{of_topic};
+ghost use Rattle.kr_defs.specs.Walk.{of_topic, rest_of_topic};
+ghost use Rattle.kr_gather.specs.ImageParts.{with_parts};
 
 use kr_base::NoMemory;
-use kr_defs::{Broker, Partition, Rows, Text};
+use kr_defs::{Broker, ConfigKey, Partition, Rows, Text};
 use kr_store::{Seen, Store, before_all};
 use std::alloc::Global;
+
+/// What one feature gives.
+pub trait FeaturePart<Y: Drop> {
+    ghost part: { Self → List ℕ × ℤ → List Y };
+
+    /// Adds what the feature gives.
+    fn add(
+        &self,
+        alloc: Global,
+        name: &Text,
+        level: &i16,
+        rows: &mut Rows<Y>,
+    ) -> Result<(), NoMemory>
+        ensures { OnOk result (rows.new ≡ rows.old ++ part self.now (name.now, level.now)) };
+}
 
 /// What one broker gives.
 pub trait BrokerPart<Y: Drop> {
@@ -59,6 +75,21 @@ pub trait TopicPart<Y: Drop> {
         ensures { OnOk result (rows.new ≡ rows.old ++ part self.now seen.now (name.now, id.now)) };
 }
 
+/// What one setting gives.
+pub trait ConfigPart<Y: Drop> {
+    ghost part: { Self → AnyConfigKey × List ℕ → List Y };
+
+    /// Adds what the setting gives.
+    fn add(
+        &self,
+        alloc: Global,
+        key: &ConfigKey,
+        value: &Text,
+        rows: &mut Rows<Y>,
+    ) -> Result<(), NoMemory>
+        ensures { OnOk result (rows.new ≡ rows.old ++ part self.now (key.now, value.now)) };
+}
+
 // Adds what the partitions of one topic give that stand above a key.
 fn add_above<Y: Drop, P: PartitionPart<Y>, S: Store>(
     alloc: Global,
@@ -67,7 +98,8 @@ fn add_above<Y: Drop, P: PartitionPart<Y>, S: Store>(
     first: (u128, i32),
     rows: &mut Rows<Y>,
 ) -> Result<(), NoMemory>
-    ensures { OnOk result (rows.new ≡ rows.old ++ flat_map (P.part part.now) (of_topic first.0 (above partition_order seen.now.partitions (Some first)))) }
+    ensures { OnOk result (rows.new ≡ rows.old ++
+        flat_map (P.part part.now) (rest_of_topic first seen.now.partitions)) }
 {
     let mut after = first;
     while let Some((key, partition)) = seen.next_of_topic(&after) {
@@ -75,6 +107,122 @@ fn add_above<Y: Drop, P: PartitionPart<Y>, S: Store>(
         after = *key;
     }
     Ok(())
+}
+
+/// Adds what the partitions of one topic give, by index. An error is want of memory alone, and says nothing of the rows.
+pub fn add_partitions<Y: Drop, P: PartitionPart<Y>, S: Store>(
+    alloc: Global,
+    seen: &Seen<S>,
+    part: &P,
+    id: &u128,
+    rows: &mut Rows<Y>,
+) -> Result<(), NoMemory>
+    ensures { OnOk result (rows.new ≡ rows.old ++
+        flat_map (P.part part.now) (of_topic id.now seen.now.partitions)) }
+{
+    seen.is_valid();
+    add_above(alloc, seen, part, before_all(id), rows)?;
+    Ok(())
+}
+
+// Adds what all features, by name, give.
+fn add_features<Y: Drop, P: FeaturePart<Y>, S: Store>(
+    alloc: Global,
+    seen: &Seen<S>,
+    part: &P,
+    rows: &mut Rows<Y>,
+) -> Result<(), NoMemory>
+    ensures { OnOk result (rows.new ≡ rows.old ++ flat_map (P.part part.now) seen.now.features) }
+{
+    seen.is_valid();
+    let mut after = None;
+    while let Some((name, level)) = seen.next_feature(after) {
+        part.add(alloc, name, level, rows)?;
+        after = Some(name);
+    }
+    Ok(())
+}
+
+// Adds what all brokers, by id, give.
+fn add_brokers<Y: Drop, P: BrokerPart<Y>, S: Store>(
+    alloc: Global,
+    seen: &Seen<S>,
+    part: &P,
+    rows: &mut Rows<Y>,
+) -> Result<(), NoMemory>
+    ensures { OnOk result (rows.new ≡ rows.old ++ flat_map (P.part part.now) seen.now.brokers) }
+{
+    seen.is_valid();
+    let mut after = None;
+    while let Some((id, state)) = seen.next_broker(after) {
+        part.add(alloc, id, state, rows)?;
+        after = Some(id);
+    }
+    Ok(())
+}
+
+// Adds what all topics, by name, give.
+fn add_topics<Y: Drop, P: TopicPart<Y>, S: Store>(
+    alloc: Global,
+    seen: &Seen<S>,
+    part: &P,
+    rows: &mut Rows<Y>,
+) -> Result<(), NoMemory>
+    ensures { OnOk result (rows.new ≡ rows.old ++
+        flat_map (P.part part.now seen.now) seen.now.topics) }
+{
+    seen.is_valid();
+    let mut after = None;
+    while let Some((name, id)) = seen.next_topic(after) {
+        part.add(alloc, seen, name, id, rows)?;
+        after = Some(name);
+    }
+    Ok(())
+}
+
+// Adds what all settings, by type, resource name and key, give.
+fn add_configs<Y: Drop, P: ConfigPart<Y>, S: Store>(
+    alloc: Global,
+    seen: &Seen<S>,
+    part: &P,
+    rows: &mut Rows<Y>,
+) -> Result<(), NoMemory>
+    ensures { OnOk result (rows.new ≡ rows.old ++ flat_map (P.part part.now) seen.now.configs) }
+{
+    seen.is_valid();
+    let mut after = None;
+    while let Some((key, value)) = seen.next_config(after) {
+        part.add(alloc, key, value, rows)?;
+        after = Some(key);
+    }
+    Ok(())
+}
+
+/// Adds what a whole image gives, in the order in which one is written: its features, its brokers, its topics, each with
+/// what it gives of its partitions, and its settings. An error is want of memory alone, and says nothing of the rows.
+pub fn add_image<
+    Y: Drop,
+    F: FeaturePart<Y>,
+    B: BrokerPart<Y>,
+    T: TopicPart<Y>,
+    C: ConfigPart<Y>,
+    S: Store,
+>(
+    alloc: Global,
+    seen: &Seen<S>,
+    feature: &F,
+    broker: &B,
+    topic: &T,
+    config: &C,
+    rows: &mut Rows<Y>,
+) -> Result<(), NoMemory>
+    ensures { OnOk result (rows.new ≡ with_parts rows.old (F.part feature.now) (B.part broker.now)
+        (T.part topic.now) (C.part config.now) seen.now) }
+{
+    add_features(alloc, seen, feature, rows)?;
+    add_brokers(alloc, seen, broker, rows)?;
+    add_topics(alloc, seen, topic, rows)?;
+    add_configs(alloc, seen, config, rows)
 }
 
 /// What all brokers give, by id.
@@ -85,13 +233,8 @@ pub fn gather_brokers<Y: Drop, P: BrokerPart<Y>, S: Store>(
 ) -> Result<Rows<Y>, NoMemory>
     ensures { IfOk result (λ rows. rows ≡ flat_map (P.part part.now) seen.now.brokers) }
 {
-    seen.is_valid();
     let mut rows = Rows::new(alloc);
-    let mut after = None;
-    while let Some((id, state)) = seen.next_broker(after) {
-        part.add(alloc, id, state, &mut rows)?;
-        after = Some(id);
-    }
+    add_brokers(alloc, seen, part, &mut rows)?;
     Ok(rows)
 }
 
@@ -102,11 +245,11 @@ pub fn gather_partitions<Y: Drop, P: PartitionPart<Y>, S: Store>(
     part: &P,
     id: &u128,
 ) -> Result<Rows<Y>, NoMemory>
-    ensures { IfOk result (λ rows. rows ≡ flat_map (P.part part.now) (of_topic id.now seen.now.partitions)) }
+    ensures { IfOk result (λ rows. rows ≡
+        flat_map (P.part part.now) (of_topic id.now seen.now.partitions)) }
 {
-    seen.is_valid();
     let mut rows = Rows::new(alloc);
-    add_above(alloc, seen, part, before_all(id), &mut rows)?;
+    add_partitions(alloc, seen, part, id, &mut rows)?;
     Ok(rows)
 }
 
@@ -118,12 +261,7 @@ pub fn gather_topics<Y: Drop, P: TopicPart<Y>, S: Store>(
 ) -> Result<Rows<Y>, NoMemory>
     ensures { IfOk result (λ rows. rows ≡ flat_map (P.part part.now seen.now) seen.now.topics) }
 {
-    seen.is_valid();
     let mut rows = Rows::new(alloc);
-    let mut after = None;
-    while let Some((name, id)) = seen.next_topic(after) {
-        part.add(alloc, seen, name, id, &mut rows)?;
-        after = Some(name);
-    }
+    add_topics(alloc, seen, part, &mut rows)?;
     Ok(rows)
 }

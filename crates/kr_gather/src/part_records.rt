@@ -1,14 +1,36 @@
-//! The records of each broker, partition and topic.
+//! The record of each entry of an image.
 
 ghost use Rattle.kr_defs.specs.Records.{topic_records};
 ghost use Rattle.kr_gather.specs.inner.Contents as contents;
 
-use crate::lists::add_all;
-use crate::{BrokerPart, PartitionPart, TopicPart, gather_partitions};
+use crate::{BrokerPart, ConfigPart, FeaturePart, PartitionPart, TopicPart, add_partitions};
 use kr_base::NoMemory;
-use kr_defs::{Broker, Copied, Partition, Record, Records, Text};
+use kr_defs::{Broker, ConfigKey, Copied, Partition, Record, Records, Text};
 use kr_store::{Seen, Store};
 use std::alloc::Global;
+
+/// The level of a feature.
+#[derive(Drop)]
+pub(crate) struct Level;
+
+impl FeaturePart<Record> for Level {
+    ghost part = { λ _ entry. contents.of_feature entry };
+
+    fn add(
+        &self,
+        alloc: Global,
+        name: &Text,
+        level: &i16,
+        rows: &mut Records,
+    ) -> Result<(), NoMemory> {
+        let name = name.copied(alloc)?;
+        rows.push(Record::FeatureLevel {
+            name,
+            level: *level,
+        })?;
+        Ok(())
+    }
+}
 
 /// The registration of a broker.
 #[derive(Drop)]
@@ -73,7 +95,32 @@ impl TopicPart<Record> for TopicRecords {
     ) -> Result<(), NoMemory> {
         let name = name.copied(alloc)?;
         rows.push(Record::Topic { name, id: *id })?;
-        let partitions = gather_partitions(alloc, seen, &Standing, id)?;
-        add_all(alloc, rows, partitions)
+        add_partitions(alloc, seen, &Standing, id, rows)
+    }
+}
+
+/// A setting with its value.
+#[derive(Drop)]
+pub(crate) struct Setting;
+
+impl ConfigPart<Record> for Setting {
+    ghost part = { λ _ entry. contents.of_config entry };
+
+    fn add(
+        &self,
+        alloc: Global,
+        key: &ConfigKey,
+        value: &Text,
+        rows: &mut Records,
+    ) -> Result<(), NoMemory> {
+        let ConfigKey { kind, name, key } = key.copied(alloc)?;
+        let value = value.copied(alloc)?;
+        rows.push(Record::Config {
+            kind,
+            name,
+            key,
+            value: Some(value),
+        })?;
+        Ok(())
     }
 }

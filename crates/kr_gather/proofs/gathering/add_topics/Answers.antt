@@ -1,7 +1,7 @@
 use Rattle.std.specs.Option.{option_copied}
 use Rattle.kr_defs.proofs.ImageParts.{text_total}
 use Rattle.kr_gather.proofs.WalkGathering.{entry_more, entry_over, entry_less}
-use Rattle.kr_gather.proofs.gathering.gather_topics.Goals as goal
+use Rattle.kr_gather.proofs.gathering.add_topics.Goals as goal
 
 pub loop-name-preserved : goal.loop-name-preserved
 loop-name-preserved g c =
