@@ -53,8 +53,9 @@ pub fn run<S: Source, K: Sink, E: Sink>(
     // Where no read and no write failed: a whole session is served, and a broken one is refused at that frame.
     ensures complete { IsSession words.now → Still (S.faults input.old) (S.faults input.new) →
         Still (K.faults output.old) (K.faults output.new) → ServesWhole (S.left input.old) result }
-    ensures broken { IsSession words.now → Still (S.faults input.old) (S.faults input.new) → Still
-        (K.faults output.old) (K.faults output.new) → RefusesBroken (S.left input.old) result }
+    ensures broken { IsSession words.now → Still (S.faults input.old) (S.faults input.new) →
+        Still (K.faults output.old) (K.faults output.new) →
+        RefusesBroken (S.left input.old) result }
 
     // Where it is refused, no frame stands.
     ensures breaks { IsSession words.now → BreaksRightly (S.left input.old) result }
@@ -124,8 +125,9 @@ fn serve_words<S: Source, K: Sink>(
     ensures write { result ≡ Status.WriteFault → Rose (K.faults output.old) (K.faults output.new) }
     ensures complete { IsSession words.now → Still (S.faults input.old) (S.faults input.new) →
         Still (K.faults output.old) (K.faults output.new) → ServesWhole (S.left input.old) result }
-    ensures broken { IsSession words.now → Still (S.faults input.old) (S.faults input.new) → Still
-        (K.faults output.old) (K.faults output.new) → RefusesBroken (S.left input.old) result }
+    ensures broken { IsSession words.now → Still (S.faults input.old) (S.faults input.new) →
+        Still (K.faults output.old) (K.faults output.new) →
+        RefusesBroken (S.left input.old) result }
     ensures breaks { IsSession words.now → BreaksRightly (S.left input.old) result }
     ensures fold_complete { IsFold words.now → Still (S.faults input.old) (S.faults input.new) →
         Still (K.faults output.old) (K.faults output.new) →

@@ -201,8 +201,9 @@ pub fn session<S: Source, K: Sink>(alloc: Global, input: &mut S, output: &mut K)
     // Where no read and no write failed: a whole session is served, and a broken one is refused at that frame.
     ensures complete { Still (S.faults input.old) (S.faults input.new) →
         Still (K.faults output.old) (K.faults output.new) → ServesWhole (S.left input.old) result }
-    ensures broken { Still (S.faults input.old) (S.faults input.new) → Still (K.faults output.old)
-        (K.faults output.new) → RefusesBroken (S.left input.old) result }
+    ensures broken { Still (S.faults input.old) (S.faults input.new) →
+        Still (K.faults output.old) (K.faults output.new) →
+        RefusesBroken (S.left input.old) result }
 
     // Where it is refused, no frame stands.
     ensures breaks { BreaksRightly (S.left input.old) result }

@@ -17,7 +17,7 @@ use kr_shared::ClientSeat;
 use std::alloc::Global;
 use std::sync::Wait;
 
-// AnswersMessage one message: it is asked of the seat, its exchange is told, and its reply is written by one put.
+// Answers one message: it is asked of the seat, its exchange is told, and its reply is written by one put.
 fn answer_message<R: Wait, K: Sink, T: Transcript>(
     rt: &R,
     alloc: Global,

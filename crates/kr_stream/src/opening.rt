@@ -106,8 +106,8 @@ fn are_options(o: &Options) -> bool
 }
 
 fn has_partitions(partitions: &i32) -> bool
-    ensures { result ≡ (int_le
-        (pos 1) partitions.now && int_le partitions.now MOST_DEFAULT_PARTITIONS) }
+    ensures { result ≡
+        (int_le (pos 1) partitions.now && int_le partitions.now MOST_DEFAULT_PARTITIONS) }
 {
     1 <= *partitions && *partitions <= MOST_DEFAULT_PARTITIONS
 }
