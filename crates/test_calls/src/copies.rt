@@ -1,115 +1,11 @@
-//! Each call of kr_defs that takes memory, once with memory to spare.
+//! Calls of kr_defs that take memory, once with memory to spare; rows of batches copy records.
 
 use kr_defs::*;
 use std::alloc::{AllocError, Global};
 
-fn ids(alloc: Global) -> Result<Ids, AllocError> {
-    let mut ids = Ids::new(alloc);
-    ids.push(1)?;
-    ids.push(2)?;
-    Ok(ids)
-}
-
-fn partition(alloc: Global) -> Result<Partition, AllocError> {
-    let replicas = ids(alloc)?;
-    let in_sync = replicas.copied(alloc)?;
-    Ok(Partition {
-        replicas,
-        in_sync,
-        eligible: Ids::new(alloc),
-        last_known: Ids::new(alloc),
-        adding: Ids::new(alloc),
-        removing: Ids::new(alloc),
-        leader: 1,
-        recovery: 0,
-        leader_epoch: 3,
-        partition_epoch: 4,
-    })
-}
-
-fn endpoints(alloc: Global) -> Result<Endpoints, AllocError> {
-    let mut endpoints = Endpoints::new(alloc);
-    endpoints.push(Endpoint {
-        name: Text::from_str(alloc, "PLAINTEXT")?,
-        host: Text::from_str(alloc, "localhost")?,
-        port: 9092,
-        protocol: 0,
-    })?;
-    Ok(endpoints)
-}
-
-fn features(alloc: Global) -> Result<Ranges, AllocError> {
-    let mut features = Ranges::new(alloc);
-    features.push(Range {
-        name: Text::from_str(alloc, "metadata.version")?,
-        min: 1,
-        max: 20,
-    })?;
-    Ok(features)
-}
-
-fn registration(alloc: Global) -> Result<Broker, AllocError> {
-    let endpoints = endpoints(alloc)?;
-    let features = features(alloc)?;
-    let rack = Text::from_str(alloc, "r1")?;
-    Ok(Broker {
-        epoch: 5,
-        incarnation: 77,
-        endpoints,
-        features,
-        rack: Some(rack),
-        fenced: true,
-        stopping: false,
-    })
-}
-
 fn topic(alloc: Global) -> Result<Topic, AllocError> {
     let name = Text::from_str(alloc, "t")?;
     Ok(Topic { name, id: 9 })
-}
-
-fn records(alloc: Global) -> Result<Items, AllocError> {
-    let broker = registration(alloc)?;
-    let partition = partition(alloc)?;
-    let mut items = Items::new(alloc);
-    items.push(Item::Control)?;
-    items.push(Item::Record(Record::RegisterBroker {
-        broker: 1,
-        state: broker,
-    }))?;
-    items.push(Item::Record(Record::Partition {
-        index: 0,
-        topic: 9,
-        state: partition,
-    }))?;
-    Ok(items)
-}
-
-#[test]
-fn a_list_of_records_is_copied(rt: HostRuntime) -> Result<(), AllocError> {
-    let alloc = rt.alloc();
-    let items = records(alloc)?;
-    let copy = items.copied(alloc)?;
-    assert_eq!(rt; copy.len(), 3);
-    assert!(rt; copy == items);
-    Ok(())
-}
-
-#[test]
-fn a_change_is_copied(rt: HostRuntime) -> Result<(), AllocError> {
-    let alloc = rt.alloc();
-    let change = PartitionChange {
-        in_sync: Some(ids(alloc)?),
-        replicas: None,
-        removing: None,
-        adding: None,
-        eligible: Some(Ids::new(alloc)),
-        last_known: None,
-        leader: Some(-1),
-        recovery: None,
-    };
-    assert!(rt; change.copied(alloc)? == change);
-    Ok(())
 }
 
 #[test]

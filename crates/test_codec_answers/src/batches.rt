@@ -11,7 +11,7 @@ ghost use Rattle.test_codec_answers.specs.Words.{TellsBatch, batch_fault_words, 
 
 use crate::records::{TOO_LONG, record_fault};
 use kr_batch::{Batch, BatchFault, Cause};
-use kr_defs::Item;
+use kr_defs::{Copied, Item};
 use law_reencoding::batches_again;
 use std::alloc::{AllocError, Global};
 
@@ -71,7 +71,20 @@ fn head_text(alloc: Global, batch: &Batch) -> Result<String, AllocError>
     format!(in alloc; "{place} {time}")
 }
 
-// What is written for a batch that stood in so many bytes.
+// A copy of the batch, so that copies of all records are compared too.
+fn copy_of(alloc: Global, batch: &Batch) -> Result<Batch, AllocError>
+    ensures { IfOk result (λ copy. copy ≡ batch.now) }
+{
+    let items = batch.items.copied(alloc)?;
+    Ok(Batch {
+        base: batch.base,
+        epoch: batch.epoch,
+        time: batch.time,
+        items,
+    })
+}
+
+// What is written for a batch that stood in so many bytes, by a copy of it.
 fn written_batch(alloc: Global, batch: &Batch, len: usize) -> Result<String, AllocError>
     requires { len < 2 ^ 27 → IsRegular batch.now }
     ensures { IfOk result (λ text. string_bytes text ≡ written_words len batch.now) }
@@ -79,8 +92,9 @@ fn written_batch(alloc: Global, batch: &Batch, len: usize) -> Result<String, All
     if len >= 1 << 27 {
         return String::from_str(alloc, TOO_LONG);
     }
+    let copy = copy_of(alloc, batch)?;
     let mut out = Vec::new(alloc);
-    if kr_batch::encode(batch, &mut out).is_err() {
+    if kr_batch::encode(&copy, &mut out).is_err() {
         return Err(AllocError);
     }
     hex::encode(alloc, out.as_slice())
