@@ -56,17 +56,16 @@ batches_on (suc batches) before first more full some few =
     ∙ ap (λ (l : List ℕ). l ++ batch_bytes (batch_of_group (before + length first) more))
     (ap (λ (n : ℕ). batch_bytes (batch_of_group before front) ++ batches_bytes (before + n) (chunks IMAGE_BATCH rest)) (sym long) ∙ ap (batches_bytes before) (sym cut))))))
 
-pub goes_on : (count done : ℕ) (records : List Record) → IsUnderway count done → MayPut (record { count = count; done = done }) records
-    → IsNextText (record { count = count; done = done }) records (put_bytes (record { count = count; done = done }) records)
-goes_on count done records within may offset first is =
+pub goes_on : (w : Written) (records : List Record) → IsUnderway w.count w.done → MayPut w records → IsNextText w records (put_bytes w records)
+goes_on w records within may offset first is =
     let some = may.some in
     let room = may.within in
     let few = may.few in
     let full = within.full (omega (arith, some, room)) in
     let long : length (as_items records) ≡ length records = length-map records (λ r. kinds.Record r) in
-    let short : length (as_items first) ≡ done = length-map first (λ r. kinds.Record r) ∙ is in
-    let place : 0 + length (as_items first) ≡ done = omega (arith, short) in
-    let front : List ℕ = image_head offset (pos count) in
+    let short : length (as_items first) ≡ w.done = length-map first (λ r. kinds.Record r) ∙ is in
+    let place : 0 + length (as_items first) ≡ w.done = omega (arith, short) in
+    let front : List ℕ = image_head offset (pos w.count) in
     let before : List ℕ = batches_bytes 0 (chunks IMAGE_BATCH (as_items first)) in
     let on = batches_on full.0 0 (as_items first) (as_items records) (short ∙ full.1) (omega (arith, long, some)) (omega (arith, long, few)) in
     ap (λ (l : List Item). front ++ batches_bytes 0 (chunks IMAGE_BATCH l)) (map-append (λ (r : Record). kinds.Record r) first records)
@@ -88,21 +87,21 @@ may_few w records may =
     let few = may.few in
     omega (arith, long, few)
 
-pub done_number : (count done : ℕ) → IsUnderway count done → done < 2 ^ 63
-done_number count done within =
+pub done_number : (w : Written) → IsUnderway w.count w.done → w.done < 2 ^ 63
+done_number w within =
     let number = within.number in
-    let most = within.within in
-    omega (arith, number, most)
+    let done = within.within in
+    omega (arith, number, done)
 
-pub put_number : (count done : ℕ) (records : List Record) → IsUnderway count done → MayPut (record { count = count; done = done }) records → done + length records < 2 ^ 64
-put_number count done records within may =
+pub put_number : (w : Written) (records : List Record) → IsUnderway w.count w.done → MayPut w records → w.done + length records < 2 ^ 64
+put_number w records within may =
     let number = within.number in
     let room = may.within in
     omega (arith, number, room)
 
 -- the numbers stay within
-pub put_within : (count done : ℕ) (records : List Record) → IsUnderway count done → MayPut (record { count = count; done = done }) records → IsUnderway count (done + length records)
-put_within count done records within may = record {
+pub put_within : (w : Written) (records : List Record) → IsUnderway w.count w.done → MayPut w records → IsUnderway w.count (w.done + length records)
+put_within w records within may = record {
   number = within.number;
   within = may.within;
   full = λ less.

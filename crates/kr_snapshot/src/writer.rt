@@ -99,8 +99,9 @@ impl Writer {
         // With the records that were put, what is appended is the text of the image as far as these records.
         ensures text { IsNextText self.old records.now (put_bytes self.old records.now) }
     {
+        let done = self.done;
         let items = items_of(*out.allocator(), records)?;
-        let batch = batch_behind(self.done, items);
+        let batch = batch_behind(done, items);
         encode(&batch, out)?;
         self.done += records.len() as u64;
         Ok(())
