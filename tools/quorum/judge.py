@@ -5,6 +5,7 @@ import subprocess
 
 from history import History
 from nodes import CLUSTER, PREFIX, SALT, SOON, TOOL, Failed, client, request_of, until
+from tape import digest
 
 OPEN, LOAD, REQUEST, END, REPLY = 0x01, 0x06, 0x08, 0x0A, 0x82
 
@@ -49,7 +50,8 @@ class Judge:
     def __init__(self, members, nodes, tapes, path):
         self.nodes, self.tapes = nodes, tapes
         self.history = History(members.clients, PREFIX, path)
-        self.faults, self.lost, self.images = [], 0, 0       # images that were kept
+        self.faults, self.lost = [], 0
+        self.images, self.loads = {}, 0                      # digests of the images that were kept, by their places; loads of them
         self.writes = []                                     # (error, seconds, whether it stands) of each
         self.last_place = {}                                 # of what a client wrote, by the client's number
         self.committed, self.lags = {}, []                   # when a place was committed; how long after that a standby was fed it
@@ -99,26 +101,31 @@ class Judge:
                 self.lags.append(entry.when - committed)
 
     def _images(self):
-        """Each image that was kept is the fold of the log up to its place, to the byte."""
+        """Each image that was kept is the fold of the log up to its place, to the byte, and what was loaded was one of them."""
         for place, image in self.history.images:
-            self.images += 1
+            self.images[place] = digest(image)
             if image != fold(self.history.bytes()[:self.history.size_at.get(place, 0)]):
                 self.faults.append(f"the image of place {place} isn't the fold of the log up to there")
         self.history.images = []
+        for life in self._lives():
+            self.loads += len(life.loads)
+            self.faults += [f"node {life.number} was handed in an image of place {place} that isn't the one that was kept"
+                            for place, loaded in life.loads if self.images.get(place) != loaded]
+            life.loads = []
 
     def compare(self):
-        """While nobody writes: both nodes show what the folded log shows, once they were fed all of it."""
+        """While nobody writes: each node shows what the folded log shows, once it has taken all of it."""
         seen = {}
 
         def agree():
             self.history.catch_up()
-            if any(not (life := tape.now()) or life.end < self.history.end for tape in self.tapes):
+            if not all(tape.has(self.history.end) for tape in self.tapes):
                 return False
             seen["model"] = shown_by_tool(self.history.bytes())
             seen["nodes"] = [shown_by(node) for node in self.nodes]
             return all(shown == seen["model"] for shown in seen["nodes"])
         try:
-            until("both nodes show what the folded log shows", agree)
+            until("each node shows what the folded log shows", agree)
         except Failed:
             if "model" not in seen:
                 raise

@@ -25,6 +25,7 @@ DAEMON = shlex.split(os.environ.get("DAEMON", f"{ROOT}/crates/kr_daemon/out/kr_d
 TOOL = shlex.split(os.environ.get("TOOL", f"{ROOT}/crates/kr_tool/out/kr_tool"))
 ETCD = shlex.split(os.environ.get("ETCD", "etcd"))
 LINK = [sys.executable, f"{HERE}/link"]
+SESSION_DAEMON = [sys.executable, f"{HERE}/session-daemon"]
 LEASE = 5                # seconds, as a link takes it by itself
 SOON = 30                # seconds after which what hasn't come counts as lost
 PREFIX = b"/pibranog/"   # of the keys, as a link takes it by itself
@@ -153,8 +154,9 @@ class Node:
     """A daemon and its link. The daemon connects to `dial`, which is its link where nothing is set between them; the link to
     `members`, addresses of etcd's members."""
 
-    def __init__(self, number, processes, members, link=LINK, lease=LEASE):
-        self.number, self.processes, self.members, self.link_command, self.lease = number, processes, members, link, lease
+    def __init__(self, number, processes, members, link=LINK, lease=LEASE, daemon=DAEMON):
+        self.number, self.processes, self.members, self.lease = number, processes, members, lease
+        self.link_command, self.daemon_command = link, daemon
         port, link_port = free_ports(2)
         self.address, self.link_address = f"127.0.0.1:{port}", f"127.0.0.1:{link_port}"
         self.dial, self.daemon, self.link = self.link_address, None, None
@@ -169,7 +171,7 @@ class Node:
     def start_daemon(self):
         words = ["--listen", self.address, "--node", str(self.number), "--cluster", CLUSTER, "--salt", str(SALT)]
         words += ["--link", self.dial, "--clients", "16"]
-        self.daemon = self.processes.start(f"daemon{self.number}", DAEMON + words)
+        self.daemon = self.processes.start(f"daemon{self.number}", self.daemon_command + words)
         until(f"daemon {self.number} listens", lambda: is_open(self.address))
 
     def ask(self, words):

@@ -37,10 +37,11 @@ class Life:
 
     def __init__(self, number):
         self.number, self.began, self.over = number, time.monotonic(), False
-        self.end = self.events = 0                           # of its committed log; events that were handed in
+        self.end = self.taken = self.events = 0              # of its committed log; how much of it it has answered; events handed in
         self.led = None                                      # the epoch in which it leads
         self.entries = collections.deque()                   # of its committed log, those that nobody took yet
-        self.written, self.leads, self.faults, self.pings = [], [], [], set()
+        self.written, self.leads, self.loads, self.faults = [], [], [], []
+        self.pings = {}                                      # the log's end at each ping that wasn't answered, by its number
 
     def hand_in(self, kind, body):
         """An event of the link."""
@@ -52,11 +53,12 @@ class Life:
         elif kind == LEAD:
             self._lead(*struct.unpack_from(">iq", body))
         elif kind == LOST and struct.unpack(">i", body)[0] == NOBODY:
-            self.pings.add(self.events)
+            self.pings[self.events] = self.end
         elif kind == LOST:
             self.led = None
         elif kind == LOAD:
             self.end = struct.unpack_from(">q", body)[0]
+            self.loads.append((self.end, digest(body)))
 
     def give_out(self, kind, body):
         """A frame of the daemon."""
@@ -66,7 +68,7 @@ class Life:
             event, reason = struct.unpack_from(">QB", body)
             if event not in self.pings or reason != NOT_LEADING:
                 self.faults.append(f"event {event} was refused for reason {reason}")
-            self.pings.discard(event)
+            self.taken = self.pings.pop(event, self.taken)
 
     def _batch(self, batch):
         place, end, epoch = span(batch)
@@ -145,3 +147,8 @@ class Tape:
     def now(self):
         """The daemon that is connected, None where none is."""
         return self.lives[-1] if self.lives and not self.lives[-1].over else None
+
+    def has(self, end):
+        """Whether a daemon is connected that was handed in the log up to there, and has answered since."""
+        life = self.now()
+        return life is not None and life.taken >= end
