@@ -53,10 +53,11 @@ def found(answer):
 
 
 class Gateway:
-    """Asks the members in turn, from the last that answered. An earlier try may have taken effect: callers see to that."""
+    """Asks the members in turn, from the last that answered, until it `gives_up`. An earlier try may have taken effect: callers see
+    to that."""
 
-    def __init__(self, members, first=0):
-        self.members, self.at, self.open = members, first % len(members), None
+    def __init__(self, members, gives_up=lambda: False):
+        self.members, self.gives_up, self.at, self.open = members, gives_up, 0, None
 
     def call(self, path, body):
         fault = None
@@ -67,6 +68,8 @@ class Gateway:
                 fault = error
                 self.close()
                 self.at = (self.at + 1) % len(self.members)
+            if self.gives_up():
+                break
         raise Unknown(f"{type(fault).__name__}: {fault}")
 
     def _post(self, path, body):

@@ -132,9 +132,11 @@ class History:
 
     def _drop(self, image, gone):
         """Batches go only with an image that stands for all before its place, where a batch ends."""
-        if image is None and not gone:
+        if image is None:
+            if gone:
+                self._fault(f"{len(gone)} batches were dropped, and no image came")
             return
-        before, self.image = self.image, int((image or b"0").split()[0])
+        before, self.image = self.image, int(image.split()[0])
         if self.image <= before or self.image not in self.size_at:
             self._fault(f"an image of place {self.image} came, behind one of {before}, of the log up to {self.end}")
         if gone != {place for place in self.log if before <= place < self.image}:

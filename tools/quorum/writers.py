@@ -51,7 +51,7 @@ def setting(key, value):
     return Write(f"alter {key}={value}", [CONFIG + b"\x04" + client.text("") + client.text(key) + client.text(value) + b"\0"])
 
 
-def large(start):
+def many(start):
     pairs = [(f"large-{at}", f"{start}-{at}-{LARGE}") for at in range(MANY)]
     return Write("alter " + " ".join(f"{key}={value}" for key, value in pairs),
                  [CONFIG + b"\x04" + client.text("") + client.text(key) + client.text(value) for key, value in pairs])
@@ -60,9 +60,10 @@ def large(start):
 class Writer(threading.Thread):
     """Writes one thing after the other at the node that answered last, until it is told to stop."""
 
-    def __init__(self, number, nodes):
+    def __init__(self, number, nodes, large):
         super().__init__(daemon=True)
         self.number, self.nodes, self.at, self.stop = number, nodes, number % len(nodes), False
+        self.large = large                                   # each so many of its writes is a large one, none where it is 0
         self.done, self.open = collections.deque(), None     # writes that nobody looked at yet; the connection
         self.hand = threading.Lock()                         # taken while a write waits for its answer; who has it holds the writer
         self.draw = random.Random(number)
@@ -77,8 +78,8 @@ class Writer(threading.Thread):
 
     def next(self, count):
         name = f"w{self.number}-{count}"
-        if self.number == 0 and count % 500 == 50:
-            return large(name)
+        if self.large and count % self.large == 50:
+            return many(name)
         if count % 10 == 3:
             return topic(name)
         if count % 10 == 7:
