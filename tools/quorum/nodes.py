@@ -20,6 +20,7 @@ from gateway import Gateway, Unknown
 loader = importlib.machinery.SourceFileLoader("client", f"{ROOT}/tools/client")
 client = importlib.util.module_from_spec(importlib.util.spec_from_loader("client", loader))
 loader.exec_module(client)
+parser = client.parser()
 
 DAEMON = shlex.split(os.environ.get("DAEMON", f"{ROOT}/crates/kr_daemon/out/kr_daemon"))
 TOOL = shlex.split(os.environ.get("TOOL", f"{ROOT}/crates/kr_tool/out/kr_tool"))
@@ -192,7 +193,7 @@ class Node:
 
 def request_of(words):
     """The message of a request in tools/client's words, and what tells its reply."""
-    options = client.parser().parse_args(words.split())
+    options = parser.parse_args(words.split())
     return options.request(options)
 
 
