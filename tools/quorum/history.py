@@ -4,6 +4,7 @@ import http.client
 import itertools
 import json
 import struct
+import time
 from typing import NamedTuple
 
 from batches import Broken, span, whole
@@ -11,6 +12,18 @@ from gateway import Gateway, Unknown, unpacked
 from tape import digest
 
 SHOWN = 200              # bytes of a record's value that are kept
+TRIES = 60               # of a call of etcd
+
+
+def patiently(call):
+    """What a call of etcd gives in the end: members may be down or slow for a while."""
+    for _ in range(TRIES):
+        try:
+            return call()
+        except (Unknown, OSError, http.client.HTTPException) as error:
+            fault = error
+            time.sleep(0.5)
+    raise Unknown(f"{type(fault).__name__}: {fault}")
 
 
 class Standing(NamedTuple):
@@ -56,14 +69,8 @@ class History:
 
     def catch_up(self):
         """Takes all changes up to now, from one member after the other where one fails."""
-        now = self.etcd.revision(self.prefix + b"end")
-        for _ in range(10):
-            try:
-                self._take_up_to(now)
-                return
-            except (OSError, http.client.HTTPException) as error:
-                fault = error
-        raise Unknown(f"{type(fault).__name__}: {fault}")
+        now = patiently(lambda: self.etcd.revision(self.prefix + b"end"))
+        patiently(lambda: self._take_up_to(now))
 
     def _take_up_to(self, now):
         if self.revision >= now:
