@@ -113,7 +113,7 @@ class Judge:
                             for place, loaded in life.loads if self.images.get(place) != loaded]
             life.loads = []
 
-    def compare(self, patience):
+    def compare(self):
         """While nobody writes: each node shows what the folded log shows, once it has taken all of it."""
         seen = {}
 
@@ -125,7 +125,7 @@ class Judge:
             seen["nodes"] = [shown_by(node) for node in self.nodes]
             return all(shown == seen["model"] for shown in seen["nodes"])
         try:
-            until("each node shows what the folded log shows", agree, patience)
+            until("each node shows what the folded log shows", agree)
         except Failed:
             if "model" not in seen:
                 raise

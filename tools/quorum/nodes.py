@@ -34,6 +34,14 @@ CLUSTER, SALT = "c1", 7
 NOT_CONTROLLER = 41
 
 
+class Patience:
+    """How long it is waited for what is to come."""
+    seconds = SOON
+
+
+patience = Patience()
+
+
 class Failed(Exception):
     """Something didn't hold, or not in time."""
 
@@ -72,14 +80,14 @@ def is_open(address):
         return one.connect_ex((host, int(port))) == 0
 
 
-def until(what, holds, seconds=SOON):
+def until(what, holds):
     """How long it took until it held."""
     began = time.monotonic()
-    while time.monotonic() - began < seconds:
+    while time.monotonic() - began < patience.seconds:
         if holds():
             return time.monotonic() - began
         time.sleep(0.02)
-    raise Failed(f"not within {seconds} seconds: {what}")
+    raise Failed(f"not within {patience.seconds} seconds: {what}")
 
 
 class Processes:
