@@ -6,7 +6,7 @@ import struct
 import threading
 import time
 
-from nodes import NOT_CONTROLLER, SOON, Failed, client, request_of, told
+from nodes import NOT_CONTROLLER, SOON, client, request_of, told, until
 
 ACTIVE = (1, 2, 3)       # brokers that are heard of each second
 LARGE, MANY = "x" * 8_000, 140   # the value of a large setting, and how many go in one request: above what stands in one piece
@@ -114,12 +114,20 @@ class Brokers(threading.Thread):
         super().__init__(daemon=True)
         self.nodes, self.at, self.epochs, self.stop = nodes, 0, {}, False
 
-    def register(self, node):
+    def register(self):
         for broker in ACTIVE:
-            error, line = node.ask(f"register {broker} --host h{broker}")[0]
-            if error:
-                raise Failed(line)
-            self.epochs[broker] = int(line.split("epoch ")[1])
+            until(f"broker {broker} is registered", lambda: self.is_registered(broker))
+
+    def is_registered(self, broker):
+        try:
+            error, line = self.nodes[self.at].ask(f"register {broker} --host h{broker}")[0]
+        except client.NoReply:
+            error = NOT_CONTROLLER
+        if error:
+            self.at = (self.at + 1) % len(self.nodes)
+            return False
+        self.epochs[broker] = int(line.split("epoch ")[1])
+        return True
 
     def run(self):
         while not self.stop:
