@@ -2,9 +2,10 @@
 
 Under a prefix stand `log/PLACE`, a batch by the place of its first record; `end`, the place behind the last batch; `leader`, who
 leads, under a lease; `epoch`, the greatest epoch that was led; and `image`, the place up to which an image stands for the log. No
-other code writes these keys (`parts/`, of large batches and of images, are written before anything refers to them). Of etcd it is taken that a transaction happens whole or not at all, that they happen one
-after the other, each at a revision of its own, that no revision is lost once it was answered, and that a read shows at least
-what was answered before it was asked. No clock is trusted: a lease says when to try, and never what stands.
+other code writes these keys (`parts/`, of large batches and of images, are written before anything refers to them). Of etcd it is
+taken that a transaction happens whole or not at all, that they happen one after the other, each at a revision of its own, that no
+revision is lost once it was answered, and that a read shows at least what was answered before it was asked. No clock is trusted:
+a lease says when to try, and never what stands.
 
 The log at a revision is its batches from place 0 up to `end`, of which those before `image` were dropped.
 
