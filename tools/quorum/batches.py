@@ -1,7 +1,9 @@
-"""Batches as they stand in etcd: by the place of the first record, and in parts where they are larger than etcd takes at once."""
+"""The log as it stands in etcd: batches by the place of the first record, and the image of those that were dropped; in parts where
+they are larger than etcd takes at once."""
+import hashlib
 import struct
 
-from gateway import get, put
+from gateway import get, made_at, put, value_is
 
 PART = 1 << 20           # bytes; etcd takes 1.5 MiB in a request, all keys and values together
 TOGETHER = 100           # batches in an append, of a part's bytes together; etcd takes 128 operations
@@ -11,7 +13,11 @@ IN_PARTS = 0xFF          # what stands for a batch of several parts begins with 
 
 
 class Broken(Exception):
-    """What stands in etcd isn't the log that the two transactions leave."""
+    """What stands in etcd isn't the log that the transactions leave."""
+
+
+class Dropped(Exception):
+    """An image stands for the batches that were to be read."""
 
 
 def at_place(place):
@@ -39,36 +45,101 @@ def value_for(etcd, prefix, compare, batch):
     return struct.pack(">BI", IN_PARTS, count) + batch[:HEAD]
 
 
-def batch_of(etcd, prefix, value):
-    """The batch for which a value stands."""
+def whole(value, part):
+    """The batch for which a value stands, where `part` gives the parts by place, epoch and number."""
     if value[0] != IN_PARTS:
         return value
     count, head = struct.unpack_from(">I", value, 1)[0], value[5:]
     place, _, epoch = span(head)
-    batch = b""
-    for at in range(count):
-        _, (read,) = etcd.transact([], [get(part_key(prefix, place, epoch, at))], [])
-        batch += read[0][1] if read else b""
+    batch = b"".join(part(place, epoch, at) or b"" for at in range(count))
     if batch[:HEAD] != head or len(batch) != 12 + struct.unpack_from(">i", batch, 8)[0]:
         raise Broken(f"the parts of the batch at place {place} aren't whole")
     return batch
 
 
+def batch_of(etcd, prefix, value):
+    """The batch for which a value stands in etcd."""
+    def part(place, epoch, at):
+        _, (read,) = etcd.transact([], [get(part_key(prefix, place, epoch, at))], [])
+        return read[0][1] if read else None
+    return whole(value, part)
+
+
+def number(read):
+    """The number with which the value begins that was read, 0 where there is none."""
+    return int(read[0][1].split()[0]) if read else 0
+
+
 def look(etcd, prefix):
-    """The log's end, and whether somebody leads: one linearizable read."""
-    _, (end, leader) = etcd.transact([], [get(prefix + b"end"), get(prefix + b"leader")], [])
-    return int(end[0][1]) if end else 0, bool(leader)
+    """The log's end, whether somebody leads, and the place up to which an image stands for it: one linearizable read."""
+    _, (end, leader, image) = etcd.transact([], [get(prefix + b"end"), get(prefix + b"leader"), get(prefix + b"image")], [])
+    return number(end), bool(leader), number(image)
 
 
 def read(etcd, prefix, start, end):
-    """The batches from `start` up to `end`, which is no later than an end that was read before."""
+    """The batches from `start` up to `end`, which is no later than an end that was read before. Dropped is raised where an image
+    stands for some of them by now."""
     while start < end:
         found = etcd.range(prefix + at_place(start), prefix + at_place(end), READ)
         if not found:
-            raise Broken(f"no batch at place {start}, below the end {end}")
+            raise missing(etcd, prefix, start, f"no batch at place {start}, below the end {end}")
         for key, value, _ in found:
-            batch = batch_of(etcd, prefix, value)
+            try:
+                batch = batch_of(etcd, prefix, value)
+            except Broken as fault:
+                raise missing(etcd, prefix, start, str(fault))
             if key != prefix + at_place(start) or span(batch)[0] != start:
-                raise Broken(f"another batch than the one of place {start}")
+                raise missing(etcd, prefix, start, f"another batch than the one of place {start}")
             yield batch
             start = span(batch)[1]
+
+
+def missing(etcd, prefix, start, what):
+    """Why a batch isn't there."""
+    return Dropped() if look(etcd, prefix)[2] > start else Broken(what)
+
+
+# ---- images
+
+def image_part_key(prefix, offset, at):
+    return prefix + b"parts/image/%016x/%08x" % (offset, at)
+
+
+def offset_of(image):
+    """The place up to which an image stands for the log."""
+    return struct.unpack_from(">q", image)[0]
+
+
+def digest(image):
+    return hashlib.sha256(image).hexdigest().encode()
+
+
+def image_value(image):
+    """What is put for an image beside its parts: its place, its size, and a digest of it."""
+    return b"%d %d %s" % (offset_of(image), len(image), digest(image))
+
+
+def put_image_parts(etcd, prefix, compare, image):
+    for at in range(-(-len(image) // PART)):
+        part = put(image_part_key(prefix, offset_of(image), at), image[at * PART:(at + 1) * PART])
+        etcd.transact([compare], [part], [])
+
+
+def same_image(prefix, read):
+    """Holds as long as the image is the one that was read."""
+    return value_is(prefix + b"image", read[0][1]) if read else made_at(prefix + b"image", 0)
+
+
+def read_image(etcd, prefix):
+    """The image that stands for the beginning of the log, None where there is none."""
+    while True:
+        _, (value,) = etcd.transact([], [get(prefix + b"image")], [])
+        if not value:
+            return None
+        offset, size, its_digest = value[0][1].split()
+        parts = (etcd.transact([], [get(image_part_key(prefix, int(offset), at))], [])[1][0] for at in range(-(-int(size) // PART)))
+        image = b"".join(part[0][1] for part in parts if part)
+        if digest(image) == its_digest:
+            return image
+        if etcd.transact([same_image(prefix, value)], [], [])[0]:
+            raise Broken(f"the image of place {int(offset)} isn't whole")

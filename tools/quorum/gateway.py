@@ -33,6 +33,11 @@ def put(key, value, lease=0):
     return {"request_put": {"key": packed(key), "value": packed(value), "lease": str(lease)}}
 
 
+def delete(key, end):
+    """The keys from `key` up to `end`."""
+    return {"request_delete_range": {"key": packed(key), "range_end": packed(end)}}
+
+
 def value_is(key, value):
     return {"key": packed(key), "target": "VALUE", "result": "EQUAL", "value": packed(value)}
 
@@ -48,10 +53,11 @@ def found(answer):
 
 
 class Gateway:
-    """Asks the members in turn, from the last that answered. An earlier try may have taken effect: callers see to that."""
+    """Asks the members in turn, from the last that answered, until it `gives_up`. An earlier try may have taken effect: callers see
+    to that."""
 
-    def __init__(self, members, first=0):
-        self.members, self.at, self.open = members, first % len(members), None
+    def __init__(self, members, gives_up=lambda: False):
+        self.members, self.gives_up, self.at, self.open = members, gives_up, 0, None
 
     def call(self, path, body):
         fault = None
@@ -62,6 +68,8 @@ class Gateway:
                 fault = error
                 self.close()
                 self.at = (self.at + 1) % len(self.members)
+            if self.gives_up():
+                break
         raise Unknown(f"{type(fault).__name__}: {fault}")
 
     def _post(self, path, body):
@@ -101,15 +109,20 @@ class Gateway:
     def revoke(self, lease):
         self.call("lease/revoke", {"ID": str(lease)})
 
-    def changes(self, first, end):
-        """Yields as often as etcd tells of changes to the keys between, until the stream fails or a minute is silent."""
+    def revision(self, key):
+        """The revision of the latest change of any key, by a linearizable read of this one."""
+        return int(self.call("kv/range", {"key": packed(key)})["header"]["revision"])
+
+    def changes(self, first, end, since=0):
+        """A line of JSON for each piece that etcd tells of changes to the keys between, from now or from a revision on, until the
+        stream fails or a minute is silent."""
         stream = http.client.HTTPConnection(self.members[self.at], timeout=60)
         try:
-            body = {"create_request": {"key": packed(first), "range_end": packed(end)}}
+            body = {"create_request": {"key": packed(first), "range_end": packed(end), "start_revision": str(since)}}
             stream.request("POST", "/v3/watch", json.dumps(body), {"Content-Type": "application/json"})
             reply = stream.getresponse()
-            while reply.readline():
-                yield
+            while line := reply.readline():
+                yield line
         finally:
             stream.close()
             self.at = (self.at + 1) % len(self.members)

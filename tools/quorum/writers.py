@@ -1,0 +1,148 @@
+"""Clients that write what nobody else writes, and remember what they were told: for torture."""
+import collections
+import itertools
+import random
+import struct
+import threading
+import time
+
+from nodes import NOT_CONTROLLER, SOON, client, request_of, told, until
+
+ACTIVE = (1, 2, 3)       # brokers that are heard of each second
+LARGE, MANY = "x" * 8_000, 140   # the value of a large setting, and how many go in one request: above what stands in one piece
+PAUSE = 0.4              # seconds between two writes of a client, at most
+TOPIC, REGISTER, CONFIG = b"\x01\x02\x00", b"\x01\x00\x01", b"\x01\x04\x00"    # frame version, key and version of a record
+
+
+class Write:
+    """One request that writes, what is to stand in the log for it, and what came of it."""
+
+    def __init__(self, words, values, place=None):
+        self.words, self.values = words, values              # how the values of its records begin, in words of the reply
+        self.place = place                                   # takes the place out of the reply's line, where that tells it
+        self.asked = self.over = 0.0
+        self.error = self.told = None                        # None where no reply came; the place that was told
+
+    def take(self, error, line):
+        self.error = error
+        if error == 0 and self.place:
+            self.told, self.values = self.place(line)
+
+    def stands_at(self, history):
+        """The place of its first record; None where it doesn't stand."""
+        places = [history.has(value, None if self.told is None else self.told) for value in self.values]
+        return None if None in places else places[0]
+
+
+def topic(name):
+    def place(line):
+        number = bytes.fromhex(line.split("id ")[1])
+        # The least number above the place that no topic has: where each topic has a request of its own, the next one.
+        return int.from_bytes(number[8:], "big") - 1, [TOPIC + client.text(name) + number + b"\0"]
+    return Write(f"create {name} --partitions 1 --factor 2", [TOPIC + client.text(name)], place)
+
+
+def registration(broker, incarnation):
+    value = REGISTER + struct.pack(">i", broker) + incarnation.to_bytes(16, "big")
+    return Write(f"register {broker} --incarnation {incarnation}", [value], lambda line: (int(line.split("epoch ")[1]), [value]))
+
+
+def setting(key, value):
+    return Write(f"alter {key}={value}", [CONFIG + b"\x04" + client.text("") + client.text(key) + client.text(value) + b"\0"])
+
+
+def many(start):
+    pairs = [(f"large-{at}", f"{start}-{at}-{LARGE}") for at in range(MANY)]
+    return Write("alter " + " ".join(f"{key}={value}" for key, value in pairs),
+                 [CONFIG + b"\x04" + client.text("") + client.text(key) + client.text(value) for key, value in pairs])
+
+
+class Writer(threading.Thread):
+    """Writes one thing after the other at the node that answered last, until it is told to stop."""
+
+    def __init__(self, number, nodes, large):
+        super().__init__(daemon=True)
+        self.number, self.nodes, self.at, self.stop = number, nodes, number % len(nodes), False
+        self.large = large                                   # each so many of its writes is a large one, none where it is 0
+        self.done, self.open = collections.deque(), None     # writes that nobody looked at yet; the connection
+        self.hand = threading.Lock()                         # taken while a write waits for its answer; who has it holds the writer
+        self.draw = random.Random(number)
+
+    def run(self):
+        for count in itertools.count(1):
+            with self.hand:
+                if self.stop:
+                    return
+                self.ask(self.next(count))
+            time.sleep(self.draw.uniform(0, PAUSE))
+
+    def next(self, count):
+        name = f"w{self.number}-{count}"
+        if self.large and count % self.large == 50:
+            return many(name)
+        if count % 10 == 3:
+            return topic(name)
+        if count % 10 == 7:
+            return registration(100 + self.number, count)
+        return setting(f"key-{self.number}", name)
+
+    def ask(self, write):
+        message, tell = request_of(write.words)
+        write.asked = time.monotonic()
+        try:
+            self.open = self.open or client.Connection(self.nodes[self.at].address, SOON)
+            write.take(*told(self.open.ask(message), tell)[0])
+        except client.NoReply:
+            pass
+        write.over = time.monotonic()
+        self.done.append(write)
+        if write.error in (None, NOT_CONTROLLER):
+            self.leave()
+
+    def leave(self):
+        """The other node next. The connection is closed, since it has one of the daemon's seats."""
+        if self.open:
+            self.open.socket.close()
+        self.open, self.at = None, (self.at + 1) % len(self.nodes)
+        time.sleep(0.05)
+
+
+class Brokers(threading.Thread):
+    """Brokers that are active as long as somebody leads."""
+
+    def __init__(self, nodes):
+        super().__init__(daemon=True)
+        self.nodes, self.at, self.epochs, self.stop = nodes, 0, {}, False
+
+    def register(self):
+        for broker in ACTIVE:
+            until(f"broker {broker} is registered", lambda: self.is_registered(broker))
+
+    def is_registered(self, broker):
+        try:
+            error, line = self.nodes[self.at].ask(f"register {broker} --host h{broker}")[0]
+        except client.NoReply:
+            error = NOT_CONTROLLER
+        if error:
+            self.at = (self.at + 1) % len(self.nodes)
+            return False
+        self.epochs[broker] = int(line.split("epoch ")[1])
+        return True
+
+    def run(self):
+        while not self.stop:
+            try:
+                errors = [self.heartbeat(broker, epoch) for broker, epoch in self.epochs.items()]
+            except client.NoReply:
+                errors = [NOT_CONTROLLER]
+            if any(errors):
+                self.at = (self.at + 1) % len(self.nodes)
+            time.sleep(0.1 if any(errors) else 1.0)
+
+    def heartbeat(self, broker, epoch):
+        message, tell = request_of(f"heartbeat {broker} {epoch}")
+        one = client.Connection(self.nodes[self.at].address, 3)
+        try:
+            return told(one.ask(message), tell)[0][0]
+        finally:
+            one.socket.close()
