@@ -9,7 +9,7 @@ ghost use Rattle.kr_view.specs.Shelves.{next_at, shown_at, with_staged};
 ghost use Rattle.kr_shared.specs.Answers.{answering};
 ghost use Rattle.kr_shared.specs.Standing.{StandsForSome};
 ghost use Rattle.kr_shared.specs.Serves.{ServesEvent};
-ghost use Rattle.kr_shared.specs.Turns.{DoesJob, DoesWhole, DoesWrite, LosesUnless, Notes};
+ghost use Rattle.kr_shared.specs.Turns.{DoesJob, DoesWhole, DoesWrite, LosesUnless, Notes, NotesUnlessAhead};
 ghost use Rattle.kr_shared.specs.Tasks.{IsTask, decided_on};
 ghost use Rattle.kr_shared.specs.Takes.{TakesEvent};
 ghost use Rattle.kr_shared.specs.Works.{IsBareNote, KeepsShown, Onwards, answers_of, call_in, call_of};
@@ -19,7 +19,7 @@ use crate::appends::append_all;
 use crate::asked::Asked;
 use crate::taking::take;
 use kr_base::{Clock, NoMemory, Quorum, Steps};
-use kr_calls::{AnswerKind, Ask, Call, Entry, Event, Reason};
+use kr_calls::{AnswerKind, Ask, Call, Entry, Event, Pin, Reason};
 use kr_engine::Engine;
 use kr_queue::Job;
 use kr_view::Publisher;
@@ -301,11 +301,11 @@ impl Desk {
         Ok(refusal)
     }
 
-    // Publishes an answer or a stop at once.
+    // Publishes a pin, an unpin, an answer or a stop at once.
     #[tactic(auto, using(crate::proofs::Onwards::still_onwards, crate::proofs::Onwards::keeps_onwards))]
     fn note<R: Wait>(&mut self, rt: &R, entry: Entry) -> Result<(), NoMemory>
         requires stands { StandsForSome self.old }
-        requires bare { IsBareNote entry }
+        requires bare { IsBareNote self.old.shelf.list entry }
         ensures done { OnOk result (Notes self.old self.new entry) }
         ensures onwards { Onwards self.old.shelf self.new.shelf }
     {
@@ -385,7 +385,31 @@ impl Desk {
         Ok(())
     }
 
+    // Publishes what a client keeps or gives back, unless the client has seen more of the log than there is.
+    fn note_unless_ahead<R: Wait>(
+        &mut self,
+        rt: &R,
+        seat: u32,
+        ticket: u64,
+        floor: &i64,
+        entry: Entry,
+    ) -> Result<(), NoMemory>
+        requires stands { StandsForSome self.old }
+        requires bare { IsBareNote self.old.shelf.list entry }
+        ensures done { OnOk result (NotesUnlessAhead (int_lt self.old.engine.tip floor.now)
+            self.old self.new seat ticket entry) }
+        ensures onwards { Onwards self.old.shelf self.new.shelf }
+    {
+        let tip = self.engine.tip();
+        if tip < *floor {
+            let answer = bare_answer(seat, ticket, &tip, AnswerKind::Ahead);
+            return self.note(rt, Entry::Answer { answer });
+        }
+        self.note(rt, entry)
+    }
+
     /// Does a job.
+    #[tactic(auto, using(crate::proofs::Noting::committed_is_end))]
     pub(crate) fn do_job<R: Wait, Q: Quorum, C: Clock, L: Ledger>(
         &mut self,
         rt: &R,
@@ -426,6 +450,34 @@ impl Desk {
                     call,
                 };
                 self.write(rt, quorum, clock, asked, steps)?;
+                Ok(None)
+            }
+            Job::Pin {
+                seat,
+                ticket,
+                floor,
+            } => {
+                let place = self.engine.committed();
+                let pin = Pin {
+                    seat,
+                    ticket,
+                    place,
+                };
+                self.note_unless_ahead(rt, seat, ticket, &floor, Entry::Pin { pin })?;
+                Ok(None)
+            }
+            Job::Unpin {
+                seat,
+                ticket,
+                floor,
+                place,
+            } => {
+                let pin = Pin {
+                    seat,
+                    ticket,
+                    place,
+                };
+                self.note_unless_ahead(rt, seat, ticket, &floor, Entry::Unpin { pin })?;
                 Ok(None)
             }
         }
