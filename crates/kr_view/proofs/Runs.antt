@@ -12,7 +12,7 @@ use Rattle.kr_defs.specs.Image.{Image}
 use Rattle.kr_calls.specs.declared.events.Entry.{Entry}
 use Rattle.kr_calls.specs.declared.events.Entry.TheVariants as entries
 use Rattle.kr_calls.specs.SeatList.{Reached, with_image, reached_with}
-use Rattle.kr_view.specs.Runs.{is_load, AreNoLoads}
+use Rattle.kr_view.specs.Runs.{is_single, AreNoSingles}
 use Rattle.kr_view.specs.Standing.{run_with}
 
 abbrev Rises : Reached → Reached → Type 0
@@ -70,18 +70,18 @@ never_back r es from =
     (λ (up : int_lt r.end (fold run_with r es).end ≡ true). through (negsuc 0) r.end (fold run_with r es).end from up)
     (risen r es)
 
-alike : (r : Reached) (e : Entry) → is_load e ≡ false → run_with r e ≡ reached_with r e
+alike : (r : Reached) (e : Entry) → is_single e ≡ false → run_with r e ≡ reached_with r e
 alike r (entries.Item place item) plain = refl
 alike r (entries.Load offset records) plain = absurd (true≢false plain)
-alike r (entries.Pin pin) plain = refl
-alike r (entries.Unpin pin) plain = refl
+alike r (entries.Pin pin) plain = absurd (true≢false plain)
+alike r (entries.Unpin pin) plain = absurd (true≢false plain)
 alike r (entries.Answer answer) plain = refl
 alike r (entries.Stop number) plain = refl
 
--- without loads a run is what its entries say
-pub same_without_loads : (r : Reached) (es : List Entry) → AreNoLoads es → fold run_with r es ≡ fold reached_with r es
-same_without_loads r [] plain = refl
-same_without_loads r (e ∷ es) plain = ap (λ (x : Reached). fold run_with x es) (alike r e (All-head (λ (x : Entry). is_load x ≡ false) e es plain)) ∙ same_without_loads (reached_with r e) es (All-tail (λ (x : Entry). is_load x ≡ false) e es plain)
+-- a run is what its entries say
+pub run_is_log : (r : Reached) (es : List Entry) → AreNoSingles es → fold run_with r es ≡ fold reached_with r es
+run_is_log r [] plain = refl
+run_is_log r (e ∷ es) plain = ap (λ (x : Reached). fold run_with x es) (alike r e (All-head (λ (x : Entry). is_single x ≡ false) e es plain)) ∙ run_is_log (reached_with r e) es (All-tail (λ (x : Entry). is_single x ≡ false) e es plain)
 
 -- the same of what is known to equal it
 pub stays_up : (r after : Reached) (es : List Entry) → after ≡ fold run_with r es → int_lt (negsuc 0) r.end ≡ true → int_lt (negsuc 0) after.end ≡ true

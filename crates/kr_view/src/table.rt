@@ -65,7 +65,7 @@ pub(crate) fn told_of(alloc: Global, step: &Step) -> Result<VecDeque<SeatEntry>,
 {
     match step {
         Step::Run { run } => told_among(alloc, run.entries()),
-        Step::Load { load } => told_among(alloc, from_ref(load.entry())),
+        Step::Single { single } => told_among(alloc, from_ref(single.entry())),
     }
 }
 
