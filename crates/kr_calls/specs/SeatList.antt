@@ -1,6 +1,6 @@
 -- What a client's seat has seen: a list of entries, with the image and the end of its log, the places that are kept, what each
 -- seat was told, and the first stop. This project's own.
-use Rattle.std.specs.Prelude.{◌+ℤ◌, ℕ, ℤ, pos, int_lt, Bool, true, false, not, ◌&&◌, ◌==◌, nat_lt, List, [], ◌∷◌, ◌++◌, ◌||◌, Option, Some, None, Result, Ok, Err, fold, filter, if◌then◌else◌}
+use Rattle.std.specs.Prelude.{◌+ℤ◌, ℕ, ℤ, pos, int_lt, Bool, true, false, not, ◌&&◌, ◌==◌, nat_lt, List, [], ◌∷◌, ◌++◌, ◌||◌, Option, Some, None, Result, Ok, Err, fold, filter, map, if◌then◌else◌}
 use Rattle.std.specs.List.{list_any}
 use Rattle.std.specs.Ordering.{int_eq}
 use Rattle.kr_base.specs.Causes.{raised}
@@ -87,38 +87,41 @@ is_same_pin pin other = (pin.seat == other.seat) && int_eq pin.place other.place
 abbrev pub is_pinned : List Pin → Pin → Bool
 is_pinned pins pin = list_any (is_same_pin pin) pins
 
--- a pin counts where its place is the end, and adds nothing where it is there
-abbrev pub with_pin : ℤ → List Pin → Pin → List Pin
-with_pin end pins pin = if int_eq pin.place end && not (is_pinned pins pin) then pins ++ pin ∷ [] else pins
-
-abbrev pub without_pin : List Pin → Pin → List Pin
-without_pin pins pin = filter (λ other. not (is_same_pin pin other)) pins
-
--- an image in place of all takes all pins away
-abbrev pub pins_with : ℤ → List Pin → Entry → List Pin
-pins_with end pins (entries.Item place item) = pins
-pins_with end pins (entries.Load offset records) = []
-pins_with end pins (entries.Pin pin) = with_pin end pins pin
-pins_with end pins (entries.Unpin pin) = without_pin pins pin
-pins_with end pins (entries.Answer answer) = pins
-pins_with end pins (entries.Stop number) = pins
-
--- the log, and what is pinned of it, in the order of the places
+-- the log, and what is pinned of it, in the order of the places: each pin with the image that was at its place
 pub record PinnedLog : Type 0 where
   pub at : Reached
-  pub pins : List Pin
+  pub pinned : List (Pin × Image)
 
 abbrev pub nothing_pinned : PinnedLog
-nothing_pinned = record { at = nothing_reached; pins = [] }
+nothing_pinned = record { at = nothing_reached; pinned = [] }
+
+abbrev pub pins_in : List (Pin × Image) → List Pin
+pins_in pinned = map (λ (p : Pin × Image). p.0) pinned
+
+-- a pin counts where its place is the end, and adds nothing where it is there
+abbrev pub with_pin : Reached → List (Pin × Image) → Pin → List (Pin × Image)
+with_pin r pinned pin = if int_eq pin.place r.end && not (is_pinned (pins_in pinned) pin) then pinned ++ (pin, r.image) ∷ [] else pinned
+
+abbrev pub without_pin : List (Pin × Image) → Pin → List (Pin × Image)
+without_pin pinned pin = filter (λ (p : Pin × Image). not (is_same_pin pin p.0)) pinned
+
+-- an image in place of all takes all pins away
+abbrev pub pins_with : Reached → List (Pin × Image) → Entry → List (Pin × Image)
+pins_with r pinned (entries.Item place item) = pinned
+pins_with r pinned (entries.Load offset records) = []
+pins_with r pinned (entries.Pin pin) = with_pin r pinned pin
+pins_with r pinned (entries.Unpin pin) = without_pin pinned pin
+pins_with r pinned (entries.Answer answer) = pinned
+pins_with r pinned (entries.Stop number) = pinned
 
 abbrev pub pinned_with : PinnedLog → Entry → PinnedLog
-pinned_with l e = record { at = reached_with l.at e; pins = pins_with l.at.end l.pins e }
+pinned_with l e = record { at = reached_with l.at e; pinned = pins_with l.at l.pinned e }
 
 abbrev pub pinned_log : List Entry → PinnedLog
 pinned_log list = fold pinned_with nothing_pinned list
 
 abbrev pub pins_of : List Entry → List Pin
-pins_of list = (pinned_log list).pins
+pins_of list = pins_in (pinned_log list).pinned
 
 -- the pins of one seat
 abbrev pub pins_of_seat : ℕ → List Entry → List Pin
@@ -126,7 +129,7 @@ pins_of_seat seat list = filter (λ pin. pin.seat == seat) (pins_of list)
 
 -- the kept places are the end and the pinned ones
 abbrev pub is_place_kept : PinnedLog → ℤ → Bool
-is_place_kept l place = int_eq place l.at.end || list_any (λ pin. int_eq pin.place place) l.pins
+is_place_kept l place = int_eq place l.at.end || list_any (λ pin. int_eq pin.place place) (pins_in l.pinned)
 
 abbrev pub is_kept_in : List Entry → ℤ → Bool
 is_kept_in list place = is_place_kept (pinned_log list) place
@@ -135,7 +138,7 @@ abbrev pub lower : ℤ → Pin → ℤ
 lower place pin = if int_lt pin.place place then pin.place else place
 
 abbrev pub oldest_place : PinnedLog → ℤ
-oldest_place l = fold lower l.at.end l.pins
+oldest_place l = fold lower l.at.end (pins_in l.pinned)
 
 -- the oldest kept place
 abbrev pub oldest_of : List Entry → ℤ

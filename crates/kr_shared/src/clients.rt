@@ -142,9 +142,11 @@ fn wait_for<R: Wait>(
     for _ in rt.forever() {
         let seen = bell.number(rt);
         match reader.look(ticket) {
-            Ok(Look::Found {
-                entry: SeatEntry::Answer { answer },
-            }) => match end_of_call(&answer, floor, call) {
+            Ok(
+                Look::Found {
+                    entry: SeatEntry::Answer { answer },
+                },
+            ) => match end_of_call(&answer, floor, call) {
                 Some(end) => return end,
                 None => bell.wait_past(rt, seen),
             },
