@@ -144,13 +144,17 @@ oldest_place l = fold lower l.at.end (pins_in l.pinned)
 abbrev pub oldest_of : List Entry → ℤ
 oldest_of list = oldest_place (pinned_log list)
 
+-- an image in place of all
+abbrev pub is_load : Entry → Bool
+is_load (entries.Item place item) = false
+is_load (entries.Load offset records) = true
+is_load (entries.Pin pin) = false
+is_load (entries.Unpin pin) = false
+is_load (entries.Answer answer) = false
+is_load (entries.Stop number) = false
+
 abbrev pub loads_with : ℕ → Entry → ℕ
-loads_with loads (entries.Item place item) = loads
-loads_with loads (entries.Load offset records) = raised loads
-loads_with loads (entries.Pin pin) = loads
-loads_with loads (entries.Unpin pin) = loads
-loads_with loads (entries.Answer answer) = loads
-loads_with loads (entries.Stop number) = loads
+loads_with loads e = if is_load e then raised loads else loads
 
 -- how many images in place of all there are; the number stands still at the greatest u64
 abbrev pub loads_of : List Entry → ℕ

@@ -1,6 +1,6 @@
 -- What the store of a copy keeps of the log. This project's own.
-use Rattle.std.specs.Prelude.{ℤ, List, Option, Some, find, map, if◌then◌else◌}
-use Rattle.std.specs.Option.{option_map, option_unwrap_or}
+use Rattle.std.specs.Prelude.{ℤ, List, Option, Some, find, map, unwrap_or, if◌then◌else◌}
+use Rattle.std.specs.Option.{option_map}
 use Rattle.std.specs.Ordering.{int_eq}
 use Rattle.kr_defs.specs.Image.{Image, empty}
 use Rattle.kr_calls.specs.declared.pins.Pin.{Pin}
@@ -12,7 +12,7 @@ abbrev pub kept_image : PinnedLog → ℤ → Option Image
 kept_image l place = if int_eq place l.at.end then Some l.at.image else option_map (λ (p : Pin × Image). p.1) (find (λ (p : Pin × Image). int_eq p.0.place place) l.pinned)
 
 abbrev pub pin_image : Images → Pin → Pin × Image
-pin_image store pin = (pin, option_unwrap_or (kept_at store pin.place) empty)
+pin_image store pin = (pin, unwrap_or (kept_at store pin.place) empty)
 
 -- what a store with this end and these pins keeps
 abbrev pub log_in : Images → ℤ → List Pin → PinnedLog

@@ -40,6 +40,7 @@ pub(crate) fn is_full<Y>(rows: &Rows<Y>, most: u32) -> bool
 }
 
 // The partitions of the topic of this key, above it.
+#[tactic(auto, using(crate::proofs::Filling::fillings))]
 fn list_above<Y: Drop, P: Listing<Y>, S: Store>(
     alloc: Global,
     seen: &Seen<S>,
@@ -53,10 +54,10 @@ fn list_above<Y: Drop, P: Listing<Y>, S: Store>(
     ensures { OnOk result (rows.new ≡ take most (rows.old ++ map (λ e. P.rows listing.now (walked name.now e)) (of_topic first.0 (above partition_order seen.now.partitions (Some first))))) }
 {
     let mut after = first;
-    while !is_full(rows, most) {
-        let Some((key, partition)) = seen.next_of_topic(&after) else {
+    while let Some((key, partition)) = seen.next_of_topic(&after) {
+        if is_full(rows, most) {
             return Ok(());
-        };
+        }
         rows.push(listing.row(alloc, name, key, partition)?)?;
         after = *key;
     }
@@ -86,6 +87,7 @@ fn list_topic<Y: Drop, P: Listing<Y>, S: Store>(
 }
 
 /// The topics by name, each with its partitions behind it.
+#[tactic(auto, using(crate::proofs::Filling::fillings))]
 pub(crate) fn list_topics<Y: Drop, P: Listing<Y>, S: Store>(
     alloc: Global,
     seen: &Seen<S>,
@@ -99,10 +101,10 @@ pub(crate) fn list_topics<Y: Drop, P: Listing<Y>, S: Store>(
 {
     seen.is_valid();
     let mut last = after;
-    while !is_full(rows, most) {
-        let Some((name, id)) = seen.next_topic(last) else {
+    while let Some((name, id)) = seen.next_topic(last) {
+        if is_full(rows, most) {
             return Ok(());
-        };
+        }
         list_topic(alloc, seen, listing, name, id, most, rows)?;
         last = Some(name);
     }

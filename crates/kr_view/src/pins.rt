@@ -42,7 +42,11 @@ fn is_at(pin: &Pin, place: &i64) -> bool
 fn lower(place: &i64, pin: &Pin) -> i64
     ensures { result ≡ lower place.now pin.now }
 {
-    if pin.place < *place { pin.place } else { *place }
+    if pin.place < *place {
+        pin.place
+    } else {
+        *place
+    }
 }
 
 impl Pins {

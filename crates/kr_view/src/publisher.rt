@@ -126,9 +126,10 @@ impl Publisher {
         }
     }
 
-    /// Makes visible, at one step, the staged items and images below the end, and behind them the staged answers and stops.
-    /// Each of these answers is right in the entries before it. Without memory what is visible is as before, and a publish
-    /// at this end shows the same; a later publish shows first what this one chose.
+    /// Makes visible, at one step, the staged items and images below the end, and behind them the staged pins, unpins, answers
+    /// and stops. Each of these answers is right in the entries before it, and each of these pins is of the end of those.
+    /// Without memory what is visible is as before, and a publish at this end shows the same; a later publish shows first what
+    /// this one chose.
     pub fn publish<R: Wait>(&mut self, rt: &R, end: i64) -> Result<(), NoMemory>
         requires { AreRightAfter self.old.options self.old.list (next_at end self.old) }
         ensures { MatchResult result (λ _. self.new ≡ shown_at end self.old) (λ _. IsDelayed end self.old self.new) }
@@ -138,7 +139,7 @@ impl Publisher {
         self.window.show(rt)
     }
 
-    /// Drops the staged items and images. All that the last publish chose is visible. It takes no memory.
+    /// Drops the staged items and images, and leaves the pins, unpins, answers and stops. All that the last publish chose is visible. It takes no memory.
     pub fn drop_staged(&mut self)
         requires { self.old.waiting ≡ [] }
         ensures { self.new ≡ record self.old { items = [] } }

@@ -99,6 +99,7 @@ fn setting_key(alloc: Global, kind: &i8, name: &Text, key: &Text) -> Result<Conf
 }
 
 // The settings behind a key.
+#[tactic(auto, using(crate::proofs::Filling::fillings))]
 fn add_settings<S: Store>(
     alloc: Global,
     seen: &Seen<S>,
@@ -111,10 +112,10 @@ fn add_settings<S: Store>(
 {
     seen.is_valid();
     let mut last = after;
-    while !is_full(records, most) {
-        let Some((key, value)) = seen.next_config(last) else {
+    while let Some((key, value)) = seen.next_config(last) {
+        if is_full(records, most) {
             return Ok(());
-        };
+        }
         records.push(setting_record(alloc, key, value)?)?;
         last = Some(key);
     }
@@ -152,6 +153,7 @@ fn add_behind<S: Store>(
 }
 
 // The brokers behind an id, and what stands behind all of them.
+#[tactic(auto, using(crate::proofs::Filling::fillings))]
 fn add_brokers<S: Store>(
     alloc: Global,
     seen: &Seen<S>,
@@ -164,17 +166,18 @@ fn add_brokers<S: Store>(
 {
     seen.is_valid();
     let mut last = after;
-    while !is_full(records, most) {
-        let Some((id, state)) = seen.next_broker(last) else {
-            return add_topics(alloc, seen, most, records);
-        };
+    while let Some((id, state)) = seen.next_broker(last) {
+        if is_full(records, most) {
+            return Ok(());
+        }
         records.push(broker_record(alloc, id, state)?)?;
         last = Some(id);
     }
-    Ok(())
+    add_topics(alloc, seen, most, records)
 }
 
 // The features behind a name, and what stands behind all of them.
+#[tactic(auto, using(crate::proofs::Filling::fillings))]
 fn add_features<S: Store>(
     alloc: Global,
     seen: &Seen<S>,
@@ -187,14 +190,14 @@ fn add_features<S: Store>(
 {
     seen.is_valid();
     let mut last = after;
-    while !is_full(records, most) {
-        let Some((name, level)) = seen.next_feature(last) else {
-            return add_brokers(alloc, seen, None, most, records);
-        };
+    while let Some((name, level)) = seen.next_feature(last) {
+        if is_full(records, most) {
+            return Ok(());
+        }
         records.push(feature_record(alloc, name, level)?)?;
         last = Some(name);
     }
-    Ok(())
+    add_brokers(alloc, seen, None, most, records)
 }
 
 // What stands behind a key.

@@ -246,12 +246,7 @@ impl ReaderSeat {
     /// a kept place: fewer only where no more follow. It waits for nobody. Gone exactly where all kept places are later ones,
     /// NotKept exactly where the place isn't kept otherwise, NoCopy only where the seat got no copy, and then nothing but the
     /// count has changed.
-    pub fn scan(
-        &mut self,
-        place: i64,
-        after: Option<&ScanKey>,
-        max: u32,
-    ) -> Result<Page, ScanFault>
+    pub fn scan(&mut self, place: i64, after: Option<&ScanKey>, max: u32) -> Result<Page, ScanFault>
         ensures same { self.new.number ≡ self.old.number }
         ensures onward { Onward self.old.seen self.new.seen }
         ensures page { AnswersAt self.new.seen.list place (IsPage (option_copied after.entry) max) result }
@@ -286,6 +281,10 @@ impl RecordReader for ReaderSeat {
     }
 
     fn record(&mut self, place: i64, key: &RecordKey) -> Result<Option<Record>, ScanFault> {
-        replace_with(&mut self.held, key, |held, key| record_once(held, &place, key))
+        replace_with(
+            &mut self.held,
+            key,
+            |held, key| record_once(held, &place, key),
+        )
     }
 }

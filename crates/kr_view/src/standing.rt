@@ -4,7 +4,7 @@ ghost use Rattle.std.specs.Prelude.{◌≡◌, ◌<◌, ◌+ℤ◌, [], pos, neg
 ghost use Rattle.kr_defs.specs.declared.limits.TheConstants.{PLACES_END as places_end};
 ghost use Rattle.kr_defs.specs.Image.{empty};
 ghost use Rattle.kr_calls.specs.Deciding.{apply_records};
-ghost use Rattle.kr_calls.specs.SeatList.{is_place_kept, nothing_pinned, pinned_with, with_item, with_load, with_pin, without_pin};
+ghost use Rattle.kr_calls.specs.SeatList.{is_place_kept, nothing_pinned, oldest_place, pinned_with, with_item, with_load, with_pin, without_pin};
 ghost use Rattle.kr_store.specs.Images.{kept_once, last_image, last_kept};
 ghost use Rattle.kr_store.specs.declared.places.At.TheVariants as places;
 ghost use Rattle.kr_view.specs.Pinned.{kept_image, log_in};
@@ -245,7 +245,12 @@ impl Standing {
         ensures err { OnErr result (self.new ≡ self.old) }
     {
         match entry {
-            Entry::Load { offset, records } => self.take_load(alloc, *offset, records.as_slice(), steps),
+            Entry::Load { offset, records } => self.take_load(
+                alloc,
+                *offset,
+                records.as_slice(),
+                steps,
+            ),
             Entry::Pin { pin } => self.take_pin(pin),
             Entry::Unpin { pin } => {
                 self.take_unpin(pin, steps);
@@ -296,12 +301,27 @@ impl Standing {
         &self.store
     }
 
+    // The place is the end, or pinned.
+    #[tactic(auto, using(crate::proofs::PinnedPlaces::pinned))]
+    fn keeps(&self, place: &i64) -> bool
+        ensures { result ≡ is_place_kept self.now place.now }
+    {
+        *place == self.end || self.pins.has_place(place)
+    }
+
+    #[tactic(auto, using(crate::proofs::PinnedPlaces::pinned))]
+    fn oldest(&self) -> i64
+        ensures { result ≡ oldest_place self.now }
+    {
+        self.pins.oldest(&self.end)
+    }
+
     // Why the place isn't there.
     fn absence(&self, place: &i64) -> ScanFault
         requires { IsTrue (not (is_place_kept self.now place.now)) }
         ensures { IsNotThere self.now place.now result }
     {
-        let oldest = self.pins.oldest(&self.end);
+        let oldest = self.oldest();
         if *place < oldest {
             ScanFault::Gone {
                 asked: *place,
@@ -316,7 +336,7 @@ impl Standing {
     pub(crate) fn image_at(&self, place: &i64) -> Result<Seen<ImageStore>, ScanFault>
         ensures { MatchResult result (λ seen. kept_image self.now place.now ≡ Some seen) (IsNotThere self.now place.now) }
     {
-        if *place != self.end && !self.pins.has_place(place) {
+        if !self.keeps(place) {
             return Err(self.absence(place));
         }
         match Seen::at(&self.store, at_epoch(place)) {

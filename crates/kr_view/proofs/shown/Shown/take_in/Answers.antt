@@ -7,4 +7,4 @@ use Rattle.kr_view.proofs.shown.Shown.take_in.Goals as goal
 pub invariant_of-self-2 : goal.invariant_of-self-2
 invariant_of-self-2 c =
     let table = c.note_all.ensures ∙ ap (λ (told : List SeatEntry). fold noted c.self.inside.table told) c.in_ok-told.ensures in
-    held_more _ _ _ _ _ _ _ _ _ c.self.invariant c.in_ok-take_in.ensures.ok table c.stop_behind-self-inside.ensures c.and.ensures
+    held_more _ _ _ _ _ _ _ _ _ _ _ c.self.invariant c.in_ok-take_in.ensures.ok table c.stop_behind-self-inside.ensures c.loads_behind-self-inside.ensures c.and.ensures
