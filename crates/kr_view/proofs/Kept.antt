@@ -1,5 +1,5 @@
 -- What a store keeps under the end and under the pinned places, after each of its calls.
-use Rattle.std.proofs.Common.{◌≡◌, ℕ, suc, ℤ, Bool, true, false, cond, not, List, [], ◌∷◌, ◌++◌, length, fold, refl, sym, ap, ◌∙◌, subst, map, filter, find, All, arith, append_assoc}
+use Rattle.std.proofs.Common.{◌≡◌, ◌≢◌, ℕ, suc, ℤ, Bool, true, false, cond, not, List, [], ◌∷◌, ◌++◌, length, fold, refl, sym, ap, ◌∙◌, subst, map, filter, find, All, arith, append_assoc}
 use Rattle.std.specs.Prelude.{Option, Some, None, negsuc, int_lt, IsSome, IsTrue, is_some, slice_get, unwrap_or, ◌-◌}
 use Rattle.std.specs.Option.{option_map, option_or}
 use Rattle.std.specs.Ordering.{int_eq}
@@ -11,12 +11,14 @@ use Rattle.std.proofs.lemmas.List.Folds.{find-append}
 use Rattle.kr_defs.specs.Image.{Image, empty}
 use Rattle.kr_defs.proofs.Tests.{some_is}
 use Rattle.kr_calls.specs.declared.pins.Pin.{Pin}
-use Rattle.kr_calls.specs.SeatList.{PinnedLog, lower}
+use Rattle.kr_calls.specs.declared.events.Entry.{Entry}
+use Rattle.kr_calls.specs.SeatList.{PinnedLog, Reached, lower}
 use Rattle.kr_image.proofs.EpochEnds.{last_later}
 use Rattle.kr_image.proofs.KeptLists.{all_passing, all_push, all_weaker, apart_before, find_filter, find_last, map_same}
 use Rattle.kr_store.specs.Images.{Images, IsAbove, forgotten, kept_at, kept_once, last_image, last_kept, marked}
 use Rattle.kr_view.specs.Pinned.{log_in, pin_image}
-use Rattle.kr_view.specs.Standing.{StandsAt}
+use Rattle.kr_view.specs.Standing.{StandsAt, run_with, with_run}
+use Rattle.kr_view.proofs.Runs.{gone_on, still_there}
 
 -- ---- numbers
 
@@ -203,3 +205,45 @@ goes_on store mid end next oldest pins s same up is =
     let f = forgets (marked mid next) next pins m.1 in
     let F : ℤ → Type 0 = λ z. (log_in (forgotten (marked mid next) z) next pins ≡ record { at = record { image = mid.tip; end = next }; pinned = map (pin_image store) pins }) × StandsAt (forgotten (marked mid next) z) next pins in
     subst F (sym is) (f.0 ∙ ap (λ (ps : List (Pin × Image)). record { at = record { image = mid.tip; end = next }; pinned = ps }) m.0, f.1)
+
+-- ---- a run
+
+abbrev reached_at : Image → ℤ → Reached
+reached_at image end = record { image = image; end = end }
+
+kept_alike : (a b : Images) → a.kept ≡ b.kept → last_kept a ≡ last_kept b
+kept_alike a b same = ap (λ (ks : List Kept). slice_get ks (length ks - 1)) same
+
+module _ (old mid : Images) (end next : ℤ) (pins : List Pin) (s : StandsAt old end pins) (kept : mid.kept ≡ old.kept) where
+  pub some_kept_still : IsSome (last_kept mid)
+  some_kept_still = ap is_some (kept_alike mid old kept) ∙ some_kept old end pins s
+
+  -- what was applied is taken back
+  pub run_back : (new : Images) → new.kept ≡ mid.kept → last_image mid ≡ Some new.tip → (log_in new end pins ≡ log_in old end pins) × StandsAt new end pins
+  run_back new same back = still old end pins s new (same ∙ kept) (ap (option_map (λ (k : Kept). k.1)) (sym (kept_alike mid old kept)) ∙ back)
+
+  module _ (entries : List Entry) (run : reached_at mid.tip next ≡ fold run_with (reached_at old.tip end) entries) where
+    next_is : next ≡ (fold run_with (reached_at old.tip end) entries).end
+    next_is = ap (λ (r : Reached). r.end) run
+
+    -- nothing counted
+    pub run_stays : (new : Images) → next ≡ end → new.kept ≡ mid.kept → last_image mid ≡ Some new.tip → (log_in new next pins ≡ with_run (log_in old end pins) entries) × StandsAt new next pins
+    run_stays new none same back =
+        let b = run_back new same back in
+        let none_counted : fold run_with (reached_at old.tip end) entries ≡ reached_at old.tip end = still_there (reached_at old.tip end) entries (sym next_is ∙ none) in (
+          ap (λ z. log_in new z pins) none ∙ b.0 ∙ ap (λ (r : Reached). record { at = r; pinned = map (pin_image old) pins }) (sym none_counted),
+          subst (λ z. StandsAt new z pins) (sym none) b.1,
+        )
+
+    goes_up : next ≢ end → int_lt end next ≡ true
+    goes_up other = subst (λ z. int_lt end z ≡ true) (sym next_is) (gone_on (reached_at old.tip end) entries (λ same. other (next_is ∙ same)))
+
+    pub run_marks : next ≢ end → IsAbove mid.kept next
+    run_marks other = may_mark old end pins s mid next kept (goes_up other)
+
+    pub run_goes_on : (oldest : ℤ) → next ≢ end → oldest ≡ fold lower next pins → (log_in (forgotten (marked mid next) oldest) next pins ≡ with_run (log_in old end pins) entries) × StandsAt (forgotten (marked mid next) oldest) next pins
+    run_goes_on oldest other is =
+        let g = goes_on old mid end next oldest pins s kept (goes_up other) is in
+        (g.0 ∙ ap (λ (r : Reached). record { at = r; pinned = map (pin_image old) pins }) run, g.1)
+
+pub ruleset runs = (some_kept, some_kept_still, run_back, run_stays, run_marks, run_goes_on)

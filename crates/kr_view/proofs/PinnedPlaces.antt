@@ -4,20 +4,21 @@ use Rattle.std.specs.Prelude.{Option, Some, None, IsSome, IsTrue, is_some, unwra
 use Rattle.std.specs.List.{AllByRecursion, list_any}
 use Rattle.std.specs.Option.{option_map}
 use Rattle.std.specs.Ordering.{int_eq}
+use Rattle.std.proofs.lemmas.Bool.{and_parts}
 use Rattle.std.proofs.lemmas.Bool.Decides.{Decides-int_eq}
 use Rattle.kr_defs.specs.Image.{Image, empty}
 use Rattle.kr_defs.proofs.Tests.{some_is}
 use Rattle.kr_calls.specs.declared.events.Entry.{Entry}
 use Rattle.kr_calls.specs.declared.pins.Pin.{Pin}
-use Rattle.kr_calls.specs.SeatList.{PinnedLog, Reached, end_of, image_below, image_of, is_place_kept, is_same_pin, lower, nothing_pinned, oldest_place, pinned_log, pins_in, reached, with_pin, without_pin}
+use Rattle.kr_calls.specs.SeatList.{PinnedLog, Reached, end_of, image_below, image_of, is_new_pin, is_pinned, is_place_kept, is_same_pin, lower, nothing_pinned, oldest_place, pinned_log, pins_in, reached, with_pin, without_pin}
 use Rattle.kr_calls.proofs.KeptPlaces.{end_image, pin_images, same_at}
-use Rattle.kr_image.proofs.KeptLists.{map_push}
-use Rattle.kr_store.specs.Images.{Images, kept_at}
+use Rattle.kr_image.proofs.KeptLists.{filter_map_is, map_push}
+use Rattle.kr_store.specs.Images.{Images, forgotten, kept_at}
 use Rattle.kr_view.specs.declared.scans.ScanFault.{ScanFault}
 use Rattle.kr_view.specs.Pinned.{kept_image, log_in, pin_image}
 use Rattle.kr_view.specs.Scans.{AnswersAt, IsNotThere}
 use Rattle.kr_view.specs.Standing.{StandsAt}
-use Rattle.kr_view.proofs.Kept.{at_end}
+use Rattle.kr_view.proofs.Kept.{at_end, fewer_stand, forgets, one_more_stands}
 
 pub pins_are : (store : Images) (pins : List Pin) → pins_in (map (pin_image store) pins) ≡ pins
 pins_are store [] = refl
@@ -29,7 +30,41 @@ kept_is store end pins place = ap (λ (ps : List Pin). int_eq place end || list_
 pub oldest_is : (store : Images) (end : ℤ) (pins : List Pin) → fold lower end pins ≡ oldest_place (log_in store end pins)
 oldest_is store end pins = ap (λ (ps : List Pin). fold lower end ps) (sym (pins_are store pins))
 
-pub ruleset pinned = (kept_is, oldest_is)
+pub new_pin_is : (store : Images) (end : ℤ) (pins : List Pin) (pin : Pin) → (int_eq pin.place end && not (is_pinned pins pin)) ≡ is_new_pin (log_in store end pins).at (log_in store end pins).pinned pin
+new_pin_is store end pins pin = ap (λ (ps : List Pin). int_eq pin.place end && not (is_pinned ps pin)) (sym (pins_are store pins))
+
+pub ruleset pinned = (kept_is, oldest_is, new_pin_is)
+
+-- ---- pins that are taken in
+
+module _ (store : Images) (end : ℤ) (pins : List Pin) (pin : Pin) where
+  abbrev log : PinnedLog
+  log = log_in store end pins
+
+  pub pin_taken : StandsAt store end pins → is_new_pin log.at log.pinned pin ≡ true → (log_in store end (pins ++ pin ∷ []) ≡ record log { pinned = with_pin log.at log.pinned pin }) × StandsAt store end (pins ++ pin ∷ [])
+  pin_taken s new =
+      let place : pin.place ≡ end = (Decides-int_eq pin.place end).0 (and_parts (int_eq pin.place end) (not (is_pinned (pins_in log.pinned) pin)) new).0 in
+      let image : kept_at store pin.place ≡ Some store.tip = ap (kept_at store) place ∙ at_end store end pins s in (
+        ap (λ (ps : List (Pin × Image)). record log { pinned = ps })
+            (map_push (pin_image store) pins pin
+            ∙ ap (λ (o : Option Image). log.pinned ++ (pin, unwrap_or o empty) ∷ []) image
+            ∙ ap (λ b. cond b (log.pinned ++ (pin, store.tip) ∷ []) log.pinned) (sym new)),
+        one_more_stands store end pins s pin place,
+      )
+
+  pub pin_passed : is_new_pin log.at log.pinned pin ≡ false → log ≡ record log { pinned = with_pin log.at log.pinned pin }
+  pin_passed old = ap (λ b. record log { pinned = cond b (log.pinned ++ (pin, store.tip) ∷ []) log.pinned }) (sym old)
+
+  pub unpin_taken : StandsAt store end pins → (left : List Pin) (oldest : ℤ) → left ≡ filter (λ other. not (is_same_pin pin other)) pins → oldest ≡ fold lower end left
+      → (log_in (forgotten store oldest) end left ≡ record log { pinned = without_pin log.pinned pin }) × StandsAt (forgotten store oldest) end left
+  unpin_taken s left oldest is low =
+      let q : Pin → Bool = λ other. not (is_same_pin pin other) in
+      let f = forgets store end (filter q pins) (fewer_stand store end pins s q) in
+      let F : List Pin × ℤ → Type 0 = λ x. (log_in (forgotten store x.1) end x.0 ≡ record log { pinned = without_pin log.pinned pin }) × StandsAt (forgotten store x.1) end x.0 in
+      subst F (λ i. (sym is i, sym (low ∙ ap (fold lower end) is) i))
+      (f.0 ∙ ap (λ (ps : List (Pin × Image)). record log { pinned = ps }) (sym (filter_map_is (pin_image store) (λ (p : Pin × Image). q p.0) pins)), f.1)
+
+pub ruleset taken = (pin_taken, pin_passed, unpin_taken)
 
 -- ---- what a store has at a kept place
 

@@ -4,7 +4,7 @@ ghost use Rattle.std.specs.Prelude.{◌≡◌, ◌<◌, ◌+ℤ◌, [], pos, neg
 ghost use Rattle.kr_defs.specs.declared.limits.TheConstants.{PLACES_END as places_end};
 ghost use Rattle.kr_defs.specs.Image.{empty};
 ghost use Rattle.kr_calls.specs.Deciding.{apply_records};
-ghost use Rattle.kr_calls.specs.SeatList.{is_place_kept, nothing_pinned, oldest_place, pinned_with, with_item, with_load, with_pin, without_pin};
+ghost use Rattle.kr_calls.specs.SeatList.{is_new_pin, is_place_kept, nothing_pinned, oldest_place, pinned_with, with_item, with_load, with_pin, without_pin};
 ghost use Rattle.kr_store.specs.Images.{kept_once, last_image, last_kept};
 ghost use Rattle.kr_store.specs.declared.places.At.TheVariants as places;
 ghost use Rattle.kr_view.specs.Pinned.{kept_image, log_in};
@@ -95,6 +95,7 @@ fn apply_run<L: Ledger>(
 
 // Applies the items of a run, and keeps the image at its end, besides those of the pins. It answers the end. Without memory
 // nothing changes.
+#[tactic(auto, using(crate::proofs::Kept::runs))]
 fn advance<L: Ledger>(
     store: &mut ImageStore,
     pins: &Pins,
@@ -182,6 +183,7 @@ impl Standing {
         })
     }
 
+    #[tactic(auto, using(crate::proofs::Runs::run_is_log))]
     fn take_run<L: Ledger>(
         &mut self,
         entries: &[Entry],
@@ -216,17 +218,26 @@ impl Standing {
         Ok(())
     }
 
+    #[tactic(auto, using(crate::proofs::PinnedPlaces::pinned))]
+    fn is_new(&self, pin: &Pin) -> bool
+        ensures { result ≡ is_new_pin self.now.at self.now.pinned pin.now }
+    {
+        pin.place == self.end && !self.pins.has(pin)
+    }
+
     // The image at the end is kept already.
+    #[tactic(auto, using(crate::proofs::PinnedPlaces::taken))]
     fn take_pin(&mut self, pin: &Pin) -> Result<(), NoMemory>
         ensures ok { OnOk result (self.new ≡ record self.old { pinned = with_pin self.old.at self.old.pinned pin.now }) }
         ensures err { OnErr result (self.new ≡ self.old) }
     {
-        if pin.place == self.end && !self.pins.has(pin) {
+        if self.is_new(pin) {
             self.pins.push(pin)?;
         }
         Ok(())
     }
 
+    #[tactic(auto, using(crate::proofs::PinnedPlaces::taken))]
     fn take_unpin<L: Ledger>(&mut self, pin: &Pin, steps: &mut Steps<L>)
         ensures { self.new ≡ record self.old { pinned = without_pin self.old.pinned pin.now } }
     {
