@@ -1,5 +1,5 @@
 -- What is kept of a list of entries, and what stays of it.
-use Rattle.std.proofs.Common.{◌≡◌, ℤ, pos, Bool, true, false, true≢false, ◌&&◌, ◌||◌, cond, not, List, [], ◌∷◌, ◌++◌, fold, filter, map, refl, sym, ap, ◌∙◌, subst, append_assoc, append-nil, arith, ◌⊎◌, inl, inr, ⊎_elim}
+use Rattle.std.proofs.Common.{◌≡◌, ℤ, pos, Bool, true, false, true≢false, ◌&&◌, ◌||◌, cond, not, ◌==◌, List, [], ◌∷◌, ◌++◌, fold, filter, refl, sym, ap, ◌∙◌, subst, append_assoc, append-nil, arith}
 use Rattle.std.specs.Prelude.{◌+ℤ◌, int_lt, IsTrue, Result, Ok, Err}
 use Rattle.std.specs.List.{AllByRecursion, list_any}
 use Rattle.std.specs.Ordering.{int_eq}
@@ -12,6 +12,7 @@ use Rattle.kr_defs.specs.declared.ill.Ill.{Ill}
 use Rattle.kr_defs.specs.declared.limits.TheConstants.{PLACES_END}
 use Rattle.kr_defs.specs.Apply.{apply}
 use Rattle.kr_defs.specs.Image.{Image, empty}
+use Rattle.kr_defs.proofs.TopicWalks.{equal_ids, same_topic}
 use Rattle.kr_calls.specs.declared.events.Entry.{Entry}
 use Rattle.kr_calls.specs.declared.events.Entry.TheVariants as entries
 use Rattle.kr_calls.specs.declared.pins.Pin.{Pin}
@@ -230,11 +231,15 @@ any_last q [] x is = ap (λ b. b || false) is
 any_last q (y ∷ xs) x is = elim (q y.0) as (λ b. (b || list_any q (pins_in (xs ++ x ∷ []))) ≡ true) [ true ↦ refl | false ↦ any_last q xs x is ]
 
 same_itself : (pin : Pin) → is_same_pin pin pin ≡ true
-same_itself pin = grind (arith, ints)
+same_itself pin = (λ i. equal_ids pin.seat pin.seat refl i && (Decides-int_eq pin.place pin.place).1 refl i)
 
 -- what is of one pin and not of another isn't of the other
 apart_pins : (other pin x : Pin) → is_same_pin other pin ≡ false → is_same_pin pin x ≡ true → is_same_pin other x ≡ false
-apart_pins other pin x off own = grind (arith, ints)
+apart_pins other pin x off own =
+    let both = and_parts (pin.seat == x.seat) (int_eq pin.place x.place) own in
+    let seat : x.seat ≡ pin.seat = sym (same_topic pin.seat x.seat both.0) in
+    let place : x.place ≡ pin.place = sym ((Decides-int_eq pin.place x.place).0 both.1) in
+    (λ i. (other.seat == seat i) && int_eq other.place (place i)) ∙ off
 
 any_filtered : (other pin : Pin) (xs : List (Pin × Image)) → is_same_pin other pin ≡ false → is_pinned (pins_in xs) pin ≡ true → is_pinned (pins_in (without_pin xs other)) pin ≡ true
 any_filtered other pin [] off any = absurd (true≢false (sym any))
@@ -275,7 +280,7 @@ has_new pin l here =
     ] refl
 
 of_one_place : (pin x : Pin) → is_same_pin pin x ≡ true → int_eq x.place pin.place ≡ true
-of_one_place pin x is = grind (arith, ints)
+of_one_place pin x is = (Decides-int_eq x.place pin.place).1 (sym ((Decides-int_eq pin.place x.place).0 (and_parts (pin.seat == x.seat) (int_eq pin.place x.place) is).1))
 
 any_weaker : (pin : Pin) (pins : List Pin) → is_pinned pins pin ≡ true → list_any (λ other. int_eq other.place pin.place) pins ≡ true
 any_weaker pin [] any = absurd (true≢false (sym any))

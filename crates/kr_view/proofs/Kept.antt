@@ -1,5 +1,5 @@
 -- What a store keeps under the end and under the pinned places, after each of its calls.
-use Rattle.std.proofs.Common.{◌≡◌, ◌≢◌, ℕ, suc, ℤ, Bool, true, false, cond, not, List, [], ◌∷◌, ◌++◌, length, fold, refl, sym, ap, ◌∙◌, subst, map, filter, find, All, arith, append_assoc}
+use Rattle.std.proofs.Common.{◌≡◌, ◌≢◌, ℤ, pos, Bool, true, false, cond, not, List, [], ◌∷◌, ◌++◌, length, fold, refl, sym, ap, ◌∙◌, subst, map, filter, find, All, arith, append_assoc}
 use Rattle.std.specs.Prelude.{Option, Some, None, negsuc, int_lt, IsSome, IsTrue, is_some, slice_get, unwrap_or, ◌-◌}
 use Rattle.std.specs.Option.{option_map, option_or}
 use Rattle.std.specs.Ordering.{int_eq}
@@ -12,10 +12,10 @@ use Rattle.kr_defs.specs.Image.{Image, empty}
 use Rattle.kr_defs.proofs.Tests.{some_is}
 use Rattle.kr_calls.specs.declared.pins.Pin.{Pin}
 use Rattle.kr_calls.specs.declared.events.Entry.{Entry}
-use Rattle.kr_calls.specs.SeatList.{PinnedLog, Reached, lower}
+use Rattle.kr_calls.specs.SeatList.{PinnedLog, Reached, lower, nothing_pinned}
 use Rattle.kr_image.proofs.EpochEnds.{last_later}
 use Rattle.kr_image.proofs.KeptLists.{all_passing, all_push, all_weaker, apart_before, find_filter, find_last, map_same}
-use Rattle.kr_store.specs.Images.{Images, IsAbove, forgotten, kept_at, kept_once, last_image, last_kept, marked}
+use Rattle.kr_store.specs.Images.{Images, IsAbove, forgotten, kept_at, kept_once, last_image, last_kept, marked, no_images}
 use Rattle.kr_view.specs.Pinned.{log_in, pin_image}
 use Rattle.kr_view.specs.Standing.{StandsAt, run_with, with_run}
 use Rattle.kr_view.proofs.Runs.{gone_on, still_there}
@@ -136,36 +136,33 @@ module _ (store : Images) (end : ℤ) (pins : List Pin) (s : StandsAt store end 
 
   -- ---- fewer epochs
 
-  abbrev oldest : ℤ
-  oldest = fold lower end pins
+  abbrev pub oldest_kept : ℤ
+  oldest_kept = fold lower end pins
 
-  is_left : Kept → Bool
-  is_left k = not (int_lt k.0 oldest)
+  left_alone : (at : ℤ) → int_lt at oldest_kept ≡ false → kept_at (forgotten store oldest_kept) at ≡ kept_at store at
+  left_alone at up = ap (option_map (λ (k : Kept). k.1)) (find_filter (λ (k : Kept). int_eq k.0 at) (λ (k : Kept). not (int_lt k.0 oldest_kept))
+      (λ k is. ap (λ z. not (int_lt z oldest_kept)) ((Decides-int_eq k.0 at).0 is) ∙ ap not up) store.kept)
 
-  left_alone : (at : ℤ) → int_lt at oldest ≡ false → kept_at (forgotten store oldest) at ≡ kept_at store at
-  left_alone at up = ap (option_map (λ (k : Kept). k.1)) (find_filter (λ (k : Kept). int_eq k.0 at) (λ (k : Kept). not (int_lt k.0 oldest))
-      (λ k is. ap (λ z. not (int_lt z oldest)) ((Decides-int_eq k.0 at).0 is) ∙ ap not up) store.kept)
-
-  both_weaker : (rest : List Pin) → AllByRecursion (λ pin. int_lt pin.place oldest ≡ false) rest → AllByRecursion (λ pin. IsSome (kept_at store pin.place)) rest
-      → AllByRecursion (λ pin. pin_image (forgotten store oldest) pin ≡ pin_image store pin) rest × AllByRecursion (λ pin. IsSome (kept_at (forgotten store oldest) pin.place)) rest
+  both_weaker : (rest : List Pin) → AllByRecursion (λ pin. int_lt pin.place oldest_kept ≡ false) rest → AllByRecursion (λ pin. IsSome (kept_at store pin.place)) rest
+      → AllByRecursion (λ pin. pin_image (forgotten store oldest_kept) pin ≡ pin_image store pin) rest × AllByRecursion (λ pin. IsSome (kept_at (forgotten store oldest_kept) pin.place)) rest
   both_weaker [] up there = (tt, tt)
   both_weaker (pin ∷ rest) up there =
       let same = left_alone pin.place up.0 in
       let others = both_weaker rest up.1 there.1 in
       ((ap (λ (o : Option Image). (pin, unwrap_or o empty)) same, others.0), (subst IsSome (sym same) there.0, others.1))
 
-  pub forgets : (log_in (forgotten store oldest) end pins ≡ log_in store end pins) × StandsAt (forgotten store oldest) end pins
+  pub forgets : (log_in (forgotten store oldest_kept) end pins ≡ log_in store end pins) × StandsAt (forgotten store oldest_kept) end pins
   forgets =
       let all = both_weaker pins (oldest_each end pins) s.pinned in
-      let front : List Kept = filter (λ (k : Kept). not (int_lt k.0 oldest)) s.earlier in (
-        ap (λ (ps : List (Pin × Image)). record { at = record { image = store.tip; end = end }; pinned = ps }) (map_same (pin_image (forgotten store oldest)) (pin_image store) pins all.0),
+      let front : List Kept = filter (λ (k : Kept). not (int_lt k.0 oldest_kept)) s.earlier in (
+        ap (λ (ps : List (Pin × Image)). record { at = record { image = store.tip; end = end }; pinned = ps }) (map_same (pin_image (forgotten store oldest_kept)) (pin_image store) pins all.0),
         record {
           earlier = front;
           kept =
-              ap (filter (λ (k : Kept). not (int_lt k.0 oldest))) s.kept
-              ∙ filter-append (λ (k : Kept). not (int_lt k.0 oldest)) s.earlier ((end, store.tip) ∷ [])
+              ap (filter (λ (k : Kept). not (int_lt k.0 oldest_kept))) s.kept
+              ∙ filter-append (λ (k : Kept). not (int_lt k.0 oldest_kept)) s.earlier ((end, store.tip) ∷ [])
               ∙ ap (λ b. front ++ cond (not b) ((end, store.tip) ∷ []) []) (oldest_first end pins);
-          above = all_weaker (λ (k : Kept). (int_lt k.0 end ≡ true) × (not (int_lt k.0 oldest) ≡ true)) (λ (k : Kept). int_lt k.0 end ≡ true) (λ k is. is.0) front (all_passing (λ (k : Kept). int_lt k.0 end ≡ true) (λ (k : Kept). not (int_lt k.0 oldest)) s.earlier s.above);
+          above = all_weaker (λ (k : Kept). (int_lt k.0 end ≡ true) × (not (int_lt k.0 oldest_kept) ≡ true)) (λ (k : Kept). int_lt k.0 end ≡ true) (λ k is. is.0) front (all_passing (λ (k : Kept). int_lt k.0 end ≡ true) (λ (k : Kept). not (int_lt k.0 oldest_kept)) s.earlier s.above);
           from = s.from;
           pinned = all.1;
         },
@@ -193,6 +190,14 @@ module _ (store : Images) (end : ℤ) (pins : List Pin) (s : StandsAt store end 
 
   pub none_stand : StandsAt store end []
   none_stand = record { earlier = s.earlier; kept = s.kept; above = s.above; from = s.from; pinned = tt }
+
+-- the empty image, at place 0
+pub begins : (before store : Images) → before ≡ no_images → store ≡ marked before (pos 0) → (log_in store (pos 0) [] ≡ nothing_pinned) × StandsAt store (pos 0) []
+begins before store none is =
+    let at : store ≡ marked no_images (pos 0) = is ∙ ap (λ (s : Images). marked s (pos 0)) none in (
+      ap (λ (s : Images). log_in s (pos 0) []) at,
+      subst (λ (s : Images). StandsAt s (pos 0) []) (sym at) (record { earlier = []; kept = refl; above = tt; from = refl; pinned = tt }),
+    )
 
 pub once_stands : (end : ℤ) (image : Image) → int_lt (negsuc 0) end ≡ true → StandsAt (kept_once end image) end []
 once_stands end image from = record { earlier = []; kept = refl; above = tt; from = from; pinned = tt }

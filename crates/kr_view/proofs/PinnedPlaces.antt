@@ -130,3 +130,13 @@ pub answered : {A : Type 0} (list : List Entry) (log : PinnedLog) (place : ℤ) 
     → MatchResult result (λ a. kept_image log place ≡ Some (seen a)) (IsNotThere log place) → AnswersAt list place (λ image a. seen a ≡ image) result
 answered list log place seen (Ok a) is found = image_is list place (seen a) (subst (λ (l : PinnedLog). kept_image l place ≡ Some (seen a)) is found)
 answered list log place seen (Err fault) is found = subst (λ (l : PinnedLog). IsNotThere l place fault) is found
+
+-- ---- the end
+
+pub log_end : (log : PinnedLog) (list : List Entry) → log ≡ pinned_log list → log.at.end ≡ end_of list
+log_end log list is = ap (λ (l : PinnedLog). l.at.end) is ∙ ap (λ (r : Reached). r.end) (same_at nothing_pinned list)
+
+pub log_image : (log : PinnedLog) (list : List Entry) → log ≡ pinned_log list → log.at.image ≡ image_of list
+log_image log list is = ap (λ (l : PinnedLog). l.at.image) is ∙ ap (λ (r : Reached). r.image) (same_at nothing_pinned list)
+
+pub ruleset ends = (log_end, log_image)

@@ -1,5 +1,5 @@
 -- The end rises where a run of entries changes the image.
-use Rattle.std.proofs.Common.{◌≡◌, ◌≢◌, ◌⊎◌, inl, inr, ⊎_elim, ℤ, pos, Bool, true, false, ◌&&◌, cond, true≢false, List, [], ◌∷◌, fold, refl, sym, ap, ◌∙◌, subst, arith}
+use Rattle.std.proofs.Common.{◌≡◌, ◌≢◌, ◌⊎◌, inl, inr, ⊎_elim, ℕ, ℤ, pos, Bool, true, false, ◌&&◌, cond, true≢false, List, [], ◌∷◌, fold, refl, sym, ap, ◌∙◌, subst, arith}
 use Rattle.std.proofs.lemmas.Int.{ints}
 use Rattle.std.proofs.lemmas.List.Elements.{All-head, All-tail}
 use Rattle.std.proofs.lemmas.Bool.Decides.{Decides-int_eq}
@@ -11,7 +11,7 @@ use Rattle.kr_defs.specs.Apply.{apply}
 use Rattle.kr_defs.specs.Image.{Image}
 use Rattle.kr_calls.specs.declared.events.Entry.{Entry}
 use Rattle.kr_calls.specs.declared.events.Entry.TheVariants as entries
-use Rattle.kr_calls.specs.SeatList.{PinnedLog, Reached, pinned_with, with_image}
+use Rattle.kr_calls.specs.SeatList.{PinnedLog, Reached, loads_with, pinned_with, with_image}
 use Rattle.kr_view.specs.Runs.{is_single, AreNoSingles}
 use Rattle.kr_view.specs.Standing.{run_with, with_run}
 
@@ -76,3 +76,17 @@ pub run_is_log : (l : PinnedLog) (es : List Entry) → AreNoSingles es → with_
 run_is_log l [] plain = refl
 run_is_log l (e ∷ es) plain =
     ap (λ (x : PinnedLog). with_run x es) (alike l e (All-head (λ (x : Entry). is_single x ≡ false) e es plain)) ∙ run_is_log (pinned_with l e) es (All-tail (λ (x : Entry). is_single x ≡ false) e es plain)
+
+plain_entry : (n : ℕ) (e : Entry) → is_single e ≡ false → loads_with n e ≡ n
+plain_entry n (entries.Item place item) plain = refl
+plain_entry n (entries.Load offset records) plain = absurd (true≢false plain)
+plain_entry n (entries.Pin pin) plain = refl
+plain_entry n (entries.Unpin pin) plain = refl
+plain_entry n (entries.Answer answer) plain = refl
+plain_entry n (entries.Stop number) plain = refl
+
+-- a run has no image in place of all
+pub no_loads : (n : ℕ) (es : List Entry) → AreNoSingles es → n ≡ fold loads_with n es
+no_loads n [] plain = refl
+no_loads n (e ∷ es) plain =
+    no_loads n es (All-tail (λ (x : Entry). is_single x ≡ false) e es plain) ∙ ap (λ m. fold loads_with m es) (sym (plain_entry n e (All-head (λ (x : Entry). is_single x ≡ false) e es plain)))

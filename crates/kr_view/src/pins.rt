@@ -92,7 +92,8 @@ impl Pins {
         ensures { result ≡ fold lower end.now self.now }
     {
         let mut oldest = *end;
-        for pin in self.list.as_slice() {
+        let pins = self.list.as_slice();
+        for pin in pins {
             oldest = lower(&oldest, pin);
         }
         oldest

@@ -93,6 +93,7 @@ fn loads_after(loads: u64, entry: &Entry) -> u64
 }
 
 // A run has none.
+#[tactic(auto, using(crate::proofs::Runs::no_loads))]
 fn same_loads(loads: u64, entries: &[Entry]) -> u64
     requires { AreNoSingles entries.now }
     ensures { result ≡ fold loads_with loads entries.now }
@@ -141,6 +142,7 @@ impl Shown {
     }
 
     /// The end of the entries.
+    #[tactic(auto, using(crate::proofs::PinnedPlaces::ends))]
     pub(crate) fn end(&self) -> i64
         ensures { result ≡ end_of self.now.list }
     {
@@ -205,7 +207,7 @@ impl Shown {
     }
 
     /// The reply to a read, on the image at the end of the entries.
-    #[tactic(auto, using(crate::proofs::Replied::no_read_without_reply))]
+    #[tactic(auto, using(crate::proofs::Replied::no_read_without_reply, crate::proofs::PinnedPlaces::ends))]
     pub(crate) fn reply(&self, request: &Request) -> Result<Reply, NoMemory>
         requires { IsTrue (is_read request.now) }
         ensures { IfOk result (λ reply. query self.now.options (image_of self.now.list) request.now ≡ Some reply) }
