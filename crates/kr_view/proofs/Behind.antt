@@ -34,7 +34,7 @@ use Rattle.kr_view.specs.declared.scans.ScanKey.{ScanKey}
 use Rattle.kr_view.specs.Listings.{listed, listed_behind, rest_of_topic}
 use Rattle.kr_view.specs.RecordPages.{is_record_behind, keyed_broker, keyed_feature, keyed_partition, keyed_records, keyed_setting, keyed_topic, rank_of_key, record_key_order, setting_key}
 use Rattle.kr_view.specs.RecordSections.{behind_key, behind_partition, from_brokers, from_features, from_settings, from_topics, record_of_broker, record_of_feature, record_of_setting, record_of_topic}
-use Rattle.kr_view.specs.Scans.{is_row_behind, page_row, scan_order}
+use Rattle.kr_view.specs.Scans.{is_row_behind, no_heads, page_row, scan_order}
 
 -- ---- filters
 
@@ -125,9 +125,6 @@ module _ (id : ℕ) (index : ℤ) (q : (ℕ × ℤ) × Partition → Bool) (late
 
 -- ---- a page of partitions
 
-abbrev none_before : List ℕ × ℕ → List PageRow
-none_before topic = []
-
 module _ (image : Image) (key : ScanKey) where
   abbrev t : List ℕ
   t = key.topic
@@ -139,28 +136,28 @@ module _ (image : Image) (key : ScanKey) where
   by_topic r name b is all [] = tt
   by_topic r name b is all (e ∷ es) = (ap (λ x. is_lt (ordering_then x (int_cmp key.index e.0.1))) is ∙ all e.0.1, by_topic r name b is all es)
 
-  one_topic : (e : List ℕ × ℕ) → text_order t e.0 ≡ Equal → filter passes (listed none_before page_row image.partitions e) ≡ rest_of_topic none_before page_row image t key.index e.1
+  one_topic : (e : List ℕ × ℕ) → text_order t e.0 ≡ Equal → filter passes (listed no_heads page_row image.partitions e) ≡ rest_of_topic no_heads page_row image t key.index e.1
   one_topic e is =
       let name : t ≡ e.0 = exact_bytes t e.0 is in
       let row : (ℕ × ℤ) × Partition → PageRow = λ x. page_row (walked e.0 x) in
       ap (filter passes) (map_again (walked e.0) page_row (of_topic e.1 image.partitions))
       ∙ filter_map_is row passes (of_topic e.1 image.partitions)
       ∙ ap (map row) (of_topic_behind e.1 key.index (λ x. passes (row x)) (λ x. ap (λ r. is_lt (ordering_then r (int_cmp key.index x.0.1))) is) image.partitions)
-      ∙ ap (λ n. rest_of_topic none_before page_row image n key.index e.1) (sym name)
+      ∙ ap (λ n. rest_of_topic no_heads page_row image n key.index e.1) (sym name)
 
-  pub page_behind : IsValid image → filter passes (map page_row (walk image)) ≡ listed_behind none_before page_row image t key.index
+  pub page_behind : IsValid image → filter passes (map page_row (walk image)) ≡ listed_behind no_heads page_row image t key.index
   page_behind valid =
       ap (filter passes) (map_flat page_row (walk_topic image.partitions) image.topics)
-      ∙ split passes (listed none_before page_row image.partitions) t (rest_of_topic none_before page_row image t key.index)
-      (λ e is. none_pass passes (listed none_before page_row image.partitions e) (by_topic Greater e.0 false is (λ z. refl) (of_topic e.1 image.partitions)))
-      (λ e is. filter_all passes (listed none_before page_row image.partitions e) (by_topic Less e.0 true is (λ z. refl) (of_topic e.1 image.partitions)))
+      ∙ split passes (listed no_heads page_row image.partitions) t (rest_of_topic no_heads page_row image t key.index)
+      (λ e is. none_pass passes (listed no_heads page_row image.partitions e) (by_topic Greater e.0 false is (λ z. refl) (of_topic e.1 image.partitions)))
+      (λ e is. filter_all passes (listed no_heads page_row image.partitions e) (by_topic Less e.0 true is (λ z. refl) (of_topic e.1 image.partitions)))
       one_topic image.topics valid.topics.ordered
 
 all_rows : (rows : List PageRow) → filter (is_row_behind None) rows ≡ rows
 all_rows [] = refl
 all_rows (row ∷ rows) = ap (λ (rs : List PageRow). row ∷ rs) (all_rows rows)
 
-pub page_first : (image : Image) → filter (is_row_behind None) (map page_row (walk image)) ≡ flat_map (listed none_before page_row image.partitions) image.topics
+pub page_first : (image : Image) → filter (is_row_behind None) (map page_row (walk image)) ≡ flat_map (listed no_heads page_row image.partitions) image.topics
 page_first image = all_rows (map page_row (walk image)) ∙ map_flat page_row (walk_topic image.partitions) image.topics
 
 -- ---- records

@@ -1,5 +1,5 @@
 -- Pages of the partitions of an image, and when there is none. This project's own.
-use Rattle.std.specs.Prelude.{◌≡◌, ℕ, ℤ, Bool, true, false, int_lt, not, IsTrue, List, filter, map, take, MatchResult, Option, Some, None}
+use Rattle.std.specs.Prelude.{◌≡◌, ℕ, ℤ, Bool, true, false, int_lt, not, IsTrue, List, [], filter, map, take, MatchResult, Option, Some, None}
 use Rattle.core.specs.declared.result.Result.{Result}
 use Rattle.std.specs.declared.cmp.Ordering.{Ordering}
 use Rattle.std.specs.Ordering.{int_cmp, is_lt, ordering_then}
@@ -15,6 +15,10 @@ use Rattle.kr_view.specs.declared.scans.ScanKey.{ScanKey}
 
 abbrev pub page_row : Walked → PageRow
 page_row w = record { key = record { topic = w.topic; index = w.key.1 }; partition = w.partition }
+
+-- a topic itself has no row
+abbrev pub no_heads : List ℕ × ℕ → List PageRow
+no_heads topic = []
 
 -- by the topic's name in bytes, then by index
 abbrev pub scan_order : ScanKey → ScanKey → Ordering

@@ -1,8 +1,8 @@
 //! Pages of the partitions of an image.
 
-ghost use Rattle.std.specs.Prelude.{◌≡◌, [], IfOk};
+ghost use Rattle.std.specs.Prelude.{◌≡◌, IfOk};
 ghost use Rattle.std.specs.Option.{option_copied};
-ghost use Rattle.kr_view.specs.Scans.{page_of, page_row};
+ghost use Rattle.kr_view.specs.Scans.{no_heads, page_of, page_row};
 
 use crate::listing::{Listing, list_behind, list_topics};
 use crate::scans::{Page, PageRow, ScanKey};
@@ -16,7 +16,7 @@ use std::alloc::Global;
 struct Partitions;
 
 impl Listing<PageRow> for Partitions {
-    ghost heads = { λ _ topic. [] };
+    ghost heads = { λ _ topic. no_heads topic };
 
     ghost rows = { λ _ w. page_row w };
 

@@ -22,7 +22,7 @@ use std::alloc::Global;
 struct TopicRecords;
 
 impl Listing<Record> for TopicRecords {
-    ghost heads = { λ _ topic. kinds.Topic topic.0 topic.1 ∷ [] };
+    ghost heads = { λ _ topic. sections.record_of_topic topic };
 
     ghost rows = { λ _ w. partition_record w };
 
