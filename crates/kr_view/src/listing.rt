@@ -39,6 +39,12 @@ pub(crate) fn is_full<Y>(rows: &Rows<Y>, most: u32) -> bool
     rows.len() >= most as usize
 }
 
+pub(crate) fn key_of(topic: &u128, index: &i32) -> (u128, i32)
+    ensures { result ≡ (topic.now, index.now) }
+{
+    (*topic, *index)
+}
+
 // The partitions of the topic of this key, above it.
 #[tactic(auto, using(crate::proofs::Filling::fillings))]
 fn list_above<Y: Drop, P: Listing<Y>, S: Store>(
@@ -125,7 +131,7 @@ pub(crate) fn list_behind<Y: Drop, P: Listing<Y>, S: Store>(
     ensures { OnOk result (rows.new ≡ take most (rows.old ++ listed_behind (P.heads listing.now) (P.rows listing.now) seen.now name.now index.now)) }
 {
     if let Some(topic) = seen.topic_named(name) {
-        let first = (topic.id, *index);
+        let first = key_of(&topic.id, index);
         list_above(alloc, seen, listing, name, first, most, rows)?;
     }
     list_topics(alloc, seen, listing, Some(name), most, rows)

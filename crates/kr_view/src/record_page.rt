@@ -10,7 +10,7 @@ ghost use Rattle.kr_view.specs.declared.record_key.RecordKey.TheVariants as keys
 ghost use Rattle.kr_view.specs.RecordPages.{record_of_key, record_page, setting_key};
 ghost use Rattle.kr_view.specs.RecordSections as sections;
 
-use crate::listing::{Listing, is_full, list_behind, list_topics};
+use crate::listing::{Listing, is_full, key_of, list_behind, list_topics};
 use crate::record_key::RecordKey;
 use kr_base::NoMemory;
 use kr_defs::{Broker, ConfigKey, Copied, Partition, Record, Records, Text};
@@ -294,7 +294,7 @@ fn partition_at<S: Store>(
     };
     match seen.partition(&topic.id, index) {
         Some(state) => {
-            let key = (topic.id, *index);
+            let key = key_of(&topic.id, index);
             Ok(Some(partition_record(alloc, &key, state)?))
         }
         None => Ok(None),
