@@ -251,4 +251,26 @@ module _ (old mid : Images) (end next : ℤ) (pins : List Pin) (s : StandsAt old
         let g = goes_on old mid end next oldest pins s kept (goes_up other) is in
         (g.0 ∙ ap (λ (r : Reached). record { at = r; pinned = map (pin_image old) pins }) run, g.1)
 
-pub ruleset runs = (some_kept, some_kept_still, run_back, run_stays, run_marks, run_goes_on)
+-- the same, one by one
+module _ (old mid : Images) (end next : ℤ) (pins : List Pin) (s : StandsAt old end pins) (kept : mid.kept ≡ old.kept) (entries : List Entry) (run : reached_at mid.tip next ≡ fold run_with (reached_at old.tip end) entries) where
+  pub stays_log : (new : Images) → next ≡ end → new.kept ≡ mid.kept → last_image mid ≡ Some new.tip → log_in new next pins ≡ with_run (log_in old end pins) entries
+  stays_log new none same back = (run_stays old mid end next pins s kept entries run new none same back).0
+
+  pub stays_at : (new : Images) → next ≡ end → new.kept ≡ mid.kept → last_image mid ≡ Some new.tip → StandsAt new next pins
+  stays_at new none same back = (run_stays old mid end next pins s kept entries run new none same back).1
+
+  pub goes_on_log : (new : Images) (oldest : ℤ) → next ≢ end → oldest ≡ fold lower next pins → new ≡ forgotten (marked mid next) oldest → log_in new next pins ≡ with_run (log_in old end pins) entries
+  goes_on_log new oldest other low is = ap (λ (x : Images). log_in x next pins) is ∙ (run_goes_on old mid end next pins s kept entries run oldest other low).0
+
+  pub goes_on_at : (new : Images) (oldest : ℤ) → next ≢ end → oldest ≡ fold lower next pins → new ≡ forgotten (marked mid next) oldest → StandsAt new next pins
+  goes_on_at new oldest other low is = subst (λ (x : Images). StandsAt x next pins) (sym is) (run_goes_on old mid end next pins s kept entries run oldest other low).1
+
+pub begins_log : (before store : Images) → before ≡ no_images → store ≡ marked before (pos 0) → log_in store (pos 0) [] ≡ nothing_pinned
+begins_log before store none is = (begins before store none is).0
+
+pub begins_at : (before store : Images) → before ≡ no_images → store ≡ marked before (pos 0) → StandsAt store (pos 0) []
+begins_at before store none is = (begins before store none is).1
+
+pub ruleset runs = (some_kept, some_kept_still, run_back, run_marks, stays_log, stays_at, goes_on_log, goes_on_at)
+
+pub ruleset beginnings = (begins_log, begins_at)

@@ -64,7 +64,21 @@ module _ (store : Images) (end : ℤ) (pins : List Pin) (pin : Pin) where
       subst F (λ i. (sym is i, sym (low ∙ ap (fold lower end) is) i))
       (f.0 ∙ ap (λ (ps : List (Pin × Image)). record log { pinned = ps }) (sym (filter_map_is (pin_image store) (λ (p : Pin × Image). q p.0) pins)), f.1)
 
-pub ruleset taken = (pin_taken, pin_passed, unpin_taken)
+-- the same, one by one
+module _ (store : Images) (end : ℤ) (pins left : List Pin) (pin : Pin) (s : StandsAt store end pins) where
+  pub taken_log : is_new_pin (log store end pins pin).at (log store end pins pin).pinned pin ≡ true → left ≡ pins ++ pin ∷ [] → log_in store end left ≡ record (log store end pins pin) { pinned = with_pin (log store end pins pin).at (log store end pins pin).pinned pin }
+  taken_log new is = ap (λ (ps : List Pin). log_in store end ps) is ∙ (pin_taken store end pins pin s new).0
+
+  pub taken_at : is_new_pin (log store end pins pin).at (log store end pins pin).pinned pin ≡ true → left ≡ pins ++ pin ∷ [] → StandsAt store end left
+  taken_at new is = subst (λ (ps : List Pin). StandsAt store end ps) (sym is) (pin_taken store end pins pin s new).1
+
+  pub unpin_log : (new : Images) (oldest : ℤ) → left ≡ filter (λ other. not (is_same_pin pin other)) pins → oldest ≡ fold lower end left → new ≡ forgotten store oldest → log_in new end left ≡ record (log store end pins pin) { pinned = without_pin (log store end pins pin).pinned pin }
+  unpin_log new oldest is low gone = ap (λ (x : Images). log_in x end left) gone ∙ (unpin_taken store end pins pin s left oldest is low).0
+
+  pub unpin_at : (new : Images) (oldest : ℤ) → left ≡ filter (λ other. not (is_same_pin pin other)) pins → oldest ≡ fold lower end left → new ≡ forgotten store oldest → StandsAt new end left
+  unpin_at new oldest is low gone = subst (λ (x : Images). StandsAt x end left) (sym gone) (unpin_taken store end pins pin s left oldest is low).1
+
+pub ruleset taken = (taken_log, taken_at, pin_passed, unpin_log, unpin_at)
 
 -- ---- what a store has at a kept place
 

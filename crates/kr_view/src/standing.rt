@@ -171,7 +171,7 @@ fn at_epoch(epoch: &i64) -> At
 
 impl Standing {
     /// The empty image, at place 0, and no pin.
-    #[tactic(auto, using(crate::proofs::Kept::begins))]
+    #[tactic(auto, using(crate::proofs::Kept::beginnings))]
     pub(crate) fn new(alloc: Global) -> Result<Standing, NoMemory>
         ensures { IfOk result (λ s. s ≡ nothing_pinned) }
     {

@@ -1,9 +1,9 @@
 //! What all seats were told last.
 
-ghost use Rattle.std.specs.Prelude.{◌≡◌, ◌<◌, length, None, IfOk, slice_index_or, fold};
+ghost use Rattle.std.specs.Prelude.{◌≡◌, ◌<◌, length, None, IfOk, OnOk, slice_index_or, fold};
 ghost use Rattle.kr_calls.specs.SeatList.{is_older};
 ghost use Rattle.kr_view.specs.Steps.{entries_of};
-ghost use Rattle.kr_view.specs.Tables.{nothing_told, noted, told_among, told_by};
+ghost use Rattle.kr_view.specs.Tables.{nothing_told, noted, told_among, told_by, told_more};
 
 use crate::run::Step;
 use core::slice::from_ref;
@@ -46,15 +46,23 @@ fn told_by(entry: &Entry) -> Result<Option<SeatEntry>, NoMemory>
     }
 }
 
+fn add_told(all: &mut VecDeque<SeatEntry>, told: Option<SeatEntry>) -> Result<(), NoMemory>
+    ensures { OnOk result (all.new.items ≡ told_more all.old.items told) }
+{
+    if let Some(told) = told {
+        all.push_back(told)?;
+    }
+    Ok(())
+}
+
 // What the entries tell the seats, in order.
 fn told_among(alloc: Global, entries: &[Entry]) -> Result<VecDeque<SeatEntry>, NoMemory>
     ensures { IfOk result (λ told. told.items ≡ told_among entries.now) }
 {
     let mut all = VecDeque::new(alloc);
     for entry in entries {
-        if let Some(told) = told_by(entry)? {
-            all.push_back(told)?;
-        }
+        let told = told_by(entry)?;
+        add_told(&mut all, told)?;
     }
     Ok(all)
 }
