@@ -17,7 +17,7 @@ use Rattle.kr_image.proofs.EpochEnds.{last_later}
 use Rattle.kr_image.proofs.KeptLists.{all_passing, all_push, all_weaker, apart_before, find_filter, find_last, map_same}
 use Rattle.kr_store.specs.Images.{Images, IsAbove, forgotten, kept_at, kept_once, last_image, last_kept, marked, no_images}
 use Rattle.kr_view.specs.Pinned.{log_in, pin_image}
-use Rattle.kr_view.specs.Standing.{StandsAt, run_with, with_run}
+use Rattle.kr_view.specs.Standing.{IsStandingAt, run_with, with_run}
 use Rattle.kr_view.proofs.Runs.{gone_on, still_there}
 
 -- ---- numbers
@@ -67,7 +67,7 @@ last_snoc [] x = refl
 last_snoc (y ∷ []) x = last_later y x []
 last_snoc (y ∷ z ∷ xs) x = last_later y z (xs ++ x ∷ []) ∙ last_snoc (z ∷ xs) x
 
-module _ (store : Images) (end : ℤ) (pins : List Pin) (s : StandsAt store end pins) where
+module _ (store : Images) (end : ℤ) (pins : List Pin) (s : IsStandingAt store end pins) where
   last_is : last_kept store ≡ Some (end, store.tip)
   last_is = ap (λ (ks : List Kept). slice_get ks (length ks - 1)) s.kept ∙ last_snoc s.earlier (end, store.tip)
 
@@ -95,7 +95,7 @@ module _ (store : Images) (end : ℤ) (pins : List Pin) (s : StandsAt store end 
 
   -- ---- going back
 
-  pub still : (new : Images) → new.kept ≡ store.kept → last_image store ≡ Some new.tip → (log_in new end pins ≡ log_in store end pins) × StandsAt new end pins
+  pub still : (new : Images) → new.kept ≡ store.kept → last_image store ≡ Some new.tip → (log_in new end pins ≡ log_in store end pins) × IsStandingAt new end pins
   still new same back =
       let tip : new.tip ≡ store.tip = sym (some_is store.tip new.tip (sym last_image_is ∙ back)) in
       let place : (at : ℤ) → kept_at new at ≡ kept_at store at = λ at. ap (λ (ks : List Kept). option_map (λ (k : Kept). k.1) (find (λ (k : Kept). int_eq k.0 at) ks)) same in (
@@ -117,7 +117,7 @@ module _ (store : Images) (end : ℤ) (pins : List Pin) (s : StandsAt store end 
     | None ↦ λ is. absurd cc
   ] there
 
-  pub marks : (mid : Images) (next : ℤ) → mid.kept ≡ store.kept → int_lt end next ≡ true → (map (pin_image (marked mid next)) pins ≡ map (pin_image store) pins) × StandsAt (marked mid next) next pins
+  pub marks : (mid : Images) (next : ℤ) → mid.kept ≡ store.kept → int_lt end next ≡ true → (map (pin_image (marked mid next)) pins ≡ map (pin_image store) pins) × IsStandingAt (marked mid next) next pins
   marks mid next same up =
       let more : List Kept = (next, mid.tip) ∷ [] in
       let place : (at : ℤ) → IsSome (kept_at store at) → kept_at (marked mid next) at ≡ kept_at store at = λ at is.
@@ -151,7 +151,7 @@ module _ (store : Images) (end : ℤ) (pins : List Pin) (s : StandsAt store end 
       let others = both_weaker rest up.1 there.1 in
       ((ap (λ (o : Option Image). (pin, unwrap_or o empty)) same, others.0), (subst IsSome (sym same) there.0, others.1))
 
-  pub forgets : (log_in (forgotten store oldest_kept) end pins ≡ log_in store end pins) × StandsAt (forgotten store oldest_kept) end pins
+  pub forgets : (log_in (forgotten store oldest_kept) end pins ≡ log_in store end pins) × IsStandingAt (forgotten store oldest_kept) end pins
   forgets =
       let all = both_weaker pins (oldest_each end pins) s.pinned in
       let front : List Kept = filter (λ (k : Kept). not (int_lt k.0 oldest_kept)) s.earlier in (
@@ -170,7 +170,7 @@ module _ (store : Images) (end : ℤ) (pins : List Pin) (s : StandsAt store end 
 
   -- ---- other pins
 
-  pub fewer_stand : (q : Pin → Bool) → StandsAt store end (filter q pins)
+  pub fewer_stand : (q : Pin → Bool) → IsStandingAt store end (filter q pins)
   fewer_stand q = record {
     earlier = s.earlier;
     kept = s.kept;
@@ -179,7 +179,7 @@ module _ (store : Images) (end : ℤ) (pins : List Pin) (s : StandsAt store end 
     pinned = all_weaker (λ (pin : Pin). IsSome (kept_at store pin.place) × (q pin ≡ true)) (λ (pin : Pin). IsSome (kept_at store pin.place)) (λ pin is. is.0) (filter q pins) (all_passing (λ (pin : Pin). IsSome (kept_at store pin.place)) q pins s.pinned);
   }
 
-  pub one_more_stands : (pin : Pin) → pin.place ≡ end → StandsAt store end (pins ++ pin ∷ [])
+  pub one_more_stands : (pin : Pin) → pin.place ≡ end → IsStandingAt store end (pins ++ pin ∷ [])
   one_more_stands pin is = record {
     earlier = s.earlier;
     kept = s.kept;
@@ -188,27 +188,27 @@ module _ (store : Images) (end : ℤ) (pins : List Pin) (s : StandsAt store end 
     pinned = all_push (λ (pin : Pin). IsSome (kept_at store pin.place)) pins pin s.pinned (subst (λ z. IsSome (kept_at store z)) (sym is) (ap is_some at_end));
   }
 
-  pub none_stand : StandsAt store end []
+  pub none_stand : IsStandingAt store end []
   none_stand = record { earlier = s.earlier; kept = s.kept; above = s.above; from = s.from; pinned = tt }
 
 -- the empty image, at place 0
-pub begins : (before store : Images) → before ≡ no_images → store ≡ marked before (pos 0) → (log_in store (pos 0) [] ≡ nothing_pinned) × StandsAt store (pos 0) []
+pub begins : (before store : Images) → before ≡ no_images → store ≡ marked before (pos 0) → (log_in store (pos 0) [] ≡ nothing_pinned) × IsStandingAt store (pos 0) []
 begins before store none is =
     let at : store ≡ marked no_images (pos 0) = is ∙ ap (λ (s : Images). marked s (pos 0)) none in (
       ap (λ (s : Images). log_in s (pos 0) []) at,
-      subst (λ (s : Images). StandsAt s (pos 0) []) (sym at) (record { earlier = []; kept = refl; above = tt; from = refl; pinned = tt }),
+      subst (λ (s : Images). IsStandingAt s (pos 0) []) (sym at) (record { earlier = []; kept = refl; above = tt; from = refl; pinned = tt }),
     )
 
-pub once_stands : (end : ℤ) (image : Image) → int_lt (negsuc 0) end ≡ true → StandsAt (kept_once end image) end []
+pub once_stands : (end : ℤ) (image : Image) → int_lt (negsuc 0) end ≡ true → IsStandingAt (kept_once end image) end []
 once_stands end image from = record { earlier = []; kept = refl; above = tt; from = from; pinned = tt }
 
 -- after a run that went on: its end is kept, and what is older than all pins is forgotten
-pub goes_on : (store mid : Images) (end next oldest : ℤ) (pins : List Pin) → StandsAt store end pins → mid.kept ≡ store.kept → int_lt end next ≡ true → oldest ≡ fold lower next pins
-    → (log_in (forgotten (marked mid next) oldest) next pins ≡ record { at = record { image = mid.tip; end = next }; pinned = map (pin_image store) pins }) × StandsAt (forgotten (marked mid next) oldest) next pins
+pub goes_on : (store mid : Images) (end next oldest : ℤ) (pins : List Pin) → IsStandingAt store end pins → mid.kept ≡ store.kept → int_lt end next ≡ true → oldest ≡ fold lower next pins
+    → (log_in (forgotten (marked mid next) oldest) next pins ≡ record { at = record { image = mid.tip; end = next }; pinned = map (pin_image store) pins }) × IsStandingAt (forgotten (marked mid next) oldest) next pins
 goes_on store mid end next oldest pins s same up is =
     let m = marks store end pins s mid next same up in
     let f = forgets (marked mid next) next pins m.1 in
-    let F : ℤ → Type 0 = λ z. (log_in (forgotten (marked mid next) z) next pins ≡ record { at = record { image = mid.tip; end = next }; pinned = map (pin_image store) pins }) × StandsAt (forgotten (marked mid next) z) next pins in
+    let F : ℤ → Type 0 = λ z. (log_in (forgotten (marked mid next) z) next pins ≡ record { at = record { image = mid.tip; end = next }; pinned = map (pin_image store) pins }) × IsStandingAt (forgotten (marked mid next) z) next pins in
     subst F (sym is) (f.0 ∙ ap (λ (ps : List (Pin × Image)). record { at = record { image = mid.tip; end = next }; pinned = ps }) m.0, f.1)
 
 -- ---- a run
@@ -219,12 +219,12 @@ reached_at image end = record { image = image; end = end }
 kept_alike : (a b : Images) → a.kept ≡ b.kept → last_kept a ≡ last_kept b
 kept_alike a b same = ap (λ (ks : List Kept). slice_get ks (length ks - 1)) same
 
-module _ (old mid : Images) (end next : ℤ) (pins : List Pin) (s : StandsAt old end pins) (kept : mid.kept ≡ old.kept) where
+module _ (old mid : Images) (end next : ℤ) (pins : List Pin) (s : IsStandingAt old end pins) (kept : mid.kept ≡ old.kept) where
   pub some_kept_still : IsSome (last_kept mid)
   some_kept_still = ap is_some (kept_alike mid old kept) ∙ some_kept old end pins s
 
   -- what was applied is taken back
-  pub run_back : (new : Images) → new.kept ≡ mid.kept → last_image mid ≡ Some new.tip → (log_in new end pins ≡ log_in old end pins) × StandsAt new end pins
+  pub run_back : (new : Images) → new.kept ≡ mid.kept → last_image mid ≡ Some new.tip → (log_in new end pins ≡ log_in old end pins) × IsStandingAt new end pins
   run_back new same back = still old end pins s new (same ∙ kept) (ap (option_map (λ (k : Kept). k.1)) (sym (kept_alike mid old kept)) ∙ back)
 
   module _ (entries : List Entry) (run : reached_at mid.tip next ≡ fold run_with (reached_at old.tip end) entries) where
@@ -232,12 +232,12 @@ module _ (old mid : Images) (end next : ℤ) (pins : List Pin) (s : StandsAt old
     next_is = ap (λ (r : Reached). r.end) run
 
     -- nothing counted
-    pub run_stays : (new : Images) → next ≡ end → new.kept ≡ mid.kept → last_image mid ≡ Some new.tip → (log_in new next pins ≡ with_run (log_in old end pins) entries) × StandsAt new next pins
+    pub run_stays : (new : Images) → next ≡ end → new.kept ≡ mid.kept → last_image mid ≡ Some new.tip → (log_in new next pins ≡ with_run (log_in old end pins) entries) × IsStandingAt new next pins
     run_stays new none same back =
         let b = run_back new same back in
         let none_counted : fold run_with (reached_at old.tip end) entries ≡ reached_at old.tip end = still_there (reached_at old.tip end) entries (sym next_is ∙ none) in (
           ap (λ z. log_in new z pins) none ∙ b.0 ∙ ap (λ (r : Reached). record { at = r; pinned = map (pin_image old) pins }) (sym none_counted),
-          subst (λ z. StandsAt new z pins) (sym none) b.1,
+          subst (λ z. IsStandingAt new z pins) (sym none) b.1,
         )
 
     goes_up : next ≢ end → int_lt end next ≡ true
@@ -246,29 +246,29 @@ module _ (old mid : Images) (end next : ℤ) (pins : List Pin) (s : StandsAt old
     pub run_marks : next ≢ end → IsAbove mid.kept next
     run_marks other = may_mark old end pins s mid next kept (goes_up other)
 
-    pub run_goes_on : (oldest : ℤ) → next ≢ end → oldest ≡ fold lower next pins → (log_in (forgotten (marked mid next) oldest) next pins ≡ with_run (log_in old end pins) entries) × StandsAt (forgotten (marked mid next) oldest) next pins
+    pub run_goes_on : (oldest : ℤ) → next ≢ end → oldest ≡ fold lower next pins → (log_in (forgotten (marked mid next) oldest) next pins ≡ with_run (log_in old end pins) entries) × IsStandingAt (forgotten (marked mid next) oldest) next pins
     run_goes_on oldest other is =
         let g = goes_on old mid end next oldest pins s kept (goes_up other) is in
         (g.0 ∙ ap (λ (r : Reached). record { at = r; pinned = map (pin_image old) pins }) run, g.1)
 
 -- the same, one by one
-module _ (old mid : Images) (end next : ℤ) (pins : List Pin) (s : StandsAt old end pins) (kept : mid.kept ≡ old.kept) (entries : List Entry) (run : reached_at mid.tip next ≡ fold run_with (reached_at old.tip end) entries) where
+module _ (old mid : Images) (end next : ℤ) (pins : List Pin) (s : IsStandingAt old end pins) (kept : mid.kept ≡ old.kept) (entries : List Entry) (run : reached_at mid.tip next ≡ fold run_with (reached_at old.tip end) entries) where
   pub stays_log : (new : Images) → next ≡ end → new.kept ≡ mid.kept → last_image mid ≡ Some new.tip → log_in new next pins ≡ with_run (log_in old end pins) entries
   stays_log new none same back = (run_stays old mid end next pins s kept entries run new none same back).0
 
-  pub stays_at : (new : Images) → next ≡ end → new.kept ≡ mid.kept → last_image mid ≡ Some new.tip → StandsAt new next pins
+  pub stays_at : (new : Images) → next ≡ end → new.kept ≡ mid.kept → last_image mid ≡ Some new.tip → IsStandingAt new next pins
   stays_at new none same back = (run_stays old mid end next pins s kept entries run new none same back).1
 
   pub goes_on_log : (new : Images) (oldest : ℤ) → next ≢ end → oldest ≡ fold lower next pins → new ≡ forgotten (marked mid next) oldest → log_in new next pins ≡ with_run (log_in old end pins) entries
   goes_on_log new oldest other low is = ap (λ (x : Images). log_in x next pins) is ∙ (run_goes_on old mid end next pins s kept entries run oldest other low).0
 
-  pub goes_on_at : (new : Images) (oldest : ℤ) → next ≢ end → oldest ≡ fold lower next pins → new ≡ forgotten (marked mid next) oldest → StandsAt new next pins
-  goes_on_at new oldest other low is = subst (λ (x : Images). StandsAt x next pins) (sym is) (run_goes_on old mid end next pins s kept entries run oldest other low).1
+  pub goes_on_at : (new : Images) (oldest : ℤ) → next ≢ end → oldest ≡ fold lower next pins → new ≡ forgotten (marked mid next) oldest → IsStandingAt new next pins
+  goes_on_at new oldest other low is = subst (λ (x : Images). IsStandingAt x next pins) (sym is) (run_goes_on old mid end next pins s kept entries run oldest other low).1
 
 pub begins_log : (before store : Images) → before ≡ no_images → store ≡ marked before (pos 0) → log_in store (pos 0) [] ≡ nothing_pinned
 begins_log before store none is = (begins before store none is).0
 
-pub begins_at : (before store : Images) → before ≡ no_images → store ≡ marked before (pos 0) → StandsAt store (pos 0) []
+pub begins_at : (before store : Images) → before ≡ no_images → store ≡ marked before (pos 0) → IsStandingAt store (pos 0) []
 begins_at before store none is = (begins before store none is).1
 
 pub ruleset runs = (some_kept, some_kept_still, run_back, run_marks, stays_log, stays_at, goes_on_log, goes_on_at)

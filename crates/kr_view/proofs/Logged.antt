@@ -9,12 +9,12 @@ use Rattle.kr_calls.specs.RightAnswers.{IsRightEntry, AreRightAfter}
 use Rattle.kr_calls.specs.SeatList.{is_below}
 use Rattle.kr_view.specs.Shelves.{next_at}
 use Rattle.kr_view.specs.Staged.{staged_below, is_logged}
-use Rattle.kr_view.specs.StagedLaws.{LoggedEntriesAreRight, PlainEntriesAreRight, is_plain}
+use Rattle.kr_view.specs.StagedLaws.{LoggedEntriesAreRight, PlainEntriesAreRight, is_plain_entry}
 
 abbrev Plain : List Entry → Type 0
-Plain list = AllByRecursion (λ e. is_plain e ≡ true) list
+Plain list = AllByRecursion (λ e. is_plain_entry e ≡ true) list
 
-right : (o : Options) (before : List Entry) (e : Entry) → is_plain e ≡ true → IsRightEntry o before e
+right : (o : Options) (before : List Entry) (e : Entry) → is_plain_entry e ≡ true → IsRightEntry o before e
 right o before (entries.Item place item) is = tt
 right o before (entries.Load offset records) is = tt
 right o before (entries.Pin pin) is = absurd (true≢false (sym is))
@@ -40,9 +40,9 @@ shown o before waiting items notes end none a b =
 
 pub are_plainly_right : PlainEntriesAreRight
 are_plainly_right end s is =
-    shown s.options s.list s.waiting s.items s.notes end is.waiting (recursion_from_All (λ (e : Entry). is_plain e ≡ true) s.items is.items) (recursion_from_All (λ (e : Entry). is_plain e ≡ true) s.notes is.notes)
+    shown s.options s.list s.waiting s.items s.notes end is.waiting (recursion_from_All (λ (e : Entry). is_plain_entry e ≡ true) s.items is.items) (recursion_from_All (λ (e : Entry). is_plain_entry e ≡ true) s.notes is.notes)
 
-logged_plain : (e : Entry) → is_logged e ≡ true → is_plain e ≡ true
+logged_plain : (e : Entry) → is_logged e ≡ true → is_plain_entry e ≡ true
 logged_plain (entries.Item place item) is = is
 logged_plain (entries.Load offset records) is = is
 logged_plain (entries.Pin pin) is = absurd (true≢false (sym is))

@@ -15,9 +15,9 @@ use Rattle.kr_calls.proofs.KeptPlaces.{end_image, pin_images, same_at}
 use Rattle.kr_image.proofs.KeptLists.{filter_map_is, map_push}
 use Rattle.kr_store.specs.Images.{Images, forgotten, kept_at}
 use Rattle.kr_view.specs.declared.scans.ScanFault.{ScanFault}
-use Rattle.kr_view.specs.Pinned.{kept_image, log_in, pin_image}
+use Rattle.kr_view.specs.Pinned.{kept_image_at, log_in, pin_image}
 use Rattle.kr_view.specs.Scans.{AnswersAt, IsNotThere}
-use Rattle.kr_view.specs.Standing.{StandsAt}
+use Rattle.kr_view.specs.Standing.{IsStandingAt}
 use Rattle.kr_view.proofs.Kept.{at_end, fewer_stand, forgets, one_more_stands}
 
 pub pins_are : (store : Images) (pins : List Pin) → pins_in (map (pin_image store) pins) ≡ pins
@@ -41,7 +41,7 @@ module _ (store : Images) (end : ℤ) (pins : List Pin) (pin : Pin) where
   abbrev log : PinnedLog
   log = log_in store end pins
 
-  pub pin_taken : StandsAt store end pins → is_new_pin log.at log.pinned pin ≡ true → (log_in store end (pins ++ pin ∷ []) ≡ record log { pinned = with_pin log.at log.pinned pin }) × StandsAt store end (pins ++ pin ∷ [])
+  pub pin_taken : IsStandingAt store end pins → is_new_pin log.at log.pinned pin ≡ true → (log_in store end (pins ++ pin ∷ []) ≡ record log { pinned = with_pin log.at log.pinned pin }) × IsStandingAt store end (pins ++ pin ∷ [])
   pin_taken s new =
       let place : pin.place ≡ end = (Decides-int_eq pin.place end).0 (and_parts (int_eq pin.place end) (not (is_pinned (pins_in log.pinned) pin)) new).0 in
       let image : kept_at store pin.place ≡ Some store.tip = ap (kept_at store) place ∙ at_end store end pins s in (
@@ -55,28 +55,28 @@ module _ (store : Images) (end : ℤ) (pins : List Pin) (pin : Pin) where
   pub pin_passed : is_new_pin log.at log.pinned pin ≡ false → log ≡ record log { pinned = with_pin log.at log.pinned pin }
   pin_passed old = ap (λ b. record log { pinned = cond b (log.pinned ++ (pin, store.tip) ∷ []) log.pinned }) (sym old)
 
-  pub unpin_taken : StandsAt store end pins → (left : List Pin) (oldest : ℤ) → left ≡ filter (λ other. not (is_same_pin pin other)) pins → oldest ≡ fold lower end left
-      → (log_in (forgotten store oldest) end left ≡ record log { pinned = without_pin log.pinned pin }) × StandsAt (forgotten store oldest) end left
+  pub unpin_taken : IsStandingAt store end pins → (left : List Pin) (oldest : ℤ) → left ≡ filter (λ other. not (is_same_pin pin other)) pins → oldest ≡ fold lower end left
+      → (log_in (forgotten store oldest) end left ≡ record log { pinned = without_pin log.pinned pin }) × IsStandingAt (forgotten store oldest) end left
   unpin_taken s left oldest is low =
       let q : Pin → Bool = λ other. not (is_same_pin pin other) in
       let f = forgets store end (filter q pins) (fewer_stand store end pins s q) in
-      let F : List Pin × ℤ → Type 0 = λ x. (log_in (forgotten store x.1) end x.0 ≡ record log { pinned = without_pin log.pinned pin }) × StandsAt (forgotten store x.1) end x.0 in
+      let F : List Pin × ℤ → Type 0 = λ x. (log_in (forgotten store x.1) end x.0 ≡ record log { pinned = without_pin log.pinned pin }) × IsStandingAt (forgotten store x.1) end x.0 in
       subst F (λ i. (sym is i, sym (low ∙ ap (fold lower end) is) i))
       (f.0 ∙ ap (λ (ps : List (Pin × Image)). record log { pinned = ps }) (sym (filter_map_is (pin_image store) (λ (p : Pin × Image). q p.0) pins)), f.1)
 
 -- the same, one by one
-module _ (store : Images) (end : ℤ) (pins left : List Pin) (pin : Pin) (s : StandsAt store end pins) where
+module _ (store : Images) (end : ℤ) (pins left : List Pin) (pin : Pin) (s : IsStandingAt store end pins) where
   pub taken_log : is_new_pin (log store end pins pin).at (log store end pins pin).pinned pin ≡ true → left ≡ pins ++ pin ∷ [] → log_in store end left ≡ record (log store end pins pin) { pinned = with_pin (log store end pins pin).at (log store end pins pin).pinned pin }
   taken_log new is = ap (λ (ps : List Pin). log_in store end ps) is ∙ (pin_taken store end pins pin s new).0
 
-  pub taken_at : is_new_pin (log store end pins pin).at (log store end pins pin).pinned pin ≡ true → left ≡ pins ++ pin ∷ [] → StandsAt store end left
-  taken_at new is = subst (λ (ps : List Pin). StandsAt store end ps) (sym is) (pin_taken store end pins pin s new).1
+  pub taken_at : is_new_pin (log store end pins pin).at (log store end pins pin).pinned pin ≡ true → left ≡ pins ++ pin ∷ [] → IsStandingAt store end left
+  taken_at new is = subst (λ (ps : List Pin). IsStandingAt store end ps) (sym is) (pin_taken store end pins pin s new).1
 
   pub unpin_log : (new : Images) (oldest : ℤ) → left ≡ filter (λ other. not (is_same_pin pin other)) pins → oldest ≡ fold lower end left → new ≡ forgotten store oldest → log_in new end left ≡ record (log store end pins pin) { pinned = without_pin (log store end pins pin).pinned pin }
   unpin_log new oldest is low gone = ap (λ (x : Images). log_in x end left) gone ∙ (unpin_taken store end pins pin s left oldest is low).0
 
-  pub unpin_at : (new : Images) (oldest : ℤ) → left ≡ filter (λ other. not (is_same_pin pin other)) pins → oldest ≡ fold lower end left → new ≡ forgotten store oldest → StandsAt new end left
-  unpin_at new oldest is low gone = subst (λ (x : Images). StandsAt x end left) (sym gone) (unpin_taken store end pins pin s left oldest is low).1
+  pub unpin_at : (new : Images) (oldest : ℤ) → left ≡ filter (λ other. not (is_same_pin pin other)) pins → oldest ≡ fold lower end left → new ≡ forgotten store oldest → IsStandingAt new end left
+  unpin_at new oldest is low gone = subst (λ (x : Images). IsStandingAt x end left) (sym gone) (unpin_taken store end pins pin s left oldest is low).1
 
 pub ruleset taken = (taken_log, taken_at, pin_passed, unpin_log, unpin_at)
 
@@ -85,7 +85,7 @@ pub ruleset taken = (taken_log, taken_at, pin_passed, unpin_log, unpin_at)
 pub record Has (store : Images) (end : ℤ) (pins : List Pin) (place : ℤ) : Type 0 where
   pub image : Image
   pub at : kept_at store place ≡ Some image
-  pub is : kept_image (log_in store end pins) place ≡ Some image
+  pub is : kept_image_at (log_in store end pins) place ≡ Some image
 
 record HasPinned (store : Images) (pins : List Pin) (place : ℤ) : Type 0 where
   image : Image
@@ -107,7 +107,7 @@ found_pin store (pin ∷ pins) place there any =
       | false ↦ λ is h. let rest = found_pin store pins place there.1 h in record { image = rest.image; at = rest.at; is = ap found is ∙ rest.is }
     ] refl any
 
-pub has_kept : (store : Images) (end : ℤ) (pins : List Pin) (place : ℤ) → StandsAt store end pins → is_place_kept (log_in store end pins) place ≡ true → Has store end pins place
+pub has_kept : (store : Images) (end : ℤ) (pins : List Pin) (place : ℤ) → IsStandingAt store end pins → is_place_kept (log_in store end pins) place ≡ true → Has store end pins place
 has_kept store end pins place s kept =
     let pinned_one = option_map (λ (p : Pin × Image). p.1) (find (λ (p : Pin × Image). int_eq p.0.place place) (map (pin_image store) pins)) in
     elim (int_eq place end) as (λ b. int_eq place end ≡ b → (b || list_any (λ pin. int_eq pin.place place) pins) ≡ true → Has store end pins place) [
@@ -126,7 +126,7 @@ of_pinned list place image (p ∷ ps) images found =
       | false ↦ λ is h. of_pinned list place image ps images.1 h
     ] refl found
 
-image_is : (list : List Entry) (place : ℤ) (image : Image) → kept_image (pinned_log list) place ≡ Some image → IsTrue (is_place_kept (pinned_log list) place) × (image ≡ image_below place list)
+image_is : (list : List Entry) (place : ℤ) (image : Image) → kept_image_at (pinned_log list) place ≡ Some image → IsTrue (is_place_kept (pinned_log list) place) × (image ≡ image_below place list)
 image_is list place image found =
     let l = pinned_log list in
     let own : l.at ≡ reached list = same_at nothing_pinned list in
@@ -141,8 +141,8 @@ image_is list place image found =
 
 -- what was found by what is kept is what the entries say
 pub answered : {A : Type 0} (list : List Entry) (log : PinnedLog) (place : ℤ) (seen : A → Image) (result : Result A ScanFault) → log ≡ pinned_log list
-    → MatchResult result (λ a. kept_image log place ≡ Some (seen a)) (IsNotThere log place) → AnswersAt list place (λ image a. seen a ≡ image) result
-answered list log place seen (Ok a) is found = image_is list place (seen a) (subst (λ (l : PinnedLog). kept_image l place ≡ Some (seen a)) is found)
+    → MatchResult result (λ a. kept_image_at log place ≡ Some (seen a)) (IsNotThere log place) → AnswersAt list place (λ image a. seen a ≡ image) result
+answered list log place seen (Ok a) is found = image_is list place (seen a) (subst (λ (l : PinnedLog). kept_image_at l place ≡ Some (seen a)) is found)
 answered list log place seen (Err fault) is found = subst (λ (l : PinnedLog). IsNotThere l place fault) is found
 
 -- ---- the end

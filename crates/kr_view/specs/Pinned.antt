@@ -8,8 +8,8 @@ use Rattle.kr_calls.specs.SeatList.{PinnedLog}
 use Rattle.kr_store.specs.Images.{Images, kept_at}
 
 -- the image at the end, or that of the first pin of the place
-abbrev pub kept_image : PinnedLog → ℤ → Option Image
-kept_image l place = if int_eq place l.at.end then Some l.at.image else option_map (λ (p : Pin × Image). p.1) (find (λ (p : Pin × Image). int_eq p.0.place place) l.pinned)
+abbrev pub kept_image_at : PinnedLog → ℤ → Option Image
+kept_image_at l place = if int_eq place l.at.end then Some l.at.image else option_map (λ (p : Pin × Image). p.1) (find (λ (p : Pin × Image). int_eq p.0.place place) l.pinned)
 
 abbrev pub pin_image : Images → Pin → Pin × Image
 pin_image store pin = (pin, unwrap_or (kept_at store pin.place) empty)

@@ -23,19 +23,19 @@ abbrev pub LoggedEntriesAreRight : Type 0
 LoggedEntriesAreRight = (end : ℤ) (s : Shelf) → IsLogged s → AreRightAfter s.options s.list (next_at end s)
 
 -- neither an answer nor a pin
-abbrev pub is_plain : Entry → Bool
-is_plain (entries.Item place item) = true
-is_plain (entries.Load offset records) = true
-is_plain (entries.Pin pin) = false
-is_plain (entries.Unpin pin) = true
-is_plain (entries.Answer answer) = false
-is_plain (entries.Stop number) = true
+abbrev pub is_plain_entry : Entry → Bool
+is_plain_entry (entries.Item place item) = true
+is_plain_entry (entries.Load offset records) = true
+is_plain_entry (entries.Pin pin) = false
+is_plain_entry (entries.Unpin pin) = true
+is_plain_entry (entries.Answer answer) = false
+is_plain_entry (entries.Stop number) = true
 
 -- nothing waits, and neither is staged
 pub record IsPlain (s : Shelf) : Type 0 where
   pub waiting : s.waiting ≡ []
-  pub items : All (λ e. is_plain e ≡ true) s.items
-  pub notes : All (λ e. is_plain e ≡ true) s.notes
+  pub items : All (λ e. is_plain_entry e ≡ true) s.items
+  pub notes : All (λ e. is_plain_entry e ≡ true) s.notes
 
 -- where neither is staged, a publish may come
 abbrev pub PlainEntriesAreRight : Type 0

@@ -28,7 +28,7 @@ abbrev pub with_run : PinnedLog → List Entry → PinnedLog
 with_run l run = record l { at = fold run_with l.at run }
 
 -- the end is a place, and the last kept epoch, under which the present image is kept; the pinned places are kept
-pub record StandsAt (store : Images) (end : ℤ) (pins : List Pin) : Type 0 where
+pub record IsStandingAt (store : Images) (end : ℤ) (pins : List Pin) : Type 0 where
   pub earlier : List (ℤ × Image)
   pub kept : store.kept ≡ earlier ++ (end, store.tip) ∷ []
   pub above : AllByRecursion (λ (k : ℤ × Image). int_lt k.0 end ≡ true) earlier

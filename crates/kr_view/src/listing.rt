@@ -29,7 +29,10 @@ pub(crate) trait Listing<Y: Drop> {
         key: &(u128, i32),
         partition: &Partition,
     ) -> Result<Y, NoMemory>
-        ensures { IfOk result (λ row. row ≡ rows self.now (walked name.now (key.now, partition.now))) };
+        ensures { IfOk result (λ row. row ≡ rows self.now (walked name.now (
+          key.now,
+          partition.now,
+        ))) };
 }
 
 /// There are as many rows as there may be.
@@ -57,7 +60,9 @@ fn list_above<Y: Drop, P: Listing<Y>, S: Store>(
     rows: &mut Rows<Y>,
 ) -> Result<(), NoMemory>
     requires { length rows.old ≤ most }
-    ensures { OnOk result (rows.new ≡ take most (rows.old ++ map (λ e. P.rows listing.now (walked name.now e)) (of_topic first.0 (above partition_order seen.now.partitions (Some first))))) }
+    ensures { OnOk result (rows.new ≡ take most (rows.old ++ map (λ e. P.rows listing.now (walked
+        name.now e)) (of_topic first.0 (above partition_order seen.now.partitions (Some
+        first))))) }
 {
     let mut after = first;
     while let Some((key, partition)) = seen.next_of_topic(&after) {
@@ -81,7 +86,8 @@ fn list_topic<Y: Drop, P: Listing<Y>, S: Store>(
     rows: &mut Rows<Y>,
 ) -> Result<(), NoMemory>
     requires { length rows.old ≤ most }
-    ensures { OnOk result (rows.new ≡ take most (rows.old ++ listed (P.heads listing.now) (P.rows listing.now) seen.now.partitions (name.now, id.now))) }
+    ensures { OnOk result (rows.new ≡ take most (rows.old ++ listed (P.heads listing.now) (P.rows
+        listing.now) seen.now.partitions (name.now, id.now))) }
 {
     seen.is_valid();
     if !is_full(rows, most) {
@@ -103,7 +109,9 @@ pub(crate) fn list_topics<Y: Drop, P: Listing<Y>, S: Store>(
     rows: &mut Rows<Y>,
 ) -> Result<(), NoMemory>
     requires { length rows.old ≤ most }
-    ensures { OnOk result (rows.new ≡ take most (rows.old ++ flat_map (listed (P.heads listing.now) (P.rows listing.now) seen.now.partitions) (above text_order seen.now.topics (option_copied after.entry)))) }
+    ensures { OnOk result (rows.new ≡ take most (rows.old ++ flat_map (listed (P.heads
+        listing.now) (P.rows listing.now) seen.now.partitions) (above text_order
+        seen.now.topics (option_copied after.entry)))) }
 {
     seen.is_valid();
     let mut last = after;
@@ -128,7 +136,8 @@ pub(crate) fn list_behind<Y: Drop, P: Listing<Y>, S: Store>(
     rows: &mut Rows<Y>,
 ) -> Result<(), NoMemory>
     requires { length rows.old ≤ most }
-    ensures { OnOk result (rows.new ≡ take most (rows.old ++ listed_behind (P.heads listing.now) (P.rows listing.now) seen.now name.now index.now)) }
+    ensures { OnOk result (rows.new ≡ take most (rows.old ++ listed_behind (P.heads listing.now)
+        (P.rows listing.now) seen.now name.now index.now)) }
 {
     if let Some(topic) = seen.topic_named(name) {
         let first = key_of(&topic.id, index);

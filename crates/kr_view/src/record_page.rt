@@ -108,7 +108,8 @@ fn add_settings<S: Store>(
     records: &mut Records,
 ) -> Result<(), NoMemory>
     requires { length records.old ≤ most }
-    ensures { OnOk result (records.new ≡ take most (records.old ++ sections.from_settings seen.now (option_copied after.entry))) }
+    ensures { OnOk result (records.new ≡ take most (records.old ++ sections.from_settings
+        seen.now (option_copied after.entry))) }
 {
     seen.is_valid();
     let mut last = after;
@@ -146,7 +147,8 @@ fn add_behind<S: Store>(
     records: &mut Records,
 ) -> Result<(), NoMemory>
     requires { length records.old ≤ most }
-    ensures { OnOk result (records.new ≡ take most (records.old ++ sections.behind_partition seen.now name.now index.now)) }
+    ensures { OnOk result (records.new ≡ take most (records.old ++ sections.behind_partition
+        seen.now name.now index.now)) }
 {
     list_behind(alloc, seen, &TopicRecords, name, index, most, records)?;
     add_settings(alloc, seen, None, most, records)
@@ -162,7 +164,8 @@ fn add_brokers<S: Store>(
     records: &mut Records,
 ) -> Result<(), NoMemory>
     requires { length records.old ≤ most }
-    ensures { OnOk result (records.new ≡ take most (records.old ++ sections.from_brokers seen.now (option_copied after.entry))) }
+    ensures { OnOk result (records.new ≡ take most (records.old ++ sections.from_brokers seen.now
+        (option_copied after.entry))) }
 {
     seen.is_valid();
     let mut last = after;
@@ -186,7 +189,8 @@ fn add_features<S: Store>(
     records: &mut Records,
 ) -> Result<(), NoMemory>
     requires { length records.old ≤ most }
-    ensures { OnOk result (records.new ≡ take most (records.old ++ sections.from_features seen.now (option_copied after.entry))) }
+    ensures { OnOk result (records.new ≡ take most (records.old ++ sections.from_features
+        seen.now (option_copied after.entry))) }
 {
     seen.is_valid();
     let mut last = after;
@@ -209,7 +213,8 @@ fn add_after<S: Store>(
     records: &mut Records,
 ) -> Result<(), NoMemory>
     requires { length records.old ≤ most }
-    ensures { OnOk result (records.new ≡ take most (records.old ++ sections.behind_key seen.now after.now)) }
+    ensures { OnOk result (records.new ≡ take most (records.old ++ sections.behind_key seen.now
+        after.now)) }
 {
     match after {
         RecordKey::Feature { name } => add_features(alloc, seen, Some(name), most, records),
@@ -232,7 +237,8 @@ pub(crate) fn record_page<S: Store>(
     after: Option<&RecordKey>,
     most: u32,
 ) -> Result<Records, NoMemory>
-    ensures { IfOk result (λ records. records ≡ record_page seen.now (option_copied after.entry) most) }
+    ensures { IfOk result (λ records. records ≡ record_page seen.now (option_copied after.entry)
+        most) }
 {
     seen.is_valid();
     let mut records = Records::new(alloc);
@@ -306,7 +312,8 @@ fn setting_at<S: Store>(
     seen: &Seen<S>,
     key: &ConfigKey,
 ) -> Result<Option<Record>, NoMemory>
-    ensures { IfOk result (λ r. r ≡ record_of_key seen.now (keys.Setting key.now.kind key.now.name key.now.key)) }
+    ensures { IfOk result (λ r. r ≡ record_of_key seen.now (keys.Setting key.now.kind
+        key.now.name key.now.key)) }
 {
     match seen.config(key) {
         Some(value) => Ok(Some(setting_record(alloc, key, value)?)),

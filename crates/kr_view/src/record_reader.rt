@@ -37,7 +37,8 @@ pub trait RecordReader {
     ) -> Result<Records, ScanFault>
         ensures onward { Onward (reading self.old).seen (reading self.new).seen }
         ensures same { self.new ≡ with_reading self.old (reading self.new) }
-        ensures records { AnswersAt (reading self.new).seen.list place (IsRecordPage (option_copied after.entry) max) result }
+        ensures records { AnswersAt (reading self.new).seen.list place (IsRecordPage
+            (option_copied after.entry) max) result }
         ensures cause { HasScanCause (reading self.old) (reading self.new) result };
 
     /// The record of the key in the image at the place, if there is one. Faults come as from `records`.

@@ -128,7 +128,8 @@ fn scan_once(
     max: u32,
 ) -> (Held, Result<Page, ScanFault>)
     ensures onward { Onward (seen_by held.edge) (seen_by result.0.edge) }
-    ensures page { AnswersAt (seen_by result.0.edge).list place.now (IsPage (option_copied after.entry) max) result.1 }
+    ensures page { AnswersAt (seen_by result.0.edge).list place.now (IsPage (option_copied
+        after.entry) max) result.1 }
     ensures cause { HasScanCause (edge_reading held.edge) (edge_reading result.0.edge) result.1 }
 {
     let Held { edge, end, loads } = held;
@@ -148,7 +149,8 @@ fn records_once(
     max: u32,
 ) -> (Held, Result<Records, ScanFault>)
     ensures onward { Onward (seen_by held.edge) (seen_by result.0.edge) }
-    ensures records { AnswersAt (seen_by result.0.edge).list place.now (IsRecordPage (option_copied after.entry) max) result.1 }
+    ensures records { AnswersAt (seen_by result.0.edge).list place.now (IsRecordPage
+        (option_copied after.entry) max) result.1 }
     ensures cause { HasScanCause (edge_reading held.edge) (edge_reading result.0.edge) result.1 }
 {
     let Held { edge, end, loads } = held;
@@ -167,7 +169,8 @@ fn record_once(
     key: &RecordKey,
 ) -> (Held, Result<Option<Record>, ScanFault>)
     ensures onward { Onward (seen_by held.edge) (seen_by result.0.edge) }
-    ensures record { AnswersAt (seen_by result.0.edge).list place.now (IsRecordAt key.now) result.1 }
+    ensures record { AnswersAt (seen_by result.0.edge).list place.now (IsRecordAt key.now)
+        result.1 }
     ensures cause { HasScanCause (edge_reading held.edge) (edge_reading result.0.edge) result.1 }
 {
     let Held { edge, end, loads } = held;
@@ -249,7 +252,8 @@ impl ReaderSeat {
     pub fn scan(&mut self, place: i64, after: Option<&ScanKey>, max: u32) -> Result<Page, ScanFault>
         ensures same { self.new.number ≡ self.old.number }
         ensures onward { Onward self.old.seen self.new.seen }
-        ensures page { AnswersAt self.new.seen.list place (IsPage (option_copied after.entry) max) result }
+        ensures page { AnswersAt self.new.seen.list place (IsPage (option_copied after.entry)
+            max) result }
         ensures cause { HasScanCause (seat_reading self.old) (seat_reading self.new) result }
     {
         replace_with(&mut self.held, after, |held, after| {

@@ -170,7 +170,8 @@ impl Shown {
         after: Option<&ScanKey>,
         max: u32,
     ) -> Result<Page, ScanFault>
-        ensures { AnswersAt self.now.list place.now (IsPage (option_copied after.entry) max) result }
+        ensures { AnswersAt self.now.list place.now (IsPage (option_copied after.entry) max)
+            result }
     {
         let seen = self.image_at(place)?;
         match page_of(self.alloc, &seen, after, max) {
@@ -186,7 +187,8 @@ impl Shown {
         after: Option<&RecordKey>,
         max: u32,
     ) -> Result<Records, ScanFault>
-        ensures { AnswersAt self.now.list place.now (IsRecordPage (option_copied after.entry) max) result }
+        ensures { AnswersAt self.now.list place.now (IsRecordPage (option_copied after.entry)
+            max) result }
     {
         let seen = self.image_at(place)?;
         match record_page(self.alloc, &seen, after, max) {

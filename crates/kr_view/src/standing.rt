@@ -7,10 +7,10 @@ ghost use Rattle.kr_calls.specs.Deciding.{apply_records};
 ghost use Rattle.kr_calls.specs.SeatList.{is_new_pin, is_place_kept, nothing_pinned, oldest_place, pinned_with, with_item, with_load, with_pin, without_pin};
 ghost use Rattle.kr_store.specs.Images.{kept_once, last_image, last_kept};
 ghost use Rattle.kr_store.specs.declared.places.At.TheVariants as places;
-ghost use Rattle.kr_view.specs.Pinned.{kept_image, log_in};
+ghost use Rattle.kr_view.specs.Pinned.{kept_image_at, log_in};
 ghost use Rattle.kr_view.specs.Runs.{AreNoSingles, is_single};
 ghost use Rattle.kr_view.specs.Scans.{IsNotThere};
-ghost use Rattle.kr_view.specs.Standing.{StandsAt, StandsIf, run_with, with_run};
+ghost use Rattle.kr_view.specs.Standing.{IsStandingAt, StandsIf, run_with, with_run};
 ghost use Rattle.kr_view.specs.Steps.{entries_of};
 
 use crate::pins::Pins;
@@ -38,13 +38,13 @@ pub(crate) struct Standing {
 impl Model for Standing {
     ghost use Rattle.kr_calls.specs.SeatList.{PinnedLog};
     ghost use Rattle.kr_view.specs.Pinned.{log_in};
-    ghost use Rattle.kr_view.specs.Standing.{StandsAt};
+    ghost use Rattle.kr_view.specs.Standing.{IsStandingAt};
 
     ghost Value = { PinnedLog };
 
     ghost view = { λ s. log_in s.store s.end s.pins };
 
-    ghost invariant = { λ s. StandsAt s.store s.end s.pins };
+    ghost invariant = { λ s. IsStandingAt s.store s.end s.pins };
 }
 
 // Applies an item, where it counts, without keeping its image. It answers the end.
@@ -103,10 +103,12 @@ fn advance<L: Ledger>(
     entries: &[Entry],
     steps: &mut Steps<L>,
 ) -> Result<i64, NoMemory>
-    requires stands { StandsAt store.old end.now pins.now }
-    ensures ok { IfOk result (λ next. log_in store.new next pins.now ≡ with_run (log_in store.old end.now pins.now) entries.now) }
-    ensures stands { IfOk result (λ next. StandsAt store.new next pins.now) }
-    ensures err { OnErr result ((log_in store.new end.now pins.now ≡ log_in store.old end.now pins.now) × StandsAt store.new end.now pins.now) }
+    requires stands { IsStandingAt store.old end.now pins.now }
+    ensures ok { IfOk result (λ next. log_in store.new next pins.now ≡ with_run (log_in store.old
+        end.now pins.now) entries.now) }
+    ensures stands { IfOk result (λ next. IsStandingAt store.new next pins.now) }
+    ensures err { OnErr result ((log_in store.new end.now pins.now ≡ log_in store.old end.now
+        pins.now) × IsStandingAt store.new end.now pins.now) }
 {
     let next = apply_run(store, end, entries, steps)?;
     if next == *end {
@@ -206,7 +208,11 @@ impl Standing {
         records: &[Record],
         steps: &mut Steps<L>,
     ) -> Result<(), NoMemory>
-        ensures ok { OnOk result (self.new ≡ record { at = with_load self.old.at offset records.now; pinned = [] }) }
+        ensures ok { OnOk result (self.new ≡ record {
+          at = with_load self.old.at offset
+              records.now;
+          pinned = [];
+        }) }
         ensures err { OnErr result (self.new ≡ self.old) }
     {
         if self.end <= offset && offset < PLACES_END {
@@ -229,7 +235,10 @@ impl Standing {
     // The image at the end is kept already.
     #[tactic(auto, using(crate::proofs::PinnedPlaces::taken))]
     fn take_pin(&mut self, pin: &Pin) -> Result<(), NoMemory>
-        ensures ok { OnOk result (self.new ≡ record self.old { pinned = with_pin self.old.at self.old.pinned pin.now }) }
+        ensures ok { OnOk result (self.new ≡ record self.old {
+          pinned = with_pin self.old.at
+              self.old.pinned pin.now;
+        }) }
         ensures err { OnErr result (self.new ≡ self.old) }
     {
         if self.is_new(pin) {
@@ -346,7 +355,8 @@ impl Standing {
 
     /// The image at a kept place.
     pub(crate) fn image_at(&self, place: &i64) -> Result<Seen<ImageStore>, ScanFault>
-        ensures { MatchResult result (λ seen. kept_image self.now place.now ≡ Some seen) (IsNotThere self.now place.now) }
+        ensures { MatchResult result (λ seen. kept_image_at self.now place.now ≡ Some seen)
+            (IsNotThere self.now place.now) }
     {
         if !self.keeps(place) {
             return Err(self.absence(place));

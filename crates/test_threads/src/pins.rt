@@ -2,7 +2,7 @@
 
 ghost use Rattle.std.specs.Prelude.{◌≡◌, [], ◌∷◌, pos, true, IfOk, OnOk};
 ghost use Rattle.kr_calls.specs.declared.events.Entry.TheVariants as entries;
-ghost use Rattle.kr_view.specs.StagedLaws.{HasNothing, IsPlain, is_plain};
+ghost use Rattle.kr_view.specs.StagedLaws.{HasNothing, IsPlain, is_plain_entry};
 
 use kr_base::NoMemory;
 use kr_calls::{Entry, Pin};
