@@ -99,8 +99,11 @@ abbrev pub pins_in : List (Pin × Image) → List Pin
 pins_in pinned = map (λ (p : Pin × Image). p.0) pinned
 
 -- a pin counts where its place is the end, and adds nothing where it is there
+abbrev pub is_new_pin : Reached → List (Pin × Image) → Pin → Bool
+is_new_pin r pinned pin = int_eq pin.place r.end && not (is_pinned (pins_in pinned) pin)
+
 abbrev pub with_pin : Reached → List (Pin × Image) → Pin → List (Pin × Image)
-with_pin r pinned pin = if int_eq pin.place r.end && not (is_pinned (pins_in pinned) pin) then pinned ++ (pin, r.image) ∷ [] else pinned
+with_pin r pinned pin = if is_new_pin r pinned pin then pinned ++ (pin, r.image) ∷ [] else pinned
 
 abbrev pub without_pin : List (Pin × Image) → Pin → List (Pin × Image)
 without_pin pinned pin = filter (λ (p : Pin × Image). not (is_same_pin pin p.0)) pinned
