@@ -33,7 +33,7 @@ use Rattle.kr_world.specs.declared.writes.Write.{Write}
 use Rattle.kr_world.specs.Engine.{Core, basis_of}
 use Rattle.kr_engine.specs.inner.Ready.{IsReady}
 use Rattle.kr_engine.specs.inner.Request.{Decides, TakesWrite, core_holding, decided_at, decided_by, image_kept, write_with}
-use Rattle.kr_engine.specs.inner.Changes.{BreaksOff, IsBegun}
+use Rattle.kr_engine.specs.inner.Changes.{BreaksOff, GivesAlone}
 use Rattle.kr_engine.specs.inner.Append.{core_after_append, batch_at, place_behind}
 use Rattle.kr_engine.proofs.AppendSteps.{writes_by}
 use Rattle.kr_engine.proofs.Undoing.{appended_breaks, begun_then, images_break, same_breaks}
@@ -233,7 +233,7 @@ module _ (before between with_appended' after : Core) (client : ℕ) (call : Cal
 pub decided_breaks : (before between : Core) (request : Request) (out : Effect) → Decides before between request out → BreaksOff before between
 decided_breaks before between request out d = images_break before between d.same d.kept d.calls
 
-pub append_breaks : (before between after : Core) (request : Request) (out : Effect) → Decides before between request out → IsBegun between after → BreaksOff before after
+pub append_breaks : (before between after : Core) (request : Request) (out : Effect) → Decides before between request out → GivesAlone between after → BreaksOff before after
 append_breaks before between after request out d is = begun_then before between after (decided_breaks before between request out d) is
 
 pub holding_breaks : (before between with_appended' after : Core) (request : Request) (out : Effect) → Decides before between request out → with_appended' ≡ core_after_append between out.records → after ≡ with_appended' → BreaksOff before after

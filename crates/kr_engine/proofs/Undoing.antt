@@ -21,7 +21,7 @@ use Rattle.kr_store.proofs.LastKept.{last_found}
 use Rattle.kr_world.specs.Engine.{Core, IsSound, IsStep, outputs_left}
 use Rattle.kr_world.specs.Entries.{item_entries}
 use Rattle.kr_engine.specs.inner.Append.{Writes, batch_at, core_after_append, place_behind}
-use Rattle.kr_engine.specs.inner.Changes.{BreaksOff, IsBegun, IsLonger, core_with_entries, counted_core}
+use Rattle.kr_engine.specs.inner.Changes.{BreaksOff, GivesAlone, IsLonger, core_with_entries, counted_core}
 use Rattle.kr_engine.specs.inner.Ready.{IsReady}
 use Rattle.kr_world.proofs.LogEntries.{not_none}
 use Rattle.kr_world.proofs.Queues.{drained}
@@ -104,13 +104,13 @@ images_break e after is kept calls = record {
   longer = same_longer e.images after.images e.tip kept calls;
 }
 
-pub begun_breaks : (e after : Core) → IsBegun e after → BreaksOff e after
+pub begun_breaks : (e after : Core) → GivesAlone e after → BreaksOff e after
 begun_breaks e after is = subst (λ (a : Core). BreaksOff e a) (sym is) (record { same = refl; longer = nothing_longer e.images e.tip })
 
 pub same_breaks : (e after : Core) → after ≡ e → BreaksOff e after
 same_breaks e after is = subst (λ (a : Core). BreaksOff e a) (sym is) (record { same = refl; longer = nothing_longer e.images e.tip })
 
-pub begun_then : (e between after : Core) → BreaksOff e between → IsBegun between after → BreaksOff e after
+pub begun_then : (e between after : Core) → BreaksOff e between → GivesAlone between after → BreaksOff e after
 begun_then e between after b is = subst (λ (a : Core). BreaksOff e a) (sym is) (record {
   same = ap (λ (c : Core). record c { given = after.given; fresh = after.fresh }) b.same;
   longer = b.longer;
@@ -156,9 +156,9 @@ contacts_back (Err fault) e between after heard broken back same = subst (λ (a 
 pub added_breaks : (e between with_items after : Core) (new : List Entry) → after ≡ with_items → with_items ≡ core_with_entries between new → between ≡ record e { images = between.images }
     → between.images.kept ≡ e.images.kept → between.images.kept_made ≡ e.images.kept_made → BreaksOff e after
 added_breaks e between with_items after new same adds is kept calls =
-    begun_then e between after (images_break e between is kept calls) (subst (λ (a : Core). IsBegun between a) (sym (same ∙ adds)) refl)
+    begun_then e between after (images_break e between is kept calls) (subst (λ (a : Core). GivesAlone between a) (sym (same ∙ adds)) refl)
 
-pub adding_breaks : (e between after : Core) → IsBegun between after → between ≡ record e { images = between.images } → between.images.kept ≡ e.images.kept → between.images.kept_made ≡ e.images.kept_made → BreaksOff e after
+pub adding_breaks : (e between after : Core) → GivesAlone between after → between ≡ record e { images = between.images } → between.images.kept ≡ e.images.kept → between.images.kept_made ≡ e.images.kept_made → BreaksOff e after
 adding_breaks e between after begins is kept calls = begun_then e between after (images_break e between is kept calls) begins
 
 -- records are written, and what comes then breaks off
@@ -234,7 +234,7 @@ abbrev begun_core : Core → ℤ → Core
 begun_core e time = record e { time = time; fresh = [] }
 
 module _ (e begun left : Core) (now : ℤ) (is : begun ≡ begun_core e now) (none : outputs_left e ≡ []) where
-  taken_back : (after : Core) (time : ℤ) (fresh : List Entry) → IsBegun begun left → after ≡ record left { time = time; given = []; fresh = fresh } → time ≡ e.time → fresh ≡ e.fresh → after ≡ e
+  taken_back : (after : Core) (time : ℤ) (fresh : List Entry) → GivesAlone begun left → after ≡ record left { time = time; given = []; fresh = fresh } → time ≡ e.time → fresh ≡ e.fresh → after ≡ e
   taken_back after time fresh only back same_time same_fresh =
       back
       ∙ (ap (λ (c : Core). record c { time = time; given = []; fresh = fresh }) only
@@ -244,18 +244,18 @@ module _ (e begun left : Core) (now : ℤ) (is : begun ≡ begun_core e now) (no
       ∙ ap (λ g. record e { given = g }) (sym (drained e none).none_given)))))
 
   -- an event that changed no image
-  alone : {X E : Type 0} (settled : Result X E) (after : Core) (time : ℤ) (fresh : List Entry) → OnErr settled (IsBegun begun left)
+  alone : {X E : Type 0} (settled : Result X E) (after : Core) (time : ℤ) (fresh : List Entry) → OnErr settled (GivesAlone begun left)
       → OnErr settled (after ≡ record left { time = time; given = []; fresh = fresh }) → time ≡ e.time → fresh ≡ e.fresh → OnErr settled (after ≡ e)
   alone (Ok x) after time fresh only back same_time same_fresh = tt
   alone (Err fault) after time fresh only back same_time same_fresh = taken_back after time fresh only back same_time same_fresh
 
-  pub unchanged_alone : {X E : Type 0} (result settled : Result X E) (after : Core) (time : ℤ) (fresh : List Entry) → result ≡ settled → OnErr settled (IsBegun begun left)
+  pub unchanged_alone : {X E : Type 0} (result settled : Result X E) (after : Core) (time : ℤ) (fresh : List Entry) → result ≡ settled → OnErr settled (GivesAlone begun left)
       → OnErr settled (after ≡ record left { time = time; given = []; fresh = fresh }) → time ≡ e.time → fresh ≡ e.fresh → OnErr result (after ≡ e)
   unchanged_alone {X} {E} result settled after time fresh same only back same_time same_fresh =
       subst (λ (r : Result X E). OnErr r (after ≡ e)) (sym same) (alone settled after time fresh only back same_time same_fresh)
 
 module _ (e begun between left : Core) (now : ℤ) (is : begun ≡ begun_core e now) (none : outputs_left e ≡ []) (r : IsReady e) (valid : AreValid e.images) (tip : ℤ) (at : tip ≡ e.tip) where
-  images_found : BreaksOff begun between → left ≡ record between { images = unwrap_or (reverted between.images tip) between.images; tip = tip } → IsBegun begun left
+  images_found : BreaksOff begun between → left ≡ record between { images = unwrap_or (reverted between.images tip) between.images; tip = tip } → GivesAlone begun left
   images_found b back =
       let longer : IsLonger e.images between.images e.tip = subst (λ (c : Core). IsLonger c.images between.images c.tip) is b.longer in
       let images : unwrap_or (reverted between.images tip) between.images ≡ begun.images =
@@ -266,7 +266,7 @@ module _ (e begun between left : Core) (now : ℤ) (is : begun ≡ begun_core e 
       ∙ (ap (λ (c : Core). record c { images = unwrap_or (reverted between.images tip) between.images; tip = tip }) b.same
       ∙ (ap (λ (i : Images). record begun { images = i; tip = tip; given = between.given; fresh = between.fresh }) images
       ∙ ap (λ t. record begun { tip = t; given = between.given; fresh = between.fresh }) place)) in
-      subst (λ (a : Core). IsBegun begun a) (sym so) refl
+      subst (λ (a : Core). GivesAlone begun a) (sym so) refl
 
   with_images : {X E : Type 0} (settled : Result X E) (after : Core) (time : ℤ) (fresh : List Entry) → OnErr settled (BreaksOff begun between)
       → OnErr settled (left ≡ record between { images = unwrap_or (reverted between.images tip) between.images; tip = tip })

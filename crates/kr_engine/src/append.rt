@@ -10,7 +10,7 @@ ghost use Rattle.law_fitting.specs.Fitting.{FitsBatch};
 ghost use Rattle.kr_store.specs.Images.{IsAbove};
 ghost use Rattle.kr_world.specs.Reasons as reasons;
 ghost use Rattle.kr_engine.specs.inner.Append.{batch_at, core_after_append};
-ghost use Rattle.kr_engine.specs.inner.Changes.{IsBegun};
+ghost use Rattle.kr_engine.specs.inner.Changes.{GivesAlone};
 
 use crate::Engine;
 use kr_base::NoMemory;
@@ -95,7 +95,7 @@ impl Engine {
         requires fits { FitsBatch records }
         requires above { (place : ℤ) → IsTrue (int_lt self.old.tip place) → IsAbove self.old.images.kept place }
         ensures appended { OnOk result (self.new ≡ core_after_append self.old records) }
-        ensures begun { OnErr result (IsBegun self.old self.new) }
+        ensures begun { OnErr result (GivesAlone self.old self.new) }
     {
         if records.is_empty() {
             return Ok(());

@@ -6,7 +6,7 @@ ghost use Rattle.kr_calls.specs.declared.events.Output.TheVariants as given;
 ghost use Rattle.kr_defs.specs.Image.{empty};
 ghost use Rattle.kr_snapshot.specs.ImageText.{image_text};
 ghost use Rattle.kr_store.specs.Images.{kept_at};
-ghost use Rattle.kr_engine.specs.inner.Changes.{IsBegun};
+ghost use Rattle.kr_engine.specs.inner.Changes.{GivesAlone};
 ghost use Rattle.kr_engine.specs.inner.Image.{core_after_image};
 ghost use Rattle.kr_world.specs.Engine.{IsSound, IsStep, outputs_left};
 
@@ -36,7 +36,7 @@ impl Engine {
     fn settle_image(&mut self) -> Result<(), NoMemory>
         requires natural { pos 0 ≤ℤ self.old.committed }
         ensures settled { OnOk result (self.new ≡ core_after_image self.old) }
-        ensures begun { OnErr result (IsBegun self.old self.new) }
+        ensures begun { OnErr result (GivesAlone self.old self.new) }
     {
         let output = self.image_output()?;
         self.given.push_back(output)?;

@@ -7,7 +7,7 @@ ghost use Rattle.kr_calls.specs.declared.events.Event.TheVariants as events;
 ghost use Rattle.kr_defs.specs.Brokers as brokers;
 ghost use Rattle.kr_defs.specs.Heartbeats as hearing;
 ghost use Rattle.kr_store.specs.Images.{IsAbove};
-ghost use Rattle.kr_engine.specs.inner.Changes.{IsBegun, Settles};
+ghost use Rattle.kr_engine.specs.inner.Changes.{GivesAlone, Settles};
 ghost use Rattle.kr_engine.specs.inner.Lead.{core_after_lead, core_up_to, lead_reason};
 ghost use Rattle.kr_world.specs.Engine.{IsSound, IsStep, outputs_left};
 ghost use Rattle.kr_engine.specs.inner.Ready.{IsReady};
@@ -98,7 +98,7 @@ impl Engine {
     fn take_control_item(&mut self, next: &i64) -> Result<(), NoMemory>
         requires above { int_eq next.now self.old.committed ≡ false → IsAbove self.old.images.kept next.now }
         ensures taken { OnOk result (self.new ≡ core_up_to self.old next.now) }
-        ensures begun { OnErr result (IsBegun self.old self.new) }
+        ensures begun { OnErr result (GivesAlone self.old self.new) }
     {
         if *next == self.committed {
             return Ok(());
@@ -126,7 +126,7 @@ impl Engine {
     fn begin_leadership(&mut self, epoch: &i32, next: &i64) -> Result<(), NoMemory>
         requires above { int_eq next.now self.old.committed ≡ false → IsAbove self.old.images.kept next.now }
         ensures begins { OnOk result (self.new ≡ core_after_lead self.old epoch.now next.now) }
-        ensures begun { OnErr result (IsBegun self.old self.new) }
+        ensures begun { OnErr result (GivesAlone self.old self.new) }
     {
         let sessions = self.all_heard(next)?;
         self.take_control_item(next)?;
@@ -141,7 +141,7 @@ impl Engine {
     fn settle_lead(&mut self, epoch: &i32, next: &i64) -> Result<(), NoMemory>
         requires ready { IsReady self.old }
         ensures settled { OnOk result (Settles self.old self.new (lead_reason self.old epoch.now next.now) (core_after_lead self.old epoch.now next.now)) }
-        ensures begun { OnErr result (IsBegun self.old self.new) }
+        ensures begun { OnErr result (GivesAlone self.old self.new) }
     {
         match self.lead_reason(epoch, next) {
             Some(reason) => {

@@ -8,7 +8,7 @@ ghost use Rattle.kr_snapshot.specs.ReaderState.{Restores};
 ghost use Rattle.kr_store.specs.Images.{kept_once};
 ghost use Rattle.kr_snapshot.specs.Reading.{image_of};
 ghost use Rattle.kr_world.specs.Engine.{IsSound, IsStep, outputs_left};
-ghost use Rattle.kr_engine.specs.inner.Changes.{core_with_entries, core_at, IsBegun, Settles};
+ghost use Rattle.kr_engine.specs.inner.Changes.{core_with_entries, core_at, GivesAlone, Settles};
 ghost use Rattle.kr_engine.specs.inner.Load.{core_after_read_image, decoded_image_reason, load_reason};
 
 use crate::Engine;
@@ -37,7 +37,7 @@ impl Engine {
     // The image in place of all that was before.
     fn add_image(&mut self, offset: &i64, store: &ImageStore) -> Result<(), NoMemory>
         ensures added { OnOk result (self.new ≡ core_with_entries self.old (entries.Load offset.now (records_of store.now.tip) ∷ [])) }
-        ensures begun { OnErr result (IsBegun self.old self.new) }
+        ensures begun { OnErr result (GivesAlone self.old self.new) }
     {
         let records = records_of(self.alloc, &Seen::tip(store))?;
         self.fresh.push(image_entry(offset, records))?;
@@ -48,7 +48,7 @@ impl Engine {
     fn load_image(&mut self, offset: &i64, store: ImageStore) -> Result<(), NoMemory>
         requires { store ≡ kept_once offset.now store.tip }
         ensures settled { OnOk result (Settles self.old self.new (decoded_image_reason self.old offset.now) (core_at (core_with_entries self.old (entries.Load offset.now (records_of store.tip) ∷ [])) offset.now store.tip)) }
-        ensures begun { OnErr result (IsBegun self.old self.new) }
+        ensures begun { OnErr result (GivesAlone self.old self.new) }
     {
         if *offset < self.committed {
             let reason = older_image(offset, &self.committed);
@@ -68,7 +68,7 @@ impl Engine {
 
     fn settle_load(&mut self, bytes: &Bytes) -> Result<(), NoMemory>
         ensures settled { OnOk result (Settles self.old self.new (load_reason self.old (image_of bytes.now)) (core_after_read_image self.old (image_of bytes.now))) }
-        ensures begun { OnErr result (IsBegun self.old self.new) }
+        ensures begun { OnErr result (GivesAlone self.old self.new) }
     {
         if self.leading.is_some() {
             let reason = already_leading(&self.leading);

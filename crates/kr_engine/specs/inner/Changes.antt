@@ -65,8 +65,8 @@ core_at e place image = record e { images = kept_once place image; tip = place; 
 -- ---- what is left of an event where memory was wanted, until it is taken back
 
 -- some of what it gives and adds
-abbrev pub IsBegun : Core → Core → Type 0
-IsBegun before after = after ≡ record before { given = after.given; fresh = after.fresh }
+abbrev pub GivesAlone : Core → Core → Type 0
+GivesAlone before after = after ≡ record before { given = after.given; fresh = after.fresh }
 
 -- only later epochs are kept besides
 pub record IsLonger (before after : Images) (place : ℤ) : Type 0 where
