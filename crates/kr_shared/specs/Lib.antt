@@ -2,7 +2,11 @@ pub mod Answers
 pub mod Appends
 pub mod ClientFields
 pub mod Clients
+pub mod Desks
 pub mod Ends
+pub mod Gives
+pub mod LineFields
+pub mod Lines
 pub mod LinkFields
 pub mod Opened
 pub mod Serves

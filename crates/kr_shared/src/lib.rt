@@ -8,6 +8,7 @@ mod asked;
 mod bell;
 mod clients;
 mod desk;
+mod line;
 mod links;
 mod opening;
 mod sharing;
