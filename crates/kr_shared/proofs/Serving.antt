@@ -43,6 +43,8 @@ right_behind o list (entries.Item place item ∷ xs) ys h right =
     (tt, right_behind o (list ++ entries.Item place item ∷ []) xs ys h (subst (λ (l : List Entry). AreRightAfter o l ys) (sym (append_assoc list (entries.Item place item ∷ []) xs)) right))
 right_behind o list (entries.Load offset records ∷ xs) ys h right =
     (tt, right_behind o (list ++ entries.Load offset records ∷ []) xs ys h (subst (λ (l : List Entry). AreRightAfter o l ys) (sym (append_assoc list (entries.Load offset records ∷ []) xs)) right))
+right_behind o list (entries.Pin pin ∷ xs) ys h right = absurd h
+right_behind o list (entries.Unpin pin ∷ xs) ys h right = absurd h
 right_behind o list (entries.Answer answer ∷ xs) ys h right = absurd h
 right_behind o list (entries.Stop number ∷ xs) ys h right = absurd h
 
@@ -50,6 +52,8 @@ logged_if : (b : Bool) (e : Entry) (rest : List Entry) → AreLogged (e ∷ []) 
 logged_if false e rest h k = tt
 logged_if true (entries.Item place item) rest h k = k
 logged_if true (entries.Load offset records) rest h k = k
+logged_if true (entries.Pin pin) rest h k = absurd h
+logged_if true (entries.Unpin pin) rest h k = absurd h
 logged_if true (entries.Answer answer) rest h k = absurd h
 logged_if true (entries.Stop number) rest h k = absurd h
 
@@ -57,6 +61,8 @@ below_logged : (end : ℤ) (es : List Entry) → AreLogged es → AreLogged (sta
 below_logged end [] h = tt
 below_logged end (entries.Item place item ∷ es) h = logged_if (Rattle.kr_calls.specs.SeatList.is_below end (entries.Item place item)) (entries.Item place item) (staged_below end es) tt (below_logged end es h)
 below_logged end (entries.Load offset records ∷ es) h = logged_if (Rattle.kr_calls.specs.SeatList.is_below end (entries.Load offset records)) (entries.Load offset records) (staged_below end es) tt (below_logged end es h)
+below_logged end (entries.Pin pin ∷ es) h = absurd h
+below_logged end (entries.Unpin pin ∷ es) h = absurd h
 below_logged end (entries.Answer answer ∷ es) h = absurd h
 below_logged end (entries.Stop number ∷ es) h = absurd h
 
@@ -66,6 +72,8 @@ logged_behind : (xs ys : List Entry) → AreLogged (xs ++ ys) → AreLogged ys
 logged_behind [] ys h = h
 logged_behind (entries.Item place item ∷ xs) ys h = logged_behind xs ys h
 logged_behind (entries.Load offset records ∷ xs) ys h = logged_behind xs ys h
+logged_behind (entries.Pin pin ∷ xs) ys h = absurd h
+logged_behind (entries.Unpin pin ∷ xs) ys h = absurd h
 logged_behind (entries.Answer answer ∷ xs) ys h = absurd h
 logged_behind (entries.Stop number ∷ xs) ys h = absurd h
 
@@ -77,6 +85,8 @@ all_staged shelf (entries.Item place item ∷ es) h =
 all_staged shelf (entries.Load offset records ∷ es) h =
     all_staged (record shelf { items = shelf.items ++ entries.Load offset records ∷ [] }) es h
     ∙ ap (λ (l : List Entry). record shelf { items = l }) (append_assoc shelf.items (entries.Load offset records ∷ []) es)
+all_staged shelf (entries.Pin pin ∷ es) h = absurd h
+all_staged shelf (entries.Unpin pin ∷ es) h = absurd h
 all_staged shelf (entries.Answer answer ∷ es) h = absurd h
 all_staged shelf (entries.Stop number ∷ es) h = absurd h
 

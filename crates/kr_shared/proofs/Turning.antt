@@ -23,7 +23,7 @@ use Rattle.kr_shared.specs.declared.worker.Turn.{Turn}
 use Rattle.kr_shared.specs.Serves.{ServesEvent}
 use Rattle.kr_shared.specs.Standing.{StandsForSome}
 use Rattle.kr_shared.specs.Tasks.{decided_on}
-use Rattle.kr_shared.specs.Turns.{Bench, DoesJob, DoesWhole, DoesWrite, LosesLed, LosesUnless, Notes, Outside, Turned, Works, turn_of}
+use Rattle.kr_shared.specs.Turns.{Bench, DoesJob, DoesWhole, DoesWrite, LosesLed, LosesUnless, Notes, NotesUnlessAhead, Outside, Turned, Works, turn_of}
 use Rattle.kr_shared.specs.Works.{DeskView}
 
 same_stands : (old new : DeskView) → new ≡ old → StandsForSome old → StandsForSome new
@@ -57,10 +57,16 @@ write_stands : (ahead : Bool) (o : Outside) (old new : DeskView) (seat ticket : 
 write_stands true o old new seat ticket floor call x k = notes_stand old new _ x.1 k
 write_stands false o old new seat ticket floor call x k = whole_stands o.pieces o.pieces' o.faults o.faults' old new _ _ x.1.0 x.1.1 k
 
+note_stands : (ahead : Bool) (old new : DeskView) (seat ticket : ℕ) (e : Entry) → NotesUnlessAhead ahead old new seat ticket e → StandsForSome old → StandsForSome new
+note_stands true old new seat ticket e x k = notes_stand old new _ x k
+note_stands false old new seat ticket e x k = notes_stand old new e x k
+
 pub job_stands : (o : Outside) (old new : DeskView) (job : Job) (refusal : Option Reason) → DoesJob o old new job refusal → StandsForSome old → StandsForSome new
 job_stands o old new (jobs.Link event) refusal x k = whole_stands o.pieces o.pieces' o.faults o.faults' old new event None refusal x k
 job_stands o old new (jobs.Stop number) refusal x k = notes_stand old new _ x.2 k
 job_stands o old new (jobs.Write seat ticket floor call) refusal x k = write_stands (int_lt old.engine.tip floor) o old new seat ticket floor call x.1 k
+job_stands o old new (jobs.Pin seat ticket floor) refusal x k = note_stands (int_lt old.engine.tip floor) old new seat ticket _ x.2 k
+job_stands o old new (jobs.Unpin seat ticket floor place) refusal x k = note_stands (int_lt old.engine.tip floor) old new seat ticket _ x.2 k
 
 -- what the worker pops is fit
 pub popped_fit : (v w : View) (job : Job) → IsPop v job w → IsTrue (is_fit job)
@@ -97,3 +103,7 @@ turned_so o before new old (jobs.Link event) turn same is w = subst (λ (b : Ben
 turned_so o before new old (jobs.Stop number) turn same is w = subst (λ (b : Bench). Turned o b new turn) same (subst (Turned o before new) (sym is) (inr (jobs.Stop number, refl, w)))
 turned_so o before new old (jobs.Write seat ticket floor call) turn same is w =
     subst (λ (b : Bench). Turned o b new turn) same (subst (Turned o before new) (sym is) (jobs.Write seat ticket floor call, refl, w))
+turned_so o before new old (jobs.Pin seat ticket floor) turn same is w =
+    subst (λ (b : Bench). Turned o b new turn) same (subst (Turned o before new) (sym is) (jobs.Pin seat ticket floor, refl, w))
+turned_so o before new old (jobs.Unpin seat ticket floor place) turn same is w =
+    subst (λ (b : Bench). Turned o b new turn) same (subst (Turned o before new) (sym is) (jobs.Unpin seat ticket floor place, refl, w))

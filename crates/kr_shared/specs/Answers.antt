@@ -118,13 +118,13 @@ reply_in (given.Reply client correlation reply) = Some reply
 reply_in (given.Refused event reason) = None
 reply_in (given.Image bytes) = None
 
-abbrev pub first_of : Option Reply → Output → Option Reply
-first_of (Some reply) output = Some reply
-first_of None output = reply_in output
+abbrev pub or_reply_in : Option Reply → Output → Option Reply
+or_reply_in (Some reply) output = Some reply
+or_reply_in None output = reply_in output
 
 -- where no write waited for it
 abbrev pub or_reply_alone : Option Reply → Output → Option Ended → Option Reply
-or_reply_alone reply output None = first_of reply output
+or_reply_alone reply output None = or_reply_in reply output
 or_reply_alone reply output (Some ended) = reply
 
 abbrev pub or_reply : Option Reply → Told → Option Reply

@@ -1,12 +1,12 @@
 -- What a worker keeps between its turns, also where it found no memory to publish all. This project's own.
-use Rattle.std.specs.Prelude.{◌≡◌, ◌<◌, ◌+◌, ◌&&◌, int_le, Bool, false, true, List, [], ◌∷◌, ◌++◌, Option, Some, None, fold, is_some, if◌then◌else◌}
+use Rattle.std.specs.Prelude.{◌≡◌, ◌<◌, ◌+◌, ◌&&◌, not, Bool, false, true, List, [], ◌∷◌, ◌++◌, Option, Some, None, fold, is_some, if◌then◌else◌}
 use Rattle.kr_calls.specs.declared.calls.Call.{Call}
 use Rattle.kr_calls.specs.declared.events.Entry.{Entry}
 use Rattle.kr_calls.specs.declared.events.Event.{Event}
 use Rattle.kr_calls.specs.RightAnswers.{AreRightAfter}
-use Rattle.kr_defs.specs.declared.limits.TheConstants.{GREATEST_TIP}
 use Rattle.kr_view.specs.Shelves.{Shelf, next_at, shown_at, with_staged}
 use Rattle.kr_world.specs.Engine.{Core}
+use Rattle.kr_world.specs.World.{is_far}
 use Rattle.kr_shared.specs.declared.answers.Aside.{Aside}
 use Rattle.kr_shared.specs.declared.answers.Asking.{Asking}
 use Rattle.kr_shared.specs.declared.asked.Asked.{Asked}
@@ -71,7 +71,7 @@ pub record ComesToSame (old new : Kept) : Type 0 where
 
 -- a leader takes it, unless the log is at its end
 abbrev pub takes_writes : Core → Bool
-takes_writes e = is_some e.leading && int_le e.tip GREATEST_TIP
+takes_writes e = is_some e.leading && not (is_far e.tip)
 
 abbrev pub asked_with : Asking → Option Call → List Asked
 asked_with a (Some call) = asked_by a call ∷ []

@@ -85,10 +85,26 @@ DoesWrite true o old new seat ticket floor call = IsQuiet o × Notes old new (en
 DoesWrite false o old new seat ticket floor call =
     Rose o.asks o.asks' × DoesRequest o.pieces o.pieces' o.faults o.faults' old new (record { seat = seat; ticket = ticket; floor = floor }) o.last call
 
+-- a pin or an unpin of a client that has seen more than the log is answered so; else it is published
+abbrev pub NotesUnlessAhead : Bool → DeskView → DeskView → ℕ → ℕ → Entry → Type 0
+NotesUnlessAhead true old new seat ticket e = Notes old new (entries.Answer (bare_answer seat ticket old.engine.tip kinds.Ahead))
+NotesUnlessAhead false old new seat ticket e = Notes old new e
+
+abbrev pub pin_entry : ℕ → ℕ → ℤ → Entry
+pin_entry seat ticket place = entries.Pin (record { seat = seat; ticket = ticket; place = place })
+
+abbrev pub unpin_entry : ℕ → ℕ → ℤ → Entry
+unpin_entry seat ticket place = entries.Unpin (record { seat = seat; ticket = ticket; place = place })
+
+-- the end is pinned; an unpin is of the job's place
 abbrev pub DoesJob : Outside → DeskView → DeskView → Job → Option Reason → Type 0
 DoesJob o old new (jobs.Link event) refusal = DoesWhole o.pieces o.pieces' o.faults o.faults' old new event None refusal
 DoesJob o old new (jobs.Stop number) refusal = (refusal ≡ None) × IsQuiet o × Notes old new (entries.Stop number)
 DoesJob o old new (jobs.Write seat ticket floor call) refusal = (refusal ≡ None) × DoesWrite (int_lt old.engine.tip floor) o old new seat ticket floor call
+DoesJob o old new (jobs.Pin seat ticket floor) refusal =
+    (refusal ≡ None) × IsQuiet o × NotesUnlessAhead (int_lt old.engine.tip floor) old new seat ticket (pin_entry seat ticket old.engine.committed)
+DoesJob o old new (jobs.Unpin seat ticket floor place) refusal =
+    (refusal ≡ None) × IsQuiet o × NotesUnlessAhead (int_lt old.engine.tip floor) old new seat ticket (unpin_entry seat ticket place)
 
 -- the client's job, and that from which an event was made
 abbrev pub write_job : Caller → Call → Job
@@ -119,11 +135,15 @@ abbrev pub turn_of : Job → Turn
 turn_of (jobs.Link event) = turns.Did
 turn_of (jobs.Stop number) = turns.Stopped
 turn_of (jobs.Write seat ticket floor call) = turns.Did
+turn_of (jobs.Pin seat ticket floor) = turns.Did
+turn_of (jobs.Unpin seat ticket floor place) = turns.Did
 
 abbrev pub is_stop : Job → Bool
 is_stop (jobs.Link event) = false
 is_stop (jobs.Stop number) = true
 is_stop (jobs.Write seat ticket floor call) = false
+is_stop (jobs.Pin seat ticket floor) = false
+is_stop (jobs.Unpin seat ticket floor place) = false
 
 -- the job stayed from an earlier turn, or is popped
 abbrev pub TakesUp : Option Job → View → Job → View → Type 0

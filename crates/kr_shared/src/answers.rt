@@ -88,8 +88,8 @@ fn end_told(line: &mut Line, output: Output, ended: Ended)
 }
 
 // The first reply for which no write waited.
-fn first_of(reply: Option<Reply>, output: Output) -> Option<Reply>
-    ensures { result ≡ rules.first_of reply output }
+fn or_reply_in(reply: Option<Reply>, output: Output) -> Option<Reply>
+    ensures { result ≡ rules.or_reply_in reply output }
 {
     match reply {
         Some(reply) => Some(reply),
@@ -112,6 +112,6 @@ pub(crate) fn answer_told(line: &mut Line, reply: Option<Reply>, told: Told) -> 
             end_told(line, output, ended);
             reply
         }
-        None => first_of(reply, output),
+        None => or_reply_in(reply, output),
     }
 }

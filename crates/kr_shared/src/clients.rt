@@ -16,7 +16,7 @@ ghost use Rattle.kr_shared.specs.Submit.{IsAnswered, IsSubmitCause, Pushed, Push
 
 use crate::bell::Bell;
 use kr_base::{NoMemory, Shared};
-use kr_calls::{Answer, AnswerKind, Answered, Call, Reply};
+use kr_calls::{Answer, AnswerKind, Answered, Call, Reply, SeatEntry};
 use kr_defs::Rows;
 use kr_defs::limits::GREATEST_TIP;
 use kr_queue::{Job, Pass, Queue};
@@ -142,10 +142,15 @@ fn wait_for<R: Wait>(
     for _ in rt.forever() {
         let seen = bell.number(rt);
         match reader.look(ticket) {
-            Ok(Look::Found { answer }) => match end_of_call(&answer, floor, call) {
+            Ok(
+                Look::Found {
+                    entry: SeatEntry::Answer { answer },
+                },
+            ) => match end_of_call(&answer, floor, call) {
                 Some(end) => return end,
                 None => bell.wait_past(rt, seen),
             },
+            Ok(Look::Found { .. }) => bell.wait_past(rt, seen),
             Ok(Look::Stopped { number }) => return Err(SubmitFault::Ended { number }),
             Ok(Look::NotYet) => bell.wait_past(rt, seen),
             Err(CopyFault::NoMemory) => return Err(SubmitFault::NoMemory),

@@ -8,17 +8,18 @@ ghost use Rattle.kr_calls.specs.RightAnswers.{AreRightAfter};
 ghost use Rattle.kr_queue.specs.Jobs.{is_fit};
 ghost use Rattle.kr_view.specs.Shelves.{IsDelayed, next_at, shown_at, with_staged};
 ghost use Rattle.kr_world.specs.Engine.{IsSound, IsStep, outputs_left};
+ghost use Rattle.kr_world.specs.World.{is_far};
 ghost use Rattle.kr_shared.specs.Answers.{aside_noted};
 ghost use Rattle.kr_shared.specs.Desks.{ComesToSame, HasSpare, IsOpened, IsPrepared, IsSettled, StandsFor, StaysDue, aside_by, cut_if, entered_by, settled, takes_writes};
 ghost use Rattle.kr_shared.specs.Gives.{GivesOut};
 ghost use Rattle.kr_shared.specs.Lines.{HasRoom, IsSeated, entry_of};
 ghost use Rattle.kr_shared.specs.Serves.{ServesEvent};
-ghost use Rattle.kr_shared.specs.Turns.{DoesJob, DoesRequest, DoesWhole, DoesWrite, LosesLed, LosesUnless, Notes, job_again, write_job};
+ghost use Rattle.kr_shared.specs.Turns.{DoesJob, DoesRequest, DoesWhole, DoesWrite, LosesLed, LosesUnless, Notes, NotesUnlessAhead, job_again, pin_entry, write_job};
 ghost use Rattle.kr_shared.specs.Tasks.{IsTask, basis_at};
 ghost use Rattle.kr_shared.specs.Works.{IsBareNote, KeepsShown, Onwards, call_in, call_of};
 
 use crate::answers::{Aside, Asking, asked_by};
-use crate::line::{Line, Note, bare_answer, decided, stop};
+use crate::line::{Line, Note, bare_answer, decided, pinned, stop, unpinned};
 use crate::taking::{Given, give_out};
 use kr_base::{Clock, NoMemory, Quorum, Steps};
 use kr_calls::{AnswerKind, Ask, Call, Entry, Event, Reason, Reply};
@@ -69,7 +70,7 @@ pub(crate) struct Served {
     pub refusal: Option<Reason>,
 }
 
-/// Whose write it is.
+/// Who asks.
 #[derive(Drop)]
 pub(crate) struct Caller {
     /// The client's number, from 1.
@@ -114,6 +115,13 @@ fn job_again(seat: u32, ticket: u64, floor: &i64, event: Event) -> Job
         },
         other => Job::Link { event: other },
     }
+}
+
+// The log takes no more.
+fn is_far(tip: &i64) -> bool
+    ensures { result ≡ is_far tip.now }
+{
+    GREATEST_TIP < *tip
 }
 
 fn later(time: &i64, other: &i64) -> i64
@@ -255,7 +263,7 @@ impl Desk {
     fn takes_writes(&self) -> bool
         ensures { result ≡ takes_writes self.now.engine }
     {
-        self.engine.leading().is_some() && self.engine.tip() <= GREATEST_TIP
+        self.engine.leading().is_some() && !is_far(&self.engine.tip())
     }
 
     // This node led, and leads no more.
@@ -469,12 +477,12 @@ impl Desk {
 
     // ---- jobs
 
-    // An answer or a stop is to be told at once.
+    // A pin, an unpin, an answer or a stop is to be told at once.
     fn note(&mut self, note: Note)
         requires stands { StandsFor self.old }
         requires rests { IsSettled self.old }
         requires room { self.old.line.waits < self.old.line.room }
-        requires bare { IsBareNote (entry_of note) }
+        requires bare { IsBareNote (settled self.old).shelf.list (entry_of note) }
         ensures done { Notes (settled self.old) (settled self.new) (entry_of note) }
         ensures stands { StandsFor self.new }
         ensures shown { self.new.shelf ≡ self.old.shelf }
@@ -610,6 +618,42 @@ impl Desk {
         self.write_at(quorum, caller, &now, call, steps)
     }
 
+    // What a client keeps or gives back is to be told, unless the client has seen more of the log than there is.
+    fn note_unless_ahead(&mut self, caller: Caller, note: Note)
+        requires stands { StandsFor self.old }
+        requires rests { IsSettled self.old }
+        requires room { self.old.line.waits < self.old.line.room }
+        requires bare { IsBareNote (settled self.old).shelf.list (entry_of note) }
+        ensures done { NotesUnlessAhead (int_lt self.old.engine.tip caller.floor)
+            (settled self.old) (settled self.new) caller.seat caller.ticket (entry_of note) }
+        ensures stands { StandsFor self.new }
+        ensures shown { self.new.shelf ≡ self.old.shelf }
+    {
+        if self.is_behind(&caller.floor) {
+            let tip = self.engine.tip();
+            let kind = AnswerKind::Ahead;
+            self.note(bare_answer(caller.seat, caller.ticket, &tip, kind));
+            return;
+        }
+        self.note(note);
+    }
+
+    // The committed end is pinned, unless the client has seen more of the log than there is.
+    fn note_pin(&mut self, caller: Caller)
+        requires stands { StandsFor self.old }
+        requires rests { IsSettled self.old }
+        requires room { self.old.line.waits < self.old.line.room }
+        ensures done { NotesUnlessAhead (int_lt self.old.engine.tip caller.floor)
+            (settled self.old) (settled self.new) caller.seat caller.ticket
+            (pin_entry caller.seat caller.ticket self.old.engine.committed) }
+        ensures stands { StandsFor self.new }
+        ensures shown { self.new.shelf ≡ self.old.shelf }
+    {
+        let place = self.engine.committed();
+        let note = pinned(caller.seat, caller.ticket, &place);
+        self.note_unless_ahead(caller, note);
+    }
+
     // Does a job, for whose notes there is room.
     fn do_with_room<Q: Quorum, C: Clock, L: Ledger>(
         &mut self,
@@ -659,6 +703,33 @@ impl Desk {
                     floor,
                 };
                 self.write(quorum, clock, caller, call, steps)?;
+                Ok(None)
+            }
+            Job::Pin {
+                seat,
+                ticket,
+                floor,
+            } => {
+                self.note_pin(Caller {
+                    seat,
+                    ticket,
+                    floor,
+                });
+                Ok(None)
+            }
+            Job::Unpin {
+                seat,
+                ticket,
+                floor,
+                place,
+            } => {
+                let note = unpinned(seat, ticket, &place);
+                let caller = Caller {
+                    seat,
+                    ticket,
+                    floor,
+                };
+                self.note_unless_ahead(caller, note);
                 Ok(None)
             }
         }

@@ -5,11 +5,12 @@ ghost use Rattle.std.specs.VecDeque.{deque_capacity, deque_len};
 ghost use Rattle.kr_view.specs.Staged.{is_logged};
 ghost use Rattle.kr_shared.specs.Lines.{HasRoom, IsEmpty, IsSeated, entries_of, entry_of, with_notes};
 ghost use Rattle.kr_shared.specs.Answers as rules;
+ghost use Rattle.kr_shared.specs.Turns.{pin_entry, unpin_entry};
 ghost use Rattle.kr_shared.specs.Answers.{answering};
 
 use crate::asked::Asked;
 use kr_base::{NoMemory, Shared};
-use kr_calls::{Answer, AnswerKind, Answered, Entry, Reply};
+use kr_calls::{Answer, AnswerKind, Answered, Entry, Pin, Reply};
 use kr_view::Publisher;
 use kr_world::Ended;
 use std::alloc::Global;
@@ -28,7 +29,7 @@ pub(crate) enum Note {
     Bare { remark: Remark },
 }
 
-/// An answer or a stop.
+/// A pin, an unpin, an answer or a stop.
 #[derive(Drop)]
 pub(crate) struct Remark {
     entry: Entry,
@@ -55,6 +56,38 @@ pub(crate) fn bare_answer(seat: u32, ticket: u64, place: &i64, kind: AnswerKind)
             kind,
             answered: None,
         }),
+    }
+}
+
+/// A pin of a place.
+pub(crate) fn pinned(seat: u32, ticket: u64, place: &i64) -> Note
+    ensures { entry_of result ≡ pin_entry seat ticket place.now }
+{
+    let pin = Pin {
+        seat,
+        ticket,
+        place: *place,
+    };
+    Note::Bare {
+        remark: Remark {
+            entry: Entry::Pin { pin },
+        },
+    }
+}
+
+/// An unpin of a place.
+pub(crate) fn unpinned(seat: u32, ticket: u64, place: &i64) -> Note
+    ensures { entry_of result ≡ unpin_entry seat ticket place.now }
+{
+    let pin = Pin {
+        seat,
+        ticket,
+        place: *place,
+    };
+    Note::Bare {
+        remark: Remark {
+            entry: Entry::Unpin { pin },
+        },
     }
 }
 

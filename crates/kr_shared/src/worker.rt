@@ -71,6 +71,7 @@ fn turn_of(job: &Job) -> Turn
     match job {
         Job::Stop { .. } => Turn::Stopped,
         Job::Link { .. } | Job::Write { .. } => Turn::Did,
+        Job::Pin { .. } | Job::Unpin { .. } => Turn::Did,
     }
 }
 

@@ -13,6 +13,8 @@ use Rattle.kr_view.specs.StagedLaws.{LoggedEntriesAreRight}
 right : (o : Options) (before : List Entry) (e : Entry) → is_logged e ≡ true → IsRightEntry o before e
 right o before (entries.Item place item) is = tt
 right o before (entries.Load offset records) is = tt
+right o before (entries.Pin pin) is = absurd (true≢false (sym is))
+right o before (entries.Unpin pin) is = tt
 right o before (entries.Answer answer) is = absurd (true≢false (sym is))
 right o before (entries.Stop number) is = tt
 

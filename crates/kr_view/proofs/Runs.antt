@@ -33,6 +33,8 @@ at_end r place result false is low = inl refl
 one : (r : Reached) (e : Entry) → Rises r (run_with r e)
 one r (entries.Item place item) = at_end r place (apply r.image item) (int_eq place r.end) refl (int_lt place PLACES_END)
 one r (entries.Load offset records) = inl refl
+one r (entries.Pin pin) = inl refl
+one r (entries.Unpin pin) = inl refl
 one r (entries.Answer answer) = inl refl
 one r (entries.Stop number) = inl refl
 
@@ -71,6 +73,8 @@ never_back r es from =
 alike : (r : Reached) (e : Entry) → is_load e ≡ false → run_with r e ≡ reached_with r e
 alike r (entries.Item place item) plain = refl
 alike r (entries.Load offset records) plain = absurd (true≢false plain)
+alike r (entries.Pin pin) plain = refl
+alike r (entries.Unpin pin) plain = refl
 alike r (entries.Answer answer) plain = refl
 alike r (entries.Stop number) plain = refl
 

@@ -7,6 +7,8 @@ use Rattle.kr_calls.specs.declared.events.Entry.TheVariants as entries
 abbrev pub is_load : Entry → Bool
 is_load (entries.Item place item) = false
 is_load (entries.Load offset records) = true
+is_load (entries.Pin pin) = false
+is_load (entries.Unpin pin) = false
 is_load (entries.Answer answer) = false
 is_load (entries.Stop number) = false
 

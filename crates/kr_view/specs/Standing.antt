@@ -15,5 +15,7 @@ StandsIf false result image = IsErr result
 abbrev pub run_with : Reached → Entry → Reached
 run_with r (entries.Item place item) = with_item r place item
 run_with r (entries.Load offset records) = r
+run_with r (entries.Pin pin) = r
+run_with r (entries.Unpin pin) = r
 run_with r (entries.Answer answer) = r
 run_with r (entries.Stop number) = r

@@ -20,7 +20,7 @@ pub struct Publisher {
     window: Window,
     // Staged items and loads, in order.
     items: VecDeque<Entry>,
-    // Staged answers and stops, in order.
+    // Staged pins, unpins, answers and stops, in order.
     notes: VecDeque<Entry>,
 }
 
@@ -40,7 +40,7 @@ fn is_below(entry: &Entry, end: &i64) -> bool
     match entry {
         Entry::Item { place, .. } => place < end,
         Entry::Load { offset, .. } => offset <= end,
-        Entry::Answer { .. } | Entry::Stop { .. } => true,
+        Entry::Pin { .. } | Entry::Unpin { .. } | Entry::Answer { .. } | Entry::Stop { .. } => true,
     }
 }
 
@@ -49,6 +49,7 @@ fn is_logged(entry: &Entry) -> bool
 {
     match entry {
         Entry::Item { .. } | Entry::Load { .. } => true,
+        Entry::Pin { .. } | Entry::Unpin { .. } => false,
         Entry::Answer { .. } | Entry::Stop { .. } => false,
     }
 }

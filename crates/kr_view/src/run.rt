@@ -58,7 +58,8 @@ pub(crate) fn is_load(entry: &Entry) -> bool
 {
     match entry {
         Entry::Load { .. } => true,
-        Entry::Item { .. } | Entry::Answer { .. } | Entry::Stop { .. } => false,
+        Entry::Item { .. } | Entry::Pin { .. } | Entry::Unpin { .. } => false,
+        Entry::Answer { .. } | Entry::Stop { .. } => false,
     }
 }
 

@@ -11,7 +11,7 @@ ghost use Rattle.kr_view.specs.Steps.{entries_of};
 use crate::looks::{Look, look_at};
 use crate::run::Step;
 use crate::standing::Standing;
-use crate::table::{Table, answers_of};
+use crate::table::{Table, told_of};
 use kr_base::{History, NoMemory, Shared};
 use kr_calls::{Entry, Reply, Request};
 use kr_defs::Options;
@@ -20,7 +20,7 @@ use left_right::Absorb;
 use std::alloc::{AllocError, Global};
 use std::marker::Model;
 
-/// The image at the end of the entries, the last answer of each seat and the first stop. What was taken in is known to
+/// The image at the end of the entries, what each seat was told last and the first stop. What was taken in is known to
 /// proofs alone.
 #[derive(Drop)]
 pub(crate) struct Shown {
@@ -91,9 +91,9 @@ impl Shown {
         ensures ok { OnOk result (self.new ≡ with_step self.old step.now) }
         ensures err { OnErr result (self.new ≡ self.old) }
     {
-        let answers = answers_of(self.alloc, step)?;
+        let told = told_of(self.alloc, step)?;
         self.standing.take_in(self.alloc, step)?;
-        self.table.note_all(answers);
+        self.table.note_all(told);
         self.stop = stop_behind(self.stop, step);
         self.history = self.history.and(step);
         Ok(())
