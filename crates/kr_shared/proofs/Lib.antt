@@ -1,8 +1,13 @@
 pub mod Answered
 pub mod Appending
+pub mod Desks
 pub mod Ends
 pub mod Fronts
+pub mod Giving
 pub mod LastSeats
+pub mod Lines
+pub mod Losing
+pub mod Made
 pub mod Misses
 pub mod Noting
 pub mod Onwards
@@ -11,6 +16,7 @@ pub mod Replied
 pub mod Sent
 pub mod Served
 pub mod Serving
+pub mod Settling
 pub mod Standings
 pub mod Starts
 pub mod Turning

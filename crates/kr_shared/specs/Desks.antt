@@ -11,7 +11,7 @@ use Rattle.kr_shared.specs.declared.answers.Aside.{Aside}
 use Rattle.kr_shared.specs.declared.answers.Asking.{Asking}
 use Rattle.kr_shared.specs.declared.asked.Asked.{Asked}
 use Rattle.kr_shared.specs.Answers.{aside_of, asked_by}
-use Rattle.kr_shared.specs.Lines.{HasRoom, IsEmpty, IsSeated, LineView, with_notes}
+use Rattle.kr_shared.specs.Lines.{HasRoom, IsEmpty, IsSeated, LineView}
 use Rattle.kr_shared.specs.Standing.{StandsForSome}
 use Rattle.kr_shared.specs.Works.{DeskView, KeepsShown, call_in}
 
@@ -26,7 +26,7 @@ pub record Kept : Type 0 where
 
 -- all is staged
 abbrev pub ready : Kept → Shelf
-ready k = with_notes (fold with_staged k.shelf k.unstaged) k.line.due
+ready k = fold with_staged (fold with_staged k.shelf k.unstaged) k.line.due
 
 abbrev pub cut_if : Bool → Shelf → Shelf
 cut_if cut s = if cut then record s { items = [] } else s

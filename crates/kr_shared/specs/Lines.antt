@@ -1,8 +1,7 @@
 -- Who waits, and what is due to be told. This project's own.
-use Rattle.std.specs.Prelude.{◌≡◌, ◌≤◌, ℕ, ◌+◌, Bool, true, List, [], ◌++◌, map}
+use Rattle.std.specs.Prelude.{◌≡◌, ◌≤◌, ℕ, ◌+◌, Bool, true, List, [], map}
 use Rattle.kr_calls.specs.declared.events.Entry.{Entry}
 use Rattle.kr_calls.specs.declared.events.Entry.TheVariants as entries
-use Rattle.kr_view.specs.Shelves.{Shelf}
 use Rattle.kr_shared.specs.declared.asked.Asked.{Asked}
 use Rattle.kr_shared.specs.declared.line.Note.{Note}
 use Rattle.kr_shared.specs.declared.line.Note.TheVariants as notes
@@ -11,7 +10,7 @@ use Rattle.kr_shared.specs.Answers.{answer_with}
 -- the entry by which it is told
 abbrev pub entry_of : Note → Entry
 entry_of (notes.Decided kind answered) = entries.Answer (answer_with kind answered)
-entry_of (notes.Bare remark) = remark.entry
+entry_of (notes.Bare entry) = entry
 
 abbrev pub entries_of : List Note → List Entry
 entries_of due = map entry_of due
@@ -42,7 +41,3 @@ pub record IsSeated (l : LineView) : Type 0 where
   pub due : l.due ≡ []
   pub seated : l.seated ≡ true
   pub dues : l.dues ≡ 0
-
--- and these are staged
-abbrev pub with_notes : Shelf → List Entry → Shelf
-with_notes s notes = record s { notes = s.notes ++ notes }

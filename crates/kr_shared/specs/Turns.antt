@@ -154,6 +154,41 @@ TakesUp None before job now = IsPop before job now
 abbrev pub caught_up : Bench → Bench
 caught_up b = record b { shown = b.work.shelf.list; refusal = None; late = false }
 
+-- a job that was taken up is done
+pub record IsDone (o : Outside) (old new : Bench) (job : Job) : Type 0 where
+  pub knows : new.knows ≡ old.knows
+  pub does : DoesJob o old.work new.work job new.refusal
+  pub stopped : new.stopped ≡ is_stop job
+  pub stays : new.stays ≡ old.stays
+
+-- and all of it is published
+pub record IsDoneWhole (o : Outside) (old new : Bench) (job : Job) : Type 0 where
+  pub done : IsDone o old new job
+  pub shown : new.shown ≡ new.work.shelf.list
+  pub late : new.late ≡ false
+
+-- or it stays
+pub record IsPutOff (o : Outside) (old new : Bench) (job : Job) : Type 0 where
+  pub work : new.work ≡ old.work
+  pub knows : new.knows ≡ old.knows
+  pub stays : new.stays ≡ Some job
+  pub refusal : new.refusal ≡ old.refusal
+  pub stopped : new.stopped ≡ old.stopped
+  pub quiet : IsQuiet o
+
+-- the published list goes on, and what is due comes behind it
+pub record GoesOnLate (old new : Bench) : Type 0 where
+  pub onwards : GoesOn new.shown old.shown
+  pub due : GoesOn new.work.shelf.list new.shown
+
+pub record StaysLate (old new : Bench) : Type 0 where
+  pub same : new ≡ record old { shown = new.shown }
+  pub goes : GoesOnLate old new
+
+pub record IsDoneLate (o : Outside) (old new : Bench) (job : Job) : Type 0 where
+  pub either : IsDone o old new job ⊎ IsPutOff o old new job
+  pub goes : GoesOnLate old new
+
 -- the job was taken up and done
 pub record Works (o : Outside) (old new : Bench) (job : Job) : Type 0 where
   pub going : old.stopped ≡ false
@@ -195,9 +230,7 @@ pub record IsAsBefore (o : Outside) (old new : Bench) : Type 0 where
   pub stopped : new.stopped ≡ old.stopped
   pub quiet : IsQuiet o
 
--- The work is as it was, or a job was done and what is to be published of it is due. The published list goes on, and all that is
--- due comes behind it.
+-- the work is as it was, or a job was done and what is to be published of it is due
 pub record IsLate (o : Outside) (old new : Bench) : Type 0 where
   pub either : IsAsBefore o old new ⊎ ((job : Job) × Works o old new job)
-  pub onwards : GoesOn new.shown old.shown
-  pub due : GoesOn new.work.shelf.list new.shown
+  pub goes : GoesOnLate old new

@@ -9,6 +9,7 @@ ghost use Rattle.kr_queue.specs.Jobs.{is_fit};
 ghost use Rattle.kr_view.specs.Shelves.{IsDelayed, next_at, shown_at, with_staged};
 ghost use Rattle.kr_world.specs.Engine.{IsSound, IsStep, outputs_left};
 ghost use Rattle.kr_world.specs.World.{is_far};
+ghost use Rattle.law_following.specs.Following.{AreNotes};
 ghost use Rattle.kr_shared.specs.Answers.{aside_noted};
 ghost use Rattle.kr_shared.specs.Desks.{ComesToSame, HasSpare, IsOpened, IsPrepared, IsSettled, StandsFor, StaysDue, aside_by, cut_if, entered_by, settled, takes_writes};
 ghost use Rattle.kr_shared.specs.Gives.{GivesOut};
@@ -303,15 +304,16 @@ impl Desk {
         let Some(call) = call_in(event) else {
             return None;
         };
-        let aside = asked_by(asking, call);
+        let Aside { asked, place } = asked_by(asking, call);
         if takes {
-            self.line.enter(aside.asked);
+            self.line.enter(asked);
             return None;
         }
-        Some(aside)
+        Some(Aside { asked, place })
     }
 
     // All that the engine gives is given out.
+    #[tactic(auto, using(kr_world::proofs::SoundEngines::sound_order))]
     fn give_out<Q: Quorum>(&mut self, quorum: &mut Q) -> Given
         requires ordered { IsSound self.old.engine }
         requires room { HasRoom self.old.line }
@@ -387,7 +389,8 @@ impl Desk {
             (Q.pieces quorum.new) (Q.faults quorum.old)
             (Q.faults quorum.new) (settled self.old) (settled self.new) event asking
             served.appended served.refusal) }
-        ensures stands { OnOk result (StandsFor self.new × (self.new.cut ≡ false)) }
+        ensures stands { OnOk result (StandsFor self.new × (self.new.cut ≡ false)
+            × AreNotes self.new.line.due) }
         ensures err { IfErr result (λ refused. (refused ≡ event) × (self.new ≡ self.old)
             × (Q.pieces quorum.new ≡ Q.pieces quorum.old)
             × (Q.faults quorum.new ≡ Q.faults quorum.old)) }
@@ -416,6 +419,7 @@ impl Desk {
         requires stands { StandsFor self.old }
         requires led { self.old.engine.leading ≡ Some epoch }
         requires cut { self.old.cut ≡ false }
+        requires bare { AreNotes self.old.line.due }
         ensures done { LosesLed (Q.pieces quorum.old) (Q.pieces quorum.new)
             (Q.faults quorum.old) (Q.faults quorum.new) (settled self.old) (settled self.new)
             (Some epoch) }
@@ -435,6 +439,7 @@ impl Desk {
     fn lose<Q: Quorum, L: Ledger>(&mut self, quorum: &mut Q, appended: bool, steps: &mut Steps<L>)
         requires stands { StandsFor self.old }
         requires cut { self.old.cut ≡ false }
+        requires bare { AreNotes self.old.line.due }
         ensures done { LosesUnless appended (Q.pieces quorum.old) (Q.pieces quorum.new)
             (Q.faults quorum.old) (Q.faults quorum.new) (settled self.old) (settled self.new) }
         ensures stands { StandsFor self.new }

@@ -1,9 +1,10 @@
 //! The clients that wait, and what is due to be told.
 
-ghost use Rattle.std.specs.Prelude.{◌≡◌, ◌++◌, ◌∷◌, ◌+◌, ◌≤◌, ◌<◌, [], true, false, length, option_to_list, IfErr, IfOk, IfNone, OnOk};
+ghost use Rattle.std.specs.Prelude.{◌≡◌, ◌++◌, ◌∷◌, ◌+◌, ◌≤◌, ◌<◌, [], true, false, fold, length, option_to_list, IfErr, IfOk, IfNone, OnOk};
 ghost use Rattle.std.specs.VecDeque.{deque_capacity, deque_len};
-ghost use Rattle.kr_view.specs.Staged.{is_logged};
-ghost use Rattle.kr_shared.specs.Lines.{HasRoom, IsEmpty, IsSeated, entries_of, entry_of, with_notes};
+ghost use Rattle.kr_view.specs.Shelves.{with_staged};
+ghost use Rattle.kr_shared.specs.Lines.{HasRoom, IsEmpty, IsSeated, entries_of, entry_of};
+ghost use Rattle.kr_shared.specs.Works.{KeepsShown};
 ghost use Rattle.kr_shared.specs.Answers as rules;
 ghost use Rattle.kr_shared.specs.Turns.{pin_entry, unpin_entry};
 ghost use Rattle.kr_shared.specs.Answers.{answering};
@@ -26,36 +27,22 @@ pub(crate) enum Note {
         answered: Answered,
     },
     /// What takes no more memory of its own.
-    Bare { remark: Remark },
-}
-
-/// A pin, an unpin, an answer or a stop.
-#[derive(Drop)]
-pub(crate) struct Remark {
-    entry: Entry,
-    ghost bare: { is_logged entry ≡ false },
-}
-
-fn remark_of(answer: Answer) -> Remark
-    ensures { result.entry ≡ rules.answer_entry answer }
-{
-    Remark {
-        entry: Entry::Answer { answer },
-    }
+    Bare { entry: Entry },
 }
 
 /// An answer without a decision, at the place.
 pub(crate) fn bare_answer(seat: u32, ticket: u64, place: &i64, kind: AnswerKind) -> Note
     ensures { entry_of result ≡ rules.answer_entry (rules.bare_answer seat ticket place.now kind) }
 {
+    let answer = Answer {
+        seat,
+        ticket,
+        place: *place,
+        kind,
+        answered: None,
+    };
     Note::Bare {
-        remark: remark_of(Answer {
-            seat,
-            ticket,
-            place: *place,
-            kind,
-            answered: None,
-        }),
+        entry: Entry::Answer { answer },
     }
 }
 
@@ -69,9 +56,7 @@ pub(crate) fn pinned(seat: u32, ticket: u64, place: &i64) -> Note
         place: *place,
     };
     Note::Bare {
-        remark: Remark {
-            entry: Entry::Pin { pin },
-        },
+        entry: Entry::Pin { pin },
     }
 }
 
@@ -85,9 +70,7 @@ pub(crate) fn unpinned(seat: u32, ticket: u64, place: &i64) -> Note
         place: *place,
     };
     Note::Bare {
-        remark: Remark {
-            entry: Entry::Unpin { pin },
-        },
+        entry: Entry::Unpin { pin },
     }
 }
 
@@ -96,9 +79,7 @@ pub(crate) fn stop(number: u64) -> Note
     ensures { entry_of result ≡ rules.stop_entry number }
 {
     Note::Bare {
-        remark: Remark {
-            entry: Entry::Stop { number },
-        },
+        entry: Entry::Stop { number },
     }
 }
 
@@ -113,8 +94,7 @@ pub(crate) struct Line {
 
 impl Model for Line {
     ghost use Rattle.kr_shared.specs.LineFields.{line_of};
-    ghost use Rattle.kr_view.specs.Staged.{is_logged};
-ghost use Rattle.kr_shared.specs.Lines.{LineView};
+    ghost use Rattle.kr_shared.specs.Lines.{LineView};
 
     ghost Value = { LineView };
 
@@ -173,33 +153,30 @@ fn holding(alloc: Global, kind: AnswerKind, answered: Answered) -> Result<Answer
     }
 }
 
-// Stages a remark. It comes back where there is no room for it.
-fn stage_remark(publisher: &mut Publisher, remark: Remark) -> Result<(), Note>
-    ensures ok { OnOk result (publisher.new ≡ with_notes publisher.old (remark.entry ∷ [])) }
-    ensures err { IfErr result (λ refused. (entry_of refused ≡ remark.entry)
+// Stages an entry. It comes back where there is no room for it.
+fn stage_entry(publisher: &mut Publisher, entry: Entry) -> Result<(), Note>
+    ensures ok { OnOk result (publisher.new ≡ with_staged publisher.old entry) }
+    ensures err { IfErr result (λ refused. (entry_of refused ≡ entry)
         × (publisher.new ≡ publisher.old)) }
 {
-    let Remark { entry } = remark;
     match publisher.stage(entry) {
         Ok(()) => Ok(()),
-        Err(entry) => Err(Note::Bare {
-            remark: Remark { entry },
-        }),
+        Err(entry) => Err(Note::Bare { entry }),
     }
 }
 
 // Stages what is due. It comes back where there is no memory.
 fn stage_note(alloc: Global, publisher: &mut Publisher, note: Note) -> Result<(), Note>
-    ensures ok { OnOk result (publisher.new ≡ with_notes publisher.old (entry_of note ∷ [])) }
+    ensures ok { OnOk result (publisher.new ≡ with_staged publisher.old (entry_of note)) }
     ensures err { IfErr result (λ refused. (entry_of refused ≡ entry_of note)
         × (publisher.new ≡ publisher.old)) }
 {
     match note {
         Note::Decided { kind, answered } => match holding(alloc, kind, answered) {
-            Ok(answer) => stage_remark(publisher, remark_of(answer)),
+            Ok(answer) => stage_entry(publisher, Entry::Answer { answer }),
             Err(answered) => Err(Note::Decided { kind, answered }),
         },
-        Note::Bare { remark } => stage_remark(publisher, remark),
+        Note::Bare { entry } => stage_entry(publisher, entry),
     }
 }
 
@@ -209,8 +186,9 @@ fn stage_all(
     publisher: &mut Publisher,
     due: &mut VecDeque<Note>,
 ) -> Result<(), NoMemory>
-    ensures same { with_notes publisher.new (entries_of due.new.items)
-        ≡ with_notes publisher.old (entries_of due.old.items) }
+    ensures same { fold with_staged publisher.new (entries_of due.new.items)
+        ≡ fold with_staged publisher.old (entries_of due.old.items) }
+    ensures keeps { KeepsShown publisher.old publisher.new }
     ensures all { OnOk result ((due.new.items ≡ []) × (deque_len due.new ≡ 0)) }
     ensures fewer { deque_len due.new ≤ deque_len due.old }
     ensures capacity { deque_capacity due.new ≡ deque_capacity due.old }
@@ -236,6 +214,7 @@ impl Line {
     }
 
     /// Room for what comes of one event more: then it takes no memory to note it. Nothing is due.
+    #[tactic(auto, using(crate::proofs::Lines::lining))]
     pub(crate) fn make_room(&mut self, alloc: Global) -> Result<(), NoMemory>
         requires { IsSeated self.old }
         ensures same { self.new ≡ record self.old { room = self.new.room } }
@@ -252,6 +231,7 @@ impl Line {
     }
 
     /// One more waits, behind all others.
+    #[tactic(auto, using(crate::proofs::Lines::lining))]
     pub(crate) fn enter(&mut self, asked: Asked)
         requires { self.old.seated ≡ true }
         ensures { self.new ≡ record self.old {
@@ -281,6 +261,7 @@ impl Line {
     }
 
     /// One more is due to be told.
+    #[tactic(auto, using(crate::proofs::Lines::lining))]
     pub(crate) fn note(&mut self, note: Note)
         requires { self.old.dues < self.old.room }
         ensures { self.new ≡ record self.old {
@@ -326,7 +307,9 @@ impl Line {
 
     /// Stages all that is due, in order. What found no room stays due.
     pub(crate) fn stage(&mut self, alloc: Global, publisher: &mut Publisher) -> Result<(), NoMemory>
-        ensures due { with_notes publisher.new self.new.due ≡ with_notes publisher.old self.old.due }
+        ensures due { fold with_staged publisher.new self.new.due
+            ≡ fold with_staged publisher.old self.old.due }
+        ensures keeps { KeepsShown publisher.old publisher.new }
         ensures all { OnOk result ((self.new.due ≡ []) × (self.new.dues ≡ 0)) }
         ensures fewer { self.new.dues ≤ self.old.dues }
         ensures same { self.new ≡ record self.old { due = self.new.due; dues = self.new.dues } }

@@ -46,6 +46,7 @@ fn give_one<Q: Quorum>(quorum: &mut Q, line: &mut Line, given: Given, told: Told
 }
 
 /// All outputs of the last event, in order. It takes no memory.
+#[tactic(auto, using(crate::proofs::Giving::giving_out))]
 pub(crate) fn give_out<Q: Quorum>(engine: &mut Engine, quorum: &mut Q, line: &mut Line) -> Given
     requires ordered { IsTrue (writes_in_order engine.old.held) }
     requires room { HasRoom line.old }

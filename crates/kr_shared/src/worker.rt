@@ -1,13 +1,14 @@
 //! The worker's seat, and its turn.
 
-ghost use Rattle.std.specs.Prelude.{◌≡◌, ◌<◌, true, false, None, Some, OnErr, OnOk, IfOk, IfSome, IfNone, IsTrue};
+ghost use Rattle.std.specs.Prelude.{◌≡◌, ◌<◌, [], false, None, OnErr, OnOk, IfOk, IfSome, IfNone, IsTrue};
 ghost use Rattle.std.specs.Option.{option_copied};
 ghost use Rattle.std.specs.Arc.{arc_value};
 ghost use Rattle.kr_queue.specs.declared.passes.Role.TheVariants as roles;
 ghost use Rattle.kr_queue.specs.Jobs.{is_fit};
 ghost use Rattle.kr_queue.specs.Passes.{view, IsPassOf};
+ghost use Rattle.kr_queue.specs.Steps.{Holds};
 ghost use Rattle.kr_shared.specs.Desks.{IsSettled, StandsFor, settled};
-ghost use Rattle.kr_shared.specs.Turns.{IsLate, TakesUp, Turned, Works, caught_up, is_stop, turn_of};
+ghost use Rattle.kr_shared.specs.Turns.{IsDoneLate, IsDoneWhole, IsLate, StaysLate, TakesUp, Turned, is_stop, turn_of};
 
 use crate::bell::Bell;
 use crate::clients::Bells;
@@ -168,6 +169,24 @@ impl WorkerSeat {
         requires some { 0 < L.parts }
         requires fit { IsTrue (is_fit job) }
         requires late { self.old.late ≡ false }
+        ensures done { IfOk result (λ turn. (turn ≡ turn_of job) × IsDoneWhole (record {
+          pieces = Q.pieces quorum.old;
+          pieces' = Q.pieces quorum.new;
+          faults = Q.faults quorum.old;
+          faults' = Q.faults quorum.new;
+          asks = C.asks clock.old;
+          asks' = C.asks clock.new;
+          last = C.last clock.new;
+        }) self.old self.new job) }
+        ensures late { OnErr result (IsDoneLate (record {
+          pieces = Q.pieces quorum.old;
+          pieces' = Q.pieces quorum.new;
+          faults = Q.faults quorum.old;
+          faults' = Q.faults quorum.new;
+          asks = C.asks clock.old;
+          asks' = C.asks clock.new;
+          last = C.last clock.new;
+        }) self.old self.new job) }
     {
         let turn = turn_of(&job);
         let stops = is_stop(&job);
