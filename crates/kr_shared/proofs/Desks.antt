@@ -97,11 +97,11 @@ module _ (w0 w1 w2 w3 w4 w5 w6 : Kept) (lost : Bool)
     pub steps_stand : HasRoom w4.line → StandsFor w6 × (w6.cut ≡ false) × AreNotes w6.line.due
     steps_stand room = (
       stands_so w0 rests sf.stands event asking task w1.engine w3.engine w2.line w3.line w4.line given pieces pieces' faults faults' step gives_then
-      entered_then none_then waiting noted_then lost lost_then w6 six_steps room,
+          entered_then none_then waiting noted_then lost lost_then w6 six_steps room,
       ap (λ (w : Kept). w.cut) six_steps ∙ rests.cut,
       subst (λ (w : Kept). AreNotes w.line.due) (sym six_steps)
-      (bare_then w0 rests sf.stands event asking task w1.engine w3.engine w2.line w3.line w4.line given pieces pieces' faults faults' step gives_then
-      entered_then none_then waiting noted_then lost lost_then w6 six_steps),
+          (bare_then w0 rests sf.stands event asking task w1.engine w3.engine w2.line w3.line w4.line given pieces pieces' faults faults' step gives_then
+          entered_then none_then waiting noted_then lost lost_then w6 six_steps),
     )
 
 -- ---- the loss of a leadership

@@ -132,10 +132,7 @@ fn later(time: &i64, other: &i64) -> i64
 }
 
 // Stages what a step added to the log, in order. What found no room stays.
-fn stage_entries(
-    publisher: &mut Publisher,
-    unstaged: &mut VecDeque<Entry>,
-) -> Result<(), NoMemory>
+fn stage_entries(publisher: &mut Publisher, unstaged: &mut VecDeque<Entry>) -> Result<(), NoMemory>
     ensures same { fold with_staged publisher.new unstaged.new.items
         ≡ fold with_staged publisher.old unstaged.old.items }
     ensures keeps { KeepsShown publisher.old publisher.new }

@@ -27,7 +27,9 @@ pub(crate) enum Note {
         answered: Answered,
     },
     /// What takes no more memory of its own.
-    Bare { entry: Entry },
+    Bare {
+        entry: Entry,
+    },
 }
 
 /// An answer without a decision, at the place.
@@ -102,13 +104,7 @@ impl Model for Line {
 }
 
 /// What was decided of what was asked.
-pub(crate) fn decided(
-    asked: Asked,
-    kind: AnswerKind,
-    place: &i64,
-    count: u32,
-    reply: Reply,
-) -> Note
+pub(crate) fn decided(asked: Asked, kind: AnswerKind, place: &i64, count: u32, reply: Reply) -> Note
     ensures { entry_of result ≡ rules.answer_entry (rules.decided_answer asked kind place.now count reply) }
 {
     let Asked {
