@@ -86,6 +86,7 @@ fn end_of_place(entry: &SeatEntry, floor: &i64, wanted: &Wanted) -> Option<Resul
 }
 
 // Looks until what was asked for is granted, or it is found why not.
+#[tactic(auto, using(crate::proofs::Onwards::onward_refl, crate::proofs::Onwards::onward_trans, crate::proofs::Places::places_found, crate::proofs::Misses::stays, crate::proofs::Misses::looked_on))]
 fn wait_for<R: Wait>(
     rt: &R,
     bell: &Bell,
@@ -147,6 +148,7 @@ impl ClientSeat {
     }
 
     // Asks for a place, and waits for it.
+    #[tactic(auto, using(crate::proofs::Onwards::onward_refl, crate::proofs::Misses::stays))]
     fn want<R: Wait>(&mut self, rt: &R, wanted: &Wanted) -> Result<i64, SubmitFault>
         ensures onward { Onward self.old.seen self.new.seen }
         ensures granted { IfOk result (λ place. IsGranted self.new.seen self.old.number
