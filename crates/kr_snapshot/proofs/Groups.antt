@@ -17,7 +17,7 @@ use Rattle.std.specs.Int.{w8}
 use Rattle.kr_snapshot.specs.ImageText.{chunks, batch_of_group, batches_bytes}
 use Rattle.kr_snapshot.proofs.Chunks.{chunk_first, chunk_last}
 use Rattle.kr_snapshot.specs.inner.Writer.{setting_text, item_text, IsLight, IsLightItem, most_beside, IsSound, MayAdd, Puts, Adds, text_of, count_so_far, body_with}
-use Rattle.kr_snapshot.specs.declared.writer.BatchWriter.{BatchWriter}
+use Rattle.kr_snapshot.specs.declared.batch_writer.BatchWriter.{BatchWriter}
 
 -- light items can be written
 writable : (group : List Item) → AllByRecursion IsLightItem group → AllByRecursion IsWritable group

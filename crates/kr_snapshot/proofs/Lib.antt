@@ -10,3 +10,4 @@ pub mod SmallRecords
 pub mod Texts
 pub mod WholeImages
 pub mod WriterRecords
+pub mod Written

@@ -27,7 +27,7 @@ use Rattle.kr_record.specs.Encodable.{IsEncodable, IsShortEndpoint, IsShortRange
 use Rattle.kr_record.proofs.Lengths.{size}
 use Rattle.kr_snapshot.specs.inner.EntryRecords.{feature_record, broker_record, partition_record, config_record}
 use Rattle.kr_snapshot.specs.inner.Writer.{setting_text, IsLight, most_beside, texts, IsSound, MayAdd}
-use Rattle.kr_snapshot.specs.declared.writer.BatchWriter.{BatchWriter}
+use Rattle.kr_snapshot.specs.declared.batch_writer.BatchWriter.{BatchWriter}
 
 -- ---- ids among others
 

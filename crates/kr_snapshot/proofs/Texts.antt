@@ -35,7 +35,7 @@ use Rattle.kr_snapshot.proofs.SmallRecords.{own_light, own_text}
 
 -- ---- the batches
 
-items_light : (rs : List Record) → AllByRecursion IsLight rs → AllByRecursion IsLightItem (as_items rs)
+pub items_light : (rs : List Record) → AllByRecursion IsLight rs → AllByRecursion IsLightItem (as_items rs)
 items_light [] a = tt
 items_light (r ∷ rs) a = (a.0, items_light rs a.1)
 
@@ -43,7 +43,7 @@ items_held : (rs : List Record) → AllByRecursion IsHeld rs → AllByRecursion 
 items_held [] a = tt
 items_held (r ∷ rs) a = (a.0, items_held rs a.1)
 
-items_text : (rs : List Record) → sum_by item_text (as_items rs) ≡ texts rs
+pub items_text : (rs : List Record) → sum_by item_text (as_items rs) ≡ texts rs
 items_text [] = refl
 items_text (r ∷ rs) =
     let a = sum_by-cons item_text (items.Record r) (as_items rs) in

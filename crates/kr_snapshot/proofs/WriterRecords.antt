@@ -24,7 +24,7 @@ use Rattle.kr_record.specs.RecordRanges.{IsHeld}
 use Rattle.kr_snapshot.specs.inner.EntryRecords.{partition_record}
 use Rattle.kr_snapshot.specs.ImageText.{chunks, batches_bytes}
 use Rattle.kr_snapshot.specs.inner.Writer.{setting_text, IsLight, texts, IsSound, body_with, count_so_far, Adds, IsAmid, MayAdd}
-use Rattle.kr_snapshot.specs.declared.writer.BatchWriter.{BatchWriter}
+use Rattle.kr_snapshot.specs.declared.batch_writer.BatchWriter.{BatchWriter}
 
 pub all_front : {X : Type 0} (P : X → Type 0) (xs ys : List X) → AllByRecursion P (xs ++ ys) → AllByRecursion P xs
 all_front P [] ys a = tt

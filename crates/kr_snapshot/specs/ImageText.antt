@@ -3,6 +3,7 @@ use Rattle.std.specs.Prelude.{ℕ, ℤ, pos, ◌+◌, List, [], ◌∷◌, ◌++
 use Rattle.std.specs.Int.{w64}
 use Rattle.kr_defs.specs.declared.limits.TheConstants.{IMAGE_BATCH}
 use Rattle.kr_defs.specs.declared.record.Item.{Item}
+use Rattle.kr_defs.specs.declared.record.Record.{Record}
 use Rattle.kr_defs.specs.Image.{Image}
 use Rattle.kr_defs.specs.ImageLaws.{as_items}
 use Rattle.kr_defs.specs.Records.{records_of}
@@ -28,10 +29,13 @@ batches_bytes before [] = []
 batches_bytes before (group ∷ others) = batch_bytes (batch_of_group before group) ++ batches_bytes (before + length group) others
 
 -- the offset, and how many records there are
-abbrev pub image_head : ℤ → ℕ → List ℕ
-image_head offset count = signed w64 offset ++ signed w64 (pos count)
+abbrev pub image_head : ℤ → ℤ → List ℕ
+image_head offset count = signed w64 offset ++ signed w64 count
 
--- behind them the records in their order, 1,000 a batch
+-- the text of an image of so many records, as far as these first ones: behind the head 1,000 a batch
+abbrev pub text_up_to : ℤ → ℤ → List Record → List ℕ
+text_up_to offset count first = image_head offset count ++ batches_bytes 0 (chunks IMAGE_BATCH (as_items first))
+
+-- all of an image's records, in their order
 unfoldable pub image_text : ℤ → Image → List ℕ
-image_text offset image =
-    image_head offset (length (records_of image)) ++ batches_bytes 0 (chunks IMAGE_BATCH (as_items (records_of image)))
+image_text offset image = text_up_to offset (pos (length (records_of image))) (records_of image)

@@ -1,6 +1,7 @@
 //! Images as bytes: written, and read from any pieces.
 #![tactic(auto)]
 
+mod batch_writer;
 mod fault;
 mod laws;
 mod order;
@@ -15,4 +16,5 @@ pub use fault::{BatchCause, ImageFault, SnapFault};
 pub use laws::{images, read_in_pieces, written_images};
 pub use pieces::HEAD;
 pub use reader::Reader;
+pub use writer::Writer;
 pub use writing::{write, write_seen};

@@ -9,7 +9,7 @@ ghost use Rattle.kr_record.specs.RecordRanges.{IsHeld};
 ghost use Rattle.kr_snapshot.specs.inner.EntryRecords.{feature_record, broker_record, partition_record, config_record};
 ghost use Rattle.kr_snapshot.specs.inner.Writer.{MayAdd, Adds};
 
-use crate::writer::BatchWriter;
+use crate::batch_writer::BatchWriter;
 use kr_base::NoMemory;
 use kr_defs::{Broker, ConfigKey, Copied, Partition, Record, Text};
 use kr_record::record_is_held;

@@ -1,117 +1,108 @@
-//! Records are gathered into batches.
+//! An image is written from records that come in pieces.
 
-ghost use Rattle.std.specs.Prelude.{◌≡◌, ◌<◌, ◌≤◌, ◌^◌, [], ◌∷◌, length, List, OnOk, IfOk};
-ghost use Rattle.kr_defs.specs.declared.limits.TheConstants.{IMAGE_BATCH as most};
-ghost use Rattle.kr_defs.specs.declared.record.Item.{Item as AnyItem};
-ghost use Rattle.kr_record.specs.RecordRanges.{IsHeld};
-ghost use Rattle.kr_snapshot.specs.inner.Writer.{IsSound, MayAdd, Puts, Adds, body_with, count_so_far, text_of};
-ghost use Rattle.kr_snapshot.specs.ImageText.{batch_of_group};
+ghost use Rattle.std.specs.Prelude.{◌≡◌, ◌<◌, ◌^◌, ◌++◌, ◌≤ℤ◌, pos, IfOk, OnErr, OnOk};
+ghost use Rattle.kr_defs.specs.declared.record.Item.TheVariants as items;
+ghost use Rattle.kr_defs.specs.ImageLaws.{as_items};
+ghost use Rattle.kr_snapshot.specs.ImageText.{batch_of_group, image_head};
+ghost use Rattle.kr_snapshot.specs.Written.{IsNextText, MayPut, after_put, put_bytes};
 
+use crate::writing::put_head;
 use kr_base::NoMemory;
 use kr_batch::{Batch, encode};
-use kr_defs::limits::IMAGE_BATCH;
-use kr_defs::{Item, Items, Record};
+use kr_defs::{Copied, Item, Items, Record, Records, Rows};
 use std::alloc::Global;
-use std::mem;
+use std::marker::Model;
 
-/// The batches so far, and the records of the next one.
+/// A writer of an image whose records come in pieces. It holds numbers alone: what it writes goes to the caller's bytes.
 #[derive(Drop)]
-pub(crate) struct BatchWriter {
-    // The number of records in the batches.
-    before: usize,
-    group: Vec<Item>,
-    body: Vec<u8>,
+pub struct Writer {
+    // How many records the image has.
+    count: u64,
+    // How many of them were put.
+    done: u64,
 }
 
-impl BatchWriter {
-    pub fn new(alloc: Global) -> BatchWriter
-        ensures sound { IsSound result }
-        ensures body { result.body.items ≡ [] }
-        ensures group { result.group.items ≡ [] }
-        ensures before { result.before ≡ 0 }
-    {
-        BatchWriter {
-            before: 0,
-            group: Vec::new(alloc),
-            body: Vec::new(alloc),
-        }
-    }
+impl Model for Writer {
+    ghost use Rattle.kr_snapshot.specs.Written.{IsUnderway, Written};
 
-    // Writes the records in hand as a batch.
-    #[tactic(auto, using(crate::proofs::Groups::batches))]
-    fn put_group(&mut self) -> Result<(), NoMemory>
-        requires sound { IsSound self.old }
-        requires some { 1 ≤ length self.old.group.items }
-        ensures { OnOk result (Puts self.old self.new) }
-    {
-        let alloc = *self.group.allocator();
-        let group = mem::replace(&mut self.group, Vec::new(alloc));
-        let count = group.len();
-        let batch = batch_of(self.before, &self.body, group);
-        encode(&batch, &mut self.body)?;
-        self.before += count;
-        Ok(())
-    }
+    ghost Value = { Written };
 
-    // Where the batch in hand is full it is written.
-    fn make_room(&mut self) -> Result<(), NoMemory>
-        requires { IsSound self.old }
-        ensures sound { OnOk result (IsSound self.new) }
-        ensures room { OnOk result (length self.new.group.items < most) }
-        ensures bytes { (item : AnyItem) (more : List AnyItem) → OnOk result (body_with self.new (item ∷ more) ≡ body_with self.old (item ∷ more)) }
-        ensures count { OnOk result (count_so_far self.new ≡ count_so_far self.old) }
-        ensures text { OnOk result (text_of self.new ≤ text_of self.old) }
-    {
-        if self.group.len() < IMAGE_BATCH {
-            return Ok(());
-        }
-        self.put_group()
-    }
+    ghost view = { λ w. record { count = w.count; done = w.done } };
 
-    /// Adds a record.
-    pub fn push(&mut self, value: Record) -> Result<(), NoMemory>
-        requires may { MayAdd self.old (value ∷ []) }
-        requires held { IsHeld value }
-        ensures { OnOk result (Adds self.old self.new (value ∷ [])) }
-    {
-        self.make_room()?;
-        self.group.push(Item::Record(value))?;
-        Ok(())
-    }
-
-    fn put_rest(&mut self) -> Result<(), NoMemory>
-        requires { IsSound self.old }
-        ensures sound { OnOk result (IsSound self.new) }
-        ensures body { OnOk result (self.new.body.items ≡ body_with self.old []) }
-        ensures count { OnOk result (self.new.before ≡ count_so_far self.old) }
-    {
-        if self.group.is_empty() {
-            return Ok(());
-        }
-        self.put_group()
-    }
-
-    /// The bytes of all batches, and how many records they have.
-    pub fn finish(mut self) -> Result<(Vec<u8>, usize), NoMemory>
-        requires { IsSound self }
-        ensures bytes { IfOk result (λ x. x.0.items ≡ body_with self []) }
-        ensures count { IfOk result (λ x. x.1 ≡ count_so_far self) }
-        ensures small { IfOk result (λ x. x.1 < 2 ^ 63) }
-    {
-        self.put_rest()?;
-        let BatchWriter { before, body, .. } = self;
-        Ok((body, before))
-    }
+    ghost invariant = { λ w. IsUnderway w.count w.done };
 }
 
-fn batch_of(before: usize, body: &Vec<u8>, group: Vec<Item>) -> Batch
-    requires { before ≤ length body.now.items }
-    ensures { result ≡ batch_of_group before group.items }
+fn item_of(value: Record) -> Item
+    ensures { result ≡ items.Record value }
+{
+    Item::Record(value)
+}
+
+// Copies of the records, as items of a log.
+fn items_of(alloc: Global, records: &Records) -> Result<Items, NoMemory>
+    ensures { IfOk result (λ items. items ≡ as_items records.now) }
+{
+    let copies = records.copied(alloc)?.into_vec();
+    let items = copies
+        .into_iter()
+        .map(|value| item_of(value))
+        .collect(alloc)?;
+    Ok(Rows::from_vec(items))
+}
+
+// The batch of these items, with so many records before it.
+fn batch_behind(done: u64, items: Items) -> Batch
+    requires { done < 2 ^ 63 }
+    ensures { result ≡ batch_of_group done items }
 {
     Batch {
-        base: before as i64,
+        base: done as i64,
         epoch: 0,
         time: 0,
-        items: Items::from_vec(group),
+        items,
+    }
+}
+
+impl Writer {
+    /// Begins an image under an offset, of so many records: appends its head. Without memory nothing is appended.
+    #[tactic(auto, using(crate::proofs::Written::new))]
+    pub fn new(
+        alloc: Global,
+        offset: i64,
+        count: i64,
+        out: &mut Vec<u8>,
+    ) -> Result<Writer, NoMemory>
+        requires offset { pos 0 ≤ℤ offset }
+        requires count { pos 0 ≤ℤ count }
+        ensures ok { OnOk result (out.new.items ≡ out.old.items ++ image_head offset count) }
+        ensures err { OnErr result (out.new.items ≡ out.old.items) }
+        ensures count { IfOk result (λ w. pos w.count ≡ count) }
+        ensures done { IfOk result (λ w. w.done ≡ 0) }
+    {
+        let mut head = Vec::new(alloc);
+        put_head(offset, count, &mut head)?;
+        out.extend_from_slice(&head)?;
+        Ok(Writer {
+            count: count.unsigned_abs(),
+            done: 0,
+        })
+    }
+
+    /// Appends a batch of the records that come next: 1,000, or the last 1 to 999. Without memory nothing has changed.
+    #[tactic(auto, using(crate::proofs::Written::put_on))]
+    pub fn put(&mut self, records: &Records, out: &mut Vec<u8>) -> Result<(), NoMemory>
+        requires { MayPut self.old records.now }
+        ensures ok { OnOk result (out.new.items ≡ out.old.items ++ put_bytes self.old records.now) }
+        ensures state { OnOk result (self.new ≡ after_put self.old records.now) }
+        ensures err { OnErr result (out.new.items ≡ out.old.items) }
+        ensures same { OnErr result (self.new ≡ self.old) }
+        // With the records that were put, what is appended is the text of the image as far as these records.
+        ensures text { IsNextText self.old records.now (put_bytes self.old records.now) }
+    {
+        let items = items_of(*out.allocator(), records)?;
+        let batch = batch_behind(self.done, items);
+        encode(&batch, out)?;
+        self.done += records.len() as u64;
+        Ok(())
     }
 }

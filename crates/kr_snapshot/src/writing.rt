@@ -11,9 +11,9 @@ ghost use Rattle.kr_snapshot.specs.inner.Writer.{Adds, MayAdd};
 ghost use Rattle.kr_snapshot.specs.ImageText.{batches_bytes, chunks, image_head, image_text};
 ghost use Rattle.kr_snapshot.specs.declared.fault.SnapFault.TheVariants as faults;
 
+use crate::batch_writer::BatchWriter;
 use crate::fault::SnapFault;
 use crate::walking::{put_brokers, put_configs, put_features, put_topics};
-use crate::writer::BatchWriter;
 use kr_base::NoMemory;
 use kr_store::{At, Seen, Store};
 use kr_wire::{put_both, put_i64};
@@ -47,12 +47,12 @@ fn batches<S: Store>(alloc: Global, seen: &Seen<S>) -> Result<(Vec<u8>, usize), 
     writer.finish()
 }
 
-fn put_head(offset: i64, count: usize, out: &mut Vec<u8>) -> Result<(), AllocError>
-    requires { count < 2 ^ 63 }
+/// Appends the head; without memory perhaps a part of it.
+pub(crate) fn put_head(offset: i64, count: i64, out: &mut Vec<u8>) -> Result<(), AllocError>
     ensures { OnOk result (out.new.items ≡ out.old.items ++ image_head offset count) }
 {
     put_i64(out, offset)?;
-    put_i64(out, count as i64)
+    put_i64(out, count)
 }
 
 #[tactic(auto, unfolding(crate::specs::ImageText::image_text))]
@@ -69,7 +69,7 @@ fn put_image<S: Store>(
 {
     let (body, count) = batches(alloc, seen)?;
     let mut head = Vec::new(alloc);
-    put_head(offset, count, &mut head)?;
+    put_head(offset, count as i64, &mut head)?;
     put_both(out, &head, &body)?;
     Ok(())
 }

@@ -66,12 +66,17 @@ fn run_over(alloc: Global, words: &[&str], bytes: Vec<u8>, setup: Setup) -> Resu
 
 #[test]
 fn other_words(rt: HostRuntime) -> Result<(), Fail> {
-    let lists: [&[&str]; 5] = [
+    let lists: [&[&str]; 10] = [
         &[],
         &["sessions"],
         &["Session"],
         &["session", "session"],
         &["make"],
+        &["make", "01"],
+        &["make", "4294967296"],
+        &["make", "+1"],
+        &["make", ""],
+        &["make", "1", "1"],
     ];
     for words in lists {
         let ran = run_words(rt.alloc(), words, WHOLE)?;
@@ -159,5 +164,15 @@ fn a_log_is_folded_and_its_image_dumped(rt: HostRuntime) -> Result<(), Fail> {
     let dumped = run_over(alloc, &["dump"], image, WHOLE)?;
     assert_eq!(rt; dumped.status, Status::Done);
     assert_eq!(rt; dumped.output.written(), TEXT.as_bytes());
+    Ok(())
+}
+
+#[test]
+fn the_session_of_a_number_twice(rt: HostRuntime) -> Result<(), Fail> {
+    let first = run_words(rt.alloc(), &["make", "1"], WHOLE)?;
+    let second = run_words(rt.alloc(), &["make", "1"], WHOLE)?;
+    assert_eq!(rt; (first.status, second.status), (Status::Done, Status::Done));
+    assert!(rt; first.output.written().starts_with(b"events "));
+    assert_eq!(rt; first.output.written(), second.output.written());
     Ok(())
 }

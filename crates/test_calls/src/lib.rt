@@ -18,4 +18,6 @@ mod rounds;
 #[cfg(test)]
 mod sessions;
 #[cfg(test)]
+mod summaries;
+#[cfg(test)]
 mod timelines;

@@ -46,17 +46,21 @@ impl Signs {
 #[derive(Drop)]
 pub(crate) struct TellingQuorum<'a> {
     pub kept: MemoryQuorum,
+    // It tells no end, so that nothing is committed.
+    is_silent: bool,
     signs: &'a Signs,
 }
 
 impl TellingQuorum<'_> {
-    // The appends of the listed numbers fail.
+    // The appends of the listed numbers fail. Where there are some, nothing is committed.
     pub(crate) fn new(
         alloc: Global,
         failing: Vec<u64>,
         signs: &Signs,
     ) -> Result<TellingQuorum<'_>, NoMemory> {
+        let is_silent = !failing.is_empty();
         Ok(TellingQuorum {
+            is_silent,
             kept: MemoryQuorum::new(alloc, 1_000_000, 4_000, failing)?,
             signs,
         })
@@ -72,7 +76,9 @@ impl Quorum for TellingQuorum<'_> {
 
     fn append(&mut self, bytes: &[u8]) -> Result<(), Failed> {
         self.kept.append(bytes)?;
-        self.signs.end.store(end_after(bytes), Ordering::SeqCst);
+        if !self.is_silent {
+            self.signs.end.store(end_after(bytes), Ordering::SeqCst);
+        }
         Ok(())
     }
 

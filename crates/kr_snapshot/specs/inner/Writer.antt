@@ -11,7 +11,7 @@ use Rattle.kr_record.specs.RecordRanges.{IsHeld}
 use Rattle.kr_record.specs.Spelling.{record_value}
 use Rattle.kr_batch.specs.BatchBytes.{batch_bytes}
 use Rattle.kr_snapshot.specs.ImageText.{batch_of_group, chunks, batches_bytes}
-use Rattle.kr_snapshot.specs.declared.writer.BatchWriter.{BatchWriter}
+use Rattle.kr_snapshot.specs.declared.batch_writer.BatchWriter.{BatchWriter}
 
 -- the text of a setting, which is limited over all settings of an image
 abbrev pub setting_text : Record → ℕ

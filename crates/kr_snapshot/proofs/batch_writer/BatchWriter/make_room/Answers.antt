@@ -2,7 +2,7 @@ use Rattle.std.proofs.Common.{◌≡◌, length, arith}
 use Rattle.std.proofs.lemmas.Result.{on_ok_weaker}
 use Rattle.kr_defs.specs.declared.limits.TheConstants.{IMAGE_BATCH}
 use Rattle.kr_snapshot.proofs.Groups.{put_room, put_count, put_text, put_full}
-use Rattle.kr_snapshot.proofs.writer.BatchWriter.make_room.Goals as goal
+use Rattle.kr_snapshot.proofs.batch_writer.BatchWriter.make_room.Goals as goal
 
 pub returns-clause-sound : goal.returns-clause-sound
 returns-clause-sound c = on_ok_weaker c.put_group.result (λ puts. puts.sound) c.put_group.ensures

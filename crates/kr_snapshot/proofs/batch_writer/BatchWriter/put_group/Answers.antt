@@ -2,7 +2,7 @@ use Rattle.std.proofs.Common.{rules, ◌≡◌, ◌++◌, length}
 use Rattle.kr_batch.specs.BatchBytes.{batch_bytes}
 use Rattle.kr_snapshot.specs.ImageText.{batch_of_group}
 use Rattle.kr_snapshot.proofs.Groups.{group_behind, sound_empty}
-use Rattle.kr_snapshot.proofs.writer.BatchWriter.put_group.Goals as goal
+use Rattle.kr_snapshot.proofs.batch_writer.BatchWriter.put_group.Goals as goal
 
 pub returns : goal.returns
 returns c =

@@ -2,7 +2,7 @@ use Rattle.std.proofs.Common.{◌≤◌, length, arith}
 use Rattle.std.proofs.lemmas.Bool.Decides.{nat_tests}
 use Rattle.std.proofs.lemmas.Result.{on_ok_weaker}
 use Rattle.kr_snapshot.proofs.Groups.{put_last}
-use Rattle.kr_snapshot.proofs.writer.BatchWriter.put_rest.Goals as goal
+use Rattle.kr_snapshot.proofs.batch_writer.BatchWriter.put_rest.Goals as goal
 
 pub returns-clause-sound : goal.returns-clause-sound
 returns-clause-sound c = on_ok_weaker c.put_group.result (λ puts. puts.sound) c.put_group.ensures

@@ -1,6 +1,6 @@
 use Rattle.std.proofs.Common.{refl}
 use Rattle.kr_snapshot.proofs.Groups.{push_adds}
-use Rattle.kr_snapshot.proofs.writer.BatchWriter.push.Goals as goal
+use Rattle.kr_snapshot.proofs.batch_writer.BatchWriter.push.Goals as goal
 
 pub returns : goal.returns
 returns c =

@@ -1,4 +1,4 @@
-//! What comes of sessions.
+//! What comes of the session of a number.
 
 use kr_make::{Summary, make, summary_text};
 use std::test::Fail;
