@@ -1,8 +1,10 @@
 //! What comes in from the quorum.
 
 use crate::events::{link_event, push, stop};
+use crate::link_images::{ImageFault, LinkImages};
 use crate::watched::WatchedSource;
 use kr_base::{NoMemory, ReadSource, Source};
+use kr_calls::Event;
 use kr_shared::LinkSeat;
 use kr_stream::{Frame, Reader, StreamFault};
 use std::alloc::Global;
@@ -21,20 +23,27 @@ enum LinkEnd {
     Closed,
     // A frame came that is no event of a link.
     Misplaced,
+    // No image was sent that was asked for.
+    NoImage(ImageFault),
     // No frame was read.
     Fault(StreamFault),
 }
 
-// Pushes one event after the other, until the link ends.
-fn push_all<R: Wait + time::Clock, S: Source>(
+// Pushes one event after the other, and sends the images that are asked for, until the link ends.
+fn push_all<R: Wait + time::Clock + Copy, S: Source>(
     rt: &R,
     alloc: Global,
     source: &mut WatchedSource<S>,
     link: &mut LinkSeat,
+    images: &mut LinkImages<R>,
 ) -> LinkEnd {
     let mut frames = Reader::link(alloc);
     for _ in rt.forever() {
         match frames.next(source) {
+            Ok(Frame::Event(Event::Image)) => match images.send(rt) {
+                Ok(()) => {}
+                Err(fault) => return LinkEnd::NoImage(fault),
+            },
             Ok(Frame::Event(event)) => match link_event(event) {
                 Some(event) => push(rt, link, event),
                 None => return LinkEnd::Misplaced,
@@ -56,32 +65,37 @@ fn tell<R: Eprint>(rt: &R, end: LinkEnd) {
         LinkEnd::Misplaced => {
             eprintln!(rt; "kr_daemon: the link ended: a frame came that is no event of a link")
         }
+        LinkEnd::NoImage(fault) => eprintln!(rt; "kr_daemon: the link ended: {fault}"),
         LinkEnd::Fault(fault) => eprintln!(rt; "kr_daemon: the link ended: {fault}"),
     };
 }
 
 // Takes the quorum's events until the link ends, and then stops the worker.
-fn take_all<R: Wait + Eprint + time::Clock>(
+fn take_all<R: Wait + Eprint + time::Clock + Copy>(
     rt: &R,
     alloc: Global,
     stream: TcpStream,
     link: LinkSeat,
+    images: LinkImages<R>,
 ) {
     let mut link = link;
+    let mut images = images;
     let mut source = WatchedSource::new(ReadSource::new(stream));
-    let end = push_all(rt, alloc, &mut source, &mut link);
+    let end = push_all(rt, alloc, &mut source, &mut link, &mut images);
     tell(rt, end);
     stop(rt, &mut link);
 }
 
-/// A thread that takes the quorum's events from the stream and pushes them, until the link ends; then it stops the worker.
+/// A thread that takes the quorum's events from the stream and pushes them, and sends the images that it asks for, until the
+/// link ends; then it stops the worker.
 pub fn spawn_link<R: Threads + Wait + Eprint + time::Clock + Send + Copy + 'static>(
     rt: R,
     alloc: Global,
     stream: TcpStream,
     link: LinkSeat,
+    images: LinkImages<R>,
 ) -> Result<JoinHandle<()>, NoMemory> {
-    match thread::spawn(&rt, move || take_all(&rt, alloc, stream, link)) {
+    match thread::spawn(&rt, move || take_all(&rt, alloc, stream, link, images)) {
         Ok(thread) => Ok(thread),
         Err(_) => Err(NoMemory),
     }
