@@ -1,45 +1,30 @@
 """A network between a link and the members of etcd that can be cut, or hold back what the link sends: for torture."""
-import socket
 import threading
 import time
+
+from between import Between, shut
 
 LINGER = 5.0             # seconds for which a member's answer is waited for that nobody takes any more
 
 
-def shut(one):
-    try:
-        one.shutdown(socket.SHUT_RDWR)
-    except OSError:
-        pass
-
-
-class Relay:
+class Relay(Between):
     """One way to one member."""
 
     def __init__(self, member):
         self.member, self.is_cut, self.flows = member, False, threading.Event()
         self.flows.set()
         self.open = []
-        self.server = socket.create_server(("127.0.0.1", 0))
-        self.address = f"127.0.0.1:{self.server.getsockname()[1]}"
-        threading.Thread(target=self._accept, daemon=True).start()
+        super().__init__()
 
-    def _accept(self):
-        while True:
-            near, _ = self.server.accept()
-            host, _, port = self.member.rpartition(":")
-            try:
-                if self.is_cut:
-                    raise OSError("the network is cut")
-                far = socket.create_connection((host, int(port)))
-            except OSError:
-                near.close()
-                continue
-            self.open = [pair for pair in self.open if pair[0].fileno() >= 0] + [(near, far)]
-            for one in (near, far):
-                one.setsockopt(socket.IPPROTO_TCP, socket.TCP_NODELAY, 1)
-            threading.Thread(target=self._send, args=(near, far), daemon=True).start()
-            threading.Thread(target=self._answer, args=(near, far), daemon=True).start()
+    def other(self):
+        if self.is_cut:
+            raise OSError("the network is cut")
+        return self.member
+
+    def join(self, near, far):
+        self.open = [pair for pair in self.open if pair[0].fileno() >= 0] + [(near, far)]
+        threading.Thread(target=self._send, args=(near, far), daemon=True).start()
+        threading.Thread(target=self._answer, args=(near, far), daemon=True).start()
 
     def _send(self, near, far):
         """What the link sends goes on once it flows, even where the link is gone by then."""

@@ -3,13 +3,13 @@
 A daemon's committed log is what its link handed in by Batch, and what it wrote itself and its link committed."""
 import collections
 import hashlib
-import socket
 import struct
 import threading
 import time
 from typing import NamedTuple
 
 from batches import span
+from between import Between, shut
 
 LEAD, COMMIT, LOST, BATCH, LOAD = 2, 3, 4, 5, 6
 APPEND, REFUSED = 0x81, 0x83
@@ -94,30 +94,23 @@ class Life:
             self.faults.append(f"it was to lead from {start} where its log ended at {self.end}")
 
 
-class Tape:
+class Tape(Between):
     """Where a node's daemon connects to in its link's place: passes each frame on, once it is kept."""
 
     def __init__(self, node):
         self.node, self.lives = node, []
         self.at = {}                                         # what to call before the next frame of a kind goes to the daemon, once
-        self.server = socket.create_server(("127.0.0.1", 0))
-        node.dial = f"127.0.0.1:{self.server.getsockname()[1]}"
-        threading.Thread(target=self._accept, daemon=True).start()
+        super().__init__()
+        node.dial = self.address
 
-    def _accept(self):
-        while True:
-            daemon, _ = self.server.accept()
-            host, _, port = self.node.link_address.rpartition(":")
-            try:
-                link = socket.create_connection((host, int(port)))
-            except OSError:
-                daemon.close()
-                continue
-            life = Life(self.node.number)
-            self.lives.append(life)
-            for words in ((link, daemon, life, True), (daemon, link, life, False)):
-                words[0].setsockopt(socket.IPPROTO_TCP, socket.TCP_NODELAY, 1)
-                threading.Thread(target=self._pass_on, args=words, daemon=True).start()
+    def other(self):
+        return self.node.link_address
+
+    def join(self, daemon, link):
+        life = Life(self.node.number)
+        self.lives.append(life)
+        for words in ((link, daemon, life, True), (daemon, link, life, False)):
+            threading.Thread(target=self._pass_on, args=words, daemon=True).start()
 
     def _keep(self, life, is_inward, kind, body):
         """Whether the frame goes on: what is called before may say that it doesn't."""
@@ -138,11 +131,8 @@ class Tape:
         except (OSError, ValueError):
             pass
         life.over = True
-        for one in (source, sink):
-            try:
-                one.shutdown(socket.SHUT_RDWR)
-            except OSError:
-                pass
+        shut(source)
+        shut(sink)
 
     def now(self):
         """The daemon that is connected, None where none is."""
