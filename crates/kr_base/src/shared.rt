@@ -1,6 +1,6 @@
 //! A value that many hold, and that none changes.
 
-ghost use Rattle.std.specs.Prelude.{◌≡◌, IfOk};
+ghost use Rattle.std.specs.Prelude.{◌≡◌, IfErr, IfOk};
 
 use std::alloc::{AllocError, AllocFailed, Global};
 use std::marker::Model;
@@ -26,11 +26,13 @@ impl<T> Model for Shared<T> {
 impl<T> Shared<T> {
     /// Takes the value. It comes back where there is no memory.
     pub fn new(alloc: Global, value: T) -> Result<Shared<T>, AllocFailed<T>>
-        ensures { IfOk result (λ shared. shared ≡ value) }
+        ensures ok { IfOk result (λ shared. shared ≡ value) }
+        ensures err { IfErr result (λ failed. failed.value ≡ value) }
     {
-        Ok(Shared {
-            held: Arc::new(alloc, value)?,
-        })
+        match Arc::new(alloc, value) {
+            Ok(held) => Ok(Shared { held }),
+            Err(failed) => Err(failed),
+        }
     }
 
     /// The value.

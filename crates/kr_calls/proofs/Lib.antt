@@ -3,6 +3,7 @@ pub mod BrokersLeft
 mod Cluster
 mod ConfigExamples
 pub mod CountedItems
+pub mod KeptPlaces
 pub mod DecisionMeanings
 mod ErrorExamples
 pub mod KeptByRequests

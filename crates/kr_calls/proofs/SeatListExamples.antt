@@ -1,5 +1,6 @@
--- What lists of entries say, by computation: an image, items out of place and without meaning, the answers of a seat, a stop.
-use Rattle.std.specs.Prelude.{◌≡◌, ℕ, ℤ, pos, negsuc, List, [], ◌∷◌, Option, Some, None, codes}
+-- What lists of entries say, by computation: an image, items out of place and without meaning, kept places, what a seat is
+-- told, a stop.
+use Rattle.std.specs.Prelude.{◌≡◌, ℕ, ℤ, pos, negsuc, true, false, List, [], ◌∷◌, ◌++◌, Option, Some, None, codes}
 use Rattle.std.proofs.Common.{refl}
 use Rattle.kr_defs.specs.declared.record.Item.TheVariants as items
 use Rattle.kr_defs.specs.declared.record.Record.{Record}
@@ -10,7 +11,9 @@ use Rattle.kr_calls.specs.declared.answers.Answer.{Answer}
 use Rattle.kr_calls.specs.declared.answers.AnswerKind.TheVariants as answer_kinds
 use Rattle.kr_calls.specs.declared.events.Entry.{Entry}
 use Rattle.kr_calls.specs.declared.events.Entry.TheVariants as entries
-use Rattle.kr_calls.specs.SeatList.{Reached, image_below, last_of, nothing_reached, reached, stop_of}
+use Rattle.kr_calls.specs.declared.pins.Pin.{Pin}
+use Rattle.kr_calls.specs.declared.seat_entry.SeatEntry.TheVariants as told
+use Rattle.kr_calls.specs.SeatList.{Reached, image_below, is_kept_in, last_of, loads_of, nothing_reached, oldest_of, pins_of, reached, stop_of}
 
 -- ---- the log
 
@@ -81,7 +84,67 @@ below_the_image : image_below (pos 4) (item (pos 0) (pos 7) ∷ entries.Load (po
 unfolding apply apply_record
 below_the_image = refl
 
--- ---- answers and stops
+-- ---- pins
+
+abbrev pin : ℕ → ℕ → ℤ → Pin
+pin seat ticket place = record { seat = seat; ticket = ticket; place = place }
+
+-- seats 1 and 2 keep the place 1, with its image, and seat 1 gives it back
+abbrev two_pins : List Entry
+two_pins = item (pos 0) (pos 7) ∷ entries.Pin (pin 1 3 (pos 1)) ∷ entries.Pin (pin 2 1 (pos 1)) ∷ item (pos 1) (pos 8) ∷ []
+
+abbrev unpinned : ℕ → ℤ → Entry
+unpinned seat place = entries.Unpin (pin seat 9 place)
+
+both_keep : pins_of two_pins ≡ pin 1 3 (pos 1) ∷ pin 2 1 (pos 1) ∷ []
+unfolding apply apply_record
+both_keep = refl
+
+kept_image : image_below (pos 1) two_pins ≡ levels (pos 7)
+unfolding apply apply_record
+kept_image = refl
+
+oldest : oldest_of two_pins ≡ pos 1
+unfolding apply apply_record
+oldest = refl
+
+between : is_kept_in (two_pins ++ item (pos 2) (pos 9) ∷ []) (pos 2) ≡ false
+unfolding apply apply_record
+between = refl
+
+end_is_kept : is_kept_in two_pins (pos 2) ≡ true
+unfolding apply apply_record
+end_is_kept = refl
+
+-- the place stays while one seat keeps it
+one_gives_back : pins_of (two_pins ++ unpinned 1 (pos 1) ∷ []) ≡ pin 2 1 (pos 1) ∷ []
+unfolding apply apply_record
+one_gives_back = refl
+
+both_give_back : oldest_of (two_pins ++ unpinned 1 (pos 1) ∷ unpinned 2 (pos 1) ∷ []) ≡ pos 2
+unfolding apply apply_record
+both_give_back = refl
+
+another_place : pins_of (two_pins ++ unpinned 1 (pos 2) ∷ []) ≡ pins_of two_pins
+unfolding apply apply_record
+another_place = refl
+
+-- a pin that is there adds nothing, nor one that isn't at the end
+pinned_twice : pins_of (entries.Pin (pin 1 3 (pos 0)) ∷ entries.Pin (pin 1 4 (pos 0)) ∷ []) ≡ pin 1 3 (pos 0) ∷ []
+pinned_twice = refl
+
+not_at_the_end : pins_of (item (pos 0) (pos 7) ∷ entries.Pin (pin 1 3 (pos 0)) ∷ []) ≡ []
+unfolding apply apply_record
+not_at_the_end = refl
+
+load_unpins : pins_of (two_pins ++ entries.Load (pos 5) [] ∷ []) ≡ []
+unfolding apply apply_record
+load_unpins = refl
+
+loads : loads_of (item (pos 0) (pos 7) ∷ entries.Load (pos 5) [] ∷ unpinned 1 (pos 0) ∷ entries.Load (pos 5) [] ∷ []) ≡ 2
+loads = refl
+
+-- ---- what seats are told, and stops
 
 abbrev answer : ℕ → ℕ → ℤ → Answer
 answer seat ticket place = record { seat = seat; ticket = ticket; place = place; kind = answer_kinds.Ahead; answered = None }
@@ -95,15 +158,22 @@ unanswered : last_of 1 (entries.Answer (answer 2 3 (pos 0)) ∷ item (pos 0) (po
 unanswered = refl
 
 -- of two answers of one ticket the second is the last
-one_ticket_twice : last_of 1 (entries.Answer (answer 1 3 (pos 0)) ∷ entries.Answer (answer 1 3 (pos 9)) ∷ []) ≡ Some (answer 1 3 (pos 9))
+one_ticket_twice : last_of 1 (entries.Answer (answer 1 3 (pos 0)) ∷ entries.Answer (answer 1 3 (pos 9)) ∷ []) ≡ Some (told.Answer (answer 1 3 (pos 9)))
 one_ticket_twice = refl
 
 -- one of a smaller ticket isn't, nor one of another seat
-smaller_ticket : last_of 1 (entries.Answer (answer 1 3 (pos 0)) ∷ entries.Answer (answer 1 2 (pos 9)) ∷ entries.Answer (answer 2 8 (pos 9)) ∷ []) ≡ Some (answer 1 3 (pos 0))
+smaller_ticket : last_of 1 (entries.Answer (answer 1 3 (pos 0)) ∷ entries.Answer (answer 1 2 (pos 9)) ∷ entries.Answer (answer 2 8 (pos 9)) ∷ []) ≡ Some (told.Answer (answer 1 3 (pos 0)))
 smaller_ticket = refl
 
-greater_ticket : last_of 1 (entries.Answer (answer 1 3 (pos 0)) ∷ entries.Answer (answer 1 4 (pos 9)) ∷ []) ≡ Some (answer 1 4 (pos 9))
+greater_ticket : last_of 1 (entries.Answer (answer 1 3 (pos 0)) ∷ entries.Answer (answer 1 4 (pos 9)) ∷ []) ≡ Some (told.Answer (answer 1 4 (pos 9)))
 greater_ticket = refl
+
+-- pins and unpins have tickets as answers have
+pinned_last : last_of 1 (entries.Answer (answer 1 3 (pos 0)) ∷ entries.Pin (pin 1 4 (pos 0)) ∷ entries.Unpin (pin 2 5 (pos 0)) ∷ []) ≡ Some (told.Pin (pin 1 4 (pos 0)))
+pinned_last = refl
+
+unpinned_last : last_of 2 (entries.Unpin (pin 2 5 (pos 0)) ∷ entries.Answer (answer 2 3 (pos 0)) ∷ []) ≡ Some (told.Unpin (pin 2 5 (pos 0)))
+unpinned_last = refl
 
 no_stop : stop_of (item (pos 0) (pos 7) ∷ entries.Answer (answer 1 3 (pos 0)) ∷ []) ≡ None
 no_stop = refl

@@ -1,4 +1,4 @@
--- Which answers are right in the entries before them. This project's own.
+-- Which answers and pins are right in the entries before them. This project's own.
 use Rattle.std.specs.Prelude.{◌≡◌, ◌+ℤ◌, ℤ, pos, int_lt, not, IsTrue, List, [], ◌∷◌, ◌++◌, length, MatchOption, Contains}
 use Rattle.kr_defs.specs.declared.options.Options.{Options}
 use Rattle.kr_defs.specs.declared.record.Record.{Record}
@@ -12,7 +12,7 @@ use Rattle.kr_calls.specs.declared.events.Entry.{Entry}
 use Rattle.kr_calls.specs.declared.events.Entry.TheVariants as entries
 use Rattle.kr_calls.specs.Decide.{Decision, decide}
 use Rattle.kr_calls.specs.Refuse.{refuse}
-use Rattle.kr_calls.specs.SeatList.{image_below}
+use Rattle.kr_calls.specs.SeatList.{end_of, image_below}
 
 -- the records stand one behind the other from the place on
 abbrev pub HaveRecords : List Entry → ℤ → List Record → Type 0
@@ -47,13 +47,16 @@ pub record IsTo (a : Answered) (answer : Answer) : Type 0 where
 abbrev pub IsRight : Options → List Entry → Answer → Type 0
 IsRight options before answer = MatchOption answer.answered (Unit {0}) (λ a. IsTo a answer × IsRightAs answer.kind options before a)
 
+-- a place is pinned at the end
 abbrev pub IsRightEntry : Options → List Entry → Entry → Type 0
 IsRightEntry options before (entries.Item place item) = Unit {0}
 IsRightEntry options before (entries.Load offset records) = Unit {0}
+IsRightEntry options before (entries.Pin pin) = pin.place ≡ end_of before
+IsRightEntry options before (entries.Unpin pin) = Unit {0}
 IsRightEntry options before (entries.Answer answer) = IsRight options before answer
 IsRightEntry options before (entries.Stop number) = Unit {0}
 
--- each answer in the entries is right in those before it
+-- each answer and each pin in the entries is right in those before it
 abbrev pub AreRightAfter : Options → List Entry → List Entry → Type 0
 AreRightAfter options before [] = Unit {0}
 AreRightAfter options before (e ∷ es) = IsRightEntry options before e × AreRightAfter options (before ++ e ∷ []) es

@@ -1,6 +1,6 @@
 //! What a controller is told, and what it gives out.
 
-use crate::{Answer, Ask, Reply};
+use crate::{Answer, Ask, Pin, Reply};
 use kr_defs::{Bytes, Ill, Item, Records};
 use thiserror::Error;
 
@@ -245,6 +245,16 @@ pub enum Entry {
         /// The image's records, in the order in which an image's text has them.
         records: Records,
     },
+    /// The end of the log is kept for a client, with its image.
+    Pin {
+        /// For which one, and which place that is.
+        pin: Pin,
+    },
+    /// A client gives a place back.
+    Unpin {
+        /// Which one, and which place.
+        pin: Pin,
+    },
     /// A client's write is answered.
     Answer {
         /// By this.
@@ -263,6 +273,8 @@ impl Drop for Entry {
         match self {
             Entry::Item { place, item } => {}
             Entry::Load { offset, records } => {}
+            Entry::Pin { pin } => {}
+            Entry::Unpin { pin } => {}
             Entry::Answer { answer } => {}
             Entry::Stop { number } => {}
         }

@@ -8,7 +8,7 @@ ghost use Rattle.kr_calls.specs.declared.calls.Request.{Request as AnyRequest};
 ghost use Rattle.kr_calls.specs.Decide.{work_of};
 ghost use Rattle.kr_calls.specs.Deciding.{HaveMeanings};
 ghost use Rattle.kr_calls.specs.NextBasisLaws.{OtherRequestsLeaveBrokers};
-ghost use Rattle.kr_calls.specs.SeatListLaws.{ItemsInOrderCount};
+ghost use Rattle.kr_calls.specs.SeatListLaws.{EndImages, ItemsInOrderCount, KeptImagesStay, PinImages, PinsStay};
 ghost use Rattle.kr_calls.specs.TakingOutLaws.{TakingOutIsNeverRefused, FencingIsNeverRefused, UnregisteringIsNeverRefused};
 
 /// Each record that a request gives has a meaning at its place, and the last one leaves the image of the decision.
@@ -34,4 +34,14 @@ pub fn other_requests_leave_brokers()
 #[tactic(auto, using(crate::proofs::CountedItems::all_count))]
 pub fn items_in_order_count()
     ensures { ItemsInOrderCount }
+{}
+
+/// What is kept of a list of entries is the image below its place, which stays while no image comes in place of all; and a pin
+/// stays until that, or its seat's unpin, comes.
+#[tactic(auto, using(crate::proofs::KeptPlaces::end_image, crate::proofs::KeptPlaces::pin_images, crate::proofs::KeptPlaces::images_stay, crate::proofs::KeptPlaces::pins_stay))]
+pub fn kept_places_stay()
+    ensures end { EndImages }
+    ensures pins { PinImages }
+    ensures images { KeptImagesStay }
+    ensures stay { PinsStay }
 {}

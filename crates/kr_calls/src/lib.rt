@@ -18,6 +18,8 @@ mod incremental_alter_configs;
 pub mod laws;
 mod list_partition_reassignments;
 mod metadata;
+mod pins;
+mod seat_entry;
 mod unregister_broker;
 
 pub use alter_partition::AlterPartition;
@@ -120,5 +122,7 @@ pub use metadata::MetadataRequestTopic;
 pub use metadata::MetadataRequestTopics;
 pub use metadata::MetadataTopic;
 pub use metadata::MetadataTopics;
+pub use pins::Pin;
+pub use seat_entry::SeatEntry;
 pub use unregister_broker::UnregisterBroker;
 pub use unregister_broker::UnregisterBrokerReply;

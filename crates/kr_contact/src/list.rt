@@ -41,6 +41,17 @@ impl ContactList {
         ContactList { alloc, ring: None }
     }
 
+    /// A list of the same contacts.
+    pub fn copied(&self) -> Result<ContactList, NoMemory>
+        ensures { IfOk result (λ list. list.contacts ≡ self.now.contacts) }
+    {
+        let ring = wider::<Brand>(self.alloc, &self.ring, self.len(), Blank::new(1))?;
+        Ok(ContactList {
+            alloc: self.alloc,
+            ring: Some(ring),
+        })
+    }
+
     /// How many brokers are contacts.
     pub fn len(&self) -> usize
         ensures { result ≡ length self.now.contacts }

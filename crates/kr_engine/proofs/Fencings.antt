@@ -1,6 +1,6 @@
 -- Brokers may be fenced, one after the other.
 use Rattle.std.proofs.Common.{◌≡◌, ◌∙◌, sym, subst, ℤ, pos, true, false, cond, ◌+◌, ◌*◌, ◌≤◌, List, [], ◌∷◌, ◌++◌, length, refl, ap, arith}
-use Rattle.std.specs.Prelude.{◌&&◌, ◌==◌, ◌+ℤ◌, ◌-ℤ◌, ◌≤ℤ◌, Option, Some, None, Ok, IsSome, IsTrue, int_lt, is_some, unsigned_abs}
+use Rattle.std.specs.Prelude.{◌&&◌, ◌==◌, ◌+ℤ◌, ◌-ℤ◌, ◌≤ℤ◌, Option, Some, None, Result, Ok, Err, OnErr, OnOk, IsSome, IsTrue, int_lt, is_some, unsigned_abs}
 use Rattle.std.specs.List.{list_all}
 use Rattle.std.specs.Option.{option_map_or}
 use Rattle.std.specs.Ordering.{int_cmp}
@@ -25,7 +25,7 @@ use Rattle.law_safety.proofs.FencingSizes.{fencings_fit}
 use Rattle.law_safety.specs.HearingLaws.{HearsOf}
 use Rattle.kr_store.specs.Images.{AreValid, IsAbove, marked}
 use Rattle.kr_world.specs.declared.writes.Write.{Write}
-use Rattle.kr_engine.specs.inner.Changes.{counted_core, timed_core}
+use Rattle.kr_engine.specs.inner.Changes.{BreaksOff, counted_core, timed_core}
 use Rattle.kr_world.specs.Engine.{Core, IsEngine, IsSound, IsStep, outputs_left}
 use Rattle.kr_world.specs.Entries.{item_entries}
 use Rattle.kr_world.specs.Events.{at_time_of}
@@ -41,8 +41,11 @@ use Rattle.kr_engine.proofs.FencingSteps.{fence_stands, fence_stays}
 use Rattle.kr_engine.proofs.ReadyEngines as engines_ready
 use Rattle.kr_world.proofs.StandingEngines.{same_image}
 use Rattle.kr_engine.proofs.TickSteps.{few_lapsed, tick_step, timed_engine}
+use Rattle.kr_world.proofs.LogEntries.{not_none}
 use Rattle.kr_world.proofs.Places.{near_enough}
+use Rattle.kr_world.proofs.Queues.{never}
 use Rattle.kr_engine.proofs.AppendSteps.{writes_by}
+use Rattle.kr_engine.proofs.Undoing.{adding_breaks, contacts_back, heard_breaks, images_break, same_breaks, written_then}
 
 -- ---- one
 
@@ -99,7 +102,7 @@ fences_by e between behind after broker records valid is meaning kept made calls
 pub fencing_low : (e between : Core) → IsReady e → between ≡ record e { images = between.images } → between.tip ≤ℤ PLACES_END
 fencing_low e between r same = subst (λ t. t ≤ℤ PLACES_END) (sym (ap (λ (a : Core). a.tip) same)) r.low
 
-pub ruleset fence = (fencing_fits, fencing_above, fencing_low, fences_by)
+pub ruleset fence = (fencing_fits, fencing_above, fencing_low, fences_by, images_break, adding_breaks)
 
 -- ---- the records
 
@@ -159,7 +162,11 @@ all_more e between after brokers broker others is first rest = subst (FencesAll 
 pub all_done : (e : Core) (brokers : List ℤ) → brokers ≡ [] → FencesAll e e brokers
 all_done e brokers is = subst (FencesAll e e) (sym is) refl
 
-pub ruleset fence_all = (one_valid, one_ready, then_can, all_more, all_done)
+pub more_breaks : {X E : Type 0} (result : Result X E) (e between after : Core) (broker : ℤ) → Fences e between broker → OnErr result (BreaksOff between (record after { heard = between.heard })) → OnErr result (BreaksOff e (record after { heard = e.heard }))
+more_breaks (Ok x) e between after broker f broken = tt
+more_breaks (Err fault) e between after broker f broken = written_then e between after (fencing_of e.options e.images.tip broker) f.writes f.held broken
+
+pub ruleset fence_all = (one_valid, one_ready, then_can, all_more, all_done, heard_breaks, more_breaks)
 
 -- ---- those whose session has ended
 
@@ -199,5 +206,18 @@ pub noted_step : (e noted core after : Core) (now : ℤ) → noted ≡ timed_cor
     → SettlesTick noted core (tick_reason noted) → after ≡ counted_core core → IsStep e after (events.Tick now)
 noted_step e noted core after now is drained valid are settles counts =
     tick_step e core after now drained valid are (subst (λ (before : Core). SettlesTick before core (tick_reason before)) is settles) counts
+
+pub lapsed_fenced : {X E : Type 0} (fenced : Result X E) (e between after : Core) (brokers : List ℤ) → OnOk fenced (FencesAll e between brokers) → OnOk fenced (after ≡ between) → OnOk fenced (FencesAll e after brokers)
+lapsed_fenced (Ok x) e between after brokers all same = subst (λ (a : Core). FencesAll e a brokers) (sym same) all
+lapsed_fenced (Err fault) e between after brokers all same = tt
+
+nobody_fenced : (e : Core) (brokers : List ℤ) → length brokers == 0 ≡ true → FencesAll e e brokers
+nobody_fenced e [] none = refl
+nobody_fenced e (broker ∷ brokers) none = absurd (never (sym (not_none (length brokers)) ∙ none))
+
+pub none_lapsed : (e : Core) (lapsed brokers : List ℤ) → lapsed ≡ brokers → true ≡ (length lapsed == 0) → FencesAll e e brokers
+none_lapsed e lapsed brokers is none = subst (FencesAll e e) is (nobody_fenced e lapsed (sym none))
+
+pub ruleset fence_lapsed = (lapsed_fenced, contacts_back, same_breaks, none_lapsed)
 
 pub ruleset tick = (can_lapse, ready_in_time)

@@ -1,6 +1,6 @@
 -- The committed image is given out.
 use Rattle.std.proofs.Common.{◌≡◌, ◌∙◌, sym, subst, ℤ, pos, List, [], ◌∷◌, ◌++◌, map, refl, ap}
-use Rattle.std.specs.Prelude.{Some, Result, Ok, Err, OnOk, unwrap_or, find, option_to_list}
+use Rattle.std.specs.Prelude.{Some, unwrap_or, find, option_to_list}
 use Rattle.std.specs.Ordering.{int_eq}
 use Rattle.kr_calls.specs.declared.events.Event.TheVariants as events
 use Rattle.kr_calls.specs.declared.events.Output.TheVariants as given
@@ -51,9 +51,6 @@ module _ (e : Core) (d : IsDrained e) where
 pub image_step : (e : Core) → outputs_left e ≡ [] → IsStep e (counted_core (core_after_image (cleared_core e))) events.Image
 image_step e none = step e (drained e none)
 
-pub image_so : (e after : Core) → outputs_left e ≡ [] → after ≡ counted_core (core_after_image (cleared_core e)) → IsStep e after events.Image
-image_so e stepped none is = subst (λ (a : Core). IsStep e a events.Image) (sym is) (image_step e none)
-
-pub image_ok : {X E : Type 0} (e after : Core) (r : Result X E) → outputs_left e ≡ [] → OnOk r (after ≡ counted_core (core_after_image (cleared_core e))) → OnOk r (IsStep e after events.Image)
-image_ok e stepped (Ok x) none is = image_so e stepped none is
-image_ok e stepped (Err fault) none is = tt
+pub image_so : (e begun between after : Core) → outputs_left e ≡ [] → begun ≡ cleared_core e → between ≡ core_after_image begun → after ≡ counted_core between → IsStep e after events.Image
+image_so e begun between stepped none begins gives counts =
+    subst (λ (a : Core). IsStep e a events.Image) (sym (counts ∙ ap counted_core (gives ∙ ap core_after_image begins))) (image_step e none)

@@ -19,7 +19,7 @@ use Rattle.law_safety.specs.HearingLaws.{HearsOf}
 use Rattle.law_safety.proofs.HearingRequests.{leaders_begin_hearing}
 use Rattle.kr_store.specs.Images.{marked}
 use Rattle.kr_world.specs.declared.writes.Write.{Write}
-use Rattle.kr_engine.specs.inner.Changes.{counted_core, timed_core, refused_core_or}
+use Rattle.kr_engine.specs.inner.Changes.{counted_core, timed_core, refused_core_or, Settles}
 use Rattle.kr_engine.specs.inner.Lead.{core_after_lead, lead_reason}
 use Rattle.kr_world.specs.Engine.{Core, IsEngine, IsState, IsStep, Rise, kept_image, outputs_left}
 use Rattle.kr_world.specs.Entries.{item_entries}
@@ -256,3 +256,10 @@ lead_step e epoch next now none =
     let event = events.Lead epoch next now in
     step_by e event d (core_after_lead (timed_core e event) epoch next) (same_options e epoch next now d (int_eq next e.committed)) (λ s. after_lead (at_time_of s event) epoch next) (lead_reason (timed_core e event) epoch next)
     (judged e epoch next now d) (allowed e epoch next now d)
+
+pub lead_so : (e begun between after : Core) (epoch next now : ℤ) → outputs_left e ≡ [] → begun ≡ timed_core e (events.Lead epoch next now)
+    → Settles begun between (lead_reason begun epoch next) (core_after_lead begun epoch next) → after ≡ counted_core between → IsStep e after (events.Lead epoch next now)
+lead_so e begun between stepped epoch next now none begins settles counts =
+    subst (λ (a : Core). IsStep e a (events.Lead epoch next now))
+    (sym (counts ∙ ap counted_core (settles ∙ ap (λ (b : Core). refused_core_or b (lead_reason b epoch next) (core_after_lead b epoch next)) begins)))
+    (lead_step e epoch next now none)

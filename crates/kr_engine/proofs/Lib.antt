@@ -17,3 +17,4 @@ pub mod RequestDecisions
 pub mod RequestSteps
 pub mod StandbyOutcomes
 pub mod TickSteps
+pub mod Undoing

@@ -1,6 +1,6 @@
 //! A leader's records are one batch at the tip of its log.
 
-ghost use Rattle.std.specs.Prelude.{◌≡◌, ◌+ℤ◌, ◌≤ℤ◌, ◌≤◌, ◌<◌, ◌^◌, ℤ, pos, length, All, IfOk, OnOk, IsTrue, int_lt};
+ghost use Rattle.std.specs.Prelude.{◌≡◌, ◌+ℤ◌, ◌≤ℤ◌, ◌≤◌, ◌<◌, ◌^◌, ℤ, pos, length, All, IfOk, OnOk, OnErr, IsTrue, int_lt};
 ghost use Rattle.kr_defs.specs.declared.limits.TheConstants.{MOST_RECORDS as most_records, PLACES_END as places_end};
 ghost use Rattle.kr_defs.specs.declared.record.Item.TheVariants as items;
 ghost use Rattle.kr_defs.specs.ImageLaws.{as_items};
@@ -10,6 +10,7 @@ ghost use Rattle.law_fitting.specs.Fitting.{FitsBatch};
 ghost use Rattle.kr_store.specs.Images.{IsAbove};
 ghost use Rattle.kr_world.specs.Reasons as reasons;
 ghost use Rattle.kr_engine.specs.inner.Append.{batch_at, core_after_append};
+ghost use Rattle.kr_engine.specs.inner.Changes.{GivesAlone};
 
 use crate::Engine;
 use kr_base::NoMemory;
@@ -93,7 +94,8 @@ impl Engine {
         requires low { self.old.tip ≤ℤ places_end }
         requires fits { FitsBatch records }
         requires above { (place : ℤ) → IsTrue (int_lt self.old.tip place) → IsAbove self.old.images.kept place }
-        ensures { OnOk result (self.new ≡ core_after_append self.old records) }
+        ensures appended { OnOk result (self.new ≡ core_after_append self.old records) }
+        ensures begun { OnErr result (GivesAlone self.old self.new) }
     {
         if records.is_empty() {
             return Ok(());

@@ -1,6 +1,6 @@
 //! A committed batch of another leader comes.
 
-ghost use Rattle.std.specs.Prelude.{◌≡◌, ◌≤◌, ◌≤ℤ◌, [], length, None, IfOk, OnOk};
+ghost use Rattle.std.specs.Prelude.{◌≡◌, ◌≤◌, ◌≤ℤ◌, [], length, None, IfOk, OnOk, OnErr};
 ghost use Rattle.std.specs.Result.{result_unwrap_or};
 ghost use Rattle.kr_defs.specs.declared.limits.TheConstants.{MOST_RECORDS as most_records, PLACES_END as places_end};
 ghost use Rattle.kr_defs.specs.Image.{empty};
@@ -10,7 +10,7 @@ ghost use Rattle.kr_calls.specs.declared.events.Event.TheVariants as events;
 ghost use Rattle.kr_store.specs.Images.{kept_once};
 ghost use Rattle.kr_store.specs.Images.{IsAbove};
 ghost use Rattle.kr_world.specs.Engine.{IsSound, IsStep, outputs_left};
-ghost use Rattle.kr_engine.specs.inner.Changes.{core_with_entries, core_at, Settles};
+ghost use Rattle.kr_engine.specs.inner.Changes.{core_with_entries, core_at, BreaksOff, Settles};
 ghost use Rattle.kr_world.specs.Entries.{item_entries};
 ghost use Rattle.kr_engine.specs.inner.Ready.{IsReady};
 ghost use Rattle.kr_world.specs.Batch.{end_of};
@@ -45,6 +45,7 @@ fn keep_alone<L: Ledger>(
 ) -> Result<(), NoMemory>
     requires above { IsAbove store.old.kept place.now }
     ensures kept { OnOk result (store.new ≡ kept_once place.now store.old.tip) }
+    ensures same { OnErr result (store.new ≡ store.old) }
     ensures later { steps.old ≤ steps.new }
 {
     let _valid = store.counts();
@@ -58,6 +59,7 @@ impl Engine {
     fn move_to<L: Ledger>(&mut self, place: &i64, steps: &mut Steps<L>) -> Result<(), NoMemory>
         requires above { IsAbove self.old.images.kept place.now }
         ensures moved { OnOk result (self.new ≡ core_at self.old place.now self.old.images.tip) }
+        ensures same { OnErr result (self.new ≡ self.old) }
         ensures later { steps.old ≤ steps.new }
     {
         keep_alone(&mut self.store, place, steps)?;
@@ -84,7 +86,7 @@ impl Engine {
     }
 
     // Each of the items has a meaning, or none stays.
-    #[tactic(auto, using(crate::proofs::BatchSteps::item_refused, crate::proofs::BatchSteps::items_taken, crate::proofs::BatchSteps::still_above, crate::proofs::BatchSteps::still_low))]
+    #[tactic(auto, using(crate::proofs::Undoing::images_break, crate::proofs::Undoing::adding_breaks, crate::proofs::Undoing::added_breaks, crate::proofs::BatchSteps::item_refused, crate::proofs::BatchSteps::items_taken, crate::proofs::BatchSteps::still_above, crate::proofs::BatchSteps::still_low))]
     fn take_items<L: Ledger>(
         &mut self,
         items: Items,
@@ -95,6 +97,7 @@ impl Engine {
         requires few { length items ≤ most_records }
         requires above { IsAbove self.old.images.kept end.now }
         ensures settled { OnOk result (Settles self.old self.new (items_reason (logs.first_ill self.old.images.tip self.old.tip items)) (core_at (core_with_entries self.old (item_entries self.old.tip items)) end.now (result_unwrap_or (logs.apply_all self.old.images.tip items) empty))) }
+        ensures broken { OnErr result (BreaksOff self.old self.new) }
         ensures later { steps.old ≤ steps.new }
     {
         match self.apply_items(&items, steps)? {
@@ -114,6 +117,7 @@ impl Engine {
         requires some { 1 ≤ length batch.items }
         requires few { length batch.items ≤ most_records }
         ensures settled { OnOk result (Settles self.old self.new (decoded_batch_reason self.old batch) (core_after_batch self.old batch)) }
+        ensures broken { OnErr result (BreaksOff self.old self.new) }
         ensures later { steps.old ≤ steps.new }
     {
         if batch.base != self.committed {
@@ -137,6 +141,7 @@ impl Engine {
     ) -> Result<(), NoMemory>
         requires ready { IsReady self.old }
         ensures settled { OnOk result (Settles self.old self.new (batch_reason self.old (batch_of bytes.now)) (core_after_read_batch self.old (batch_of bytes.now))) }
+        ensures broken { OnErr result (BreaksOff self.old self.new) }
         ensures later { steps.old ≤ steps.new }
     {
         if self.leading.is_some() {
@@ -154,20 +159,21 @@ impl Engine {
         }
     }
 
-    /// A committed record batch of another leader came. All outputs are handed out before. An engine that answered want of
-    /// memory may only be dropped.
+    /// A committed record batch of another leader came. All outputs are handed out before. After want of memory nothing has
+    /// changed.
     #[tactic(auto, using(crate::proofs::ReadyEngines::cleared_ready))]
     pub fn batch<L: Ledger>(&mut self, bytes: &Bytes, steps: &mut Steps<L>) -> Result<(), NoMemory>
         requires sound { IsSound self.old }
         requires drained { outputs_left self.old ≡ [] }
         ensures step { OnOk result (IsStep self.old self.new (events.Batch bytes.now)) }
-        ensures sound { OnOk result (IsSound self.new) }
+        ensures unchanged { OnErr result (self.new ≡ self.old) }
+        ensures sound { IsSound self.new }
         ensures later { steps.old ≤ steps.new }
     {
         self.look_over();
-        self.clear_fresh();
-        self.settle_batch(bytes, steps)?;
-        self.count_event();
-        Ok(())
+        let found = self.begin();
+        let settled = self.settle_batch(bytes, steps);
+        self.undo_images(&settled, &found, steps);
+        self.end(settled, found)
     }
 }

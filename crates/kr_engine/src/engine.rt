@@ -1,7 +1,6 @@
 //! The engine: what it keeps, what it tells, and how its outputs are handed out.
 
 ghost use Rattle.std.specs.Prelude.{◌≡◌, ◌++◌, [], ◌∷◌, option_to_list, IsTrue, IfOk, IfNone, Some};
-ghost use Rattle.std.specs.Int.{int_max};
 ghost use Rattle.kr_defs.specs.OpenOptions.{are_options};
 ghost use Rattle.kr_store.specs.Images.{AreValid};
 ghost use Rattle.kr_world.specs.Engine.{IsEngine, IsSound, basis_of, outputs_left};
@@ -217,15 +216,6 @@ impl Engine {
         ensures { self.new ≡ cleared_core self.old }
     {
         self.fresh.clear();
-    }
-
-    // An event comes at a time: the greatest time is at least this one, and nothing is added yet.
-    pub(crate) fn note_time(&mut self, now: &i64)
-        ensures { self.new ≡ record self.old { time = int_max self.old.time now.now; fresh = [] } }
-    {
-        self.fresh.clear();
-        let now = *now;
-        self.time = self.time.max(now);
     }
 
     pub(crate) fn count_event(&mut self)

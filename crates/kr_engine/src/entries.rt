@@ -1,9 +1,9 @@
 //! What an event adds to the log.
 
-ghost use Rattle.std.specs.Prelude.{◌≡◌, ◌++◌, ◌+ℤ◌, ◌≤◌, ◌≤ℤ◌, pos, length, OnOk};
+ghost use Rattle.std.specs.Prelude.{◌≡◌, ◌++◌, ◌+ℤ◌, ◌≤◌, ◌≤ℤ◌, pos, length, OnOk, OnErr};
 ghost use Rattle.kr_calls.specs.declared.events.Entry.TheVariants as entries;
 ghost use Rattle.kr_defs.specs.declared.limits.TheConstants.{MOST_RECORDS as most_records, PLACES_END as places_end};
-ghost use Rattle.kr_engine.specs.inner.Changes.{core_with_entries};
+ghost use Rattle.kr_engine.specs.inner.Changes.{core_with_entries, GivesAlone};
 ghost use Rattle.kr_world.specs.Entries.{item_entries};
 
 use crate::Engine;
@@ -70,7 +70,8 @@ impl Engine {
     pub(crate) fn add_items(&mut self, items: Items) -> Result<(), NoMemory>
         requires low { self.old.tip ≤ℤ places_end }
         requires few { length items ≤ most_records }
-        ensures { OnOk result (self.new ≡ core_with_entries self.old (item_entries self.old.tip items)) }
+        ensures added { OnOk result (self.new ≡ core_with_entries self.old (item_entries self.old.tip items)) }
+        ensures begun { OnErr result (GivesAlone self.old self.new) }
     {
         place_items(&mut self.fresh, &self.tip, items)
     }

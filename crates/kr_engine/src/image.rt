@@ -1,12 +1,12 @@
 //! The committed image is given out.
 
-ghost use Rattle.std.specs.Prelude.{◌≡◌, ◌≤ℤ◌, [], pos, unwrap_or, IfOk, OnOk};
+ghost use Rattle.std.specs.Prelude.{◌≡◌, ◌≤ℤ◌, [], pos, unwrap_or, IfOk, OnOk, OnErr};
 ghost use Rattle.kr_calls.specs.declared.events.Event.TheVariants as events;
 ghost use Rattle.kr_calls.specs.declared.events.Output.TheVariants as given;
 ghost use Rattle.kr_defs.specs.Image.{empty};
 ghost use Rattle.kr_snapshot.specs.ImageText.{image_text};
 ghost use Rattle.kr_store.specs.Images.{kept_at};
-ghost use Rattle.kr_engine.specs.inner.Changes.{counted_core, cleared_core};
+ghost use Rattle.kr_engine.specs.inner.Changes.{GivesAlone};
 ghost use Rattle.kr_engine.specs.inner.Image.{core_after_image};
 ghost use Rattle.kr_world.specs.Engine.{IsSound, IsStep, outputs_left};
 
@@ -33,26 +33,27 @@ impl Engine {
         }
     }
 
-    fn take_image(&mut self) -> Result<(), NoMemory>
+    fn settle_image(&mut self) -> Result<(), NoMemory>
         requires natural { pos 0 ≤ℤ self.old.committed }
-        ensures { OnOk result (self.new ≡ counted_core (core_after_image (cleared_core self.old))) }
+        ensures settled { OnOk result (self.new ≡ core_after_image self.old) }
+        ensures begun { OnErr result (GivesAlone self.old self.new) }
     {
-        self.clear_fresh();
         let output = self.image_output()?;
         self.given.push_back(output)?;
-        self.count_event();
         Ok(())
     }
 
-    /// The committed image is asked for. All outputs are handed out before. An engine that answered want of memory may only
-    /// be dropped.
+    /// The committed image is asked for. All outputs are handed out before. After want of memory nothing has changed.
     pub fn image(&mut self) -> Result<(), NoMemory>
         requires sound { IsSound self.old }
         requires drained { outputs_left self.old ≡ [] }
         ensures step { OnOk result (IsStep self.old self.new events.Image) }
-        ensures sound { OnOk result (IsSound self.new) }
+        ensures unchanged { OnErr result (self.new ≡ self.old) }
+        ensures sound { IsSound self.new }
     {
         self.look_over();
-        self.take_image()
+        let found = self.begin();
+        let settled = self.settle_image();
+        self.end(settled, found)
     }
 }

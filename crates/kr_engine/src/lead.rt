@@ -1,13 +1,13 @@
 //! The quorum makes this node the leader.
 
-ghost use Rattle.std.specs.Prelude.{◌≡◌, ◌≤ℤ◌, ◌+ℤ◌, ◌||◌, [], pos, not, IsTrue, IfOk, OnOk, false, None};
+ghost use Rattle.std.specs.Prelude.{◌≡◌, ◌≤ℤ◌, ◌+ℤ◌, ◌||◌, [], pos, not, IsTrue, IfOk, OnOk, OnErr, false, None};
 ghost use Rattle.std.specs.Ordering.{int_eq};
 ghost use Rattle.kr_defs.specs.declared.limits.TheConstants.{PLACES_END as places_end};
 ghost use Rattle.kr_calls.specs.declared.events.Event.TheVariants as events;
 ghost use Rattle.kr_defs.specs.Brokers as brokers;
 ghost use Rattle.kr_defs.specs.Heartbeats as hearing;
 ghost use Rattle.kr_store.specs.Images.{IsAbove};
-ghost use Rattle.kr_engine.specs.inner.Changes.{counted_core, refused_core_or};
+ghost use Rattle.kr_engine.specs.inner.Changes.{GivesAlone, Settles};
 ghost use Rattle.kr_engine.specs.inner.Lead.{core_after_lead, core_up_to, lead_reason};
 ghost use Rattle.kr_world.specs.Engine.{IsSound, IsStep, outputs_left};
 ghost use Rattle.kr_engine.specs.inner.Ready.{IsReady};
@@ -19,6 +19,7 @@ use crate::reasons::{already_leading, bad_next, exhausted, old_epoch};
 use kr_base::NoMemory;
 use kr_calls::Reason;
 use kr_defs::{Broker, Ids, Item};
+use kr_sessions::Sessions;
 use kr_store::{Seen, Store};
 use kr_walks::{BrokerTest, brokers_where};
 use std::alloc::Global;
@@ -96,7 +97,8 @@ impl Engine {
     // One place above the end stands an item of the quorum's own.
     fn take_control_item(&mut self, next: &i64) -> Result<(), NoMemory>
         requires above { int_eq next.now self.old.committed ≡ false → IsAbove self.old.images.kept next.now }
-        ensures { OnOk result (self.new ≡ core_up_to self.old next.now) }
+        ensures taken { OnOk result (self.new ≡ core_up_to self.old next.now) }
+        ensures begun { OnErr result (GivesAlone self.old self.new) }
     {
         if *next == self.committed {
             return Ok(());
@@ -109,23 +111,26 @@ impl Engine {
 
     // The unfenced brokers count as heard of now.
     #[tactic(auto, using(crate::proofs::FirstContacts::heard_of))]
-    fn hear_of_all(&mut self, next: &i64) -> Result<(), NoMemory>
-        ensures { OnOk result (self.new ≡ record self.old { heard = hearing.begin (brokers.unfenced self.old.images.tip) (brokers.stopping self.old.images.tip) self.old.time next.now }) }
+    fn all_heard(&self, next: &i64) -> Result<Sessions, NoMemory>
+        ensures { IfOk result (λ s. s.heartbeats ≡ hearing.begin (brokers.unfenced self.now.images.tip) (brokers.stopping self.now.images.tip) self.now.time next.now) }
     {
         self.look_at_images();
         let seen = Seen::tip(&self.store);
         let unfenced = unfenced_brokers(self.alloc, &seen)?;
         let stopping = stopping_brokers(self.alloc, &seen)?;
-        self.sessions.begin(&unfenced, &stopping, self.time, *next)?;
-        Ok(())
+        let mut sessions = Sessions::new(self.alloc);
+        sessions.begin(&unfenced, &stopping, self.time, *next)?;
+        Ok(sessions)
     }
 
     fn begin_leadership(&mut self, epoch: &i32, next: &i64) -> Result<(), NoMemory>
         requires above { int_eq next.now self.old.committed ≡ false → IsAbove self.old.images.kept next.now }
-        ensures { OnOk result (self.new ≡ core_after_lead self.old epoch.now next.now) }
+        ensures begins { OnOk result (self.new ≡ core_after_lead self.old epoch.now next.now) }
+        ensures begun { OnErr result (GivesAlone self.old self.new) }
     {
-        self.hear_of_all(next)?;
+        let sessions = self.all_heard(next)?;
         self.take_control_item(next)?;
+        self.sessions = sessions;
         self.leading = Some(*epoch);
         self.greatest = *epoch;
         self.led = *next;
@@ -133,29 +138,33 @@ impl Engine {
     }
 
     #[tactic(auto, using(crate::proofs::FirstContacts::begins_above))]
-    fn take_lead(&mut self, epoch: &i32, next: &i64) -> Result<(), NoMemory>
+    fn settle_lead(&mut self, epoch: &i32, next: &i64) -> Result<(), NoMemory>
         requires ready { IsReady self.old }
-        ensures { OnOk result (self.new ≡ counted_core (refused_core_or self.old (lead_reason self.old epoch.now next.now) (core_after_lead self.old epoch.now next.now))) }
+        ensures settled { OnOk result (Settles self.old self.new (lead_reason self.old epoch.now next.now) (core_after_lead self.old epoch.now next.now)) }
+        ensures begun { OnErr result (GivesAlone self.old self.new) }
     {
         match self.lead_reason(epoch, next) {
-            Some(reason) => self.refuse(reason),
-            None => self.begin_leadership(epoch, next)?,
+            Some(reason) => {
+                self.refuse(reason);
+                Ok(())
+            }
+            None => self.begin_leadership(epoch, next),
         }
-        self.count_event();
-        Ok(())
     }
 
-    /// The quorum made this node the leader of the log from a place on, in an epoch. All outputs are handed out before. An
-    /// engine that answered want of memory may only be dropped.
-    #[tactic(auto, using(crate::proofs::LeadSteps::lead_step, crate::proofs::ReadyEngines::ready_then))]
+    /// The quorum made this node the leader of the log from a place on, in an epoch. All outputs are handed out before. After
+    /// want of memory nothing has changed.
+    #[tactic(auto, using(crate::proofs::ReadyEngines::ready_then))]
     pub fn lead(&mut self, epoch: &i32, next: &i64, now: &i64) -> Result<(), NoMemory>
         requires sound { IsSound self.old }
         requires drained { outputs_left self.old ≡ [] }
         ensures step { OnOk result (IsStep self.old self.new (events.Lead epoch.now next.now now.now)) }
-        ensures sound { OnOk result (IsSound self.new) }
+        ensures unchanged { OnErr result (self.new ≡ self.old) }
+        ensures sound { IsSound self.new }
     {
         self.look_over();
-        self.note_time(now);
-        self.take_lead(epoch, next)
+        let found = self.begin_at(now);
+        let settled = self.settle_lead(epoch, next);
+        self.end(settled, found)
     }
 }

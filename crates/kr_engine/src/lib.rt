@@ -19,6 +19,7 @@ mod reasons;
 mod request;
 mod step;
 mod tick;
+mod undo;
 mod writes;
 
 pub use engine::Engine;

@@ -1,6 +1,6 @@
 //! A committed image comes in place of batches.
 
-ghost use Rattle.std.specs.Prelude.{◌≡◌, ◌∷◌, [], IfOk, OnOk};
+ghost use Rattle.std.specs.Prelude.{◌≡◌, ◌∷◌, [], IfOk, OnOk, OnErr};
 ghost use Rattle.kr_calls.specs.declared.events.Entry.TheVariants as entries;
 ghost use Rattle.kr_calls.specs.declared.events.Event.TheVariants as events;
 ghost use Rattle.kr_defs.specs.Records.{records_of};
@@ -8,7 +8,7 @@ ghost use Rattle.kr_snapshot.specs.ReaderState.{Restores};
 ghost use Rattle.kr_store.specs.Images.{kept_once};
 ghost use Rattle.kr_snapshot.specs.Reading.{image_of};
 ghost use Rattle.kr_world.specs.Engine.{IsSound, IsStep, outputs_left};
-ghost use Rattle.kr_engine.specs.inner.Changes.{core_with_entries, core_at, Settles};
+ghost use Rattle.kr_engine.specs.inner.Changes.{core_with_entries, core_at, GivesAlone, Settles};
 ghost use Rattle.kr_engine.specs.inner.Load.{core_after_read_image, decoded_image_reason, load_reason};
 
 use crate::Engine;
@@ -36,7 +36,8 @@ fn read_image(alloc: Global, bytes: &[u8]) -> Result<(i64, ImageStore), ImageFau
 impl Engine {
     // The image in place of all that was before.
     fn add_image(&mut self, offset: &i64, store: &ImageStore) -> Result<(), NoMemory>
-        ensures { OnOk result (self.new ≡ core_with_entries self.old (entries.Load offset.now (records_of store.now.tip) ∷ [])) }
+        ensures added { OnOk result (self.new ≡ core_with_entries self.old (entries.Load offset.now (records_of store.now.tip) ∷ [])) }
+        ensures begun { OnErr result (GivesAlone self.old self.new) }
     {
         let records = records_of(self.alloc, &Seen::tip(store))?;
         self.fresh.push(image_entry(offset, records))?;
@@ -46,7 +47,8 @@ impl Engine {
     // The image is the new start.
     fn load_image(&mut self, offset: &i64, store: ImageStore) -> Result<(), NoMemory>
         requires { store ≡ kept_once offset.now store.tip }
-        ensures { OnOk result (Settles self.old self.new (decoded_image_reason self.old offset.now) (core_at (core_with_entries self.old (entries.Load offset.now (records_of store.tip) ∷ [])) offset.now store.tip)) }
+        ensures settled { OnOk result (Settles self.old self.new (decoded_image_reason self.old offset.now) (core_at (core_with_entries self.old (entries.Load offset.now (records_of store.tip) ∷ [])) offset.now store.tip)) }
+        ensures begun { OnErr result (GivesAlone self.old self.new) }
     {
         if *offset < self.committed {
             let reason = older_image(offset, &self.committed);
@@ -65,7 +67,8 @@ impl Engine {
     }
 
     fn settle_load(&mut self, bytes: &Bytes) -> Result<(), NoMemory>
-        ensures { OnOk result (Settles self.old self.new (load_reason self.old (image_of bytes.now)) (core_after_read_image self.old (image_of bytes.now))) }
+        ensures settled { OnOk result (Settles self.old self.new (load_reason self.old (image_of bytes.now)) (core_after_read_image self.old (image_of bytes.now))) }
+        ensures begun { OnErr result (GivesAlone self.old self.new) }
     {
         if self.leading.is_some() {
             let reason = already_leading(&self.leading);
@@ -82,17 +85,17 @@ impl Engine {
         }
     }
 
-    /// A committed image came in place of batches. All outputs are handed out before. An engine that answered want of memory
-    /// may only be dropped.
+    /// A committed image came in place of batches. All outputs are handed out before. After want of memory nothing has
+    /// changed.
     pub fn load(&mut self, bytes: &Bytes) -> Result<(), NoMemory>
         requires sound { IsSound self.old }
         requires drained { outputs_left self.old ≡ [] }
         ensures step { OnOk result (IsStep self.old self.new (events.Load bytes.now)) }
-        ensures sound { OnOk result (IsSound self.new) }
+        ensures unchanged { OnErr result (self.new ≡ self.old) }
+        ensures sound { IsSound self.new }
     {
-        self.clear_fresh();
-        self.settle_load(bytes)?;
-        self.count_event();
-        Ok(())
+        let found = self.begin();
+        let settled = self.settle_load(bytes);
+        self.end(settled, found)
     }
 }

@@ -1,7 +1,10 @@
 //! A client's message comes.
 
-ghost use Rattle.std.specs.Prelude.{◌≡◌, ◌≤◌, ◌++◌, ◌∷◌, [], length, IfOk, OnOk, Ok};
+ghost use Rattle.std.specs.Prelude.{◌≡◌, ◌≤◌, ℤ, [], length, IfOk, OnOk, OnErr, Ok, IsSome, IsTrue};
+ghost use Rattle.kr_defs.specs.Heartbeats.{is_not_before, stopping_brokers};
+ghost use Rattle.kr_defs.specs.Ids.{has};
 ghost use Rattle.kr_calls.specs.Decide as rules;
+ghost use Rattle.kr_calls.specs.NextBasis.{broker_is_stopping, heartbeats_after};
 ghost use Rattle.kr_calls.specs.Refuse as refusals;
 ghost use Rattle.kr_calls.specs.declared.errors.TheConstants.{NOT_CONTROLLER as not_controller};
 ghost use Rattle.kr_defs.specs.declared.limits.TheConstants.{MOST_RECORDS as most_records};
@@ -11,19 +14,24 @@ ghost use Rattle.kr_calls.specs.declared.events.Output.TheVariants as given;
 ghost use Rattle.kr_world.specs.Engine.{IsSound, IsStep, outputs_left};
 ghost use Rattle.kr_world.specs.Outputs as outputs;
 ghost use Rattle.kr_engine.specs.inner.Ready.{IsReady};
-ghost use Rattle.kr_engine.specs.inner.Request.{core_with_output, is_led_write, reply_at_once, request_reason, write_with, SettlesRequest, TakesAsk, TakesCall, TakesWrite};
+ghost use Rattle.kr_store.specs.Images.{kept_at};
+ghost use Rattle.kr_engine.specs.inner.Changes.{BreaksOff};
+ghost use Rattle.kr_engine.specs.inner.Request.{core_holding, core_with_output, image_kept, is_led_write, reply_at_once, request_reason, SettlesRequest, TakesAsk, TakesCall, TakesWrite};
 
 use crate::Engine;
 use crate::append::led_epoch;
 use crate::places::{at_epoch, is_far};
 use crate::reasons::exhausted;
-use kr_base::{NoMemory, Steps};
+use kr_base::{NoEpoch, NoMemory, Steps};
+use kr_brokers::hear;
 use kr_calls::errors::{INVALID_REQUEST, NOT_CONTROLLER, UNSUPPORTED_VERSION};
 use kr_calls::{Ask, AskFault, Call, Effect, Output, Reason, Reply, Request};
 use kr_defs::{Basis, Records};
 use kr_handlers::read;
+use kr_image::ImageStore;
 use kr_rules::refuse;
-use kr_store::ReadFault;
+use kr_sessions::Sessions;
+use kr_store::{ReadFault, Seen};
 use kr_world::{Decided, Write};
 use std::alloc::Global;
 use std::sync::ledger::Ledger;
@@ -90,8 +98,39 @@ fn decided_at(place: &i64, records: &Records, basis: Basis) -> Decided
     }
 }
 
+// Whom is heard of after a request that was decided on the image kept under the place.
+fn hear_at(
+    sessions: &mut Sessions,
+    store: &ImageStore,
+    time: &i64,
+    decided: &Decided,
+    request: &Request,
+    reply: &Reply,
+)
+    requires kept { IsSome (kept_at store.now decided.now.place) }
+    requires time { IsTrue (is_not_before sessions.old.heartbeats time.now) }
+    requires contact_room { IsTrue sessions.old.contact_room }
+    requires stopping_room { IsTrue sessions.old.stopping_room }
+    requires among { (id : ℤ) → IsTrue (has (stopping_brokers sessions.old.heartbeats) id) → IsTrue (broker_is_stopping (image_kept store.now decided.now.place) id) }
+    ensures { sessions.new.heartbeats ≡ heartbeats_after sessions.old.heartbeats (image_kept store.now decided.now.place) store.now.tip time.now decided.now.place request.now reply.now }
+{
+    let after = Seen::tip(store);
+    match Seen::at(store, at_epoch(&decided.place)) {
+        Ok(before) => hear(
+            sessions,
+            &before,
+            &after,
+            *time,
+            decided.place,
+            request,
+            reply,
+        ),
+        Err(NoEpoch) => unreachable!(),
+    }
+}
+
 impl Engine {
-    // The reply waits until all that the write saw or made is committed.
+    // The reply waits until all that the write saw or made is committed, and whom is heard of is noted.
     fn hold_reply(
         &mut self,
         client: &u32,
@@ -100,9 +139,23 @@ impl Engine {
         refusal: Reply,
         decided: Decided,
     ) -> Result<(), NoMemory>
-        ensures { OnOk result (self.new ≡ record self.old { held = self.old.held ++ write_with client.now call.now self.old.leading self.old.tip reply refusal decided ∷ [] }) }
+        requires kept { IsSome (kept_at self.old.images decided.place) }
+        requires in_time { IsTrue (is_not_before self.old.heard self.old.time) }
+        requires among { (id : ℤ) → IsTrue (has (stopping_brokers self.old.heard) id) → IsTrue (broker_is_stopping (image_kept self.old.images decided.place) id) }
+        ensures held { OnOk result (self.new ≡ core_holding self.old client.now call.now reply refusal decided) }
+        ensures same { OnErr result (self.new ≡ self.old) }
     {
-        let write = Write {
+        self.sessions.reserve()?;
+        self.held.reserve(1)?;
+        hear_at(
+            &mut self.sessions,
+            &self.store,
+            &self.time,
+            &decided,
+            &call.request,
+            &reply,
+        );
+        self.held.push_back_reserved(Write {
             client: *client,
             correlation: call.correlation,
             epoch: led_epoch(&self.leading),
@@ -110,8 +163,7 @@ impl Engine {
             reply,
             refusal,
             decided,
-        };
-        self.held.push_back(write)?;
+        });
         Ok(())
     }
 
@@ -125,8 +177,10 @@ impl Engine {
     ) -> Result<(), NoMemory>
         requires ready { IsReady self.old }
         ensures taken { OnOk result (TakesWrite self.old self.new client.now call.now) }
+        ensures broken { OnErr result (BreaksOff self.old self.new) }
         ensures later { steps.old ≤ steps.new }
     {
+        self.look_at_images();
         let refusal = not_controller_reply(self.alloc, &call.request)?;
         let basis = self.basis()?;
         let Effect { records, reply } = self.decide(&call.request, steps)?;
@@ -136,7 +190,8 @@ impl Engine {
     }
 
     fn give_reply(&mut self, client: &u32, correlation: &i32, reply: Reply) -> Result<(), NoMemory>
-        ensures { OnOk result (self.new ≡ core_with_output self.old (given.Reply client.now correlation.now reply)) }
+        ensures given { OnOk result (self.new ≡ core_with_output self.old (given.Reply client.now correlation.now reply)) }
+        ensures same { OnErr result (self.new ≡ self.old) }
     {
         self.given.push_back(Output::Reply {
             client: *client,
@@ -158,12 +213,14 @@ impl Engine {
     }
 
     fn answer_at_once(&mut self, client: &u32, call: &Call) -> Result<(), NoMemory>
-        ensures { OnOk result (self.new ≡ core_with_output self.old (given.Reply client.now call.now.correlation (reply_at_once self.old call.now.request))) }
+        ensures given { OnOk result (self.new ≡ core_with_output self.old (given.Reply client.now call.now.correlation (reply_at_once self.old call.now.request))) }
+        ensures same { OnErr result (self.new ≡ self.old) }
     {
         let reply = self.reply_at_once(&call.request)?;
         self.give_reply(client, &call.correlation, reply)
     }
 
+    #[tactic(auto, using(crate::proofs::Undoing::same_breaks))]
     fn take_call<L: Ledger>(
         &mut self,
         client: &u32,
@@ -172,6 +229,7 @@ impl Engine {
     ) -> Result<(), NoMemory>
         requires ready { IsReady self.old }
         ensures taken { OnOk result (TakesCall (is_led_write self.old.leading call.now.request) self.old self.new client.now call.now) }
+        ensures broken { OnErr result (BreaksOff self.old self.new) }
         ensures later { steps.old ≤ steps.new }
     {
         if is_led_write(&self.leading, &call.request) {
@@ -181,6 +239,7 @@ impl Engine {
         }
     }
 
+    #[tactic(auto, using(crate::proofs::Undoing::same_breaks))]
     fn take_ask<L: Ledger>(
         &mut self,
         client: &u32,
@@ -189,6 +248,7 @@ impl Engine {
     ) -> Result<(), NoMemory>
         requires ready { IsReady self.old }
         ensures taken { OnOk result (TakesAsk self.old self.new client.now ask.now) }
+        ensures broken { OnErr result (BreaksOff self.old self.new) }
         ensures later { steps.old ≤ steps.new }
     {
         match ask {
@@ -225,6 +285,7 @@ impl Engine {
     ) -> Result<(), NoMemory>
         requires ready { IsReady self.old }
         ensures settled { OnOk result (SettlesRequest self.old self.new client.now ask.now (request_reason self.old ask.now)) }
+        ensures broken { OnErr result (BreaksOff self.old self.new) }
         ensures later { steps.old ≤ steps.new }
     {
         match self.request_reason(ask) {
@@ -239,7 +300,7 @@ impl Engine {
     /// A client asks. A leading controller decides a write at the tip of its log, which then waits for its reply until all
     /// that it saw or made is committed; on standby a write is refused at once by Kafka's NOT_CONTROLLER. A read is
     /// answered at once on the committed image, and what is no call by an error alone. All outputs are handed out before.
-    /// An engine that answered want of memory may only be dropped.
+    /// After want of memory nothing has changed.
     #[tactic(auto, using(crate::proofs::ReadyEngines::ready_then))]
     pub fn request<L: Ledger>(
         &mut self,
@@ -251,13 +312,14 @@ impl Engine {
         requires sound { IsSound self.old }
         requires drained { outputs_left self.old ≡ [] }
         ensures step { OnOk result (IsStep self.old self.new (events.Request client.now now.now ask.now)) }
-        ensures sound { OnOk result (IsSound self.new) }
+        ensures unchanged { OnErr result (self.new ≡ self.old) }
+        ensures sound { IsSound self.new }
         ensures later { steps.old ≤ steps.new }
     {
         self.look_over();
-        self.note_time(now);
-        self.settle_request(client, ask, steps)?;
-        self.count_event();
-        Ok(())
+        let found = self.begin_at(now);
+        let settled = self.settle_request(client, ask, steps);
+        self.undo_images(&settled, &found, steps);
+        self.end(settled, found)
     }
 }

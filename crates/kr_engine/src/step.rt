@@ -1,6 +1,6 @@
 //! Any event is taken by one call.
 
-ghost use Rattle.std.specs.Prelude.{◌≡◌, ◌≤◌, ◌+◌, ℤ, List, [], IsOk, OnOk};
+ghost use Rattle.std.specs.Prelude.{◌≡◌, ◌≤◌, ◌+◌, ℤ, List, [], IsOk, OnOk, OnErr};
 ghost use Rattle.kr_calls.specs.declared.events.Event.TheVariants as events;
 ghost use Rattle.kr_world.specs.declared.writes.Write.{Write as AnyWrite};
 ghost use Rattle.kr_world.specs.Engine.{IsEngine, IsSound, IsStep, outputs_left};
@@ -13,13 +13,14 @@ use kr_calls::Event;
 use std::sync::ledger::Ledger;
 
 impl Engine {
-    /// An event happened. All outputs are handed out before. A Commit and a Lost are always taken. An engine that answered
-    /// want of memory may only be dropped.
+    /// An event happened. All outputs are handed out before. A Commit and a Lost are always taken. After want of memory nothing
+    /// has changed.
     pub fn step<L: Ledger>(&mut self, event: &Event, steps: &mut Steps<L>) -> Result<(), NoMemory>
         requires sound { IsSound self.old }
         requires drained { outputs_left self.old ≡ [] }
         ensures step { OnOk result (IsStep self.old self.new event.now) }
-        ensures sound { OnOk result (IsSound self.new) }
+        ensures unchanged { OnErr result (self.new ≡ self.old) }
+        ensures sound { IsSound self.new }
         ensures commit { (epoch end : ℤ) → event.now ≡ events.Commit epoch end → IsOk result }
         ensures lost { (epoch : ℤ) → event.now ≡ events.Lost epoch → IsOk result }
         ensures commit_bound { (epoch end : ℤ) (s : State) (writes : List AnyWrite) → event.now ≡ events.Commit epoch end → IsEngine self.old s writes → steps.new ≤ steps.old + commit_steps s end }

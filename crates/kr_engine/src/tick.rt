@@ -1,6 +1,6 @@
 //! Time goes on.
 
-ghost use Rattle.std.specs.Prelude.{◌≡◌, ◌≤◌, ◌+◌, ◌≤ℤ◌, ◌-ℤ◌, ◌&&◌, [], pos, is_some, None, Some, Ok, IfOk, OnOk, IsSome};
+ghost use Rattle.std.specs.Prelude.{◌≡◌, ◌≤◌, ◌+◌, ◌≤ℤ◌, ◌-ℤ◌, ◌&&◌, [], pos, is_some, None, Some, Ok, IfOk, OnOk, OnErr, IsSome};
 ghost use Rattle.std.specs.Ordering.{int_cmp};
 ghost use Rattle.kr_defs.specs.declared.limits.TheConstants.{PLACES_END as places_end};
 ghost use Rattle.kr_defs.specs.Heartbeats.{AreHeartbeats, leave};
@@ -13,6 +13,7 @@ ghost use Rattle.kr_engine.specs.inner.Ready.{IsReady};
 ghost use Rattle.kr_engine.specs.inner.Tick.{lapsed_contacts, tick_reason, CanFenceAll, FencesAll, SettlesTick};
 ghost use Rattle.kr_world.specs.Tick.{fencing_of};
 ghost use Rattle.kr_engine.specs.inner.Append.{Fences};
+ghost use Rattle.kr_engine.specs.inner.Changes.{BreaksOff};
 
 use crate::Engine;
 use crate::context::context_of;
@@ -22,7 +23,7 @@ use kr_base::{NoMemory, Steps};
 use kr_calls::{Effect, Reason, Reply};
 use kr_defs::{Ids, Records};
 use kr_image::ImageStore;
-use kr_sessions::Context;
+use kr_sessions::{Context, Sessions};
 use kr_store::{Seen, Store};
 use std::alloc::Global;
 use std::sync::ledger::Ledger;
@@ -115,6 +116,7 @@ impl Engine {
         requires ready { IsReady self.old }
         requires valid { AreValid self.old.images }
         ensures fences { OnOk result (Fences self.old self.new broker.now) }
+        ensures broken { OnErr result (BreaksOff self.old self.new) }
         ensures valid { OnOk result (AreValid self.new.images) }
         ensures later { steps.old ≤ steps.new }
     {
@@ -133,6 +135,7 @@ impl Engine {
     ) -> Result<(), NoMemory>
         requires can { CanFenceAll self.old brokers.now }
         ensures all { OnOk result (FencesAll self.old self.new brokers.now) }
+        ensures broken { OnErr result (BreaksOff self.old (record self.new { heard = self.old.heard })) }
         ensures later { steps.old ≤ steps.new }
     {
         match brokers.split_first() {
@@ -164,10 +167,39 @@ impl Engine {
         None
     }
 
+    // Where memory was wanted, the contacts are those that were found.
+    fn undo_contacts(&mut self, fenced: &Result<(), NoMemory>, found: Sessions)
+        ensures ok { OnOk fenced.now (self.new ≡ self.old) }
+        ensures err { OnErr fenced.now (self.new ≡ record self.old { heard = found.heartbeats }) }
+    {
+        if fenced.is_err() {
+            self.sessions = found;
+        }
+    }
+
+    #[tactic(auto, using(crate::proofs::Fencings::fence_lapsed))]
+    fn fence_lapsed<L: Ledger>(&mut self, steps: &mut Steps<L>) -> Result<(), NoMemory>
+        requires ready { IsReady self.old }
+        requires can { CanFenceAll self.old (lapsed_contacts self.old) }
+        ensures fences { OnOk result (FencesAll self.old self.new (lapsed_contacts self.old)) }
+        ensures broken { OnErr result (BreaksOff self.old self.new) }
+        ensures later { steps.old ≤ steps.new }
+    {
+        let lapsed = self.lapsed_contacts(steps)?;
+        if lapsed.is_empty() {
+            return Ok(());
+        }
+        let found = self.sessions.copied()?;
+        let fenced = self.fence_all(lapsed.as_slice(), steps);
+        self.undo_contacts(&fenced, found);
+        fenced
+    }
+
     fn settle_tick<L: Ledger>(&mut self, steps: &mut Steps<L>) -> Result<(), NoMemory>
         requires ready { IsReady self.old }
         requires can { tick_reason self.old ≡ None → CanFenceAll self.old (lapsed_contacts self.old) }
         ensures settled { OnOk result (SettlesTick self.old self.new (tick_reason self.old)) }
+        ensures broken { OnErr result (BreaksOff self.old self.new) }
         ensures later { steps.old ≤ steps.new }
     {
         match self.tick_reason() {
@@ -175,28 +207,26 @@ impl Engine {
                 self.refuse(reason);
                 Ok(())
             }
-            None => {
-                let lapsed = self.lapsed_contacts(steps)?;
-                self.fence_all(lapsed.as_slice(), steps)
-            }
+            None => self.fence_lapsed(steps),
         }
     }
 
     /// Time went on: a leading controller fences the contacts whose session has ended, the one first that was heard of
-    /// longest ago. All outputs are handed out before. An engine that answered want of memory may only be dropped.
+    /// longest ago. All outputs are handed out before. After want of memory nothing has changed.
     #[tactic(auto, using(crate::proofs::Fencings::tick))]
     pub fn tick<L: Ledger>(&mut self, now: &i64, steps: &mut Steps<L>) -> Result<(), NoMemory>
         requires sound { IsSound self.old }
         requires drained { outputs_left self.old ≡ [] }
         ensures step { OnOk result (IsStep self.old self.new (events.Tick now.now)) }
-        ensures sound { OnOk result (IsSound self.new) }
+        ensures unchanged { OnErr result (self.new ≡ self.old) }
+        ensures sound { IsSound self.new }
         ensures later { steps.old ≤ steps.new }
     {
         self.look_over();
         self.look_at_contacts();
-        self.note_time(now);
-        self.settle_tick(steps)?;
-        self.count_event();
-        Ok(())
+        let found = self.begin_at(now);
+        let settled = self.settle_tick(steps);
+        self.undo_images(&settled, &found, steps);
+        self.end(settled, found)
     }
 }

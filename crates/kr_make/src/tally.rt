@@ -38,8 +38,9 @@ fn is_record(entry: &Entry) -> bool
             item: Item::Record(_),
             ..
         } => true,
-        Entry::Item { .. } | Entry::Load { .. } | Entry::Answer { .. } | Entry::Stop { .. } =>
-            false,
+        Entry::Item { .. } | Entry::Load { .. } => false,
+        Entry::Pin { .. } | Entry::Unpin { .. } => false,
+        Entry::Answer { .. } | Entry::Stop { .. } => false,
     }
 }
 

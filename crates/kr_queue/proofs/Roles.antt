@@ -28,6 +28,8 @@ pub of_one : (role other : Role) (job : Job) → is_of role job ≡ true → is_
 of_one roles.Worker other (jobs.Link event) a b = absurd (true≢false (sym a))
 of_one roles.Worker other (jobs.Stop number) a b = absurd (true≢false (sym a))
 of_one roles.Worker other (jobs.Write own ticket floor call) a b = absurd (true≢false (sym a))
+of_one roles.Worker other (jobs.Pin own ticket floor) a b = absurd (true≢false (sym a))
+of_one roles.Worker other (jobs.Unpin own ticket floor place) a b = absurd (true≢false (sym a))
 of_one roles.Link roles.Worker (jobs.Link event) a b = absurd (true≢false (sym b))
 of_one roles.Link roles.Worker (jobs.Stop number) a b = absurd (true≢false (sym b))
 of_one roles.Link roles.Link (jobs.Link event) a b = refl
@@ -35,11 +37,19 @@ of_one roles.Link roles.Link (jobs.Stop number) a b = refl
 of_one roles.Link (roles.Client seat) (jobs.Link event) a b = absurd (true≢false (sym b))
 of_one roles.Link (roles.Client seat) (jobs.Stop number) a b = absurd (true≢false (sym b))
 of_one roles.Link other (jobs.Write own ticket floor call) a b = absurd (true≢false (sym a))
+of_one roles.Link other (jobs.Pin own ticket floor) a b = absurd (true≢false (sym a))
+of_one roles.Link other (jobs.Unpin own ticket floor place) a b = absurd (true≢false (sym a))
 of_one (roles.Client seat) other (jobs.Link event) a b = absurd (true≢false (sym a))
 of_one (roles.Client seat) other (jobs.Stop number) a b = absurd (true≢false (sym a))
 of_one (roles.Client seat) roles.Worker (jobs.Write own ticket floor call) a b = absurd (true≢false (sym b))
+of_one (roles.Client seat) roles.Worker (jobs.Pin own ticket floor) a b = absurd (true≢false (sym b))
+of_one (roles.Client seat) roles.Worker (jobs.Unpin own ticket floor place) a b = absurd (true≢false (sym b))
 of_one (roles.Client seat) roles.Link (jobs.Write own ticket floor call) a b = absurd (true≢false (sym b))
+of_one (roles.Client seat) roles.Link (jobs.Pin own ticket floor) a b = absurd (true≢false (sym b))
+of_one (roles.Client seat) roles.Link (jobs.Unpin own ticket floor place) a b = absurd (true≢false (sym b))
 of_one (roles.Client seat) (roles.Client other) (jobs.Write own ticket floor call) a b = ap roles.Client (sym (eqb-true own seat a) ∙ eqb-true own other b)
+of_one (roles.Client seat) (roles.Client other) (jobs.Pin own ticket floor) a b = ap roles.Client (sym (eqb-true own seat a) ∙ eqb-true own other b)
+of_one (roles.Client seat) (roles.Client other) (jobs.Unpin own ticket floor place) a b = ap roles.Client (sym (eqb-true own seat a) ∙ eqb-true own other b)
 
 pub of_no_other : (role other : Role) (job : Job) → role ≢ other → is_of role job ≡ true → is_of other job ≡ false
 of_no_other role other job differs own = false_from_ne_true (is_of other job) (λ theirs. differs (of_one role other job own theirs))

@@ -11,7 +11,7 @@ pub enum Role {
     Worker,
     /// The one that pushes the quorum's events and the stops.
     Link,
-    /// A client, which pushes the writes of its seat.
+    /// A client, which pushes the writes, pins and unpins of its seat.
     Client { seat: u32 },
 }
 

@@ -48,6 +48,17 @@ impl Sessions {
         }
     }
 
+    /// The same brokers, heard of and stopping alike.
+    pub fn copied(&self) -> Result<Sessions, NoMemory>
+        ensures { IfOk result (λ copy. copy.heartbeats ≡ self.now.heartbeats) }
+    {
+        Ok(Sessions {
+            alloc: self.alloc,
+            contacts: self.contacts.copied()?,
+            stopping: Vec::from_slice(self.alloc, self.stopping.as_slice())?,
+        })
+    }
+
     /// How many brokers are contacts. Whatever was done, each broker stands once in either list, the times never fall
     /// along the contacts, and a stopping broker is a contact.
     pub fn len(&self) -> usize

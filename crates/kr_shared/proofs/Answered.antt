@@ -48,13 +48,13 @@ all_pass f p (w ∷ ws) none =
 
 module _ (options : Options) (log : Log) (end : ℕ) where
   abbrev answer_by : Bool → Asked → Write → Answer
-  answer_by b a w = decided_answer a (cond b kinds.Lost kinds.Stands) w.decided (cond b w.refusal w.reply)
+  answer_by b a w = decided_answer a (cond b kinds.Lost kinds.Stands) w.decided.place w.decided.count (cond b w.refusal w.reply)
 
   right_by : (b : Bool) (a : Asked) (w : Write) (base : List Entry) → int_lt (pos end) w.need ≡ b → IsWaitingWrite options log a w → Shows log end base → IsRight options base (answer_by b a w)
   right_by true a w base is i shows = (record { seat = refl; ticket = refl; place = refl; floor = i.floor }, i.refusal)
   right_by false a w base is i shows = (
     record { seat = refl; ticket = refl; place = refl; floor = i.floor },
-    decided_answers_are_right options log end base (answered_of a w.decided w.reply) i.decided (not_later end w.need (i.decided.at + w.decided.count) (i.need ∙ (ap (λ z. z +ℤ pos w.decided.count) i.decided.place ∙ sym (pos_sum i.decided.at w.decided.count))) is) shows,
+    decided_answers_are_right options log end base (answered_of a w.decided.place w.decided.count w.reply) i.decided (not_later end w.need (i.decided.at + w.decided.count) (i.need ∙ (ap (λ z. z +ℤ pos w.decided.count) i.decided.place ∙ sym (pos_sum i.decided.at w.decided.count))) is) shows,
   )
 
   -- ---- all of them

@@ -1,26 +1,42 @@
--- An append that failed.
-use Rattle.std.proofs.Common.{◌≡◌, ◌∙◌, sym, ap, ℕ, suc, ◌<◌, ◌≤◌, ◌+◌, ◌-◌, ◌^◌, min, true, false, List, ◌∷◌, ◌++◌, take, drop, length, get_or, arith}
-use Rattle.std.specs.Prelude.{Option, IsSome, OnErr}
-use Rattle.std.proofs.lemmas.List.{drop_more, take-append-drop}
+-- What the quorum was given so far, and one more.
+use Rattle.std.proofs.Common.{◌≡◌, ◌∙◌, sym, ap, subst, refl, ℕ, ◌<◌, ◌≤◌, ◌+◌, ◌-◌, ◌^◌, min, Bool, true, false, List, [], ◌∷◌, ◌++◌, fold, arith}
+use Rattle.std.specs.Prelude.{Option}
+use Rattle.std.proofs.lemmas.List.{append_assoc}
+use Rattle.std.proofs.lemmas.List.Sums.{fold-append}
 use Rattle.kr_base.specs.Causes.{Rose, raised}
 use Rattle.kr_world.specs.declared.writes.Told.{Told}
-use Rattle.kr_shared.specs.Appends.{AppendsOne, FailsAt, batch_told, with_batches}
-
-around : (told : List Told) (n : ℕ) (t : Told) → n < length told → t ≡ get_or told n t → told ≡ take n told ++ t ∷ drop (n + 1) told
-around told n t within is =
-    sym (take-append-drop n told) ∙ (ap (λ (l : List Told). take n told ++ l) (drop_more told n t within ∙ ap (λ (x : Told). x ∷ drop (n + 1) told) (sym is)))
+use Rattle.kr_shared.specs.Appends.{Appends, AppendsIf, AppendsOne, FailsAt, with_told_batch}
 
 rose_before : (before now after : ℕ) → before ≤ now → Rose now after → Rose before after
 rose_before before now after low rose = omega (arith, low, rose)
 
-pub fails_at : (told : List Told) (n : ℕ) (t : Told) (old mid new : Option (List (List ℕ))) (faults then faults' : ℕ) → n < length told → t ≡ get_or told n t
-    → mid ≡ with_batches old (take n told) → faults ≤ then → AppendsOne mid new then faults' t false → FailsAt old new faults faults' told
-fails_at told n t old mid new faults then faults' within is so_far low fails = record {
-  before = take n told;
-  failed = t;
-  behind = drop (n + 1) told;
-  in_order = around told n t within is;
-  batch = fails.0;
-  pieces = fails.1 ∙ so_far;
-  cause = rose_before faults then faults' low fails.2;
-}
+module _ (told : List Told) (t : Told) (old mid new : Option (List (List ℕ))) (faults then faults' : ℕ) where
+  behind_given : (appended : Bool) → Appends old mid faults then told true → AppendsOne mid new then faults' t appended → Appends old new faults faults' (told ++ t ∷ []) appended
+  behind_given true h x = (
+    x.0 ∙ (ap (λ (p : Option (List (List ℕ))). with_told_batch p t) h.0 ∙ sym (fold-append with_told_batch old told (t ∷ []))),
+    (let a = h.1 in let b = x.1 in omega (arith, a, b)),
+  )
+  behind_given false h x = record {
+    before = told;
+    failed = t;
+    behind = [];
+    in_order = refl;
+    batch = x.0;
+    pieces = x.1 ∙ h.0;
+    cause = rose_before faults then faults' h.1 x.2;
+  }
+
+  behind_failed : FailsAt old mid faults then told → new ≡ mid → faults' ≡ then → FailsAt old new faults faults' (told ++ t ∷ [])
+  behind_failed h pieces same = record {
+    before = h.before;
+    failed = h.failed;
+    behind = h.behind ++ t ∷ [];
+    in_order = ap (λ (l : List Told). l ++ t ∷ []) h.in_order ∙ append_assoc h.before (h.failed ∷ h.behind) (t ∷ []);
+    batch = h.batch;
+    pieces = pieces ∙ h.pieces;
+    cause = subst (Rose faults) (sym same) h.cause;
+  }
+
+  pub appends_more : (before appended : Bool) → Appends old mid faults then told before → AppendsIf before mid new then faults' t appended → Appends old new faults faults' (told ++ t ∷ []) appended
+  appends_more true appended h x = behind_given appended h x
+  appends_more false appended h x = subst (Appends old new faults faults' (told ++ t ∷ [])) (sym x.2) (behind_failed h x.0 x.1)

@@ -1,44 +1,53 @@
--- A stop, or an answer without a decision, is published at once, and the worker stands for the same state.
-use Rattle.std.proofs.Common.{◌≡◌, ◌∙◌, sym, subst, ℕ, ℤ, pos, List, [], ◌∷◌, ◌++◌, refl, ap}
+-- A pin, an unpin, a stop, or an answer without a decision, is published at once, and the worker stands for the same state.
+use Rattle.std.proofs.Common.{◌≡◌, ◌∙◌, sym, subst, ℕ, ℤ, pos, List, [], ◌∷◌, ◌++◌, fold, refl, ap}
 use Rattle.std.specs.Prelude.{Option, Some, None, MatchOption}
 use Rattle.kr_calls.specs.declared.answers.Answer.{Answer}
 use Rattle.kr_calls.specs.declared.answers.Answered.{Answered}
 use Rattle.kr_calls.specs.declared.events.Entry.{Entry}
 use Rattle.kr_calls.specs.declared.events.Entry.TheVariants as entries
 use Rattle.kr_calls.specs.RightAnswers.{AreRightAfter, IsRightAs, IsRightEntry, IsTo}
-use Rattle.kr_calls.specs.SeatList.{item_entries}
+use Rattle.kr_calls.specs.SeatList.{Reached, end_of, item_entries}
 use Rattle.kr_defs.specs.declared.options.Options.{Options}
 use Rattle.kr_view.specs.Shelves.{Shelf, next_at, shown_at, with_staged}
 use Rattle.kr_view.specs.Staged.{staged_above, staged_below}
 use Rattle.kr_world.specs.declared.writes.Write.{Write}
+use Rattle.kr_world.specs.Engine.{Core}
 use Rattle.kr_world.specs.Entries.{items_from}
 use Rattle.kr_world.specs.World.{State}
 use Rattle.law_following.specs.Following.{AreNotes}
 use Rattle.law_following.proofs.Shown.{shown_logs_go_on}
+use Rattle.kr_shared.specs.Desks.{IsSettled, Kept, StandsFor, cut_if, ready, settled}
+use Rattle.kr_shared.specs.Lines.{HasRoom, LineView}
 use Rattle.kr_shared.specs.Standing.{StandsForSome, Standing}
 use Rattle.kr_shared.specs.Turns.{Notes}
 use Rattle.kr_shared.specs.Works.{IsBareNote, DeskView, resting}
 use Rattle.kr_shared.proofs.Published.{all_above, nothing_below}
 
-noted : (s : Shelf) (e : Entry) → IsBareNote e → with_staged s e ≡ record s { notes = s.notes ++ e ∷ [] }
-noted s (entries.Item place item) bare = absurd bare
-noted s (entries.Load offset records) bare = absurd bare
-noted s (entries.Answer answer) bare = refl
-noted s (entries.Stop number) bare = refl
+noted_one : (list : List Entry) (s : Shelf) (e : Entry) → IsBareNote list e → with_staged s e ≡ record s { notes = s.notes ++ e ∷ [] }
+noted_one list s (entries.Item place item) bare = absurd bare
+noted_one list s (entries.Load offset records) bare = absurd bare
+noted_one list s (entries.Pin pin) bare = refl
+noted_one list s (entries.Unpin pin) bare = refl
+noted_one list s (entries.Answer answer) bare = refl
+noted_one list s (entries.Stop number) bare = refl
 
-is_note : (e : Entry) → IsBareNote e → AreNotes (e ∷ [])
-is_note (entries.Item place item) bare = absurd bare
-is_note (entries.Load offset records) bare = absurd bare
-is_note (entries.Answer answer) bare = tt
-is_note (entries.Stop number) bare = tt
+is_note : (list : List Entry) (e : Entry) → IsBareNote list e → AreNotes (e ∷ [])
+is_note list (entries.Item place item) bare = absurd bare
+is_note list (entries.Load offset records) bare = absurd bare
+is_note list (entries.Pin pin) bare = tt
+is_note list (entries.Unpin pin) bare = tt
+is_note list (entries.Answer answer) bare = tt
+is_note list (entries.Stop number) bare = tt
 
-is_right : (o : Options) (list : List Entry) (e : Entry) → IsBareNote e → IsRightEntry o list e
+is_right : (o : Options) (list : List Entry) (e : Entry) → IsBareNote list e → IsRightEntry o list e
 is_right o list (entries.Item place item) bare = tt
 is_right o list (entries.Load offset records) bare = tt
+is_right o list (entries.Pin pin) bare = bare
+is_right o list (entries.Unpin pin) bare = tt
 is_right o list (entries.Answer answer) bare = subst (λ (q : Option Answered). MatchOption q (Unit {0}) (λ a. IsTo a answer × IsRightAs answer.kind o list a)) (sym bare) tt
 is_right o list (entries.Stop number) bare = tt
 
-module _ (old : DeskView) (e : Entry) (bare : IsBareNote e) (s : State) (writes : List Write) (k : Standing old s writes) where
+module _ (old : DeskView) (e : Entry) (bare : IsBareNote old.shelf.list e) (s : State) (writes : List Write) (k : Standing old s writes) where
   abbrev items : List Entry
   items = item_entries (pos s.world.committed) (items_from s.world.log s.world.committed)
 
@@ -79,24 +88,46 @@ module _ (old : DeskView) (e : Entry) (bare : IsBareNote e) (s : State) (writes 
     none = k.none;
     options = k.options;
     rests = ap (λ (h : Shelf). record h { list = more }) k.rests;
-    shows = shown_logs_go_on.notes s.world.log s.world.committed old.shelf.list (e ∷ []) k.shows (is_note e bare);
+    shows = shown_logs_go_on.notes s.world.log s.world.committed old.shelf.list (e ∷ []) k.shows (is_note old.shelf.list e bare);
     waits = k.waits;
   }
 
-abbrev staged : DeskView → Entry → DeskView
-staged old e = record old { shelf = with_staged old.shelf e }
+-- ---- one note more is due
 
-pub may_note : (old mid : DeskView) (e : Entry) → StandsForSome old → IsBareNote e → mid ≡ staged old e → AreRightAfter mid.shelf.options mid.shelf.list (next_at mid.engine.committed mid.shelf)
-may_note old mid e k bare is =
-    subst (λ (w : DeskView). AreRightAfter w.shelf.options w.shelf.list (next_at w.engine.committed w.shelf)) (sym is)
-    (subst (λ (h : Shelf). AreRightAfter h.options h.list (next_at old.engine.committed h)) (sym (noted old.shelf e bare)) (may_show old e bare k.state k.writes k.stands))
+module _ (old new : Kept) (rests : IsSettled old) (sf : StandsFor old) (e : Entry) (l : LineView) (due : l.due ≡ old.line.due ++ e ∷ []) (waiting : l.waiting ≡ old.line.waiting) (is : new ≡ record old { line = l }) (bare : IsBareNote (settled old).shelf.list e) where
+  abbrev shelf : Shelf
+  shelf = (settled old).shelf
 
-pub notes_so : (old mid new : DeskView) (e : Entry) → StandsForSome old → IsBareNote e → mid ≡ staged old e → new ≡ record mid { shelf = shown_at mid.engine.committed mid.shelf } → Notes old new e
-notes_so old mid new e k bare mid_is is =
-    let so : new ≡ record old { shelf = record old.shelf { list = old.shelf.list ++ e ∷ [] } } =
-    is
-    ∙ (ap (λ (w : DeskView). record w { shelf = shown_at w.engine.committed w.shelf }) mid_is
-    ∙ ap (λ (h : Shelf). record old { shelf = h }) (ap (λ (h : Shelf). shown_at old.engine.committed h) (noted old.shelf e bare) ∙ shown_is old e bare k.state k.writes k.stands)) in record {
-      is = so;
-      stands = λ s writes h. subst (λ (w : DeskView). Standing w s writes) (sym so) (stands_still old e bare s writes h);
-    }
+  all_staged : ready new ≡ record shelf { notes = shelf.notes ++ e ∷ [] }
+  all_staged =
+      (λ i. fold with_staged (fold with_staged (is i).shelf (is i).unstaged) (is i).line.due)
+      ∙ ((λ i. fold with_staged (fold with_staged old.shelf (rests.unstaged i)) (due i))
+      ∙ ((λ i. fold with_staged old.shelf (rests.seated.due i ++ e ∷ []))
+      ∙ (ap (λ (h : Shelf). with_staged h e) rests.rests ∙ noted_one shelf.list shelf e bare)))
+
+  abbrev noted : DeskView
+  noted = record (settled old) { shelf = record shelf { list = shelf.list ++ e ∷ [] } }
+
+  settled_is : settled new ≡ noted
+  settled_is =
+      (λ i. record { shelf = cut_if ((ap (λ (k : Kept). k.cut) is ∙ rests.cut) i) (shown_at (is i).engine.committed (all_staged i)); engine = (is i).engine; waiting = ((ap (λ (k : Kept). k.line.waiting) is) ∙ waiting) i })
+      ∙ ap (λ (h : Shelf). record (settled old) { shelf = h }) (shown_is (settled old) e bare sf.stands.state sf.stands.writes sf.stands.stands)
+
+  pub notes_so : Notes (settled old) (settled new) e
+  notes_so = record {
+    is = settled_is;
+    stands = λ s writes h. subst (λ (w : DeskView). Standing w s writes) (sym settled_is) (stands_still (settled old) e bare s writes h);
+  }
+
+  pub noted_for : HasRoom l → StandsFor new
+  noted_for room = record {
+    stands = record { state = sf.stands.state; writes = sf.stands.writes; stands = notes_so.stands sf.stands.state sf.stands.writes sf.stands.stands };
+    right =
+        subst (λ (x : Shelf × Core). AreRightAfter x.0.options x.0.list (next_at x.1.committed x.0)) (λ i. (sym all_staged i, sym (ap (λ (k : Kept). k.engine) is) i))
+        (may_show (settled old) e bare sf.stands.state sf.stands.writes sf.stands.stands);
+    room = subst (λ (k : Kept). HasRoom k.line) (sym is) room;
+  }
+
+-- the published list ends where the log is committed
+pub committed_is_end : (w : DeskView) → StandsForSome w → w.engine.committed ≡ end_of w.shelf.list
+committed_is_end w k = k.stands.engine.committed ∙ sym (ap (λ (r : Reached). r.end) k.stands.shows.whole)

@@ -71,6 +71,8 @@ abbrev pub AreLogged : List Entry → Type 0
 AreLogged [] = Unit {0}
 AreLogged (entries.Item place item ∷ es) = AreLogged es
 AreLogged (entries.Load offset records ∷ es) = AreLogged es
+AreLogged (entries.Pin pin ∷ es) = ⊥
+AreLogged (entries.Unpin pin ∷ es) = ⊥
 AreLogged (entries.Answer answer ∷ es) = ⊥
 AreLogged (entries.Stop number ∷ es) = ⊥
 

@@ -57,13 +57,13 @@ module _ (options : Options) (log : Log) (end : ℕ) (leading : Option ℤ) wher
         | false ↦ λ is.
             let lost = int_lt (pos end) w.need in
             let reply = cond lost w.refusal w.reply in
-            let answer = decided_answer a (cond lost kinds.Lost kinds.Stands) w.decided reply in
+            let answer = decided_answer a (cond lost kinds.Lost kinds.Stands) w.decided.place w.decided.count reply in
             let behind = notes ++ entries.Answer answer ∷ [] in
             let ends = ends_all options log end leading ones ws behind waits.1 (order_behind w ws ordered) in
             subst (Replies (a ∷ ones) (w ∷ ws) notes) (sym (first_is_due leading (pos end) w ws is)) (
               record {
                 answer = answer;
-                answered = answered_of a w.decided reply;
+                answered = answered_of a w.decided.place w.decided.count reply;
                 noted = noted notes ends.answers.more (fold with_told (answering ones behind) (told_of ws)).notes (entries.Answer answer) ends.answers.added;
                 holds = refl;
                 of_client = sym waits.0.client;

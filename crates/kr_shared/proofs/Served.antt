@@ -49,7 +49,7 @@ waiting_longer options log xs [] (w ∷ ws) h = absurd h
 waiting_longer options log xs (a ∷ ones) [] h = absurd h
 waiting_longer options log xs (a ∷ ones) (w ∷ ws) h =
     let i = h.0 in (
-      record { client = i.client; correlation = i.correlation; floor = i.floor; decided = decided_on options log xs (answered_of a w.decided w.reply) i.decided; need = i.need; refusal = i.refusal },
+      record { client = i.client; correlation = i.correlation; floor = i.floor; decided = decided_on options log xs (answered_of a w.decided.place w.decided.count w.reply) i.decided; need = i.need; refusal = i.refusal },
       waiting_longer options log xs ones ws h.1,
     )
 
@@ -102,7 +102,7 @@ module _ (old : DeskView) (between : Core) (event : Event) (told : List Told) (s
   fresh : between.fresh ≡ log_entries o s event
   fresh = t.emptied.fresh ∙ t.step.fresh s writes k.engine
 
-  rests : Rests s.world next.world
+  pub rests : Rests s.world next.world
   rests = record {
     started = k.engine.is_state.started;
     low = not_higher s.world.committed s.world.batch_ends (tip_of s) k.engine.is_state.ends;
@@ -120,10 +120,10 @@ module _ (old : DeskView) (between : Core) (event : Event) (told : List Told) (s
   abbrev pub staged : List Entry
   staged = staged_after (is_lost old.engine between) old.shelf.items between.fresh
 
-  abbrev staged_by : List Entry
+  abbrev pub staged_by : List Entry
   staged_by = staged_after (lost_by s.world.leading next.world.leading) (item_entries (pos s.world.committed) (items_from s.world.log s.world.committed)) between.fresh
 
-  staged_so : staged ≡ staged_by
+  pub staged_so : staged ≡ staged_by
   staged_so =
       ap (λ (l : Option ℤ). staged_after (lost_by l between.leading) old.shelf.items between.fresh) k.engine.leading
       ∙ (ap (λ (l : Option ℤ). staged_after (lost_by s.world.leading l) old.shelf.items between.fresh) stands.leading
@@ -145,10 +145,10 @@ module _ (old : DeskView) (between : Core) (event : Event) (told : List Told) (s
 
   -- ---- what is told
 
-  abbrev answers_told : List Told
+  abbrev pub answers_told : List Told
   answers_told = told_answers next.world.leading (pos next.world.committed) held
 
-  told_is : told ≡ map told_alone (t.between.given ++ option_to_list t.between.refusal) ++ answers_told
+  pub told_is : told ≡ map told_alone (t.between.given ++ option_to_list t.between.refusal) ++ answers_told
   told_is =
       let alone = map told_alone (t.between.given ++ option_to_list t.between.refusal) in
       t.emptied.all

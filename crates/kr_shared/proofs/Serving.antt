@@ -5,7 +5,6 @@ use Rattle.std.proofs.lemmas.List.{append_assoc, append-nil}
 use Rattle.kr_calls.specs.declared.calls.Ask.{Ask}
 use Rattle.kr_calls.specs.declared.events.Entry.{Entry}
 use Rattle.kr_calls.specs.declared.events.Event.{Event}
-use Rattle.kr_calls.specs.declared.events.Reason.{Reason}
 use Rattle.kr_calls.specs.declared.calls.Ask.TheVariants as asks
 use Rattle.kr_calls.specs.declared.events.Entry.TheVariants as entries
 use Rattle.kr_calls.specs.declared.events.Event.TheVariants as events
@@ -15,25 +14,31 @@ use Rattle.kr_view.specs.Shelves.{Shelf, next_at, shown_at, with_staged}
 use Rattle.kr_view.specs.Staged.{staged_above, staged_below}
 use Rattle.kr_world.specs.declared.writes.Told.{Told}
 use Rattle.kr_world.specs.declared.writes.Write.{Write}
-use Rattle.kr_world.specs.Engine.{Core, IsEngine, IsSound, outputs_left}
+use Rattle.kr_world.specs.Engine.{Core, IsEngine, IsSound, IsStep, outputs_left}
 use Rattle.kr_world.specs.Events.{at_time_of, happens}
 use Rattle.kr_world.specs.Outputs.{waiting_after}
 use Rattle.kr_world.specs.World.{State}
 use Rattle.kr_world.proofs.OutputsLeft.{handing_out_stands}
+use Rattle.law_following.specs.Following.{AreNotes}
 use Rattle.law_following.proofs.Shown.{shown_logs_go_on}
 use Rattle.kr_shared.specs.declared.answers.Asking.{Asking}
 use Rattle.kr_shared.specs.declared.asked.Asked.{Asked}
-use Rattle.kr_shared.specs.Answers.{Answering, AreReplied, refusal_in}
-use Rattle.kr_shared.specs.Appends.{Appends}
+use Rattle.kr_shared.specs.declared.taking.Given.{Given}
+use Rattle.kr_shared.specs.Answers.{Answering, AreReplied, answer_all, answering, aside_noted}
+use Rattle.kr_shared.specs.Desks.{IsSettled, Kept, StandsFor, aside_by, cut_if, entered_by, settled, takes_writes}
+use Rattle.kr_shared.specs.Desks.{ready as all_ready}
+use Rattle.kr_shared.specs.Gives.{GivesOut}
+use Rattle.kr_shared.specs.Lines.{HasRoom, LineView}
 use Rattle.kr_shared.specs.Serves.{ServesEvent}
 use Rattle.kr_shared.specs.Standing.{AreWaiting, StandsForSome, Standing}
 use Rattle.kr_shared.specs.Takes.{TakesEvent}
 use Rattle.kr_shared.specs.Tasks.{IsTask}
-use Rattle.kr_shared.specs.Works.{KeepsShown, DeskView, answers_of, is_lost, resting, staged_after}
+use Rattle.kr_shared.specs.Works.{DeskView, answers_of, is_lost, resting, staged_after}
+use Rattle.kr_shared.proofs.Made.{all_noted, made, with_more}
 use Rattle.kr_shared.proofs.Published.{AreLogged, Publishes}
 use Rattle.kr_shared.proofs.Replied.{link_silent}
 use Rattle.kr_shared.proofs.Served.{Answers, answered, holds_none, next, outputs_told, publishes, shown, staged, stands}
-use Rattle.kr_shared.proofs.Writes.{written}
+use Rattle.kr_shared.proofs.Writes.{made_so, none_besides, written}
 
 -- ---- items and images are right wherever they stand
 
@@ -43,6 +48,8 @@ right_behind o list (entries.Item place item ∷ xs) ys h right =
     (tt, right_behind o (list ++ entries.Item place item ∷ []) xs ys h (subst (λ (l : List Entry). AreRightAfter o l ys) (sym (append_assoc list (entries.Item place item ∷ []) xs)) right))
 right_behind o list (entries.Load offset records ∷ xs) ys h right =
     (tt, right_behind o (list ++ entries.Load offset records ∷ []) xs ys h (subst (λ (l : List Entry). AreRightAfter o l ys) (sym (append_assoc list (entries.Load offset records ∷ []) xs)) right))
+right_behind o list (entries.Pin pin ∷ xs) ys h right = absurd h
+right_behind o list (entries.Unpin pin ∷ xs) ys h right = absurd h
 right_behind o list (entries.Answer answer ∷ xs) ys h right = absurd h
 right_behind o list (entries.Stop number ∷ xs) ys h right = absurd h
 
@@ -50,6 +57,8 @@ logged_if : (b : Bool) (e : Entry) (rest : List Entry) → AreLogged (e ∷ []) 
 logged_if false e rest h k = tt
 logged_if true (entries.Item place item) rest h k = k
 logged_if true (entries.Load offset records) rest h k = k
+logged_if true (entries.Pin pin) rest h k = absurd h
+logged_if true (entries.Unpin pin) rest h k = absurd h
 logged_if true (entries.Answer answer) rest h k = absurd h
 logged_if true (entries.Stop number) rest h k = absurd h
 
@@ -57,6 +66,8 @@ below_logged : (end : ℤ) (es : List Entry) → AreLogged es → AreLogged (sta
 below_logged end [] h = tt
 below_logged end (entries.Item place item ∷ es) h = logged_if (Rattle.kr_calls.specs.SeatList.is_below end (entries.Item place item)) (entries.Item place item) (staged_below end es) tt (below_logged end es h)
 below_logged end (entries.Load offset records ∷ es) h = logged_if (Rattle.kr_calls.specs.SeatList.is_below end (entries.Load offset records)) (entries.Load offset records) (staged_below end es) tt (below_logged end es h)
+below_logged end (entries.Pin pin ∷ es) h = absurd h
+below_logged end (entries.Unpin pin ∷ es) h = absurd h
 below_logged end (entries.Answer answer ∷ es) h = absurd h
 below_logged end (entries.Stop number ∷ es) h = absurd h
 
@@ -66,6 +77,8 @@ logged_behind : (xs ys : List Entry) → AreLogged (xs ++ ys) → AreLogged ys
 logged_behind [] ys h = h
 logged_behind (entries.Item place item ∷ xs) ys h = logged_behind xs ys h
 logged_behind (entries.Load offset records ∷ xs) ys h = logged_behind xs ys h
+logged_behind (entries.Pin pin ∷ xs) ys h = absurd h
+logged_behind (entries.Unpin pin ∷ xs) ys h = absurd h
 logged_behind (entries.Answer answer ∷ xs) ys h = absurd h
 logged_behind (entries.Stop number ∷ xs) ys h = absurd h
 
@@ -77,6 +90,8 @@ all_staged shelf (entries.Item place item ∷ es) h =
 all_staged shelf (entries.Load offset records ∷ es) h =
     all_staged (record shelf { items = shelf.items ++ entries.Load offset records ∷ [] }) es h
     ∙ ap (λ (l : List Entry). record shelf { items = l }) (append_assoc shelf.items (entries.Load offset records ∷ []) es)
+all_staged shelf (entries.Pin pin ∷ es) h = absurd h
+all_staged shelf (entries.Unpin pin ∷ es) h = absurd h
 all_staged shelf (entries.Answer answer ∷ es) h = absurd h
 all_staged shelf (entries.Stop number ∷ es) h = absurd h
 
@@ -122,8 +137,8 @@ module _ (old : DeskView) (between : Core) (event : Event) (asking : Option Aski
     answers_by None h = answered old between event told s writes k t (holds_none o s event h) (link_silent o (at_time_of s event) event h)
     answers_by (Some a) h = answers_ask event a t h
 
-    is : Answers old between event told s writes k t r
-    is = answers_by asking task
+    pub replies : Answers old between event told s writes k t r
+    replies = answers_by asking task
 
     p : Publishes (next old between event told s writes k t).world.log (next old between event told s writes k t).world.committed old.shelf.list stage
     p = publishes old between event told s writes k t
@@ -141,7 +156,7 @@ module _ (old : DeskView) (between : Core) (event : Event) (asking : Option Aski
     may_publish =
         subst (λ (q : Options). AreRightAfter q old.shelf.list (staged_below between.committed stage ++ r.notes)) k.options
         (subst (λ z. AreRightAfter o old.shelf.list (staged_below z stage ++ r.notes)) (sym at_end)
-        (right_behind o old.shelf.list (staged_below (pos end) stage) r.notes (below_logged (pos end) stage p.logged) is.right))
+        (right_behind o old.shelf.list (staged_below (pos end) stage) r.notes (below_logged (pos end) stage p.logged) replies.right))
 
     pub fresh_logged : AreLogged between.fresh
     fresh_logged = logged_behind (cond (is_lost old.engine between) [] old.shelf.items) between.fresh p.logged
@@ -157,8 +172,8 @@ module _ (old : DeskView) (between : Core) (event : Event) (asking : Option Aski
       shows =
           subst (Rattle.law_following.specs.Following.Shows (happens o s event).world.log end)
           (append_assoc old.shelf.list (staged_below (pos end) stage) r.notes ∙ ap (λ z. old.shelf.list ++ (staged_below z stage ++ r.notes)) (sym at_end))
-          (shown_logs_go_on.notes (happens o s event).world.log end (old.shelf.list ++ staged_below (pos end) stage) r.notes p.shows is.bare);
-      waits = subst (λ (q : Options). AreWaiting q (happens o s event).world.log r.waiting (waiting_after o s writes event)) (sym (t.emptied.options ∙ t.step.options)) is.waits;
+          (shown_logs_go_on.notes (happens o s event).world.log end (old.shelf.list ++ staged_below (pos end) stage) r.notes p.shows replies.bare);
+      waits = subst (λ (q : Options). AreWaiting q (happens o s event).world.log r.waiting (waiting_after o s writes event)) (sym (t.emptied.options ∙ t.step.options)) replies.waits;
     }
 
 -- ---- the steps of serving, one after the other
@@ -166,100 +181,107 @@ module _ (old : DeskView) (between : Core) (event : Event) (asking : Option Aski
 pub sound_then : (w : DeskView) → StandsForSome w → IsSound w.engine × (outputs_left w.engine ≡ [])
 sound_then w k = (record { state = k.state; writes = k.writes; stands = k.stands.engine }, k.stands.none)
 
-kept : (lost : Bool) (s : Shelf) → KeepsShown s (cond lost (record s { items = [] }) s)
-kept true s = record { options = refl; list = refl }
-kept false s = record { options = refl; list = refl }
-
-pub two_keep : (old w1 w2 : DeskView) (lost : Bool) → w1 ≡ record old { engine = w1.engine } → w2 ≡ record w1 { shelf = cond lost (record w1.shelf { items = [] }) w1.shelf } → KeepsShown old.shelf w2.shelf
-two_keep old w1 w2 lost one two =
-    subst (KeepsShown old.shelf) (sym (ap (λ (w : DeskView). w.shelf) two ∙ ap (λ (w : DeskView). cond lost (record w.shelf { items = [] }) w.shelf) one)) (kept lost old.shelf)
-
-dropped : (lost : Bool) (s : Shelf) → cond lost (record s { items = [] }) s ≡ record s { items = cond lost [] s.items }
+dropped : (lost : Bool) (s : Shelf) → cut_if lost s ≡ record s { items = cond lost [] s.items }
 dropped true s = refl
 dropped false s = refl
 
-module _ (old w1 w2 w3 : DeskView) (event : Event) (asking : Option Asking) (told : List Told) (before lost : Bool) (k : StandsForSome old) (task : IsTask old.engine event asking)
-    (takes : TakesEvent old.engine w1.engine event told) (one : w1 ≡ record old { engine = w1.engine })
-    (before_is : before ≡ is_some old.engine.leading) (lost_is : lost ≡ (before && not (is_some w1.engine.leading)))
-    (two : w2 ≡ record w1 { shelf = cond lost (record w1.shelf { items = [] }) w1.shelf })
-    (three : w3 ≡ record w2 { shelf = fold with_staged w2.shelf w2.engine.fresh; engine = record w2.engine { fresh = [] } }) where
-  abbrev e1 : Core
-  e1 = w1.engine
+-- what is settled is at rest
+pub at_rest : (k : Kept) → IsSettled k → StandsForSome (settled k) → k.shelf ≡ resting (settled k).shelf.options (settled k).shelf.list (settled k).shelf.items
+at_rest k rests s = rests.rests ∙ (s.stands.rests ∙ sym (ap (λ (h : Shelf). resting h.options h.list h.items) s.stands.rests))
 
-  lost_so : lost ≡ is_lost old.engine e1
-  lost_so = lost_is ∙ ap (λ b. b && not (is_some e1.leading)) before_is
+module _ (w0 : Kept) (rests : IsSettled w0) (k : StandsForSome (settled w0)) (event : Event) (asking : Option Asking) (task : IsTask w0.engine event asking) (e1 e2 : Core) (l2 l3 l4 : LineView) (given : Given)
+    (pieces pieces' : Option (List (List ℕ))) (faults faults' : ℕ) (step : IsStep w0.engine e1 event) (gives : GivesOut e1 e2 pieces pieces' faults faults' l2 l3 given) where
+  abbrev takes : Bool
+  takes = takes_writes w0.engine
 
-  shelf_two : w2.shelf ≡ record old.shelf { items = cond (is_lost old.engine e1) [] old.shelf.items }
-  shelf_two =
-      ap (λ (w : DeskView). w.shelf) two
-      ∙ (ap (λ (w : DeskView). cond lost (record w.shelf { items = [] }) w.shelf) one
-      ∙ (dropped lost old.shelf ∙ ap (λ b. record old.shelf { items = cond b [] old.shelf.items }) lost_so))
+  abbrev then : DeskView
+  then = settled w0
 
-  engine_two : w2.engine ≡ e1
-  engine_two = ap (λ (w : DeskView). w.engine) two
+  abbrev told : List Told
+  told = gives.told
 
-  shelf_three : w3.shelf ≡ record old.shelf { items = stage old e1 event asking told task takes }
-  shelf_three =
-      ap (λ (w : DeskView). w.shelf) three
-      ∙ (ap (λ (e : Core). fold with_staged w2.shelf e.fresh) engine_two
-      ∙ (ap (λ (h : Shelf). fold with_staged h e1.fresh) shelf_two
-      ∙ all_staged (record old.shelf { items = cond (is_lost old.engine e1) [] old.shelf.items }) e1.fresh (fresh_logged old e1 event asking told task takes k.state k.writes k.stands)))
+  abbrev t : TakesEvent w0.engine e2 event told
+  t = record { between = e1; step = step; emptied = gives.emptied }
 
-  waiting_three : w3.waiting ≡ old.waiting
-  waiting_three = ap (λ (w : DeskView). w.waiting) three ∙ (ap (λ (w : DeskView). w.waiting) two ∙ ap (λ (w : DeskView). w.waiting) one)
+  abbrev replied : Answering
+  replied = r then e2 event asking told task t
 
-  -- no answer is staged yet
-  pub none_noted : w3.shelf.notes ≡ []
-  none_noted = ap (λ (h : Shelf). h.notes) shelf_three ∙ ap (λ (h : Shelf). h.notes) k.stands.rests
+  made_ask : (e : Event) (a : Asking) (x : TakesEvent w0.engine e2 e told) → IsTask w0.engine e (Some a) → made takes (Some a) e w0.line.waiting told ≡ answers_of (Some a) e (is_some w0.engine.leading) w0.line.waiting told
+  made_ask (events.Lead epoch n now) a x h = absurd h
+  made_ask (events.Commit epoch end) a x h = absurd h
+  made_ask (events.Lost epoch) a x h = absurd h
+  made_ask (events.Batch bytes) a x h = absurd h
+  made_ask (events.Load bytes) a x h = absurd h
+  made_ask (events.Tick now) a x h = absurd h
+  made_ask (events.Request client now (asks.Call call)) a x h = made_so then e2 client now call a told k.state k.writes k.stands x h
+  made_ask (events.Request client now (asks.Bare correlation fault)) a x h = absurd h
+  made_ask events.Image a x h = absurd h
 
-  module _ (w4 : DeskView) (answers : Rattle.kr_shared.specs.Answers.answering w4.waiting w4.shelf.notes ≡ answers_of asking event before w3.waiting told)
-      (four : w4 ≡ record w3 { shelf = record w3.shelf { notes = w4.shelf.notes }; waiting = w4.waiting }) where
-    answers_so : Rattle.kr_shared.specs.Answers.answering w4.waiting w4.shelf.notes ≡ r old e1 event asking told task takes
-    answers_so =
-        answers
-        ∙ (ap (λ (ws : List Asked). answers_of asking event before ws told) waiting_three
-        ∙ ap (λ b. answers_of asking event b old.waiting told) before_is)
+  none_asked : (b : Bool) (told : List Told) → made b None event w0.line.waiting told ≡ answer_all (answering w0.line.waiting []) told
+  none_asked true told = none_besides (answer_all (answering (w0.line.waiting ++ []) []) told) ∙ ap (λ (ws : List Asked). answer_all (answering ws []) told) (append-nil w0.line.waiting)
+  none_asked false told = none_besides (answer_all (answering (w0.line.waiting ++ []) []) told) ∙ ap (λ (ws : List Asked). answer_all (answering ws []) told) (append-nil w0.line.waiting)
 
-    rests_so : old.shelf ≡ record (record old.shelf { waiting = [] }) { notes = [] }
-    rests_so = k.stands.rests ∙ sym (ap (λ (h : Shelf). record (record h { waiting = [] }) { notes = [] }) k.stands.rests)
+  made_by : (q : Option Asking) → IsTask w0.engine event q → made takes q event w0.line.waiting told ≡ answers_of q event (is_some w0.engine.leading) w0.line.waiting told
+  made_by None h = none_asked takes told
+  made_by (Some a) h = made_ask event a t h
 
-    -- what is there before the publish
-    abbrev pub due : DeskView
-    due = record { shelf = ready old e1 event asking told task takes; engine = record e1 { fresh = [] }; waiting = (r old e1 event asking told task takes).waiting }
+  module _ (entered : l2.waiting ≡ w0.line.waiting ++ entered_by takes asking event) (none : l2.due ≡ w0.line.due) (waiting : l4.waiting ≡ l3.waiting)
+      (noted : l4.due ≡ l3.due ++ aside_noted (aside_by takes asking event) given.refusal given.reply) (lost : Bool) (lost_is : lost ≡ (is_some w0.engine.leading && not (is_some e2.leading)))
+      (w6 : Kept) (is : w6 ≡ record { shelf = cut_if lost w0.shelf; engine = record e2 { fresh = [] }; line = l4; unstaged = e2.fresh; cut = w0.cut }) where
+    answers : answering l4.waiting l4.due ≡ replied
+    answers =
+        (λ i. answering (waiting i) (noted i))
+        ∙ (ap (λ (q : Answering). with_more q (aside_noted (aside_by takes asking event) given.refusal given.reply)) gives.gives.answers
+        ∙ ((λ i. with_more (answer_all (answering (entered i) ((none ∙ rests.seated.due) i)) told) (aside_noted (aside_by takes asking event) (gives.gives.refused i) (gives.gives.reply i)))
+        ∙ made_by asking task))
 
-    pub due_so : w4 ≡ due
-    due_so =
-        four
-        ∙ (ap (λ (a : Answering). record w3 { shelf = record w3.shelf { notes = a.notes }; waiting = a.waiting }) answers_so
-        ∙ (ap (λ (h : Shelf). record w3 { shelf = record h { notes = (r old e1 event asking told task takes).notes }; waiting = (r old e1 event asking told task takes).waiting }) shelf_three
-        ∙ (ap (λ (h : Shelf). record w3 { shelf = record (record h { items = stage old e1 event asking told task takes }) { notes = (r old e1 event asking told task takes).notes }; waiting = (r old e1 event asking told task takes).waiting }) rests_so
-        ∙ ap (λ (e : Core). record { shelf = ready old e1 event asking told task takes; engine = e; waiting = (r old e1 event asking told task takes).waiting })
-        (ap (λ (w : DeskView). w.engine) three ∙ ap (λ (e : Core). record e { fresh = [] }) engine_two))))
+    pub bare_then : AreNotes l4.due
+    bare_then = subst AreNotes (sym (ap (λ (q : Answering). q.notes) answers)) (replies then e2 event asking told task t k.state k.writes k.stands).bare
 
-    pub publish_may : AreRightAfter w4.shelf.options w4.shelf.list (next_at w4.engine.committed w4.shelf)
-    publish_may =
-        subst (λ (w : DeskView). AreRightAfter w.shelf.options w.shelf.list (next_at w.engine.committed w.shelf)) (sym due_so)
-        (may_publish old e1 event asking told task takes k.state k.writes k.stands)
+    abbrev shelf_then : Shelf
+    shelf_then = ready then e2 event asking told task t
 
-    module _ (pieces pieces' : Option (List (List ℕ))) (faults faults' : ℕ) (appended : Bool) (refusal : Option Reason) (w5 : DeskView) (appends : Appends pieces pieces' faults faults' told appended) (refused : refusal ≡ refusal_in told)
-        (five : w5 ≡ record w4 { shelf = shown_at w4.engine.committed w4.shelf }) where
-      five_so : w5 ≡ after old e1 event asking told task takes
-      five_so = five ∙ ap (λ (w : DeskView). record w { shelf = shown_at w.engine.committed w.shelf }) due_so
+    -- all is staged
+    ready_so : all_ready w6 ≡ shelf_then
+    ready_so =
+        (λ i. fold with_staged (fold with_staged (is i).shelf (is i).unstaged) (is i).line.due)
+        ∙ (ap (λ (h : Shelf). fold with_staged h l4.due) (all_staged (cut_if lost w0.shelf) e2.fresh (fresh_logged then e2 event asking told task t k.state k.writes k.stands))
+        ∙ (all_noted (record (cut_if lost w0.shelf) { items = (cut_if lost w0.shelf).items ++ e2.fresh }) l4.due bare_then
+        ∙ (ap (λ (h : Shelf). record h { items = h.items ++ e2.fresh; notes = h.notes ++ l4.due }) (dropped lost w0.shelf)
+        ∙ (λ i. let h = at_rest w0 rests k i in record { options = h.options; list = h.list; waiting = h.waiting; items = cond (lost_is i) [] h.items ++ e2.fresh; notes = h.notes ++ (answers i).notes }))))
 
-      pub serves_so : ServesEvent pieces pieces' faults faults' old w5 event asking appended refusal
-      serves_so = record {
-        between = e1;
-        told = told;
-        takes = takes;
-        appends = appends;
-        refused = refused;
-        engine = ap (λ (w : DeskView). w.engine) five_so;
-        answers = r old e1 event asking told task takes;
-        answered = refl;
-        replied = subst (AreReplied (r old e1 event asking told task takes).notes) (sym (outputs_told old e1 event told k.state k.writes k.stands takes)) (is old e1 event asking told task takes k.state k.writes k.stands).replied;
-        waiting = ap (λ (w : DeskView). w.waiting) five_so;
-        staged = stage old e1 event asking told task takes;
-        added = refl;
-        shelf = ap (λ (w : DeskView). w.shelf) five_so;
-        stands = λ s writes h. subst (λ (w : DeskView). Standing w (happens old.engine.options s event) (waiting_after old.engine.options s writes event)) (sym five_so) (stands_after old e1 event asking told task takes s writes h);
-      }
+    settled_so : settled w6 ≡ after then e2 event asking told task t
+    settled_so =
+        (λ i. record { shelf = cut_if (((ap (λ (w : Kept). w.cut) is) ∙ rests.cut) i) (shown_at (is i).engine.committed (ready_so i)); engine = (is i).engine; waiting = (is i).line.waiting })
+        ∙ ap (λ (q : Answering). record { shelf = shown_at e2.committed shelf_then; engine = record e2 { fresh = [] }; waiting = q.waiting }) answers
+
+    pub serves_so : ServesEvent pieces pieces' faults faults' then (settled w6) event asking given.appended given.refusal
+    serves_so = record {
+      between = e2;
+      told = told;
+      takes = t;
+      appends = gives.gives.appends;
+      refused = gives.gives.refused;
+      engine = ap (λ (w : DeskView). w.engine) settled_so;
+      answers = replied;
+      answered = refl;
+      replied = subst (AreReplied replied.notes) (sym (outputs_told then e2 event told k.state k.writes k.stands t)) (replies then e2 event asking told task t k.state k.writes k.stands).replied;
+      waiting = ap (λ (w : DeskView). w.waiting) settled_so;
+      staged = stage then e2 event asking told task t;
+      added = refl;
+      shelf = ap (λ (w : DeskView). w.shelf) settled_so;
+      stands = λ s writes h. subst (λ (w : DeskView). Standing w (happens w0.engine.options s event) (waiting_after w0.engine.options s writes event)) (sym settled_so) (stands_after then e2 event asking told task t s writes h);
+    }
+
+    pub stands_so : HasRoom l4 → StandsFor w6
+    stands_so room = record {
+      stands = record {
+        state = happens w0.engine.options k.state event;
+        writes = waiting_after w0.engine.options k.state k.writes event;
+        stands = serves_so.stands k.state k.writes k.stands;
+      };
+      right =
+          subst (λ (x : Shelf × Core). AreRightAfter x.0.options x.0.list (next_at x.1.committed x.0)) (λ i. (sym ready_so i, sym (ap (λ (w : Kept). w.engine) is) i))
+          (may_publish then e2 event asking told task t k.state k.writes k.stands);
+      room = subst (λ (w : Kept). HasRoom w.line) (sym is) room;
+    }

@@ -12,8 +12,11 @@ use Rattle.kr_view.specs.Shelves.{Shelf}
 use Rattle.kr_world.specs.Engine.{Core, IsEngine, outputs_left}
 use Rattle.kr_world.specs.World.{seen_at, start}
 use Rattle.law_following.specs.Following.{Shows}
-use Rattle.kr_shared.specs.Standing.{Standing, StandsForSome}
+use Rattle.kr_view.specs.Shelves.{shown_at}
+use Rattle.kr_shared.specs.Desks.{IsOpened, IsSettled, Kept, StandsFor, cut_if, ready, settled}
+use Rattle.kr_shared.specs.Standing.{Standing}
 use Rattle.kr_shared.specs.Works.{DeskView, resting}
+use Rattle.kr_shared.proofs.Settling.{ready_is, settled_right}
 
 abbrev none : List Entry
 none = []
@@ -32,18 +35,40 @@ shows_none = record {
   items = tt;
 }
 
-pub opened_stands : (options : Options) (desk : DeskView) (e : Core) (shelf : Shelf) → desk ≡ record { shelf = shelf; engine = e; waiting = [] } → shelf ≡ resting options [] []
-    → IsEngine e start [] → outputs_left e ≡ [] → e.options ≡ options → Standing desk start []
-opened_stands options desk e shelf is shelf_is engine none_left same =
-    let at : DeskView = record { shelf = resting options [] []; engine = e; waiting = [] } in
-    subst (λ (d : DeskView). Standing d start []) (sym (is ∙ ap (λ (h : Shelf). record { shelf = h; engine = e; waiting = [] }) shelf_is)) (record {
-      engine = engine;
-      none = none_left;
-      options = same;
-      rests = refl;
-      shows = shows_none;
-      waits = tt;
-    })
+module _ (options : Options) (k : Kept) (shelf : Shelf) (e : Core) (o : IsOpened shelf e k) (shelf_is : shelf ≡ resting options [] []) (engine : IsEngine e start []) (none_left : outputs_left e ≡ []) (same : e.options ≡ options) where
+  abbrev at : DeskView
+  at = record { shelf = resting options [] []; engine = e; waiting = [] }
 
-pub opened_some : (desk : DeskView) → Standing desk start [] → StandsForSome desk
-opened_some desk stands = record { state = start; writes = []; stands = stands }
+  kept_shelf : k.shelf ≡ resting options [] []
+  kept_shelf = o.shelf_is ∙ shelf_is
+
+  all_ready : ready k ≡ resting options [] []
+  all_ready = ready_is k o.unstaged o.line.due ∙ kept_shelf
+
+  pub settled_is : settled k ≡ at
+  settled_is = λ i. record { shelf = cut_if (o.cut i) (shown_at (o.engine i).committed (all_ready i)); engine = o.engine i; waiting = o.line.waiting i }
+
+  pub opened_rests : IsSettled k
+  opened_rests = record {
+    rests = kept_shelf ∙ sym (ap (λ (d : DeskView). d.shelf) settled_is);
+    seated = record { due = o.line.due; seated = o.line.seated; dues = o.line.dues };
+    unstaged = o.unstaged;
+    cut = o.cut;
+  }
+
+  pub opened_stands : Standing (settled k) start []
+  opened_stands = subst (λ (d : DeskView). Standing d start []) (sym settled_is) (record {
+    engine = engine;
+    none = none_left;
+    options = same;
+    rests = refl;
+    shows = shows_none;
+    waits = tt;
+  })
+
+  pub opened_for : StandsFor k
+  opened_for = record {
+    stands = record { state = start; writes = []; stands = opened_stands };
+    right = settled_right k opened_rests;
+    room = (let a = o.line.dues in let b = o.line.waits in omega (arith, a, b));
+  }

@@ -2,6 +2,7 @@
 use Rattle.std.proofs.Common.{◌≡◌, ◌∙◌, sym, subst, ℕ, ℤ, pos, Bool, true, false, cond, ◌+◌, List, [], ◌∷◌, ◌++◌, map, length, refl, ap}
 use Rattle.std.specs.Prelude.{Option, Some, None, is_some, not, filter, fold, int_lt, ◌&&◌, ◌==◌, option_to_list, Result, Ok, Err}
 use Rattle.std.specs.Result.{result_unwrap_or}
+use Rattle.std.specs.Int.{int_max}
 use Rattle.std.proofs.lemmas.List.{append_assoc, append-nil}
 use Rattle.kr_calls.specs.declared.answers.AnswerKind.TheVariants as kinds
 use Rattle.kr_calls.specs.declared.calls.Ask.TheVariants as asks
@@ -26,7 +27,7 @@ use Rattle.kr_world.specs.declared.writes.Told.{Told}
 use Rattle.kr_world.specs.declared.writes.Write.{Write}
 use Rattle.kr_world.specs.Engine.{Core, IsEngine}
 use Rattle.kr_world.specs.Events.{at_time_of, happens, next_number, outcome, with_next_number}
-use Rattle.kr_world.specs.Outputs.{answers_in, answers_now, append, is_open_in, new_writes, outputs_of, outputs_then, replies_now, write_of, writes_of}
+use Rattle.kr_world.specs.Outputs.{answers_in, answers_now, append, is_open_in, new_writes, outputs_of, outputs_then, replies_now, told_alone, told_answers, write_of, writes_of}
 use Rattle.kr_world.specs.Reasons.{exhausted}
 use Rattle.kr_world.specs.Request.{after_ask, after_write, decision, is_decided}
 use Rattle.kr_world.specs.World.{State, World, image_of_end, is_far, log_with, tip_of}
@@ -36,15 +37,18 @@ use Rattle.law_following.specs.Following.{AreNotes}
 use Rattle.law_following.proofs.Evolving.{request_longer}
 use Rattle.kr_shared.specs.declared.answers.Asking.{Asking}
 use Rattle.kr_shared.specs.declared.asked.Asked.{Asked}
-use Rattle.kr_shared.specs.Answers.{Answering, AreReplied, answer_all, decided_answer, answer_write, answered_of, answering, asked_by, exhausted_answer, first_reply, lost_at_once, refusal_in, with_told}
+use Rattle.kr_shared.specs.Answers.{Answering, AreReplied, answer_all, aside_noted, aside_of, decided_answer, answer_write, answered_of, answering, asked_by, exhausted_answer, first_reply, lost_at_once, or_reply, or_reply_in, refusal_in, with_told}
+use Rattle.kr_shared.specs.Desks.{takes_writes}
 use Rattle.kr_shared.specs.Standing.{AreWaiting, Standing}
 use Rattle.kr_shared.specs.Takes.{TakesEvent}
 use Rattle.kr_shared.specs.Tasks.{IsWrite}
 use Rattle.kr_shared.specs.Works.{DeskView}
 use Rattle.law_following.proofs.Lists.{has_first}
 use Rattle.kr_shared.proofs.Replied.{AreSilent, appends_silent, both_silent, silent_replied}
-use Rattle.kr_shared.proofs.Served.{Answers, answered_longer, none_waits, shown, waits_longer, waits_on}
-use Rattle.kr_shared.proofs.Written.{AreAccepted, both_accepted, kept_reply, no_reason, or_reason_of, or_reply_of, outputs, reasons_in, refused_told, replies_accepted, replies_in, waiting_write, waits_more}
+use Rattle.kr_shared.proofs.Answered.{alone_told}
+use Rattle.kr_shared.proofs.Made.{made, with_more}
+use Rattle.kr_shared.proofs.Served.{Answers, answered_longer, none_waits, shown, told_is, waits_longer, waits_on}
+use Rattle.kr_shared.proofs.Written.{AreAccepted, alone_outputs, both_accepted, kept_reply, no_reason, or_reason_of, outputs, reasons_in, refused_told, replies_accepted, replies_alone, waiting_write, waits_more}
 
 and_true : (a b : Bool) → b ≡ true → (a && b) ≡ a
 and_true true b is = is
@@ -53,6 +57,9 @@ and_true false b is = refl
 led_none : (leading : Option ℤ) → is_some leading ≡ false → leading ≡ None
 led_none None is = refl
 led_none (Some epoch) is = absurd cc
+
+pub none_besides : (r : Answering) → with_more r [] ≡ r
+none_besides r = ap (λ (es : List Entry). answering r.waiting es) (append-nil r.notes)
 
 module _ (old : DeskView) (between : Core) (client : ℕ) (now : ℤ) (call : Call) (a : Asking) (told : List Told) (s : State) (writes : List Write) (k : Standing old s writes)
     (t : TakesEvent old.engine between (events.Request client now (asks.Call call)) told) (task : IsWrite old.engine a client now call) where
@@ -94,6 +101,12 @@ module _ (old : DeskView) (between : Core) (client : ℕ) (now : ℤ) (call : Ca
 
   floor : not (int_lt (pos (tip_of s)) a.floor) ≡ true
   floor = subst (λ z. not (int_lt z a.floor) ≡ true) k.engine.tip task.2
+
+  -- what the decision rests on is the basis of the state, at the time
+  basis_is : a.basis ≡ s1.basis
+  basis_is =
+      task.4
+      ∙ (λ i. record { time = int_max (k.engine.time i) now; led = k.engine.led i; contacts = (k.engine.heard_of i).contacts; stopping = (k.engine.heard_of i).stopping })
 
   -- ---- the log takes no more
 
@@ -188,7 +201,7 @@ module _ (old : DeskView) (between : Core) (client : ℕ) (now : ℤ) (call : Ca
           (answered_longer old between event told s writes k t (old.waiting ++ asked_by a call ∷ []) silent
           (subst (λ (ws : List Write). AreWaiting o next.world.log (old.waiting ++ asked_by a call ∷ []) (writes ++ ws)) (sym held)
           (waits_more o next.world.log old.waiting writes (asked_by a call) (write_of o s1 client call) longer
-          (waiting_write o s1 client call a next.world.log log_is task.0 tip_is floor)))))
+          (waiting_write o s1 client call a next.world.log log_is basis_is task.0 tip_is floor)))))
 
     -- on standby
     module _ (no : decided ≡ false) where
@@ -203,15 +216,6 @@ module _ (old : DeskView) (between : Core) (client : ℕ) (now : ℤ) (call : Ca
           ap (λ b. cond b (option_to_list (query o (image_of_end s1) call.request)) (cond (is_some s.world.leading) [] (reply ∷ []))) no_read
           ∙ ap (λ (l : Option ℤ). cond (is_some l) [] (reply ∷ [])) standby
 
-      first : first_reply told ≡ Some reply
-      first =
-          replies_in None told
-          ∙ (ap (fold or_reply_of None)
-          (out_then
-          ∙ (ap (λ b. ((cond b batches [] ++ []) ++ map (given.Reply client call.correlation) (replies_now o s1 call.request)) ++ at_last) no
-          ∙ ap (λ (rs : List Reply). map (given.Reply client call.correlation) rs ++ at_last) replies))
-          ∙ kept_reply reply at_last)
-
       none_then : Rattle.kr_world.specs.Outputs.waiting_after o s writes event ≡ []
       none_then =
           ap (λ (ws : List Write). filter (is_open_in next.world) (ws ++ new_writes o s event)) (none_waits old between event told s writes k t standby)
@@ -222,17 +226,47 @@ module _ (old : DeskView) (between : Core) (client : ℕ) (now : ℤ) (call : Ca
           ap (λ (ws : List Write). answers_in after.world (ws ++ writes_of o s1 event)) (none_waits old between event told s writes k t standby)
           ∙ ap (λ b. answers_in after.world (cond b (write_of o s1 client call ∷ []) [])) no
 
+      abbrev alone : List Output
+      alone = t.between.given ++ option_to_list t.between.refusal
+
+      none_held : writes ++ new_writes o s event ≡ []
+      none_held =
+          ap (λ (ws : List Write). ws ++ new_writes o s event) (none_waits old between event told s writes k t standby)
+          ∙ (writes_then ∙ ap (λ b. cond b (write_of o s1 client call ∷ []) []) no)
+
+      told_so_far : told ≡ map told_alone alone
+      told_so_far =
+          told_is old between event told s writes k t
+          ∙ (ap (λ (ws : List Write). map told_alone alone ++ told_answers next.world.leading (pos next.world.committed) ws) none_held
+          ∙ append-nil (map told_alone alone))
+
+      none_answered : (st : Answering) → fold with_told st told ≡ st
+      none_answered st =
+          ap (fold with_told st) (told_so_far ∙ sym (append-nil (map told_alone alone))) ∙ alone_told st alone []
+
+      first : first_reply told ≡ Some reply
+      first =
+          ap (fold or_reply None) told_so_far
+          ∙ (replies_alone None alone
+          ∙ (ap (fold or_reply_in None)
+          (sym (alone_outputs alone)
+          ∙ (ap (λ (l : List Told). outputs l) (sym told_so_far)
+          ∙ (out_then
+          ∙ (ap (λ b. ((cond b batches [] ++ []) ++ map (given.Reply client call.correlation) (replies_now o s1 call.request)) ++ at_last) no
+          ∙ ap (λ (rs : List Reply). map (given.Reply client call.correlation) rs ++ at_last) replies))))
+          ∙ kept_reply reply at_last))
+
       abbrev note : List Entry
-      note = entries.Answer (decided_answer (asked_by a call) kinds.Lost a.at reply) ∷ []
+      note = entries.Answer (decided_answer (asked_by a call) kinds.Lost a.place 0 reply) ∷ []
 
       told_so : AreReplied note (map (given.Reply client call.correlation) (replies_now o s1 call.request) ++ at_last)
       told_so =
           subst (λ (rs : List Reply). AreReplied note (map (given.Reply client call.correlation) rs ++ at_last)) (sym replies)
           (subst (λ (os : List Output). AreReplied note (given.Reply client call.correlation reply ∷ os)) (sym none_left) (
             record {
-              answer = decided_answer (asked_by a call) kinds.Lost a.at reply;
-              answered = answered_of (asked_by a call) a.at reply;
-              noted = has_first (entries.Answer (decided_answer (asked_by a call) kinds.Lost a.at reply)) [];
+              answer = decided_answer (asked_by a call) kinds.Lost a.place 0 reply;
+              answered = answered_of (asked_by a call) a.place 0 reply;
+              noted = has_first (entries.Answer (decided_answer (asked_by a call) kinds.Lost a.place 0 reply)) [];
               holds = refl;
               of_client = sym task.0;
               of_call = refl;
@@ -254,13 +288,56 @@ module _ (old : DeskView) (between : Core) (client : ℕ) (now : ℤ) (call : Ca
       at_once =
           subst (λ (r : Option Reason). Ends (answer_write a call led r old.waiting told)) (sym no_why)
           (subst (λ b. Ends (answer_write a call b None old.waiting told)) (sym (led_is ∙ no))
-          (subst (λ (r : Option Reply). Ends (answering old.waiting (lost_at_once (asked_by a call) a.at r))) (sym first) (record {
+          (subst (λ (r : Option Reply). Ends (answering old.waiting (lost_at_once (asked_by a call) a.place r))) (sym first) (record {
             waits =
                 subst (AreWaiting o next.world.log old.waiting) (none_waits old between event told s writes k t standby ∙ sym none_then) longer;
             bare = tt;
-            right = ((record { seat = refl; ticket = refl; place = refl; floor = subst (λ (d : Rattle.kr_world.specs.declared.writes.Decided.Decided). not (int_lt d.place a.floor) ≡ true) (sym task.3) task.2 }, refl), tt);
+            right = ((record { seat = refl; ticket = refl; place = refl; floor = subst (λ z. not (int_lt z a.floor) ≡ true) (sym task.3) task.2 }, refl), tt);
             replied = all_told;
           })))
+
+  -- ---- what the worker makes of it
+
+  abbrev far : Bool
+  far = is_far (pos (tip_of s1))
+
+  takes_so : takes_writes old.engine ≡ (decided && not far)
+  takes_so = ap (λ b. b && not (is_far old.engine.tip)) led_is ∙ ap (λ z. decided && not (is_far z)) k.engine.tip
+
+  abbrev Made : Bool → Type 0
+  Made takes = made takes (Some a) event old.waiting told ≡ answer
+
+  none_more : answer_all (answering (old.waiting ++ []) []) told ≡ answer_all (answering old.waiting []) told
+  none_more = ap (λ (ws : List Asked). answer_all (answering ws []) told) (append-nil old.waiting)
+
+  made_refused : (reason : Reason) → outcome o s1 event ≡ Err reason → Made false
+  made_refused reason is =
+      subst (λ (r : Option Reason). with_more (answer_all (answering (old.waiting ++ []) []) told) (aside_noted (Some (aside_of a call)) r (first_reply told)) ≡ answer_write a call led r old.waiting told) (sym (why reason is))
+      (ap (λ (r : Answering). with_more r (exhausted_answer a ∷ [])) (none_more ∙ refused_told (answering old.waiting []) told (next_number s.world.count) reason (out reason is)))
+
+  module _ (after : State) (is : outcome o s1 event ≡ Ok after) where
+    made_taken : decided ≡ true → Made true
+    made_taken yes =
+        subst (λ (r : Option Reason). made true (Some a) event old.waiting told ≡ answer_write a call led r old.waiting told) (sym (no_why after is))
+        (subst (λ b. made true (Some a) event old.waiting told ≡ answer_write a call b None old.waiting told) (sym (led_is ∙ yes))
+        (none_besides (answer_all (answering (old.waiting ++ asked_by a call ∷ []) []) told)))
+
+    made_at_once : decided ≡ false → Made false
+    made_at_once no =
+        subst (λ (r : Option Reason). with_more (answer_all (answering (old.waiting ++ []) []) told) (aside_noted (Some (aside_of a call)) r (first_reply told)) ≡ answer_write a call led r old.waiting told) (sym (no_why after is))
+        (subst (λ b. with_more (answer_all (answering (old.waiting ++ []) []) told) (aside_noted (Some (aside_of a call)) None (first_reply told)) ≡ answer_write a call b None old.waiting told) (sym (led_is ∙ no))
+        (ap (λ (r : Answering). with_more r (lost_at_once (asked_by a call) a.place (first_reply told))) (none_more ∙ none_answered after is no (answering old.waiting []))))
+
+  pub made_so : made (takes_writes old.engine) (Some a) event old.waiting told ≡ answer
+  made_so =
+      subst Made (sym takes_so)
+      (elim decided as (λ b. decided ≡ b → Made (b && not far)) [
+        | true ↦ λ yes. elim far as (λ f. far ≡ f → Made (not f)) [
+          | true ↦ λ is. made_refused (exhausted (pos (tip_of s1))) (ap (λ b. cond (b && far) (Err (exhausted (pos (tip_of s1)))) (Ok (after_ask o s1 (asks.Call call)))) yes ∙ ap (λ f. cond f (Err (exhausted (pos (tip_of s1)))) (Ok (after_ask o s1 (asks.Call call)))) is)
+          | false ↦ λ is. made_taken (after_ask o s1 (asks.Call call)) (ap (λ b. cond (b && far) (Err (exhausted (pos (tip_of s1)))) (Ok (after_ask o s1 (asks.Call call)))) yes ∙ ap (λ f. cond f (Err (exhausted (pos (tip_of s1)))) (Ok (after_ask o s1 (asks.Call call)))) is) yes
+        ] refl
+        | false ↦ λ no. made_at_once (after_ask o s1 (asks.Call call)) (ap (λ b. cond (b && far) (Err (exhausted (pos (tip_of s1)))) (Ok (after_ask o s1 (asks.Call call)))) no) no
+      ] refl)
 
   accepted : outcome o s1 event ≡ Ok (after_ask o s1 (asks.Call call)) → Ends answer
   accepted out =

@@ -17,6 +17,7 @@ use Rattle.kr_calls.specs.declared.events.Output.TheVariants as given
 use Rattle.kr_calls.specs.Decide.{Decision, decide, is_read}
 use Rattle.kr_calls.specs.Refuse.{refuse}
 use Rattle.kr_calls.specs.RightAnswers.{AreRightAfter}
+use Rattle.kr_defs.specs.declared.basis.Basis.{Basis}
 use Rattle.kr_defs.specs.declared.options.Options.{Options}
 use Rattle.kr_defs.specs.declared.record.Item.{Item}
 use Rattle.kr_defs.specs.declared.record.Item.TheVariants as items
@@ -27,7 +28,7 @@ use Rattle.kr_world.specs.declared.writes.Ended.{Ended}
 use Rattle.kr_world.specs.declared.writes.Told.{Told}
 use Rattle.kr_world.specs.declared.writes.Write.{Write}
 use Rattle.kr_world.specs.Events.{at_time_of, happens, next_number, outcome}
-use Rattle.kr_world.specs.Outputs.{answers_in, if_accepted, is_open_in, new_writes, outputs_by, outputs_of, waiting_after, write_of, writes_of}
+use Rattle.kr_world.specs.Outputs.{answers_in, if_accepted, is_open_in, new_writes, outputs_by, outputs_of, told_alone, waiting_after, write_of, writes_of}
 use Rattle.kr_world.specs.Reasons.{exhausted}
 use Rattle.kr_world.specs.Request.{after_ask, after_write, decision, is_decided}
 use Rattle.kr_world.specs.World.{State, World, is_far, log_with, seen_at, tip_of}
@@ -36,7 +37,7 @@ use Rattle.kr_world.proofs.Logs.{tip_written, written_below}
 use Rattle.law_following.specs.Following.{IsDecided, decision_at}
 use Rattle.kr_shared.specs.declared.answers.Asking.{Asking}
 use Rattle.kr_shared.specs.declared.asked.Asked.{Asked}
-use Rattle.kr_shared.specs.Answers.{Answering, decided_answer, answered_of, answering, asked_by, exhausted_answer, first_reply, or_reason, or_reply, reason_in, refusal_in, reply_in, with_ended, with_told, with_told_end}
+use Rattle.kr_shared.specs.Answers.{Answering, decided_answer, answered_of, answering, asked_by, exhausted_answer, or_reason, or_reply, or_reply_in, reason_in, refusal_in, with_ended, with_told, with_told_end}
 use Rattle.kr_shared.specs.Standing.{AreWaiting, IsWaitingWrite}
 use Rattle.kr_shared.proofs.Answered.{pos_sum}
 
@@ -52,21 +53,21 @@ abbrev pub or_reason_of : Option Reason → Output → Option Reason
 or_reason_of (Some reason) output = Some reason
 or_reason_of None output = reason_in output
 
-abbrev pub or_reply_of : Option Reply → Output → Option Reply
-or_reply_of (Some reply) output = Some reply
-or_reply_of None output = reply_in output
-
 pub reasons_in : (r : Option Reason) (told : List Told) → fold or_reason r told ≡ fold or_reason_of r (outputs told)
 reasons_in r [] = refl
 reasons_in (Some reason) (t ∷ told) = reasons_in (Some reason) told
 reasons_in None (t ∷ told) = reasons_in (reason_in t.output) told
 
-pub replies_in : (r : Option Reply) (told : List Told) → fold or_reply r told ≡ fold or_reply_of r (outputs told)
-replies_in r [] = refl
-replies_in (Some reply) (t ∷ told) = replies_in (Some reply) told
-replies_in None (t ∷ told) = replies_in (reply_in t.output) told
+-- outputs that no write waited for
+pub replies_alone : (r : Option Reply) (outputs : List Output) → fold or_reply r (map told_alone outputs) ≡ fold or_reply_in r outputs
+replies_alone r [] = refl
+replies_alone r (output ∷ outputs) = replies_alone (or_reply_in r output) outputs
 
-pub kept_reply : (reply : Reply) (outputs : List Output) → fold or_reply_of (Some reply) outputs ≡ Some reply
+pub alone_outputs : (all : List Output) → outputs (map told_alone all) ≡ all
+alone_outputs [] = refl
+alone_outputs (output ∷ all) = ap (λ (l : List Output). output ∷ l) (alone_outputs all)
+
+pub kept_reply : (reply : Reply) (outputs : List Output) → fold or_reply_in (Some reply) outputs ≡ Some reply
 kept_reply reply [] = refl
 kept_reply reply (output ∷ outputs) = kept_reply reply outputs
 
@@ -123,15 +124,16 @@ module _ (o : Options) (s1 : State) (client : ℕ) (call : Call) (a : Asking) (l
   asked = asked_by a call
 
   abbrev answered : Answered
-  answered = answered_of asked w.decided w.reply
+  answered = answered_of asked w.decided.place w.decided.count w.reply
 
-  module _ (is : longer ≡ log_with s1.world.log (as_items d.records)) where
+  module _ (is : longer ≡ log_with s1.world.log (as_items d.records)) (rests : a.basis ≡ s1.basis) where
     few : length (as_items d.records) ≡ length d.records
     few = length-map d.records items_record
 
     same : decision_at o longer (tip_of s1) answered ≡ d
     same =
-        ap (λ (i : Image). decide o i s1.basis (pos (tip_of s1)) call.request)
+        ap (λ (b : Basis). decide o (seen_at longer (tip_of s1)) b (pos (tip_of s1)) call.request) rests
+        ∙ ap (λ (i : Image). decide o i s1.basis (pos (tip_of s1)) call.request)
         (ap (λ (g : Log). seen_at g (tip_of s1)) is ∙ ap (λ r. result_unwrap_or r empty) (written_below s1.world.log (as_items d.records) (tip_of s1) (omega arith)))
 
     is_decided_write : IsDecided o longer answered

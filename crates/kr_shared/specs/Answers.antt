@@ -11,18 +11,28 @@ use Rattle.kr_calls.specs.declared.events.Output.{Output}
 use Rattle.kr_calls.specs.declared.events.Reason.{Reason}
 use Rattle.kr_calls.specs.declared.events.Entry.TheVariants as entries
 use Rattle.kr_calls.specs.declared.events.Output.TheVariants as given
-use Rattle.kr_world.specs.declared.writes.Decided.{Decided}
 use Rattle.kr_world.specs.declared.writes.Ended.{Ended}
 use Rattle.kr_world.specs.declared.writes.Told.{Told}
+use Rattle.kr_shared.specs.declared.answers.Aside.{Aside}
 use Rattle.kr_shared.specs.declared.answers.Asking.{Asking}
 use Rattle.kr_shared.specs.declared.asked.Asked.{Asked}
 
--- what was decided of what was asked, with the reply
-abbrev pub answered_of : Asked → Decided → Reply → Answered
-answered_of a d reply = record { seat = a.seat; call = a.call; ticket = a.ticket; floor = a.floor; place = d.place; count = d.count; basis = d.basis; reply = reply }
+-- what was decided of what was asked, at the place, with so many records and the reply
+abbrev pub answered_of : Asked → ℤ → ℕ → Reply → Answered
+answered_of a place count reply = record { seat = a.seat; call = a.call; ticket = a.ticket; floor = a.floor; place = place; count = count; basis = a.basis; reply = reply }
 
-abbrev pub decided_answer : Asked → AnswerKind → Decided → Reply → Answer
-decided_answer a kind d reply = record { seat = a.seat; ticket = a.ticket; place = d.place; kind = kind; answered = Some (answered_of a d reply) }
+-- the answer that holds what was decided
+abbrev pub answer_with : AnswerKind → Answered → Answer
+answer_with kind d = record { seat = d.seat; ticket = d.ticket; place = d.place; kind = kind; answered = Some d }
+
+abbrev pub decided_answer : Asked → AnswerKind → ℤ → ℕ → Reply → Answer
+decided_answer a kind place count reply = answer_with kind (answered_of a place count reply)
+
+abbrev pub answer_entry : Answer → Entry
+answer_entry answer = entries.Answer answer
+
+abbrev pub stop_entry : ℕ → Entry
+stop_entry number = entries.Stop number
 
 -- an answer without a decision, at the place
 abbrev pub bare_answer : ℕ → ℕ → ℤ → AnswerKind → Answer
@@ -39,7 +49,7 @@ answering waiting notes = record { waiting = waiting; notes = notes }
 -- the reply is to what waited longest
 abbrev pub with_reply : List Asked → List Entry → Ended → Reply → Answering
 with_reply [] notes ended reply = answering [] notes
-with_reply (a ∷ waiting) notes ended reply = answering waiting (notes ++ entries.Answer (decided_answer a ended.kind ended.decided reply) ∷ [])
+with_reply (a ∷ waiting) notes ended reply = answering waiting (notes ++ entries.Answer (decided_answer a ended.kind ended.decided.place ended.decided.count reply) ∷ [])
 
 abbrev pub with_ended : Answering → Output → Ended → Answering
 with_ended s (given.Append bytes) ended = s
@@ -83,7 +93,10 @@ answer_all s told = fold with_told s told
 -- ---- a write that comes
 
 abbrev pub asked_by : Asking → Call → Asked
-asked_by a call = record { seat = a.seat; ticket = a.ticket; floor = a.floor; call = call }
+asked_by a call = record { seat = a.seat; ticket = a.ticket; floor = a.floor; call = call; basis = a.basis }
+
+abbrev pub aside_of : Asking → Call → Aside
+aside_of a call = record { asked = asked_by a call; place = a.place }
 
 abbrev pub reason_in : Output → Option Reason
 reason_in (given.Append bytes) = None
@@ -105,24 +118,38 @@ reply_in (given.Reply client correlation reply) = Some reply
 reply_in (given.Refused event reason) = None
 reply_in (given.Image bytes) = None
 
-abbrev pub or_reply : Option Reply → Told → Option Reply
-or_reply (Some reply) told = Some reply
-or_reply None told = reply_in told.output
+abbrev pub or_reply_in : Option Reply → Output → Option Reply
+or_reply_in (Some reply) output = Some reply
+or_reply_in None output = reply_in output
 
--- the first reply that is told
+-- where no write waited for it
+abbrev pub or_reply_alone : Option Reply → Output → Option Ended → Option Reply
+or_reply_alone reply output None = or_reply_in reply output
+or_reply_alone reply output (Some ended) = reply
+
+abbrev pub or_reply : Option Reply → Told → Option Reply
+or_reply reply told = or_reply_alone reply told.output told.ended
+
+-- the first reply for which no write waited
 abbrev pub first_reply : List Told → Option Reply
 first_reply told = fold or_reply None told
 
 -- a write on standby is lost at once
-abbrev pub lost_at_once : Asked → Decided → Option Reply → List Entry
-lost_at_once a at (Some reply) = entries.Answer (decided_answer a kinds.Lost at reply) ∷ []
-lost_at_once a at None = []
+abbrev pub lost_at_once : Asked → ℤ → Option Reply → List Entry
+lost_at_once a place (Some reply) = entries.Answer (decided_answer a kinds.Lost place 0 reply) ∷ []
+lost_at_once a place None = []
 
 abbrev pub exhausted_answer : Asking → Entry
-exhausted_answer a = entries.Answer (bare_answer a.seat a.ticket a.at.place kinds.Exhausted)
+exhausted_answer a = entries.Answer (bare_answer a.seat a.ticket a.place kinds.Exhausted)
+
+-- of a write that doesn't wait: it was refused, or is lost at once
+abbrev pub aside_noted : Option Aside → Option Reason → Option Reply → List Entry
+aside_noted None reason reply = []
+aside_noted (Some a) (Some reason) reply = entries.Answer (bare_answer a.asked.seat a.asked.ticket a.place kinds.Exhausted) ∷ []
+aside_noted (Some a) None reply = lost_at_once a.asked a.place reply
 
 -- a refused write is answered so; one that a leader takes waits behind those that wait
 abbrev pub answer_write : Asking → Call → Bool → Option Reason → List Asked → List Told → Answering
 answer_write a call led (Some reason) waiting told = answering waiting (exhausted_answer a ∷ [])
 answer_write a call true None waiting told = answer_all (answering (waiting ++ asked_by a call ∷ []) []) told
-answer_write a call false None waiting told = answering waiting (lost_at_once (asked_by a call) a.at (first_reply told))
+answer_write a call false None waiting told = answering waiting (lost_at_once (asked_by a call) a.place (first_reply told))

@@ -46,3 +46,8 @@ Appends old new faults faults' told false = FailsAt old new faults faults' told
 abbrev pub AppendsOne : Option (List (List ℕ)) → Option (List (List ℕ)) → ℕ → ℕ → Told → Bool → Type 0
 AppendsOne old new faults faults' told true = (new ≡ with_told_batch old told) × (faults ≤ faults')
 AppendsOne old new faults faults' told false = IsSome (batch_told told) × (new ≡ old) × Rose faults faults' × (faults ≤ faults')
+
+-- after one that failed no other is given
+abbrev pub AppendsIf : Bool → Option (List (List ℕ)) → Option (List (List ℕ)) → ℕ → ℕ → Told → Bool → Type 0
+AppendsIf true old new faults faults' told appended = AppendsOne old new faults faults' told appended
+AppendsIf false old new faults faults' told appended = (new ≡ old) × (faults' ≡ faults) × (appended ≡ false)

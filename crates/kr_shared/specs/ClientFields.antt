@@ -7,7 +7,7 @@ use Rattle.kr_shared.specs.declared.clients.ClientSeat.TheInside.{Inside}
 use Rattle.kr_shared.specs.Clients.{Client}
 
 abbrev pub client_of : Inside → Client
-client_of s = record { number = s.reader.number; seen = s.reader.seen; misses = s.reader.misses; ticket = s.ticket; pushed = (view s.pass).pushed }
+client_of s = record { number = s.reader.number; seen = s.reader.seen; misses = s.reader.misses; ticket = s.ticket; pushed = (view s.pass).pushed; held = s.held }
 
 -- its pass is that of its number
 abbrev pub IsClientSeat : Inside → Type 0

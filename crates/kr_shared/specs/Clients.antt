@@ -1,5 +1,5 @@
 -- What a clause sees of a client's seat. This project's own.
-use Rattle.std.specs.Prelude.{◌≡◌, ◌⊎◌, ℕ, ◌+◌, ◌<◌, true, List, [], Some, Result, slice_get, MatchResult}
+use Rattle.std.specs.Prelude.{◌≡◌, ◌⊎◌, ℕ, ℤ, ◌+◌, ◌<◌, true, List, [], Some, Result, slice_get, MatchResult}
 use Rattle.kr_base.specs.Causes.{Rose}
 use Rattle.kr_calls.specs.declared.calls.Call.{Call}
 use Rattle.kr_calls.specs.SeatList.{end_of}
@@ -18,6 +18,7 @@ pub record Client : Type 0 where
   pub misses : ℕ
   pub ticket : ℕ
   pub pushed : List Job
+  pub held : List ℤ
 
 -- the write of a call, which names the end of all that the seat has seen
 abbrev pub job_of_call : Client → ℕ → Call → Job
@@ -37,7 +38,7 @@ HasReadCause old new result = MatchResult result (λ _. new.misses ≡ old.misse
 
 -- a seat that has seen an empty list and asked nothing
 abbrev pub a_client : Options → ℕ → Client
-a_client options number = record { number = number; seen = seen true options []; misses = 0; ticket = 0; pushed = [] }
+a_client options number = record { number = number; seen = seen true options []; misses = 0; ticket = 0; pushed = []; held = [] }
 
 -- seat 1, seat 2 and so on
 abbrev pub AreClientSeats : Options → List Client → Type 0

@@ -2,9 +2,15 @@ pub mod Answers
 pub mod Appends
 pub mod ClientFields
 pub mod Clients
+pub mod Desks
 pub mod Ends
+pub mod Gives
+pub mod HeldPlaces
+pub mod LineFields
+pub mod Lines
 pub mod LinkFields
 pub mod Opened
+pub mod Places
 pub mod Serves
 pub mod Standing
 pub mod Submit

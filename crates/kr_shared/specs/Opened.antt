@@ -19,9 +19,11 @@ pub record AreSeated (options : Options) (seats : ℕ) (worker : Bench) (link : 
   pub knows : worker.knows ≡ a_pass roles.Worker (seats + 2)
   pub stands : Standing worker.work start []
   pub shelf : worker.work.shelf ≡ resting options [] []
+  pub shown : worker.shown ≡ []
+  pub stays : worker.stays ≡ None
   pub refusal : worker.refusal ≡ None
   pub stopped : worker.stopped ≡ false
-  pub broken : worker.broken ≡ false
+  pub late : worker.late ≡ false
   pub nothing : link ≡ []
   pub many : length clients ≡ seats
   pub seated : AreClientSeats options clients

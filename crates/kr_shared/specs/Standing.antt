@@ -19,7 +19,7 @@ pub record IsWaitingWrite (options : Options) (log : Log) (a : Asked) (w : Write
   pub client : w.client ≡ a.seat
   pub correlation : w.correlation ≡ a.call.correlation
   pub floor : IsTrue (not (int_lt w.decided.place a.floor))
-  pub decided : IsDecided options log (answered_of a w.decided w.reply)
+  pub decided : IsDecided options log (answered_of a w.decided.place w.decided.count w.reply)
   pub need : w.need ≡ w.decided.place +ℤ pos w.decided.count
   pub refusal : w.refusal ≡ refuse a.call.request NOT_CONTROLLER
 

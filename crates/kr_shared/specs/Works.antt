@@ -7,6 +7,7 @@ use Rattle.kr_calls.specs.declared.events.Entry.{Entry}
 use Rattle.kr_calls.specs.declared.events.Event.{Event}
 use Rattle.kr_calls.specs.declared.events.Entry.TheVariants as entries
 use Rattle.kr_calls.specs.declared.events.Event.TheVariants as events
+use Rattle.kr_calls.specs.SeatList.{end_of}
 use Rattle.kr_defs.specs.declared.options.Options.{Options}
 use Rattle.kr_view.specs.CopiesRule.{GoesOn}
 use Rattle.kr_view.specs.Shelves.{Shelf}
@@ -51,12 +52,14 @@ abbrev pub answers_of : Option Asking → Event → Bool → List Asked → List
 answers_of None event led waiting told = answer_all (answering waiting []) told
 answers_of (Some a) event led waiting told = answer_call (call_in event) a led waiting told
 
--- a stop, or an answer without a decision
-abbrev pub IsBareNote : Entry → Type 0
-IsBareNote (entries.Item place item) = ⊥
-IsBareNote (entries.Load offset records) = ⊥
-IsBareNote (entries.Answer answer) = answer.answered ≡ None
-IsBareNote (entries.Stop number) = Unit {0}
+-- behind the list, a pin of its end, an unpin, a stop, or an answer without a decision
+abbrev pub IsBareNote : List Entry → Entry → Type 0
+IsBareNote list (entries.Item place item) = ⊥
+IsBareNote list (entries.Load offset records) = ⊥
+IsBareNote list (entries.Pin pin) = pin.place ≡ end_of list
+IsBareNote list (entries.Unpin pin) = Unit {0}
+IsBareNote list (entries.Answer answer) = answer.answered ≡ None
+IsBareNote list (entries.Stop number) = Unit {0}
 
 -- the published list stays, or goes on, under the same options
 pub record KeepsShown (old new : Shelf) : Type 0 where

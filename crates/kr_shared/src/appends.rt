@@ -1,7 +1,7 @@
 //! The quorum is given what a step appends.
 
 ghost use Rattle.std.specs.Prelude.{◌≡◌};
-ghost use Rattle.kr_shared.specs.Appends.{Appends, AppendsOne, batch_told};
+ghost use Rattle.kr_shared.specs.Appends.{AppendsIf, AppendsOne};
 
 use kr_base::Quorum;
 use kr_calls::Output;
@@ -18,15 +18,14 @@ fn append_one<Q: Quorum>(quorum: &mut Q, told: &Told) -> bool
     }
 }
 
-/// Gives the quorum the batches among the outputs, in order, up to the first that fails. True where none failed.
-pub(crate) fn append_all<Q: Quorum>(quorum: &mut Q, told: &[Told]) -> bool
-    ensures { Appends (Q.pieces quorum.old) (Q.pieces quorum.new) (Q.faults quorum.old)
+/// Gives the quorum the batch of an output, if it is one and none before it failed. False where one failed.
+pub(crate) fn append_if<Q: Quorum>(quorum: &mut Q, so_far: bool, told: &Told) -> bool
+    ensures { AppendsIf so_far (Q.pieces quorum.old) (Q.pieces quorum.new) (Q.faults quorum.old)
         (Q.faults quorum.new) told.now result }
 {
-    for one in told {
-        if !append_one(quorum, one) {
-            return false;
-        }
+    if so_far {
+        append_one(quorum, told)
+    } else {
+        false
     }
-    true
 }

@@ -1,6 +1,7 @@
 //! What clients asked and waits for its answer.
 
 use kr_calls::Call;
+use kr_defs::Basis;
 
 /// A client's write, until it is answered.
 #[derive(Drop)]
@@ -13,4 +14,6 @@ pub struct Asked {
     pub floor: i64,
     /// What is asked.
     pub call: Call,
+    /// What decisions rest on besides the image, when it comes.
+    pub basis: Basis,
 }

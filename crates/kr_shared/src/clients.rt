@@ -7,6 +7,7 @@ ghost use Rattle.kr_shared.specs.declared.clients.SubmitFault.TheVariants as fau
 ghost use Rattle.kr_calls.specs.Decide.{is_read, query};
 ghost use Rattle.kr_calls.specs.SeatList.{end_of, image_of};
 ghost use Rattle.kr_queue.specs.declared.passes.Role.TheVariants as roles;
+ghost use Rattle.kr_queue.specs.Jobs.{may_push};
 ghost use Rattle.kr_queue.specs.Passes.{view, IsPassOf};
 ghost use Rattle.kr_queue.specs.QueueRule.{a_pass};
 ghost use Rattle.kr_view.specs.Seats.{Onward};
@@ -15,8 +16,9 @@ ghost use Rattle.kr_shared.specs.Ends.{Ends, EndsBare};
 ghost use Rattle.kr_shared.specs.Submit.{IsAnswered, IsSubmitCause, Pushed, PushedAtFault};
 
 use crate::bell::Bell;
+use crate::places::Places;
 use kr_base::{NoMemory, Shared};
-use kr_calls::{Answer, AnswerKind, Answered, Call, Reply};
+use kr_calls::{Answer, AnswerKind, Answered, Call, Reply, SeatEntry};
 use kr_defs::Rows;
 use kr_defs::limits::GREATEST_TIP;
 use kr_queue::{Job, Pass, Queue};
@@ -142,10 +144,15 @@ fn wait_for<R: Wait>(
     for _ in rt.forever() {
         let seen = bell.number(rt);
         match reader.look(ticket) {
-            Ok(Look::Found { answer }) => match end_of_call(&answer, floor, call) {
+            Ok(
+                Look::Found {
+                    entry: SeatEntry::Answer { answer },
+                },
+            ) => match end_of_call(&answer, floor, call) {
                 Some(end) => return end,
                 None => bell.wait_past(rt, seen),
             },
+            Ok(Look::Found { .. }) => bell.wait_past(rt, seen),
             Ok(Look::Stopped { number }) => return Err(SubmitFault::Ended { number }),
             Ok(Look::NotYet) => bell.wait_past(rt, seen),
             Err(CopyFault::NoMemory) => return Err(SubmitFault::NoMemory),
@@ -156,23 +163,25 @@ fn wait_for<R: Wait>(
 }
 
 /// The seat of one client. A clause sees its number, what it has seen, how often it got no copy, the number of its last
-/// call, and what it pushed.
+/// call, what it pushed, and the places that it holds.
 #[derive(Drop)]
 pub struct ClientSeat {
     // Where memory comes from.
     alloc: Global,
-    // Where writes are pushed.
+    // Where jobs are pushed.
     queue: Arc<Queue, Global>,
     // The right to push them.
     pass: Pass,
     // Rung at each push, for the worker.
     jobs: Arc<Bell, Global>,
     // Rung by the worker when it has published.
-    copies: Arc<Bell, Global>,
+    pub(crate) copies: Arc<Bell, Global>,
     // The committed copies.
-    reader: ReaderSeat,
-    // The number of the last write.
-    ticket: u64,
+    pub(crate) reader: ReaderSeat,
+    // The number of the last write, pin or unpin.
+    pub(crate) ticket: u64,
+    // The places that the seat holds.
+    pub(crate) held: Places,
 }
 
 impl Model for ClientSeat {
@@ -217,15 +226,18 @@ impl ClientSeat {
         pass: Pass,
         reader: ReaderSeat,
         bells: Bells,
+        held: Places,
     ) -> ClientSeat
         requires pass { IsPassOf (arc_value queue) pass }
         requires new { view pass ≡ a_pass (roles.Client reader.number) 0 }
+        requires none { held ≡ [] }
         ensures { result ≡ record {
           number = reader.number;
           seen = reader.seen;
           misses = reader.misses;
           ticket = 0;
           pushed = [];
+          held = [];
         } }
     {
         let Bells { jobs, copies } = bells;
@@ -237,6 +249,7 @@ impl ClientSeat {
             copies,
             reader,
             ticket: 0,
+            held,
         }
     }
 
@@ -270,6 +283,22 @@ impl ClientSeat {
         self.reader.read(call)
     }
 
+    // Pushes a job, which has the seat's number.
+    pub(crate) fn push<R: Wait>(&mut self, rt: &R, job: Job) -> Result<(), NoMemory>
+        requires job { IsTrue (may_push (roles.Client self.old.number) job) }
+        ensures ok { OnOk result (self.new
+            ≡ record self.old { pushed = self.old.pushed ++ job ∷ [] }) }
+        ensures err { OnErr result (self.new ≡ self.old) }
+    {
+        match self.queue.push(rt, &mut self.pass, job) {
+            Ok(()) => {
+                self.jobs.ring(rt);
+                Ok(())
+            }
+            Err(_) => Err(NoMemory),
+        }
+    }
+
     // Pushes the write of the next call.
     fn ask<R: Wait>(&mut self, rt: &R, call: &Call, floor: &i64) -> Result<(), NoMemory>
         requires write { IsTrue (not (is_read call.now.request)) }
@@ -290,13 +319,7 @@ impl ClientSeat {
             floor: *floor,
             call,
         };
-        match self.queue.push(rt, &mut self.pass, job) {
-            Ok(()) => {
-                self.jobs.ring(rt);
-                Ok(())
-            }
-            Err(_) => Err(NoMemory),
-        }
+        self.push(rt, job)
     }
 
     /// Writes, and waits for the answer: what was decided on a place that isn't below the end of all that the seat had seen,

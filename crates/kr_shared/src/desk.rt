@@ -1,49 +1,65 @@
 //! What a worker keeps between its turns, and how it serves an event.
 
-ghost use Rattle.std.specs.Prelude.{◌≡◌, ◌&&◌, [], OnOk, IfOk, is_some, fold, int_lt, IsTrue, not, if◌then◌else◌};
-ghost use Rattle.kr_calls.specs.Decide.{is_read};
-ghost use Rattle.kr_queue.specs.Jobs.{is_fit};
+ghost use Rattle.std.specs.Prelude.{◌≡◌, ◌&&◌, ◌<◌, ◌++◌, ℤ, [], true, false, Some, OnOk, IfOk, IfErr, OnErr, IsOk, is_some, fold, int_lt, IsTrue, not};
 ghost use Rattle.std.specs.Int.{int_max};
+ghost use Rattle.kr_calls.specs.declared.events.Event.TheVariants as events;
+ghost use Rattle.kr_calls.specs.Decide.{is_read};
 ghost use Rattle.kr_calls.specs.RightAnswers.{AreRightAfter};
-ghost use Rattle.kr_view.specs.Shelves.{next_at, shown_at, with_staged};
-ghost use Rattle.kr_shared.specs.Answers.{answering};
-ghost use Rattle.kr_shared.specs.Standing.{StandsForSome};
+ghost use Rattle.kr_queue.specs.Jobs.{is_fit};
+ghost use Rattle.kr_view.specs.Shelves.{IsDelayed, next_at, shown_at, with_staged};
+ghost use Rattle.kr_world.specs.Engine.{IsSound, IsStep, outputs_left};
+ghost use Rattle.kr_world.specs.World.{is_far};
+ghost use Rattle.law_following.specs.Following.{AreNotes};
+ghost use Rattle.kr_shared.specs.Answers.{aside_noted};
+ghost use Rattle.kr_shared.specs.Desks.{ComesToSame, HasSpare, IsOpened, IsPrepared, IsSettled, StandsFor, StaysDue, aside_by, cut_if, entered_by, settled, takes_writes};
+ghost use Rattle.kr_shared.specs.Gives.{GivesOut};
+ghost use Rattle.kr_shared.specs.Lines.{HasRoom, IsSeated, entry_of};
 ghost use Rattle.kr_shared.specs.Serves.{ServesEvent};
-ghost use Rattle.kr_shared.specs.Turns.{DoesJob, DoesWhole, DoesWrite, LosesUnless, Notes};
-ghost use Rattle.kr_shared.specs.Tasks.{IsTask, decided_on};
-ghost use Rattle.kr_shared.specs.Takes.{TakesEvent};
-ghost use Rattle.kr_shared.specs.Works.{IsBareNote, KeepsShown, Onwards, answers_of, call_in, call_of};
+ghost use Rattle.kr_shared.specs.Turns.{DoesJob, DoesRequest, DoesWhole, DoesWrite, LosesLed, LosesUnless, Notes, NotesUnlessAhead, job_again, pin_entry, write_job};
+ghost use Rattle.kr_shared.specs.Tasks.{IsTask, basis_at};
+ghost use Rattle.kr_shared.specs.Works.{IsBareNote, KeepsShown, Onwards, call_in, call_of};
 
-use crate::answers::{Asking, answer_all, answer_asked, bare_answer, refusal_in};
-use crate::appends::append_all;
-use crate::asked::Asked;
-use crate::taking::take;
+use crate::answers::{Aside, Asking, asked_by};
+use crate::line::{Line, Note, bare_answer, decided, pinned, stop, unpinned};
+use crate::taking::{Given, give_out};
 use kr_base::{Clock, NoMemory, Quorum, Steps};
-use kr_calls::{AnswerKind, Ask, Call, Entry, Event, Reason};
+use kr_calls::{AnswerKind, Ask, Call, Entry, Event, Reason, Reply};
+use kr_defs::Basis;
+use kr_defs::limits::GREATEST_TIP;
 use kr_engine::Engine;
 use kr_queue::Job;
 use kr_view::Publisher;
-use kr_world::{Decided, Told};
 use std::alloc::Global;
 use std::collections::VecDeque;
 use std::marker::Model;
 use std::sync::Wait;
 use std::sync::ledger::Ledger;
 
-/// The engine, the publisher of its committed log, and the clients that wait. It is not `Drop`: end it by `close`.
+/// The engine, the publisher of its committed log, the clients that wait, and what isn't published yet for want of memory. It
+/// is not `Drop`: end it by `close`.
 pub(crate) struct Desk {
     alloc: Global,
     publisher: Publisher,
     engine: Engine,
-    waiting: VecDeque<Asked>,
+    line: Line,
+    // What the engine added to the log, until it is staged.
+    unstaged: VecDeque<Entry>,
+    // What stays staged behind the next publish is gone with a leadership.
+    cut: bool,
 }
 
 impl Model for Desk {
-    ghost use Rattle.kr_shared.specs.Works.{DeskView};
+    ghost use Rattle.kr_shared.specs.Desks.{Kept};
 
-    ghost Value = { DeskView };
+    ghost Value = { Kept };
 
-    ghost view = { λ d. record { shelf = d.publisher; engine = d.engine; waiting = d.waiting.items } };
+    ghost view = { λ d. record {
+      shelf = d.publisher;
+      engine = d.engine;
+      line = d.line;
+      unstaged = d.unstaged.items;
+      cut = d.cut;
+    } };
 }
 
 /// How an event was served.
@@ -53,6 +69,17 @@ pub(crate) struct Served {
     pub appended: bool,
     /// Why the event was refused, if it was.
     pub refusal: Option<Reason>,
+}
+
+/// Who asks.
+#[derive(Drop)]
+pub(crate) struct Caller {
+    /// The client's number, from 1.
+    pub seat: u32,
+    /// The number of the call among those of the client.
+    pub ticket: u64,
+    /// The place in the log up to which the client had seen it.
+    pub floor: i64,
 }
 
 fn call_of(ask: Ask) -> Option<Call>
@@ -73,19 +100,47 @@ fn call_in(event: Event) -> Option<Call>
     }
 }
 
+// The client's job from which the event was made.
+fn job_again(seat: u32, ticket: u64, floor: &i64, event: Event) -> Job
+    ensures { result ≡ job_again seat ticket floor.now event }
+{
+    match event {
+        Event::Request {
+            ask: Ask::Call(call),
+            ..
+        } => Job::Write {
+            seat,
+            ticket,
+            floor: *floor,
+            call,
+        },
+        other => Job::Link { event: other },
+    }
+}
+
+// The log takes no more.
+fn is_far(tip: &i64) -> bool
+    ensures { result ≡ is_far tip.now }
+{
+    GREATEST_TIP < *tip
+}
+
 fn later(time: &i64, other: &i64) -> i64
     ensures { result ≡ int_max time.now other.now }
 {
     (*time).max(*other)
 }
 
-// Stages what a step added to the log.
-fn stage_all(publisher: &mut Publisher, fresh: Vec<Entry>) -> Result<(), NoMemory>
-    ensures done { OnOk result (publisher.new ≡ fold with_staged publisher.old fresh.items) }
+// Stages what a step added to the log, in order. What found no room stays.
+fn stage_entries(publisher: &mut Publisher, unstaged: &mut VecDeque<Entry>) -> Result<(), NoMemory>
+    ensures same { fold with_staged publisher.new unstaged.new.items
+        ≡ fold with_staged publisher.old unstaged.old.items }
     ensures keeps { KeepsShown publisher.old publisher.new }
+    ensures all { OnOk result (unstaged.new.items ≡ []) }
 {
-    for entry in fresh {
-        if publisher.stage(entry).is_err() {
+    while let Some(entry) = unstaged.pop_front() {
+        if let Err(entry) = publisher.stage(entry) {
+            unstaged.push_front_reserved(entry);
             return Err(NoMemory);
         }
     }
@@ -94,15 +149,99 @@ fn stage_all(publisher: &mut Publisher, fresh: Vec<Entry>) -> Result<(), NoMemor
 
 impl Desk {
     pub(crate) fn new(alloc: Global, publisher: Publisher, engine: Engine) -> Desk
-        ensures { result ≡ record { shelf = publisher; engine = engine; waiting = [] } }
+        ensures { IsOpened publisher engine result }
     {
         Desk {
             alloc,
             publisher,
             engine,
-            waiting: VecDeque::new(alloc),
+            line: Line::new(alloc),
+            unstaged: VecDeque::new(alloc),
+            cut: false,
         }
     }
+
+    // ---- what is due is published
+
+    // Stages what the engine added to the log.
+    fn stage_entries(&mut self) -> Result<(), NoMemory>
+        ensures due { StaysDue self.old self.new }
+        ensures all { OnOk result (self.new.unstaged ≡ []) }
+    {
+        stage_entries(&mut self.publisher, &mut self.unstaged)
+    }
+
+    // Finds room for the one that waits last.
+    fn seat_newest(&mut self) -> Result<(), NoMemory>
+        ensures due { StaysDue self.old self.new }
+        ensures unstaged { self.new.unstaged ≡ self.old.unstaged }
+        ensures seated { OnOk result (self.new.line.seated ≡ true) }
+    {
+        self.line.seat_newest()
+    }
+
+    // Stages what clients are to be told.
+    fn stage_notes(&mut self) -> Result<(), NoMemory>
+        requires { self.old.unstaged ≡ [] }
+        ensures due { StaysDue self.old self.new }
+        ensures unstaged { self.new.unstaged ≡ self.old.unstaged }
+        ensures all { OnOk result (self.old.line.seated ≡ true → IsSeated self.new.line) }
+    {
+        self.line.stage(self.alloc, &mut self.publisher)
+    }
+
+    // Stages all that is due.
+    fn prepare(&mut self) -> Result<(), NoMemory>
+        ensures due { StaysDue self.old self.new }
+        ensures all { OnOk result (IsPrepared self.new) }
+    {
+        self.stage_entries()?;
+        self.seat_newest()?;
+        self.stage_notes()
+    }
+
+    // Publishes up to the committed end.
+    fn show<R: Wait>(&mut self, rt: &R) -> Result<(), NoMemory>
+        requires { AreRightAfter self.old.shelf.options self.old.shelf.list
+            (next_at self.old.engine.committed self.old.shelf) }
+        ensures ok { OnOk result (self.new ≡ record self.old {
+          shelf = shown_at self.old.engine.committed self.old.shelf;
+        }) }
+        ensures err { OnErr result (IsDelayed self.old.engine.committed self.old.shelf self.new.shelf
+            × (self.new ≡ record self.old { shelf = self.new.shelf })) }
+    {
+        let end = self.engine.committed();
+        self.publisher.publish(rt, end)
+    }
+
+    // What stays staged is gone, where a leadership was lost.
+    fn cut_staged(&mut self)
+        requires { self.old.shelf.waiting ≡ [] }
+        ensures { self.new ≡ record self.old {
+          shelf = cut_if self.old.cut self.old.shelf;
+          cut = false;
+        } }
+    {
+        if self.cut {
+            self.publisher.drop_staged();
+            self.cut = false;
+        }
+    }
+
+    /// Publishes all that is due. Without memory it stays due.
+    pub(crate) fn settle<R: Wait>(&mut self, rt: &R) -> Result<(), NoMemory>
+        requires { StandsFor self.old }
+        ensures same { ComesToSame self.old self.new }
+        ensures done { OnOk result (IsSettled self.new) }
+        ensures onwards { Onwards self.old.shelf self.new.shelf }
+    {
+        self.prepare()?;
+        self.show(rt)?;
+        self.cut_staged();
+        Ok(())
+    }
+
+    // ---- the engine takes an event
 
     /// The epoch in which this node leads.
     fn led_epoch(&self) -> Option<i32>
@@ -118,6 +257,13 @@ impl Desk {
         self.engine.leading().is_some()
     }
 
+    // A write would be taken.
+    fn takes_writes(&self) -> bool
+        ensures { result ≡ takes_writes self.now.engine }
+    {
+        self.engine.leading().is_some() && !is_far(&self.engine.tip())
+    }
+
     // This node led, and leads no more.
     fn has_lost(&self, led: bool) -> bool
         ensures { result ≡ (led && not (is_some self.now.engine.leading)) }
@@ -125,226 +271,327 @@ impl Desk {
         led && self.engine.leading().is_none()
     }
 
-    // The engine takes an event, and hands out all that it gives for it.
-    #[tactic(auto, using(crate::proofs::Serving::sound_then))]
-    fn take_event<L: Ledger>(
-        &mut self,
-        event: &Event,
-        steps: &mut Steps<L>,
-    ) -> Result<Vec<Told>, NoMemory>
-        requires { StandsForSome self.old }
-        ensures takes { IfOk result (λ told. TakesEvent self.old.engine self.new.engine event.now
-            told.items) }
+    // The engine takes an event. Without memory all is as before.
+    fn step<L: Ledger>(&mut self, event: &Event, steps: &mut Steps<L>) -> Result<(), NoMemory>
+        requires sound { IsSound self.old.engine }
+        requires drained { outputs_left self.old.engine ≡ [] }
+        ensures done { OnOk result (IsStep self.old.engine self.new.engine event.now) }
+        ensures sound { IsSound self.new.engine }
         ensures same { self.new ≡ record self.old { engine = self.new.engine } }
+        ensures err { OnErr result (self.new ≡ self.old) }
+        ensures lost { (epoch : ℤ) → event.now ≡ events.Lost epoch → IsOk result }
     {
-        take(self.alloc, &mut self.engine, event, steps)
+        self.engine.step(event, steps)
+    }
+
+    // A write that is taken waits behind the others; one that isn't is put aside.
+    fn enter(&mut self, asking: Option<Asking>, event: Event, takes: bool) -> Option<Aside>
+        requires seated { IsSeated self.old.line }
+        requires room { self.old.line.waits < self.old.line.room }
+        ensures aside { result ≡ aside_by takes asking event }
+        ensures entered { self.new.line.waiting
+            ≡ self.old.line.waiting ++ entered_by takes asking event }
+        ensures due { self.new.line.due ≡ self.old.line.due }
+        ensures room { HasSpare result self.new.line }
+        ensures same { self.new ≡ record self.old { line = self.new.line } }
+    {
+        let Some(asking) = asking else {
+            return None;
+        };
+        let Some(call) = call_in(event) else {
+            return None;
+        };
+        let Aside { asked, place } = asked_by(asking, call);
+        if takes {
+            self.line.enter(asked);
+            return None;
+        }
+        Some(Aside { asked, place })
+    }
+
+    // All that the engine gives is given out.
+    #[tactic(auto, using(kr_world::proofs::SoundEngines::sound_order))]
+    fn give_out<Q: Quorum>(&mut self, quorum: &mut Q) -> Given
+        requires ordered { IsSound self.old.engine }
+        requires room { HasRoom self.old.line }
+        ensures given { GivesOut self.old.engine self.new.engine (Q.pieces quorum.old)
+            (Q.pieces quorum.new) (Q.faults quorum.old) (Q.faults quorum.new) self.old.line
+            self.new.line result }
+        ensures same { self.new ≡ record self.old {
+          engine = self.new.engine;
+          line = self.new.line;
+        } }
+    {
+        give_out(&mut self.engine, quorum, &mut self.line)
+    }
+
+    // A write that doesn't wait was refused, or is lost at once.
+    fn answer(&mut self, aside: Option<Aside>, refusal: &Option<Reason>, reply: Option<Reply>)
+        requires { HasSpare aside self.old.line }
+        ensures due { self.new.line.due
+            ≡ self.old.line.due ++ aside_noted aside refusal.now reply }
+        ensures waiting { self.new.line.waiting ≡ self.old.line.waiting }
+        ensures room { HasRoom self.new.line }
+        ensures same { self.new ≡ record self.old { line = self.new.line } }
+    {
+        let Some(Aside { asked, place }) = aside else {
+            return;
+        };
+        if refusal.is_some() {
+            let kind = AnswerKind::Exhausted;
+            let note = bare_answer(asked.seat, asked.ticket, &place, kind);
+            self.line.note(note);
+            return;
+        }
+        if let Some(reply) = reply {
+            let note = decided(asked, AnswerKind::Lost, &place, 0, reply);
+            self.line.note(note);
+        }
     }
 
     // What was staged is gone with a leadership.
     fn drop_lost(&mut self, lost: bool)
         requires { self.old.shelf.waiting ≡ [] }
-        ensures { self.new ≡ record self.old {
-          shelf =
-              (if lost then record self.old.shelf { items = [] } else self.old.shelf);
-        } }
+        ensures { self.new ≡ record self.old { shelf = cut_if lost self.old.shelf } }
     {
         if lost {
             self.publisher.drop_staged();
         }
     }
 
-    // What the step added is staged.
-    fn stage_fresh(&mut self) -> Result<(), NoMemory>
-        ensures done { OnOk result (self.new
-            ≡ record self.old {
-              shelf = fold with_staged self.old.shelf self.old.engine.fresh;
-              engine = record self.old.engine { fresh = [] };
-            }) }
-        ensures keeps { KeepsShown self.old.shelf self.new.shelf }
+    // What the step added is to be staged.
+    fn keep_fresh(&mut self)
+        ensures { self.new ≡ record self.old {
+          unstaged = self.old.engine.fresh;
+          engine = record self.old.engine { fresh = [] };
+        } }
     {
-        let fresh = self.engine.take_fresh();
-        stage_all(&mut self.publisher, fresh)
+        self.unstaged = VecDeque::from_vec(self.engine.take_fresh());
     }
 
-    // Stages the answers that come of what is told.
-    fn answer(
+    /// Serves an event: the engine takes it, the quorum gets what it appends, and what is to be published is due. Without
+    /// memory for the step all is as before, and the event comes back.
+    fn serve<Q: Quorum, L: Ledger>(
         &mut self,
-        asking: Option<Asking>,
-        event: Event,
-        led: bool,
-        told: Vec<Told>,
-    ) -> Result<(), NoMemory>
-        requires { self.old.shelf.notes ≡ [] }
-        ensures answered { OnOk result (answering self.new.waiting self.new.shelf.notes
-            ≡ answers_of asking event led self.old.waiting told.items) }
-        ensures same { OnOk result (self.new
-            ≡ record self.old {
-              shelf = record self.old.shelf { notes = self.new.shelf.notes };
-              waiting = self.new.waiting;
-            }) }
-        ensures keeps { KeepsShown self.old.shelf self.new.shelf }
-    {
-        let Some(asking) = asking else {
-            return answer_all(self.alloc, &mut self.waiting, &mut self.publisher, told);
-        };
-        let Some(call) = call_in(event) else {
-            return Ok(());
-        };
-        answer_asked(
-            self.alloc,
-            &mut self.waiting,
-            &mut self.publisher,
-            asking,
-            call,
-            led,
-            told,
-        )
-    }
-
-    // Stages an entry.
-    #[tactic(auto, using(crate::proofs::Onwards::staged_keeps))]
-    fn stage(&mut self, entry: Entry) -> Result<(), NoMemory>
-        ensures done { OnOk result (self.new
-            ≡ record self.old { shelf = with_staged self.old.shelf entry }) }
-        ensures keeps { KeepsShown self.old.shelf self.new.shelf }
-    {
-        match self.publisher.stage(entry) {
-            Ok(()) => Ok(()),
-            Err(_) => Err(NoMemory),
-        }
-    }
-
-    // Publishes up to the committed end.
-    fn publish<R: Wait>(&mut self, rt: &R) -> Result<(), NoMemory>
-        requires { AreRightAfter self.old.shelf.options self.old.shelf.list
-            (next_at self.old.engine.committed self.old.shelf) }
-        ensures done { OnOk result (self.new
-            ≡ record self.old { shelf = shown_at self.old.engine.committed self.old.shelf }) }
-        ensures onwards { Onwards self.old.shelf self.new.shelf }
-    {
-        let end = self.engine.committed();
-        self.publisher.publish(rt, end)
-    }
-
-    /// Serves an event: the engine takes it, the quorum gets what it appends, what is committed is published, and behind it
-    /// the answers.
-    pub(crate) fn serve<R: Wait, Q: Quorum, L: Ledger>(
-        &mut self,
-        rt: &R,
         quorum: &mut Q,
         event: Event,
         asking: Option<Asking>,
         steps: &mut Steps<L>,
-    ) -> Result<Served, NoMemory>
-        requires stands { StandsForSome self.old }
+    ) -> Result<Served, Event>
+        requires stands { StandsFor self.old }
+        requires rests { IsSettled self.old }
+        requires room { self.old.line.waits < self.old.line.room }
         requires task { IsTask self.old.engine event asking }
         ensures done { IfOk result (λ served. ServesEvent (Q.pieces quorum.old)
             (Q.pieces quorum.new) (Q.faults quorum.old)
-            (Q.faults quorum.new) self.old self.new event asking served.appended served.refusal) }
-        ensures onwards { Onwards self.old.shelf self.new.shelf }
+            (Q.faults quorum.new) (settled self.old) (settled self.new) event asking
+            served.appended served.refusal) }
+        ensures stands { OnOk result (StandsFor self.new × (self.new.cut ≡ false)
+            × AreNotes self.new.line.due) }
+        ensures err { IfErr result (λ refused. (refused ≡ event) × (self.new ≡ self.old)
+            × (Q.pieces quorum.new ≡ Q.pieces quorum.old)
+            × (Q.faults quorum.new ≡ Q.faults quorum.old)) }
+        ensures shown { KeepsShown self.old.shelf self.new.shelf }
     {
         let led = self.is_led();
-        let told = self.take_event(&event, steps)?;
-        let appended = append_all(quorum, told.as_slice());
-        let refusal = refusal_in(told.as_slice());
+        let takes = self.takes_writes();
+        if self.step(&event, steps).is_err() {
+            return Err(event);
+        }
+        let aside = self.enter(asking, event, takes);
+        let Given {
+            appended,
+            refusal,
+            reply,
+        } = self.give_out(quorum);
+        self.answer(aside, &refusal, reply);
         let lost = self.has_lost(led);
         self.drop_lost(lost);
-        self.stage_fresh()?;
-        self.answer(asking, event, led, told)?;
-        self.publish(rt)?;
+        self.keep_fresh();
         Ok(Served { appended, refusal })
     }
 
-    // The leadership is lost in which this node leads.
-    fn lose<R: Wait, Q: Quorum, L: Ledger>(
-        &mut self,
-        rt: &R,
-        quorum: &mut Q,
-        appended: bool,
-        steps: &mut Steps<L>,
-    ) -> Result<(), NoMemory>
-        requires { StandsForSome self.old }
-        ensures done { OnOk result (LosesUnless appended (Q.pieces quorum.old)
-            (Q.pieces quorum.new) (Q.faults quorum.old) (Q.faults quorum.new) self.old self.new) }
-        ensures onwards { Onwards self.old.shelf self.new.shelf }
+    // The leadership in this epoch is lost. It takes no memory.
+    fn lose_led<Q: Quorum, L: Ledger>(&mut self, quorum: &mut Q, epoch: i32, steps: &mut Steps<L>)
+        requires stands { StandsFor self.old }
+        requires led { self.old.engine.leading ≡ Some epoch }
+        requires cut { self.old.cut ≡ false }
+        requires bare { AreNotes self.old.line.due }
+        ensures done { LosesLed (Q.pieces quorum.old) (Q.pieces quorum.new)
+            (Q.faults quorum.old) (Q.faults quorum.new) (settled self.old) (settled self.new)
+            (Some epoch) }
+        ensures stands { StandsFor self.new }
+        ensures shown { KeepsShown self.old.shelf self.new.shelf }
+    {
+        let event = Event::Lost { epoch };
+        if self.step(&event, steps).is_err() {
+            unreachable!();
+        }
+        let _given = self.give_out(quorum);
+        let _fresh = self.engine.take_fresh();
+        self.cut = true;
+    }
+
+    // The leadership is lost in which this node leads, where an append failed.
+    fn lose<Q: Quorum, L: Ledger>(&mut self, quorum: &mut Q, appended: bool, steps: &mut Steps<L>)
+        requires stands { StandsFor self.old }
+        requires cut { self.old.cut ≡ false }
+        requires bare { AreNotes self.old.line.due }
+        ensures done { LosesUnless appended (Q.pieces quorum.old) (Q.pieces quorum.new)
+            (Q.faults quorum.old) (Q.faults quorum.new) (settled self.old) (settled self.new) }
+        ensures stands { StandsFor self.new }
+        ensures shown { KeepsShown self.old.shelf self.new.shelf }
     {
         if appended {
-            return Ok(());
+            return;
         }
-        match self.led_epoch() {
-            Some(epoch) => {
-                self.serve(rt, quorum, Event::Lost { epoch }, None, steps)?;
-                Ok(())
-            }
-            None => Ok(()),
+        if let Some(epoch) = self.led_epoch() {
+            self.lose_led(quorum, epoch, steps);
         }
     }
 
-    /// Serves an event, and where an append failed the loss of the leadership.
-    fn serve_whole<R: Wait, Q: Quorum, L: Ledger>(
+    /// Serves an event, and where an append failed the loss of the leadership. Without memory for the step all is as before,
+    /// and the event comes back.
+    fn serve_whole<Q: Quorum, L: Ledger>(
         &mut self,
-        rt: &R,
         quorum: &mut Q,
         event: Event,
         asking: Option<Asking>,
         steps: &mut Steps<L>,
-    ) -> Result<Option<Reason>, NoMemory>
-        requires stands { StandsForSome self.old }
+    ) -> Result<Option<Reason>, Event>
+        requires stands { StandsFor self.old }
+        requires rests { IsSettled self.old }
+        requires room { self.old.line.waits < self.old.line.room }
         requires task { IsTask self.old.engine event asking }
         ensures done { IfOk result (λ refusal. DoesWhole (Q.pieces quorum.old)
-            (Q.pieces quorum.new) (Q.faults quorum.old)
-            (Q.faults quorum.new) self.old self.new event asking refusal) }
-        ensures onwards { Onwards self.old.shelf self.new.shelf }
+            (Q.pieces quorum.new) (Q.faults quorum.old) (Q.faults quorum.new) (settled self.old)
+            (settled self.new) event asking refusal) }
+        ensures stands { OnOk result (StandsFor self.new) }
+        ensures err { IfErr result (λ refused. (refused ≡ event) × (self.new ≡ self.old)
+            × (Q.pieces quorum.new ≡ Q.pieces quorum.old)
+            × (Q.faults quorum.new ≡ Q.faults quorum.old)) }
+        ensures shown { KeepsShown self.old.shelf self.new.shelf }
     {
-        let Served { appended, refusal } = self.serve(rt, quorum, event, asking, steps)?;
-        self.lose(rt, quorum, appended, steps)?;
+        let Served { appended, refusal } = self.serve(quorum, event, asking, steps)?;
+        self.lose(quorum, appended, steps);
         Ok(refusal)
     }
 
-    // Publishes an answer or a stop at once.
-    #[tactic(auto, using(crate::proofs::Onwards::still_onwards, crate::proofs::Onwards::keeps_onwards))]
-    fn note<R: Wait>(&mut self, rt: &R, entry: Entry) -> Result<(), NoMemory>
-        requires stands { StandsForSome self.old }
-        requires bare { IsBareNote entry }
-        ensures done { OnOk result (Notes self.old self.new entry) }
-        ensures onwards { Onwards self.old.shelf self.new.shelf }
+    // ---- jobs
+
+    // A pin, an unpin, an answer or a stop is to be told at once.
+    fn note(&mut self, note: Note)
+        requires stands { StandsFor self.old }
+        requires rests { IsSettled self.old }
+        requires room { self.old.line.waits < self.old.line.room }
+        requires bare { IsBareNote (settled self.old).shelf.list (entry_of note) }
+        ensures done { Notes (settled self.old) (settled self.new) (entry_of note) }
+        ensures stands { StandsFor self.new }
+        ensures shown { self.new.shelf ≡ self.old.shelf }
     {
-        self.stage(entry)?;
-        self.publish(rt)
+        self.line.note(note);
     }
 
-    // Where the log ends, and what decisions rest on at the time.
-    fn decided_on(&self, now: &i64) -> Result<Decided, NoMemory>
-        ensures { IfOk result (λ at. at ≡ decided_on self.now.engine now.now) }
+    // What decisions rest on at the time.
+    fn basis_at(&self, now: &i64) -> Result<Basis, NoMemory>
+        ensures { IfOk result (λ basis. basis ≡ basis_at self.now.engine now.now) }
     {
         let mut basis = self.engine.basis()?;
         basis.time = later(&basis.time, now);
-        Ok(Decided {
-            place: self.engine.tip(),
-            count: 0,
-            basis,
-        })
+        Ok(basis)
     }
 
     // The client has seen more of the log than there is.
-    fn is_behind(&self, asked: &Asked) -> bool
-        ensures { result ≡ int_lt self.now.engine.tip asked.now.floor }
+    fn is_behind(&self, floor: &i64) -> bool
+        ensures { result ≡ int_lt self.now.engine.tip floor.now }
     {
-        self.engine.tip() < asked.floor
+        self.engine.tip() < *floor
     }
 
-    // A client's write.
-    fn write<R: Wait, Q: Quorum, C: Clock, L: Ledger>(
+    // Room for what comes of one event.
+    fn make_room(&mut self) -> Result<(), NoMemory>
+        requires stands { StandsFor self.old }
+        requires rests { IsSettled self.old }
+        ensures same { settled self.new ≡ settled self.old }
+        ensures stands { StandsFor self.new }
+        ensures rests { IsSettled self.new }
+        ensures shown { self.new.shelf ≡ self.old.shelf }
+        ensures engine { self.new.engine ≡ self.old.engine }
+        ensures room { OnOk result (self.new.line.waits < self.new.line.room) }
+    {
+        self.line.make_room(self.alloc)
+    }
+
+    // A client's write, at the time. Without memory for the step all is as before, and the job comes back.
+    fn write_at<Q: Quorum, L: Ledger>(
         &mut self,
-        rt: &R,
+        quorum: &mut Q,
+        caller: Caller,
+        now: &i64,
+        call: Call,
+        steps: &mut Steps<L>,
+    ) -> Result<(), Job>
+        requires stands { StandsFor self.old }
+        requires rests { IsSettled self.old }
+        requires room { self.old.line.waits < self.old.line.room }
+        requires write { IsTrue (not (is_read call.request)) }
+        requires floor { IsTrue (not (int_lt self.old.engine.tip caller.floor)) }
+        ensures done { OnOk result (DoesRequest (Q.pieces quorum.old) (Q.pieces quorum.new)
+            (Q.faults quorum.old) (Q.faults quorum.new) (settled self.old) (settled self.new)
+            caller now.now call) }
+        ensures stands { OnOk result (StandsFor self.new) }
+        ensures err { IfErr result (λ refused. (refused ≡ write_job caller call)
+            × (self.new ≡ self.old)
+            × (Q.pieces quorum.new ≡ Q.pieces quorum.old)
+            × (Q.faults quorum.new ≡ Q.faults quorum.old)) }
+        ensures shown { KeepsShown self.old.shelf self.new.shelf }
+    {
+        let Caller {
+            seat,
+            ticket,
+            floor,
+        } = caller;
+        let Ok(basis) = self.basis_at(now) else {
+            return Err(Job::Write {
+                seat,
+                ticket,
+                floor,
+                call,
+            });
+        };
+        let place = self.engine.tip();
+        let asking = Asking {
+            seat,
+            ticket,
+            floor,
+            place,
+            basis,
+        };
+        let event = Event::Request {
+            client: seat,
+            now: *now,
+            ask: Ask::Call(call),
+        };
+        match self.serve_whole(quorum, event, Some(asking), steps) {
+            Ok(_) => Ok(()),
+            Err(event) => Err(job_again(seat, ticket, &floor, event)),
+        }
+    }
+
+    // A client's write. Without memory all is as before, and the job comes back.
+    fn write<Q: Quorum, C: Clock, L: Ledger>(
+        &mut self,
         quorum: &mut Q,
         clock: &mut C,
-        asked: Asked,
+        caller: Caller,
+        call: Call,
         steps: &mut Steps<L>,
-    ) -> Result<(), NoMemory>
-        requires stands { StandsForSome self.old }
-        requires write { IsTrue (not (is_read asked.call.request)) }
-        ensures done { OnOk result (DoesWrite (int_lt self.old.engine.tip asked.floor)
+    ) -> Result<(), Job>
+        requires stands { StandsFor self.old }
+        requires rests { IsSettled self.old }
+        requires room { self.old.line.waits < self.old.line.room }
+        requires write { IsTrue (not (is_read call.request)) }
+        ensures done { OnOk result (DoesWrite (int_lt self.old.engine.tip caller.floor)
             (record {
               pieces = Q.pieces quorum.old;
               pieces' = Q.pieces quorum.new;
@@ -353,48 +600,73 @@ impl Desk {
               asks = C.asks clock.old;
               asks' = C.asks clock.new;
               last = C.last clock.new;
-            }) self.old self.new asked.seat
-            asked.ticket asked.floor asked.call) }
-        ensures onwards { Onwards self.old.shelf self.new.shelf }
+            }) (settled self.old) (settled self.new) caller.seat
+            caller.ticket caller.floor call) }
+        ensures stands { OnOk result (StandsFor self.new) }
+        ensures err { IfErr result (λ refused. (refused ≡ write_job caller call)
+            × (self.new ≡ self.old)
+            × (Q.pieces quorum.new ≡ Q.pieces quorum.old)
+            × (Q.faults quorum.new ≡ Q.faults quorum.old)) }
+        ensures shown { KeepsShown self.old.shelf self.new.shelf }
     {
-        if self.is_behind(&asked) {
+        if self.is_behind(&caller.floor) {
             let tip = self.engine.tip();
-            let answer = bare_answer(asked.seat, asked.ticket, &tip, AnswerKind::Ahead);
-            return self.note(rt, Entry::Answer { answer });
+            let kind = AnswerKind::Ahead;
+            let note = bare_answer(caller.seat, caller.ticket, &tip, kind);
+            self.note(note);
+            return Ok(());
         }
-        let Asked {
-            seat,
-            ticket,
-            floor,
-            call,
-        } = asked;
         let now = clock.now();
-        let at = self.decided_on(&now)?;
-        let asking = Asking {
-            seat,
-            ticket,
-            floor,
-            at,
-        };
-        let event = Event::Request {
-            client: seat,
-            now,
-            ask: Ask::Call(call),
-        };
-        self.serve_whole(rt, quorum, event, Some(asking), steps)?;
-        Ok(())
+        self.write_at(quorum, caller, &now, call, steps)
     }
 
-    /// Does a job.
-    pub(crate) fn do_job<R: Wait, Q: Quorum, C: Clock, L: Ledger>(
+    // What a client keeps or gives back is to be told, unless the client has seen more of the log than there is.
+    fn note_unless_ahead(&mut self, caller: Caller, note: Note)
+        requires stands { StandsFor self.old }
+        requires rests { IsSettled self.old }
+        requires room { self.old.line.waits < self.old.line.room }
+        requires bare { IsBareNote (settled self.old).shelf.list (entry_of note) }
+        ensures done { NotesUnlessAhead (int_lt self.old.engine.tip caller.floor)
+            (settled self.old) (settled self.new) caller.seat caller.ticket (entry_of note) }
+        ensures stands { StandsFor self.new }
+        ensures shown { self.new.shelf ≡ self.old.shelf }
+    {
+        if self.is_behind(&caller.floor) {
+            let tip = self.engine.tip();
+            let kind = AnswerKind::Ahead;
+            self.note(bare_answer(caller.seat, caller.ticket, &tip, kind));
+            return;
+        }
+        self.note(note);
+    }
+
+    // The committed end is pinned, unless the client has seen more of the log than there is.
+    fn note_pin(&mut self, caller: Caller)
+        requires stands { StandsFor self.old }
+        requires rests { IsSettled self.old }
+        requires room { self.old.line.waits < self.old.line.room }
+        ensures done { NotesUnlessAhead (int_lt self.old.engine.tip caller.floor)
+            (settled self.old) (settled self.new) caller.seat caller.ticket
+            (pin_entry caller.seat caller.ticket self.old.engine.committed) }
+        ensures stands { StandsFor self.new }
+        ensures shown { self.new.shelf ≡ self.old.shelf }
+    {
+        let place = self.engine.committed();
+        let note = pinned(caller.seat, caller.ticket, &place);
+        self.note_unless_ahead(caller, note);
+    }
+
+    // Does a job, for whose notes there is room.
+    fn do_with_room<Q: Quorum, C: Clock, L: Ledger>(
         &mut self,
-        rt: &R,
         quorum: &mut Q,
         clock: &mut C,
         job: Job,
         steps: &mut Steps<L>,
-    ) -> Result<Option<Reason>, NoMemory>
-        requires stands { StandsForSome self.old }
+    ) -> Result<Option<Reason>, Job>
+        requires stands { StandsFor self.old }
+        requires rests { IsSettled self.old }
+        requires room { self.old.line.waits < self.old.line.room }
         requires fit { IsTrue (is_fit job) }
         ensures done { IfOk result (λ refusal. DoesJob (record {
           pieces = Q.pieces quorum.old;
@@ -404,13 +676,21 @@ impl Desk {
           asks = C.asks clock.old;
           asks' = C.asks clock.new;
           last = C.last clock.new;
-        }) self.old self.new job refusal) }
-        ensures onwards { Onwards self.old.shelf self.new.shelf }
+        }) (settled self.old) (settled self.new) job refusal) }
+        ensures stands { OnOk result (StandsFor self.new) }
+        ensures err { IfErr result (λ refused. (refused ≡ job)
+            × (self.new ≡ self.old)
+            × (Q.pieces quorum.new ≡ Q.pieces quorum.old)
+            × (Q.faults quorum.new ≡ Q.faults quorum.old)) }
+        ensures shown { KeepsShown self.old.shelf self.new.shelf }
     {
         match job {
-            Job::Link { event } => self.serve_whole(rt, quorum, event, None, steps),
+            Job::Link { event } => match self.serve_whole(quorum, event, None, steps) {
+                Ok(refusal) => Ok(refusal),
+                Err(event) => Err(Job::Link { event }),
+            },
             Job::Stop { number } => {
-                self.note(rt, Entry::Stop { number })?;
+                self.note(stop(number));
                 Ok(None)
             }
             Job::Write {
@@ -419,16 +699,76 @@ impl Desk {
                 floor,
                 call,
             } => {
-                let asked = Asked {
+                let caller = Caller {
                     seat,
                     ticket,
                     floor,
-                    call,
                 };
-                self.write(rt, quorum, clock, asked, steps)?;
+                self.write(quorum, clock, caller, call, steps)?;
+                Ok(None)
+            }
+            Job::Pin {
+                seat,
+                ticket,
+                floor,
+            } => {
+                self.note_pin(Caller {
+                    seat,
+                    ticket,
+                    floor,
+                });
+                Ok(None)
+            }
+            Job::Unpin {
+                seat,
+                ticket,
+                floor,
+                place,
+            } => {
+                let note = unpinned(seat, ticket, &place);
+                let caller = Caller {
+                    seat,
+                    ticket,
+                    floor,
+                };
+                self.note_unless_ahead(caller, note);
                 Ok(None)
             }
         }
+    }
+
+    /// Does a job; what is to be published of it is due. Without memory for the step all is as before, and the job comes
+    /// back.
+    pub(crate) fn do_job<Q: Quorum, C: Clock, L: Ledger>(
+        &mut self,
+        quorum: &mut Q,
+        clock: &mut C,
+        job: Job,
+        steps: &mut Steps<L>,
+    ) -> Result<Option<Reason>, Job>
+        requires stands { StandsFor self.old }
+        requires rests { IsSettled self.old }
+        requires fit { IsTrue (is_fit job) }
+        ensures done { IfOk result (λ refusal. DoesJob (record {
+          pieces = Q.pieces quorum.old;
+          pieces' = Q.pieces quorum.new;
+          faults = Q.faults quorum.old;
+          faults' = Q.faults quorum.new;
+          asks = C.asks clock.old;
+          asks' = C.asks clock.new;
+          last = C.last clock.new;
+        }) (settled self.old) (settled self.new) job refusal) }
+        ensures stands { StandsFor self.new }
+        ensures err { IfErr result (λ refused. (refused ≡ job)
+            × (settled self.new ≡ settled self.old) × IsSettled self.new
+            × (Q.pieces quorum.new ≡ Q.pieces quorum.old)
+            × (Q.faults quorum.new ≡ Q.faults quorum.old)) }
+        ensures shown { KeepsShown self.old.shelf self.new.shelf }
+    {
+        if self.make_room().is_err() {
+            return Err(job);
+        }
+        self.do_with_room(quorum, clock, job, steps)
     }
 
     pub(crate) fn close<R: Wait>(self, rt: &R) {
@@ -436,7 +776,9 @@ impl Desk {
             alloc: _alloc,
             publisher,
             engine: _engine,
-            waiting: _waiting,
+            line: _line,
+            unstaged: _unstaged,
+            cut: _cut,
         } = self;
         publisher.close(rt);
     }

@@ -1,12 +1,14 @@
 //! The worker's seat, and its turn.
 
-ghost use Rattle.std.specs.Prelude.{◌≡◌, ◌<◌, [], true, false, None, OnErr, IfOk, IsErr};
+ghost use Rattle.std.specs.Prelude.{◌≡◌, ◌<◌, [], false, None, OnErr, OnOk, IfOk, IfSome, IfNone, IsTrue};
 ghost use Rattle.std.specs.Option.{option_copied};
 ghost use Rattle.std.specs.Arc.{arc_value};
 ghost use Rattle.kr_queue.specs.declared.passes.Role.TheVariants as roles;
+ghost use Rattle.kr_queue.specs.Jobs.{is_fit};
 ghost use Rattle.kr_queue.specs.Passes.{view, IsPassOf};
-ghost use Rattle.kr_shared.specs.Standing.{StandsForSome};
-ghost use Rattle.kr_shared.specs.Turns.{IsBroken, Turned, is_stop, turn_of};
+ghost use Rattle.kr_queue.specs.Steps.{Holds};
+ghost use Rattle.kr_shared.specs.Desks.{IsSettled, StandsFor, settled};
+ghost use Rattle.kr_shared.specs.Turns.{IsDoneLate, IsDoneWhole, IsLate, StaysLate, TakesUp, Turned, is_stop, turn_of};
 
 use crate::bell::Bell;
 use crate::clients::Bells;
@@ -38,16 +40,18 @@ pub struct WorkerSeat {
     pass: Pass,
     // The bell of the queue, and that of the copies.
     bells: Bells,
-    // The engine, with what it published and what waits.
+    // The engine, with what it published, what waits and what is due.
     desk: Desk,
+    // A job for which there was no memory, before any other.
+    stays: Option<Job>,
     // Why the last turn's event was refused, if it was.
     refusal: Option<Reason>,
-    // How many jobs were popped.
+    // How many jobs were taken up.
     pops: u64,
-    // A stop was popped, and published.
+    // A stop was popped.
     stopped: bool,
-    // A turn found no memory, so nothing more is done.
-    broken: bool,
+    // There was no memory to publish what is due.
+    late: bool,
 }
 
 impl Model for WorkerSeat {
@@ -68,6 +72,7 @@ fn turn_of(job: &Job) -> Turn
     match job {
         Job::Stop { .. } => Turn::Stopped,
         Job::Link { .. } | Job::Write { .. } => Turn::Did,
+        Job::Pin { .. } | Job::Unpin { .. } => Turn::Did,
     }
 }
 
@@ -81,13 +86,16 @@ impl WorkerSeat {
     pub(crate) fn new(queue: Arc<Queue, Global>, pass: Pass, bells: Bells, desk: Desk) -> WorkerSeat
         requires pass { IsPassOf (arc_value queue) pass }
         requires role { (view pass).role ≡ roles.Worker }
-        requires stands { StandsForSome desk }
+        requires stands { StandsFor desk }
+        requires rests { IsSettled desk }
         ensures { result ≡ record {
           knows = view pass;
-          work = desk;
+          work = settled desk;
+          shown = desk.shelf.list;
+          stays = None;
           refusal = None;
           stopped = false;
-          broken = false;
+          late = false;
         } }
     {
         WorkerSeat {
@@ -95,14 +103,16 @@ impl WorkerSeat {
             pass,
             bells,
             desk,
+            stays: None,
             refusal: None,
             pops: 0,
             stopped: false,
-            broken: false,
+            late: false,
         }
     }
 
-    /// Why the last turn's event of the link was refused; none where it was not.
+    /// Why the event of the link was refused that the last turn took; none where it was not. Also a turn that found no memory
+    /// to publish what came of it tells so.
     pub fn refusal(&self) -> Option<&Reason>
         ensures { option_copied result ≡ self.now.refusal }
     {
@@ -114,10 +124,93 @@ impl WorkerSeat {
         &self.bells.jobs
     }
 
+    // All that is due is published.
+    fn catch_up<R: Wait>(&mut self, rt: &R) -> Result<(), NoMemory>
+        ensures ok { OnOk result (self.new
+            ≡ record self.old { shown = self.old.work.shelf.list; late = false }) }
+        ensures err { OnErr result (StaysLate self.old self.new) }
+    {
+        if self.late {
+            self.desk.settle(rt)?;
+            self.late = false;
+            self.bells.copies.ring(rt);
+        }
+        Ok(())
+    }
+
+    // A job that stayed, or else the next one.
+    fn take_up<R: Wait, G: Gate>(&mut self, rt: &R, gate: &mut G) -> Option<Job>
+        ensures some { IfSome result (λ job. TakesUp self.old.stays self.old.knows job
+            self.new.knows × IsTrue (is_fit job)) }
+        ensures none { IfNone result ((self.old.stays ≡ None) × (self.new ≡ self.old)
+            × Holds self.old.knows []) }
+        ensures same { self.new ≡ record self.old { knows = self.new.knows; stays = None } }
+    {
+        if let Some(job) = self.stays.take() {
+            return Some(job);
+        }
+        let job = self.queue.pop(rt, &mut self.pass)?;
+        self.pops = self.pops.saturating_add(1);
+        gate.before(self.pops);
+        Some(job)
+    }
+
+    // Does a job. Without memory it stays, or what is to be published of it is due.
+    fn work<L: Ledger, R: Wait, Q: Quorum, C: Clock>(
+        &mut self,
+        rt: &R,
+        quorum: &mut Q,
+        clock: &mut C,
+        job: Job,
+        blank: Blank,
+    ) -> Result<Turn, NoMemory>
+        requires name { blank.name ≡ L.name }
+        requires parts { blank.parts ≡ L.parts }
+        requires some { 0 < L.parts }
+        requires fit { IsTrue (is_fit job) }
+        requires late { self.old.late ≡ false }
+        ensures done { IfOk result (λ turn. (turn ≡ turn_of job) × IsDoneWhole (record {
+          pieces = Q.pieces quorum.old;
+          pieces' = Q.pieces quorum.new;
+          faults = Q.faults quorum.old;
+          faults' = Q.faults quorum.new;
+          asks = C.asks clock.old;
+          asks' = C.asks clock.new;
+          last = C.last clock.new;
+        }) self.old self.new job) }
+        ensures late { OnErr result (IsDoneLate (record {
+          pieces = Q.pieces quorum.old;
+          pieces' = Q.pieces quorum.new;
+          faults = Q.faults quorum.old;
+          faults' = Q.faults quorum.new;
+          asks = C.asks clock.old;
+          asks' = C.asks clock.new;
+          last = C.last clock.new;
+        }) self.old self.new job) }
+    {
+        let turn = turn_of(&job);
+        let stops = is_stop(&job);
+        let mut steps: Steps<L> = Steps::new(blank);
+        match self.desk.do_job(quorum, clock, job, &mut steps) {
+            Ok(refusal) => {
+                self.refusal = refusal;
+                self.stopped = stops;
+                self.late = true;
+            }
+            Err(job) => {
+                self.stays = Some(job);
+                return Err(NoMemory);
+            }
+        }
+        self.catch_up(rt)?;
+        Ok(turn)
+    }
+
     /// Takes the next job and does it: an event of the link or a client's write is a step of the engine, what the step appends
     /// goes to the quorum, what is committed is published, and behind it an answer for each write that ends. Where an append
     /// failed, the leadership is lost in the same turn. Idle only where the queue was empty; after a stop each turn is
-    /// Stopped. After NoMemory each turn answers it again.
+    /// Stopped. Without memory for the step the engine is as it was and the job stays, for the next turn; without memory to
+    /// publish what came of a job the next turn begins with that.
     pub fn turn<R: Wait, G: Gate, Q: Quorum, C: Clock>(
         &mut self,
         rt: &R,
@@ -134,24 +227,7 @@ impl WorkerSeat {
           asks' = C.asks clock.new;
           last = C.last clock.new;
         }) self.old self.new turn) }
-        ensures broken { OnErr result (IsBroken self.old self.new) }
-        ensures before { self.old.broken ≡ true → IsErr result }
-    {
-        self.take_turn::<Brand, R, G, Q, C>(rt, gate, quorum, clock, Blank::new(1))
-    }
-
-    fn take_turn<L: Ledger, R: Wait, G: Gate, Q: Quorum, C: Clock>(
-        &mut self,
-        rt: &R,
-        gate: &mut G,
-        quorum: &mut Q,
-        clock: &mut C,
-        blank: Blank,
-    ) -> Result<Turn, NoMemory>
-        requires name { blank.name ≡ L.name }
-        requires parts { blank.parts ≡ L.parts }
-        requires some { 0 < L.parts }
-        ensures turned { IfOk result (λ turn. Turned (record {
+        ensures late { OnErr result (IsLate (record {
           pieces = Q.pieces quorum.old;
           pieces' = Q.pieces quorum.new;
           faults = Q.faults quorum.old;
@@ -159,37 +235,17 @@ impl WorkerSeat {
           asks = C.asks clock.old;
           asks' = C.asks clock.new;
           last = C.last clock.new;
-        }) self.old self.new turn) }
-        ensures broken { OnErr result (IsBroken self.old self.new) }
-        ensures before { self.old.broken ≡ true → IsErr result }
+        }) self.old self.new) }
     {
-        if self.broken {
-            return Err(NoMemory);
-        }
         self.refusal = None;
+        self.catch_up(rt)?;
         if self.stopped {
             return Ok(Turn::Stopped);
         }
-        let Some(job) = self.queue.pop(rt, &mut self.pass) else {
+        let Some(job) = self.take_up(rt, gate) else {
             return Ok(Turn::Idle);
         };
-        self.pops = self.pops.saturating_add(1);
-        gate.before(self.pops);
-        let turn = turn_of(&job);
-        let stops = is_stop(&job);
-        let mut steps: Steps<L> = Steps::new(blank);
-        match self.desk.do_job(rt, quorum, clock, job, &mut steps) {
-            Ok(refusal) => {
-                self.refusal = refusal;
-                self.stopped = stops;
-                self.bells.copies.ring(rt);
-                Ok(turn)
-            }
-            Err(fault) => {
-                self.broken = true;
-                Err(fault)
-            }
-        }
+        self.work::<Brand, R, Q, C>(rt, quorum, clock, job, Blank::new(1))
     }
 
     /// Ends the seat. A client's seat that is used afterwards may get no copy.
@@ -199,10 +255,11 @@ impl WorkerSeat {
             pass: _pass,
             bells: _bells,
             desk,
+            stays: _stays,
             refusal: _refusal,
             pops: _pops,
             stopped: _stopped,
-            broken: _broken,
+            late: _late,
         } = self;
         desk.close(rt);
     }

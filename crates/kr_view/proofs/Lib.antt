@@ -2,6 +2,10 @@ pub mod Tables
 pub mod Moves
 pub mod Shows
 pub mod Finds
+pub mod Kept
+pub mod PinnedPlaces
+pub mod Behind
+pub mod Filling
 pub mod Runs
 pub mod Replied
 pub mod Logged

@@ -1,6 +1,7 @@
--- Entries of the log alone are right wherever they come.
-use Rattle.std.proofs.Common.{◌≡◌, ℤ, Bool, true, false, true≢false, List, [], ◌∷◌, ◌++◌, All, cond, sym, subst, append-nil, ◌∙◌}
-use Rattle.std.proofs.lemmas.List.Elements.{All-head, All-tail}
+-- Entries that are neither answers nor pins are right wherever they come.
+use Rattle.std.proofs.Common.{◌≡◌, ℤ, Bool, true, false, true≢false, List, [], ◌∷◌, ◌++◌, All, cond, sym, subst, ap}
+use Rattle.std.specs.List.{AllByRecursion}
+use Rattle.std.proofs.lemmas.List.Elements.{recursion_from_All}
 use Rattle.kr_defs.specs.declared.options.Options.{Options}
 use Rattle.kr_calls.specs.declared.events.Entry.{Entry}
 use Rattle.kr_calls.specs.declared.events.Entry.TheVariants as entries
@@ -8,23 +9,51 @@ use Rattle.kr_calls.specs.RightAnswers.{IsRightEntry, AreRightAfter}
 use Rattle.kr_calls.specs.SeatList.{is_below}
 use Rattle.kr_view.specs.Shelves.{next_at}
 use Rattle.kr_view.specs.Staged.{staged_below, is_logged}
-use Rattle.kr_view.specs.StagedLaws.{LoggedEntriesAreRight}
+use Rattle.kr_view.specs.StagedLaws.{LoggedEntriesAreRight, PlainEntriesAreRight, is_plain_entry}
 
-right : (o : Options) (before : List Entry) (e : Entry) → is_logged e ≡ true → IsRightEntry o before e
+abbrev Plain : List Entry → Type 0
+Plain list = AllByRecursion (λ e. is_plain_entry e ≡ true) list
+
+right : (o : Options) (before : List Entry) (e : Entry) → is_plain_entry e ≡ true → IsRightEntry o before e
 right o before (entries.Item place item) is = tt
 right o before (entries.Load offset records) is = tt
+right o before (entries.Pin pin) is = absurd (true≢false (sym is))
+right o before (entries.Unpin pin) is = tt
 right o before (entries.Answer answer) is = absurd (true≢false (sym is))
 right o before (entries.Stop number) is = tt
 
-first : (o : Options) (before : List Entry) (e : Entry) (rest : List Entry) (b : Bool) → IsRightEntry o before e → AreRightAfter o (before ++ e ∷ []) rest → AreRightAfter o before (cond b (e ∷ rest) [])
-first o before e rest true is more = (is, more)
-first o before e rest false is more = tt
+rights : (o : Options) (before list : List Entry) → Plain list → AreRightAfter o before list
+rights o before [] all = tt
+rights o before (e ∷ es) all = (right o before e all.0, rights o (before ++ e ∷ []) es all.1)
 
-below_end : (o : Options) (end : ℤ) (before list : List Entry) → All (λ e. is_logged e ≡ true) list → AreRightAfter o before (staged_below end list)
-below_end o end before [] all = tt
-below_end o end before (e ∷ es) all = first o before e (staged_below end es) (is_below end e) (right o before e (All-head (λ (x : Entry). is_logged x ≡ true) e es all)) (below_end o end (before ++ e ∷ []) es (All-tail (λ (x : Entry). is_logged x ≡ true) e es all))
+below_end : (end : ℤ) (list : List Entry) → Plain list → Plain (staged_below end list)
+below_end end [] all = tt
+below_end end (e ∷ es) all = elim (is_below end e) as (λ b. Plain (cond b (e ∷ staged_below end es) [])) [ true ↦ (all.0, below_end end es all.1) | false ↦ tt ]
+
+both : (xs ys : List Entry) → Plain xs → Plain ys → Plain (xs ++ ys)
+both [] ys a b = b
+both (x ∷ xs) ys a b = (a.0, both xs ys a.1 b)
+
+shown : (o : Options) (before waiting items notes : List Entry) (end : ℤ) → waiting ≡ [] → Plain items → Plain notes → AreRightAfter o before (waiting ++ staged_below end items ++ notes)
+shown o before waiting items notes end none a b =
+    subst (λ (l : List Entry). AreRightAfter o before (l ++ staged_below end items ++ notes)) (sym none) (rights o before (staged_below end items ++ notes) (both (staged_below end items) notes (below_end end items a) b))
+
+pub are_plainly_right : PlainEntriesAreRight
+are_plainly_right end s is =
+    shown s.options s.list s.waiting s.items s.notes end is.waiting (recursion_from_All (λ (e : Entry). is_plain_entry e ≡ true) s.items is.items) (recursion_from_All (λ (e : Entry). is_plain_entry e ≡ true) s.notes is.notes)
+
+logged_plain : (e : Entry) → is_logged e ≡ true → is_plain_entry e ≡ true
+logged_plain (entries.Item place item) is = is
+logged_plain (entries.Load offset records) is = is
+logged_plain (entries.Pin pin) is = absurd (true≢false (sym is))
+logged_plain (entries.Unpin pin) is = absurd (true≢false (sym is))
+logged_plain (entries.Answer answer) is = absurd (true≢false (sym is))
+logged_plain (entries.Stop number) is = absurd (true≢false (sym is))
+
+all_plain : (list : List Entry) → AllByRecursion (λ e. is_logged e ≡ true) list → Plain list
+all_plain [] all = tt
+all_plain (e ∷ es) all = (logged_plain e all.0, all_plain es all.1)
 
 pub are_right : LoggedEntriesAreRight
 are_right end s is =
-    let same : staged_below end s.items ≡ next_at end s = sym (append-nil (staged_below end s.items)) ∙ (λ i. sym is.waiting i ++ staged_below end s.items ++ sym is.notes i) in
-    subst (λ l. AreRightAfter s.options s.list l) same (below_end s.options end s.list s.items is.items)
+    shown s.options s.list s.waiting s.items s.notes end is.waiting (all_plain s.items (recursion_from_All (λ (e : Entry). is_logged e ≡ true) s.items is.items)) (subst Plain (sym is.notes) tt)

@@ -1,9 +1,9 @@
 -- The end rises where a run of entries changes the image.
-use Rattle.std.proofs.Common.{◌≡◌, ◌≢◌, ◌⊎◌, inl, inr, ⊎_elim, ℤ, pos, Bool, true, false, ◌&&◌, cond, true≢false, List, [], ◌∷◌, fold, refl, sym, ap, ◌∙◌, subst, arith}
+use Rattle.std.proofs.Common.{◌≡◌, ◌≢◌, ◌⊎◌, inl, inr, ⊎_elim, ℕ, ℤ, pos, Bool, true, false, ◌&&◌, cond, true≢false, List, [], ◌∷◌, fold, refl, sym, ap, ◌∙◌, subst, arith}
 use Rattle.std.proofs.lemmas.Int.{ints}
 use Rattle.std.proofs.lemmas.List.Elements.{All-head, All-tail}
 use Rattle.std.proofs.lemmas.Bool.Decides.{Decides-int_eq}
-use Rattle.std.specs.Prelude.{◌+ℤ◌, negsuc, int_lt, Result, Ok, Err}
+use Rattle.std.specs.Prelude.{◌+ℤ◌, int_lt, Result, Ok, Err}
 use Rattle.std.specs.Ordering.{int_eq}
 use Rattle.kr_defs.specs.declared.ill.Ill.{Ill}
 use Rattle.kr_defs.specs.declared.limits.TheConstants.{PLACES_END}
@@ -11,9 +11,9 @@ use Rattle.kr_defs.specs.Apply.{apply}
 use Rattle.kr_defs.specs.Image.{Image}
 use Rattle.kr_calls.specs.declared.events.Entry.{Entry}
 use Rattle.kr_calls.specs.declared.events.Entry.TheVariants as entries
-use Rattle.kr_calls.specs.SeatList.{Reached, with_image, reached_with}
-use Rattle.kr_view.specs.Runs.{is_load, AreNoLoads}
-use Rattle.kr_view.specs.Standing.{run_with}
+use Rattle.kr_calls.specs.SeatList.{PinnedLog, Reached, loads_with, pinned_with, with_image}
+use Rattle.kr_view.specs.Runs.{is_single, AreNoSingles}
+use Rattle.kr_view.specs.Standing.{run_with, with_run}
 
 abbrev Rises : Reached → Reached → Type 0
 Rises r after = (after ≡ r) ⊎ (int_lt r.end after.end ≡ true)
@@ -33,6 +33,8 @@ at_end r place result false is low = inl refl
 one : (r : Reached) (e : Entry) → Rises r (run_with r e)
 one r (entries.Item place item) = at_end r place (apply r.image item) (int_eq place r.end) refl (int_lt place PLACES_END)
 one r (entries.Load offset records) = inl refl
+one r (entries.Pin pin) = inl refl
+one r (entries.Unpin pin) = inl refl
 one r (entries.Answer answer) = inl refl
 one r (entries.Stop number) = inl refl
 
@@ -61,24 +63,30 @@ pub gone_on : (r : Reached) (es : List Entry) → (fold run_with r es).end ≢ r
 gone_on r es other =
     ⊎_elim (λ (is : fold run_with r es ≡ r). absurd (other (ap (λ (x : Reached). x.end) is))) (λ (up : int_lt r.end (fold run_with r es).end ≡ true). up) (risen r es)
 
--- the end doesn't fall below the first place
-pub never_back : (r : Reached) (es : List Entry) → int_lt (negsuc 0) r.end ≡ true → int_lt (negsuc 0) (fold run_with r es).end ≡ true
-never_back r es from =
-    ⊎_elim (λ (is : fold run_with r es ≡ r). subst (λ (x : Reached). int_lt (negsuc 0) x.end ≡ true) (sym is) from)
-    (λ (up : int_lt r.end (fold run_with r es).end ≡ true). through (negsuc 0) r.end (fold run_with r es).end from up)
-    (risen r es)
+alike : (l : PinnedLog) (e : Entry) → is_single e ≡ false → record l { at = run_with l.at e } ≡ pinned_with l e
+alike l (entries.Item place item) plain = refl
+alike l (entries.Load offset records) plain = absurd (true≢false plain)
+alike l (entries.Pin pin) plain = absurd (true≢false plain)
+alike l (entries.Unpin pin) plain = absurd (true≢false plain)
+alike l (entries.Answer answer) plain = refl
+alike l (entries.Stop number) plain = refl
 
-alike : (r : Reached) (e : Entry) → is_load e ≡ false → run_with r e ≡ reached_with r e
-alike r (entries.Item place item) plain = refl
-alike r (entries.Load offset records) plain = absurd (true≢false plain)
-alike r (entries.Answer answer) plain = refl
-alike r (entries.Stop number) plain = refl
+-- a run is what its entries say
+pub run_is_log : (l : PinnedLog) (es : List Entry) → AreNoSingles es → with_run l es ≡ fold pinned_with l es
+run_is_log l [] plain = refl
+run_is_log l (e ∷ es) plain =
+    ap (λ (x : PinnedLog). with_run x es) (alike l e (All-head (λ (x : Entry). is_single x ≡ false) e es plain)) ∙ run_is_log (pinned_with l e) es (All-tail (λ (x : Entry). is_single x ≡ false) e es plain)
 
--- without loads a run is what its entries say
-pub same_without_loads : (r : Reached) (es : List Entry) → AreNoLoads es → fold run_with r es ≡ fold reached_with r es
-same_without_loads r [] plain = refl
-same_without_loads r (e ∷ es) plain = ap (λ (x : Reached). fold run_with x es) (alike r e (All-head (λ (x : Entry). is_load x ≡ false) e es plain)) ∙ same_without_loads (reached_with r e) es (All-tail (λ (x : Entry). is_load x ≡ false) e es plain)
+plain_entry : (n : ℕ) (e : Entry) → is_single e ≡ false → loads_with n e ≡ n
+plain_entry n (entries.Item place item) plain = refl
+plain_entry n (entries.Load offset records) plain = absurd (true≢false plain)
+plain_entry n (entries.Pin pin) plain = refl
+plain_entry n (entries.Unpin pin) plain = refl
+plain_entry n (entries.Answer answer) plain = refl
+plain_entry n (entries.Stop number) plain = refl
 
--- the same of what is known to equal it
-pub stays_up : (r after : Reached) (es : List Entry) → after ≡ fold run_with r es → int_lt (negsuc 0) r.end ≡ true → int_lt (negsuc 0) after.end ≡ true
-stays_up r after es is from = subst (λ (x : Reached). int_lt (negsuc 0) x.end ≡ true) (sym is) (never_back r es from)
+-- a run has no image in place of all
+pub no_loads : (n : ℕ) (es : List Entry) → AreNoSingles es → n ≡ fold loads_with n es
+no_loads n [] plain = refl
+no_loads n (e ∷ es) plain =
+    no_loads n es (All-tail (λ (x : Entry). is_single x ≡ false) e es plain) ∙ ap (λ m. fold loads_with m es) (sym (plain_entry n e (All-head (λ (x : Entry). is_single x ≡ false) e es plain)))

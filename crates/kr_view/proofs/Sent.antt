@@ -48,21 +48,21 @@ options_send = shared.the_send options_row options.the_send options.the_sync
 options_sync : IsSync (shared_row options_row)
 options_sync = shared.the_sync options_row options.the_send options.the_sync
 
--- the options, the allocator, the standing store, the table, the first stop, and the history, field by field
+-- the options, the allocator, the standing store, the table, the first stop, the number of loads, and the history, field by field
 pub shown_send : IsSend the_row
 shown_send =
-    view_send _ _ _ _ _ (declared_send the_type (options_send, (search sendable depth 20, (standing.the_send, (table.the_send, (search sendable depth 20, (history_send step_row, tt)))))))
+    view_send _ _ _ _ _ (declared_send the_type (options_send, (search sendable depth 20, (standing.the_send, (table.the_send, (search sendable depth 20, (search sendable depth 20, (history_send step_row, tt))))))))
 
 pub shown_sync : IsSync the_row
 shown_sync =
-    view_sync _ _ _ _ _ (declared_sync the_type (options_sync, (search sendable depth 20, (standing.the_sync, (table.the_sync, (search sendable depth 20, (history_sync step_row, tt)))))))
+    view_sync _ _ _ _ _ (declared_sync the_type (options_sync, (search sendable depth 20, (standing.the_sync, (table.the_sync, (search sendable depth 20, (search sendable depth 20, (history_sync step_row, tt))))))))
 
--- a reader, with its count; with the end beside it; and with its number
+-- a reader, with its count; with the end and the number of loads beside it; and with its number
 edge_send : IsSend edge_row
 edge_send = declared_send edge_type (search (reader.the_send, shown_sync, heap.send, heap.sync, heap.frees) depth 20, (search sendable depth 20, tt))
 
 held_send : IsSend held_row
-held_send = declared_send held_type (edge_send, (search sendable depth 20, tt))
+held_send = declared_send held_type (edge_send, (search sendable depth 20, (search sendable depth 20, tt)))
 
 pub seat_send : IsSend seat_row
 seat_send = view_send _ _ _ _ _ (declared_send seat_type (search sendable depth 20, (held_send, tt)))

@@ -1,5 +1,11 @@
 pub mod Runs
 pub mod Steps
+pub mod Pinned
+pub mod Scans
+pub mod Listings
+pub mod RecordPages
+pub mod RecordSections
+pub mod Readers
 pub mod Standing
 pub mod Tables
 pub mod Showing

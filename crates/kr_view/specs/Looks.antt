@@ -4,29 +4,33 @@ use Rattle.kr_defs.specs.declared.options.Options.{Options}
 use Rattle.kr_calls.specs.declared.answers.Answer.{Answer}
 use Rattle.kr_calls.specs.declared.events.Entry.{Entry}
 use Rattle.kr_calls.specs.declared.events.Entry.TheVariants as entries
-use Rattle.kr_calls.specs.RightAnswers.{IsRight}
-use Rattle.kr_calls.specs.SeatList.{last_of, stop_of}
+use Rattle.kr_calls.specs.declared.seat_entry.SeatEntry.{SeatEntry}
+use Rattle.kr_calls.specs.RightAnswers.{IsRightEntry}
+use Rattle.kr_calls.specs.SeatList.{entry_of, entry_seat, entry_ticket, last_of, stop_of}
 use Rattle.kr_view.specs.declared.looks.Look.{Look}
 use Rattle.kr_view.specs.declared.looks.Look.TheVariants.{Found, Stopped, NotYet}
 
-abbrev pub without_answer : Option ℕ → Look
-without_answer (Some number) = Stopped number
-without_answer None = NotYet
+abbrev pub without_entry : Option ℕ → Look
+without_entry (Some number) = Stopped number
+without_entry None = NotYet
 
-abbrev pub looked_at : Option Answer → Option ℕ → ℕ → Look
-looked_at None stop ticket = without_answer stop
-looked_at (Some a) stop ticket = if a.ticket == ticket then Found a else without_answer stop
+abbrev pub looked_at : Option SeatEntry → Option ℕ → ℕ → Look
+looked_at None stop ticket = without_entry stop
+looked_at (Some e) stop ticket = if entry_ticket e == ticket then Found e else without_entry stop
 
--- the last answer of the seat, if it has this ticket; else the first stop, if there is one
+-- what the seat was told last, if it has this ticket; else the first stop, if there is one
 abbrev pub looked : ℕ → ℕ → List Entry → Look
 looked seat ticket list = looked_at (last_of seat list) (stop_of list) ticket
 
--- the answer stands in the list, and is right in the entries before it
-abbrev pub HasRight : Options → List Entry → Answer → Type 0
-HasRight options list a = (before : List Entry) × (rest : List Entry) × (list ≡ before ++ entries.Answer a ∷ rest) × IsRight options before a
+-- the entry stands in the list, and is right in the entries before it
+abbrev pub HasRightEntry : Options → List Entry → Entry → Type 0
+HasRightEntry options list e = (before : List Entry) × (rest : List Entry) × (list ≡ before ++ e ∷ rest) × IsRightEntry options before e
 
--- what is found is a right answer of this seat and ticket; what stopped is the list's first stop
+abbrev pub HasRight : Options → List Entry → Answer → Type 0
+HasRight options list a = HasRightEntry options list (entries.Answer a)
+
+-- what is found is a right entry of this seat and ticket; what stopped is the list's first stop
 abbrev pub LookTells : Options → ℕ → ℕ → List Entry → Look → Type 0
-LookTells options seat ticket list (Found a) = HasRight options list a × (a.seat ≡ seat) × (a.ticket ≡ ticket)
+LookTells options seat ticket list (Found e) = HasRightEntry options list (entry_of e) × (entry_seat e ≡ seat) × (entry_ticket e ≡ ticket)
 LookTells options seat ticket list (Stopped number) = stop_of list ≡ Some number
 LookTells options seat ticket list NotYet = Unit {0}

@@ -5,7 +5,7 @@ use Rattle.kr_calls.specs.declared.events.Entry.{Entry}
 use Rattle.kr_view.specs.Staged.{staged_above, staged_below, is_logged}
 
 -- the options, the published list, what an earlier publish chose that found no memory, and what is staged: of the log, and
--- the answers and stops
+-- the pins, unpins, answers and stops
 pub record Shelf : Type 0 where
   pub options : Options
   pub list : List Entry

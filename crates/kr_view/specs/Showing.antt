@@ -1,9 +1,9 @@
 -- What a copy shows. This project's own.
 use Rattle.std.specs.Prelude.{◌≡◌, List, ◌++◌, Option, ℕ}
 use Rattle.kr_defs.specs.declared.options.Options.{Options}
-use Rattle.kr_calls.specs.declared.answers.Answer.{Answer}
 use Rattle.kr_calls.specs.declared.events.Entry.{Entry}
-use Rattle.kr_calls.specs.SeatList.{Reached, reached, stop_of}
+use Rattle.kr_calls.specs.declared.seat_entry.SeatEntry.{SeatEntry}
+use Rattle.kr_calls.specs.SeatList.{PinnedLog, loads_of, pinned_log, stop_of}
 use Rattle.kr_view.specs.Tables.{table_of}
 
 -- the options of the opening, and the entries
@@ -18,7 +18,8 @@ abbrev pub showing_more : Showing → List Entry → Showing
 showing_more s more = showing s.options (s.list ++ more)
 
 -- what a copy holds is what its entries say
-pub record HoldsEntries (at : Reached) (answers : List (Option Answer)) (first : Option ℕ) (entries : List Entry) : Type 0 where
-  pub standing : at ≡ reached entries
-  pub table : answers ≡ table_of entries
+pub record HoldsEntries (log : PinnedLog) (told : List (Option SeatEntry)) (first : Option ℕ) (loads : ℕ) (entries : List Entry) : Type 0 where
+  pub standing : log ≡ pinned_log entries
+  pub table : told ≡ table_of entries
   pub stop : first ≡ stop_of entries
+  pub loads_so_far : loads ≡ loads_of entries

@@ -18,5 +18,7 @@ staged_above end (e ∷ es) = if is_below end e then staged_above end es else e 
 abbrev pub is_logged : Entry → Bool
 is_logged (entries.Item place item) = true
 is_logged (entries.Load offset records) = true
+is_logged (entries.Pin pin) = false
+is_logged (entries.Unpin pin) = false
 is_logged (entries.Answer answer) = false
 is_logged (entries.Stop number) = false

@@ -1,10 +1,12 @@
--- What is true of staged entries of the log alone. This project's own.
-use Rattle.std.specs.Prelude.{◌≡◌, ℤ, true, [], All}
+-- What is true of staged entries without answers and pins. This project's own.
+use Rattle.std.specs.Prelude.{◌≡◌, ℤ, Bool, true, false, [], All}
+use Rattle.kr_calls.specs.declared.events.Entry.{Entry}
+use Rattle.kr_calls.specs.declared.events.Entry.TheVariants as entries
 use Rattle.kr_calls.specs.RightAnswers.{AreRightAfter}
 use Rattle.kr_view.specs.Shelves.{Shelf, next_at}
 use Rattle.kr_view.specs.Staged.{is_logged}
 
--- nothing waits, and no answer and no stop is staged
+-- nothing waits, and what is staged is of the log
 pub record IsLogged (s : Shelf) : Type 0 where
   pub waiting : s.waiting ≡ []
   pub items : All (λ e. is_logged e ≡ true) s.items
@@ -16,6 +18,25 @@ pub record HasNothing (s : Shelf) : Type 0 where
   pub items : s.items ≡ []
   pub notes : s.notes ≡ []
 
--- where no answer is staged, a publish may come
+-- where all that is staged is of the log, a publish may come
 abbrev pub LoggedEntriesAreRight : Type 0
 LoggedEntriesAreRight = (end : ℤ) (s : Shelf) → IsLogged s → AreRightAfter s.options s.list (next_at end s)
+
+-- neither an answer nor a pin
+abbrev pub is_plain_entry : Entry → Bool
+is_plain_entry (entries.Item place item) = true
+is_plain_entry (entries.Load offset records) = true
+is_plain_entry (entries.Pin pin) = false
+is_plain_entry (entries.Unpin pin) = true
+is_plain_entry (entries.Answer answer) = false
+is_plain_entry (entries.Stop number) = true
+
+-- nothing waits, and neither is staged
+pub record IsPlain (s : Shelf) : Type 0 where
+  pub waiting : s.waiting ≡ []
+  pub items : All (λ e. is_plain_entry e ≡ true) s.items
+  pub notes : All (λ e. is_plain_entry e ≡ true) s.notes
+
+-- where neither is staged, a publish may come
+abbrev pub PlainEntriesAreRight : Type 0
+PlainEntriesAreRight = (end : ℤ) (s : Shelf) → IsPlain s → AreRightAfter s.options s.list (next_at end s)

@@ -6,7 +6,7 @@ use Rattle.kr_view.specs.declared.run.Step.TheVariants as steps
 
 abbrev pub entries_of : Step → List Entry
 entries_of (steps.Run run) = run
-entries_of (steps.Load load) = load ∷ []
+entries_of (steps.Single single) = single ∷ []
 
 abbrev pub with_entries : List Entry → Step → List Entry
 with_entries list step = list ++ entries_of step

@@ -1,33 +1,45 @@
--- The last answers of all seats, in a table. This project's own.
+-- What all seats were told last, in a table. This project's own.
 use Rattle.std.specs.Prelude.{List, [], ◌∷◌, ◌++◌, Option, Some, None, slice_set, slice_index_or, replicate, fold, if◌then◌else◌}
-use Rattle.kr_calls.specs.declared.answers.Answer.{Answer}
 use Rattle.kr_calls.specs.declared.events.Entry.{Entry}
 use Rattle.kr_calls.specs.declared.events.Entry.TheVariants as entries
-use Rattle.kr_calls.specs.SeatList.{is_older}
+use Rattle.kr_calls.specs.declared.seat_entry.SeatEntry.{SeatEntry}
+use Rattle.kr_calls.specs.declared.seat_entry.SeatEntry.TheVariants as told
+use Rattle.kr_calls.specs.SeatList.{entry_seat, is_older}
 
--- a seat's answer takes the place of one that isn't later
-abbrev pub noted : List (Option Answer) → Answer → List (Option Answer)
-noted table a = if is_older a (slice_index_or table a.seat None) then table else slice_set table a.seat (Some a)
+-- what a seat is told takes the place of what isn't later
+abbrev pub noted : List (Option SeatEntry) → SeatEntry → List (Option SeatEntry)
+noted table a = if is_older a (slice_index_or table (entry_seat a) None) then table else slice_set table (entry_seat a) (Some a)
 
-abbrev pub noted_with : List (Option Answer) → Entry → List (Option Answer)
-noted_with table (entries.Item place item) = table
-noted_with table (entries.Load offset records) = table
-noted_with table (entries.Answer a) = noted table a
-noted_with table (entries.Stop number) = table
+-- what the entry tells a seat, where it does
+abbrev pub told_by : Entry → Option SeatEntry
+told_by (entries.Item place item) = None
+told_by (entries.Load offset records) = None
+told_by (entries.Pin pin) = Some (told.Pin pin)
+told_by (entries.Unpin pin) = Some (told.Unpin pin)
+told_by (entries.Answer answer) = Some (told.Answer answer)
+told_by (entries.Stop number) = None
+
+abbrev pub noted_if : List (Option SeatEntry) → Option SeatEntry → List (Option SeatEntry)
+noted_if table None = table
+noted_if table (Some a) = noted table a
+
+abbrev pub noted_with : List (Option SeatEntry) → Entry → List (Option SeatEntry)
+noted_with table e = noted_if table (told_by e)
 
 -- a place for each seat from 1 to 64, and one that is not used
-abbrev pub no_answers : List (Option Answer)
-no_answers = replicate 65 None
+abbrev pub nothing_told : List (Option SeatEntry)
+nothing_told = replicate 65 None
 
-abbrev pub table_of : List Entry → List (Option Answer)
-table_of list = fold noted_with no_answers list
+abbrev pub table_of : List Entry → List (Option SeatEntry)
+table_of list = fold noted_with nothing_told list
 
--- the answers among the entries
-abbrev pub with_answer : List Answer → Entry → List Answer
-with_answer answers (entries.Item place item) = answers
-with_answer answers (entries.Load offset records) = answers
-with_answer answers (entries.Answer a) = answers ++ a ∷ []
-with_answer answers (entries.Stop number) = answers
+abbrev pub told_more : List SeatEntry → Option SeatEntry → List SeatEntry
+told_more all None = all
+told_more all (Some a) = all ++ a ∷ []
 
-abbrev pub answers_among : List Entry → List Answer
-answers_among list = fold with_answer [] list
+-- what the entries tell the seats
+abbrev pub with_entry : List SeatEntry → Entry → List SeatEntry
+with_entry all e = told_more all (told_by e)
+
+abbrev pub told_among : List Entry → List SeatEntry
+told_among list = fold with_entry [] list

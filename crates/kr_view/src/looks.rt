@@ -1,24 +1,24 @@
 //! What a look finds.
 
 ghost use Rattle.std.specs.Prelude.{◌≡◌, IfOk};
-ghost use Rattle.kr_view.specs.Looks.{looked_at, without_answer};
+ghost use Rattle.kr_view.specs.Looks.{looked_at, without_entry};
 
 use kr_base::NoMemory;
-use kr_calls::Answer;
+use kr_calls::SeatEntry;
 
 /// What a look for a seat's ticket finds.
 #[derive(Drop)]
 pub enum Look {
-    /// The last answer of the seat, which has the ticket.
-    Found { answer: Answer },
-    /// No such answer, and a stop: the number of the first one.
+    /// What the seat was told last, which has the ticket.
+    Found { entry: SeatEntry },
+    /// No such entry, and a stop: the number of the first one.
     Stopped { number: u64 },
     /// Neither so far.
     NotYet,
 }
 
-fn without_answer(stop: Option<u64>) -> Look
-    ensures { result ≡ without_answer stop }
+fn without_entry(stop: Option<u64>) -> Look
+    ensures { result ≡ without_entry stop }
 {
     match stop {
         Some(number) => Look::Stopped { number },
@@ -26,21 +26,21 @@ fn without_answer(stop: Option<u64>) -> Look
     }
 }
 
-/// What the last answer of a seat and the first stop say of the ticket. It takes no memory, and is refused only where as many
+/// What the last entry of a seat and the first stop say of the ticket. It takes no memory, and is refused only where as many
 /// hold the answer as can be counted.
 pub(crate) fn look_at(
-    last: &Option<Answer>,
+    last: &Option<SeatEntry>,
     stop: Option<u64>,
     ticket: u64,
 ) -> Result<Look, NoMemory>
     ensures { IfOk result (λ look. look ≡ looked_at last.now stop ticket) }
 {
-    let Some(answer) = last else {
-        return Ok(without_answer(stop));
+    let Some(entry) = last else {
+        return Ok(without_entry(stop));
     };
-    if answer.ticket == ticket {
-        let answer = answer.again()?;
-        return Ok(Look::Found { answer });
+    if entry.ticket() == ticket {
+        let entry = entry.again()?;
+        return Ok(Look::Found { entry });
     }
-    Ok(without_answer(stop))
+    Ok(without_entry(stop))
 }

@@ -20,7 +20,7 @@ pub struct Publisher {
     window: Window,
     // Staged items and loads, in order.
     items: VecDeque<Entry>,
-    // Staged answers and stops, in order.
+    // Staged pins, unpins, answers and stops, in order.
     notes: VecDeque<Entry>,
 }
 
@@ -40,7 +40,7 @@ fn is_below(entry: &Entry, end: &i64) -> bool
     match entry {
         Entry::Item { place, .. } => place < end,
         Entry::Load { offset, .. } => offset <= end,
-        Entry::Answer { .. } | Entry::Stop { .. } => true,
+        Entry::Pin { .. } | Entry::Unpin { .. } | Entry::Answer { .. } | Entry::Stop { .. } => true,
     }
 }
 
@@ -49,6 +49,7 @@ fn is_logged(entry: &Entry) -> bool
 {
     match entry {
         Entry::Item { .. } | Entry::Load { .. } => true,
+        Entry::Pin { .. } | Entry::Unpin { .. } => false,
         Entry::Answer { .. } | Entry::Stop { .. } => false,
     }
 }
@@ -125,9 +126,10 @@ impl Publisher {
         }
     }
 
-    /// Makes visible, at one step, the staged items and images below the end, and behind them the staged answers and stops.
-    /// Each of these answers is right in the entries before it. Without memory what is visible is as before, and a publish
-    /// at this end shows the same; a later publish shows first what this one chose.
+    /// Makes visible, at one step, the staged items and images below the end, and behind them the staged pins, unpins, answers
+    /// and stops. Each of these answers is right in the entries before it, and each of these pins is of the end of those.
+    /// Without memory what is visible is as before, and a publish at this end shows the same; a later publish shows first what
+    /// this one chose.
     pub fn publish<R: Wait>(&mut self, rt: &R, end: i64) -> Result<(), NoMemory>
         requires { AreRightAfter self.old.options self.old.list (next_at end self.old) }
         ensures { MatchResult result (λ _. self.new ≡ shown_at end self.old) (λ _. IsDelayed end self.old self.new) }
@@ -137,7 +139,7 @@ impl Publisher {
         self.window.show(rt)
     }
 
-    /// Drops the staged items and images. All that the last publish chose is visible. It takes no memory.
+    /// Drops the staged items and images, and leaves the pins, unpins, answers and stops. All that the last publish chose is visible. It takes no memory.
     pub fn drop_staged(&mut self)
         requires { self.old.waiting ≡ [] }
         ensures { self.new ≡ record self.old { items = [] } }

@@ -1,13 +1,13 @@
 //! What a copy takes in at once.
 
 ghost use Rattle.std.specs.Prelude.{◌≡◌, ◌==◌, [], ◌∷◌, ◌++◌, true, false, length, MatchResult};
-ghost use Rattle.kr_view.specs.Runs.{is_load, AreNoLoads};
+ghost use Rattle.kr_view.specs.Runs.{is_single, AreNoSingles};
 
 use kr_calls::Entry;
 use std::alloc::Global;
 use std::marker::Model;
 
-/// Entries none of which is an image in place of all. A copy keeps the image behind the last of them alone.
+/// Items, answers and stops. A copy keeps the image behind the last of them alone.
 #[derive(Drop)]
 pub(crate) struct Run {
     entries: Vec<Entry>,
@@ -16,13 +16,13 @@ pub(crate) struct Run {
 impl Model for Run {
     ghost use Rattle.std.specs.Prelude.{List};
     ghost use Rattle.kr_calls.specs.declared.events.Entry.{Entry as AnyEntry};
-    ghost use Rattle.kr_view.specs.Runs.{AreNoLoads};
+    ghost use Rattle.kr_view.specs.Runs.{AreNoSingles};
 
     ghost Value = { List AnyEntry };
 
     ghost view = { λ s. s.entries.items };
 
-    ghost invariant = { λ s. AreNoLoads s.entries.items };
+    ghost invariant = { λ s. AreNoSingles s.entries.items };
 }
 
 /// What a copy takes in at once.
@@ -30,49 +30,49 @@ impl Model for Run {
 pub(crate) enum Step {
     /// Entries one after the other.
     Run { run: Run },
-    /// An image in place of all.
-    Load { load: Load },
+    /// An entry by itself.
+    Single { single: Single },
 }
 
-/// An entry that is an image in place of all.
+/// An image in place of all, a pin or an unpin.
 #[derive(Drop)]
-pub(crate) struct Load {
+pub(crate) struct Single {
     entry: Entry,
 }
 
-impl Model for Load {
+impl Model for Single {
     ghost use Rattle.std.specs.Prelude.{◌≡◌, true};
     ghost use Rattle.kr_calls.specs.declared.events.Entry.{Entry as AnyEntry};
-    ghost use Rattle.kr_view.specs.Runs.{is_load};
+    ghost use Rattle.kr_view.specs.Runs.{is_single};
 
     ghost Value = { AnyEntry };
 
     ghost view = { λ s. s.entry };
 
-    ghost invariant = { λ s. is_load s.entry ≡ true };
+    ghost invariant = { λ s. is_single s.entry ≡ true };
 }
 
-/// It is an image in place of all.
-pub(crate) fn is_load(entry: &Entry) -> bool
-    ensures { result ≡ is_load entry.now }
+/// It is an image in place of all, a pin or an unpin, which a copy takes in by itself.
+pub(crate) fn is_single(entry: &Entry) -> bool
+    ensures { result ≡ is_single entry.now }
 {
     match entry {
-        Entry::Load { .. } => true,
+        Entry::Load { .. } | Entry::Pin { .. } | Entry::Unpin { .. } => true,
         Entry::Item { .. } | Entry::Answer { .. } | Entry::Stop { .. } => false,
     }
 }
 
-impl Load {
-    pub(crate) fn new(entry: Entry) -> Load
-        requires { is_load entry ≡ true }
+impl Single {
+    pub(crate) fn new(entry: Entry) -> Single
+        requires { is_single entry ≡ true }
         ensures { result ≡ entry }
     {
-        Load { entry }
+        Single { entry }
     }
 
     pub(crate) fn entry(&self) -> &Entry
         ensures entry { result.now ≡ self.now }
-        ensures load { is_load result.now ≡ true }
+        ensures single { is_single result.now ≡ true }
     {
         &self.entry
     }
@@ -95,7 +95,7 @@ impl Run {
 
     /// Adds an entry at the end. It comes back where there is no memory for it.
     pub(crate) fn push(&mut self, entry: Entry) -> Result<(), Entry>
-        requires { is_load entry ≡ false }
+        requires { is_single entry ≡ false }
         ensures { MatchResult result (λ _. self.new ≡ self.old ++ entry ∷ []) (λ refused. (refused ≡ entry) × (self.new ≡ self.old)) }
     {
         match self.entries.push(entry) {
@@ -113,7 +113,7 @@ impl Run {
     /// The entries, in order.
     pub(crate) fn entries(&self) -> &[Entry]
         ensures entries { result.now ≡ self.now }
-        ensures no_loads { AreNoLoads result.now }
+        ensures no_singles { AreNoSingles result.now }
     {
         self.entries.as_slice()
     }

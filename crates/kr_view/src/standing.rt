@@ -1,44 +1,50 @@
-//! The image at the end of a list of entries.
+//! What a copy keeps of the log: the image at the end of its entries, and those of the pinned places.
 
-ghost use Rattle.std.specs.Prelude.{◌≡◌, ◌<◌, ◌+ℤ◌, pos, negsuc, int_lt, Ok, IsTrue, IsErr, IsSome, IfOk, MatchOption, OnOk, OnErr, Some, fold};
+ghost use Rattle.std.specs.Prelude.{◌≡◌, ◌<◌, ◌+ℤ◌, [], pos, negsuc, int_lt, Ok, IsTrue, IsErr, IsSome, IfOk, MatchOption, MatchResult, not, true, OnOk, OnErr, Some, fold};
 ghost use Rattle.kr_defs.specs.declared.limits.TheConstants.{PLACES_END as places_end};
 ghost use Rattle.kr_defs.specs.Image.{empty};
 ghost use Rattle.kr_calls.specs.Deciding.{apply_records};
-ghost use Rattle.kr_calls.specs.SeatList.{nothing_reached, reached_with, with_item, with_load};
-ghost use Rattle.kr_store.specs.Images.{last_image, last_kept};
-ghost use Rattle.kr_view.specs.Runs.{AreNoLoads};
-ghost use Rattle.kr_store.specs.Images.{kept_once};
-ghost use Rattle.kr_view.specs.Standing.{StandsIf, run_with};
+ghost use Rattle.kr_calls.specs.SeatList.{is_new_pin, is_place_kept, nothing_pinned, oldest_place, pinned_with, with_item, with_load, with_pin, without_pin};
+ghost use Rattle.kr_store.specs.Images.{kept_once, last_image, last_kept};
+ghost use Rattle.kr_store.specs.declared.places.At.TheVariants as places;
+ghost use Rattle.kr_view.specs.Pinned.{kept_image_at, log_in};
+ghost use Rattle.kr_view.specs.Runs.{AreNoSingles, is_single};
+ghost use Rattle.kr_view.specs.Scans.{IsNotThere};
+ghost use Rattle.kr_view.specs.Standing.{IsStandingAt, StandsIf, run_with, with_run};
 ghost use Rattle.kr_view.specs.Steps.{entries_of};
 
+use crate::pins::Pins;
 use crate::run::Step;
-use kr_base::{NoMemory, Steps};
-use kr_calls::Entry;
+use crate::scans::ScanFault;
+use kr_base::{NoEpoch, NoMemory, Steps};
+use kr_calls::{Entry, Pin};
 use kr_defs::limits::PLACES_END;
 use kr_defs::{Item, Record};
 use kr_image::ImageStore;
-use kr_store::{ApplyFault, Store};
+use kr_store::{ApplyFault, At, Seen, Store};
 use std::alloc::Global;
 use std::marker::{Brand, Model};
 use std::sync::ledger::{Blank, Ledger};
 
-/// A store whose one kept epoch is the end, and whose present image is that at the end.
+/// A store that keeps the epochs of the end, which is the last, and of the pinned places. Its present image is that at the
+/// end. It may keep others between them.
 #[derive(Drop)]
 pub(crate) struct Standing {
     store: ImageStore,
     end: i64,
+    pins: Pins,
 }
 
 impl Model for Standing {
-    ghost use Rattle.std.specs.Prelude.{◌≡◌, negsuc, int_lt, IsTrue};
-    ghost use Rattle.kr_calls.specs.SeatList.{Reached};
-    ghost use Rattle.kr_store.specs.Images.{kept_once};
+    ghost use Rattle.kr_calls.specs.SeatList.{PinnedLog};
+    ghost use Rattle.kr_view.specs.Pinned.{log_in};
+    ghost use Rattle.kr_view.specs.Standing.{IsStandingAt};
 
-    ghost Value = { Reached };
+    ghost Value = { PinnedLog };
 
-    ghost view = { λ s. record { image = s.store.tip; end = s.end } };
+    ghost view = { λ s. log_in s.store s.end s.pins };
 
-    ghost invariant = { λ s. (s.store ≡ kept_once s.end s.store.tip) × IsTrue (int_lt (negsuc 0) s.end) };
+    ghost invariant = { λ s. IsStandingAt s.store s.end s.pins };
 }
 
 // Applies an item, where it counts, without keeping its image. It answers the end.
@@ -87,18 +93,22 @@ fn apply_run<L: Ledger>(
     Ok(at)
 }
 
-// Applies the items of a run, and keeps the image at its end alone. It answers the end. Without memory nothing changes.
-#[tactic(auto, using(crate::proofs::Runs::still_there, crate::proofs::Runs::gone_on))]
+// Applies the items of a run, and keeps the image at its end, besides those of the pins. It answers the end. Without memory
+// nothing changes.
+#[tactic(auto, using(crate::proofs::Kept::runs))]
 fn advance<L: Ledger>(
     store: &mut ImageStore,
+    pins: &Pins,
     end: &i64,
     entries: &[Entry],
     steps: &mut Steps<L>,
 ) -> Result<i64, NoMemory>
-    requires stands { store.old ≡ kept_once end.now store.old.tip }
-    ensures ok { IfOk result (λ next. record { image = store.new.tip; end = next } ≡ fold run_with (record { image = store.old.tip; end = end.now }) entries.now) }
-    ensures stands { IfOk result (λ next. store.new ≡ kept_once next store.new.tip) }
-    ensures err { OnErr result (store.new ≡ store.old) }
+    requires stands { IsStandingAt store.old end.now pins.now }
+    ensures ok { IfOk result (λ next. log_in store.new next pins.now ≡ with_run (log_in store.old
+        end.now pins.now) entries.now) }
+    ensures stands { IfOk result (λ next. IsStandingAt store.new next pins.now) }
+    ensures err { OnErr result ((log_in store.new end.now pins.now ≡ log_in store.old end.now
+        pins.now) × IsStandingAt store.new end.now pins.now) }
 {
     let next = apply_run(store, end, entries, steps)?;
     if next == *end {
@@ -109,7 +119,7 @@ fn advance<L: Ledger>(
         store.revert_to_last(steps);
         return Err(NoMemory);
     }
-    store.forget_below(next, steps);
+    store.forget_below(pins.oldest(&next), steps);
     Ok(next)
 }
 
@@ -155,30 +165,42 @@ fn store_of<L: Ledger>(
     Ok(Some(store))
 }
 
+fn at_epoch(epoch: &i64) -> At
+    ensures { result ≡ places.Epoch epoch.now }
+{
+    At::Epoch(*epoch)
+}
+
 impl Standing {
-    /// The empty image, at place 0.
+    /// The empty image, at place 0, and no pin.
+    #[tactic(auto, using(crate::proofs::Kept::beginnings))]
     pub(crate) fn new(alloc: Global) -> Result<Standing, NoMemory>
-        ensures { IfOk result (λ s. s ≡ nothing_reached) }
+        ensures { IfOk result (λ s. s ≡ nothing_pinned) }
     {
         let mut store = ImageStore::new(alloc);
         store.mark(0)?;
-        Ok(Standing { store, end: 0 })
+        Ok(Standing {
+            store,
+            end: 0,
+            pins: Pins::new(alloc),
+        })
     }
 
-    #[tactic(auto, using(crate::proofs::Runs::same_without_loads))]
+    #[tactic(auto, using(crate::proofs::Runs::run_is_log))]
     fn take_run<L: Ledger>(
         &mut self,
         entries: &[Entry],
         steps: &mut Steps<L>,
     ) -> Result<(), NoMemory>
-        requires { AreNoLoads entries.now }
-        ensures ok { OnOk result (self.new ≡ fold reached_with self.old entries.now) }
+        requires { AreNoSingles entries.now }
+        ensures ok { OnOk result (self.new ≡ fold pinned_with self.old entries.now) }
         ensures err { OnErr result (self.new ≡ self.old) }
     {
-        self.end = advance(&mut self.store, &self.end, entries, steps)?;
+        self.end = advance(&mut self.store, &self.pins, &self.end, entries, steps)?;
         Ok(())
     }
 
+    // All pins go, whether the image counts or not.
     fn take_load<L: Ledger>(
         &mut self,
         alloc: Global,
@@ -186,7 +208,11 @@ impl Standing {
         records: &[Record],
         steps: &mut Steps<L>,
     ) -> Result<(), NoMemory>
-        ensures ok { OnOk result (self.new ≡ with_load self.old offset records.now) }
+        ensures ok { OnOk result (self.new ≡ record {
+          at = with_load self.old.at offset
+              records.now;
+          pinned = [];
+        }) }
         ensures err { OnErr result (self.new ≡ self.old) }
     {
         if self.end <= offset && offset < PLACES_END {
@@ -195,7 +221,64 @@ impl Standing {
                 self.end = offset;
             }
         }
+        self.pins = Pins::new(alloc);
         Ok(())
+    }
+
+    #[tactic(auto, using(crate::proofs::PinnedPlaces::pinned))]
+    fn is_new(&self, pin: &Pin) -> bool
+        ensures { result ≡ is_new_pin self.now.at self.now.pinned pin.now }
+    {
+        pin.place == self.end && !self.pins.has(pin)
+    }
+
+    // The image at the end is kept already.
+    #[tactic(auto, using(crate::proofs::PinnedPlaces::taken))]
+    fn take_pin(&mut self, pin: &Pin) -> Result<(), NoMemory>
+        ensures ok { OnOk result (self.new ≡ record self.old {
+          pinned = with_pin self.old.at
+              self.old.pinned pin.now;
+        }) }
+        ensures err { OnErr result (self.new ≡ self.old) }
+    {
+        if self.is_new(pin) {
+            self.pins.push(pin)?;
+        }
+        Ok(())
+    }
+
+    #[tactic(auto, using(crate::proofs::PinnedPlaces::taken))]
+    fn take_unpin<L: Ledger>(&mut self, pin: &Pin, steps: &mut Steps<L>)
+        ensures { self.new ≡ record self.old { pinned = without_pin self.old.pinned pin.now } }
+    {
+        self.pins.remove(pin);
+        self.store.forget_below(self.pins.oldest(&self.end), steps);
+    }
+
+    fn take_single<L: Ledger>(
+        &mut self,
+        alloc: Global,
+        entry: &Entry,
+        steps: &mut Steps<L>,
+    ) -> Result<(), NoMemory>
+        requires { is_single entry.now ≡ true }
+        ensures ok { OnOk result (self.new ≡ pinned_with self.old entry.now) }
+        ensures err { OnErr result (self.new ≡ self.old) }
+    {
+        match entry {
+            Entry::Load { offset, records } => self.take_load(
+                alloc,
+                *offset,
+                records.as_slice(),
+                steps,
+            ),
+            Entry::Pin { pin } => self.take_pin(pin),
+            Entry::Unpin { pin } => {
+                self.take_unpin(pin, steps);
+                Ok(())
+            }
+            Entry::Item { .. } | Entry::Answer { .. } | Entry::Stop { .. } => unreachable!(),
+        }
     }
 
     fn take_counted<L: Ledger>(
@@ -207,27 +290,19 @@ impl Standing {
         requires name { blank.name ≡ L.name }
         requires parts { blank.parts ≡ L.parts }
         requires some { 0 < L.parts }
-        ensures ok { OnOk result (self.new ≡ fold reached_with self.old (entries_of step.now)) }
+        ensures ok { OnOk result (self.new ≡ fold pinned_with self.old (entries_of step.now)) }
         ensures err { OnErr result (self.new ≡ self.old) }
     {
         let mut steps: Steps<L> = Steps::new(blank);
         match step {
             Step::Run { run } => self.take_run(run.entries(), &mut steps),
-            Step::Load { load } => match load.entry() {
-                Entry::Load { offset, records } => self.take_load(
-                    alloc,
-                    *offset,
-                    records.as_slice(),
-                    &mut steps,
-                ),
-                _ => unreachable!(),
-            },
+            Step::Single { single } => self.take_single(alloc, single.entry(), &mut steps),
         }
     }
 
     /// The entries of one step more. Without memory nothing changes.
     pub(crate) fn take_in(&mut self, alloc: Global, step: &Step) -> Result<(), NoMemory>
-        ensures ok { OnOk result (self.new ≡ fold reached_with self.old (entries_of step.now)) }
+        ensures ok { OnOk result (self.new ≡ fold pinned_with self.old (entries_of step.now)) }
         ensures err { OnErr result (self.new ≡ self.old) }
     {
         self.take_counted::<Brand>(alloc, step, Blank::new(1))
@@ -235,15 +310,60 @@ impl Standing {
 
     /// The end.
     pub(crate) fn end(&self) -> i64
-        ensures { result ≡ self.now.end }
+        ensures { result ≡ self.now.at.end }
     {
         self.end
     }
 
     /// The store, whose present image is that at the end.
     pub(crate) fn store(&self) -> &ImageStore
-        ensures { result.now.tip ≡ self.now.image }
+        ensures { result.now.tip ≡ self.now.at.image }
     {
         &self.store
+    }
+
+    // The place is the end, or pinned.
+    #[tactic(auto, using(crate::proofs::PinnedPlaces::pinned))]
+    fn keeps(&self, place: &i64) -> bool
+        ensures { result ≡ is_place_kept self.now place.now }
+    {
+        *place == self.end || self.pins.has_place(place)
+    }
+
+    #[tactic(auto, using(crate::proofs::PinnedPlaces::pinned))]
+    fn oldest(&self) -> i64
+        ensures { result ≡ oldest_place self.now }
+    {
+        self.pins.oldest(&self.end)
+    }
+
+    // Why the place isn't there.
+    fn absence(&self, place: &i64) -> ScanFault
+        requires { IsTrue (not (is_place_kept self.now place.now)) }
+        ensures { IsNotThere self.now place.now result }
+    {
+        let oldest = self.oldest();
+        if *place < oldest {
+            ScanFault::Gone {
+                asked: *place,
+                oldest,
+            }
+        } else {
+            ScanFault::NotKept { asked: *place }
+        }
+    }
+
+    /// The image at a kept place.
+    pub(crate) fn image_at(&self, place: &i64) -> Result<Seen<ImageStore>, ScanFault>
+        ensures { MatchResult result (λ seen. kept_image_at self.now place.now ≡ Some seen)
+            (IsNotThere self.now place.now) }
+    {
+        if !self.keeps(place) {
+            return Err(self.absence(place));
+        }
+        match Seen::at(&self.store, at_epoch(place)) {
+            Ok(seen) => Ok(seen),
+            Err(NoEpoch) => unreachable!(),
+        }
     }
 }

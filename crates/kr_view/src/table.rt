@@ -1,14 +1,14 @@
-//! The last answers of all seats.
+//! What all seats were told last.
 
-ghost use Rattle.std.specs.Prelude.{◌≡◌, ◌<◌, length, None, IfOk, slice_index_or, fold};
+ghost use Rattle.std.specs.Prelude.{◌≡◌, ◌<◌, length, None, IfOk, OnOk, slice_index_or, fold};
 ghost use Rattle.kr_calls.specs.SeatList.{is_older};
 ghost use Rattle.kr_view.specs.Steps.{entries_of};
-ghost use Rattle.kr_view.specs.Tables.{answers_among, no_answers, noted};
+ghost use Rattle.kr_view.specs.Tables.{nothing_told, noted, told_among, told_by, told_more};
 
 use crate::run::Step;
 use core::slice::from_ref;
 use kr_base::NoMemory;
-use kr_calls::{Answer, Entry};
+use kr_calls::{Entry, SeatEntry};
 use std::alloc::Global;
 use std::collections::VecDeque;
 use std::marker::Model;
@@ -16,57 +16,80 @@ use std::marker::Model;
 // A place for each seat from 1 to 64, and one that is not used.
 const PLACES: usize = 65;
 
-/// The last answer of each seat.
+/// What each seat was told last.
 #[derive(Drop)]
 pub(crate) struct Table {
-    seats: Vec<Option<Answer>>,
+    seats: Vec<Option<SeatEntry>>,
 }
 
 impl Model for Table {
     ghost use Rattle.std.specs.Prelude.{List, Option};
-    ghost use Rattle.kr_calls.specs.declared.answers.Answer.{Answer as AnyAnswer};
+    ghost use Rattle.kr_calls.specs.declared.seat_entry.SeatEntry.{SeatEntry as AnyEntry};
 
-    ghost Value = { List (Option AnyAnswer) };
+    ghost Value = { List (Option AnyEntry) };
 
     ghost view = { λ s. s.seats.items };
 }
 
-// The answers among the entries, in order.
-fn answers_among(alloc: Global, entries: &[Entry]) -> Result<VecDeque<Answer>, NoMemory>
-    ensures { IfOk result (λ answers. answers.items ≡ answers_among entries.now) }
+// What the entry tells a seat, where it does.
+fn told_by(entry: &Entry) -> Result<Option<SeatEntry>, NoMemory>
+    ensures { IfOk result (λ told. told ≡ told_by entry.now) }
 {
-    let mut answers = VecDeque::new(alloc);
-    for entry in entries {
-        if let Entry::Answer { answer } = entry {
-            answers.push_back(answer.again()?)?;
+    match entry {
+        Entry::Item { .. } | Entry::Load { .. } | Entry::Stop { .. } => Ok(None),
+        Entry::Pin { pin } => Ok(Some(SeatEntry::Pin { pin: *pin })),
+        Entry::Unpin { pin } => Ok(Some(SeatEntry::Unpin { pin: *pin })),
+        Entry::Answer { answer } => {
+            let answer = answer.again()?;
+            Ok(Some(SeatEntry::Answer { answer }))
         }
     }
-    Ok(answers)
 }
 
-/// The answers among what a copy takes in, in order.
-pub(crate) fn answers_of(alloc: Global, step: &Step) -> Result<VecDeque<Answer>, NoMemory>
-    ensures { IfOk result (λ answers. answers.items ≡ answers_among (entries_of step.now)) }
+fn add_told(all: &mut VecDeque<SeatEntry>, told: Option<SeatEntry>) -> Result<(), NoMemory>
+    ensures { OnOk result (all.new.items ≡ told_more all.old.items told) }
+{
+    if let Some(told) = told {
+        all.push_back(told)?;
+    }
+    Ok(())
+}
+
+// What the entries tell the seats, in order.
+fn told_among(alloc: Global, entries: &[Entry]) -> Result<VecDeque<SeatEntry>, NoMemory>
+    ensures { IfOk result (λ told. told.items ≡ told_among entries.now) }
+{
+    let mut all = VecDeque::new(alloc);
+    for entry in entries {
+        let told = told_by(entry)?;
+        add_told(&mut all, told)?;
+    }
+    Ok(all)
+}
+
+/// What the seats are told by what a copy takes in, in order.
+pub(crate) fn told_of(alloc: Global, step: &Step) -> Result<VecDeque<SeatEntry>, NoMemory>
+    ensures { IfOk result (λ told. told.items ≡ told_among (entries_of step.now)) }
 {
     match step {
-        Step::Run { run } => answers_among(alloc, run.entries()),
-        Step::Load { load } => answers_among(alloc, from_ref(load.entry())),
+        Step::Run { run } => told_among(alloc, run.entries()),
+        Step::Single { single } => told_among(alloc, from_ref(single.entry())),
     }
 }
 
-// The answer has a smaller ticket than the one that is there.
-fn is_older(answer: &Answer, last: &Option<Answer>) -> bool
-    ensures { result ≡ is_older answer.now last.now }
+// It has a smaller ticket than the one that is there.
+fn is_older(told: &SeatEntry, last: &Option<SeatEntry>) -> bool
+    ensures { result ≡ is_older told.now last.now }
 {
     match last {
-        Some(last) => answer.ticket < last.ticket,
+        Some(last) => told.ticket() < last.ticket(),
         None => false,
     }
 }
 
 impl Table {
     pub(crate) fn new(alloc: Global) -> Result<Table, NoMemory>
-        ensures { IfOk result (λ table. table ≡ no_answers) }
+        ensures { IfOk result (λ table. table ≡ nothing_told) }
     {
         let mut seats = Vec::new(alloc);
         for made in 0..PLACES {
@@ -75,28 +98,28 @@ impl Table {
         Ok(Table { seats })
     }
 
-    // A seat's answer takes the place of one that isn't later.
-    fn note(&mut self, answer: Answer)
-        ensures { self.new ≡ noted self.old answer }
+    // What a seat is told takes the place of what isn't later.
+    fn note(&mut self, told: SeatEntry)
+        ensures { self.new ≡ noted self.old told }
     {
-        let seat = answer.seat as usize;
-        if seat < self.seats.len() && !is_older(&answer, &self.seats[seat]) {
-            self.seats[seat] = Some(answer);
+        let seat = told.seat() as usize;
+        if seat < self.seats.len() && !is_older(&told, &self.seats[seat]) {
+            self.seats[seat] = Some(told);
         }
     }
 
-    /// The answers one after the other.
-    pub(crate) fn note_all(&mut self, answers: VecDeque<Answer>)
-        ensures { self.new ≡ fold noted self.old answers.items }
+    /// What the seats are told, one after the other.
+    pub(crate) fn note_all(&mut self, all: VecDeque<SeatEntry>)
+        ensures { self.new ≡ fold noted self.old all.items }
     {
-        let mut left = answers;
-        while let Some(answer) = left.pop_front() {
-            self.note(answer);
+        let mut left = all;
+        while let Some(told) = left.pop_front() {
+            self.note(told);
         }
     }
 
-    /// The last answer of a seat.
-    pub(crate) fn of(&self, seat: u32) -> &Option<Answer>
+    /// What a seat was told last.
+    pub(crate) fn of(&self, seat: u32) -> &Option<SeatEntry>
         requires { seat < length self.now }
         ensures { result.now ≡ slice_index_or self.now seat None }
     {

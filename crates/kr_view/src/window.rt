@@ -4,11 +4,11 @@ ghost use Rattle.std.specs.Prelude.{◌≡◌, true, [], ◌∷◌, ◌++◌, dr
 ghost use Rattle.left_right.specs.Sides.{view};
 ghost use Rattle.kr_calls.specs.RightAnswers.{AreRightAfter};
 ghost use Rattle.kr_view.specs.CopiesRule.{seen};
-ghost use Rattle.kr_view.specs.Runs.{is_load};
+ghost use Rattle.kr_view.specs.Runs.{is_single};
 ghost use Rattle.kr_view.specs.Steps.{entries_in};
 
 use crate::rule::{CopiesRule, Sees, ThreadView};
-use crate::run::{Load, Run, Step, is_load};
+use crate::run::{Run, Single, Step, is_single};
 use crate::shown::Shown;
 use core::mem::{replace, replace_with};
 use kr_base::NoMemory;
@@ -62,7 +62,7 @@ fn flush(copies: &mut Copies, run: &mut Run, alloc: Global) -> Result<(), NoMemo
             *run = back;
             Err(NoMemory)
         }
-        Err(Step::Load { .. }) => unreachable!(),
+        Err(Step::Single { .. }) => unreachable!(),
     }
 }
 
@@ -98,18 +98,18 @@ impl Window {
         }
     }
 
-    // Chooses an image in place of all. It comes back where there is no memory.
-    fn choose_load(&mut self, entry: Entry) -> Result<(), Entry>
-        requires { is_load entry ≡ true }
+    // Chooses an entry that a copy takes in by itself. It comes back where there is no memory.
+    fn choose_single(&mut self, entry: Entry) -> Result<(), Entry>
+        requires { is_single entry ≡ true }
         ensures { MatchResult result (λ _. self.new ≡ with_waiting self.old entry) (λ refused. (refused ≡ entry) × (self.new ≡ self.old)) }
     {
         if flush(&mut self.copies, &mut self.run, self.alloc).is_err() {
             return Err(entry);
         }
-        let load = Load::new(entry);
-        match append(&mut self.copies, Step::Load { load }) {
+        let single = Single::new(entry);
+        match append(&mut self.copies, Step::Single { single }) {
             Ok(()) => Ok(()),
-            Err(Step::Load { load }) => Err(load.into_entry()),
+            Err(Step::Single { single }) => Err(single.into_entry()),
             Err(Step::Run { .. }) => unreachable!(),
         }
     }
@@ -118,8 +118,8 @@ impl Window {
     pub(crate) fn choose(&mut self, entry: Entry) -> Result<(), Entry>
         ensures { MatchResult result (λ _. self.new ≡ with_waiting self.old entry) (λ refused. (refused ≡ entry) × (self.new ≡ self.old)) }
     {
-        if is_load(&entry) {
-            self.choose_load(entry)
+        if is_single(&entry) {
+            self.choose_single(entry)
         } else {
             self.run.push(entry)
         }

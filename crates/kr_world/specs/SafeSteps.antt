@@ -39,6 +39,8 @@ abbrev pub AreSafeEntries : Option Exchange → Image → List Entry → Type 0
 AreSafeEntries exchange image [] = Unit {0}
 AreSafeEntries exchange image (entries.Item place item ∷ others) = IsSafeItem exchange image item × IfOk (apply image item) (λ after. AreSafeEntries exchange after others)
 AreSafeEntries exchange image (entries.Load offset records ∷ others) = ⊥
+AreSafeEntries exchange image (entries.Pin pin ∷ others) = ⊥
+AreSafeEntries exchange image (entries.Unpin pin ∷ others) = ⊥
 AreSafeEntries exchange image (entries.Answer answer ∷ others) = ⊥
 AreSafeEntries exchange image (entries.Stop number ∷ others) = ⊥
 

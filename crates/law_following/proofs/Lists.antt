@@ -18,6 +18,8 @@ pub notes_reach : (r : Reached) (notes : List Entry) → AreNotes notes → fold
 notes_reach r [] h = refl
 notes_reach r (entries.Item place item ∷ es) h = absurd h
 notes_reach r (entries.Load offset records ∷ es) h = absurd h
+notes_reach r (entries.Pin pin ∷ es) h = notes_reach r es h
+notes_reach r (entries.Unpin pin ∷ es) h = notes_reach r es h
 notes_reach r (entries.Answer answer ∷ es) h = notes_reach r es h
 notes_reach r (entries.Stop number ∷ es) h = notes_reach r es h
 
@@ -25,6 +27,8 @@ pub notes_below : (place : ℤ) (notes : List Entry) → AreNotes notes → filt
 notes_below place [] h = refl
 notes_below place (entries.Item at item ∷ es) h = absurd h
 notes_below place (entries.Load offset records ∷ es) h = absurd h
+notes_below place (entries.Pin pin ∷ es) h = ap (λ (l : List Entry). entries.Pin pin ∷ l) (notes_below place es h)
+notes_below place (entries.Unpin pin ∷ es) h = ap (λ (l : List Entry). entries.Unpin pin ∷ l) (notes_below place es h)
 notes_below place (entries.Answer answer ∷ es) h = ap (λ (l : List Entry). entries.Answer answer ∷ l) (notes_below place es h)
 notes_below place (entries.Stop number ∷ es) h = ap (λ (l : List Entry). entries.Stop number ∷ l) (notes_below place es h)
 
@@ -32,6 +36,8 @@ pub notes_low : (place : ℤ) (notes : List Entry) → AreNotes notes → All (�
 notes_low place [] h = All-nil (λ e. IsTrue (is_below place e))
 notes_low place (entries.Item at item ∷ es) h = absurd h
 notes_low place (entries.Load offset records ∷ es) h = absurd h
+notes_low place (entries.Pin pin ∷ es) h = All-cons (λ e. IsTrue (is_below place e)) (entries.Pin pin) es refl (notes_low place es h)
+notes_low place (entries.Unpin pin ∷ es) h = All-cons (λ e. IsTrue (is_below place e)) (entries.Unpin pin) es refl (notes_low place es h)
 notes_low place (entries.Answer answer ∷ es) h = All-cons (λ e. IsTrue (is_below place e)) (entries.Answer answer) es refl (notes_low place es h)
 notes_low place (entries.Stop number ∷ es) h = All-cons (λ e. IsTrue (is_below place e)) (entries.Stop number) es refl (notes_low place es h)
 
@@ -48,6 +54,8 @@ le_later (negsuc a) m n up h = refl
 pub below_later : (m n : ℕ) (e : Entry) → m ≤ n → IsTrue (is_below (pos m) e) → IsTrue (is_below (pos n) e)
 below_later m n (entries.Item at item) up h = lt_later at m n up h
 below_later m n (entries.Load offset records) up h = le_later offset m n up h
+below_later m n (entries.Pin pin) up h = refl
+below_later m n (entries.Unpin pin) up h = refl
 below_later m n (entries.Answer answer) up h = refl
 below_later m n (entries.Stop number) up h = refl
 

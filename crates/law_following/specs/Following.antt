@@ -24,11 +24,13 @@ pub record Shows (log : Log) (end : ℕ) (list : List Entry) : Type 0 where
   pub images : (place : ℕ) → log.offset ≤ place → place ≤ end → image_below (pos place) list ≡ seen_at log place
   pub items : HaveItems list (pos log.offset) (take (end - log.offset) log.items)
 
--- answers and stops
+-- pins, unpins, answers and stops
 abbrev pub AreNotes : List Entry → Type 0
 AreNotes [] = Unit {0}
 AreNotes (entries.Item place item ∷ es) = ⊥
 AreNotes (entries.Load offset records ∷ es) = ⊥
+AreNotes (entries.Pin pin ∷ es) = AreNotes es
+AreNotes (entries.Unpin pin ∷ es) = AreNotes es
 AreNotes (entries.Answer answer ∷ es) = AreNotes es
 AreNotes (entries.Stop number ∷ es) = AreNotes es
 

@@ -201,7 +201,7 @@ fn pop_writes<R: Wait>(
     for _ in rt.forever() {
         match queue.pop(rt, &mut pass) {
             Some(Job::Write { seat, ticket, .. }) => writes.push((seat, ticket))?,
-            Some(Job::Link { .. }) => {}
+            Some(Job::Link { .. } | Job::Pin { .. } | Job::Unpin { .. }) => {}
             Some(Job::Stop { .. }) => return Ok(writes),
             None => thread::yield_now(),
         }

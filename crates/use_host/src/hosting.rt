@@ -36,7 +36,8 @@ fn hand_out<R: Print>(rt: &R, engine: &mut Engine) -> anyhow::Result<()>
     Ok(())
 }
 
-/// Hands an event over, and prints a line for each output. An engine that found no memory is of no further use.
+/// Hands an event over, and prints a line for each output. Where the engine finds no memory the program ends, though the engine
+/// is as it was before the event.
 pub(crate) fn take<L: Ledger, R: Print>(
     rt: &R,
     engine: &mut Engine,

@@ -1,12 +1,13 @@
 -- What calls make of an engine, whatever the event.
-use Rattle.std.specs.Prelude.{ℤ, pos, negsuc, List, [], ◌++◌, Option, Some, None, ◌≡◌}
+use Rattle.std.specs.Prelude.{ℕ, ℤ, pos, negsuc, int_lt, List, [], ◌++◌, Option, Some, None, true, ◌≡◌}
+use Rattle.std.specs.List.{AllByRecursion}
 use Rattle.kr_calls.specs.declared.events.Entry.{Entry}
 use Rattle.kr_calls.specs.declared.events.Event.{Event}
 use Rattle.kr_calls.specs.declared.events.Reason.{Reason}
 use Rattle.kr_calls.specs.declared.events.Output.TheVariants as given
 use Rattle.kr_defs.specs.declared.options.Options.{Options}
 use Rattle.kr_defs.specs.Heartbeats as hearing
-use Rattle.kr_store.specs.Images.{marked, no_images}
+use Rattle.kr_store.specs.Images.{Images, marked, no_images}
 use Rattle.kr_world.specs.Events.{time_after, next_number}
 use Rattle.kr_world.specs.Engine.{Core}
 use Rattle.kr_defs.specs.Image.{Image}
@@ -60,3 +61,23 @@ Settles before after reason core = after ≡ refused_core_or before reason core
 -- an image is the only one that is kept
 abbrev pub core_at : Core → ℤ → Image → Core
 core_at e place image = record e { images = kept_once place image; tip = place; committed = place }
+
+-- ---- what is left of an event where memory was wanted, until it is taken back
+
+-- some of what it gives and adds
+abbrev pub GivesAlone : Core → Core → Type 0
+GivesAlone before after = after ≡ record before { given = after.given; fresh = after.fresh }
+
+-- only later epochs are kept besides
+pub record IsLonger (before after : Images) (place : ℤ) : Type 0 where
+  pub images : List (ℤ × Image)
+  pub kept : after.kept ≡ before.kept ++ images
+  pub later : AllByRecursion (λ (k : ℤ × Image). int_lt place k.0 ≡ true) images
+  pub counts : List (ℤ × ℕ)
+  pub calls : after.kept_made ≡ before.kept_made ++ counts
+  pub later_counts : AllByRecursion (λ (m : ℤ × ℕ). int_lt place m.0 ≡ true) counts
+
+-- and some of its records, whatever the present image is
+pub record BreaksOff (before after : Core) : Type 0 where
+  pub same : after ≡ record before { images = after.images; tip = after.tip; given = after.given; fresh = after.fresh }
+  pub longer : IsLonger before.images after.images before.tip

@@ -13,9 +13,10 @@ use Rattle.kr_calls.specs.declared.calls.Reply.TheVariants as replies
 use Rattle.kr_calls.specs.declared.events.Output.TheVariants as given
 use Rattle.kr_calls.specs.Decide.{Decision, decide, is_read, query}
 use Rattle.kr_calls.specs.Deciding.{weights}
+use Rattle.kr_calls.specs.NextBasis.{heartbeats_after}
 use Rattle.kr_calls.specs.Refuse.{refuse}
 use Rattle.kr_defs.specs.Image.{Image, empty}
-use Rattle.kr_store.specs.Images.{kept_at}
+use Rattle.kr_store.specs.Images.{Images, kept_at}
 use Rattle.kr_world.specs.declared.writes.Decided.{Decided}
 use Rattle.kr_world.specs.declared.writes.Write.{Write}
 use Rattle.kr_world.specs.Engine.{Core, basis_of}
@@ -35,7 +36,7 @@ decided_by e request = decide e.options e.images.tip (basis_of e) e.tip request
 pub record Decides (before after : Core) (request : Request) (out : Effect) : Type 0 where
   pub records : out.records ≡ (decided_by before request).records
   pub reply : out.reply ≡ (decided_by before request).reply
-  pub same : after ≡ record before { images = after.images; heard = (decided_by before request).heartbeats }
+  pub same : after ≡ record before { images = after.images }
   pub image : after.images.tip ≡ (decided_by before request).image
   pub kept : after.images.kept ≡ before.images.kept
   pub made : after.images.made ≤ before.images.made + weights before.images.tip out.records
@@ -62,6 +63,17 @@ abbrev pub waiting_write : Core → ℕ → Call → ℤ → Write
 waiting_write e client call need =
     write_with client call e.leading need (decided_by e call.request).reply (refuse call.request NOT_CONTROLLER) (decided_at e call.request)
 
+-- the image kept under the place
+abbrev pub image_kept : Images → ℤ → Image
+image_kept images place = unwrap_or (kept_at images place) empty
+
+-- a write that was decided waits, and whom is heard of is noted
+abbrev pub core_holding : Core → ℕ → Call → Reply → Reply → Decided → Core
+core_holding e client call reply refusal decided = record e {
+  held = e.held ++ write_with client call e.leading e.tip reply refusal decided ∷ [];
+  heard = heartbeats_after e.heard (image_kept e.images decided.place) e.images.tip e.time decided.place call.request reply;
+}
+
 pub record TakesWrite (before after : Core) (client : ℕ) (call : Call) : Type 0 where
   pub writes : Writes before after (decided_by before call.request).records
   pub heard : after.heard ≡ (decided_by before call.request).heartbeats
@@ -73,7 +85,7 @@ abbrev pub core_with_output : Core → Output → Core
 core_with_output e output = record e { given = e.given ++ output ∷ [] }
 
 abbrev pub committed_image : Core → Image
-committed_image e = unwrap_or (kept_at e.images e.committed) empty
+committed_image e = image_kept e.images e.committed
 
 -- a read is answered on the committed image; a write on standby is refused
 abbrev pub reply_at_once : Core → Request → Reply

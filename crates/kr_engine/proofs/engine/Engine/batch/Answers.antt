@@ -1,9 +1,18 @@
+use Rattle.kr_calls.specs.declared.events.Event.TheVariants as events
 use Rattle.kr_engine.proofs.BatchSteps.{batch_step}
-use Rattle.kr_world.proofs.SoundEngines.{stepped_sound}
+use Rattle.kr_engine.proofs.Undoing.{settled_then, sound_then, unchanged}
 use Rattle.kr_engine.proofs.engine.Engine.batch.Goals as goal
 
 pub returns-clause-step : goal.returns-clause-step
-returns-clause-step g c = batch_step c.args.self.now c.clear_fresh.new.self c.settle_batch.new.self c.count_event.new.self c.args.bytes.now c.requires.drained c.clear_fresh.ensures c.in_ok-settle_batch.ensures.settled c.count_event.ensures
+returns-clause-step g c =
+    settled_then c.end.result c.settle_batch.result c.settle_batch.new.self c.undo_images.new.self c.end.new.self c.end.ensures.same c.settle_batch.ensures.settled c.undo_images.ensures.ok c.end.ensures.ok
+    (batch_step c.args.self.now c.begin.new.self c.settle_batch.new.self c.end.new.self c.args.bytes.now c.requires.drained c.begin.ensures.begun)
+
+pub returns-clause-unchanged : goal.returns-clause-unchanged
+returns-clause-unchanged g c =
+    unchanged c.args.self.now c.begin.new.self c.settle_batch.new.self c.undo_images.new.self _ c.begin.ensures.begun c.requires.drained c.look_over.ensures.ready c.look_over.ensures.valid
+    c.begin.result.tip c.begin.ensures.tip c.end.result c.settle_batch.result c.end.new.self c.begin.result.time c.begin.result.fresh.items c.end.ensures.same
+    c.settle_batch.ensures.broken c.undo_images.ensures.err c.end.ensures.err c.begin.ensures.time c.begin.ensures.fresh
 
 pub returns-clause-sound : goal.returns-clause-sound
-returns-clause-sound g c = stepped_sound c.args.self.now c.count_event.new.self _ (returns-clause-step g c) c.requires.sound
+returns-clause-sound g c = sound_then c.end.result c.args.self.now c.end.new.self (events.Batch c.args.bytes.now) c.requires.sound (returns-clause-step g c) (returns-clause-unchanged g c)

@@ -1,10 +1,17 @@
-use Rattle.std.proofs.lemmas.Result.{on_ok_weaker}
-use Rattle.kr_engine.proofs.ImageSteps.{image_ok}
-use Rattle.kr_world.proofs.SoundEngines.{stepped_sound}
+use Rattle.kr_calls.specs.declared.events.Event.TheVariants as events
+use Rattle.kr_engine.proofs.ImageSteps.{image_so}
+use Rattle.kr_engine.proofs.Undoing.{settled_alone, sound_then, unchanged_alone}
 use Rattle.kr_engine.proofs.engine.Engine.image.Goals as goal
 
 pub returns-clause-step : goal.returns-clause-step
-returns-clause-step c = image_ok c.args.self.now c.take_image.new.self c.take_image.result c.requires.drained c.take_image.ensures
+returns-clause-step c =
+    settled_alone c.end.result c.settle_image.result c.settle_image.new.self c.end.new.self c.end.ensures.same c.settle_image.ensures.settled c.end.ensures.ok
+    (image_so c.args.self.now c.begin.new.self c.settle_image.new.self c.end.new.self c.requires.drained c.begin.ensures.begun)
+
+pub returns-clause-unchanged : goal.returns-clause-unchanged
+returns-clause-unchanged c =
+    unchanged_alone c.args.self.now c.begin.new.self c.settle_image.new.self _ c.begin.ensures.begun c.requires.drained c.end.result c.settle_image.result c.end.new.self c.begin.result.time c.begin.result.fresh.items
+    c.end.ensures.same c.settle_image.ensures.begun c.end.ensures.err c.begin.ensures.time c.begin.ensures.fresh
 
 pub returns-clause-sound : goal.returns-clause-sound
-returns-clause-sound c = on_ok_weaker c.take_image.result (λ step. stepped_sound c.args.self.now c.take_image.new.self _ step c.requires.sound) (returns-clause-step c)
+returns-clause-sound c = sound_then c.end.result c.args.self.now c.end.new.self events.Image c.requires.sound (returns-clause-step c) (returns-clause-unchanged c)

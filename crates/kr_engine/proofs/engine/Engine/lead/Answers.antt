@@ -1,22 +1,18 @@
-use Rattle.std.proofs.Common.{◌∙◌, ap, sym, subst}
-use Rattle.std.proofs.lemmas.Result.{on_ok_weaker}
 use Rattle.kr_calls.specs.declared.events.Event.TheVariants as events
-use Rattle.kr_world.specs.Engine.{Core, IsStep}
-use Rattle.kr_world.proofs.SoundEngines.{stepped_sound}
-use Rattle.kr_engine.specs.inner.Changes.{counted_core, refused_core_or}
-use Rattle.kr_engine.specs.inner.Lead.{core_after_lead, lead_reason}
-use Rattle.kr_engine.proofs.LeadSteps.{lead_step}
+use Rattle.kr_engine.proofs.LeadSteps.{lead_so}
+use Rattle.kr_engine.proofs.Undoing.{settled_alone, sound_then, unchanged_alone}
 use Rattle.kr_engine.proofs.engine.Engine.lead.Goals as goal
+
+pub returns-clause-step : goal.returns-clause-step
+returns-clause-step c =
+    settled_alone c.end.result c.settle_lead.result c.settle_lead.new.self c.end.new.self c.end.ensures.same c.settle_lead.ensures.settled c.end.ensures.ok
+    (lead_so c.args.self.now c.begin_at.new.self c.settle_lead.new.self c.end.new.self c.args.epoch.now c.args.next.now c.args.now.now c.requires.drained c.begin_at.ensures.begun)
+
+pub returns-clause-unchanged : goal.returns-clause-unchanged
+returns-clause-unchanged c =
+    unchanged_alone c.args.self.now c.begin_at.new.self c.settle_lead.new.self _ c.begin_at.ensures.begun c.requires.drained c.end.result c.settle_lead.result c.end.new.self c.begin_at.result.time c.begin_at.result.fresh.items
+    c.end.ensures.same c.settle_lead.ensures.begun c.end.ensures.err c.begin_at.ensures.time c.begin_at.ensures.fresh
 
 pub returns-clause-sound : goal.returns-clause-sound
 returns-clause-sound c =
-    let e = c.args.self.now in
-    let epoch = c.args.epoch.now in
-    let next = c.args.next.now in
-    let event = events.Lead epoch next c.args.now.now in
-    let led = λ (noted : Core). counted_core (refused_core_or noted (lead_reason noted epoch next) (core_after_lead noted epoch next)) in
-    on_ok_weaker c.take_lead.result
-    (λ is. stepped_sound e c.take_lead.new.self event
-    (subst (λ (after : Core). IsStep e after event) (sym (is ∙ ap led c.note_time.ensures)) (lead_step e epoch next c.args.now.now c.requires.drained))
-    c.requires.sound)
-    c.take_lead.ensures
+    sound_then c.end.result c.args.self.now c.end.new.self (events.Lead c.args.epoch.now c.args.next.now c.args.now.now) c.requires.sound (returns-clause-step c) (returns-clause-unchanged c)

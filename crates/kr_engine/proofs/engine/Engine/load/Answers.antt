@@ -1,9 +1,17 @@
+use Rattle.kr_calls.specs.declared.events.Event.TheVariants as events
 use Rattle.kr_engine.proofs.LoadSteps.{load_step}
-use Rattle.kr_world.proofs.SoundEngines.{stepped_sound}
+use Rattle.kr_engine.proofs.Undoing.{settled_alone, sound_then, unchanged_alone}
 use Rattle.kr_engine.proofs.engine.Engine.load.Goals as goal
 
 pub returns-clause-step : goal.returns-clause-step
-returns-clause-step c = load_step c.args.self.now c.clear_fresh.new.self c.settle_load.new.self c.count_event.new.self c.args.bytes.now c.requires.drained c.clear_fresh.ensures c.in_ok-settle_load.ensures c.count_event.ensures
+returns-clause-step c =
+    settled_alone c.end.result c.settle_load.result c.settle_load.new.self c.end.new.self c.end.ensures.same c.settle_load.ensures.settled c.end.ensures.ok
+    (load_step c.args.self.now c.begin.new.self c.settle_load.new.self c.end.new.self c.args.bytes.now c.requires.drained c.begin.ensures.begun)
+
+pub returns-clause-unchanged : goal.returns-clause-unchanged
+returns-clause-unchanged c =
+    unchanged_alone c.args.self.now c.begin.new.self c.settle_load.new.self _ c.begin.ensures.begun c.requires.drained c.end.result c.settle_load.result c.end.new.self c.begin.result.time c.begin.result.fresh.items
+    c.end.ensures.same c.settle_load.ensures.begun c.end.ensures.err c.begin.ensures.time c.begin.ensures.fresh
 
 pub returns-clause-sound : goal.returns-clause-sound
-returns-clause-sound c = stepped_sound c.args.self.now c.count_event.new.self _ (returns-clause-step c) c.requires.sound
+returns-clause-sound c = sound_then c.end.result c.args.self.now c.end.new.self (events.Load c.args.bytes.now) c.requires.sound (returns-clause-step c) (returns-clause-unchanged c)

@@ -1,11 +1,19 @@
+use Rattle.kr_calls.specs.declared.events.Event.TheVariants as events
 use Rattle.kr_engine.proofs.RequestSteps.{request_step}
-use Rattle.kr_world.proofs.SoundEngines.{stepped_sound}
+use Rattle.kr_engine.proofs.Undoing.{settled_then, sound_then, unchanged}
 use Rattle.kr_engine.proofs.engine.Engine.request.Goals as goal
 
 pub returns-clause-step : goal.returns-clause-step
 returns-clause-step g c =
-    request_step c.args.self.now c.note_time.new.self c.settle_request.new.self c.count_event.new.self c.args.client.now c.args.now.now c.args.ask.now c.requires.drained
-    c.look_over.ensures.valid c.note_time.ensures c.in_ok-settle_request.ensures.settled c.count_event.ensures
+    settled_then c.end.result c.settle_request.result c.settle_request.new.self c.undo_images.new.self c.end.new.self c.end.ensures.same c.settle_request.ensures.settled c.undo_images.ensures.ok c.end.ensures.ok
+    (request_step c.args.self.now c.begin_at.new.self c.settle_request.new.self c.end.new.self c.args.client.now c.args.now.now c.args.ask.now c.requires.drained c.look_over.ensures.valid c.begin_at.ensures.begun)
+
+pub returns-clause-unchanged : goal.returns-clause-unchanged
+returns-clause-unchanged g c =
+    unchanged c.args.self.now c.begin_at.new.self c.settle_request.new.self c.undo_images.new.self _ c.begin_at.ensures.begun c.requires.drained c.look_over.ensures.ready c.look_over.ensures.valid
+    c.begin_at.result.tip c.begin_at.ensures.tip c.end.result c.settle_request.result c.end.new.self c.begin_at.result.time c.begin_at.result.fresh.items c.end.ensures.same
+    c.settle_request.ensures.broken c.undo_images.ensures.err c.end.ensures.err c.begin_at.ensures.time c.begin_at.ensures.fresh
 
 pub returns-clause-sound : goal.returns-clause-sound
-returns-clause-sound g c = stepped_sound c.args.self.now c.count_event.new.self _ (returns-clause-step g c) c.requires.sound
+returns-clause-sound g c =
+    sound_then c.end.result c.args.self.now c.end.new.self (events.Request c.args.client.now c.args.now.now c.args.ask.now) c.requires.sound (returns-clause-step g c) (returns-clause-unchanged g c)

@@ -1,4 +1,4 @@
 use Rattle.kr_shared.proofs.worker.WorkerSeat.turn.Given as goal
 
-abbrev pub ghosts-take_turn : goal.ghosts-take_turn
-ghosts-take_turn g a = record { name = a.blank.name; parts = a.blank.parts }
+abbrev pub ghosts-work : goal.ghosts-work
+ghosts-work g a = record { name = a.blank.name; parts = a.blank.parts }

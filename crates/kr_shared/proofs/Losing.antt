@@ -1,0 +1,226 @@
+-- A leadership is lost, before what came of the event before it is published.
+use Rattle.std.proofs.Common.{◌≡◌, ◌∙◌, sym, subst, ap, refl, ℕ, ℤ, pos, Bool, true, false, cond, List, [], ◌∷◌, ◌++◌, fold}
+use Rattle.std.specs.Prelude.{Option, Some, None, is_some, not, Result, Ok, Err, ◌&&◌}
+use Rattle.std.specs.Result.{result_unwrap_or}
+use Rattle.std.proofs.lemmas.List.{append_assoc, append-nil}
+use Rattle.kr_calls.specs.declared.events.Entry.{Entry}
+use Rattle.kr_calls.specs.declared.events.Event.{Event}
+use Rattle.kr_calls.specs.declared.events.Event.TheVariants as events
+use Rattle.kr_calls.specs.declared.events.Reason.{Reason}
+use Rattle.kr_calls.specs.RightAnswers.{AreRightAfter}
+use Rattle.kr_calls.specs.SeatList.{item_entries}
+use Rattle.kr_defs.specs.declared.options.Options.{Options}
+use Rattle.kr_defs.specs.declared.record.Item.{Item}
+use Rattle.kr_defs.proofs.IdLists.{id_itself}
+use Rattle.kr_view.specs.Shelves.{Shelf, next_at, shown_at, with_staged}
+use Rattle.kr_view.specs.Staged.{staged_above, staged_below}
+use Rattle.kr_view.proofs.Moves.{right-append}
+use Rattle.kr_world.specs.declared.writes.Told.{Told}
+use Rattle.kr_world.specs.declared.writes.Write.{Write}
+use Rattle.kr_world.specs.Engine.{Core, IsEngine, IsStep}
+use Rattle.kr_world.specs.Entries.{entries_by, items_from}
+use Rattle.kr_world.specs.Events.{at_time_of, happens, outcome, with_next_number}
+use Rattle.kr_world.specs.Lost.{after_lost, cut, lost}
+use Rattle.kr_world.specs.Outputs.{waiting_after}
+use Rattle.kr_world.specs.Reasons.{not_leading}
+use Rattle.kr_world.specs.World.{State, leads_in, tip_of}
+use Rattle.kr_world.proofs.LogEntries.{cut_behind}
+use Rattle.law_following.specs.Following.{AreNotes}
+use Rattle.law_following.proofs.Evolving.{Shorter}
+use Rattle.kr_shared.specs.declared.asked.Asked.{Asked}
+use Rattle.kr_shared.specs.declared.taking.Given.{Given}
+use Rattle.kr_shared.specs.Answers.{Answering, AreReplied, answer_all, answering}
+use Rattle.kr_shared.specs.Desks.{Kept, StandsFor, cut_if, ready, settled}
+use Rattle.kr_shared.specs.Gives.{GivesOut}
+use Rattle.kr_shared.specs.Lines.{HasRoom, LineView}
+use Rattle.kr_shared.specs.Serves.{ServesEvent}
+use Rattle.kr_shared.specs.Standing.{StandsForSome, Standing}
+use Rattle.kr_shared.specs.Takes.{TakesEvent}
+use Rattle.kr_shared.specs.Turns.{LosesLed}
+use Rattle.kr_shared.specs.Works.{DeskView}
+use Rattle.kr_shared.proofs.Made.{all_behind, all_noted, behind, both_notes}
+use Rattle.kr_shared.proofs.Served as served
+use Rattle.kr_shared.proofs.Serving as serving
+use Rattle.kr_shared.proofs.Standings.{none_staged}
+use Rattle.kr_shared.proofs.Giving.{still_room}
+
+module _ (w : Kept) (sf : StandsFor w) (whole : w.cut ≡ false) (bare : AreNotes w.line.due) (epoch : ℤ) (led : w.engine.leading ≡ Some epoch) (e1 e2 : Core) (l : LineView) (given : Given)
+    (pieces pieces' : Option (List (List ℕ))) (faults faults' : ℕ) (step : IsStep w.engine e1 (events.Lost epoch)) (gives : GivesOut e1 e2 pieces pieces' faults faults' w.line l given)
+    (new : Kept) (is : new ≡ record w { engine = record e2 { fresh = [] }; line = l; cut = true }) where
+  abbrev event : Event
+  event = events.Lost epoch
+
+  abbrev old : DeskView
+  old = settled w
+
+  abbrev k : StandsForSome old
+  k = sf.stands
+
+  abbrev s : State
+  s = k.state
+
+  abbrev o : Options
+  o = w.engine.options
+
+  abbrev told : List Told
+  told = gives.told
+
+  abbrev t : TakesEvent w.engine e2 event told
+  t = record { between = e1; step = step; emptied = gives.emptied }
+
+  abbrev next : State
+  next = happens o s event
+
+  leading : s.world.leading ≡ Some epoch
+  leading = sym k.stands.engine.leading ∙ led
+
+  out : outcome o (at_time_of s event) event ≡ Ok (after_lost (at_time_of s event))
+  out =
+      ap (λ (q : Option ℤ). cond (not (leads_in q epoch)) (Err (not_leading epoch q)) (Ok (after_lost (at_time_of s event)))) leading
+      ∙ ap (λ b. cond (not b) (Err (not_leading epoch (Some epoch))) (Ok (after_lost (at_time_of s event)))) (id_itself epoch)
+
+  next_is : next ≡ with_next_number (after_lost (at_time_of s event))
+  next_is = ap (λ r. with_next_number (result_unwrap_or r (at_time_of s event))) out
+
+  shorter : Shorter s.world next.world
+  shorter =
+      subst (λ (x : State). Shorter s.world x.world) (sym next_is)
+      (record { cuts = refl; same = refl; led = ap (λ (q : Option ℤ). is_some q) leading; over = refl })
+
+  no_fresh : e2.fresh ≡ []
+  no_fresh =
+      gives.emptied.fresh
+      ∙ (step.fresh s k.writes k.stands.engine
+      ∙ (ap (λ r. entries_by s event r) out ∙ ap (λ (xs : List Item). item_entries (pos (tip_of s)) xs) (cut_behind s.world.log s.world.committed)))
+
+  abbrev stage : List Entry
+  stage = served.staged old e2 event told s k.writes k.stands t
+
+  none : stage ≡ []
+  none =
+      served.staged_so old e2 event told s k.writes k.stands t
+      ∙ none_staged s.world next.world old.shelf.list e2.fresh (served.rests old e2 event told s k.writes k.stands t) k.stands.shows shorter no_fresh
+
+  after_stands : IsEngine e2 next (waiting_after o s k.writes event)
+  after_stands = served.stands old e2 event told s k.writes k.stands t
+
+  at_end : e2.committed ≡ w.engine.committed
+  at_end = after_stands.committed ∙ (ap pos shorter.same ∙ sym k.stands.engine.committed)
+
+  -- ---- what is due
+
+  abbrev shelf : Shelf
+  shelf = fold with_staged w.shelf w.unstaged
+
+  abbrev replied : Answering
+  replied = serving.r old e2 event None told refl t
+
+  abbrev with_due : List Entry → Shelf
+  with_due es = record shelf { notes = shelf.notes ++ es }
+
+  abbrev below : List Entry
+  below = shelf.waiting ++ staged_below w.engine.committed shelf.items
+
+  abbrev due : List Entry
+  due = below ++ (shelf.notes ++ w.line.due)
+
+  answers : answering l.waiting l.due ≡ behind w.line.due replied
+  answers =
+      gives.gives.answers
+      ∙ (ap (λ (es : List Entry). answer_all (answering w.line.waiting es) told) (sym (append-nil w.line.due))
+      ∙ all_behind w.line.due (answering w.line.waiting []) told)
+
+  ready_old : ready w ≡ with_due w.line.due
+  ready_old = all_noted shelf w.line.due bare
+
+  list_is : old.shelf.list ≡ shelf.list ++ due
+  list_is = ap (λ b. (cut_if b (shown_at w.engine.committed (ready w))).list) whole ∙ ap (λ (h : Shelf). (shown_at w.engine.committed h).list) ready_old
+
+  options_is : old.shelf.options ≡ shelf.options
+  options_is = ap (λ b. (cut_if b (shown_at w.engine.committed (ready w))).options) whole ∙ ap (λ (h : Shelf). h.options) ready_old
+
+  ready_later : fold with_staged shelf l.due ≡ with_due l.due
+  ready_later =
+      all_noted shelf l.due
+      (subst AreNotes (sym (ap (λ (q : Answering). q.notes) answers)) (both_notes w.line.due replied.notes bare (serving.replies old e2 event None told refl t s k.writes k.stands).bare))
+
+  -- in front of the answers to what waited
+  in_front : below ++ (shelf.notes ++ (w.line.due ++ replied.notes)) ≡ due ++ replied.notes
+  in_front =
+      ap (λ (es : List Entry). below ++ es) (sym (append_assoc shelf.notes w.line.due replied.notes))
+      ∙ sym (append_assoc below (shelf.notes ++ w.line.due) replied.notes)
+
+  list_so : shelf.list ++ (below ++ (shelf.notes ++ (w.line.due ++ replied.notes))) ≡ old.shelf.list ++ replied.notes
+  list_so =
+      ap (λ (es : List Entry). shelf.list ++ es) in_front
+      ∙ (sym (append_assoc shelf.list due replied.notes)
+      ∙ ap (λ (es : List Entry). es ++ replied.notes) (sym list_is))
+
+  abbrev later : Kept
+  later = record w { engine = record e2 { fresh = [] }; line = l; cut = true }
+
+  abbrev at_rest : Options → List Entry → List Entry → List Asked → DeskView
+  at_rest options list items waiting =
+      record { shelf = record { options = options; list = list; waiting = []; items = items; notes = [] }; engine = record e2 { fresh = [] }; waiting = waiting }
+
+  settled_so : settled new ≡ serving.after old e2 event None told refl t
+  settled_so =
+      ap settled is
+      ∙ (ap (λ (h : Shelf). record { shelf = cut_if true (shown_at e2.committed h); engine = record e2 { fresh = [] }; waiting = l.waiting }) ready_later
+      ∙ ((λ i. at_rest (sym options_is i) (shelf.list ++ ((shelf.waiting ++ staged_below (at_end i) shelf.items) ++ (shelf.notes ++ (answers i).notes))) [] (answers i).waiting)
+      ∙ ((λ i. at_rest old.shelf.options (list_so i) [] replied.waiting)
+      ∙ (λ i. at_rest old.shelf.options (old.shelf.list ++ (staged_below e2.committed (sym none i) ++ replied.notes)) (staged_above e2.committed (sym none i)) replied.waiting))))
+
+  pub loses_so : ServesEvent pieces pieces' faults faults' old (settled new) event None given.appended given.refusal
+  loses_so = record {
+    between = e2;
+    told = told;
+    takes = t;
+    appends = gives.gives.appends;
+    refused = gives.gives.refused;
+    engine = ap (λ (d : DeskView). d.engine) settled_so;
+    answers = replied;
+    answered = refl;
+    replied =
+        subst (AreReplied replied.notes) (sym (served.outputs_told old e2 event told s k.writes k.stands t))
+        (serving.replies old e2 event None told refl t s k.writes k.stands).replied;
+    waiting = ap (λ (d : DeskView). d.waiting) settled_so;
+    staged = serving.stage old e2 event None told refl t;
+    added = refl;
+    shelf = ap (λ (d : DeskView). d.shelf) settled_so;
+    stands = λ s writes h. subst (λ (d : DeskView). Standing d (happens o s event) (waiting_after o s writes event)) (sym settled_so) (serving.stands_after old e2 event None told refl t s writes h);
+  }
+
+  pub loses_led : LosesLed pieces pieces' faults faults' old (settled new) (Some epoch)
+  loses_led = record { appended = given.appended; refusal = given.refusal; serves = loses_so }
+
+  -- ---- and it may be published
+
+  right_behind : AreRightAfter shelf.options (shelf.list ++ due) replied.notes
+  right_behind =
+      subst (λ (q : Options). AreRightAfter q (shelf.list ++ due) replied.notes) (k.stands.options ∙ options_is)
+      (subst (λ (es : List Entry). AreRightAfter o es replied.notes) list_is
+      (subst (λ (es : List Entry). AreRightAfter o es replied.notes) (append-nil old.shelf.list)
+      (subst (λ (es : List Entry). AreRightAfter o (old.shelf.list ++ staged_below (pos next.world.committed) es) replied.notes) none
+      (serving.replies old e2 event None told refl t s k.writes k.stands).right)))
+
+  right_all : AreRightAfter shelf.options shelf.list (due ++ replied.notes)
+  right_all =
+      right-append shelf.options shelf.list due replied.notes
+      (subst (λ (h : Shelf). AreRightAfter h.options h.list (next_at w.engine.committed h)) ready_old sf.right) right_behind
+
+  right_so : AreRightAfter shelf.options shelf.list ((shelf.waiting ++ staged_below e2.committed shelf.items) ++ (shelf.notes ++ l.due))
+  right_so =
+      subst (AreRightAfter shelf.options shelf.list)
+      (sym in_front ∙ (λ i. (shelf.waiting ++ staged_below (sym at_end i) shelf.items) ++ (shelf.notes ++ (sym answers i).notes))) right_all
+
+  pub lost_for : HasRoom w.line → StandsFor new
+  lost_for room = subst StandsFor (sym is) (record {
+    stands = record {
+      state = next;
+      writes = waiting_after o s k.writes event;
+      stands = subst (λ (x : Kept). Standing (settled x) next (waiting_after o s k.writes event)) is (loses_so.stands s k.writes k.stands);
+    };
+    right = subst (λ (h : Shelf). AreRightAfter h.options h.list (next_at e2.committed h)) (sym ready_later) right_so;
+    room = still_room w.line l room gives.gives.fewer gives.gives.same;
+  })

@@ -1,0 +1,107 @@
+-- What a worker keeps between its turns, also where it found no memory to publish all. This project's own.
+use Rattle.std.specs.Prelude.{◌≡◌, ◌<◌, ◌+◌, ◌&&◌, not, Bool, false, true, List, [], ◌∷◌, ◌++◌, Option, Some, None, fold, is_some, if◌then◌else◌}
+use Rattle.kr_calls.specs.declared.calls.Call.{Call}
+use Rattle.kr_calls.specs.declared.events.Entry.{Entry}
+use Rattle.kr_calls.specs.declared.events.Event.{Event}
+use Rattle.kr_calls.specs.RightAnswers.{AreRightAfter}
+use Rattle.kr_view.specs.Shelves.{Shelf, next_at, shown_at, with_staged}
+use Rattle.kr_world.specs.Engine.{Core}
+use Rattle.kr_world.specs.World.{is_far}
+use Rattle.kr_shared.specs.declared.answers.Aside.{Aside}
+use Rattle.kr_shared.specs.declared.answers.Asking.{Asking}
+use Rattle.kr_shared.specs.declared.asked.Asked.{Asked}
+use Rattle.kr_shared.specs.Answers.{aside_of, asked_by}
+use Rattle.kr_shared.specs.Lines.{HasRoom, IsEmpty, IsSeated, LineView}
+use Rattle.kr_shared.specs.Standing.{StandsForSome}
+use Rattle.kr_shared.specs.Works.{DeskView, KeepsShown, call_in}
+
+-- the published list and what is staged, the engine, who waits and what they are due to be told, what the engine added to the
+-- log and isn't staged, and whether what the next publish leaves staged is gone with a leadership
+pub record Kept : Type 0 where
+  pub shelf : Shelf
+  pub engine : Core
+  pub line : LineView
+  pub unstaged : List Entry
+  pub cut : Bool
+
+-- all is staged
+abbrev pub ready : Kept → Shelf
+ready k = fold with_staged (fold with_staged k.shelf k.unstaged) k.line.due
+
+abbrev pub cut_if : Bool → Shelf → Shelf
+cut_if cut s = if cut then record s { items = [] } else s
+
+-- what the worker does comes to this, once all that is due is published
+abbrev pub settled : Kept → DeskView
+settled k = record { shelf = cut_if k.cut (shown_at k.engine.committed (ready k)); engine = k.engine; waiting = k.line.waiting }
+
+-- all is published that is due
+pub record IsSettled (k : Kept) : Type 0 where
+  pub rests : k.shelf ≡ (settled k).shelf
+  pub seated : IsSeated k.line
+  pub unstaged : k.unstaged ≡ []
+  pub cut : k.cut ≡ false
+
+-- all is staged that is due
+pub record IsPrepared (k : Kept) : Type 0 where
+  pub seated : IsSeated k.line
+  pub unstaged : k.unstaged ≡ []
+
+-- what is due may be published, and then it stands for some state
+pub record StandsFor (k : Kept) : Type 0 where
+  pub stands : StandsForSome (settled k)
+  pub right : AreRightAfter (ready k).options (ready k).list (next_at k.engine.committed (ready k))
+  pub room : HasRoom k.line
+
+-- more is staged, and what is due is the same
+pub record StaysDue (old new : Kept) : Type 0 where
+  pub ready : ready new ≡ ready old
+  pub engine : new.engine ≡ old.engine
+  pub waiting : new.line.waiting ≡ old.line.waiting
+  pub cut : new.cut ≡ old.cut
+  pub shown : KeepsShown old.shelf new.shelf
+  pub room : HasRoom old.line → HasRoom new.line
+
+-- it comes to the same, and the list that is published may be longer
+pub record ComesToSame (old new : Kept) : Type 0 where
+  pub same : settled new ≡ settled old
+  pub stands : StandsFor new
+
+-- ---- a write that comes
+
+-- a leader takes it, unless the log is at its end
+abbrev pub takes_writes : Core → Bool
+takes_writes e = is_some e.leading && not (is_far e.tip)
+
+abbrev pub asked_with : Asking → Option Call → List Asked
+asked_with a (Some call) = asked_by a call ∷ []
+asked_with a None = []
+
+abbrev pub aside_with : Asking → Option Call → Option Aside
+aside_with a (Some call) = Some (aside_of a call)
+aside_with a None = None
+
+-- what is taken waits behind the others, and anything else is put aside
+abbrev pub entered_by : Bool → Option Asking → Event → List Asked
+entered_by true (Some a) event = asked_with a (call_in event)
+entered_by true None event = []
+entered_by false asking event = []
+
+abbrev pub aside_by : Bool → Option Asking → Event → Option Aside
+aside_by false (Some a) event = aside_with a (call_in event)
+aside_by false None event = None
+aside_by true asking event = None
+
+-- besides, what is put aside may be noted without more memory
+abbrev pub HasSpare : Option Aside → LineView → Type 0
+HasSpare None l = HasRoom l
+HasSpare (Some a) l = (l.dues + l.waits) < l.room
+
+-- ---- the opening
+
+pub record IsOpened (shelf : Shelf) (e : Core) (k : Kept) : Type 0 where
+  pub shelf_is : k.shelf ≡ shelf
+  pub engine : k.engine ≡ e
+  pub line : IsEmpty k.line
+  pub unstaged : k.unstaged ≡ []
+  pub cut : k.cut ≡ false

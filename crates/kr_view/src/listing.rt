@@ -1,0 +1,147 @@
+//! What topics and their partitions give, in the order of a walk, up to a number of rows.
+
+ghost use Rattle.std.specs.Prelude.{◌≡◌, ◌≤◌, ◌++◌, ℕ, ℤ, List, Some, IfOk, OnOk, flat_map, length, map, nat_le, take};
+ghost use Rattle.std.specs.Option.{option_copied, option_to_list};
+ghost use Rattle.kr_defs.specs.Map.{above, partition_order, text_order};
+ghost use Rattle.kr_defs.specs.Walk.{Walked, of_topic, walked};
+ghost use Rattle.kr_view.specs.Listings.{listed, listed_behind};
+
+use kr_base::NoMemory;
+use kr_defs::{Partition, Rows, Text};
+use kr_store::{Seen, Store, before_all};
+use std::alloc::Global;
+
+/// What a topic gives, and each of its partitions behind it.
+pub(crate) trait Listing<Y: Drop> {
+    ghost heads: { Self → List ℕ × ℕ → List Y };
+
+    ghost rows: { Self → Walked → Y };
+
+    /// What the topic gives before its partitions, if anything.
+    fn head(&self, alloc: Global, name: &Text, id: &u128) -> Result<Option<Y>, NoMemory>
+        ensures { IfOk result (λ row. option_to_list row ≡ heads self.now (name.now, id.now)) };
+
+    /// What a partition gives.
+    fn row(
+        &self,
+        alloc: Global,
+        name: &Text,
+        key: &(u128, i32),
+        partition: &Partition,
+    ) -> Result<Y, NoMemory>
+        ensures { IfOk result (λ row. row ≡ rows self.now (walked name.now (
+          key.now,
+          partition.now,
+        ))) };
+}
+
+/// There are as many rows as there may be.
+pub(crate) fn is_full<Y>(rows: &Rows<Y>, most: u32) -> bool
+    ensures { result ≡ nat_le most (length rows.now) }
+{
+    rows.len() >= most as usize
+}
+
+pub(crate) fn key_of(topic: &u128, index: &i32) -> (u128, i32)
+    ensures { result ≡ (topic.now, index.now) }
+{
+    (*topic, *index)
+}
+
+// The partitions of the topic of this key, above it.
+#[tactic(auto, using(crate::proofs::Filling::fillings))]
+fn list_above<Y: Drop, P: Listing<Y>, S: Store>(
+    alloc: Global,
+    seen: &Seen<S>,
+    listing: &P,
+    name: &Text,
+    first: (u128, i32),
+    most: u32,
+    rows: &mut Rows<Y>,
+) -> Result<(), NoMemory>
+    requires { length rows.old ≤ most }
+    ensures { OnOk result (rows.new ≡ take most (rows.old ++ map (λ e. P.rows listing.now (walked
+        name.now e)) (of_topic first.0 (above partition_order seen.now.partitions (Some
+        first))))) }
+{
+    let mut after = first;
+    while let Some((key, partition)) = seen.next_of_topic(&after) {
+        if is_full(rows, most) {
+            return Ok(());
+        }
+        rows.push(listing.row(alloc, name, key, partition)?)?;
+        after = *key;
+    }
+    Ok(())
+}
+
+// A topic, and its partitions.
+fn list_topic<Y: Drop, P: Listing<Y>, S: Store>(
+    alloc: Global,
+    seen: &Seen<S>,
+    listing: &P,
+    name: &Text,
+    id: &u128,
+    most: u32,
+    rows: &mut Rows<Y>,
+) -> Result<(), NoMemory>
+    requires { length rows.old ≤ most }
+    ensures { OnOk result (rows.new ≡ take most (rows.old ++ listed (P.heads listing.now) (P.rows
+        listing.now) seen.now.partitions (name.now, id.now))) }
+{
+    seen.is_valid();
+    if !is_full(rows, most) {
+        if let Some(head) = listing.head(alloc, name, id)? {
+            rows.push(head)?;
+        }
+    }
+    list_above(alloc, seen, listing, name, before_all(id), most, rows)
+}
+
+/// The topics by name, each with its partitions behind it.
+#[tactic(auto, using(crate::proofs::Filling::fillings))]
+pub(crate) fn list_topics<Y: Drop, P: Listing<Y>, S: Store>(
+    alloc: Global,
+    seen: &Seen<S>,
+    listing: &P,
+    after: Option<&Text>,
+    most: u32,
+    rows: &mut Rows<Y>,
+) -> Result<(), NoMemory>
+    requires { length rows.old ≤ most }
+    ensures { OnOk result (rows.new ≡ take most (rows.old ++ flat_map (listed (P.heads
+        listing.now) (P.rows listing.now) seen.now.partitions) (above text_order
+        seen.now.topics (option_copied after.entry)))) }
+{
+    seen.is_valid();
+    let mut last = after;
+    while let Some((name, id)) = seen.next_topic(last) {
+        if is_full(rows, most) {
+            return Ok(());
+        }
+        list_topic(alloc, seen, listing, name, id, most, rows)?;
+        last = Some(name);
+    }
+    Ok(())
+}
+
+/// The partitions behind an index of the topic of this name, and the topics behind it.
+pub(crate) fn list_behind<Y: Drop, P: Listing<Y>, S: Store>(
+    alloc: Global,
+    seen: &Seen<S>,
+    listing: &P,
+    name: &Text,
+    index: &i32,
+    most: u32,
+    rows: &mut Rows<Y>,
+) -> Result<(), NoMemory>
+    requires { length rows.old ≤ most }
+    ensures { OnOk result (rows.new ≡ take most (rows.old ++ listed_behind (P.heads listing.now)
+        (P.rows listing.now) seen.now name.now index.now)) }
+{
+    if let Some(topic) = seen.topic_named(name) {
+        let first = key_of(&topic.id, index);
+        list_above(alloc, seen, listing, name, first, most, rows)?;
+    }
+    list_topics(alloc, seen, listing, Some(name), most, rows)
+}
