@@ -1,23 +1,20 @@
-//! What goes out to the quorum.
+//! The quorum at the other end of the link.
 
-use kr_base::{Failed, NoMemory, Quorum, WriteSink};
+use crate::line::{Line, copy_of};
+use crate::link_images::LinkImages;
+use kr_base::{Failed, NoMemory, Quorum};
 use kr_calls::{Output, Reason};
-use kr_defs::Bytes;
-use kr_stream::{WriteFault, write_frame};
+use kr_shared::ClientSeat;
+use kr_stream::WriteFault;
 use std::alloc::Global;
 use std::net::TcpStream;
-use std::sync::{Arc, Mutex, Wait};
+use std::sync::Wait;
 
-fn copy_of(alloc: Global, bytes: &[u8]) -> Result<Bytes, NoMemory> {
-    Ok(Bytes::from_vec(bytes.to_vec(alloc)?))
-}
-
-/// The quorum at the other end of the link. Each frame goes out whole, under one lock.
+/// The quorum at the other end of the link.
 #[derive(Drop)]
 pub struct LinkQuorum<R: Wait + Copy> {
-    rt: R,
     alloc: Global,
-    line: Arc<Mutex<WriteSink<TcpStream>>, Global>,
+    line: Line<R>,
     faults: u64,
 }
 
@@ -25,29 +22,27 @@ impl<R: Wait + Copy> LinkQuorum<R> {
     /// A quorum that is written to by this stream.
     pub fn new(rt: R, alloc: Global, stream: TcpStream) -> Result<LinkQuorum<R>, NoMemory> {
         Ok(LinkQuorum {
-            rt,
             alloc,
-            line: Arc::new(alloc, Mutex::new(WriteSink::new(stream)))?,
+            line: Line::new(rt, alloc, stream)?,
             faults: 0,
         })
     }
 
-    // One frame.
-    fn put(&self, output: &Output) -> Result<(), WriteFault> {
-        let mut line = self.line.lock(&self.rt);
-        write_frame(self.alloc, output, &mut *line)
+    /// What the quorum's questions for images are answered from: this seat, and the line.
+    pub fn images(&self, seat: ClientSeat) -> Result<LinkImages<R>, NoMemory> {
+        LinkImages::new(self.alloc, self.line.again()?, seat)
     }
 
     // The batch's frame.
     fn put_batch(&self, bytes: &[u8]) -> Result<(), WriteFault> {
         let bytes = copy_of(self.alloc, bytes)?;
-        self.put(&Output::Append { bytes })
+        self.line.put(&Output::Append { bytes })
     }
 
     /// Tells the quorum that its event of this number was refused. A write that fails is passed over, since the link then
     /// ends anyway.
     pub fn refuse(&self, event: u64, reason: Reason) -> Result<(), NoMemory> {
-        match self.put(&Output::Refused { event, reason }) {
+        match self.line.put(&Output::Refused { event, reason }) {
             Err(WriteFault::NoMemory) => Err(NoMemory),
             _ => Ok(()),
         }
