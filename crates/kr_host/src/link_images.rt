@@ -142,7 +142,9 @@ impl<R: Wait + Copy> LinkImages<R> {
         match write_image(self.alloc, &mut self.seat, place, &mut sink) {
             Ok(()) => Ok(Attempt::Whole(copy_of(self.alloc, sink.written())?)),
             Err(ImageWriteFault::WriteFault) => Ok(Attempt::TooLarge),
-            Err(ImageWriteFault::Scan(_) | ImageWriteFault::Loaded { .. }) => Ok(Attempt::Overtaken),
+            Err(ImageWriteFault::Scan(_) | ImageWriteFault::Loaded { .. }) => Ok(
+                Attempt::Overtaken,
+            ),
             Err(ImageWriteFault::NoMemory) => Err(ImageFault::NoMemory),
         }
     }
