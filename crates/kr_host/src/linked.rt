@@ -2,7 +2,7 @@
 
 use crate::ended::{Ended, tell_no_memory};
 use crate::link_quorum::LinkQuorum;
-use kr_base::{Clock, NoMemory, OpenGate, SystemClock};
+use kr_base::{NoMemory, OpenGate, SystemClock};
 use kr_shared::{Turn, WorkerSeat};
 use std::io::Eprint;
 use std::sync::Wait;
@@ -12,10 +12,9 @@ use std::time;
 fn tell_refusal<R: Wait + Copy>(
     worker: &WorkerSeat,
     quorum: &LinkQuorum<R>,
-    event: u64,
 ) -> Result<(), NoMemory> {
     match worker.refusal() {
-        Some(reason) => quorum.refuse(event, *reason),
+        Some(reason) => quorum.refuse(worker.events(), *reason),
         None => Ok(()),
     }
 }
@@ -28,17 +27,11 @@ pub fn turn_linked<R: Wait + Eprint + time::Clock + Copy>(
     quorum: &mut LinkQuorum<R>,
 ) -> Ended {
     let mut clock = SystemClock::new(*rt);
-    let mut events: u64 = 0;
     for _ in rt.forever() {
         let rung = worker.jobs().number(rt);
-        let asks = clock.asks();
         match worker.turn(rt, &mut OpenGate, quorum, &mut clock) {
             Ok(Turn::Did) => {
-                // An event of the link brings its time, a client's write asks the clock.
-                if clock.asks() == asks {
-                    events = events.saturating_add(1);
-                }
-                if tell_refusal(worker, quorum, events).is_err() {
+                if tell_refusal(worker, quorum).is_err() {
                     return tell_no_memory(rt);
                 }
             }

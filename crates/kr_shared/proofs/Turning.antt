@@ -28,7 +28,7 @@ use Rattle.kr_shared.specs.Serves.{ServesEvent}
 use Rattle.kr_shared.specs.Standing.{StandsForSome}
 use Rattle.kr_shared.specs.Tasks.{basis_at}
 use Rattle.kr_shared.specs.Answers.{bare_answer}
-use Rattle.kr_shared.specs.Turns.{Bench, DoesJob, DoesRequest, DoesWhole, DoesWrite, IsAsBefore, IsDone, IsDoneLate, IsDoneWhole, IsLate, IsPutOff, IsQuiet, LosesLed, LosesUnless, Notes, NotesUnlessAhead, Outside, StaysLate, TakesUp, Turned, Works, WorksWhole, caught_up, turn_of}
+use Rattle.kr_shared.specs.Turns.{events_with, Bench, DoesJob, DoesRequest, DoesWhole, DoesWrite, IsAsBefore, IsDone, IsDoneLate, IsDoneWhole, IsLate, IsPutOff, IsQuiet, LosesLed, LosesUnless, Notes, NotesUnlessAhead, Outside, StaysLate, TakesUp, Turned, Works, WorksWhole, caught_up, turn_of}
 use Rattle.kr_shared.specs.Works.{DeskView}
 use Rattle.kr_shared.proofs.Onwards.{goes_on}
 
@@ -130,6 +130,9 @@ module _ (o : Outside) (old mid taken new : Bench) (job : Job) (mid_is : mid ≡
   takes_old : TakesUp old.stays old.knows job taken.knows
   takes_old = subst (λ (b : Bench). TakesUp b.stays b.knows job taken.knows) mid_is takes
 
+  events_is : taken.events ≡ old.events
+  events_is = ap (λ (b : Bench). b.events) taken_is ∙ ap (λ (b : Bench). b.events) mid_is
+
   work_is : taken.work ≡ old.work
   work_is = ap (λ (b : Bench). b.work) taken_is ∙ ap (λ (b : Bench). b.work) mid_is
 
@@ -141,6 +144,7 @@ module _ (o : Outside) (old mid taken new : Bench) (job : Job) (mid_is : mid ≡
     going = still_going;
     taken = subst (TakesUp old.stays old.knows job) (sym d.knows) takes_old;
     does = subst (λ (w : DeskView). DoesJob o w new.work job new.refusal) work_is d.does;
+    events = d.events ∙ ap (λ events. events_with events job) events_is;
     stopped = d.stopped;
     stays = d.stays ∙ ap (λ (b : Bench). b.stays) taken_is;
   }
@@ -152,6 +156,7 @@ module _ (o : Outside) (old mid taken new : Bench) (job : Job) (mid_is : mid ≡
   put_off d = record {
     work = d.work ∙ work_is;
     job = inr (job, record { going = still_going; taken = subst (TakesUp old.stays old.knows job) (sym d.knows) takes_old; stays = d.stays });
+    events = d.events ∙ events_is;
     refusal = d.refusal ∙ (ap (λ (b : Bench). b.refusal) taken_is ∙ ap (λ (b : Bench). b.refusal) mid_is);
     stopped = d.stopped ∙ (ap (λ (b : Bench). b.stopped) taken_is ∙ ap (λ (b : Bench). b.stopped) mid_is);
     quiet = d.quiet;
@@ -179,6 +184,7 @@ still_late o old mid new mid_is quiet s = record {
       knows = ap (λ (b : Bench). b.knows) s.same ∙ ap (λ (b : Bench). b.knows) mid_is;
       stays = ap (λ (b : Bench). b.stays) s.same ∙ ap (λ (b : Bench). b.stays) mid_is;
     });
+    events = ap (λ (b : Bench). b.events) s.same ∙ ap (λ (b : Bench). b.events) mid_is;
     refusal = ap (λ (b : Bench). b.refusal) s.same ∙ ap (λ (b : Bench). b.refusal) mid_is;
     stopped = ap (λ (b : Bench). b.stopped) s.same ∙ ap (λ (b : Bench). b.stopped) mid_is;
     quiet = quiet;

@@ -21,6 +21,7 @@ pub record AreSeated (options : Options) (seats : ℕ) (worker : Bench) (link : 
   pub shelf : worker.work.shelf ≡ resting options [] []
   pub shown : worker.shown ≡ []
   pub stays : worker.stays ≡ None
+  pub events : worker.events ≡ 0
   pub refusal : worker.refusal ≡ None
   pub stopped : worker.stopped ≡ false
   pub late : worker.late ≡ false

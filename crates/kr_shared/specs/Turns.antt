@@ -1,6 +1,6 @@
 -- What a turn does. This project's own.
 use Rattle.std.specs.Prelude.{◌≡◌, ◌⊎◌, ℕ, ℤ, int_lt, Bool, true, false, List, [], ◌∷◌, ◌++◌, Option, Some, None}
-use Rattle.kr_base.specs.Causes.{Rose}
+use Rattle.kr_base.specs.Causes.{Rose, raised}
 use Rattle.kr_calls.specs.declared.answers.AnswerKind.TheVariants as kinds
 use Rattle.kr_calls.specs.declared.calls.Ask.{Ask}
 use Rattle.kr_calls.specs.declared.calls.Ask.TheVariants as asks
@@ -121,12 +121,13 @@ job_again seat ticket floor other = jobs.Link other
 -- ---- turns
 
 -- what the worker's pass knows, what its work comes to once all that is due is published, the published list, a job that stays,
--- why the event of the link was refused that the last turn took, whether a stop came, and whether something is due
+-- how many events of the link were taken, why that of the last turn was refused, whether a stop came, and whether something is due
 pub record Bench : Type 0 where
   pub knows : View
   pub work : DeskView
   pub shown : List Entry
   pub stays : Option Job
+  pub events : ℕ
   pub refusal : Option Reason
   pub stopped : Bool
   pub late : Bool
@@ -145,6 +146,14 @@ is_stop (jobs.Write seat ticket floor call) = false
 is_stop (jobs.Pin seat ticket floor) = false
 is_stop (jobs.Unpin seat ticket floor place) = false
 
+-- the number stands still at the greatest u64
+abbrev pub events_with : ℕ → Job → ℕ
+events_with events (jobs.Link event) = raised events
+events_with events (jobs.Stop number) = events
+events_with events (jobs.Write seat ticket floor call) = events
+events_with events (jobs.Pin seat ticket floor) = events
+events_with events (jobs.Unpin seat ticket floor place) = events
+
 -- the job stayed from an earlier turn, or is popped
 abbrev pub TakesUp : Option Job → View → Job → View → Type 0
 TakesUp (Some stays) before job now = (job ≡ stays) × (now ≡ before)
@@ -158,6 +167,7 @@ caught_up b = record b { shown = b.work.shelf.list; refusal = None; late = false
 pub record IsDone (o : Outside) (old new : Bench) (job : Job) : Type 0 where
   pub knows : new.knows ≡ old.knows
   pub does : DoesJob o old.work new.work job new.refusal
+  pub events : new.events ≡ events_with old.events job
   pub stopped : new.stopped ≡ is_stop job
   pub stays : new.stays ≡ old.stays
 
@@ -172,6 +182,7 @@ pub record IsPutOff (o : Outside) (old new : Bench) (job : Job) : Type 0 where
   pub work : new.work ≡ old.work
   pub knows : new.knows ≡ old.knows
   pub stays : new.stays ≡ Some job
+  pub events : new.events ≡ old.events
   pub refusal : new.refusal ≡ old.refusal
   pub stopped : new.stopped ≡ old.stopped
   pub quiet : IsQuiet o
@@ -194,6 +205,7 @@ pub record Works (o : Outside) (old new : Bench) (job : Job) : Type 0 where
   pub going : old.stopped ≡ false
   pub taken : TakesUp old.stays old.knows job new.knows
   pub does : DoesJob o old.work new.work job new.refusal
+  pub events : new.events ≡ events_with old.events job
   pub stopped : new.stopped ≡ is_stop job
   pub stays : new.stays ≡ None
 
@@ -226,6 +238,7 @@ pub record Defers (old new : Bench) (job : Job) : Type 0 where
 pub record IsAsBefore (o : Outside) (old new : Bench) : Type 0 where
   pub work : new.work ≡ old.work
   pub job : Waits old new ⊎ ((job : Job) × Defers old new job)
+  pub events : new.events ≡ old.events
   pub refusal : new.refusal ≡ None
   pub stopped : new.stopped ≡ old.stopped
   pub quiet : IsQuiet o

@@ -15,6 +15,7 @@ bench_of w = record {
   work = settled w.desk;
   shown = w.desk.shelf.list;
   stays = w.stays;
+  events = w.events;
   refusal = w.refusal;
   stopped = w.stopped;
   late = w.late;

@@ -74,9 +74,7 @@ fn last_seat(
     let queue = Arc::try_clone(queue)?;
     let bells = bells.again()?;
     let held = Places::with_room(alloc, MOST_PLACES)?;
-    Ok(Some(ClientSeat::new(
-        alloc, queue, pass, reader, bells, held,
-    )))
+    Ok(Some(ClientSeat::new(alloc, queue, pass, reader, bells, held)))
 }
 
 // A seat for each pass and reader, from the last to the first.

@@ -8,7 +8,7 @@ ghost use Rattle.kr_queue.specs.Jobs.{is_fit};
 ghost use Rattle.kr_queue.specs.Passes.{view, IsPassOf};
 ghost use Rattle.kr_queue.specs.Steps.{Holds};
 ghost use Rattle.kr_shared.specs.Desks.{IsSettled, StandsFor, settled};
-ghost use Rattle.kr_shared.specs.Turns.{IsDoneLate, IsDoneWhole, IsLate, StaysLate, TakesUp, Turned, is_stop, turn_of};
+ghost use Rattle.kr_shared.specs.Turns.{IsDoneLate, IsDoneWhole, IsLate, StaysLate, TakesUp, Turned, events_with, is_stop, turn_of};
 
 use crate::bell::Bell;
 use crate::clients::Bells;
@@ -44,6 +44,8 @@ pub struct WorkerSeat {
     desk: Desk,
     // A job for which there was no memory, before any other.
     stays: Option<Job>,
+    // How many events of the link were taken.
+    events: u64,
     // Why the last turn's event was refused, if it was.
     refusal: Option<Reason>,
     // How many jobs were taken up.
@@ -76,6 +78,16 @@ fn turn_of(job: &Job) -> Turn
     }
 }
 
+// The number stands still at the greatest u64.
+fn events_with(events: u64, job: &Job) -> u64
+    ensures { result ≡ events_with events job.now }
+{
+    match job {
+        Job::Link { .. } => events.saturating_add(1),
+        _ => events,
+    }
+}
+
 fn is_stop(job: &Job) -> bool
     ensures { result ≡ is_stop job.now }
 {
@@ -93,6 +105,7 @@ impl WorkerSeat {
           work = settled desk;
           shown = desk.shelf.list;
           stays = None;
+          events = 0;
           refusal = None;
           stopped = false;
           late = false;
@@ -104,11 +117,20 @@ impl WorkerSeat {
             bells,
             desk,
             stays: None,
+            events: 0,
             refusal: None,
             pops: 0,
             stopped: false,
             late: false,
         }
+    }
+
+    /// How many events of the link were taken, so that a host can tell the link which of its events was refused; the count
+    /// stands still at the greatest u64.
+    pub fn events(&self) -> u64
+        ensures { result ≡ self.now.events }
+    {
+        self.events
     }
 
     /// Why the event of the link was refused that the last turn took; none where it was not. Also a turn that found no memory
@@ -190,9 +212,11 @@ impl WorkerSeat {
     {
         let turn = turn_of(&job);
         let stops = is_stop(&job);
+        let events = events_with(self.events, &job);
         let mut steps: Steps<L> = Steps::new(blank);
         match self.desk.do_job(quorum, clock, job, &mut steps) {
             Ok(refusal) => {
+                self.events = events;
                 self.refusal = refusal;
                 self.stopped = stops;
                 self.late = true;
@@ -256,6 +280,7 @@ impl WorkerSeat {
             bells: _bells,
             desk,
             stays: _stays,
+            events: _events,
             refusal: _refusal,
             pops: _pops,
             stopped: _stopped,

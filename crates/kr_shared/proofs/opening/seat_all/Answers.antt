@@ -25,6 +25,7 @@ returns-in-Ok-clause-ok g c =
       shelf = ap (λ (b : Bench). b.work.shelf) is ∙ ap (λ (d : DeskView). d.shelf) settles;
       shown = ap (λ (b : Bench). b.shown) is ∙ ap (λ (h : Rattle.kr_view.specs.Shelves.Shelf). h.list) shelf;
       stays = ap (λ (b : Bench). b.stays) is;
+      events = ap (λ (b : Bench). b.events) is;
       refusal = ap (λ (b : Bench). b.refusal) is;
       stopped = ap (λ (b : Bench). b.stopped) is;
       late = ap (λ (b : Bench). b.late) is;
