@@ -15,6 +15,7 @@ mod linked;
 mod local;
 mod opening;
 mod running;
+mod shortage;
 mod watched;
 
 pub use asked_images::AskedImages;

@@ -3,9 +3,10 @@
 ghost use Rattle.kr_host.specs.Leading.{PushesLead};
 
 use crate::door::Door;
-use crate::ended::{Ended, tell_no_memory};
-use crate::events::{link_event, push};
-use kr_base::{Clock, NoMemory, OpenGate, SystemClock};
+use crate::ended::Ended;
+use crate::events::{link_event, push, rest};
+use crate::shortage::Shortage;
+use kr_base::{Clock, OpenGate, SystemClock};
 use kr_calls::Event;
 use kr_local::LocalQuorum;
 use kr_shared::{LinkSeat, Turn, WorkerSeat};
@@ -37,7 +38,8 @@ fn commit<R: Wait + time::Clock>(rt: &R, door: &Door, quorum: &mut LocalQuorum) 
     }
 }
 
-/// The worker's turns, with a quorum that commits each append at once, until it is stopped.
+/// The worker's turns, with a quorum that commits each append at once, until it is stopped. What a turn without memory leaves
+/// is taken up by the next, after a rest.
 pub fn turn_alone<R: Wait + Eprint + time::Clock + Copy>(
     rt: &R,
     worker: &mut WorkerSeat,
@@ -45,13 +47,17 @@ pub fn turn_alone<R: Wait + Eprint + time::Clock + Copy>(
     door: &Door,
 ) -> Ended {
     let mut clock = SystemClock::new(*rt);
+    let mut shortage = Shortage::none();
     for _ in rt.forever() {
         let rung = worker.jobs().number(rt);
-        match worker.turn(rt, &mut OpenGate, quorum, &mut clock) {
-            Ok(Turn::Did) => commit(rt, door, quorum),
+        let turn = worker.turn(rt, &mut OpenGate, quorum, &mut clock);
+        commit(rt, door, quorum);
+        shortage.note(rt, turn.is_err());
+        match turn {
+            Ok(Turn::Did) => {}
             Ok(Turn::Idle) => worker.jobs().wait_past(rt, rung),
             Ok(Turn::Stopped) => return Ended::Done,
-            Err(NoMemory) => return tell_no_memory(rt),
+            Err(_) => rest(rt),
         }
     }
     unreachable!()
