@@ -90,7 +90,7 @@ pub fn spawn_link<R: Threads + Wait + Eprint + time::Clock + Send + Copy + 'stat
     link: LinkSeat,
     images: &LinkImages<R>,
 ) -> Result<JoinHandle<()>, NoMemory> {
-    let asked = images.asked()?;
+    let asked = images.questions()?;
     match thread::spawn(&rt, move || take_all(&rt, alloc, stream, link, &asked)) {
         Ok(thread) => Ok(thread),
         Err(_) => Err(NoMemory),

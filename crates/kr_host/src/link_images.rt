@@ -75,7 +75,7 @@ impl<R: Wait + Copy> LinkImages<R> {
     }
 
     /// By which the link's thread asks for images.
-    pub(crate) fn asked(&self) -> Result<Arc<AskedImages, Global>, NoMemory> {
+    pub(crate) fn questions(&self) -> Result<Arc<AskedImages, Global>, NoMemory> {
         Ok(Arc::try_clone(&self.asked)?)
     }
 

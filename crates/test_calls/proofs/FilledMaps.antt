@@ -7,7 +7,7 @@ use Rattle.std.proofs.lemmas.List.Elements.{All-from_recursion}
 use Rattle.std.proofs.lemmas.List.Sums.{sum_by-cons}
 use Rattle.kr_defs.specs.KeptMaps.{Kept, KeptMaps, IsAbove, forgotten, inserted, map_at, marked, no_maps, reverted}
 use Rattle.kr_defs.proofs.Tests.{some_is}
-use Rattle.test_calls.specs.FilledMaps.{IsFilled}
+use Rattle.test_calls.specs.FilledMaps.{HoldsThousand}
 
 pub is_ok : {E X : Type 0} (r : Result (Unit {0}) E) (o : Option X) → (IsErr r ↔ (o ≡ None)) → IsSome o → IsOk r
 is_ok (Ok done) o no_epoch some = refl
@@ -19,7 +19,7 @@ above_one begun filled is same =
     subst (λ (kept : List (Kept ℕ ℤ)). IsAbove kept (pos 1)) (sym (same ∙ ap (λ (m : KeptMaps ℕ ℤ). m.kept) is))
     (All-from_recursion (λ (k : Kept ℕ ℤ). IsTrue (int_lt k.epoch (pos 1))) (record { epoch = pos 0; map = []; made = 0 } ∷ []) (refl, tt))
 
-pub is_filled : (begun filled after : KeptMaps ℕ ℤ) → begun ≡ marked no_maps (pos 0) → filled.kept ≡ begun.kept → filled.made ≤ begun.made + 1000 → after ≡ marked filled (pos 1) → IsFilled after
+pub is_filled : (begun filled after : KeptMaps ℕ ℤ) → begun ≡ marked no_maps (pos 0) → filled.kept ≡ begun.kept → filled.made ≤ begun.made + 1000 → after ≡ marked filled (pos 1) → HoldsThousand after
 unfolding marked
 is_filled begun filled after is same few then = record {
   empty = record { epoch = pos 0; map = []; made = 0 };
@@ -38,7 +38,7 @@ is_back left (Some present) after is =
     let same : record { kept = left; present = present; made = 0 } ≡ after = some_is _ after is in
     (ap (λ (m : KeptMaps ℕ ℤ). m.kept) (sym same), ap (λ (m : KeptMaps ℕ ℤ). m.made) (sym same))
 
-module _ (maps changed : KeptMaps ℕ ℤ) (key : ℕ) (value : ℤ) (f : IsFilled maps) (is : changed ≡ inserted nat_cmp maps key value) where
+module _ (maps changed : KeptMaps ℕ ℤ) (key : ℕ) (value : ℤ) (f : HoldsThousand maps) (is : changed ≡ inserted nat_cmp maps key value) where
   same_kept : changed.kept ≡ f.empty ∷ f.full ∷ []
   unfolding inserted
   same_kept = ap (λ (m : KeptMaps ℕ ℤ). m.kept) is ∙ f.kept
@@ -56,7 +56,7 @@ module _ (maps changed : KeptMaps ℕ ℤ) (key : ℕ) (value : ℤ) (f : IsFill
   all_lower : filter (λ (k : Kept ℕ ℤ). not (int_lt (pos 1) k.epoch)) changed.kept ≡ f.empty ∷ f.full ∷ []
   all_lower = rw (same_kept, f.first, f.second) refl
 
-  pub filled_again : (after : KeptMaps ℕ ℤ) → reverted changed (pos 1) ≡ Some after → IsFilled after
+  pub filled_again : (after : KeptMaps ℕ ℤ) → reverted changed (pos 1) ≡ Some after → HoldsThousand after
   unfolding reverted
   filled_again after back =
       let left = is_back (filter (λ (k : Kept ℕ ℤ). not (int_lt (pos 1) k.epoch)) changed.kept) (map_at changed (pos 1)) after back in

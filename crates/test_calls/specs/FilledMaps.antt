@@ -3,7 +3,7 @@ use Rattle.std.specs.Prelude.{◌≡◌, ◌≤◌, ℕ, ℤ, pos, [], ◌∷◌
 use Rattle.kr_defs.specs.KeptMaps.{Kept, KeptMaps}
 
 -- a thousand keys were given values between two kept epochs, and nothing has changed since
-pub record IsFilled (maps : KeptMaps ℕ ℤ) : Type 0 where
+pub record HoldsThousand (maps : KeptMaps ℕ ℤ) : Type 0 where
   pub empty : Kept ℕ ℤ
   pub full : Kept ℕ ℤ
   pub kept : maps.kept ≡ empty ∷ full ∷ []

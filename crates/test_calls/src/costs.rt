@@ -2,7 +2,7 @@
 //! so what is claimed of it are the clauses of these functions.
 
 ghost use Rattle.std.specs.Prelude.{◌≡◌, ◌≤◌, ◌+◌, ◌<◌, IfOk, OnOk};
-ghost use Rattle.test_calls.specs.FilledMaps.{IsFilled};
+ghost use Rattle.test_calls.specs.FilledMaps.{HoldsThousand};
 
 use kr_base::{NoMemory, Steps};
 use kr_timeline::Timeline;
@@ -27,8 +27,8 @@ fn fill(timeline: &mut Timeline<u128, i32>) -> Result<(), NoMemory>
 
 // A thousand keys between two kept epochs.
 #[tactic(auto, using(crate::proofs::FilledMaps::above_one, crate::proofs::FilledMaps::is_filled))]
-fn filled(alloc: Global) -> Result<Timeline<u128, i32>, NoMemory>
-    ensures { IfOk result (λ timeline. IsFilled timeline.maps) }
+fn filled_timeline(alloc: Global) -> Result<Timeline<u128, i32>, NoMemory>
+    ensures { IfOk result (λ timeline. HoldsThousand timeline.maps) }
 {
     let mut timeline = Timeline::new(alloc);
     timeline.mark(0)?;
@@ -43,8 +43,8 @@ fn undo_one<L: Ledger>(
     timeline: &mut Timeline<u128, i32>,
     steps: &mut Steps<L>,
 ) -> Result<(), NoMemory>
-    requires { IsFilled timeline.old.maps }
-    ensures filled { OnOk result (IsFilled timeline.new.maps) }
+    requires { HoldsThousand timeline.old.maps }
+    ensures filled { OnOk result (HoldsThousand timeline.new.maps) }
     ensures cost { steps.new ≤ steps.old + 2 }
 {
     timeline.insert(7, 2)?;
@@ -57,7 +57,7 @@ fn forget_all<L: Ledger>(
     timeline: &mut Timeline<u128, i32>,
     steps: &mut Steps<L>,
 ) -> Result<(), NoMemory>
-    requires { IsFilled timeline.old.maps }
+    requires { HoldsThousand timeline.old.maps }
     ensures cost { steps.new ≤ steps.old + 1004 }
 {
     timeline.insert(7, 3)?;
@@ -72,7 +72,7 @@ fn costs<L: Ledger>(rt: &impl Abort, alloc: Global, blank: Blank) -> Result<(), 
     requires some { 0 < L.parts }
 {
     let mut steps: Steps<L> = Steps::new(blank);
-    let mut timeline = filled(alloc)?;
+    let mut timeline = filled_timeline(alloc)?;
     undo_one(&mut timeline, &mut steps)?;
     assert_eq!(rt; (timeline.get(&7), timeline.epochs()), (Some(&1), 2));
     forget_all(&mut timeline, &mut steps)?;

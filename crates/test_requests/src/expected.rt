@@ -85,7 +85,7 @@ pub(crate) fn are_records(
     came: &[Record],
     text: &mut String,
 ) -> Result<bool, AllocError> {
-    let number = agreeing(expected, came);
+    let number = count_of_agreeing(expected, came);
     if number == expected.len() && number == came.len() {
         return Ok(true);
     }
@@ -95,7 +95,7 @@ pub(crate) fn are_records(
 }
 
 // How many records agree before the first that don't.
-fn agreeing(expected: &[Record], came: &[Record]) -> usize {
+fn count_of_agreeing(expected: &[Record], came: &[Record]) -> usize {
     let mut number = 0_usize;
     for record in expected {
         if came.get(number) != Some(record) {

@@ -9,12 +9,12 @@ use Rattle.test_rule_answers.specs.declared.heartbeats.Operation.TheVariants as 
 use Rattle.test_words.specs.PlainWords.{◌␣◌}
 
 -- the lists after one operation more
-abbrev pub operated : Heartbeats → Operation → Heartbeats
-operated h (operations.Begin unfenced stopping now led) = begin unfenced stopping now led
-operated h (operations.Beat broker now offset) = beat h broker now offset
-operated h (operations.Stop broker tip) = stop h broker tip
-operated h (operations.Leave broker) = leave h broker
-operated h operations.End = end
+abbrev pub heartbeats_with : Heartbeats → Operation → Heartbeats
+heartbeats_with h (operations.Begin unfenced stopping now led) = begin unfenced stopping now led
+heartbeats_with h (operations.Beat broker now offset) = beat h broker now offset
+heartbeats_with h (operations.Stop broker tip) = stop h broker tip
+heartbeats_with h (operations.Leave broker) = leave h broker
+heartbeats_with h operations.End = end
 
 abbrev pub contact_words : Contact → List ℕ
 contact_words c = signed_decimal c.broker ++ (codes "@" ++ (signed_decimal c.time ++ (codes ":" ++ signed_decimal c.offset)))

@@ -124,7 +124,7 @@ fn stop(sessions: &mut Sessions, broker: &i32, tip: &i64) -> Result<(), RowFault
 }
 
 fn operate(sessions: &mut Sessions, operation: &Operation) -> Result<(), RowFault>
-    ensures { OnOk result (sessions.new.heartbeats ≡ words.operated sessions.old.heartbeats operation.now) }
+    ensures { OnOk result (sessions.new.heartbeats ≡ words.heartbeats_with sessions.old.heartbeats operation.now) }
 {
     match operation {
         Operation::Begin {
@@ -231,7 +231,7 @@ fn sessions_text(alloc: Global, sessions: &Sessions) -> Result<String, RowFault>
 
 /// The contacts and the stopping brokers after these operations, in words.
 pub fn heartbeats_answer(alloc: Global, operations: &[Operation]) -> Result<String, RowFault>
-    ensures { IfOk result (λ text. string_bytes text ≡ words.heartbeat_words (fold words.operated heartbeats.end operations.now)) }
+    ensures { IfOk result (λ text. string_bytes text ≡ words.heartbeat_words (fold words.heartbeats_with heartbeats.end operations.now)) }
 {
     let mut sessions = Sessions::new(alloc);
     for operation in operations {
