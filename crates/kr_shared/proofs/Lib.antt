@@ -11,7 +11,7 @@ pub mod Made
 pub mod Misses
 pub mod Noting
 pub mod Onwards
-pub mod Places
+pub mod PinnedPlaces
 pub mod Published
 pub mod Replied
 pub mod Sent

@@ -86,7 +86,7 @@ fn end_of_place(entry: &SeatEntry, floor: &i64, wanted: &Wanted) -> Option<Resul
 }
 
 // Looks until what was asked for is granted, or it is found why not.
-#[tactic(auto, using(crate::proofs::Onwards::onward_refl, crate::proofs::Onwards::onward_trans, crate::proofs::Places::places_found, crate::proofs::Misses::stays, crate::proofs::Misses::looked_on))]
+#[tactic(auto, using(crate::proofs::Onwards::onward_refl, crate::proofs::Onwards::onward_trans, crate::proofs::PinnedPlaces::places_found, crate::proofs::Misses::stays, crate::proofs::Misses::looked_on))]
 fn wait_for<R: Wait>(
     rt: &R,
     bell: &Bell,
