@@ -13,6 +13,7 @@ mod links;
 mod opening;
 mod pins;
 mod places;
+mod reads;
 mod sharing;
 mod taking;
 mod worker;
