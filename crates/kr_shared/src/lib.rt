@@ -23,5 +23,6 @@ pub use bell::Bell;
 pub use clients::{ClientSeat, ClientSeats, SubmitFault};
 pub use links::LinkSeat;
 pub use opening::open;
-pub use pins::{MOST_PLACES, PinFault};
+pub use pins::PinFault;
+pub use places::MOST_PLACES;
 pub use worker::{Turn, WorkerSeat};
