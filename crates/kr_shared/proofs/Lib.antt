@@ -4,7 +4,6 @@ pub mod Desks
 pub mod Ends
 pub mod Fronts
 pub mod Giving
-pub mod Grants
 pub mod LastSeats
 pub mod Lines
 pub mod Losing
@@ -12,6 +11,7 @@ pub mod Made
 pub mod Misses
 pub mod Noting
 pub mod Onwards
+pub mod PinnedPlaces
 pub mod Published
 pub mod Replied
 pub mod Sent
