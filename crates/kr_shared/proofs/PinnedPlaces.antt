@@ -1,11 +1,14 @@
 -- What a found entry tells of a pin or an unpin.
-use Rattle.std.proofs.Common.{◌≡◌, ℕ, ℤ, List, subst, sym, true}
+use Rattle.std.proofs.Common.{◌≡◌, ◌∙◌, ◌∷◌, ◌++◌, ℕ, ℤ, List, subst, sym, ap, refl, append_assoc, true}
 use Rattle.std.specs.Prelude.{Some, IfOk, IfErr, Result, Ok, Err, int_lt}
 use Rattle.kr_calls.specs.declared.answers.Answer.{Answer}
+use Rattle.kr_calls.specs.declared.events.Entry.{Entry}
 use Rattle.kr_calls.specs.declared.events.Entry.TheVariants as entries
 use Rattle.kr_calls.specs.declared.pins.Pin.{Pin}
 use Rattle.kr_calls.specs.declared.seat_entry.SeatEntry.{SeatEntry}
 use Rattle.kr_calls.specs.declared.seat_entry.SeatEntry.TheVariants as told
+use Rattle.kr_calls.specs.SeatList.{is_kept_in}
+use Rattle.kr_calls.proofs.KeptPlaces.{pins_stay}
 use Rattle.kr_view.specs.declared.looks.Look.TheVariants as looks
 use Rattle.kr_view.specs.declared.rule.ThreadView.{ThreadView}
 use Rattle.kr_view.specs.Looks.{HasRightEntry, LookTells}
@@ -13,7 +16,8 @@ use Rattle.kr_shared.specs.declared.clients.SubmitFault.{SubmitFault}
 use Rattle.kr_shared.specs.declared.clients.SubmitFault.TheVariants as faults
 use Rattle.kr_shared.specs.declared.pins.Wanted.{Wanted}
 use Rattle.kr_shared.specs.declared.pins.Wanted.TheVariants as wants
-use Rattle.kr_shared.specs.Places.{EndsAhead, EndsPlace, IsGranted, IsPlaceCause}
+use Rattle.kr_shared.specs.Grants.{EndsAhead, EndsPlace, IsGranted, IsKeptFrom, IsPlaceCause, pin_at}
+use Rattle.kr_shared.specs.Turns.{unpin_entry}
 
 module _ (seen : ThreadView) (seat ticket : ℕ) (floor : ℤ) where
   abbrev Found : SeatEntry → Type 0
@@ -57,5 +61,29 @@ module _ (seen : ThreadView) (seat ticket : ℕ) (floor : ℤ) where
   place_err (told.Unpin pin) wants.Pin (Err fault) t x = absurd x
   place_err (told.Unpin pin) (wants.Unpin own) (Err fault) t x = absurd x
   place_err (told.Answer answer) wanted (Err fault) t x = ahead answer fault t x
+
+-- ---- what is granted
+
+pub kept_from : (seen : ThreadView) (seat ticket : ℕ) (floor place : ℤ) → IsGranted seen seat ticket floor wants.Pin place → IsKeptFrom seen.list (pin_at seat ticket place)
+kept_from seen seat ticket floor place g =
+    let before : List Entry = g.right.0 in
+    let rest : List Entry = g.right.1 in
+    let pin : Pin = pin_at seat ticket place in
+    record {
+      before = before;
+      rest = rest;
+      stands = g.right.2;
+      kept = λ more plain.
+          subst (λ (l : List Entry). is_kept_in l place ≡ true)
+          (sym (ap (λ (l : List Entry). l ++ more) g.right.2 ∙ append_assoc before (entries.Pin pin ∷ rest) more))
+          (pins_stay before (rest ++ more) pin g.right.3 plain).1;
+    }
+
+-- an unpin is of the asked place
+pub of_the_asked : (seen : ThreadView) (seat ticket : ℕ) (floor own place : ℤ) → IsGranted seen seat ticket floor (wants.Unpin own) place → IsGranted seen seat ticket floor (wants.Unpin own) own
+of_the_asked seen seat ticket floor own place g = record {
+  right = subst (λ (z : ℤ). HasRightEntry seen.options seen.list (unpin_entry seat ticket z)) g.asked g.right;
+  asked = refl;
+}
 
 pub ruleset places_found = (place_ok, place_err)

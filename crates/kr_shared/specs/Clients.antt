@@ -8,10 +8,12 @@ use Rattle.kr_queue.specs.declared.jobs.Job.{Job}
 use Rattle.kr_queue.specs.declared.jobs.Job.TheVariants as jobs
 use Rattle.kr_view.specs.declared.rule.ThreadView.{ThreadView}
 use Rattle.kr_view.specs.CopiesRule.{seen}
+use Rattle.kr_view.specs.Readers.{Reading}
 use Rattle.kr_view.specs.declared.seat.CopyFault.{CopyFault}
 use Rattle.kr_view.specs.declared.seat.CopyFault.TheVariants.{NoCopy, NoMemory}
 
--- the seat's number, what it has seen, how often it got no copy, the number of its last call, and the jobs that it pushed
+-- the seat's number, what it has seen, how often it got no copy, the number of its last call, the jobs that it pushed, and the
+-- places that it holds
 pub record Client : Type 0 where
   pub number : ℕ
   pub seen : ThreadView
@@ -35,6 +37,13 @@ IsReadCause old new NoMemory = new.misses ≡ old.misses
 
 abbrev pub HasReadCause : {T : Type 0} → Client → Client → Result T CopyFault → Type 0
 HasReadCause old new result = MatchResult result (λ _. new.misses ≡ old.misses) (IsReadCause old new)
+
+-- what it has seen, and how often it got no copy
+abbrev pub client_reading : Client → Reading
+client_reading s = record { seen = s.seen; misses = s.misses }
+
+abbrev pub with_client_reading : Client → Reading → Client
+with_client_reading s r = record s { seen = r.seen; misses = r.misses }
 
 -- a seat that has seen an empty list and asked nothing
 abbrev pub a_client : Options → ℕ → Client

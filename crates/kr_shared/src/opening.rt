@@ -17,7 +17,6 @@ ghost use Rattle.kr_shared.specs.Works.{resting};
 use crate::clients::{Bells, ClientSeat, ClientSeats};
 use crate::desk::Desk;
 use crate::links::LinkSeat;
-use crate::pins::MOST_PLACES;
 use crate::places::Places;
 use crate::worker::WorkerSeat;
 use kr_base::NoMemory;
@@ -73,7 +72,7 @@ fn last_seat(
     };
     let queue = Arc::try_clone(queue)?;
     let bells = bells.again()?;
-    let held = Places::with_room(alloc, MOST_PLACES)?;
+    let held = Places::new(alloc)?;
     Ok(Some(ClientSeat::new(alloc, queue, pass, reader, bells, held)))
 }
 

@@ -1,25 +1,26 @@
 //! The places of the log that a client's seat holds.
 
-ghost use Rattle.std.specs.Prelude.{◌≡◌, ◌<◌, length, IfOk, IfErr, IfSome, OnErr, OnOk, MatchResult};
+ghost use Rattle.std.specs.Prelude.{◌≡◌, ◌<◌, ◌≤◌, ◌++◌, ◌∷◌, [], length, IfOk, IfErr, IfSome, IsTrue, OnErr, OnOk, MatchResult};
 ghost use Rattle.kr_base.specs.Causes.{raised};
 ghost use Rattle.kr_calls.specs.SeatList.{end_of};
+ghost use Rattle.kr_queue.specs.declared.passes.Role.TheVariants as roles;
+ghost use Rattle.kr_queue.specs.Jobs.{may_push};
 ghost use Rattle.kr_view.specs.Seats.{Onward};
-ghost use Rattle.kr_shared.specs.Clients.{Client, MayRise};
+ghost use Rattle.kr_shared.specs.Clients.{MayRise};
 ghost use Rattle.kr_shared.specs.declared.pins.Wanted.TheVariants as wants;
+ghost use Rattle.kr_shared.specs.declared.places.TheConstants.{MOST_PLACES};
 ghost use Rattle.kr_shared.specs.HeldPlaces.{with_place, without_place};
-ghost use Rattle.kr_shared.specs.Places.{EndsAhead, EndsPlace, IsGranted, IsPinCause, IsPlaceCause, PushedPlace, PushedPlaceAtFault, job_of_wanted};
+ghost use Rattle.kr_shared.specs.Grants.{EndsAhead, EndsPlace, IsGranted, IsKeptFrom, IsPinCause, IsPlaceCause, PushedPlace, PushedPlaceAtFault, job_of_wanted, pin_at};
 
 use crate::bell::Bell;
 use crate::clients::{ClientSeat, SubmitFault};
+use crate::places::MOST_PLACES;
 use kr_base::NoMemory;
 use kr_calls::{Answer, AnswerKind, SeatEntry};
 use kr_queue::Job;
 use kr_view::{CopyFault, Look, ReaderSeat};
 use std::sync::Wait;
 use std::thread;
-
-/// How many places a seat holds at most.
-pub const MOST_PLACES: u32 = 16;
 
 /// Why no place is pinned.
 #[derive(Clone, Copy, Debug, Drop, PartialEq, Eq)]
@@ -120,8 +121,8 @@ fn wait_for<R: Wait>(
 }
 
 fn job_of(seat: u32, ticket: u64, floor: &i64, wanted: &Wanted) -> Job
-    ensures { (s : Client) → s.number ≡ seat → end_of s.seen.list ≡ floor.now
-        → result ≡ job_of_wanted s ticket wanted.now }
+    ensures job { result ≡ job_of_wanted seat ticket floor.now wanted.now }
+    ensures fit { IsTrue (may_push (roles.Client seat) result) }
 {
     let floor = *floor;
     match wanted {
@@ -142,9 +143,25 @@ fn job_of(seat: u32, ticket: u64, floor: &i64, wanted: &Wanted) -> Job
 impl ClientSeat {
     /// How many places the seat holds. It takes no memory.
     pub fn pins(&self) -> u32
-        ensures { result ≡ length self.now.held }
+        ensures value { result ≡ length self.now.held }
+        ensures few { result ≤ MOST_PLACES }
     {
-        self.held.len() as u32
+        self.held.len()
+    }
+
+    // Pushes what the next call wants.
+    fn ask_for<R: Wait>(&mut self, rt: &R, wanted: &Wanted, floor: &i64) -> Result<(), NoMemory>
+        ensures ok { OnOk result (self.new ≡ record self.old {
+          ticket = raised self.old.ticket;
+          pushed = self.old.pushed ++ job_of_wanted self.old.number
+              (raised self.old.ticket) floor.now wanted.now ∷ [];
+        }) }
+        ensures err { OnErr result (self.new
+            ≡ record self.old { ticket = raised self.old.ticket }) }
+    {
+        self.ticket = self.ticket.saturating_add(1);
+        let job = job_of(self.reader.number(), self.ticket, floor, wanted);
+        self.push(rt, job)
     }
 
     // Asks for a place, and waits for it.
@@ -163,24 +180,26 @@ impl ClientSeat {
         ensures held { self.new.held ≡ self.old.held }
     {
         let floor = self.reader.end();
-        self.ticket = self.ticket.saturating_add(1);
-        let ticket = self.ticket;
-        let job = job_of(self.reader.number(), ticket, &floor, wanted);
-        if self.push(rt, job).is_err() {
+        if self.ask_for(rt, wanted, &floor).is_err() {
             return Err(SubmitFault::NoMemory);
         }
+        let ticket = self.ticket;
         wait_for(rt, &self.copies, &mut self.reader, ticket, &floor, wanted)
     }
 
     /// Pins the committed end, and waits for it: a place that isn't below the end of all that the seat had seen. The images at
     /// the places that a seat holds are kept, until it unpins them or an image comes in place of the log. It holds at most 16.
+    #[tactic(auto, using(crate::proofs::PinnedPlaces::kept_from))]
     pub fn pin<R: Wait>(&mut self, rt: &R) -> Result<i64, PinFault>
         ensures onward { Onward self.old.seen self.new.seen }
         ensures granted { IfOk result (λ place. IsGranted self.new.seen self.old.number
             self.new.ticket (end_of self.old.seen.list) wants.Pin place) }
+        ensures kept { IfOk result (λ place. IsKeptFrom self.new.seen.list
+            (pin_at self.old.number self.new.ticket place)) }
         ensures held { IfOk result (λ place. self.new.held ≡ with_place self.old.held place) }
-        ensures few { IfOk result (λ place. length self.old.held < 16) }
+        ensures few { IfOk result (λ place. length self.old.held < MOST_PLACES) }
         ensures pushed { IfOk result (λ place. PushedPlace self.old self.new wants.Pin) }
+        ensures ticket { IfOk result (λ place. self.new.ticket ≡ raised self.old.ticket) }
         ensures cause { IfErr result (λ fault. IsPinCause self.old self.new fault) }
         ensures number { self.new.number ≡ self.old.number }
         ensures misses { MayRise self.old.misses self.new.misses }
@@ -189,13 +208,12 @@ impl ClientSeat {
         if MOST_PLACES <= held {
             return Err(PinFault::Pins { held });
         }
-        let place = match self.want(rt, &Wanted::Pin) {
-            Ok(place) => place,
-            Err(fault) => return Err(PinFault::Submit(fault)),
-        };
-        match self.held.add(&place) {
-            Ok(()) => Ok(place),
-            Err(NoMemory) => Err(PinFault::Submit(SubmitFault::NoMemory)),
+        match self.want(rt, &Wanted::Pin) {
+            Ok(place) => {
+                self.held.add(&place);
+                Ok(place)
+            }
+            Err(fault) => Err(PinFault::Submit(fault)),
         }
     }
 

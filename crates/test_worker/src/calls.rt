@@ -14,7 +14,7 @@ use kr_shared::ClientSeat;
 use std::alloc::Global;
 use std::sync::Wait;
 
-pub(crate) fn registration(alloc: Global) -> Result<Call, NoMemory>
+pub(crate) fn registration(alloc: Global, broker: i32) -> Result<Call, NoMemory>
     ensures { IfOk result (λ call. IsTrue (not (is_read call.request))) }
 {
     let mut listeners = Endpoints::new(alloc);
@@ -25,7 +25,7 @@ pub(crate) fn registration(alloc: Global) -> Result<Call, NoMemory>
         protocol: 0,
     })?;
     let request = Request::BrokerRegistration(BrokerRegistration {
-        broker: 1,
+        broker,
         cluster: Text::from_str(alloc, "c1")?,
         incarnation: 9,
         listeners,
@@ -40,27 +40,29 @@ pub(crate) fn registration(alloc: Global) -> Result<Call, NoMemory>
     })
 }
 
-pub(crate) fn heartbeat() -> Call
+// It has read the log up to the offset.
+pub(crate) fn heartbeat(broker: i32, epoch: i64, offset: i64) -> Call
     ensures { IsTrue (not (is_read result.request)) }
 {
     Call {
         correlation: 2,
         request: Request::BrokerHeartbeat(BrokerHeartbeat {
-            broker: 1,
-            epoch: 0,
-            offset: 9,
+            broker,
+            epoch,
+            offset,
             want_fence: false,
             want_shutdown: false,
         }),
     }
 }
 
-pub(crate) fn topic(alloc: Global) -> Result<Call, NoMemory>
+// A topic of one partition.
+pub(crate) fn topic(alloc: Global, name: &str) -> Result<Call, NoMemory>
     ensures { IfOk result (λ call. IsTrue (not (is_read call.request))) }
 {
     let mut topics = CreatableTopics::new(alloc);
     topics.push(CreatableTopic {
-        name: Text::from_str(alloc, "t")?,
+        name: Text::from_str(alloc, name)?,
         partitions: 1,
         factor: 1,
         assignments: Rows::new(alloc),

@@ -27,7 +27,7 @@ struct LostWrites {
 
 impl Part for LostWrites {
     fn play<R: Wait>(&self, rt: &R, seat: &mut ClientSeat) -> bool {
-        match registration(self.alloc) {
+        match registration(self.alloc, 1) {
             Ok(call) => self.is_lost(rt, seat, &call) && self.is_lost(rt, seat, &call),
             Err(_) => false,
         }

@@ -73,10 +73,10 @@ impl HeldWorker {
     }
 
     fn are_written<R: Wait>(&self, rt: &R, seat: &mut ClientSeat) -> Result<bool, NoMemory> {
-        let register = registration(self.alloc)?;
-        let create = topic(self.alloc)?;
+        let register = registration(self.alloc, 1)?;
+        let create = topic(self.alloc, "t")?;
         let registered = place_and_error(rt, seat, &register) == Some((0, 0));
-        let heard = place_and_error(rt, seat, &heartbeat()) == Some((1, 0));
+        let heard = place_and_error(rt, seat, &heartbeat(1, 0, 9)) == Some((1, 0));
         let created = place_and_error(rt, seat, &create) == Some((2, 0));
         Ok(registered && heard && created)
     }

@@ -10,4 +10,6 @@ mod held_worker;
 #[cfg(test)]
 mod many_clients;
 #[cfg(test)]
+mod pinned_place;
+#[cfg(test)]
 mod threads;

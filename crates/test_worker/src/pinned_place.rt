@@ -1,0 +1,164 @@
+//! A seat's place is kept while it writes, until the seat gives it back.
+
+ghost use Rattle.std.specs.Prelude.{IsTrue, not};
+ghost use Rattle.kr_calls.specs.Decide.{is_read};
+
+use crate::calls::{heartbeat, place_and_error, registration, setting, topic};
+use crate::threads::{Part, Signs, TellingQuorum, serve};
+use kr_base::{NoMemory, OpenGate};
+use kr_calls::Call;
+use kr_defs::{Record, Text};
+use kr_shared::{ClientSeat, MOST_PLACES, PinFault};
+use kr_view::{PageRow, RecordKey, RecordReader, ScanFault};
+use std::alloc::Global;
+use std::sync::Wait;
+use std::test::Fail;
+
+const BROKERS: i32 = 5;
+
+// One client sets up the log, pins a place, and writes.
+#[derive(Drop)]
+struct PinnedPlace {
+    alloc: Global,
+}
+
+impl Part for PinnedPlace {
+    fn play<R: Wait>(&self, rt: &R, seat: &mut ClientSeat) -> bool {
+        self.is_kept(rt, seat).unwrap_or(false)
+    }
+}
+
+// The write stands at the place.
+fn is_at<R: Wait>(rt: &R, seat: &mut ClientSeat, call: &Call, place: i64) -> bool
+    requires { IsTrue (not (is_read call.now.request)) }
+{
+    place_and_error(rt, seat, call) == Some((place, 0))
+}
+
+// The row is of partition 0 of this topic.
+fn is_first_of(row: &PageRow, name: &str) -> bool {
+    row.key.topic.as_str() == name && row.key.index == 0
+}
+
+// The scan gives partition 0 of each of these topics.
+fn shows(seat: &mut ClientSeat, place: i64, names: &[&str]) -> bool {
+    let Ok(page) = seat.scan(place, None, 10) else {
+        return false;
+    };
+    let rows = page.as_slice();
+    rows.len() == names.len()
+        && rows
+            .iter()
+            .zip(names)
+            .all(|(row, name)| is_first_of(row, name))
+}
+
+// How many records there are at the place, of ten at most.
+fn count_records(seat: &mut ClientSeat, place: i64) -> Option<usize> {
+    match seat.records(place, None, 10) {
+        Ok(records) => Some(records.len()),
+        Err(_) => None,
+    }
+}
+
+impl PinnedPlace {
+    // Five active brokers, and the topic `t`. The log ends at 12.
+    fn is_set_up<R: Wait>(&self, rt: &R, seat: &mut ClientSeat) -> Result<bool, NoMemory> {
+        let mut fine = true;
+        for n in 0..BROKERS {
+            let register = registration(self.alloc, n + 1)?;
+            fine = fine && is_at(rt, seat, &register, i64::from(n));
+        }
+        for n in 0..BROKERS {
+            let heard = heartbeat(n + 1, i64::from(n), 4);
+            fine = fine && is_at(rt, seat, &heard, i64::from(n) + 5);
+        }
+        Ok(fine && is_at(rt, seat, &topic(self.alloc, "t")?, 10))
+    }
+
+    // The topic is seen at the place, or it isn't.
+    fn has_topic(&self, seat: &mut ClientSeat, place: i64, name: &str) -> Result<bool, NoMemory> {
+        let name = Text::from_str(self.alloc, name)?;
+        Ok(matches!(
+            seat.record(place, &RecordKey::Topic { name }),
+            Ok(Some(Record::Topic { .. }))
+        ))
+    }
+
+    fn is_kept<R: Wait>(&self, rt: &R, seat: &mut ClientSeat) -> Result<bool, NoMemory> {
+        let pinned = self.is_set_up(rt, seat)? && seat.pin(rt) == Ok(12);
+        let written = is_at(rt, seat, &topic(self.alloc, "u")?, 12);
+        let both = shows(seat, 12, &["t"]) && shows(seat, 14, &["t", "u"]);
+        let records = count_records(seat, 12) == Some(7)
+            && count_records(seat, 14) == Some(9)
+            && !self.has_topic(seat, 12, "u")?
+            && self.has_topic(seat, 14, "u")?
+            && seat.loads() == 0;
+        let given_back = seat.unpin(rt, 12).is_ok() && seat.pins() == 0;
+        let more = is_at(rt, seat, &topic(self.alloc, "v")?, 14);
+        Ok(pinned && written && both && records && given_back && more && is_gone(seat))
+    }
+}
+
+// The place isn't kept any more, and is before the oldest one that is.
+fn is_gone(seat: &mut ClientSeat) -> bool {
+    matches!(
+        seat.scan(12, None, 10),
+        Err(ScanFault::Gone {
+            asked: 12,
+            oldest: 16,
+        },)
+    )
+}
+
+#[test]
+fn a_pinned_place_is_kept(rt: HostRuntime) -> Result<(), Fail> {
+    let alloc = rt.alloc();
+    let signs = Signs::new();
+    let mut quorum = TellingQuorum::new(alloc, Vec::new(alloc), &signs)?;
+    let part = PinnedPlace { alloc };
+    assert!(rt; serve(&rt, alloc, 1, &mut OpenGate, &mut quorum, &part)?);
+    Ok(())
+}
+
+// A seat that pins the end before each of its writes holds sixteen places, and no more.
+#[derive(Drop)]
+struct SixteenPlaces {
+    alloc: Global,
+}
+
+impl Part for SixteenPlaces {
+    fn play<R: Wait>(&self, rt: &R, seat: &mut ClientSeat) -> bool {
+        for place in 0..MOST_PLACES {
+            if !self.is_pinned(rt, seat, place) {
+                return false;
+            }
+        }
+        is_full(rt, seat) && seat.unpin(rt, 3).is_ok() && seat.pins() == 15
+    }
+}
+
+fn is_full<R: Wait>(rt: &R, seat: &mut ClientSeat) -> bool {
+    matches!(seat.pin(rt), Err(PinFault::Pins { held: 16 })) && seat.pins() == 16
+}
+
+impl SixteenPlaces {
+    // The end is pinned, and then something is written there.
+    fn is_pinned<R: Wait>(&self, rt: &R, seat: &mut ClientSeat, place: u32) -> bool {
+        let at = i64::from(place);
+        match setting(self.alloc, u64::from(place) + 1) {
+            Ok(call) => seat.pin(rt) == Ok(at) && is_at(rt, seat, &call, at),
+            Err(_) => false,
+        }
+    }
+}
+
+#[test]
+fn a_seat_holds_sixteen_places(rt: HostRuntime) -> Result<(), Fail> {
+    let alloc = rt.alloc();
+    let signs = Signs::new();
+    let mut quorum = TellingQuorum::new(alloc, Vec::new(alloc), &signs)?;
+    let part = SixteenPlaces { alloc };
+    assert!(rt; serve(&rt, alloc, 1, &mut OpenGate, &mut quorum, &part)?);
+    Ok(())
+}
