@@ -6,6 +6,8 @@ pub mod Desks
 pub mod Ends
 pub mod Gives
 pub mod HeldPlaces
+pub mod ImageWrites
+pub mod KeysBehind
 pub mod LineFields
 pub mod Lines
 pub mod LinkFields
