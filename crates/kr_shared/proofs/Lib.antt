@@ -4,6 +4,7 @@ pub mod Desks
 pub mod Ends
 pub mod Fronts
 pub mod Giving
+pub mod Grants
 pub mod ImageFronts
 pub mod ImageWalks
 pub mod KeptImages
@@ -15,7 +16,6 @@ pub mod Made
 pub mod Misses
 pub mod Noting
 pub mod Onwards
-pub mod Places
 pub mod Published
 pub mod Replied
 pub mod Sent

@@ -5,6 +5,7 @@ pub mod Clients
 pub mod Desks
 pub mod Ends
 pub mod Gives
+pub mod Grants
 pub mod HeldPlaces
 pub mod ImageWrites
 pub mod KeysBehind
@@ -12,7 +13,6 @@ pub mod LineFields
 pub mod Lines
 pub mod LinkFields
 pub mod Opened
-pub mod Places
 pub mod Serves
 pub mod Standing
 pub mod Submit

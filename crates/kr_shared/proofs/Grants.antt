@@ -16,7 +16,7 @@ use Rattle.kr_shared.specs.declared.clients.SubmitFault.{SubmitFault}
 use Rattle.kr_shared.specs.declared.clients.SubmitFault.TheVariants as faults
 use Rattle.kr_shared.specs.declared.pins.Wanted.{Wanted}
 use Rattle.kr_shared.specs.declared.pins.Wanted.TheVariants as wants
-use Rattle.kr_shared.specs.Places.{EndsAhead, EndsPlace, IsGranted, IsKeptFrom, IsPlaceCause, pin_at}
+use Rattle.kr_shared.specs.Grants.{EndsAhead, EndsPlace, IsGranted, IsKeptFrom, IsPlaceCause, pin_at}
 use Rattle.kr_shared.specs.Turns.{unpin_entry}
 
 module _ (seen : ThreadView) (seat ticket : ℕ) (floor : ℤ) where
