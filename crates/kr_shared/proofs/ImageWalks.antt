@@ -1,6 +1,7 @@
 -- Pages of an image, one after the other.
 use Rattle.std.proofs.Common.{◌≡◌, ◌∙◌, ◌⊎◌, ℕ, ℤ, ◌+◌, ◌-◌, ◌<◌, ◌≤◌, ◌^◌, min, List, [], ◌++◌, length, take, drop, fold, refl, sym, ap, subst, inl, inr, arith}
-use Rattle.std.specs.Prelude.{◌≤ℤ◌, pos, IsTrue, Option, None, Result, Ok, Err}
+use Rattle.std.specs.Prelude.{◌≤ℤ◌, pos, IsTrue, Option, None, Result, Ok, Err, IfErr}
+use Rattle.std.specs.Result.{IsErrAnd}
 use Rattle.std.proofs.Math.Seq.{take-add}
 use Rattle.std.proofs.lemmas.List.{length-drop, length-take, take_min}
 use Rattle.std.proofs.lemmas.List.Sums.{fold-append}
@@ -25,6 +26,11 @@ use Rattle.kr_shared.specs.declared.image_writing.ImageWriteFault.TheVariants as
 use Rattle.kr_shared.proofs.KeyedRecords.{page_is}
 use Rattle.kr_shared.proofs.Onwards.{onward_refl, onward_trans}
 
+-- what is true of the fault that an answer has
+pub fault_is : {T E : Type 0} (P : E → Type 0) (result : Result T E) (fault : E) → IsErrAnd result (λ (e : E). e ≡ fault) → P fault → IfErr result P
+fault_is P (Ok done) fault told holds = tt
+fault_is P (Err e) fault told holds = subst P (sym told) holds
+
 -- ---- one call after the other
 
 pub reads_none : (s : Client) → ReadsOn s s
@@ -44,14 +50,14 @@ kept_more place a b c first second = record {
   few = second.few;
 }
 
-scan_missed : {T : Type 0} (old new : Reading) (fault : ScanFault) → HasScanCause {T = T} old new (Err fault) → IsScanMiss old.misses new.misses fault
-scan_missed old new (scans.Gone asked oldest) cause = cause
-scan_missed old new (scans.NotKept asked) cause = cause
-scan_missed old new scans.NoCopy cause = cause.1
-scan_missed old new scans.NoMemory cause = cause
+scan_missed : (T : Type 0) (old new : Reading) (fault : ScanFault) → HasScanCause {T = T} old new (Err fault) → IsScanMiss old.misses new.misses fault
+scan_missed T old new (scans.Gone asked oldest) cause = cause
+scan_missed T old new (scans.NotKept asked) cause = cause
+scan_missed T old new scans.NoCopy cause = cause.1
+scan_missed T old new scans.NoMemory cause = cause
 
-pub miss_of : {T : Type 0} (old new : Reading) (fault : ScanFault) → HasScanCause {T = T} old new (Err fault) → IsMiss old.misses new.misses (faults.Scan fault)
-miss_of old new fault cause = scan_missed old new fault cause
+pub miss_of : (T : Type 0) (old new : Reading) (fault : ScanFault) → HasScanCause {T = T} old new (Err fault) → IsMiss old.misses new.misses (faults.Scan fault)
+miss_of T old new fault cause = scan_missed T old new fault cause
 
 -- where the count stayed in the calls before
 pub missed_behind : (a b c : ℕ) (fault : ImageWriteFault) → b ≡ a → IsMiss b c fault → IsMiss a c fault
@@ -65,14 +71,14 @@ loaded_behind a b c same (inr greatest) = inr greatest
 
 pub stop_behind : (place : ℤ) (a b c : List Entry) (fault : ImageWriteFault) → image_below place b ≡ image_below place a → loads_of b ≡ loads_of a → IsStop place b c fault → IsStop place a c fault
 stop_behind place a b c (faults.Scan fault) image loads stop = stop
-stop_behind place a b c (faults.Loaded first later) image loads stop = (stop.0, stop.1.0 ∙ loads, stop.1.1.0, loaded_behind a b c loads stop.1.1.1)
+stop_behind place a b c (faults.Loaded first later) image loads stop = (stop.0, stop.1 ∙ loads, stop.2, loaded_behind a b c loads stop.3)
 stop_behind place a b c faults.WriteFault image loads stop = record { kept = stop.kept; image = stop.image ∙ image; loads = stop.loads ∙ loads; few = stop.few }
 stop_behind place a b c faults.NoMemory image loads stop = record { kept = stop.kept; image = stop.image ∙ image; loads = stop.loads ∙ loads; few = stop.few }
 
 -- ---- a walk
 
 -- the walk over this image went past so many records, while the seat read on and saw the same image
-record pub HasWalked (begun : Walk) (start seat : Client) (w : Walk) (n : ℕ) : Type 0 where
+pub record HasWalked (begun : Walk) (start seat : Client) (w : Walk) (n : ℕ) : Type 0 where
   pub reads : ReadsOn start seat
   pub misses : seat.misses ≡ start.misses
   pub kept : IsTrue (is_kept_in seat.seen.list begun.place)
@@ -117,7 +123,7 @@ module _ (begun : Walk) (start : Client) (over : IsOver begun start.seen.list) w
       -- the page has the records that come next
       pub page_there : page ≡ take IMAGE_BATCH (drop n records)
       page_there =
-          next.page
+          next.records
           ∙ (λ i. record_page (image_below (place_is i) seat.seen.list) (ap (λ (x : Walk). x.after) walked.walk i) IMAGE_BATCH)
           ∙ ap (λ (image : Image). record_page image (keys_behind None (take n records)) IMAGE_BATCH) walked.image
           ∙ page_is (image_below begun.place start.seen.list) over.valid n IMAGE_BATCH

@@ -171,3 +171,5 @@ still_kept stay place first later before on kept same few =
       loads = same;
       few = few;
     }
+
+pub ruleset same_images = (still_kept)

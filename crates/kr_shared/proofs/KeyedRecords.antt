@@ -1,5 +1,5 @@
 -- The records of an image behind the key of one of them are those that stand behind it.
-use Rattle.std.proofs.Common.{◌≡◌, ◌∙◌, ℕ, ℤ, Bool, true, false, cond, ◌==◌, List, [], ◌∷◌, ◌++◌, drop, filter, inl, inr, map, take, refl, sym, ap, subst, append_assoc, arith}
+use Rattle.std.proofs.Common.{◌≡◌, ◌∙◌, ◌⊎◌, ℕ, ℤ, Bool, true, false, cond, ◌==◌, List, [], ◌∷◌, ◌++◌, drop, filter, inl, inr, map, take, refl, sym, ap, subst, append_assoc, append-nil, arith}
 use Rattle.std.specs.Prelude.{Option, Some, None, flat_map}
 use Rattle.std.specs.declared.cmp.Ordering.{Ordering}
 use Rattle.std.specs.declared.cmp.Ordering.TheVariants.{Less, Equal, Greater}
@@ -18,14 +18,13 @@ use Rattle.kr_defs.specs.declared.record.Record.{Record}
 use Rattle.kr_defs.specs.declared.record.Record.TheVariants as kinds
 use Rattle.kr_defs.specs.Image.{Image, IsValid}
 use Rattle.kr_defs.specs.ImageOrder.{Rank, ReadSoFar, are_in_order, is_later, nothing_seen, rank_of, rank_order, seen_with, topic_after}
-use Rattle.kr_defs.specs.Records.{records_of}
-use Rattle.kr_defs.specs.Walk.{of_topic, walk_topic, walked}
+use Rattle.kr_defs.specs.Records.{partition_record, records_of, topic_records}
+use Rattle.kr_defs.specs.Walk.{Walked, of_topic, walk_topic, walked}
 use Rattle.kr_defs.proofs.ImageParts.{text_total}
 use Rattle.kr_defs.proofs.ReadingOrder.{own_order}
 use Rattle.kr_view.specs.declared.record_key.RecordKey.{RecordKey}
 use Rattle.kr_view.specs.declared.record_key.RecordKey.TheVariants as keys
 use Rattle.kr_view.specs.RecordPages.{is_record_behind, keyed_broker, keyed_feature, keyed_partition, keyed_records, keyed_setting, keyed_topic, rank_of_key, record_key_order, record_page}
-use Rattle.kr_view.proofs.Behind.{records_first}
 use Rattle.kr_shared.specs.KeysBehind.{key_behind, keys_behind, topic_in}
 
 abbrev Keyed : Type 0
@@ -36,7 +35,7 @@ records ks = map (λ (k : Keyed). k.1) ks
 
 -- ---- each record has its key behind the one before it, and the rank of that key
 
-AreKeyed : Option RecordKey → Option (List ℕ × ℕ) → List Keyed → Type 0
+abbrev AreKeyed : Option RecordKey → Option (List ℕ × ℕ) → List Keyed → Type 0
 AreKeyed last topic [] = Unit {0}
 AreKeyed last topic (k ∷ ks) = (key_behind last k.1 ≡ Some k.0) × (rank_of topic k.1 ≡ Some (rank_of_key k.0)) × AreKeyed (Some k.0) (topic_after topic k.1) ks
 
@@ -77,10 +76,27 @@ module _ (partitions : List ((ℕ × ℤ) × Partition)) (rest : List Keyed) (ne
       (refl, refl, subst (AreKeyed (Some (keys.Topic t.0)) (Some (t.0, t.1))) (sym (append_assoc own behind rest))
       (partitions_keyed t.0 t.1 (behind ++ rest) (topics_keyed ts) partitions (Some (keys.Topic t.0)) refl))
 
--- behind no key stand all
-none_before : (ks : List Keyed) → filter (is_record_behind None) ks ≡ ks
-none_before [] = refl
-none_before (k ∷ ks) = ap (λ (l : List Keyed). k ∷ l) (none_before ks)
+-- ---- they are the records of an image
+
+module _ {A : Type 0} (f : A → Keyed) where
+  mapped : (es : List A) (rest : List Keyed) → records (map f es ++ rest) ≡ map (λ (e : A). (f e).1) es ++ records rest
+  mapped [] rest = refl
+  mapped (e ∷ es) rest = ap (λ (l : List Record). (f e).1 ∷ l) (mapped es rest)
+
+module _ (partitions : List ((ℕ × ℤ) × Partition)) where
+  walked_records : (ws : List Walked) → map (λ (w : Walked). (keyed_partition w).1) ws ≡ map partition_record ws
+  walked_records [] = refl
+  walked_records (w ∷ ws) = ap (λ (l : List Record). partition_record w ∷ l) (walked_records ws)
+
+  flat_records : (ts : List (List ℕ × ℕ)) (rest : List Keyed) → records (flat_map (keyed_topic partitions) ts ++ rest) ≡ flat_map (topic_records partitions) ts ++ records rest
+  flat_records [] rest = refl
+  flat_records (t ∷ ts) rest =
+      let behind : List Keyed = flat_map (keyed_topic partitions) ts in
+      let own = walk_topic partitions t in
+      ap (λ (l : List Keyed). kinds.Topic t.0 t.1 ∷ records l) (append_assoc (map keyed_partition own) behind rest)
+      ∙ ap (λ (l : List Record). kinds.Topic t.0 t.1 ∷ l) (mapped keyed_partition own (behind ++ rest)
+      ∙ (λ i. walked_records own i ++ flat_records ts rest i)
+      ∙ sym (append_assoc (map partition_record own) (flat_map (topic_records partitions) ts) (records rest)))
 
 module _ (image : Image) where
   abbrev features : List Keyed
@@ -102,11 +118,19 @@ module _ (image : Image) where
       (features_keyed image.features (brokers ++ (topics ++ settings))
       (brokers_keyed image.brokers (topics ++ settings) (topics_keyed image.partitions settings (settings_keyed image.configs) image.topics)) last topic)
 
-  -- they are the image's records
   pub records_are : records (keyed_records image) ≡ records_of image
-  unfolding records_of
+  unfolding keyed_records records_of
   records_are =
-      ap records (sym (none_before (keyed_records image))) ∙ records_first image ∙ sym (append_assoc _ _ _ ∙ append_assoc _ _ _)
+      let c : List Record = flat_map (topic_records image.partitions) image.topics in
+      let a : List Record = map (λ (e : List ℕ × ℤ). kinds.FeatureLevel e.0 e.1) image.features in
+      let b : List Record = map (λ (e : ℤ × Broker). kinds.RegisterBroker e.0 e.1) image.brokers in
+      let d : List Record = map (λ (e : ConfigKey × List ℕ). kinds.Config e.0.kind e.0.name e.0.key (Some e.1)) image.configs in
+      ap records (append_assoc (features ++ brokers) topics settings ∙ append_assoc features brokers (topics ++ settings))
+      ∙ mapped keyed_feature image.features (brokers ++ (topics ++ settings))
+      ∙ ap (λ (l : List Record). a ++ l) (mapped keyed_broker image.brokers (topics ++ settings)
+      ∙ ap (λ (l : List Record). b ++ l) (flat_records image.partitions image.topics settings
+      ∙ ap (λ (l : List Record). c ++ l) (ap records (sym (append-nil settings)) ∙ mapped keyed_setting image.configs [] ∙ append-nil d)))
+      ∙ sym (append_assoc (a ++ b) c d ∙ append_assoc a b (c ++ d))
 
 -- ---- the keys rise
 
@@ -124,7 +148,7 @@ key_total = on_total rank_of_key rank_total
 abbrev AllBehind : RecordKey → List Keyed → Type 0
 AllBehind key ks = AllByRecursion (λ (k : Keyed). record_key_order key k.0 ≡ Less) ks
 
-AreRising : List Keyed → Type 0
+abbrev AreRising : List Keyed → Type 0
 AreRising [] = Unit {0}
 AreRising (k ∷ ks) = AllBehind k.0 ks × AreRising ks
 
@@ -146,16 +170,16 @@ behind_one : (key : RecordKey) (seen : ReadSoFar) (ks : List Keyed) → seen.ran
 behind_one key seen [] rank keyed ordered = (tt, tt)
 behind_one key seen (k ∷ ks) rank keyed ordered =
     let both = first_true (is_later seen k.1) (are_in_order (seen_with seen k.1) (records ks)) ordered in
-    let rest = behind_one k.0 (seen_with seen k.1) ks keyed.1.0 keyed.1.1 both.1 in
+    let rest = behind_one k.0 (seen_with seen k.1) ks keyed.1 keyed.2 both.1 in
     let later : Option Rank → Option Rank → Bool = λ before own. option_map_or (λ (r : Rank). option_map_or (λ (b : Rank). is_lt (rank_order b r)) before true) own false in
-    let less : record_key_order key k.0 ≡ Less = is_less (record_key_order key k.0) ((λ i. later (sym rank i) (sym keyed.1.0 i)) ∙ both.0) in
+    let less : record_key_order key k.0 ≡ Less = is_less (record_key_order key k.0) ((λ i. later (sym rank i) (sym keyed.1 i)) ∙ both.0) in
     ((less, further_behind key k.0 ks less rest.0), rest)
 
 first_one : (ks : List Keyed) → AreKeyed None None ks → are_in_order nothing_seen (records ks) ≡ true → AreRising ks
 first_one [] keyed ordered = tt
 first_one (k ∷ ks) keyed ordered =
     let both = first_true (is_later nothing_seen k.1) (are_in_order (seen_with nothing_seen k.1) (records ks)) ordered in
-    behind_one k.0 (seen_with nothing_seen k.1) ks keyed.1.0 keyed.1.1 both.1
+    behind_one k.0 (seen_with nothing_seen k.1) ks keyed.1 keyed.2 both.1
 
 pub all_rise : (image : Image) → IsValid image → AreRising (keyed_records image)
 all_rise image valid =
@@ -164,14 +188,14 @@ all_rise image valid =
 -- ---- behind the key of the last one of a front stands the rest
 
 -- the key of the last one
-last_key : Option RecordKey → List Keyed → Option RecordKey
+abbrev last_key : Option RecordKey → List Keyed → Option RecordKey
 last_key last [] = last
 last_key last (k ∷ ks) = last_key (Some k.0) ks
 
 keys_are : (last : Option RecordKey) (topic : Option (List ℕ × ℕ)) (front rest : List Keyed) → AreKeyed last topic (front ++ rest) → keys_behind last (records front) ≡ last_key last front
 keys_are last topic [] rest keyed = refl
 keys_are last topic (k ∷ front) rest keyed =
-    ap (λ (l : Option RecordKey). keys_behind l (records front)) keyed.0 ∙ keys_are (Some k.0) (topic_after topic k.1) front rest keyed.1.1
+    ap (λ (l : Option RecordKey). keys_behind l (records front)) keyed.0 ∙ keys_are (Some k.0) (topic_after topic k.1) front rest keyed.2
 
 ordered_back : (r : Ordering) → ordering_reverse r ≡ Less → is_lt r ≡ false
 ordered_back Less h = absurd cc

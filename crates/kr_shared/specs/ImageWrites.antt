@@ -28,14 +28,14 @@ abbrev pub MayBeLoaded : List Entry → List Entry → Type 0
 MayBeLoaded first later = (loads_of later ≡ loads_of first → ⊥) ⊎ (loads_of later ≡ 2 ^ 64 - 1)
 
 -- none came, and so the place, which is kept in the later list too, has the image of the first one there
-record pub StillKept (place : ℤ) (first later : List Entry) : Type 0 where
+pub record StillKept (place : ℤ) (first later : List Entry) : Type 0 where
   pub kept : IsTrue (is_kept_in later place)
   pub image : image_below place later ≡ image_below place first
   pub loads : loads_of later ≡ loads_of first
   pub few : loads_of later < 2 ^ 64 - 1
 
 -- the seat may have seen more, and is as before otherwise
-record pub ReadsOn (old new : Client) : Type 0 where
+pub record ReadsOn (old new : Client) : Type 0 where
   pub onward : Onward old.seen new.seen
   pub same : new ≡ with_client_reading old (client_reading new)
 
@@ -82,7 +82,7 @@ WritesNothing place new written written' (Err faults.WriteFault) = ⊥
 WritesNothing place new written written' (Err faults.NoMemory) = ⊥
 
 -- the list of the first call goes on from what the seat had seen, and keeps the place; the seat's list goes on from it
-record pub WritesFrom (place : ℤ) (old new : List Entry) (written written' : Option (List ℕ)) (result : Result (Unit {0}) ImageWriteFault) : Type 0 where
+pub record WritesFrom (place : ℤ) (old new : List Entry) (written written' : Option (List ℕ)) (result : Result (Unit {0}) ImageWriteFault) : Type 0 where
   pub first : List Entry
   pub behind : GoesOn first old
   pub onward : GoesOn new first
@@ -105,14 +105,14 @@ abbrev pub walk_from : ℤ → List Entry → Walk
 walk_from place list = record { place = place; loads = loads_of list; after = None }
 
 -- the walk goes over the image at its place in the list, which is a valid one
-record pub IsOver (w : Walk) (list : List Entry) : Type 0 where
+pub record IsOver (w : Walk) (list : List Entry) : Type 0 where
   pub loads : w.loads ≡ loads_of list
   pub kept : IsTrue (is_kept_in list w.place)
   pub natural : pos 0 ≤ℤ w.place
   pub valid : IsValid (image_below w.place list)
 
 -- the next page of it, of a list that goes on
-record pub IsNextPage (first later : List Entry) (w w' : Walk) (page : List Record) : Type 0 where
-  pub page : page ≡ record_page (image_below w.place first) w.after IMAGE_BATCH
+pub record IsNextPage (first later : List Entry) (w w' : Walk) (page : List Record) : Type 0 where
+  pub records : page ≡ record_page (image_below w.place first) w.after IMAGE_BATCH
   pub walk : w' ≡ record w { after = keys_behind w.after page }
   pub kept : StillKept w.place first later

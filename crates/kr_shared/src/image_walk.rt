@@ -81,12 +81,12 @@ fn keys_behind(
 ) -> Result<Option<RecordKey>, NoMemory>
     ensures { IfOk result (λ key. key ≡ keys_behind last records.now) }
 {
-    let mut last = last;
+    let mut key = last;
     let records = records.as_slice();
     for value in records {
-        last = key_behind(alloc, last, value)?;
+        key = key_behind(alloc, key, value)?;
     }
-    Ok(last)
+    Ok(key)
 }
 
 // So many, and those of the page. Memory doesn't hold more than the head tells.
@@ -139,6 +139,7 @@ impl Walk {
     }
 
     // The records behind the last one, of the image with which the walk began.
+    #[tactic(auto, using(crate::proofs::KeptImages::same_images))]
     fn read(&self, seat: &mut ClientSeat) -> Result<Records, ImageWriteFault>
         requires { IsOver self.now seat.old.seen.list }
         ensures reads { ReadsOn seat.old seat.new }
