@@ -4,6 +4,11 @@ pub mod Desks
 pub mod Ends
 pub mod Fronts
 pub mod Giving
+pub mod Grants
+pub mod ImageFronts
+pub mod ImageWalks
+pub mod KeptImages
+pub mod KeyedRecords
 pub mod LastSeats
 pub mod Lines
 pub mod Losing

@@ -7,6 +7,8 @@ pub mod Ends
 pub mod Gives
 pub mod Grants
 pub mod HeldPlaces
+pub mod ImageWrites
+pub mod KeysBehind
 pub mod LineFields
 pub mod Lines
 pub mod LinkFields
