@@ -4,7 +4,6 @@ pub mod Desks
 pub mod Ends
 pub mod Fronts
 pub mod Giving
-pub mod Grants
 pub mod ImageFronts
 pub mod ImageWalks
 pub mod KeptImages
