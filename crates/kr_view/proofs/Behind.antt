@@ -32,9 +32,9 @@ use Rattle.kr_view.specs.declared.record_key.RecordKey.TheVariants as keys
 use Rattle.kr_view.specs.declared.scans.PageRow.{PageRow}
 use Rattle.kr_view.specs.declared.scans.ScanKey.{ScanKey}
 use Rattle.kr_view.specs.Listings.{listed, listed_behind, rest_of_topic}
-use Rattle.kr_view.specs.RecordPages.{is_record_behind, keyed_broker, keyed_feature, keyed_partition, keyed_records, keyed_setting, keyed_topic, rank_of_key, record_key_order, setting_key}
+use Rattle.kr_view.specs.RecordPages.{is_record_behind, keyed_broker, keyed_feature, keyed_partition, keyed_records, keyed_setting, keyed_topic, rank_of_key, record_key_order, record_page, setting_key}
 use Rattle.kr_view.specs.RecordSections.{behind_key, behind_partition, from_brokers, from_features, from_settings, from_topics, record_of_broker, record_of_feature, record_of_setting, record_of_topic}
-use Rattle.kr_view.specs.Scans.{is_row_behind, no_heads, page_row, scan_order}
+use Rattle.kr_view.specs.Scans.{is_row_behind, no_heads, page_of, page_row, scan_order}
 
 -- ---- filters
 
@@ -371,3 +371,18 @@ module _ (image : Image) where
       ∙ ap (λ rs. rs ++ records d) (map-append snd (a ++ b) c ∙ ap (λ rs. rs ++ records c) (map-append snd a b))
       ∙ (λ i. ((features_are i ++ brokers_are i) ++ topics_are i) ++ settings_are i)
       ∙ grouped _ _ _ _
+
+-- ---- the first of them
+
+module _ (image : Image) (most : ℕ) where
+  pub first_rows : (none rows : List PageRow) → none ≡ [] → rows ≡ take most (none ++ flat_map (listed no_heads page_row image.partitions) image.topics) → rows ≡ page_of image None most
+  first_rows none rows is new = new ∙ ap (λ (rs : List PageRow). take most (rs ++ flat_map (listed no_heads page_row image.partitions) image.topics)) is ∙ ap (take most) (sym (page_first image))
+
+  pub rows_from : (key : ScanKey) (none rows : List PageRow) → IsValid image → none ≡ [] → rows ≡ take most (none ++ listed_behind no_heads page_row image key.topic key.index) → rows ≡ page_of image (Some key) most
+  rows_from key none rows valid is new = new ∙ ap (λ (rs : List PageRow). take most (rs ++ listed_behind no_heads page_row image key.topic key.index)) is ∙ ap (take most) (sym (page_behind image key valid))
+
+  pub first_records : (none rs : List Record) → none ≡ [] → rs ≡ take most (none ++ from_features image None) → rs ≡ record_page image None most
+  first_records none rs is new = new ∙ ap (λ (xs : List Record). take most (xs ++ from_features image None)) is ∙ ap (take most) (sym (records_first image))
+
+  pub records_from : (key : RecordKey) (none rs : List Record) → IsValid image → none ≡ [] → rs ≡ take most (none ++ behind_key image key) → rs ≡ record_page image (Some key) most
+  records_from key none rs valid is new = new ∙ ap (λ (xs : List Record). take most (xs ++ behind_key image key)) is ∙ ap (take most) (sym (records_behind image valid key))

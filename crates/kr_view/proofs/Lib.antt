@@ -6,6 +6,8 @@ pub mod Kept
 pub mod PinnedPlaces
 pub mod Behind
 pub mod Filling
+pub mod Listed
+pub mod Misses
 pub mod Runs
 pub mod Replied
 pub mod Logged

@@ -134,7 +134,8 @@ fn add_topics<S: Store>(
     ensures { OnOk result (records.new ≡ take most (records.old ++ sections.from_topics seen.now)) }
 {
     list_topics(alloc, seen, &TopicRecords, None, most, records)?;
-    add_settings(alloc, seen, None, most, records)
+    add_settings(alloc, seen, None, most, records)?;
+    Ok(())
 }
 
 // What stands behind a topic's partition of the index.
@@ -151,7 +152,8 @@ fn add_behind<S: Store>(
         seen.now name.now index.now)) }
 {
     list_behind(alloc, seen, &TopicRecords, name, index, most, records)?;
-    add_settings(alloc, seen, None, most, records)
+    add_settings(alloc, seen, None, most, records)?;
+    Ok(())
 }
 
 // The brokers behind an id, and what stands behind all of them.
@@ -176,7 +178,8 @@ fn add_brokers<S: Store>(
         records.push(broker_record(alloc, id, state)?)?;
         last = Some(id);
     }
-    add_topics(alloc, seen, most, records)
+    add_topics(alloc, seen, most, records)?;
+    Ok(())
 }
 
 // The features behind a name, and what stands behind all of them.
@@ -201,7 +204,8 @@ fn add_features<S: Store>(
         records.push(feature_record(alloc, name, level)?)?;
         last = Some(name);
     }
-    add_brokers(alloc, seen, None, most, records)
+    add_brokers(alloc, seen, None, most, records)?;
+    Ok(())
 }
 
 // What stands behind a key.

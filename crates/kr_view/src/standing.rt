@@ -9,7 +9,7 @@ ghost use Rattle.kr_store.specs.Images.{kept_once, last_image, last_kept};
 ghost use Rattle.kr_store.specs.declared.places.At.TheVariants as places;
 ghost use Rattle.kr_view.specs.Pinned.{kept_image_at, log_in};
 ghost use Rattle.kr_view.specs.Runs.{AreNoSingles, is_single};
-ghost use Rattle.kr_view.specs.Scans.{IsNotThere};
+ghost use Rattle.kr_view.specs.Scans.{HasCopy, IsNotThere, IsOfCopy};
 ghost use Rattle.kr_view.specs.Standing.{IsStandingAt, StandsIf, run_with, with_run};
 ghost use Rattle.kr_view.specs.Steps.{entries_of};
 
@@ -340,7 +340,8 @@ impl Standing {
     // Why the place isn't there.
     fn absence(&self, place: &i64) -> ScanFault
         requires { IsTrue (not (is_place_kept self.now place.now)) }
-        ensures { IsNotThere self.now place.now result }
+        ensures there { IsNotThere self.now place.now result }
+        ensures copy { IsOfCopy result }
     {
         let oldest = self.oldest();
         if *place < oldest {
@@ -355,8 +356,9 @@ impl Standing {
 
     /// The image at a kept place.
     pub(crate) fn image_at(&self, place: &i64) -> Result<Seen<ImageStore>, ScanFault>
-        ensures { MatchResult result (λ seen. kept_image_at self.now place.now ≡ Some seen)
+        ensures image { MatchResult result (λ seen. kept_image_at self.now place.now ≡ Some seen)
             (IsNotThere self.now place.now) }
+        ensures copy { HasCopy result }
     {
         if !self.keeps(place) {
             return Err(self.absence(place));
