@@ -4,6 +4,7 @@ pub mod Shows
 pub mod Finds
 pub mod Kept
 pub mod PinnedPlaces
+pub mod Loaded
 pub mod Behind
 pub mod Filling
 pub mod Listed

@@ -164,7 +164,15 @@ fn list_rest<Y: Drop, P: Listing<Y>, S: Store>(
     let Some(topic) = seen.topic_named(name) else {
         return Ok(());
     };
-    list_above(alloc, seen, listing, name, key_of(&topic.id, index), most, rows)?;
+    list_above(
+        alloc,
+        seen,
+        listing,
+        name,
+        key_of(&topic.id, index),
+        most,
+        rows,
+    )?;
     Ok(())
 }
 

@@ -234,6 +234,24 @@ fn add_after<S: Store>(
     }
 }
 
+// The records behind the key, or all of them.
+fn add_records<S: Store>(
+    alloc: Global,
+    seen: &Seen<S>,
+    after: Option<&RecordKey>,
+    most: u32,
+    records: &mut Records,
+) -> Result<(), NoMemory>
+    requires { length records.old ≤ most }
+    ensures { OnOk result (records.new ≡ take most (records.old ++ sections.records_behind
+        seen.now (option_copied after.entry))) }
+{
+    match after {
+        None => add_features(alloc, seen, None, most, records),
+        Some(key) => add_after(alloc, seen, key, most, records),
+    }
+}
+
 /// The first records behind the key.
 pub(crate) fn record_page<S: Store>(
     alloc: Global,
@@ -246,10 +264,7 @@ pub(crate) fn record_page<S: Store>(
 {
     seen.is_valid();
     let mut records = Records::new(alloc);
-    match after {
-        None => add_features(alloc, seen, None, most, &mut records)?,
-        Some(key) => add_after(alloc, seen, key, most, &mut records)?,
-    }
+    add_records(alloc, seen, after, most, &mut records)?;
     Ok(records)
 }
 

@@ -1,8 +1,6 @@
-use Rattle.kr_view.proofs.Behind.{first_rows, rows_from}
+use Rattle.std.specs.Option.{option_copied}
+use Rattle.kr_view.proofs.Behind.{rows_first}
 use Rattle.kr_view.proofs.page.page_of.Goals as goal
 
-pub returns-in-None : goal.returns-in-None
-returns-in-None g c = first_rows c.args.seen.now _ _ _ c.new-page.ensures c.in_ok-list_topics.ensures
-
-pub returns-in-Some : goal.returns-in-Some
-returns-in-Some g c = rows_from c.args.seen.now _ (record { topic = c.in-Some.topic.now; index = c.in-Some.index.now }) _ _ c.is_valid.ensures c.new-page.ensures c.in_ok-list_behind.ensures
+pub returns : goal.returns
+returns g c = rows_first c.args.seen.now c.args.most (option_copied c.args.after) _ _ c.is_valid.ensures c.new-page.ensures c.in_ok-add_rows.ensures

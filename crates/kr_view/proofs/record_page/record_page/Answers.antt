@@ -1,8 +1,6 @@
-use Rattle.kr_view.proofs.Behind.{first_records, records_from}
+use Rattle.std.specs.Option.{option_copied}
+use Rattle.kr_view.proofs.Behind.{record_page_is}
 use Rattle.kr_view.proofs.record_page.record_page.Goals as goal
 
-pub returns-in-None : goal.returns-in-None
-returns-in-None g c = first_records c.args.seen.now _ _ _ c.new-records.ensures c.in_ok-add_features.ensures
-
-pub returns-in-Some : goal.returns-in-Some
-returns-in-Some g c = records_from c.args.seen.now _ c.in-Some.key.now _ _ c.is_valid.ensures c.new-records.ensures c.in_ok-add_after.ensures
+pub returns : goal.returns
+returns g c = record_page_is c.args.seen.now c.args.most (option_copied c.args.after) _ _ c.is_valid.ensures c.new-records.ensures c.in_ok-add_records.ensures

@@ -1,23 +1,16 @@
-use Rattle.std.proofs.Common.{◌≡◌, true, [], arith, sym, subst}
-use Rattle.std.specs.Prelude.{negsuc, int_lt}
-use Rattle.std.proofs.lemmas.Int.{ints}
-use Rattle.kr_store.specs.Images.{Images}
+use Rattle.std.proofs.Common.{ℤ, [], List, of_z, rules, subst, sym, to_z, w64}
+use Rattle.std.specs.Prelude.{FitsSigned}
+use Rattle.std.proofs.lemmas.Int.{to_z-of_z}
+use Rattle.kr_calls.specs.declared.pins.Pin.{Pin}
 use Rattle.kr_view.specs.Standing.{IsStandingAt}
-use Rattle.kr_view.proofs.Kept.{none_stand, once_stands}
+use Rattle.kr_view.proofs.Loaded.{loaded_stands}
 use Rattle.kr_view.proofs.standing.Standing.take_load.Goals as goal
-use Rattle.kr_view.proofs.standing.Standing.take_load.Goals.{then-self-offset+then-offset-lt-PLACES_END+in_ok-store+in-Some, then-self-offset+then-offset-lt-PLACES_END+in_ok-store+in_default, else-self-offset}
 
-pub invariant_of-self : goal.invariant_of-self
-invariant_of-self g c =
-    let s = c.self.inside in
-    let end = c.args.offset in
-    rw c.new.ensures
-    (elim c.if-self-offset.branch [
-      | then-self-offset+then-offset-lt-PLACES_END+in_ok-store+in-Some w ↦
-          let made = rw w.in-Some.is at w.in_ok-store.ensures in
-          let before : int_lt (negsuc 0) s.end ≡ true = c.self.invariant.from in
-          let from : int_lt (negsuc 0) end ≡ true = grind (arith, ints, before, w.if-self-offset.true) in
-          rw w.self-inside-is (subst (λ (x : Images). IsStandingAt x end []) (sym made.1) (once_stands end w.in-Some.store.tip from))
-      | then-self-offset+then-offset-lt-PLACES_END+in_ok-store+in_default w ↦ rw w.self-inside-is (none_stand s.store s.end s.pins c.self.invariant)
-      | else-self-offset w ↦ rw w.self-inside-is (none_stand s.store s.end s.pins c.self.invariant)
-    ])
+pub invariant_of-self-2 : goal.invariant_of-self-2
+invariant_of-self-2 g c =
+    let store = c.in-Some.store in
+    let offset = c.args.offset.now in
+    let made = c.in-Some.ensures in
+    let fits : FitsSigned w64 offset = search rules in
+    subst (λ (pins : List Pin). IsStandingAt store (to_z w64 (of_z w64 offset)) pins) (sym c.new-pins.ensures)
+    (subst (λ (z : ℤ). IsStandingAt store z []) (sym (to_z-of_z w64 offset fits)) (loaded_stands store offset made.1 made.2))
