@@ -7,6 +7,7 @@ pub mod Giving
 pub mod Grants
 pub mod ImageFronts
 pub mod ImageWalks
+pub mod ImageWritten
 pub mod KeptImages
 pub mod KeyedRecords
 pub mod LastSeats

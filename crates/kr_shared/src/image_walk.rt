@@ -9,7 +9,7 @@ ghost use Rattle.kr_view.specs.Readers.{HasScanCause};
 ghost use Rattle.kr_view.specs.RecordPages.{record_page};
 ghost use Rattle.kr_view.specs.Scans.{IsNotThere};
 ghost use Rattle.kr_shared.specs.Clients.{client_reading};
-ghost use Rattle.kr_shared.specs.ImageWrites.{HasMiss, IsNextPage, IsOver, IsStop, ReadsOn, StillKept, walk_from};
+ghost use Rattle.kr_shared.specs.ImageWrites.{HasMiss, IsNextPage, IsOver, IsReadFault, IsStop, ReadsOn, StillKept, walk_from};
 ghost use Rattle.kr_shared.specs.KeysBehind.{key_behind, keys_behind, topic_in};
 
 use crate::clients::ClientSeat;
@@ -146,6 +146,7 @@ impl Walk {
         ensures page { IfOk result (λ page. page ≡ record_page
             (image_below self.now.place seat.old.seen.list) self.now.after most) }
         ensures kept { OnOk result (StillKept self.now.place seat.old.seen.list seat.new.seen.list) }
+        ensures fault { IfErr result IsReadFault }
         ensures stop { IfErr result
             (IsStop self.now.place seat.old.seen.list seat.new.seen.list) }
         ensures misses { HasMiss seat.old.misses seat.new.misses result }
@@ -172,6 +173,7 @@ impl Walk {
         ensures reads { ReadsOn seat.old seat.new }
         ensures page { IfOk result
             (IsNextPage seat.old.seen.list seat.new.seen.list self.old self.new) }
+        ensures fault { IfErr result IsReadFault }
         ensures stop { IfErr result
             (IsStop self.old.place seat.old.seen.list seat.new.seen.list) }
         ensures misses { HasMiss seat.old.misses seat.new.misses result }
@@ -196,6 +198,7 @@ impl Walk {
         ensures walk { OnOk result (self.new
             ≡ record self.old { after = self.new.after }) }
         ensures kept { OnOk result (StillKept self.old.place seat.old.seen.list seat.new.seen.list) }
+        ensures fault { IfErr result IsReadFault }
         ensures stop { IfErr result
             (IsStop self.old.place seat.old.seen.list seat.new.seen.list) }
         ensures misses { HasMiss seat.old.misses seat.new.misses result }
