@@ -1,27 +1,25 @@
 -- What a seat has written of the image at a place.
 use Rattle.std.proofs.Common.{◌≡◌, ◌∙◌, ◌⊎◌, ℕ, ℤ, pos, ◌+◌, ◌-◌, ◌<◌, ◌≤◌, ◌^◌, List, [], ◌++◌, length, take, drop, refl, sym, ap, subst, inl, inr, arith}
-use Rattle.std.specs.Prelude.{◌≤ℤ◌, IsTrue, Option, Result, Ok, Err, IsErr, IsErrOf}
+use Rattle.std.specs.Prelude.{◌≤ℤ◌, IsTrue, None, Option, Result, Ok, Err, IsErr, IsErrOf}
 use Rattle.std.specs.Result.{IsErrAnd}
 use Rattle.std.specs.Io.KnownBytes.{Appends}
-use Rattle.std.proofs.KnownBytes.{Appends-nil, Appends-trans, Keeps-refl}
+use Rattle.std.proofs.KnownBytes.{Appends-nil, Appends-trans}
 use Rattle.kr_base.specs.FailedPuts.{AppendsFront}
 use Rattle.kr_defs.specs.declared.limits.TheConstants.{IMAGE_BATCH}
 use Rattle.kr_defs.specs.declared.record.Record.{Record}
 use Rattle.kr_defs.specs.Image.{Image, IsValid}
 use Rattle.kr_defs.specs.Records.{records_of}
 use Rattle.kr_calls.specs.declared.events.Entry.{Entry}
-use Rattle.kr_calls.specs.SeatList.{image_below, is_kept_in, loads_of, pinned_log}
+use Rattle.kr_calls.specs.SeatList.{image_below, is_kept_in, loads_of}
 use Rattle.kr_snapshot.specs.ImageText.{image_head, image_text}
 use Rattle.kr_snapshot.specs.Written.{IsFull, IsNextText, MayPut, Written, after_put, put_bytes}
-use Rattle.kr_view.specs.Scans.{IsNotThere}
-use Rattle.kr_view.specs.declared.scans.ScanFault.{ScanFault}
 use Rattle.kr_shared.specs.Clients.{Client}
-use Rattle.kr_shared.specs.ImageWrites.{HasMiss, IsNextPage, IsOver, IsPutFault, IsReadFault, IsStop, ReadsOn, StillKept, WritesFrom, WritesImage, WritesText, text_at}
+use Rattle.kr_shared.specs.ImageWrites.{HasMiss, IsNextPage, IsOver, IsPutFault, IsReadFault, IsStop, ReadsOn, StillKept, WritesText, text_at}
 use Rattle.kr_shared.specs.declared.image_walk.Walk.{Walk}
 use Rattle.kr_shared.specs.declared.image_writing.ImageWriteFault.{ImageWriteFault}
 use Rattle.kr_shared.specs.declared.image_writing.ImageWriteFault.TheVariants as faults
 use Rattle.kr_shared.proofs.ImageFronts.{Begins, IsWhole, front_behind, front_of, head_begins, page_may_put, page_whole, still_full, text_further, text_to, text_to_begins, text_whole}
-use Rattle.kr_shared.proofs.ImageWalks.{HasWalked, further, kept_more, missed_behind, page_some, page_there, page_within, stop_behind, stop_there, walk_begun, walk_further}
+use Rattle.kr_shared.proofs.ImageWalks.{HasWalked, further, kept_more, missed_behind, page_there, page_within, still_there, stop_behind, stop_there, walk_begun, walk_further}
 
 -- ---- where nothing is written
 
@@ -66,60 +64,102 @@ over_later w w' a b over still place loads = record {
 
 -- ---- one batch after the other
 
-module _ (walk : Walk) (start : Client) (over : IsOver walk start.seen.list) (few : loads_of start.seen.list < 2 ^ 64 - 1) where
+-- so many records of so many are written, in full batches or all
+pub record HasWritten (begun : Walk) (start : Client) (count : ℕ) (seat : Client) (walk : Walk) (n : ℕ) (writer : Written) (written written' : Option (List ℕ)) : Type 0 where
+  pub walked : HasWalked begun start seat walk n
+  pub number : writer ≡ record { count = count; done = n }
+  pub full : n < count → IsFull n
+  pub wrote : Appends written written' (text_to begun.place (image_below begun.place start.seen.list) n)
+
+module _ (begun : Walk) (start : Client) (over : IsOver begun start.seen.list) (few : loads_of start.seen.list < 2 ^ 64 - 1) (count : ℕ) (all : count ≡ length (records_of (image_below begun.place start.seen.list))) (a : Option (List ℕ)) where
   abbrev place : ℤ
-  place = walk.place
+  place = begun.place
 
   abbrev image : Image
-  image = image_below walk.place start.seen.list
+  image = image_below begun.place start.seen.list
 
-  abbrev count : ℕ
-  count = length (records_of image)
+  abbrev text : List ℕ
+  text = text_at begun.place start.seen.list
 
-  abbrev pub written_to : ℕ → Written
-  written_to n = record { count = count; done = n }
+  -- perhaps a front of the head
+  pub stops_at_head : (b : Option (List ℕ)) (result : Result (Unit {0}) ImageWriteFault) (fault : ImageWriteFault) → IsErr result × IsErrAnd result (λ e. e ≡ fault) → IsPutFault fault
+      → AppendsFront a b (image_head place (pos count)) → WritesText place start.seen.list start.seen.list a b result
+  stops_at_head b result fault told put front =
+      let still : StillKept place start.seen.list start.seen.list = record { kept = over.kept; image = refl; loads = refl; few = few } in
+      let head : AppendsFront a b (image_head place (pos (length (records_of image)))) = subst (λ (n : ℕ). AppendsFront a b (image_head place (pos n))) all front in
+      let begins : Begins text (image_head place (pos (length (records_of image)))) =
+      subst (λ (l : List ℕ). Begins text l) (head_begins place image) (text_to_begins place image 0 (omega arith) (inr (0, refl))) in
+      writes_front place start.seen.list start.seen.list a b result fault told (put_stops place start.seen.list start.seen.list fault put still)
+      (front_behind a a b text [] (image_head place (pos (length (records_of image)))) begins (Appends-nil a) head)
 
-  pub still_first : StillKept place start.seen.list start.seen.list
-  still_first = record { kept = over.kept; image = refl; loads = refl; few = few }
+  pub head_written : (writer : Written) (b : Option (List ℕ)) → begun.after ≡ None → writer ≡ record { count = count; done = 0 } → Appends a b (image_head place (pos count)) → HasWritten begun start count start begun 0 writer a b
+  head_written writer b none number head = record {
+    walked = walk_begun begun start over none;
+    number = number;
+    full = λ less. (0, refl);
+    wrote = subst (λ (l : List ℕ). Appends a b l) (sym (head_begins place image)) (subst (λ (n : ℕ). Appends a b (image_head place (pos n))) all head);
+  }
 
-  -- of the head perhaps a front
-  pub head_front : (a b : Option (List ℕ)) → AppendsFront a b (image_head place (pos count)) → AppendsFront a b (text_at place start.seen.list)
-  head_front a b front =
-      let begins : Begins (image_text place image) (image_head place (pos count)) =
-      subst (λ (l : List ℕ). Begins (image_text place image) l) (head_begins place image) (text_to_begins place image 0 (omega arith) (inr (0, refl))) in
-      front_behind a a b (image_text place image) [] (image_head place (pos count)) begins (Appends-nil a) front
+  module _ (seat : Client) (w : Walk) (n : ℕ) (writer : Written) (b : Option (List ℕ)) (so_far : HasWritten begun start count seat w n writer a b) where
+    full : n < length (records_of image) → IsFull n
+    full less = so_far.full (omega (arith, all, less))
 
-  module _ (seat : Client) (w : Walk) (n : ℕ) (walked : HasWalked walk start seat w n) (full : n < count → IsFull n) (a b : Option (List ℕ)) (wrote : Appends a b (text_to place image n)) where
-    pub still_seat : StillKept place start.seen.list seat.seen.list
-    still_seat = record { kept = walked.kept; image = walked.image; loads = walked.loads; few = (let same = walked.loads in omega (arith, few, same)) }
+    number : writer ≡ record { count = length (records_of image); done = n }
+    number = so_far.number ∙ ap (λ (k : ℕ). record { count = k; done = n }) all
 
-    pub all_written : count ≤ n → Appends a b (text_at place seat.seen.list)
-    all_written all =
+    pub all_written : count ≤ n → StillKept place start.seen.list seat.seen.list × Appends a b (text_at place seat.seen.list)
+    all_written last =
+        let walked = so_far.walked in
         let within = walked.within in
-        let same : n ≡ count = omega (arith, all, within) in
-        let whole : text_to place image n ≡ image_text place image = ap (text_to place image) same ∙ text_whole place image in
-        subst (λ (l : List ℕ). Appends a b l) (whole ∙ ap (image_text place) (sym walked.image)) wrote
+        let same = walked.loads in
+        let end : n ≡ length (records_of image) = omega (arith, all, last, within) in
+        let whole : text_to place image n ≡ image_text place image = ap (text_to place image) end ∙ text_whole place image in (
+          record { kept = walked.kept; image = walked.image; loads = same; few = omega (arith, few, same) },
+          subst (λ (l : List ℕ). Appends a b l) (whole ∙ ap (image_text place) (sym walked.image)) so_far.wrote,
+        )
 
-    pub front_written : n < count → AppendsFront a b (text_at place start.seen.list)
-    front_written left = front_of a b (image_text place image) (text_to place image n) (text_to_begins place image n walked.within (inr (full left))) wrote
+    module _ (test : n < count) (later : Client) where
+      left : n < length (records_of image)
+      left = omega (arith, all, test)
 
-    module _ (left : n < count) (later : Client) (w' : Walk) (page : List Record) (next : IsNextPage seat.seen.list later.seen.list w w' page) where
-      pub may_put : MayPut (written_to n) page
-      may_put = page_may_put place image over.valid n page (page_there walk start over seat w n walked later w' page next) left
+      -- no next page came
+      pub stops_at_page : (result : Result (Unit {0}) ImageWriteFault) (fault : ImageWriteFault) → IsErr result × IsErrAnd result (λ e. e ≡ fault) → IsStop w.place seat.seen.list later.seen.list fault → WritesText place start.seen.list later.seen.list a b result
+      stops_at_page result fault told stop =
+          writes_front place start.seen.list later.seen.list a b result fault told (stop_there begun start over seat w n so_far.walked later fault stop)
+          (front_of a b text (text_to place image n) (text_to_begins place image n so_far.walked.within (inr (full left))) so_far.wrote)
 
-      further_text : IsNextText (written_to n) page (put_bytes (written_to n) page) → text_to place image (n + length page) ≡ text_to place image n ++ put_bytes (written_to n) page
-      further_text text = text_further place image n page walked.within (further walk start over seat w n walked later w' page next) text
+      module _ (w' : Walk) (page : List Record) (next : IsNextPage seat.seen.list later.seen.list w w' page) where
+        is : page ≡ take IMAGE_BATCH (drop n (records_of image))
+        is = page_there begun start over seat w n so_far.walked later w' page next
 
-      pub whole_then : n + length page < count → IsFull (n + length page)
-      whole_then more = still_full (records_of image) (n + length page) (page_whole place image over.valid n page (page_there walk start over seat w n walked later w' page next) left full) more
+        whole_then : IsWhole (records_of image) (n + length page)
+        whole_then = page_whole place image over.valid n page is left full
 
-      pub front_then : (c : Option (List ℕ)) → IsNextText (written_to n) page (put_bytes (written_to n) page) → AppendsFront b c (put_bytes (written_to n) page) → AppendsFront a c (text_at place start.seen.list)
-      front_then c text front =
-          let begins : Begins (image_text place image) (text_to place image (n + length page)) =
-          text_to_begins place image (n + length page) (page_within walk start over seat w n walked later w' page next)
-          (page_whole place image over.valid n page (page_there walk start over seat w n walked later w' page next) left full) in
-          front_behind a b c (image_text place image) (text_to place image n) (put_bytes (written_to n) page)
-          (subst (λ (l : List ℕ). Begins (image_text place image) l) (further_text text) begins) wrote front
+        within_then : n + length page ≤ length (records_of image)
+        within_then = page_within begun start over seat w n so_far.walked later w' page next
 
-      pub wrote_then : (c : Option (List ℕ)) → IsNextText (written_to n) page (put_bytes (written_to n) page) → Appends b c (put_bytes (written_to n) page) → Appends a c (text_to place image (n + length page))
-      wrote_then c text more = subst (λ (l : List ℕ). Appends a c l) (sym (further_text text)) (Appends-trans a b c (text_to place image n) (put_bytes (written_to n) page) wrote more)
+        further_text : IsNextText writer page (put_bytes writer page) → text_to place image (n + length page) ≡ text_to place image n ++ put_bytes writer page
+        further_text behind =
+            text_further place image n page so_far.walked.within (further begun start over seat w n so_far.walked later w' page next) (subst (λ (x : Written). IsNextText x page (put_bytes x page)) number behind)
+            ∙ ap (λ (x : Written). text_to place image n ++ put_bytes x page) (sym number)
+
+        pub may_put : MayPut writer page
+        may_put = subst (λ (x : Written). MayPut x page) (sym number) (page_may_put place image over.valid n page is left)
+
+        -- the batch wasn't written, or a front of it
+        pub stops_at_batch : (c : Option (List ℕ)) (result : Result (Unit {0}) ImageWriteFault) (fault : ImageWriteFault) → IsErr result × IsErrAnd result (λ e. e ≡ fault) → IsPutFault fault → IsNextText writer page (put_bytes writer page)
+            → AppendsFront b c (put_bytes writer page) → WritesText place start.seen.list later.seen.list a c result
+        stops_at_batch c result fault told put behind front =
+            writes_front place start.seen.list later.seen.list a c result fault told
+            (put_stops place start.seen.list later.seen.list fault put (still_there begun start over seat w n so_far.walked later w' page next))
+            (front_behind a b c text (text_to place image n) (put_bytes writer page)
+            (subst (λ (l : List ℕ). Begins text l) (further_text behind) (text_to_begins place image (n + length page) within_then whole_then)) so_far.wrote front)
+
+        pub batch_written : (writer' : Written) (c : Option (List ℕ)) → ReadsOn seat later → later.misses ≡ seat.misses → writer' ≡ after_put writer page → IsNextText writer page (put_bytes writer page) → Appends b c (put_bytes writer page)
+            → HasWritten begun start count later w' (n + length page) writer' a c
+        batch_written writer' c reads misses after behind more = record {
+          walked = walk_further begun start over seat w n so_far.walked later w' page next reads misses;
+          number = after ∙ ap (λ (x : Written). after_put x page) so_far.number;
+          full = λ less. still_full (records_of image) (n + length page) whole_then (omega (arith, all, less));
+          wrote = subst (λ (l : List ℕ). Appends a c l) (sym (further_text behind)) (Appends-trans a b c (text_to place image n) (put_bytes writer page) so_far.wrote more);
+        }
