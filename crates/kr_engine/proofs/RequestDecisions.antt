@@ -2,8 +2,8 @@
 use Rattle.std.proofs.Common.{◌≡◌, ◌∙◌, sym, subst, ℕ, ℤ, pos, negsuc, Bool, true, false, cond, ◌+◌, ◌≤◌, List, [], ◌∷◌, ◌++◌, length, refl, ap, arith}
 use Rattle.std.proofs.lemmas.Int.{ints}
 use Rattle.std.proofs.lemmas.List.Folds.{find-append}
-use Rattle.std.specs.Prelude.{◌==◌, ◌≤ℤ◌, Option, Some, Result, Ok, Err, IfOk, OnOk, IsSome, IsTrue, find, int_lt, option_or, unwrap_or}
-use Rattle.std.specs.Option.{option_map}
+use Rattle.std.specs.Prelude.{◌==◌, ◌≤ℤ◌, Option, Some, Result, Ok, Err, IfOk, OnOk, IsSome, IsTrue, find, int_lt, unwrap_or}
+use Rattle.std.specs.Option.{option_map, option_or}
 use Rattle.std.specs.Ordering.{int_eq}
 use Rattle.kr_calls.specs.declared.errors.TheConstants.{NOT_CONTROLLER}
 use Rattle.kr_calls.specs.declared.calls.Call.{Call}
@@ -140,6 +140,10 @@ same_tip between records =
       | true ↦ refl
       | false ↦ refl
     ]
+
+-- the tip at which a write is decided, under another name
+pub decided_there : (decided : Decided) (tip place : ℤ) (count : ℕ) (basis : Basis) → decided ≡ record { place = tip; count = count; basis = basis } → tip ≡ place → decided ≡ record { place = place; count = count; basis = basis }
+decided_there decided tip place count basis is same = subst (λ (p : ℤ). decided ≡ record { place = p; count = count; basis = basis }) same is
 
 module _ (before between with_appended' : Core) (call : Call) (out : Effect) (r : IsReady before) (valid : AreValid before.images) (d : Decides before between call.request out) (is : with_appended' ≡ core_after_append between out.records) where
   image_below : kept_at with_appended'.images before.tip ≡ Some before.images.tip

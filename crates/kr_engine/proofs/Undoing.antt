@@ -4,9 +4,9 @@ use Rattle.std.proofs.lemmas.Int.{ints}
 use Rattle.std.proofs.lemmas.List.{append-nil, append_assoc}
 use Rattle.std.proofs.lemmas.List.Elements.{filter-append, recursion_from_All}
 use Rattle.std.proofs.lemmas.List.Folds.{find-append}
-use Rattle.std.specs.Prelude.{◌+ℤ◌, ◌==◌, Option, Some, Result, Ok, Err, OnOk, OnErr, IsTrue, find, int_lt, length, option_or, unwrap_or}
+use Rattle.std.specs.Prelude.{◌+ℤ◌, Option, Some, Result, Ok, Err, OnOk, OnErr, IsTrue, find, int_lt, length, unwrap_or}
 use Rattle.std.specs.List.{AllByRecursion}
-use Rattle.std.specs.Option.{option_map}
+use Rattle.std.specs.Option.{option_map, option_or}
 use Rattle.std.specs.Ordering.{int_eq}
 use Rattle.kr_batch.specs.BatchBytes.{batch_bytes}
 use Rattle.kr_calls.specs.declared.events.Entry.{Entry}
@@ -16,7 +16,7 @@ use Rattle.kr_defs.specs.declared.record.Record.{Record}
 use Rattle.kr_defs.specs.Heartbeats.{Heartbeats}
 use Rattle.kr_defs.specs.Image.{Image}
 use Rattle.kr_defs.specs.ImageLaws.{as_items}
-use Rattle.kr_store.specs.Images.{AreValid, Images, kept_at, last_kept, marked, reverted}
+use Rattle.kr_store.specs.Images.{AreValid, Images, kept_at, marked, reverted}
 use Rattle.kr_store.proofs.LastKept.{last_found}
 use Rattle.kr_world.specs.Engine.{Core, IsSound, IsStep, outputs_left}
 use Rattle.kr_world.specs.Entries.{item_entries}

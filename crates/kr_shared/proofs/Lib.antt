@@ -4,7 +4,6 @@ pub mod Desks
 pub mod Ends
 pub mod Fronts
 pub mod Giving
-pub mod Grants
 pub mod ImageFronts
 pub mod ImageWalks
 pub mod ImageWritten
@@ -17,6 +16,7 @@ pub mod Made
 pub mod Misses
 pub mod Noting
 pub mod Onwards
+pub mod PinnedPlaces
 pub mod Published
 pub mod Replied
 pub mod Sent

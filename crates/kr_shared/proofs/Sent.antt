@@ -26,12 +26,13 @@ use Rattle.kr_shared.specs.contracts.line.Line.{the_row as line_row}
 use Rattle.kr_shared.specs.contracts.line.Line.TheInside.{the_type as line_type}
 use Rattle.kr_shared.specs.contracts.line.Note.{the_row as note_row}
 use Rattle.kr_shared.proofs.line.Note.TheSendSync as note
+use Rattle.kr_shared.proofs.places.Places.TheSendSync as places
 use Rattle.kr_shared.specs.contracts.worker.WorkerSeat.{the_row as worker_row}
 use Rattle.kr_shared.specs.contracts.worker.WorkerSeat.TheInside.{the_type as worker_type}
 
--- the allocator, the queue with its pass, the bells, the reader, and the number of the last call
+-- the allocator, the queue with its pass, the bells, the reader, the number of the last call, and the places
 pub client_send : IsSend client_row
-client_send = view_send _ _ _ _ _ (declared_send client_type (search sendable depth 20, (heap.Arc-send queue_row queue.the_send queue.the_sync, (pass.the_send, (heap.Arc-send bell_row bell.the_send bell.the_sync, (heap.Arc-send bell_row bell.the_send bell.the_sync, (seat_send, (search sendable depth 20, tt))))))))
+client_send = view_send _ _ _ _ _ (declared_send client_type (search sendable depth 20, (heap.Arc-send queue_row queue.the_send queue.the_sync, (pass.the_send, (heap.Arc-send bell_row bell.the_send bell.the_sync, (heap.Arc-send bell_row bell.the_send bell.the_sync, (seat_send, (search sendable depth 20, (places.the_send, tt)))))))))
 
 -- the writes that wait, and what is due
 line_send : IsSend line_row

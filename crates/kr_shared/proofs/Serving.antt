@@ -218,8 +218,7 @@ module _ (w0 : Kept) (rests : IsSettled w0) (k : StandsForSome (settled w0)) (ev
   made_ask events.Image a x h = absurd h
 
   none_asked : (b : Bool) (told : List Told) → made b None event w0.line.waiting told ≡ answer_all (answering w0.line.waiting []) told
-  none_asked true told = none_besides (answer_all (answering (w0.line.waiting ++ []) []) told) ∙ ap (λ (ws : List Asked). answer_all (answering ws []) told) (append-nil w0.line.waiting)
-  none_asked false told = none_besides (answer_all (answering (w0.line.waiting ++ []) []) told) ∙ ap (λ (ws : List Asked). answer_all (answering ws []) told) (append-nil w0.line.waiting)
+  none_asked b told = none_besides (answer_all (answering (w0.line.waiting ++ []) []) told) ∙ ap (λ (ws : List Asked). answer_all (answering ws []) told) (append-nil w0.line.waiting)
 
   made_by : (q : Option Asking) → IsTask w0.engine event q → made takes q event w0.line.waiting told ≡ answers_of q event (is_some w0.engine.leading) w0.line.waiting told
   made_by None h = none_asked takes told

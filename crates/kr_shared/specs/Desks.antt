@@ -73,24 +73,22 @@ pub record ComesToSame (old new : Kept) : Type 0 where
 abbrev pub takes_writes : Core → Bool
 takes_writes e = is_some e.leading && not (is_far e.tip)
 
-abbrev pub asked_with : Asking → Option Call → List Asked
-asked_with a (Some call) = asked_by a call ∷ []
-asked_with a None = []
-
-abbrev pub aside_with : Asking → Option Call → Option Aside
-aside_with a (Some call) = Some (aside_of a call)
-aside_with a None = None
-
 -- what is taken waits behind the others, and anything else is put aside
+abbrev pub entered_with : Bool → Asking → Option Call → List Asked
+entered_with takes a None = []
+entered_with takes a (Some call) = if takes then asked_by a call ∷ [] else []
+
+abbrev pub aside_with : Bool → Asking → Option Call → Option Aside
+aside_with takes a None = None
+aside_with takes a (Some call) = if takes then None else Some (aside_of a call)
+
 abbrev pub entered_by : Bool → Option Asking → Event → List Asked
-entered_by true (Some a) event = asked_with a (call_in event)
-entered_by true None event = []
-entered_by false asking event = []
+entered_by takes None event = []
+entered_by takes (Some a) event = entered_with takes a (call_in event)
 
 abbrev pub aside_by : Bool → Option Asking → Event → Option Aside
-aside_by false (Some a) event = aside_with a (call_in event)
-aside_by false None event = None
-aside_by true asking event = None
+aside_by takes None event = None
+aside_by takes (Some a) event = aside_with takes a (call_in event)
 
 -- besides, what is put aside may be noted without more memory
 abbrev pub HasSpare : Option Aside → LineView → Type 0

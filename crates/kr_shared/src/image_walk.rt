@@ -66,7 +66,10 @@ fn key_behind(
             index: *index,
         },
         Record::Config {
-            kind, name, key, ..
+            kind,
+            name,
+            key,
+            ..
         } => setting_key(alloc, kind, name, key)?,
         _ => return Ok(last),
     };
@@ -184,11 +187,7 @@ impl Walk {
     }
 
     /// How many records there are from the first one on.
-    pub fn count(
-        &mut self,
-        alloc: Global,
-        seat: &mut ClientSeat,
-    ) -> Result<u64, ImageWriteFault>
+    pub fn count(&mut self, alloc: Global, seat: &mut ClientSeat) -> Result<u64, ImageWriteFault>
         requires over { IsOver self.old seat.old.seen.list }
         requires start { self.old.after ≡ None }
         ensures reads { ReadsOn seat.old seat.new }

@@ -87,7 +87,7 @@ fn end_of_place(entry: &SeatEntry, floor: &i64, wanted: &Wanted) -> Option<Resul
 }
 
 // Looks until what was asked for is granted, or it is found why not.
-#[tactic(auto, using(crate::proofs::Onwards::onward_refl, crate::proofs::Onwards::onward_trans, crate::proofs::Grants::places_found, crate::proofs::Misses::stays, crate::proofs::Misses::looked_on))]
+#[tactic(auto, using(crate::proofs::Onwards::onward_refl, crate::proofs::Onwards::onward_trans, crate::proofs::PinnedPlaces::places_found, crate::proofs::Misses::stays, crate::proofs::Misses::looked_on))]
 fn wait_for<R: Wait>(
     rt: &R,
     bell: &Bell,
@@ -189,7 +189,7 @@ impl ClientSeat {
 
     /// Pins the committed end, and waits for it: a place that isn't below the end of all that the seat had seen. The images at
     /// the places that a seat holds are kept, until it unpins them or an image comes in place of the log. It holds at most 16.
-    #[tactic(auto, using(crate::proofs::Grants::kept_from))]
+    #[tactic(auto, using(crate::proofs::PinnedPlaces::kept_from))]
     pub fn pin<R: Wait>(&mut self, rt: &R) -> Result<i64, PinFault>
         ensures onward { Onward self.old.seen self.new.seen }
         ensures granted { IfOk result (λ place. IsGranted self.new.seen self.old.number

@@ -5,13 +5,13 @@ use Rattle.kr_engine.proofs.engine.Engine.lead.Goals as goal
 
 pub returns-clause-step : goal.returns-clause-step
 returns-clause-step c =
-    settled_alone c.end.result c.settle_lead.result c.settle_lead.new.self c.end.new.self c.end.ensures.same c.settle_lead.ensures.settled c.end.ensures.ok
-    (lead_so c.args.self.now c.begin_at.new.self c.settle_lead.new.self c.end.new.self c.args.epoch.now c.args.next.now c.args.now.now c.requires.drained c.begin_at.ensures.begun)
+    settled_alone c.end.result c.settle_lead-settled.result c.settle_lead-settled.new.self c.end.new.self c.end.ensures.same c.settle_lead-settled.ensures.settled c.end.ensures.ok
+    (lead_so c.args.self.now c.begin_at-found.new.self c.settle_lead-settled.new.self c.end.new.self c.args.epoch.now c.args.next.now c.args.now.now c.requires.drained c.begin_at-found.ensures.begun)
 
 pub returns-clause-unchanged : goal.returns-clause-unchanged
 returns-clause-unchanged c =
-    unchanged_alone c.args.self.now c.begin_at.new.self c.settle_lead.new.self _ c.begin_at.ensures.begun c.requires.drained c.end.result c.settle_lead.result c.end.new.self c.begin_at.result.time c.begin_at.result.fresh.items
-    c.end.ensures.same c.settle_lead.ensures.begun c.end.ensures.err c.begin_at.ensures.time c.begin_at.ensures.fresh
+    unchanged_alone c.args.self.now c.begin_at-found.new.self c.settle_lead-settled.new.self _ c.begin_at-found.ensures.begun c.requires.drained c.end.result c.settle_lead-settled.result c.end.new.self c.begin_at-found.result.time c.begin_at-found.result.fresh.items
+    c.end.ensures.same c.settle_lead-settled.ensures.begun c.end.ensures.err c.begin_at-found.ensures.time c.begin_at-found.ensures.fresh
 
 pub returns-clause-sound : goal.returns-clause-sound
 returns-clause-sound c =

@@ -5,13 +5,13 @@ use Rattle.kr_engine.proofs.engine.Engine.load.Goals as goal
 
 pub returns-clause-step : goal.returns-clause-step
 returns-clause-step c =
-    settled_alone c.end.result c.settle_load.result c.settle_load.new.self c.end.new.self c.end.ensures.same c.settle_load.ensures.settled c.end.ensures.ok
-    (load_step c.args.self.now c.begin.new.self c.settle_load.new.self c.end.new.self c.args.bytes.now c.requires.drained c.begin.ensures.begun)
+    settled_alone c.end.result c.settle_load-settled.result c.settle_load-settled.new.self c.end.new.self c.end.ensures.same c.settle_load-settled.ensures.settled c.end.ensures.ok
+    (load_step c.args.self.now c.begin-found.new.self c.settle_load-settled.new.self c.end.new.self c.args.bytes.now c.requires.drained c.begin-found.ensures.begun)
 
 pub returns-clause-unchanged : goal.returns-clause-unchanged
 returns-clause-unchanged c =
-    unchanged_alone c.args.self.now c.begin.new.self c.settle_load.new.self _ c.begin.ensures.begun c.requires.drained c.end.result c.settle_load.result c.end.new.self c.begin.result.time c.begin.result.fresh.items
-    c.end.ensures.same c.settle_load.ensures.begun c.end.ensures.err c.begin.ensures.time c.begin.ensures.fresh
+    unchanged_alone c.args.self.now c.begin-found.new.self c.settle_load-settled.new.self _ c.begin-found.ensures.begun c.requires.drained c.end.result c.settle_load-settled.result c.end.new.self c.begin-found.result.time c.begin-found.result.fresh.items
+    c.end.ensures.same c.settle_load-settled.ensures.begun c.end.ensures.err c.begin-found.ensures.time c.begin-found.ensures.fresh
 
 pub returns-clause-sound : goal.returns-clause-sound
 returns-clause-sound c = sound_then c.end.result c.args.self.now c.end.new.self (events.Load c.args.bytes.now) c.requires.sound (returns-clause-step c) (returns-clause-unchanged c)

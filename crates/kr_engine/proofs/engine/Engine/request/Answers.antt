@@ -5,14 +5,14 @@ use Rattle.kr_engine.proofs.engine.Engine.request.Goals as goal
 
 pub returns-clause-step : goal.returns-clause-step
 returns-clause-step g c =
-    settled_then c.end.result c.settle_request.result c.settle_request.new.self c.undo_images.new.self c.end.new.self c.end.ensures.same c.settle_request.ensures.settled c.undo_images.ensures.ok c.end.ensures.ok
-    (request_step c.args.self.now c.begin_at.new.self c.settle_request.new.self c.end.new.self c.args.client.now c.args.now.now c.args.ask.now c.requires.drained c.look_over.ensures.valid c.begin_at.ensures.begun)
+    settled_then c.end.result c.settle_request-settled.result c.settle_request-settled.new.self c.undo_images.new.self c.end.new.self c.end.ensures.same c.settle_request-settled.ensures.settled c.undo_images.ensures.ok c.end.ensures.ok
+    (request_step c.args.self.now c.begin_at-found.new.self c.settle_request-settled.new.self c.end.new.self c.args.client.now c.args.now.now c.args.ask.now c.requires.drained c.look_over.ensures.valid c.begin_at-found.ensures.begun)
 
 pub returns-clause-unchanged : goal.returns-clause-unchanged
 returns-clause-unchanged g c =
-    unchanged c.args.self.now c.begin_at.new.self c.settle_request.new.self c.undo_images.new.self _ c.begin_at.ensures.begun c.requires.drained c.look_over.ensures.ready c.look_over.ensures.valid
-    c.begin_at.result.tip c.begin_at.ensures.tip c.end.result c.settle_request.result c.end.new.self c.begin_at.result.time c.begin_at.result.fresh.items c.end.ensures.same
-    c.settle_request.ensures.broken c.undo_images.ensures.err c.end.ensures.err c.begin_at.ensures.time c.begin_at.ensures.fresh
+    unchanged c.args.self.now c.begin_at-found.new.self c.settle_request-settled.new.self c.undo_images.new.self _ c.begin_at-found.ensures.begun c.requires.drained c.look_over.ensures.ready c.look_over.ensures.valid
+    c.begin_at-found.result.tip c.begin_at-found.ensures.tip c.end.result c.settle_request-settled.result c.end.new.self c.begin_at-found.result.time c.begin_at-found.result.fresh.items c.end.ensures.same
+    c.settle_request-settled.ensures.broken c.undo_images.ensures.err c.end.ensures.err c.begin_at-found.ensures.time c.begin_at-found.ensures.fresh
 
 pub returns-clause-sound : goal.returns-clause-sound
 returns-clause-sound g c =
