@@ -85,6 +85,11 @@ text_begins offset count first more full =
 abbrev pub IsWhole : List Record → ℕ → Type 0
 IsWhole records n = (n ≡ length records) ⊎ IsFull n
 
+-- and where they aren't all, they are full batches
+pub still_full : (records : List Record) (n : ℕ) → IsWhole records n → n < length records → IsFull n
+still_full records n (inl all) less = absurd (omega (arith, all, less))
+still_full records n (inr full) less = full
+
 module _ (place : ℤ) (image : Image) where
   abbrev records : List Record
   records = records_of image

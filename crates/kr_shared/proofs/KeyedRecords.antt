@@ -72,9 +72,12 @@ module _ (partitions : List ((ℕ × ℤ) × Partition)) (rest : List Keyed) (ne
   topics_keyed [] last topic = next last topic
   topics_keyed (t ∷ ts) last topic =
       let behind : List Keyed = flat_map (keyed_topic partitions) ts in
-      let own = map keyed_partition (walk_topic partitions t) in
-      (refl, refl, subst (AreKeyed (Some (keys.Topic t.0)) (Some (t.0, t.1))) (sym (append_assoc own behind rest))
-      (partitions_keyed t.0 t.1 (behind ++ rest) (topics_keyed ts) partitions (Some (keys.Topic t.0)) refl))
+      let own = map keyed_partition (walk_topic partitions t) in (
+        refl,
+        refl,
+        subst (AreKeyed (Some (keys.Topic t.0)) (Some (t.0, t.1))) (sym (append_assoc own behind rest))
+            (partitions_keyed t.0 t.1 (behind ++ rest) (topics_keyed ts) partitions (Some (keys.Topic t.0)) refl),
+      )
 
 -- ---- they are the records of an image
 

@@ -6,6 +6,7 @@ pub mod Fronts
 pub mod Giving
 pub mod ImageFronts
 pub mod ImageWalks
+pub mod ImageWritten
 pub mod KeptImages
 pub mod KeyedRecords
 pub mod LastSeats

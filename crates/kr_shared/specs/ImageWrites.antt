@@ -92,7 +92,13 @@ pub record WritesFrom (place : ℤ) (old new : List Entry) (written written' : O
 abbrev pub WritesImage : ℤ → List Entry → List Entry → Option (List ℕ) → Option (List ℕ) → Result (Unit {0}) ImageWriteFault → Type 0
 WritesImage place old new written written' result = WritesNothing place new written written' result ⊎ WritesFrom place old new written written' result
 
--- a sink's part in it
+-- a seat's part in it, and a sink's
+abbrev pub IsReadFault : ImageWriteFault → Type 0
+IsReadFault (faults.Scan fault) = Unit {0}
+IsReadFault (faults.Loaded first later) = Unit {0}
+IsReadFault faults.WriteFault = ⊥
+IsReadFault faults.NoMemory = Unit {0}
+
 abbrev pub IsPutFault : ImageWriteFault → Type 0
 IsPutFault (faults.Scan fault) = ⊥
 IsPutFault (faults.Loaded first later) = ⊥

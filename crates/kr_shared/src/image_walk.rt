@@ -9,7 +9,7 @@ ghost use Rattle.kr_view.specs.Readers.{HasScanCause};
 ghost use Rattle.kr_view.specs.RecordPages.{record_page};
 ghost use Rattle.kr_view.specs.Scans.{IsNotThere};
 ghost use Rattle.kr_shared.specs.Clients.{client_reading};
-ghost use Rattle.kr_shared.specs.ImageWrites.{HasMiss, IsNextPage, IsOver, IsStop, ReadsOn, StillKept, walk_from};
+ghost use Rattle.kr_shared.specs.ImageWrites.{HasMiss, IsNextPage, IsOver, IsReadFault, IsStop, ReadsOn, StillKept, walk_from};
 ghost use Rattle.kr_shared.specs.KeysBehind.{key_behind, keys_behind, topic_in};
 
 use crate::clients::ClientSeat;
@@ -66,7 +66,10 @@ fn key_behind(
             index: *index,
         },
         Record::Config {
-            kind, name, key, ..
+            kind,
+            name,
+            key,
+            ..
         } => setting_key(alloc, kind, name, key)?,
         _ => return Ok(last),
     };
@@ -146,6 +149,7 @@ impl Walk {
         ensures page { IfOk result (λ page. page ≡ record_page
             (image_below self.now.place seat.old.seen.list) self.now.after most) }
         ensures kept { OnOk result (StillKept self.now.place seat.old.seen.list seat.new.seen.list) }
+        ensures fault { IfErr result IsReadFault }
         ensures stop { IfErr result
             (IsStop self.now.place seat.old.seen.list seat.new.seen.list) }
         ensures misses { HasMiss seat.old.misses seat.new.misses result }
@@ -172,6 +176,7 @@ impl Walk {
         ensures reads { ReadsOn seat.old seat.new }
         ensures page { IfOk result
             (IsNextPage seat.old.seen.list seat.new.seen.list self.old self.new) }
+        ensures fault { IfErr result IsReadFault }
         ensures stop { IfErr result
             (IsStop self.old.place seat.old.seen.list seat.new.seen.list) }
         ensures misses { HasMiss seat.old.misses seat.new.misses result }
@@ -182,11 +187,7 @@ impl Walk {
     }
 
     /// How many records there are from the first one on.
-    pub fn count(
-        &mut self,
-        alloc: Global,
-        seat: &mut ClientSeat,
-    ) -> Result<u64, ImageWriteFault>
+    pub fn count(&mut self, alloc: Global, seat: &mut ClientSeat) -> Result<u64, ImageWriteFault>
         requires over { IsOver self.old seat.old.seen.list }
         requires start { self.old.after ≡ None }
         ensures reads { ReadsOn seat.old seat.new }
@@ -196,6 +197,7 @@ impl Walk {
         ensures walk { OnOk result (self.new
             ≡ record self.old { after = self.new.after }) }
         ensures kept { OnOk result (StillKept self.old.place seat.old.seen.list seat.new.seen.list) }
+        ensures fault { IfErr result IsReadFault }
         ensures stop { IfErr result
             (IsStop self.old.place seat.old.seen.list seat.new.seen.list) }
         ensures misses { HasMiss seat.old.misses seat.new.misses result }

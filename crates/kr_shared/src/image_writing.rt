@@ -7,7 +7,7 @@ ghost use Rattle.kr_base.specs.FailedPuts.{AppendsFront};
 ghost use Rattle.kr_calls.specs.SeatList.{image_below, loads_of};
 ghost use Rattle.kr_defs.specs.Records.{records_of};
 ghost use Rattle.kr_snapshot.specs.ImageText.{image_head};
-ghost use Rattle.kr_snapshot.specs.Written.{MayPut, after_put, put_bytes};
+ghost use Rattle.kr_snapshot.specs.Written.{IsNextText, MayPut, after_put, put_bytes};
 ghost use Rattle.kr_shared.specs.declared.image_writing.ImageWriteFault.TheVariants as faults;
 ghost use Rattle.kr_shared.specs.ImageWrites.{HasMiss, IsOver, IsPutFault, ReadsOn, WritesImage, WritesText};
 
@@ -70,6 +70,7 @@ fn put<K: Sink>(sink: &mut K, bytes: &[u8]) -> Result<(), ImageWriteFault>
 }
 
 // Begins the text of an image of so many records.
+#[tactic(auto, using(crate::proofs::ImageWritten::no_front))]
 fn put_head<K: Sink>(
     alloc: Global,
     place: &i64,
@@ -98,6 +99,7 @@ fn put_head<K: Sink>(
 }
 
 // Goes on by one batch.
+#[tactic(auto, using(crate::proofs::ImageWritten::no_front))]
 fn put_batch<K: Sink>(
     alloc: Global,
     writer: &mut Writer,
@@ -108,6 +110,7 @@ fn put_batch<K: Sink>(
     ensures ok { OnOk result
         (Appends (K.written sink.old) (K.written sink.new) (put_bytes writer.old page.now)) }
     ensures writer { OnOk result (writer.new ≡ after_put writer.old page.now) }
+    ensures text { IsNextText writer.old page.now (put_bytes writer.old page.now) }
     ensures err { OnErr result
         (AppendsFront (K.written sink.old) (K.written sink.new) (put_bytes writer.old page.now)) }
     ensures fault { IfErr result IsPutFault }
@@ -156,13 +159,13 @@ fn write_counted<K: Sink>(
 fn write_walk<K: Sink>(
     alloc: Global,
     seat: &mut ClientSeat,
-    mut walk: Walk,
+    walk: &mut Walk,
     sink: &mut K,
 ) -> Result<(), ImageWriteFault>
-    requires over { IsOver walk seat.old.seen.list }
-    requires start { walk.after ≡ None }
+    requires over { IsOver walk.old seat.old.seen.list }
+    requires start { walk.old.after ≡ None }
     ensures reads { ReadsOn seat.old seat.new }
-    ensures writes { WritesText walk.place seat.old.seen.list seat.new.seen.list
+    ensures writes { WritesText walk.old.place seat.old.seen.list seat.new.seen.list
         (K.written sink.old) (K.written sink.new) result }
     ensures rose { IsErrOf result faults.WriteFault →
         Rose (K.faults sink.old) (K.faults sink.new) }
@@ -171,7 +174,7 @@ fn write_walk<K: Sink>(
 {
     let count = walk.count(alloc, seat)?;
     walk.restart();
-    write_counted(alloc, seat, &mut walk, count, sink)
+    write_counted(alloc, seat, walk, count, sink)
 }
 
 /// Writes the image at a place that is kept, as one that the seat pinned: the place, how many records the image has, and these
@@ -197,6 +200,6 @@ pub fn write_image<K: Sink>(
         Rose (K.faults sink.old) (K.faults sink.new) }
     ensures misses { HasMiss seat.old.misses seat.new.misses result }
 {
-    let walk = Walk::begin(seat, place)?;
-    write_walk(alloc, seat, walk, sink)
+    let mut walk = Walk::begin(seat, place)?;
+    write_walk(alloc, seat, &mut walk, sink)
 }

@@ -38,6 +38,6 @@ loop-page-preserved c =
     let n = c.loop-page.count in
     record {
       walked = subst (λ k. HasWalked c.args.self.now c.args.seat.now c.next_page.new.seat c.next_page.new.self k) (sym c.in_ok-count.ensures.sum)
-        (walk_further c.args.self.now c.args.seat.now c.requires.over c.loop-page.seat c.loop-page.self n c.loop-page.invariant.walked c.next_page.new.seat c.next_page.new.self c.in_ok-page.page c.in_ok-page.ensures.page c.next_page.ensures.reads c.in_ok-page.ensures.misses);
+          (walk_further c.args.self.now c.args.seat.now c.requires.over c.loop-page.seat c.loop-page.self n c.loop-page.invariant.walked c.next_page.new.seat c.next_page.new.self c.in_ok-page.page c.in_ok-page.ensures.page c.next_page.ensures.reads c.in_ok-page.ensures.misses);
       small = c.in_ok-count.ensures.small;
     }
