@@ -10,7 +10,7 @@ pub invariant_of-self-2 : goal.invariant_of-self-2
 invariant_of-self-2 g c =
     let store = c.in-Some.store in
     let offset = c.args.offset.now in
-    let made = c.in-Some.ensures in
+    let made = rw c.in-Some.is at c.in_ok-store.ensures in
     let fits : FitsSigned w64 offset = search rules in
     subst (λ (pins : List Pin). IsStandingAt store (to_z w64 (of_z w64 offset)) pins) (sym c.new-pins.ensures)
     (subst (λ (z : ℤ). IsStandingAt store z []) (sym (to_z-of_z w64 offset fits)) (loaded_stands store offset made.1 made.2))
