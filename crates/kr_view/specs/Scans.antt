@@ -42,6 +42,17 @@ IsNotThere l place (NotKept asked) = (asked ≡ place) × IsTrue (not (int_lt pl
 IsNotThere l place NoCopy = Unit {0}
 IsNotThere l place NoMemory = Unit {0}
 
+-- it isn't that there was no copy
+abbrev pub IsOfCopy : ScanFault → Type 0
+IsOfCopy (Gone asked oldest) = Unit {0}
+IsOfCopy (NotKept asked) = Unit {0}
+IsOfCopy NoCopy = ⊥
+IsOfCopy NoMemory = Unit {0}
+
+-- the copy was there
+abbrev pub HasCopy : {A : Type 0} → Result A ScanFault → Type 0
+HasCopy result = MatchResult result (λ _. Unit {0}) IsOfCopy
+
 -- at a kept place the answer is what the image there gives; at another there is none
 abbrev pub AnswersAt : {A : Type 0} → List Entry → ℤ → (Image → A → Type 0) → Result A ScanFault → Type 0
 AnswersAt list place Gives result =
