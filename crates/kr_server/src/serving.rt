@@ -96,7 +96,8 @@ fn serve_messages<R: Wait, S: Source, K: Sink, T: Transcript>(
 ) -> ServeEnd
     ensures served { Served
         (connection (S.left source.old) (K.written sink.old) (T.list transcript.old) seat.old)
-        (connection (S.left source.new) (K.written sink.new) (T.list transcript.new) seat.new) result }
+        (connection (S.left source.new) (K.written sink.new) (T.list transcript.new) seat.new)
+        result }
     ensures read { result ≡ ServeEnd.ReadFault → Rose (S.faults source.old) (S.faults source.new) }
     ensures write { result ≡ ServeEnd.WriteFault → Rose (K.faults sink.old) (K.faults sink.new) }
 {
@@ -123,7 +124,8 @@ pub fn serve_client<R: Wait, S: Source, K: Sink, T: Transcript>(
     // What was taken, written, told and asked of the seat, at each end.
     ensures served { Served
         (connection (S.left source.old) (K.written sink.old) (T.list transcript.old) seat.old)
-        (connection (S.left source.new) (K.written sink.new) (T.list transcript.new) seat.new) result }
+        (connection (S.left source.new) (K.written sink.new) (T.list transcript.new) seat.new)
+        result }
     // The seat's list goes on.
     ensures onward { Onward seat.old.seen seat.new.seen }
 

@@ -52,7 +52,8 @@ impl Written {
 
     /// Appends the bytes of the image.
     pub(crate) fn write(&self, alloc: Global, out: &mut Vec<u8>) -> Result<(), SnapFault>
-        ensures { OnOk result (out.new.items ≡ out.old.items ++ image_text OFFSET self.now.store.tip) }
+        ensures { OnOk result (out.new.items ≡ out.old.items ++ image_text OFFSET
+            self.now.store.tip) }
     {
         write(alloc, &self.store, At::Tip, OFFSET, out)
     }

@@ -17,7 +17,8 @@ use std::alloc::{AllocError, Global};
 
 /// The batch that the bytes stand for, by its numbers and what is written for it, or their first fault.
 pub fn batch_answer(alloc: Global, bytes: &[u8]) -> Result<String, AllocError>
-    ensures { IfOk result (λ text. TellsBatch (string_bytes text) (length bytes.now) (batch_of bytes.now)) }
+    ensures { IfOk result (λ text. TellsBatch (string_bytes text) (length bytes.now) (batch_of
+        bytes.now)) }
 {
     batches_again();
     match kr_batch::decode(alloc, bytes) {

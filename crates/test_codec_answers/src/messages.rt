@@ -73,7 +73,8 @@ fn error_text(alloc: Global, message: &[u8]) -> Result<String, AllocError>
 }
 
 fn bare_text(alloc: Global, correlation: i32, fault: AskFault) -> Result<String, NoMemory>
-    ensures { IfOk result (λ text. string_bytes text ≡ words.told_words (asks.Bare correlation fault)) }
+    ensures { IfOk result (λ text. string_bytes text ≡ words.told_words (asks.Bare correlation
+        fault)) }
 {
     let reply = Reply::Bare {
         error: error_of(fault),

@@ -69,14 +69,16 @@ fn value_text(
     written: Vec<u8>,
     left: usize,
 ) -> Result<String, AllocError>
-    ensures { IfOk result (λ text. string_bytes text ≡ (string_bytes value ␣ (encode_lower written.items ␣ decimal left))) }
+    ensures { IfOk result (λ text. string_bytes text ≡ (string_bytes value ␣ (encode_lower
+        written.items ␣ decimal left))) }
 {
     let behind = written_text(alloc, &written, left)?;
     join_by_space(alloc, &value, &behind)
 }
 
 fn uvarint_answer(alloc: Global, bytes: &[u8]) -> Result<String, AllocError>
-    ensures { IfOk result (λ text. Tells words.uvarint_words (string_bytes text) (reading.uvarint_at bytes.now)) }
+    ensures { IfOk result (λ text. Tells words.uvarint_words (string_bytes text)
+        (reading.uvarint_at bytes.now)) }
 {
     match read_uvarint(bytes, 0) {
         Ok((number, next)) => {
@@ -90,7 +92,8 @@ fn uvarint_answer(alloc: Global, bytes: &[u8]) -> Result<String, AllocError>
 }
 
 fn varint_answer(alloc: Global, bytes: &[u8]) -> Result<String, AllocError>
-    ensures { IfOk result (λ text. Tells words.varint_words (string_bytes text) (reading.varint32_at bytes.now)) }
+    ensures { IfOk result (λ text. Tells words.varint_words (string_bytes text)
+        (reading.varint32_at bytes.now)) }
 {
     match read_varint(bytes, 0) {
         Ok((number, next)) => {
@@ -104,7 +107,8 @@ fn varint_answer(alloc: Global, bytes: &[u8]) -> Result<String, AllocError>
 }
 
 fn varlong_answer(alloc: Global, bytes: &[u8]) -> Result<String, AllocError>
-    ensures { IfOk result (λ text. Tells words.varlong_words (string_bytes text) (reading.varint64_at bytes.now)) }
+    ensures { IfOk result (λ text. Tells words.varlong_words (string_bytes text)
+        (reading.varint64_at bytes.now)) }
 {
     match read_varlong(bytes, 0) {
         Ok((number, next)) => {
@@ -118,7 +122,8 @@ fn varlong_answer(alloc: Global, bytes: &[u8]) -> Result<String, AllocError>
 }
 
 fn u16_answer(alloc: Global, bytes: &[u8]) -> Result<String, AllocError>
-    ensures { IfOk result (λ text. Tells (words.number_words w16) (string_bytes text) (reading.number_at w16 bytes.now)) }
+    ensures { IfOk result (λ text. Tells (words.number_words w16) (string_bytes text)
+        (reading.number_at w16 bytes.now)) }
 {
     match read_u16(bytes, 0) {
         Ok((number, next)) => {
@@ -132,7 +137,8 @@ fn u16_answer(alloc: Global, bytes: &[u8]) -> Result<String, AllocError>
 }
 
 fn u32_answer(alloc: Global, bytes: &[u8]) -> Result<String, AllocError>
-    ensures { IfOk result (λ text. Tells (words.number_words w32) (string_bytes text) (reading.number_at w32 bytes.now)) }
+    ensures { IfOk result (λ text. Tells (words.number_words w32) (string_bytes text)
+        (reading.number_at w32 bytes.now)) }
 {
     match read_u32(bytes, 0) {
         Ok((number, next)) => {
@@ -146,7 +152,8 @@ fn u32_answer(alloc: Global, bytes: &[u8]) -> Result<String, AllocError>
 }
 
 fn u64_answer(alloc: Global, bytes: &[u8]) -> Result<String, AllocError>
-    ensures { IfOk result (λ text. Tells (words.number_words w64) (string_bytes text) (reading.number_at w64 bytes.now)) }
+    ensures { IfOk result (λ text. Tells (words.number_words w64) (string_bytes text)
+        (reading.number_at w64 bytes.now)) }
 {
     match read_u64(bytes, 0) {
         Ok((number, next)) => {
@@ -160,7 +167,8 @@ fn u64_answer(alloc: Global, bytes: &[u8]) -> Result<String, AllocError>
 }
 
 fn i8_answer(alloc: Global, bytes: &[u8]) -> Result<String, AllocError>
-    ensures { IfOk result (λ text. Tells (words.signed_words w8) (string_bytes text) (reading.signed_at w8 bytes.now)) }
+    ensures { IfOk result (λ text. Tells (words.signed_words w8) (string_bytes text)
+        (reading.signed_at w8 bytes.now)) }
 {
     match read_i8(bytes, 0) {
         Ok((number, next)) => {
@@ -174,7 +182,8 @@ fn i8_answer(alloc: Global, bytes: &[u8]) -> Result<String, AllocError>
 }
 
 fn i16_answer(alloc: Global, bytes: &[u8]) -> Result<String, AllocError>
-    ensures { IfOk result (λ text. Tells (words.signed_words w16) (string_bytes text) (reading.signed_at w16 bytes.now)) }
+    ensures { IfOk result (λ text. Tells (words.signed_words w16) (string_bytes text)
+        (reading.signed_at w16 bytes.now)) }
 {
     match read_i16(bytes, 0) {
         Ok((number, next)) => {
@@ -188,7 +197,8 @@ fn i16_answer(alloc: Global, bytes: &[u8]) -> Result<String, AllocError>
 }
 
 fn i32_answer(alloc: Global, bytes: &[u8]) -> Result<String, AllocError>
-    ensures { IfOk result (λ text. Tells (words.signed_words w32) (string_bytes text) (reading.signed_at w32 bytes.now)) }
+    ensures { IfOk result (λ text. Tells (words.signed_words w32) (string_bytes text)
+        (reading.signed_at w32 bytes.now)) }
 {
     match read_i32(bytes, 0) {
         Ok((number, next)) => {
@@ -202,7 +212,8 @@ fn i32_answer(alloc: Global, bytes: &[u8]) -> Result<String, AllocError>
 }
 
 fn i64_answer(alloc: Global, bytes: &[u8]) -> Result<String, AllocError>
-    ensures { IfOk result (λ text. Tells (words.signed_words w64) (string_bytes text) (reading.signed_at w64 bytes.now)) }
+    ensures { IfOk result (λ text. Tells (words.signed_words w64) (string_bytes text)
+        (reading.signed_at w64 bytes.now)) }
 {
     match read_i64(bytes, 0) {
         Ok((number, next)) => {
@@ -217,7 +228,8 @@ fn i64_answer(alloc: Global, bytes: &[u8]) -> Result<String, AllocError>
 
 fn count_answer(alloc: Global, bytes: &[u8]) -> Result<String, AllocError>
     requires { length bytes.now < 2 ^ 31 }
-    ensures { IfOk result (λ text. Tells words.count_words (string_bytes text) (reading.count_at bytes.now)) }
+    ensures { IfOk result (λ text. Tells words.count_words (string_bytes text) (reading.count_at
+        bytes.now)) }
 {
     match read_count(bytes, 0) {
         Ok((number, next)) => {
@@ -231,7 +243,8 @@ fn count_answer(alloc: Global, bytes: &[u8]) -> Result<String, AllocError>
 }
 
 fn bool_answer(alloc: Global, bytes: &[u8]) -> Result<String, AllocError>
-    ensures { IfOk result (λ text. Tells words.bool_words (string_bytes text) (reading.bool_at bytes.now)) }
+    ensures { IfOk result (λ text. Tells words.bool_words (string_bytes text) (reading.bool_at
+        bytes.now)) }
 {
     match read_bool(bytes, 0) {
         Ok((value, next)) => {
@@ -252,7 +265,8 @@ fn halves_text(alloc: Global, id: u128) -> Result<String, AllocError>
 }
 
 fn id_answer(alloc: Global, bytes: &[u8]) -> Result<String, AllocError>
-    ensures { IfOk result (λ text. Tells words.id_words (string_bytes text) (reading.id_at bytes.now)) }
+    ensures { IfOk result (λ text. Tells words.id_words (string_bytes text) (reading.id_at
+        bytes.now)) }
 {
     match read_id(bytes, 0) {
         Ok((id, next)) => {
@@ -287,7 +301,8 @@ fn count_or_null_text(alloc: Global, count: Option<u32>) -> Result<String, Alloc
 
 fn count_or_null_answer(alloc: Global, bytes: &[u8]) -> Result<String, AllocError>
     requires { length bytes.now < 2 ^ 31 }
-    ensures { IfOk result (λ text. Tells words.count_or_null_words (string_bytes text) (reading.count_or_null_at bytes.now)) }
+    ensures { IfOk result (λ text. Tells words.count_or_null_words (string_bytes text)
+        (reading.count_or_null_at bytes.now)) }
 {
     match read_count_or_null(bytes, 0) {
         Ok((count, next)) => {
@@ -315,7 +330,8 @@ fn text_at(alloc: Global, bytes: &[u8], span: Span) -> Result<Text, AllocError>
 // The text that was read, what is written for it, and how many bytes are left.
 fn read_text(alloc: Global, text: &Text, left: usize) -> Result<String, AllocError>
     requires { length text.now < 2 ^ 31 }
-    ensures { IfOk result (λ said. string_bytes said ≡ ((words.text_words text.now).0 ␣ (encode_lower (words.text_words text.now).1 ␣ decimal left))) }
+    ensures { IfOk result (λ said. string_bytes said ≡ ((words.text_words text.now).0 ␣
+        (encode_lower (words.text_words text.now).1 ␣ decimal left))) }
 {
     let value = hex_text(alloc, text.as_bytes())?;
     let mut out = Vec::new(alloc);
@@ -325,7 +341,8 @@ fn read_text(alloc: Global, text: &Text, left: usize) -> Result<String, AllocErr
 
 fn str_answer(alloc: Global, bytes: &[u8]) -> Result<String, AllocError>
     requires { length bytes.now < 2 ^ 31 }
-    ensures { IfOk result (λ text. Tells words.text_words (string_bytes text) (reading.text_at bytes.now)) }
+    ensures { IfOk result (λ text. Tells words.text_words (string_bytes text) (reading.text_at
+        bytes.now)) }
 {
     match read_str(bytes, 0) {
         Ok((span, next)) => {
@@ -338,7 +355,8 @@ fn str_answer(alloc: Global, bytes: &[u8]) -> Result<String, AllocError>
 
 // Null that was read, what is written for it, and how many bytes are left.
 fn read_null(alloc: Global, left: usize) -> Result<String, AllocError>
-    ensures { IfOk result (λ said. string_bytes said ≡ ((words.text_or_null_words None).0 ␣ (encode_lower (words.text_or_null_words None).1 ␣ decimal left))) }
+    ensures { IfOk result (λ said. string_bytes said ≡ ((words.text_or_null_words None).0 ␣
+        (encode_lower (words.text_or_null_words None).1 ␣ decimal left))) }
 {
     let value = String::from_str(alloc, "null")?;
     let mut out = Vec::new(alloc);
@@ -348,7 +366,8 @@ fn read_null(alloc: Global, left: usize) -> Result<String, AllocError>
 
 fn str_or_null_answer(alloc: Global, bytes: &[u8]) -> Result<String, AllocError>
     requires { length bytes.now < 2 ^ 31 }
-    ensures { IfOk result (λ text. Tells words.text_or_null_words (string_bytes text) (reading.text_or_null_at bytes.now)) }
+    ensures { IfOk result (λ text. Tells words.text_or_null_words (string_bytes text)
+        (reading.text_or_null_at bytes.now)) }
 {
     match read_str_or_null(bytes, 0) {
         Ok((Some(span), next)) => {
@@ -362,7 +381,8 @@ fn str_or_null_answer(alloc: Global, bytes: &[u8]) -> Result<String, AllocError>
 
 // The number and the size that were read, what is written for them, and how many bytes are left.
 fn read_tag_text(alloc: Global, number: u32, size: u32, left: usize) -> Result<String, AllocError>
-    ensures { IfOk result (λ said. string_bytes said ≡ ((words.tag_words (number, size)).0 ␣ (encode_lower (words.tag_words (number, size)).1 ␣ decimal left))) }
+    ensures { IfOk result (λ said. string_bytes said ≡ ((words.tag_words (number, size)).0 ␣
+        (encode_lower (words.tag_words (number, size)).1 ␣ decimal left))) }
 {
     let value = format!(in alloc; "{number} {size}")?;
     let mut out = Vec::new(alloc);
@@ -372,7 +392,8 @@ fn read_tag_text(alloc: Global, number: u32, size: u32, left: usize) -> Result<S
 
 fn tag_answer(alloc: Global, bytes: &[u8], last: Option<u32>) -> Result<String, AllocError>
     requires { length bytes.now < 2 ^ 31 }
-    ensures { IfOk result (λ text. Tells words.tag_words (string_bytes text) (reading.tag_at last bytes.now)) }
+    ensures { IfOk result (λ text. Tells words.tag_words (string_bytes text) (reading.tag_at last
+        bytes.now)) }
 {
     match read_tag(bytes, 0, last) {
         Ok((tag, next)) => {
@@ -384,7 +405,8 @@ fn tag_answer(alloc: Global, bytes: &[u8], last: Option<u32>) -> Result<String, 
 }
 
 fn tags_answer(alloc: Global, bytes: &[u8]) -> Result<String, AllocError>
-    ensures { IfOk result (λ text. TellsLeft (string_bytes text) (reading.tags_at reading.none_known tt bytes.now)) }
+    ensures { IfOk result (λ text. TellsLeft (string_bytes text) (reading.tags_at
+        reading.none_known tt bytes.now)) }
 {
     match skip_tags(bytes, 0) {
         Ok(next) => {

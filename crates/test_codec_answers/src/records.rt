@@ -16,7 +16,8 @@ pub(crate) const TOO_LONG: &str = "too long to be written";
 
 /// The record that the bytes stand for, by what is written for it, or their first fault.
 pub fn record_answer(alloc: Global, bytes: &[u8]) -> Result<String, AllocError>
-    ensures { IfOk result (λ text. TellsRecord (string_bytes text) (length bytes.now) (record_of bytes.now)) }
+    ensures { IfOk result (λ text. TellsRecord (string_bytes text) (length bytes.now) (record_of
+        bytes.now)) }
 {
     records_again();
     match kr_record::decode(alloc, bytes) {
@@ -28,7 +29,8 @@ pub fn record_answer(alloc: Global, bytes: &[u8]) -> Result<String, AllocError>
 // What is written for a record that stood in so many bytes.
 fn written_record(alloc: Global, value: &Record, len: usize) -> Result<String, AllocError>
     requires { len < 2 ^ 31 → IsEncodable value.now }
-    ensures { IfOk result (λ text. string_bytes text ≡ (if nat_lt len (2 ^ 31) then record_words value.now else too_long)) }
+    ensures { IfOk result (λ text. string_bytes text ≡ (if nat_lt len (2 ^ 31) then record_words
+        value.now else too_long)) }
 {
     if len >= 1 << 31 {
         return String::from_str(alloc, TOO_LONG);

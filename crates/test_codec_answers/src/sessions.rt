@@ -36,7 +36,8 @@ fn session_text(
     written: &[u8],
     status: Status,
 ) -> Result<String, AllocError>
-    ensures { IfOk result (λ text. string_bytes text ≡ words.session_words left.now written.now status) }
+    ensures { IfOk result (λ text. string_bytes text ≡ words.session_words left.now written.now
+        status) }
 {
     let status = status_text(alloc, status)?;
     let digits = hex_text(alloc, written)?;

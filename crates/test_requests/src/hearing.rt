@@ -27,7 +27,8 @@ pub(crate) fn hear(
     reply: &Reply,
 ) -> Result<(), RowFault>
     requires { AreEpochs store.now.kept (place ∷ []) }
-    ensures { OnOk result (sessions.new.heartbeats ≡ following.heartbeats_after sessions.old.heartbeats (base_of store.now) store.now.tip now place request.now reply.now) }
+    ensures { OnOk result (sessions.new.heartbeats ≡ following.heartbeats_after
+        sessions.old.heartbeats (base_of store.now) store.now.tip now place request.now reply.now) }
 {
     sessions.reserve()?;
     if !is_no_earlier(sessions, &now)? {
@@ -61,7 +62,8 @@ fn seen_before<'a>(store: &'a ImageStore, place: &i64) -> Seen<'a, ImageStore>
 
 // Those that are stopping are so in the image.
 fn are_all_stopping(sessions: &Sessions, seen: &Seen<ImageStore>) -> Result<bool, NoMemory>
-    ensures { IfOk result (λ are. are ≡ led.are_stopping seen.now sessions.now.heartbeats.stopping) }
+    ensures { IfOk result (λ are. are ≡ led.are_stopping seen.now
+        sessions.now.heartbeats.stopping) }
 {
     let stops = sessions.stops()?;
     Ok(are_stopping(seen, stops.as_slice()))

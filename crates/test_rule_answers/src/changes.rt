@@ -70,7 +70,8 @@ pub fn merge_answer(
     partition: &Partition,
     change: &PartitionChange,
 ) -> Result<String, NoMemory>
-    ensures { IfOk result (λ text. string_bytes text ≡ words.partition_words (merges.merged partition.now change.now)) }
+    ensures { IfOk result (λ text. string_bytes text ≡ words.partition_words (merges.merged
+        partition.now change.now)) }
 {
     let after = kr_change::merge(alloc, partition, change)?;
     Ok(partition_text(alloc, &after)?)
@@ -78,7 +79,8 @@ pub fn merge_answer(
 
 /// The replicas that the partition's reassignment leads to.
 pub fn target_answer(alloc: Global, partition: &Partition) -> Result<String, NoMemory>
-    ensures { IfOk result (λ text. string_bytes text ≡ plain.ids_words (formed.target partition.now)) }
+    ensures { IfOk result (λ text. string_bytes text ≡ plain.ids_words (formed.target
+        partition.now)) }
 {
     let target = kr_change::target_of(alloc, partition)?;
     Ok(ids_text(alloc, target.as_slice())?)
@@ -92,7 +94,8 @@ pub fn completes_answer(
     removing: &Ids,
     in_sync: &Ids,
 ) -> Result<String, AllocError>
-    ensures { IfOk result (λ text. string_bytes text ≡ plain.bool_words (builds.completes replicas.now adding.now removing.now in_sync.now)) }
+    ensures { IfOk result (λ text. string_bytes text ≡ plain.bool_words (builds.completes
+        replicas.now adding.now removing.now in_sync.now)) }
 {
     String::from_str(
         alloc,
@@ -109,7 +112,8 @@ pub fn eligible_answer(
     minimum: i32,
     restarted: Option<i32>,
 ) -> Result<String, NoMemory>
-    ensures { IfOk result (λ text. string_bytes text ≡ words.stand_by_words (eligibles.eligible_after partition.now replicas.now in_sync.now minimum restarted)) }
+    ensures { IfOk result (λ text. string_bytes text ≡ words.stand_by_words
+        (eligibles.eligible_after partition.now replicas.now in_sync.now minimum restarted)) }
 {
     let (eligible, last_known) = kr_change::eligible_after(
         alloc, partition, replicas, in_sync, minimum, restarted,
@@ -147,7 +151,8 @@ pub fn elect_answer(
     restarted: Option<i32>,
     facts: &Facts,
 ) -> Result<String, AllocError>
-    ensures { IfOk result (λ text. string_bytes text ≡ words.election_words (elections.elected partition.now replicas.now in_sync.now mode restarted facts.now)) }
+    ensures { IfOk result (λ text. string_bytes text ≡ words.election_words (elections.elected
+        partition.now replicas.now in_sync.now mode restarted facts.now)) }
 {
     let (leader, choice) = kr_change::elect(partition, replicas, in_sync, mode, restarted, facts);
     election_text(alloc, leader, choice)
@@ -169,7 +174,8 @@ pub fn build_answer(
     want: &Want,
     facts: &Facts,
 ) -> Result<String, NoMemory>
-    ensures { IfOk result (λ text. string_bytes text ≡ words.built_words (builds.built partition.now want.now facts.now)) }
+    ensures { IfOk result (λ text. string_bytes text ≡ words.built_words (builds.built
+        partition.now want.now facts.now)) }
 {
     let change = kr_change::build(alloc, partition, want, facts)?;
     Ok(built_text(alloc, &change)?)

@@ -58,7 +58,8 @@ fn is_stopping(stopping: &[Stopping], broker: &i32) -> bool
 
 // The last of these contacts was heard of by now.
 fn is_up_to(first: &Contact, others: &[Contact], now: &i64) -> bool
-    ensures { result ≡ option_map_or (λ c. int_le c.time now.now) (last_or (Some first.now) others.now) true }
+    ensures { result ≡ option_map_or (λ c. int_le c.time now.now) (last_or (Some first.now)
+        others.now) true }
 {
     match others.split_first() {
         None => first.time <= *now,
@@ -85,7 +86,8 @@ fn begin(
     now: &i64,
     led: &i64,
 ) -> Result<(), RowFault>
-    ensures { OnOk result (sessions.new.heartbeats ≡ heartbeats.begin unfenced.now stopping.now now.now led.now) }
+    ensures { OnOk result (sessions.new.heartbeats ≡ heartbeats.begin unfenced.now stopping.now
+        now.now led.now) }
 {
     if !is_distinct(unfenced.as_slice()) || !is_distinct(stopping.as_slice()) {
         return Err(RowFault::Fields);
@@ -99,7 +101,8 @@ fn begin(
 
 #[tactic(auto, using(crate::proofs::ContactRoom::spare))]
 fn beat(sessions: &mut Sessions, broker: &i32, now: &i64, offset: &i64) -> Result<(), RowFault>
-    ensures { OnOk result (sessions.new.heartbeats ≡ heartbeats.beat sessions.old.heartbeats broker.now now.now offset.now) }
+    ensures { OnOk result (sessions.new.heartbeats ≡ heartbeats.beat sessions.old.heartbeats
+        broker.now now.now offset.now) }
 {
     sessions.reserve()?;
     let contacts = sessions.contacts()?;
@@ -111,7 +114,8 @@ fn beat(sessions: &mut Sessions, broker: &i32, now: &i64, offset: &i64) -> Resul
 }
 
 fn stop(sessions: &mut Sessions, broker: &i32, tip: &i64) -> Result<(), RowFault>
-    ensures { OnOk result (sessions.new.heartbeats ≡ heartbeats.stop sessions.old.heartbeats broker.now tip.now) }
+    ensures { OnOk result (sessions.new.heartbeats ≡ heartbeats.stop sessions.old.heartbeats
+        broker.now tip.now) }
 {
     sessions.reserve()?;
     let contacts = sessions.contacts()?;
@@ -124,7 +128,8 @@ fn stop(sessions: &mut Sessions, broker: &i32, tip: &i64) -> Result<(), RowFault
 }
 
 fn operate(sessions: &mut Sessions, operation: &Operation) -> Result<(), RowFault>
-    ensures { OnOk result (sessions.new.heartbeats ≡ words.heartbeats_with sessions.old.heartbeats operation.now) }
+    ensures { OnOk result (sessions.new.heartbeats ≡ words.heartbeats_with
+        sessions.old.heartbeats operation.now) }
 {
     match operation {
         Operation::Begin {
@@ -220,7 +225,8 @@ fn stops_text(alloc: Global, stopping: &[Stopping]) -> Result<String, AllocError
 }
 
 fn sessions_text(alloc: Global, sessions: &Sessions) -> Result<String, RowFault>
-    ensures { IfOk result (λ text. string_bytes text ≡ words.heartbeat_words sessions.now.heartbeats) }
+    ensures { IfOk result (λ text. string_bytes text ≡ words.heartbeat_words
+        sessions.now.heartbeats) }
 {
     let contacts = sessions.contacts()?;
     let contacts = contacts_text(alloc, contacts.as_slice())?;
@@ -231,7 +237,8 @@ fn sessions_text(alloc: Global, sessions: &Sessions) -> Result<String, RowFault>
 
 /// The contacts and the stopping brokers after these operations, in words.
 pub fn heartbeats_answer(alloc: Global, operations: &[Operation]) -> Result<String, RowFault>
-    ensures { IfOk result (λ text. string_bytes text ≡ words.heartbeat_words (fold words.heartbeats_with heartbeats.end operations.now)) }
+    ensures { IfOk result (λ text. string_bytes text ≡ words.heartbeat_words (fold
+        words.heartbeats_with heartbeats.end operations.now)) }
 {
     let mut sessions = Sessions::new(alloc);
     for operation in operations {

@@ -26,8 +26,11 @@ pub fn place_answer(
     requires start { pos 0 ≤ℤ start }
     requires index { pos 0 ≤ℤ index }
     requires factor { pos 1 ≤ℤ factor }
-    ensures placed { unsigned_abs factor ≤ length brokers.now → IfOk result (λ text. string_bytes text ≡ plain.ids_words (placed brokers.now (unsigned_abs start + unsigned_abs index) (unsigned_abs factor))) }
-    ensures too_few { length brokers.now < unsigned_abs factor → IfOk result (λ text. string_bytes text ≡ words.too_few_words (length brokers.now) factor) }
+    ensures placed { unsigned_abs factor ≤ length brokers.now → IfOk result (λ text. string_bytes
+        text ≡ plain.ids_words (placed brokers.now (unsigned_abs start + unsigned_abs index)
+        (unsigned_abs factor))) }
+    ensures too_few { length brokers.now < unsigned_abs factor → IfOk result (λ text.
+        string_bytes text ≡ words.too_few_words (length brokers.now) factor) }
 {
     match place(alloc, brokers, start, index, factor) {
         Ok(ids) => ids_text(alloc, ids.as_slice()),
