@@ -1,6 +1,7 @@
 -- What the steps of serving come to, one after the other.
 use Rattle.std.proofs.Common.{◌≡◌, ◌∙◌, sym, subst, ap, ℕ, ℤ, ◌+◌, ◌≤◌, Bool, false, List, [], ◌++◌, arith}
-use Rattle.std.specs.Prelude.{Option, Some, None, is_some, not, ◌&&◌}
+use Rattle.std.specs.Prelude.{Option, Some, None, is_some, not, ◌&&◌, Result, Ok, Err, IsOk, OnOk}
+use Rattle.std.specs.Result.{is_err}
 use Rattle.kr_calls.specs.declared.events.Event.{Event}
 use Rattle.kr_calls.specs.declared.events.Event.TheVariants as events
 use Rattle.kr_view.specs.Shelves.{Shelf}
@@ -20,6 +21,14 @@ use Rattle.kr_shared.specs.Works.{KeepsShown}
 use Rattle.kr_shared.proofs.Losing.{loses_led, lost_for}
 use Rattle.kr_shared.proofs.Serving.{at_rest, bare_then, serves_so, sound_then, stands_so}
 use Rattle.kr_shared.proofs.Settling.{list_of, options_of}
+
+pub when_ok : {T E P : Type 0} (r : Result T E) → OnOk r P → IsOk r → P
+when_ok (Ok x) h k = h
+when_ok (Err e) h k = absurd cc
+
+pub when_no_err : {T E P : Type 0} (r : Result T E) → OnOk r P → is_err r ≡ false → P
+when_no_err (Ok x) h k = h
+when_no_err (Err e) h k = absurd cc
 
 pub kept_sound : (k : Kept) → StandsFor k → IsSound k.engine × (outputs_left k.engine ≡ [])
 kept_sound k s = sound_then (settled k) s.stands

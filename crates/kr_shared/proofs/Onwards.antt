@@ -9,7 +9,7 @@ use Rattle.kr_view.specs.Shelves.{Shelf, with_staged}
 use Rattle.kr_view.specs.Staged.{is_logged}
 use Rattle.kr_shared.specs.Works.{KeepsShown, Onwards}
 
-goes_on : (x y z : List Entry) → GoesOn y x → GoesOn z y → GoesOn z x
+pub goes_on : (x y z : List Entry) → GoesOn y x → GoesOn z y → GoesOn z x
 goes_on x y z g h = (g.0 ++ h.0, h.1 ∙ (ap (λ l. l ++ h.0) g.1 ∙ append_assoc x g.0 h.0))
 
 pub onward_refl : (v : ThreadView) → Onward v v

@@ -39,7 +39,7 @@ module _ (options : Options) (k : Kept) (shelf : Shelf) (e : Core) (o : IsOpened
   abbrev at : DeskView
   at = record { shelf = resting options [] []; engine = e; waiting = [] }
 
-  kept_shelf : k.shelf ≡ resting options [] []
+  pub kept_shelf : k.shelf ≡ resting options [] []
   kept_shelf = o.shelf_is ∙ shelf_is
 
   all_ready : ready k ≡ resting options [] []

@@ -1,6 +1,6 @@
 -- Behind a job the worker stands for a state again.
 use Rattle.std.proofs.Common.{◌≡◌, sym, subst, ℕ, ℤ, Bool, true, false, List, refl, ap, ◌∙◌, ◌⊎◌, inl, inr}
-use Rattle.std.specs.Prelude.{Option, Some, None, IsTrue, int_lt}
+use Rattle.std.specs.Prelude.{Option, Some, None, IsTrue, int_lt, Result, Ok, Err, OnErr}
 use Rattle.kr_base.specs.Causes.{Rose}
 use Rattle.kr_calls.specs.declared.answers.AnswerKind.TheVariants as kinds
 use Rattle.kr_calls.specs.declared.calls.Ask.TheVariants as asks
@@ -24,13 +24,15 @@ use Rattle.kr_world.specs.Outputs.{waiting_after}
 use Rattle.kr_shared.specs.declared.answers.Asking.{Asking}
 use Rattle.kr_shared.specs.declared.desk.Caller.{Caller}
 use Rattle.kr_shared.specs.declared.worker.Turn.{Turn}
+use Rattle.kr_shared.specs.Desks.{ComesToSame, Kept, settled}
 use Rattle.kr_shared.specs.Serves.{ServesEvent}
 use Rattle.kr_shared.specs.Standing.{StandsForSome}
 use Rattle.kr_shared.specs.Tasks.{basis_at}
 use Rattle.kr_shared.specs.Answers.{bare_answer}
 use Rattle.kr_shared.specs.Turns.{events_with, Bench, DoesJob, DoesRequest, DoesWhole, DoesWrite, IsAsBefore, IsDone, IsDoneLate, IsDoneWhole, IsLate, IsPutOff, IsQuiet, LosesLed, LosesUnless, Notes, NotesUnlessAhead, Outside, StaysLate, TakesUp, Turned, Works, WorksWhole, caught_up, turn_of}
-use Rattle.kr_shared.specs.Works.{DeskView}
+use Rattle.kr_shared.specs.Works.{DeskView, Onwards}
 use Rattle.kr_shared.proofs.Onwards.{goes_on}
+use Rattle.kr_shared.proofs.Settling.{due_behind}
 
 same_stands : (old new : DeskView) → new ≡ old → StandsForSome old → StandsForSome new
 same_stands old new is k = subst StandsForSome (sym is) k
@@ -174,6 +176,18 @@ module _ (o : Outside) (old mid taken new : Bench) (job : Job) (mid_is : mid ≡
       due = d.goes.due;
     };
   }
+
+-- whatever was answered
+pub whatever : {T E P : Type 0} (r : Result T E) → P → OnErr r P
+whatever (Ok x) p = tt
+whatever (Err e) p = p
+
+-- what is due stays due
+pub stays_late : (old : Bench) (k later : Kept) → old.work ≡ settled k → old.shown ≡ k.shelf.list → ComesToSame k later → Onwards k.shelf later.shelf → StaysLate old (record old { work = settled later; shown = later.shelf.list })
+stays_late old k later work shown same onwards = record {
+  same = ap (λ (w : DeskView). record old { work = w; shown = later.shelf.list }) (same.same ∙ sym work);
+  goes = record { onwards = subst (GoesOn later.shelf.list) (sym shown) onwards.list; due = due_behind later };
+}
 
 -- nothing was taken up
 pub still_late : (o : Outside) (old mid new : Bench) → mid ≡ record old { refusal = None } → IsQuiet o → StaysLate mid new → IsLate o old new

@@ -317,16 +317,16 @@ module _ (old : DeskView) (between : Core) (client : ℕ) (now : ℤ) (call : Ca
 
   module _ (after : State) (is : outcome o s1 event ≡ Ok after) where
     made_taken : decided ≡ true → Made true
-    made_taken yes =
+    made_taken leads =
         subst (λ (r : Option Reason). made true (Some a) event old.waiting told ≡ answer_write a call led r old.waiting told) (sym (no_why after is))
-        (subst (λ b. made true (Some a) event old.waiting told ≡ answer_write a call b None old.waiting told) (sym (led_is ∙ yes))
+        (subst (λ b. made true (Some a) event old.waiting told ≡ answer_write a call b None old.waiting told) (sym (led_is ∙ leads))
         (none_besides (answer_all (answering (old.waiting ++ asked_by a call ∷ []) []) told)))
 
     made_at_once : decided ≡ false → Made false
-    made_at_once no =
+    made_at_once standby =
         subst (λ (r : Option Reason). with_more (answer_all (answering (old.waiting ++ []) []) told) (aside_noted (Some (aside_of a call)) r (first_reply told)) ≡ answer_write a call led r old.waiting told) (sym (no_why after is))
-        (subst (λ b. with_more (answer_all (answering (old.waiting ++ []) []) told) (aside_noted (Some (aside_of a call)) None (first_reply told)) ≡ answer_write a call b None old.waiting told) (sym (led_is ∙ no))
-        (ap (λ (r : Answering). with_more r (lost_at_once (asked_by a call) a.place (first_reply told))) (none_more ∙ none_answered after is no (answering old.waiting []))))
+        (subst (λ b. with_more (answer_all (answering (old.waiting ++ []) []) told) (aside_noted (Some (aside_of a call)) None (first_reply told)) ≡ answer_write a call b None old.waiting told) (sym (led_is ∙ standby))
+        (ap (λ (r : Answering). with_more r (lost_at_once (asked_by a call) a.place (first_reply told))) (none_more ∙ none_answered after is standby (answering old.waiting []))))
 
   pub made_so : made (takes_writes old.engine) (Some a) event old.waiting told ≡ answer
   made_so =
