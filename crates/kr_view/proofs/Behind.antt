@@ -1,5 +1,5 @@
 -- What stands behind a key of an image: in walking order, and in the order of its records.
-use Rattle.std.proofs.Common.{◌≡◌, ◌∙◌, ℕ, ℤ, pos, negsuc, Bool, true, false, cond, ◌&&◌, List, [], ◌∷◌, ◌++◌, filter, map, take, refl, sym, ap, append_assoc}
+use Rattle.std.proofs.Common.{◌≡◌, ◌∙◌, ℕ, ℤ, negsuc, Bool, true, false, cond, ◌&&◌, List, [], ◌∷◌, ◌++◌, filter, map, take, refl, sym, ap, append_assoc}
 use Rattle.std.specs.Prelude.{Option, Some, None, flat_map, ◌==◌, IsTrue}
 use Rattle.std.specs.declared.cmp.Ordering.{Ordering}
 use Rattle.std.specs.declared.cmp.Ordering.TheVariants.{Less, Equal, Greater}
@@ -12,16 +12,14 @@ use Rattle.std.proofs.lemmas.List.{map-append}
 use Rattle.std.proofs.lemmas.List.Elements.{filter-append, recursion_from_All}
 use Rattle.std.proofs.lemmas.Map.Lookups.{exact_bytes}
 use Rattle.std.specs.Cmp.{nat_cmp_is}
-use Rattle.kr_defs.specs.declared.broker.Broker.{Broker}
 use Rattle.kr_defs.specs.declared.partition.Partition.{Partition}
-use Rattle.kr_defs.specs.declared.record.ConfigKey.{ConfigKey}
 use Rattle.kr_defs.specs.declared.record.Record.{Record}
 use Rattle.kr_defs.specs.declared.record.Record.TheVariants as kinds
 use Rattle.kr_defs.specs.Image.{Image, IsValid, is_index}
-use Rattle.kr_defs.specs.ImageOrder.{Rank, named, rank_order}
+use Rattle.kr_defs.specs.ImageOrder.{named, rank_order}
 use Rattle.kr_defs.specs.Map.{IsMap, above, config_order, get, partition_order, text_order}
 use Rattle.kr_defs.specs.Records.{partition_record}
-use Rattle.kr_defs.specs.Walk.{Walked, of_topic, walk, walk_topic, walked}
+use Rattle.kr_defs.specs.Walk.{of_topic, walk, walk_topic, walked}
 use Rattle.kr_defs.proofs.ImageParts.{text_total}
 use Rattle.kr_defs.proofs.Maps.{below_all}
 use Rattle.kr_defs.proofs.TopicWalks.{group_begin, same_topic}
@@ -32,9 +30,11 @@ use Rattle.kr_view.specs.declared.record_key.RecordKey.TheVariants as keys
 use Rattle.kr_view.specs.declared.scans.PageRow.{PageRow}
 use Rattle.kr_view.specs.declared.scans.ScanKey.{ScanKey}
 use Rattle.kr_view.specs.Listings.{listed, listed_behind, rest_of_topic}
-use Rattle.kr_view.specs.RecordPages.{is_record_behind, keyed_broker, keyed_feature, keyed_partition, keyed_records, keyed_setting, keyed_topic, rank_of_key, record_key_order, setting_key}
+use Rattle.kr_view.specs.RecordPages.{is_record_behind, keyed_broker, keyed_feature, keyed_partition, keyed_records, keyed_setting, keyed_topic, rank_of_key, record_page, setting_key}
+use Rattle.kr_view.specs.PageRows.{rows_behind}
+use Rattle.kr_view.specs.RecordSections as sections
 use Rattle.kr_view.specs.RecordSections.{behind_key, behind_partition, from_brokers, from_features, from_settings, from_topics, record_of_broker, record_of_feature, record_of_setting, record_of_topic}
-use Rattle.kr_view.specs.Scans.{is_row_behind, no_heads, page_row, scan_order}
+use Rattle.kr_view.specs.Scans.{is_row_behind, no_heads, page_of, page_row}
 
 -- ---- filters
 
@@ -253,7 +253,7 @@ module _ (image : Image) where
       ++ (ap records (all_behind keyed_broker key image.brokers (λ e. refl)) ∙ brokers_are) i)
       ++ (ap records (topics_pass (behind key) true (λ n r. refl) (λ n x r. refl) image.topics) ∙ topics_are) i)
       ++ (ap records (all_behind keyed_setting key image.configs (λ e. refl)) ∙ settings_are) i)
-      ∙ grouped _ _ _ _
+      ∙ grouped (map record_of_feature (above text_order image.features (Some name))) (map record_of_broker image.brokers) (flat_map (listed record_of_topic partition_record ps) image.topics) (map record_of_setting image.configs)
 
   behind_broker : (id : ℤ) → records (filter (behind (keys.Broker id)) (keyed_records image)) ≡ from_brokers image (Some id)
   behind_broker id =
@@ -284,13 +284,13 @@ module _ (image : Image) where
     in_topic : (r : Ordering) (name : List ℕ) (b : Bool) → text_order t name ≡ r → ((z : ℤ) → is_lt (ordering_then r (option_cmp int_cmp number (Some z))) ≡ b) → (es : List ((ℕ × ℤ) × Partition)) → AllByRecursion (λ x. behind key x ≡ b) (map keyed_partition (map (walked name) es))
     in_topic r name b is all [] = tt
     in_topic r name b is all (x ∷ es) =
-        (of_rank name (Some x.0.1) (keys.Partition name x.0.1) _ refl ∙ ap (λ y. is_lt (ordering_then y (option_cmp int_cmp number (Some x.0.1)))) is ∙ all x.0.1, in_topic r name b is all es)
+        (of_rank name (Some x.0.1) (keys.Partition name x.0.1) (kinds.Partition x.0.1 x.0.0 x.1) refl ∙ ap (λ y. is_lt (ordering_then y (option_cmp int_cmp number (Some x.0.1)))) is ∙ all x.0.1, in_topic r name b is all es)
 
     by_name : (r : Ordering) (e : List ℕ × ℕ) (b : Bool) → text_order t e.0 ≡ r → ((z : Option ℤ) → is_lt (ordering_then r (option_cmp int_cmp number z)) ≡ b) → AllByRecursion (λ x. behind key x ≡ b) (keyed_topic ps e)
     by_name r e b is all =
-        (of_rank e.0 None (keys.Topic e.0) _ refl ∙ ap (λ y. is_lt (ordering_then y (option_cmp int_cmp number None))) is ∙ all None, in_topic r e.0 b is (λ z. all (Some z)) (of_topic e.1 ps))
+        (of_rank e.0 None (keys.Topic e.0) (kinds.Topic e.0 e.1) refl ∙ ap (λ y. is_lt (ordering_then y (option_cmp int_cmp number None))) is ∙ all None, in_topic r e.0 b is (λ z. all (Some z)) (of_topic e.1 ps))
 
-    part_keyed : ℤ → ℕ → List (RecordKey × Record)
+    abbrev part_keyed : ℤ → ℕ → List (RecordKey × Record)
     part_keyed index id = map keyed_partition (map (walked t) (of_topic id (above partition_order ps (Some (id, index)))))
 
     parts_are : (index : ℤ) (o : Option ℕ) → records (option_map_or (part_keyed index) o []) ≡ option_map_or (rest_of_topic record_of_topic partition_record image t index) o []
@@ -370,4 +370,20 @@ module _ (image : Image) where
       ∙ map-append snd ((a ++ b) ++ c) d
       ∙ ap (λ rs. rs ++ records d) (map-append snd (a ++ b) c ∙ ap (λ rs. rs ++ records c) (map-append snd a b))
       ∙ (λ i. ((features_are i ++ brokers_are i) ++ topics_are i) ++ settings_are i)
-      ∙ grouped _ _ _ _
+      ∙ grouped (map record_of_feature image.features) (map record_of_broker image.brokers) (flat_map (listed record_of_topic partition_record ps) image.topics) (map record_of_setting image.configs)
+
+-- ---- the first of them
+
+rows_are : (image : Image) (after : Option ScanKey) → IsValid image → filter (is_row_behind after) (map page_row (walk image)) ≡ rows_behind image after
+rows_are image None valid = page_first image
+rows_are image (Some key) valid = page_behind image key valid
+
+pub rows_first : (image : Image) (most : ℕ) (after : Option ScanKey) (none rows : List PageRow) → IsValid image → none ≡ [] → rows ≡ take most (none ++ rows_behind image after) → rows ≡ page_of image after most
+rows_first image most after none rows valid is new = new ∙ ap (λ (rs : List PageRow). take most (rs ++ rows_behind image after)) is ∙ ap (take most) (sym (rows_are image after valid))
+
+all_records : (image : Image) (after : Option RecordKey) → IsValid image → records (filter (is_record_behind after) (keyed_records image)) ≡ sections.records_behind image after
+all_records image None valid = records_first image
+all_records image (Some key) valid = records_behind image valid key
+
+pub record_page_is : (image : Image) (most : ℕ) (after : Option RecordKey) (none rs : List Record) → IsValid image → none ≡ [] → rs ≡ take most (none ++ sections.records_behind image after) → rs ≡ record_page image after most
+record_page_is image most after none rs valid is new = new ∙ ap (λ (xs : List Record). take most (xs ++ sections.records_behind image after)) is ∙ ap (take most) (sym (all_records image after valid))

@@ -1,5 +1,5 @@
 -- Rows are added up to a number of them.
-use Rattle.std.proofs.Common.{◌≡◌, ◌∙◌, ◌≤◌, ◌+◌, ℕ, zero, suc, Bool, true, false, List, [], ◌∷◌, ◌++◌, length, take, refl, sym, ap, subst, append_assoc, length-append, arith, map, min}
+use Rattle.std.proofs.Common.{◌≡◌, ◌∙◌, ◌≤◌, ◌+◌, ℕ, zero, suc, true, false, List, [], ◌∷◌, ◌++◌, length, take, refl, sym, ap, subst, append_assoc, length-append, arith, map}
 use Rattle.std.specs.Prelude.{Option, Some, None, nat_le}
 use Rattle.std.specs.declared.cmp.Ordering.{Ordering}
 use Rattle.std.specs.Cmp.{IsTotalOrder}
@@ -7,6 +7,12 @@ use Rattle.std.proofs.lemmas.Bool.Decides.{nat_tests}
 use Rattle.std.proofs.lemmas.List.{append-nil, length-take}
 use Rattle.kr_defs.specs.Map.{IsMap, above, next}
 use Rattle.kr_defs.proofs.Walks.{walk_end, walk_next}
+
+fits : (n most : ℕ) → nat_le most n ≡ false → n + 1 ≤ most
+fits n most h = grind (arith, nat_tests)
+
+fills : (n most : ℕ) → n ≤ most → nat_le most n ≡ true → most ≡ n
+fills n most le h = grind (arith, nat_tests)
 
 module _ {Y : Type 0} where
   pub take_more : (n : ℕ) (xs ys : List Y) → take n (take n xs ++ ys) ≡ take n (xs ++ ys)
@@ -25,6 +31,11 @@ module _ {Y : Type 0} where
   take_whole zero (x ∷ xs) le = absurd (omega (arith, le))
   take_whole (suc n) (x ∷ xs) le = ap (λ zs. x ∷ zs) (take_whole n xs (omega (arith, le)))
 
+  -- what comes behind others
+  pub behind_others : (most : ℕ) (old mid new xs ys : List Y) → mid ≡ take most (old ++ xs) → new ≡ take most (mid ++ ys) → new ≡ take most (old ++ (xs ++ ys))
+  behind_others most old mid new xs ys first second =
+      second ∙ ap (λ (zs : List Y). take most (zs ++ ys)) first ∙ take_more most (old ++ xs) ys ∙ ap (take most) (append_assoc old xs ys)
+
   take_few : (n : ℕ) (xs : List Y) → length (take n xs) ≤ n
   take_few n xs = let m = length-take n xs in omega (arith, m)
 
@@ -35,12 +46,6 @@ module _ {Y : Type 0} where
 
   pub filling : (most : ℕ) (old all : List Y) → length old ≤ most → IsFilling most old all old all
   filling most old all few = record { few = few; same = refl }
-
-  fits : (n most : ℕ) → nat_le most n ≡ false → n + 1 ≤ most
-  fits n most h = grind (arith, nat_tests)
-
-  fills : (n most : ℕ) → n ≤ most → nat_le most n ≡ true → most ≡ n
-  fills n most le h = grind (arith, nat_tests)
 
   module _ (most : ℕ) (old all rows left : List Y) (f : IsFilling most old all rows left) where
     pub one_more : (new rest : List Y) (x : Y) → new ≡ rows ++ x ∷ [] → left ≡ x ∷ rest → nat_le most (length rows) ≡ false → IsFilling most old all new rest
@@ -68,10 +73,26 @@ module _ {Y : Type 0} where
     pub no_room : nat_le most (length rows) ≡ true → rows ≡ take most (old ++ all)
     no_room full = sym (take_those most rows left (fills (length rows) most f.few full)) ∙ f.same
 
-  -- what comes behind others
-  pub behind_others : (most : ℕ) (old mid new xs ys : List Y) → mid ≡ take most (old ++ xs) → new ≡ take most (mid ++ ys) → new ≡ take most (old ++ (xs ++ ys))
-  behind_others most old mid new xs ys first second =
-      second ∙ ap (λ (zs : List Y). take most (zs ++ ys)) first ∙ take_more most (old ++ xs) ys ∙ ap (take most) (append_assoc old xs ys)
+    -- and of others behind all
+    pub no_room_behind : (more : List Y) → nat_le most (length rows) ≡ true → rows ≡ take most (old ++ (all ++ more))
+    no_room_behind more full = behind_others most old rows rows all more (no_room full) (sym (take_those most rows more (fills (length rows) most f.few full)))
+
+    pub all_and_more : (new more : List Y) → left ≡ [] → new ≡ take most (rows ++ more) → new ≡ take most (old ++ (all ++ more))
+    all_and_more new more none is = behind_others most old rows new all more (none_left none) is
+
+  -- ---- at most one row more
+
+  pub no_room_for : (most : ℕ) (old xs : List Y) → length old ≤ most → nat_le most (length old) ≡ true → old ≡ take most (old ++ xs)
+  no_room_for most old xs few full = sym (take_those most old xs (fills (length old) most few full))
+
+  pub none_added : (most : ℕ) (old xs : List Y) → length old ≤ most → xs ≡ [] → old ≡ take most (old ++ xs)
+  none_added most old xs few none = sym (take_whole most old few) ∙ ap (take most) (sym (append-nil old) ∙ ap (λ (ys : List Y). old ++ ys) (sym none))
+
+  pub one_added : (most : ℕ) (old new xs : List Y) (x : Y) → nat_le most (length old) ≡ false → xs ≡ x ∷ [] → new ≡ old ++ x ∷ [] → new ≡ take most (old ++ xs)
+  one_added most old new xs x free one is =
+      let long = length-append old (x ∷ []) in
+      let room = fits (length old) most free in
+      is ∙ sym (take_whole most (old ++ x ∷ []) (omega (arith, long, room))) ∙ ap (λ (ys : List Y). take most (old ++ ys)) (sym one)
 
   pub few_taken : (most : ℕ) (xs new : List Y) → new ≡ take most xs → length new ≤ most
   few_taken most xs new is = subst (λ (ys : List Y). length ys ≤ most) (sym is) (take_few most xs)
@@ -85,4 +106,4 @@ module _ {K V Y : Type 0} {R : K → K → Ordering} (o : IsTotalOrder R) (f : K
   pub entries_over : None ≡ next R es after → map f (above R es after) ≡ []
   entries_over none = ap (map f) (walk_end (above R es after) (sym none))
 
-pub ruleset fillings = (filling)
+pub ruleset fillings = (filling, few_taken)

@@ -4,8 +4,11 @@ pub mod Shows
 pub mod Finds
 pub mod Kept
 pub mod PinnedPlaces
+pub mod Loaded
 pub mod Behind
 pub mod Filling
+pub mod Listed
+pub mod Misses
 pub mod Runs
 pub mod Replied
 pub mod Logged

@@ -1,6 +1,6 @@
 -- The pinned places of a store, and their images.
 use Rattle.std.proofs.Common.{◌≡◌, ◌∙◌, ℤ, Bool, true, false, true≢false, cond, ◌||◌, not, ◌&&◌, List, [], ◌∷◌, ◌++◌, fold, filter, find, map, refl, sym, ap, subst}
-use Rattle.std.specs.Prelude.{Option, Some, None, IsSome, IsTrue, is_some, unwrap_or, Result, Ok, Err, MatchResult}
+use Rattle.std.specs.Prelude.{Option, Some, None, IsSome, IsTrue, unwrap_or, Result, Ok, Err, MatchResult}
 use Rattle.std.specs.List.{AllByRecursion, list_any}
 use Rattle.std.specs.Option.{option_map}
 use Rattle.std.specs.Ordering.{int_eq}
@@ -99,7 +99,7 @@ is_there store (Some image) is = (image, refl)
 found_pin : (store : Images) (pins : List Pin) (place : ℤ) → AllByRecursion (λ pin. IsSome (kept_at store pin.place)) pins → list_any (λ pin. int_eq pin.place place) pins ≡ true → HasPinned store pins place
 found_pin store [] place there any = absurd (true≢false (sym any))
 found_pin store (pin ∷ pins) place there any =
-    let found = λ b. option_map (λ (p : Pin × Image). p.1) (cond b (Some (pin_image store pin)) (find (λ (p : Pin × Image). int_eq p.0.place place) (map (pin_image store) pins))) in
+    let found = λ (b : Bool). option_map (λ (p : Pin × Image). p.1) (cond b (Some (pin_image store pin)) (find (λ (p : Pin × Image). int_eq p.0.place place) (map (pin_image store) pins))) in
     elim (int_eq pin.place place) as (λ b. int_eq pin.place place ≡ b → (b || list_any (λ pin. int_eq pin.place place) pins) ≡ true → HasPinned store (pin ∷ pins) place) [
       | true ↦ λ is h.
           let here = is_there store (kept_at store pin.place) there.0 in
@@ -140,17 +140,17 @@ image_is list place image found =
     ] refl found
 
 -- what was found by what is kept is what the entries say
-pub answered : {A : Type 0} (list : List Entry) (log : PinnedLog) (place : ℤ) (seen : A → Image) (result : Result A ScanFault) → log ≡ pinned_log list
-    → MatchResult result (λ a. kept_image_at log place ≡ Some (seen a)) (IsNotThere log place) → AnswersAt list place (λ image a. seen a ≡ image) result
-answered list log place seen (Ok a) is found = image_is list place (seen a) (subst (λ (l : PinnedLog). kept_image_at l place ≡ Some (seen a)) is found)
-answered list log place seen (Err fault) is found = subst (λ (l : PinnedLog). IsNotThere l place fault) is found
+pub answered : {A : Type 0} (list : List Entry) (held : PinnedLog) (place : ℤ) (seen : A → Image) (result : Result A ScanFault) → held ≡ pinned_log list
+    → MatchResult result (λ a. kept_image_at held place ≡ Some (seen a)) (IsNotThere held place) → AnswersAt list place (λ image a. seen a ≡ image) result
+answered list held place seen (Ok a) is found = image_is list place (seen a) (subst (λ (l : PinnedLog). kept_image_at l place ≡ Some (seen a)) is found)
+answered list held place seen (Err fault) is found = subst (λ (l : PinnedLog). IsNotThere l place fault) is found
 
 -- ---- the end
 
-pub log_end : (log : PinnedLog) (list : List Entry) → log ≡ pinned_log list → log.at.end ≡ end_of list
-log_end log list is = ap (λ (l : PinnedLog). l.at.end) is ∙ ap (λ (r : Reached). r.end) (same_at nothing_pinned list)
+pub log_end : (held : PinnedLog) (list : List Entry) → held ≡ pinned_log list → held.at.end ≡ end_of list
+log_end held list is = ap (λ (l : PinnedLog). l.at.end) is ∙ ap (λ (r : Reached). r.end) (same_at nothing_pinned list)
 
-pub log_image : (log : PinnedLog) (list : List Entry) → log ≡ pinned_log list → log.at.image ≡ image_of list
-log_image log list is = ap (λ (l : PinnedLog). l.at.image) is ∙ ap (λ (r : Reached). r.image) (same_at nothing_pinned list)
+pub log_image : (held : PinnedLog) (list : List Entry) → held ≡ pinned_log list → held.at.image ≡ image_of list
+log_image held list is = ap (λ (l : PinnedLog). l.at.image) is ∙ ap (λ (r : Reached). r.image) (same_at nothing_pinned list)
 
 pub ruleset ends = (log_end, log_image)

@@ -3,6 +3,7 @@ pub mod Steps
 pub mod Pinned
 pub mod Scans
 pub mod Listings
+pub mod PageRows
 pub mod RecordPages
 pub mod RecordSections
 pub mod Readers

@@ -7,7 +7,7 @@ use Rattle.kr_defs.specs.declared.record.Record.{Record}
 use Rattle.kr_defs.specs.declared.record.Record.TheVariants as kinds
 use Rattle.kr_defs.specs.Image.{Image}
 use Rattle.kr_defs.specs.Map.{above, config_order, text_order}
-use Rattle.kr_defs.specs.Records.{partition_record, topic_records}
+use Rattle.kr_defs.specs.Records.{partition_record}
 use Rattle.kr_view.specs.declared.record_key.RecordKey.{RecordKey}
 use Rattle.kr_view.specs.declared.record_key.RecordKey.TheVariants as keys
 use Rattle.kr_view.specs.Listings.{listed, listed_behind}
@@ -48,3 +48,8 @@ behind_key image (keys.Broker id) = from_brokers image (Some id)
 behind_key image (keys.Topic name) = behind_partition image name (negsuc 0)
 behind_key image (keys.Partition topic index) = behind_partition image topic index
 behind_key image (keys.Setting kind name key) = from_settings image (Some (setting_key kind name key))
+
+-- all where there is no key
+abbrev pub records_behind : Image → Option RecordKey → List Record
+records_behind image None = from_features image None
+records_behind image (Some key) = behind_key image key

@@ -1,5 +1,5 @@
 -- Pages of the partitions of an image, and when there is none. This project's own.
-use Rattle.std.specs.Prelude.{◌≡◌, ℕ, ℤ, Bool, true, false, int_lt, not, IsTrue, List, [], filter, map, take, MatchResult, Option, Some, None}
+use Rattle.std.specs.Prelude.{◌≡◌, ℕ, ℤ, Bool, true, int_lt, not, IsTrue, List, [], filter, map, take, MatchResult, Option, Some, None}
 use Rattle.core.specs.declared.result.Result.{Result}
 use Rattle.std.specs.declared.cmp.Ordering.{Ordering}
 use Rattle.std.specs.Ordering.{int_cmp, is_lt, ordering_then}
@@ -41,6 +41,17 @@ IsNotThere l place (Gone asked oldest) = (asked ≡ place) × (oldest ≡ oldest
 IsNotThere l place (NotKept asked) = (asked ≡ place) × IsTrue (not (int_lt place (oldest_place l))) × IsTrue (not (is_place_kept l place))
 IsNotThere l place NoCopy = Unit {0}
 IsNotThere l place NoMemory = Unit {0}
+
+-- it isn't that there was no copy
+abbrev pub IsOfCopy : ScanFault → Type 0
+IsOfCopy (Gone asked oldest) = Unit {0}
+IsOfCopy (NotKept asked) = Unit {0}
+IsOfCopy NoCopy = ⊥
+IsOfCopy NoMemory = Unit {0}
+
+-- the copy was there
+abbrev pub HasCopy : {A : Type 0} → Result A ScanFault → Type 0
+HasCopy result = MatchResult result (λ _. Unit {0}) IsOfCopy
 
 -- at a kept place the answer is what the image there gives; at another there is none
 abbrev pub AnswersAt : {A : Type 0} → List Entry → ℤ → (Image → A → Type 0) → Result A ScanFault → Type 0

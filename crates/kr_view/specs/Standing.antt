@@ -1,13 +1,14 @@
 -- What a store holds that stands at the end of a list of entries, with pins. This project's own.
-use Rattle.std.specs.Prelude.{◌≡◌, ℤ, negsuc, int_lt, Bool, true, false, Result, Ok, IsErr, IsSome, List, [], ◌∷◌, ◌++◌, fold}
+use Rattle.std.specs.Prelude.{◌≡◌, ℤ, negsuc, int_lt, Bool, true, false, Result, Ok, IsErr, IsSome, Option, Some, None, List, [], ◌∷◌, ◌++◌, fold}
 use Rattle.std.specs.List.{AllByRecursion}
 use Rattle.kr_defs.specs.declared.ill.Ill.{Ill}
+use Rattle.kr_defs.specs.declared.record.Record.{Record}
 use Rattle.kr_defs.specs.Image.{Image}
 use Rattle.kr_calls.specs.declared.events.Entry.{Entry}
 use Rattle.kr_calls.specs.declared.events.Entry.TheVariants as entries
 use Rattle.kr_calls.specs.declared.pins.Pin.{Pin}
-use Rattle.kr_calls.specs.SeatList.{PinnedLog, Reached, with_item}
-use Rattle.kr_store.specs.Images.{Images, kept_at}
+use Rattle.kr_calls.specs.SeatList.{PinnedLog, Reached, with_item, with_load}
+use Rattle.kr_store.specs.Images.{Images, kept_at, kept_once}
 
 -- the image, where all records had a meaning
 abbrev pub StandsIf : Bool → Result Image Ill → Image → Type 0
@@ -34,3 +35,8 @@ pub record IsStandingAt (store : Images) (end : ℤ) (pins : List Pin) : Type 0 
   pub above : AllByRecursion (λ (k : ℤ × Image). int_lt k.0 end ≡ true) earlier
   pub from : int_lt (negsuc 0) end ≡ true
   pub pinned : AllByRecursion (λ pin. IsSome (kept_at store pin.place)) pins
+
+-- the store of an image in place of all at the offset, and none where it doesn't count
+abbrev pub Loads : Reached → ℤ → List Record → Option Images → Type 0
+Loads r offset records None = with_load r offset records ≡ r
+Loads r offset records (Some store) = (with_load r offset records ≡ record { image = store.tip; end = offset }) × (store ≡ kept_once offset store.tip) × (int_lt (negsuc 0) offset ≡ true)

@@ -1,10 +1,10 @@
 //! What topics and their partitions give, in the order of a walk, up to a number of rows.
 
-ghost use Rattle.std.specs.Prelude.{◌≡◌, ◌≤◌, ◌++◌, ℕ, ℤ, List, Some, IfOk, OnOk, flat_map, length, map, nat_le, take};
-ghost use Rattle.std.specs.Option.{option_copied, option_to_list};
-ghost use Rattle.kr_defs.specs.Map.{above, partition_order, text_order};
+ghost use Rattle.std.specs.Prelude.{◌≡◌, ◌≤◌, ◌++◌, [], ℕ, ℤ, List, Some, IfOk, OnOk, flat_map, length, map, nat_le, take};
+ghost use Rattle.std.specs.Option.{option_copied, option_map_or, option_to_list};
+ghost use Rattle.kr_defs.specs.Map.{above, get, partition_order, text_order};
 ghost use Rattle.kr_defs.specs.Walk.{Walked, of_topic, walked};
-ghost use Rattle.kr_view.specs.Listings.{listed, listed_behind};
+ghost use Rattle.kr_view.specs.Listings.{listed, listed_behind, rest_of_topic};
 
 use kr_base::NoMemory;
 use kr_defs::{Partition, Rows, Text};
@@ -75,6 +75,30 @@ fn list_above<Y: Drop, P: Listing<Y>, S: Store>(
     Ok(())
 }
 
+// What a topic gives before its partitions.
+fn list_head<Y: Drop, P: Listing<Y>>(
+    alloc: Global,
+    listing: &P,
+    name: &Text,
+    id: &u128,
+    most: u32,
+    rows: &mut Rows<Y>,
+) -> Result<(), NoMemory>
+    requires { length rows.old ≤ most }
+    ensures { OnOk result (rows.new ≡ take most (rows.old ++ P.heads listing.now (
+      name.now,
+      id.now,
+    ))) }
+{
+    if is_full(rows, most) {
+        return Ok(());
+    }
+    if let Some(head) = listing.head(alloc, name, id)? {
+        rows.push(head)?;
+    }
+    Ok(())
+}
+
 // A topic, and its partitions.
 fn list_topic<Y: Drop, P: Listing<Y>, S: Store>(
     alloc: Global,
@@ -90,12 +114,9 @@ fn list_topic<Y: Drop, P: Listing<Y>, S: Store>(
         listing.now) seen.now.partitions (name.now, id.now))) }
 {
     seen.is_valid();
-    if !is_full(rows, most) {
-        if let Some(head) = listing.head(alloc, name, id)? {
-            rows.push(head)?;
-        }
-    }
-    list_above(alloc, seen, listing, name, before_all(id), most, rows)
+    list_head(alloc, listing, name, id, most, rows)?;
+    list_above(alloc, seen, listing, name, before_all(id), most, rows)?;
+    Ok(())
 }
 
 /// The topics by name, each with its partitions behind it.
@@ -125,6 +146,36 @@ pub(crate) fn list_topics<Y: Drop, P: Listing<Y>, S: Store>(
     Ok(())
 }
 
+// The partitions behind an index of the topic of this name, where there is one.
+fn list_rest<Y: Drop, P: Listing<Y>, S: Store>(
+    alloc: Global,
+    seen: &Seen<S>,
+    listing: &P,
+    name: &Text,
+    index: &i32,
+    most: u32,
+    rows: &mut Rows<Y>,
+) -> Result<(), NoMemory>
+    requires { length rows.old ≤ most }
+    ensures { OnOk result (rows.new ≡ take most (rows.old ++ option_map_or (rest_of_topic (P.heads
+        listing.now) (P.rows listing.now) seen.now name.now index.now) (get text_order
+        seen.now.topics name.now) [])) }
+{
+    let Some(topic) = seen.topic_named(name) else {
+        return Ok(());
+    };
+    list_above(
+        alloc,
+        seen,
+        listing,
+        name,
+        key_of(&topic.id, index),
+        most,
+        rows,
+    )?;
+    Ok(())
+}
+
 /// The partitions behind an index of the topic of this name, and the topics behind it.
 pub(crate) fn list_behind<Y: Drop, P: Listing<Y>, S: Store>(
     alloc: Global,
@@ -139,9 +190,7 @@ pub(crate) fn list_behind<Y: Drop, P: Listing<Y>, S: Store>(
     ensures { OnOk result (rows.new ≡ take most (rows.old ++ listed_behind (P.heads listing.now)
         (P.rows listing.now) seen.now name.now index.now)) }
 {
-    if let Some(topic) = seen.topic_named(name) {
-        let first = key_of(&topic.id, index);
-        list_above(alloc, seen, listing, name, first, most, rows)?;
-    }
-    list_topics(alloc, seen, listing, Some(name), most, rows)
+    list_rest(alloc, seen, listing, name, index, most, rows)?;
+    list_topics(alloc, seen, listing, Some(name), most, rows)?;
+    Ok(())
 }

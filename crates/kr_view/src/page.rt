@@ -1,7 +1,8 @@
 //! Pages of the partitions of an image.
 
-ghost use Rattle.std.specs.Prelude.{◌≡◌, IfOk};
+ghost use Rattle.std.specs.Prelude.{◌≡◌, ◌≤◌, ◌++◌, IfOk, OnOk, length, take};
 ghost use Rattle.std.specs.Option.{option_copied};
+ghost use Rattle.kr_view.specs.PageRows.{rows_behind};
 ghost use Rattle.kr_view.specs.Scans.{no_heads, page_of, page_row};
 
 use crate::listing::{Listing, list_behind, list_topics};
@@ -40,6 +41,26 @@ impl Listing<PageRow> for Partitions {
     }
 }
 
+// The partitions behind the key, or all of them.
+fn add_rows<S: Store>(
+    alloc: Global,
+    seen: &Seen<S>,
+    after: Option<&ScanKey>,
+    most: u32,
+    page: &mut Page,
+) -> Result<(), NoMemory>
+    requires { length page.old ≤ most }
+    ensures { OnOk result (page.new ≡ take most (page.old ++ rows_behind seen.now (option_copied
+        after.entry))) }
+{
+    match after {
+        None => list_topics(alloc, seen, &Partitions, None, most, page),
+        Some(ScanKey { topic, index }) => {
+            list_behind(alloc, seen, &Partitions, topic, index, most, page)
+        }
+    }
+}
+
 /// The first partitions behind the key, in walking order.
 pub(crate) fn page_of<S: Store>(
     alloc: Global,
@@ -51,11 +72,6 @@ pub(crate) fn page_of<S: Store>(
 {
     seen.is_valid();
     let mut page = Page::new(alloc);
-    match after {
-        None => list_topics(alloc, seen, &Partitions, None, most, &mut page)?,
-        Some(ScanKey { topic, index }) => {
-            list_behind(alloc, seen, &Partitions, topic, index, most, &mut page)?
-        }
-    }
+    add_rows(alloc, seen, after, most, &mut page)?;
     Ok(page)
 }

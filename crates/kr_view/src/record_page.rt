@@ -134,7 +134,8 @@ fn add_topics<S: Store>(
     ensures { OnOk result (records.new ≡ take most (records.old ++ sections.from_topics seen.now)) }
 {
     list_topics(alloc, seen, &TopicRecords, None, most, records)?;
-    add_settings(alloc, seen, None, most, records)
+    add_settings(alloc, seen, None, most, records)?;
+    Ok(())
 }
 
 // What stands behind a topic's partition of the index.
@@ -151,7 +152,8 @@ fn add_behind<S: Store>(
         seen.now name.now index.now)) }
 {
     list_behind(alloc, seen, &TopicRecords, name, index, most, records)?;
-    add_settings(alloc, seen, None, most, records)
+    add_settings(alloc, seen, None, most, records)?;
+    Ok(())
 }
 
 // The brokers behind an id, and what stands behind all of them.
@@ -176,7 +178,8 @@ fn add_brokers<S: Store>(
         records.push(broker_record(alloc, id, state)?)?;
         last = Some(id);
     }
-    add_topics(alloc, seen, most, records)
+    add_topics(alloc, seen, most, records)?;
+    Ok(())
 }
 
 // The features behind a name, and what stands behind all of them.
@@ -201,7 +204,8 @@ fn add_features<S: Store>(
         records.push(feature_record(alloc, name, level)?)?;
         last = Some(name);
     }
-    add_brokers(alloc, seen, None, most, records)
+    add_brokers(alloc, seen, None, most, records)?;
+    Ok(())
 }
 
 // What stands behind a key.
@@ -230,6 +234,24 @@ fn add_after<S: Store>(
     }
 }
 
+// The records behind the key, or all of them.
+fn add_records<S: Store>(
+    alloc: Global,
+    seen: &Seen<S>,
+    after: Option<&RecordKey>,
+    most: u32,
+    records: &mut Records,
+) -> Result<(), NoMemory>
+    requires { length records.old ≤ most }
+    ensures { OnOk result (records.new ≡ take most (records.old ++ sections.records_behind
+        seen.now (option_copied after.entry))) }
+{
+    match after {
+        None => add_features(alloc, seen, None, most, records),
+        Some(key) => add_after(alloc, seen, key, most, records),
+    }
+}
+
 /// The first records behind the key.
 pub(crate) fn record_page<S: Store>(
     alloc: Global,
@@ -242,10 +264,7 @@ pub(crate) fn record_page<S: Store>(
 {
     seen.is_valid();
     let mut records = Records::new(alloc);
-    match after {
-        None => add_features(alloc, seen, None, most, &mut records)?,
-        Some(key) => add_after(alloc, seen, key, most, &mut records)?,
-    }
+    add_records(alloc, seen, after, most, &mut records)?;
     Ok(records)
 }
 

@@ -121,6 +121,7 @@ fn read_once(held: Held, call: &Call) -> (Held, Result<Reply, CopyFault>)
     }
 }
 
+#[tactic(auto, using(crate::proofs::Misses::with_copy))]
 fn scan_once(
     held: Held,
     place: &i64,
@@ -142,6 +143,7 @@ fn scan_once(
     }
 }
 
+#[tactic(auto, using(crate::proofs::Misses::with_copy))]
 fn records_once(
     held: Held,
     place: &i64,
@@ -163,6 +165,7 @@ fn records_once(
     }
 }
 
+#[tactic(auto, using(crate::proofs::Misses::with_copy))]
 fn record_once(
     held: Held,
     place: &i64,

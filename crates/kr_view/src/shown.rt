@@ -7,7 +7,7 @@ ghost use Rattle.kr_calls.specs.SeatList.{end_of, image_of, loads_of, loads_with
 ghost use Rattle.kr_view.specs.Looks.{looked};
 ghost use Rattle.kr_view.specs.RecordPages.{IsRecordAt, IsRecordPage};
 ghost use Rattle.kr_view.specs.Runs.{AreNoSingles};
-ghost use Rattle.kr_view.specs.Scans.{AnswersAt, IsPage};
+ghost use Rattle.kr_view.specs.Scans.{AnswersAt, HasCopy, IsPage};
 ghost use Rattle.kr_view.specs.Showing.{showing};
 ghost use Rattle.kr_view.specs.ShownSteps.{with_step};
 ghost use Rattle.kr_view.specs.Steps.{entries_of};
@@ -158,7 +158,8 @@ impl Shown {
 
     // The image at a kept place.
     fn image_at(&self, place: &i64) -> Result<Seen<ImageStore>, ScanFault>
-        ensures { AnswersAt self.now.list place.now (λ image seen. seen ≡ image) result }
+        ensures answer { AnswersAt self.now.list place.now (λ image seen. seen ≡ image) result }
+        ensures copy { HasCopy result }
     {
         self.standing.image_at(place)
     }
@@ -170,8 +171,9 @@ impl Shown {
         after: Option<&ScanKey>,
         max: u32,
     ) -> Result<Page, ScanFault>
-        ensures { AnswersAt self.now.list place.now (IsPage (option_copied after.entry) max)
+        ensures answer { AnswersAt self.now.list place.now (IsPage (option_copied after.entry) max)
             result }
+        ensures copy { HasCopy result }
     {
         let seen = self.image_at(place)?;
         match page_of(self.alloc, &seen, after, max) {
@@ -187,8 +189,9 @@ impl Shown {
         after: Option<&RecordKey>,
         max: u32,
     ) -> Result<Records, ScanFault>
-        ensures { AnswersAt self.now.list place.now (IsRecordPage (option_copied after.entry)
-            max) result }
+        ensures answer { AnswersAt self.now.list place.now (IsRecordPage (option_copied
+            after.entry) max) result }
+        ensures copy { HasCopy result }
     {
         let seen = self.image_at(place)?;
         match record_page(self.alloc, &seen, after, max) {
@@ -199,7 +202,8 @@ impl Shown {
 
     /// The record of a key, at a kept place.
     pub(crate) fn record(&self, place: &i64, key: &RecordKey) -> Result<Option<Record>, ScanFault>
-        ensures { AnswersAt self.now.list place.now (IsRecordAt key.now) result }
+        ensures answer { AnswersAt self.now.list place.now (IsRecordAt key.now) result }
+        ensures copy { HasCopy result }
     {
         let seen = self.image_at(place)?;
         match record_of_key(self.alloc, &seen, key) {

@@ -1,6 +1,6 @@
 //! What a copy keeps of the log: the image at the end of its entries, and those of the pinned places.
 
-ghost use Rattle.std.specs.Prelude.{◌≡◌, ◌<◌, ◌+ℤ◌, [], pos, negsuc, int_lt, Ok, IsTrue, IsErr, IsSome, IfOk, MatchOption, MatchResult, not, true, OnOk, OnErr, Some, fold};
+ghost use Rattle.std.specs.Prelude.{◌≡◌, ◌<◌, ◌+ℤ◌, ◌&&◌, [], pos, negsuc, int_lt, Ok, IsTrue, IsErr, IsSome, IfOk, MatchOption, MatchResult, not, true, OnOk, OnErr, Some, fold};
 ghost use Rattle.kr_defs.specs.declared.limits.TheConstants.{PLACES_END as places_end};
 ghost use Rattle.kr_defs.specs.Image.{empty};
 ghost use Rattle.kr_calls.specs.Deciding.{apply_records};
@@ -9,8 +9,8 @@ ghost use Rattle.kr_store.specs.Images.{kept_once, last_image, last_kept};
 ghost use Rattle.kr_store.specs.declared.places.At.TheVariants as places;
 ghost use Rattle.kr_view.specs.Pinned.{kept_image_at, log_in};
 ghost use Rattle.kr_view.specs.Runs.{AreNoSingles, is_single};
-ghost use Rattle.kr_view.specs.Scans.{IsNotThere};
-ghost use Rattle.kr_view.specs.Standing.{IsStandingAt, StandsIf, run_with, with_run};
+ghost use Rattle.kr_view.specs.Scans.{HasCopy, IsNotThere, IsOfCopy};
+ghost use Rattle.kr_view.specs.Standing.{IsStandingAt, Loads, StandsIf, run_with, with_run};
 ghost use Rattle.kr_view.specs.Steps.{entries_of};
 
 use crate::pins::Pins;
@@ -115,7 +115,7 @@ fn advance<L: Ledger>(
         store.revert_to_last(steps);
         return Ok(next);
     }
-    if store.mark(next).is_err() {
+    if let Err(NoMemory) = store.mark(next) {
         store.revert_to_last(steps);
         return Err(NoMemory);
     }
@@ -148,20 +148,20 @@ fn apply_all<L: Ledger>(
 // A store of the image that the records make, which stands at the offset; none where a record has no meaning.
 fn store_of<L: Ledger>(
     alloc: Global,
-    offset: i64,
+    offset: &i64,
     records: &[Record],
     steps: &mut Steps<L>,
 ) -> Result<Option<ImageStore>, NoMemory>
-    requires { IsTrue (int_lt (negsuc 0) offset) }
-    ensures { IfOk result (λ made. MatchOption made (IsErr (apply_records empty records.now)) (λ s. (apply_records empty records.now ≡ Ok s.tip) × (s ≡ kept_once offset s.tip))) }
+    requires { IsTrue (int_lt (negsuc 0) offset.now) }
+    ensures { IfOk result (λ made. MatchOption made (IsErr (apply_records empty records.now)) (λ s. (apply_records empty records.now ≡ Ok s.tip) × (s ≡ kept_once offset.now s.tip))) }
 {
     let mut store = ImageStore::new(alloc);
     store.mark(-1)?;
     if !apply_all(&mut store, records, steps)? {
         return Ok(None);
     }
-    store.mark(offset)?;
-    store.forget_below(offset, steps);
+    store.mark(*offset)?;
+    store.forget_below(*offset, steps);
     Ok(Some(store))
 }
 
@@ -200,28 +200,57 @@ impl Standing {
         Ok(())
     }
 
+    // An image in place of all counts there.
+    fn may_load(&self, offset: &i64) -> bool
+        ensures value { result ≡ (not (int_lt offset.now self.now.at.end) && int_lt offset.now places_end) }
+        ensures place { int_lt (negsuc 0) self.now.at.end ≡ true }
+    {
+        self.end <= *offset && *offset < PLACES_END
+    }
+
+    // The store of an image in place of all, where it counts.
+    fn store_loaded<L: Ledger>(
+        &self,
+        alloc: Global,
+        offset: &i64,
+        records: &[Record],
+        steps: &mut Steps<L>,
+    ) -> Result<Option<ImageStore>, NoMemory>
+        ensures { IfOk result (Loads self.now.at offset.now records.now) }
+    {
+        if !self.may_load(offset) {
+            return Ok(None);
+        }
+        let made = store_of(alloc, offset, records, steps)?;
+        Ok(made)
+    }
+
     // All pins go, whether the image counts or not.
+    #[tactic(auto, using(crate::proofs::Loaded::loads))]
     fn take_load<L: Ledger>(
         &mut self,
         alloc: Global,
-        offset: i64,
+        offset: &i64,
         records: &[Record],
         steps: &mut Steps<L>,
     ) -> Result<(), NoMemory>
         ensures ok { OnOk result (self.new ≡ record {
-          at = with_load self.old.at offset
+          at = with_load self.old.at offset.now
               records.now;
           pinned = [];
         }) }
         ensures err { OnErr result (self.new ≡ self.old) }
     {
-        if self.end <= offset && offset < PLACES_END {
-            if let Some(store) = store_of(alloc, offset, records, steps)? {
-                self.store = store;
-                self.end = offset;
-            }
-        }
-        self.pins = Pins::new(alloc);
+        let pins = Pins::new(alloc);
+        let Some(store) = self.store_loaded(alloc, offset, records, steps)? else {
+            self.pins = pins;
+            return Ok(());
+        };
+        *self = Standing {
+            store,
+            end: *offset,
+            pins,
+        };
         Ok(())
     }
 
@@ -268,7 +297,7 @@ impl Standing {
         match entry {
             Entry::Load { offset, records } => self.take_load(
                 alloc,
-                *offset,
+                offset,
                 records.as_slice(),
                 steps,
             ),
@@ -340,7 +369,8 @@ impl Standing {
     // Why the place isn't there.
     fn absence(&self, place: &i64) -> ScanFault
         requires { IsTrue (not (is_place_kept self.now place.now)) }
-        ensures { IsNotThere self.now place.now result }
+        ensures there { IsNotThere self.now place.now result }
+        ensures copy { IsOfCopy result }
     {
         let oldest = self.oldest();
         if *place < oldest {
@@ -355,8 +385,9 @@ impl Standing {
 
     /// The image at a kept place.
     pub(crate) fn image_at(&self, place: &i64) -> Result<Seen<ImageStore>, ScanFault>
-        ensures { MatchResult result (λ seen. kept_image_at self.now place.now ≡ Some seen)
+        ensures image { MatchResult result (λ seen. kept_image_at self.now place.now ≡ Some seen)
             (IsNotThere self.now place.now) }
+        ensures copy { HasCopy result }
     {
         if !self.keeps(place) {
             return Err(self.absence(place));
