@@ -8,8 +8,12 @@ mod failed_append;
 #[cfg(test)]
 mod held_worker;
 #[cfg(test)]
+mod image_beside_commits;
+#[cfg(test)]
 mod many_clients;
 #[cfg(test)]
 mod pinned_place;
+#[cfg(test)]
+mod setup;
 #[cfg(test)]
 mod threads;

@@ -1,20 +1,15 @@
 //! A seat's place is kept while it writes, until the seat gives it back.
 
-ghost use Rattle.std.specs.Prelude.{IsTrue, not};
-ghost use Rattle.kr_calls.specs.Decide.{is_read};
-
-use crate::calls::{heartbeat, place_and_error, registration, setting, topic};
+use crate::calls::{setting, topic};
+use crate::setup::{is_at, is_set_up};
 use crate::threads::{Part, Signs, TellingQuorum, serve};
 use kr_base::{NoMemory, OpenGate};
-use kr_calls::Call;
 use kr_defs::{Record, Text};
 use kr_shared::{ClientSeat, MOST_PLACES, PinFault};
 use kr_view::{PageRow, RecordKey, RecordReader, ScanFault};
 use std::alloc::Global;
 use std::sync::Wait;
 use std::test::Fail;
-
-const BROKERS: i32 = 5;
 
 // One client sets up the log, pins a place, and writes.
 #[derive(Drop)]
@@ -26,13 +21,6 @@ impl Part for PinnedPlace {
     fn play<R: Wait>(&self, rt: &R, seat: &mut ClientSeat) -> bool {
         self.is_kept(rt, seat).unwrap_or(false)
     }
-}
-
-// The write stands at the place.
-fn is_at<R: Wait>(rt: &R, seat: &mut ClientSeat, call: &Call, place: i64) -> bool
-    requires { IsTrue (not (is_read call.now.request)) }
-{
-    place_and_error(rt, seat, call) == Some((place, 0))
 }
 
 // The row is of partition 0 of this topic.
@@ -62,20 +50,6 @@ fn count_records(seat: &mut ClientSeat, place: i64) -> Option<usize> {
 }
 
 impl PinnedPlace {
-    // Five active brokers, and the topic `t`. The log ends at 12.
-    fn is_set_up<R: Wait>(&self, rt: &R, seat: &mut ClientSeat) -> Result<bool, NoMemory> {
-        let mut fine = true;
-        for n in 0..BROKERS {
-            let register = registration(self.alloc, n + 1)?;
-            fine = fine && is_at(rt, seat, &register, i64::from(n));
-        }
-        for n in 0..BROKERS {
-            let heard = heartbeat(n + 1, i64::from(n), 4);
-            fine = fine && is_at(rt, seat, &heard, i64::from(n) + 5);
-        }
-        Ok(fine && is_at(rt, seat, &topic(self.alloc, "t")?, 10))
-    }
-
     // The topic is seen at the place, or it isn't.
     fn has_topic(&self, seat: &mut ClientSeat, place: i64, name: &str) -> Result<bool, NoMemory> {
         let name = Text::from_str(self.alloc, name)?;
@@ -86,7 +60,7 @@ impl PinnedPlace {
     }
 
     fn is_kept<R: Wait>(&self, rt: &R, seat: &mut ClientSeat) -> Result<bool, NoMemory> {
-        let pinned = self.is_set_up(rt, seat)? && seat.pin(rt) == Ok(12);
+        let pinned = is_set_up(rt, self.alloc, seat)? && seat.pin(rt) == Ok(12);
         let written = is_at(rt, seat, &topic(self.alloc, "u")?, 12);
         let both = shows(seat, 12, &["t"]) && shows(seat, 14, &["t", "u"]);
         let records = count_records(seat, 12) == Some(7)
