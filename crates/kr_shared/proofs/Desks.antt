@@ -11,9 +11,9 @@ use Rattle.kr_shared.specs.declared.answers.Aside.{Aside}
 use Rattle.kr_shared.specs.declared.answers.Asking.{Asking}
 use Rattle.kr_shared.specs.declared.taking.Given.{Given}
 use Rattle.kr_shared.specs.Answers.{aside_noted}
-use Rattle.kr_shared.specs.Desks.{HasSpare, IsSettled, Kept, StandsFor, aside_by, cut_if, entered_by, settled, takes_writes}
+use Rattle.kr_shared.specs.Desks.{HasSpare, IsCaughtUp, DeskState, DeskStands, aside_by, cut_if, entered_by, settled, takes_writes}
 use Rattle.kr_shared.specs.Gives.{GivesOut}
-use Rattle.kr_shared.specs.Lines.{HasRoom, LineView}
+use Rattle.kr_shared.specs.Lines.{HasLineRoom, LineView}
 use Rattle.kr_shared.specs.Serves.{ServesEvent}
 use Rattle.kr_shared.specs.Tasks.{IsTask}
 use Rattle.kr_shared.specs.Turns.{LosesLed}
@@ -30,13 +30,13 @@ pub when_no_err : {T E P : Type 0} (r : Result T E) → OnOk r P → is_err r �
 when_no_err (Ok x) h k = h
 when_no_err (Err e) h k = absurd cc
 
-pub kept_sound : (k : Kept) → StandsFor k → IsSound k.engine × (outputs_left k.engine ≡ [])
+pub kept_sound : (k : DeskState) → DeskStands k → IsSound k.engine × (outputs_left k.engine ≡ [])
 kept_sound k s = sound_then (settled k) s.stands
 
-pub none_waiting : (k : Kept) → IsSettled k → StandsFor k → k.shelf.waiting ≡ []
+pub none_waiting : (k : DeskState) → IsCaughtUp k → DeskStands k → k.shelf.waiting ≡ []
 none_waiting k rests s = ap (λ (h : Shelf). h.waiting) (at_rest k rests s.stands)
 
-pub spare_room : (a : Option Aside) (l : LineView) → HasSpare a l → HasRoom l
+pub spare_room : (a : Option Aside) (l : LineView) → HasSpare a l → HasLineRoom l
 spare_room None l spare = spare
 spare_room (Some a) l spare = omega (arith, spare)
 
@@ -49,7 +49,7 @@ cut_keeps b s = record { options = options_of b s; list = list_of b s }
 
 -- ---- an event
 
-module _ (w0 w1 w2 w3 w4 w5 w6 : Kept) (lost : Bool)
+module _ (w0 w1 w2 w3 w4 w5 w6 : DeskState) (lost : Bool)
     (one : w1 ≡ record w0 { engine = w1.engine })
     (two : w2 ≡ record w1 { line = w2.line })
     (three : w3 ≡ record w2 { engine = w3.engine; line = w3.line })
@@ -59,19 +59,19 @@ module _ (w0 w1 w2 w3 w4 w5 w6 : Kept) (lost : Bool)
   pub six_steps : w6 ≡ record { shelf = cut_if lost w0.shelf; engine = record w3.engine { fresh = [] }; line = w4.line; unstaged = w3.engine.fresh; cut = w0.cut }
   six_steps =
       six
-      ∙ ap (λ (w : Kept). record w { unstaged = w.engine.fresh; engine = record w.engine { fresh = [] } })
+      ∙ ap (λ (w : DeskState). record w { unstaged = w.engine.fresh; engine = record w.engine { fresh = [] } })
       (five
-      ∙ ap (λ (w : Kept). record w { shelf = cut_if lost w.shelf })
+      ∙ ap (λ (w : DeskState). record w { shelf = cut_if lost w.shelf })
       (four
-      ∙ ap (λ (w : Kept). record w { line = w4.line })
+      ∙ ap (λ (w : DeskState). record w { line = w4.line })
       (three
-      ∙ ap (λ (w : Kept). record w { engine = w3.engine; line = w3.line })
-      (two ∙ ap (λ (w : Kept). record w { line = w2.line }) one))))
+      ∙ ap (λ (w : DeskState). record w { engine = w3.engine; line = w3.line })
+      (two ∙ ap (λ (w : DeskState). record w { line = w2.line }) one))))
 
   pub six_keep : KeepsShown w0.shelf w6.shelf
-  six_keep = subst (λ (w : Kept). KeepsShown w0.shelf w.shelf) (sym six_steps) (cut_keeps lost w0.shelf)
+  six_keep = subst (λ (w : DeskState). KeepsShown w0.shelf w.shelf) (sym six_steps) (cut_keeps lost w0.shelf)
 
-  module _ (rests : IsSettled w0) (sf : StandsFor w0) (event : Event) (asking : Option Asking) (task : IsTask w0.engine event asking) (given : Given) (aside : Option Aside) (led takes : Bool)
+  module _ (rests : IsCaughtUp w0) (sf : DeskStands w0) (event : Event) (asking : Option Asking) (task : IsTask w0.engine event asking) (given : Given) (aside : Option Aside) (led takes : Bool)
       (pieces pieces' : Option (List (List ℕ))) (faults faults' : ℕ)
       (led_is : led ≡ is_some w0.engine.leading)
       (takes_is : takes ≡ takes_writes w0.engine)
@@ -84,7 +84,7 @@ module _ (w0 w1 w2 w3 w4 w5 w6 : Kept) (lost : Bool)
       (waiting : w4.line.waiting ≡ w3.line.waiting)
       (lost_is : lost ≡ (led && not (is_some w4.engine.leading))) where
     abbrev gives_then : GivesOut w1.engine w3.engine pieces pieces' faults faults' w2.line w3.line given
-    gives_then = subst (λ (e : Core). GivesOut e w3.engine pieces pieces' faults faults' w2.line w3.line given) (ap (λ (w : Kept). w.engine) two) gives
+    gives_then = subst (λ (e : Core). GivesOut e w3.engine pieces pieces' faults faults' w2.line w3.line given) (ap (λ (w : DeskState). w.engine) two) gives
 
     entered_then : w2.line.waiting ≡ w0.line.waiting ++ entered_by (takes_writes w0.engine) asking event
     entered_then = entered ∙ (λ i. (one i).line.waiting ++ entered_by (takes_is i) asking event)
@@ -103,38 +103,38 @@ module _ (w0 w1 w2 w3 w4 w5 w6 : Kept) (lost : Bool)
         serves_so w0 rests sf.stands event asking task w1.engine w3.engine w2.line w3.line w4.line given pieces pieces' faults faults' step gives_then
         entered_then none_then waiting noted_then lost lost_then w6 six_steps
 
-    pub steps_stand : HasRoom w4.line → StandsFor w6 × (w6.cut ≡ false) × AreNotes w6.line.due
+    pub steps_stand : HasLineRoom w4.line → DeskStands w6 × (w6.cut ≡ false) × AreNotes w6.line.due
     steps_stand room = (
       stands_so w0 rests sf.stands event asking task w1.engine w3.engine w2.line w3.line w4.line given pieces pieces' faults faults' step gives_then
           entered_then none_then waiting noted_then lost lost_then w6 six_steps room,
-      ap (λ (w : Kept). w.cut) six_steps ∙ rests.cut,
-      subst (λ (w : Kept). AreNotes w.line.due) (sym six_steps)
+      ap (λ (w : DeskState). w.cut) six_steps ∙ rests.cut,
+      subst (λ (w : DeskState). AreNotes w.line.due) (sym six_steps)
           (bare_then w0 rests sf.stands event asking task w1.engine w3.engine w2.line w3.line w4.line given pieces pieces' faults faults' step gives_then
           entered_then none_then waiting noted_then lost lost_then w6 six_steps),
     )
 
 -- ---- the loss of a leadership
 
-module _ (w0 w1 w2 w3 w4 : Kept) (one : w1 ≡ record w0 { engine = w1.engine }) (two : w2 ≡ record w1 { engine = w2.engine; line = w2.line })
+module _ (w0 w1 w2 w3 w4 : DeskState) (one : w1 ≡ record w0 { engine = w1.engine }) (two : w2 ≡ record w1 { engine = w2.engine; line = w2.line })
     (three : w3 ≡ record w2 { engine = record w2.engine { fresh = [] } }) (four : w4 ≡ record w3 { cut = Rattle.std.specs.Prelude.true }) where
   pub four_steps : w4 ≡ record w0 { engine = record w2.engine { fresh = [] }; line = w2.line; cut = Rattle.std.specs.Prelude.true }
   four_steps =
       four
-      ∙ ap (λ (w : Kept). record w { cut = Rattle.std.specs.Prelude.true })
+      ∙ ap (λ (w : DeskState). record w { cut = Rattle.std.specs.Prelude.true })
       (three
-      ∙ ap (λ (w : Kept). record w { engine = record w.engine { fresh = [] } })
-      (two ∙ ap (λ (w : Kept). record w { engine = w2.engine; line = w2.line }) one))
+      ∙ ap (λ (w : DeskState). record w { engine = record w.engine { fresh = [] } })
+      (two ∙ ap (λ (w : DeskState). record w { engine = w2.engine; line = w2.line }) one))
 
   pub four_keep : KeepsShown w0.shelf w4.shelf
-  four_keep = subst (λ (w : Kept). KeepsShown w0.shelf w.shelf) (sym four_steps) (cut_keeps false w0.shelf)
+  four_keep = subst (λ (w : DeskState). KeepsShown w0.shelf w.shelf) (sym four_steps) (cut_keeps false w0.shelf)
 
-  module _ (sf : StandsFor w0) (whole : w0.cut ≡ false) (bare : AreNotes w0.line.due) (epoch : ℤ) (led : w0.engine.leading ≡ Some epoch) (given : Given) (pieces pieces' : Option (List (List ℕ))) (faults faults' : ℕ)
+  module _ (sf : DeskStands w0) (whole : w0.cut ≡ false) (bare : AreNotes w0.line.due) (epoch : ℤ) (led : w0.engine.leading ≡ Some epoch) (given : Given) (pieces pieces' : Option (List (List ℕ))) (faults faults' : ℕ)
       (step : IsStep w0.engine w1.engine (events.Lost epoch)) (gives : GivesOut w1.engine w2.engine pieces pieces' faults faults' w1.line w2.line given) where
     gives_so : GivesOut w1.engine w2.engine pieces pieces' faults faults' w0.line w2.line given
-    gives_so = subst (λ (l : LineView). GivesOut w1.engine w2.engine pieces pieces' faults faults' l w2.line given) (ap (λ (w : Kept). w.line) one) gives
+    gives_so = subst (λ (l : LineView). GivesOut w1.engine w2.engine pieces pieces' faults faults' l w2.line given) (ap (λ (w : DeskState). w.line) one) gives
 
     pub steps_lose : LosesLed pieces pieces' faults faults' (settled w0) (settled w4) (Some epoch)
     steps_lose = loses_led w0 sf whole bare epoch led w1.engine w2.engine w2.line given pieces pieces' faults faults' step gives_so w4 four_steps
 
-    pub steps_lost : StandsFor w4
+    pub steps_lost : DeskStands w4
     steps_lost = lost_for w0 sf whole bare epoch led w1.engine w2.engine w2.line given pieces pieces' faults faults' step gives_so w4 four_steps sf.room

@@ -9,7 +9,7 @@ use Rattle.kr_world.specs.Engine.{Core, Hands, HandsTold, output_of}
 use Rattle.kr_shared.specs.declared.taking.Given.{Given}
 use Rattle.kr_shared.specs.Answers.{Answering, answering, or_reason, or_reply, with_told}
 use Rattle.kr_shared.specs.Gives.{Gives, GivesOne, GivesOut}
-use Rattle.kr_shared.specs.Lines.{HasRoom, LineView}
+use Rattle.kr_shared.specs.Lines.{HasLineRoom, LineView}
 use Rattle.kr_shared.proofs.Appending.{appends_more}
 use Rattle.kr_shared.proofs.Fronts.{IsFront, emptied, fewer_left, nothing_yet, one_more}
 
@@ -45,7 +45,7 @@ pub all_given : (before now after : Core) (pieces pieces' : Option (List (List �
     → SoFar before now pieces pieces' faults faults' old new g → Hands now after None → GivesOut before after pieces pieces' faults faults' old new g
 all_given before now after pieces pieces' faults faults' old new g h hands = record { told = h.told; emptied = emptied before now after h.told h.front hands; gives = h.gives }
 
-pub still_room : (old new : LineView) → HasRoom old → (new.dues + new.waits) ≤ (old.dues + old.waits) → new.room ≡ old.room → HasRoom new
+pub still_room : (old new : LineView) → HasLineRoom old → (new.dues + new.waits) ≤ (old.dues + old.waits) → new.room ≡ old.room → HasLineRoom new
 still_room old new room fewer same = let a : (old.dues + old.waits) ≤ old.room = room in omega (arith, a, fewer, same)
 
 pub ruleset giving_out = (nothing_given, one_given, all_given, still_room, fewer_left)

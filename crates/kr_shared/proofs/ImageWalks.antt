@@ -18,7 +18,7 @@ use Rattle.kr_view.specs.declared.record_key.RecordKey.{RecordKey}
 use Rattle.kr_view.specs.declared.scans.ScanFault.{ScanFault}
 use Rattle.kr_view.specs.declared.scans.ScanFault.TheVariants as scans
 use Rattle.kr_shared.specs.Clients.{Client, client_reading, with_client_reading}
-use Rattle.kr_shared.specs.ImageWrites.{HasMiss, IsMiss, IsNextPage, IsOver, IsScanMiss, IsStop, MayBeLoaded, ReadsOn, StillKept}
+use Rattle.kr_shared.specs.ImageWrites.{HasMiss, IsMiss, IsNextPage, IsOver, IsScanMiss, IsStop, MayBeLoaded, SeesMore, StillKept}
 use Rattle.kr_shared.specs.KeysBehind.{key_behind, keys_behind}
 use Rattle.kr_shared.specs.declared.image_walk.Walk.{Walk}
 use Rattle.kr_shared.specs.declared.image_writing.ImageWriteFault.{ImageWriteFault}
@@ -33,10 +33,10 @@ fault_is P (Err e) fault told holds = subst P (sym told) holds
 
 -- ---- one call after the other
 
-pub reads_none : (s : Client) → ReadsOn s s
+pub reads_none : (s : Client) → SeesMore s s
 reads_none s = record { onward = onward_refl s.seen; same = refl }
 
-pub reads_more : (a b c : Client) → ReadsOn a b → ReadsOn b c → ReadsOn a c
+pub reads_more : (a b c : Client) → SeesMore a b → SeesMore b c → SeesMore a c
 reads_more a b c first second = record {
   onward = onward_trans a.seen b.seen c.seen first.onward second.onward;
   same = second.same ∙ ap (λ (s : Client). with_client_reading s (client_reading c)) first.same;
@@ -79,7 +79,7 @@ stop_behind place a b c faults.NoMemory image loads stop = record { kept = stop.
 
 -- the walk over this image went past so many records, while the seat read on and saw the same image
 pub record HasWalked (begun : Walk) (start seat : Client) (w : Walk) (n : ℕ) : Type 0 where
-  pub reads : ReadsOn start seat
+  pub reads : SeesMore start seat
   pub misses : seat.misses ≡ start.misses
   pub kept : IsTrue (is_kept_in seat.seen.list begun.place)
   pub image : image_below begun.place seat.seen.list ≡ image_below begun.place start.seen.list
@@ -158,7 +158,7 @@ module _ (begun : Walk) (start : Client) (over : IsOver begun start.seen.list) w
           let own : StillKept begun.place seat.seen.list later.seen.list = subst (λ (p : ℤ). StillKept p seat.seen.list later.seen.list) place_is next.kept in
           record { kept = own.kept; image = own.image ∙ walked.image; loads = own.loads ∙ walked.loads; few = own.few }
 
-      pub walk_further : ReadsOn seat later → later.misses ≡ seat.misses → HasWalked begun start later w' (n + length page)
+      pub walk_further : SeesMore seat later → later.misses ≡ seat.misses → HasWalked begun start later w' (n + length page)
       walk_further reads misses = record {
         reads = reads_more start seat later walked.reads reads;
         misses = misses ∙ walked.misses;

@@ -14,7 +14,7 @@ use Rattle.kr_calls.specs.SeatList.{image_below, is_kept_in, loads_of}
 use Rattle.kr_snapshot.specs.ImageText.{image_head, image_text}
 use Rattle.kr_snapshot.specs.Written.{IsFull, IsNextText, MayPut, Written, after_put, put_bytes}
 use Rattle.kr_shared.specs.Clients.{Client}
-use Rattle.kr_shared.specs.ImageWrites.{HasMiss, IsNextPage, IsOver, IsPutFault, IsReadFault, IsStop, ReadsOn, StillKept, WritesText, text_at}
+use Rattle.kr_shared.specs.ImageWrites.{HasMiss, IsNextPage, IsOver, IsPutFault, IsReaderFault, IsStop, SeesMore, StillKept, WritesText, text_at}
 use Rattle.kr_shared.specs.declared.image_walk.Walk.{Walk}
 use Rattle.kr_shared.specs.declared.image_writing.ImageWriteFault.{ImageWriteFault}
 use Rattle.kr_shared.specs.declared.image_writing.ImageWriteFault.TheVariants as faults
@@ -44,8 +44,8 @@ writes_front place first new written written' (Ok done) fault told stop front = 
 writes_front place first new written written' (Err e) fault told stop front = (subst (λ (f : ImageWriteFault). IsStop place first new f) (sym told.1) stop, front)
 
 -- what a seat answers is no fault of the sink
-pub never_put : {T : Type 0} (result : Result T ImageWriteFault) (fault : ImageWriteFault) → IsErrAnd result (λ e. e ≡ fault) → IsReadFault fault → IsErrOf result faults.WriteFault → ⊥
-never_put result fault told own is = subst IsReadFault (sym (subst (λ r. IsErrAnd r (λ e. e ≡ fault)) is told)) own
+pub never_put : {T : Type 0} (result : Result T ImageWriteFault) (fault : ImageWriteFault) → IsErrAnd result (λ e. e ≡ fault) → IsReaderFault fault → IsErrOf result faults.WriteFault → ⊥
+never_put result fault told own is = subst IsReaderFault (sym (subst (λ r. IsErrAnd r (λ e. e ≡ fault)) is told)) own
 
 -- the text of the image that an earlier call saw, too
 pub writes_earlier : (place : ℤ) (a b c : List Entry) (written written' : Option (List ℕ)) (result : Result (Unit {0}) ImageWriteFault) → StillKept place a b → WritesText place b c written written' result → WritesText place a c written written' result
@@ -155,7 +155,7 @@ module _ (begun : Walk) (start : Client) (over : IsOver begun start.seen.list) (
             (front_behind a b c text (text_to place image n) (put_bytes writer page)
             (subst (λ (l : List ℕ). Begins text l) (further_text behind) (text_to_begins place image (n + length page) within_then whole_then)) so_far.wrote front)
 
-        pub batch_written : (writer' : Written) (c : Option (List ℕ)) → ReadsOn seat later → later.misses ≡ seat.misses → writer' ≡ after_put writer page → IsNextText writer page (put_bytes writer page) → Appends b c (put_bytes writer page)
+        pub batch_written : (writer' : Written) (c : Option (List ℕ)) → SeesMore seat later → later.misses ≡ seat.misses → writer' ≡ after_put writer page → IsNextText writer page (put_bytes writer page) → Appends b c (put_bytes writer page)
             → HasWritten begun start count later w' (n + length page) writer' a c
         batch_written writer' c reads misses after behind more = record {
           walked = walk_further begun start over seat w n so_far.walked later w' page next reads misses;

@@ -25,7 +25,7 @@ use Rattle.kr_defs.proofs.ReadingOrder.{own_order}
 use Rattle.kr_view.specs.declared.record_key.RecordKey.{RecordKey}
 use Rattle.kr_view.specs.declared.record_key.RecordKey.TheVariants as keys
 use Rattle.kr_view.specs.RecordPages.{is_record_behind, keyed_broker, keyed_feature, keyed_partition, keyed_records, keyed_setting, keyed_topic, rank_of_key, record_key_order, record_page}
-use Rattle.kr_shared.specs.KeysBehind.{key_behind, keys_behind, topic_in}
+use Rattle.kr_shared.specs.KeysBehind.{key_behind, keys_behind, topic_name_in}
 
 abbrev Keyed : Type 0
 Keyed = RecordKey × Record
@@ -59,7 +59,7 @@ module _ (name : List ℕ) (id : ℕ) (rest : List Keyed) (next : KeyedBehindAny
   own_rank : (e : (ℕ × ℤ) × Partition) → (e.0.0 == id) ≡ true → rank_of (Some (name, id)) (keyed_partition (walked name e)).1 ≡ Some (rank_of_key (keys.Partition name e.0.1))
   own_rank e own = let same : (id == e.0.0) ≡ true = grind (arith, nat_tests) in rw same refl
 
-  partitions_keyed : (es : List ((ℕ × ℤ) × Partition)) (last : Option RecordKey) → topic_in last ≡ name → AreKeyed last (Some (name, id)) (map keyed_partition (map (walked name) (of_topic id es)) ++ rest)
+  partitions_keyed : (es : List ((ℕ × ℤ) × Partition)) (last : Option RecordKey) → topic_name_in last ≡ name → AreKeyed last (Some (name, id)) (map keyed_partition (map (walked name) (of_topic id es)) ++ rest)
   partitions_keyed [] last is = next last (Some (name, id))
   partitions_keyed (e ∷ es) last is =
       elim (e.0.0 == id) as (λ b. (e.0.0 == id) ≡ b → AreKeyed last (Some (name, id)) (map keyed_partition (map (walked name) (cond b (e ∷ of_topic id es) (of_topic id es))) ++ rest)) [

@@ -5,10 +5,10 @@ use Rattle.std.proofs.lemmas.List.{append-nil, map-append}
 use Rattle.kr_calls.specs.declared.events.Entry.{Entry}
 use Rattle.kr_shared.specs.declared.asked.Asked.{Asked}
 use Rattle.kr_shared.specs.declared.line.Note.{Note}
-use Rattle.kr_shared.specs.Lines.{entries_of, entry_of}
+use Rattle.kr_shared.specs.Lines.{entries_of, line_entry}
 
-pub one_more_due : (notes : List Note) (note : Note) → entries_of (notes ++ note ∷ []) ≡ entries_of notes ++ entry_of note ∷ []
-one_more_due notes note = map-append entry_of notes (note ∷ [])
+pub one_more_due : (notes : List Note) (note : Note) → entries_of (notes ++ note ∷ []) ≡ entries_of notes ++ line_entry note ∷ []
+one_more_due notes note = map-append line_entry notes (note ∷ [])
 
 pub none_newest : (q : Option Asked) → not (is_some q) ≡ true → q ≡ None
 none_newest None is = refl

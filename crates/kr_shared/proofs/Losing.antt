@@ -30,9 +30,9 @@ use Rattle.law_following.proofs.Evolving.{Shorter}
 use Rattle.kr_shared.specs.declared.asked.Asked.{Asked}
 use Rattle.kr_shared.specs.declared.taking.Given.{Given}
 use Rattle.kr_shared.specs.Answers.{Answering, AreReplied, answer_all, answering}
-use Rattle.kr_shared.specs.Desks.{Kept, StandsFor, cut_if, ready, settled}
+use Rattle.kr_shared.specs.Desks.{DeskState, DeskStands, cut_if, ready, settled}
 use Rattle.kr_shared.specs.Gives.{GivesOut}
-use Rattle.kr_shared.specs.Lines.{HasRoom, LineView}
+use Rattle.kr_shared.specs.Lines.{HasLineRoom, LineView}
 use Rattle.kr_shared.specs.Serves.{ServesEvent}
 use Rattle.kr_shared.specs.Standing.{StandsForSome, Standing}
 use Rattle.kr_shared.specs.Takes.{TakesEvent}
@@ -44,9 +44,9 @@ use Rattle.kr_shared.proofs.Serving as serving
 use Rattle.kr_shared.proofs.Standings.{none_staged}
 use Rattle.kr_shared.proofs.Giving.{still_room}
 
-module _ (w : Kept) (sf : StandsFor w) (whole : w.cut ≡ false) (bare : AreNotes w.line.due) (epoch : ℤ) (led : w.engine.leading ≡ Some epoch) (e1 e2 : Core) (l : LineView) (given : Given)
+module _ (w : DeskState) (sf : DeskStands w) (whole : w.cut ≡ false) (bare : AreNotes w.line.due) (epoch : ℤ) (led : w.engine.leading ≡ Some epoch) (e1 e2 : Core) (l : LineView) (given : Given)
     (pieces pieces' : Option (List (List ℕ))) (faults faults' : ℕ) (step : IsStep w.engine e1 (events.Lost epoch)) (gives : GivesOut e1 e2 pieces pieces' faults faults' w.line l given)
-    (new : Kept) (is : new ≡ record w { engine = record e2 { fresh = [] }; line = l; cut = true }) where
+    (new : DeskState) (is : new ≡ record w { engine = record e2 { fresh = [] }; line = l; cut = true }) where
   abbrev event : Event
   event = events.Lost epoch
 
@@ -156,7 +156,7 @@ module _ (w : Kept) (sf : StandsFor w) (whole : w.cut ≡ false) (bare : AreNote
       ∙ (sym (append_assoc shelf.list due replied.notes)
       ∙ ap (λ (es : List Entry). es ++ replied.notes) (sym list_is))
 
-  abbrev later : Kept
+  abbrev later : DeskState
   later = record w { engine = record e2 { fresh = [] }; line = l; cut = true }
 
   abbrev at_rest : Options → List Entry → List Entry → List Asked → DeskView
@@ -214,12 +214,12 @@ module _ (w : Kept) (sf : StandsFor w) (whole : w.cut ≡ false) (bare : AreNote
       subst (AreRightAfter shelf.options shelf.list)
       (sym in_front ∙ (λ i. (shelf.waiting ++ staged_below (sym at_end i) shelf.items) ++ (shelf.notes ++ (sym answers i).notes))) right_all
 
-  pub lost_for : HasRoom w.line → StandsFor new
-  lost_for room = subst StandsFor (sym is) (record {
+  pub lost_for : HasLineRoom w.line → DeskStands new
+  lost_for room = subst DeskStands (sym is) (record {
     stands = record {
       state = next;
       writes = waiting_after o s k.writes event;
-      stands = subst (λ (x : Kept). Standing (settled x) next (waiting_after o s k.writes event)) is (loses_so.stands s k.writes k.stands);
+      stands = subst (λ (x : DeskState). Standing (settled x) next (waiting_after o s k.writes event)) is (loses_so.stands s k.writes k.stands);
     };
     right = subst (λ (h : Shelf). AreRightAfter h.options h.list (next_at e2.committed h)) (sym ready_later) right_so;
     room = still_room w.line l room gives.gives.fewer gives.gives.same;

@@ -16,8 +16,8 @@ use Rattle.kr_world.specs.Entries.{items_from}
 use Rattle.kr_world.specs.World.{State}
 use Rattle.law_following.specs.Following.{AreNotes}
 use Rattle.law_following.proofs.Shown.{shown_logs_go_on}
-use Rattle.kr_shared.specs.Desks.{IsSettled, Kept, StandsFor, cut_if, ready, settled}
-use Rattle.kr_shared.specs.Lines.{HasRoom, LineView}
+use Rattle.kr_shared.specs.Desks.{IsCaughtUp, DeskState, DeskStands, cut_if, ready, settled}
+use Rattle.kr_shared.specs.Lines.{HasLineRoom, LineView}
 use Rattle.kr_shared.specs.Standing.{StandsForSome, Standing}
 use Rattle.kr_shared.specs.Turns.{Notes}
 use Rattle.kr_shared.specs.Works.{IsBareNote, DeskView, resting}
@@ -94,7 +94,7 @@ module _ (old : DeskView) (e : Entry) (bare : IsBareNote old.shelf.list e) (s : 
 
 -- ---- one note more is due
 
-module _ (old new : Kept) (rests : IsSettled old) (sf : StandsFor old) (e : Entry) (l : LineView) (due : l.due ≡ old.line.due ++ e ∷ []) (waiting : l.waiting ≡ old.line.waiting) (is : new ≡ record old { line = l }) (bare : IsBareNote (settled old).shelf.list e) where
+module _ (old new : DeskState) (rests : IsCaughtUp old) (sf : DeskStands old) (e : Entry) (l : LineView) (due : l.due ≡ old.line.due ++ e ∷ []) (waiting : l.waiting ≡ old.line.waiting) (is : new ≡ record old { line = l }) (bare : IsBareNote (settled old).shelf.list e) where
   abbrev shelf : Shelf
   shelf = (settled old).shelf
 
@@ -110,7 +110,7 @@ module _ (old new : Kept) (rests : IsSettled old) (sf : StandsFor old) (e : Entr
 
   settled_is : settled new ≡ noted
   settled_is =
-      (λ i. record { shelf = cut_if ((ap (λ (k : Kept). k.cut) is ∙ rests.cut) i) (shown_at (is i).engine.committed (all_staged i)); engine = (is i).engine; waiting = ((ap (λ (k : Kept). k.line.waiting) is) ∙ waiting) i })
+      (λ i. record { shelf = cut_if ((ap (λ (k : DeskState). k.cut) is ∙ rests.cut) i) (shown_at (is i).engine.committed (all_staged i)); engine = (is i).engine; waiting = ((ap (λ (k : DeskState). k.line.waiting) is) ∙ waiting) i })
       ∙ ap (λ (h : Shelf). record (settled old) { shelf = h }) (shown_is (settled old) e bare sf.stands.state sf.stands.writes sf.stands.stands)
 
   pub notes_so : Notes (settled old) (settled new) e
@@ -119,13 +119,13 @@ module _ (old new : Kept) (rests : IsSettled old) (sf : StandsFor old) (e : Entr
     stands = λ s writes h. subst (λ (w : DeskView). Standing w s writes) (sym settled_is) (stands_still (settled old) e bare s writes h);
   }
 
-  pub noted_for : HasRoom l → StandsFor new
+  pub noted_for : HasLineRoom l → DeskStands new
   noted_for room = record {
     stands = record { state = sf.stands.state; writes = sf.stands.writes; stands = notes_so.stands sf.stands.state sf.stands.writes sf.stands.stands };
     right =
-        subst (λ (x : Shelf × Core). AreRightAfter x.0.options x.0.list (next_at x.1.committed x.0)) (λ i. (sym all_staged i, sym (ap (λ (k : Kept). k.engine) is) i))
+        subst (λ (x : Shelf × Core). AreRightAfter x.0.options x.0.list (next_at x.1.committed x.0)) (λ i. (sym all_staged i, sym (ap (λ (k : DeskState). k.engine) is) i))
         (may_show (settled old) e bare sf.stands.state sf.stands.writes sf.stands.stands);
-    room = subst (λ (k : Kept). HasRoom k.line) (sym is) room;
+    room = subst (λ (k : DeskState). HasLineRoom k.line) (sym is) room;
   }
 
 -- the published list ends where the log is committed

@@ -25,10 +25,10 @@ use Rattle.kr_shared.specs.declared.answers.Asking.{Asking}
 use Rattle.kr_shared.specs.declared.asked.Asked.{Asked}
 use Rattle.kr_shared.specs.declared.taking.Given.{Given}
 use Rattle.kr_shared.specs.Answers.{Answering, AreReplied, answer_all, answering, aside_noted}
-use Rattle.kr_shared.specs.Desks.{IsSettled, Kept, StandsFor, aside_by, cut_if, entered_by, settled, takes_writes}
+use Rattle.kr_shared.specs.Desks.{IsCaughtUp, DeskState, DeskStands, aside_by, cut_if, entered_by, settled, takes_writes}
 use Rattle.kr_shared.specs.Desks.{ready as all_ready}
 use Rattle.kr_shared.specs.Gives.{GivesOut}
-use Rattle.kr_shared.specs.Lines.{HasRoom, LineView}
+use Rattle.kr_shared.specs.Lines.{HasLineRoom, LineView}
 use Rattle.kr_shared.specs.Serves.{ServesEvent}
 use Rattle.kr_shared.specs.Standing.{AreWaiting, StandsForSome, Standing}
 use Rattle.kr_shared.specs.Takes.{TakesEvent}
@@ -186,10 +186,10 @@ dropped true s = refl
 dropped false s = refl
 
 -- what is settled is at rest
-pub at_rest : (k : Kept) → IsSettled k → StandsForSome (settled k) → k.shelf ≡ resting (settled k).shelf.options (settled k).shelf.list (settled k).shelf.items
+pub at_rest : (k : DeskState) → IsCaughtUp k → StandsForSome (settled k) → k.shelf ≡ resting (settled k).shelf.options (settled k).shelf.list (settled k).shelf.items
 at_rest k rests s = rests.rests ∙ (s.stands.rests ∙ sym (ap (λ (h : Shelf). resting h.options h.list h.items) s.stands.rests))
 
-module _ (w0 : Kept) (rests : IsSettled w0) (k : StandsForSome (settled w0)) (event : Event) (asking : Option Asking) (task : IsTask w0.engine event asking) (e1 e2 : Core) (l2 l3 l4 : LineView) (given : Given)
+module _ (w0 : DeskState) (rests : IsCaughtUp w0) (k : StandsForSome (settled w0)) (event : Event) (asking : Option Asking) (task : IsTask w0.engine event asking) (e1 e2 : Core) (l2 l3 l4 : LineView) (given : Given)
     (pieces pieces' : Option (List (List ℕ))) (faults faults' : ℕ) (step : IsStep w0.engine e1 event) (gives : GivesOut e1 e2 pieces pieces' faults faults' l2 l3 given) where
   abbrev takes : Bool
   takes = takes_writes w0.engine
@@ -226,7 +226,7 @@ module _ (w0 : Kept) (rests : IsSettled w0) (k : StandsForSome (settled w0)) (ev
 
   module _ (entered : l2.waiting ≡ w0.line.waiting ++ entered_by takes asking event) (none : l2.due ≡ w0.line.due) (waiting : l4.waiting ≡ l3.waiting)
       (noted : l4.due ≡ l3.due ++ aside_noted (aside_by takes asking event) given.refusal given.reply) (lost : Bool) (lost_is : lost ≡ (is_some w0.engine.leading && not (is_some e2.leading)))
-      (w6 : Kept) (is : w6 ≡ record { shelf = cut_if lost w0.shelf; engine = record e2 { fresh = [] }; line = l4; unstaged = e2.fresh; cut = w0.cut }) where
+      (w6 : DeskState) (is : w6 ≡ record { shelf = cut_if lost w0.shelf; engine = record e2 { fresh = [] }; line = l4; unstaged = e2.fresh; cut = w0.cut }) where
     answers : answering l4.waiting l4.due ≡ replied
     answers =
         (λ i. answering (waiting i) (noted i))
@@ -251,7 +251,7 @@ module _ (w0 : Kept) (rests : IsSettled w0) (k : StandsForSome (settled w0)) (ev
 
     settled_so : settled w6 ≡ after then e2 event asking told task t
     settled_so =
-        (λ i. record { shelf = cut_if (((ap (λ (w : Kept). w.cut) is) ∙ rests.cut) i) (shown_at (is i).engine.committed (ready_so i)); engine = (is i).engine; waiting = (is i).line.waiting })
+        (λ i. record { shelf = cut_if (((ap (λ (w : DeskState). w.cut) is) ∙ rests.cut) i) (shown_at (is i).engine.committed (ready_so i)); engine = (is i).engine; waiting = (is i).line.waiting })
         ∙ ap (λ (q : Answering). record { shelf = shown_at e2.committed shelf_then; engine = record e2 { fresh = [] }; waiting = q.waiting }) answers
 
     pub serves_so : ServesEvent pieces pieces' faults faults' then (settled w6) event asking given.appended given.refusal
@@ -272,7 +272,7 @@ module _ (w0 : Kept) (rests : IsSettled w0) (k : StandsForSome (settled w0)) (ev
       stands = λ s writes h. subst (λ (w : DeskView). Standing w (happens w0.engine.options s event) (waiting_after w0.engine.options s writes event)) (sym settled_so) (stands_after then e2 event asking told task t s writes h);
     }
 
-    pub stands_so : HasRoom l4 → StandsFor w6
+    pub stands_so : HasLineRoom l4 → DeskStands w6
     stands_so room = record {
       stands = record {
         state = happens w0.engine.options k.state event;
@@ -280,7 +280,7 @@ module _ (w0 : Kept) (rests : IsSettled w0) (k : StandsForSome (settled w0)) (ev
         stands = serves_so.stands k.state k.writes k.stands;
       };
       right =
-          subst (λ (x : Shelf × Core). AreRightAfter x.0.options x.0.list (next_at x.1.committed x.0)) (λ i. (sym ready_so i, sym (ap (λ (w : Kept). w.engine) is) i))
+          subst (λ (x : Shelf × Core). AreRightAfter x.0.options x.0.list (next_at x.1.committed x.0)) (λ i. (sym ready_so i, sym (ap (λ (w : DeskState). w.engine) is) i))
           (may_publish then e2 event asking told task t k.state k.writes k.stands);
-      room = subst (λ (w : Kept). HasRoom w.line) (sym is) room;
+      room = subst (λ (w : DeskState). HasLineRoom w.line) (sym is) room;
     }

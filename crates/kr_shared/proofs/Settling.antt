@@ -8,8 +8,8 @@ use Rattle.kr_view.specs.CopiesRule.{GoesOn}
 use Rattle.kr_view.specs.Shelves.{IsDelayed, Shelf, left_at, next_at, shown_at, with_staged}
 use Rattle.kr_view.specs.Staged.{staged_above, staged_below}
 use Rattle.kr_world.specs.Engine.{Core}
-use Rattle.kr_shared.specs.Desks.{ComesToSame, IsPrepared, IsSettled, Kept, StandsFor, StaysDue, cut_if, ready, settled}
-use Rattle.kr_shared.specs.Lines.{HasRoom}
+use Rattle.kr_shared.specs.Desks.{ComesToSame, IsPrepared, IsCaughtUp, DeskState, DeskStands, StaysDue, cut_if, ready, settled}
+use Rattle.kr_shared.specs.Lines.{HasLineRoom}
 use Rattle.kr_shared.specs.Standing.{StandsForSome}
 use Rattle.kr_shared.specs.Works.{DeskView, KeepsShown, Onwards}
 use Rattle.kr_shared.proofs.Onwards.{keeps_onwards, keeps_refl, keeps_trans, staged_keeps, still_onwards}
@@ -19,23 +19,23 @@ use Rattle.kr_shared.proofs.Onwards.{keeps_onwards, keeps_refl, keeps_trans, sta
 abbrev comes_to : Bool → Shelf → Core → List Rattle.kr_shared.specs.declared.asked.Asked.Asked → DeskView
 comes_to cut shelf engine waiting = record { shelf = cut_if cut (shown_at engine.committed shelf); engine = engine; waiting = waiting }
 
-pub stays_same : (old new : Kept) → StaysDue old new → settled new ≡ settled old
+pub stays_same : (old new : DeskState) → StaysDue old new → settled new ≡ settled old
 stays_same old new h = λ i. comes_to (h.cut i) (h.ready i) (h.engine i) (h.waiting i)
 
 abbrev MayShow : Shelf → Core → Type 0
 MayShow s e = AreRightAfter s.options s.list (next_at e.committed s)
 
-pub stays_for : (old new : Kept) → StaysDue old new → StandsFor old → StandsFor new
+pub stays_for : (old new : DeskState) → StaysDue old new → DeskStands old → DeskStands new
 stays_for old new h k = record {
   stands = subst StandsForSome (sym (stays_same old new h)) k.stands;
   right = subst (λ (e : Core). MayShow (ready new) e) (sym h.engine) (subst (λ (s : Shelf). MayShow s old.engine) (sym h.ready) k.right);
   room = h.room k.room;
 }
 
-pub stays_itself : (k : Kept) → StaysDue k k
+pub stays_itself : (k : DeskState) → StaysDue k k
 stays_itself k = record { ready = refl; engine = refl; waiting = refl; cut = refl; shown = keeps_refl k.shelf; room = λ room. room }
 
-pub stays_then : (j k l : Kept) → StaysDue j k → StaysDue k l → StaysDue j l
+pub stays_then : (j k l : DeskState) → StaysDue j k → StaysDue k l → StaysDue j l
 stays_then j k l g h = record {
   ready = h.ready ∙ g.ready;
   engine = h.engine ∙ g.engine;
@@ -49,21 +49,21 @@ pub fold_keeps : (s : Shelf) (es : List Entry) → KeepsShown s (fold with_stage
 fold_keeps s [] = keeps_refl s
 fold_keeps s (e ∷ es) = keeps_trans s (with_staged s e) (fold with_staged (with_staged s e) es) (staged_keeps s e) (fold_keeps (with_staged s e) es)
 
-pub ready_keeps : (k : Kept) → KeepsShown k.shelf (ready k)
+pub ready_keeps : (k : DeskState) → KeepsShown k.shelf (ready k)
 ready_keeps k =
     let mid = fold with_staged k.shelf k.unstaged in
     keeps_trans k.shelf mid (ready k) (fold_keeps k.shelf k.unstaged) (fold_keeps mid k.line.due)
 
 -- ---- all is staged
 
-pub ready_is : (k : Kept) → k.unstaged ≡ [] → k.line.due ≡ [] → ready k ≡ k.shelf
+pub ready_is : (k : DeskState) → k.unstaged ≡ [] → k.line.due ≡ [] → ready k ≡ k.shelf
 ready_is k staged due =
     ap (λ (es : List Entry). fold with_staged (fold with_staged k.shelf es) k.line.due) staged ∙ ap (λ (es : List Entry). fold with_staged k.shelf es) due
 
-pub prepared_is : (k : Kept) → IsPrepared k → ready k ≡ k.shelf
+pub prepared_is : (k : DeskState) → IsPrepared k → ready k ≡ k.shelf
 prepared_is k h = ready_is k h.unstaged h.seated.due
 
-pub may_show : (k : Kept) → IsPrepared k → StandsFor k → AreRightAfter k.shelf.options k.shelf.list (next_at k.engine.committed k.shelf)
+pub may_show : (k : DeskState) → IsPrepared k → DeskStands k → AreRightAfter k.shelf.options k.shelf.list (next_at k.engine.committed k.shelf)
 may_show k h s = subst (λ (x : Shelf). MayShow x k.engine) (prepared_is k h) s.right
 
 -- ---- a publish
@@ -95,14 +95,14 @@ shown_again false end s =
     ∙ (ap (λ (l : List Entry). record { options = t.options; list = l; waiting = []; items = staged_above end t.items; notes = [] }) (append-nil t.list)
     ∙ ap (λ (es : List Entry). record { options = t.options; list = t.list; waiting = []; items = es; notes = [] }) (same_above end s.items))
 
-module _ (old new : Kept) (h : IsPrepared old) (is : new ≡ record old { shelf = cut_if old.cut (shown_at old.engine.committed old.shelf); cut = false }) where
+module _ (old new : DeskState) (h : IsPrepared old) (is : new ≡ record old { shelf = cut_if old.cut (shown_at old.engine.committed old.shelf); cut = false }) where
   abbrev end : ℤ
   end = old.engine.committed
 
   abbrev shelf : Shelf
   shelf = cut_if old.cut (shown_at end old.shelf)
 
-  abbrev after : Kept
+  abbrev after : DeskState
   after = record old { shelf = shelf; cut = false }
 
   ready_after : ready after ≡ shelf
@@ -115,8 +115,8 @@ module _ (old new : Kept) (h : IsPrepared old) (is : new ≡ record old { shelf 
       ∙ (ap (λ (s : Shelf). record { shelf = s; engine = old.engine; waiting = old.line.waiting }) (shown_again old.cut end old.shelf)
       ∙ ap (λ (s : Shelf). comes_to old.cut s old.engine old.line.waiting) (sym (prepared_is old h))))
 
-  pub shown_settled : IsSettled new
-  shown_settled = subst IsSettled (sym is) (record {
+  pub shown_settled : IsCaughtUp new
+  shown_settled = subst IsCaughtUp (sym is) (record {
     rests = sym (ap (λ (s : Shelf). shown_at end s) ready_after ∙ shown_again old.cut end old.shelf);
     seated = h.seated;
     unstaged = h.unstaged;
@@ -124,7 +124,7 @@ module _ (old new : Kept) (h : IsPrepared old) (is : new ≡ record old { shelf 
   })
 
 -- what is settled shows nothing more
-pub settled_right : (k : Kept) → IsSettled k → AreRightAfter (ready k).options (ready k).list (next_at k.engine.committed (ready k))
+pub settled_right : (k : DeskState) → IsCaughtUp k → AreRightAfter (ready k).options (ready k).list (next_at k.engine.committed (ready k))
 settled_right k h =
     let s = ready k in
     let end = k.engine.committed in
@@ -134,24 +134,24 @@ settled_right k h =
     ap (λ (x : Shelf). next_at end x) here ∙ ap (λ (l : List Entry). l ++ []) (none_below end s.items) in
     subst (AreRightAfter s.options s.list) (sym none) tt
 
-pub shown_for : (old new : Kept) → IsPrepared old → StandsFor old → new ≡ record old { shelf = cut_if old.cut (shown_at old.engine.committed old.shelf); cut = false } → ComesToSame old new
+pub shown_for : (old new : DeskState) → IsPrepared old → DeskStands old → new ≡ record old { shelf = cut_if old.cut (shown_at old.engine.committed old.shelf); cut = false } → ComesToSame old new
 shown_for old new h k is = record {
   same = shown_same old new h is;
   stands = record {
     stands = subst StandsForSome (sym (shown_same old new h is)) k.stands;
     right = settled_right new (shown_settled old new h is);
-    room = subst (λ (x : Kept). HasRoom x.line) (sym is) k.room;
+    room = subst (λ (x : DeskState). HasLineRoom x.line) (sym is) k.room;
   };
 }
 
 -- ---- one without memory
 
-module _ (old new : Kept) (h : IsPrepared old) (is : new ≡ record old { shelf = new.shelf }) (d : IsDelayed old.engine.committed old.shelf new.shelf) where
+module _ (old new : DeskState) (h : IsPrepared old) (is : new ≡ record old { shelf = new.shelf }) (d : IsDelayed old.engine.committed old.shelf new.shelf) where
   abbrev at : ℤ
   at = old.engine.committed
 
   ready_then : ready new ≡ new.shelf
-  ready_then = ready_is new (ap (λ (k : Kept). k.unstaged) is ∙ h.unstaged) (ap (λ (k : Kept). k.line.due) is ∙ h.seated.due)
+  ready_then = ready_is new (ap (λ (k : DeskState). k.unstaged) is ∙ h.unstaged) (ap (λ (k : DeskState). k.line.due) is ∙ h.seated.due)
 
   same_shown : shown_at at new.shelf ≡ shown_at at old.shelf
   same_shown = λ i. record { options = d.options i; list = d.list i ++ d.next i; waiting = []; items = d.left i; notes = [] }
@@ -162,16 +162,16 @@ module _ (old new : Kept) (h : IsPrepared old) (is : new ≡ record old { shelf 
       ∙ (ap (λ (s : Shelf). record { shelf = cut_if old.cut s; engine = old.engine; waiting = old.line.waiting }) same_shown
       ∙ ap (λ (s : Shelf). comes_to old.cut s old.engine old.line.waiting) (sym (prepared_is old h)))
 
-  pub delayed_for : StandsFor old → ComesToSame old new
+  pub delayed_for : DeskStands old → ComesToSame old new
   delayed_for k = record {
     same = delayed_same;
     stands = record {
       stands = subst StandsForSome (sym delayed_same) k.stands;
       right =
-          subst (λ (e : Core). MayShow (ready new) e) (sym (ap (λ (x : Kept). x.engine) is))
+          subst (λ (e : Core). MayShow (ready new) e) (sym (ap (λ (x : DeskState). x.engine) is))
           (subst (λ (s : Shelf). MayShow s old.engine) (sym ready_then)
           (subst (λ (x : Rattle.kr_defs.specs.declared.options.Options.Options × List Entry × List Entry). AreRightAfter x.0 x.1 x.2) (λ i. (sym d.options i, sym d.list i, sym d.next i)) (may_show old h k)));
-      room = subst (λ (x : Kept). HasRoom x.line) (sym is) k.room;
+      room = subst (λ (x : DeskState). HasLineRoom x.line) (sym is) k.room;
     };
   }
 
@@ -185,40 +185,40 @@ pub list_of : (b : Bool) (s : Shelf) → (cut_if b s).list ≡ s.list
 list_of true s = refl
 list_of false s = refl
 
-pub due_behind : (k : Kept) → GoesOn (settled k).shelf.list k.shelf.list
+pub due_behind : (k : DeskState) → GoesOn (settled k).shelf.list k.shelf.list
 due_behind k = (
   next_at k.engine.committed (ready k),
   list_of k.cut (shown_at k.engine.committed (ready k)) ∙ ap (λ (l : List Entry). l ++ next_at k.engine.committed (ready k)) (ready_keeps k).list,
 )
 
-pub settled_list : (k : Kept) → IsSettled k → k.shelf.list ≡ (settled k).shelf.list
+pub settled_list : (k : DeskState) → IsCaughtUp k → k.shelf.list ≡ (settled k).shelf.list
 settled_list k h = ap (λ (s : Shelf). s.list) h.rests
 
-pub shown_on : (old new : Kept) → IsPrepared old → new ≡ record old { shelf = cut_if old.cut (shown_at old.engine.committed old.shelf); cut = false } → Onwards old.shelf new.shelf
+pub shown_on : (old new : DeskState) → IsPrepared old → new ≡ record old { shelf = cut_if old.cut (shown_at old.engine.committed old.shelf); cut = false } → Onwards old.shelf new.shelf
 shown_on old new h is =
     let s = old.shelf in
     let end = old.engine.committed in record {
-      options = ap (λ (k : Kept). k.shelf.options) is ∙ options_of old.cut (shown_at end s);
-      list = (next_at end s, ap (λ (k : Kept). k.shelf.list) is ∙ list_of old.cut (shown_at end s));
+      options = ap (λ (k : DeskState). k.shelf.options) is ∙ options_of old.cut (shown_at end s);
+      list = (next_at end s, ap (λ (k : DeskState). k.shelf.list) is ∙ list_of old.cut (shown_at end s));
     }
 
 -- ---- the steps of publishing, one after the other
 
-pub settles_less : (old new : Kept) → StandsFor old → StaysDue old new → ComesToSame old new × Onwards old.shelf new.shelf
+pub settles_less : (old new : DeskState) → DeskStands old → StaysDue old new → ComesToSame old new × Onwards old.shelf new.shelf
 settles_less old new k h = (record { same = stays_same old new h; stands = stays_for old new h k }, still_onwards old.shelf new.shelf h.shown)
 
-pub settles_late : (old mid new : Kept) → StandsFor old → StaysDue old mid → IsPrepared mid → IsDelayed mid.engine.committed mid.shelf new.shelf × (new ≡ record mid { shelf = new.shelf }) → ComesToSame old new × Onwards old.shelf new.shelf
+pub settles_late : (old mid new : DeskState) → DeskStands old → StaysDue old mid → IsPrepared mid → IsDelayed mid.engine.committed mid.shelf new.shelf × (new ≡ record mid { shelf = new.shelf }) → ComesToSame old new × Onwards old.shelf new.shelf
 settles_late old mid new k h p d =
     let c = delayed_for mid new p d.1 d.0 (stays_for old mid h k) in (
       record { same = c.same ∙ stays_same old mid h; stands = c.stands },
       still_onwards old.shelf new.shelf (keeps_trans old.shelf mid.shelf new.shelf h.shown (record { options = d.0.options; list = d.0.list })),
     )
 
-module _ (old mid shown new : Kept) (k : StandsFor old) (h : StaysDue old mid) (p : IsPrepared mid) (show : shown ≡ record mid { shelf = shown_at mid.engine.committed mid.shelf }) (drop : new ≡ record shown { shelf = cut_if shown.cut shown.shelf; cut = false }) where
+module _ (old mid shown new : DeskState) (k : DeskStands old) (h : StaysDue old mid) (p : IsPrepared mid) (show : shown ≡ record mid { shelf = shown_at mid.engine.committed mid.shelf }) (drop : new ≡ record shown { shelf = cut_if shown.cut shown.shelf; cut = false }) where
   both_steps : new ≡ record mid { shelf = cut_if mid.cut (shown_at mid.engine.committed mid.shelf); cut = false }
-  both_steps = drop ∙ ap (λ (w : Kept). record w { shelf = cut_if w.cut w.shelf; cut = false }) show
+  both_steps = drop ∙ ap (λ (w : DeskState). record w { shelf = cut_if w.cut w.shelf; cut = false }) show
 
-  pub settles_whole : ComesToSame old new × IsSettled new × Onwards old.shelf new.shelf
+  pub settles_whole : ComesToSame old new × IsCaughtUp new × Onwards old.shelf new.shelf
   settles_whole =
       let c = shown_for mid new p (stays_for old mid h k) both_steps in (
         record { same = c.same ∙ stays_same old mid h; stands = c.stands },
@@ -226,40 +226,40 @@ module _ (old mid shown new : Kept) (k : StandsFor old) (h : StaysDue old mid) (
         keeps_onwards old.shelf mid.shelf new.shelf h.shown (shown_on mid new p both_steps),
       )
 
-pub waits_no_more : (mid shown : Kept) → shown ≡ record mid { shelf = shown_at mid.engine.committed mid.shelf } → shown.shelf.waiting ≡ []
-waits_no_more mid shown is = ap (λ (w : Kept). w.shelf.waiting) is
+pub waits_no_more : (mid shown : DeskState) → shown ≡ record mid { shelf = shown_at mid.engine.committed mid.shelf } → shown.shelf.waiting ≡ []
+waits_no_more mid shown is = ap (λ (w : DeskState). w.shelf.waiting) is
 
 -- ---- the pieces of staging
 
-pub stays_entries : (old new : Kept) → new ≡ record old { shelf = new.shelf; unstaged = new.unstaged } → fold with_staged new.shelf new.unstaged ≡ fold with_staged old.shelf old.unstaged → KeepsShown old.shelf new.shelf → StaysDue old new
+pub stays_entries : (old new : DeskState) → new ≡ record old { shelf = new.shelf; unstaged = new.unstaged } → fold with_staged new.shelf new.unstaged ≡ fold with_staged old.shelf old.unstaged → KeepsShown old.shelf new.shelf → StaysDue old new
 stays_entries old new is same keeps = record {
   ready = (λ i. fold with_staged (fold with_staged new.shelf new.unstaged) (is i).line.due) ∙ ap (λ (h : Shelf). fold with_staged h old.line.due) same;
-  engine = ap (λ (k : Kept). k.engine) is;
-  waiting = ap (λ (k : Kept). k.line.waiting) is;
-  cut = ap (λ (k : Kept). k.cut) is;
+  engine = ap (λ (k : DeskState). k.engine) is;
+  waiting = ap (λ (k : DeskState). k.line.waiting) is;
+  cut = ap (λ (k : DeskState). k.cut) is;
   shown = keeps;
-  room = λ room. subst (λ (k : Kept). HasRoom k.line) (sym is) room;
+  room = λ room. subst (λ (k : DeskState). HasLineRoom k.line) (sym is) room;
 }
 
-pub stays_seated : (old new : Kept) → new ≡ record old { line = new.line } → new.line ≡ record old.line { seated = new.line.seated } → StaysDue old new
+pub stays_seated : (old new : DeskState) → new ≡ record old { line = new.line } → new.line ≡ record old.line { seated = new.line.seated } → StaysDue old new
 stays_seated old new is seated = record {
   ready = (λ i. fold with_staged (fold with_staged (is i).shelf (is i).unstaged) new.line.due) ∙ (λ i. fold with_staged (fold with_staged old.shelf old.unstaged) (seated i).due);
-  engine = ap (λ (k : Kept). k.engine) is;
+  engine = ap (λ (k : DeskState). k.engine) is;
   waiting = ap (λ (l : Rattle.kr_shared.specs.Lines.LineView). l.waiting) seated;
-  cut = ap (λ (k : Kept). k.cut) is;
-  shown = subst (λ (k : Kept). KeepsShown old.shelf k.shelf) (sym is) (keeps_refl old.shelf);
-  room = λ room. subst HasRoom (sym seated) room;
+  cut = ap (λ (k : DeskState). k.cut) is;
+  shown = subst (λ (k : DeskState). KeepsShown old.shelf k.shelf) (sym is) (keeps_refl old.shelf);
+  room = λ room. subst HasLineRoom (sym seated) room;
 }
 
-pub stays_noted : (old new : Kept) → old.unstaged ≡ [] → new ≡ record old { shelf = new.shelf; line = new.line } → fold with_staged new.shelf new.line.due ≡ fold with_staged old.shelf old.line.due → KeepsShown old.shelf new.shelf
+pub stays_noted : (old new : DeskState) → old.unstaged ≡ [] → new ≡ record old { shelf = new.shelf; line = new.line } → fold with_staged new.shelf new.line.due ≡ fold with_staged old.shelf old.line.due → KeepsShown old.shelf new.shelf
     → new.line ≡ record old.line { due = new.line.due; dues = new.line.dues } → new.line.dues ≤ old.line.dues → StaysDue old new
 stays_noted old new none is same keeps line fewer = record {
   ready =
-      (λ i. fold with_staged (fold with_staged new.shelf ((ap (λ (k : Kept). k.unstaged) is ∙ none) i)) new.line.due)
+      (λ i. fold with_staged (fold with_staged new.shelf ((ap (λ (k : DeskState). k.unstaged) is ∙ none) i)) new.line.due)
       ∙ (same ∙ (λ i. fold with_staged (fold with_staged old.shelf (sym none i)) old.line.due));
-  engine = ap (λ (k : Kept). k.engine) is;
+  engine = ap (λ (k : DeskState). k.engine) is;
   waiting = ap (λ (l : Rattle.kr_shared.specs.Lines.LineView). l.waiting) line;
-  cut = ap (λ (k : Kept). k.cut) is;
+  cut = ap (λ (k : DeskState). k.cut) is;
   shown = keeps;
   room = λ room.
       let r : (old.line.dues + old.line.waits) ≤ old.line.room = room in
@@ -268,14 +268,14 @@ stays_noted old new none is same keeps line fewer = record {
 }
 
 -- more room
-pub roomy : (old new : Kept) → StandsFor old → IsSettled old → new ≡ record old { line = record old.line { room = new.line.room } } → old.line.room ≤ new.line.room → (settled new ≡ settled old) × StandsFor new × IsSettled new
+pub roomy : (old new : DeskState) → DeskStands old → IsCaughtUp old → new ≡ record old { line = record old.line { room = new.line.room } } → old.line.room ≤ new.line.room → (settled new ≡ settled old) × DeskStands new × IsCaughtUp new
 roomy old new k rests is more =
     let same : settled new ≡ settled old = ap settled is in (
       same,
       record {
         stands = subst StandsForSome (sym same) k.stands;
-        right = subst (λ (x : Kept). MayShow (ready x) x.engine) (sym is) k.right;
-        room = (let r : (old.line.dues + old.line.waits) ≤ old.line.room = k.room in let a = ap (λ (x : Kept). x.line.dues) is in let b = ap (λ (x : Kept). x.line.waits) is in omega (arith, r, a, b, more));
+        right = subst (λ (x : DeskState). MayShow (ready x) x.engine) (sym is) k.right;
+        room = (let r : (old.line.dues + old.line.waits) ≤ old.line.room = k.room in let a = ap (λ (x : DeskState). x.line.dues) is in let b = ap (λ (x : DeskState). x.line.waits) is in omega (arith, r, a, b, more));
       },
-      subst IsSettled (sym is) (record { rests = rests.rests; seated = record { due = rests.seated.due; seated = rests.seated.seated; dues = rests.seated.dues }; unstaged = rests.unstaged; cut = rests.cut }),
+      subst IsCaughtUp (sym is) (record { rests = rests.rests; seated = record { due = rests.seated.due; seated = rests.seated.seated; dues = rests.seated.dues }; unstaged = rests.unstaged; cut = rests.cut }),
     )

@@ -13,7 +13,7 @@ use Rattle.kr_world.specs.Engine.{Core, IsEngine, outputs_left}
 use Rattle.kr_world.specs.World.{seen_at, start}
 use Rattle.law_following.specs.Following.{Shows}
 use Rattle.kr_view.specs.Shelves.{shown_at}
-use Rattle.kr_shared.specs.Desks.{IsOpened, IsSettled, Kept, StandsFor, cut_if, ready, settled}
+use Rattle.kr_shared.specs.Desks.{IsNewDesk, IsCaughtUp, DeskState, DeskStands, cut_if, ready, settled}
 use Rattle.kr_shared.specs.Standing.{Standing}
 use Rattle.kr_shared.specs.Works.{DeskView, resting}
 use Rattle.kr_shared.proofs.Settling.{ready_is, settled_right}
@@ -35,7 +35,7 @@ shows_none = record {
   items = tt;
 }
 
-module _ (options : Options) (k : Kept) (shelf : Shelf) (e : Core) (o : IsOpened shelf e k) (shelf_is : shelf ≡ resting options [] []) (engine : IsEngine e start []) (none_left : outputs_left e ≡ []) (same : e.options ≡ options) where
+module _ (options : Options) (k : DeskState) (shelf : Shelf) (e : Core) (o : IsNewDesk shelf e k) (shelf_is : shelf ≡ resting options [] []) (engine : IsEngine e start []) (none_left : outputs_left e ≡ []) (same : e.options ≡ options) where
   abbrev at : DeskView
   at = record { shelf = resting options [] []; engine = e; waiting = [] }
 
@@ -48,7 +48,7 @@ module _ (options : Options) (k : Kept) (shelf : Shelf) (e : Core) (o : IsOpened
   pub settled_is : settled k ≡ at
   settled_is = λ i. record { shelf = cut_if (o.cut i) (shown_at (o.engine i).committed (all_ready i)); engine = o.engine i; waiting = o.line.waiting i }
 
-  pub opened_rests : IsSettled k
+  pub opened_rests : IsCaughtUp k
   opened_rests = record {
     rests = kept_shelf ∙ sym (ap (λ (d : DeskView). d.shelf) settled_is);
     seated = record { due = o.line.due; seated = o.line.seated; dues = o.line.dues };
@@ -66,7 +66,7 @@ module _ (options : Options) (k : Kept) (shelf : Shelf) (e : Core) (o : IsOpened
     waits = tt;
   })
 
-  pub opened_for : StandsFor k
+  pub opened_for : DeskStands k
   opened_for = record {
     stands = record { state = start; writes = []; stands = opened_stands };
     right = settled_right k opened_rests;

@@ -24,7 +24,7 @@ use Rattle.kr_world.specs.Outputs.{waiting_after}
 use Rattle.kr_shared.specs.declared.answers.Asking.{Asking}
 use Rattle.kr_shared.specs.declared.desk.Caller.{Caller}
 use Rattle.kr_shared.specs.declared.worker.Turn.{Turn}
-use Rattle.kr_shared.specs.Desks.{ComesToSame, Kept, settled}
+use Rattle.kr_shared.specs.Desks.{ComesToSame, DeskState, settled}
 use Rattle.kr_shared.specs.Serves.{ServesEvent}
 use Rattle.kr_shared.specs.Standing.{StandsForSome}
 use Rattle.kr_shared.specs.Tasks.{basis_at}
@@ -183,7 +183,7 @@ whatever (Ok x) p = tt
 whatever (Err e) p = p
 
 -- what is due stays due
-pub stays_late : (old : Bench) (k later : Kept) → old.work ≡ settled k → old.shown ≡ k.shelf.list → ComesToSame k later → Onwards k.shelf later.shelf → StaysLate old (record old { work = settled later; shown = later.shelf.list })
+pub stays_late : (old : Bench) (k later : DeskState) → old.work ≡ settled k → old.shown ≡ k.shelf.list → ComesToSame k later → Onwards k.shelf later.shelf → StaysLate old (record old { work = settled later; shown = later.shelf.list })
 stays_late old k later work shown same onwards = record {
   same = ap (λ (w : DeskView). record old { work = w; shown = later.shelf.list }) (same.same ∙ sym work);
   goes = record { onwards = subst (GoesOn later.shelf.list) (sym shown) onwards.list; due = due_behind later };

@@ -11,13 +11,13 @@ use Rattle.kr_shared.specs.declared.answers.Aside.{Aside}
 use Rattle.kr_shared.specs.declared.answers.Asking.{Asking}
 use Rattle.kr_shared.specs.declared.asked.Asked.{Asked}
 use Rattle.kr_shared.specs.Answers.{aside_of, asked_by}
-use Rattle.kr_shared.specs.Lines.{HasRoom, IsEmpty, IsSeated, LineView}
+use Rattle.kr_shared.specs.Lines.{HasLineRoom, IsEmpty, IsSeated, LineView}
 use Rattle.kr_shared.specs.Standing.{StandsForSome}
 use Rattle.kr_shared.specs.Works.{DeskView, KeepsShown, call_in}
 
 -- the published list and what is staged, the engine, who waits and what they are due to be told, what the engine added to the
 -- log and isn't staged, and whether what the next publish leaves staged is gone with a leadership
-pub record Kept : Type 0 where
+pub record DeskState : Type 0 where
   pub shelf : Shelf
   pub engine : Core
   pub line : LineView
@@ -25,47 +25,47 @@ pub record Kept : Type 0 where
   pub cut : Bool
 
 -- all is staged
-abbrev pub ready : Kept → Shelf
+abbrev pub ready : DeskState → Shelf
 ready k = fold with_staged (fold with_staged k.shelf k.unstaged) k.line.due
 
 abbrev pub cut_if : Bool → Shelf → Shelf
 cut_if cut s = if cut then record s { items = [] } else s
 
 -- what the worker does comes to this, once all that is due is published
-abbrev pub settled : Kept → DeskView
+abbrev pub settled : DeskState → DeskView
 settled k = record { shelf = cut_if k.cut (shown_at k.engine.committed (ready k)); engine = k.engine; waiting = k.line.waiting }
 
 -- all is published that is due
-pub record IsSettled (k : Kept) : Type 0 where
+pub record IsCaughtUp (k : DeskState) : Type 0 where
   pub rests : k.shelf ≡ (settled k).shelf
   pub seated : IsSeated k.line
   pub unstaged : k.unstaged ≡ []
   pub cut : k.cut ≡ false
 
 -- all is staged that is due
-pub record IsPrepared (k : Kept) : Type 0 where
+pub record IsPrepared (k : DeskState) : Type 0 where
   pub seated : IsSeated k.line
   pub unstaged : k.unstaged ≡ []
 
 -- what is due may be published, and then it stands for some state
-pub record StandsFor (k : Kept) : Type 0 where
+pub record DeskStands (k : DeskState) : Type 0 where
   pub stands : StandsForSome (settled k)
   pub right : AreRightAfter (ready k).options (ready k).list (next_at k.engine.committed (ready k))
-  pub room : HasRoom k.line
+  pub room : HasLineRoom k.line
 
 -- more is staged, and what is due is the same
-pub record StaysDue (old new : Kept) : Type 0 where
+pub record StaysDue (old new : DeskState) : Type 0 where
   pub ready : ready new ≡ ready old
   pub engine : new.engine ≡ old.engine
   pub waiting : new.line.waiting ≡ old.line.waiting
   pub cut : new.cut ≡ old.cut
   pub shown : KeepsShown old.shelf new.shelf
-  pub room : HasRoom old.line → HasRoom new.line
+  pub room : HasLineRoom old.line → HasLineRoom new.line
 
 -- it comes to the same, and the list that is published may be longer
-pub record ComesToSame (old new : Kept) : Type 0 where
+pub record ComesToSame (old new : DeskState) : Type 0 where
   pub same : settled new ≡ settled old
-  pub stands : StandsFor new
+  pub stands : DeskStands new
 
 -- ---- a write that comes
 
@@ -92,12 +92,12 @@ aside_by takes (Some a) event = aside_with takes a (call_in event)
 
 -- besides, what is put aside may be noted without more memory
 abbrev pub HasSpare : Option Aside → LineView → Type 0
-HasSpare None l = HasRoom l
+HasSpare None l = HasLineRoom l
 HasSpare (Some a) l = (l.dues + l.waits) < l.room
 
 -- ---- the opening
 
-pub record IsOpened (shelf : Shelf) (e : Core) (k : Kept) : Type 0 where
+pub record IsNewDesk (shelf : Shelf) (e : Core) (k : DeskState) : Type 0 where
   pub shelf_is : k.shelf ≡ shelf
   pub engine : k.engine ≡ e
   pub line : IsEmpty k.line

@@ -88,7 +88,7 @@ PushedPlaceAtFault old new wanted (faults.Exhausted tip) = ⊥
 PushedPlaceAtFault old new wanted faults.NoMemory = (new.pushed ≡ old.pushed) ⊎ PushedPlace old new wanted
 
 -- a place was asked for, and there is none
-pub record IsRefused (old new : Client) (fault : SubmitFault) : Type 0 where
+pub record IsNotGranted (old new : Client) (fault : SubmitFault) : Type 0 where
   pub few : length old.held < MOST_PLACES
   pub cause : IsPlaceCause new.seen old.number new.ticket (end_of old.seen.list) fault
   pub pushed : PushedPlaceAtFault old new wants.Pin fault
@@ -98,4 +98,4 @@ pub record IsRefused (old new : Client) (fault : SubmitFault) : Type 0 where
 -- as many as it may hold, exactly where it holds so many, and then nothing has changed; or as a write has no answer
 abbrev pub IsPinCause : Client → Client → PinFault → Type 0
 IsPinCause old new (pin_faults.Pins held) = (held ≡ MOST_PLACES) × (length old.held ≡ MOST_PLACES) × (new ≡ old)
-IsPinCause old new (pin_faults.Submit fault) = IsRefused old new fault
+IsPinCause old new (pin_faults.Submit fault) = IsNotGranted old new fault

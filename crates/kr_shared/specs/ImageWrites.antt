@@ -35,7 +35,7 @@ pub record StillKept (place : ℤ) (first later : List Entry) : Type 0 where
   pub few : loads_of later < 2 ^ 64 - 1
 
 -- the seat may have seen more, and is as before otherwise
-pub record ReadsOn (old new : Client) : Type 0 where
+pub record SeesMore (old new : Client) : Type 0 where
   pub onward : Onward old.seen new.seen
   pub same : new ≡ with_client_reading old (client_reading new)
 
@@ -93,11 +93,11 @@ abbrev pub WritesImage : ℤ → List Entry → List Entry → Option (List ℕ)
 WritesImage place old new written written' result = WritesNothing place new written written' result ⊎ WritesFrom place old new written written' result
 
 -- a seat's part in it, and a sink's
-abbrev pub IsReadFault : ImageWriteFault → Type 0
-IsReadFault (faults.Scan fault) = Unit {0}
-IsReadFault (faults.Loaded first later) = Unit {0}
-IsReadFault faults.WriteFault = ⊥
-IsReadFault faults.NoMemory = Unit {0}
+abbrev pub IsReaderFault : ImageWriteFault → Type 0
+IsReaderFault (faults.Scan fault) = Unit {0}
+IsReaderFault (faults.Loaded first later) = Unit {0}
+IsReaderFault faults.WriteFault = ⊥
+IsReaderFault faults.NoMemory = Unit {0}
 
 abbrev pub IsPutFault : ImageWriteFault → Type 0
 IsPutFault (faults.Scan fault) = ⊥

@@ -8,12 +8,12 @@ use Rattle.kr_shared.specs.declared.line.Note.TheVariants as notes
 use Rattle.kr_shared.specs.Answers.{answer_with}
 
 -- the entry by which it is told
-abbrev pub entry_of : Note → Entry
-entry_of (notes.Decided kind answered) = entries.Answer (answer_with kind answered)
-entry_of (notes.Bare entry) = entry
+abbrev pub line_entry : Note → Entry
+line_entry (notes.Decided kind answered) = entries.Answer (answer_with kind answered)
+line_entry (notes.Bare entry) = entry
 
 abbrev pub entries_of : List Note → List Entry
-entries_of due = map entry_of due
+entries_of due = map line_entry due
 
 -- who waits, in order; what is due; whether all that wait have a place; how many wait, how much is due, and for how much of it
 -- there is room
@@ -26,8 +26,8 @@ pub record LineView : Type 0 where
   pub room : ℕ
 
 -- all that wait may be answered without more memory
-abbrev pub HasRoom : LineView → Type 0
-HasRoom l = (l.dues + l.waits) ≤ l.room
+abbrev pub HasLineRoom : LineView → Type 0
+HasLineRoom l = (l.dues + l.waits) ≤ l.room
 
 pub record IsEmpty (l : LineView) : Type 0 where
   pub waiting : l.waiting ≡ []

@@ -224,7 +224,7 @@ Turned o old new turns.Idle = (old.stopped ≡ false) × (old.stays ≡ None) ×
 -- ---- without memory
 
 -- nothing was taken up
-pub record Waits (old new : Bench) : Type 0 where
+pub record TakesNothing (old new : Bench) : Type 0 where
   pub knows : new.knows ≡ old.knows
   pub stays : new.stays ≡ old.stays
 
@@ -237,7 +237,7 @@ pub record Defers (old new : Bench) (job : Job) : Type 0 where
 -- the work is as it was; where a job was taken up, it stays
 pub record IsAsBefore (o : Outside) (old new : Bench) : Type 0 where
   pub work : new.work ≡ old.work
-  pub job : Waits old new ⊎ ((job : Job) × Defers old new job)
+  pub job : TakesNothing old new ⊎ ((job : Job) × Defers old new job)
   pub events : new.events ≡ old.events
   pub refusal : new.refusal ≡ None
   pub stopped : new.stopped ≡ old.stopped

@@ -6,7 +6,7 @@ use Rattle.kr_queue.specs.declared.passes.Role.TheVariants as roles
 use Rattle.kr_queue.specs.Jobs.{is_fit}
 use Rattle.kr_queue.specs.Passes.{view, IsPassOf}
 use Rattle.kr_shared.specs.declared.worker.WorkerSeat.TheInside.{Inside}
-use Rattle.kr_shared.specs.Desks.{IsSettled, StandsFor, settled}
+use Rattle.kr_shared.specs.Desks.{IsCaughtUp, DeskStands, settled}
 use Rattle.kr_shared.specs.Turns.{Bench}
 
 abbrev pub bench_of : Inside → Bench
@@ -25,6 +25,6 @@ bench_of w = record {
 pub record IsWorker (w : Inside) : Type 0 where
   pub pass : IsPassOf (arc_value w.queue) w.pass
   pub role : (view w.pass).role ≡ roles.Worker
-  pub stands : StandsFor w.desk
-  pub rests : w.late ≡ false → IsSettled w.desk
+  pub stands : DeskStands w.desk
+  pub rests : w.late ≡ false → IsCaughtUp w.desk
   pub stays : (job : Job) → w.stays ≡ Some job → IsTrue (is_fit job)

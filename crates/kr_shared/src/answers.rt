@@ -3,7 +3,7 @@
 ghost use Rattle.std.specs.Prelude.{◌≡◌, ◌≤◌, ◌+◌};
 ghost use Rattle.kr_shared.specs.Answers as rules;
 ghost use Rattle.kr_shared.specs.Answers.{answering};
-ghost use Rattle.kr_shared.specs.Lines.{HasRoom};
+ghost use Rattle.kr_shared.specs.Lines.{HasLineRoom};
 
 use crate::asked::Asked;
 use crate::line::Line;
@@ -75,7 +75,7 @@ fn reply_in(output: Output) -> Option<Reply>
 
 // The reply of a write that waited ends it.
 fn end_told(line: &mut Line, output: Output, ended: Ended)
-    requires { HasRoom line.old }
+    requires { HasLineRoom line.old }
     ensures answered { answering line.new.waiting line.new.due
         ≡ rules.with_ended (answering line.old.waiting line.old.due) output ended }
     ensures fewer { line.new.dues + line.new.waits ≤ line.old.dues + line.old.waits }
@@ -99,7 +99,7 @@ fn or_reply_in(reply: Option<Reply>, output: Output) -> Option<Reply>
 
 /// The reply of a write that waited ends it; of the others the first is kept. It takes no memory.
 pub(crate) fn answer_told(line: &mut Line, reply: Option<Reply>, told: Told) -> Option<Reply>
-    requires { HasRoom line.old }
+    requires { HasLineRoom line.old }
     ensures reply { result ≡ rules.or_reply reply told }
     ensures answered { answering line.new.waiting line.new.due
         ≡ rules.with_told (answering line.old.waiting line.old.due) told }

@@ -32,7 +32,7 @@ impl Bell {
         *self.number.lock(rt)
     }
 
-    /// Waits until the number isn't this one.
+    /// TakesNothing until the number isn't this one.
     pub fn wait_past<R: Wait>(&self, rt: &R, seen: u64) {
         let _number = self
             .rung

@@ -11,16 +11,16 @@ ghost use Rattle.kr_world.specs.Engine.{IsSound, IsStep, outputs_left};
 ghost use Rattle.kr_world.specs.World.{is_far};
 ghost use Rattle.law_following.specs.Following.{AreNotes};
 ghost use Rattle.kr_shared.specs.Answers.{aside_noted};
-ghost use Rattle.kr_shared.specs.Desks.{ComesToSame, HasSpare, IsOpened, IsPrepared, IsSettled, StandsFor, StaysDue, aside_by, cut_if, entered_by, settled, takes_writes};
+ghost use Rattle.kr_shared.specs.Desks.{ComesToSame, HasSpare, IsNewDesk, IsPrepared, IsCaughtUp, DeskStands, StaysDue, aside_by, cut_if, entered_by, settled, takes_writes};
 ghost use Rattle.kr_shared.specs.Gives.{GivesOut};
-ghost use Rattle.kr_shared.specs.Lines.{HasRoom, IsSeated, entry_of};
+ghost use Rattle.kr_shared.specs.Lines.{HasLineRoom, IsSeated, line_entry};
 ghost use Rattle.kr_shared.specs.Serves.{ServesEvent};
 ghost use Rattle.kr_shared.specs.Turns.{DoesJob, DoesRequest, DoesWhole, DoesWrite, LosesLed, LosesUnless, Notes, NotesUnlessAhead, job_again, pin_entry, write_job};
 ghost use Rattle.kr_shared.specs.Tasks.{IsTask, basis_at};
 ghost use Rattle.kr_shared.specs.Works.{IsBareNote, KeepsShown, Onwards, call_in, call_of};
 
 use crate::answers::{Aside, Asking, asked_by};
-use crate::line::{Line, Note, bare_answer, decided, pinned, stop, unpinned};
+use crate::line::{Line, Note, bare_answer, note_of_decision, note_of_pin, note_of_unpin, stop};
 use crate::taking::{Given, give_out};
 use kr_base::{Clock, NoMemory, Quorum, Steps};
 use kr_calls::{AnswerKind, Ask, Call, Entry, Event, Reason, Reply};
@@ -49,9 +49,9 @@ pub(crate) struct Desk {
 }
 
 impl Model for Desk {
-    ghost use Rattle.kr_shared.specs.Desks.{Kept};
+    ghost use Rattle.kr_shared.specs.Desks.{DeskState};
 
-    ghost Value = { Kept };
+    ghost Value = { DeskState };
 
     ghost view = { λ d. record {
       shelf = d.publisher;
@@ -149,7 +149,7 @@ fn stage_entries(publisher: &mut Publisher, unstaged: &mut VecDeque<Entry>) -> R
 
 impl Desk {
     pub(crate) fn new(alloc: Global, publisher: Publisher, engine: Engine) -> Desk
-        ensures { IsOpened publisher engine result }
+        ensures { IsNewDesk publisher engine result }
     {
         Desk {
             alloc,
@@ -230,9 +230,9 @@ impl Desk {
 
     /// Publishes all that is due. Without memory it stays due.
     pub(crate) fn settle<R: Wait>(&mut self, rt: &R) -> Result<(), NoMemory>
-        requires { StandsFor self.old }
+        requires { DeskStands self.old }
         ensures same { ComesToSame self.old self.new }
-        ensures done { OnOk result (IsSettled self.new) }
+        ensures done { OnOk result (IsCaughtUp self.new) }
         ensures onwards { Onwards self.old.shelf self.new.shelf }
     {
         self.prepare()?;
@@ -313,7 +313,7 @@ impl Desk {
     #[tactic(auto, using(kr_world::proofs::SoundEngines::sound_order))]
     fn give_out<Q: Quorum>(&mut self, quorum: &mut Q) -> Given
         requires ordered { IsSound self.old.engine }
-        requires room { HasRoom self.old.line }
+        requires room { HasLineRoom self.old.line }
         ensures given { GivesOut self.old.engine self.new.engine (Q.pieces quorum.old)
             (Q.pieces quorum.new) (Q.faults quorum.old) (Q.faults quorum.new) self.old.line
             self.new.line result }
@@ -331,7 +331,7 @@ impl Desk {
         ensures due { self.new.line.due
             ≡ self.old.line.due ++ aside_noted aside refusal.now reply }
         ensures waiting { self.new.line.waiting ≡ self.old.line.waiting }
-        ensures room { HasRoom self.new.line }
+        ensures room { HasLineRoom self.new.line }
         ensures same { self.new ≡ record self.old { line = self.new.line } }
     {
         let Some(Aside { asked, place }) = aside else {
@@ -344,7 +344,7 @@ impl Desk {
             return;
         }
         if let Some(reply) = reply {
-            let note = decided(asked, AnswerKind::Lost, &place, 0, reply);
+            let note = note_of_decision(asked, AnswerKind::Lost, &place, 0, reply);
             self.line.note(note);
         }
     }
@@ -378,15 +378,15 @@ impl Desk {
         asking: Option<Asking>,
         steps: &mut Steps<L>,
     ) -> Result<Served, Event>
-        requires stands { StandsFor self.old }
-        requires rests { IsSettled self.old }
+        requires stands { DeskStands self.old }
+        requires rests { IsCaughtUp self.old }
         requires room { self.old.line.waits < self.old.line.room }
         requires task { IsTask self.old.engine event asking }
         ensures done { IfOk result (λ served. ServesEvent (Q.pieces quorum.old)
             (Q.pieces quorum.new) (Q.faults quorum.old)
             (Q.faults quorum.new) (settled self.old) (settled self.new) event asking
             served.appended served.refusal) }
-        ensures stands { OnOk result (StandsFor self.new × (self.new.cut ≡ false)
+        ensures stands { OnOk result (DeskStands self.new × (self.new.cut ≡ false)
             × AreNotes self.new.line.due) }
         ensures err { IfErr result (λ refused. (refused ≡ event) × (self.new ≡ self.old)
             × (Q.pieces quorum.new ≡ Q.pieces quorum.old)
@@ -413,14 +413,14 @@ impl Desk {
 
     // The leadership in this epoch is lost. It takes no memory.
     fn lose_led<Q: Quorum, L: Ledger>(&mut self, quorum: &mut Q, epoch: i32, steps: &mut Steps<L>)
-        requires stands { StandsFor self.old }
+        requires stands { DeskStands self.old }
         requires led { self.old.engine.leading ≡ Some epoch }
         requires cut { self.old.cut ≡ false }
         requires bare { AreNotes self.old.line.due }
         ensures done { LosesLed (Q.pieces quorum.old) (Q.pieces quorum.new)
             (Q.faults quorum.old) (Q.faults quorum.new) (settled self.old) (settled self.new)
             (Some epoch) }
-        ensures stands { StandsFor self.new }
+        ensures stands { DeskStands self.new }
         ensures shown { KeepsShown self.old.shelf self.new.shelf }
     {
         let event = Event::Lost { epoch };
@@ -434,12 +434,12 @@ impl Desk {
 
     // The leadership is lost in which this node leads, where an append failed.
     fn lose<Q: Quorum, L: Ledger>(&mut self, quorum: &mut Q, appended: bool, steps: &mut Steps<L>)
-        requires stands { StandsFor self.old }
+        requires stands { DeskStands self.old }
         requires cut { self.old.cut ≡ false }
         requires bare { AreNotes self.old.line.due }
         ensures done { LosesUnless appended (Q.pieces quorum.old) (Q.pieces quorum.new)
             (Q.faults quorum.old) (Q.faults quorum.new) (settled self.old) (settled self.new) }
-        ensures stands { StandsFor self.new }
+        ensures stands { DeskStands self.new }
         ensures shown { KeepsShown self.old.shelf self.new.shelf }
     {
         if appended {
@@ -459,14 +459,14 @@ impl Desk {
         asking: Option<Asking>,
         steps: &mut Steps<L>,
     ) -> Result<Option<Reason>, Event>
-        requires stands { StandsFor self.old }
-        requires rests { IsSettled self.old }
+        requires stands { DeskStands self.old }
+        requires rests { IsCaughtUp self.old }
         requires room { self.old.line.waits < self.old.line.room }
         requires task { IsTask self.old.engine event asking }
         ensures done { IfOk result (λ refusal. DoesWhole (Q.pieces quorum.old)
             (Q.pieces quorum.new) (Q.faults quorum.old) (Q.faults quorum.new) (settled self.old)
             (settled self.new) event asking refusal) }
-        ensures stands { OnOk result (StandsFor self.new) }
+        ensures stands { OnOk result (DeskStands self.new) }
         ensures err { IfErr result (λ refused. (refused ≡ event) × (self.new ≡ self.old)
             × (Q.pieces quorum.new ≡ Q.pieces quorum.old)
             × (Q.faults quorum.new ≡ Q.faults quorum.old)) }
@@ -481,12 +481,12 @@ impl Desk {
 
     // A pin, an unpin, an answer or a stop is to be told at once.
     fn note(&mut self, note: Note)
-        requires stands { StandsFor self.old }
-        requires rests { IsSettled self.old }
+        requires stands { DeskStands self.old }
+        requires rests { IsCaughtUp self.old }
         requires room { self.old.line.waits < self.old.line.room }
-        requires bare { IsBareNote (settled self.old).shelf.list (entry_of note) }
-        ensures done { Notes (settled self.old) (settled self.new) (entry_of note) }
-        ensures stands { StandsFor self.new }
+        requires bare { IsBareNote (settled self.old).shelf.list (line_entry note) }
+        ensures done { Notes (settled self.old) (settled self.new) (line_entry note) }
+        ensures stands { DeskStands self.new }
         ensures shown { self.new.shelf ≡ self.old.shelf }
     {
         self.line.note(note);
@@ -510,11 +510,11 @@ impl Desk {
 
     // Room for what comes of one event.
     fn make_room(&mut self) -> Result<(), NoMemory>
-        requires stands { StandsFor self.old }
-        requires rests { IsSettled self.old }
+        requires stands { DeskStands self.old }
+        requires rests { IsCaughtUp self.old }
         ensures same { settled self.new ≡ settled self.old }
-        ensures stands { StandsFor self.new }
-        ensures rests { IsSettled self.new }
+        ensures stands { DeskStands self.new }
+        ensures rests { IsCaughtUp self.new }
         ensures shown { self.new.shelf ≡ self.old.shelf }
         ensures engine { self.new.engine ≡ self.old.engine }
         ensures room { OnOk result (self.new.line.waits < self.new.line.room) }
@@ -531,15 +531,15 @@ impl Desk {
         call: Call,
         steps: &mut Steps<L>,
     ) -> Result<(), Job>
-        requires stands { StandsFor self.old }
-        requires rests { IsSettled self.old }
+        requires stands { DeskStands self.old }
+        requires rests { IsCaughtUp self.old }
         requires room { self.old.line.waits < self.old.line.room }
         requires write { IsTrue (not (is_read call.request)) }
         requires floor { IsTrue (not (int_lt self.old.engine.tip caller.floor)) }
         ensures done { OnOk result (DoesRequest (Q.pieces quorum.old) (Q.pieces quorum.new)
             (Q.faults quorum.old) (Q.faults quorum.new) (settled self.old) (settled self.new)
             caller now.now call) }
-        ensures stands { OnOk result (StandsFor self.new) }
+        ensures stands { OnOk result (DeskStands self.new) }
         ensures err { IfErr result (λ refused. (refused ≡ write_job caller call)
             × (self.new ≡ self.old)
             × (Q.pieces quorum.new ≡ Q.pieces quorum.old)
@@ -587,8 +587,8 @@ impl Desk {
         call: Call,
         steps: &mut Steps<L>,
     ) -> Result<(), Job>
-        requires stands { StandsFor self.old }
-        requires rests { IsSettled self.old }
+        requires stands { DeskStands self.old }
+        requires rests { IsCaughtUp self.old }
         requires room { self.old.line.waits < self.old.line.room }
         requires write { IsTrue (not (is_read call.request)) }
         ensures done { OnOk result (DoesWrite (int_lt self.old.engine.tip caller.floor)
@@ -602,7 +602,7 @@ impl Desk {
               last = C.last clock.new;
             }) (settled self.old) (settled self.new) caller.seat
             caller.ticket caller.floor call) }
-        ensures stands { OnOk result (StandsFor self.new) }
+        ensures stands { OnOk result (DeskStands self.new) }
         ensures err { IfErr result (λ refused. (refused ≡ write_job caller call)
             × (self.new ≡ self.old)
             × (Q.pieces quorum.new ≡ Q.pieces quorum.old)
@@ -622,13 +622,13 @@ impl Desk {
 
     // What a client keeps or gives back is to be told, unless the client has seen more of the log than there is.
     fn note_unless_ahead(&mut self, caller: Caller, note: Note)
-        requires stands { StandsFor self.old }
-        requires rests { IsSettled self.old }
+        requires stands { DeskStands self.old }
+        requires rests { IsCaughtUp self.old }
         requires room { self.old.line.waits < self.old.line.room }
-        requires bare { IsBareNote (settled self.old).shelf.list (entry_of note) }
+        requires bare { IsBareNote (settled self.old).shelf.list (line_entry note) }
         ensures done { NotesUnlessAhead (int_lt self.old.engine.tip caller.floor)
-            (settled self.old) (settled self.new) caller.seat caller.ticket (entry_of note) }
-        ensures stands { StandsFor self.new }
+            (settled self.old) (settled self.new) caller.seat caller.ticket (line_entry note) }
+        ensures stands { DeskStands self.new }
         ensures shown { self.new.shelf ≡ self.old.shelf }
     {
         if self.is_behind(&caller.floor) {
@@ -642,17 +642,17 @@ impl Desk {
 
     // The committed end is pinned, unless the client has seen more of the log than there is.
     fn note_pin(&mut self, caller: Caller)
-        requires stands { StandsFor self.old }
-        requires rests { IsSettled self.old }
+        requires stands { DeskStands self.old }
+        requires rests { IsCaughtUp self.old }
         requires room { self.old.line.waits < self.old.line.room }
         ensures done { NotesUnlessAhead (int_lt self.old.engine.tip caller.floor)
             (settled self.old) (settled self.new) caller.seat caller.ticket
             (pin_entry caller.seat caller.ticket self.old.engine.committed) }
-        ensures stands { StandsFor self.new }
+        ensures stands { DeskStands self.new }
         ensures shown { self.new.shelf ≡ self.old.shelf }
     {
         let place = self.engine.committed();
-        let note = pinned(caller.seat, caller.ticket, &place);
+        let note = note_of_pin(caller.seat, caller.ticket, &place);
         self.note_unless_ahead(caller, note);
     }
 
@@ -664,8 +664,8 @@ impl Desk {
         job: Job,
         steps: &mut Steps<L>,
     ) -> Result<Option<Reason>, Job>
-        requires stands { StandsFor self.old }
-        requires rests { IsSettled self.old }
+        requires stands { DeskStands self.old }
+        requires rests { IsCaughtUp self.old }
         requires room { self.old.line.waits < self.old.line.room }
         requires fit { IsTrue (is_fit job) }
         ensures done { IfOk result (λ refusal. DoesJob (record {
@@ -677,7 +677,7 @@ impl Desk {
           asks' = C.asks clock.new;
           last = C.last clock.new;
         }) (settled self.old) (settled self.new) job refusal) }
-        ensures stands { OnOk result (StandsFor self.new) }
+        ensures stands { OnOk result (DeskStands self.new) }
         ensures err { IfErr result (λ refused. (refused ≡ job)
             × (self.new ≡ self.old)
             × (Q.pieces quorum.new ≡ Q.pieces quorum.old)
@@ -725,7 +725,7 @@ impl Desk {
                 floor,
                 place,
             } => {
-                let note = unpinned(seat, ticket, &place);
+                let note = note_of_unpin(seat, ticket, &place);
                 let caller = Caller {
                     seat,
                     ticket,
@@ -746,8 +746,8 @@ impl Desk {
         job: Job,
         steps: &mut Steps<L>,
     ) -> Result<Option<Reason>, Job>
-        requires stands { StandsFor self.old }
-        requires rests { IsSettled self.old }
+        requires stands { DeskStands self.old }
+        requires rests { IsCaughtUp self.old }
         requires fit { IsTrue (is_fit job) }
         ensures done { IfOk result (λ refusal. DoesJob (record {
           pieces = Q.pieces quorum.old;
@@ -758,9 +758,9 @@ impl Desk {
           asks' = C.asks clock.new;
           last = C.last clock.new;
         }) (settled self.old) (settled self.new) job refusal) }
-        ensures stands { StandsFor self.new }
+        ensures stands { DeskStands self.new }
         ensures err { IfErr result (λ refused. (refused ≡ job)
-            × (settled self.new ≡ settled self.old) × IsSettled self.new
+            × (settled self.new ≡ settled self.old) × IsCaughtUp self.new
             × (Q.pieces quorum.new ≡ Q.pieces quorum.old)
             × (Q.faults quorum.new ≡ Q.faults quorum.old)) }
         ensures shown { KeepsShown self.old.shelf self.new.shelf }

@@ -9,8 +9,8 @@ ghost use Rattle.kr_view.specs.Readers.{HasScanCause};
 ghost use Rattle.kr_view.specs.RecordPages.{record_page};
 ghost use Rattle.kr_view.specs.Scans.{IsNotThere};
 ghost use Rattle.kr_shared.specs.Clients.{client_reading};
-ghost use Rattle.kr_shared.specs.ImageWrites.{HasMiss, IsNextPage, IsOver, IsReadFault, IsStop, ReadsOn, StillKept, walk_from};
-ghost use Rattle.kr_shared.specs.KeysBehind.{key_behind, keys_behind, topic_in};
+ghost use Rattle.kr_shared.specs.ImageWrites.{HasMiss, IsNextPage, IsOver, IsReaderFault, IsStop, SeesMore, StillKept, walk_from};
+ghost use Rattle.kr_shared.specs.KeysBehind.{key_behind, keys_behind, topic_name_in};
 
 use crate::clients::ClientSeat;
 use crate::image_writing::ImageWriteFault;
@@ -25,8 +25,8 @@ use std::alloc::Global;
 // The greatest number of records that the head of an image tells.
 const GREATEST_COUNT: u64 = 9223372036854775807;
 
-fn topic_in(alloc: Global, last: Option<RecordKey>) -> Text
-    ensures { result ≡ topic_in last }
+fn topic_name_in(alloc: Global, last: Option<RecordKey>) -> Text
+    ensures { result ≡ topic_name_in last }
 {
     match last {
         Some(RecordKey::Topic { name }) => name,
@@ -62,7 +62,7 @@ fn key_behind(
             name: name.copied(alloc)?,
         },
         Record::Partition { index, .. } => RecordKey::Partition {
-            topic: topic_in(alloc, last),
+            topic: topic_name_in(alloc, last),
             index: *index,
         },
         Record::Config {
@@ -119,7 +119,7 @@ pub(crate) struct Walk {
 impl Walk {
     /// The first call, which asks for no records: it finds the place.
     pub fn begin(seat: &mut ClientSeat, place: i64) -> Result<Walk, ScanFault>
-        ensures reads { ReadsOn seat.old seat.new }
+        ensures reads { SeesMore seat.old seat.new }
         ensures walk { IfOk result (λ w. w ≡ walk_from place seat.new.seen.list) }
         ensures over { IfOk result (λ w. IsOver w seat.new.seen.list) }
         ensures fault { IfErr result (IsNotThere (pinned_log seat.new.seen.list) place) }
@@ -145,11 +145,11 @@ impl Walk {
     #[tactic(auto, using(crate::proofs::KeptImages::same_images))]
     fn read(&self, seat: &mut ClientSeat) -> Result<Records, ImageWriteFault>
         requires { IsOver self.now seat.old.seen.list }
-        ensures reads { ReadsOn seat.old seat.new }
+        ensures reads { SeesMore seat.old seat.new }
         ensures page { IfOk result (λ page. page ≡ record_page
             (image_below self.now.place seat.old.seen.list) self.now.after most) }
         ensures kept { OnOk result (StillKept self.now.place seat.old.seen.list seat.new.seen.list) }
-        ensures fault { IfErr result IsReadFault }
+        ensures fault { IfErr result IsReaderFault }
         ensures stop { IfErr result
             (IsStop self.now.place seat.old.seen.list seat.new.seen.list) }
         ensures misses { HasMiss seat.old.misses seat.new.misses result }
@@ -173,10 +173,10 @@ impl Walk {
         seat: &mut ClientSeat,
     ) -> Result<Records, ImageWriteFault>
         requires { IsOver self.old seat.old.seen.list }
-        ensures reads { ReadsOn seat.old seat.new }
+        ensures reads { SeesMore seat.old seat.new }
         ensures page { IfOk result
             (IsNextPage seat.old.seen.list seat.new.seen.list self.old self.new) }
-        ensures fault { IfErr result IsReadFault }
+        ensures fault { IfErr result IsReaderFault }
         ensures stop { IfErr result
             (IsStop self.old.place seat.old.seen.list seat.new.seen.list) }
         ensures misses { HasMiss seat.old.misses seat.new.misses result }
@@ -190,14 +190,14 @@ impl Walk {
     pub fn count(&mut self, alloc: Global, seat: &mut ClientSeat) -> Result<u64, ImageWriteFault>
         requires over { IsOver self.old seat.old.seen.list }
         requires start { self.old.after ≡ None }
-        ensures reads { ReadsOn seat.old seat.new }
+        ensures reads { SeesMore seat.old seat.new }
         ensures count { IfOk result (λ count. count ≡ length
             (records_of (image_below self.old.place seat.old.seen.list))) }
         ensures small { IfOk result (λ count. count < 2 ^ 63) }
         ensures walk { OnOk result (self.new
             ≡ record self.old { after = self.new.after }) }
         ensures kept { OnOk result (StillKept self.old.place seat.old.seen.list seat.new.seen.list) }
-        ensures fault { IfErr result IsReadFault }
+        ensures fault { IfErr result IsReaderFault }
         ensures stop { IfErr result
             (IsStop self.old.place seat.old.seen.list seat.new.seen.list) }
         ensures misses { HasMiss seat.old.misses seat.new.misses result }

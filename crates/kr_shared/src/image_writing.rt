@@ -9,7 +9,7 @@ ghost use Rattle.kr_defs.specs.Records.{records_of};
 ghost use Rattle.kr_snapshot.specs.ImageText.{image_head};
 ghost use Rattle.kr_snapshot.specs.Written.{IsNextText, MayPut, after_put, put_bytes};
 ghost use Rattle.kr_shared.specs.declared.image_writing.ImageWriteFault.TheVariants as faults;
-ghost use Rattle.kr_shared.specs.ImageWrites.{HasMiss, IsOver, IsPutFault, ReadsOn, WritesImage, WritesText};
+ghost use Rattle.kr_shared.specs.ImageWrites.{HasMiss, IsOver, IsPutFault, SeesMore, WritesImage, WritesText};
 
 use crate::clients::ClientSeat;
 use crate::image_walk::Walk;
@@ -137,7 +137,7 @@ fn write_counted<K: Sink>(
     requires count { count ≡ length
         (records_of (image_below walk.old.place seat.old.seen.list)) }
     requires small { count < 2 ^ 63 }
-    ensures reads { ReadsOn seat.old seat.new }
+    ensures reads { SeesMore seat.old seat.new }
     ensures writes { WritesText walk.old.place seat.old.seen.list seat.new.seen.list
         (K.written sink.old) (K.written sink.new) result }
     ensures rose { IsErrOf result faults.WriteFault →
@@ -164,7 +164,7 @@ fn write_walk<K: Sink>(
 ) -> Result<(), ImageWriteFault>
     requires over { IsOver walk.old seat.old.seen.list }
     requires start { walk.old.after ≡ None }
-    ensures reads { ReadsOn seat.old seat.new }
+    ensures reads { SeesMore seat.old seat.new }
     ensures writes { WritesText walk.old.place seat.old.seen.list seat.new.seen.list
         (K.written sink.old) (K.written sink.new) result }
     ensures rose { IsErrOf result faults.WriteFault →
@@ -191,7 +191,7 @@ pub fn write_image<K: Sink>(
     sink: &mut K,
 ) -> Result<(), ImageWriteFault>
     // The seat may have seen more, and is as before otherwise.
-    ensures reads { ReadsOn seat.old seat.new }
+    ensures reads { SeesMore seat.old seat.new }
     // Where the sink tells: at Ok the text of the image at the place, and else a front of that which the first call saw.
     ensures writes { WritesImage place seat.old.seen.list seat.new.seen.list (K.written sink.old)
         (K.written sink.new) result }

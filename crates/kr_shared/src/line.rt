@@ -3,7 +3,7 @@
 ghost use Rattle.std.specs.Prelude.{◌≡◌, ◌++◌, ◌∷◌, ◌+◌, ◌≤◌, ◌<◌, [], true, false, fold, length, option_to_list, IfErr, IfOk, IfNone, OnOk};
 ghost use Rattle.std.specs.VecDeque.{deque_capacity, deque_len};
 ghost use Rattle.kr_view.specs.Shelves.{with_staged};
-ghost use Rattle.kr_shared.specs.Lines.{HasRoom, IsEmpty, IsSeated, entries_of, entry_of};
+ghost use Rattle.kr_shared.specs.Lines.{HasLineRoom, IsEmpty, IsSeated, entries_of, line_entry};
 ghost use Rattle.kr_shared.specs.Works.{KeepsShown};
 ghost use Rattle.kr_shared.specs.Answers as rules;
 ghost use Rattle.kr_shared.specs.Turns.{pin_entry, unpin_entry};
@@ -34,7 +34,7 @@ pub(crate) enum Note {
 
 /// An answer without a decision, at the place.
 pub(crate) fn bare_answer(seat: u32, ticket: u64, place: &i64, kind: AnswerKind) -> Note
-    ensures { entry_of result ≡ rules.answer_entry (rules.bare_answer seat ticket place.now kind) }
+    ensures { line_entry result ≡ rules.answer_entry (rules.bare_answer seat ticket place.now kind) }
 {
     let answer = Answer {
         seat,
@@ -49,8 +49,8 @@ pub(crate) fn bare_answer(seat: u32, ticket: u64, place: &i64, kind: AnswerKind)
 }
 
 /// A pin of a place.
-pub(crate) fn pinned(seat: u32, ticket: u64, place: &i64) -> Note
-    ensures { entry_of result ≡ pin_entry seat ticket place.now }
+pub(crate) fn note_of_pin(seat: u32, ticket: u64, place: &i64) -> Note
+    ensures { line_entry result ≡ pin_entry seat ticket place.now }
 {
     let pin = Pin {
         seat,
@@ -63,8 +63,8 @@ pub(crate) fn pinned(seat: u32, ticket: u64, place: &i64) -> Note
 }
 
 /// An unpin of a place.
-pub(crate) fn unpinned(seat: u32, ticket: u64, place: &i64) -> Note
-    ensures { entry_of result ≡ unpin_entry seat ticket place.now }
+pub(crate) fn note_of_unpin(seat: u32, ticket: u64, place: &i64) -> Note
+    ensures { line_entry result ≡ unpin_entry seat ticket place.now }
 {
     let pin = Pin {
         seat,
@@ -78,7 +78,7 @@ pub(crate) fn unpinned(seat: u32, ticket: u64, place: &i64) -> Note
 
 /// A stop.
 pub(crate) fn stop(number: u64) -> Note
-    ensures { entry_of result ≡ rules.stop_entry number }
+    ensures { line_entry result ≡ rules.stop_entry number }
 {
     Note::Bare {
         entry: Entry::Stop { number },
@@ -104,8 +104,14 @@ impl Model for Line {
 }
 
 /// What was decided of what was asked.
-pub(crate) fn decided(asked: Asked, kind: AnswerKind, place: &i64, count: u32, reply: Reply) -> Note
-    ensures { entry_of result ≡ rules.answer_entry (rules.decided_answer asked kind place.now count reply) }
+pub(crate) fn note_of_decision(
+    asked: Asked,
+    kind: AnswerKind,
+    place: &i64,
+    count: u32,
+    reply: Reply,
+) -> Note
+    ensures { line_entry result ≡ rules.answer_entry (rules.decided_answer asked kind place.now count reply) }
 {
     let Asked {
         seat,
@@ -130,7 +136,11 @@ pub(crate) fn decided(asked: Asked, kind: AnswerKind, place: &i64, count: u32, r
 }
 
 // The answer that holds what was decided. It comes back where there is no memory.
-fn holding(alloc: Global, kind: AnswerKind, answered: Answered) -> Result<Answer, Answered>
+fn answer_that_holds(
+    alloc: Global,
+    kind: AnswerKind,
+    answered: Answered,
+) -> Result<Answer, Answered>
     ensures ok { IfOk result (λ answer. answer ≡ rules.answer_with kind answered) }
     ensures err { IfErr result (λ refused. refused ≡ answered) }
 {
@@ -152,7 +162,7 @@ fn holding(alloc: Global, kind: AnswerKind, answered: Answered) -> Result<Answer
 // Stages an entry. It comes back where there is no room for it.
 fn stage_entry(publisher: &mut Publisher, entry: Entry) -> Result<(), Note>
     ensures ok { OnOk result (publisher.new ≡ with_staged publisher.old entry) }
-    ensures err { IfErr result (λ refused. (entry_of refused ≡ entry)
+    ensures err { IfErr result (λ refused. (line_entry refused ≡ entry)
         × (publisher.new ≡ publisher.old)) }
 {
     match publisher.stage(entry) {
@@ -163,12 +173,12 @@ fn stage_entry(publisher: &mut Publisher, entry: Entry) -> Result<(), Note>
 
 // Stages what is due. It comes back where there is no memory.
 fn stage_note(alloc: Global, publisher: &mut Publisher, note: Note) -> Result<(), Note>
-    ensures ok { OnOk result (publisher.new ≡ with_staged publisher.old (entry_of note)) }
-    ensures err { IfErr result (λ refused. (entry_of refused ≡ entry_of note)
+    ensures ok { OnOk result (publisher.new ≡ with_staged publisher.old (line_entry note)) }
+    ensures err { IfErr result (λ refused. (line_entry refused ≡ line_entry note)
         × (publisher.new ≡ publisher.old)) }
 {
     match note {
-        Note::Decided { kind, answered } => match holding(alloc, kind, answered) {
+        Note::Decided { kind, answered } => match answer_that_holds(alloc, kind, answered) {
             Ok(answer) => stage_entry(publisher, Entry::Answer { answer }),
             Err(answered) => Err(Note::Decided { kind, answered }),
         },
@@ -261,7 +271,7 @@ impl Line {
     pub(crate) fn note(&mut self, note: Note)
         requires { self.old.dues < self.old.room }
         ensures { self.new ≡ record self.old {
-          due = self.old.due ++ entry_of note ∷ [];
+          due = self.old.due ++ line_entry note ∷ [];
           dues = self.old.dues + 1;
         } }
     {
@@ -270,7 +280,7 @@ impl Line {
 
     /// What waited longest is answered. It takes no memory.
     pub(crate) fn end_first(&mut self, ended: Ended, reply: Reply)
-        requires { HasRoom self.old }
+        requires { HasLineRoom self.old }
         ensures answered { answering self.new.waiting self.new.due
             ≡ rules.with_reply self.old.waiting self.old.due ended reply }
         ensures fewer { self.new.dues + self.new.waits ≤ self.old.dues + self.old.waits }
@@ -280,7 +290,7 @@ impl Line {
             return;
         };
         let Ended { kind, decided: at } = ended;
-        let note = decided(asked, kind, &at.place, at.count, reply);
+        let note = note_of_decision(asked, kind, &at.place, at.count, reply);
         self.note(note);
     }
 

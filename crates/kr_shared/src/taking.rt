@@ -3,7 +3,7 @@
 ghost use Rattle.std.specs.Prelude.{◌≡◌, IsTrue};
 ghost use Rattle.kr_world.specs.Engine.{writes_in_order};
 ghost use Rattle.kr_shared.specs.Gives.{GivesOne, GivesOut};
-ghost use Rattle.kr_shared.specs.Lines.{HasRoom};
+ghost use Rattle.kr_shared.specs.Lines.{HasLineRoom};
 
 use crate::answers::{answer_told, or_reason};
 use crate::appends::append_if;
@@ -26,7 +26,7 @@ pub(crate) struct Given {
 
 // One output: the quorum is given a batch, and the reply of a write that waited ends it.
 fn give_one<Q: Quorum>(quorum: &mut Q, line: &mut Line, given: Given, told: Told) -> Given
-    requires { HasRoom line.old }
+    requires { HasLineRoom line.old }
     ensures { GivesOne (Q.pieces quorum.old) (Q.pieces quorum.new) (Q.faults quorum.old)
         (Q.faults quorum.new) line.old line.new given told result }
 {
@@ -49,7 +49,7 @@ fn give_one<Q: Quorum>(quorum: &mut Q, line: &mut Line, given: Given, told: Told
 #[tactic(auto, using(crate::proofs::Giving::giving_out))]
 pub(crate) fn give_out<Q: Quorum>(engine: &mut Engine, quorum: &mut Q, line: &mut Line) -> Given
     requires ordered { IsTrue (writes_in_order engine.old.held) }
-    requires room { HasRoom line.old }
+    requires room { HasLineRoom line.old }
     ensures { GivesOut engine.old engine.new (Q.pieces quorum.old) (Q.pieces quorum.new)
         (Q.faults quorum.old) (Q.faults quorum.new) line.old line.new result }
 {

@@ -7,7 +7,7 @@ ghost use Rattle.kr_queue.specs.declared.passes.Role.TheVariants as roles;
 ghost use Rattle.kr_queue.specs.Jobs.{is_fit};
 ghost use Rattle.kr_queue.specs.Passes.{view, IsPassOf};
 ghost use Rattle.kr_queue.specs.Steps.{Holds};
-ghost use Rattle.kr_shared.specs.Desks.{IsSettled, StandsFor, settled};
+ghost use Rattle.kr_shared.specs.Desks.{IsCaughtUp, DeskStands, settled};
 ghost use Rattle.kr_shared.specs.Turns.{IsDoneLate, IsDoneWhole, IsLate, StaysLate, TakesUp, Turned, events_with, is_stop, turn_of};
 
 use crate::bell::Bell;
@@ -98,8 +98,8 @@ impl WorkerSeat {
     pub(crate) fn new(queue: Arc<Queue, Global>, pass: Pass, bells: Bells, desk: Desk) -> WorkerSeat
         requires pass { IsPassOf (arc_value queue) pass }
         requires role { (view pass).role ≡ roles.Worker }
-        requires stands { StandsFor desk }
-        requires rests { IsSettled desk }
+        requires stands { DeskStands desk }
+        requires rests { IsCaughtUp desk }
         ensures { result ≡ record {
           knows = view pass;
           work = settled desk;
