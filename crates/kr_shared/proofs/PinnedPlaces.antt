@@ -1,6 +1,6 @@
 -- What a found entry tells of a pin or an unpin.
 use Rattle.std.proofs.Common.{◌≡◌, ◌∙◌, ◌∷◌, ◌++◌, ℕ, ℤ, List, subst, sym, ap, refl, append_assoc, true}
-use Rattle.std.specs.Prelude.{Some, IfOk, IfErr, Result, Ok, Err, int_lt}
+use Rattle.std.specs.Prelude.{IfOk, IfErr, Result, Ok, Err}
 use Rattle.kr_calls.specs.declared.answers.Answer.{Answer}
 use Rattle.kr_calls.specs.declared.events.Entry.{Entry}
 use Rattle.kr_calls.specs.declared.events.Entry.TheVariants as entries

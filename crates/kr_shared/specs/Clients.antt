@@ -1,5 +1,5 @@
 -- What a clause sees of a client's seat. This project's own.
-use Rattle.std.specs.Prelude.{◌≡◌, ◌⊎◌, ℕ, ℤ, ◌+◌, ◌<◌, true, List, [], Some, Result, slice_get, MatchResult}
+use Rattle.std.specs.Prelude.{◌≡◌, ◌⊎◌, ℕ, ℤ, ◌+◌, true, List, [], Some, Result, slice_get, MatchResult}
 use Rattle.kr_base.specs.Causes.{Rose}
 use Rattle.kr_calls.specs.declared.calls.Call.{Call}
 use Rattle.kr_calls.specs.SeatList.{end_of}

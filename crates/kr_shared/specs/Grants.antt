@@ -1,5 +1,5 @@
 -- The places that a client's seat holds, and what tells that one is held. This project's own.
-use Rattle.std.specs.Prelude.{◌≡◌, ◌⊎◌, ◌<◌, ℕ, ℤ, int_lt, false, not, IsTrue, List, [], ◌∷◌, ◌++◌, length, Some, Result, Ok, Err, MatchResult}
+use Rattle.std.specs.Prelude.{◌≡◌, ◌⊎◌, ◌<◌, ℕ, ℤ, int_lt, false, not, IsTrue, List, [], ◌∷◌, ◌++◌, length, Some, Result, Ok, Err}
 use Rattle.std.specs.List.{AllByRecursion}
 use Rattle.kr_base.specs.Causes.{raised}
 use Rattle.kr_calls.specs.declared.answers.Answer.{Answer}

@@ -72,7 +72,7 @@ fn last_seat(
     };
     let queue = Arc::try_clone(queue)?;
     let bells = bells.again()?;
-    let held = Places::new(alloc)?;
+    let held = Places::with_room(alloc)?;
     Ok(Some(ClientSeat::new(alloc, queue, pass, reader, bells, held)))
 }
 

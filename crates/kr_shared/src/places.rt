@@ -30,8 +30,8 @@ impl Model for Places {
 }
 
 impl Places {
-    /// No place.
-    pub(crate) fn new(alloc: Global) -> Result<Places, NoMemory>
+    /// No place, with room for as many as a seat may hold.
+    pub(crate) fn with_room(alloc: Global) -> Result<Places, NoMemory>
         ensures { IfOk result (λ places. places ≡ []) }
     {
         Ok(Places {

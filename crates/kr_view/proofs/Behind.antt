@@ -1,5 +1,5 @@
 -- What stands behind a key of an image: in walking order, and in the order of its records.
-use Rattle.std.proofs.Common.{◌≡◌, ◌∙◌, ℕ, ℤ, pos, negsuc, Bool, true, false, cond, ◌&&◌, List, [], ◌∷◌, ◌++◌, filter, map, take, refl, sym, ap, append_assoc}
+use Rattle.std.proofs.Common.{◌≡◌, ◌∙◌, ℕ, ℤ, negsuc, Bool, true, false, cond, ◌&&◌, List, [], ◌∷◌, ◌++◌, filter, map, take, refl, sym, ap, append_assoc}
 use Rattle.std.specs.Prelude.{Option, Some, None, flat_map, ◌==◌, IsTrue}
 use Rattle.std.specs.declared.cmp.Ordering.{Ordering}
 use Rattle.std.specs.declared.cmp.Ordering.TheVariants.{Less, Equal, Greater}
@@ -12,16 +12,14 @@ use Rattle.std.proofs.lemmas.List.{map-append}
 use Rattle.std.proofs.lemmas.List.Elements.{filter-append, recursion_from_All}
 use Rattle.std.proofs.lemmas.Map.Lookups.{exact_bytes}
 use Rattle.std.specs.Cmp.{nat_cmp_is}
-use Rattle.kr_defs.specs.declared.broker.Broker.{Broker}
 use Rattle.kr_defs.specs.declared.partition.Partition.{Partition}
-use Rattle.kr_defs.specs.declared.record.ConfigKey.{ConfigKey}
 use Rattle.kr_defs.specs.declared.record.Record.{Record}
 use Rattle.kr_defs.specs.declared.record.Record.TheVariants as kinds
 use Rattle.kr_defs.specs.Image.{Image, IsValid, is_index}
-use Rattle.kr_defs.specs.ImageOrder.{Rank, named, rank_order}
+use Rattle.kr_defs.specs.ImageOrder.{named, rank_order}
 use Rattle.kr_defs.specs.Map.{IsMap, above, config_order, get, partition_order, text_order}
 use Rattle.kr_defs.specs.Records.{partition_record}
-use Rattle.kr_defs.specs.Walk.{Walked, of_topic, walk, walk_topic, walked}
+use Rattle.kr_defs.specs.Walk.{of_topic, walk, walk_topic, walked}
 use Rattle.kr_defs.proofs.ImageParts.{text_total}
 use Rattle.kr_defs.proofs.Maps.{below_all}
 use Rattle.kr_defs.proofs.TopicWalks.{group_begin, same_topic}
@@ -32,11 +30,11 @@ use Rattle.kr_view.specs.declared.record_key.RecordKey.TheVariants as keys
 use Rattle.kr_view.specs.declared.scans.PageRow.{PageRow}
 use Rattle.kr_view.specs.declared.scans.ScanKey.{ScanKey}
 use Rattle.kr_view.specs.Listings.{listed, listed_behind, rest_of_topic}
-use Rattle.kr_view.specs.RecordPages.{is_record_behind, keyed_broker, keyed_feature, keyed_partition, keyed_records, keyed_setting, keyed_topic, rank_of_key, record_key_order, record_page, setting_key}
+use Rattle.kr_view.specs.RecordPages.{is_record_behind, keyed_broker, keyed_feature, keyed_partition, keyed_records, keyed_setting, keyed_topic, rank_of_key, record_page, setting_key}
 use Rattle.kr_view.specs.PageRows.{rows_behind}
 use Rattle.kr_view.specs.RecordSections as sections
 use Rattle.kr_view.specs.RecordSections.{behind_key, behind_partition, from_brokers, from_features, from_settings, from_topics, record_of_broker, record_of_feature, record_of_setting, record_of_topic}
-use Rattle.kr_view.specs.Scans.{is_row_behind, no_heads, page_of, page_row, scan_order}
+use Rattle.kr_view.specs.Scans.{is_row_behind, no_heads, page_of, page_row}
 
 -- ---- filters
 

@@ -1,5 +1,5 @@
 -- What a store keeps under the end and under the pinned places, after each of its calls.
-use Rattle.std.proofs.Common.{◌≡◌, ◌≢◌, ℤ, pos, Bool, true, false, cond, not, List, [], ◌∷◌, ◌++◌, length, fold, refl, sym, ap, ◌∙◌, subst, map, filter, find, All, arith, append_assoc}
+use Rattle.std.proofs.Common.{◌≡◌, ◌≢◌, ℤ, pos, Bool, true, false, cond, not, List, [], ◌∷◌, ◌++◌, length, fold, refl, sym, ap, ◌∙◌, subst, map, filter, find, arith}
 use Rattle.std.specs.Prelude.{Option, Some, None, negsuc, int_lt, IsSome, IsTrue, is_some, slice_get, unwrap_or, ◌-◌}
 use Rattle.std.specs.Option.{option_map, option_or}
 use Rattle.std.specs.Ordering.{int_eq}
@@ -12,7 +12,7 @@ use Rattle.kr_defs.specs.Image.{Image, empty}
 use Rattle.kr_defs.proofs.Tests.{some_is}
 use Rattle.kr_calls.specs.declared.pins.Pin.{Pin}
 use Rattle.kr_calls.specs.declared.events.Entry.{Entry}
-use Rattle.kr_calls.specs.SeatList.{PinnedLog, Reached, lower, nothing_pinned}
+use Rattle.kr_calls.specs.SeatList.{Reached, lower, nothing_pinned}
 use Rattle.kr_image.proofs.EpochEnds.{last_later}
 use Rattle.kr_image.proofs.KeptLists.{all_passing, all_push, all_weaker, apart_before, find_filter, find_last, map_same}
 use Rattle.kr_store.specs.Images.{Images, IsAbove, forgotten, kept_at, kept_once, last_image, last_kept, marked, no_images}

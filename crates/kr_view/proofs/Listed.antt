@@ -1,5 +1,5 @@
 -- What a topic gives, and the topics behind it.
-use Rattle.std.proofs.Common.{◌≡◌, ◌∙◌, ℕ, ℤ, negsuc, List, [], ◌∷◌, ◌++◌, ◌≤◌, length, map, take, refl, sym, ap}
+use Rattle.std.proofs.Common.{◌≡◌, ◌∙◌, ℕ, ℤ, negsuc, List, [], ◌++◌, ◌≤◌, length, map, take, refl, sym, ap}
 use Rattle.std.specs.Prelude.{Option, Some, None, All, IsTrue, flat_map}
 use Rattle.std.specs.Option.{option_map, option_map_or}
 use Rattle.std.proofs.lemmas.List.Elements.{recursion_from_All}

@@ -1,6 +1,6 @@
 -- An image in place of all.
 use Rattle.std.proofs.Common.{◌≡◌, ◌∙◌, ℤ, Bool, true, false, true≢false, cond, not, ◌&&◌, List, [], refl, sym, ap, subst, arith}
-use Rattle.std.specs.Prelude.{Option, Some, None, negsuc, int_lt, IsErr, IsTrue, MatchOption, Result, Ok, Err}
+use Rattle.std.specs.Prelude.{Option, Some, None, negsuc, int_lt, IsErr, MatchOption, Result, Ok, Err}
 use Rattle.std.proofs.lemmas.Int.{ints}
 use Rattle.kr_defs.specs.declared.ill.Ill.{Ill}
 use Rattle.kr_defs.specs.declared.limits.TheConstants.{PLACES_END}

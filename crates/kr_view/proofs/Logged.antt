@@ -1,5 +1,5 @@
 -- Entries that are neither answers nor pins are right wherever they come.
-use Rattle.std.proofs.Common.{◌≡◌, ℤ, Bool, true, false, true≢false, List, [], ◌∷◌, ◌++◌, All, cond, sym, subst, ap}
+use Rattle.std.proofs.Common.{◌≡◌, ℤ, true, false, true≢false, List, [], ◌∷◌, ◌++◌, cond, sym, subst}
 use Rattle.std.specs.List.{AllByRecursion}
 use Rattle.std.proofs.lemmas.List.Elements.{recursion_from_All}
 use Rattle.kr_defs.specs.declared.options.Options.{Options}
@@ -7,7 +7,6 @@ use Rattle.kr_calls.specs.declared.events.Entry.{Entry}
 use Rattle.kr_calls.specs.declared.events.Entry.TheVariants as entries
 use Rattle.kr_calls.specs.RightAnswers.{IsRightEntry, AreRightAfter}
 use Rattle.kr_calls.specs.SeatList.{is_below}
-use Rattle.kr_view.specs.Shelves.{next_at}
 use Rattle.kr_view.specs.Staged.{staged_below, is_logged}
 use Rattle.kr_view.specs.StagedLaws.{LoggedEntriesAreRight, PlainEntriesAreRight, is_plain_entry}
 

@@ -1,5 +1,5 @@
 -- The table of the copies has what each seat was told last.
-use Rattle.std.proofs.Common.{◌≡◌, ℕ, ◌<◌, Bool, true, false, List, [], ◌∷◌, ◌++◌, Option, Some, None, length, get_or, set, fold, refl, ap, ◌∙◌, ◌==◌, cond, arith, length-set, slice_index_or}
+use Rattle.std.proofs.Common.{◌≡◌, ℕ, ◌<◌, Bool, true, false, List, [], ◌∷◌, Option, Some, None, length, get_or, set, fold, refl, ap, ◌∙◌, ◌==◌, cond, arith, length-set, slice_index_or}
 use Rattle.std.proofs.lemmas.Grind.{common_steps}
 use Rattle.std.proofs.lemmas.List.{length-replicate, get_or-replicate}
 use Rattle.kr_calls.specs.declared.events.Entry.{Entry}

@@ -7,7 +7,7 @@ use Rattle.kr_defs.specs.declared.record.Record.{Record}
 use Rattle.kr_defs.specs.declared.record.Record.TheVariants as kinds
 use Rattle.kr_defs.specs.Image.{Image}
 use Rattle.kr_defs.specs.Map.{above, config_order, text_order}
-use Rattle.kr_defs.specs.Records.{partition_record, topic_records}
+use Rattle.kr_defs.specs.Records.{partition_record}
 use Rattle.kr_view.specs.declared.record_key.RecordKey.{RecordKey}
 use Rattle.kr_view.specs.declared.record_key.RecordKey.TheVariants as keys
 use Rattle.kr_view.specs.Listings.{listed, listed_behind}

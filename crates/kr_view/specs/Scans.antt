@@ -1,5 +1,5 @@
 -- Pages of the partitions of an image, and when there is none. This project's own.
-use Rattle.std.specs.Prelude.{◌≡◌, ℕ, ℤ, Bool, true, false, int_lt, not, IsTrue, List, [], filter, map, take, MatchResult, Option, Some, None}
+use Rattle.std.specs.Prelude.{◌≡◌, ℕ, ℤ, Bool, true, int_lt, not, IsTrue, List, [], filter, map, take, MatchResult, Option, Some, None}
 use Rattle.core.specs.declared.result.Result.{Result}
 use Rattle.std.specs.declared.cmp.Ordering.{Ordering}
 use Rattle.std.specs.Ordering.{int_cmp, is_lt, ordering_then}

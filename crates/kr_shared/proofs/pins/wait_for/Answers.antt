@@ -12,5 +12,5 @@ returns-in-Some-end_of_place-clause-ok g c =
     let entry : SeatEntry = c.in-Ok-Found.entry in
     let found = rw c.in-Ok-Found.field-0-is at c.in-Ok-Found.ensures.found in
     let told : LookTells seen.options c.args.reader.now.number c.args.ticket seen.list (looks.Found entry) =
-        subst (λ (n : ℕ). LookTells seen.options n c.args.ticket seen.list (looks.Found entry)) c.loop.invariant.same found.1 in
+    subst (λ (n : ℕ). LookTells seen.options n c.args.ticket seen.list (looks.Found entry)) c.loop.invariant.same found.1 in
     place_ok seen c.args.reader.now.number c.args.ticket c.args.floor.now entry c.args.wanted.now c.in-Some-end_of_place.end told c.in-Some-end_of_place.ensures

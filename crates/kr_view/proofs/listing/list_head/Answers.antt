@@ -1,5 +1,5 @@
 use Rattle.std.proofs.Common.{sym, ◌∙◌}
-use Rattle.kr_view.proofs.Filling.{no_room_for, none_added, one_added}
+use Rattle.kr_view.proofs.Filling.{no_room_for}
 use Rattle.kr_view.proofs.listing.list_head.Goals as goal
 
 pub returns-then-is_full : goal.returns-then-is_full

@@ -1,5 +1,4 @@
-use Rattle.std.proofs.Common.{sym}
-use Rattle.kr_view.proofs.Listed.{no_rest, rest_listed}
+use Rattle.kr_view.proofs.Listed.{rest_listed}
 use Rattle.kr_view.proofs.listing.list_rest.Goals as goal
 
 pub returns : goal.returns
