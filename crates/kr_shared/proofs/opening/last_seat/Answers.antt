@@ -15,4 +15,4 @@ returns-clause-some c =
     let long = ap (λ (l : List Seat). length l) is in
     let sum = length-append c.pop.new.self.items (c.in-Some.reader ∷ []) in
     let last = (last_seat c.args.options.now c.pop.new.self.items c.in-Some.reader (subst (AreSeats c.args.options.now) is c.requires.readers)).1 in
-    (omega (arith, long, sum), c.new-2.ensures ∙ ap (λ (s : Seat). record { number = s.number; seen = s.seen; misses = s.misses; ticket = 0; pushed = []; held = [] }) last)
+    (omega (arith, long, sum), c.new.ensures ∙ ap (λ (s : Seat). record { number = s.number; seen = s.seen; misses = s.misses; ticket = 0; pushed = []; held = [] }) last)
