@@ -45,4 +45,4 @@ desk_send =
 -- the queue with its pass, the bells, the desk, and what the last turns left
 pub worker_send : IsSend worker_row
 worker_send =
-    view_send _ _ _ _ _ (declared_send worker_type (heap.Arc-send queue_row queue.the_send queue.the_sync, (pass.the_send, (bells.the_send, (desk_send, (search (sendable, option.the_send, job.the_send) depth 20, (search (sendable, option.the_send, reason.the_send) depth 20, (search sendable depth 20, (search sendable depth 20, (search sendable depth 20, tt))))))))))
+    view_send _ _ _ _ _ (declared_send worker_type (heap.Arc-send queue_row queue.the_send queue.the_sync, (pass.the_send, (bells.the_send, (desk_send, (search (sendable, option.the_send, job.the_send) depth 20, (search sendable depth 20, (search (sendable, option.the_send, reason.the_send) depth 20, (search sendable depth 20, (search sendable depth 20, (search sendable depth 20, tt)))))))))))
