@@ -106,6 +106,7 @@ impl BesideCommits {
 }
 
 // It keeps what is written. At its first put it has the other client write, and waits until that is committed.
+#[derive(Drop)]
 struct WaitingSink<'a, R: Wait> {
     rt: &'a R,
     part: &'a BesideCommits,
