@@ -8,6 +8,7 @@ use kr_calls::Output;
 use kr_defs::Bytes;
 use kr_shared::{ClientSeat, ImageWriteFault, PinFault, SubmitFault, write_image};
 use kr_stream::WriteFault;
+use kr_view::ScanFault;
 use std::alloc::Global;
 use std::io::Eprint;
 use std::sync::{Arc, Wait};
@@ -142,10 +143,12 @@ impl<R: Wait + Copy> LinkImages<R> {
         match write_image(self.alloc, &mut self.seat, place, &mut sink) {
             Ok(()) => Ok(Attempt::Whole(copy_of(self.alloc, sink.written())?)),
             Err(ImageWriteFault::WriteFault) => Ok(Attempt::TooLarge),
-            Err(ImageWriteFault::Scan(_) | ImageWriteFault::Loaded { .. }) => Ok(
-                Attempt::Overtaken,
-            ),
-            Err(ImageWriteFault::NoMemory) => Err(ImageFault::NoMemory),
+            Err(ImageWriteFault::Scan(ScanFault::NoMemory) | ImageWriteFault::NoMemory) => {
+                Err(ImageFault::NoMemory)
+            }
+            Err(ImageWriteFault::Scan(_) | ImageWriteFault::Loaded { .. }) => {
+                Ok(Attempt::Overtaken)
+            }
         }
     }
 }
