@@ -1,54 +1,52 @@
-//! How many images the quorum asked for that it hasn't got yet.
+//! How many images the quorum asked for.
 
-use std::sync::{Condvar, Mutex, Wait};
+use kr_shared::Bell;
+use std::sync::Wait;
+use std::sync::atomic::{AtomicBool, AtomicU64, Ordering};
 
-// What the link's thread and that of the images tell each other.
-#[derive(Drop)]
-struct Waiting {
-    images: u64,
-    is_over: bool,
-}
-
-/// A count behind a lock. Who waits for an image to be asked for sleeps.
+/// A count that the link's thread raises, and at which the thread of the images waits.
 #[derive(Drop)]
 pub struct AskedImages {
-    waiting: Mutex<Waiting>,
-    changed: Condvar,
+    asked: AtomicU64,
+    is_over: AtomicBool,
+    // Rung at each change.
+    news: Bell,
 }
 
 impl AskedImages {
     pub(crate) fn new() -> AskedImages {
         AskedImages {
-            waiting: Mutex::new(Waiting {
-                images: 0,
-                is_over: false,
-            }),
-            changed: Condvar::new(),
+            asked: AtomicU64::new(0),
+            is_over: AtomicBool::new(false),
+            news: Bell::new(),
         }
     }
 
-    /// One more is asked for.
+    /// One more is asked for, by the link's thread alone.
     pub(crate) fn ask<R: Wait>(&self, rt: &R) {
-        let mut waiting = self.waiting.lock(rt);
-        waiting.images = waiting.images.saturating_add(1);
-        self.changed.notify_all();
+        let asked = self.asked.load(Ordering::SeqCst);
+        self.asked.store(asked.wrapping_add(1), Ordering::SeqCst);
+        self.news.ring(rt);
     }
 
     /// The link has ended, so none is wanted any more.
     pub(crate) fn end<R: Wait>(&self, rt: &R) {
-        let mut waiting = self.waiting.lock(rt);
-        waiting.is_over = true;
-        self.changed.notify_all();
+        self.is_over.store(true, Ordering::SeqCst);
+        self.news.ring(rt);
     }
 
-    /// Waits until one is asked for, which then counts as made, or until none is wanted any more.
-    pub(crate) fn next<R: Wait>(&self, rt: &R) -> bool {
-        let mut waiting = self
-            .changed
-            .wait_while(rt, self.waiting.lock(rt), |waiting| {
-                waiting.images == 0 && !waiting.is_over
-            });
-        waiting.images = waiting.images.saturating_sub(1);
-        !waiting.is_over
+    /// Waits until more are asked for than were made, or until none is wanted any more.
+    pub(crate) fn is_wanted<R: Wait>(&self, rt: &R, made: u64) -> bool {
+        for _ in rt.forever() {
+            let seen = self.news.number(rt);
+            if self.is_over.load(Ordering::SeqCst) {
+                return false;
+            }
+            if self.asked.load(Ordering::SeqCst) != made {
+                return true;
+            }
+            self.news.wait_past(rt, seen);
+        }
+        unreachable!()
     }
 }

@@ -29,6 +29,8 @@ pub struct LinkImages<R: Wait + Copy> {
     line: Line<R>,
     seat: ClientSeat,
     asked: Arc<AskedImages, Global>,
+    // How many were sent.
+    made: u64,
     // How many bytes an image may have: as many as the one before had room for.
     room: usize,
 }
@@ -71,6 +73,7 @@ impl<R: Wait + Copy> LinkImages<R> {
             line,
             seat,
             asked: Arc::new(alloc, AskedImages::new())?,
+            made: 0,
             room: FIRST_ROOM,
         })
     }
@@ -83,10 +86,11 @@ impl<R: Wait + Copy> LinkImages<R> {
     // Sends one image after the other, as they are asked for, until the link has ended.
     fn send_all<C: Wait + time::Clock>(&mut self, rt: &C) -> Result<(), ImageFault> {
         for _ in rt.forever() {
-            if !self.asked.next(rt) {
+            if !self.asked.is_wanted(rt, self.made) {
                 return Ok(());
             }
             self.send(rt)?;
+            self.made = self.made.wrapping_add(1);
         }
         unreachable!()
     }
