@@ -100,7 +100,10 @@ impl<R: Wait + Copy> LinkImages<R> {
     fn send<C: Wait + time::Clock>(&mut self, rt: &C) -> Result<(), ImageFault> {
         for _ in rt.forever() {
             match self.attempt(rt) {
-                Ok(Attempt::Whole(bytes)) => return self.put(bytes),
+                Ok(Attempt::Whole(bytes)) => match self.put(bytes) {
+                    Err(ImageFault::NoMemory) => rest(rt),
+                    sent => return sent,
+                },
                 Ok(Attempt::Overtaken) => {}
                 Ok(Attempt::TooLarge) => self.room = self.room.saturating_mul(2),
                 Err(ImageFault::NoMemory) => rest(rt),
