@@ -1,20 +1,23 @@
-//! The quorum at the other end of the link.
+//! What goes out to the quorum.
 
-use crate::line::{Line, copy_of};
-use crate::link_images::LinkImages;
-use kr_base::{Failed, NoMemory, Quorum};
+use kr_base::{Failed, NoMemory, Quorum, WriteSink};
 use kr_calls::{Output, Reason};
-use kr_shared::ClientSeat;
-use kr_stream::WriteFault;
+use kr_defs::Bytes;
+use kr_stream::{WriteFault, write_frame};
 use std::alloc::Global;
 use std::net::TcpStream;
-use std::sync::Wait;
+use std::sync::{Arc, Mutex, Wait};
 
-/// The quorum at the other end of the link.
+fn copy_of(alloc: Global, bytes: &[u8]) -> Result<Bytes, NoMemory> {
+    Ok(Bytes::from_vec(bytes.to_vec(alloc)?))
+}
+
+/// The quorum at the other end of the link. Each frame goes out whole, under one lock.
 #[derive(Drop)]
 pub struct LinkQuorum<R: Wait + Copy> {
+    rt: R,
     alloc: Global,
-    line: Line<R>,
+    line: Arc<Mutex<WriteSink<TcpStream>>, Global>,
     faults: u64,
 }
 
@@ -22,27 +25,29 @@ impl<R: Wait + Copy> LinkQuorum<R> {
     /// A quorum that is written to by this stream.
     pub fn new(rt: R, alloc: Global, stream: TcpStream) -> Result<LinkQuorum<R>, NoMemory> {
         Ok(LinkQuorum {
+            rt,
             alloc,
-            line: Line::new(rt, alloc, stream)?,
+            line: Arc::new(alloc, Mutex::new(WriteSink::new(stream)))?,
             faults: 0,
         })
     }
 
-    /// What the quorum's questions for images are answered from: this seat, and the line.
-    pub fn images(&self, seat: ClientSeat) -> Result<LinkImages<R>, NoMemory> {
-        LinkImages::new(self.alloc, self.line.again()?, seat)
+    // One frame.
+    fn put(&self, output: &Output) -> Result<(), WriteFault> {
+        let mut line = self.line.lock(&self.rt);
+        write_frame(self.alloc, output, &mut *line)
     }
 
     // The batch's frame.
     fn put_batch(&self, bytes: &[u8]) -> Result<(), WriteFault> {
         let bytes = copy_of(self.alloc, bytes)?;
-        self.line.put(&Output::Append { bytes })
+        self.put(&Output::Append { bytes })
     }
 
     /// Tells the quorum that its event of this number was refused. A write that fails is passed over, since the link then
     /// ends anyway.
     pub fn refuse(&self, event: u64, reason: Reason) -> Result<(), NoMemory> {
-        match self.line.put(&Output::Refused { event, reason }) {
+        match self.put(&Output::Refused { event, reason }) {
             Err(WriteFault::NoMemory) => Err(NoMemory),
             _ => Ok(()),
         }
