@@ -26,6 +26,7 @@ DAEMON = shlex.split(os.environ.get("DAEMON", f"{ROOT}/crates/kr_daemon/out/kr_d
 TOOL = shlex.split(os.environ.get("TOOL", f"{ROOT}/crates/kr_tool/out/kr_tool"))
 ETCD = shlex.split(os.environ.get("ETCD", "etcd"))
 LINK = [sys.executable, f"{HERE}/link"]
+SESSION_DAEMON = [sys.executable, f"{HERE}/session-daemon"]
 LEASE = 5                # seconds, as a link takes it by itself
 SOON = 30                # seconds after which what hasn't come counts as lost
 PREFIX = b"/pibranog/"   # of the keys, as a link takes it by itself
