@@ -15,34 +15,31 @@ pub(crate) fn copy_of(alloc: Global, bytes: &[u8]) -> Result<Bytes, NoMemory> {
 
 /// The line to the quorum at the other end of the link, for any number of threads. Each frame goes out whole, under one lock.
 #[derive(Drop)]
-pub(crate) struct Line<R: Wait + Copy> {
-    rt: R,
+pub(crate) struct Line {
     alloc: Global,
     sink: Arc<Mutex<WriteSink<TcpStream>>, Global>,
 }
 
-impl<R: Wait + Copy> Line<R> {
+impl Line {
     /// The line of this stream.
-    pub(crate) fn new(rt: R, alloc: Global, stream: TcpStream) -> Result<Line<R>, NoMemory> {
+    pub(crate) fn new(alloc: Global, stream: TcpStream) -> Result<Line, NoMemory> {
         Ok(Line {
-            rt,
             alloc,
             sink: Arc::new(alloc, Mutex::new(WriteSink::new(stream)))?,
         })
     }
 
     /// The same line, for another thread.
-    pub(crate) fn again(&self) -> Result<Line<R>, NoMemory> {
+    pub(crate) fn again(&self) -> Result<Line, NoMemory> {
         Ok(Line {
-            rt: self.rt,
             alloc: self.alloc,
             sink: Arc::try_clone(&self.sink)?,
         })
     }
 
     /// Sends one frame.
-    pub(crate) fn put(&self, output: &Output) -> Result<(), WriteFault> {
-        let mut sink = self.sink.lock(&self.rt);
+    pub(crate) fn put<R: Wait>(&self, rt: &R, output: &Output) -> Result<(), WriteFault> {
+        let mut sink = self.sink.lock(rt);
         write_frame(self.alloc, output, &mut *sink)
     }
 }

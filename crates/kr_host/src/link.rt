@@ -88,7 +88,7 @@ pub fn spawn_link<R: Threads + Wait + Eprint + time::Clock + Send + Copy + 'stat
     alloc: Global,
     stream: TcpStream,
     link: LinkSeat,
-    images: &LinkImages<R>,
+    images: &LinkImages,
 ) -> Result<JoinHandle<()>, NoMemory> {
     let asked = images.questions()?;
     match thread::spawn(&rt, move || take_all(&rt, alloc, stream, link, &asked)) {

@@ -24,9 +24,9 @@ const MOST_PUTS: usize = 1 << 20;
 
 /// A seat of its own, from which images are made, and the line by which they go out.
 #[derive(Drop)]
-pub struct LinkImages<R: Wait + Copy> {
+pub struct LinkImages {
     alloc: Global,
-    line: Line<R>,
+    line: Line,
     seat: ClientSeat,
     asked: Arc<AskedImages, Global>,
     // How many were sent.
@@ -62,12 +62,8 @@ impl From<NoMemory> for ImageFault {
     }
 }
 
-impl<R: Wait + Copy> LinkImages<R> {
-    pub(crate) fn new(
-        alloc: Global,
-        line: Line<R>,
-        seat: ClientSeat,
-    ) -> Result<LinkImages<R>, NoMemory> {
+impl LinkImages {
+    pub(crate) fn new(alloc: Global, line: Line, seat: ClientSeat) -> Result<LinkImages, NoMemory> {
         Ok(LinkImages {
             alloc,
             line,
@@ -84,7 +80,7 @@ impl<R: Wait + Copy> LinkImages<R> {
     }
 
     // Sends one image after the other, as they are asked for, until the link has ended.
-    fn send_all<C: Wait + time::Clock>(&mut self, rt: &C) -> Result<(), ImageFault> {
+    fn send_all<R: Wait + time::Clock>(&mut self, rt: &R) -> Result<(), ImageFault> {
         for _ in rt.forever() {
             if !self.asked.is_wanted(rt, self.made) {
                 return Ok(());
@@ -97,10 +93,10 @@ impl<R: Wait + Copy> LinkImages<R> {
 
     // Sends the image at the committed end as one frame. Where one took the place of all meanwhile, or the room was too small,
     // it is made anew, in the second case with twice the room; where memory ran out, too, after a rest.
-    fn send<C: Wait + time::Clock>(&mut self, rt: &C) -> Result<(), ImageFault> {
+    fn send<R: Wait + time::Clock>(&mut self, rt: &R) -> Result<(), ImageFault> {
         for _ in rt.forever() {
             match self.attempt(rt) {
-                Ok(Attempt::Whole(bytes)) => match self.put(bytes) {
+                Ok(Attempt::Whole(bytes)) => match self.put(rt, bytes) {
                     Err(ImageFault::NoMemory) => rest(rt),
                     sent => return sent,
                 },
@@ -113,8 +109,8 @@ impl<R: Wait + Copy> LinkImages<R> {
         unreachable!()
     }
 
-    fn put(&self, bytes: Bytes) -> Result<(), ImageFault> {
-        match self.line.put(&Output::Image { bytes }) {
+    fn put<R: Wait>(&self, rt: &R, bytes: Bytes) -> Result<(), ImageFault> {
+        match self.line.put(rt, &Output::Image { bytes }) {
             Ok(()) => Ok(()),
             Err(WriteFault::Failed) => Err(ImageFault::Unwritten),
             Err(WriteFault::NoMemory) => Err(ImageFault::NoMemory),
@@ -122,7 +118,7 @@ impl<R: Wait + Copy> LinkImages<R> {
     }
 
     // Pins the committed end while the image is made.
-    fn attempt<C: Wait + time::Clock>(&mut self, rt: &C) -> Result<Attempt, ImageFault> {
+    fn attempt<R: Wait + time::Clock>(&mut self, rt: &R) -> Result<Attempt, ImageFault> {
         let place = match self.seat.pin(rt) {
             Ok(place) => place,
             Err(PinFault::Submit(SubmitFault::NoMemory)) => return Err(ImageFault::NoMemory),
@@ -134,7 +130,7 @@ impl<R: Wait + Copy> LinkImages<R> {
     }
 
     // Gives the pin back: again and again where there is no memory for it.
-    fn unpin<C: Wait + time::Clock>(&mut self, rt: &C, place: i64) -> Result<(), ImageFault> {
+    fn unpin<R: Wait + time::Clock>(&mut self, rt: &R, place: i64) -> Result<(), ImageFault> {
         for _ in rt.forever() {
             match self.seat.unpin(rt, place) {
                 Ok(()) => return Ok(()),
@@ -161,7 +157,7 @@ impl<R: Wait + Copy> LinkImages<R> {
 }
 
 // Sends images until the link has ended; where one can't be sent, it tells why, on standard error.
-fn serve<R: Wait + Copy, C: Wait + Eprint + time::Clock>(rt: &C, images: LinkImages<R>) {
+fn serve<R: Wait + Eprint + time::Clock>(rt: &R, images: LinkImages) {
     let mut images = images;
     if let Err(fault) = images.send_all(rt) {
         let _ = eprintln!(rt; "kr_daemon: no image was sent: {fault}");
@@ -171,7 +167,7 @@ fn serve<R: Wait + Copy, C: Wait + Eprint + time::Clock>(rt: &C, images: LinkIma
 /// A thread that sends the quorum the images that it asks for, while the link's own goes on.
 pub fn spawn_images<R: Threads + Wait + Eprint + time::Clock + Send + Copy + 'static>(
     rt: R,
-    images: LinkImages<R>,
+    images: LinkImages,
 ) -> Result<JoinHandle<()>, NoMemory> {
     match thread::spawn(&rt, move || serve(&rt, images)) {
         Ok(thread) => Ok(thread),

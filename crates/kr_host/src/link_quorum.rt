@@ -13,8 +13,9 @@ use std::sync::Wait;
 /// The quorum at the other end of the link.
 #[derive(Drop)]
 pub struct LinkQuorum<R: Wait + Copy> {
+    rt: R,
     alloc: Global,
-    line: Line<R>,
+    line: Line,
     faults: u64,
 }
 
@@ -22,27 +23,28 @@ impl<R: Wait + Copy> LinkQuorum<R> {
     /// A quorum that is written to by this stream.
     pub fn new(rt: R, alloc: Global, stream: TcpStream) -> Result<LinkQuorum<R>, NoMemory> {
         Ok(LinkQuorum {
+            rt,
             alloc,
-            line: Line::new(rt, alloc, stream)?,
+            line: Line::new(alloc, stream)?,
             faults: 0,
         })
     }
 
     /// What the quorum's questions for images are answered from: this seat, and the line.
-    pub fn images(&self, seat: ClientSeat) -> Result<LinkImages<R>, NoMemory> {
+    pub fn images(&self, seat: ClientSeat) -> Result<LinkImages, NoMemory> {
         LinkImages::new(self.alloc, self.line.again()?, seat)
     }
 
     // The batch's frame.
     fn put_batch(&self, bytes: &[u8]) -> Result<(), WriteFault> {
         let bytes = copy_of(self.alloc, bytes)?;
-        self.line.put(&Output::Append { bytes })
+        self.line.put(&self.rt, &Output::Append { bytes })
     }
 
     /// Tells the quorum that its event of this number was refused. A write that fails is passed over, since the link then
     /// ends anyway.
     pub fn refuse(&self, event: u64, reason: Reason) -> Result<(), NoMemory> {
-        match self.line.put(&Output::Refused { event, reason }) {
+        match self.line.put(&self.rt, &Output::Refused { event, reason }) {
             Err(WriteFault::NoMemory) => Err(NoMemory),
             _ => Ok(()),
         }

@@ -1,5 +1,6 @@
 //! The daemon as a whole.
 
+ghost use Rattle.std.specs.Prelude.{◌<◌, ◌≤◌};
 ghost use Rattle.kr_settings.specs.Words.{AreInRange};
 
 use crate::clients::spawn_clients;
