@@ -26,7 +26,6 @@ DAEMON = shlex.split(os.environ.get("DAEMON", f"{ROOT}/crates/kr_daemon/out/kr_d
 TOOL = shlex.split(os.environ.get("TOOL", f"{ROOT}/crates/kr_tool/out/kr_tool"))
 ETCD = shlex.split(os.environ.get("ETCD", "etcd"))
 LINK = [sys.executable, f"{HERE}/link"]
-SESSION_DAEMON = [sys.executable, f"{HERE}/session-daemon"]
 LEASE = 5                # seconds, as a link takes it by itself
 SOON = 30                # seconds after which what hasn't come counts as lost
 PREFIX = b"/pibranog/"   # of the keys, as a link takes it by itself
@@ -171,17 +170,19 @@ class Node:
         self.dial, self.daemon, self.link = self.link_address, None, None
 
     def start_link(self):
+        """Until it listens, or has ended: a fault may end it at once, and who looks after it starts it again."""
         words = ["--listen", self.link_address, "--etcd", ",".join(self.members), "--name", f"node {self.number}"]
         name = f"link{self.number}"
         before = self.processes.said(name).count("listening")
         self.link = self.processes.start(name, self.link_command + words + ["--lease", str(self.lease)])
-        until(f"link {self.number} listens", lambda: self.processes.said(name).count("listening") > before)
+        until(f"link {self.number} listens", lambda: self.link.poll() is not None or self.processes.said(name).count("listening") > before)
 
     def start_daemon(self):
+        """Until it listens, or has ended, as start_link."""
         words = ["--listen", self.address, "--node", str(self.number), "--cluster", CLUSTER, "--salt", str(SALT)]
         words += ["--link", self.dial, "--clients", "16"]
         self.daemon = self.processes.start(f"daemon{self.number}", self.daemon_command + words)
-        until(f"daemon {self.number} listens", lambda: is_open(self.address))
+        until(f"daemon {self.number} listens", lambda: self.daemon.poll() is not None or is_open(self.address))
 
     def ask(self, words):
         """The reply to a request of tools/client: each line of it, with its error."""

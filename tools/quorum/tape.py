@@ -11,7 +11,7 @@ from typing import NamedTuple
 from batches import span
 from between import Between, shut
 
-LEAD, COMMIT, LOST, BATCH, LOAD = 2, 3, 4, 5, 6
+LEAD, COMMIT, LOST, BATCH, LOAD, IMAGE = 2, 3, 4, 5, 6, 9
 APPEND, REFUSED = 0x81, 0x83
 NOT_LEADING = 2          # the reason for which a ping is refused
 NOBODY = -1              # the epoch of a ping
@@ -44,8 +44,8 @@ class Life:
         self.pings = {}                                      # the log's end at each ping that wasn't answered, by its number
 
     def hand_in(self, kind, body):
-        """An event of the link."""
-        self.events += 1
+        """A frame of the link: an event, or a question for an image."""
+        self.events += kind != IMAGE
         if kind == BATCH:
             self._batch(body)
         elif kind == COMMIT:

@@ -15,6 +15,7 @@ pub mod ReadyEngines
 pub mod Refusals
 pub mod RequestDecisions
 pub mod RequestSteps
+pub mod Sent
 pub mod StandbyOutcomes
 pub mod TickSteps
 pub mod Undoing

@@ -1,20 +1,17 @@
 //! A committed batch of another leader comes.
 
 ghost use Rattle.std.specs.Prelude.{◌≡◌, ◌≤◌, ◌≤ℤ◌, [], length, None, IfOk, OnOk, OnErr};
-ghost use Rattle.std.specs.Result.{result_unwrap_or};
 ghost use Rattle.kr_defs.specs.declared.limits.TheConstants.{MOST_RECORDS as most_records, PLACES_END as places_end};
-ghost use Rattle.kr_defs.specs.Image.{empty};
 ghost use Rattle.kr_defs.specs.Log as logs;
 ghost use Rattle.kr_batch.specs.Reading.{batch_of};
 ghost use Rattle.kr_calls.specs.declared.events.Event.TheVariants as events;
 ghost use Rattle.kr_store.specs.Images.{kept_once};
 ghost use Rattle.kr_store.specs.Images.{IsAbove};
 ghost use Rattle.kr_world.specs.Engine.{IsSound, IsStep, outputs_left};
-ghost use Rattle.kr_engine.specs.inner.Changes.{core_with_entries, core_at, BreaksOff, Settles};
-ghost use Rattle.kr_world.specs.Entries.{item_entries};
+ghost use Rattle.kr_engine.specs.inner.Changes.{core_at, BreaksOff, Settles};
 ghost use Rattle.kr_engine.specs.inner.Ready.{IsReady};
 ghost use Rattle.kr_world.specs.Batch.{end_of};
-ghost use Rattle.kr_engine.specs.inner.Batch.{batch_reason, core_after_batch, core_after_read_batch, decoded_batch_reason, items_reason, AppliesOrReverts};
+ghost use Rattle.kr_engine.specs.inner.Batch.{batch_reason, core_after_batch, core_after_items, core_after_read_batch, decoded_batch_reason, items_reason, AppliesOrReverts};
 
 use crate::Engine;
 use crate::apply::apply_or_revert;
@@ -96,7 +93,7 @@ impl Engine {
         requires ready { IsReady self.old }
         requires few { length items ≤ most_records }
         requires above { IsAbove self.old.images.kept end.now }
-        ensures settled { OnOk result (Settles self.old self.new (items_reason (logs.first_ill self.old.images.tip self.old.tip items)) (core_at (core_with_entries self.old (item_entries self.old.tip items)) end.now (result_unwrap_or (logs.apply_all self.old.images.tip items) empty))) }
+        ensures settled { OnOk result (Settles self.old self.new (items_reason (logs.first_ill self.old.images.tip self.old.tip items)) (core_after_items self.old items end.now)) }
         ensures broken { OnErr result (BreaksOff self.old self.new) }
         ensures later { steps.old ≤ steps.new }
     {

@@ -3,8 +3,8 @@
 ghost use Rattle.std.specs.Prelude.{◌≡◌, ◌≤◌, ◌+◌, List, [], is_some};
 ghost use Rattle.kr_calls.specs.declared.events.Event.TheVariants as events;
 ghost use Rattle.kr_store.specs.Images.{image_of_place, kept_at};
-ghost use Rattle.kr_engine.specs.inner.Changes.{counted_core, refused_core_or, cleared_core};
-ghost use Rattle.kr_engine.specs.inner.Commit.{commit_reason, core_after_commit, forgetting_steps, steps_unless};
+ghost use Rattle.kr_engine.specs.inner.Changes.{cleared_core};
+ghost use Rattle.kr_engine.specs.inner.Commit.{commit_reason, core_after_commit, core_taking_commit, forgetting_steps, steps_unless};
 ghost use Rattle.kr_world.specs.declared.writes.Write.{Write as AnyWrite};
 ghost use Rattle.kr_world.specs.Engine.{IsEngine, IsSound, IsStep, outputs_left};
 ghost use Rattle.kr_world.specs.Weights.{commit_steps};
@@ -61,7 +61,7 @@ impl Engine {
     }
 
     fn take_commit<L: Ledger>(&mut self, epoch: &i32, end: &i64, steps: &mut Steps<L>)
-        ensures taken { self.new ≡ counted_core (refused_core_or (cleared_core self.old) (commit_reason (cleared_core self.old) epoch.now end.now) (core_after_commit (cleared_core self.old) end.now)) }
+        ensures taken { self.new ≡ core_taking_commit (cleared_core self.old) epoch.now end.now }
         ensures bound { steps.new ≤ steps.old + steps_unless (commit_reason (cleared_core self.old) epoch.now end.now) (forgetting_steps self.old.images end.now) }
         ensures later { steps.old ≤ steps.new }
     {

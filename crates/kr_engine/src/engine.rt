@@ -14,7 +14,7 @@ use kr_defs::{Basis, Options};
 use kr_image::ImageStore;
 use kr_sessions::Sessions;
 use kr_store::Store;
-use kr_world::Write;
+use kr_world::{PastBasis, Write};
 use std::alloc::Global;
 use std::collections::VecDeque;
 use std::marker::Model;
@@ -194,6 +194,13 @@ impl Engine {
             contacts: self.sessions.contacts()?,
             stopping: self.sessions.stops()?,
         })
+    }
+
+    // The same for clauses alone, with no copy.
+    pub(crate) fn past_basis(&self) -> PastBasis
+        ensures { result ≡ basis_of self.now }
+    {
+        PastBasis::of(&self.time, &self.led, &self.sessions)
     }
 
     pub(crate) fn look_at_images(&self)

@@ -17,6 +17,7 @@ mod outputs;
 mod places;
 mod reasons;
 mod request;
+mod sharing;
 mod step;
 mod tick;
 mod undo;

@@ -8,8 +8,8 @@ ghost use Rattle.kr_snapshot.specs.ReaderState.{Restores};
 ghost use Rattle.kr_store.specs.Images.{kept_once};
 ghost use Rattle.kr_snapshot.specs.Reading.{image_of};
 ghost use Rattle.kr_world.specs.Engine.{IsSound, IsStep, outputs_left};
-ghost use Rattle.kr_engine.specs.inner.Changes.{core_with_entries, core_at, GivesAlone, Settles};
-ghost use Rattle.kr_engine.specs.inner.Load.{core_after_read_image, decoded_image_reason, load_reason};
+ghost use Rattle.kr_engine.specs.inner.Changes.{core_with_entries, GivesAlone, Settles};
+ghost use Rattle.kr_engine.specs.inner.Load.{core_after_load, core_after_read_image, decoded_image_reason, load_reason};
 
 use crate::Engine;
 use crate::entries::image_entry;
@@ -47,7 +47,7 @@ impl Engine {
     // The image is the new start.
     fn load_image(&mut self, offset: &i64, store: ImageStore) -> Result<(), NoMemory>
         requires { store ≡ kept_once offset.now store.tip }
-        ensures settled { OnOk result (Settles self.old self.new (decoded_image_reason self.old offset.now) (core_at (core_with_entries self.old (entries.Load offset.now (records_of store.tip) ∷ [])) offset.now store.tip)) }
+        ensures settled { OnOk result (Settles self.old self.new (decoded_image_reason self.old offset.now) (core_after_load self.old offset.now store.tip)) }
         ensures begun { OnErr result (GivesAlone self.old self.new) }
     {
         if *offset < self.committed {

@@ -26,13 +26,13 @@ use kr_base::{NoEpoch, NoMemory, Steps};
 use kr_brokers::hear;
 use kr_calls::errors::{INVALID_REQUEST, NOT_CONTROLLER, UNSUPPORTED_VERSION};
 use kr_calls::{Ask, AskFault, Call, Effect, Output, Reason, Reply, Request};
-use kr_defs::{Basis, Records};
+use kr_defs::Records;
 use kr_handlers::read;
 use kr_image::ImageStore;
 use kr_rules::refuse;
 use kr_sessions::Sessions;
 use kr_store::{ReadFault, Seen};
-use kr_world::{Decided, Write};
+use kr_world::{Decided, PastBasis, Write};
 use std::alloc::Global;
 use std::sync::ledger::Ledger;
 
@@ -87,7 +87,7 @@ fn read_reply(read: Result<Option<Reply>, ReadFault>) -> Result<Option<Reply>, N
 }
 
 // At the place these records are decided, on the image below it and this basis.
-fn decided_at(place: &i64, records: &Records, basis: Basis) -> Decided
+fn decided_at(place: &i64, records: &Records, basis: PastBasis) -> Decided
     requires few { length records.now ≤ most_records }
     ensures { result ≡ record { place = place.now; count = length records.now; basis = basis } }
 {
@@ -182,7 +182,7 @@ impl Engine {
     {
         self.look_at_images();
         let refusal = not_controller_reply(self.alloc, &call.request)?;
-        let basis = self.basis()?;
+        let basis = self.past_basis();
         let Effect { records, reply } = self.decide(&call.request, steps)?;
         let decided = decided_at(&self.tip, &records, basis);
         self.append(records)?;

@@ -2,11 +2,14 @@
 //! process alone.
 #![tactic(auto)]
 
+mod asked_images;
 mod clients;
 mod door;
 mod ended;
 mod events;
+mod line;
 mod link;
+mod link_images;
 mod link_quorum;
 mod linked;
 mod local;
@@ -15,10 +18,12 @@ mod running;
 mod shortage;
 mod watched;
 
+pub use asked_images::AskedImages;
 pub use clients::spawn_clients;
 pub use door::Door;
 pub use ended::{Ended, tell_no_memory, tell_refused};
 pub use link::spawn_link;
+pub use link_images::{LinkImages, spawn_images};
 pub use link_quorum::LinkQuorum;
 pub use linked::turn_linked;
 pub use local::{lead_alone, turn_alone};

@@ -1,14 +1,17 @@
 //! What comes in from the quorum.
 
+use crate::asked_images::AskedImages;
 use crate::events::{link_event, push, stop};
+use crate::link_images::LinkImages;
 use crate::watched::WatchedSource;
 use kr_base::{NoMemory, ReadSource, Source};
+use kr_calls::Event;
 use kr_shared::LinkSeat;
 use kr_stream::{Frame, Reader, StreamFault};
 use std::alloc::Global;
 use std::io::Eprint;
 use std::net::TcpStream;
-use std::sync::Wait;
+use std::sync::{Arc, Wait};
 use std::thread::{JoinHandle, Threads};
 use std::{thread, time};
 
@@ -25,16 +28,18 @@ enum LinkEnd {
     Fault(StreamFault),
 }
 
-// Pushes one event after the other, until the link ends.
+// Pushes one event after the other, and passes on each question for an image, until the link ends.
 fn push_all<R: Wait + time::Clock, S: Source>(
     rt: &R,
     alloc: Global,
     source: &mut WatchedSource<S>,
     link: &mut LinkSeat,
+    images: &AskedImages,
 ) -> LinkEnd {
     let mut frames = Reader::link(alloc);
     for _ in rt.forever() {
         match frames.next(source) {
+            Ok(Frame::Event(Event::Image)) => images.ask(rt),
             Ok(Frame::Event(event)) => match link_event(event) {
                 Some(event) => push(rt, link, event),
                 None => return LinkEnd::Misplaced,
@@ -66,22 +71,27 @@ fn take_all<R: Wait + Eprint + time::Clock>(
     alloc: Global,
     stream: TcpStream,
     link: LinkSeat,
+    images: &AskedImages,
 ) {
     let mut link = link;
     let mut source = WatchedSource::new(ReadSource::new(stream));
-    let end = push_all(rt, alloc, &mut source, &mut link);
+    let end = push_all(rt, alloc, &mut source, &mut link, images);
     tell(rt, end);
+    images.end(rt);
     stop(rt, &mut link);
 }
 
-/// A thread that takes the quorum's events from the stream and pushes them, until the link ends; then it stops the worker.
+/// A thread that takes the quorum's events from the stream and pushes them, and passes on its questions for images, until the
+/// link ends; then it stops the worker.
 pub fn spawn_link<R: Threads + Wait + Eprint + time::Clock + Send + Copy + 'static>(
     rt: R,
     alloc: Global,
     stream: TcpStream,
     link: LinkSeat,
+    images: &LinkImages,
 ) -> Result<JoinHandle<()>, NoMemory> {
-    match thread::spawn(&rt, move || take_all(&rt, alloc, stream, link)) {
+    let asked = images.questions()?;
+    match thread::spawn(&rt, move || take_all(&rt, alloc, stream, link, &asked)) {
         Ok(thread) => Ok(thread),
         Err(_) => Err(NoMemory),
     }

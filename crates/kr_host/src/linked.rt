@@ -11,7 +11,7 @@ use std::sync::Wait;
 use std::time;
 
 // Tells the quorum why its event was refused, if the last turn's was: again and again where there is no memory for it.
-fn tell_refusal<R: Wait + time::Clock, L: Wait + Copy>(
+fn tell_refusal<R: Wait + time::Clock, L: Wait + time::Clock + Copy>(
     rt: &R,
     worker: &WorkerSeat,
     quorum: &LinkQuorum<L>,

@@ -1,11 +1,13 @@
 //! The daemon as a whole.
 
+ghost use Rattle.std.specs.Prelude.{◌<◌, ◌≤◌};
 ghost use Rattle.kr_settings.specs.Words.{AreInRange};
 
 use crate::clients::spawn_clients;
 use crate::door::Door;
 use crate::ended::{Ended, tell_no_memory};
 use crate::link::spawn_link;
+use crate::link_images::spawn_images;
 use crate::link_quorum::LinkQuorum;
 use crate::linked::turn_linked;
 use crate::local::{lead_alone, turn_alone};
@@ -54,11 +56,22 @@ where
         },
     };
     let options = options_of(node, cluster, salt);
-    let opened = match open_seats(&rt, rt.alloc(), options, clients) {
+    let opened = match open_seats(&rt, rt.alloc(), options, seats_of(clients, &stream)) {
         Ok(opened) => opened,
         Err(ended) => return ended,
     };
     serve(rt, listener, stream, opened)
+}
+
+// As many seats as clients, and where there is a link one more, for the images that it asks for.
+fn seats_of<T>(clients: u32, link: &Option<T>) -> u32
+    requires { (0 < clients) × (clients ≤ 63) }
+    ensures { (0 < result) × (result ≤ 64) }
+{
+    match link {
+        None => clients,
+        Some(_) => clients + 1,
+    }
 }
 
 fn listen_on<R: Net<Listener = TcpListener, Stream = TcpStream> + Eprint>(
@@ -152,10 +165,16 @@ where
 {
     let alloc = rt.alloc();
     let (there, back) = halves;
+    let mut seats = seats;
+    let Some(seat) = seats.pop() else {
+        return Err(NoMemory);
+    };
     let door = Arc::new(alloc, Door::of_link(listener))?;
     let mut quorum = LinkQuorum::new(rt, alloc, there)?;
+    let images = quorum.images(seat)?;
     let _threads = spawn_clients(rt, alloc, &door, seats)?;
-    let _thread = spawn_link(rt, alloc, back, link)?;
+    let _thread = spawn_link(rt, alloc, back, link, &images)?;
+    let _images = spawn_images(rt, images)?;
     let _ = println!(&rt; "listening");
     Ok(turn_linked(&rt, worker, &mut quorum))
 }

@@ -6,7 +6,7 @@ use Rattle.std.proofs.option.Option.TheSendSync as option
 use Rattle.kr_calls.specs.contracts.events.Entry.{the_row as entry_row}
 use Rattle.kr_calls.proofs.events.Entry.TheSendSync as entry
 use Rattle.kr_calls.proofs.events.Reason.TheSendSync as reason
-use Rattle.kr_engine.proofs.engine.Engine.TheSendSync as engine
+use Rattle.kr_engine.proofs.Sent.{engine_send}
 use Rattle.kr_queue.specs.contracts.queue.Queue.{the_row as queue_row}
 use Rattle.kr_queue.proofs.jobs.Job.TheSendSync as job
 use Rattle.kr_queue.proofs.passes.Pass.TheSendSync as pass
@@ -40,7 +40,7 @@ line_send = view_send _ _ _ _ _ (declared_send line_type (heap.Deque-send asked_
 
 desk_send : IsSend desk_row
 desk_send =
-    view_send _ _ _ _ _ (declared_send desk_type (search sendable depth 20, (publisher_send, (engine.the_send, (line_send, (heap.Deque-send entry_row entry.the_send, (search sendable depth 20, tt)))))))
+    view_send _ _ _ _ _ (declared_send desk_type (search sendable depth 20, (publisher_send, (engine_send, (line_send, (heap.Deque-send entry_row entry.the_send, (search sendable depth 20, tt)))))))
 
 -- the queue with its pass, the bells, the desk, and what the last turns left
 pub worker_send : IsSend worker_row

@@ -2,9 +2,7 @@
 
 ghost use Rattle.std.specs.Prelude.{◌≡◌, MatchResult};
 ghost use Rattle.left_right.specs.Sides.{view};
-ghost use Rattle.kr_base.specs.Causes.{Rose};
-ghost use Rattle.kr_view.specs.CopiesRule.{Saw};
-ghost use Rattle.kr_view.specs.Edges.{seen_by};
+ghost use Rattle.kr_view.specs.Edges.{seen_by, GetsCopy, GetsNone};
 
 use crate::rule::{CopiesRule, Sees, ThreadView};
 use crate::shown::Shown;
@@ -39,7 +37,7 @@ impl Edge {
 
     /// Takes the copy that is shown. Where the crate gives none, the count rises and nothing else changes.
     pub(crate) fn enter(self) -> Result<Entered, Edge>
-        ensures { MatchResult result (λ e. Saw (seen_by self) e.reading.part.value e.reading.part.value (view e.reading.place) × (e.misses ≡ self.misses)) (λ e. (seen_by e ≡ seen_by self) × Rose self.misses e.misses) }
+        ensures { MatchResult result (λ e. GetsCopy self e) (λ e. GetsNone self e) }
     {
         let Edge { reader, misses } = self;
         match reader.enter_as::<Sees>() {

@@ -55,7 +55,8 @@ impl Opening {
 
     // One more reader, which has seen what the writer has. Where the crate refuses it, the count rises.
     fn place(&mut self, copies: &mut Copies) -> Option<Reader<Shown, ThreadView, CopiesRule>>
-        ensures copies { (copies.new.desk.shown ≡ copies.old.desk.shown) × (copies.new.log ≡ copies.old.log) × (copies.new.behind ≡ copies.old.behind) × (view copies.new.desk.place ≡ view copies.old.desk.place) }
+        ensures copies { (copies.new.desk.shown ≡ copies.old.desk.shown) × (copies.new.log ≡ copies.old.log) × (copies.new.behind ≡ copies.old.behind) }
+        ensures seen { view copies.new.desk.place ≡ view copies.old.desk.place }
         ensures place { MatchOption result (Rose self.old.refused self.new.refused) (λ r. (view r.place ≡ view copies.old.desk.place) × (self.new.refused ≡ self.old.refused)) }
     {
         match copies.factory().reader() {

@@ -5,7 +5,7 @@ ghost use Rattle.left_right.specs.Sides.{view};
 ghost use Rattle.kr_calls.specs.RightAnswers.{AreRightAfter};
 ghost use Rattle.kr_view.specs.CopiesRule.{seen};
 ghost use Rattle.kr_view.specs.Runs.{is_single};
-ghost use Rattle.kr_view.specs.Steps.{entries_in};
+ghost use Rattle.kr_view.specs.Steps.{entries_in, HandsOver, ShowsAllOrNone};
 
 use crate::rule::{CopiesRule, Sees, ThreadView};
 use crate::run::{Run, Single, Step, is_single};
@@ -41,7 +41,8 @@ impl Model for Window {
 // Hands over a step. It comes back where there is no memory.
 fn append(copies: &mut Copies, step: Step) -> Result<(), Step>
     ensures desk { copies.new.desk ≡ copies.old.desk }
-    ensures pending { MatchResult result (λ _. drop copies.new.behind copies.new.log.items ≡ drop copies.old.behind copies.old.log.items ++ step ∷ []) (λ refused. (refused ≡ step) × (drop copies.new.behind copies.new.log.items ≡ drop copies.old.behind copies.old.log.items)) }
+    ensures pending { HandsOver result step (drop copies.old.behind copies.old.log.items)
+        (drop copies.new.behind copies.new.log.items) }
 {
     copies.append(step)
 }
@@ -69,7 +70,9 @@ fn flush(copies: &mut Copies, run: &mut Run, alloc: Global) -> Result<(), NoMemo
 // Shows what was handed over.
 pub(crate) fn show<R: Wait>(copies: Copies, rt: &R) -> (Copies, Result<(), AllocError>)
     requires { AreRightAfter copies.desk.shown.value.options copies.desk.shown.value.list (entries_in (drop copies.behind copies.log.items)) }
-    ensures list { MatchResult result.1 (λ _. (result.0.desk.shown.value.list ≡ copies.desk.shown.value.list ++ entries_in (drop copies.behind copies.log.items)) × (drop result.0.behind result.0.log.items ≡ [])) (λ _. (result.0.desk.shown.value.list ≡ copies.desk.shown.value.list) × (drop result.0.behind result.0.log.items ≡ drop copies.behind copies.log.items)) }
+    ensures list { ShowsAllOrNone result.1
+        copies.desk.shown.value.list result.0.desk.shown.value.list
+        (drop copies.behind copies.log.items) (drop result.0.behind result.0.log.items) }
     ensures options { result.0.desk.shown.value.options ≡ copies.desk.shown.value.options }
     ensures view { IfOk result.1 (λ _. view result.0.desk.place ≡ seen true result.0.desk.shown.value.options result.0.desk.shown.value.list) }
 {
@@ -79,7 +82,9 @@ pub(crate) fn show<R: Wait>(copies: Copies, rt: &R) -> (Copies, Result<(), Alloc
 // The same, where the writer stands.
 fn show_held<R: Wait>(copies: &mut Copies, rt: &R) -> Result<(), AllocError>
     requires { AreRightAfter copies.old.desk.shown.value.options copies.old.desk.shown.value.list (entries_in (drop copies.old.behind copies.old.log.items)) }
-    ensures list { MatchResult result (λ _. (copies.new.desk.shown.value.list ≡ copies.old.desk.shown.value.list ++ entries_in (drop copies.old.behind copies.old.log.items)) × (drop copies.new.behind copies.new.log.items ≡ [])) (λ _. (copies.new.desk.shown.value.list ≡ copies.old.desk.shown.value.list) × (drop copies.new.behind copies.new.log.items ≡ drop copies.old.behind copies.old.log.items)) }
+    ensures list { ShowsAllOrNone result
+        copies.old.desk.shown.value.list copies.new.desk.shown.value.list
+        (drop copies.old.behind copies.old.log.items) (drop copies.new.behind copies.new.log.items) }
     ensures options { copies.new.desk.shown.value.options ≡ copies.old.desk.shown.value.options }
 {
     replace_with(copies, rt, |copies, rt| show(copies, rt))

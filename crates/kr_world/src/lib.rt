@@ -3,6 +3,8 @@
 #![tactic(auto)]
 
 pub mod laws;
+mod past_basis;
 mod writes;
 
+pub use past_basis::PastBasis;
 pub use writes::{Decided, Ended, Told, Write};

@@ -1,7 +1,7 @@
 //! Writes whose replies wait, and what is told of them.
 
+use crate::past_basis::PastBasis;
 use kr_calls::{AnswerKind, Output, Reply};
-use kr_defs::Basis;
 
 /// Where a write was decided, and on what besides the image.
 #[derive(Drop)]
@@ -10,8 +10,8 @@ pub struct Decided {
     pub place: i64,
     /// How many records it gave.
     pub count: u32,
-    /// What the decision rested on besides the image; its time is that of the decision.
-    pub basis: Basis,
+    /// What the decision rested on besides the image; its time is that of the decision. Clauses alone see it.
+    pub basis: PastBasis,
 }
 
 /// A write that was decided, with both of its replies.

@@ -6,6 +6,8 @@ mod alone;
 #[cfg(test)]
 mod linked;
 #[cfg(test)]
+mod quorum;
+#[cfg(test)]
 mod talking;
 #[cfg(test)]
 mod words;

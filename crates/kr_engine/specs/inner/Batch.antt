@@ -45,8 +45,12 @@ read_batch_reason e (Err fault) = Some (bad_batch fault)
 abbrev pub batch_reason : Core → Result Batch BatchFault → Option Reason
 batch_reason e read = if is_some e.leading then Some (already_leading e.leading) else read_batch_reason e read
 
+-- the items are committed, up to the end
+abbrev pub core_after_items : Core → List Item → ℤ → Core
+core_after_items e items end = core_at (core_with_entries e (item_entries e.tip items)) end (result_unwrap_or (apply_all e.images.tip items) empty)
+
 abbrev pub core_after_batch : Core → Batch → Core
-core_after_batch e batch = core_at (core_with_entries e (item_entries e.tip batch.items)) (end_of batch) (result_unwrap_or (apply_all e.images.tip batch.items) empty)
+core_after_batch e batch = core_after_items e batch.items (end_of batch)
 
 abbrev pub core_after_read_batch : Core → Result Batch BatchFault → Core
 core_after_read_batch e (Ok batch) = core_after_batch e batch

@@ -5,6 +5,7 @@ use Rattle.kr_store.specs.Images.{Images, below, calls_of, forgotten, kept_at, o
 use Rattle.kr_world.specs.World.{leads_in}
 use Rattle.kr_world.specs.Reasons.{bad_commit, not_leading}
 use Rattle.kr_world.specs.Engine.{Core}
+use Rattle.kr_engine.specs.inner.Changes.{counted_core, refused_core_or}
 
 abbrev pub commit_reason : Core → ℤ → ℤ → Option Reason
 commit_reason e epoch end =
@@ -14,6 +15,10 @@ commit_reason e epoch end =
 
 abbrev pub core_after_commit : Core → ℤ → Core
 core_after_commit e end = record e { images = forgotten e.images end; committed = end }
+
+-- the Commit is counted, and taken or refused
+abbrev pub core_taking_commit : Core → ℤ → ℤ → Core
+core_taking_commit e epoch end = counted_core (refused_core_or e (commit_reason e epoch end) (core_after_commit e end))
 
 -- what it takes at most to forget what stands below the place
 abbrev pub forgetting_steps : Images → ℤ → ℕ

@@ -23,6 +23,10 @@ read_image_reason e (Err fault) = Some (bad_image fault)
 abbrev pub load_reason : Core → Result (ℤ × Image) ImageFault → Option Reason
 load_reason e read = if is_some e.leading then Some (already_leading e.leading) else read_image_reason e read
 
+-- the image of the offset stands in place of all before
+abbrev pub core_after_load : Core → ℤ → Image → Core
+core_after_load e offset image = core_at (core_with_entries e (entries.Load offset (records_of image) ∷ [])) offset image
+
 abbrev pub core_after_read_image : Core → Result (ℤ × Image) ImageFault → Core
-core_after_read_image e (Ok (offset, image)) = core_at (core_with_entries e (entries.Load offset (records_of image) ∷ [])) offset image
+core_after_read_image e (Ok (offset, image)) = core_after_load e offset image
 core_after_read_image e (Err fault) = e

@@ -13,9 +13,6 @@ decided_at-decided-requires g c = record { few = write_few c.args.self.now c.dec
 pub returns-in_err-refusal-clause-broken : goal.returns-in_err-refusal-clause-broken
 returns-in_err-refusal-clause-broken g c = whatever c.from_residual.result (same_breaks c.args.self.now c.args.self.now refl)
 
-pub returns-in_err-basis-clause-broken : goal.returns-in_err-basis-clause-broken
-returns-in_err-basis-clause-broken g c = whatever c.from_residual-in_err-basis.result (same_breaks c.args.self.now c.args.self.now refl)
-
 pub returns-in_err-append-clause-broken : goal.returns-in_err-append-clause-broken
 returns-in_err-append-clause-broken g c =
     whatever c.from_residual-in_err-append.result
@@ -24,11 +21,11 @@ returns-in_err-append-clause-broken g c =
 pub hold_reply-requires-clause-kept : goal.hold_reply-requires-clause-kept
 hold_reply-requires-clause-kept g c =
     image_there c.args.self.now c.decide.new.self c.append.new.self c.args.call.now c.in_ok-records.field-0 c.requires.ready c.look_at_images.ensures c.in_ok-records.ensures.decided c.in_ok-append.ensures.appended
-    c.decided_at-decided.result c.in_ok-basis.basis
-    (decided_there c.decided_at-decided.result c.self-2.inside.tip c.decide.new.self.tip (length c.in_ok-records.field-0.records) c.in_ok-basis.basis c.decided_at-decided.ensures (ap (λ (e : Core). e.tip) c.self-2.view_is))
+    c.decided_at-decided.result c.past_basis-basis.result
+    (decided_there c.decided_at-decided.result c.self-2.inside.tip c.decide.new.self.tip (length c.in_ok-records.field-0.records) c.past_basis-basis.result c.decided_at-decided.ensures (ap (λ (e : Core). e.tip) c.self-2.view_is))
 
 pub hold_reply-requires-clause-among : goal.hold_reply-requires-clause-among
 hold_reply-requires-clause-among g c =
     stopping_below c.args.self.now c.decide.new.self c.append.new.self c.args.call.now c.in_ok-records.field-0 c.requires.ready c.look_at_images.ensures c.in_ok-records.ensures.decided c.in_ok-append.ensures.appended
-    c.decided_at-decided.result c.in_ok-basis.basis
-    (decided_there c.decided_at-decided.result c.self-2.inside.tip c.decide.new.self.tip (length c.in_ok-records.field-0.records) c.in_ok-basis.basis c.decided_at-decided.ensures (ap (λ (e : Core). e.tip) c.self-2.view_is))
+    c.decided_at-decided.result c.past_basis-basis.result
+    (decided_there c.decided_at-decided.result c.self-2.inside.tip c.decide.new.self.tip (length c.in_ok-records.field-0.records) c.past_basis-basis.result c.decided_at-decided.ensures (ap (λ (e : Core). e.tip) c.self-2.view_is))

@@ -1,0 +1,139 @@
+//! A quorum at the other end of a link: it leads, has an event refused, commits each batch, and asks for an image meanwhile.
+
+use kr_base::{MemorySink, MemorySource, NoMemory};
+use kr_fold::fold;
+use std::alloc::Global;
+use std::io;
+use std::io::{Read, Write};
+use std::net::{TcpListener, TcpStream};
+
+/// How many clients there are, each with one write that appends a batch.
+pub(crate) const CLIENTS: u8 = 3;
+
+// Lead in epoch 1 from place 0 at time 0, a Commit in an epoch that isn't led, a question for the image, and End.
+const LEAD: [u8; 25] =
+    *b"\x00\x00\x00\x15\x02\x00\x00\x00\x01\x00\x00\x00\x00\x00\x00\x00\x00\x00\x00\x00\x00\x00\x00\x00\x00";
+
+const BAD_COMMIT: [u8; 17] =
+    *b"\x00\x00\x00\x0d\x03\x00\x00\x00\x09\x00\x00\x00\x00\x00\x00\x00\x00";
+
+const IMAGE: [u8; 5] = *b"\x00\x00\x00\x01\x09";
+
+const END: [u8; 5] = *b"\x00\x00\x00\x01\x0a";
+
+// The bodies of the refusals of the link's events number 2 and 6: epoch 9 isn't led, 1 is. A question for an image has no
+// number.
+const REFUSED: [u8; 33] =
+    *b"\x00\x00\x00\x00\x00\x00\x00\x02\x02\x00\x00\x00\x00\x00\x00\x00\x09\x00\x00\x00\x00\x00\x00\x00\x01\x00\x00\x00\x00\x00\x00\x00\x00";
+
+const REFUSED_AGAIN: [u8; 33] =
+    *b"\x00\x00\x00\x00\x00\x00\x00\x06\x02\x00\x00\x00\x00\x00\x00\x00\x09\x00\x00\x00\x00\x00\x00\x00\x01\x00\x00\x00\x00\x00\x00\x00\x00";
+
+// Kinds of frames.
+const APPEND: u8 = 0x81;
+
+const REFUSAL: u8 = 0x83;
+
+const IMAGE_TEXT: u8 = 0x84;
+
+// An image of one setting has fewer bytes.
+const ROOM: usize = 4_096;
+
+// The Commit that goes up to a place.
+fn commit(place: u8) -> [u8; 17] {
+    let mut frame = *b"\x00\x00\x00\x0d\x03\x00\x00\x00\x01\x00\x00\x00\x00\x00\x00\x00\x00";
+    frame[16] = place;
+    frame
+}
+
+// What came over the link: the batches one behind the other, where each begins and the last ends, and images.
+#[derive(Drop)]
+struct Seen {
+    log: Vec<u8>,
+    ends: Vec<usize>,
+    images: Vec<Vec<u8>>,
+}
+
+// The kind of the frame that comes next, and what follows it.
+fn next_frame(alloc: Global, mut stream: &TcpStream) -> io::Result<(u8, Vec<u8>)> {
+    let mut head = [0; 5];
+    stream.read_exact(&mut head)?;
+    let size = u32::from_be_bytes([head[0], head[1], head[2], head[3]]);
+    let mut body = vec![in alloc; 0; size.saturating_sub(1) as usize]?;
+    stream.read_exact(body.as_mut_slice())?;
+    Ok((head[4], body))
+}
+
+fn is_refused(alloc: Global, mut stream: &TcpStream, body: &[u8; 33]) -> io::Result<bool> {
+    stream.write_all(&BAD_COMMIT)?;
+    let (kind, told) = next_frame(alloc, stream)?;
+    Ok(kind == REFUSAL && told.as_slice() == body.as_slice())
+}
+
+// Commits each batch as it comes. Behind the first it asks for an image, behind the last for another.
+fn commit_all(alloc: Global, mut stream: &TcpStream) -> io::Result<Seen> {
+    let mut seen = Seen {
+        log: Vec::new(alloc),
+        ends: vec![in alloc; 0]?,
+        images: Vec::new(alloc),
+    };
+    let mut place: u8 = 0;
+    for _ in 0..CLIENTS + 2 {
+        let (kind, body) = next_frame(alloc, stream)?;
+        if kind == IMAGE_TEXT {
+            seen.images.push(body)?;
+        } else if kind == APPEND {
+            seen.log.extend_from_slice(body.as_slice())?;
+            seen.ends.push(seen.log.len())?;
+            place = place.saturating_add(1);
+            stream.write_all(&commit(place))?;
+            if place == 1 || place == CLIENTS {
+                stream.write_all(&IMAGE)?;
+            }
+        }
+    }
+    Ok(seen)
+}
+
+// An image is the fold of the batches up to its place, byte for byte.
+fn is_folded(alloc: Global, seen: &Seen, image: &[u8]) -> Result<bool, NoMemory> {
+    let place = image.get(7).map_or(0, |place| *place as usize);
+    let end = seen.ends.get(place).map_or(0, |end| *end);
+    let Some(log) = seen.log.get(..end) else {
+        return Ok(false);
+    };
+    let mut input = MemorySource::new(log.to_vec(alloc)?, Vec::new(alloc));
+    let mut output = MemorySink::new(alloc, ROOM, 1, Vec::new(alloc))?;
+    let is_whole = fold(alloc, &mut input, &mut output).is_ok();
+    Ok(is_whole && output.written() == image)
+}
+
+// Leads, and is told why an event was refused, before and behind all commits and images; then ends the link.
+fn lead(alloc: Global, mut stream: &TcpStream) -> io::Result<Option<Seen>> {
+    stream.write_all(&LEAD)?;
+    let is_told = is_refused(alloc, stream, &REFUSED)?;
+    let seen = commit_all(alloc, stream)?;
+    let is_told = is_refused(alloc, stream, &REFUSED_AGAIN)? && is_told;
+    stream.write_all(&END)?;
+    Ok(if is_told { Some(seen) } else { None })
+}
+
+// Each image is a fold of what was committed.
+fn are_folded(alloc: Global, seen: &Seen) -> Result<bool, NoMemory> {
+    let mut holds = seen.images.len() == 2 && seen.ends.len() == CLIENTS as usize + 1;
+    for image in &seen.images {
+        holds = is_folded(alloc, seen, image.as_slice())? && holds;
+    }
+    Ok(holds)
+}
+
+/// Is the quorum of the daemon that connects to the listener, and answers whether all was as it should be.
+pub(crate) fn be_quorum(alloc: Global, listener: &TcpListener) -> bool {
+    let Ok((stream, _)) = listener.accept() else {
+        return false;
+    };
+    match lead(alloc, &stream) {
+        Ok(Some(seen)) => are_folded(alloc, &seen).unwrap_or(false),
+        _ => false,
+    }
+}
