@@ -1,6 +1,6 @@
 //! Whether an image has room for records, told before any of them is applied.
 
-ghost use Rattle.std.specs.Prelude.{◌≡◌, ◌≤◌, ◌<◌, ◌+◌, ◌^◌, [], IfOk};
+ghost use Rattle.std.specs.Prelude.{◌≡◌, ◌≤◌, ◌<◌, ◌^◌, [], IfOk};
 ghost use Rattle.std.specs.List.{list_all};
 ghost use Rattle.kr_defs.specs.declared.limits.TheConstants.{MOST_TOPICS as most_topics, MOST_PARTITIONS as most_partitions, MOST_CONFIG_TEXT as most_text};
 ghost use Rattle.kr_defs.specs.Image as images;
