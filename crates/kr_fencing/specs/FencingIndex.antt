@@ -1,7 +1,7 @@
 -- Which partitions have a broker as a replica, so that each of many brokers is fenced without a walk of its own over all
 -- partitions (this project's own).
-use Rattle.std.specs.Prelude.{◌≡◌, ◌×◌, ℕ, ℤ, ⊥, List, [], ◌∷◌, ◌++◌, Option, Some, IsTrue, filter, fold, map}
-use Rattle.std.specs.Map.{set_value}
+use Rattle.std.specs.Prelude.{◌≡◌, ℕ, ℤ, List, [], ◌∷◌, ◌++◌, Some, All, IsTrue, flat_map, fold, if◌then◌else◌}
+use Rattle.std.specs.Map.{set_value, values_of}
 use Rattle.std.specs.Option.{option_map_or}
 use Rattle.std.specs.Ordering.{int_cmp}
 use Rattle.std.specs.BTreeMap.{is_at}
@@ -18,7 +18,7 @@ Listed = List (ℤ × List (ℕ × ℤ))
 -- ---- how it is made
 
 -- one key more, where the broker is listed
-abbrev pub with_key : ℕ × ℤ → Listed → ℤ → Listed
+unfoldable pub with_key : ℕ × ℤ → Listed → ℤ → Listed
 with_key key listed broker =
     option_map_or (λ keys. set_value (is_at (int_cmp broker)) listed (keys ++ key ∷ [])) (entries.get int_cmp listed broker) listed
 
@@ -32,13 +32,17 @@ with_topic partitions listed topic = fold with_partition listed (of_topic topic.
 
 -- nobody has a key yet
 abbrev pub AreEmpty : Listed → Type 0
-AreEmpty listed = (broker : ℤ) (keys : List (ℕ × ℤ)) → entries.get int_cmp listed broker ≡ Some keys → keys ≡ []
+AreEmpty listed = All (λ keys. keys ≡ []) (values_of listed)
 
 -- ---- what it says of an image
 
+-- the key, where the broker is a replica
+abbrev pub key_of_replica : ℤ → (ℕ × ℤ) × Partition → List (ℕ × ℤ)
+key_of_replica broker e = if has e.1.replicas broker then e.0 ∷ [] else []
+
 -- the keys of those of them that have the broker as a replica
-abbrev pub replica_keys : ℤ → List Walked → List (ℕ × ℤ)
-replica_keys broker ws = map (λ w. w.key) (filter (λ w. has w.partition.replicas broker) ws)
+abbrev pub keys_of_replica : ℤ → List Walked → List (ℕ × ℤ)
+keys_of_replica broker ws = flat_map (λ w. key_of_replica broker (w.key, w.partition)) ws
 
 -- the same keys with partitions none of which has gained a replica
 abbrev pub GainNoReplicas : List ((ℕ × ℤ) × Partition) → List ((ℕ × ℤ) × Partition) → Type 0
@@ -53,4 +57,4 @@ pub record Indexes (listed : Listed) (image : Image) : Type 0 where
   pub earlier : Image
   pub topics : image.topics ≡ earlier.topics
   pub partitions : GainNoReplicas earlier.partitions image.partitions
-  pub keys : (broker : ℤ) (keys : List (ℕ × ℤ)) → entries.get int_cmp listed broker ≡ Some keys → keys ≡ replica_keys broker (walk earlier)
+  pub keys : (broker : ℤ) (keys : List (ℕ × ℤ)) → entries.get int_cmp listed broker ≡ Some keys → keys ≡ keys_of_replica broker (walk earlier)

@@ -32,6 +32,7 @@ impl Model for FencingIndex {
 
 impl FencingIndex {
     /// An index that lists nobody.
+    #[tactic(auto, using(crate::proofs::Indexes::indexes))]
     pub fn new(alloc: Global) -> FencingIndex
         ensures { (image : Image) → Indexes result image }
     {
@@ -41,6 +42,7 @@ impl FencingIndex {
     }
 
     /// The index of these brokers, made by one walk over the partitions.
+    #[tactic(auto, using(crate::proofs::Indexes::indexes))]
     pub fn of<S: Store>(
         alloc: Global,
         seen: &Seen<S>,

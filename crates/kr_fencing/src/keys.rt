@@ -34,6 +34,7 @@ pub(crate) fn list_brokers(alloc: Global, brokers: &[i32]) -> Result<KeysByBroke
     Ok(listed)
 }
 
+#[tactic(auto, unfolding(crate::specs::FencingIndex::with_key))]
 fn add_key(listed: &mut KeysByBroker, key: &(u128, i32), broker: &i32) -> Result<(), NoMemory>
     ensures { OnOk result (listed.new.entries ≡ with_key key.now listed.old.entries broker.now) }
 {
@@ -86,7 +87,8 @@ fn add_topic<S: Store>(
         fold with_partition listed.old.entries (of_topic id.now seen.now.partitions)) }
 {
     seen.is_valid();
-    add_above(listed, seen, before_all(id))
+    add_above(listed, seen, before_all(id))?;
+    Ok(())
 }
 
 /// Adds the key of each partition, in walking order, under each of its replicas that is listed.
