@@ -1,6 +1,6 @@
 -- What an index has of each broker once it is made.
-use Rattle.std.proofs.Common.{◌≡◌, ◌∙◌, ℕ, ℤ, true, false, cond, List, [], ◌∷◌, ◌++◌, append_assoc, refl, sym, ap, subst}
-use Rattle.std.specs.Prelude.{Option, Some, None, All, IsTrue, filter, flat_map, fold}
+use Rattle.std.proofs.Common.{◌≡◌, ◌∙◌, ℕ, ℤ, Bool, true, false, not, ◌||◌, cond, List, [], ◌∷◌, ◌++◌, append_assoc, refl, sym, ap, subst}
+use Rattle.std.specs.Prelude.{◌==◌, Option, Some, None, All, IsTrue, filter, flat_map, fold}
 use Rattle.std.specs.Ordering.{is_eq, int_cmp, int_eq, eq_by_cmp}
 use Rattle.std.specs.BTreeMap.{is_at}
 use Rattle.std.specs.List.{AllByRecursion}
@@ -86,7 +86,7 @@ module _ (b : ℤ) where
 
   there_adds : (key : Key) (listed : Listed) (broker : ℤ) (keys : List Key) → get int_cmp listed broker ≡ Some keys → get int_cmp (set_value (is_at (int_cmp broker)) listed (keys ++ key ∷ [])) b ≡ more (own key broker) (get int_cmp listed b)
   there_adds key listed broker keys there =
-      lookup-set_value (eq_by_cmp_equiv int_cmp_total) (is_at (int_cmp broker)) (same_test broker) b (keys ++ key ∷ []) listed (rw there tt)
+      lookup-set_value (eq_by_cmp_equiv int_cmp_total) (is_at (int_cmp broker)) (same_test broker) b (keys ++ key ∷ []) listed (rw there refl)
       ∙ elim (int_eq broker b) as (λ c. int_eq broker b ≡ c → cond c (Some (keys ++ key ∷ [])) (get int_cmp listed b) ≡ more (cond c (key ∷ []) []) (get int_cmp listed b)) [
         | true ↦ λ is. let found : get int_cmp listed b ≡ Some keys = subst (λ (z : ℤ). get int_cmp listed z ≡ Some keys) (same_id broker b is) there in rw found refl
         | false ↦ λ is. sym (more_none (get int_cmp listed b))

@@ -3,6 +3,7 @@
 ghost use Rattle.kr_fencing.specs.FencingLaws.{FencingKeepsIndexes};
 
 /// An index stays one of the present image while brokers are fenced.
+#[tactic(auto, using(crate::proofs::KeptIndexes::fencing_indexed))]
 pub fn fencing_keeps_indexes()
     ensures { FencingKeepsIndexes }
 {}
