@@ -121,19 +121,16 @@ set_gains (e ∷ es) key p q s found less =
 
 -- ---- records
 
-value_or : {X E : Type 0} → X → Result X E → X
-value_or x (Ok y) = y
-value_or x (Err e) = x
+abbrev value_or : Image → Result Image Ill → Image
+value_or image (Ok after) = after
+value_or image (Err cause) = image
 
 record Keeps (before after : Image) : Type 0 where
   topics : after.topics ≡ before.topics
   partitions : GainNoReplicas before.partitions after.partitions
 
-ok_is : (x y : Image) → Ok {E = Ill} x ≡ Ok y → x ≡ y
-ok_is x y is = ap (value_or x) is
-
-keeps_same : (image after : Image) → Ok {E = Ill} image ≡ Ok after → Keeps image after
-keeps_same image after is = subst (Keeps image) (ok_is image after is) (record { topics = refl; partitions = none_gained image.partitions })
+keeps_same : (image after : Image) → apply_records image [] ≡ Ok after → Keeps image after
+keeps_same image after is = subst (Keeps image) (ap (value_or image) is) (record { topics = refl; partitions = none_gained image.partitions })
 
 changes_keep : (change : Walked → Option PartitionChange) (image after : Image) (ws : List Walked) → Shrinks change → IsMap partition_order image.partitions → StandApart change image.topics image.partitions ws → apply_records image (changes_of change ws) ≡ Ok after → Keeps image after
 unfolding apply_record

@@ -140,5 +140,3 @@ pub indexed_fencing : (minimum : ℤ) (image : Image) (b epoch : ℤ) (listed : 
     → records ≡ kinds.BrokerRegistrationChange b epoch (pos 1) (pos 0) ∷ records_of (taking_out minimum image b false) image keys → records ≡ fencing minimum image b epoch
 indexed_fencing minimum image b epoch listed keys records valid index found is =
     is ∙ ap (λ rs. kinds.BrokerRegistrationChange b epoch (pos 1) (pos 0) ∷ rs) (indexed_changes minimum image b valid listed keys index (sym found))
-
-pub ruleset named = (indexed_fencing)

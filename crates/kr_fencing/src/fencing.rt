@@ -46,7 +46,6 @@ fn fencing_of_keys<S: Store>(
 
 /// The records that fence a broker of this epoch. Where the index lists the broker, no other partitions are looked at than
 /// those that it says.
-#[tactic(auto, using(crate::proofs::NamedChanges::named))]
 pub fn fencing_records<S: Store>(
     alloc: Global,
     seen: &Seen<S>,
