@@ -78,11 +78,7 @@ fn add_above<S: Store>(
 }
 
 // The partitions of one topic.
-fn add_topic<S: Store>(
-    listed: &mut KeysByBroker,
-    seen: &Seen<S>,
-    id: &u128,
-) -> Result<(), NoMemory>
+fn add_topic<S: Store>(listed: &mut KeysByBroker, seen: &Seen<S>, id: &u128) -> Result<(), NoMemory>
     ensures { OnOk result (listed.new.entries ≡
         fold with_partition listed.old.entries (of_topic id.now seen.now.partitions)) }
 {

@@ -36,11 +36,7 @@ fn others(alloc: Global, ids: &Ids, broker: &i32) -> Result<Ids, NoMemory>
     Ok(left)
 }
 
-fn without_broker(
-    alloc: Global,
-    partition: &Partition,
-    broker: &i32,
-) -> Result<Want, NoMemory>
+fn without_broker(alloc: Global, partition: &Partition, broker: &i32) -> Result<Want, NoMemory>
     ensures { IfOk result (λ want. want ≡ taking.without_broker partition.now broker.now false) }
 {
     let in_sync = others(alloc, &partition.in_sync, broker)?;
