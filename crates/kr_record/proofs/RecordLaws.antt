@@ -13,7 +13,7 @@ use Rattle.kr_wire.proofs.Numbers.{uvarint_law}
 use Rattle.kr_wire.proofs.Tags.{no_tags_law}
 use Rattle.kr_record.specs.declared.fault.RecordFault.{RecordFault}
 use Rattle.kr_record.specs.declared.fault.RecordFault.TheVariants as faults
-use Rattle.kr_record.specs.declared.flags.Flags.{Flags}
+use Rattle.kr_record.specs.declared.broker_registration_change.Flags.{Flags}
 use Rattle.kr_record.specs.Answers.{Gives}
 use Rattle.kr_record.specs.Reading.{wired, as_record, newest_of, is_newer, layout_at, kind_at, record_at, record_of}
 use Rattle.kr_record.specs.Grammar.{IsLayout, IsRecord}

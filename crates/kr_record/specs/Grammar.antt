@@ -11,7 +11,7 @@ use Rattle.kr_defs.specs.declared.partition.PartitionChange.{PartitionChange}
 use Rattle.kr_defs.specs.declared.record.Record.{Record}
 use Rattle.kr_defs.specs.declared.record.Record.TheVariants as kinds
 use Rattle.kr_wire.specs.Grammar.{◌⌢◌, IsUvarint, IsNumber, IsSigned, IsBool, IsId, IsText, IsTextOrNull, NoTags, IsTags, IfTagged, IfTaggedSince, IsList, IsListOrNull}
-use Rattle.kr_record.specs.declared.flags.Flags.{Flags}
+use Rattle.kr_record.specs.declared.broker_registration_change.Flags.{Flags}
 use Rattle.kr_record.specs.declared.partition.Extras.{Extras}
 
 -- ---- parts

@@ -13,7 +13,7 @@ use Rattle.kr_wire.specs.declared.WireFault.{WireFault}
 use Rattle.kr_wire.specs.Reading.{◌>>=◌, ◌followed_by◌, structure_at, Read, Known, none_known, refuse◌when◌else◌, field_as, known_in, uvarint_at, number_at, signed_at, bool_at, id_at, text_at, text_or_null_at, tags_at, list_at, list_or_null_at}
 use Rattle.kr_record.specs.declared.fault.RecordFault.{RecordFault}
 use Rattle.kr_record.specs.declared.fault.RecordFault.TheVariants as faults
-use Rattle.kr_record.specs.declared.flags.Flags.{Flags}
+use Rattle.kr_record.specs.declared.broker_registration_change.Flags.{Flags}
 use Rattle.kr_record.specs.declared.partition.Extras.{Extras}
 use Rattle.kr_record.specs.Answers.{GivesField}
 use Rattle.kr_record.specs.Grammar.{unless_default, no_leader_change, no_recovery_change}

@@ -1,16 +1,14 @@
 //! Lists and what may be null, to bytes.
 
-ghost use Rattle.std.specs.Prelude.{◌≡◌, ◌++◌, List, ℕ, OnOk, All, IfSome};
+ghost use Rattle.std.specs.Prelude.{◌≡◌, ◌++◌, List, ℕ, All, OnOk, IfSome};
 ghost use Rattle.std.specs.Int.{w8, w16, w32, w64};
 ghost use Rattle.kr_wire.specs.Spelling;
-ghost use Rattle.kr_wire.specs.Spelling.{id, signed, text_or_null};
-ghost use Rattle.kr_record.specs.Encodable.{IsShort, IsShortEndpoint, IsShortRange};
-ghost use Rattle.kr_record.specs.Spelling.{endpoint, no_directories, no_tags, range};
+ghost use Rattle.kr_wire.specs.Spelling.{signed, text_or_null};
+ghost use Rattle.kr_record.specs.Encodable.{IsShort};
+ghost use Rattle.kr_record.specs.Spelling.{no_tags};
 
-use kr_defs::{Endpoint, Ids, Range, Rows, Text};
-use kr_wire::{
-    put_count, put_i8, put_i16, put_i32, put_i64, put_id, put_null, put_str, put_u16, put_uvarint,
-};
+use kr_defs::{Rows, Text};
+use kr_wire::{put_count, put_i8, put_i16, put_i32, put_i64, put_null, put_str, put_uvarint};
 use std::alloc::AllocError;
 
 /// An element of a list that is written.
@@ -64,35 +62,6 @@ impl Spelled for i64 {
     }
 }
 
-impl Spelled for Endpoint {
-    ghost spelling = { endpoint };
-
-    ghost is_short = { IsShortEndpoint };
-
-    #[tactic(auto, unfolding(crate::specs::Spelling::endpoint))]
-    fn put(&self, out: &mut Vec<u8>) -> Result<(), AllocError> {
-        put_str(out, self.name.as_str())?;
-        put_str(out, self.host.as_str())?;
-        put_u16(out, self.port)?;
-        self.protocol.put(out)?;
-        put_no_tags(out)
-    }
-}
-
-impl Spelled for Range {
-    ghost spelling = { range };
-
-    ghost is_short = { IsShortRange };
-
-    #[tactic(auto, unfolding(crate::specs::Spelling::range))]
-    fn put(&self, out: &mut Vec<u8>) -> Result<(), AllocError> {
-        put_str(out, self.name.as_str())?;
-        self.min.put(out)?;
-        self.max.put(out)?;
-        put_no_tags(out)
-    }
-}
-
 /// A list with its count in front.
 pub(crate) fn put_list<T: Spelled>(out: &mut Vec<u8>, list: &Rows<T>) -> Result<(), AllocError>
     requires short { IsShort list.now }
@@ -103,19 +72,6 @@ pub(crate) fn put_list<T: Spelled>(out: &mut Vec<u8>, list: &Rows<T>) -> Result<
     put_count(out, values.len() as u32)?;
     for value in values {
         value.put(out)?;
-    }
-    Ok(())
-}
-
-/// One all-zero id per replica.
-pub(crate) fn put_directories(out: &mut Vec<u8>, replicas: &Ids) -> Result<(), AllocError>
-    requires { IsShort replicas.now }
-    ensures { OnOk result (out.new.items ≡ out.old.items ++ Spelling.list id (no_directories replicas.now)) }
-{
-    let replicas = replicas.as_slice();
-    put_count(out, replicas.len() as u32)?;
-    for _replica in replicas {
-        put_id(out, 0)?;
     }
     Ok(())
 }

@@ -1,19 +1,27 @@
-//! Partitions from bytes.
+//! A partition, from bytes and to bytes.
 
-ghost use Rattle.std.specs.Prelude.{◌≡◌, ◌≤◌, [], nat_le, length, drop};
+ghost use Rattle.std.specs.Prelude.{◌≡◌, ◌≤◌, ◌++◌, [], nat_le, length, drop, OnOk};
 ghost use Rattle.std.specs.Option.{unwrap_or};
 ghost use Rattle.kr_defs.specs.declared.record.Record.TheVariants as kinds;
 ghost use Rattle.kr_wire.specs.Reading.{field_of, id_at, known_in, list_at};
+ghost use Rattle.kr_wire.specs.Spelling;
+ghost use Rattle.kr_wire.specs.Spelling.{id};
+ghost use Rattle.kr_record.specs.Encodable.{IsShort, IsShortPartition};
+ghost use Rattle.kr_record.specs.RecordRanges.{IsHeldPartition};
 ghost use Rattle.kr_record.specs.Answers.{ReadsField, Sets};
 ghost use Rattle.kr_record.specs.Reading.{ReadsKind, all_extras, dropped_at, extras_at, first_with_extra, ids_at, known_since, led_at, partition_at, since_at};
+ghost use Rattle.kr_record.specs.Spelling.{led, no_directories, partition, partition_tags, place_and_lists, two_ids};
 
 use crate::fault::RecordFault;
+use crate::fields::{one_if, put_i8_field, put_ids_field, unless_empty, unless_zero};
+use crate::held::ids_are_held;
+use crate::listed::{Spelled, put_list};
 use crate::lists::read_list;
 use crate::tagged::{Tagged, read_tags};
 use crate::whole::{whole_i8, whole_ids};
 use kr_defs::{Ids, Partition, Record, Rows};
-use kr_wire::{read_i32, read_id};
-use std::alloc::Global;
+use kr_wire::{put_count, put_id, put_uvarint, read_i32, read_id};
+use std::alloc::{AllocError, Global};
 
 /// The fields of a partition that are tagged.
 #[derive(Drop)]
@@ -179,4 +187,104 @@ pub(crate) fn read_partition(
         },
         end,
     ))
+}
+
+#[tactic(auto, unfolding(crate::specs::Spelling::partition))]
+pub(crate) fn put_partition(
+    out: &mut Vec<u8>,
+    index: &i32,
+    topic: u128,
+    state: &Partition,
+) -> Result<(), AllocError>
+    requires { IsShortPartition state.now }
+    ensures { OnOk result (out.new.items ≡ out.old.items ++ partition index.now topic state.now) }
+{
+    put_placed(out, index, topic, state)?;
+    put_led(out, state)
+}
+
+// The place of a partition, and its lists of replicas.
+#[tactic(auto, unfolding(crate::specs::Spelling::place_and_lists))]
+fn put_placed(
+    out: &mut Vec<u8>,
+    index: &i32,
+    topic: u128,
+    state: &Partition,
+) -> Result<(), AllocError>
+    requires { IsShortPartition state.now }
+    ensures { OnOk result (out.new.items ≡ out.old.items ++ place_and_lists index.now topic state.now) }
+{
+    index.put(out)?;
+    put_id(out, topic)?;
+    put_two_ids(out, &state.replicas, &state.in_sync)?;
+    put_two_ids(out, &state.removing, &state.adding)
+}
+
+// The leader of a partition, its epochs, and what is behind them.
+#[tactic(auto, unfolding(crate::specs::Spelling::led))]
+fn put_led(out: &mut Vec<u8>, state: &Partition) -> Result<(), AllocError>
+    requires { IsShortPartition state.now }
+    ensures { OnOk result (out.new.items ≡ out.old.items ++ led state.now) }
+{
+    state.leader.put(out)?;
+    state.leader_epoch.put(out)?;
+    state.partition_epoch.put(out)?;
+    put_directories(out, &state.replicas)?;
+    put_extras(out, state)
+}
+
+#[tactic(auto, unfolding(crate::specs::Spelling::two_ids))]
+fn put_two_ids(out: &mut Vec<u8>, first: &Ids, second: &Ids) -> Result<(), AllocError>
+    requires first { IsShort first.now }
+    requires second { IsShort second.now }
+    ensures { OnOk result (out.new.items ≡ out.old.items ++ two_ids first.now second.now) }
+{
+    put_list(out, first)?;
+    put_list(out, second)
+}
+
+// One all-zero id per replica.
+fn put_directories(out: &mut Vec<u8>, replicas: &Ids) -> Result<(), AllocError>
+    requires { IsShort replicas.now }
+    ensures { OnOk result (out.new.items ≡ out.old.items ++ Spelling.list id (no_directories replicas.now)) }
+{
+    let replicas = replicas.as_slice();
+    put_count(out, replicas.len() as u32)?;
+    for _replica in replicas {
+        put_id(out, 0)?;
+    }
+    Ok(())
+}
+
+// The tagged fields of a partition.
+#[tactic(auto, using(crate::proofs::RecordWriting::partition_tags_written), unfolding(crate::specs::Spelling::partition_tags))]
+fn put_extras(out: &mut Vec<u8>, state: &Partition) -> Result<(), AllocError>
+    requires { IsShortPartition state.now }
+    ensures { OnOk result (out.new.items ≡ out.old.items ++ partition_tags state.now) }
+{
+    let recovery = unless_zero(&state.recovery);
+    let eligible = unless_empty(&state.eligible);
+    let last_known = unless_empty(&state.last_known);
+    let count = one_if(recovery.is_some())
+        + one_if(eligible.is_some())
+        + one_if(last_known.is_some());
+    put_uvarint(out, count)?;
+    put_i8_field(out, 0, recovery)?;
+    put_ids_field(out, 1, eligible)?;
+    put_ids_field(out, 2, last_known)
+}
+
+pub(crate) fn partition_is_held(state: &Partition)
+    ensures { IsHeldPartition state.now }
+{
+    ids_are_held(&state.replicas);
+    ids_are_held(&state.in_sync);
+    ids_are_held(&state.removing);
+    ids_are_held(&state.adding);
+    ids_are_held(&state.eligible);
+    ids_are_held(&state.last_known);
+    let _leader = state.leader;
+    let _recovery = state.recovery;
+    let _leader_epoch = state.leader_epoch;
+    let _partition_epoch = state.partition_epoch;
 }

@@ -9,15 +9,19 @@ ghost use Rattle.kr_record.specs.Answers.{Gives, GivesField};
 ghost use Rattle.kr_record.specs.Reading;
 ghost use Rattle.kr_record.specs.Reading.{is_newer, kind_at, layout_at, record_of};
 
-use crate::broker::{
-    read_fence_broker, read_no_op, read_register_broker, read_unfence_broker,
-    read_unregister_broker,
-};
-use crate::change::read_partition_change;
+use crate::broker_registration_change::read_broker_registration_change;
+use crate::config::read_config;
 use crate::fault::RecordFault;
-use crate::flags::read_broker_registration_change;
+use crate::feature_level::read_feature_level;
+use crate::fence_broker::read_fence_broker;
+use crate::no_op::read_no_op;
 use crate::partition::read_partition;
-use crate::topic::{read_config, read_feature_level, read_remove_topic, read_topic};
+use crate::partition_change::read_partition_change;
+use crate::register_broker::read_register_broker;
+use crate::remove_topic::read_remove_topic;
+use crate::topic::read_topic;
+use crate::unfence_broker::read_unfence_broker;
+use crate::unregister_broker::read_unregister_broker;
 use kr_defs::Record;
 use kr_wire::read_uvarint;
 use std::alloc::Global;

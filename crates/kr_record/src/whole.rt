@@ -1,10 +1,9 @@
 //! Data that are all of a tagged field.
 
-ghost use Rattle.std.specs.Prelude.{◌≡◌, length};
 ghost use Rattle.std.specs.Int.{w8, w32};
-ghost use Rattle.kr_wire.specs.Reading.{id_at, list_or_null_at, signed_at, whole_field};
-ghost use Rattle.kr_record.specs.Answers.{GivesWire, ReadsField};
-ghost use Rattle.kr_record.specs.Reading.{dropped_at, ids_or_null_at};
+ghost use Rattle.kr_wire.specs.Reading.{signed_at, whole_field};
+ghost use Rattle.kr_record.specs.Answers.{GivesWire};
+ghost use Rattle.kr_record.specs.Reading.{ids_or_null_at};
 
 use crate::fault::RecordFault;
 use crate::lists::read_list_or_null;
@@ -22,22 +21,6 @@ pub(crate) fn whole_ids(alloc: Global, bytes: &[u8]) -> Result<Option<Ids>, Reco
                 return Err(RecordFault::Wire(WireFault::BadTag));
             }
             Ok(list.map(Rows::from_vec))
-        }
-        Err(RecordFault::Wire(WireFault::Short)) => Err(RecordFault::Wire(WireFault::BadTag)),
-        Err(fault) => Err(fault),
-    }
-}
-
-/// Directories, which are dropped.
-pub(crate) fn whole_directories(alloc: Global, bytes: &[u8]) -> Result<(), RecordFault>
-    ensures { GivesWire result (whole_field (dropped_at (list_or_null_at id_at) bytes.now)) }
-{
-    match read_directories_or_null(alloc, bytes) {
-        Ok((_dropped, end)) => {
-            if end < bytes.len() {
-                return Err(RecordFault::Wire(WireFault::BadTag));
-            }
-            Ok(())
         }
         Err(RecordFault::Wire(WireFault::Short)) => Err(RecordFault::Wire(WireFault::BadTag)),
         Err(fault) => Err(fault),
@@ -74,11 +57,4 @@ pub(crate) fn whole_i8(bytes: &[u8]) -> Result<i8, RecordFault>
         Err(WireFault::Short) => Err(RecordFault::Wire(WireFault::BadTag)),
         Err(fault) => Err(RecordFault::Wire(fault)),
     }
-}
-
-fn read_directories_or_null(alloc: Global, bytes: &[u8]) -> Result<((), usize), RecordFault>
-    ensures { ReadsField (λ u. u) result bytes.now (dropped_at (list_or_null_at id_at) bytes.now) }
-{
-    let (_list, next) = read_list_or_null::<u128>(alloc, bytes, 0)?;
-    Ok(((), next))
 }

@@ -15,7 +15,7 @@ use Rattle.kr_wire.specs.Laws.{IsBytes}
 use Rattle.kr_wire.specs.Grammar.{◌⌢◌, IsUvarint, IsTags}
 use Rattle.kr_wire.proofs.FormLaws.{Follows, free, ◌and◌, then, int8, int16, int32, int64, uint16, id, bool, uvarint, no_tags, text, list}
 use Rattle.kr_wire.proofs.TaggedForms.{field, no_more, tags}
-use Rattle.kr_record.specs.declared.flags.Flags.{Flags}
+use Rattle.kr_record.specs.declared.broker_registration_change.Flags.{Flags}
 use Rattle.kr_record.specs.Encodable.{IsShort, IsShortEndpoint, IsShortRange, IsShortBroker, IsShortPartition, IsSpelledChange, IsShortConfig, IsEncodable}
 use Rattle.kr_record.specs.RecordRanges.{IsHeldEndpoint, IsHeldRange, IsHeldBroker, IsHeldPartition, IsHeldChange, IsHeldConfig, IsHeld}
 use Rattle.kr_record.specs.Grammar.{IsEndpoint, IsRange, IsRegistration, IsBrokerEpoch, IsTopic, IsTopicId, AreExtras, extras_of, IsPartition, IsConfig, AreChanges, IsChange, IsFeature, AreFlags, IsRegistrationChange, IsLayout, IsRecord}

@@ -3,7 +3,7 @@ use Rattle.std.specs.Prelude.{All}
 use Rattle.kr_record.specs.RecordRanges.{IsHeldEndpoint}
 use Rattle.std.proofs.lemmas.List.{take_all}
 use Rattle.std.proofs.lemmas.List.Elements.{All-more}
-use Rattle.kr_record.proofs.held.endpoints_are_held.Goals as goal
+use Rattle.kr_record.proofs.register_broker.endpoints_are_held.Goals as goal
 
 pub loop-endpoint-preserved : goal.loop-endpoint-preserved
 loop-endpoint-preserved c =

@@ -3,7 +3,7 @@ use Rattle.std.specs.Prelude.{All}
 use Rattle.kr_record.specs.RecordRanges.{IsHeldRange}
 use Rattle.std.proofs.lemmas.List.{take_all}
 use Rattle.std.proofs.lemmas.List.Elements.{All-more}
-use Rattle.kr_record.proofs.held.ranges_are_held.Goals as goal
+use Rattle.kr_record.proofs.register_broker.ranges_are_held.Goals as goal
 
 pub loop-range-preserved : goal.loop-range-preserved
 loop-range-preserved c =

@@ -1,17 +1,20 @@
-//! Changes of a broker's registration.
+//! A change of a broker's registration, from bytes and to bytes.
 
-ghost use Rattle.std.specs.Prelude.{◌≡◌, ◌≤◌, length, drop};
+ghost use Rattle.std.specs.Prelude.{◌≡◌, ◌≤◌, ◌++◌, length, drop, OnOk};
 ghost use Rattle.kr_defs.specs.declared.record.Record.TheVariants as kinds;
 ghost use Rattle.kr_wire.specs.Reading.{field_of, known_in};
 ghost use Rattle.kr_record.specs.Answers.{ReadsField, Sets};
 ghost use Rattle.kr_record.specs.Reading.{ReadsKind, all_flags, first_with_flag, flags_at, known_since, registration_change_at};
+ghost use Rattle.kr_record.specs.Spelling.{flag_tags, registration_change};
 
 use crate::fault::RecordFault;
+use crate::fields::{one_if, put_i8_field, unless_zero};
+use crate::listed::Spelled;
 use crate::tagged::{Tagged, read_tags};
 use crate::whole::whole_i8;
 use kr_defs::Record;
-use kr_wire::{read_i32, read_i64};
-use std::alloc::Global;
+use kr_wire::{put_uvarint, read_i32, read_i64};
+use std::alloc::{AllocError, Global};
 
 /// The tagged fields of a change of a broker's registration.
 #[derive(Drop)]
@@ -102,4 +105,31 @@ pub(crate) fn read_broker_registration_change(
         },
         end,
     ))
+}
+
+#[tactic(auto, unfolding(crate::specs::Spelling::registration_change))]
+pub(crate) fn put_broker_registration_change(
+    out: &mut Vec<u8>,
+    broker: &i32,
+    epoch: &i64,
+    fenced: &i8,
+    stopping: &i8,
+) -> Result<(), AllocError>
+    ensures { OnOk result (out.new.items ≡ out.old.items ++ registration_change broker.now epoch.now fenced.now stopping.now) }
+{
+    broker.put(out)?;
+    epoch.put(out)?;
+    put_flags(out, fenced, stopping)
+}
+
+// The tagged fields of a change of a broker's registration.
+#[tactic(auto, using(crate::proofs::RecordWriting::flag_tags_written), unfolding(crate::specs::Spelling::flag_tags))]
+fn put_flags(out: &mut Vec<u8>, fenced: &i8, stopping: &i8) -> Result<(), AllocError>
+    ensures { OnOk result (out.new.items ≡ out.old.items ++ flag_tags fenced.now stopping.now) }
+{
+    let fenced = unless_zero(fenced);
+    let stopping = unless_zero(stopping);
+    put_uvarint(out, one_if(fenced.is_some()) + one_if(stopping.is_some()))?;
+    put_i8_field(out, 0, fenced)?;
+    put_i8_field(out, 1, stopping)
 }

@@ -1,7 +1,7 @@
 use Rattle.std.proofs.Common.{◌++◌, length}
 use Rattle.kr_wire.specs.Spelling.{count}
 use Rattle.kr_record.proofs.RecordWriting.{one_zero_more}
-use Rattle.kr_record.proofs.listed.put_directories.Goals as goal
+use Rattle.kr_record.proofs.partition.put_directories.Goals as goal
 
 pub loop-replica-preserved : goal.loop-replica-preserved
 loop-replica-preserved c =

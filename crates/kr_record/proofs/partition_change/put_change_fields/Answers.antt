@@ -1,5 +1,5 @@
 use Rattle.kr_record.proofs.RecordWriting.{and_then, and_last, and_same, change_tags_counted}
-use Rattle.kr_record.proofs.fields.put_change_fields.Goals as goal
+use Rattle.kr_record.proofs.partition_change.put_change_fields.Goals as goal
 
 pub returns : goal.returns
 returns c =
