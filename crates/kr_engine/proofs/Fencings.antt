@@ -185,7 +185,7 @@ pub more_breaks : {X E : Type 0} (result : Result X E) (e between after : Core) 
 more_breaks (Ok x) e between after broker f broken = tt
 more_breaks (Err fault) e between after broker f broken = written_then e between after (fencing_of e.options e.images.tip broker) f.writes f.held broken
 
-pub ruleset fence_all = (one_valid, one_ready, then_can, then_indexed, all_more, all_done, heard_breaks, more_breaks)
+pub ruleset fence_all = (one_valid, one_ready, then_can, all_more, all_done, heard_breaks, more_breaks)
 
 -- ---- those whose session has ended
 
