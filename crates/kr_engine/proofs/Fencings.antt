@@ -20,7 +20,7 @@ use Rattle.kr_defs.specs.Image.{Image, IsValid}
 use Rattle.kr_defs.specs.ImageLaws.{as_items}
 use Rattle.kr_defs.specs.Map as entries
 use Rattle.kr_defs.proofs.Tests.{both, none_is}
-use Rattle.kr_fencing.specs.FencingIndex.{Indexes, Listed}
+use Rattle.kr_fencing.specs.FencingIndex.{Indexes, KeysOfBrokers}
 use Rattle.kr_fencing.proofs.KeptIndexes.{fencing_indexed}
 use Rattle.law_fitting.specs.Fitting.{FitsBatch}
 use Rattle.law_fitting.proofs.FittingRecords.{records_fit}
@@ -129,7 +129,7 @@ abbrev image_or : Image → Result Image Ill → Image
 image_or image (Ok after) = after
 image_or image (Err cause) = image
 
-indexed_by : (listed : Listed) (minimum : ℤ) (image after : Image) (broker : ℤ) (o : Option Broker) → IsValid image → entries.get int_cmp image.brokers broker ≡ o
+indexed_by : (listed : KeysOfBrokers) (minimum : ℤ) (image after : Image) (broker : ℤ) (o : Option Broker) → IsValid image → entries.get int_cmp image.brokers broker ≡ o
     → apply_records image (option_map_or (λ (state : Broker). fencing minimum image broker state.epoch) o []) ≡ Ok after → Indexes listed image → Indexes listed after
 indexed_by listed minimum image after broker None valid is meaning index = subst (Indexes listed) (ap (image_or image) meaning) index
 indexed_by listed minimum image after broker (Some state) valid is meaning index = fencing_indexed listed minimum image after broker state valid is meaning index
@@ -146,7 +146,7 @@ module _ (e : Core) (brokers : List ℤ) (broker : ℤ) (others : List ℤ) (is 
   pub one_ready : IsReady e
   one_ready = engines_ready.ready e own_can.sound own_can.valid
 
-  pub then_indexed : (listed : Listed) (between : Core) → Fences e between broker → Indexes listed e.images.tip → Indexes listed between.images.tip
+  pub then_indexed : (listed : KeysOfBrokers) (between : Core) → Fences e between broker → Indexes listed e.images.tip → Indexes listed between.images.tip
   then_indexed listed between f index =
       indexed_by listed e.options.minimum e.images.tip between.images.tip broker (entries.get int_cmp e.images.tip.brokers broker) one_valid.tip refl f.writes.meaning index
 

@@ -22,7 +22,7 @@ use Rattle.kr_defs.proofs.Changes.{formed_parts}
 use Rattle.kr_defs.proofs.IdLists.{all_from, same_id}
 use Rattle.kr_defs.proofs.Tests.{both, neither, not_true, some_is}
 use Rattle.kr_calls.proofs.WalkedChanges.{value_at}
-use Rattle.kr_fencing.specs.FencingIndex.{Listed, AreEmpty, GainNoReplicas, Indexes, key_of_replica, keys_of_replica, with_key, with_partition, with_topic}
+use Rattle.kr_fencing.specs.FencingIndex.{KeysOfBrokers, AreEmpty, GainNoReplicas, Indexes, key_of_replica, keys_of_replica, with_key, with_key_of_replicas, with_keys_of_topic}
 
 abbrev Key : Type 0
 Key = ℕ × ℤ
@@ -61,10 +61,10 @@ all_left P test (x ∷ xs) a =
 
 module _ (b : ℤ) where
   -- a step adds these keys to those of the broker
-  abbrev Adds : {X : Type 0} → (Listed → X → Listed) → (X → List Key) → X → Type 0
-  Adds step keys x = (listed : Listed) → get int_cmp (step listed x) b ≡ more (keys x) (get int_cmp listed b)
+  abbrev Adds : {X : Type 0} → (KeysOfBrokers → X → KeysOfBrokers) → (X → List Key) → X → Type 0
+  Adds step keys x = (listed : KeysOfBrokers) → get int_cmp (step listed x) b ≡ more (keys x) (get int_cmp listed b)
 
-  all_added : {X : Type 0} (step : Listed → X → Listed) (keys : X → List Key) (xs : List X) → AllByRecursion (Adds step keys) xs → (listed : Listed) → get int_cmp (fold step listed xs) b ≡ more (flat_map keys xs) (get int_cmp listed b)
+  all_added : {X : Type 0} (step : KeysOfBrokers → X → KeysOfBrokers) (keys : X → List Key) (xs : List X) → AllByRecursion (Adds step keys) xs → (listed : KeysOfBrokers) → get int_cmp (fold step listed xs) b ≡ more (flat_map keys xs) (get int_cmp listed b)
   all_added step keys [] a listed = sym (more_none (get int_cmp listed b))
   all_added step keys (x ∷ xs) a listed =
       all_added step keys xs a.1 (step listed x) ∙ (ap (more (flat_map keys xs)) (a.0 listed) ∙ more_then (keys x) (flat_map keys xs) (get int_cmp listed b))
@@ -77,14 +77,14 @@ module _ (b : ℤ) where
   same_test : (broker x y : ℤ) → is_eq (int_cmp broker x) ≡ true → is_eq (int_cmp broker y) ≡ is_eq (int_cmp x y)
   same_test broker x y h = ap (λ z. is_eq (int_cmp z y)) (same_id broker x h)
 
-  absent_adds : (key : Key) (listed : Listed) (broker : ℤ) → get int_cmp listed broker ≡ None → get int_cmp listed b ≡ more (own key broker) (get int_cmp listed b)
+  absent_adds : (key : Key) (listed : KeysOfBrokers) (broker : ℤ) → get int_cmp listed broker ≡ None → get int_cmp listed b ≡ more (own key broker) (get int_cmp listed b)
   absent_adds key listed broker absent =
       elim (int_eq broker b) as (λ c. int_eq broker b ≡ c → get int_cmp listed b ≡ more (cond c (key ∷ []) []) (get int_cmp listed b)) [
         | true ↦ λ is. let none : get int_cmp listed b ≡ None = subst (λ (z : ℤ). get int_cmp listed z ≡ None) (same_id broker b is) absent in rw none refl
         | false ↦ λ is. sym (more_none (get int_cmp listed b))
       ] refl
 
-  there_adds : (key : Key) (listed : Listed) (broker : ℤ) (keys : List Key) → get int_cmp listed broker ≡ Some keys → get int_cmp (set_value (is_at (int_cmp broker)) listed (keys ++ key ∷ [])) b ≡ more (own key broker) (get int_cmp listed b)
+  there_adds : (key : Key) (listed : KeysOfBrokers) (broker : ℤ) (keys : List Key) → get int_cmp listed broker ≡ Some keys → get int_cmp (set_value (is_at (int_cmp broker)) listed (keys ++ key ∷ [])) b ≡ more (own key broker) (get int_cmp listed b)
   there_adds key listed broker keys there =
       lookup-set_value (eq_by_cmp_equiv int_cmp_total) (is_at (int_cmp broker)) (same_test broker) b (keys ++ key ∷ []) listed (rw there refl)
       ∙ elim (int_eq broker b) as (λ c. int_eq broker b ≡ c → cond c (Some (keys ++ key ∷ [])) (get int_cmp listed b) ≡ more (cond c (key ∷ []) []) (get int_cmp listed b)) [
@@ -115,7 +115,7 @@ module _ (b : ℤ) where
         | false ↦ λ is. own_once key rs d.1
       ] refl
 
-  partition_adds : (e : Entry) → is_distinct e.1.replicas ≡ true → Adds with_partition (key_of_replica b) e
+  partition_adds : (e : Entry) → is_distinct e.1.replicas ≡ true → Adds with_key_of_replicas (key_of_replica b) e
   partition_adds e distinct listed =
       all_added (with_key e.0) (own e.0) e.1.replicas (each (Adds (with_key e.0) (own e.0)) e.1.replicas (key_adds e.0)) listed
       ∙ ap (λ ks. more ks (get int_cmp listed b)) (own_once e.0 e.1.replicas distinct)
@@ -126,10 +126,10 @@ module _ (b : ℤ) where
     abbrev topic_keys : List ℕ × ℕ → List Key
     topic_keys t = flat_map (key_of_replica b) (of_topic t.1 ps)
 
-    topic_adds : AllByRecursion (λ (e : Entry). is_distinct e.1.replicas ≡ true) ps → (t : List ℕ × ℕ) → Adds (with_topic ps) topic_keys t
+    topic_adds : AllByRecursion (λ (e : Entry). is_distinct e.1.replicas ≡ true) ps → (t : List ℕ × ℕ) → Adds (with_keys_of_topic ps) topic_keys t
     topic_adds distinct t =
-        all_added with_partition (key_of_replica b) (of_topic t.1 ps)
-        (weaker (λ (e : Entry). is_distinct e.1.replicas ≡ true) (Adds with_partition (key_of_replica b)) (of_topic t.1 ps) partition_adds
+        all_added with_key_of_replicas (key_of_replica b) (of_topic t.1 ps)
+        (weaker (λ (e : Entry). is_distinct e.1.replicas ≡ true) (Adds with_key_of_replicas (key_of_replica b)) (of_topic t.1 ps) partition_adds
         (all_left (λ (e : Entry). is_distinct e.1.replicas ≡ true) (λ (e : Entry). e.0.0 == t.1) ps distinct))
 
     walk_keys : (ts : List (List ℕ × ℕ)) → flat_map topic_keys ts ≡ keys_of_replica b (flat_map (walk_topic ps) ts)
@@ -140,18 +140,18 @@ module _ (b : ℤ) where
         ap (λ ks. topic_keys t ++ ks) (walk_keys ts)
         ∙ sym (flat_map-append f (walk_topic ps t) behind ∙ ap (λ ks. ks ++ flat_map f behind) (flat_map-map f (walked t.0) (of_topic t.1 ps)))
 
-    walk_adds : AllByRecursion (λ (e : Entry). is_distinct e.1.replicas ≡ true) ps → (ts : List (List ℕ × ℕ)) (listed : Listed) → get int_cmp (fold (with_topic ps) listed ts) b ≡ more (keys_of_replica b (flat_map (walk_topic ps) ts)) (get int_cmp listed b)
+    walk_adds : AllByRecursion (λ (e : Entry). is_distinct e.1.replicas ≡ true) ps → (ts : List (List ℕ × ℕ)) (listed : KeysOfBrokers) → get int_cmp (fold (with_keys_of_topic ps) listed ts) b ≡ more (keys_of_replica b (flat_map (walk_topic ps) ts)) (get int_cmp listed b)
     walk_adds distinct ts listed =
-        all_added (with_topic ps) topic_keys ts (each (Adds (with_topic ps) topic_keys) ts (topic_adds distinct)) listed
+        all_added (with_keys_of_topic ps) topic_keys ts (each (Adds (with_keys_of_topic ps) topic_keys) ts (topic_adds distinct)) listed
         ∙ ap (λ ks. more ks (get int_cmp listed b)) (walk_keys ts)
 
 -- ---- an index of an image
 
-all_values : (P : List Key → Type 0) (listed : Listed) → AllByRecursion P (values_of listed) → AllByRecursion (λ (e : ℤ × List Key). P e.1) listed
+all_values : (P : List Key → Type 0) (listed : KeysOfBrokers) → AllByRecursion P (values_of listed) → AllByRecursion (λ (e : ℤ × List Key). P e.1) listed
 all_values P [] a = tt
 all_values P (e ∷ es) a = (a.0, all_values P es a.1)
 
-empty_at : (listed : Listed) (b : ℤ) (keys : List Key) → AreEmpty listed → get int_cmp listed b ≡ Some keys → keys ≡ []
+empty_at : (listed : KeysOfBrokers) (b : ℤ) (keys : List Key) → AreEmpty listed → get int_cmp listed b ≡ Some keys → keys ≡ []
 empty_at listed b keys empty found =
     value_at int_cmp (λ (ks : List Key). ks ≡ []) listed b keys (all_values (λ ks. ks ≡ []) listed (recursion_from_All (λ (ks : List Key). ks ≡ []) (values_of listed) empty)) found
 
@@ -168,7 +168,7 @@ distinct_replicas image valid =
     weaker (λ (e : Entry). IsTrue (is_well_formed e.1)) (λ (e : Entry). is_distinct e.1.replicas ≡ true) image.partitions (λ e h. (formed_parts e.1 h).replicas.distinct)
     (recursion_from_All (λ (e : Entry). IsTrue (is_well_formed e.1)) image.partitions valid.partitions.well_formed)
 
-pub walk_indexes : (image : Image) (listed made : Listed) → IsValid image → AreEmpty listed → made ≡ fold (with_topic image.partitions) listed image.topics → Indexes made image
+pub walk_indexes : (image : Image) (listed made : KeysOfBrokers) → IsValid image → AreEmpty listed → made ≡ fold (with_keys_of_topic image.partitions) listed image.topics → Indexes made image
 walk_indexes image listed made valid empty is = record {
   earlier = image;
   topics = refl;
@@ -176,15 +176,15 @@ walk_indexes image listed made valid empty is = record {
   keys = λ b keys found.
       let further = keys_of_replica b (flat_map (walk_topic image.partitions) image.topics) in
       from_empty keys further (get int_cmp listed b) (λ ks. empty_at listed b ks empty)
-      (sym (walk_adds b image.partitions (distinct_replicas image valid) image.topics listed) ∙ (ap (λ (l : Listed). get int_cmp l b) (sym is) ∙ found));
+      (sym (walk_adds b image.partitions (distinct_replicas image valid) image.topics listed) ∙ (ap (λ (l : KeysOfBrokers). get int_cmp l b) (sym is) ∙ found));
 }
 
-pub nobody_indexed : (listed : Listed) (image : Image) → listed ≡ [] → Indexes listed image
+pub nobody_indexed : (listed : KeysOfBrokers) (image : Image) → listed ≡ [] → Indexes listed image
 nobody_indexed listed image none = record {
   earlier = image;
   topics = refl;
   partitions = none_gained image.partitions;
-  keys = λ b keys found. let nothing = subst (λ (l : Listed). get int_cmp l b ≡ Some keys) none found in absurd cc;
+  keys = λ b keys found. let nothing = subst (λ (l : KeysOfBrokers). get int_cmp l b ≡ Some keys) none found in absurd cc;
 }
 
 pub ruleset indexes = (walk_indexes, nobody_indexed)

@@ -37,7 +37,7 @@ use Rattle.kr_calls.specs.Deciding.{apply_records}
 use Rattle.kr_calls.specs.TakingOut.{fencing, is_held, taking_out, without_broker}
 use Rattle.kr_calls.proofs.TakingOutSteps.{taking_sound}
 use Rattle.kr_calls.proofs.WalkedChanges.{StandApart, is_owned, still_stand, walk_stands}
-use Rattle.kr_fencing.specs.FencingIndex.{Listed, GainNoReplicas, Indexes}
+use Rattle.kr_fencing.specs.FencingIndex.{KeysOfBrokers, GainNoReplicas, Indexes}
 use Rattle.kr_fencing.specs.FencingLaws.{FencingKeepsIndexes}
 use Rattle.kr_fencing.proofs.Indexes.{none_gained}
 

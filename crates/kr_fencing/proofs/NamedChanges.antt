@@ -21,8 +21,8 @@ use Rattle.kr_defs.proofs.IdLists.{all_at}
 use Rattle.kr_defs.proofs.WalkedOnce.{walked_once}
 use Rattle.kr_calls.specs.TakingOut.{fencing, taking_out}
 use Rattle.kr_calls.proofs.WalkedChanges.{value_at}
-use Rattle.kr_fencing.specs.FencingIndex.{Listed, GainNoReplicas, Indexes, key_of_replica, keys_of_replica}
-use Rattle.kr_fencing.specs.Leaving.{records_at, records_of}
+use Rattle.kr_fencing.specs.FencingIndex.{KeysOfBrokers, GainNoReplicas, Indexes, key_of_replica, keys_of_replica}
+use Rattle.kr_fencing.specs.Leaving.{records_at, records_at_each}
 
 abbrev Entry : Type 0
 Entry = (ℕ × ℤ) × Partition
@@ -85,16 +85,16 @@ module _ (change : Walked → Option PartitionChange) (image : Image) (b : ℤ) 
         | false ↦ λ f. refl
       ] within
 
-  named_changes : (vs ws : List Walked) → Alike vs ws → AllByRecursion IsNamed ws → records_of change image (keys_of_replica b vs) ≡ changes_of change ws
+  named_changes : (vs ws : List Walked) → Alike vs ws → AllByRecursion IsNamed ws → records_at_each change image (keys_of_replica b vs) ≡ changes_of change ws
   named_changes [] [] a n = refl
   named_changes [] (w ∷ ws) a n = absurd a
   named_changes (v ∷ vs) [] a n = absurd a
   named_changes (v ∷ vs) (w ∷ ws) a n =
       let rest = named_changes vs ws a.1.1 n.1 in
-      elim (has v.partition.replicas b) as (λ c. has v.partition.replicas b ≡ c → records_of change image (cond c (v.key ∷ []) [] ++ keys_of_replica b vs) ≡ changes_of change (w ∷ ws)) [
+      elim (has v.partition.replicas b) as (λ c. has v.partition.replicas b ≡ c → records_at_each change image (cond c (v.key ∷ []) [] ++ keys_of_replica b vs) ≡ changes_of change (w ∷ ws)) [
         | true ↦ λ is.
-            ap (λ (k : ℕ × ℤ). records_at change image k ++ records_of change image (keys_of_replica b vs)) (sym a.0)
-            ∙ (ap (λ rs. rs ++ records_of change image (keys_of_replica b vs)) n.0.own
+            ap (λ (k : ℕ × ℤ). records_at change image k ++ records_at_each change image (keys_of_replica b vs)) (sym a.0)
+            ∙ (ap (λ rs. rs ++ records_at_each change image (keys_of_replica b vs)) n.0.own
             ∙ (ap (λ rs. cons_option (change_of change w) [] ++ rs) rest ∙ one_more (change_of change w) (changes_of change ws)))
         | false ↦ λ is. rest ∙ sym (none_changes w ws (n.0.other (absent_later v.partition.replicas w.partition.replicas (a.1.0 b) is)))
       ] refl
@@ -131,12 +131,12 @@ module _ (minimum : ℤ) (image : Image) (b : ℤ) (valid : IsValid image) where
       (recursion_from_All (λ (w : Walked). entries.get partition_order image.partitions w.key ≡ Some w.partition) (walk image) once.there)
       (recursion_from_All (λ (w : Walked). topic_name image.topics w.key.0 ≡ Some w.topic) (walk image) once.named)
 
-  indexed_changes : (listed : Listed) (keys : List (ℕ × ℤ)) → Indexes listed image → entries.get int_cmp listed b ≡ Some keys → records_of change image keys ≡ changes_of change (walk image)
+  indexed_changes : (listed : KeysOfBrokers) (keys : List (ℕ × ℤ)) → Indexes listed image → entries.get int_cmp listed b ≡ Some keys → records_at_each change image keys ≡ changes_of change (walk image)
   indexed_changes listed keys index found =
-      ap (records_of change image) (index.keys b keys found)
+      ap (records_at_each change image) (index.keys b keys found)
       ∙ named_changes change image b (walk index.earlier) (walk image) (alike_walks index.earlier image index.topics index.partitions) walk_named
 
-pub indexed_fencing : (minimum : ℤ) (image : Image) (b epoch : ℤ) (listed : Listed) (keys : List (ℕ × ℤ)) (records : List Record) → IsValid image → Indexes listed image → Some keys ≡ entries.get int_cmp listed b
-    → records ≡ kinds.BrokerRegistrationChange b epoch (pos 1) (pos 0) ∷ records_of (taking_out minimum image b false) image keys → records ≡ fencing minimum image b epoch
+pub indexed_fencing : (minimum : ℤ) (image : Image) (b epoch : ℤ) (listed : KeysOfBrokers) (keys : List (ℕ × ℤ)) (records : List Record) → IsValid image → Indexes listed image → Some keys ≡ entries.get int_cmp listed b
+    → records ≡ kinds.BrokerRegistrationChange b epoch (pos 1) (pos 0) ∷ records_at_each (taking_out minimum image b false) image keys → records ≡ fencing minimum image b epoch
 indexed_fencing minimum image b epoch listed keys records valid index found is =
     is ∙ ap (λ rs. kinds.BrokerRegistrationChange b epoch (pos 1) (pos 0) ∷ rs) (indexed_changes minimum image b valid listed keys index (sym found))

@@ -12,26 +12,26 @@ use Rattle.kr_defs.specs.Map as entries
 use Rattle.kr_defs.specs.Walk.{Walked, of_topic, walk}
 
 -- keys of partitions, under the brokers that they are listed for
-abbrev pub Listed : Type 0
-Listed = List (ℤ × List (ℕ × ℤ))
+abbrev pub KeysOfBrokers : Type 0
+KeysOfBrokers = List (ℤ × List (ℕ × ℤ))
 
 -- ---- how it is made
 
 -- one key more, where the broker is listed
-unfoldable pub with_key : ℕ × ℤ → Listed → ℤ → Listed
+unfoldable pub with_key : ℕ × ℤ → KeysOfBrokers → ℤ → KeysOfBrokers
 with_key key listed broker =
     option_map_or (λ keys. set_value (is_at (int_cmp broker)) listed (keys ++ key ∷ [])) (entries.get int_cmp listed broker) listed
 
 -- the partition's key under each of its replicas
-abbrev pub with_partition : Listed → (ℕ × ℤ) × Partition → Listed
-with_partition listed e = fold (with_key e.0) listed e.1.replicas
+abbrev pub with_key_of_replicas : KeysOfBrokers → (ℕ × ℤ) × Partition → KeysOfBrokers
+with_key_of_replicas listed e = fold (with_key e.0) listed e.1.replicas
 
 -- the same of the partitions of a topic
-abbrev pub with_topic : List ((ℕ × ℤ) × Partition) → Listed → List ℕ × ℕ → Listed
-with_topic partitions listed topic = fold with_partition listed (of_topic topic.1 partitions)
+abbrev pub with_keys_of_topic : List ((ℕ × ℤ) × Partition) → KeysOfBrokers → List ℕ × ℕ → KeysOfBrokers
+with_keys_of_topic partitions listed topic = fold with_key_of_replicas listed (of_topic topic.1 partitions)
 
 -- nobody has a key yet
-abbrev pub AreEmpty : Listed → Type 0
+abbrev pub AreEmpty : KeysOfBrokers → Type 0
 AreEmpty listed = All (λ keys. keys ≡ []) (values_of listed)
 
 -- ---- what it says of an image
@@ -53,7 +53,7 @@ GainNoReplicas (e ∷ es) [] = ⊥
 
 -- A broker that is listed has the keys of the partitions that it was a replica of in an earlier image, in walking order. No
 -- partition has come, gone or gained a replica since.
-pub record Indexes (listed : Listed) (image : Image) : Type 0 where
+pub record Indexes (listed : KeysOfBrokers) (image : Image) : Type 0 where
   pub earlier : Image
   pub topics : image.topics ≡ earlier.topics
   pub partitions : GainNoReplicas earlier.partitions image.partitions

@@ -38,5 +38,5 @@ abbrev pub records_at : (Walked → Option PartitionChange) → Image → ℕ ×
 records_at change image key = option_map_or (λ topic. records_in_topic change image topic.name key) (topic_with image.topics key.0) []
 
 -- the same of each of these keys
-abbrev pub records_of : (Walked → Option PartitionChange) → Image → List (ℕ × ℤ) → List Record
-records_of change image keys = flat_map (records_at change image) keys
+abbrev pub records_at_each : (Walked → Option PartitionChange) → Image → List (ℕ × ℤ) → List Record
+records_at_each change image keys = flat_map (records_at change image) keys

@@ -4,7 +4,7 @@ ghost use Rattle.std.specs.Prelude.{◌≡◌, ◌∷◌, [], pos, false, IfOk};
 ghost use Rattle.kr_defs.specs.declared.record.Record.TheVariants as kinds;
 ghost use Rattle.kr_calls.specs.TakingOut as taking;
 ghost use Rattle.kr_fencing.specs.FencingIndex.{Indexes};
-ghost use Rattle.kr_fencing.specs.Leaving.{records_of};
+ghost use Rattle.kr_fencing.specs.Leaving.{records_at_each};
 
 use crate::FencingIndex;
 use crate::leaving::{add_changes, leaver_of};
@@ -35,7 +35,7 @@ fn fencing_of_keys<S: Store>(
 ) -> Result<Records, NoMemory>
     ensures { IfOk result (λ records. records ≡
         kinds.BrokerRegistrationChange broker.now epoch.now (pos 1) (pos 0) ∷
-        records_of (taking.taking_out minimum.now seen.now broker.now false) seen.now keys.now) }
+        records_at_each (taking.taking_out minimum.now seen.now broker.now false) seen.now keys.now) }
 {
     let leaver = leaver_of(alloc, seen, minimum, broker)?;
     let mut records = Records::new(alloc);

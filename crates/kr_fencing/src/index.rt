@@ -23,9 +23,9 @@ pub struct FencingIndex {
 }
 
 impl Model for FencingIndex {
-    ghost use Rattle.kr_fencing.specs.FencingIndex.{Listed};
+    ghost use Rattle.kr_fencing.specs.FencingIndex.{KeysOfBrokers};
 
-    ghost Value = { Listed };
+    ghost Value = { KeysOfBrokers };
 
     ghost view = { λ i. i.listed.entries };
 }

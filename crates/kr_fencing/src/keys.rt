@@ -4,7 +4,7 @@ ghost use Rattle.std.specs.Prelude.{◌≡◌, [], IfOk, OnOk, fold};
 ghost use Rattle.std.specs.Ordering.{int_cmp};
 ghost use Rattle.kr_defs.specs.Map as entries;
 ghost use Rattle.kr_defs.specs.Walk.{of_topic, rest_of_topic};
-ghost use Rattle.kr_fencing.specs.FencingIndex.{AreEmpty, with_key, with_partition, with_topic};
+ghost use Rattle.kr_fencing.specs.FencingIndex.{AreEmpty, with_key, with_key_of_replicas, with_keys_of_topic};
 
 use kr_base::NoMemory;
 use kr_defs::{Ids, Rows};
@@ -67,7 +67,7 @@ fn add_above<S: Store>(
     first: (u128, i32),
 ) -> Result<(), NoMemory>
     ensures { OnOk result (listed.new.entries ≡
-        fold with_partition listed.old.entries (rest_of_topic first seen.now.partitions)) }
+        fold with_key_of_replicas listed.old.entries (rest_of_topic first seen.now.partitions)) }
 {
     let mut after = first;
     while let Some((key, partition)) = seen.next_of_topic(&after) {
@@ -80,7 +80,7 @@ fn add_above<S: Store>(
 // The partitions of one topic.
 fn add_topic<S: Store>(listed: &mut KeysByBroker, seen: &Seen<S>, id: &u128) -> Result<(), NoMemory>
     ensures { OnOk result (listed.new.entries ≡
-        fold with_partition listed.old.entries (of_topic id.now seen.now.partitions)) }
+        fold with_key_of_replicas listed.old.entries (of_topic id.now seen.now.partitions)) }
 {
     seen.is_valid();
     add_above(listed, seen, before_all(id))?;
@@ -93,7 +93,7 @@ pub(crate) fn add_partitions<S: Store>(
     seen: &Seen<S>,
 ) -> Result<(), NoMemory>
     ensures { OnOk result (listed.new.entries ≡
-        fold (with_topic seen.now.partitions) listed.old.entries seen.now.topics) }
+        fold (with_keys_of_topic seen.now.partitions) listed.old.entries seen.now.topics) }
 {
     seen.is_valid();
     let mut after = None;

@@ -6,7 +6,7 @@ ghost use Rattle.std.specs.Option.{option_map};
 ghost use Rattle.kr_defs.specs.declared.record.Record.TheVariants as kinds;
 ghost use Rattle.kr_defs.specs.Ids.{without};
 ghost use Rattle.kr_calls.specs.TakingOut as taking;
-ghost use Rattle.kr_fencing.specs.Leaving.{leaver_of, leaving, records_at, records_in_topic, records_of};
+ghost use Rattle.kr_fencing.specs.Leaving.{leaver_of, leaving, records_at, records_in_topic, records_at_each};
 
 use kr_base::NoMemory;
 use kr_change::build;
@@ -133,7 +133,7 @@ pub(crate) fn add_changes<S: Store>(
     records: &mut Records,
 ) -> Result<(), NoMemory>
     ensures { OnOk result (records.new ≡ records.old ++
-        records_of (leaving leaver.now seen.now) seen.now keys.now) }
+        records_at_each (leaving leaver.now seen.now) seen.now keys.now) }
 {
     for key in keys {
         add_at(alloc, seen, leaver, key, records)?;
