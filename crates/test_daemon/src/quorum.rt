@@ -49,6 +49,8 @@ fn commit(place: u8) -> [u8; 17] {
 // What came over the link: the batches one behind the other, where each begins and the last ends, images, and refusals.
 #[derive(Drop)]
 struct Seen {
+    // How many batches came, each of them committed.
+    place: u8,
     log: Vec<u8>,
     ends: Vec<usize>,
     images: Vec<Vec<u8>>,
@@ -67,11 +69,11 @@ fn next_frame(alloc: Global, mut stream: &TcpStream) -> io::Result<(u8, Vec<u8>)
 
 // The batch is committed. Behind the first of them an image is asked for, behind the last another.
 fn commit_batch(seen: &mut Seen, mut stream: &TcpStream, batch: &[u8]) -> io::Result<()> {
-    let place = seen.ends.len();
     seen.log.extend_from_slice(batch)?;
     seen.ends.push(seen.log.len())?;
-    stream.write_all(&commit(place as u8))?;
-    if place == 1 || place == CLIENTS as usize {
+    seen.place = seen.place.saturating_add(1);
+    stream.write_all(&commit(seen.place))?;
+    if seen.place == 1 || seen.place == CLIENTS {
         stream.write_all(&IMAGE)?;
     }
     Ok(())
@@ -81,6 +83,7 @@ fn commit_batch(seen: &mut Seen, mut stream: &TcpStream, batch: &[u8]) -> io::Re
 // so that the three batches, the two images and the refusal come in any order.
 fn commit_all(alloc: Global, stream: &TcpStream) -> io::Result<Seen> {
     let mut seen = Seen {
+        place: 0,
         log: Vec::new(alloc),
         ends: vec![in alloc; 0]?,
         images: Vec::new(alloc),
