@@ -1,11 +1,7 @@
-pub mod Elements
-pub mod FieldSteps
-pub mod KindSpelling
-pub mod KnownFields
-pub mod RecordLaws
+pub mod FieldLoop
 pub mod LayoutLaws
-pub mod Lengths
+pub mod LayoutSpelling
+pub mod Pieces
 pub mod PartSpelling
-pub mod Parts
 pub mod RecordForms
-pub mod RecordWriting
+pub mod RecordLaws

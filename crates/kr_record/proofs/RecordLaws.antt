@@ -1,23 +1,33 @@
 -- The laws of records.
-use Rattle.std.proofs.Common.{Fits, w8, get_or, ◌≡◌, ℕ, ◌≤◌, eqb, true, false, List, ◌++◌, Option, Some, Result, Ok, Err, refl, ap, subst, arith}
+use Rattle.std.proofs.Common.{Fits, w8, get_or, ◌≡◌, ℕ, ◌≤◌, ◌<◌, Bool, cond, eqb, true, false, List, ◌++◌, Option, Some, None, Result, Ok, Err, refl, ap, subst, ◌∙◌, arith, lit<}
 use Rattle.std.specs.Prelude.{not, IfOk}
 use Rattle.std.proofs.lemmas.Bool.Decides.{nat_tests}
 use Rattle.std.proofs.lemmas.Bool.{ltb-false, le-ltb}
 use Rattle.kr_defs.specs.declared.record.Record.{Record}
 use Rattle.kr_defs.specs.declared.record.Record.TheVariants as kinds
 use Rattle.kr_wire.specs.declared.WireFault.{WireFault}
-use Rattle.kr_wire.specs.Reading.{Read, refuse◌when◌else◌}
+use Rattle.kr_wire.specs.Reading.{Read}
 use Rattle.kr_wire.specs.Grammar.{◌⌢◌, IsUvarint}
-use Rattle.kr_wire.proofs.ReadingLaws.{IsBytes, Yields, Law, joined, sound_then, sound_last, sound_guard, sound_if, sound_as, complete_then, complete_last, complete_guard, all_sound, all_complete, one_value}
+use Rattle.kr_wire.proofs.ReadingLaws.{IsBytes, Yields, Law, joined, sound_then, sound_last, sound_guard, sound_as, complete_then, complete_last, complete_guard, all_sound, all_complete, one_value}
 use Rattle.kr_wire.proofs.Numbers.{uvarint_law}
-use Rattle.kr_wire.proofs.Tags.{no_tags_law}
 use Rattle.kr_record.specs.declared.fault.RecordFault.{RecordFault}
 use Rattle.kr_record.specs.declared.fault.RecordFault.TheVariants as faults
-use Rattle.kr_record.specs.declared.flags.Flags.{Flags}
 use Rattle.kr_record.specs.Answers.{Gives}
-use Rattle.kr_record.specs.Reading.{wired, as_record, newest_of, is_newer, layout_at, kind_at, record_at, record_of}
+use Rattle.kr_record.specs.Kind.{Kind, kind_record_at}
+use Rattle.kr_record.specs.Records.{OfKind, chosen}
+use Rattle.kr_record.specs.Layout.{IsInVersion, is_whole}
+use Rattle.kr_record.specs.RegisterBroker.{register_broker}
+use Rattle.kr_record.specs.FenceBroker.{unregister_broker, fence_broker, unfence_broker}
+use Rattle.kr_record.specs.BrokerRegistrationChange.{broker_registration_change}
+use Rattle.kr_record.specs.Topic.{topic, remove_topic}
+use Rattle.kr_record.specs.Partition.{partition}
+use Rattle.kr_record.specs.PartitionChange.{partition_change}
+use Rattle.kr_record.specs.Config.{config}
+use Rattle.kr_record.specs.FeatureLevel.{feature_level, no_op}
+use Rattle.kr_record.specs.Reading.{wired, newest_of, is_newer, read_or, layout_at, kind_at, record_at, record_of}
 use Rattle.kr_record.specs.Grammar.{IsLayout, IsRecord}
-use Rattle.kr_record.proofs.LayoutLaws.{registration_law, broker_epoch_law, topic_law, topic_id_law, partition_law, config_law, change_law, feature_law, registration_change_law}
+use Rattle.kr_record.proofs.LayoutLaws.{law}
+use Rattle.kr_record.proofs.LayoutSpelling.{is_newest}
 
 -- ---- a fault of the wire is one of the record
 
@@ -36,61 +46,84 @@ wired_law law = record {
 
 -- ---- the kinds
 
-module _ {X : Type 0} {Is : X → List ℕ → Type 0} {read : List ℕ → Read X} (law : Law Is read) where
-  kind_sound : (kind : X → Record) (key version : ℕ) (bytes : List ℕ) → IsBytes bytes
-      → ((x : X) (front : List ℕ) → Is x front → IsLayout key version (kind x) front)
-      → Yields (IsLayout key version) bytes (wired (as_record kind (read bytes)))
-  kind_sound kind key version bytes fits step = sound_wired _ bytes _ (sound_last law _ kind bytes fits step)
+-- What holds of the kind of each record: it is found by its key, its layout is read, the newest version is written, and
+-- what stands in the record makes it.
+pub record IsServed (r : Record) (k : OfKind) : Type 0 where
+  pub newest : newest_of k.kind.key ≡ Some k.kind.newest
+  pub found : (version : ℕ) (bytes : List ℕ) → kind_at k.kind.key version bytes ≡ Some (kind_record_at k.kind version bytes)
+  pub readable : is_whole k.kind.layout ≡ true
+  pub writable : is_newest k.kind.layout k.kind.newest ≡ true
+  pub small : (k.kind.key < 128) × (k.kind.newest < 128)
+  pub back : k.kind.record_of k.parts ≡ r
 
-  kind_complete : (kind : X → Record) (key newest version : ℕ) (x : X) (bytes rest : List ℕ) → version ≤ newest → Is x bytes
-      → (refuse (faults.UnknownVersion key version) when is_newer (Some newest) version else wired (as_record kind (read (bytes ++ rest)))) ≡ Ok (kind x, rest)
-  kind_complete kind key newest version x bytes rest known is =
-      complete_guard _ _ _ _ (le-ltb _ _ known) (ap wired (complete_last law x kind rest bytes is))
-
-is_key : (key n : ℕ) → eqb key n ≡ true → key ≡ n
-is_key key n e = grind (arith, nat_tests)
+pub served : (r : Record) → IsServed r (chosen r)
+unfolding kind_at
+served (kinds.RegisterBroker broker state) = record { newest = refl; found = λ version bytes. refl; readable = refl; writable = refl; small = (lit< tt, lit< tt); back = refl }
+served (kinds.UnregisterBroker broker epoch) = record { newest = refl; found = λ version bytes. refl; readable = refl; writable = refl; small = (lit< tt, lit< tt); back = refl }
+served (kinds.Topic name id) = record { newest = refl; found = λ version bytes. refl; readable = refl; writable = refl; small = (lit< tt, lit< tt); back = refl }
+served (kinds.Partition index id state) = record { newest = refl; found = λ version bytes. refl; readable = refl; writable = refl; small = (lit< tt, lit< tt); back = refl }
+served (kinds.Config kind name key value) = record { newest = refl; found = λ version bytes. refl; readable = refl; writable = refl; small = (lit< tt, lit< tt); back = refl }
+served (kinds.PartitionChange index id change) = record { newest = refl; found = λ version bytes. refl; readable = refl; writable = refl; small = (lit< tt, lit< tt); back = refl }
+served (kinds.FenceBroker broker epoch) = record { newest = refl; found = λ version bytes. refl; readable = refl; writable = refl; small = (lit< tt, lit< tt); back = refl }
+served (kinds.UnfenceBroker broker epoch) = record { newest = refl; found = λ version bytes. refl; readable = refl; writable = refl; small = (lit< tt, lit< tt); back = refl }
+served (kinds.RemoveTopic id) = record { newest = refl; found = λ version bytes. refl; readable = refl; writable = refl; small = (lit< tt, lit< tt); back = refl }
+served (kinds.FeatureLevel name level) = record { newest = refl; found = λ version bytes. refl; readable = refl; writable = refl; small = (lit< tt, lit< tt); back = refl }
+served (kinds.BrokerRegistrationChange broker epoch fenced stopping) = record { newest = refl; found = λ version bytes. refl; readable = refl; writable = refl; small = (lit< tt, lit< tt); back = refl }
+served kinds.NoOp = record { newest = refl; found = λ version bytes. refl; readable = refl; writable = refl; small = (lit< tt, lit< tt); back = refl }
 
 -- a version that isn't newer is one that the kind with the key has
 has : (key n newest version : ℕ) → eqb key n ≡ true → newest_of n ≡ Some newest → is_newer (newest_of key) version ≡ false → (key ≡ n) × (version ≤ newest)
 has key n newest version e of known =
-    let same : key ≡ n = is_key key n e in
+    let same : key ≡ n = grind (arith, nat_tests) in
     let at : is_newer (newest_of n) version ≡ false = subst (λ (k : ℕ). is_newer (newest_of k) version ≡ false) same known in
     (same, ltb-false _ _ (subst (λ (o : Option ℕ). is_newer o version ≡ false) of at))
 
+module _ (key version : ℕ) (bytes : List ℕ) (fits : IsBytes bytes) (known : is_newer (newest_of key) version ≡ false) where
+  abbrev Reads : Option (Read Record) → Type 0
+  Reads read = Yields (IsLayout key version) bytes (read_or (faults.UnknownKey key) read)
+
+  -- the kind with the key, or others
+  kind_or : {X : Type 0} (k : Kind X) → is_whole k.layout ≡ true → newest_of k.key ≡ Some k.newest
+      → ((x : X) (front : List ℕ) → key ≡ k.key → version ≤ k.newest → IsInVersion k.layout version x front → IsLayout key version (k.record_of x) front)
+      → (others : Option (Read Record)) → Reads others → Reads (cond (eqb key k.key) (Some (kind_record_at k version bytes)) others)
+  kind_or {X} k readable of step others more =
+      let P : Bool → Type 0 = λ b. eqb key k.key ≡ b → Reads (cond b (Some (kind_record_at k version bytes)) others) in
+      let pick : P (eqb key k.key) = elim (eqb key k.key) as P [
+        | true ↦ λ e.
+            let h = has key k.key k.newest version e of known in
+            sound_wired _ bytes _ (sound_last (law k.layout readable version) _ k.record_of bytes fits (λ x front is. step x front h.0 h.1 is))
+        | false ↦ λ e. more
+      ] in
+      pick refl
+
+  kind_sound : Reads (kind_at key version bytes)
+  unfolding kind_at
+  kind_sound =
+      kind_or register_broker refl refl (λ x front e le is. (e, le, is)) _
+      (kind_or unregister_broker refl refl (λ x front e le is. (e, le, is)) _
+      (kind_or topic refl refl (λ x front e le is. (e, le, is)) _
+      (kind_or partition refl refl (λ x front e le is. (e, le, is)) _
+      (kind_or config refl refl (λ x front e le is. (e, le, is)) _
+      (kind_or partition_change refl refl (λ x front e le is. (e, le, is)) _
+      (kind_or fence_broker refl refl (λ x front e le is. (e, le, is)) _
+      (kind_or unfence_broker refl refl (λ x front e le is. (e, le, is)) _
+      (kind_or remove_topic refl refl (λ x front e le is. (e, le, is)) _
+      (kind_or feature_level refl refl (λ x front e le is. (e, le, is)) _
+      (kind_or broker_registration_change refl refl (λ x front e le is. (e, le, is)) _
+      (kind_or no_op refl refl (λ x front e le is. (e, le, is)) _ (λ r rest e. absurd cc))))))))))))
+
 layout_sound : (key version : ℕ) (bytes : List ℕ) → IsBytes bytes → Yields (IsLayout key version) bytes (layout_at key version bytes)
-unfolding layout_at kind_at
-layout_sound key version bytes fits =
-    sound_guard _ bytes (is_newer (newest_of key) version) _ _ (λ known.
-    sound_if _ bytes (eqb key 0) _ _ (λ e. kind_sound (registration_law version) (λ t. kinds.RegisterBroker t.0 t.1) key version bytes fits (λ t a is. let h = has key 0 1 version e refl known in (h.0, h.1, is))) (λ n0.
-    sound_if _ bytes (eqb key 1) _ _ (λ e. kind_sound broker_epoch_law (λ t. kinds.UnregisterBroker t.0 t.1) key version bytes fits (λ t a is. let h = has key 1 0 version e refl known in (h.0, h.1, is))) (λ n1.
-    sound_if _ bytes (eqb key 2) _ _ (λ e. kind_sound topic_law (λ t. kinds.Topic t.0 t.1) key version bytes fits (λ t a is. let h = has key 2 0 version e refl known in (h.0, h.1, is))) (λ n2.
-    sound_if _ bytes (eqb key 3) _ _ (λ e. kind_sound (partition_law version) (λ t. kinds.Partition t.0 t.1 t.2) key version bytes fits (λ t a is. let h = has key 3 2 version e refl known in (h.0, h.1, is))) (λ n3.
-    sound_if _ bytes (eqb key 4) _ _ (λ e. kind_sound config_law (λ t. kinds.Config t.0 t.1 t.2 t.3) key version bytes fits (λ t a is. let h = has key 4 0 version e refl known in (h.0, h.1, is))) (λ n4.
-    sound_if _ bytes (eqb key 5) _ _ (λ e. kind_sound (change_law version) (λ t. kinds.PartitionChange t.0 t.1 t.2) key version bytes fits (λ t a is. let h = has key 5 2 version e refl known in (h.0, h.1, is))) (λ n5.
-    sound_if _ bytes (eqb key 7) _ _ (λ e. kind_sound broker_epoch_law (λ t. kinds.FenceBroker t.0 t.1) key version bytes fits (λ t a is. let h = has key 7 0 version e refl known in (h.0, h.1, is))) (λ n7.
-    sound_if _ bytes (eqb key 8) _ _ (λ e. kind_sound broker_epoch_law (λ t. kinds.UnfenceBroker t.0 t.1) key version bytes fits (λ t a is. let h = has key 8 0 version e refl known in (h.0, h.1, is))) (λ n8.
-    sound_if _ bytes (eqb key 9) _ _ (λ e. kind_sound topic_id_law (λ t. kinds.RemoveTopic t) key version bytes fits (λ t a is. let h = has key 9 0 version e refl known in (h.0, h.1, is))) (λ n9.
-    sound_if _ bytes (eqb key 12) _ _ (λ e. kind_sound feature_law (λ t. kinds.FeatureLevel t.0 t.1) key version bytes fits (λ t a is. let h = has key 12 0 version e refl known in (h.0, h.1, is))) (λ n12.
-    sound_if _ bytes (eqb key 17) _ _ (λ e. kind_sound (registration_change_law version) (λ t. kinds.BrokerRegistrationChange t.0 t.1 t.2.fenced t.2.stopping) key version bytes fits (λ t a is. let h = has key 17 1 version e refl known in (h.0, h.1, is))) (λ n17.
-    sound_if _ bytes (eqb key 20) _ _ (λ e. kind_sound no_tags_law (λ t. kinds.NoOp) key version bytes fits (λ t a is. let h = has key 20 0 version e refl known in (h.0, h.1, is)))
-    (λ n20 r rest e. absurd cc)))))))))))))
+unfolding layout_at
+layout_sound key version bytes fits = sound_guard _ bytes (is_newer (newest_of key) version) _ _ (λ known. kind_sound key version bytes fits known)
 
 layout_complete : (key version : ℕ) (r : Record) (bytes rest : List ℕ) → IsLayout key version r bytes → layout_at key version (bytes ++ rest) ≡ Ok (r, rest)
-unfolding layout_at kind_at
-layout_complete key version (kinds.RegisterBroker broker state) bytes rest is = rw is.0 (kind_complete (registration_law version) (λ t. kinds.RegisterBroker t.0 t.1) 0 1 version (broker, state) bytes rest is.1 is.2)
-layout_complete key version (kinds.UnregisterBroker broker epoch) bytes rest is = rw is.0 (kind_complete broker_epoch_law (λ t. kinds.UnregisterBroker t.0 t.1) 1 0 version (broker, epoch) bytes rest is.1 is.2)
-layout_complete key version (kinds.Topic name id) bytes rest is = rw is.0 (kind_complete topic_law (λ t. kinds.Topic t.0 t.1) 2 0 version (name, id) bytes rest is.1 is.2)
-layout_complete key version (kinds.Partition index topic state) bytes rest is = rw is.0 (kind_complete (partition_law version) (λ t. kinds.Partition t.0 t.1 t.2) 3 2 version (index, topic, state) bytes rest is.1 is.2)
-layout_complete key version (kinds.Config kind name setting value) bytes rest is = rw is.0 (kind_complete config_law (λ t. kinds.Config t.0 t.1 t.2 t.3) 4 0 version (kind, name, setting, value) bytes rest is.1 is.2)
-layout_complete key version (kinds.PartitionChange index topic change) bytes rest is = rw is.0 (kind_complete (change_law version) (λ t. kinds.PartitionChange t.0 t.1 t.2) 5 2 version (index, topic, change) bytes rest is.1 is.2)
-layout_complete key version (kinds.FenceBroker broker epoch) bytes rest is = rw is.0 (kind_complete broker_epoch_law (λ t. kinds.FenceBroker t.0 t.1) 7 0 version (broker, epoch) bytes rest is.1 is.2)
-layout_complete key version (kinds.UnfenceBroker broker epoch) bytes rest is = rw is.0 (kind_complete broker_epoch_law (λ t. kinds.UnfenceBroker t.0 t.1) 8 0 version (broker, epoch) bytes rest is.1 is.2)
-layout_complete key version (kinds.RemoveTopic topic) bytes rest is = rw is.0 (kind_complete topic_id_law (λ t. kinds.RemoveTopic t) 9 0 version topic bytes rest is.1 is.2)
-layout_complete key version (kinds.FeatureLevel name level) bytes rest is = rw is.0 (kind_complete feature_law (λ t. kinds.FeatureLevel t.0 t.1) 12 0 version (name, level) bytes rest is.1 is.2)
-layout_complete key version (kinds.BrokerRegistrationChange broker epoch fenced stopping) bytes rest is =
-    let flags : Flags = record { fenced = fenced; stopping = stopping } in
-    rw is.0 (kind_complete (registration_change_law version) (λ t. kinds.BrokerRegistrationChange t.0 t.1 t.2.fenced t.2.stopping) 17 1 version (broker, epoch, flags) bytes rest is.1 is.2)
-layout_complete key version kinds.NoOp bytes rest is = rw is.0 (kind_complete no_tags_law (λ t. kinds.NoOp) 20 0 version tt bytes rest is.1 is.2)
+unfolding layout_at
+layout_complete key version r bytes rest is =
+    let s = served r in
+    let k = (chosen r).kind in
+    let front : Record → Read Record = λ x. Ok (x, rest) in
+    let read : kind_record_at k version (bytes ++ rest) ≡ Ok (r, rest) = complete_last (law k.layout s.readable version) (chosen r).parts k.record_of rest bytes is.2 ∙ ap front s.back in
+    rw (is.0, s.newest, s.found) (complete_guard _ _ _ _ (le-ltb _ _ is.1) (ap wired read))
 
 -- ---- records
 

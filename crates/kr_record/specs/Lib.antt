@@ -1,6 +1,17 @@
 pub mod Answers
+pub mod BrokerRegistrationChange
+pub mod Config
 pub mod Encodable
+pub mod FeatureLevel
+pub mod FenceBroker
 pub mod Grammar
+pub mod Kind
+pub mod Layout
+pub mod Partition
+pub mod PartitionChange
 pub mod Reading
 pub mod RecordRanges
+pub mod Records
+pub mod RegisterBroker
 pub mod Spelling
+pub mod Topic

@@ -2,145 +2,134 @@
 
 ghost use Rattle.std.specs.Prelude.{All, FitsSigned, IsUtf8, IfSome};
 ghost use Rattle.std.specs.Int.{w32, w8};
-ghost use Rattle.kr_record.specs.RecordRanges.{AreInts, IsHeld, IsHeldBroker, IsHeldChange, IsHeldConfig, IsHeldEndpoint, IsHeldPartition, IsHeldRange};
+ghost use Rattle.kr_record.specs.Config as configs;
+ghost use Rattle.kr_record.specs.Partition as partitions;
+ghost use Rattle.kr_record.specs.PartitionChange as changes;
+ghost use Rattle.kr_record.specs.RecordRanges.{AreHeld, HasHeld, IsHeld};
+ghost use Rattle.kr_record.specs.RegisterBroker as registrations;
 
-use kr_defs::{
-    Broker, Endpoint, Endpoints, Ids, Partition, PartitionChange, Range, Ranges, Record, Text,
-};
+use kr_defs::{Broker, Endpoint, Partition, PartitionChange, Range, Record, Rows, Text};
 
-fn text_is_held(text: &Text)
-    ensures { IsUtf8 text.now }
-{
-    let _bytes = text.as_bytes();
+trait Held {
+    ghost held: { Self → Type 0 };
+
+    fn look(&self)
+        ensures { held self.now };
 }
 
-fn optional_text_is_held(text: &Option<Text>)
-    ensures { IfSome text.now IsUtf8 }
-{
-    if let Some(text) = text {
-        text_is_held(text);
+impl Held for i8 {
+    ghost held = { FitsSigned w8 };
+
+    fn look(&self) {
+        let _number = *self;
     }
 }
 
-fn id_is_held(id: &i32)
-    ensures { FitsSigned w32 id.now }
-{
-    let _id = *id;
-}
+impl Held for i32 {
+    ghost held = { FitsSigned w32 };
 
-fn ids_are_held(ids: &Ids)
-    ensures { AreInts ids.now }
-{
-    let ids = ids.as_slice();
-    for id in ids {
-        id_is_held(id);
+    fn look(&self) {
+        let _number = *self;
     }
 }
 
-fn optional_ids_are_held(ids: &Option<Ids>)
-    ensures { IfSome ids.now AreInts }
-{
-    if let Some(ids) = ids {
-        ids_are_held(ids);
+impl Held for Text {
+    ghost held = { IsUtf8 };
+
+    fn look(&self) {
+        let _bytes = self.as_bytes();
     }
 }
 
-fn endpoint_is_held(endpoint: &Endpoint)
-    ensures { IsHeldEndpoint endpoint.now }
-{
-    text_is_held(&endpoint.name);
-    text_is_held(&endpoint.host);
-    let _port = endpoint.port;
-    let _protocol = endpoint.protocol;
-}
+impl<T: Held> Held for Option<T> {
+    ghost held = { λ o. IfSome o T.held };
 
-fn endpoints_are_held(endpoints: &Endpoints)
-    ensures { All IsHeldEndpoint endpoints.now }
-{
-    let endpoints = endpoints.as_slice();
-    for endpoint in endpoints {
-        endpoint_is_held(endpoint);
+    fn look(&self) {
+        if let Some(value) = self {
+            value.look();
+        }
     }
 }
 
-fn range_is_held(range: &Range)
-    ensures { IsHeldRange range.now }
-{
-    text_is_held(&range.name);
-    let _min = range.min;
-    let _max = range.max;
-}
+impl<T: Held> Held for Rows<T> {
+    ghost held = { λ xs. All T.held xs };
 
-fn ranges_are_held(ranges: &Ranges)
-    ensures { All IsHeldRange ranges.now }
-{
-    let ranges = ranges.as_slice();
-    for range in ranges {
-        range_is_held(range);
+    fn look(&self) {
+        let rows = self.as_slice();
+        for row in rows {
+            row.look();
+        }
     }
 }
 
-fn broker_is_held(state: &Broker)
-    ensures { IsHeldBroker state.now }
+impl Held for Endpoint {
+    ghost held = { AreHeld registrations.endpoint_layout };
+
+    fn look(&self) {
+        self.name.look();
+        self.host.look();
+        let _port = self.port;
+        let _protocol = self.protocol;
+    }
+}
+
+impl Held for Range {
+    ghost held = { AreHeld registrations.range_layout };
+
+    fn look(&self) {
+        self.name.look();
+        let _min = self.min;
+        let _max = self.max;
+    }
+}
+
+fn broker_is_held(broker: &i32, state: &Broker)
+    ensures { HasHeld registrations.register_broker.layout (registrations.registration_parts broker.now state.now) }
 {
+    let _broker = *broker;
     let _epoch = state.epoch;
     let _incarnation = state.incarnation;
-    endpoints_are_held(&state.endpoints);
-    ranges_are_held(&state.features);
-    optional_text_is_held(&state.rack);
+    state.endpoints.look();
+    state.features.look();
+    state.rack.look();
 }
 
-fn partition_is_held(state: &Partition)
-    ensures { IsHeldPartition state.now }
+fn partition_is_held(index: &i32, topic: &u128, state: &Partition)
+    ensures { HasHeld partitions.partition.layout (partitions.partition_parts index.now topic.now state.now) }
 {
-    ids_are_held(&state.replicas);
-    ids_are_held(&state.in_sync);
-    ids_are_held(&state.removing);
-    ids_are_held(&state.adding);
-    ids_are_held(&state.eligible);
-    ids_are_held(&state.last_known);
+    let _place = (*index, *topic);
     let _leader = state.leader;
     let _recovery = state.recovery;
     let _leader_epoch = state.leader_epoch;
     let _partition_epoch = state.partition_epoch;
-}
-
-fn leader_is_held(leader: &Option<i32>)
-    ensures { IfSome leader.now (FitsSigned w32) }
-{
-    if let Some(leader) = leader {
-        let _leader = *leader;
-    }
-}
-
-fn recovery_is_held(recovery: &Option<i8>)
-    ensures { IfSome recovery.now (FitsSigned w8) }
-{
-    if let Some(recovery) = recovery {
-        let _recovery = *recovery;
-    }
+    state.replicas.look();
+    state.in_sync.look();
+    state.removing.look();
+    state.adding.look();
+    state.eligible.look();
+    state.last_known.look();
 }
 
 fn change_is_held(change: &PartitionChange)
-    ensures { IsHeldChange change.now }
+    ensures { HasHeld changes.changes change.now }
 {
-    optional_ids_are_held(&change.in_sync);
-    optional_ids_are_held(&change.replicas);
-    optional_ids_are_held(&change.removing);
-    optional_ids_are_held(&change.adding);
-    optional_ids_are_held(&change.eligible);
-    optional_ids_are_held(&change.last_known);
-    leader_is_held(&change.leader);
-    recovery_is_held(&change.recovery);
+    change.in_sync.look();
+    change.leader.look();
+    change.replicas.look();
+    change.removing.look();
+    change.adding.look();
+    change.recovery.look();
+    change.eligible.look();
+    change.last_known.look();
 }
 
 fn config_is_held(kind: &i8, name: &Text, key: &Text, value: &Option<Text>)
-    ensures { IsHeldConfig kind.now name.now key.now value.now }
+    ensures { HasHeld configs.config.layout (kind.now, (name.now, (key.now, (value.now, tt)))) }
 {
-    let _kind = *kind;
-    text_is_held(name);
-    text_is_held(key);
-    optional_text_is_held(value);
+    kind.look();
+    name.look();
+    key.look();
+    value.look();
 }
 
 /// Each record that is held can stand in bytes.
@@ -148,10 +137,7 @@ pub fn record_is_held(value: &Record)
     ensures { IsHeld value.now }
 {
     match value {
-        Record::RegisterBroker { broker, state } => {
-            let _broker = *broker;
-            broker_is_held(state);
-        }
+        Record::RegisterBroker { broker, state } => broker_is_held(broker, state),
         Record::UnregisterBroker { broker, epoch }
         | Record::FenceBroker { broker, epoch }
         | Record::UnfenceBroker { broker, epoch } => {
@@ -159,16 +145,13 @@ pub fn record_is_held(value: &Record)
         }
         Record::Topic { name, id } => {
             let _id = *id;
-            text_is_held(name);
+            name.look();
         }
         Record::Partition {
             index,
             topic,
             state,
-        } => {
-            let _numbers = (*index, *topic);
-            partition_is_held(state);
-        }
+        } => partition_is_held(index, topic, state),
         Record::Config {
             kind,
             name,
@@ -188,7 +171,7 @@ pub fn record_is_held(value: &Record)
         }
         Record::FeatureLevel { name, level } => {
             let _level = *level;
-            text_is_held(name);
+            name.look();
         }
         Record::BrokerRegistrationChange {
             broker,

@@ -1,21 +1,18 @@
-//! Metadata records: decoded and encoded as their grammar says.
+//! Metadata records: decoded and encoded as their layouts say.
 #![tactic(auto)]
 
-mod broker;
-mod change;
+mod broker_registration_change;
 mod fault;
 mod fields;
-mod flags;
 mod held;
 mod laws;
-mod listed;
-mod lists;
+mod mine;
 mod partition;
+mod partition_change;
+mod parts;
 mod reading;
+mod register_broker;
 mod tagged;
-mod texts;
-mod topic;
-mod whole;
 mod writing;
 
 pub use fault::RecordFault;

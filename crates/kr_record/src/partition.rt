@@ -1,18 +1,24 @@
-//! Partitions from bytes.
+//! Partition.
 
-ghost use Rattle.std.specs.Prelude.{◌≡◌, ◌≤◌, [], nat_le, length, drop};
-ghost use Rattle.std.specs.Option.{unwrap_or};
-ghost use Rattle.kr_defs.specs.declared.record.Record.TheVariants as kinds;
-ghost use Rattle.kr_wire.specs.Reading.{field_of, id_at, known_in, list_at};
-ghost use Rattle.kr_record.specs.Answers.{ReadsField, Sets};
-ghost use Rattle.kr_record.specs.Reading.{ReadsKind, all_extras, dropped_at, extras_at, first_with_extra, ids_at, known_since, led_at, partition_at, since_at};
+ghost use Rattle.std.specs.Prelude.{◌≡◌, ◌++◌, OnOk};
+ghost use Rattle.kr_wire.specs.Schema.{Array, Dropped, Uuid};
+ghost use Rattle.kr_wire.specs.Spelling.{id, list};
+ghost use Rattle.kr_layout.specs.Answers.{Takes};
+ghost use Rattle.kr_record.specs.Kind.{kind_record_at};
+ghost use Rattle.kr_wire.specs.Tables.{known};
+ghost use Rattle.kr_record.specs.Layout.{Since, version_at};
+ghost use Rattle.kr_record.specs.Encodable.{HasShort, IsShort};
+ghost use Rattle.kr_record.specs.Partition as partitions;
+ghost use Rattle.kr_record.specs.Spelling.{no_directories, written};
 
-use crate::fault::RecordFault;
-use crate::lists::read_list;
-use crate::tagged::{Tagged, read_tags};
-use crate::whole::{whole_i8, whole_ids};
+use crate::fields::{NoFields, put_tags, unless_empty, unless_zero, with_field};
+use crate::mine::{Mine, put};
+use crate::parts::read_parts;
+use crate::tagged::{TaggedFields, read_tags, whole};
+use kr_base::NoMemory;
 use kr_defs::{Ids, Partition, Record, Rows};
-use kr_wire::{read_i32, read_id};
+use kr_layout::{ReadFault, Reader};
+use kr_wire::{put_count, put_id};
 use std::alloc::Global;
 
 /// The fields of a partition that are tagged.
@@ -23,142 +29,50 @@ pub(crate) struct Extras {
     pub last_known: Ids,
 }
 
-impl Tagged for Extras {
-    ghost known = { λ version. known_since first_with_extra version (known_in all_extras) };
+impl TaggedFields for Extras {
+    ghost known = { λ version. known partitions.extra_table version partitions.extra_parts (λ e z. partitions.extras_of z) };
 
-    fn set_field(
-        &mut self,
-        alloc: Global,
-        version: u32,
-        tag: u32,
-        data: &[u8],
-    ) -> Result<(), RecordFault> {
-        if version < first_version(tag) {
-            return Ok(());
+    fn set(&mut self, alloc: Global, version: u32, tag: u32, data: &[u8]) -> Result<(), ReadFault> {
+        match tag {
+            0 => self.recovery = whole(alloc, data)?,
+            1 if version >= 2 => self.eligible = whole(alloc, data)?,
+            2 if version >= 2 => self.last_known = whole(alloc, data)?,
+            _ => {}
         }
-        set_extra(self, alloc, tag, data)
+        Ok(())
     }
 }
 
-fn first_version(tag: u32) -> u32
-    ensures { result ≡ first_with_extra tag }
+fn read_extras(from: &mut Reader<'_, Mine>, version: u32) -> Result<Extras, ReadFault>
+    ensures { Takes result from.new (version_at partitions.extras version from.old) }
 {
-    if tag == 0 { 0 } else { 2 }
-}
-
-// The ids, where null means none.
-fn ids_of(alloc: Global, ids: Option<Ids>) -> Ids
-    ensures { result ≡ unwrap_or ids [] }
-{
-    match ids {
-        None => Rows::new(alloc),
-        Some(ids) => ids,
-    }
-}
-
-fn set_extra(extras: &mut Extras, alloc: Global, tag: u32, data: &[u8]) -> Result<(), RecordFault>
-    ensures { Sets result extras.new (field_of (known_in all_extras tag) extras.old «data».now) }
-{
-    match tag {
-        0 => {
-            extras.recovery = whole_i8(data)?;
-            Ok(())
-        }
-        1 => {
-            extras.eligible = ids_of(alloc, whole_ids(alloc, data)?);
-            Ok(())
-        }
-        2 => {
-            extras.last_known = ids_of(alloc, whole_ids(alloc, data)?);
-            Ok(())
-        }
-        _ => Ok(()),
-    }
-}
-
-#[tactic(auto, unfolding(crate::specs::Reading::extras_at))]
-fn read_extras(
-    alloc: Global,
-    bytes: &[u8],
-    at: usize,
-    version: u32,
-) -> Result<(Extras, usize), RecordFault>
-    requires { at ≤ length bytes.now }
-    ensures { ReadsField (λ e. e) result bytes.now (extras_at version (drop at bytes.now)) }
-{
+    let alloc = from.alloc();
     let none = Extras {
         recovery: 0,
         eligible: Rows::new(alloc),
         last_known: Rows::new(alloc),
     };
-    read_tags(alloc, version, bytes, at, none)
-}
-
-fn read_ids(alloc: Global, bytes: &[u8], at: usize) -> Result<(Ids, usize), RecordFault>
-    requires { at ≤ length bytes.now }
-    ensures { ReadsField (λ ids. ids) result bytes.now (ids_at (drop at bytes.now)) }
-{
-    let (list, next) = read_list(alloc, bytes, at)?;
-    Ok((Rows::from_vec(list), next))
+    read_tags(from, version, none)
 }
 
 // Directories, which version 0 doesn't have. They are dropped.
-fn read_directories(
-    alloc: Global,
-    bytes: &[u8],
-    at: usize,
-    version: u32,
-) -> Result<((), usize), RecordFault>
-    requires { at ≤ length bytes.now }
-    ensures { ReadsField (λ u. u) result bytes.now (since_at (nat_le 1 version) (dropped_at (list_at id_at)) tt (drop at bytes.now)) }
+fn skip_directories(from: &mut Reader<'_, Mine>, version: u32) -> Result<(), ReadFault>
+    ensures { Takes result from.new (version_at (Since 1 tt (Dropped (Array Uuid))) version from.old) }
 {
-    if version < 1 {
-        return Ok(((), at));
+    if version >= 1 {
+        let _directories: Rows<u128> = from.get()?;
     }
-    let (_list, next) = read_list::<u128>(alloc, bytes, at)?;
-    Ok(((), next))
+    Ok(())
 }
 
-// The leader of a partition, its epochs, and what is behind them.
-#[tactic(auto, unfolding(crate::specs::Reading::led_at))]
-fn read_led(
-    alloc: Global,
-    bytes: &[u8],
-    at: usize,
-    version: u32,
-) -> Result<((i32, i32, i32, Extras), usize), RecordFault>
-    requires { at ≤ length bytes.now }
-    ensures { ReadsField (λ t. (t.0, (t.1, (t.2, (tt {0}, t.3))))) result bytes.now (led_at version (drop at bytes.now)) }
+pub(crate) fn read_partition(from: &mut Reader<'_, Mine>, version: u32) -> Result<Record, ReadFault>
+    ensures { Takes result from.new (kind_record_at partitions.partition version from.old) }
 {
-    let (leader, next) = read_i32(bytes, at)?;
-    let (leader_epoch, next) = read_i32(bytes, next)?;
-    let (partition_epoch, next) = read_i32(bytes, next)?;
-    let (_, next) = read_directories(alloc, bytes, next, version)?;
-    let (extras, end) = read_extras(alloc, bytes, next, version)?;
-    Ok(((leader, leader_epoch, partition_epoch, extras), end))
-}
-
-/// The index of a partition, its topic, and its state, as a record.
-#[tactic(auto, unfolding(crate::specs::Reading::partition_at))]
-#[inline(never)]
-pub(crate) fn read_partition(
-    alloc: Global,
-    bytes: &[u8],
-    at: usize,
-    version: u32,
-) -> Result<(Record, usize), RecordFault>
-    requires { at ≤ length bytes.now }
-    ensures { ReadsKind result bytes.now (λ t. kinds.Partition t.0 t.1 t.2) (partition_at version (drop at bytes.now)) }
-{
-    let (index, next) = read_i32(bytes, at)?;
-    let (topic, next) = read_id(bytes, next)?;
-    let (replicas, next) = read_ids(alloc, bytes, next)?;
-    let (in_sync, next) = read_ids(alloc, bytes, next)?;
-    let (removing, next) = read_ids(alloc, bytes, next)?;
-    let (adding, next) = read_ids(alloc, bytes, next)?;
-    let ((leader, leader_epoch, partition_epoch, extras), end) = read_led(
-        alloc, bytes, next, version,
-    )?;
+    let head = read_parts(from)?;
+    skip_directories(from, version)?;
+    let extras = read_extras(from, version)?;
+    let (index, (topic, (replicas, (in_sync, (removing, (adding, leading)))))) = head;
+    let (leader, (leader_epoch, partition_epoch)) = leading;
     let state = Partition {
         replicas,
         in_sync,
@@ -171,12 +85,47 @@ pub(crate) fn read_partition(
         leader_epoch,
         partition_epoch,
     };
-    Ok((
-        Record::Partition {
-            index,
-            topic,
-            state,
-        },
-        end,
-    ))
+    Ok(Record::Partition {
+        index,
+        topic,
+        state,
+    })
+}
+
+pub(crate) fn put_partition(
+    out: &mut Vec<u8>,
+    index: &i32,
+    topic: &u128,
+    state: &Partition,
+) -> Result<(), NoMemory>
+    requires { HasShort partitions.partition.layout (partitions.partition_parts index.now topic.now state.now) }
+    ensures { OnOk result (out.new.items ≡ out.old.items ++ written partitions.partition.layout (partitions.partition_parts index.now topic.now state.now)) }
+{
+    put(out, index)?;
+    put(out, topic)?;
+    put(out, &state.replicas)?;
+    put(out, &state.in_sync)?;
+    put(out, &state.removing)?;
+    put(out, &state.adding)?;
+    put(out, &state.leader)?;
+    put(out, &state.leader_epoch)?;
+    put(out, &state.partition_epoch)?;
+    put_directories(out, &state.replicas)?;
+    let fields = with_field(2, unless_empty(&state.last_known), NoFields);
+    let fields = with_field(1, unless_empty(&state.eligible), fields);
+    let fields = with_field(0, unless_zero(&state.recovery), fields);
+    put_tags(out, &fields)
+}
+
+// One all-zero id per replica.
+fn put_directories(out: &mut Vec<u8>, replicas: &Ids) -> Result<(), NoMemory>
+    requires { IsShort replicas.now }
+    ensures { OnOk result (out.new.items ≡ out.old.items ++ list id (no_directories replicas.now)) }
+{
+    let replicas = replicas.as_slice();
+    put_count(out, replicas.len() as u32)?;
+    for _replica in replicas {
+        put_id(out, 0)?;
+    }
+    Ok(())
 }

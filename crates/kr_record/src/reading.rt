@@ -1,25 +1,23 @@
 //! Records from bytes.
 
-ghost use Rattle.std.specs.Prelude.{◌≡◌, ◌≤◌, length, drop, Ok, nat_lt, if◌then◌else◌, IfOk, Err};
+ghost use Rattle.std.specs.Prelude.{◌≡◌, Ok, IfOk};
 ghost use Rattle.kr_defs.specs.declared.record.Record.{Record as AnyRecord};
 ghost use Rattle.kr_wire.specs.Reading.{refuse◌when◌else◌};
 ghost use Rattle.kr_record.specs.declared.fault.RecordFault.TheVariants as faults;
 ghost use Rattle.kr_record.specs.Grammar.{IsRecord};
-ghost use Rattle.kr_record.specs.Answers.{Gives, GivesField};
+ghost use Rattle.kr_record.specs.Answers.{Gives, GivesFront, TakesAny};
 ghost use Rattle.kr_record.specs.Reading;
 ghost use Rattle.kr_record.specs.Reading.{is_newer, kind_at, layout_at, record_of};
 
-use crate::broker::{
-    read_fence_broker, read_no_op, read_register_broker, read_unfence_broker,
-    read_unregister_broker,
-};
-use crate::change::read_partition_change;
+use crate::broker_registration_change::read_broker_registration_change;
 use crate::fault::RecordFault;
-use crate::flags::read_broker_registration_change;
+use crate::mine::Mine;
 use crate::partition::read_partition;
-use crate::topic::{read_config, read_feature_level, read_remove_topic, read_topic};
+use crate::partition_change::read_partition_change;
+use crate::parts::read_parts;
+use crate::register_broker::read_register_broker;
 use kr_defs::Record;
-use kr_wire::read_uvarint;
+use kr_layout::{ReadFault, Reader};
 use std::alloc::Global;
 
 // The newest version of the kind with the key.
@@ -46,69 +44,84 @@ fn has_version(key: u32, version: u32) -> Result<(), RecordFault>
 
 #[tactic(auto, unfolding(crate::specs::Reading::kind_at))]
 fn read_kind(
-    alloc: Global,
-    bytes: &[u8],
-    at: usize,
+    from: &mut Reader<'_, Mine>,
     key: u32,
     version: u32,
-) -> Result<(Record, usize), RecordFault>
-    requires { at ≤ length bytes.now }
-    ensures { GivesField result bytes.now (kind_at key version (drop at bytes.now)) }
+) -> Result<Option<Record>, ReadFault>
+    ensures { TakesAny result from.new (kind_at key version from.old) }
 {
-    match key {
-        0 => read_register_broker(alloc, bytes, at, version),
-        1 => read_unregister_broker(bytes, at),
-        2 => read_topic(alloc, bytes, at),
-        3 => read_partition(alloc, bytes, at, version),
-        4 => read_config(alloc, bytes, at),
-        5 => read_partition_change(alloc, bytes, at, version),
-        7 => read_fence_broker(bytes, at),
-        8 => read_unfence_broker(bytes, at),
-        9 => read_remove_topic(bytes, at),
-        12 => read_feature_level(alloc, bytes, at),
-        17 => read_broker_registration_change(alloc, bytes, at, version),
-        20 => read_no_op(bytes, at),
-        _ => Err(RecordFault::UnknownKey { key }),
-    }
+    let record = match key {
+        0 => read_register_broker(from, version)?,
+        1 => {
+            let (broker, (epoch, ())) = read_parts(from)?;
+            Record::UnregisterBroker { broker, epoch }
+        }
+        2 => {
+            let (name, (id, ())) = read_parts(from)?;
+            Record::Topic { name, id }
+        }
+        3 => read_partition(from, version)?,
+        4 => {
+            let (kind, (name, (key, (value, ())))) = read_parts(from)?;
+            Record::Config {
+                kind,
+                name,
+                key,
+                value,
+            }
+        }
+        5 => read_partition_change(from, version)?,
+        7 => {
+            let (broker, (epoch, ())) = read_parts(from)?;
+            Record::FenceBroker { broker, epoch }
+        }
+        8 => {
+            let (broker, (epoch, ())) = read_parts(from)?;
+            Record::UnfenceBroker { broker, epoch }
+        }
+        9 => {
+            let (topic, ()) = read_parts(from)?;
+            Record::RemoveTopic { topic }
+        }
+        12 => {
+            let (name, (level, ())) = read_parts(from)?;
+            Record::FeatureLevel { name, level }
+        }
+        17 => read_broker_registration_change(from, version)?,
+        20 => {
+            from.end()?;
+            Record::NoOp
+        }
+        _ => return Ok(None),
+    };
+    Ok(Some(record))
 }
 
 #[tactic(auto, unfolding(crate::specs::Reading::layout_at))]
-fn read_layout(
-    alloc: Global,
-    bytes: &[u8],
-    at: usize,
-    key: u32,
-    version: u32,
-) -> Result<(Record, usize), RecordFault>
-    requires { at ≤ length bytes.now }
-    ensures { GivesField result bytes.now (layout_at key version (drop at bytes.now)) }
+fn read_layout(from: &mut Reader<'_, Mine>, key: u32, version: u32) -> Result<Record, RecordFault>
+    ensures { GivesFront result from.new (layout_at key version from.old) }
 {
     has_version(key, version)?;
-    read_kind(alloc, bytes, at, key, version)
+    let record = read_kind(from, key, version)?;
+    record.ok_or(RecordFault::UnknownKey { key })
 }
 
-// The record, if nothing is behind it.
-fn whole<T: Drop>(value: T, end: usize, len: usize) -> Result<T, RecordFault>
-    ensures { result ≡ (if nat_lt end len then Err faults.Trailing else Ok value) }
-{
-    if end < len {
-        return Err(RecordFault::Trailing);
-    }
-    Ok(value)
-}
-
-#[tactic(auto, unfolding(crate::specs::Reading::record_of, crate::specs::Reading::record_at))]
+#[tactic(auto, unfolding(crate::specs::Reading::record_of, crate::specs::Reading::kind_record_at))]
 fn record(alloc: Global, value: &[u8]) -> Result<Record, RecordFault>
     ensures { Gives result (record_of value.now) }
 {
-    let (frame, at) = read_uvarint(value, 0)?;
+    let mut from = Reader::new(alloc, value, 0);
+    let frame = from.uvarint()?;
     if frame != 1 {
         return Err(RecordFault::FrameVersion { found: frame });
     }
-    let (key, at) = read_uvarint(value, at)?;
-    let (version, at) = read_uvarint(value, at)?;
-    let (record, end) = read_layout(alloc, value, at, key, version)?;
-    whole(record, end, value.len())
+    let key = from.uvarint()?;
+    let version = from.uvarint()?;
+    let record = read_layout(&mut from, key, version)?;
+    if !from.is_empty() {
+        return Err(RecordFault::Trailing);
+    }
+    Ok(record)
 }
 
 /// The record that all of the bytes stand for, or the first fault, in the order of reading: the frame

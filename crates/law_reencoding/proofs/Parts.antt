@@ -7,18 +7,18 @@ use Rattle.std.specs.Int.{Width, w8, w32}
 use Rattle.std.proofs.lemmas.Bool.Decides.{Decides-int_eq}
 use Rattle.std.proofs.lemmas.List.Elements.{All-nil}
 use Rattle.kr_defs.specs.Sizes.{text_or_null_bytes, list_bytes, number_field, number_field_or, ids_field, ids_field_or}
-use Rattle.kr_wire.specs.Grammar.{IsSigned, IsTextOrNull}
+use Rattle.kr_wire.specs.Grammar.{IsSigned, IsTextOrNull, IsList, IsListOrNull}
 use Rattle.kr_wire.proofs.FormLaws.{Follows, then, int8, int32, uvarint, text, int32s}
 use Rattle.kr_wire.proofs.TaggedForms.{Within, FieldFollows}
 use Rattle.kr_record.specs.Encodable.{IsShort, FitsField}
 use Rattle.kr_record.specs.RecordRanges.{AreInts}
-use Rattle.kr_record.specs.Grammar.{unless_default, IsIds, IsIdsOrNull, IsIdsOrEmpty, IsUnless}
+use Rattle.kr_wire.specs.Tables.{unless_default, IsIdsOrEmpty, IsUnless}
 
 pub text_or_null : (o : Option (List ℕ)) → Follows (IsTextOrNull o) (text_or_null_bytes o) (IfSome o IsShort) (IfSome o IsUtf8)
 text_or_null None = then (uvarint 0) (lit≤ tt) (λ p. tt) (λ q. tt)
 text_or_null (Some t) = text t
 
-pub ids : (xs : List ℤ) → Follows (IsIds xs) (8 * list_bytes 4 xs) (IsShort xs) (AreInts xs)
+pub ids : (xs : List ℤ) → Follows (IsList (IsSigned w32) xs) (8 * list_bytes 4 xs) (IsShort xs) (AreInts xs)
 ids xs = then (int32s xs) (omega arith) (λ fits. omega arith) (λ q. q)
 
 -- ---- a number that is left out at its default
@@ -56,7 +56,7 @@ unless_held : (w : Width) (default n : ℤ) → FitsSigned w n → IfSome (unles
 unless_held w default n fits = elim (int_eq n default) as (λ b. IfSome (cond b None (Some n)) (FitsSigned w)) [ true ↦ tt | false ↦ fits ]
 
 module _ (w : Width) (size : ℕ) (number : (n : ℤ) → Follows (IsSigned w n) (8 * size) (Unit {0}) (FitsSigned w n)) (default : ℤ) (o : Option ℤ) where
-  changed : FieldFollows (IsUnless w default o) (o ≡ None) (number_field_or size default o) (o ≢ Some default) (IfSome o (FitsSigned w))
+  changed : FieldFollows (IsUnless (IsSigned w) default o) (o ≡ None) (number_field_or size default o) (o ≢ Some default) (IfSome o (FitsSigned w))
   changed = record {
     within = λ d is. unless_within size default o (length d) (omega (arith, (number is.n).cost d is.spelled));
     short = λ d is few same. never_default default is.n (sym is.is ∙ same);
@@ -64,26 +64,26 @@ module _ (w : Width) (size : ℕ) (number : (n : ℤ) → Follows (IsSigned w n)
     absent = λ none. (ap (number_field_or size default) none, none_spelled default o none, subst (λ (o : Option ℤ). IfSome o (FitsSigned w)) (sym none) tt);
   }
 
-pub leader : (o : Option ℤ) → FieldFollows (IsUnless w32 (negsuc 1) o) (o ≡ None) (number_field_or 4 (negsuc 1) o) (o ≢ Some (negsuc 1)) (IfSome o (FitsSigned w32))
+pub leader : (o : Option ℤ) → FieldFollows (IsUnless (IsSigned w32) (negsuc 1) o) (o ≡ None) (number_field_or 4 (negsuc 1) o) (o ≢ Some (negsuc 1)) (IfSome o (FitsSigned w32))
 leader o = changed w32 4 int32 (negsuc 1) o
 
-pub recovery : (o : Option ℤ) → FieldFollows (IsUnless w8 (negsuc 0) o) (o ≡ None) (number_field_or 1 (negsuc 0) o) (o ≢ Some (negsuc 0)) (IfSome o (FitsSigned w8))
+pub recovery : (o : Option ℤ) → FieldFollows (IsUnless (IsSigned w8) (negsuc 0) o) (o ≡ None) (number_field_or 1 (negsuc 0) o) (o ≢ Some (negsuc 0)) (IfSome o (FitsSigned w8))
 recovery o = changed w8 1 int8 (negsuc 0) o
 
 -- ---- a list of ids
 
-ids_within : (xs : List ℤ) (d : List ℕ) → IsIds xs d → list_bytes 4 xs ≤ length d
+ids_within : (xs : List ℤ) (d : List ℕ) → IsList (IsSigned w32) xs d → list_bytes 4 xs ≤ length d
 ids_within xs d is = omega (arith, (int32s xs).cost d is)
 
-or_null_within : (o : Option (List ℤ)) (d : List ℕ) → IsIdsOrNull o d → Within (ids_field_or o) (length d)
+or_null_within : (o : Option (List ℤ)) (d : List ℕ) → IsListOrNull (IsSigned w32) o d → Within (ids_field_or o) (length d)
 or_null_within None d is = tt
 or_null_within (Some xs) d is = ids_within xs d is
 
-or_null : (o : Option (List ℤ)) → Follows (IsIdsOrNull o) 0 (IfSome o FitsField) (IfSome o AreInts)
+or_null : (o : Option (List ℤ)) → Follows (IsListOrNull (IsSigned w32) o) 0 (IfSome o FitsField) (IfSome o AreInts)
 or_null None = then (uvarint 0) (omega arith) (λ p. tt) (λ q. tt)
 or_null (Some xs) = then (int32s xs) (omega arith) (λ p. p) (λ q. q)
 
-pub ids_or_null : (o : Option (List ℤ)) → FieldFollows (IsIdsOrNull o) (o ≡ None) (ids_field_or o) (IfSome o FitsField) (IfSome o AreInts)
+pub ids_or_null : (o : Option (List ℤ)) → FieldFollows (IsListOrNull (IsSigned w32) o) (o ≡ None) (ids_field_or o) (IfSome o FitsField) (IfSome o AreInts)
 ids_or_null o = record {
   within = or_null_within o;
   short = (or_null o).short;
@@ -93,12 +93,12 @@ ids_or_null o = record {
 
 -- null and none are the same
 
-listed_within : (o : Option (List ℤ)) (d : List ℕ) → IsIdsOrNull o d → Within (ids_field (unwrap_or o [])) (length d)
+listed_within : (o : Option (List ℤ)) (d : List ℕ) → IsListOrNull (IsSigned w32) o d → Within (ids_field (unwrap_or o [])) (length d)
 listed_within None d is = tt
 listed_within (Some []) d is = tt
 listed_within (Some (x ∷ xs)) d is = ids_within (x ∷ xs) d is
 
-listed : (o : Option (List ℤ)) → Follows (IsIdsOrNull o) 0 (FitsField (unwrap_or o [])) (AreInts (unwrap_or o []))
+listed : (o : Option (List ℤ)) → Follows (IsListOrNull (IsSigned w32) o) 0 (FitsField (unwrap_or o [])) (AreInts (unwrap_or o []))
 listed None = then (uvarint 0) (omega arith) (λ p. lit< tt) (λ q. All-nil _)
 listed (Some xs) = then (int32s xs) (omega arith) (λ p. p) (λ q. q)
 

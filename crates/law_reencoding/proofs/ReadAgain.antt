@@ -16,7 +16,7 @@ use Rattle.kr_wire.proofs.FormLaws.{Follows, free, ◌and◌, then, int32, int64
 use Rattle.law_reencoding.proofs.Layouts.{short, held, cost}
 use Rattle.kr_record.specs.Encodable.{IsEncodable}
 use Rattle.kr_record.specs.RecordRanges.{IsHeld}
-use Rattle.kr_record.proofs.Lengths.{size}
+use Rattle.kr_record.proofs.RecordForms.{size}
 use Rattle.kr_batch.specs.declared.Batch.{Batch}
 use Rattle.kr_batch.specs.Grammar.{IsSized, IsBody, IsEntry, AreEntries, IsStart, IsSum, IsCount, IsFixed, AreItems, IsBatch}
 use Rattle.kr_batch.specs.BatchBytes.{IsWritable, IsHeldItem, IsRegular, item_value, values_size}

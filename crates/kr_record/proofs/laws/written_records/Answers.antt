@@ -1,4 +1,4 @@
-use Rattle.kr_record.proofs.Lengths.{size}
+use Rattle.kr_record.proofs.RecordForms.{size}
 use Rattle.kr_record.proofs.RecordForms.{stands, again, bytes}
 use Rattle.kr_record.proofs.laws.written_records.Goals as goal
 
