@@ -50,7 +50,7 @@ HasShort (Of s) = AreShort s
 HasShort (Since first absent s) = AreShort s
 HasShort (a ▹ b) = λ x. HasShort a x.0 × HasShort b x.1
 HasShort (Directories a first replicas) = λ x. HasShort a x × IsShort (replicas x)
-HasShort (Tagged table of parts there back) = λ x. AreShortParts table (parts x)
+HasShort (Tagged table) = AreShortParts table
 
 abbrev pub IsEncodable : Record → Type 0
 IsEncodable r = HasShort (chosen r).kind.layout (chosen r).parts

@@ -17,8 +17,8 @@ pub data RecordLayout : Type 0 → Type 1 where
   ◌▹◌ : {X Y : Type 0} → RecordLayout X → RecordLayout Y → RecordLayout (X × Y)
   -- behind some fields, since a version, a directory for each of these replicas: dropped when they are read, and written as zeros
   Directories : {X : Type 0} → RecordLayout X → ℕ → (X → List ℤ) → RecordLayout X
-  -- tagged fields: the structure of some parts, and the parts of a structure
-  Tagged : {Z X : Type 0} → Table Z → (of : Z → X) → (parts : X → Z) → ((z : Z) → parts (of z) ≡ z) → ((x : X) → of (parts x) ≡ x) → RecordLayout X
+  -- tagged fields, as each structure ends that has some
+  Tagged : {Z : Type 0} → Table Z → RecordLayout Z
 
 abbrev pub IsSince : {X : Type 0} → Bool → (X → List ℕ → Type 0) → X → X → List ℕ → Type 0
 IsSince true One absent x bytes = One x bytes
@@ -30,7 +30,7 @@ IsInVersion (Of s) version = plain.Is s
 IsInVersion (Since first absent s) version = IsSince (includes first version) (plain.Is s) absent
 IsInVersion (a ▹ b) version = λ v. IsInVersion a version v.0 ⌢ IsInVersion b version v.1
 IsInVersion (Directories a first replicas) version = λ x. IsInVersion a version x ⌢ IsSince (includes first version) (plain.Is (Dropped (Array Uuid))) tt tt
-IsInVersion (Tagged table of parts there back) version = λ x. IsTags (Are table version (parts x))
+IsInVersion (Tagged table) version = λ z. IsTags (Are table version z)
 
 abbrev pub since_at : {X : Type 0} → Bool → (List ℕ → Read X) → X → List ℕ → Read X
 since_at here read absent bytes = cond here (read bytes) (Ok (absent, bytes))
@@ -41,7 +41,7 @@ version_at (Of s) version = plain.value_at s
 version_at (Since first absent s) version = since_at (includes first version) (plain.value_at s) absent
 version_at (a ▹ b) version = version_at a version followed_by version_at b version
 version_at (Directories a first replicas) version = structure_at (λ p. p.0) (version_at a version followed_by since_at (includes first version) (plain.value_at (Dropped (Array Uuid))) tt)
-version_at (Tagged table of parts there back) version = tags_at (known table version parts (λ x z. of z)) (of (absents table))
+version_at (Tagged table) version = tags_at (known table version) (absents table)
 
 -- No constant is in it, and the tags rise.
 abbrev pub is_whole : {X : Type 0} → RecordLayout X → Bool
@@ -49,4 +49,4 @@ is_whole (Of s) = plain.is_readable s
 is_whole (Since first absent s) = plain.is_readable s
 is_whole (a ▹ b) = is_whole a && is_whole b
 is_whole (Directories a first replicas) = is_whole a
-is_whole (Tagged table of parts there back) = are_rising table
+is_whole (Tagged table) = are_rising table

@@ -1,37 +1,25 @@
 -- Reading a record: the value and the bytes after it, or the first fault.
-use Rattle.std.specs.Prelude.{ℕ, Bool, false, not, List, length, Option, Some, None, Result, Ok, Err, ◌==◌, nat_lt}
+use Rattle.std.specs.Prelude.{ℕ, not, List, length, Result, Ok, Err, ◌==◌, nat_lt}
 use Rattle.kr_defs.specs.declared.record.Record.{Record}
 use Rattle.kr_wire.specs.declared.WireFault.{WireFault}
-use Rattle.kr_wire.specs.Reading.{◌>>=◌, Read, refuse◌when◌else◌, uvarint_at}
+use Rattle.kr_wire.specs.Reading.{◌>>=◌, refuse◌when◌else◌, structure_at, uvarint_at}
 use Rattle.kr_record.specs.declared.fault.RecordFault.{RecordFault}
 use Rattle.kr_record.specs.declared.fault.RecordFault.TheVariants as faults
-use Rattle.kr_record.specs.Kind.{kind_record_at}
+use Rattle.kr_record.specs.Kind.{Kind}
+use Rattle.kr_record.specs.Layout.{version_at}
 use Rattle.kr_record.specs.Records.{by_key}
 
 abbrev pub wired : {X : Type 0} → Result X WireFault → Result X RecordFault
 wired (Ok x) = Ok x
 wired (Err fault) = Err (faults.Wire fault)
 
--- the newest version of the kind with the key
-abbrev pub newest_of : ℕ → Option ℕ
-newest_of key = by_key key (λ X k. Some k.newest) None
+-- the record of the kind, in a version that it has
+abbrev pub kind_at : {X : Type 0} → Kind X → ℕ → List ℕ → Result (Record × List ℕ) RecordFault
+kind_at k version bytes = refuse (faults.UnknownVersion k.key version) when nat_lt k.newest version else wired (structure_at k.record_of (version_at k.layout version) bytes)
 
--- the version isn't among those up to the newest
-abbrev pub is_newer : Option ℕ → ℕ → Bool
-is_newer None version = false
-is_newer (Some newest) version = nat_lt newest version
-
--- by the layout of the kind with the key, if there is one
-unfoldable pub kind_at : ℕ → ℕ → List ℕ → Option (Read Record)
-kind_at key version bytes = by_key key (λ X k. Some (kind_record_at k version bytes)) None
-
-abbrev pub read_or : RecordFault → Option (Read Record) → Result (Record × List ℕ) RecordFault
-read_or cause None = Err cause
-read_or cause (Some read) = wired read
-
--- the layout of a kind and version
+-- the record of the kind with the key
 unfoldable pub layout_at : ℕ → ℕ → List ℕ → Result (Record × List ℕ) RecordFault
-layout_at key version bytes = refuse (faults.UnknownVersion key version) when is_newer (newest_of key) version else read_or (faults.UnknownKey key) (kind_at key version bytes)
+layout_at key version bytes = by_key key (λ X k. kind_at k version bytes) (Err (faults.UnknownKey key))
 
 unfoldable pub record_at : List ℕ → Result (Record × List ℕ) RecordFault
 record_at bytes = do

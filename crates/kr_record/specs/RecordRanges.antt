@@ -42,7 +42,7 @@ HasHeld (Of s) = AreHeld s
 HasHeld (Since first absent s) = AreHeld s
 HasHeld (a ▹ b) = λ x. HasHeld a x.0 × HasHeld b x.1
 HasHeld (Directories a first replicas) = HasHeld a
-HasHeld (Tagged table of parts there back) = λ x. AreHeldParts table (parts x)
+HasHeld (Tagged table) = AreHeldParts table
 
 abbrev pub IsHeld : Record → Type 0
 IsHeld r = HasHeld (chosen r).kind.layout (chosen r).parts

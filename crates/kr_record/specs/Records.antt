@@ -8,7 +8,7 @@ use Rattle.kr_record.specs.FenceBroker.{unregister_broker, fence_broker, unfence
 use Rattle.kr_record.specs.BrokerRegistrationChange.{broker_registration_change}
 use Rattle.kr_record.specs.Topic.{topic, remove_topic}
 use Rattle.kr_record.specs.Partition.{partition, partition_parts}
-use Rattle.kr_record.specs.PartitionChange.{partition_change}
+use Rattle.kr_record.specs.PartitionChange.{partition_change, change_parts}
 use Rattle.kr_record.specs.Config.{config}
 use Rattle.kr_record.specs.FeatureLevel.{feature_level, no_op}
 
@@ -35,10 +35,10 @@ chosen (kinds.UnregisterBroker broker epoch) = of_kind unregister_broker (broker
 chosen (kinds.Topic name id) = of_kind topic (name, (id, tt))
 chosen (kinds.Partition index id state) = of_kind partition (partition_parts index id state)
 chosen (kinds.Config kind name key value) = of_kind config (kind, (name, (key, (value, tt))))
-chosen (kinds.PartitionChange index id change) = of_kind partition_change ((index, id), change)
+chosen (kinds.PartitionChange index id change) = of_kind partition_change (change_parts index id change)
 chosen (kinds.FenceBroker broker epoch) = of_kind fence_broker (broker, (epoch, tt))
 chosen (kinds.UnfenceBroker broker epoch) = of_kind unfence_broker (broker, (epoch, tt))
 chosen (kinds.RemoveTopic id) = of_kind remove_topic (id, tt)
 chosen (kinds.FeatureLevel name level) = of_kind feature_level (name, (level, tt))
-chosen (kinds.BrokerRegistrationChange broker epoch fenced stopping) = of_kind broker_registration_change ((broker, epoch), record { fenced = fenced; stopping = stopping })
+chosen (kinds.BrokerRegistrationChange broker epoch fenced stopping) = of_kind broker_registration_change (broker, (epoch, (fenced, (stopping, tt))))
 chosen kinds.NoOp = of_kind no_op tt

@@ -19,17 +19,17 @@ range_layout = Structure (Text ▸ Int16 ▸ Int16 ▸ End)
     (λ r. (r.name, (r.min, (r.max, tt)))) (λ v. refl) (λ r. refl)
 
 abbrev pub RegistrationParts : Type 0
-RegistrationParts = (ℤ × (ℕ × (ℤ × (List Endpoint × (List Range × (Option (List ℕ) × Bool)))))) × (Bool × Unit {0})
+RegistrationParts = ℤ × (ℕ × (ℤ × (List Endpoint × (List Range × (Option (List ℕ) × (Bool × (Bool × Unit {0})))))))
 
 -- the broker, its incarnation and epoch, its endpoints and features, its rack, and whether it is fenced; since version 1 whether it is stopping
 abbrev pub register_broker : Kind RegistrationParts
 register_broker = record {
   key = 0;
   newest = 1;
-  layout = Of (Int32 ▸ Uuid ▸ Int64 ▸ Array endpoint_layout ▸ Array range_layout ▸ TextOrNull ▸ Boolean) ▹ Since 1 false Boolean ▹ Of End;
-  record_of = λ ((broker, (incarnation, (epoch, (endpoints, (features, (rack, fenced)))))), (stopping, end)).
+  layout = Of Int32 ▹ Of Uuid ▹ Of Int64 ▹ Of (Array endpoint_layout) ▹ Of (Array range_layout) ▹ Of TextOrNull ▹ Of Boolean ▹ Since 1 false Boolean ▹ Of End;
+  record_of = λ (broker, (incarnation, (epoch, (endpoints, (features, (rack, (fenced, (stopping, end)))))))).
       kinds.RegisterBroker broker (record { epoch = epoch; incarnation = incarnation; endpoints = endpoints; features = features; rack = rack; fenced = fenced; stopping = stopping });
 }
 
 abbrev pub registration_parts : ℤ → Broker → RegistrationParts
-registration_parts broker b = ((broker, (b.incarnation, (b.epoch, (b.endpoints, (b.features, (b.rack, b.fenced)))))), (b.stopping, tt))
+registration_parts broker b = (broker, (b.incarnation, (b.epoch, (b.endpoints, (b.features, (b.rack, (b.fenced, (b.stopping, tt))))))))

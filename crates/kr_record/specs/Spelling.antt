@@ -41,7 +41,7 @@ written (Of s) = plain.written s
 written (Since first absent s) = plain.written s
 written (a ▹ b) = λ x. written a x.0 ++ written b x.1
 written (Directories a first replicas) = λ x. written a x ++ list id (no_directories (replicas x))
-written (Tagged table of parts there back) = λ x. tags (written_fields table (parts x))
+written (Tagged table) = λ z. tags (written_fields table z)
 
 -- how many bytes are written, of the parts that are the same in each version
 abbrev pub plain_bytes : {X : Type 0} → Schema X → X → ℕ
@@ -63,7 +63,7 @@ written_bytes (Of s) = plain_bytes s
 written_bytes (Since first absent s) = plain_bytes s
 written_bytes (a ▹ b) = λ x. written_bytes a x.0 + written_bytes b x.1
 written_bytes (Directories a first replicas) = λ x. written_bytes a x + list_bytes 16 (replicas x)
-written_bytes (Tagged table of parts there back) = λ x. tags_bytes (field_sizes table (parts x))
+written_bytes (Tagged table) = λ z. tags_bytes (field_sizes table z)
 
 -- ---- a record: frame version 1, the kind's key, the version, and the layout
 

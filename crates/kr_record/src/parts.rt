@@ -1,85 +1,80 @@
-//! Values that are read and written one after the other, as nested pairs.
+//! Values that are read one after the other, as nested pairs.
 
-ghost use Rattle.std.specs.Prelude.{◌≡◌, ℕ, List, [], ◌++◌, OnOk};
-ghost use Rattle.kr_wire.specs.Schema.{Boolean, End, Int32, Schema, value_at, written, ◌▸◌};
-ghost use Rattle.kr_wire.specs.Spelling.{tags};
+ghost use Rattle.std.specs.Prelude.{false};
+ghost use Rattle.kr_wire.specs.Schema.{Array, Boolean, Dropped, End, Int32, Uuid};
 ghost use Rattle.kr_layout.specs.Answers.{Takes};
+ghost use Rattle.kr_record.specs.Layout as layouts;
+ghost use Rattle.kr_record.specs.Layout.{Directories, Of, RecordLayout, Tagged, version_at, ◌▹◌};
+ghost use Rattle.kr_record.specs.Partition.{replicas_of};
 
-use crate::mine::{Mine, put};
-use kr_base::NoMemory;
-use kr_layout::{Get, Put, ReadFault, Reader, put_end};
+use crate::mine::Mine;
+use crate::tags::{Fields, Tags, read_tags};
+use kr_defs::Rows;
+use kr_layout::{Get, ReadFault, Reader};
+use std::marker::Model;
 
-/// Parts that are read, up to the end of the structure or to a number or a flag.
+/// Parts that are read, up to the end of a structure or of some part of it.
 pub(crate) trait Parts: Drop {
-    ghost schema: { Schema Self };
+    ghost layout: { RecordLayout Self };
 
-    fn read(from: &mut Reader<'_, Mine>) -> Result<Self, ReadFault>
-        ensures { Takes result from.new (value_at schema from.old) };
-}
-
-/// The parts at the front of what there is to read.
-pub(crate) fn read_parts<P: Parts>(from: &mut Reader<'_, Mine>) -> Result<P, ReadFault>
-    ensures { Takes result from.new (value_at P.schema from.old) }
-{
-    P::read(from)
+    /// The parts at the front of what there is to read.
+    fn read(from: &mut Reader<'_, Mine>, version: u32) -> Result<Self, ReadFault>
+        ensures { Takes result from.new (version_at layout version from.old) };
 }
 
 impl Parts for () {
-    ghost schema = { End };
+    ghost layout = { Of End };
 
-    fn read(from: &mut Reader<'_, Mine>) -> Result<(), ReadFault> {
+    fn read(from: &mut Reader<'_, Mine>, version: u32) -> Result<(), ReadFault> {
         from.end()
     }
 }
 
-impl Parts for bool {
-    ghost schema = { Boolean };
-
-    fn read(from: &mut Reader<'_, Mine>) -> Result<bool, ReadFault> {
-        from.get()
-    }
-}
-
 impl Parts for i32 {
-    ghost schema = { Int32 };
+    ghost layout = { Of Int32 };
 
-    fn read(from: &mut Reader<'_, Mine>) -> Result<i32, ReadFault> {
+    fn read(from: &mut Reader<'_, Mine>, version: u32) -> Result<i32, ReadFault> {
         from.get()
     }
 }
 
 impl<A: Get<Mine>, B: Parts> Parts for (A, B) {
-    ghost schema = { A.schema ▸ B.schema };
+    ghost layout = { Of A.schema ▹ B.layout };
 
-    fn read(from: &mut Reader<'_, Mine>) -> Result<(A, B), ReadFault> {
+    fn read(from: &mut Reader<'_, Mine>, version: u32) -> Result<(A, B), ReadFault> {
         let first = from.get()?;
-        let others = B::read(from)?;
+        let others = B::read(from, version)?;
         Ok((first, others))
     }
 }
 
-/// Parts that are written, up to the end of the structure or to no more.
-pub(crate) trait Pieces {
-    ghost bytes: { Self → List ℕ };
-
-    /// Appends what is written for the parts. Without memory some front of it may be appended.
-    fn put_pieces(&self, out: &mut Vec<u8>) -> Result<(), NoMemory>
-        ensures { OnOk result (out.new.items ≡ out.old.items ++ bytes self.now) };
+/// A flag that is there since version 1, and false in version 0, and the parts behind it.
+#[derive(Drop)]
+pub(crate) struct SinceOne<F, B> {
+    pub flag: F,
+    pub behind: B,
 }
 
-impl Pieces for () {
-    ghost bytes = { λ u. tags [] };
+impl<F, B> Model for SinceOne<F, B> {
+    ghost Value = { F × B };
 
-    fn put_pieces(&self, out: &mut Vec<u8>) -> Result<(), NoMemory> {
-        put_end(out)
+    ghost view = { λ s. (s.flag, s.behind) };
+}
+
+impl<B: Parts> Parts for SinceOne<bool, B> {
+    ghost layout = { layouts.Since 1 false Boolean ▹ B.layout };
+
+    fn read(from: &mut Reader<'_, Mine>, version: u32) -> Result<SinceOne<bool, B>, ReadFault> {
+        let flag = if version >= 1 { from.get()? } else { false };
+        let behind = B::read(from, version)?;
+        Ok(SinceOne { flag, behind })
     }
 }
 
-impl<'a, A: Put<Mine>, B: Pieces> Pieces for (&'a A, B) {
-    ghost bytes = { λ p. written A.schema p.0.now ++ B.bytes p.1 };
+impl<F: Fields> Parts for Tags<F> {
+    ghost layout = { Tagged F.table };
 
-    fn put_pieces(&self, out: &mut Vec<u8>) -> Result<(), NoMemory> {
-        put(out, self.0)?;
-        self.1.put_pieces(out)
+    fn read(from: &mut Reader<'_, Mine>, version: u32) -> Result<Tags<F>, ReadFault> {
+        read_tags(from, version)
     }
 }

@@ -5,15 +5,15 @@ use Rattle.std.specs.Prelude.{◌||◌}
 use Rattle.std.specs.Int.{w8, w32}
 use Rattle.std.proofs.lemmas.Bool.Decides.{nat_tests}
 use Rattle.kr_wire.specs.declared.WireFault.{WireFault}
-use Rattle.kr_wire.specs.Reading.{Read, Known, field_of, whole_field, field_as, structure_at, tags_at}
+use Rattle.kr_wire.specs.Reading.{◌>>=◌, Read, Known, field_of, whole_field, field_as, structure_at, tags_at}
 use Rattle.kr_wire.specs.Grammar.{AreRising, data_of, given, IfTagged, IfTaggedSince, IsTags, includes}
 use Rattle.kr_wire.specs.Schema.{Dropped, ArrayOrNull, Int32, Uuid}
-use Rattle.kr_wire.specs.Tables.{Part, Int8Unless, Int8OrNone, Int32OrNone, Int32sOrNull, Int32sOrEmpty, UuidsDropped, IsTaggedPart, part_at, absent, Table, NoField, Field, Are, absents, known, are_above, are_rising}
+use Rattle.kr_wire.specs.Tables.{Part, Int8Unless, Int8OrNone, Int32OrNone, Int32sOrNull, Int32sOrEmpty, UuidsDropped, IsTaggedPart, part_at, absent, Table, NoField, Field, Are, absents, set_part, known, are_above, are_rising}
 use Rattle.kr_wire.proofs.Numbers.{signed_law}
 use Rattle.kr_wire.proofs.ReadingLaws.{IsBytes, Law, bind_ok, is_ok, sound_last, complete_last, whole_sound, whole_complete}
 use Rattle.kr_wire.proofs.Schemas as schemas
 use Rattle.kr_wire.proofs.Tags.{run, AreBytes, Makes, tags_law}
-use Rattle.kr_wire.proofs.Slots.{IsSlot, Keeps, Opens, opens_none, opens_if, slot_sound, slot_complete, reads_all, whole_ok}
+use Rattle.kr_wire.proofs.Slots.{IsSlot, Keeps, Opens, slot_sound, slot_complete, reads_all, whole_ok}
 
 -- ---- the data of a field
 
@@ -103,23 +103,20 @@ stays (Field {P} {Y} tag first part more) version t d z none =
     let n = neither (eqb t tag) (has_tag more t) none in
     (rw (not_second (includes first version) (eqb t tag) n.0) refl, stays more version t d z.1 n.1)
 
-steps : {X Z : Type 0} (fs : Table Z) (version : ℕ) (get : X → Z) (put : X → Z → X) → ((x : X) → put x (get x) ≡ x) → Distinct fs
-    → (t : ℕ) (before after : X) (d : List ℕ) → field_of (known fs version get put t) before d ≡ Ok after → (z : Z) × (after ≡ put before z) × Step fs version t d (get before) z
-steps NoField version get put back agrees t before after d e = (get before, sym (is_ok _ _ e) ∙ sym (back before), tt)
-steps {X} {Z} (Field {P} {Y} tag n part more) version get put back agrees t before after d e =
-    let entry : Option (X → List ℕ → Result X WireFault) = Some (field_as (part_at part) (λ x v. put x (v, (get x).1))) in
-    let others : Option (X → List ℕ → Result X WireFault) = known more version (λ x. (get x).1) (λ x y. put x ((get x).0, y)) t in
-    let Q : Bool → Type 0 = λ b. (includes n version && eqb t tag) ≡ b → field_of (cond b entry others) before d ≡ Ok after
-    → (z : P × Y) × (after ≡ put before z) × (moved b (whole_field (part_at part d) ≡ Ok z.0) (z.0 ≡ (get before).0) × Step more version t d (get before).1 z.1) in
+steps : {Z : Type 0} (fs : Table Z) (version : ℕ) → Distinct fs → (t : ℕ) (before after : Z) (d : List ℕ) → set_part fs version t before d ≡ Ok after → Step fs version t d before after
+steps NoField version agrees t before after d e = tt
+steps (Field {P} {Y} tag n part more) version agrees t before after d e =
+    let Q : Bool → Type 0 = λ b. (includes n version && eqb t tag) ≡ b → cond b (field_as (part_at part) (λ z v. (v, z.1)) before d) (set_part more version t before.1 d >>= λ y. Ok (before.0, y)) ≡ Ok after
+    → moved b (whole_field (part_at part d) ≡ Ok after.0) (after.0 ≡ before.0) × Step more version t d before.1 after.1 in
     let step : Q (includes n version && eqb t tag) = elim (includes n version && eqb t tag) as Q [
       | true ↦ λ is e.
-          let k = bind_ok (whole_field (part_at part d)) (λ v. Ok (put before (v, (get before).1))) after e in
+          let k = bind_ok (whole_field (part_at part d)) (λ v. Ok (v, before.1)) after e in
           let there : tag ≡ t = sym (same_tag t tag (both (includes n version) (eqb t tag) is).1) in
           let none : has_tag more t ≡ false = subst (λ (u : ℕ). has_tag more u ≡ false) there agrees.0 in
-          ((k.0, (get before).1), sym (is_ok _ _ k.2), (k.1, stays more version t d (get before).1 none))
+          subst (λ (z : P × Y). (whole_field (part_at part d) ≡ Ok z.0) × Step more version t d before.1 z.1) (is_ok _ _ k.2) (k.1, stays more version t d before.1 none)
       | false ↦ λ is e.
-          let m = steps more version (λ x. (get x).1) (λ x y. put x ((get x).0, y)) back agrees.1 t before after d e in
-          (((get before).0, m.0), m.1, (refl, m.2))
+          let k = bind_ok (set_part more version t before.1 d) (λ y. Ok (before.0, y)) after e in
+          subst (λ (z : P × Y). (z.0 ≡ before.0) × Step more version t d before.1 z.1) (is_ok _ _ k.2) (refl, steps more version agrees.1 t before.1 k.0 d k.1)
     ] in
     step refl e
 
@@ -194,47 +191,35 @@ gives_back {X} {Z} (Field {P} {Y} tag first part more) version known get moves f
     let others = gives_back more version known (λ x. (get x).1) (λ t b a d f. (moves t b a d f).1) fields rising before after z.1 (ap (λ (z : P × Y). z.1) start) e h.1 in
     λ i. (one i, others i)
 
-opens : {X Z : Type 0} (fs : Table Z) (version : ℕ) (get : X → Z) (put : X → Z → X) (z : Z) (fields : List (ℕ × List ℕ)) → Are fs version z fields
-    → (t : ℕ) (d : List ℕ) → data_of t fields ≡ Some d → Opens (known fs version get put t) d
-opens NoField version get put z fields h t d e = opens_none d
-opens {X} {Z} (Field {P} {Y} tag first part more) version get put z fields h t d e =
-    opens_if (includes first version && eqb t tag) _ _ d
-    (λ is before.
-    let p = both (includes first version) (eqb t tag) is in
-    let there : data_of tag fields ≡ Some d = subst (λ (u : ℕ). data_of u fields ≡ Some d) (same_tag t tag p.1) e in
-    let tagged : IfTagged tag (IsTaggedPart part z.0) (z.0 ≡ absent part) fields = subst (λ (b : Bool). IfTaggedSince b tag (IsTaggedPart part z.0) (z.0 ≡ absent part) fields) p.0 h.0 in
-    let spelled : IsTaggedPart part z.0 d = subst (λ (o : Option (List ℕ)). given o (IsTaggedPart part z.0) (z.0 ≡ absent part)) there tagged in
-    (put before (z.0, (get before).1), rw (part_whole part z.0 d spelled) refl))
-    (λ not. opens more version (λ x. (get x).1) (λ x y. put x ((get x).0, y)) z.1 fields h.1 t d e)
+opens : {Z : Type 0} (fs : Table Z) (version : ℕ) (z : Z) (fields : List (ℕ × List ℕ)) → Are fs version z fields → (t : ℕ) (d : List ℕ) → data_of t fields ≡ Some d → Opens (known fs version t) d
+opens NoField version z fields h t d e before = (before, refl)
+opens (Field {P} {Y} tag first part more) version z fields h t d e before =
+    let Q : Bool → Type 0 = λ b. (includes first version && eqb t tag) ≡ b
+    → (after : P × Y) × (cond b (field_as (part_at part) (λ z v. (v, z.1)) before d) (set_part more version t before.1 d >>= λ y. Ok (before.0, y)) ≡ Ok after) in
+    let step : Q (includes first version && eqb t tag) = elim (includes first version && eqb t tag) as Q [
+      | true ↦ λ is.
+          let p = both (includes first version) (eqb t tag) is in
+          let there : data_of tag fields ≡ Some d = subst (λ (u : ℕ). data_of u fields ≡ Some d) (same_tag t tag p.1) e in
+          let tagged : IfTagged tag (IsTaggedPart part z.0) (z.0 ≡ absent part) fields = subst (λ (b : Bool). IfTaggedSince b tag (IsTaggedPart part z.0) (z.0 ≡ absent part) fields) p.0 h.0 in
+          let spelled : IsTaggedPart part z.0 d = subst (λ (o : Option (List ℕ)). given o (IsTaggedPart part z.0) (z.0 ≡ absent part)) there tagged in
+          ((z.0, before.1), rw (part_whole part z.0 d spelled) refl)
+      | false ↦ λ not. let o = opens more version z.1 fields h.1 t d e before.1 in ((before.0, o.0), rw o.1 refl)
+    ] in
+    step refl
 
 -- ---- the law of a structure's tagged fields
 
-module _ {X Z : Type 0} (t : Table Z) (rising : are_rising t ≡ true) (get : X → Z) (of : Z → X) (there : (z : Z) → get (of z) ≡ z) (back : (x : X) → of (get x) ≡ x) (version : ℕ) where
-  abbrev As : X → List (ℕ × List ℕ) → Type 0
-  As x fields = Are t version (get x) fields
+module _ {Z : Type 0} (t : Table Z) (rising : are_rising t ≡ true) (version : ℕ) where
+  complete : (z : Z) (fields : List (ℕ × List ℕ)) → AreRising None fields → Are t version z fields → run (known t version) (absents t) fields ≡ Ok z
+  complete z fields up is =
+      let r = reads_all (known t version) fields None up (opens t version z fields is) (absents t) in
+      r.1 ∙ ap (λ (y : Z). Ok y) (gives_back t version (known t version) (λ z. z) (steps t version (apart_tags t rising)) fields up (absents t) r.0 z refl r.1 is)
 
-  abbrev put_all : X → Z → X
-  put_all x z = of z
-
-  abbrev all_known : Known X
-  all_known = known t version get put_all
-
-  moves : Moves t version all_known get
-  moves n before after d e =
-      let s = steps t version get put_all back (apart_tags t rising) n before after d e in
-      subst (λ (z : Z). Step t version n d (get before) z) (sym (there s.0) ∙ ap get (sym s.1)) s.2
-
-  complete : (x : X) (fields : List (ℕ × List ℕ)) → AreRising None fields → As x fields → run all_known (of (absents t)) fields ≡ Ok x
-  complete x fields up is =
-      let r = reads_all all_known fields None up (opens t version get put_all (get x) fields is) (of (absents t)) in
-      let same = gives_back t version all_known get moves fields up (of (absents t)) r.0 (get x) (there (absents t)) r.1 is in
-      r.1 ∙ ap (λ (y : X). Ok y) (sym (back r.0) ∙ ap of same ∙ back x)
-
-  makes : Makes all_known (of (absents t)) As
+  makes : Makes (known t version) (absents t) (Are t version)
   makes = record {
-    sound = λ x fields up fit e. are t version all_known get moves fields up fit (of (absents t)) x (there (absents t)) e;
+    sound = λ x fields up fit e. are t version (known t version) (λ z. z) (steps t version (apart_tags t rising)) fields up fit (absents t) x refl e;
     complete = complete;
   }
 
-  pub fields_law : Law (λ x. IsTags (As x)) (tags_at all_known (of (absents t)))
+  pub fields_law : Law (λ z. IsTags (Are t version z)) (tags_at (known t version) (absents t))
   fields_law = tags_law makes

@@ -1,10 +1,11 @@
 -- The tagged fields that a structure knows (KIP-482), as one table: of each its tag, the first version that has it, and its data.
-use Rattle.std.specs.Prelude.{◌≡◌, ℕ, ℤ, Bool, true, ◌&&◌, ◌==◌, cond, nat_lt, List, [], ◌++◌, length, Option, Some, None, if◌then◌else◌}
+use Rattle.std.specs.Prelude.{◌≡◌, ℕ, ℤ, Bool, true, ◌&&◌, ◌==◌, cond, nat_lt, List, [], ◌++◌, length, Option, Some, None, Result, Ok, if◌then◌else◌}
 use Rattle.std.specs.Ordering.{int_eq}
 use Rattle.std.specs.Option.{option_map, unwrap_or}
 use Rattle.std.specs.Int.{w8, w32}
 use Rattle.kr_wire.specs.Grammar.{IsSigned, IsId, IsListOrNull, IsDropped, IfTaggedSince, includes}
-use Rattle.kr_wire.specs.Reading.{Read, Known, field_as, structure_at, signed_at, id_at, list_or_null_at}
+use Rattle.kr_wire.specs.declared.WireFault.{WireFault}
+use Rattle.kr_wire.specs.Reading.{◌>>=◌, Read, Known, field_as, structure_at, signed_at, id_at, list_or_null_at}
 use Rattle.kr_wire.specs.Spelling.{signed, list, tagged}
 
 -- ---- the data of a field
@@ -93,11 +94,14 @@ abbrev pub absents : {Z : Type 0} → Table Z → Z
 absents NoField = tt
 absents (Field tag first part more) = (absent part, absents more)
 
--- the known fields of a version, of a value whose parts are got and put so
-abbrev pub known : {X Z : Type 0} → Table Z → ℕ → (X → Z) → (X → Z → X) → Known X
-known NoField version get put t = None
-known (Field tag first part more) version get put t =
-    cond (includes first version && t == tag) (Some (field_as (part_at part) (λ x v. put x (v, (get x).1)))) (known more version (λ x. (get x).1) (λ x y. put x ((get x).0, y)) t)
+-- what a field of a version with this tag makes of the parts that were read before
+abbrev pub set_part : {Z : Type 0} → Table Z → ℕ → ℕ → Z → List ℕ → Result Z WireFault
+set_part NoField version t z bytes = Ok z
+set_part (Field tag first part more) version t z bytes =
+    cond (includes first version && t == tag) (field_as (part_at part) (λ z p. (p, z.1)) z bytes) (set_part more version t z.1 bytes >>= λ others. Ok (z.0, others))
+
+abbrev pub known : {Z : Type 0} → Table Z → ℕ → Known Z
+known table version tag = Some (set_part table version tag)
 
 -- each tag is above the last
 abbrev pub are_above : {Z : Type 0} → ℕ → Table Z → Bool
