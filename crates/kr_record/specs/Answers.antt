@@ -1,11 +1,9 @@
 -- How a decoder's answer follows from reading. Want of memory is free.
-use Rattle.std.specs.Prelude.{◌≡◌, ℕ, Bool, true, false, List, Option, Some, None, Result, Ok, Err}
+use Rattle.std.specs.Prelude.{◌≡◌, ℕ, Bool, true, false, List, Result, Ok, Err}
 use Rattle.kr_wire.specs.Answers as answers
-use Rattle.kr_wire.specs.Reading.{Read}
 use Rattle.kr_wire.specs.declared.WireFault.{WireFault}
 use Rattle.kr_layout.specs.declared.fault.ReadFault.{ReadFault}
 use Rattle.kr_layout.specs.declared.fault.ReadFault.TheVariants as reads
-use Rattle.kr_layout.specs.Answers.{IsFaultOf}
 use Rattle.kr_record.specs.declared.fault.RecordFault.{RecordFault}
 use Rattle.kr_record.specs.declared.fault.RecordFault.TheVariants as faults
 
@@ -28,13 +26,6 @@ GivesField (Err e) read = IsFieldFault e read
 abbrev pub Sets : {Y : Type 0} → Result (Unit {0}) ReadFault → Y → Result Y WireFault → Type 0
 Sets (Ok nothing) new read = read ≡ Ok new
 Sets (Err e) new read = IsFieldFault e read
-
--- the value at the front of what there was to read, if there is a way to read it
-abbrev pub TakesAny : {Y : Type 0} → Result (Option Y) ReadFault → List ℕ → Option (Read Y) → Type 0
-TakesAny (Ok None) left read = read ≡ None
-TakesAny (Ok (Some x)) left read = read ≡ Some (Ok (x, left))
-TakesAny (Err e) left None = ⊥
-TakesAny (Err e) left (Some read) = IsFaultOf e read
 
 -- want of memory
 abbrev pub is_free : RecordFault → Bool

@@ -2,15 +2,19 @@
 use Rattle.std.specs.Prelude.{ℤ, pos}
 use Rattle.kr_defs.specs.declared.record.Record.TheVariants as kinds
 use Rattle.kr_wire.specs.Schema.{Int32, Int64}
-use Rattle.kr_wire.specs.Tables.{NoField, Field, Int8Unless}
+use Rattle.kr_wire.specs.Tables.{Table, NoField, Field, Int8Unless}
 use Rattle.kr_record.specs.Layout.{Of, ◌▹◌, Tagged}
 use Rattle.kr_record.specs.Kind.{Kind}
 
--- the broker and its epoch; whether it is fenced, and since version 1 whether it is stopping: 1 for yes, -1 for no, 0 for no change
+-- whether it is fenced, and since version 1 whether it is stopping: 1 for yes, -1 for no, 0 for no change
+abbrev pub flag_table : Table (ℤ × (ℤ × Unit {0}))
+flag_table = Field 0 0 (Int8Unless (pos 0)) (Field 1 1 (Int8Unless (pos 0)) NoField)
+
+-- the broker, its epoch, and what changes
 abbrev pub broker_registration_change : Kind (ℤ × (ℤ × (ℤ × (ℤ × Unit {0}))))
 broker_registration_change = record {
   key = 17;
   newest = 1;
-  layout = Of Int32 ▹ Of Int64 ▹ Tagged (Field 0 0 (Int8Unless (pos 0)) (Field 1 1 (Int8Unless (pos 0)) NoField));
+  layout = Of Int32 ▹ Of Int64 ▹ Tagged flag_table;
   record_of = λ (broker, (epoch, (fenced, (stopping, none)))). kinds.BrokerRegistrationChange broker epoch fenced stopping;
 }

@@ -3,7 +3,7 @@ use Rattle.std.specs.Prelude.{ℕ, ℤ, pos, List}
 use Rattle.kr_defs.specs.declared.partition.Partition.{Partition}
 use Rattle.kr_defs.specs.declared.record.Record.TheVariants as kinds
 use Rattle.kr_wire.specs.Schema.{Int32, Uuid, Array, ◌▸◌}
-use Rattle.kr_wire.specs.Tables.{NoField, Field, Int8Unless, Int32sOrEmpty}
+use Rattle.kr_wire.specs.Tables.{Table, NoField, Field, Int8Unless, Int32sOrEmpty}
 use Rattle.kr_record.specs.Layout.{Of, ◌▹◌, Directories, Tagged}
 use Rattle.kr_record.specs.Kind.{Kind}
 
@@ -16,18 +16,29 @@ replicas_of (index, (topic, (replicas, others))) = replicas
 abbrev pub Extras : Type 0
 Extras = ℤ × (List ℤ × (List ℤ × Unit {0}))
 
--- its index, its topic, the replicas, those in sync, removed and added, the leader and two epochs; since version 1 the directories;
--- tagged the recovery state, and since version 2 the eligible and the last known leaders
+-- the recovery state, and since version 2 the eligible and the last known leaders
+abbrev pub extra_table : Table Extras
+extra_table = Field 0 0 (Int8Unless (pos 0)) (Field 1 2 Int32sOrEmpty (Field 2 2 Int32sOrEmpty NoField))
+
+-- its index, its topic, the replicas, those in sync, removed and added, the leader and two epochs; since version 1 the directories
 abbrev pub partition : Kind (Head × Extras)
 partition = record {
   key = 3;
   newest = 2;
   layout = Directories (Of (Int32 ▸ Uuid ▸ Array Int32 ▸ Array Int32 ▸ Array Int32 ▸ Array Int32 ▸ Int32 ▸ Int32 ▸ Int32)) 1 replicas_of
-      ▹ Tagged (Field 0 0 (Int8Unless (pos 0)) (Field 1 2 Int32sOrEmpty (Field 2 2 Int32sOrEmpty NoField)));
+      ▹ Tagged extra_table;
   record_of = λ ((index, (topic, (replicas, (in_sync, (removing, (adding, (leader, (leader_epoch, partition_epoch)))))))), (recovery, (eligible, (last_known, none)))).
       kinds.Partition index topic (record {
-        replicas = replicas; in_sync = in_sync; removing = removing; adding = adding; leader = leader; leader_epoch = leader_epoch;
-        partition_epoch = partition_epoch; recovery = recovery; eligible = eligible; last_known = last_known
+        replicas = replicas;
+        in_sync = in_sync;
+        removing = removing;
+        adding = adding;
+        leader = leader;
+        leader_epoch = leader_epoch;
+        partition_epoch = partition_epoch;
+        recovery = recovery;
+        eligible = eligible;
+        last_known = last_known;
       });
 }
 

@@ -28,8 +28,14 @@ partition_change = record {
   layout = Of Int32 ▹ Of Uuid ▹ Tagged change_table;
   record_of = λ (index, (topic, (in_sync, (leader, (replicas, (removing, (adding, (recovery, (eligible, (last_known, (directories, none))))))))))).
       kinds.PartitionChange index topic (record {
-        in_sync = in_sync; leader = leader; replicas = replicas; removing = removing; adding = adding; recovery = recovery;
-        eligible = eligible; last_known = last_known
+        in_sync = in_sync;
+        leader = leader;
+        replicas = replicas;
+        removing = removing;
+        adding = adding;
+        recovery = recovery;
+        eligible = eligible;
+        last_known = last_known;
       });
 }
 

@@ -13,13 +13,13 @@ abbrev pub wired : {X : Type 0} → Result X WireFault → Result X RecordFault
 wired (Ok x) = Ok x
 wired (Err fault) = Err (faults.Wire fault)
 
--- the record of the kind, in a version that it has
-abbrev pub kind_at : {X : Type 0} → Kind X → ℕ → List ℕ → Result (Record × List ℕ) RecordFault
-kind_at k version bytes = refuse (faults.UnknownVersion k.key version) when nat_lt k.newest version else wired (structure_at k.record_of (version_at k.layout version) bytes)
+-- what stands in a record of the kind, in a version that it has
+abbrev pub parts_at : {X : Type 0} → Kind X → ℕ → List ℕ → Result (X × List ℕ) RecordFault
+parts_at k version bytes = refuse (faults.UnknownVersion k.key version) when nat_lt k.newest version else wired (version_at k.layout version bytes)
 
 -- the record of the kind with the key
 unfoldable pub layout_at : ℕ → ℕ → List ℕ → Result (Record × List ℕ) RecordFault
-layout_at key version bytes = by_key key (λ X k. kind_at k version bytes) (Err (faults.UnknownKey key))
+layout_at key version bytes = by_key key (λ X k. structure_at k.record_of (parts_at k version) bytes) (Err (faults.UnknownKey key))
 
 unfoldable pub record_at : List ℕ → Result (Record × List ℕ) RecordFault
 record_at bytes = do

@@ -3,14 +3,14 @@ use Rattle.std.specs.Prelude.{ℕ, List, ◌==◌, if◌then◌else◌}
 use Rattle.kr_defs.specs.declared.record.Record.{Record}
 use Rattle.kr_defs.specs.declared.record.Record.TheVariants as kinds
 use Rattle.kr_record.specs.Kind.{Kind}
-use Rattle.kr_record.specs.RegisterBroker.{register_broker, registration_parts}
-use Rattle.kr_record.specs.FenceBroker.{unregister_broker, fence_broker, unfence_broker}
-use Rattle.kr_record.specs.BrokerRegistrationChange.{broker_registration_change}
-use Rattle.kr_record.specs.Topic.{topic, remove_topic}
-use Rattle.kr_record.specs.Partition.{partition, partition_parts}
-use Rattle.kr_record.specs.PartitionChange.{partition_change, change_parts}
-use Rattle.kr_record.specs.Config.{config}
-use Rattle.kr_record.specs.FeatureLevel.{feature_level, no_op}
+pub use Rattle.kr_record.specs.RegisterBroker.{register_broker, registration_parts}
+pub use Rattle.kr_record.specs.FenceBroker.{unregister_broker, fence_broker, unfence_broker}
+pub use Rattle.kr_record.specs.BrokerRegistrationChange.{broker_registration_change}
+pub use Rattle.kr_record.specs.Topic.{topic, remove_topic}
+pub use Rattle.kr_record.specs.Partition.{partition, partition_parts}
+pub use Rattle.kr_record.specs.PartitionChange.{partition_change, change_parts}
+pub use Rattle.kr_record.specs.Config.{config}
+pub use Rattle.kr_record.specs.FeatureLevel.{feature_level, no_op}
 
 -- what is said of the kind with the key, if there is one
 abbrev pub by_key : {A : Type 0} → ℕ → ((X : Type 0) → Kind X → A) → A → A
@@ -26,7 +26,7 @@ pub record OfKind : Type 1 where
   pub kind : Kind Parts
   pub parts : Parts
 
-abbrev of_kind : {X : Type 0} → Kind X → X → OfKind
+abbrev pub of_kind : {X : Type 0} → Kind X → X → OfKind
 of_kind {X} k x = record { Parts = X; kind = k; parts = x }
 
 abbrev pub chosen : Record → OfKind

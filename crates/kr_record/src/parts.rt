@@ -1,11 +1,10 @@
 //! Values that are read one after the other, as nested pairs.
 
-ghost use Rattle.std.specs.Prelude.{false};
+ghost use Rattle.std.specs.Prelude.{false, []};
 ghost use Rattle.kr_wire.specs.Schema.{Array, Boolean, Dropped, End, Int32, Uuid};
 ghost use Rattle.kr_layout.specs.Answers.{Takes};
 ghost use Rattle.kr_record.specs.Layout as layouts;
 ghost use Rattle.kr_record.specs.Layout.{Directories, Of, RecordLayout, Tagged, version_at, ◌▹◌};
-ghost use Rattle.kr_record.specs.Partition.{replicas_of};
 
 use crate::mine::Mine;
 use crate::tags::{Fields, Tags, read_tags};
@@ -69,6 +68,40 @@ impl<B: Parts> Parts for SinceOne<bool, B> {
         let behind = B::read(from, version)?;
         Ok(SinceOne { flag, behind })
     }
+}
+
+/// Parts with replicas among them and, since version 1, a directory for each of these; and the parts behind them.
+#[derive(Drop)]
+pub(crate) struct Placed<H, B> {
+    pub head: H,
+    pub behind: B,
+}
+
+impl<H, B> Model for Placed<H, B> {
+    ghost Value = { H × B };
+
+    ghost view = { λ p. (p.head, p.behind) };
+}
+
+impl<H: Parts, B: Parts> Parts for Placed<H, B> {
+    ghost layout = { Directories H.layout 1 (λ head. []) ▹ B.layout };
+
+    fn read(from: &mut Reader<'_, Mine>, version: u32) -> Result<Placed<H, B>, ReadFault> {
+        let head = H::read(from, version)?;
+        skip_directories(from, version)?;
+        let behind = B::read(from, version)?;
+        Ok(Placed { head, behind })
+    }
+}
+
+// Directories, which version 0 doesn't have. They are dropped.
+fn skip_directories(from: &mut Reader<'_, Mine>, version: u32) -> Result<(), ReadFault>
+    ensures { Takes result from.new (version_at (layouts.Since 1 tt (Dropped (Array Uuid))) version from.old) }
+{
+    if version >= 1 {
+        let _directories: Rows<u128> = from.get()?;
+    }
+    Ok(())
 }
 
 impl<F: Fields> Parts for Tags<F> {

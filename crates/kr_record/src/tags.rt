@@ -61,7 +61,8 @@ impl Fields for () {
     }
 }
 
-impl<const TAG: u32, const FIRST: u32, P: TaggedPart, F: Fields> Fields for (Field<TAG, FIRST, P>, F) {
+impl<const TAG: u32, const FIRST: u32, P: TaggedPart, F: Fields> Fields
+    for (Field<TAG, FIRST, P>, F) {
     ghost table = { tables.Field TAG FIRST P.part F.table };
 
     fn absent(alloc: Global) -> (Field<TAG, FIRST, P>, F) {
@@ -97,7 +98,10 @@ fn whole<P: TaggedPart>(alloc: Global, data: &[u8]) -> Result<P, ReadFault>
 
 /// A count, and so many tagged fields.
 #[tactic(auto, unfolding(kr_wire::specs::Reading::tags_at))]
-pub(crate) fn read_tags<F: Fields>(from: &mut Reader<'_, Mine>, version: u32) -> Result<Tags<F>, ReadFault>
+pub(crate) fn read_tags<F: Fields>(
+    from: &mut Reader<'_, Mine>,
+    version: u32,
+) -> Result<Tags<F>, ReadFault>
     ensures { Takes result from.new (tags_at (known F.table version) (absents F.table) from.old) }
 {
     let count = from.uvarint()?;
@@ -105,7 +109,11 @@ pub(crate) fn read_tags<F: Fields>(from: &mut Reader<'_, Mine>, version: u32) ->
     Ok(Tags { fields })
 }
 
-fn read_fields<F: Fields>(from: &mut Reader<'_, Mine>, version: u32, count: u32) -> Result<F, ReadFault>
+fn read_fields<F: Fields>(
+    from: &mut Reader<'_, Mine>,
+    version: u32,
+    count: u32,
+) -> Result<F, ReadFault>
     ensures { Takes result from.new (fields_at (known F.table version) count None (absents F.table) from.old) }
 {
     let mut value = F::absent(from.alloc());

@@ -196,7 +196,7 @@ light_broker e small =
     light (broker_record e)
     (let endpoints = All-from_recursion IsShortEndpoint b.endpoints (endpoints_short b.endpoints (omega (arith, little))) in
     let features = All-from_recursion IsShortRange b.features (ranges_short b.features (omega (arith, little))) in
-    ((tt, (tt, (tt, ((omega (arith, few_endpoints), endpoints), ((omega (arith, few_ranges), features), (rack_short b.rack (omega (arith, little)), tt)))))), (tt, tt)))
+    (tt, (tt, (tt, ((omega (arith, few_endpoints), endpoints), ((omega (arith, few_ranges), features), (rack_short b.rack (omega (arith, little)), (tt, (tt, tt)))))))))
     (omega (arith, few_endpoints, few_ranges, little, f, g, h, i, j))
 
 light_topic : (name : List ℕ) (id : ℕ) → is_topic_name name ≡ true → IsLight (kinds.Topic name id)

@@ -168,7 +168,7 @@ written image after (kinds.RegisterBroker broker state) meaning few =
     let each_endpoint = All-from_recursion IsShortEndpoint state.endpoints (endpoints_short state.endpoints endpoints) in
     let few_features = below (length state.features) (sum_by range_bytes state.features) (ranges_fewer state.features) features in
     let each_feature = All-from_recursion IsShortRange state.features (ranges_short state.features features) in
-    ((tt, (tt, (tt, ((few_endpoints, each_endpoint), ((few_features, each_feature), (text_or_null_short state.rack parts.2, tt)))))), (tt, tt))
+    (tt, (tt, (tt, ((few_endpoints, each_endpoint), ((few_features, each_feature), (text_or_null_short state.rack parts.2, (tt, (tt, tt))))))))
 written image after (kinds.UnregisterBroker broker epoch) meaning few = (tt, (tt, tt))
 written image after (kinds.Topic name id) meaning few = (text_short name (in_text (text_bytes name) few), (tt, tt))
 written image after (kinds.Partition index topic state) meaning few =
@@ -212,10 +212,10 @@ written image after (kinds.PartitionChange index topic change) meaning few =
     let fifth = field_or_fits change.adding in_e.0 in
     let seventh = field_or_fits change.eligible in_g.0 in
     let eighth = field_or_fits change.last_known in_h.0 in
-    ((tt, tt), (first, (told.leader, (third, (fourth, (fifth, (told.recovery, (seventh, (eighth, (tt, tt))))))))))
+    (tt, (tt, (first, (told.leader, (third, (fourth, (fifth, (told.recovery, (seventh, (eighth, (tt, tt)))))))))))
 written image after (kinds.FenceBroker broker epoch) meaning few = (tt, (tt, tt))
 written image after (kinds.UnfenceBroker broker epoch) meaning few = (tt, (tt, tt))
 written image after (kinds.RemoveTopic topic) meaning few = (tt, tt)
 written image after (kinds.FeatureLevel name level) meaning few = (text_short name (in_feature (text_bytes name) few), (tt, tt))
-written image after (kinds.BrokerRegistrationChange broker epoch fenced stopping) meaning few = ((tt, tt), (tt, (tt, tt)))
+written image after (kinds.BrokerRegistrationChange broker epoch fenced stopping) meaning few = (tt, (tt, (tt, (tt, tt))))
 written image after kinds.NoOp meaning few = tt

@@ -15,7 +15,6 @@ use Rattle.kr_wire.specs.Grammar.{◌⌢◌, IsUvarint, IsTags, includes}
 use Rattle.kr_wire.specs.Schema.{Schema, Is}
 use Rattle.kr_wire.proofs.FormLaws.{Follows, free, ◌and◌, then, int8, int16, int32, int64, uint16, id, bool, uvarint, no_tags, text, list}
 use Rattle.kr_wire.proofs.TaggedForms.{field, no_more, tags}
-use Rattle.kr_record.specs.declared.broker_registration_change.Flags.{Flags}
 use Rattle.kr_record.specs.Encodable.{AreShort, HasShort, IsEncodable}
 use Rattle.kr_record.specs.RecordRanges.{AreHeld, HasHeld, IsHeld}
 use Rattle.kr_wire.specs.Tables.{Are}
@@ -24,10 +23,10 @@ use Rattle.kr_record.specs.Kind.{Kind}
 use Rattle.kr_record.specs.Grammar.{IsLayout, IsRecord}
 use Rattle.kr_record.specs.RegisterBroker.{endpoint_layout, range_layout, register_broker, registration_parts}
 use Rattle.kr_record.specs.FenceBroker.{BrokerEpoch, broker_epoch as broker_epoch_layout}
-use Rattle.kr_record.specs.BrokerRegistrationChange.{flags, broker_registration_change}
+use Rattle.kr_record.specs.BrokerRegistrationChange.{flag_table, broker_registration_change}
 use Rattle.kr_record.specs.Topic.{topic as topic_kind, remove_topic}
-use Rattle.kr_record.specs.Partition.{extras, partition as partition_kind, partition_parts}
-use Rattle.kr_record.specs.PartitionChange.{changes, partition_change}
+use Rattle.kr_record.specs.Partition.{extra_table, partition as partition_kind, partition_parts}
+use Rattle.kr_record.specs.PartitionChange.{change_table, change_parts, partition_change}
 use Rattle.kr_record.specs.Config.{config as config_kind}
 use Rattle.kr_record.specs.FeatureLevel.{feature_level}
 use Rattle.law_reencoding.proofs.Parts.{text_or_null, ids, byte, leader, recovery, ids_or_null, ids_or_empty}
@@ -48,7 +47,7 @@ range r = then (text r.name and int16 r.min and int16 r.max and no_tags) (omega 
 
 registration : (version : ℕ) (broker : ℤ) (b : Broker) → KindFollows register_broker version (registration_bytes b) (registration_parts broker b)
 registration version broker b = then
-    ((int32 broker and id b.incarnation and int64 b.epoch and list endpoint (λ e. omega arith) b.endpoints and list range (λ r. omega arith) b.features and text_or_null b.rack and bool b.fenced)
+    (int32 broker and id b.incarnation and int64 b.epoch and list endpoint (λ e. omega arith) b.endpoints and list range (λ r. omega arith) b.features and text_or_null b.rack and bool b.fenced
     and free and no_tags)
     (omega arith) (λ p. p) (λ q. q)
 
@@ -64,7 +63,7 @@ topic_id n = then (id n and no_tags) (omega arith) (λ p. p) (λ q. q)
 -- a replica is written with a directory of 16 bytes
 partition : (version : ℕ) (index : ℤ) (topic : ℕ) (p : Partition) → KindFollows partition_kind version (partition_bytes p) (partition_parts index topic p)
 partition version index topic p =
-    let tagged : Follows (IsInVersion extras version (record { recovery = p.recovery; eligible = p.eligible; last_known = p.last_known })) _ _ _ = tags (lit≤ tt) (λ all fields known is.
+    let tagged : Follows (IsTags (Are extra_table version (p.recovery, (p.eligible, (p.last_known, tt))))) _ _ _ = tags (lit≤ tt) (λ all fields known is.
     field fields known 0 (byte p.recovery) (includes 0 version) is.0
     (field fields known 1 (ids_or_empty p.eligible) (includes 2 version) is.1.0
     (field fields known 2 (ids_or_empty p.last_known) (includes 2 version) is.1.1.0 no_more))) in
@@ -75,9 +74,9 @@ partition version index topic p =
 config : (kind : ℤ) (name key : List ℕ) (value : Option (List ℕ)) → KindFollows config_kind 0 (1 + text_bytes name + text_bytes key + text_or_null_bytes value + 1) (kind, (name, (key, (value, tt))))
 config kind name key value = then (int8 kind and text name and text key and text_or_null value and no_tags) (omega arith) (λ p. p) (λ q. q)
 
-change : (version : ℕ) (index : ℤ) (topic : ℕ) (c : PartitionChange) → KindFollows partition_change version (change_bytes c) ((index, topic), c)
+change : (version : ℕ) (index : ℤ) (topic : ℕ) (c : PartitionChange) → KindFollows partition_change version (change_bytes c) (change_parts index topic c)
 change version index topic c =
-    let tagged : Follows (IsInVersion changes version c) _ _ _ = tags (lit≤ tt) (λ all fields known is.
+    let tagged : Follows (IsTags (Are change_table version (change_parts index topic c).1.1)) _ _ _ = tags (lit≤ tt) (λ all fields known is.
     field fields known 0 (ids_or_null c.in_sync) (includes 0 version) is.0
     (field fields known 1 (leader c.leader) (includes 0 version) is.1.0
     (field fields known 2 (ids_or_null c.replicas) (includes 0 version) is.1.1.0
@@ -86,20 +85,20 @@ change version index topic c =
     (field fields known 5 (recovery c.recovery) (includes 0 version) is.1.1.1.1.1.0
     (field fields known 6 (ids_or_null c.eligible) (includes 2 version) is.1.1.1.1.1.1.0
     (field fields known 7 (ids_or_null c.last_known) (includes 2 version) is.1.1.1.1.1.1.1.0 no_more)))))))) in
-    then ((int32 index and id topic) and tagged) (omega arith)
-    (λ s. let p = s.1 in (s.0, (p.0, (p.1.0, (p.1.1.0, (p.1.1.1.0, (p.1.1.1.1.0, (p.1.1.1.1.1.0, (p.1.1.1.1.1.1.0, (p.1.1.1.1.1.1.1.0, (tt, tt)))))))))))
-    (λ s. let q = s.1 in (s.0, (q.0, (q.1.0, (q.1.1.0, (q.1.1.1.0, (q.1.1.1.1.0, (q.1.1.1.1.1.0, (q.1.1.1.1.1.1.0, (q.1.1.1.1.1.1.1.0, (tt, tt)))))))))))
+    then (int32 index and id topic and tagged) (omega arith)
+    (λ s. let p = s.1.1 in (s.0, (s.1.0, (p.0, (p.1.0, (p.1.1.0, (p.1.1.1.0, (p.1.1.1.1.0, (p.1.1.1.1.1.0, (p.1.1.1.1.1.1.0, (p.1.1.1.1.1.1.1.0, (tt, tt))))))))))))
+    (λ s. let q = s.1.1 in (s.0, (s.1.0, (q.0, (q.1.0, (q.1.1.0, (q.1.1.1.0, (q.1.1.1.1.0, (q.1.1.1.1.1.0, (q.1.1.1.1.1.1.0, (q.1.1.1.1.1.1.1.0, (tt, tt))))))))))))
 
 feature : (name : List ℕ) (level : ℤ) → KindFollows feature_level 0 (text_bytes name + 2 + 1) (name, (level, tt))
 feature name level = then (text name and int16 level and no_tags) (omega arith) (λ p. p) (λ q. q)
 
-registration_change : (version : ℕ) (broker epoch : ℤ) (f : Flags)
-    → KindFollows broker_registration_change version (4 + 8 + tags_bytes (number_field 1 (pos 0) f.fenced ∷ number_field 1 (pos 0) f.stopping ∷ [])) ((broker, epoch), f)
-registration_change version broker epoch f =
-    let tagged : Follows (IsInVersion flags version f) _ _ _ = tags (lit≤ tt) (λ all fields known is.
-    field fields known 0 (byte f.fenced) (includes 0 version) is.0
-    (field fields known 1 (byte f.stopping) (includes 1 version) is.1.0 no_more)) in
-    then ((int32 broker and int64 epoch) and tagged) (omega arith) (λ p. p) (λ q. q)
+registration_change : (version : ℕ) (broker epoch fenced stopping : ℤ)
+    → KindFollows broker_registration_change version (4 + 8 + tags_bytes (number_field 1 (pos 0) fenced ∷ number_field 1 (pos 0) stopping ∷ [])) (broker, (epoch, (fenced, (stopping, tt))))
+registration_change version broker epoch fenced stopping =
+    let tagged : Follows (IsTags (Are flag_table version (fenced, (stopping, tt)))) _ _ _ = tags (lit≤ tt) (λ all fields known is.
+    field fields known 0 (byte fenced) (includes 0 version) is.0
+    (field fields known 1 (byte stopping) (includes 1 version) is.1.0 no_more)) in
+    then (int32 broker and int64 epoch and tagged) (omega arith) (λ p. p) (λ q. q)
 
 -- ---- a record
 
@@ -122,7 +121,7 @@ layout (kinds.UnfenceBroker broker epoch) key version = kind (broker_epoch broke
 layout (kinds.RemoveTopic n) key version = kind (topic_id n) (λ bytes is. is.2)
 layout (kinds.FeatureLevel name level) key version = kind (feature name level) (λ bytes is. is.2)
 layout (kinds.BrokerRegistrationChange broker epoch fenced stopping) key version =
-    kind (registration_change version broker epoch (record { fenced = fenced; stopping = stopping })) (λ bytes is. is.2)
+    kind (registration_change version broker epoch fenced stopping) (λ bytes is. is.2)
 layout kinds.NoOp key version = kind (then no_tags (lit≤ tt) (λ p. p) (λ q. q)) (λ bytes is. is.2)
 
 framed : (r : Record) (bytes : List ℕ) (is : IsRecord r bytes) → Follows (IsUvarint 1 ⌢ IsUvarint is.key ⌢ IsUvarint is.version ⌢ IsLayout is.key is.version r) (3 + layout_bytes r) (IsEncodable r) (IsHeld r)

@@ -1,0 +1,158 @@
+-- The laws of records.
+use Rattle.std.proofs.Common.{Fits, w8, get_or, ◌≡◌, ℕ, ◌≤◌, Bool, cond, ◌&&◌, eqb, ltb, true, false, List, ◌++◌, Result, Ok, Err, refl, sym, ap, subst, ◌∙◌, arith}
+use Rattle.std.specs.Prelude.{not, IfOk}
+use Rattle.std.proofs.lemmas.Bool.Decides.{nat_tests}
+use Rattle.std.proofs.lemmas.Bool.{ltb-false, le-ltb}
+use Rattle.kr_defs.specs.declared.record.Record.{Record}
+use Rattle.kr_defs.specs.declared.record.Record.TheVariants as kinds
+use Rattle.kr_wire.specs.declared.WireFault.{WireFault}
+use Rattle.kr_wire.specs.Reading.{Read, structure_at}
+use Rattle.kr_wire.specs.Grammar.{◌⌢◌, IsUvarint}
+use Rattle.kr_wire.proofs.ReadingLaws.{IsBytes, Yields, Law, joined, sound_then, sound_last, sound_guard, sound_as, complete_then, complete_last, complete_guard, all_sound, all_complete, one_value}
+use Rattle.kr_wire.proofs.Numbers.{uvarint_law}
+use Rattle.kr_wire.proofs.Tables.{both}
+use Rattle.kr_record.specs.declared.fault.RecordFault.{RecordFault}
+use Rattle.kr_record.specs.declared.fault.RecordFault.TheVariants as faults
+use Rattle.kr_record.specs.Answers.{Gives}
+use Rattle.kr_record.specs.Kind.{Kind}
+use Rattle.kr_record.specs.Records.{OfKind, of_kind, chosen, register_broker, unregister_broker, topic, partition, config, partition_change, fence_broker, unfence_broker, remove_topic, feature_level, broker_registration_change, no_op}
+use Rattle.kr_record.specs.Layout.{IsInVersion, is_whole}
+use Rattle.kr_record.specs.Reading.{wired, layout_at, parts_at, record_at, record_of}
+use Rattle.kr_record.specs.Grammar.{IsOfKind, IsLayout, IsRecord}
+use Rattle.kr_record.proofs.LayoutLaws.{law}
+use Rattle.kr_record.proofs.LayoutSpelling.{is_newest}
+
+-- ---- a fault of the wire is one of the record
+
+wired_ok : {X : Type 0} (r : Result X WireFault) (x : X) → wired r ≡ Ok x → r ≡ Ok x
+wired_ok {X} (Ok y) x e = let same : y ≡ x = cc in ap (λ z. let r : Result X WireFault = Ok z in r) same
+wired_ok (Err d) x e = absurd cc
+
+sound_wired : {Y : Type 0} (Is : Y → List ℕ → Type 0) (bytes : List ℕ) (r : Read Y) → Yields Is bytes r → Yields Is bytes (wired r)
+sound_wired Is bytes r law y rest e = law y rest (wired_ok r (y, rest) e)
+
+wired_law : {X : Type 0} {Is : X → List ℕ → Type 0} {read : List ℕ → Read X} → Law Is read → Law Is (λ bytes. wired (read bytes))
+wired_law law = record {
+  sound = λ bytes fits. sound_wired _ bytes _ (law.sound bytes fits);
+  complete = λ x front rest is. ap wired (law.complete x front rest is);
+}
+
+-- ---- the kinds
+
+-- the layout is read, the newest version is written, and the key and the version take a byte each
+abbrev pub is_served : {X : Type 0} → Kind X → Bool
+is_served k = (is_whole k.layout && is_newest k.layout k.newest) && (ltb k.key 128 && ltb k.newest 128)
+
+-- What holds of the kind of each record: it is found by its key, it is served, and what stands in the record makes it.
+pub record IsChosen (r : Record) (of : OfKind) : Type 0 where
+  pub found : (version : ℕ) (bytes : List ℕ) → layout_at of.kind.key version bytes ≡ structure_at of.kind.record_of (parts_at of.kind version) bytes
+  pub served : is_served of.kind ≡ true
+  pub back : of.kind.record_of of.parts ≡ r
+
+pub is_chosen : (r : Record) → IsChosen r (chosen r)
+unfolding layout_at
+is_chosen (kinds.RegisterBroker broker state) = record { found = λ version bytes. refl; served = refl; back = refl }
+is_chosen (kinds.UnregisterBroker broker epoch) = record { found = λ version bytes. refl; served = refl; back = refl }
+is_chosen (kinds.Topic name id) = record { found = λ version bytes. refl; served = refl; back = refl }
+is_chosen (kinds.Partition index id state) = record { found = λ version bytes. refl; served = refl; back = refl }
+is_chosen (kinds.Config kind name key value) = record { found = λ version bytes. refl; served = refl; back = refl }
+is_chosen (kinds.PartitionChange index id change) = record { found = λ version bytes. refl; served = refl; back = refl }
+is_chosen (kinds.FenceBroker broker epoch) = record { found = λ version bytes. refl; served = refl; back = refl }
+is_chosen (kinds.UnfenceBroker broker epoch) = record { found = λ version bytes. refl; served = refl; back = refl }
+is_chosen (kinds.RemoveTopic id) = record { found = λ version bytes. refl; served = refl; back = refl }
+is_chosen (kinds.FeatureLevel name level) = record { found = λ version bytes. refl; served = refl; back = refl }
+is_chosen (kinds.BrokerRegistrationChange broker epoch fenced stopping) = record { found = λ version bytes. refl; served = refl; back = refl }
+is_chosen kinds.NoOp = record { found = λ version bytes. refl; served = refl; back = refl }
+
+readable : {X : Type 0} (k : Kind X) → is_served k ≡ true → is_whole k.layout ≡ true
+readable k served = (both (is_whole k.layout) (is_newest k.layout k.newest) (both (is_whole k.layout && is_newest k.layout k.newest) (ltb k.key 128 && ltb k.newest 128) served).0).0
+
+parts_law : {X : Type 0} (k : Kind X) → is_served k ≡ true → (version : ℕ) → Law (λ x front. (version ≤ k.newest) × IsInVersion k.layout version x front) (parts_at k version)
+parts_law {X} k served version =
+    let layout = wired_law (law k.layout (readable k served) version) in
+    record {
+      sound = λ bytes fits. sound_guard _ bytes (ltb k.newest version) _ _ (λ le. sound_as (IsInVersion k.layout version) _ bytes _ (layout.sound bytes fits) (λ x front is. (ltb-false _ _ le, is)));
+      complete = λ x front rest is. complete_guard _ _ _ _ (le-ltb _ _ is.0) (layout.complete x front rest is.1);
+    }
+
+module _ (key version : ℕ) (bytes : List ℕ) (fits : IsBytes bytes) where
+  abbrev Reads : Result (Record × List ℕ) RecordFault → Type 0
+  Reads read = Yields (IsLayout key version) bytes read
+
+  -- the kind with the key, or others
+  kind_or : {X : Type 0} (k : Kind X) → is_served k ≡ true → ((x : X) → chosen (k.record_of x) ≡ of_kind k x)
+      → (others : Result (Record × List ℕ) RecordFault) → Reads others → Reads (cond (eqb key k.key) (structure_at k.record_of (parts_at k version) bytes) others)
+  kind_or {X} k served same others more =
+      let P : Bool → Type 0 = λ b. eqb key k.key ≡ b → Reads (cond b (structure_at k.record_of (parts_at k version) bytes) others) in
+      let pick : P (eqb key k.key) = elim (eqb key k.key) as P [
+        | true ↦ λ e. sound_last (parts_law k served version) _ k.record_of bytes fits (λ x front is.
+            let its_key : key ≡ k.key = grind (arith, nat_tests) in
+            subst (λ (of : OfKind). IsOfKind of key version front) (sym (same x)) (its_key, is))
+        | false ↦ λ e. more
+      ] in
+      pick refl
+
+  layout_sound : Reads (layout_at key version bytes)
+  unfolding layout_at
+  layout_sound =
+      kind_or register_broker refl (λ x. refl) _ (kind_or unregister_broker refl (λ x. refl) _ (kind_or topic refl (λ x. refl) _
+      (kind_or partition refl (λ x. refl) _ (kind_or config refl (λ x. refl) _ (kind_or partition_change refl (λ x. refl) _
+      (kind_or fence_broker refl (λ x. refl) _ (kind_or unfence_broker refl (λ x. refl) _ (kind_or remove_topic refl (λ x. refl) _
+      (kind_or feature_level refl (λ x. refl) _ (kind_or broker_registration_change refl (λ x. refl) _ (kind_or no_op refl (λ x. refl) _
+      (λ r rest e. absurd cc))))))))))))
+
+layout_complete : (key version : ℕ) (r : Record) (bytes rest : List ℕ) → IsLayout key version r bytes → layout_at key version (bytes ++ rest) ≡ Ok (r, rest)
+layout_complete key version r bytes rest is =
+    let s = is_chosen r in
+    let k = (chosen r).kind in
+    let front : Record → Result (Record × List ℕ) RecordFault = λ x. Ok (x, rest) in
+    rw (is.0, s.found) (complete_last (parts_law k s.served version) (chosen r).parts k.record_of rest bytes is.1 ∙ ap front s.back)
+
+-- ---- records
+
+pub record_law : Law IsRecord record_at
+unfolding record_at
+record_law = record {
+  sound = λ bytes fits. sound_then (wired_law uvarint_law) IsRecord _ bytes fits (λ frame a rest first more.
+      sound_guard _ rest (not (eqb frame 1)) _ _ (λ is_one.
+      sound_then (wired_law uvarint_law) _ _ rest more (λ key b rest second more.
+      sound_then (wired_law uvarint_law) _ _ rest more (λ version c rest third more.
+      sound_as (IsLayout key version) _ rest _ (layout_sound key version rest more) (λ r d last.
+      let one : frame ≡ 1 = grind (arith, nat_tests) in
+      record {
+        key = key;
+        version = version;
+        spelled = joined a (b ++ (c ++ d)) (subst (λ (n : ℕ). IsUvarint n a) one first) (joined b (c ++ d) second (joined c d third last));
+      })))));
+  complete = λ r bytes rest is.
+      complete_then (wired_law uvarint_law) 1 (IsUvarint is.key ⌢ IsUvarint is.version ⌢ IsLayout is.key is.version r) _ _ rest
+      (complete_then (wired_law uvarint_law) is.key (IsUvarint is.version ⌢ IsLayout is.key is.version r) _ _ rest
+      (complete_then (wired_law uvarint_law) is.version (IsLayout is.key is.version r) _ _ rest
+      (λ tail last. layout_complete is.key is.version r tail rest last))) bytes is.spelled;
+}
+
+-- ---- all of the bytes
+
+pub of_sound : (bytes : List ℕ) (r : Record) → IsBytes bytes → record_of bytes ≡ Ok r → IsRecord r bytes
+unfolding record_of
+of_sound bytes r fits e = all_sound record_law faults.Trailing bytes r fits e
+
+pub of_complete : (bytes : List ℕ) (r : Record) → IsRecord r bytes → record_of bytes ≡ Ok r
+unfolding record_of
+of_complete bytes r is = all_complete record_law faults.Trailing bytes r is
+
+-- bytes stand for one record at most
+pub one_record : (r s : Record) (bytes : List ℕ) → IsRecord r bytes → IsRecord s bytes → r ≡ s
+one_record r s bytes is other = one_value record_law r s bytes is other
+
+-- what a decoder's answer says
+pub found : (bytes : List ℕ) (answer : Result Record RecordFault) → ((i : ℕ) → Fits w8 (get_or bytes i 0)) → Gives answer (record_of bytes) → IfOk answer (λ r. IsRecord r bytes)
+found bytes (Ok r) fits given = of_sound bytes r (λ i. omega (arith, fits i)) given
+found bytes (Err e) fits given = tt
+
+pub only : (bytes : List ℕ) (answer : Result Record RecordFault) → Gives answer (record_of bytes) → (r : Record) → IsRecord r bytes → Gives answer (Ok r)
+only bytes answer given r is = subst (λ (f : Result Record RecordFault). Gives answer f) (of_complete bytes r is) given
+
+pub ruleset decoded = (found, only)
+
+pub ruleset laws = (one_record, of_complete)

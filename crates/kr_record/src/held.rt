@@ -1,0 +1,147 @@
+//! What the types of a value see to: its numbers fit them, and its texts are UTF-8. These functions only look.
+
+ghost use Rattle.std.specs.Prelude.{All, FitsSigned, IfSome, IsUtf8, ◌<◌, ◌^◌};
+ghost use Rattle.std.specs.Int.{w16, w32, w64, w8};
+
+use crate::parts::{Placed, SinceOne};
+use crate::tags::{Field, Tags};
+use kr_defs::{Rows, Text};
+
+pub(crate) trait Held {
+    ghost held: { Self → Type 0 };
+
+    fn look(&self)
+        ensures { held self.now };
+}
+
+impl Held for () {
+    ghost held = { λ u. Unit {0} };
+
+    fn look(&self) {}
+}
+
+impl Held for bool {
+    ghost held = { λ b. Unit {0} };
+
+    fn look(&self) {}
+}
+
+impl Held for i8 {
+    ghost held = { FitsSigned w8 };
+
+    fn look(&self) {
+        let _number = *self;
+    }
+}
+
+impl Held for i16 {
+    ghost held = { FitsSigned w16 };
+
+    fn look(&self) {
+        let _number = *self;
+    }
+}
+
+impl Held for i32 {
+    ghost held = { FitsSigned w32 };
+
+    fn look(&self) {
+        let _number = *self;
+    }
+}
+
+impl Held for i64 {
+    ghost held = { FitsSigned w64 };
+
+    fn look(&self) {
+        let _number = *self;
+    }
+}
+
+impl Held for u128 {
+    ghost held = { λ n. n < 2 ^ 128 };
+
+    fn look(&self) {
+        let _number = *self;
+    }
+}
+
+impl Held for Text {
+    ghost held = { IsUtf8 };
+
+    fn look(&self) {
+        let _bytes = self.as_bytes();
+    }
+}
+
+impl<T: Held> Held for Option<T> {
+    ghost held = { λ o. IfSome o T.held };
+
+    fn look(&self) {
+        if let Some(value) = self {
+            value.look();
+        }
+    }
+}
+
+impl<T: Held> Held for Rows<T> {
+    ghost held = { λ xs. All T.held xs };
+
+    fn look(&self) {
+        let rows = self.as_slice();
+        for row in rows {
+            row.look();
+        }
+    }
+}
+
+impl<'a, T: Held> Held for &'a T {
+    ghost held = { λ r. T.held r.now };
+
+    fn look(&self) {
+        T::look(*self);
+    }
+}
+
+impl<A: Held, B: Held> Held for (A, B) {
+    ghost held = { λ p. A.held p.0 × B.held p.1 };
+
+    fn look(&self) {
+        self.0.look();
+        self.1.look();
+    }
+}
+
+impl<F: Held, B: Held> Held for SinceOne<F, B> {
+    ghost held = { λ s. F.held s.0 × B.held s.1 };
+
+    fn look(&self) {
+        self.flag.look();
+        self.behind.look();
+    }
+}
+
+impl<H: Held, B: Held> Held for Placed<H, B> {
+    ghost held = { λ p. H.held p.0 × B.held p.1 };
+
+    fn look(&self) {
+        self.head.look();
+        self.behind.look();
+    }
+}
+
+impl<F: Held> Held for Tags<F> {
+    ghost held = { F.held };
+
+    fn look(&self) {
+        self.fields.look();
+    }
+}
+
+impl<const TAG: u32, const FIRST: u32, P: Held> Held for Field<TAG, FIRST, P> {
+    ghost held = { P.held };
+
+    fn look(&self) {
+        self.part.look();
+    }
+}

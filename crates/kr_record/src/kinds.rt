@@ -1,0 +1,167 @@
+//! The kinds of records.
+
+ghost use Rattle.std.specs.Prelude.{◌≡◌, ◌++◌, OnOk};
+ghost use Rattle.kr_wire.specs.Reading.{refuse◌when◌else◌};
+ghost use Rattle.std.specs.Prelude.{nat_lt};
+ghost use Rattle.kr_record.specs.declared.fault.RecordFault.TheVariants as faults;
+ghost use Rattle.kr_record.specs.Answers.{GivesFront};
+ghost use Rattle.kr_record.specs.Layout.{version_at};
+ghost use Rattle.kr_record.specs.Reading.{layout_at, wired};
+ghost use Rattle.kr_record.specs.RecordRanges.{IsHeld};
+ghost use Rattle.kr_record.specs.Spelling.{framed, record_value};
+
+use crate::fault::RecordFault;
+use crate::held::Held;
+use crate::mine::Mine;
+use crate::parts::{Parts, Placed, SinceOne};
+use crate::pieces::Pieces;
+use crate::tags::{Field, Tags};
+use kr_base::NoMemory;
+use kr_defs::{Broker, Partition, PartitionChange, Record};
+use kr_layout::Reader;
+use kr_wire::put_uvarint;
+
+// Hands to another macro of each kind its key, the newest version, which is the one that is written, a record of it, and
+// what stands in the record, in the order of its layout. Each side is a pattern as well as a value.
+macro_rules! each_kind {
+    ($with:ident($($value:ident),*)) => {
+        $with! {
+            ($($value),*)
+            0, 1: { Record::RegisterBroker { broker, state: Broker { epoch, incarnation, endpoints, features, rack, fenced, stopping } } }
+                = { (broker, (incarnation, (epoch, (endpoints, (features, (rack, (fenced, SinceOne { flag: stopping, behind: () }))))))) };
+            1, 0: { Record::UnregisterBroker { broker, epoch } } = { (broker, (epoch, ())) };
+            2, 0: { Record::Topic { name, id } } = { (name, (id, ())) };
+            3, 2: {
+                Record::Partition {
+                    index,
+                    topic,
+                    state: Partition { replicas, in_sync, eligible, last_known, adding, removing, leader, recovery, leader_epoch, partition_epoch },
+                }
+            } = {
+                Placed {
+                    head: (index, (topic, (replicas, (in_sync, (removing, (adding, (leader, (leader_epoch, partition_epoch)))))))),
+                    behind: Tags { fields: tags!(0 since 0 recovery, 1 since 2 eligible, 2 since 2 last_known) },
+                }
+            };
+            4, 0: { Record::Config { kind, name, key, value } } = { (kind, (name, (key, (value, ())))) };
+            5, 2: {
+                Record::PartitionChange {
+                    index,
+                    topic,
+                    change: PartitionChange { in_sync, replicas, removing, adding, eligible, last_known, leader, recovery },
+                }
+            } = {
+                (index, (topic, Tags {
+                    fields: tags!(
+                        0 since 0 in_sync, 1 since 0 leader, 2 since 0 replicas, 3 since 0 removing, 4 since 0 adding,
+                        5 since 0 recovery, 6 since 2 eligible, 7 since 2 last_known, 8 since 1 ()
+                    ),
+                }))
+            };
+            7, 0: { Record::FenceBroker { broker, epoch } } = { (broker, (epoch, ())) };
+            8, 0: { Record::UnfenceBroker { broker, epoch } } = { (broker, (epoch, ())) };
+            9, 0: { Record::RemoveTopic { topic } } = { (topic, ()) };
+            12, 0: { Record::FeatureLevel { name, level } } = { (name, (level, ())) };
+            17, 1: { Record::BrokerRegistrationChange { broker, epoch, fenced, stopping } }
+                = { (broker, (epoch, Tags { fields: tags!(0 since 0 fenced, 1 since 1 stopping) })) };
+            20, 0: { Record::NoOp } = { () };
+        }
+    };
+}
+
+// Tagged fields: of each its tag, the first version that has it, and its part.
+macro_rules! tags {
+    () => { () };
+    ($tag:literal since $first:literal $part:tt $(, $($more:tt)*)?) => {
+        (Field::<$tag, $first, _> { part: $part }, tags!($($($more)*)?))
+    };
+}
+
+macro_rules! reading {
+    (($from:ident, $key:ident, $version:ident) $($number:literal, $newest:literal: {$($record:tt)*} = {$($parts:tt)*};)*) => {
+        match $key {
+            $($number => {
+                let $($parts)* = read_version($from, $key, $version, $newest)?;
+                Ok($($record)*)
+            })*
+            _ => Err(RecordFault::UnknownKey { key: $key }),
+        }
+    };
+}
+
+macro_rules! writing {
+    (($value:ident, $out:ident) $($number:literal, $newest:literal: {$($record:tt)*} = {$($parts:tt)*};)*) => {
+        match $value {
+            $($($record)* => put_kind($out, $number, $newest, &$($parts)*),)*
+        }
+    };
+}
+
+macro_rules! looking {
+    (($value:ident) $($number:literal, $newest:literal: {$($record:tt)*} = {$($parts:tt)*};)*) => {
+        match $value {
+            $($($record)* => Held::look(&$($parts)*),)*
+        }
+    };
+}
+
+/// The record of the kind with the key.
+#[tactic(auto, unfolding(crate::specs::Reading::layout_at))]
+pub(crate) fn read_kind(
+    from: &mut Reader<'_, Mine>,
+    key: u32,
+    version: u32,
+) -> Result<Record, RecordFault>
+    ensures { GivesFront result from.new (layout_at key version from.old) }
+{
+    each_kind!(reading(from, key, version))
+}
+
+// What stands in a record of a kind, in a version that it has.
+fn read_version<P: Parts>(
+    from: &mut Reader<'_, Mine>,
+    key: u32,
+    version: u32,
+    newest: u32,
+) -> Result<P, RecordFault>
+    ensures { GivesFront result from.new (refuse faults.UnknownVersion key version when nat_lt newest version else wired (version_at P.layout version from.old)) }
+{
+    if version > newest {
+        return Err(RecordFault::UnknownVersion { key, version });
+    }
+    Ok(P::read(from, version)?)
+}
+
+/// Appends the record's written form. Without memory some front of it may be appended.
+#[tactic(auto, unfolding(crate::specs::Spelling::record_value))]
+pub(crate) fn put_record(out: &mut Vec<u8>, value: &Record) -> Result<(), NoMemory>
+    ensures { OnOk result (out.new.items ≡ out.old.items ++ record_value value.now) }
+{
+    each_kind!(writing(value, out))
+}
+
+// The frame of a record, and what stands in it.
+fn put_kind<P: Pieces>(out: &mut Vec<u8>, key: u32, version: u32, parts: &P) -> Result<(), NoMemory>
+    ensures { OnOk result (out.new.items ≡ out.old.items ++ framed key version ++ P.bytes parts.now) }
+{
+    put_frame(out, key, version)?;
+    parts.put_pieces(out)
+}
+
+// The frame version, the key and the version of a record.
+#[tactic(auto, unfolding(crate::specs::Spelling::framed))]
+fn put_frame(out: &mut Vec<u8>, key: u32, version: u32) -> Result<(), NoMemory>
+    ensures { OnOk result (out.new.items ≡ out.old.items ++ framed key version) }
+{
+    put_uvarint(out, 1)?;
+    put_uvarint(out, key)?;
+    put_uvarint(out, version)?;
+    Ok(())
+}
+
+/// Each record that is held can stand in bytes.
+pub fn record_is_held(value: &Record)
+    ensures { IsHeld value.now }
+{
+    each_kind!(looking(value))
+}
