@@ -14,9 +14,8 @@ use Rattle.kr_wire.proofs.Tables.{both}
 use Rattle.kr_record.specs.declared.fault.RecordFault.{RecordFault}
 use Rattle.kr_record.specs.declared.fault.RecordFault.TheVariants as faults
 use Rattle.kr_record.specs.Answers.{Gives}
-use Rattle.kr_record.specs.Kind.{Kind}
 use Rattle.kr_record.specs.Records.{OfKind, of_kind, chosen, register_broker, unregister_broker, topic, partition, config, partition_change, fence_broker, unfence_broker, remove_topic, feature_level, broker_registration_change, no_op}
-use Rattle.kr_record.specs.Layout.{IsInVersion, is_whole}
+use Rattle.kr_record.specs.Layout.{Kind, IsInVersion, is_whole}
 use Rattle.kr_record.specs.Reading.{wired, layout_at, parts_at, record_at, record_of}
 use Rattle.kr_record.specs.Grammar.{IsOfKind, IsLayout, IsRecord}
 use Rattle.kr_record.proofs.LayoutLaws.{law}

@@ -1,10 +1,7 @@
 -- BrokerRegistrationChange, key 17, versions 0 and 1 (KIP-631, KIP-841).
 use Rattle.std.specs.Prelude.{ℤ, pos}
 use Rattle.kr_defs.specs.declared.record.Record.TheVariants as kinds
-use Rattle.kr_wire.specs.Schema.{Int32, Int64}
-use Rattle.kr_wire.specs.Tables.{Table, NoField, Field, Int8Unless}
-use Rattle.kr_record.specs.Layout.{Of, ◌▹◌, Tagged}
-use Rattle.kr_record.specs.Kind.{Kind}
+use Rattle.kr_record.specs.Layout.{Int32, Int64, Table, NoField, Field, Int8Unless, Of, ◌▹◌, Tagged, Kind}
 
 -- whether it is fenced, and since version 1 whether it is stopping: 1 for yes, -1 for no, 0 for no change
 abbrev pub flag_table : Table (ℤ × (ℤ × Unit {0}))

@@ -1,9 +1,7 @@
 -- FeatureLevel and NoOp, keys 12 and 20, version 0 (KIP-584, KIP-835).
 use Rattle.std.specs.Prelude.{ℕ, ℤ, List}
 use Rattle.kr_defs.specs.declared.record.Record.TheVariants as kinds
-use Rattle.kr_wire.specs.Schema.{Int16, Text, End, ◌▸◌}
-use Rattle.kr_record.specs.Layout.{Of}
-use Rattle.kr_record.specs.Kind.{Kind}
+use Rattle.kr_record.specs.Layout.{Int16, Text, End, ◌▸◌, Of, Kind}
 
 -- the feature's name and level
 abbrev pub feature_level : Kind (List ℕ × (ℤ × Unit {0}))

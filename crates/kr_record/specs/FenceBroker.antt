@@ -1,9 +1,7 @@
 -- UnregisterBroker, FenceBroker and UnfenceBroker, keys 1, 7 and 8, version 0 (KIP-631): a broker and its epoch.
 use Rattle.std.specs.Prelude.{ℤ}
 use Rattle.kr_defs.specs.declared.record.Record.TheVariants as kinds
-use Rattle.kr_wire.specs.Schema.{Schema, Int32, Int64, End, ◌▸◌}
-use Rattle.kr_record.specs.Layout.{Of}
-use Rattle.kr_record.specs.Kind.{Kind}
+use Rattle.kr_record.specs.Layout.{Schema, Int32, Int64, End, ◌▸◌, Of, Kind}
 
 abbrev pub BrokerEpoch : Type 0
 BrokerEpoch = ℤ × (ℤ × Unit {0})

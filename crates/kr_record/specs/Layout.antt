@@ -1,11 +1,13 @@
 -- Layouts that differ by version, on top of those that don't: parts that are there since a version, and tagged fields (KIP-482).
 -- From one description follow the bytes that stand for a value and how it is read.
 use Rattle.std.specs.Prelude.{◌≡◌, ℕ, ℤ, Bool, true, false, ◌&&◌, cond, List, [], Ok}
+use Rattle.kr_defs.specs.declared.record.Record.{Record}
 use Rattle.kr_wire.specs.Grammar.{◌⌢◌, IsTags, includes}
 use Rattle.kr_wire.specs.Reading.{Read, ◌followed_by◌, structure_at, tags_at}
 use Rattle.kr_wire.specs.Schema as plain
-use Rattle.kr_wire.specs.Schema.{Schema, Array, Dropped, Uuid}
-use Rattle.kr_wire.specs.Tables.{Table, Are, absents, known, are_rising}
+pub use Rattle.kr_wire.specs.Schema.{Schema, Int8, Int16, Int32, Int64, Uint16, Boolean, Uuid, Text, TextOrNull, End, Array, ◌▸◌, Dropped, Structure}
+pub use Rattle.kr_wire.specs.Tables.{Table, NoField, Field, Int8Unless, Int8OrNone, Int32OrNone, Int32sOrNull, Int32sOrEmpty, UuidsDropped}
+use Rattle.kr_wire.specs.Tables.{Are, absents, known, are_rising}
 
 infixr 6 ◌▹◌
 pub data RecordLayout : Type 0 → Type 1 where
@@ -19,6 +21,14 @@ pub data RecordLayout : Type 0 → Type 1 where
   Directories : {X : Type 0} → RecordLayout X → ℕ → (X → List ℤ) → RecordLayout X
   -- tagged fields, as each structure ends that has some
   Tagged : {Z : Type 0} → Table Z → RecordLayout Z
+
+-- A kind of record: its key, the newest version that is served, which is the one that is written, its layout, and the
+-- record of what stands in it.
+pub record Kind (X : Type 0) : Type 1 where
+  pub key : ℕ
+  pub newest : ℕ
+  pub layout : RecordLayout X
+  pub record_of : X → Record
 
 abbrev pub IsSince : {X : Type 0} → Bool → (X → List ℕ → Type 0) → X → X → List ℕ → Type 0
 IsSince true One absent x bytes = One x bytes

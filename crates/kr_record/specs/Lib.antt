@@ -5,7 +5,6 @@ pub mod Encodable
 pub mod FeatureLevel
 pub mod FenceBroker
 pub mod Grammar
-pub mod Kind
 pub mod Layout
 pub mod Partition
 pub mod PartitionChange

@@ -2,10 +2,7 @@
 use Rattle.std.specs.Prelude.{ℕ, ℤ, pos, List}
 use Rattle.kr_defs.specs.declared.partition.Partition.{Partition}
 use Rattle.kr_defs.specs.declared.record.Record.TheVariants as kinds
-use Rattle.kr_wire.specs.Schema.{Int32, Uuid, Array, ◌▸◌}
-use Rattle.kr_wire.specs.Tables.{Table, NoField, Field, Int8Unless, Int32sOrEmpty}
-use Rattle.kr_record.specs.Layout.{Of, ◌▹◌, Directories, Tagged}
-use Rattle.kr_record.specs.Kind.{Kind}
+use Rattle.kr_record.specs.Layout.{Int32, Uuid, Array, ◌▸◌, Table, NoField, Field, Int8Unless, Int32sOrEmpty, Of, ◌▹◌, Directories, Tagged, Kind}
 
 abbrev pub Head : Type 0
 Head = ℤ × (ℕ × (List ℤ × (List ℤ × (List ℤ × (List ℤ × (ℤ × (ℤ × ℤ)))))))

@@ -2,10 +2,7 @@
 use Rattle.std.specs.Prelude.{ℕ, ℤ, negsuc, List, Option}
 use Rattle.kr_defs.specs.declared.partition.PartitionChange.{PartitionChange}
 use Rattle.kr_defs.specs.declared.record.Record.TheVariants as kinds
-use Rattle.kr_wire.specs.Schema.{Int32, Uuid}
-use Rattle.kr_wire.specs.Tables.{Table, NoField, Field, Int8OrNone, Int32OrNone, Int32sOrNull, UuidsDropped}
-use Rattle.kr_record.specs.Layout.{Of, ◌▹◌, Tagged}
-use Rattle.kr_record.specs.Kind.{Kind}
+use Rattle.kr_record.specs.Layout.{Int32, Uuid, Table, NoField, Field, Int8OrNone, Int32OrNone, Int32sOrNull, UuidsDropped, Of, ◌▹◌, Tagged, Kind}
 
 abbrev pub ChangedIds : Type 0
 ChangedIds = Option (List ℤ)

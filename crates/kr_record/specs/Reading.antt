@@ -5,8 +5,7 @@ use Rattle.kr_wire.specs.declared.WireFault.{WireFault}
 use Rattle.kr_wire.specs.Reading.{◌>>=◌, refuse◌when◌else◌, structure_at, uvarint_at}
 use Rattle.kr_record.specs.declared.fault.RecordFault.{RecordFault}
 use Rattle.kr_record.specs.declared.fault.RecordFault.TheVariants as faults
-use Rattle.kr_record.specs.Kind.{Kind}
-use Rattle.kr_record.specs.Layout.{version_at}
+use Rattle.kr_record.specs.Layout.{Kind, version_at}
 use Rattle.kr_record.specs.Records.{by_key}
 
 abbrev pub wired : {X : Type 0} → Result X WireFault → Result X RecordFault

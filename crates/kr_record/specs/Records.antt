@@ -2,7 +2,7 @@
 use Rattle.std.specs.Prelude.{ℕ, List, ◌==◌, if◌then◌else◌}
 use Rattle.kr_defs.specs.declared.record.Record.{Record}
 use Rattle.kr_defs.specs.declared.record.Record.TheVariants as kinds
-use Rattle.kr_record.specs.Kind.{Kind}
+use Rattle.kr_record.specs.Layout.{Kind}
 pub use Rattle.kr_record.specs.RegisterBroker.{register_broker, registration_parts}
 pub use Rattle.kr_record.specs.FenceBroker.{unregister_broker, fence_broker, unfence_broker}
 pub use Rattle.kr_record.specs.BrokerRegistrationChange.{broker_registration_change}

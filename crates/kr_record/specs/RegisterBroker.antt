@@ -4,9 +4,7 @@ use Rattle.kr_defs.specs.declared.broker.Broker.{Broker}
 use Rattle.kr_defs.specs.declared.broker.Endpoint.{Endpoint}
 use Rattle.kr_defs.specs.declared.broker.Range.{Range}
 use Rattle.kr_defs.specs.declared.record.Record.TheVariants as kinds
-use Rattle.kr_wire.specs.Schema.{Schema, Int16, Int32, Int64, Uint16, Boolean, Uuid, Text, TextOrNull, End, Array, ◌▸◌, Structure}
-use Rattle.kr_record.specs.Layout.{Of, Since, ◌▹◌}
-use Rattle.kr_record.specs.Kind.{Kind}
+use Rattle.kr_record.specs.Layout.{Schema, Int16, Int32, Int64, Uint16, Boolean, Uuid, Text, TextOrNull, End, Array, ◌▸◌, Structure, Of, Since, ◌▹◌, Kind}
 
 abbrev pub endpoint_layout : Schema Endpoint
 endpoint_layout = Structure (Text ▸ Text ▸ Uint16 ▸ Int16 ▸ End)

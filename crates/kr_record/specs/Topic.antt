@@ -1,9 +1,7 @@
 -- Topic and RemoveTopic, keys 2 and 9, version 0 (KIP-516).
 use Rattle.std.specs.Prelude.{ℕ, List}
 use Rattle.kr_defs.specs.declared.record.Record.TheVariants as kinds
-use Rattle.kr_wire.specs.Schema.{Uuid, Text, End, ◌▸◌}
-use Rattle.kr_record.specs.Layout.{Of}
-use Rattle.kr_record.specs.Kind.{Kind}
+use Rattle.kr_record.specs.Layout.{Uuid, Text, End, ◌▸◌, Of, Kind}
 
 -- the topic's name and id
 abbrev pub topic : Kind (List ℕ × (ℕ × Unit {0}))

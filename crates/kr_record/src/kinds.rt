@@ -72,7 +72,7 @@ macro_rules! each_kind {
 // Tagged fields: of each its tag, the first version that has it, and its part.
 macro_rules! tags {
     () => { () };
-    ($tag:literal since $first:literal $part:tt $(, $($more:tt)*)?) => {
+    ($tag:tt since $first:tt $part:tt $(, $($more:tt)*)?) => {
         (Field::<$tag, $first, _> { part: $part }, tags!($($($more)*)?))
     };
 }
@@ -100,7 +100,7 @@ macro_rules! writing {
 macro_rules! looking {
     (($value:ident) $($number:literal, $newest:literal: {$($record:tt)*} = {$($parts:tt)*};)*) => {
         match $value {
-            $($($record)* => Held::look(&$($parts)*),)*
+            $($($record)* => $($parts)*.look(),)*
         }
     };
 }

@@ -18,8 +18,7 @@ use Rattle.kr_wire.proofs.TaggedForms.{field, no_more, tags}
 use Rattle.kr_record.specs.Encodable.{AreShort, HasShort, IsEncodable}
 use Rattle.kr_record.specs.RecordRanges.{AreHeld, HasHeld, IsHeld}
 use Rattle.kr_wire.specs.Tables.{Are}
-use Rattle.kr_record.specs.Layout.{IsInVersion}
-use Rattle.kr_record.specs.Kind.{Kind}
+use Rattle.kr_record.specs.Layout.{Kind, IsInVersion}
 use Rattle.kr_record.specs.Grammar.{IsLayout, IsRecord}
 use Rattle.kr_record.specs.RegisterBroker.{endpoint_layout, range_layout, register_broker, registration_parts}
 use Rattle.kr_record.specs.FenceBroker.{BrokerEpoch, broker_epoch as broker_epoch_layout}
