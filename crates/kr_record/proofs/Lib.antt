@@ -1,7 +1,7 @@
+pub mod Appends
 pub mod FieldLoop
 pub mod LayoutLaws
 pub mod LayoutSpelling
-pub mod Pieces
 pub mod PartSpelling
 pub mod RecordForms
 pub mod RecordLaws

@@ -17,7 +17,7 @@ use Rattle.kr_record.specs.Encodable.{FitsField, IsShortPart}
 use Rattle.kr_record.specs.RecordRanges.{AreInts, IsHeldPart}
 use Rattle.kr_wire.specs.Tables.{ids, unless_empty, written_data, Part, Int8Unless, Int8OrNone, Int32OrNone, Int32sOrNull, Int32sOrEmpty, UuidsDropped, unless_default, IsUnless, IsIdsOrEmpty, IsTaggedPart, absent}
 use Rattle.kr_record.specs.Spelling.{data_bytes}
-use Rattle.kr_record.proofs.Pieces.{length_ids}
+use Rattle.kr_record.proofs.Appends.{length_ids}
 
 -- ---- a number that is left out at its default
 

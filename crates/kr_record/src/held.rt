@@ -4,7 +4,7 @@ ghost use Rattle.std.specs.Prelude.{All, FitsSigned, IfSome, IsUtf8, ◌<◌, �
 ghost use Rattle.std.specs.Int.{w16, w32, w64, w8};
 
 use crate::parts::{Placed, SinceOne};
-use crate::tags::{Field, Tags};
+use crate::tags::Field;
 use kr_defs::{Rows, Text};
 
 pub(crate) trait Held {
@@ -112,29 +112,19 @@ impl<A: Held, B: Held> Held for (A, B) {
     }
 }
 
-impl<F: Held, B: Held> Held for SinceOne<F, B> {
-    ghost held = { λ s. F.held s.0 × B.held s.1 };
-
-    fn look(&self) {
-        self.flag.look();
-        self.behind.look();
-    }
-}
-
-impl<H: Held, B: Held> Held for Placed<H, B> {
-    ghost held = { λ p. H.held p.0 × B.held p.1 };
-
-    fn look(&self) {
-        self.head.look();
-        self.behind.look();
-    }
-}
-
-impl<F: Held> Held for Tags<F> {
+impl<F: Held> Held for SinceOne<F> {
     ghost held = { F.held };
 
     fn look(&self) {
-        self.fields.look();
+        self.flag.look();
+    }
+}
+
+impl<H: Held> Held for Placed<H> {
+    ghost held = { H.held };
+
+    fn look(&self) {
+        self.head.look();
     }
 }
 

@@ -15,7 +15,7 @@ use crate::held::Held;
 use crate::mine::Mine;
 use crate::parts::{Parts, Placed, SinceOne};
 use crate::pieces::Pieces;
-use crate::tags::{Field, Tags};
+use crate::tags::Field;
 use kr_base::NoMemory;
 use kr_defs::{Broker, Partition, PartitionChange, Record};
 use kr_layout::Reader;
@@ -28,7 +28,7 @@ macro_rules! each_kind {
         $with! {
             ($($value),*)
             0, 1: { Record::RegisterBroker { broker, state: Broker { epoch, incarnation, endpoints, features, rack, fenced, stopping } } }
-                = { (broker, (incarnation, (epoch, (endpoints, (features, (rack, (fenced, SinceOne { flag: stopping, behind: () }))))))) };
+                = { (broker, (incarnation, (epoch, (endpoints, (features, (rack, (fenced, (SinceOne { flag: stopping }, ())))))))) };
             1, 0: { Record::UnregisterBroker { broker, epoch } } = { (broker, (epoch, ())) };
             2, 0: { Record::Topic { name, id } } = { (name, (id, ())) };
             3, 2: {
@@ -38,10 +38,10 @@ macro_rules! each_kind {
                     state: Partition { replicas, in_sync, eligible, last_known, adding, removing, leader, recovery, leader_epoch, partition_epoch },
                 }
             } = {
-                Placed {
-                    head: (index, (topic, (replicas, (in_sync, (removing, (adding, (leader, (leader_epoch, partition_epoch)))))))),
-                    behind: Tags { fields: tags!(0 since 0 recovery, 1 since 2 eligible, 2 since 2 last_known) },
-                }
+                (
+                    Placed { head: (index, (topic, (replicas, (in_sync, (removing, (adding, (leader, (leader_epoch, partition_epoch)))))))) },
+                    tags!(0 since 0 recovery, 1 since 2 eligible, 2 since 2 last_known),
+                )
             };
             4, 0: { Record::Config { kind, name, key, value } } = { (kind, (name, (key, (value, ())))) };
             5, 2: {
@@ -51,19 +51,17 @@ macro_rules! each_kind {
                     change: PartitionChange { in_sync, replicas, removing, adding, eligible, last_known, leader, recovery },
                 }
             } = {
-                (index, (topic, Tags {
-                    fields: tags!(
-                        0 since 0 in_sync, 1 since 0 leader, 2 since 0 replicas, 3 since 0 removing, 4 since 0 adding,
-                        5 since 0 recovery, 6 since 2 eligible, 7 since 2 last_known, 8 since 1 ()
-                    ),
-                }))
+                (index, (topic, tags!(
+                    0 since 0 in_sync, 1 since 0 leader, 2 since 0 replicas, 3 since 0 removing, 4 since 0 adding,
+                    5 since 0 recovery, 6 since 2 eligible, 7 since 2 last_known, 8 since 1 ()
+                )))
             };
             7, 0: { Record::FenceBroker { broker, epoch } } = { (broker, (epoch, ())) };
             8, 0: { Record::UnfenceBroker { broker, epoch } } = { (broker, (epoch, ())) };
             9, 0: { Record::RemoveTopic { topic } } = { (topic, ()) };
             12, 0: { Record::FeatureLevel { name, level } } = { (name, (level, ())) };
             17, 1: { Record::BrokerRegistrationChange { broker, epoch, fenced, stopping } }
-                = { (broker, (epoch, Tags { fields: tags!(0 since 0 fenced, 1 since 1 stopping) })) };
+                = { (broker, (epoch, tags!(0 since 0 fenced, 1 since 1 stopping))) };
             20, 0: { Record::NoOp } = { () };
         }
     };

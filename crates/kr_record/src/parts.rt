@@ -1,13 +1,15 @@
 //! Values that are read one after the other, as nested pairs.
 
 ghost use Rattle.std.specs.Prelude.{false, []};
-ghost use Rattle.kr_wire.specs.Schema.{Array, Boolean, Dropped, End, Int32, Uuid};
+ghost use Rattle.kr_wire.specs.Schema.{Array, Boolean, Dropped, End, Uuid};
+ghost use Rattle.kr_wire.specs.Tables as tables;
 ghost use Rattle.kr_layout.specs.Answers.{Takes};
 ghost use Rattle.kr_record.specs.Layout as layouts;
 ghost use Rattle.kr_record.specs.Layout.{Directories, Of, RecordLayout, Tagged, version_at, ◌▹◌};
 
 use crate::mine::Mine;
-use crate::tags::{Fields, Tags, read_tags};
+use crate::tagged::TaggedPart;
+use crate::tags::{Field, Fields, read_tags};
 use kr_defs::Rows;
 use kr_layout::{Get, ReadFault, Reader};
 use std::marker::Model;
@@ -29,68 +31,64 @@ impl Parts for () {
     }
 }
 
-impl Parts for i32 {
-    ghost layout = { Of Int32 };
+impl<T: Get<Mine>> Parts for T {
+    ghost layout = { Of T.schema };
 
-    fn read(from: &mut Reader<'_, Mine>, version: u32) -> Result<i32, ReadFault> {
+    fn read(from: &mut Reader<'_, Mine>, version: u32) -> Result<T, ReadFault> {
         from.get()
     }
 }
 
-impl<A: Get<Mine>, B: Parts> Parts for (A, B) {
-    ghost layout = { Of A.schema ▹ B.layout };
+impl<A: Parts, B: Parts> Parts for (A, B) {
+    ghost layout = { A.layout ▹ B.layout };
 
     fn read(from: &mut Reader<'_, Mine>, version: u32) -> Result<(A, B), ReadFault> {
-        let first = from.get()?;
+        let first = A::read(from, version)?;
         let others = B::read(from, version)?;
         Ok((first, others))
     }
 }
 
-/// A flag that is there since version 1, and false in version 0, and the parts behind it.
+/// A flag that is there since version 1, and false in version 0.
 #[derive(Drop)]
-pub(crate) struct SinceOne<F, B> {
+pub(crate) struct SinceOne<F> {
     pub flag: F,
-    pub behind: B,
 }
 
-impl<F, B> Model for SinceOne<F, B> {
-    ghost Value = { F × B };
+impl<F> Model for SinceOne<F> {
+    ghost Value = { F };
 
-    ghost view = { λ s. (s.flag, s.behind) };
+    ghost view = { λ s. s.flag };
 }
 
-impl<B: Parts> Parts for SinceOne<bool, B> {
-    ghost layout = { layouts.Since 1 false Boolean ▹ B.layout };
+impl Parts for SinceOne<bool> {
+    ghost layout = { layouts.Since 1 false Boolean };
 
-    fn read(from: &mut Reader<'_, Mine>, version: u32) -> Result<SinceOne<bool, B>, ReadFault> {
+    fn read(from: &mut Reader<'_, Mine>, version: u32) -> Result<SinceOne<bool>, ReadFault> {
         let flag = if version >= 1 { from.get()? } else { false };
-        let behind = B::read(from, version)?;
-        Ok(SinceOne { flag, behind })
+        Ok(SinceOne { flag })
     }
 }
 
-/// Parts with replicas among them and, since version 1, a directory for each of these; and the parts behind them.
+/// Parts with replicas among them and, since version 1, a directory for each of these.
 #[derive(Drop)]
-pub(crate) struct Placed<H, B> {
+pub(crate) struct Placed<H> {
     pub head: H,
-    pub behind: B,
 }
 
-impl<H, B> Model for Placed<H, B> {
-    ghost Value = { H × B };
+impl<H> Model for Placed<H> {
+    ghost Value = { H };
 
-    ghost view = { λ p. (p.head, p.behind) };
+    ghost view = { λ p. p.head };
 }
 
-impl<H: Parts, B: Parts> Parts for Placed<H, B> {
-    ghost layout = { Directories H.layout 1 (λ head. []) ▹ B.layout };
+impl<H: Parts> Parts for Placed<H> {
+    ghost layout = { Directories H.layout 1 (λ head. []) };
 
-    fn read(from: &mut Reader<'_, Mine>, version: u32) -> Result<Placed<H, B>, ReadFault> {
+    fn read(from: &mut Reader<'_, Mine>, version: u32) -> Result<Placed<H>, ReadFault> {
         let head = H::read(from, version)?;
         skip_directories(from, version)?;
-        let behind = B::read(from, version)?;
-        Ok(Placed { head, behind })
+        Ok(Placed { head })
     }
 }
 
@@ -104,10 +102,15 @@ fn skip_directories(from: &mut Reader<'_, Mine>, version: u32) -> Result<(), Rea
     Ok(())
 }
 
-impl<F: Fields> Parts for Tags<F> {
-    ghost layout = { Tagged F.table };
+impl<const TAG: u32, const FIRST: u32, P: TaggedPart, F: Fields> Parts
+    for (Field<TAG, FIRST, P>, F)
+{
+    ghost layout = { Tagged (tables.Field TAG FIRST P.part F.table) };
 
-    fn read(from: &mut Reader<'_, Mine>, version: u32) -> Result<Tags<F>, ReadFault> {
+    fn read(
+        from: &mut Reader<'_, Mine>,
+        version: u32,
+    ) -> Result<(Field<TAG, FIRST, P>, F), ReadFault> {
         read_tags(from, version)
     }
 }

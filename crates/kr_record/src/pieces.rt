@@ -1,15 +1,17 @@
 //! Values that are written one after the other, as nested pairs of what holds them.
 
 ghost use Rattle.std.specs.Prelude.{◌≡◌, ℕ, List, ◌++◌, OnOk};
-ghost use Rattle.kr_wire.specs.Schema.{Boolean, End, Int32, written};
-ghost use Rattle.kr_wire.specs.Spelling.{id, list, tags};
+ghost use Rattle.kr_wire.specs.Schema.{End, written};
+ghost use Rattle.kr_wire.specs.Spelling.{id, list, tagged, tags};
 ghost use Rattle.kr_wire.specs.Tables as tables;
+ghost use Rattle.kr_wire.specs.Tables.{written_data};
 ghost use Rattle.kr_record.specs.Spelling.{no_directories};
 
 use crate::fields::{FieldPieces, put_tags};
 use crate::mine::{Mine, put};
 use crate::parts::{Placed, SinceOne};
-use crate::tags::Tags;
+use crate::tagged::TaggedPart;
+use crate::tags::Field;
 use kr_base::NoMemory;
 use kr_defs::Ids;
 use kr_layout::{Put, put_end};
@@ -32,40 +34,37 @@ impl Pieces for () {
     }
 }
 
-impl<'a> Pieces for &'a i32 {
-    ghost bytes = { λ number. written Int32 number.now };
+impl<'a, T: Put<Mine>> Pieces for &'a T {
+    ghost bytes = { λ value. written T.schema value.now };
 
     fn put_pieces(&self, out: &mut Vec<u8>) -> Result<(), NoMemory> {
         put(out, *self)
     }
 }
 
-impl<'a, A: Put<Mine>, B: Pieces> Pieces for (&'a A, B) {
-    ghost bytes = { λ p. written A.schema p.0.now ++ B.bytes p.1 };
+impl<A: Pieces, B: Pieces> Pieces for (A, B) {
+    ghost bytes = { λ p. A.bytes p.0 ++ B.bytes p.1 };
 
     fn put_pieces(&self, out: &mut Vec<u8>) -> Result<(), NoMemory> {
-        put(out, self.0)?;
+        self.0.put_pieces(out)?;
         self.1.put_pieces(out)
     }
 }
 
-impl<'a, B: Pieces> Pieces for SinceOne<&'a bool, B> {
-    ghost bytes = { λ s. written Boolean s.0.now ++ B.bytes s.1 };
+impl<F: Pieces> Pieces for SinceOne<F> {
+    ghost bytes = { F.bytes };
 
     fn put_pieces(&self, out: &mut Vec<u8>) -> Result<(), NoMemory> {
-        put(out, self.flag)?;
-        self.behind.put_pieces(out)
+        self.flag.put_pieces(out)
     }
 }
 
-impl<'a, I: Put<Mine>, T: Put<Mine>, M: Pieces, B: Pieces> Pieces
-    for Placed<(&'a I, (&'a T, (&'a Ids, M))), B> {
-    ghost bytes = { λ p. ((written I.schema p.0.0.now ++ written T.schema p.0.1.0.now ++ tables.ids p.0.1.1.0.now ++ M.bytes p.0.1.1.1) ++ list id (no_directories p.0.1.1.0.now)) ++ B.bytes p.1 };
+impl<'a, I: Pieces, T: Pieces, M: Pieces> Pieces for Placed<(I, (T, (&'a Ids, M)))> {
+    ghost bytes = { λ p. (I.bytes p.0 ++ T.bytes p.1.0 ++ tables.ids p.1.1.0.now ++ M.bytes p.1.1.1) ++ list id (no_directories p.1.1.0.now) };
 
     fn put_pieces(&self, out: &mut Vec<u8>) -> Result<(), NoMemory> {
         self.head.put_pieces(out)?;
-        put_directories(out, self.head.1.1.0)?;
-        self.behind.put_pieces(out)
+        put_directories(out, self.head.1.1.0)
     }
 }
 
@@ -84,10 +83,12 @@ fn put_directories(out: &mut Vec<u8>, replicas: &Ids) -> Result<(), NoMemory>
     Ok(())
 }
 
-impl<F: FieldPieces> Pieces for Tags<F> {
-    ghost bytes = { λ t. tags (F.fields t) };
+impl<'a, const TAG: u32, const FIRST: u32, P: TaggedPart, F: FieldPieces> Pieces
+    for (Field<TAG, FIRST, &'a P>, F)
+{
+    ghost bytes = { λ f. tags (tagged TAG (written_data P.part f.0.now) ++ F.fields f.1) };
 
     fn put_pieces(&self, out: &mut Vec<u8>) -> Result<(), NoMemory> {
-        put_tags(out, &self.fields)
+        put_tags(out, self)
     }
 }

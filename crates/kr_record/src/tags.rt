@@ -26,18 +26,6 @@ impl<const TAG: u32, const FIRST: u32, P> Model for Field<TAG, FIRST, P> {
     ghost view = { λ f. f.part };
 }
 
-/// The tagged fields at the end of a structure.
-#[derive(Drop)]
-pub(crate) struct Tags<F> {
-    pub fields: F,
-}
-
-impl<F> Model for Tags<F> {
-    ghost Value = { F };
-
-    ghost view = { λ t. t.fields };
-}
-
 /// Tagged fields that are read.
 pub(crate) trait Fields: Drop {
     ghost table: { Table Self };
@@ -101,12 +89,11 @@ fn whole<P: TaggedPart>(alloc: Global, data: &[u8]) -> Result<P, ReadFault>
 pub(crate) fn read_tags<F: Fields>(
     from: &mut Reader<'_, Mine>,
     version: u32,
-) -> Result<Tags<F>, ReadFault>
+) -> Result<F, ReadFault>
     ensures { Takes result from.new (tags_at (known F.table version) (absents F.table) from.old) }
 {
     let count = from.uvarint()?;
-    let fields = read_fields(from, version, count)?;
-    Ok(Tags { fields })
+    read_fields(from, version, count)
 }
 
 fn read_fields<F: Fields>(

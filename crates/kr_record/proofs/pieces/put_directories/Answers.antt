@@ -1,6 +1,6 @@
 use Rattle.std.proofs.Common.{◌++◌, length}
 use Rattle.kr_wire.specs.Spelling.{count}
-use Rattle.kr_record.proofs.Pieces.{one_zero_more}
+use Rattle.kr_record.proofs.Appends.{one_zero_more}
 use Rattle.kr_record.proofs.pieces.put_directories.Goals as goal
 
 pub loop-replica-preserved : goal.loop-replica-preserved
