@@ -1,4 +1,5 @@
 pub mod Appends
+pub mod Arms
 pub mod FieldLoop
 pub mod LayoutLaws
 pub mod LayoutSpelling

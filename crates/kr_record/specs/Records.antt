@@ -29,7 +29,7 @@ pub record OfKind : Type 1 where
 abbrev pub of_kind : {X : Type 0} → Kind X → X → OfKind
 of_kind {X} k x = record { Parts = X; kind = k; parts = x }
 
-abbrev pub chosen : Record → OfKind
+unfoldable pub chosen : Record → OfKind
 chosen (kinds.RegisterBroker broker state) = of_kind register_broker (registration_parts broker state)
 chosen (kinds.UnregisterBroker broker epoch) = of_kind unregister_broker (broker, (epoch, tt))
 chosen (kinds.Topic name id) = of_kind topic (name, (id, tt))

@@ -120,11 +120,11 @@ impl<F: Held> Held for SinceOne<F> {
     }
 }
 
-impl<H: Held> Held for Placed<H> {
-    ghost held = { H.held };
+impl<B: Held> Held for Placed<B> {
+    ghost held = { B.held };
 
     fn look(&self) {
-        self.head.look();
+        self.behind.look();
     }
 }
 

@@ -70,25 +70,26 @@ impl Parts for SinceOne<bool> {
     }
 }
 
-/// Parts with replicas among them and, since version 1, a directory for each of these.
+/// Parts behind those with replicas among them and, since version 1, behind a directory for each of these.
 #[derive(Drop)]
-pub(crate) struct Placed<H> {
-    pub head: H,
+pub(crate) struct Placed<B> {
+    pub behind: B,
 }
 
-impl<H> Model for Placed<H> {
-    ghost Value = { H };
+impl<B> Model for Placed<B> {
+    ghost Value = { B };
 
-    ghost view = { λ p. p.head };
+    ghost view = { λ p. p.behind };
 }
 
-impl<H: Parts> Parts for Placed<H> {
-    ghost layout = { Directories H.layout 1 (λ head. []) };
+impl<H: Parts, B: Parts> Parts for (H, Placed<B>) {
+    ghost layout = { Directories H.layout 1 (λ head. []) ▹ B.layout };
 
-    fn read(from: &mut Reader<'_, Mine>, version: u32) -> Result<Placed<H>, ReadFault> {
+    fn read(from: &mut Reader<'_, Mine>, version: u32) -> Result<(H, Placed<B>), ReadFault> {
         let head = H::read(from, version)?;
         skip_directories(from, version)?;
-        Ok(Placed { head })
+        let behind = B::read(from, version)?;
+        Ok((head, Placed { behind }))
     }
 }
 
