@@ -142,7 +142,7 @@ pub(crate) fn put_record(out: &mut Vec<u8>, value: &Record) -> Result<(), NoMemo
 
 // The frame of a record, and what stands in it.
 fn put_kind<P: Pieces>(out: &mut Vec<u8>, key: u32, version: u32, parts: &P) -> Result<(), NoMemory>
-    ensures { OnOk result (out.new.items ≡ out.old.items ++ framed key version ++ P.bytes parts.now) }
+    ensures { OnOk result (out.new.items ≡ out.old.items ++ (framed key version ++ P.bytes parts.now)) }
 {
     put_frame(out, key, version)?;
     parts.put_pieces(out)
