@@ -61,7 +61,7 @@ ranges_bytes : (rs : List Range) → sum_by (plain_bytes range_layout) rs ≡ su
 ranges_bytes rs = same_sum (plain_bytes range_layout) _ (λ r. omega arith) rs
 
 all_bytes : (r : Record) → 3 + written_bytes (chosen r).kind.layout (chosen r).parts ≡ value_bytes r
-unfolding value_bytes
+unfolding value_bytes chosen
 all_bytes (kinds.RegisterBroker broker state) = omega (arith, endpoints_bytes state.endpoints, ranges_bytes state.features)
 all_bytes (kinds.UnregisterBroker broker epoch) = refl
 all_bytes (kinds.Topic name n) = omega arith

@@ -49,7 +49,7 @@ pub record IsChosen (r : Record) (of : OfKind) : Type 0 where
   pub back : of.kind.record_of of.parts ≡ r
 
 pub is_chosen : (r : Record) → IsChosen r (chosen r)
-unfolding layout_at
+unfolding layout_at chosen
 is_chosen (kinds.RegisterBroker broker state) = record { found = λ version bytes. refl; served = refl; back = refl }
 is_chosen (kinds.UnregisterBroker broker epoch) = record { found = λ version bytes. refl; served = refl; back = refl }
 is_chosen (kinds.Topic name id) = record { found = λ version bytes. refl; served = refl; back = refl }
@@ -92,7 +92,7 @@ module _ (key version : ℕ) (bytes : List ℕ) (fits : IsBytes bytes) where
       pick refl
 
   layout_sound : Reads (layout_at key version bytes)
-  unfolding layout_at
+  unfolding layout_at chosen
   layout_sound =
       kind_or register_broker refl (λ x. refl) _ (kind_or unregister_broker refl (λ x. refl) _ (kind_or topic refl (λ x. refl) _
       (kind_or partition refl (λ x. refl) _ (kind_or config refl (λ x. refl) _ (kind_or partition_change refl (λ x. refl) _

@@ -23,6 +23,7 @@ use Rattle.kr_defs.specs.Sizes.{uvarint_bytes, text_bytes, text_or_null_bytes, l
 use Rattle.kr_defs.specs.Walk.{walked, of_topic, walk_topic}
 use Rattle.kr_defs.proofs.Changes.{formed_parts}
 use Rattle.kr_defs.proofs.IdLists.{same_id, refutes, refuted, all_at, all_from, has_kept}
+use Rattle.kr_record.specs.Records.{chosen}
 use Rattle.kr_record.specs.Encodable.{IsEncodable, IsShortEndpoint, IsShortRange}
 use Rattle.kr_record.proofs.RecordForms.{size}
 use Rattle.kr_snapshot.specs.inner.EntryRecords.{feature_record, broker_record, partition_record, config_record}
@@ -173,14 +174,14 @@ light : (r : Record) → IsEncodable r → value_bytes r ≤ most_beside + setti
 light r encodable few = record { encodable = encodable; size = (let a = size r encodable in omega (arith, a, few)) }
 
 light_feature : (e : List ℕ × ℤ) → nat_le (length e.0) LONGEST_FEATURE ≡ true → IsLight (feature_record e)
-unfolding value_bytes
+unfolding value_bytes chosen
 light_feature e short =
     let few = leb-true (length e.0) LONGEST_FEATURE short in
     let a = text_few e.0 in
     light (feature_record e) (omega (arith, few), (tt, tt)) (omega (arith, few, a))
 
 light_broker : (e : ℤ × Broker) → is_small_registration e.1 ≡ true → IsLight (broker_record e)
-unfolding value_bytes
+unfolding value_bytes chosen
 light_broker e small =
     let b = e.1 in
     let p = and_parts (nat_le (length b.endpoints) MOST_ENDPOINTS && nat_le (length b.features) MOST_RANGES) (nat_le (registration_text b) MOST_REGISTRATION_TEXT) small in
@@ -200,14 +201,14 @@ light_broker e small =
     (omega (arith, few_endpoints, few_ranges, little, f, g, h, i, j))
 
 light_topic : (name : List ℕ) (id : ℕ) → is_topic_name name ≡ true → IsLight (kinds.Topic name id)
-unfolding value_bytes
+unfolding value_bytes chosen
 light_topic name id is =
     let few = leb-true (length name) LONGEST_TOPIC (name_short name is) in
     let a = text_few name in
     light (kinds.Topic name id) (omega (arith, few), (tt, tt)) (omega (arith, few, a))
 
 light_partition : (e : (ℕ × ℤ) × Partition) → is_well_formed e.1 ≡ true → IsLight (partition_record e)
-unfolding value_bytes
+unfolding value_bytes chosen
 light_partition e formed =
     let p = e.1 in
     let f = formed_parts p formed in
@@ -234,7 +235,7 @@ light_partition e formed =
     (let m = moves.0 in let n = moves.1 in omega (arith, most, in_sync, eligible, last, m, n, a, b, c, d, g, h, i, tags))
 
 light_config : (e : ConfigKey × List ℕ) → length e.0.name + length e.0.key + length e.1 ≤ MOST_CONFIG_TEXT → IsLight (config_record e)
-unfolding value_bytes
+unfolding value_bytes chosen
 light_config e little =
     let a = text_few e.0.name in
     let b = text_few e.0.key in

@@ -22,6 +22,7 @@ use Rattle.kr_defs.specs.Sizes.{uvarint_bytes, text_bytes, text_or_null_bytes, l
 use Rattle.kr_defs.proofs.Changes.{formed_parts}
 use Rattle.kr_defs.proofs.IdLists.{all_at}
 use Rattle.kr_defs.proofs.Tests.{gives_done, gives_found, gives_refuse, not_false}
+use Rattle.kr_record.specs.Records.{chosen}
 use Rattle.kr_record.specs.Encodable.{FitsField, IsEncodable, IsShort, IsShortEndpoint, IsShortRange}
 
 -- the most bytes of a request
@@ -159,7 +160,7 @@ meaning_told image after index topic c is =
 -- ---- records
 
 pub written : (image after : Image) (r : Record) → apply_record image r ≡ Ok after → IsFew (value_bytes r) → IsEncodable r
-unfolding value_bytes apply_record
+unfolding value_bytes apply_record chosen
 written image after (kinds.RegisterBroker broker state) meaning few =
     let parts = in_registration (rows_bytes endpoint_bytes state.endpoints) (rows_bytes range_bytes state.features) (text_or_null_bytes state.rack) few in
     let endpoints = second (uvarint_bytes (length state.endpoints + 1)) (sum_by endpoint_bytes state.endpoints) parts.0 in

@@ -20,6 +20,7 @@ use Rattle.kr_record.specs.RecordRanges.{AreHeld, HasHeld, IsHeld}
 use Rattle.kr_wire.specs.Tables.{Are}
 use Rattle.kr_record.specs.Layout.{Kind, IsInVersion}
 use Rattle.kr_record.specs.Grammar.{IsLayout, IsRecord}
+use Rattle.kr_record.specs.Records.{chosen}
 use Rattle.kr_record.specs.RegisterBroker.{endpoint_layout, range_layout, register_broker, registration_parts}
 use Rattle.kr_record.specs.FenceBroker.{BrokerEpoch, broker_epoch as broker_epoch_layout}
 use Rattle.kr_record.specs.BrokerRegistrationChange.{flag_table, broker_registration_change}
@@ -109,6 +110,7 @@ kind follows only = record {
 }
 
 layout : (r : Record) (key version : ℕ) → Follows (IsLayout key version r) (layout_bytes r) (IsEncodable r) (IsHeld r)
+unfolding chosen
 layout (kinds.RegisterBroker broker state) key version = kind (registration version broker state) (λ bytes is. is.2)
 layout (kinds.UnregisterBroker broker epoch) key version = kind (broker_epoch broker epoch) (λ bytes is. is.2)
 layout (kinds.Topic name n) key version = kind (topic name n) (λ bytes is. is.2)

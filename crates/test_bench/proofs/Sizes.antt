@@ -10,6 +10,7 @@ use Rattle.kr_wire.specs.Spelling.{uvarint, signed, id}
 use Rattle.kr_defs.specs.declared.record.Record.{Record}
 use Rattle.kr_defs.specs.declared.record.Item.{Item}
 use Rattle.kr_defs.specs.declared.record.Item.TheVariants as items
+use Rattle.kr_record.specs.Records.{chosen}
 use Rattle.kr_record.specs.Encodable.{IsEncodable}
 use Rattle.kr_record.specs.RecordRanges.{IsHeld}
 use Rattle.kr_record.specs.Spelling.{record_value, framed}
@@ -56,22 +57,25 @@ module _ (at : ℤ → Record) (size : ℕ) where
 -- ---- changes
 
 change_length : (index : ℤ) → length (record_value (numbered_change index)) ≡ 41
-unfolding record_value framed uvarint signed id
+unfolding record_value chosen framed uvarint signed id
 change_length index = refl
 
 change_writable : (index : ℤ) → IsEncodable (numbered_change index)
+unfolding chosen
 change_writable index = search rules
 
 change_held : (n : ℕ) → n < 10000 → IsHeld (numbered_change (pos n))
+unfolding chosen
 change_held n lt = search (rules, lt)
 
 -- ---- settings
 
 setting_length : (index : ℤ) → length (record_value (setting_at index)) ≡ 35
-unfolding record_value framed uvarint signed id
+unfolding record_value chosen framed uvarint signed id
 setting_length index = refl
 
 setting_writable : (index : ℤ) → IsEncodable (setting_at index)
+unfolding chosen
 setting_writable index = search (rules, arith)
 
 orders : IsUtf8 (codes "orders")
@@ -87,6 +91,7 @@ unfolding is_utf8 chars encode
 week = IsUtf8-from_is_utf8 (codes "604800000") refl
 
 setting_held : (n : ℕ) → n < 10000 → IsHeld (setting_at (pos n))
+unfolding chosen
 setting_held n lt = (search rules, (orders, (retention, (week, tt))))
 
 -- ---- both
