@@ -104,8 +104,7 @@ fn skip_directories(from: &mut Reader<'_, Mine>, version: u32) -> Result<(), Rea
 }
 
 impl<const TAG: u32, const FIRST: u32, P: TaggedPart, F: Fields> Parts
-    for (Field<TAG, FIRST, P>, F)
-{
+    for (Field<TAG, FIRST, P>, F) {
     ghost layout = { Tagged (tables.Field TAG FIRST P.part F.table) };
 
     fn read(

@@ -60,8 +60,7 @@ impl<F: Pieces> Pieces for SinceOne<F> {
 }
 
 impl<'a, I: Pieces, T: Pieces, M: Pieces, B: Pieces> Pieces
-    for ((I, (T, (&'a Ids, M))), Placed<B>)
-{
+    for ((I, (T, (&'a Ids, M))), Placed<B>) {
     ghost bytes = { λ p. ((I.bytes p.0.0 ++ (T.bytes p.0.1.0 ++ (tables.ids p.0.1.1.0.now ++ M.bytes p.0.1.1.1))) ++ list id (no_directories p.0.1.1.0.now)) ++ B.bytes p.1 };
 
     fn put_pieces(&self, out: &mut Vec<u8>) -> Result<(), NoMemory> {
@@ -87,8 +86,7 @@ fn put_directories(out: &mut Vec<u8>, replicas: &Ids) -> Result<(), NoMemory>
 }
 
 impl<'a, const TAG: u32, const FIRST: u32, P: TaggedPart, F: FieldPieces> Pieces
-    for (Field<TAG, FIRST, &'a P>, F)
-{
+    for (Field<TAG, FIRST, &'a P>, F) {
     ghost bytes = { λ f. tags (tagged TAG (written_data P.part f.0.now) ++ F.fields f.1) };
 
     fn put_pieces(&self, out: &mut Vec<u8>) -> Result<(), NoMemory> {
