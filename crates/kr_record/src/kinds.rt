@@ -21,34 +21,54 @@ use kr_defs::{Broker, Partition, PartitionChange, Record};
 use kr_layout::Reader;
 use kr_wire::put_uvarint;
 
-// Hands to another macro of each kind its key, the newest version, which is the one that is written, a record of it and the
-// structure in that, if there is one, and what stands in the record, in the order of its layout. Each is a pattern as well as a value.
+// Hands the kinds to another macro: of each its key, the newest version, which is the one that is
+// written, a record of it and the structure in that, if there is one, and what stands in the record,
+// in the order of its layout. Each is a pattern as well as a value.
 macro_rules! each_kind {
     ($with:ident($($value:ident),*)) => {
         $with! {
             ($($value),*)
             0, 1: { Record::RegisterBroker { broker, state } }
-                where state { Broker { epoch, incarnation, endpoints, features, rack, fenced, stopping } }
-                = { (broker, (incarnation, (epoch, (endpoints, (features, (rack, (fenced, (SinceOne { flag: stopping }, ())))))))) };
+                where state {
+                    Broker { epoch, incarnation, endpoints, features, rack, fenced, stopping }
+                }
+                = {
+                    (broker, (incarnation, (epoch, (endpoints, (features, (rack, (fenced,
+                    (SinceOne { flag: stopping }, ()))))))))
+                };
             1, 0: { Record::UnregisterBroker { broker, epoch } } = { (broker, (epoch, ())) };
             2, 0: { Record::Topic { name, id } } = { (name, (id, ())) };
             3, 2: { Record::Partition { index, topic, state } }
                 where state {
-                    Partition { replicas, in_sync, eligible, last_known, adding, removing, leader, recovery, leader_epoch, partition_epoch }
+                    Partition {
+                        replicas, in_sync, removing, adding, leader, leader_epoch, partition_epoch,
+                        recovery, eligible, last_known,
+                    }
                 }
                 = {
                     (
-                        (index, (topic, (replicas, (in_sync, (removing, (adding, (leader, (leader_epoch, partition_epoch)))))))),
-                        Placed { behind: tags!(0 since 0 recovery, 1 since 2 eligible, 2 since 2 last_known) },
+                        (index, (topic, (replicas, (in_sync, (removing, (adding, (leader,
+                        (leader_epoch, partition_epoch)))))))),
+                        Placed {
+                            behind: tags!(
+                                0 since 0 recovery, 1 since 2 eligible, 2 since 2 last_known
+                            ),
+                        },
                     )
                 };
-            4, 0: { Record::Config { kind, name, key, value } } = { (kind, (name, (key, (value, ())))) };
+            4, 0: { Record::Config { kind, name, key, value } }
+                = { (kind, (name, (key, (value, ())))) };
             5, 2: { Record::PartitionChange { index, topic, change } }
-                where change { PartitionChange { in_sync, replicas, removing, adding, eligible, last_known, leader, recovery } }
+                where change {
+                    PartitionChange {
+                        in_sync, leader, replicas, removing, adding, recovery, eligible, last_known,
+                    }
+                }
                 = {
                     (index, (topic, tags!(
-                        0 since 0 in_sync, 1 since 0 leader, 2 since 0 replicas, 3 since 0 removing, 4 since 0 adding,
-                        5 since 0 recovery, 6 since 2 eligible, 7 since 2 last_known, 8 since 1 ()
+                        0 since 0 in_sync, 1 since 0 leader, 2 since 0 replicas,
+                        3 since 0 removing, 4 since 0 adding, 5 since 0 recovery,
+                        6 since 2 eligible, 7 since 2 last_known, 8 since 1 ()
                     )))
                 };
             7, 0: { Record::FenceBroker { broker, epoch } } = { (broker, (epoch, ())) };
@@ -71,7 +91,11 @@ macro_rules! tags {
 }
 
 macro_rules! reading {
-    (($from:ident, $key:ident, $version:ident) $($number:literal, $newest:literal: {$($record:tt)*} $(where $own:ident {$($structure:tt)*})? = {$($parts:tt)*};)*) => {
+    (
+        ($from:ident, $key:ident, $version:ident)
+        $($number:literal, $newest:literal: {$($record:tt)*}
+            $(where $own:ident {$($structure:tt)*})? = {$($parts:tt)*};)*
+    ) => {
         match $key {
             $($number => {
                 let $($parts)* = read_version($from, $key, $version, $newest)?;
@@ -84,7 +108,11 @@ macro_rules! reading {
 }
 
 macro_rules! writing {
-    (($value:ident, $out:ident) $($number:literal, $newest:literal: {$($record:tt)*} $(where $own:ident {$($structure:tt)*})? = {$($parts:tt)*};)*) => {
+    (
+        ($value:ident, $out:ident)
+        $($number:literal, $newest:literal: {$($record:tt)*}
+            $(where $own:ident {$($structure:tt)*})? = {$($parts:tt)*};)*
+    ) => {
         match $value {
             $($($record)* => {
                 $(let $($structure)* = $own;)?
@@ -95,7 +123,11 @@ macro_rules! writing {
 }
 
 macro_rules! looking {
-    (($value:ident) $($number:literal, $newest:literal: {$($record:tt)*} $(where $own:ident {$($structure:tt)*})? = {$($parts:tt)*};)*) => {
+    (
+        ($value:ident)
+        $($number:literal, $newest:literal: {$($record:tt)*}
+            $(where $own:ident {$($structure:tt)*})? = {$($parts:tt)*};)*
+    ) => {
         match $value {
             $($($record)* => {
                 $(let $($structure)* = $own;)?
