@@ -1,5 +1,5 @@
 -- The laws of records.
-use Rattle.std.proofs.Common.{Fits, w8, get_or, ◌≡◌, ℕ, ◌≤◌, Bool, cond, ◌&&◌, eqb, ltb, true, false, List, ◌++◌, Result, Ok, Err, refl, sym, ap, subst, ◌∙◌, arith}
+use Rattle.std.proofs.Common.{Fits, w8, get_or, ◌≡◌, ℕ, ◌≤◌, Bool, cond, ◌&&◌, eqb, ltb, true, false, List, ◌++◌, Result, Ok, Err, refl, ap, subst, ◌∙◌, arith}
 use Rattle.std.specs.Prelude.{not, IfOk}
 use Rattle.std.proofs.lemmas.Bool.Decides.{nat_tests}
 use Rattle.std.proofs.lemmas.Bool.{ltb-false, le-ltb}
@@ -14,10 +14,10 @@ use Rattle.kr_wire.proofs.Tables.{both}
 use Rattle.kr_record.specs.declared.fault.RecordFault.{RecordFault}
 use Rattle.kr_record.specs.declared.fault.RecordFault.TheVariants as faults
 use Rattle.kr_record.specs.Answers.{Gives}
-use Rattle.kr_record.specs.Records.{OfKind, of_kind, chosen, register_broker, unregister_broker, topic, partition, config, partition_change, fence_broker, unfence_broker, remove_topic, feature_level, broker_registration_change, no_op}
+use Rattle.kr_record.specs.Records.{OfKind, chosen, register_broker, unregister_broker, topic, partition, config, partition_change, fence_broker, unfence_broker, remove_topic, feature_level, broker_registration_change, no_op}
 use Rattle.kr_record.specs.Layout.{Kind, IsInVersion, is_whole}
 use Rattle.kr_record.specs.Reading.{wired, layout_at, parts_at, record_at, record_of}
-use Rattle.kr_record.specs.Grammar.{IsOfKind, IsLayout, IsRecord}
+use Rattle.kr_record.specs.Grammar.{IsLayout, IsRecord}
 use Rattle.kr_record.proofs.LayoutLaws.{law}
 use Rattle.kr_record.proofs.LayoutSpelling.{is_newest}
 
@@ -74,19 +74,21 @@ parts_law {X} k served version =
       complete = λ x front rest is. complete_guard _ _ _ _ (le-ltb _ _ is.0) (layout.complete x front rest is.1);
     }
 
+same_key : (a b : ℕ) → eqb a b ≡ true → a ≡ b
+same_key a b e = grind (arith, nat_tests)
+
 module _ (key version : ℕ) (bytes : List ℕ) (fits : IsBytes bytes) where
   abbrev Reads : Result (Record × List ℕ) RecordFault → Type 0
   Reads read = Yields (IsLayout key version) bytes read
 
   -- the kind with the key, or others
-  kind_or : {X : Type 0} (k : Kind X) → is_served k ≡ true → ((x : X) → chosen (k.record_of x) ≡ of_kind k x)
+  kind_or : {X : Type 0} (k : Kind X) → is_served k ≡ true
+      → ((x : X) (front : List ℕ) → key ≡ k.key → (version ≤ k.newest) × IsInVersion k.layout version x front → IsLayout key version (k.record_of x) front)
       → (others : Result (Record × List ℕ) RecordFault) → Reads others → Reads (cond (eqb key k.key) (structure_at k.record_of (parts_at k version) bytes) others)
-  kind_or {X} k served same others more =
+  kind_or {X} k served step others more =
       let P : Bool → Type 0 = λ b. eqb key k.key ≡ b → Reads (cond b (structure_at k.record_of (parts_at k version) bytes) others) in
       let pick : P (eqb key k.key) = elim (eqb key k.key) as P [
-        | true ↦ λ e. sound_last (parts_law k served version) _ k.record_of bytes fits (λ x front is.
-            let its_key : key ≡ k.key = grind (arith, nat_tests) in
-            subst (λ (of : OfKind). IsOfKind of key version front) (sym (same x)) (its_key, is))
+        | true ↦ λ e. sound_last (parts_law k served version) _ k.record_of bytes fits (λ x front is. step x front (same_key key k.key e) is)
         | false ↦ λ e. more
       ] in
       pick refl
@@ -94,10 +96,10 @@ module _ (key version : ℕ) (bytes : List ℕ) (fits : IsBytes bytes) where
   layout_sound : Reads (layout_at key version bytes)
   unfolding layout_at chosen
   layout_sound =
-      kind_or register_broker refl (λ x. refl) _ (kind_or unregister_broker refl (λ x. refl) _ (kind_or topic refl (λ x. refl) _
-      (kind_or partition refl (λ x. refl) _ (kind_or config refl (λ x. refl) _ (kind_or partition_change refl (λ x. refl) _
-      (kind_or fence_broker refl (λ x. refl) _ (kind_or unfence_broker refl (λ x. refl) _ (kind_or remove_topic refl (λ x. refl) _
-      (kind_or feature_level refl (λ x. refl) _ (kind_or broker_registration_change refl (λ x. refl) _ (kind_or no_op refl (λ x. refl) _
+      kind_or register_broker refl (λ x front e is. (e, is)) _ (kind_or unregister_broker refl (λ x front e is. (e, is)) _ (kind_or topic refl (λ x front e is. (e, is)) _
+      (kind_or partition refl (λ x front e is. (e, is)) _ (kind_or config refl (λ x front e is. (e, is)) _ (kind_or partition_change refl (λ x front e is. (e, is)) _
+      (kind_or fence_broker refl (λ x front e is. (e, is)) _ (kind_or unfence_broker refl (λ x front e is. (e, is)) _ (kind_or remove_topic refl (λ x front e is. (e, is)) _
+      (kind_or feature_level refl (λ x front e is. (e, is)) _ (kind_or broker_registration_change refl (λ x front e is. (e, is)) _ (kind_or no_op refl (λ x front e is. (e, is)) _
       (λ r rest e. absurd cc))))))))))))
 
 layout_complete : (key version : ℕ) (r : Record) (bytes rest : List ℕ) → IsLayout key version r bytes → layout_at key version (bytes ++ rest) ≡ Ok (r, rest)

@@ -70,12 +70,6 @@ written_bytes (Tagged table) = λ z. tags_bytes (field_sizes table z)
 unfoldable pub framed : ℕ → ℕ → List ℕ
 framed key version = uvarint 1 ++ uvarint key ++ uvarint version
 
--- the key of a record's kind, and the version that is written
-abbrev pub kind_of : Record → ℕ × ℕ
-kind_of r = ((chosen r).kind.key, (chosen r).kind.newest)
-
-abbrev pub layout_of : Record → List ℕ
-layout_of r = written (chosen r).kind.layout (chosen r).parts
-
+-- the key of its kind, the version that is written, and what stands in it
 unfoldable pub record_value : Record → List ℕ
-record_value r = framed (kind_of r).0 (kind_of r).1 ++ layout_of r
+record_value r = framed (chosen r).kind.key (chosen r).kind.newest ++ written (chosen r).kind.layout (chosen r).parts
