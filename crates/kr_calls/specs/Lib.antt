@@ -10,6 +10,7 @@ pub mod DeleteTopics
 pub mod ElectLeaders
 pub mod IncrementalAlterConfigs
 pub mod ListPartitionReassignments
+pub mod MeaningLaws
 pub mod Metadata
 pub mod NewPartitions
 pub mod NextBasis

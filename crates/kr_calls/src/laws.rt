@@ -1,12 +1,6 @@
 //! What is true of whatever is decided. Each function says so in its contract, and does nothing.
 
-ghost use Rattle.std.specs.Prelude.{ℤ};
-ghost use Rattle.kr_defs.specs.Heartbeats.{Heartbeats};
-ghost use Rattle.kr_defs.specs.Image.{Image};
-ghost use Rattle.kr_defs.specs.declared.options.Options.{Options as AnyOptions};
-ghost use Rattle.kr_calls.specs.declared.calls.Request.{Request as AnyRequest};
-ghost use Rattle.kr_calls.specs.Decide.{work_of};
-ghost use Rattle.kr_calls.specs.Deciding.{HaveMeanings};
+ghost use Rattle.kr_calls.specs.MeaningLaws.{RecordsHaveMeanings};
 ghost use Rattle.kr_calls.specs.NextBasisLaws.{OtherRequestsLeaveBrokers};
 ghost use Rattle.kr_calls.specs.SeatListLaws.{EndImages, ItemsInOrderCount, KeptImagesStay, PinImages, PinsStay};
 ghost use Rattle.kr_calls.specs.TakingOutLaws.{TakingOutIsNeverRefused, FencingIsNeverRefused, UnregisteringIsNeverRefused};
@@ -14,7 +8,7 @@ ghost use Rattle.kr_calls.specs.TakingOutLaws.{TakingOutIsNeverRefused, FencingI
 /// Each record that a request gives has a meaning at its place, and the last one leaves the image of the decision.
 #[tactic(auto, using(crate::proofs::DecisionMeanings::standing))]
 pub fn records_have_meanings()
-    ensures { (options : AnyOptions) (time : ℤ) (heartbeats : Heartbeats) (image : Image) (place : ℤ) (request : AnyRequest) → HaveMeanings image (work_of options time heartbeats image place request).0 }
+    ensures { RecordsHaveMeanings }
 {}
 
 /// Taking a broker out of the partitions of a valid image is never refused, and changes the partitions alone. Nor is a

@@ -63,6 +63,10 @@ linked first nodes place next =
 abbrev pub unlinked_with_news : Ptr → List Node → Place → Contact → List Node
 unlinked_with_news first nodes place contact = with_news (unlinked first nodes (index_of first place)) (index_of first place) contact
 
+-- where the last node lies then, beside the one that closes the ring
+abbrev pub last_without : Ptr → List Node → Place → Place → Contact → Place
+last_without first nodes place closing contact = (node_at (unlinked_with_news first nodes place contact) (index_of first closing)).before
+
 -- the node at the place becomes the last one before the first, with the time and the offset of the contact
 unfoldable pub moved_last : Ptr → List Node → Place → Place → Contact → List Node
 moved_last first nodes place next contact =

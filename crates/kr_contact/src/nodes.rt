@@ -2,7 +2,7 @@
 
 ghost use Rattle.std.specs.Prelude.{◌≡◌, ◌+◌, ◌<◌, ◌∷◌, [], vec_len, vec_capacity};
 ghost use Rattle.std.specs.Vec.{vec_ptr};
-ghost use Rattle.kr_contact.specs.Nodes.{IsKnown, LiesAt, closing_node, contact_in, index_of, node_at, node_of, with_after, with_before, with_news, unlinked, linked, moved_last, added_last, unlinked_with_news};
+ghost use Rattle.kr_contact.specs.Nodes.{IsKnown, LiesAt, closing_node, contact_in, index_of, node_at, node_of, with_after, with_before, with_news, unlinked, linked, moved_last, added_last, last_without};
 
 use crate::places;
 use kr_base::Steps;
@@ -196,8 +196,7 @@ pub(crate) fn move_last<L: Ledger>(
     requires after { IsKnown (vec_ptr nodes.old) (vec_len nodes.old)
         (node_at nodes.old.items (index_of (vec_ptr nodes.old) place)).after }
     requires last { IsKnown (vec_ptr nodes.old) (vec_len nodes.old)
-        (node_at (unlinked_with_news (vec_ptr nodes.old) nodes.old.items place contact.now)
-        (index_of (vec_ptr nodes.old) first)).before }
+        (last_without (vec_ptr nodes.old) nodes.old.items place first contact.now) }
     ensures items { nodes.new.items ≡
         moved_last (vec_ptr nodes.old) nodes.old.items place first contact.now }
     ensures len { vec_len nodes.new ≡ vec_len nodes.old }

@@ -10,6 +10,7 @@ use Rattle.kr_calls.specs.declared.events.Output.TheVariants as given
 use Rattle.kr_calls.specs.Deciding.{apply_records, has_few_targets, is_request, weights}
 use Rattle.kr_calls.specs.TakingOut.{fencing}
 use Rattle.kr_defs.specs.declared.broker.Broker.{Broker}
+use Rattle.kr_defs.specs.declared.ill.Ill.{Ill}
 use Rattle.kr_defs.specs.declared.limits.TheConstants.{PLACES_END}
 use Rattle.kr_defs.specs.declared.options.Options.{Options}
 use Rattle.kr_defs.specs.declared.record.Record.{Record}
@@ -19,6 +20,8 @@ use Rattle.kr_defs.specs.Image.{Image, IsValid}
 use Rattle.kr_defs.specs.ImageLaws.{as_items}
 use Rattle.kr_defs.specs.Map as entries
 use Rattle.kr_defs.proofs.Tests.{both, none_is}
+use Rattle.kr_fencing.specs.FencingIndex.{Indexes, KeysOfBrokers}
+use Rattle.kr_fencing.proofs.KeptIndexes.{fencing_indexed}
 use Rattle.law_fitting.specs.Fitting.{FitsBatch}
 use Rattle.law_fitting.proofs.FittingRecords.{records_fit}
 use Rattle.law_safety.proofs.FencingSizes.{fencings_fit}
@@ -119,6 +122,18 @@ absent_records options image broker absent = ap (λ (o : Option Broker). option_
 
 pub ruleset fencing_records = (registered_records, absent_records)
 
+-- ---- the index
+
+-- an index stays true
+abbrev image_or : Image → Result Image Ill → Image
+image_or image (Ok after) = after
+image_or image (Err cause) = image
+
+indexed_by : (listed : KeysOfBrokers) (minimum : ℤ) (image after : Image) (broker : ℤ) (o : Option Broker) → IsValid image → entries.get int_cmp image.brokers broker ≡ o
+    → apply_records image (option_map_or (λ (state : Broker). fencing minimum image broker state.epoch) o []) ≡ Ok after → Indexes listed image → Indexes listed after
+indexed_by listed minimum image after broker None valid is meaning index = subst (Indexes listed) (ap (image_or image) meaning) index
+indexed_by listed minimum image after broker (Some state) valid is meaning index = fencing_indexed listed minimum image after broker state valid is meaning index
+
 -- ---- all
 
 module _ (e : Core) (brokers : List ℤ) (broker : ℤ) (others : List ℤ) (is : brokers ≡ broker ∷ others) (can : CanFenceAll e brokers) where
@@ -130,6 +145,10 @@ module _ (e : Core) (brokers : List ℤ) (broker : ℤ) (others : List ℤ) (is 
 
   pub one_ready : IsReady e
   one_ready = engines_ready.ready e own_can.sound own_can.valid
+
+  pub then_indexed : (listed : KeysOfBrokers) (between : Core) → Fences e between broker → Indexes listed e.images.tip → Indexes listed between.images.tip
+  then_indexed listed between f index =
+      indexed_by listed e.options.minimum e.images.tip between.images.tip broker (entries.get int_cmp e.images.tip.brokers broker) one_valid.tip refl f.writes.meaning index
 
   then_room : (s : State) (writes : List Write) → IsEngine e s writes → tip_of s + 10000 * length (broker ∷ others) ≤ unsigned_abs PLACES_END
   then_room s writes k = subst (λ t. unsigned_abs t + 10000 * length (broker ∷ others) ≤ unsigned_abs PLACES_END) k.tip own_can.room

@@ -8,6 +8,7 @@ ghost use Rattle.kr_defs.specs.Map as entries;
 ghost use Rattle.kr_calls.specs.declared.events.Event.TheVariants as events;
 ghost use Rattle.kr_calls.specs.Deciding.{apply_records, weights};
 ghost use Rattle.kr_store.specs.Images.{AreValid, last_kept};
+ghost use Rattle.kr_fencing.specs.FencingIndex.{Indexes};
 ghost use Rattle.kr_world.specs.Engine.{IsSound, IsStep, outputs_left};
 ghost use Rattle.kr_engine.specs.inner.Ready.{IsReady};
 ghost use Rattle.kr_engine.specs.inner.Tick.{lapsed_contacts, tick_reason, CanFenceAll, FencesAll, SettlesTick};
@@ -22,6 +23,7 @@ use crate::reasons::exhausted;
 use kr_base::{NoMemory, Steps};
 use kr_calls::{Effect, Reason, Reply};
 use kr_defs::{Ids, Records};
+use kr_fencing::FencingIndex;
 use kr_image::ImageStore;
 use kr_sessions::{Context, Sessions};
 use kr_store::{Seen, Store};
@@ -51,8 +53,10 @@ fn fencing_of<L: Ledger>(
     store: &mut ImageStore,
     context: &Context,
     broker: &i32,
+    index: &FencingIndex,
     steps: &mut Steps<L>,
 ) -> Result<Records, NoMemory>
+    requires indexed { Indexes index.now store.old.tip }
     requires natural { pos 0 ≤ℤ context.now.place }
     requires low { context.now.place ≤ℤ places_end }
     requires kept { last_kept store.old ≡ Some (context.now.place, store.old.tip) }
@@ -67,7 +71,7 @@ fn fencing_of<L: Ledger>(
         return Ok(Records::new(alloc));
     }
     let mut out = no_effect(alloc);
-    kr_brokers::fence(alloc, store, context, broker, &mut out, steps)?;
+    kr_brokers::fence_by(alloc, store, context, broker, index, &mut out, steps)?;
     Ok(out.records)
 }
 
@@ -89,9 +93,11 @@ impl Engine {
     fn fencing_records<L: Ledger>(
         &mut self,
         broker: &i32,
+        index: &FencingIndex,
         steps: &mut Steps<L>,
     ) -> Result<Records, NoMemory>
         requires ready { IsReady self.old }
+        requires indexed { Indexes index.now self.old.images.tip }
         ensures records { IfOk result (λ records. records ≡ fencing_of self.old.options self.old.images.tip broker.now) }
         ensures image { IfOk result (λ records. apply_records self.old.images.tip records ≡ Ok self.new.images.tip) }
         ensures kept { self.new.images.kept ≡ self.old.images.kept }
@@ -101,7 +107,7 @@ impl Engine {
         ensures later { steps.old ≤ steps.new }
     {
         let context = context_of(&self.options, &self.sessions, &self.time, &self.tip);
-        fencing_of(self.alloc, &mut self.store, &context, broker, steps)
+        fencing_of(self.alloc, &mut self.store, &context, broker, index, steps)
     }
 
     fn forget_contact(&mut self, broker: &i32)
@@ -112,15 +118,21 @@ impl Engine {
 
     // The broker is fenced by one batch, and leaves the contacts.
     #[tactic(auto, using(crate::proofs::Fencings::fence))]
-    fn fence<L: Ledger>(&mut self, broker: &i32, steps: &mut Steps<L>) -> Result<(), NoMemory>
+    fn fence<L: Ledger>(
+        &mut self,
+        broker: &i32,
+        index: &FencingIndex,
+        steps: &mut Steps<L>,
+    ) -> Result<(), NoMemory>
         requires ready { IsReady self.old }
+        requires indexed { Indexes index.now self.old.images.tip }
         requires valid { AreValid self.old.images }
         ensures fences { OnOk result (Fences self.old self.new broker.now) }
         ensures broken { OnErr result (BreaksOff self.old self.new) }
         ensures valid { OnOk result (AreValid self.new.images) }
         ensures later { steps.old ≤ steps.new }
     {
-        let records = self.fencing_records(broker, steps)?;
+        let records = self.fencing_records(broker, index, steps)?;
         self.append(records)?;
         self.forget_contact(broker);
         self.look_at_images();
@@ -131,8 +143,10 @@ impl Engine {
     fn fence_all<L: Ledger>(
         &mut self,
         brokers: &[i32],
+        index: &FencingIndex,
         steps: &mut Steps<L>,
     ) -> Result<(), NoMemory>
+        requires indexed { Indexes index.now self.old.images.tip }
         requires can { CanFenceAll self.old brokers.now }
         ensures all { OnOk result (FencesAll self.old self.new brokers.now) }
         ensures broken { OnErr result (BreaksOff self.old (record self.new { heard = self.old.heard })) }
@@ -141,8 +155,8 @@ impl Engine {
         match brokers.split_first() {
             None => Ok(()),
             Some((broker, others)) => {
-                self.fence(broker, steps)?;
-                self.fence_all(others, steps)
+                self.fence(broker, index, steps)?;
+                self.fence_all(others, index, steps)
             }
         }
     }
@@ -167,6 +181,13 @@ impl Engine {
         None
     }
 
+    // The partitions that each of the brokers has a replica of.
+    fn index_of(&self, brokers: &[i32]) -> Result<FencingIndex, NoMemory>
+        ensures { IfOk result (λ index. Indexes index self.now.images.tip) }
+    {
+        FencingIndex::of(self.alloc, &Seen::tip(&self.store), brokers)
+    }
+
     // Where memory was wanted, the contacts are those that were found.
     fn undo_contacts(&mut self, fenced: &Result<(), NoMemory>, found: Sessions)
         ensures ok { OnOk fenced.now (self.new ≡ self.old) }
@@ -189,8 +210,9 @@ impl Engine {
         if lapsed.is_empty() {
             return Ok(());
         }
+        let index = self.index_of(lapsed.as_slice())?;
         let found = self.sessions.copied()?;
-        let fenced = self.fence_all(lapsed.as_slice(), steps);
+        let fenced = self.fence_all(lapsed.as_slice(), &index, steps);
         self.undo_contacts(&fenced, found);
         fenced
     }

@@ -1,4 +1,4 @@
--- FeatureLevel and NoOp, keys 12 and 20, version 0 (KIP-584, KIP-835).
+-- FeatureLevel, key 12, version 0 (KIP-584).
 use Rattle.std.specs.Prelude.{ℕ, ℤ, List}
 use Rattle.kr_defs.specs.declared.record.Record.TheVariants as kinds
 use Rattle.kr_record.specs.Layout.{Int16, Text, End, ◌▸◌, Of, Kind}
@@ -6,6 +6,3 @@ use Rattle.kr_record.specs.Layout.{Int16, Text, End, ◌▸◌, Of, Kind}
 -- the feature's name and level
 abbrev pub feature_level : Kind (List ℕ × (ℤ × Unit {0}))
 feature_level = record { key = 12; newest = 0; layout = Of (Text ▸ Int16 ▸ End); record_of = λ (name, (level, end)). kinds.FeatureLevel name level }
-
-abbrev pub no_op : Kind (Unit {0})
-no_op = record { key = 20; newest = 0; layout = Of End; record_of = λ end. kinds.NoOp }

@@ -6,11 +6,15 @@ pub mod FeatureLevel
 pub mod FenceBroker
 pub mod Grammar
 pub mod Layout
+pub mod NoOp
 pub mod Partition
 pub mod PartitionChange
 pub mod Reading
 pub mod RecordRanges
 pub mod Records
 pub mod RegisterBroker
+pub mod RemoveTopic
 pub mod Spelling
 pub mod Topic
+pub mod UnfenceBroker
+pub mod UnregisterBroker

@@ -4,13 +4,17 @@ use Rattle.kr_defs.specs.declared.record.Record.{Record}
 use Rattle.kr_defs.specs.declared.record.Record.TheVariants as kinds
 use Rattle.kr_record.specs.Layout.{Kind}
 pub use Rattle.kr_record.specs.RegisterBroker.{register_broker, registration_parts}
-pub use Rattle.kr_record.specs.FenceBroker.{unregister_broker, fence_broker, unfence_broker}
+pub use Rattle.kr_record.specs.FenceBroker.{fence_broker}
+pub use Rattle.kr_record.specs.UnfenceBroker.{unfence_broker}
+pub use Rattle.kr_record.specs.UnregisterBroker.{unregister_broker}
 pub use Rattle.kr_record.specs.BrokerRegistrationChange.{broker_registration_change}
-pub use Rattle.kr_record.specs.Topic.{topic, remove_topic}
+pub use Rattle.kr_record.specs.Topic.{topic}
+pub use Rattle.kr_record.specs.RemoveTopic.{remove_topic}
 pub use Rattle.kr_record.specs.Partition.{partition, partition_parts}
 pub use Rattle.kr_record.specs.PartitionChange.{partition_change, change_parts}
 pub use Rattle.kr_record.specs.Config.{config}
-pub use Rattle.kr_record.specs.FeatureLevel.{feature_level, no_op}
+pub use Rattle.kr_record.specs.FeatureLevel.{feature_level}
+pub use Rattle.kr_record.specs.NoOp.{no_op}
 
 -- what is said of the kind with the key, if there is one
 abbrev pub by_key : {A : Type 0} → ℕ → ((X : Type 0) → Kind X → A) → A → A

@@ -20,6 +20,10 @@ module _ {E A : Type 0} (refused : ℤ → E → A) (rule : Image → ℤ → E 
   abbrev pub DecidesOne : ℤ → E → Images → Images → List Record × A → Type 0
   DecidesOne place entry before after d = one refused rule (begun place before) entry ≡ (work_of_records place d.0 after, d.1)
 
+  -- the next entry is decided, from the work so far on, with this answer
+  abbrev pub DecidesNext : E → Drawn → Drawn → Images → Images → A → Type 0
+  DecidesNext entry drawn drawn' before after answer = one refused rule (work_at drawn before.tip) entry ≡ (work_at drawn' after.tip, answer)
+
   -- an answer to each entry, all decided in order
   abbrev pub AnswersEach : ℤ → List E → Images → List A → Type 0
   AnswersEach place entries before given = given ≡ answers refused rule (begun place before) entries
@@ -38,6 +42,18 @@ module _ {E A : Type 0} (refused : ℤ → E → A) (rule : Image → ℤ → E 
   GoesThrough entries drawn drawn' before after = work_at drawn' after.tip ≡ after_all refused rule (work_at drawn before.tip) entries
 
   module _ {G B : Type 0} (entries_of : G → List E) (answer_of : G → List A → B) where
+    -- the answer to a group, whose entries are decided in order, from the work so far on
+    abbrev pub AnswersGroup : G → Drawn → Images → B → Type 0
+    AnswersGroup group drawn before given = given ≡ answer_of group (answers refused rule (work_at drawn before.tip) (entries_of group))
+
+    -- an answer to each group, all decided in order
+    abbrev pub AnswersGroups : ℤ → List G → Images → List B → Type 0
+    AnswersGroups place groups before given = given ≡ group_answers refused rule entries_of answer_of (begun place before) groups
+
+    -- the same, from the work so far on
+    abbrev pub AnswersNextGroups : List G → Drawn → Images → List B → Type 0
+    AnswersNextGroups groups drawn before given = given ≡ group_answers refused rule entries_of answer_of (work_at drawn before.tip) groups
+
     -- the records of all groups, decided in order
     abbrev pub DecidesGroups : ℤ → List G → Images → Images → List Record → Type 0
     DecidesGroups place groups before after records =

@@ -1,5 +1,5 @@
 -- Whether an image has room for records, told before any of them is applied. This project's own.
-use Rattle.std.specs.Prelude.{◌≡◌, ◌+◌, ◌-◌, ℕ, Bool, true, false, not, ◌||◌, nat_le, nat_lt, cond, List, length, Option, Some, None, unwrap_or, Result, Ok, Err, IsErr}
+use Rattle.std.specs.Prelude.{◌≡◌, ◌+◌, ◌-◌, ℕ, ℤ, Bool, true, false, not, ◌||◌, nat_le, nat_lt, cond, List, length, Option, Some, None, unwrap_or, Result, Ok, Err, IsErr}
 use Rattle.std.specs.List.{list_all}
 use Rattle.std.specs.Option.{option_map}
 use Rattle.kr_defs.specs.declared.ill.Ill.{Ill}
@@ -39,6 +39,14 @@ pub record Filling : Type 0 where
 abbrev pub value_text : ConfigKey → Option (List ℕ) → ℕ
 value_text key value = unwrap_or (option_map (entry_text key) value) 0
 
+-- with a topic more, where there is room for it
+abbrev pub with_topic : Filling → Option Filling
+with_topic f = cond (nat_le MOST_TOPICS f.topics) None (Some (record f { topics = f.topics + 1 }))
+
+-- with a partition of this index more, where this is an index of one and there is room
+abbrev pub with_partition : Filling → ℤ → Option Filling
+with_partition f index = cond (not (is_index index) || nat_le MOST_PARTITIONS f.partitions) None (Some (record f { partitions = f.partitions + 1 }))
+
 module _ (configs : List (ConfigKey × List ℕ)) where
   -- the text of a setting behind the records, with these settings before them
   abbrev pub text_at : List (ConfigKey × ℕ) → ConfigKey → ℕ
@@ -51,9 +59,8 @@ module _ (configs : List (ConfigKey × List ℕ)) where
 
   -- with a plain record more, where there is room for it
   abbrev pub filled : Filling → Record → Option Filling
-  filled f (kinds.Topic name id) = cond (nat_le MOST_TOPICS f.topics) None (Some (record f { topics = f.topics + 1 }))
-  filled f (kinds.Partition index topic state) =
-      cond (not (is_index index) || nat_le MOST_PARTITIONS f.partitions) None (Some (record f { partitions = f.partitions + 1 }))
+  filled f (kinds.Topic name id) = with_topic f
+  filled f (kinds.Partition index topic state) = with_partition f index
   filled f (kinds.Config kind name key value) =
       let at : ConfigKey = record { kind = kind; name = name; key = key } in with_text f at (value_text at value)
   filled f other = Some f

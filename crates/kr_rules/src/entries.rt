@@ -8,7 +8,7 @@ ghost use Rattle.kr_store.specs.Images.{last_kept, last_image};
 ghost use Rattle.kr_rules.specs.Costs.{cost, draft_cost};
 ghost use Rattle.kr_rules.specs.Progress.{work_at, place_of, Leads};
 ghost use Rattle.kr_rules.specs.Refusals.{IfError};
-ghost use Rattle.kr_rules.specs.Decisions.{AnswersEach, CostsAtMost, DecidesEach, DecidesOne, DecidesUnless, GoesThrough, CallsStayWithin, begun};
+ghost use Rattle.kr_rules.specs.Decisions.{AnswersEach, CostsAtMost, DecidesEach, DecidesNext, DecidesOne, DecidesUnless, GoesThrough, CallsStayWithin, begun};
 
 use crate::taking::take;
 use crate::{Refusal, Rule, Work};
@@ -47,9 +47,8 @@ pub(crate) fn one<E, A: Drop, R: Rule<E, A>, S: Store, L: Ledger>(
 ) -> Result<A, NoMemory>
     requires some { IsSome (last_kept (S.images store.old)) }
     requires leads { Leads (S.images store.old) work.old.records }
-    ensures done { IfOk result (λ answer. deciding.one (R.refusal rule.now) (R.rule rule.now)
-        (work_at work.old (S.images store.old).tip) entry.now ≡
-        (work_at work.new (S.images store.new).tip, answer)) }
+    ensures done { IfOk result (λ answer. DecidesNext (R.refusal rule.now) (R.rule rule.now)
+        entry.now work.old work.new (S.images store.old) (S.images store.new) answer) }
     ensures leads { OnOk result (Leads (S.images store.new) work.new.records) }
     ensures kept { (S.images store.new).kept ≡ (S.images store.old).kept }
     ensures calls { (S.images store.new).kept_made ≡ (S.images store.old).kept_made }

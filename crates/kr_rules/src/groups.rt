@@ -2,12 +2,11 @@
 
 ghost use Rattle.std.specs.Prelude.{◌≡◌, ◌≤◌, ◌+◌, ◌≤ℤ◌, Ok, Some, IfOk, OnOk, IsSome};
 ghost use Rattle.kr_defs.specs.declared.limits.TheConstants.{PLACES_END as places_end};
-ghost use Rattle.kr_calls.specs.Deciding as deciding;
 ghost use Rattle.kr_calls.specs.Deciding.{weights};
 ghost use Rattle.kr_store.specs.Images.{last_kept, last_image};
 ghost use Rattle.kr_rules.specs.Costs.{cost, group_cost};
 ghost use Rattle.kr_rules.specs.Progress.{work_at, Leads};
-ghost use Rattle.kr_rules.specs.Decisions.{CostsAtMost, DecidesGroups, GoesThrough, GoesThroughGroups, CallsStayWithin, begun};
+ghost use Rattle.kr_rules.specs.Decisions.{AnswersGroup, AnswersGroups, AnswersNextGroups, CostsAtMost, DecidesGroups, GoesThrough, GoesThroughGroups, CallsStayWithin, begun};
 
 use crate::entries::over_entries;
 use crate::{Groups, ItemRule, Refusal, Rule, Work};
@@ -65,9 +64,8 @@ fn over_group<
 ) -> Result<B, NoMemory>
     requires some { IsSome (last_kept (S.images store.old)) }
     requires leads { Leads (S.images store.old) work.old.records }
-    ensures answer { IfOk result (λ answer. answer ≡
-        R.answer_of group.now (deciding.answers (R.refusal rule.now) (R.rule rule.now)
-        (work_at work.old (S.images store.old).tip) (R.entries_of group.now))) }
+    ensures answer { IfOk result (λ answer. AnswersGroup (R.refusal rule.now) (R.rule rule.now)
+        R.entries_of R.answer_of group.now work.old (S.images store.old) answer) }
     ensures after { OnOk result (GoesThrough (R.refusal rule.now) (R.rule rule.now)
         (R.entries_of group.now) work.old work.new (S.images store.old) (S.images store.new)) }
     ensures leads { OnOk result (Leads (S.images store.new) work.new.records) }
@@ -105,11 +103,11 @@ pub fn over_groups<
 ) -> Result<Rows<B>, NoMemory>
     requires some { IsSome (last_kept (S.images store.old)) }
     requires leads { Leads (S.images store.old) work.old.records }
-    ensures answers { IfOk result (λ answers. answers ≡
-        deciding.group_answers (R.refusal rule.now) (R.rule rule.now) R.entries_of R.answer_of
-        (work_at work.old (S.images store.old).tip) groups.now) }
-    ensures after { OnOk result (GoesThroughGroups (R.refusal rule.now)
-        (R.rule rule.now) R.entries_of R.answer_of groups.now work.old work.new
+    ensures answers { IfOk result (λ answers. AnswersNextGroups (R.refusal rule.now)
+        (R.rule rule.now) R.entries_of R.answer_of groups.now work.old
+        (S.images store.old) answers) }
+    ensures after { OnOk result (GoesThroughGroups (R.refusal rule.now) (R.rule rule.now)
+        R.entries_of R.answer_of groups.now work.old work.new
         (S.images store.old) (S.images store.new)) }
     ensures leads { OnOk result (Leads (S.images store.new) work.new.records) }
     ensures kept { (S.images store.new).kept ≡ (S.images store.old).kept }
@@ -150,8 +148,8 @@ pub fn decide_groups<
 ) -> Result<(Records, Rows<B>), NoMemory>
     requires low { place ≤ℤ places_end }
     requires kept { last_image (S.images store.old) ≡ Some (S.images store.old).tip }
-    ensures answers { IfOk result (λ d. d.1 ≡ deciding.group_answers (R.refusal rule.now)
-        (R.rule rule.now) R.entries_of R.answer_of (begun place (S.images store.old)) groups.now) }
+    ensures answers { IfOk result (λ d. AnswersGroups (R.refusal rule.now)
+        (R.rule rule.now) R.entries_of R.answer_of place groups.now (S.images store.old) d.1) }
     ensures after { IfOk result (λ d. DecidesGroups (R.refusal rule.now)
         (R.rule rule.now) R.entries_of R.answer_of place groups.now (S.images store.old)
         (S.images store.new) d.0) }

@@ -1,6 +1,6 @@
 //! Whether an image has room for records, told before any of them is applied.
 
-ghost use Rattle.std.specs.Prelude.{◌≡◌, ◌≤◌, ◌<◌, ◌+◌, ◌^◌, ◌||◌, [], cond, nat_le, not, IfOk, None, Some};
+ghost use Rattle.std.specs.Prelude.{◌≡◌, ◌≤◌, ◌<◌, ◌^◌, [], IfOk};
 ghost use Rattle.std.specs.List.{list_all};
 ghost use Rattle.kr_defs.specs.declared.limits.TheConstants.{MOST_TOPICS as most_topics, MOST_PARTITIONS as most_partitions, MOST_CONFIG_TEXT as most_text};
 ghost use Rattle.kr_defs.specs.Image as images;
@@ -8,7 +8,7 @@ ghost use Rattle.kr_defs.specs.Map as entries;
 ghost use Rattle.kr_defs.specs.Map.{config_order};
 ghost use Rattle.kr_calls.specs.Deciding.{apply_records};
 ghost use Rattle.kr_rules.specs.Room as room;
-ghost use Rattle.kr_rules.specs.Room.{Fills, TellsRoom, filled, value_text, with_text};
+ghost use Rattle.kr_rules.specs.Room.{Fills, TellsRoom, filled, value_text, with_partition, with_text, with_topic};
 
 use kr_base::NoMemory;
 use kr_defs::limits::{LAST_INDEX, MOST_CONFIG_TEXT, MOST_PARTITIONS, MOST_TOPICS};
@@ -120,7 +120,7 @@ impl Filling {
     }
 
     fn add_topic(&mut self) -> bool
-        ensures { Fills (cond (nat_le most_topics self.old.topics) None (Some (record self.old { topics = self.old.topics + 1 }))) result self.new }
+        ensures { Fills (with_topic self.old) result self.new }
     {
         if self.topics >= MOST_TOPICS {
             return false;
@@ -130,7 +130,7 @@ impl Filling {
     }
 
     fn add_partition(&mut self, index: &i32) -> bool
-        ensures { Fills (cond (not (images.is_index index.now) || nat_le most_partitions self.old.partitions) None (Some (record self.old { partitions = self.old.partitions + 1 }))) result self.new }
+        ensures { Fills (with_partition self.old index.now) result self.new }
     {
         if !is_index(index) || self.partitions >= MOST_PARTITIONS {
             return false;

@@ -2,6 +2,7 @@
 -- that were told, and what the seat did. This project's own.
 use Rattle.std.specs.Prelude.{◌≡◌, ◌⊎◌, ℕ, ◌+◌, ◌<◌, ◌≤◌, List, [], ◌∷◌, ◌++◌, length, take, All, Option, IfSome}
 use Rattle.std.specs.Io.KnownBytes.{Appends, Consumes, IsAtEnd}
+use Rattle.kr_base.specs.Causes.{Still}
 use Rattle.kr_wire.specs.Grammar.{Each}
 use Rattle.kr_defs.specs.declared.limits.TheConstants.{MOST_SESSION_BYTES}
 use Rattle.kr_view.specs.declared.seat.CopyFault.TheVariants as copies
@@ -85,7 +86,17 @@ pub record Served (before after : Connection) (end : ServeEnd) : Type 0 where
   pub tells : TellsMore before.told after.told xs
   pub pushed : PushesWrites before.seat mid after.seat (pushed_writes xs)
 
+-- the same of a seat, and of a source, a sink and a transcript, by what they tell
+abbrev pub ServesClient : {S K T : Type 0} → (S → Option (List ℕ)) → (K → Option (List ℕ)) → (T → Option (List Exchange)) → S → S → K → K → T → T → Client → Client → ServeEnd → Type 0
+ServesClient left written told source source' sink sink' transcript transcript' seat seat' end =
+    Served (connection (left source) (written sink) (told transcript) seat) (connection (left source') (written sink') (told transcript') seat') end
+
 -- ---- where nothing failed
+
+-- that holds where no count rose: of the source's faults, of the sink's, and of how often the seat got no copy
+abbrev pub WhereNoneRose : {S K : Type 0} → (S → ℕ) → (K → ℕ) → S → S → K → K → Client → Client → Type 0 → Type 0
+WhereNoneRose read_faults write_faults source source' sink sink' seat seat' That =
+    Still (read_faults source) (read_faults source') → Still (write_faults sink) (write_faults sink') → Still seat.misses seat'.misses → That
 
 -- these bytes are these messages, each behind its size
 abbrev pub AreMessages : List (List ℕ) → List ℕ → Type 0

@@ -1,11 +1,11 @@
 //! Serving one connection.
 
-ghost use Rattle.std.specs.Prelude.{◌≡◌, ◌<◌, ◌≤◌, ℕ, List, Option, OnOk, IfOk, IfErr, IsErrOf};
-ghost use Rattle.kr_base.specs.Causes.{Rose, Still};
+ghost use Rattle.std.specs.Prelude.{◌≡◌, ◌<◌, ◌≤◌, IfOk, IsErrOf};
+ghost use Rattle.kr_base.specs.Causes.{Rose};
 ghost use Rattle.kr_defs.specs.declared.limits.TheConstants.{MOST_SESSION_BYTES};
 ghost use Rattle.kr_view.specs.Seats.{Onward};
-ghost use Rattle.kr_server.specs.Served.{connection, Served, ServesMessages, ServesUpToBreak};
-ghost use Rattle.kr_server.specs.inner.Serving.{ServesOn, AnswersMessage};
+ghost use Rattle.kr_server.specs.Served.{ServesClient, ServesMessages, ServesUpToBreak, WhereNoneRose};
+ghost use Rattle.kr_server.specs.inner.Serving.{AnswersOne, ServesNext};
 
 use crate::calls::exchange;
 use crate::end::ServeEnd;
@@ -26,9 +26,8 @@ fn answer_message<R: Wait, K: Sink, T: Transcript>(
     sink: &mut K,
     transcript: &mut T,
 ) -> Result<(), ServeEnd>
-    ensures answered { (left left' : Option (List ℕ)) → AnswersMessage message.now
-        (connection left (K.written sink.old) (T.list transcript.old) seat.old)
-        (connection left' (K.written sink.new) (T.list transcript.new) seat.new) result }
+    ensures answered { AnswersOne K.written T.list message.now
+        sink.old sink.new transcript.old transcript.new seat.old seat.new result }
     ensures write { IsErrOf result ServeEnd.WriteFault →
         Rose (K.faults sink.old) (K.faults sink.new) }
     ensures later { K.faults sink.old ≤ K.faults sink.new }
@@ -62,10 +61,8 @@ fn serve_message<R: Wait, S: Source, K: Sink, T: Transcript>(
     at: u64,
 ) -> Result<u64, ServeEnd>
     requires { at ≤ MOST_SESSION_BYTES }
-    ensures goes { ServesOn
-        (connection (S.left source.old) (K.written sink.old) (T.list transcript.old) seat.old)
-        (connection (S.left source.new) (K.written sink.new) (T.list transcript.new) seat.new)
-        at result }
+    ensures goes { ServesNext S.left K.written T.list source.old source.new
+        sink.old sink.new transcript.old transcript.new seat.old seat.new at result }
     ensures further { IfOk result (λ next. (at < next) × (next ≤ MOST_SESSION_BYTES)) }
     ensures read { IsErrOf result ServeEnd.ReadFault →
         Rose (S.faults source.old) (S.faults source.new) }
@@ -94,10 +91,8 @@ fn serve_messages<R: Wait, S: Source, K: Sink, T: Transcript>(
     sink: &mut K,
     transcript: &mut T,
 ) -> ServeEnd
-    ensures served { Served
-        (connection (S.left source.old) (K.written sink.old) (T.list transcript.old) seat.old)
-        (connection (S.left source.new) (K.written sink.new) (T.list transcript.new) seat.new)
-        result }
+    ensures served { ServesClient S.left K.written T.list source.old source.new
+        sink.old sink.new transcript.old transcript.new seat.old seat.new result }
     ensures read { result ≡ ServeEnd.ReadFault → Rose (S.faults source.old) (S.faults source.new) }
     ensures write { result ≡ ServeEnd.WriteFault → Rose (K.faults sink.old) (K.faults sink.new) }
 {
@@ -122,10 +117,8 @@ pub fn serve_client<R: Wait, S: Source, K: Sink, T: Transcript>(
     transcript: &mut T,
 ) -> ServeEnd
     // What was taken, written, told and asked of the seat, at each end.
-    ensures served { Served
-        (connection (S.left source.old) (K.written sink.old) (T.list transcript.old) seat.old)
-        (connection (S.left source.new) (K.written sink.new) (T.list transcript.new) seat.new)
-        result }
+    ensures served { ServesClient S.left K.written T.list source.old source.new
+        sink.old sink.new transcript.old transcript.new seat.old seat.new result }
     // The seat's list goes on.
     ensures onward { Onward seat.old.seen seat.new.seen }
 
@@ -135,12 +128,10 @@ pub fn serve_client<R: Wait, S: Source, K: Sink, T: Transcript>(
     ensures copy { result ≡ ServeEnd.NoCopy → Rose seat.old.misses seat.new.misses }
 
     // Where no count rose: whole messages are served out, and others up to where they break.
-    ensures complete { Still (S.faults source.old) (S.faults source.new) →
-        Still (K.faults sink.old) (K.faults sink.new) →
-        Still seat.old.misses seat.new.misses → ServesMessages (S.left source.old) result }
-    ensures broken { Still (S.faults source.old) (S.faults source.new) →
-        Still (K.faults sink.old) (K.faults sink.new) →
-        Still seat.old.misses seat.new.misses → ServesUpToBreak (S.left source.old) result }
+    ensures complete { WhereNoneRose S.faults K.faults source.old source.new sink.old sink.new
+        seat.old seat.new (ServesMessages (S.left source.old) result) }
+    ensures broken { WhereNoneRose S.faults K.faults source.old source.new sink.old sink.new
+        seat.old seat.new (ServesUpToBreak (S.left source.old) result) }
 {
     serve_messages(rt, alloc, seat, source, sink, transcript)
 }

@@ -1,6 +1,6 @@
 -- What a clause sees of a client's seat. This project's own.
-use Rattle.std.specs.Prelude.{◌≡◌, ◌⊎◌, ℕ, ℤ, ◌+◌, true, List, [], Some, Result, slice_get, MatchResult}
-use Rattle.kr_base.specs.Causes.{Rose}
+use Rattle.std.specs.Prelude.{◌≡◌, ◌⊎◌, ℕ, ℤ, ◌+◌, true, List, [], ◌∷◌, ◌++◌, Some, Result, slice_get, MatchResult}
+use Rattle.kr_base.specs.Causes.{Rose, raised}
 use Rattle.kr_calls.specs.declared.calls.Call.{Call}
 use Rattle.kr_calls.specs.SeatList.{end_of}
 use Rattle.kr_defs.specs.declared.options.Options.{Options}
@@ -21,6 +21,10 @@ pub record Client : Type 0 where
   pub ticket : ℕ
   pub pushed : List Job
   pub held : List ℤ
+
+-- the seat's next call, with its job
+abbrev pub with_next_job : Client → Job → Client
+with_next_job s job = record s { ticket = raised s.ticket; pushed = s.pushed ++ job ∷ [] }
 
 -- the write of a call, which names the end of all that the seat has seen
 abbrev pub job_of_call : Client → ℕ → Call → Job

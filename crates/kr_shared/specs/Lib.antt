@@ -21,3 +21,4 @@ pub mod Tasks
 pub mod Turns
 pub mod WorkerFields
 pub mod Works
+pub mod inner

@@ -38,6 +38,18 @@ pub record Outside : Type 0 where
   pub asks' : ℕ
   pub last : ℤ
 
+-- that of a quorum and a clock, by what they tell
+abbrev pub outside : {Q C : Type 0} → (Q → Option (List (List ℕ))) → (Q → ℕ) → (C → ℕ) → (C → ℤ) → Q → Q → C → C → Outside
+outside pieces faults asks last quorum quorum' clock clock' = record {
+  pieces = pieces quorum;
+  pieces' = pieces quorum';
+  faults = faults quorum;
+  faults' = faults quorum';
+  asks = asks clock;
+  asks' = asks clock';
+  last = last clock';
+}
+
 -- nothing was appended
 abbrev pub IsQuiet : Outside → Type 0
 IsQuiet o = (o.pieces' ≡ o.pieces) × (o.faults' ≡ o.faults)
@@ -176,6 +188,10 @@ pub record IsDoneWhole (o : Outside) (old new : Bench) (job : Job) : Type 0 wher
   pub done : IsDone o old new job
   pub shown : new.shown ≡ new.work.shelf.list
   pub late : new.late ≡ false
+
+-- as the turn tells
+abbrev pub IsTurnOf : Outside → Bench → Bench → Job → Turn → Type 0
+IsTurnOf o old new job turn = (turn ≡ turn_of job) × IsDoneWhole o old new job
 
 -- or it stays
 pub record IsPutOff (o : Outside) (old new : Bench) (job : Job) : Type 0 where

@@ -11,7 +11,7 @@ ghost use Rattle.kr_queue.specs.Jobs.{may_push};
 ghost use Rattle.kr_queue.specs.Passes.{view, IsPassOf};
 ghost use Rattle.kr_queue.specs.QueueRule.{a_pass};
 ghost use Rattle.kr_view.specs.Seats.{Onward};
-ghost use Rattle.kr_shared.specs.Clients.{HasReadCause, MayRise, job_of_call};
+ghost use Rattle.kr_shared.specs.Clients.{HasReadCause, MayRise, job_of_call, with_next_job};
 ghost use Rattle.kr_shared.specs.Ends.{Ends, EndsBare};
 ghost use Rattle.kr_shared.specs.Submit.{IsAnswered, IsSubmitCause, Pushed, PushedAtFault};
 
@@ -303,11 +303,8 @@ impl ClientSeat {
     fn ask<R: Wait>(&mut self, rt: &R, call: &Call, floor: &i64) -> Result<(), NoMemory>
         requires write { IsTrue (not (is_read call.now.request)) }
         requires floor { floor.now ≡ end_of self.old.seen.list }
-        ensures ok { OnOk result (self.new ≡ record self.old {
-          ticket = raised self.old.ticket;
-          pushed = self.old.pushed ++ job_of_call self.old
-              (raised self.old.ticket) call.now ∷ [];
-        }) }
+        ensures ok { OnOk result (self.new ≡ with_next_job self.old
+            (job_of_call self.old (raised self.old.ticket) call.now)) }
         ensures err { OnErr result (self.new
             ≡ record self.old { ticket = raised self.old.ticket }) }
     {

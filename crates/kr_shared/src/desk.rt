@@ -14,10 +14,10 @@ ghost use Rattle.kr_shared.specs.Answers.{aside_noted};
 ghost use Rattle.kr_shared.specs.Desks.{ComesToSame, HasSpare, IsNewDesk, IsPrepared, IsCaughtUp, DeskStands, StaysDue, aside_by, cut_if, entered_by, settled, takes_writes};
 ghost use Rattle.kr_shared.specs.Gives.{GivesOut};
 ghost use Rattle.kr_shared.specs.Lines.{HasLineRoom, IsSeated, line_entry};
-ghost use Rattle.kr_shared.specs.Serves.{ServesEvent};
-ghost use Rattle.kr_shared.specs.Turns.{DoesJob, DoesRequest, DoesWhole, DoesWrite, LosesLed, LosesUnless, Notes, NotesUnlessAhead, job_again, pin_entry, write_job};
+ghost use Rattle.kr_shared.specs.Turns.{LosesLed, LosesUnless, Notes, NotesUnlessAhead, job_again, outside, write_job};
 ghost use Rattle.kr_shared.specs.Tasks.{IsTask, basis_at};
 ghost use Rattle.kr_shared.specs.Works.{IsBareNote, KeepsShown, Onwards, call_in, call_of};
+ghost use Rattle.kr_shared.specs.inner.DeskCalls.{ComesBack, ComesBackCaughtUp, DeskDoesJob, DeskPins, DeskServes, DeskServesRequest, DeskServesWhole, DeskWrites};
 
 use crate::answers::{Aside, Asking, asked_by};
 use crate::line::{Line, Note, bare_answer, note_of_decision, note_of_pin, note_of_unpin, stop};
@@ -382,15 +382,12 @@ impl Desk {
         requires rests { IsCaughtUp self.old }
         requires room { self.old.line.waits < self.old.line.room }
         requires task { IsTask self.old.engine event asking }
-        ensures done { IfOk result (λ served. ServesEvent (Q.pieces quorum.old)
-            (Q.pieces quorum.new) (Q.faults quorum.old)
-            (Q.faults quorum.new) (settled self.old) (settled self.new) event asking
-            served.appended served.refusal) }
+        ensures done { IfOk result (λ served. DeskServes Q.pieces Q.faults
+            quorum.old quorum.new self.old self.new event asking served) }
         ensures stands { OnOk result (DeskStands self.new × (self.new.cut ≡ false)
             × AreNotes self.new.line.due) }
-        ensures err { IfErr result (λ refused. (refused ≡ event) × (self.new ≡ self.old)
-            × (Q.pieces quorum.new ≡ Q.pieces quorum.old)
-            × (Q.faults quorum.new ≡ Q.faults quorum.old)) }
+        ensures err { IfErr result (λ refused. ComesBack Q.pieces Q.faults
+            refused event quorum.old quorum.new self.old self.new) }
         ensures shown { KeepsShown self.old.shelf self.new.shelf }
     {
         let led = self.is_led();
@@ -463,13 +460,11 @@ impl Desk {
         requires rests { IsCaughtUp self.old }
         requires room { self.old.line.waits < self.old.line.room }
         requires task { IsTask self.old.engine event asking }
-        ensures done { IfOk result (λ refusal. DoesWhole (Q.pieces quorum.old)
-            (Q.pieces quorum.new) (Q.faults quorum.old) (Q.faults quorum.new) (settled self.old)
-            (settled self.new) event asking refusal) }
+        ensures done { IfOk result (λ refusal. DeskServesWhole Q.pieces Q.faults
+            quorum.old quorum.new self.old self.new event asking refusal) }
         ensures stands { OnOk result (DeskStands self.new) }
-        ensures err { IfErr result (λ refused. (refused ≡ event) × (self.new ≡ self.old)
-            × (Q.pieces quorum.new ≡ Q.pieces quorum.old)
-            × (Q.faults quorum.new ≡ Q.faults quorum.old)) }
+        ensures err { IfErr result (λ refused. ComesBack Q.pieces Q.faults
+            refused event quorum.old quorum.new self.old self.new) }
         ensures shown { KeepsShown self.old.shelf self.new.shelf }
     {
         let Served { appended, refusal } = self.serve(quorum, event, asking, steps)?;
@@ -536,14 +531,11 @@ impl Desk {
         requires room { self.old.line.waits < self.old.line.room }
         requires write { IsTrue (not (is_read call.request)) }
         requires floor { IsTrue (not (int_lt self.old.engine.tip caller.floor)) }
-        ensures done { OnOk result (DoesRequest (Q.pieces quorum.old) (Q.pieces quorum.new)
-            (Q.faults quorum.old) (Q.faults quorum.new) (settled self.old) (settled self.new)
-            caller now.now call) }
+        ensures done { OnOk result (DeskServesRequest Q.pieces Q.faults
+            quorum.old quorum.new self.old self.new caller now.now call) }
         ensures stands { OnOk result (DeskStands self.new) }
-        ensures err { IfErr result (λ refused. (refused ≡ write_job caller call)
-            × (self.new ≡ self.old)
-            × (Q.pieces quorum.new ≡ Q.pieces quorum.old)
-            × (Q.faults quorum.new ≡ Q.faults quorum.old)) }
+        ensures err { IfErr result (λ refused. ComesBack Q.pieces Q.faults
+            refused (write_job caller call) quorum.old quorum.new self.old self.new) }
         ensures shown { KeepsShown self.old.shelf self.new.shelf }
     {
         let Caller {
@@ -591,22 +583,11 @@ impl Desk {
         requires rests { IsCaughtUp self.old }
         requires room { self.old.line.waits < self.old.line.room }
         requires write { IsTrue (not (is_read call.request)) }
-        ensures done { OnOk result (DoesWrite (int_lt self.old.engine.tip caller.floor)
-            (record {
-              pieces = Q.pieces quorum.old;
-              pieces' = Q.pieces quorum.new;
-              faults = Q.faults quorum.old;
-              faults' = Q.faults quorum.new;
-              asks = C.asks clock.old;
-              asks' = C.asks clock.new;
-              last = C.last clock.new;
-            }) (settled self.old) (settled self.new) caller.seat
-            caller.ticket caller.floor call) }
+        ensures done { OnOk result (DeskWrites (outside Q.pieces Q.faults C.asks C.last
+            quorum.old quorum.new clock.old clock.new) self.old self.new caller call) }
         ensures stands { OnOk result (DeskStands self.new) }
-        ensures err { IfErr result (λ refused. (refused ≡ write_job caller call)
-            × (self.new ≡ self.old)
-            × (Q.pieces quorum.new ≡ Q.pieces quorum.old)
-            × (Q.faults quorum.new ≡ Q.faults quorum.old)) }
+        ensures err { IfErr result (λ refused. ComesBack Q.pieces Q.faults
+            refused (write_job caller call) quorum.old quorum.new self.old self.new) }
         ensures shown { KeepsShown self.old.shelf self.new.shelf }
     {
         if self.is_behind(&caller.floor) {
@@ -645,9 +626,7 @@ impl Desk {
         requires stands { DeskStands self.old }
         requires rests { IsCaughtUp self.old }
         requires room { self.old.line.waits < self.old.line.room }
-        ensures done { NotesUnlessAhead (int_lt self.old.engine.tip caller.floor)
-            (settled self.old) (settled self.new) caller.seat caller.ticket
-            (pin_entry caller.seat caller.ticket self.old.engine.committed) }
+        ensures done { DeskPins self.old self.new caller }
         ensures stands { DeskStands self.new }
         ensures shown { self.new.shelf ≡ self.old.shelf }
     {
@@ -668,20 +647,11 @@ impl Desk {
         requires rests { IsCaughtUp self.old }
         requires room { self.old.line.waits < self.old.line.room }
         requires fit { IsTrue (is_fit job) }
-        ensures done { IfOk result (λ refusal. DoesJob (record {
-          pieces = Q.pieces quorum.old;
-          pieces' = Q.pieces quorum.new;
-          faults = Q.faults quorum.old;
-          faults' = Q.faults quorum.new;
-          asks = C.asks clock.old;
-          asks' = C.asks clock.new;
-          last = C.last clock.new;
-        }) (settled self.old) (settled self.new) job refusal) }
+        ensures done { IfOk result (λ refusal. DeskDoesJob (outside Q.pieces Q.faults C.asks C.last
+            quorum.old quorum.new clock.old clock.new) self.old self.new job refusal) }
         ensures stands { OnOk result (DeskStands self.new) }
-        ensures err { IfErr result (λ refused. (refused ≡ job)
-            × (self.new ≡ self.old)
-            × (Q.pieces quorum.new ≡ Q.pieces quorum.old)
-            × (Q.faults quorum.new ≡ Q.faults quorum.old)) }
+        ensures err { IfErr result (λ refused. ComesBack Q.pieces Q.faults
+            refused job quorum.old quorum.new self.old self.new) }
         ensures shown { KeepsShown self.old.shelf self.new.shelf }
     {
         match job {
@@ -749,20 +719,11 @@ impl Desk {
         requires stands { DeskStands self.old }
         requires rests { IsCaughtUp self.old }
         requires fit { IsTrue (is_fit job) }
-        ensures done { IfOk result (λ refusal. DoesJob (record {
-          pieces = Q.pieces quorum.old;
-          pieces' = Q.pieces quorum.new;
-          faults = Q.faults quorum.old;
-          faults' = Q.faults quorum.new;
-          asks = C.asks clock.old;
-          asks' = C.asks clock.new;
-          last = C.last clock.new;
-        }) (settled self.old) (settled self.new) job refusal) }
+        ensures done { IfOk result (λ refusal. DeskDoesJob (outside Q.pieces Q.faults C.asks C.last
+            quorum.old quorum.new clock.old clock.new) self.old self.new job refusal) }
         ensures stands { DeskStands self.new }
-        ensures err { IfErr result (λ refused. (refused ≡ job)
-            × (settled self.new ≡ settled self.old) × IsCaughtUp self.new
-            × (Q.pieces quorum.new ≡ Q.pieces quorum.old)
-            × (Q.faults quorum.new ≡ Q.faults quorum.old)) }
+        ensures err { IfErr result (λ refused. ComesBackCaughtUp Q.pieces Q.faults
+            refused job quorum.old quorum.new self.old self.new) }
         ensures shown { KeepsShown self.old.shelf self.new.shelf }
     {
         if self.make_room().is_err() {

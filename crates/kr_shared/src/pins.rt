@@ -1,12 +1,12 @@
 //! The places of the log that a client's seat holds.
 
-ghost use Rattle.std.specs.Prelude.{◌≡◌, ◌<◌, ◌≤◌, ◌++◌, ◌∷◌, [], length, IfOk, IfErr, IfSome, IsTrue, OnErr, OnOk, MatchResult};
+ghost use Rattle.std.specs.Prelude.{◌≡◌, ◌<◌, ◌≤◌, length, IfOk, IfErr, IfSome, IsTrue, OnErr, OnOk, MatchResult};
 ghost use Rattle.kr_base.specs.Causes.{raised};
 ghost use Rattle.kr_calls.specs.SeatList.{end_of};
 ghost use Rattle.kr_queue.specs.declared.passes.Role.TheVariants as roles;
 ghost use Rattle.kr_queue.specs.Jobs.{may_push};
 ghost use Rattle.kr_view.specs.Seats.{Onward};
-ghost use Rattle.kr_shared.specs.Clients.{MayRise};
+ghost use Rattle.kr_shared.specs.Clients.{MayRise, with_next_job};
 ghost use Rattle.kr_shared.specs.declared.pins.Wanted.TheVariants as wants;
 ghost use Rattle.kr_shared.specs.declared.places.TheConstants.{MOST_PLACES};
 ghost use Rattle.kr_shared.specs.HeldPlaces.{with_place, without_place};
@@ -151,11 +151,8 @@ impl ClientSeat {
 
     // Pushes what the next call wants.
     fn ask_for<R: Wait>(&mut self, rt: &R, wanted: &Wanted, floor: &i64) -> Result<(), NoMemory>
-        ensures ok { OnOk result (self.new ≡ record self.old {
-          ticket = raised self.old.ticket;
-          pushed = self.old.pushed ++ job_of_wanted self.old.number
-              (raised self.old.ticket) floor.now wanted.now ∷ [];
-        }) }
+        ensures ok { OnOk result (self.new ≡ with_next_job self.old
+            (job_of_wanted self.old.number (raised self.old.ticket) floor.now wanted.now)) }
         ensures err { OnErr result (self.new
             ≡ record self.old { ticket = raised self.old.ticket }) }
     {

@@ -8,7 +8,7 @@ ghost use Rattle.kr_queue.specs.Jobs.{is_fit};
 ghost use Rattle.kr_queue.specs.Passes.{view, IsPassOf};
 ghost use Rattle.kr_queue.specs.Steps.{Holds};
 ghost use Rattle.kr_shared.specs.Desks.{IsCaughtUp, DeskStands, settled};
-ghost use Rattle.kr_shared.specs.Turns.{IsDoneLate, IsDoneWhole, IsLate, StaysLate, TakesUp, Turned, events_with, is_stop, turn_of};
+ghost use Rattle.kr_shared.specs.Turns.{IsDoneLate, IsLate, IsTurnOf, StaysLate, TakesUp, Turned, events_with, is_stop, outside, turn_of};
 
 use crate::bell::Bell;
 use crate::clients::Bells;
@@ -191,24 +191,10 @@ impl WorkerSeat {
         requires some { 0 < L.parts }
         requires fit { IsTrue (is_fit job) }
         requires late { self.old.late ≡ false }
-        ensures done { IfOk result (λ turn. (turn ≡ turn_of job) × IsDoneWhole (record {
-          pieces = Q.pieces quorum.old;
-          pieces' = Q.pieces quorum.new;
-          faults = Q.faults quorum.old;
-          faults' = Q.faults quorum.new;
-          asks = C.asks clock.old;
-          asks' = C.asks clock.new;
-          last = C.last clock.new;
-        }) self.old self.new job) }
-        ensures late { OnErr result (IsDoneLate (record {
-          pieces = Q.pieces quorum.old;
-          pieces' = Q.pieces quorum.new;
-          faults = Q.faults quorum.old;
-          faults' = Q.faults quorum.new;
-          asks = C.asks clock.old;
-          asks' = C.asks clock.new;
-          last = C.last clock.new;
-        }) self.old self.new job) }
+        ensures done { IfOk result (λ turn. IsTurnOf (outside Q.pieces Q.faults C.asks C.last
+            quorum.old quorum.new clock.old clock.new) self.old self.new job turn) }
+        ensures late { OnErr result (IsDoneLate (outside Q.pieces Q.faults C.asks C.last
+            quorum.old quorum.new clock.old clock.new) self.old self.new job) }
     {
         let turn = turn_of(&job);
         let stops = is_stop(&job);
@@ -242,24 +228,10 @@ impl WorkerSeat {
         quorum: &mut Q,
         clock: &mut C,
     ) -> Result<Turn, NoMemory>
-        ensures turned { IfOk result (λ turn. Turned (record {
-          pieces = Q.pieces quorum.old;
-          pieces' = Q.pieces quorum.new;
-          faults = Q.faults quorum.old;
-          faults' = Q.faults quorum.new;
-          asks = C.asks clock.old;
-          asks' = C.asks clock.new;
-          last = C.last clock.new;
-        }) self.old self.new turn) }
-        ensures late { OnErr result (IsLate (record {
-          pieces = Q.pieces quorum.old;
-          pieces' = Q.pieces quorum.new;
-          faults = Q.faults quorum.old;
-          faults' = Q.faults quorum.new;
-          asks = C.asks clock.old;
-          asks' = C.asks clock.new;
-          last = C.last clock.new;
-        }) self.old self.new) }
+        ensures turned { IfOk result (λ turn. Turned (outside Q.pieces Q.faults C.asks C.last
+            quorum.old quorum.new clock.old clock.new) self.old self.new turn) }
+        ensures late { OnErr result (IsLate (outside Q.pieces Q.faults C.asks C.last
+            quorum.old quorum.new clock.old clock.new) self.old self.new) }
     {
         self.refusal = None;
         self.catch_up(rt)?;

@@ -82,6 +82,14 @@ pub record HasRoom (r : Tally) : Type 0 where
 abbrev pub body_in : Option Body → Image → Option (ℤ × Progress)
 body_in body image = option_map (λ (b : Body). (b.offset, progress_in b.tally image)) body
 
+-- behind the head: the offset and how far the records are, with the image so far
+abbrev pub standing_in : Body → Images → ℤ × Progress
+standing_in b images = (b.offset, progress_in b.tally images.tip)
+
+-- what was taken behind the head, with the bytes of the batch that isn't whole yet
+abbrev pub taken_behind : Body → Images → List ℕ → Taken
+taken_behind b images held = record { body = Some (standing_in b images); held = held }
+
 -- what was taken, as the reader holds it
 abbrev pub taken_in : Pieces → Taken
 taken_in p = record { body = body_in p.body p.store.tip; held = p.held.items }

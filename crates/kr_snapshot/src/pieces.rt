@@ -3,7 +3,7 @@
 ghost use Rattle.std.specs.Prelude.{◌≡◌, ◌≤◌, ◌<◌, ◌+◌, ◌++◌, length, drop, IfOk, IfErr, MatchResult, OnOk, Ok, Err, pos, negsuc, [], ◌∷◌, ℤ, ◌≤ℤ◌, ◌^◌, Some};
 ghost use Rattle.kr_defs.specs.Image.{empty};
 ghost use Rattle.kr_store.specs.Images.{no_images};
-ghost use Rattle.kr_snapshot.specs.ReaderState.{HasRoom, IsBegun, IsFault, IsUnfinished, IsWaiting, LeadsTo, Restores, Waits, body_in, progress_in, taken_in};
+ghost use Rattle.kr_snapshot.specs.ReaderState.{HasRoom, IsBegun, IsFault, IsUnfinished, IsWaiting, LeadsTo, Restores, Waits, body_in, progress_in, standing_in, taken_behind, taken_in};
 ghost use Rattle.kr_store.specs.Images.{kept_once};
 ghost use Rattle.kr_snapshot.specs.Reading as reading;
 
@@ -112,7 +112,8 @@ fn judge_batch(
     store: &mut ImageStore,
 ) -> Result<(), ImageFault>
     requires begun { IsBegun (Some body.old) store.old }
-    ensures read { LeadsTo result (record { body = Some (body.new.offset, progress_in body.new.tally store.new.tip); held = held.new.items }) (reading.batch_taken (body.old.offset, progress_in body.old.tally store.old.tip) held.old.items) }
+    ensures read { LeadsTo result (taken_behind body.new store.new held.new.items)
+        (reading.batch_taken (standing_in body.old store.old) held.old.items) }
     ensures begun { OnOk result (IsBegun (Some body.new) store.new) }
 {
     if held.len() < START {

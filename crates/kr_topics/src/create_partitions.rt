@@ -304,7 +304,8 @@ fn decide_create_partitions<S: Store, L: Ledger>(
     ensures answers { IfOk result (λ d.
         AnswersEach refused_create_partitions create_partitions.rule place.now request.now.topics
         (S.images store.old) d.1) }
-    ensures after { IfOk result (λ d. DecidesUnless refused_create_partitions create_partitions.rule request.now.validate_only place.now request.now.topics (S.images store.old) (S.images store.new) d.0) }
+    ensures after { IfOk result (λ d. room.CreatesPartitions place.now request.now
+        (S.images store.old) (S.images store.new) d.0) }
     ensures kept { (S.images store.new).kept ≡ (S.images store.old).kept }
     ensures calls { (S.images store.new).kept_made ≡ (S.images store.old).kept_made }
     ensures made { IfOk result (λ d. (S.images store.new).made ≤

@@ -9,6 +9,7 @@ use Rattle.kr_calls.specs.RightAnswers.{IsRightEntry}
 use Rattle.kr_calls.specs.SeatList.{entry_of, entry_seat, entry_ticket, last_of, stop_of}
 use Rattle.kr_view.specs.declared.looks.Look.{Look}
 use Rattle.kr_view.specs.declared.looks.Look.TheVariants.{Found, Stopped, NotYet}
+use Rattle.kr_view.specs.declared.rule.ThreadView.{ThreadView}
 
 abbrev pub without_entry : Option ℕ → Look
 without_entry (Some number) = Stopped number
@@ -34,3 +35,7 @@ abbrev pub LookTells : Options → ℕ → ℕ → List Entry → Look → Type 
 LookTells options seat ticket list (Found e) = HasRightEntry options list (entry_of e) × (entry_seat e ≡ seat) × (entry_ticket e ≡ ticket)
 LookTells options seat ticket list (Stopped number) = stop_of list ≡ Some number
 LookTells options seat ticket list NotYet = Unit {0}
+
+-- what a look tells a seat that has seen so much, of the ticket
+abbrev pub IsLook : ThreadView → ℕ → ℕ → Look → Type 0
+IsLook v seat ticket look = (look ≡ looked seat ticket v.list) × LookTells v.options seat ticket v.list look

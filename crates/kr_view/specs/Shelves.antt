@@ -2,6 +2,7 @@
 use Rattle.std.specs.Prelude.{◌≡◌, ℤ, List, [], ◌∷◌, ◌++◌, if◌then◌else◌}
 use Rattle.kr_defs.specs.declared.options.Options.{Options}
 use Rattle.kr_calls.specs.declared.events.Entry.{Entry}
+use Rattle.kr_view.specs.Showing.{Showing}
 use Rattle.kr_view.specs.Staged.{staged_above, staged_below, is_logged}
 
 -- the options, the published list, what an earlier publish chose that found no memory, and what is staged: of the log, and
@@ -12,6 +13,10 @@ pub record Shelf : Type 0 where
   pub waiting : List Entry
   pub items : List Entry
   pub notes : List Entry
+
+-- nothing is staged
+abbrev pub bare_shelf : Showing → List Entry → Shelf
+bare_shelf shown waiting = record { options = shown.options; list = shown.list; waiting = waiting; items = []; notes = [] }
 
 abbrev pub with_staged : Shelf → Entry → Shelf
 with_staged s e = if is_logged e then record s { items = s.items ++ e ∷ [] } else record s { notes = s.notes ++ e ∷ [] }

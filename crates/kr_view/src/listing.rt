@@ -1,10 +1,9 @@
 //! What topics and their partitions give, in the order of a walk, up to a number of rows.
 
-ghost use Rattle.std.specs.Prelude.{◌≡◌, ◌≤◌, ◌++◌, [], ℕ, ℤ, List, Some, IfOk, OnOk, flat_map, length, map, nat_le, take};
-ghost use Rattle.std.specs.Option.{option_copied, option_map_or, option_to_list};
-ghost use Rattle.kr_defs.specs.Map.{above, get, partition_order, text_order};
-ghost use Rattle.kr_defs.specs.Walk.{Walked, of_topic, walked};
-ghost use Rattle.kr_view.specs.Listings.{listed, listed_behind, rest_of_topic};
+ghost use Rattle.std.specs.Prelude.{◌≡◌, ◌≤◌, ◌++◌, ℕ, List, IfOk, OnOk, length, nat_le, take};
+ghost use Rattle.std.specs.Option.{option_copied, option_to_list};
+ghost use Rattle.kr_defs.specs.Walk.{Walked, walked};
+ghost use Rattle.kr_view.specs.Listings.{listed, listed_above, listed_behind, listed_rest, listed_topics};
 
 use kr_base::NoMemory;
 use kr_defs::{Partition, Rows, Text};
@@ -60,9 +59,8 @@ fn list_above<Y: Drop, P: Listing<Y>, S: Store>(
     rows: &mut Rows<Y>,
 ) -> Result<(), NoMemory>
     requires { length rows.old ≤ most }
-    ensures { OnOk result (rows.new ≡ take most (rows.old ++ map (λ e. P.rows listing.now (walked
-        name.now e)) (of_topic first.0 (above partition_order seen.now.partitions (Some
-        first))))) }
+    ensures { OnOk result (rows.new ≡ take most (rows.old ++
+        listed_above (P.rows listing.now) seen.now.partitions name.now first)) }
 {
     let mut after = first;
     while let Some((key, partition)) = seen.next_of_topic(&after) {
@@ -110,8 +108,8 @@ fn list_topic<Y: Drop, P: Listing<Y>, S: Store>(
     rows: &mut Rows<Y>,
 ) -> Result<(), NoMemory>
     requires { length rows.old ≤ most }
-    ensures { OnOk result (rows.new ≡ take most (rows.old ++ listed (P.heads listing.now) (P.rows
-        listing.now) seen.now.partitions (name.now, id.now))) }
+    ensures { OnOk result (rows.new ≡ take most (rows.old ++ listed (P.heads listing.now)
+        (P.rows listing.now) seen.now.partitions (name.now, id.now))) }
 {
     seen.is_valid();
     list_head(alloc, listing, name, id, most, rows)?;
@@ -130,9 +128,8 @@ pub(crate) fn list_topics<Y: Drop, P: Listing<Y>, S: Store>(
     rows: &mut Rows<Y>,
 ) -> Result<(), NoMemory>
     requires { length rows.old ≤ most }
-    ensures { OnOk result (rows.new ≡ take most (rows.old ++ flat_map (listed (P.heads
-        listing.now) (P.rows listing.now) seen.now.partitions) (above text_order
-        seen.now.topics (option_copied after.entry)))) }
+    ensures { OnOk result (rows.new ≡ take most (rows.old ++ listed_topics (P.heads listing.now)
+        (P.rows listing.now) seen.now (option_copied after.entry))) }
 {
     seen.is_valid();
     let mut last = after;
@@ -157,9 +154,8 @@ fn list_rest<Y: Drop, P: Listing<Y>, S: Store>(
     rows: &mut Rows<Y>,
 ) -> Result<(), NoMemory>
     requires { length rows.old ≤ most }
-    ensures { OnOk result (rows.new ≡ take most (rows.old ++ option_map_or (rest_of_topic (P.heads
-        listing.now) (P.rows listing.now) seen.now name.now index.now) (get text_order
-        seen.now.topics name.now) [])) }
+    ensures { OnOk result (rows.new ≡ take most (rows.old ++ listed_rest (P.heads listing.now)
+        (P.rows listing.now) seen.now name.now index.now)) }
 {
     let Some(topic) = seen.topic_named(name) else {
         return Ok(());

@@ -103,10 +103,11 @@ fn choose_notes(window: &mut Window, notes: &mut VecDeque<Entry>) -> Result<(), 
 }
 
 impl Publisher {
-    ghost use Rattle.kr_view.specs.Shelves.{next_at, shown_at, with_staged, IsDelayed};
+    ghost use Rattle.kr_view.specs.Shelves.{bare_shelf, next_at, shown_at, with_staged, IsDelayed};
 
     pub(crate) fn new(alloc: Global, copies: Copies) -> Publisher
-        ensures { result ≡ record { options = copies.desk.shown.value.options; list = copies.desk.shown.value.list; waiting = entries_in (drop copies.behind copies.log.items); items = []; notes = [] } }
+        ensures { result
+            ≡ bare_shelf copies.desk.shown.value (entries_in (drop copies.behind copies.log.items)) }
     {
         Publisher {
             window: Window::new(alloc, copies),

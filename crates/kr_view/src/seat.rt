@@ -7,7 +7,7 @@ ghost use Rattle.std.specs.Option.{option_copied};
 ghost use Rattle.kr_calls.specs.SeatList.{end_of, image_of, loads_of};
 ghost use Rattle.kr_view.specs.AtomicSteps.{all_seen};
 ghost use Rattle.kr_view.specs.Edges.{seen_by};
-ghost use Rattle.kr_view.specs.Looks.{looked, LookTells};
+ghost use Rattle.kr_view.specs.Looks.{IsLook};
 ghost use Rattle.kr_view.specs.Seats.{Onward};
 ghost use Rattle.kr_view.specs.HeldEdges.{HasEdgeCause, edge_reading};
 ghost use Rattle.kr_view.specs.Readers.{HasScanCause};
@@ -84,7 +84,7 @@ impl Model for ReaderSeat {
 fn look_once(held: Held, number: u32, ticket: u64) -> (Held, Result<Look, CopyFault>)
     requires { number ≤ 64 }
     ensures onward { Onward (seen_by held.edge) (seen_by result.0.edge) }
-    ensures found { IfOk result.1 (λ look. (look ≡ looked number ticket (seen_by result.0.edge).list) × LookTells (seen_by result.0.edge).options number ticket (seen_by result.0.edge).list look) }
+    ensures found { IfOk result.1 (λ look. IsLook (seen_by result.0.edge) number ticket look) }
     ensures cause { HasEdgeCause held.edge result.0.edge result.1 }
 {
     let Held { edge, end, loads } = held;
@@ -227,7 +227,7 @@ impl ReaderSeat {
     pub fn look(&mut self, ticket: u64) -> Result<Look, CopyFault>
         ensures same { self.new.number ≡ self.old.number }
         ensures onward { Onward self.old.seen self.new.seen }
-        ensures found { IfOk result (λ look. (look ≡ looked self.old.number ticket self.new.seen.list) × LookTells self.new.seen.options self.old.number ticket self.new.seen.list look) }
+        ensures found { IfOk result (λ look. IsLook self.new.seen self.old.number ticket look) }
         ensures cause { HasCopyCause self.old self.new result }
     {
         let number = self.number;

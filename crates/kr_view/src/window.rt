@@ -1,11 +1,11 @@
 //! The copies with their writer, and what was chosen to be shown next.
 
-ghost use Rattle.std.specs.Prelude.{◌≡◌, true, [], ◌∷◌, ◌++◌, drop, OnOk, OnErr, MatchResult, IfOk};
+ghost use Rattle.std.specs.Prelude.{◌≡◌, true, [], ◌++◌, drop, OnOk, OnErr, MatchResult, IfOk};
 ghost use Rattle.left_right.specs.Sides.{view};
 ghost use Rattle.kr_calls.specs.RightAnswers.{AreRightAfter};
 ghost use Rattle.kr_view.specs.CopiesRule.{seen};
 ghost use Rattle.kr_view.specs.Runs.{is_single};
-ghost use Rattle.kr_view.specs.Steps.{entries_in, HandsOver, ShowsAllOrNone};
+ghost use Rattle.kr_view.specs.Steps.{entries_in, HandsOver, ShowsLogOrNone};
 
 use crate::rule::{CopiesRule, Sees, ThreadView};
 use crate::run::{Run, Single, Step, is_single};
@@ -70,9 +70,8 @@ fn flush(copies: &mut Copies, run: &mut Run, alloc: Global) -> Result<(), NoMemo
 // Shows what was handed over.
 pub(crate) fn show<R: Wait>(copies: Copies, rt: &R) -> (Copies, Result<(), AllocError>)
     requires { AreRightAfter copies.desk.shown.value.options copies.desk.shown.value.list (entries_in (drop copies.behind copies.log.items)) }
-    ensures list { ShowsAllOrNone result.1
-        copies.desk.shown.value.list result.0.desk.shown.value.list
-        (drop copies.behind copies.log.items) (drop result.0.behind result.0.log.items) }
+    ensures list { ShowsLogOrNone result.1 copies.desk.shown.value result.0.desk.shown.value
+        copies.behind copies.log.items result.0.behind result.0.log.items }
     ensures options { result.0.desk.shown.value.options ≡ copies.desk.shown.value.options }
     ensures view { IfOk result.1 (λ _. view result.0.desk.place ≡ seen true result.0.desk.shown.value.options result.0.desk.shown.value.list) }
 {
@@ -82,9 +81,8 @@ pub(crate) fn show<R: Wait>(copies: Copies, rt: &R) -> (Copies, Result<(), Alloc
 // The same, where the writer stands.
 fn show_held<R: Wait>(copies: &mut Copies, rt: &R) -> Result<(), AllocError>
     requires { AreRightAfter copies.old.desk.shown.value.options copies.old.desk.shown.value.list (entries_in (drop copies.old.behind copies.old.log.items)) }
-    ensures list { ShowsAllOrNone result
-        copies.old.desk.shown.value.list copies.new.desk.shown.value.list
-        (drop copies.old.behind copies.old.log.items) (drop copies.new.behind copies.new.log.items) }
+    ensures list { ShowsLogOrNone result copies.old.desk.shown.value copies.new.desk.shown.value
+        copies.old.behind copies.old.log.items copies.new.behind copies.new.log.items }
     ensures options { copies.new.desk.shown.value.options ≡ copies.old.desk.shown.value.options }
 {
     replace_with(copies, rt, |copies, rt| show(copies, rt))

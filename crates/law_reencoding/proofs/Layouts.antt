@@ -24,7 +24,8 @@ use Rattle.kr_record.specs.Records.{chosen}
 use Rattle.kr_record.specs.RegisterBroker.{endpoint_layout, range_layout, register_broker, registration_parts}
 use Rattle.kr_record.specs.FenceBroker.{BrokerEpoch, broker_epoch as broker_epoch_layout}
 use Rattle.kr_record.specs.BrokerRegistrationChange.{flag_table, broker_registration_change}
-use Rattle.kr_record.specs.Topic.{topic as topic_kind, remove_topic}
+use Rattle.kr_record.specs.Topic.{topic as topic_kind}
+use Rattle.kr_record.specs.RemoveTopic.{remove_topic}
 use Rattle.kr_record.specs.Partition.{extra_table, partition as partition_kind, partition_parts}
 use Rattle.kr_record.specs.PartitionChange.{change_table, change_parts, partition_change}
 use Rattle.kr_record.specs.Config.{config as config_kind}

@@ -46,12 +46,15 @@ fn commit(place: u8) -> [u8; 17] {
     frame
 }
 
-// What came over the link: the batches one behind the other, where each begins and the last ends, and images.
+// What came over the link: the batches one behind the other, where each begins and the last ends, images, and refusals.
 #[derive(Drop)]
 struct Seen {
+    // How many batches came, each of them committed.
+    place: u8,
     log: Vec<u8>,
     ends: Vec<usize>,
     images: Vec<Vec<u8>>,
+    refusals: Vec<Vec<u8>>,
 }
 
 // The kind of the frame that comes next, and what follows it.
@@ -64,35 +67,53 @@ fn next_frame(alloc: Global, mut stream: &TcpStream) -> io::Result<(u8, Vec<u8>)
     Ok((head[4], body))
 }
 
-fn is_refused(alloc: Global, mut stream: &TcpStream, body: &[u8; 33]) -> io::Result<bool> {
-    stream.write_all(&BAD_COMMIT)?;
-    let (kind, told) = next_frame(alloc, stream)?;
-    Ok(kind == REFUSAL && told.as_slice() == body.as_slice())
+// The batch is committed. Behind the first of them an image is asked for, behind the last another.
+fn commit_batch(seen: &mut Seen, mut stream: &TcpStream, batch: &[u8]) -> io::Result<()> {
+    seen.log.extend_from_slice(batch)?;
+    seen.ends.push(seen.log.len())?;
+    seen.place = seen.place.saturating_add(1);
+    stream.write_all(&commit(seen.place))?;
+    if seen.place == 1 || seen.place == CLIENTS {
+        stream.write_all(&IMAGE)?;
+    }
+    Ok(())
 }
 
-// Commits each batch as it comes. Behind the first it asks for an image, behind the last for another.
-fn commit_all(alloc: Global, mut stream: &TcpStream) -> io::Result<Seen> {
+// Commits each batch as it comes. A client may write before the wrong event is taken, and an image is made beside all else,
+// so that the three batches, the two images and the refusal come in any order.
+fn commit_all(alloc: Global, stream: &TcpStream) -> io::Result<Seen> {
     let mut seen = Seen {
+        place: 0,
         log: Vec::new(alloc),
         ends: vec![in alloc; 0]?,
         images: Vec::new(alloc),
+        refusals: Vec::new(alloc),
     };
-    let mut place: u8 = 0;
-    for _ in 0..CLIENTS + 2 {
+    for _ in 0..CLIENTS + 3 {
         let (kind, body) = next_frame(alloc, stream)?;
-        if kind == IMAGE_TEXT {
-            seen.images.push(body)?;
-        } else if kind == APPEND {
-            seen.log.extend_from_slice(body.as_slice())?;
-            seen.ends.push(seen.log.len())?;
-            place = place.saturating_add(1);
-            stream.write_all(&commit(place))?;
-            if place == 1 || place == CLIENTS {
-                stream.write_all(&IMAGE)?;
-            }
+        match kind {
+            APPEND => commit_batch(&mut seen, stream, body.as_slice())?,
+            IMAGE_TEXT => seen.images.push(body)?,
+            REFUSAL => seen.refusals.push(body)?,
+            _ => (),
         }
     }
     Ok(seen)
+}
+
+// The one refusal so far is the first.
+fn is_refused_once(seen: &Seen) -> bool {
+    match seen.refusals.first() {
+        Some(told) => seen.refusals.len() == 1 && told.as_slice() == REFUSED.as_slice(),
+        None => false,
+    }
+}
+
+// Nothing else is to come: the next frame is the refusal of a wrong event.
+fn is_refused_again(alloc: Global, mut stream: &TcpStream) -> io::Result<bool> {
+    stream.write_all(&BAD_COMMIT)?;
+    let (kind, told) = next_frame(alloc, stream)?;
+    Ok(kind == REFUSAL && told.as_slice() == REFUSED_AGAIN.as_slice())
 }
 
 // An image is the fold of the batches up to its place, byte for byte.
@@ -108,12 +129,12 @@ fn is_folded(alloc: Global, seen: &Seen, image: &[u8]) -> Result<bool, NoMemory>
     Ok(is_whole && output.written() == image)
 }
 
-// Leads, and is told why an event was refused, before and behind all commits and images; then ends the link.
+// Leads, sends an event that is refused, commits all, sends another that is refused, and ends the link.
 fn lead(alloc: Global, mut stream: &TcpStream) -> io::Result<Option<Seen>> {
     stream.write_all(&LEAD)?;
-    let is_told = is_refused(alloc, stream, &REFUSED)?;
+    stream.write_all(&BAD_COMMIT)?;
     let seen = commit_all(alloc, stream)?;
-    let is_told = is_refused(alloc, stream, &REFUSED_AGAIN)? && is_told;
+    let is_told = is_refused_again(alloc, stream)? && is_refused_once(&seen);
     stream.write_all(&END)?;
     Ok(if is_told { Some(seen) } else { None })
 }

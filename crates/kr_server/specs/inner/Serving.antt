@@ -1,5 +1,5 @@
 -- How the serving of a connection goes on, message by message.
-use Rattle.std.specs.Prelude.{◌≡◌, ℕ, List, [], ◌∷◌, length, Result, MatchResult}
+use Rattle.std.specs.Prelude.{◌≡◌, ℕ, List, [], ◌∷◌, length, Option, Result, MatchResult}
 use Rattle.std.specs.Io.KnownBytes.{Appends, Consumes}
 use Rattle.kr_base.specs.FailedPuts.{AppendsFront}
 use Rattle.kr_wire.specs.Grammar.{Each}
@@ -13,7 +13,7 @@ use Rattle.kr_server.specs.declared.end.ServeEnd.TheVariants as ends
 use Rattle.kr_server.specs.declared.exchange.Exchange.{Exchange}
 use Rattle.kr_server.specs.Exchanges.{IsAskedFor, IsMessageOf, SizedReplyFits, sized_reply}
 use Rattle.kr_server.specs.SeatCalls.{AreExchanged, IsExchanged, IsRefusedRead, IsRefusedWrite, IsWithoutMemory}
-use Rattle.kr_server.specs.Served.{Connection, Served, WroteReplies}
+use Rattle.kr_server.specs.Served.{Connection, Served, WroteReplies, connection}
 use Rattle.kr_server.specs.Told.{TellsMore}
 
 -- Whole messages were taken up to this place, and their exchanges told and replied.
@@ -32,6 +32,11 @@ abbrev pub ServesOn : Connection → Connection → ℕ → Result ℕ ServeEnd 
 ServesOn before after at result =
     (first : Connection) → ServedSoFar first before at
     → MatchResult result (λ next. ServedSoFar first after next) (λ end. Served first after end)
+
+-- the same of a seat, and of a source, a sink and a transcript, by what they tell
+abbrev pub ServesNext : {S K T : Type 0} → (S → Option (List ℕ)) → (K → Option (List ℕ)) → (T → Option (List Exchange)) → S → S → K → K → T → T → Client → Client → ℕ → Result ℕ ServeEnd → Type 0
+ServesNext left written told source source' sink sink' transcript transcript' seat seat' at result =
+    ServesOn (connection (left source) (written sink) (told transcript) seat) (connection (left source') (written sink') (told transcript') seat') at result
 
 -- ---- one message, which doesn't touch the source
 
@@ -76,6 +81,11 @@ IsNotAnswered message old new other = IsSilent old new × IsNotExchanged message
 abbrev pub AnswersMessage : List ℕ → Connection → Connection → Result (Unit {0}) ServeEnd → Type 0
 AnswersMessage message before after result =
     MatchResult result (λ _. IsAnsweredBy message before after) (λ end. IsNotAnswered message before after end)
+
+-- the same of a seat, a sink and a transcript, by what they tell, whatever is left to read
+abbrev pub AnswersOne : {K T : Type 0} → (K → Option (List ℕ)) → (T → Option (List Exchange)) → List ℕ → K → K → T → T → Client → Client → Result (Unit {0}) ServeEnd → Type 0
+AnswersOne written told message sink sink' transcript transcript' seat seat' result =
+    (left left' : Option (List ℕ)) → AnswersMessage message (connection left (written sink) (told transcript) seat) (connection left' (written sink') (told transcript') seat') result
 
 -- how a refused write ends the connection
 abbrev pub refusal_end : SubmitFault → ServeEnd

@@ -18,6 +18,7 @@ use Rattle.kr_calls.specs.declared.errors.TheConstants.{INVALID_CONFIG, INVALID_
 use Rattle.kr_calls.specs.declared.deciding.Draft.{Draft}
 use Rattle.kr_calls.specs.declared.create_topics.CreatableTopic.{CreatableTopic}
 use Rattle.kr_calls.specs.declared.create_topics.CreatableTopicResult.{CreatableTopicResult}
+use Rattle.kr_calls.specs.declared.create_partitions.CreatePartitions.{CreatePartitions}
 use Rattle.kr_calls.specs.declared.create_partitions.CreatePartitionsAssignment.{CreatePartitionsAssignment}
 use Rattle.kr_calls.specs.declared.create_partitions.CreatePartitionsTopic.{CreatePartitionsTopic}
 use Rattle.kr_calls.specs.declared.create_partitions.CreatePartitionsTopicResult.{CreatePartitionsTopicResult}
@@ -27,7 +28,7 @@ use Rattle.kr_calls.specs.CreateTopics.{Layout}
 use Rattle.kr_calls.specs.Deciding.{over_a_limit}
 use Rattle.kr_calls.specs.NewPartitions.{new_partitions}
 use Rattle.kr_calls.specs.declared.create_topics.CreateTopics.{CreateTopics}
-use Rattle.kr_calls.specs.Refuse.{refused_create_topics}
+use Rattle.kr_calls.specs.Refuse.{refused_create_partitions, refused_create_topics}
 use Rattle.kr_rules.specs.Decisions.{DecidesUnless}
 use Rattle.kr_store.specs.Images.{Images}
 use Rattle.kr_place.specs.Placing.{Grouped, placed_in}
@@ -154,3 +155,8 @@ CreatesOn those options validate_only =
 abbrev pub CreatesTopics : Options → ℤ → CreateTopics → Images → Images → List Record → Type 0
 CreatesTopics options place request =
     DecidesUnless refused_create_topics (create_topics.rule options request.validate_only) request.validate_only place request.topics
+
+-- the records of a whole request for more partitions
+abbrev pub CreatesPartitions : ℤ → CreatePartitions → Images → Images → List Record → Type 0
+CreatesPartitions place request =
+    DecidesUnless refused_create_partitions create_partitions.rule request.validate_only place request.topics

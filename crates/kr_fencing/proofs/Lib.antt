@@ -1,0 +1,4 @@
+pub mod Indexes
+pub mod KeptIndexes
+pub mod KeyLists
+pub mod NamedChanges

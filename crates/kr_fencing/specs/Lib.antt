@@ -1,0 +1,3 @@
+pub mod FencingIndex
+pub mod FencingLaws
+pub mod Leaving

@@ -1,0 +1,66 @@
+//! The records that fence a broker.
+
+ghost use Rattle.std.specs.Prelude.{◌≡◌, ◌∷◌, [], pos, false, IfOk};
+ghost use Rattle.kr_defs.specs.declared.record.Record.TheVariants as kinds;
+ghost use Rattle.kr_calls.specs.TakingOut as taking;
+ghost use Rattle.kr_fencing.specs.FencingIndex.{Indexes};
+ghost use Rattle.kr_fencing.specs.Leaving.{records_at_each};
+
+use crate::FencingIndex;
+use crate::leaving::{add_changes, leaver_of};
+use kr_base::NoMemory;
+use kr_defs::{Record, Records};
+use kr_store::{Seen, Store};
+use std::alloc::Global;
+
+fn fence_record(broker: &i32, epoch: &i64) -> Record
+    ensures { result ≡ kinds.BrokerRegistrationChange broker.now epoch.now (pos 1) (pos 0) }
+{
+    Record::BrokerRegistrationChange {
+        broker: *broker,
+        epoch: *epoch,
+        fenced: 1,
+        stopping: 0,
+    }
+}
+
+// The broker is fenced, and taken out of the partitions with these keys.
+fn fencing_of_keys<S: Store>(
+    alloc: Global,
+    seen: &Seen<S>,
+    minimum: &i32,
+    broker: &i32,
+    epoch: &i64,
+    keys: &[(u128, i32)],
+) -> Result<Records, NoMemory>
+    ensures { IfOk result (λ records. records ≡
+        kinds.BrokerRegistrationChange broker.now epoch.now (pos 1) (pos 0) ∷
+        records_at_each (taking.taking_out minimum.now seen.now broker.now false) seen.now keys.now) }
+{
+    let leaver = leaver_of(alloc, seen, minimum, broker)?;
+    let mut records = Records::new(alloc);
+    records.push(fence_record(broker, epoch))?;
+    add_changes(alloc, seen, &leaver, keys, &mut records)?;
+    Ok(records)
+}
+
+/// The records that fence a broker of this epoch. Where the index lists the broker, no other partitions are looked at than
+/// those that it says.
+pub fn fencing_records<S: Store>(
+    alloc: Global,
+    seen: &Seen<S>,
+    minimum: &i32,
+    broker: &i32,
+    epoch: &i64,
+    index: &FencingIndex,
+) -> Result<Records, NoMemory>
+    requires { Indexes index.now seen.now }
+    ensures { IfOk result (λ records. records ≡
+        taking.fencing minimum.now seen.now broker.now epoch.now) }
+{
+    seen.is_valid();
+    match index.keys(broker) {
+        None => kr_walks::fencing_records(alloc, seen, minimum, broker, epoch),
+        Some(keys) => fencing_of_keys(alloc, seen, minimum, broker, epoch, keys.as_slice()),
+    }
+}
