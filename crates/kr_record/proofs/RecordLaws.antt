@@ -96,10 +96,10 @@ module _ (key version : ℕ) (bytes : List ℕ) (fits : IsBytes bytes) where
   layout_sound : Reads (layout_at key version bytes)
   unfolding layout_at chosen
   layout_sound =
-      kind_or register_broker refl (λ x front e is. (e, is)) _ (kind_or unregister_broker refl (λ x front e is. (e, is)) _ (kind_or topic refl (λ x front e is. (e, is)) _
-      (kind_or partition refl (λ x front e is. (e, is)) _ (kind_or config refl (λ x front e is. (e, is)) _ (kind_or partition_change refl (λ x front e is. (e, is)) _
-      (kind_or fence_broker refl (λ x front e is. (e, is)) _ (kind_or unfence_broker refl (λ x front e is. (e, is)) _ (kind_or remove_topic refl (λ x front e is. (e, is)) _
-      (kind_or feature_level refl (λ x front e is. (e, is)) _ (kind_or broker_registration_change refl (λ x front e is. (e, is)) _ (kind_or no_op refl (λ x front e is. (e, is)) _
+      kind_or register_broker refl (λ x front e is. (e, is.0, is.1)) _ (kind_or unregister_broker refl (λ x front e is. (e, is.0, is.1)) _ (kind_or topic refl (λ x front e is. (e, is.0, is.1)) _
+      (kind_or partition refl (λ x front e is. (e, is.0, is.1)) _ (kind_or config refl (λ x front e is. (e, is.0, is.1)) _ (kind_or partition_change refl (λ x front e is. (e, is.0, is.1)) _
+      (kind_or fence_broker refl (λ x front e is. (e, is.0, is.1)) _ (kind_or unfence_broker refl (λ x front e is. (e, is.0, is.1)) _ (kind_or remove_topic refl (λ x front e is. (e, is.0, is.1)) _
+      (kind_or feature_level refl (λ x front e is. (e, is.0, is.1)) _ (kind_or broker_registration_change refl (λ x front e is. (e, is.0, is.1)) _ (kind_or no_op refl (λ x front e is. (e, is.0, is.1)) _
       (λ r rest e. absurd cc))))))))))))
 
 layout_complete : (key version : ℕ) (r : Record) (bytes rest : List ℕ) → IsLayout key version r bytes → layout_at key version (bytes ++ rest) ≡ Ok (r, rest)
@@ -107,7 +107,7 @@ layout_complete key version r bytes rest is =
     let s = is_chosen r in
     let k = (chosen r).kind in
     let front : Record → Result (Record × List ℕ) RecordFault = λ x. Ok (x, rest) in
-    rw (is.0, s.found) (complete_last (parts_law k s.served version) (chosen r).parts k.record_of rest bytes is.1 ∙ ap front s.back)
+    rw (is.0, s.found) (complete_last (parts_law k s.served version) (chosen r).parts k.record_of rest bytes (is.1, is.2) ∙ ap front s.back)
 
 -- ---- records
 
@@ -155,5 +155,3 @@ pub only : (bytes : List ℕ) (answer : Result Record RecordFault) → Gives ans
 only bytes answer given r is = subst (λ (f : Result Record RecordFault). Gives answer f) (of_complete bytes r is) given
 
 pub ruleset decoded = (found, only)
-
-pub ruleset laws = (one_record, of_complete)

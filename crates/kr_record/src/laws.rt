@@ -11,7 +11,6 @@ ghost use Rattle.kr_record.specs.Reading.{record_of};
 ghost use Rattle.kr_record.specs.Spelling.{record_value};
 
 /// Bytes stand for one record at most, and what stands for a record is read as it.
-#[tactic(auto, using(crate::proofs::RecordLaws::laws))]
 pub fn records()
     ensures one { (r : AnyRecord) (s : AnyRecord) (bytes : List ℕ) → IsRecord r bytes → IsRecord s bytes → r ≡ s }
     ensures read { (r : AnyRecord) (bytes : List ℕ) → IsRecord r bytes → record_of bytes ≡ Ok r }
