@@ -1,3 +1,4 @@
 pub mod FencingMeanings
+pub mod NoElections
 pub mod StoppingBeats
 pub mod UnfencedBrokers

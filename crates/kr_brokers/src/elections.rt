@@ -1,6 +1,7 @@
 //! The elections that a broker may win once it is unfenced.
 
 ghost use Rattle.std.specs.Prelude.{◌≡◌, ◌++◌, ◌&&◌, ◌||◌, not, negsuc, pos, ◌∷◌, [], Some, None, IfOk, OnOk, filter, map, if◌then◌else◌};
+ghost use Rattle.std.specs.List.{list_any};
 ghost use Rattle.std.specs.Ordering.{int_cmp, int_eq};
 ghost use Rattle.kr_defs.specs.declared.record.Record.TheVariants as kinds;
 ghost use Rattle.kr_defs.specs.Brokers as brokers;
@@ -97,7 +98,22 @@ impl Change for Candidate {
     }
 }
 
-// Adds the elections that the broker may win.
+// A partition waits for the broker.
+fn is_awaited<S: Store>(seen: &Seen<S>, broker: &i32) -> bool
+    ensures { result ≡ list_any (λ e. broker_heartbeat.waits_for broker.now e.1) seen.now.partitions }
+{
+    seen.is_valid();
+    let mut after = None;
+    while let Some((key, partition)) = seen.next_partition(after) {
+        if waits_for(broker, partition) {
+            return true;
+        }
+        after = Some(key);
+    }
+    false
+}
+
+// Adds the elections that the broker may win. Where no partition waits for it, the other brokers aren't looked at.
 fn add_elections<S: Store>(
     alloc: Global,
     seen: &Seen<S>,
@@ -109,6 +125,10 @@ fn add_elections<S: Store>(
     requires { entries.get int_cmp seen.now.brokers broker.now ≡ Some state.now }
     ensures { OnOk result (records.new ≡ records.old ++ changes_of (broker_heartbeat.electing minimum.now seen.now broker.now state.now) (walk seen.now)) }
 {
+    seen.is_valid();
+    if !is_awaited(seen, broker) {
+        return Ok(());
+    }
     let active = active_with(alloc, seen, broker, state)?;
     let rule = candidate_of(minimum, active, broker);
     add_changes(alloc, seen, &rule, records)
