@@ -7,7 +7,7 @@ ghost use Rattle.kr_fencing.specs.Leaving.{records_at, records_in_topic, records
 use kr_base::NoMemory;
 use kr_defs::{Records, Topic};
 use kr_store::{Seen, Store};
-use kr_walks::{add_change, taking_out};
+use kr_walks::{add_change, leaving_change};
 use std::alloc::Global;
 
 // The change of the partition of a topic.
@@ -27,7 +27,7 @@ fn add_in_topic<S: Store>(
         None => Ok(()),
         Some(partition) => {
             let name = &topic.name;
-            let change = taking_out(alloc, seen, minimum, broker, false, name, key, partition)?;
+            let change = leaving_change(alloc, seen, minimum, broker, false, name, key, partition)?;
             add_change(records, key, change)
         }
     }

@@ -94,7 +94,7 @@ fn without_broker(
 
 /// The change that takes a broker out of a partition, as restarted where it has restarted uncleanly. `minimum` is that of the
 /// options.
-pub fn taking_out<S: Store>(
+pub fn leaving_change<S: Store>(
     alloc: Global,
     seen: &Seen<S>,
     minimum: &i32,
@@ -126,7 +126,7 @@ impl Change for Leaver {
         partition: &Partition,
     ) -> Result<Option<PartitionChange>, NoMemory> {
         let minimum = &self.minimum;
-        taking_out(
+        leaving_change(
             alloc,
             seen,
             minimum,
