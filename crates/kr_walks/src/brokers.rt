@@ -67,9 +67,15 @@ impl BrokerTest for ActiveOnes {
 
 /// The active brokers but for one.
 #[derive(Clone, Copy, Drop)]
-pub struct ActiveOthers {
-    /// The one that counts as not active.
-    pub broker: i32,
+pub(crate) struct ActiveOthers {
+    broker: i32,
+}
+
+/// All active brokers but this one.
+pub(crate) fn others_than(broker: &i32) -> ActiveOthers
+    ensures { result ≡ record { broker = broker.now } }
+{
+    ActiveOthers { broker: *broker }
 }
 
 impl BrokerTest for ActiveOthers {

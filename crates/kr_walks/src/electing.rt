@@ -7,7 +7,7 @@ ghost use Rattle.kr_defs.specs.Ids.{has, without};
 ghost use Rattle.kr_defs.specs.Settings.{facts_with};
 ghost use Rattle.kr_walks.specs.BrokerIds.{ids_where};
 
-use crate::brokers::{ActiveOthers, BrokerTest};
+use crate::brokers::{BrokerTest, others_than};
 use crate::settings::{is_unclean, minimum_of};
 use kr_base::NoMemory;
 use kr_change::{Conditions, build_under};
@@ -94,6 +94,6 @@ pub fn build_without<S: Store>(
     ensures { IfOk result (λ change. change ≡ built partition.now want.now
         (facts_with otherwise.now seen.now (without (active seen.now) (broker.now ∷ [])) topic.now)) }
 {
-    let others = ActiveOthers { broker: *broker };
+    let others = others_than(broker);
     build_with(alloc, seen, &others, otherwise, topic, partition, want)
 }
