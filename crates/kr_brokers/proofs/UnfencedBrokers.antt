@@ -1,6 +1,6 @@
 -- The active brokers once one of them is unfenced.
 use Rattle.std.proofs.Common.{◌≡◌, ◌∙◌, ℤ, pos, negsuc, Bool, true, false, not, ◌&&◌, ◌||◌, cond, List, [], ◌∷◌, refl, sym, ap, subst}
-use Rattle.std.specs.Prelude.{Some, None, filter, map}
+use Rattle.std.specs.Prelude.{Some, None, filter, map, if◌then◌else◌}
 use Rattle.std.specs.declared.cmp.Ordering.TheVariants.{Less, Equal, Greater}
 use Rattle.std.specs.Ordering.{is_eq, match_ordering, ordering_reverse, int_cmp, int_eq}
 use Rattle.std.specs.BTreeMap.{insert_entry}
@@ -10,14 +10,21 @@ use Rattle.std.specs.Map.{keys_of}
 use Rattle.std.proofs.lemmas.Cmp.{int_cmp_total}
 use Rattle.kr_defs.specs.declared.broker.Broker.{Broker}
 use Rattle.kr_defs.specs.Apply.{changed}
+use Rattle.kr_defs.specs.declared.record.Record.{Record}
 use Rattle.kr_defs.specs.Brokers.{is_active, active_of}
+use Rattle.kr_defs.specs.Build.{built}
+use Rattle.kr_defs.specs.DefaultWant.{default_want}
+use Rattle.kr_defs.specs.Image.{Image}
 use Rattle.kr_defs.specs.Map.{IsMap, get, insert}
+use Rattle.kr_defs.specs.Settings.{facts_with}
+use Rattle.kr_defs.specs.Walk.{changes_of, walk}
 use Rattle.kr_defs.proofs.IdLists.{same_id}
 use Rattle.kr_defs.proofs.Maps.{below_all, none_below}
 use Rattle.kr_defs.proofs.Tests.{some_is}
 use Rattle.kr_defs.proofs.Walks.{behind_apart}
+use Rattle.kr_calls.specs.BrokerHeartbeat.{electing, waits_for}
 use Rattle.kr_walks.specs.BrokerIds.{ids_where}
-use Rattle.kr_brokers.specs.Unfencing.{active_with}
+use Rattle.kr_brokers.specs.Unfencing.{active_with, electing_with}
 
 module _ (b : ℤ) where
   abbrev ids : List (ℤ × Broker) → List ℤ
@@ -76,3 +83,9 @@ module _ (b : ℤ) where
               ]
               ∙ sym (ap (λ c. map (λ (x : ℤ × Broker). x.0) (cond c (e ∷ filter (active_with b) es) (filter (active_with b) es))) (another e apart))
         ] refl found
+
+pub elections_once_unfenced : (minimum b : ℤ) (image : Image) (state : Broker) → IsMap int_cmp image.brokers → get int_cmp image.brokers b ≡ Some state
+    → changes_of (electing_with minimum b image) (walk image) ≡ changes_of (electing minimum image b state) (walk image)
+elections_once_unfenced minimum b image state ordered found =
+    let elections : List ℤ → List Record = λ active. changes_of (λ w. if waits_for b w.partition then built w.partition (default_want w.partition) (facts_with minimum image active w.topic) else None) (walk image) in
+    ap elections (sym (active_once_unfenced b state image.brokers ordered found))

@@ -3,13 +3,16 @@
 ghost use Rattle.std.specs.Prelude.{◌≡◌, ◌++◌, negsuc, pos, Some, IfOk, OnOk};
 ghost use Rattle.std.specs.Ordering.{int_cmp};
 ghost use Rattle.kr_defs.specs.declared.record.Record.TheVariants as kinds;
+ghost use Rattle.kr_defs.specs.Build.{built};
 ghost use Rattle.kr_defs.specs.Map as entries;
+ghost use Rattle.kr_defs.specs.Settings.{facts_with};
 ghost use Rattle.kr_defs.specs.Walk.{changes_of, walk};
 ghost use Rattle.kr_calls.specs.BrokerHeartbeat as broker_heartbeat;
+ghost use Rattle.kr_walks.specs.BrokerIds.{ids_where};
 ghost use Rattle.kr_brokers.specs.Unfencing.{active_with, electing_with};
 
 use kr_base::NoMemory;
-use kr_defs::{Broker, Partition, PartitionChange, Record, Records, Text};
+use kr_defs::{Broker, Partition, PartitionChange, Record, Records, Text, Want};
 use kr_store::{Seen, Store};
 use kr_walks::{BrokerTest, Change, add_changes, build_with, default_want, is_active};
 use std::alloc::Global;
@@ -56,6 +59,23 @@ fn waits_for(broker: &i32, partition: &Partition) -> bool
     partition.leader == -1 && partition.replicas.contains(broker)
 }
 
+// The change of a partition where the brokers are active that are once this one is unfenced.
+fn build_unfenced<S: Store>(
+    alloc: Global,
+    seen: &Seen<S>,
+    broker: &i32,
+    minimum: &i32,
+    topic: &Text,
+    partition: &Partition,
+    want: &Want,
+) -> Result<Option<PartitionChange>, NoMemory>
+    ensures { IfOk result (λ change. change ≡ built partition.now want.now
+        (facts_with minimum.now seen.now (ids_where (active_with broker.now) seen.now.brokers) topic.now)) }
+{
+    let test = active_with_test(broker);
+    build_with(alloc, seen, &test, minimum, topic, partition, want)
+}
+
 impl Change for Candidate {
     ghost change = { λ t image w. electing_with t.minimum t.broker image w };
 
@@ -71,8 +91,8 @@ impl Change for Candidate {
             return Ok(None);
         }
         let want = default_want(alloc, partition)?;
-        let test = active_with_test(&self.broker);
-        build_with(alloc, seen, &test, &self.minimum, topic, partition, &want)
+        let broker = &self.broker;
+        build_unfenced(alloc, seen, broker, &self.minimum, topic, partition, &want)
     }
 }
 
@@ -90,7 +110,8 @@ fn add_elections<S: Store>(
 {
     seen.is_valid();
     let rule = candidate_of(minimum, broker);
-    add_changes(alloc, seen, &rule, records)
+    add_changes(alloc, seen, &rule, records)?;
+    Ok(())
 }
 
 fn unfence_record(broker: &i32, epoch: &i64) -> Record

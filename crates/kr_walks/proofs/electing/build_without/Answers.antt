@@ -1,4 +1,4 @@
-use Rattle.std.proofs.Common.{◌≡◌, ◌∷◌, []}
+use Rattle.std.proofs.Common.{◌∷◌, []}
 use Rattle.kr_defs.specs.Brokers.{is_active}
 use Rattle.kr_walks.proofs.BrokerIds.{ids_without}
 use Rattle.kr_walks.proofs.electing.build_without.Goals as goal
