@@ -106,7 +106,8 @@ fn add_elections<S: Store>(
     records: &mut Records,
 ) -> Result<(), NoMemory>
     requires { entries.get int_cmp seen.now.brokers broker.now ≡ Some state.now }
-    ensures { OnOk result (records.new ≡ records.old ++ changes_of (broker_heartbeat.electing minimum.now seen.now broker.now state.now) (walk seen.now)) }
+    ensures { OnOk result (records.new ≡ records.old ++ changes_of
+        (broker_heartbeat.electing minimum.now seen.now broker.now state.now) (walk seen.now)) }
 {
     seen.is_valid();
     let rule = candidate_of(minimum, broker);
@@ -134,7 +135,8 @@ pub(crate) fn unfencing_records<S: Store>(
     state: &Broker,
 ) -> Result<Records, NoMemory>
     requires { entries.get int_cmp seen.now.brokers broker.now ≡ Some state.now }
-    ensures { IfOk result (λ records. records ≡ broker_heartbeat.unfencing minimum.now seen.now broker.now state.now) }
+    ensures { IfOk result (λ records. records ≡
+        broker_heartbeat.unfencing minimum.now seen.now broker.now state.now) }
 {
     let mut records = Records::new(alloc);
     records.push(unfence_record(broker, &state.epoch))?;
