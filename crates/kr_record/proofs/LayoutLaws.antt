@@ -2,7 +2,7 @@
 use Rattle.std.proofs.Common.{◌≡◌, ℕ, Bool, true, false, ◌&&◌, List, refl}
 use Rattle.kr_wire.specs.Grammar.{includes}
 use Rattle.kr_wire.specs.Reading.{Read}
-use Rattle.kr_wire.specs.Schema.{Array, Dropped, Uuid}
+use Rattle.kr_wire.specs.Schema.{Int32, Array, Dropped, Uuid}
 use Rattle.kr_wire.proofs.ReadingLaws.{Law, ◌before◌, structure_law, sound_done}
 use Rattle.kr_wire.proofs.Schemas as schemas
 use Rattle.kr_wire.proofs.Tables.{both, fields_law}
@@ -19,6 +19,7 @@ pub law : {X : Type 0} (s : RecordLayout X) → is_whole s ≡ true → (version
 law (Of s) e version = schemas.law s e
 law (Since first absent s) e version = since_law (includes first version) (schemas.law s e) absent
 law (a ▹ b) e version = let h = both (is_whole a) (is_whole b) e in law a h.0 version before law b h.1 version
-law (Directories a first replicas) e version =
-    structure_law (λ p. p.0) (λ x. (x, tt)) (λ p. refl) (λ x. refl) (law a e version before since_law (includes first version) (schemas.law (Dropped (Array Uuid)) refl) tt)
+law (Directories first a) e version =
+    structure_law (λ p. p.0) (λ x. (x, tt)) (λ p. refl) (λ x. refl)
+    ((schemas.law (Array Int32) refl before law a e version) before since_law (includes first version) (schemas.law (Dropped (Array Uuid)) refl) tt)
 law (Tagged t) e version = fields_law t e version

@@ -1,8 +1,8 @@
 pub mod Appends
 pub mod Arms
 pub mod FieldLoop
+pub mod LayoutForms
 pub mod LayoutLaws
-pub mod LayoutSpelling
-pub mod PartSpelling
+pub mod PartForms
 pub mod RecordForms
 pub mod RecordLaws

@@ -19,7 +19,7 @@ use Rattle.kr_record.specs.Layout.{Kind, IsInVersion, is_whole}
 use Rattle.kr_record.specs.Reading.{wired, layout_at, parts_at, record_at, record_of}
 use Rattle.kr_record.specs.Grammar.{IsLayout, IsRecord}
 use Rattle.kr_record.proofs.LayoutLaws.{law}
-use Rattle.kr_record.proofs.LayoutSpelling.{is_newest}
+use Rattle.kr_record.proofs.LayoutForms.{is_newest}
 
 -- ---- a fault of the wire is one of the record
 

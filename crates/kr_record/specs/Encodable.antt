@@ -49,7 +49,7 @@ abbrev pub HasShort : {X : Type 0} → RecordLayout X → X → Type 0
 HasShort (Of s) = AreShort s
 HasShort (Since first absent s) = AreShort s
 HasShort (a ▹ b) = λ x. HasShort a x.0 × HasShort b x.1
-HasShort (Directories a first replicas) = λ x. HasShort a x × IsShort (replicas x)
+HasShort (Directories first a) = λ x. IsShort x.0 × HasShort a x.1
 HasShort (Tagged table) = AreShortParts table
 
 abbrev pub IsEncodable : Record → Type 0

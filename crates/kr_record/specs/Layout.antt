@@ -6,7 +6,7 @@ use Rattle.kr_wire.specs.Grammar.{◌⌢◌, IsTags, includes}
 use Rattle.kr_wire.specs.Reading.{Read, ◌followed_by◌, structure_at, tags_at}
 use Rattle.kr_wire.specs.Schema as plain
 pub use Rattle.kr_wire.specs.Schema.{Schema, Int8, Int16, Int32, Int64, Uint16, Boolean, Uuid, Text, TextOrNull, End, Array, ◌▸◌, Dropped, Structure}
-pub use Rattle.kr_wire.specs.Tables.{Table, NoField, Field, Int8Unless, Int8OrNone, Int32OrNone, Int32sOrNull, Int32sOrEmpty, UuidsDropped}
+pub use Rattle.kr_wire.specs.Tables.{Table, NoField, Field, Int8NotZero, Int8OrNone, Int32OrNone, Int32sOrNull, Int32sOrEmpty, UuidsDropped}
 use Rattle.kr_wire.specs.Tables.{Are, absents, known, are_rising}
 
 infixr 6 ◌▹◌
@@ -17,8 +17,8 @@ pub data RecordLayout : Type 0 → Type 1 where
   Since : {X : Type 0} → ℕ → X → Schema X → RecordLayout X
   -- one after the other
   ◌▹◌ : {X Y : Type 0} → RecordLayout X → RecordLayout Y → RecordLayout (X × Y)
-  -- behind some fields, since a version, a directory for each of these replicas: dropped when they are read, and written as zeros
-  Directories : {X : Type 0} → RecordLayout X → ℕ → (X → List ℤ) → RecordLayout X
+  -- ids, other parts, and since a version behind these a directory for each id: dropped when they are read, and written as zeros
+  Directories : {X : Type 0} → ℕ → RecordLayout X → RecordLayout (List ℤ × X)
   -- tagged fields, as each structure ends that has some
   Tagged : {Z : Type 0} → Table Z → RecordLayout Z
 
@@ -39,7 +39,7 @@ abbrev pub IsInVersion : {X : Type 0} → RecordLayout X → ℕ → X → List 
 IsInVersion (Of s) version = plain.Is s
 IsInVersion (Since first absent s) version = IsSince (includes first version) (plain.Is s) absent
 IsInVersion (a ▹ b) version = λ v. IsInVersion a version v.0 ⌢ IsInVersion b version v.1
-IsInVersion (Directories a first replicas) version = λ x. IsInVersion a version x ⌢ IsSince (includes first version) (plain.Is (Dropped (Array Uuid))) tt tt
+IsInVersion (Directories first a) version = λ x. (plain.Is (Array Int32) x.0 ⌢ IsInVersion a version x.1) ⌢ IsSince (includes first version) (plain.Is (Dropped (Array Uuid))) tt tt
 IsInVersion (Tagged table) version = λ z. IsTags (Are table version z)
 
 abbrev pub since_at : {X : Type 0} → Bool → (List ℕ → Read X) → X → List ℕ → Read X
@@ -50,7 +50,8 @@ abbrev pub version_at : {X : Type 0} → RecordLayout X → ℕ → List ℕ →
 version_at (Of s) version = plain.value_at s
 version_at (Since first absent s) version = since_at (includes first version) (plain.value_at s) absent
 version_at (a ▹ b) version = version_at a version followed_by version_at b version
-version_at (Directories a first replicas) version = structure_at (λ p. p.0) (version_at a version followed_by since_at (includes first version) (plain.value_at (Dropped (Array Uuid))) tt)
+version_at (Directories first a) version =
+    structure_at (λ p. p.0) ((plain.value_at (Array Int32) followed_by version_at a version) followed_by since_at (includes first version) (plain.value_at (Dropped (Array Uuid))) tt)
 version_at (Tagged table) version = tags_at (known table version) (absents table)
 
 -- No constant is in it, and the tags rise.
@@ -58,5 +59,5 @@ abbrev pub is_whole : {X : Type 0} → RecordLayout X → Bool
 is_whole (Of s) = plain.is_readable s
 is_whole (Since first absent s) = plain.is_readable s
 is_whole (a ▹ b) = is_whole a && is_whole b
-is_whole (Directories a first replicas) = is_whole a
+is_whole (Directories first a) = is_whole a
 is_whole (Tagged table) = are_rising table

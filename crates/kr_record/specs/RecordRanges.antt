@@ -3,7 +3,7 @@ use Rattle.std.specs.Prelude.{ℕ, ℤ, ◌^◌, ◌<◌, List, Option, All, Fit
 use Rattle.std.specs.Int.{w8, w16, w32, w64}
 use Rattle.kr_defs.specs.declared.record.Record.{Record}
 use Rattle.kr_wire.specs.Schema.{Schema, Int8, Int16, Int32, Int64, Uint16, Uuid, Text, TextOrNull, Array, ◌▸◌, Structure}
-use Rattle.kr_wire.specs.Tables.{Part, Int8Unless, Int8OrNone, Int32OrNone, Int32sOrNull, Int32sOrEmpty, UuidsDropped, Table, NoField, Field}
+use Rattle.kr_wire.specs.Tables.{Part, Int8NotZero, Int8OrNone, Int32OrNone, Int32sOrNull, Int32sOrEmpty, UuidsDropped, Table, NoField, Field}
 use Rattle.kr_record.specs.Layout.{RecordLayout, Of, Since, ◌▹◌, Directories, Tagged}
 use Rattle.kr_record.specs.Records.{chosen}
 
@@ -26,7 +26,7 @@ abbrev pub AreInts : List ℤ → Type 0
 AreInts ids = All (FitsSigned w32) ids
 
 abbrev pub IsHeldPart : {P : Type 0} → Part P → P → Type 0
-IsHeldPart (Int8Unless default) n = FitsSigned w8 n
+IsHeldPart Int8NotZero n = FitsSigned w8 n
 IsHeldPart (Int8OrNone default) o = IfSome o (FitsSigned w8)
 IsHeldPart (Int32OrNone default) o = IfSome o (FitsSigned w32)
 IsHeldPart Int32sOrNull o = IfSome o AreInts
@@ -41,7 +41,7 @@ abbrev pub HasHeld : {X : Type 0} → RecordLayout X → X → Type 0
 HasHeld (Of s) = AreHeld s
 HasHeld (Since first absent s) = AreHeld s
 HasHeld (a ▹ b) = λ x. HasHeld a x.0 × HasHeld b x.1
-HasHeld (Directories a first replicas) = HasHeld a
+HasHeld (Directories first a) = λ x. AreInts x.0 × HasHeld a x.1
 HasHeld (Tagged table) = AreHeldParts table
 
 abbrev pub IsHeld : Record → Type 0

@@ -46,15 +46,15 @@ macro_rules! each_kind {
                     }
                 }
                 = {
-                    (
-                        (index, (topic, (replicas, (in_sync, (removing, (adding, (leader,
-                        (leader_epoch, partition_epoch)))))))),
+                    (index, (topic, (
+                        (replicas, (in_sync, (removing, (adding, (leader, (leader_epoch,
+                        partition_epoch)))))),
                         Placed {
                             behind: tags!(
                                 0 since 0 recovery, 1 since 2 eligible, 2 since 2 last_known
                             ),
                         },
-                    )
+                    )))
                 };
             4, 0: { Record::Config { kind, name, key, value } }
                 = { (kind, (name, (key, (value, ())))) };

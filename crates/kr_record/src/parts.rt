@@ -1,6 +1,6 @@
 //! Values that are read one after the other, as nested pairs.
 
-ghost use Rattle.std.specs.Prelude.{false, []};
+ghost use Rattle.std.specs.Prelude.{false};
 ghost use Rattle.kr_wire.specs.Schema.{Array, Boolean, Dropped, End, Uuid};
 ghost use Rattle.kr_wire.specs.Tables as tables;
 ghost use Rattle.kr_layout.specs.Answers.{Takes};
@@ -10,7 +10,7 @@ ghost use Rattle.kr_record.specs.Layout.{Directories, Of, RecordLayout, Tagged, 
 use crate::mine::Mine;
 use crate::tagged::TaggedPart;
 use crate::tags::{Field, Fields, read_tags};
-use kr_defs::Rows;
+use kr_defs::{Ids, Rows};
 use kr_layout::{Get, ReadFault, Reader};
 use std::marker::Model;
 
@@ -70,7 +70,7 @@ impl Parts for SinceOne<bool> {
     }
 }
 
-/// Parts behind those with replicas among them and, since version 1, behind a directory for each of these.
+/// Parts behind replicas and others and, since version 1, behind a directory for each replica.
 #[derive(Drop)]
 pub(crate) struct Placed<B> {
     pub behind: B,
@@ -82,14 +82,15 @@ impl<B> Model for Placed<B> {
     ghost view = { λ p. p.behind };
 }
 
-impl<H: Parts, B: Parts> Parts for (H, Placed<B>) {
-    ghost layout = { Directories H.layout 1 (λ head. []) ▹ B.layout };
+impl<M: Parts, B: Parts> Parts for ((Ids, M), Placed<B>) {
+    ghost layout = { Directories 1 M.layout ▹ B.layout };
 
-    fn read(from: &mut Reader<'_, Mine>, version: u32) -> Result<(H, Placed<B>), ReadFault> {
-        let head = H::read(from, version)?;
+    fn read(from: &mut Reader<'_, Mine>, version: u32) -> Result<((Ids, M), Placed<B>), ReadFault> {
+        let replicas = from.get()?;
+        let others = M::read(from, version)?;
         skip_directories(from, version)?;
         let behind = B::read(from, version)?;
-        Ok((head, Placed { behind }))
+        Ok(((replicas, others), Placed { behind }))
     }
 }
 

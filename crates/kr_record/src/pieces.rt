@@ -59,13 +59,12 @@ impl<F: Pieces> Pieces for SinceOne<F> {
     }
 }
 
-impl<'a, I: Pieces, T: Pieces, M: Pieces, B: Pieces> Pieces
-    for ((I, (T, (&'a Ids, M))), Placed<B>) {
-    ghost bytes = { λ p. ((I.bytes p.0.0 ++ (T.bytes p.0.1.0 ++ (tables.ids p.0.1.1.0.now ++ M.bytes p.0.1.1.1))) ++ list id (no_directories p.0.1.1.0.now)) ++ B.bytes p.1 };
+impl<'a, M: Pieces, B: Pieces> Pieces for ((&'a Ids, M), Placed<B>) {
+    ghost bytes = { λ p. ((tables.ids p.0.0.now ++ M.bytes p.0.1) ++ list id (no_directories p.0.0.now)) ++ B.bytes p.1 };
 
     fn put_pieces(&self, out: &mut Vec<u8>) -> Result<(), NoMemory> {
         self.0.put_pieces(out)?;
-        put_directories(out, self.0.1.1.0)?;
+        put_directories(out, self.0.0)?;
         self.1.behind.put_pieces(out)
     }
 }

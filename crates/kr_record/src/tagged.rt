@@ -1,12 +1,12 @@
 //! The data of a tagged field.
 
-ghost use Rattle.std.specs.Prelude.{◌≡◌, ◌≤◌, pos, negsuc, [], length, IfOk};
+ghost use Rattle.std.specs.Prelude.{◌≡◌, ◌≤◌, negsuc, [], length, IfOk};
 ghost use Rattle.std.specs.Option.{option_map, unwrap_or};
 ghost use Rattle.kr_layout.specs.Answers.{Takes};
 ghost use Rattle.kr_wire.specs.Schema.{written};
 ghost use Rattle.kr_wire.specs.Spelling.{uvarint};
 ghost use Rattle.kr_wire.specs.Tables as tables;
-ghost use Rattle.kr_wire.specs.Tables.{Int32OrNone, Int32sOrEmpty, Int32sOrNull, Int8OrNone, Int8Unless, Part, UuidsDropped, part_at, written_data};
+ghost use Rattle.kr_wire.specs.Tables.{Int32OrNone, Int32sOrEmpty, Int32sOrNull, Int8NotZero, Int8OrNone, Part, UuidsDropped, part_at, written_data};
 
 use crate::mine::Mine;
 use kr_base::NoMemory;
@@ -87,7 +87,7 @@ pub(crate) trait TaggedPart: Drop {
 impl TaggedPart for i8 {
     type Data = i8;
 
-    ghost part = { Int8Unless (pos 0) };
+    ghost part = { Int8NotZero };
 
     fn absent(alloc: Global) -> i8 {
         0

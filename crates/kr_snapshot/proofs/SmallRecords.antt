@@ -231,7 +231,7 @@ light_partition e formed =
     (let replicas : length p.replicas < 2 ^ 31 = omega (arith, most) in
     let removing : length p.removing < 2 ^ 31 = (let m = moves.1 in omega (arith, most, m)) in
     let adding : length p.adding < 2 ^ 31 = (let m = moves.0 in omega (arith, most, m)) in
-    (((tt, (tt, (replicas, (omega (arith, most, in_sync), (removing, (adding, (tt, (tt, tt)))))))), replicas), (tt, (omega (arith, most, eligible), (omega (arith, most, last), tt)))))
+    (tt, (tt, ((replicas, (omega (arith, most, in_sync), (removing, (adding, (tt, (tt, tt)))))), (tt, (omega (arith, most, eligible), (omega (arith, most, last), tt)))))))
     (let m = moves.0 in let n = moves.1 in omega (arith, most, in_sync, eligible, last, m, n, a, b, c, d, g, h, i, tags))
 
 light_config : (e : ConfigKey × List ℕ) → length e.0.name + length e.0.key + length e.1 ≤ MOST_CONFIG_TEXT → IsLight (config_record e)

@@ -8,7 +8,7 @@ use Rattle.kr_wire.specs.declared.WireFault.{WireFault}
 use Rattle.kr_wire.specs.Reading.{◌>>=◌, Read, Known, field_of, whole_field, field_as, structure_at, tags_at}
 use Rattle.kr_wire.specs.Grammar.{AreRising, data_of, given, IfTagged, IfTaggedSince, IsTags, includes}
 use Rattle.kr_wire.specs.Schema.{Dropped, ArrayOrNull, Int32, Uuid}
-use Rattle.kr_wire.specs.Tables.{Part, Int8Unless, Int8OrNone, Int32OrNone, Int32sOrNull, Int32sOrEmpty, UuidsDropped, IsTaggedPart, part_at, absent, Table, NoField, Field, Are, absents, set_part, known, are_above, are_rising}
+use Rattle.kr_wire.specs.Tables.{Part, Int8NotZero, Int8OrNone, Int32OrNone, Int32sOrNull, Int32sOrEmpty, UuidsDropped, IsTaggedPart, part_at, absent, Table, NoField, Field, Are, absents, set_part, known, are_above, are_rising}
 use Rattle.kr_wire.proofs.Numbers.{signed_law}
 use Rattle.kr_wire.proofs.ReadingLaws.{IsBytes, Law, bind_ok, is_ok, sound_last, complete_last, whole_sound, whole_complete}
 use Rattle.kr_wire.proofs.Schemas as schemas
@@ -28,7 +28,7 @@ seen_law {V} {P} {One} {read} Seen law of into outof = record {
 }
 
 part_law : {P : Type 0} (part : Part P) → Law (IsTaggedPart part) (part_at part)
-part_law (Int8Unless default) = signed_law w8
+part_law Int8NotZero = signed_law w8
 part_law (Int8OrNone default) = seen_law _ (signed_law w8) _ (λ n d is. record { n = n; is = refl; spelled = is }) (λ o d is. (is.n, is.spelled, is.is))
 part_law (Int32OrNone default) = seen_law _ (signed_law w32) _ (λ n d is. record { n = n; is = refl; spelled = is }) (λ o d is. (is.n, is.spelled, is.is))
 part_law Int32sOrNull = schemas.law (ArrayOrNull Int32) refl

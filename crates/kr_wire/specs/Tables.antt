@@ -1,5 +1,5 @@
 -- The tagged fields that a structure knows (KIP-482), as one table: of each its tag, the first version that has it, and its data.
-use Rattle.std.specs.Prelude.{◌≡◌, ℕ, ℤ, Bool, true, ◌&&◌, ◌==◌, cond, nat_lt, List, [], ◌++◌, length, Option, Some, None, Result, Ok, if◌then◌else◌}
+use Rattle.std.specs.Prelude.{◌≡◌, ℕ, ℤ, pos, Bool, true, ◌&&◌, ◌==◌, cond, nat_lt, List, [], ◌++◌, length, Option, Some, None, Result, Ok, if◌then◌else◌}
 use Rattle.std.specs.Ordering.{int_eq}
 use Rattle.std.specs.Option.{option_map, unwrap_or}
 use Rattle.std.specs.Int.{w8, w32}
@@ -15,8 +15,8 @@ abbrev pub unless_default : ℤ → ℤ → Option ℤ
 unless_default default n = if int_eq n default then None else Some n
 
 pub data Part : Type 0 → Type 1 where
-  -- left out at this number
-  Int8Unless : ℤ → Part ℤ
+  -- left out at 0
+  Int8NotZero : Part ℤ
   -- this number is none
   Int8OrNone : ℤ → Part (Option ℤ)
   Int32OrNone : ℤ → Part (Option ℤ)
@@ -39,7 +39,7 @@ pub record IsIdsOrEmpty (ids : List ℤ) (bytes : List ℕ) : Type 0 where
   pub spelled : IsListOrNull (IsSigned w32) listed bytes
 
 abbrev pub IsTaggedPart : {P : Type 0} → Part P → P → List ℕ → Type 0
-IsTaggedPart (Int8Unless default) = IsSigned w8
+IsTaggedPart Int8NotZero = IsSigned w8
 IsTaggedPart (Int8OrNone default) = IsUnless (IsSigned w8) default
 IsTaggedPart (Int32OrNone default) = IsUnless (IsSigned w32) default
 IsTaggedPart Int32sOrNull = IsListOrNull (IsSigned w32)
@@ -47,7 +47,7 @@ IsTaggedPart Int32sOrEmpty = IsIdsOrEmpty
 IsTaggedPart UuidsDropped = λ u. IsDropped (IsListOrNull IsId)
 
 abbrev pub part_at : {P : Type 0} → Part P → List ℕ → Read P
-part_at (Int8Unless default) = signed_at w8
+part_at Int8NotZero = signed_at w8
 part_at (Int8OrNone default) = structure_at (unless_default default) (signed_at w8)
 part_at (Int32OrNone default) = structure_at (unless_default default) (signed_at w32)
 part_at Int32sOrNull = list_or_null_at (signed_at w32)
@@ -56,7 +56,7 @@ part_at UuidsDropped = structure_at (λ o. tt) (list_or_null_at id_at)
 
 -- what the part is where the field is absent
 abbrev pub absent : {P : Type 0} → Part P → P
-absent (Int8Unless default) = default
+absent Int8NotZero = pos 0
 absent (Int8OrNone default) = None
 absent (Int32OrNone default) = None
 absent Int32sOrNull = None
@@ -72,7 +72,7 @@ unless_empty xs = if length xs == 0 then None else Some xs
 
 -- the data that are written, if any
 abbrev pub written_data : {P : Type 0} → Part P → P → Option (List ℕ)
-written_data (Int8Unless default) n = option_map (signed w8) (unless_default default n)
+written_data Int8NotZero n = option_map (signed w8) (unless_default (pos 0) n)
 written_data (Int8OrNone default) o = option_map (signed w8) o
 written_data (Int32OrNone default) o = option_map (signed w32) o
 written_data Int32sOrNull o = option_map ids o

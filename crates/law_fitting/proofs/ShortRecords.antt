@@ -183,7 +183,7 @@ written image after (kinds.Partition index topic state) meaning few =
     let in_sync = ids_short state.in_sync parts.1 in
     let removing = ids_short state.removing parts.2 in
     let adding = ids_short state.adding parts.3 in
-    (((tt, (tt, (replicas, (in_sync, (removing, (adding, (tt, (tt, tt)))))))), replicas), (tt, (field_fits state.eligible two.0, (field_fits state.last_known three.0, tt))))
+    (tt, (tt, ((replicas, (in_sync, (removing, (adding, (tt, (tt, tt)))))), (tt, (field_fits state.eligible two.0, (field_fits state.last_known three.0, tt))))))
 written image after (kinds.Config kind name key value) meaning few =
     let parts = in_config (text_bytes name) (text_bytes key) (text_or_null_bytes value) few in
     (tt, (text_short name parts.0, (text_short key parts.1, (text_or_null_short value parts.2, tt))))

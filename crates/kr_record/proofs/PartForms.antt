@@ -1,0 +1,128 @@
+-- What is written of the data of a tagged field, and what follows of data that stand in bytes.
+use Rattle.std.proofs.Common.{◌≡◌, ℕ, ◌+◌, ◌*◌, ◌<◌, ◌≤◌, ◌^◌, Bool, true, false, cond, List, [], ◌∷◌, length, Option, Some, None, refl, sym, ap, subst, ◌∙◌, arith, lit<, lit≤}
+use Rattle.std.specs.Prelude.{ℤ, pos, ◌≢◌, FitsSigned, IfSome}
+use Rattle.std.specs.Option.{option_map, unwrap_or}
+use Rattle.std.specs.Ordering.{int_eq}
+use Rattle.std.specs.Int.{Width, w8, w32, byte_len}
+use mir.Val.{bits}
+use Rattle.std.proofs.lemmas.Bool.Decides.{Decides-int_eq}
+use Rattle.std.proofs.lemmas.List.Elements.{All-nil}
+use Rattle.kr_defs.specs.Sizes.{list_bytes, number_field, number_field_or, ids_field, ids_field_or}
+use Rattle.kr_wire.specs.Laws.{IsBytes}
+use Rattle.kr_wire.specs.Grammar.{IsSigned, IsList, IsListOrNull}
+use Rattle.kr_wire.specs.Spelling as written
+use Rattle.kr_wire.proofs.Lengths.{length_signed, uvarint_few, each_long, both_lengths}
+use Rattle.kr_wire.proofs.Numbers.{not_zero}
+use Rattle.kr_wire.proofs.SpellingLaws.{Plain, signed, int32s}
+use Rattle.kr_wire.proofs.TaggedForms.{Within, FieldForm, left_out, present}
+use Rattle.kr_wire.specs.Tables.{ids, unless_empty, written_data, Part, Int8NotZero, Int8OrNone, Int32OrNone, Int32sOrNull, Int32sOrEmpty, UuidsDropped, unless_default, IsUnless, IsIdsOrEmpty, IsTaggedPart, absent}
+use Rattle.kr_record.specs.Encodable.{IsShort, FitsField, IsShortPart}
+use Rattle.kr_record.specs.RecordRanges.{AreInts, IsHeldPart}
+use Rattle.kr_record.specs.Spelling.{data_bytes}
+use Rattle.kr_record.proofs.Appends.{length_ids}
+
+-- ---- a number that is left out at its default
+
+byte : (n : ℤ) → FieldForm (IsSigned w8 n) (n ≡ pos 0) (option_map (written.signed w8) (unless_default (pos 0) n)) (number_field 1 (pos 0) n) (Unit {0}) (FitsSigned w8 n)
+byte n =
+    let T : Bool → Type 0 = λ b. int_eq n (pos 0) ≡ b → FieldForm (IsSigned w8 n) (n ≡ pos 0) (option_map (written.signed w8) (cond b None (Some n))) (cond b None (Some 1)) (Unit {0}) (FitsSigned w8 n) in
+    let step : T (int_eq n (pos 0)) = elim (int_eq n (pos 0)) as T [
+      | true ↦ λ e. (let zero = (Decides-int_eq n (pos 0)).0 e in left_out zero tt (subst (FitsSigned w8) (sym zero) (record { sfits = lit< tt })))
+      | false ↦ λ e. present (signed w8 n (lit≤ tt)) (λ p. omega (arith, length_signed w8 n)) (λ none. (let yes = (Decides-int_eq n (pos 0)).1 none in cc))
+    ] in
+    step refl
+
+-- a number is the one that spells "no change", or another
+module _ (default n : ℤ) where
+  other_than : {A : Type 0} (x : A) → n ≢ default → cond (int_eq n default) None (Some x) ≡ Some x
+  other_than x other =
+      let P : Bool → Type 0 = λ b. int_eq n default ≡ b → cond b None (Some x) ≡ Some x in
+      let step : P (int_eq n default) = elim (int_eq n default) as P [ true ↦ λ e. absurd (other ((Decides-int_eq n default).0 e)) | false ↦ λ e. refl ] in
+      step refl
+
+  never_default : unless_default default n ≢ Some default
+  never_default =
+      let P : Bool → Type 0 = λ b. int_eq n default ≡ b → cond b None (Some n) ≡ Some default → ⊥ in
+      let step : P (int_eq n default) = elim (int_eq n default) as P [
+        | true ↦ λ e is. cc
+        | false ↦ λ e is. let same : n ≡ default = cc in let yes = (Decides-int_eq n default).1 same in cc
+      ] in
+      step refl
+
+  unless_held : (w : Width) → FitsSigned w n → IfSome (unless_default default n) (FitsSigned w)
+  unless_held w fits = elim (int_eq n default) as (λ b. IfSome (cond b None (Some n)) (FitsSigned w)) [ true ↦ tt | false ↦ fits ]
+
+  number_within : (size k : ℕ) → size ≤ k → Within (number_field size default n) k
+  number_within size k le = elim (int_eq n default) as (λ b. Within (cond b None (Some size)) k) [ true ↦ tt | false ↦ le ]
+
+module _ (w : Width) (few : bits w ≤ 64) (low : byte_len w < 2 ^ 32) (default : ℤ) where
+  changed : (o : Option ℤ) → FieldForm (IsUnless (IsSigned w) default o) (o ≡ None) (option_map (written.signed w) o) (number_field_or (byte_len w) default o) (o ≢ Some default) (IfSome o (FitsSigned w))
+  changed None = left_out refl (λ same. cc) tt
+  changed (Some n) =
+      let differs : Some n ≢ Some default → n ≢ default = λ other same. other (ap (λ (m : ℤ). Some m) same) in
+      let plain = signed w n few in
+      record {
+        long = λ p. ap (λ (m : ℕ). Some m) (plain.size tt) ∙ sym (other_than default n (byte_len w) (differs p));
+        few = λ p. omega (arith, plain.size tt);
+        stands = λ p q. record { n = n; is = sym (other_than default n n (differs p)); spelled = plain.stands tt q };
+        fits = λ p q. plain.fits tt q;
+        within = λ d is. number_within default n (byte_len w) (length d) (omega (arith, is.spelled.spelled.long));
+        short = λ d is few same. never_default default is.n (sym is.is ∙ same);
+        held = λ d is fit. subst (λ (o : Option ℤ). IfSome o (FitsSigned w)) (sym is.is) (unless_held default is.n w ((signed w is.n few).follows.held d is.spelled fit));
+        absent = λ none. absurd cc;
+      }
+
+-- ---- a list of ids
+
+ids_few : (xs : List ℤ) → FitsField xs → length (ids xs) < 2 ^ 32
+ids_few xs fits = omega (arith, length_ids xs, uvarint_few (length xs + 1))
+
+int32_long : (n : ℤ) (bytes : List ℕ) → IsSigned w32 n bytes → 4 ≤ length bytes
+int32_long n bytes is = omega (arith, is.spelled.long)
+
+listed : (xs : List ℤ) → Plain (IsList (IsSigned w32) xs) (ids xs) (list_bytes 4 xs) (FitsField xs) (AreInts xs)
+listed xs =
+    let all = int32s xs in
+    record {
+      size = λ fits. all.size (omega arith);
+      stands = λ fits q. all.stands (omega arith) q;
+      fits = λ fits q. all.fits (omega arith) q;
+      follows = record { cost = all.follows.cost; short = λ d is few. omega (arith, each_long 4 int32_long xs is.right is.second, both_lengths d is); held = all.follows.held };
+    }
+
+ids_or_null : (o : Option (List ℤ)) → FieldForm (IsListOrNull (IsSigned w32) o) (o ≡ None) (option_map ids o) (ids_field_or o) (IfSome o FitsField) (IfSome o AreInts)
+ids_or_null None = left_out refl tt tt
+ids_or_null (Some xs) = present (listed xs) (ids_few xs) (λ none. cc)
+
+-- null and none are the same
+ids_or_empty : (xs : List ℤ) → FieldForm (IsIdsOrEmpty xs) (xs ≡ []) (option_map ids (unless_empty xs)) (ids_field xs) (FitsField xs) (AreInts xs)
+ids_or_empty [] = left_out refl (lit< tt) (All-nil _)
+ids_or_empty (x ∷ xs) =
+    let all = x ∷ xs in
+    let own = listed all in
+    let some : (d : List ℕ) (is : IsIdsOrEmpty all d) → IsList (IsSigned w32) all d = λ d is. elim is.listed as (λ o. all ≡ unwrap_or o [] → IsListOrNull (IsSigned w32) o d → IsList (IsSigned w32) all d) [
+      | None ↦ λ e spelled. absurd cc
+      | Some ys ↦ λ e spelled. subst (λ (l : List ℤ). IsList (IsSigned w32) l d) (sym e) spelled
+    ] is.is is.spelled in
+    let T : Bool → Type 0 = λ b. FieldForm (IsIdsOrEmpty all) (all ≡ []) (option_map ids (cond b None (Some all))) (ids_field all) (FitsField all) (AreInts all) in
+    let there : T false = record {
+      long = λ p. ap (λ (n : ℕ). Some n) (own.size p);
+      few = ids_few all;
+      stands = λ p q. record { listed = Some all; is = refl; spelled = own.stands p q };
+      fits = own.fits;
+      within = λ d is. omega (arith, own.follows.cost d (some d is));
+      short = λ d is. own.follows.short d (some d is);
+      held = λ d is. own.follows.held d (some d is);
+      absent = λ none. absurd cc;
+    } in
+    subst T (sym (not_zero (length (x ∷ xs)) (omega arith))) there
+
+-- ---- each of them
+
+pub part_form : {P : Type 0} (part : Part P) (p : P) → FieldForm (IsTaggedPart part p) (p ≡ absent part) (written_data part p) (data_bytes part p) (IsShortPart part p) (IsHeldPart part p)
+part_form Int8NotZero n = byte n
+part_form (Int8OrNone default) o = changed w8 (lit≤ tt) (lit< tt) default o
+part_form (Int32OrNone default) o = changed w32 (lit≤ tt) (lit< tt) default o
+part_form Int32sOrNull o = ids_or_null o
+part_form Int32sOrEmpty xs = ids_or_empty xs
+part_form UuidsDropped u = left_out refl tt tt
