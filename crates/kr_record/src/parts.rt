@@ -1,7 +1,7 @@
 //! Values that are read one after the other, as nested pairs.
 
-ghost use Rattle.std.specs.Prelude.{false, []};
-ghost use Rattle.kr_wire.specs.Schema.{Array, Boolean, Dropped, End, Uuid};
+ghost use Rattle.std.specs.Prelude.{false};
+ghost use Rattle.kr_wire.specs.Schema.{Array, Boolean, Dropped, End, Int32, Uuid};
 ghost use Rattle.kr_wire.specs.Tables as tables;
 ghost use Rattle.kr_layout.specs.Answers.{Takes};
 ghost use Rattle.kr_record.specs.Layout as layouts;
@@ -10,7 +10,7 @@ ghost use Rattle.kr_record.specs.Layout.{Directories, Of, RecordLayout, Tagged, 
 use crate::mine::Mine;
 use crate::tagged::TaggedPart;
 use crate::tags::{Field, Fields, read_tags};
-use kr_defs::Rows;
+use kr_defs::{Ids, Rows};
 use kr_layout::{Get, ReadFault, Reader};
 use std::marker::Model;
 
@@ -82,11 +82,14 @@ impl<B> Model for Placed<B> {
     ghost view = { λ p. p.behind };
 }
 
-impl<H: Parts, B: Parts> Parts for (H, Placed<B>) {
-    ghost layout = { Directories H.layout 1 (λ head. []) ▹ B.layout };
+impl<I: Parts, T: Parts, M: Parts, B: Parts> Parts for ((I, (T, (Ids, M))), Placed<B>) {
+    ghost layout = { Directories (I.layout ▹ T.layout ▹ Of (Array Int32) ▹ M.layout) 1 (λ head. head.1.1.0) ▹ B.layout };
 
-    fn read(from: &mut Reader<'_, Mine>, version: u32) -> Result<(H, Placed<B>), ReadFault> {
-        let head = H::read(from, version)?;
+    fn read(
+        from: &mut Reader<'_, Mine>,
+        version: u32,
+    ) -> Result<((I, (T, (Ids, M))), Placed<B>), ReadFault> {
+        let head: (I, (T, (Ids, M))) = Parts::read(from, version)?;
         skip_directories(from, version)?;
         let behind = B::read(from, version)?;
         Ok((head, Placed { behind }))
