@@ -1,10 +1,10 @@
 //! The records that fence a broker.
 
-ghost use Rattle.std.specs.Prelude.{◌≡◌, ◌∷◌, [], pos, false, IfOk};
+ghost use Rattle.std.specs.Prelude.{◌≡◌, pos, IfOk};
 ghost use Rattle.kr_defs.specs.declared.record.Record.TheVariants as kinds;
 ghost use Rattle.kr_calls.specs.TakingOut as taking;
 ghost use Rattle.kr_fencing.specs.FencingIndex.{Indexes};
-ghost use Rattle.kr_fencing.specs.Leaving.{records_at_each};
+ghost use Rattle.kr_fencing.specs.Leaving.{fencing_at};
 
 use crate::FencingIndex;
 use crate::leaving::{add_changes, leaver_of};
@@ -34,8 +34,7 @@ fn fencing_of_keys<S: Store>(
     keys: &[(u128, i32)],
 ) -> Result<Records, NoMemory>
     ensures { IfOk result (λ records. records ≡
-        kinds.BrokerRegistrationChange broker.now epoch.now (pos 1) (pos 0) ∷
-        records_at_each (taking.taking_out minimum.now seen.now broker.now false) seen.now keys.now) }
+        fencing_at minimum.now seen.now broker.now epoch.now keys.now) }
 {
     let leaver = leaver_of(alloc, seen, minimum, broker)?;
     let mut records = Records::new(alloc);

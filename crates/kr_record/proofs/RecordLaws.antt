@@ -16,7 +16,7 @@ use Rattle.kr_record.specs.declared.fault.RecordFault.TheVariants as faults
 use Rattle.kr_record.specs.Answers.{Gives}
 use Rattle.kr_record.specs.Records.{OfKind, chosen, register_broker, unregister_broker, topic, partition, config, partition_change, fence_broker, unfence_broker, remove_topic, feature_level, broker_registration_change, no_op}
 use Rattle.kr_record.specs.Layout.{Kind, IsInVersion, is_whole}
-use Rattle.kr_record.specs.Reading.{wired, layout_at, parts_at, record_at, record_of}
+use Rattle.kr_record.specs.Reading.{wired, layout_at, served_at, parts_at, record_at, record_of}
 use Rattle.kr_record.specs.Grammar.{IsLayout, IsRecord}
 use Rattle.kr_record.proofs.LayoutLaws.{law}
 use Rattle.kr_record.proofs.LayoutForms.{is_newest}
@@ -67,6 +67,7 @@ readable : {X : Type 0} (k : Kind X) → is_served k ≡ true → is_whole k.lay
 readable k served = (both (is_whole k.layout) (is_newest k.layout k.newest) (both (is_whole k.layout && is_newest k.layout k.newest) (ltb k.key 128 && ltb k.newest 128) served).0).0
 
 parts_law : {X : Type 0} (k : Kind X) → is_served k ≡ true → (version : ℕ) → Law (λ x front. (version ≤ k.newest) × IsInVersion k.layout version x front) (parts_at k version)
+unfolding served_at
 parts_law {X} k served version =
     let layout = wired_law (law k.layout (readable k served) version) in
     record {

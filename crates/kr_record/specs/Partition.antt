@@ -2,10 +2,13 @@
 use Rattle.std.specs.Prelude.{ℕ, ℤ, List}
 use Rattle.kr_defs.specs.declared.partition.Partition.{Partition}
 use Rattle.kr_defs.specs.declared.record.Record.TheVariants as kinds
-use Rattle.kr_record.specs.Layout.{Int32, Uuid, Array, ◌▸◌, Table, NoField, Field, Int8NotZero, Int32sOrEmpty, Of, ◌▹◌, Directories, Tagged, Kind}
+use Rattle.kr_record.specs.Layout.{RecordLayout, Int32, Uuid, Array, Table, NoField, Field, Int8NotZero, Int32sOrEmpty, Of, ◌▹◌, Directories, Tagged, Kind}
 
 abbrev pub Head : Type 0
 Head = List ℤ × (List ℤ × (List ℤ × (List ℤ × (ℤ × (ℤ × ℤ)))))
+
+abbrev pub ids : RecordLayout (List ℤ)
+ids = Of (Array Int32)
 
 abbrev pub Extras : Type 0
 Extras = ℤ × (List ℤ × (List ℤ × Unit {0}))
@@ -19,7 +22,7 @@ abbrev pub partition : Kind (ℤ × (ℕ × (Head × Extras)))
 partition = record {
   key = 3;
   newest = 2;
-  layout = Of Int32 ▹ Of Uuid ▹ Directories 1 (Of (Array Int32 ▸ Array Int32 ▸ Array Int32 ▸ Int32 ▸ Int32 ▸ Int32)) ▹ Tagged extra_table;
+  layout = Of Int32 ▹ Of Uuid ▹ Directories 1 (ids ▹ ids ▹ ids ▹ Of Int32 ▹ Of Int32 ▹ Of Int32) ▹ Tagged extra_table;
   record_of = λ (index, (topic, ((replicas, (in_sync, (removing, (adding, (leader, (leader_epoch, partition_epoch)))))), (recovery, (eligible, (last_known, none)))))).
       kinds.Partition index topic (record {
         replicas = replicas;

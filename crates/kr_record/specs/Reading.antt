@@ -5,16 +5,19 @@ use Rattle.kr_wire.specs.declared.WireFault.{WireFault}
 use Rattle.kr_wire.specs.Reading.{◌>>=◌, refuse◌when◌else◌, structure_at, uvarint_at}
 use Rattle.kr_record.specs.declared.fault.RecordFault.{RecordFault}
 use Rattle.kr_record.specs.declared.fault.RecordFault.TheVariants as faults
-use Rattle.kr_record.specs.Layout.{Kind, version_at}
+use Rattle.kr_record.specs.Layout.{RecordLayout, Kind, version_at}
 use Rattle.kr_record.specs.Records.{by_key}
 
 abbrev pub wired : {X : Type 0} → Result X WireFault → Result X RecordFault
 wired (Ok x) = Ok x
 wired (Err fault) = Err (faults.Wire fault)
 
--- what stands in a record of the kind, in a version that it has
+-- what stands in a record of a kind with this key, newest version and layout, in a version that it has
+unfoldable pub served_at : {X : Type 0} → ℕ → ℕ → RecordLayout X → ℕ → List ℕ → Result (X × List ℕ) RecordFault
+served_at key newest layout version bytes = refuse (faults.UnknownVersion key version) when nat_lt newest version else wired (version_at layout version bytes)
+
 abbrev pub parts_at : {X : Type 0} → Kind X → ℕ → List ℕ → Result (X × List ℕ) RecordFault
-parts_at k version bytes = refuse (faults.UnknownVersion k.key version) when nat_lt k.newest version else wired (version_at k.layout version bytes)
+parts_at k = served_at k.key k.newest k.layout
 
 -- the record of the kind with the key
 unfoldable pub layout_at : ℕ → ℕ → List ℕ → Result (Record × List ℕ) RecordFault

@@ -1,12 +1,8 @@
 //! The kinds of records.
 
 ghost use Rattle.std.specs.Prelude.{◌≡◌, ◌++◌, OnOk};
-ghost use Rattle.kr_wire.specs.Reading.{refuse◌when◌else◌};
-ghost use Rattle.std.specs.Prelude.{nat_lt};
-ghost use Rattle.kr_record.specs.declared.fault.RecordFault.TheVariants as faults;
 ghost use Rattle.kr_record.specs.Answers.{GivesFront};
-ghost use Rattle.kr_record.specs.Layout.{version_at};
-ghost use Rattle.kr_record.specs.Reading.{layout_at, wired};
+ghost use Rattle.kr_record.specs.Reading.{layout_at, served_at};
 ghost use Rattle.kr_record.specs.RecordRanges.{IsHeld};
 ghost use Rattle.kr_record.specs.Spelling.{framed, record_value};
 
@@ -98,7 +94,7 @@ macro_rules! reading {
     ) => {
         match $key {
             $($number => {
-                let $($parts)* = read_version($from, $key, $version, $newest)?;
+                let $($parts)* = read_version($from, $number, $version, $newest)?;
                 $(let $own = $($structure)*;)?
                 Ok($($record)*)
             })*
@@ -150,13 +146,14 @@ pub(crate) fn read_kind(
 }
 
 // What stands in a record of a kind, in a version that it has.
+#[tactic(auto, unfolding(crate::specs::Reading::served_at))]
 fn read_version<P: Parts>(
     from: &mut Reader<'_, Mine>,
     key: u32,
     version: u32,
     newest: u32,
 ) -> Result<P, RecordFault>
-    ensures { GivesFront result from.new (refuse faults.UnknownVersion key version when nat_lt newest version else wired (version_at P.layout version from.old)) }
+    ensures { GivesFront result from.new (served_at key newest P.layout version from.old) }
 {
     if version > newest {
         return Err(RecordFault::UnknownVersion { key, version });

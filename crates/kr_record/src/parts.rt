@@ -86,11 +86,10 @@ impl<M: Parts, B: Parts> Parts for ((Ids, M), Placed<B>) {
     ghost layout = { Directories 1 M.layout ▹ B.layout };
 
     fn read(from: &mut Reader<'_, Mine>, version: u32) -> Result<((Ids, M), Placed<B>), ReadFault> {
-        let replicas = from.get()?;
-        let others = M::read(from, version)?;
+        let head: (Ids, M) = Parts::read(from, version)?;
         skip_directories(from, version)?;
         let behind = B::read(from, version)?;
-        Ok(((replicas, others), Placed { behind }))
+        Ok((head, Placed { behind }))
     }
 }
 

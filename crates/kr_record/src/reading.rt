@@ -13,7 +13,7 @@ use kr_defs::Record;
 use kr_layout::Reader;
 use std::alloc::Global;
 
-#[tactic(auto, unfolding(crate::specs::Reading::record_of))]
+#[tactic(auto, unfolding(crate::specs::Reading::record_of, crate::specs::Reading::record_at))]
 fn record(alloc: Global, value: &[u8]) -> Result<Record, RecordFault>
     ensures { Gives result (record_of value.now) }
 {
