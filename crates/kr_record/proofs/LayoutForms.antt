@@ -10,11 +10,11 @@ use Rattle.std.proofs.lemmas.List.{length-append, length-map}
 use Rattle.std.proofs.lemmas.List.Elements.{All-nil, All-cons}
 use Rattle.std.proofs.lemmas.List.Sums.{sum_by-cons}
 use Rattle.kr_defs.specs.Sizes.{uvarint_bytes, list_bytes, tags_bytes}
-use Rattle.kr_wire.specs.Grammar.{IfTaggedSince, IsTags, given, includes}
+use Rattle.kr_wire.specs.Grammar.{IfTaggedSince, given, includes}
 use Rattle.kr_wire.specs.Schema as plain
 use Rattle.kr_wire.specs.Schema.{Schema, Int8, Int16, Int32, Int64, Uint16, Boolean, Uuid, Text, TextOrNull, End, Array, ArrayOrNull, ◌▸◌, Dropped, Constant, Structure}
 use Rattle.kr_wire.specs.Spelling as written
-use Rattle.kr_wire.specs.Tables.{Part, UuidsDropped, IsTaggedPart, ids, absent, Table, NoField, Field, Are, are_rising, written_fields}
+use Rattle.kr_wire.specs.Tables.{UuidsDropped, IsTaggedPart, ids, absent, Table, NoField, Field, Are, are_rising, written_fields}
 use Rattle.kr_wire.proofs.FormLaws.{◌beside◌, free, then}
 use Rattle.kr_wire.proofs.ReadingLaws.{joined}
 use Rattle.kr_wire.proofs.WrittenBytes.{◌and◌}

@@ -1,5 +1,5 @@
 -- What is written of the data of a tagged field, and what follows of data that stand in bytes.
-use Rattle.std.proofs.Common.{◌≡◌, ℕ, ◌+◌, ◌*◌, ◌<◌, ◌≤◌, ◌^◌, Bool, true, false, cond, List, [], ◌∷◌, length, Option, Some, None, refl, sym, ap, subst, ◌∙◌, arith, lit<, lit≤}
+use Rattle.std.proofs.Common.{◌≡◌, ℕ, ◌+◌, ◌<◌, ◌≤◌, ◌^◌, Bool, true, false, cond, List, [], ◌∷◌, length, Option, Some, None, refl, sym, ap, subst, ◌∙◌, arith, lit<, lit≤}
 use Rattle.std.specs.Prelude.{ℤ, pos, ◌≢◌, FitsSigned, IfSome}
 use Rattle.std.specs.Option.{option_map, unwrap_or}
 use Rattle.std.specs.Ordering.{int_eq}
@@ -8,7 +8,6 @@ use mir.Val.{bits}
 use Rattle.std.proofs.lemmas.Bool.Decides.{Decides-int_eq}
 use Rattle.std.proofs.lemmas.List.Elements.{All-nil}
 use Rattle.kr_defs.specs.Sizes.{list_bytes, number_field, number_field_or, ids_field, ids_field_or}
-use Rattle.kr_wire.specs.Laws.{IsBytes}
 use Rattle.kr_wire.specs.Grammar.{IsSigned, IsList, IsListOrNull}
 use Rattle.kr_wire.specs.Spelling as written
 use Rattle.kr_wire.proofs.Lengths.{length_signed, uvarint_few, each_long, both_lengths}
@@ -16,7 +15,7 @@ use Rattle.kr_wire.proofs.Numbers.{not_zero}
 use Rattle.kr_wire.proofs.SpellingLaws.{Plain, signed, int32s}
 use Rattle.kr_wire.proofs.TaggedForms.{Within, FieldForm, left_out, present}
 use Rattle.kr_wire.specs.Tables.{ids, unless_empty, written_data, Part, Int8NotZero, Int8OrNone, Int32OrNone, Int32sOrNull, Int32sOrEmpty, UuidsDropped, unless_default, IsUnless, IsIdsOrEmpty, IsTaggedPart, absent}
-use Rattle.kr_record.specs.Encodable.{IsShort, FitsField, IsShortPart}
+use Rattle.kr_record.specs.Encodable.{FitsField, IsShortPart}
 use Rattle.kr_record.specs.RecordRanges.{AreInts, IsHeldPart}
 use Rattle.kr_record.specs.Spelling.{data_bytes}
 use Rattle.kr_record.proofs.Appends.{length_ids}

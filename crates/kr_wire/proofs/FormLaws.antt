@@ -1,6 +1,6 @@
 -- What follows of bytes that stand for something: how many bytes are written for it, that it is short where they are few,
 -- and that its numbers and texts are those of their types where each is below 256.
-use Rattle.std.proofs.Common.{ℕ, ◌+◌, ◌*◌, ◌^◌, ◌<◌, ◌≤◌, Bool, List, [], ◌∷◌, length, sym, subst, ap, arith, lit≤}
+use Rattle.std.proofs.Common.{ℕ, ◌+◌, ◌*◌, ◌^◌, ◌<◌, ◌≤◌, Bool, List, length, sym, subst, ap, arith, lit≤}
 use Rattle.std.specs.Prelude.{ℤ, FitsSigned}
 use Rattle.std.specs.Int.{Width, w8, w16, w32, w64, w128, byte_len}
 use Rattle.std.proofs.Math.Facts.{sfits_to_z}

@@ -1,5 +1,5 @@
 -- What is written of tagged fields of which each may be there or not: their tags rise, and each is found by its tag.
-use Rattle.std.proofs.Common.{◌≡◌, ℕ, ◌<◌, ◌≤◌, Bool, true, false, cond, eqb, ltb, List, [], ◌∷◌, ◌++◌, Option, Some, None, refl, arith}
+use Rattle.std.proofs.Common.{◌≡◌, ℕ, ◌<◌, ◌≤◌, true, false, eqb, ltb, List, [], ◌∷◌, ◌++◌, Some, None, refl, arith}
 use Rattle.std.proofs.lemmas.Bool.Decides.{nat_tests}
 use Rattle.kr_wire.specs.Grammar.{AreRising, data_of}
 use Rattle.kr_wire.specs.Tables.{Table, NoField, Field, are_above, are_rising, written_data, written_fields}
