@@ -13,7 +13,7 @@ use Rattle.kr_wire.specs.Spelling as written
 use Rattle.kr_wire.proofs.Lengths.{length_signed, uvarint_few, each_long, both_lengths}
 use Rattle.kr_wire.proofs.Numbers.{not_zero}
 use Rattle.kr_wire.proofs.SpellingLaws.{Plain, signed, int32s}
-use Rattle.kr_wire.proofs.TaggedForms.{Within, FieldForm, left_out, present}
+use Rattle.kr_wire.proofs.TaggedForms.{FieldForm, left_out, present}
 use Rattle.kr_wire.specs.Tables.{ids, unless_empty, written_data, Part, Int8NotZero, Int8OrNone, Int32OrNone, Int32sOrNull, Int32sOrEmpty, UuidsDropped, unless_default, IsUnless, IsIdsOrEmpty, IsTaggedPart, absent}
 use Rattle.kr_record.specs.Encodable.{FitsField, IsShortPart}
 use Rattle.kr_record.specs.RecordRanges.{AreInts, IsHeldPart}
@@ -31,43 +31,30 @@ byte n =
     ] in
     step refl
 
--- a number is the one that spells "no change", or another
-module _ (default n : ℤ) where
-  other_than : {A : Type 0} (x : A) → n ≢ default → cond (int_eq n default) None (Some x) ≡ Some x
-  other_than x other =
-      let P : Bool → Type 0 = λ b. int_eq n default ≡ b → cond b None (Some x) ≡ Some x in
-      let step : P (int_eq n default) = elim (int_eq n default) as P [ true ↦ λ e. absurd (other ((Decides-int_eq n default).0 e)) | false ↦ λ e. refl ] in
-      step refl
+apart : (default n : ℤ) → n ≢ default → int_eq n default ≡ false
+apart default n other = elim (int_eq n default) as (λ b. int_eq n default ≡ b → b ≡ false) [ true ↦ λ e. absurd (other ((Decides-int_eq n default).0 e)) | false ↦ λ e. refl ] refl
 
-  never_default : unless_default default n ≢ Some default
-  never_default =
-      let P : Bool → Type 0 = λ b. int_eq n default ≡ b → cond b None (Some n) ≡ Some default → ⊥ in
-      let step : P (int_eq n default) = elim (int_eq n default) as P [
-        | true ↦ λ e is. cc
-        | false ↦ λ e is. let same : n ≡ default = cc in let yes = (Decides-int_eq n default).1 same in cc
-      ] in
-      step refl
-
-  unless_held : (w : Width) → FitsSigned w n → IfSome (unless_default default n) (FitsSigned w)
-  unless_held w fits = elim (int_eq n default) as (λ b. IfSome (cond b None (Some n)) (FitsSigned w)) [ true ↦ tt | false ↦ fits ]
-
-  number_within : (size k : ℕ) → size ≤ k → Within (number_field size default n) k
-  number_within size k le = elim (int_eq n default) as (λ b. Within (cond b None (Some size)) k) [ true ↦ tt | false ↦ le ]
+-- a number that was seen is the one that stands there, and isn't the one that spells "no change"
+seen : (default n m : ℤ) → Some n ≡ unless_default default m → (n ≡ m) × (int_eq n default ≡ false)
+seen default n m is = elim (int_eq m default) as (λ b. int_eq m default ≡ b → Some n ≡ cond b None (Some m) → (n ≡ m) × (int_eq n default ≡ false)) [
+  | true ↦ λ e is. absurd cc
+  | false ↦ λ e is. let same : n ≡ m = cc in (same, rw same e)
+] refl is
 
 module _ (w : Width) (few : bits w ≤ 64) (low : byte_len w < 2 ^ 32) (default : ℤ) where
   changed : (o : Option ℤ) → FieldForm (IsUnless (IsSigned w) default o) (o ≡ None) (option_map (written.signed w) o) (number_field_or (byte_len w) default o) (o ≢ Some default) (IfSome o (FitsSigned w))
   changed None = left_out refl (λ same. cc) tt
   changed (Some n) =
-      let differs : Some n ≢ Some default → n ≢ default = λ other same. other (ap (λ (m : ℤ). Some m) same) in
       let plain = signed w n few in
+      let differs : Some n ≢ Some default → int_eq n default ≡ false = λ other. apart default n (λ same. other (ap (λ (m : ℤ). Some m) same)) in
       record {
-        long = λ p. ap (λ (m : ℕ). Some m) (plain.size tt) ∙ sym (other_than default n (byte_len w) (differs p));
+        long = λ p. let no = differs p in rw no (ap (λ (m : ℕ). Some m) (plain.size tt));
         few = λ p. omega (arith, plain.size tt);
-        stands = λ p q. record { n = n; is = sym (other_than default n n (differs p)); spelled = plain.stands tt q };
+        stands = λ p q. let no = differs p in record { n = n; is = rw no refl; spelled = plain.stands tt q };
         fits = λ p q. plain.fits tt q;
-        within = λ d is. number_within default n (byte_len w) (length d) (omega (arith, is.spelled.spelled.long));
-        short = λ d is few same. never_default default is.n (sym is.is ∙ same);
-        held = λ d is fit. subst (λ (o : Option ℤ). IfSome o (FitsSigned w)) (sym is.is) (unless_held default is.n w ((signed w is.n few).follows.held d is.spelled fit));
+        within = λ d is. let no = (seen default n is.n is.is).1 in rw no (omega (arith, is.spelled.spelled.long));
+        short = λ d is few same. let no = (seen default n is.n is.is).1 in let own : n ≡ default = cc in let yes = (Decides-int_eq n default).1 own in cc;
+        held = λ d is fit. subst (FitsSigned w) (sym (seen default n is.n is.is).0) ((signed w is.n few).follows.held d is.spelled fit);
         absent = λ none. absurd cc;
       }
 
