@@ -93,11 +93,11 @@ macro_rules! reading {
             $(where $own:ident {$($structure:tt)*})? = {$($parts:tt)*};)*
     ) => {
         match $key {
-            $($number => {
-                let $($parts)* = read_version($from, $number, $version, $newest)?;
+            $($number => read_version($from, $number, $version, $newest).map(|parts| {
+                let $($parts)* = parts;
                 $(let $own = $($structure)*;)?
-                Ok($($record)*)
-            })*
+                $($record)*
+            }),)*
             _ => Err(RecordFault::UnknownKey { key: $key }),
         }
     };
