@@ -2,16 +2,10 @@
 use Rattle.std.specs.Prelude.{ℕ, ℤ, pos, List}
 use Rattle.kr_defs.specs.declared.partition.Partition.{Partition}
 use Rattle.kr_defs.specs.declared.record.Record.TheVariants as kinds
-use Rattle.kr_record.specs.Layout.{RecordLayout, Int32, Uuid, Array, Table, NoField, Field, Int8Unless, Int32sOrEmpty, Of, ◌▹◌, Directories, Tagged, Kind}
+use Rattle.kr_record.specs.Layout.{Int32, Uuid, Array, Table, NoField, Field, Int8Unless, Int32sOrEmpty, Of, ◌▹◌, Directories, Tagged, Kind}
 
 abbrev pub Head : Type 0
 Head = ℤ × (ℕ × (List ℤ × (List ℤ × (List ℤ × (List ℤ × (ℤ × (ℤ × ℤ)))))))
-
-abbrev pub replicas_of : Head → List ℤ
-replicas_of head = head.1.1.0
-
-abbrev pub ids : RecordLayout (List ℤ)
-ids = Of (Array Int32)
 
 abbrev pub Extras : Type 0
 Extras = ℤ × (List ℤ × (List ℤ × Unit {0}))
@@ -25,7 +19,7 @@ abbrev pub partition : Kind (Head × Extras)
 partition = record {
   key = 3;
   newest = 2;
-  layout = Directories (Of Int32 ▹ Of Uuid ▹ ids ▹ ids ▹ ids ▹ ids ▹ Of Int32 ▹ Of Int32 ▹ Of Int32) 1 replicas_of
+  layout = Directories (Of Int32 ▹ Of Uuid ▹ Of (Array Int32) ▹ Of (Array Int32) ▹ Of (Array Int32) ▹ Of (Array Int32) ▹ Of Int32 ▹ Of Int32 ▹ Of Int32) 1 (λ head. head.1.1.0)
       ▹ Tagged extra_table;
   record_of = λ ((index, (topic, (replicas, (in_sync, (removing, (adding, (leader, (leader_epoch, partition_epoch)))))))), (recovery, (eligible, (last_known, none)))).
       kinds.Partition index topic (record {

@@ -147,8 +147,22 @@ pub(crate) fn read_kind(
 fn read_register_broker(from: &mut Reader<'_, Mine>, version: u32) -> Result<Record, RecordFault>
     ensures { GivesFront result from.new (kind_at kinds.register_broker version from.old) }
 {
-    let (broker, (incarnation, (epoch, (endpoints, (features, (rack, (fenced, (SinceOne { flag: stopping }, ())))))))) = read_version(from, 0, version, 1)?;
-    let state = Broker { epoch, incarnation, endpoints, features, rack, fenced, stopping };
+    let (
+        broker,
+        (
+            incarnation,
+            (epoch, (endpoints, (features, (rack, (fenced, (SinceOne { flag: stopping }, ())))))),
+        ),
+    ) = read_version(from, 0, version, 1)?;
+    let state = Broker {
+        epoch,
+        incarnation,
+        endpoints,
+        features,
+        rack,
+        fenced,
+        stopping,
+    };
     Ok(Record::RegisterBroker { broker, state })
 }
 
@@ -172,9 +186,38 @@ fn read_topic(from: &mut Reader<'_, Mine>, version: u32) -> Result<Record, Recor
 fn read_partition(from: &mut Reader<'_, Mine>, version: u32) -> Result<Record, RecordFault>
     ensures { GivesFront result from.new (kind_at kinds.partition version from.old) }
 {
-    let ( (index, (topic, (replicas, (in_sync, (removing, (adding, (leader, (leader_epoch, partition_epoch)))))))), Placed { behind: tags!( 0 since 0 recovery, 1 since 2 eligible, 2 since 2 last_known ), }, ) = read_version(from, 3, version, 2)?;
-    let state = Partition { replicas, in_sync, removing, adding, leader, leader_epoch, partition_epoch, recovery, eligible, last_known, };
-    Ok(Record::Partition { index, topic, state })
+    let (
+        (
+            index,
+            (
+                topic,
+                (
+                    replicas,
+                    (in_sync, (removing, (adding, (leader, (leader_epoch, partition_epoch))))),
+                ),
+            ),
+        ),
+        Placed {
+            behind: tags!( 0 since 0 recovery, 1 since 2 eligible, 2 since 2 last_known ),
+        },
+    ) = read_version(from, 3, version, 2)?;
+    let state = Partition {
+        replicas,
+        in_sync,
+        removing,
+        adding,
+        leader,
+        leader_epoch,
+        partition_epoch,
+        recovery,
+        eligible,
+        last_known,
+    };
+    Ok(Record::Partition {
+        index,
+        topic,
+        state,
+    })
 }
 
 #[tactic(auto, unfolding(crate::specs::Reading::kind_at))]
@@ -182,16 +225,40 @@ fn read_config(from: &mut Reader<'_, Mine>, version: u32) -> Result<Record, Reco
     ensures { GivesFront result from.new (kind_at kinds.config version from.old) }
 {
     let (kind, (name, (key, (value, ())))) = read_version(from, 4, version, 0)?;
-    Ok(Record::Config { kind, name, key, value })
+    Ok(Record::Config {
+        kind,
+        name,
+        key,
+        value,
+    })
 }
 
 #[tactic(auto, unfolding(crate::specs::Reading::kind_at))]
 fn read_partition_change(from: &mut Reader<'_, Mine>, version: u32) -> Result<Record, RecordFault>
     ensures { GivesFront result from.new (kind_at kinds.partition_change version from.old) }
 {
-    let (index, (topic, tags!( 0 since 0 in_sync, 1 since 0 leader, 2 since 0 replicas, 3 since 0 removing, 4 since 0 adding, 5 since 0 recovery, 6 since 2 eligible, 7 since 2 last_known, 8 since 1 () ))) = read_version(from, 5, version, 2)?;
-    let change = PartitionChange { in_sync, leader, replicas, removing, adding, recovery, eligible, last_known, };
-    Ok(Record::PartitionChange { index, topic, change })
+    let (
+        index,
+        (
+            topic,
+            tags!( 0 since 0 in_sync, 1 since 0 leader, 2 since 0 replicas, 3 since 0 removing, 4 since 0 adding, 5 since 0 recovery, 6 since 2 eligible, 7 since 2 last_known, 8 since 1 () ),
+        ),
+    ) = read_version(from, 5, version, 2)?;
+    let change = PartitionChange {
+        in_sync,
+        leader,
+        replicas,
+        removing,
+        adding,
+        recovery,
+        eligible,
+        last_known,
+    };
+    Ok(Record::PartitionChange {
+        index,
+        topic,
+        change,
+    })
 }
 
 #[tactic(auto, unfolding(crate::specs::Reading::kind_at))]
@@ -227,11 +294,21 @@ fn read_feature_level(from: &mut Reader<'_, Mine>, version: u32) -> Result<Recor
 }
 
 #[tactic(auto, unfolding(crate::specs::Reading::kind_at))]
-fn read_broker_registration_change(from: &mut Reader<'_, Mine>, version: u32) -> Result<Record, RecordFault>
+fn read_broker_registration_change(
+    from: &mut Reader<'_, Mine>,
+    version: u32,
+) -> Result<Record, RecordFault>
     ensures { GivesFront result from.new (kind_at kinds.broker_registration_change version from.old) }
 {
-    let (broker, (epoch, tags!(0 since 0 fenced, 1 since 1 stopping))) = read_version(from, 17, version, 1)?;
-    Ok(Record::BrokerRegistrationChange { broker, epoch, fenced, stopping })
+    let (broker, (epoch, tags!(0 since 0 fenced, 1 since 1 stopping))) = read_version(
+        from, 17, version, 1,
+    )?;
+    Ok(Record::BrokerRegistrationChange {
+        broker,
+        epoch,
+        fenced,
+        stopping,
+    })
 }
 
 #[tactic(auto, unfolding(crate::specs::Reading::kind_at))]
