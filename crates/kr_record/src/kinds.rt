@@ -197,10 +197,10 @@ fn read_partition(from: &mut Reader<'_, Mine>, version: u32) -> Result<Record, R
                 ),
             ),
         ),
-        Placed {
-            behind: tags!( 0 since 0 recovery, 1 since 2 eligible, 2 since 2 last_known ),
-        },
+        placed,
     ) = read_version(from, 3, version, 2)?;
+    let Placed { behind } = placed;
+    let tags!( 0 since 0 recovery, 1 since 2 eligible, 2 since 2 last_known ) = behind;
     let state = Partition {
         replicas,
         in_sync,
