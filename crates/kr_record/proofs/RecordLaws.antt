@@ -16,7 +16,7 @@ use Rattle.kr_record.specs.declared.fault.RecordFault.TheVariants as faults
 use Rattle.kr_record.specs.Answers.{Gives}
 use Rattle.kr_record.specs.Records.{OfKind, chosen, register_broker, unregister_broker, topic, partition, config, partition_change, fence_broker, unfence_broker, remove_topic, feature_level, broker_registration_change, no_op}
 use Rattle.kr_record.specs.Layout.{Kind, IsInVersion, is_whole}
-use Rattle.kr_record.specs.Reading.{wired, layout_at, served_at, parts_at, record_at, record_of}
+use Rattle.kr_record.specs.Reading.{wired, layout_at, kind_at, served_at, parts_at, record_at, record_of}
 use Rattle.kr_record.specs.Grammar.{IsLayout, IsRecord}
 use Rattle.kr_record.proofs.LayoutLaws.{law}
 use Rattle.kr_record.proofs.LayoutForms.{is_newest}
@@ -44,7 +44,7 @@ is_served k = (is_whole k.layout && is_newest k.layout k.newest) && (ltb k.key 1
 
 -- What holds of the kind of each record: it is found by its key, it is served, and what stands in the record makes it.
 pub record IsChosen (r : Record) (of : OfKind) : Type 0 where
-  pub found : (version : ℕ) (bytes : List ℕ) → layout_at of.kind.key version bytes ≡ structure_at of.kind.record_of (parts_at of.kind version) bytes
+  pub found : (version : ℕ) (bytes : List ℕ) → layout_at of.kind.key version bytes ≡ kind_at of.kind version bytes
   pub served : is_served of.kind ≡ true
   pub back : of.kind.record_of of.parts ≡ r
 
@@ -85,9 +85,10 @@ module _ (key version : ℕ) (bytes : List ℕ) (fits : IsBytes bytes) where
   -- the kind with the key, or others
   kind_or : {X : Type 0} (k : Kind X) → is_served k ≡ true
       → ((x : X) (front : List ℕ) → key ≡ k.key → (version ≤ k.newest) × IsInVersion k.layout version x front → IsLayout key version (k.record_of x) front)
-      → (others : Result (Record × List ℕ) RecordFault) → Reads others → Reads (cond (eqb key k.key) (structure_at k.record_of (parts_at k version) bytes) others)
+      → (others : Result (Record × List ℕ) RecordFault) → Reads others → Reads (cond (eqb key k.key) (kind_at k version bytes) others)
+  unfolding kind_at
   kind_or {X} k served step others more =
-      let P : Bool → Type 0 = λ b. eqb key k.key ≡ b → Reads (cond b (structure_at k.record_of (parts_at k version) bytes) others) in
+      let P : Bool → Type 0 = λ b. eqb key k.key ≡ b → Reads (cond b (kind_at k version bytes) others) in
       let pick : P (eqb key k.key) = elim (eqb key k.key) as P [
         | true ↦ λ e. sound_last (parts_law k served version) _ k.record_of bytes fits (λ x front is. step x front (same_key key k.key e) is)
         | false ↦ λ e. more
@@ -104,6 +105,7 @@ module _ (key version : ℕ) (bytes : List ℕ) (fits : IsBytes bytes) where
       (λ r rest e. absurd cc))))))))))))
 
 layout_complete : (key version : ℕ) (r : Record) (bytes rest : List ℕ) → IsLayout key version r bytes → layout_at key version (bytes ++ rest) ≡ Ok (r, rest)
+unfolding kind_at
 layout_complete key version r bytes rest is =
     let s = is_chosen r in
     let k = (chosen r).kind in

@@ -19,9 +19,13 @@ served_at key newest layout version bytes = refuse (faults.UnknownVersion key ve
 abbrev pub parts_at : {X : Type 0} → Kind X → ℕ → List ℕ → Result (X × List ℕ) RecordFault
 parts_at k = served_at k.key k.newest k.layout
 
+-- a record of the kind
+unfoldable pub kind_at : {X : Type 0} → Kind X → ℕ → List ℕ → Result (Record × List ℕ) RecordFault
+kind_at k version bytes = structure_at k.record_of (parts_at k version) bytes
+
 -- the record of the kind with the key
 unfoldable pub layout_at : ℕ → ℕ → List ℕ → Result (Record × List ℕ) RecordFault
-layout_at key version bytes = by_key key (λ X k. structure_at k.record_of (parts_at k version) bytes) (Err (faults.UnknownKey key))
+layout_at key version bytes = by_key key (λ X k. kind_at k version bytes) (Err (faults.UnknownKey key))
 
 unfoldable pub record_at : List ℕ → Result (Record × List ℕ) RecordFault
 record_at bytes = do

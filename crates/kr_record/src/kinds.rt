@@ -2,7 +2,8 @@
 
 ghost use Rattle.std.specs.Prelude.{◌≡◌, ◌++◌, OnOk};
 ghost use Rattle.kr_record.specs.Answers.{GivesFront};
-ghost use Rattle.kr_record.specs.Reading.{layout_at, served_at};
+ghost use Rattle.kr_record.specs.Reading.{kind_at, layout_at, served_at};
+ghost use Rattle.kr_record.specs.Records as kinds;
 ghost use Rattle.kr_record.specs.RecordRanges.{IsHeld};
 ghost use Rattle.kr_record.specs.Spelling.{framed, record_value};
 
@@ -86,23 +87,6 @@ macro_rules! tags {
     };
 }
 
-macro_rules! reading {
-    (
-        ($from:ident, $key:ident, $version:ident)
-        $($number:literal, $newest:literal: {$($record:tt)*}
-            $(where $own:ident {$($structure:tt)*})? = {$($parts:tt)*};)*
-    ) => {
-        match $key {
-            $($number => {
-                let $($parts)* = read_version($from, $number, $version, $newest)?;
-                $(let $own = $($structure)*;)?
-                Ok($($record)*)
-            })*
-            _ => Err(RecordFault::UnknownKey { key: $key }),
-        }
-    };
-}
-
 macro_rules! writing {
     (
         ($value:ident, $out:ident)
@@ -142,7 +126,194 @@ pub(crate) fn read_kind(
 ) -> Result<Record, RecordFault>
     ensures { GivesFront result from.new (layout_at key version from.old) }
 {
-    each_kind!(reading(from, key, version))
+    match key {
+        0 => read_register_broker(from, version),
+        1 => read_unregister_broker(from, version),
+        2 => read_topic(from, version),
+        3 => read_partition(from, version),
+        4 => read_config(from, version),
+        5 => read_partition_change(from, version),
+        7 => read_fence_broker(from, version),
+        8 => read_unfence_broker(from, version),
+        9 => read_remove_topic(from, version),
+        12 => read_feature_level(from, version),
+        17 => read_broker_registration_change(from, version),
+        20 => read_no_op(from, version),
+        _ => Err(RecordFault::UnknownKey { key }),
+    }
+}
+
+#[tactic(auto, unfolding(crate::specs::Reading::kind_at))]
+fn read_register_broker(from: &mut Reader<'_, Mine>, version: u32) -> Result<Record, RecordFault>
+    ensures { GivesFront result from.new (kind_at kinds.register_broker version from.old) }
+{
+    let (
+        broker,
+        (
+            incarnation,
+            (epoch, (endpoints, (features, (rack, (fenced, (SinceOne { flag: stopping }, ())))))),
+        ),
+    ) = read_version(from, 0, version, 1)?;
+    let state = Broker {
+        epoch,
+        incarnation,
+        endpoints,
+        features,
+        rack,
+        fenced,
+        stopping,
+    };
+    Ok(Record::RegisterBroker { broker, state })
+}
+
+#[tactic(auto, unfolding(crate::specs::Reading::kind_at))]
+fn read_unregister_broker(from: &mut Reader<'_, Mine>, version: u32) -> Result<Record, RecordFault>
+    ensures { GivesFront result from.new (kind_at kinds.unregister_broker version from.old) }
+{
+    let (broker, (epoch, ())) = read_version(from, 1, version, 0)?;
+    Ok(Record::UnregisterBroker { broker, epoch })
+}
+
+#[tactic(auto, unfolding(crate::specs::Reading::kind_at))]
+fn read_topic(from: &mut Reader<'_, Mine>, version: u32) -> Result<Record, RecordFault>
+    ensures { GivesFront result from.new (kind_at kinds.topic version from.old) }
+{
+    let (name, (id, ())) = read_version(from, 2, version, 0)?;
+    Ok(Record::Topic { name, id })
+}
+
+#[tactic(auto, unfolding(crate::specs::Reading::kind_at))]
+fn read_partition(from: &mut Reader<'_, Mine>, version: u32) -> Result<Record, RecordFault>
+    ensures { GivesFront result from.new (kind_at kinds.partition version from.old) }
+{
+    let (
+        index,
+        (
+            topic,
+            (
+                (replicas, (in_sync, (removing, (adding, (leader, (leader_epoch, partition_epoch)))))),
+                placed,
+            ),
+        ),
+    ) = read_version(from, 3, version, 2)?;
+    let Placed { behind } = placed;
+    let tags!( 0 since 0 recovery, 1 since 2 eligible, 2 since 2 last_known ) = behind;
+    let state = Partition {
+        replicas,
+        in_sync,
+        removing,
+        adding,
+        leader,
+        leader_epoch,
+        partition_epoch,
+        recovery,
+        eligible,
+        last_known,
+    };
+    Ok(Record::Partition {
+        index,
+        topic,
+        state,
+    })
+}
+
+#[tactic(auto, unfolding(crate::specs::Reading::kind_at))]
+fn read_config(from: &mut Reader<'_, Mine>, version: u32) -> Result<Record, RecordFault>
+    ensures { GivesFront result from.new (kind_at kinds.config version from.old) }
+{
+    let (kind, (name, (key, (value, ())))) = read_version(from, 4, version, 0)?;
+    Ok(Record::Config {
+        kind,
+        name,
+        key,
+        value,
+    })
+}
+
+#[tactic(auto, unfolding(crate::specs::Reading::kind_at))]
+fn read_partition_change(from: &mut Reader<'_, Mine>, version: u32) -> Result<Record, RecordFault>
+    ensures { GivesFront result from.new (kind_at kinds.partition_change version from.old) }
+{
+    let (
+        index,
+        (
+            topic,
+            tags!( 0 since 0 in_sync, 1 since 0 leader, 2 since 0 replicas, 3 since 0 removing, 4 since 0 adding, 5 since 0 recovery, 6 since 2 eligible, 7 since 2 last_known, 8 since 1 () ),
+        ),
+    ) = read_version(from, 5, version, 2)?;
+    let change = PartitionChange {
+        in_sync,
+        leader,
+        replicas,
+        removing,
+        adding,
+        recovery,
+        eligible,
+        last_known,
+    };
+    Ok(Record::PartitionChange {
+        index,
+        topic,
+        change,
+    })
+}
+
+#[tactic(auto, unfolding(crate::specs::Reading::kind_at))]
+fn read_fence_broker(from: &mut Reader<'_, Mine>, version: u32) -> Result<Record, RecordFault>
+    ensures { GivesFront result from.new (kind_at kinds.fence_broker version from.old) }
+{
+    let (broker, (epoch, ())) = read_version(from, 7, version, 0)?;
+    Ok(Record::FenceBroker { broker, epoch })
+}
+
+#[tactic(auto, unfolding(crate::specs::Reading::kind_at))]
+fn read_unfence_broker(from: &mut Reader<'_, Mine>, version: u32) -> Result<Record, RecordFault>
+    ensures { GivesFront result from.new (kind_at kinds.unfence_broker version from.old) }
+{
+    let (broker, (epoch, ())) = read_version(from, 8, version, 0)?;
+    Ok(Record::UnfenceBroker { broker, epoch })
+}
+
+#[tactic(auto, unfolding(crate::specs::Reading::kind_at))]
+fn read_remove_topic(from: &mut Reader<'_, Mine>, version: u32) -> Result<Record, RecordFault>
+    ensures { GivesFront result from.new (kind_at kinds.remove_topic version from.old) }
+{
+    let (topic, ()) = read_version(from, 9, version, 0)?;
+    Ok(Record::RemoveTopic { topic })
+}
+
+#[tactic(auto, unfolding(crate::specs::Reading::kind_at))]
+fn read_feature_level(from: &mut Reader<'_, Mine>, version: u32) -> Result<Record, RecordFault>
+    ensures { GivesFront result from.new (kind_at kinds.feature_level version from.old) }
+{
+    let (name, (level, ())) = read_version(from, 12, version, 0)?;
+    Ok(Record::FeatureLevel { name, level })
+}
+
+#[tactic(auto, unfolding(crate::specs::Reading::kind_at))]
+fn read_broker_registration_change(
+    from: &mut Reader<'_, Mine>,
+    version: u32,
+) -> Result<Record, RecordFault>
+    ensures { GivesFront result from.new (kind_at kinds.broker_registration_change version from.old) }
+{
+    let (broker, (epoch, tags!(0 since 0 fenced, 1 since 1 stopping))) = read_version(
+        from, 17, version, 1,
+    )?;
+    Ok(Record::BrokerRegistrationChange {
+        broker,
+        epoch,
+        fenced,
+        stopping,
+    })
+}
+
+#[tactic(auto, unfolding(crate::specs::Reading::kind_at))]
+fn read_no_op(from: &mut Reader<'_, Mine>, version: u32) -> Result<Record, RecordFault>
+    ensures { GivesFront result from.new (kind_at kinds.no_op version from.old) }
+{
+    let () = read_version(from, 20, version, 0)?;
+    Ok(Record::NoOp)
 }
 
 // What stands in a record of a kind, in a version that it has.
