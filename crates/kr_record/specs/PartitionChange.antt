@@ -17,23 +17,25 @@ change_table =
     Field 0 0 Int32sOrNull (Field 1 0 (Int32OrNone (negsuc 1)) (Field 2 0 Int32sOrNull (Field 3 0 Int32sOrNull (Field 4 0 Int32sOrNull
     (Field 5 0 (Int8OrNone (negsuc 0)) (Field 6 2 Int32sOrNull (Field 7 2 Int32sOrNull (Field 8 1 UuidsDropped NoField))))))))
 
+abbrev pub change_of : ChangeParts → PartitionChange
+change_of (in_sync, (leader, (replicas, (removing, (adding, (recovery, (eligible, (last_known, (directories, none))))))))) = record {
+  in_sync = in_sync;
+  leader = leader;
+  replicas = replicas;
+  removing = removing;
+  adding = adding;
+  recovery = recovery;
+  eligible = eligible;
+  last_known = last_known;
+}
+
 -- the index, the topic, and what changes
 abbrev pub partition_change : Kind (ℤ × (ℕ × ChangeParts))
 partition_change = record {
   key = 5;
   newest = 2;
   layout = Of Int32 ▹ Of Uuid ▹ Tagged change_table;
-  record_of = λ (index, (topic, (in_sync, (leader, (replicas, (removing, (adding, (recovery, (eligible, (last_known, (directories, none))))))))))).
-      kinds.PartitionChange index topic (record {
-        in_sync = in_sync;
-        leader = leader;
-        replicas = replicas;
-        removing = removing;
-        adding = adding;
-        recovery = recovery;
-        eligible = eligible;
-        last_known = last_known;
-      });
+  record_of = λ (index, (topic, parts)). kinds.PartitionChange index topic (change_of parts);
 }
 
 abbrev pub change_parts : ℤ → ℕ → PartitionChange → ℤ × (ℕ × ChangeParts)

@@ -11,7 +11,7 @@ pub use Rattle.kr_record.specs.BrokerRegistrationChange.{broker_registration_cha
 pub use Rattle.kr_record.specs.Topic.{topic}
 pub use Rattle.kr_record.specs.RemoveTopic.{remove_topic}
 pub use Rattle.kr_record.specs.Partition.{partition, partition_parts}
-pub use Rattle.kr_record.specs.PartitionChange.{partition_change, change_parts}
+pub use Rattle.kr_record.specs.PartitionChange.{partition_change, change_of, change_parts}
 pub use Rattle.kr_record.specs.Config.{config}
 pub use Rattle.kr_record.specs.FeatureLevel.{feature_level}
 pub use Rattle.kr_record.specs.NoOp.{no_op}

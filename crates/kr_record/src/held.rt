@@ -120,11 +120,11 @@ impl<F: Held> Held for SinceOne<F> {
     }
 }
 
-impl<B: Held> Held for Placed<B> {
-    ghost held = { B.held };
+impl<I: Held> Held for Placed<I> {
+    ghost held = { I.held };
 
     fn look(&self) {
-        self.behind.look();
+        self.ids.look();
     }
 }
 

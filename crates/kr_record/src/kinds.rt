@@ -14,7 +14,7 @@ use crate::parts::{Parts, Placed, SinceOne};
 use crate::pieces::Pieces;
 use crate::tags::Field;
 use kr_base::NoMemory;
-use kr_defs::{Broker, Partition, PartitionChange, Record};
+use kr_defs::{Broker, Ids, Partition, PartitionChange, Record};
 use kr_layout::Reader;
 use kr_wire::put_uvarint;
 
@@ -44,13 +44,9 @@ macro_rules! each_kind {
                 }
                 = {
                     (index, (topic, (
-                        (replicas, (in_sync, (removing, (adding, (leader, (leader_epoch,
-                        partition_epoch)))))),
-                        Placed {
-                            behind: tags!(
-                                0 since 0 recovery, 1 since 2 eligible, 2 since 2 last_known
-                            ),
-                        },
+                        (Placed { ids: replicas }, (in_sync, (removing, (adding, (leader,
+                        (leader_epoch, partition_epoch)))))),
+                        tags!(0 since 0 recovery, 1 since 2 eligible, 2 since 2 last_known),
                     )))
                 };
             4, 0: { Record::Config { kind, name, key, value } }
@@ -182,22 +178,41 @@ fn read_topic(from: &mut Reader<'_, Mine>, version: u32) -> Result<Record, Recor
     Ok(Record::Topic { name, id })
 }
 
+type PartitionParts = (
+    i32,
+    (
+        u128,
+        (
+            (Placed<Ids>, (Ids, (Ids, (Ids, (i32, (i32, i32)))))),
+            (Field<0, 0, i8>, (Field<1, 2, Ids>, (Field<2, 2, Ids>, ()))),
+        ),
+    ),
+);
+
 #[tactic(auto, unfolding(crate::specs::Reading::kind_at))]
 fn read_partition(from: &mut Reader<'_, Mine>, version: u32) -> Result<Record, RecordFault>
     ensures { GivesFront result from.new (kind_at kinds.partition version from.old) }
+{
+    let parts: PartitionParts = read_version(from, 3, version, 2)?;
+    Ok(partition_of(parts))
+}
+
+fn partition_of(parts: PartitionParts) -> Record
+    ensures { result ≡ kinds.partition.record_of parts }
 {
     let (
         index,
         (
             topic,
             (
-                (replicas, (in_sync, (removing, (adding, (leader, (leader_epoch, partition_epoch)))))),
-                placed,
+                (
+                    Placed { ids: replicas },
+                    (in_sync, (removing, (adding, (leader, (leader_epoch, partition_epoch))))),
+                ),
+                tags!( 0 since 0 recovery, 1 since 2 eligible, 2 since 2 last_known ),
             ),
         ),
-    ) = read_version(from, 3, version, 2)?;
-    let Placed { behind } = placed;
-    let tags!( 0 since 0 recovery, 1 since 2 eligible, 2 since 2 last_known ) = behind;
+    ) = parts;
     let state = Partition {
         replicas,
         in_sync,
@@ -210,11 +225,11 @@ fn read_partition(from: &mut Reader<'_, Mine>, version: u32) -> Result<Record, R
         eligible,
         last_known,
     };
-    Ok(Record::Partition {
+    Record::Partition {
         index,
         topic,
         state,
-    })
+    }
 }
 
 #[tactic(auto, unfolding(crate::specs::Reading::kind_at))]
@@ -230,18 +245,47 @@ fn read_config(from: &mut Reader<'_, Mine>, version: u32) -> Result<Record, Reco
     })
 }
 
+type ChangeParts = (
+    Field<0, 0, Option<Ids>>,
+    (
+        Field<1, 0, Option<i32>>,
+        (
+            Field<2, 0, Option<Ids>>,
+            (
+                Field<3, 0, Option<Ids>>,
+                (
+                    Field<4, 0, Option<Ids>>,
+                    (
+                        Field<5, 0, Option<i8>>,
+                        (
+                            Field<6, 2, Option<Ids>>,
+                            (Field<7, 2, Option<Ids>>, (Field<8, 1, ()>, ())),
+                        ),
+                    ),
+                ),
+            ),
+        ),
+    ),
+);
+
 #[tactic(auto, unfolding(crate::specs::Reading::kind_at))]
 fn read_partition_change(from: &mut Reader<'_, Mine>, version: u32) -> Result<Record, RecordFault>
     ensures { GivesFront result from.new (kind_at kinds.partition_change version from.old) }
 {
-    let (
+    let (index, (topic, parts)): (i32, (u128, ChangeParts)) = read_version(from, 5, version, 2)?;
+    let change = change_of(parts);
+    Ok(Record::PartitionChange {
         index,
-        (
-            topic,
-            tags!( 0 since 0 in_sync, 1 since 0 leader, 2 since 0 replicas, 3 since 0 removing, 4 since 0 adding, 5 since 0 recovery, 6 since 2 eligible, 7 since 2 last_known, 8 since 1 () ),
-        ),
-    ) = read_version(from, 5, version, 2)?;
-    let change = PartitionChange {
+        topic,
+        change,
+    })
+}
+
+fn change_of(parts: ChangeParts) -> PartitionChange
+    ensures { result ≡ kinds.change_of parts }
+{
+    let tags!( 0 since 0 in_sync, 1 since 0 leader, 2 since 0 replicas, 3 since 0 removing, 4 since 0 adding, 5 since 0 recovery, 6 since 2 eligible, 7 since 2 last_known, 8 since 1 () ) = parts;
+    PartitionChange {
         in_sync,
         leader,
         replicas,
@@ -250,12 +294,7 @@ fn read_partition_change(from: &mut Reader<'_, Mine>, version: u32) -> Result<Re
         recovery,
         eligible,
         last_known,
-    };
-    Ok(Record::PartitionChange {
-        index,
-        topic,
-        change,
-    })
+    }
 }
 
 #[tactic(auto, unfolding(crate::specs::Reading::kind_at))]

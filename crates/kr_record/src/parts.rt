@@ -70,26 +70,27 @@ impl Parts for SinceOne<bool> {
     }
 }
 
-/// Parts behind replicas and others and, since version 1, behind a directory for each replica.
+/// Ids with parts behind them, behind which since version 1 a directory for each id stands.
 #[derive(Drop)]
-pub(crate) struct Placed<B> {
-    pub behind: B,
+pub(crate) struct Placed<I> {
+    pub ids: I,
 }
 
-impl<B> Model for Placed<B> {
-    ghost Value = { B };
+impl<I> Model for Placed<I> {
+    ghost Value = { I };
 
-    ghost view = { λ p. p.behind };
+    ghost view = { λ p. p.ids };
 }
 
-impl<M: Parts, B: Parts> Parts for ((Ids, M), Placed<B>) {
+impl<M: Parts, B: Parts> Parts for ((Placed<Ids>, M), B) {
     ghost layout = { Directories 1 M.layout ▹ B.layout };
 
-    fn read(from: &mut Reader<'_, Mine>, version: u32) -> Result<((Ids, M), Placed<B>), ReadFault> {
-        let head: (Ids, M) = Parts::read(from, version)?;
+    fn read(from: &mut Reader<'_, Mine>, version: u32) -> Result<((Placed<Ids>, M), B), ReadFault> {
+        let ids: Ids = from.get()?;
+        let others = M::read(from, version)?;
         skip_directories(from, version)?;
         let behind = B::read(from, version)?;
-        Ok((head, Placed { behind }))
+        Ok(((Placed { ids }, others), behind))
     }
 }
 

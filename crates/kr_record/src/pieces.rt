@@ -59,13 +59,14 @@ impl<F: Pieces> Pieces for SinceOne<F> {
     }
 }
 
-impl<'a, M: Pieces, B: Pieces> Pieces for ((&'a Ids, M), Placed<B>) {
+impl<'a, M: Pieces, B: Pieces> Pieces for ((Placed<&'a Ids>, M), B) {
     ghost bytes = { λ p. ((tables.ids p.0.0.now ++ M.bytes p.0.1) ++ list id (no_directories p.0.0.now)) ++ B.bytes p.1 };
 
     fn put_pieces(&self, out: &mut Vec<u8>) -> Result<(), NoMemory> {
-        self.0.put_pieces(out)?;
-        put_directories(out, self.0.0)?;
-        self.1.behind.put_pieces(out)
+        self.0.0.ids.put_pieces(out)?;
+        self.0.1.put_pieces(out)?;
+        put_directories(out, self.0.0.ids)?;
+        self.1.put_pieces(out)
     }
 }
 
