@@ -284,7 +284,8 @@ fn read_partition_change(from: &mut Reader<'_, Mine>, version: u32) -> Result<Re
 fn change_of(parts: ChangeParts) -> PartitionChange
     ensures { result ≡ kinds.change_of parts }
 {
-    let tags!( 0 since 0 in_sync, 1 since 0 leader, 2 since 0 replicas, 3 since 0 removing, 4 since 0 adding, 5 since 0 recovery, 6 since 2 eligible, 7 since 2 last_known, 8 since 1 () ) = parts;
+    let tags!( 0 since 0 in_sync, 1 since 0 leader, 2 since 0 replicas, 3 since 0 removing, 4 since 0 adding, 5 since 0 recovery, 6 since 2 eligible, 7 since 2 last_known, 8 since 1 () ) =
+        parts;
     PartitionChange {
         in_sync,
         leader,
