@@ -1,5 +1,4 @@
 pub mod Appends
-pub mod Arms
 pub mod FieldLoop
 pub mod LayoutForms
 pub mod LayoutLaws

@@ -162,7 +162,7 @@ fn read_version<P: Parts>(
 }
 
 /// Appends the record's written form. Without memory some front of it may be appended.
-#[tactic(auto, unfolding(crate::specs::Spelling::record_value))]
+#[tactic(auto, unfolding(crate::specs::Spelling::record_value, crate::specs::Records::chosen))]
 pub(crate) fn put_record(out: &mut Vec<u8>, value: &Record) -> Result<(), NoMemory>
     ensures { OnOk result (out.new.items ≡ out.old.items ++ record_value value.now) }
 {
@@ -189,6 +189,7 @@ fn put_frame(out: &mut Vec<u8>, key: u32, version: u32) -> Result<(), NoMemory>
 }
 
 /// Each record that is held can stand in bytes.
+#[tactic(auto, unfolding(crate::specs::Records::chosen))]
 pub fn record_is_held(value: &Record)
     ensures { IsHeld value.now }
 {
