@@ -2,7 +2,8 @@
 
 ghost use Rattle.std.specs.Prelude.{◌≡◌, ◌&&◌, ◌||◌, not, take, find, [], ◌∷◌, if◌then◌else◌};
 ghost use Rattle.kr_defs.specs.Ids.{has};
-ghost use Rattle.kr_defs.specs.Elect.{is_preferred, is_unclean_mode, is_restarted, is_sound, is_electable, in_turn, at_last, elected};
+ghost use Rattle.kr_defs.specs.Elect.{is_preferred, is_unclean_mode, is_restarted, is_electable, at_last, elected};
+ghost use Rattle.kr_change.specs.Soundness.{first_sound};
 
 use crate::conditions::Conditions;
 use kr_defs::{Choice, Facts, Ids, Mode, Partition};
@@ -56,7 +57,8 @@ fn sound_candidate<C: Conditions>(
     restarted: Option<i32>,
     conditions: &C,
 ) -> Option<i32>
-    ensures { result ≡ find (is_sound partition.now replicas.now in_sync.now mode restarted (C.facts conditions.now)) (in_turn partition.now replicas.now in_sync.now mode restarted (C.facts conditions.now)) }
+    ensures { result ≡ first_sound partition.now replicas.now in_sync.now mode restarted
+        (C.facts conditions.now) }
 {
     match preferred_candidate(replicas, in_sync, mode, conditions) {
         Some(id) => return Some(id),
