@@ -3,12 +3,12 @@
 
 mod ahead;
 mod outputs;
-mod session_source;
 mod sessions;
 mod status;
+mod stream_source;
 mod words;
 
-pub use session_source::SessionSource;
 pub use sessions::session;
 pub use status::Status;
+pub use stream_source::StreamSource;
 pub use words::{WordsFault, words_of};

@@ -1,4 +1,4 @@
-//! A source of a session, in few reads.
+//! A source of one of the tool's streams, in few reads.
 
 ghost use Rattle.std.specs.Prelude.{◌≡◌, ◌<◌, ◌≤◌, [], length, IfOk, OnOk};
 ghost use Rattle.std.specs.Io.KnownBytes.{IsAtEnd, Keeps, prepend_known};
@@ -9,23 +9,29 @@ use crate::ahead::{Ahead, ROOM};
 use kr_base::{Failed, NoMemory, Source};
 use std::alloc::Global;
 
-/// A source of a session over another one, of which it asks a frame's body together with the size and the kind of the
-/// next frame, and nothing behind the End frame.
+/// A source of a stream over another one. Of a session's frames it asks a body together with the size and the kind of the
+/// next frame, and nothing behind the End frame; of other streams nothing before it is asked for.
 #[derive(Drop)]
-pub struct SessionSource<S: Source> {
+pub struct StreamSource<S: Source> {
     inner: S,
+    // The stream is frames.
+    frames: bool,
     // What was read before it was asked for.
     ahead: Ahead,
 }
 
-impl<S: Source + Drop> SessionSource<S> {
-    /// Nothing is read yet.
-    pub fn new(alloc: Global, inner: S) -> Result<SessionSource<S>, NoMemory>
-        ensures left { IfOk result (λ s. ⟦<SessionSource<S> as Source>⟧.left s ≡ prepend_known [] (S.left inner)) }
-        ensures faults { IfOk result (λ s. ⟦<SessionSource<S> as Source>⟧.faults s ≡ S.faults inner) }
+impl<S: Source + Drop> StreamSource<S> {
+    /// A source of a session's frames, or of another stream. Nothing is read yet.
+    pub fn new(alloc: Global, inner: S, frames: bool) -> Result<StreamSource<S>, NoMemory>
+        ensures left { IfOk result (λ s. ⟦<StreamSource<S> as Source>⟧.left s ≡ prepend_known [] (S.left inner)) }
+        ensures faults { IfOk result (λ s. ⟦<StreamSource<S> as Source>⟧.faults s ≡ S.faults inner) }
     {
         let ahead = Ahead::new(alloc)?;
-        Ok(SessionSource { inner, ahead })
+        Ok(StreamSource {
+            inner,
+            frames,
+            ahead,
+        })
     }
 }
 
@@ -41,7 +47,7 @@ fn certain_behind(asked: usize) -> usize
     }
 }
 
-impl<S: Source> SessionSource<S> {
+impl<S: Source> StreamSource<S> {
     // Where nothing waits, reads what is asked for, and what stands behind it for certain.
     fn read_ahead(&mut self, asked: usize) -> Result<(), Failed>
         requires { asked < ROOM }
@@ -50,14 +56,18 @@ impl<S: Source> SessionSource<S> {
         ensures cause { HasCause (S.faults self.old.inner) (S.faults self.new.inner) result }
     {
         if self.ahead.is_empty() {
-            self.ahead
-                .fill(&mut self.inner, asked + certain_behind(asked))?;
+            let behind = if self.frames {
+                certain_behind(asked)
+            } else {
+                0
+            };
+            self.ahead.fill(&mut self.inner, asked + behind)?;
         }
         Ok(())
     }
 }
 
-impl<S: Source> Source for SessionSource<S> {
+impl<S: Source> Source for StreamSource<S> {
     ghost left = { λ s. prepend_known s.ahead (S.left s.inner) };
 
     ghost faults = { λ s. S.faults s.inner };
