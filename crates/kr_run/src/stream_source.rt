@@ -23,8 +23,10 @@ pub struct StreamSource<S: Source> {
 impl<S: Source + Drop> StreamSource<S> {
     /// A source of a session's frames, or of another stream. Nothing is read yet.
     pub fn new(alloc: Global, inner: S, frames: bool) -> Result<StreamSource<S>, NoMemory>
-        ensures left { IfOk result (λ s. ⟦<StreamSource<S> as Source>⟧.left s ≡ prepend_known [] (S.left inner)) }
-        ensures faults { IfOk result (λ s. ⟦<StreamSource<S> as Source>⟧.faults s ≡ S.faults inner) }
+        ensures left { IfOk result
+            (λ s. ⟦<StreamSource<S> as Source>⟧.left s ≡ prepend_known [] (S.left inner)) }
+        ensures faults { IfOk result
+            (λ s. ⟦<StreamSource<S> as Source>⟧.faults s ≡ S.faults inner) }
     {
         let ahead = Ahead::new(alloc)?;
         Ok(StreamSource {
@@ -51,8 +53,10 @@ impl<S: Source> StreamSource<S> {
     // Where nothing waits, reads what is asked for, and what stands behind it for certain.
     fn read_ahead(&mut self, asked: usize) -> Result<(), Failed>
         requires { asked < ROOM }
-        ensures bytes { Keeps (prepend_known self.old.ahead (S.left self.old.inner)) (prepend_known self.new.ahead (S.left self.new.inner)) }
-        ensures end { OnOk result (0 < asked → length self.new.ahead ≡ 0 → IsAtEnd (S.left self.new.inner)) }
+        ensures bytes { Keeps (prepend_known self.old.ahead (S.left self.old.inner))
+            (prepend_known self.new.ahead (S.left self.new.inner)) }
+        ensures end { OnOk result
+            (0 < asked → length self.new.ahead ≡ 0 → IsAtEnd (S.left self.new.inner)) }
         ensures cause { HasCause (S.faults self.old.inner) (S.faults self.new.inner) result }
     {
         if self.ahead.is_empty() {
