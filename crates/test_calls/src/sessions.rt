@@ -1,6 +1,8 @@
-//! One session over objects that fail, from a source that gives one byte a read, and with bytes behind its end.
+//! One session over objects that fail, from a source that gives one byte a read, and from one that has nothing behind its end.
 
-use kr_base::{Failed, MemorySink, MemorySource, ReadSource, Source};
+ghost use Rattle.std.specs.Prelude.{Some};
+
+use kr_base::{Failed, MemorySink, MemorySource, Source};
 use kr_run::{Status, StreamSource, session};
 use std::alloc::Global;
 use std::test::Fail;
@@ -48,21 +50,44 @@ fn byte_by_byte(rt: HostRuntime) -> Result<(), Fail> {
     Ok(())
 }
 
-// How the session ended whose bytes these begin with, read as frames or as another stream, and how many are left.
-fn left_behind(alloc: Global, bytes: &[u8], frames: bool) -> Result<(Status, usize), Fail> {
-    let mut rest = bytes;
-    let mut output = MemorySink::new(alloc, 4096, 2, Vec::new(alloc))?;
-    let mut input = StreamSource::new(alloc, ReadSource::new(&mut rest), frames)?;
-    let status = session(alloc, &mut input, &mut output);
-    Ok((status, rest.len()))
+// A source that fails where it is asked for more bytes than are left.
+#[derive(Drop)]
+struct Exact {
+    inner: MemorySource,
+    faults: u64,
+}
+
+impl Source for Exact {
+    ghost left = { λ s. Some s.inner.left };
+
+    ghost faults = { λ s. s.faults };
+
+    fn read(&mut self, into: &mut [u8]) -> Result<usize, Failed> {
+        if into.len() <= self.inner.left().len() {
+            if let Ok(count) = self.inner.read(into) {
+                return Ok(count);
+            }
+        }
+        self.faults = self.faults.saturating_add(1);
+        Err(Failed)
+    }
+
+    fn faults(&self) -> u64 {
+        self.faults
+    }
 }
 
 #[test]
-fn nothing_behind_end_is_read(rt: HostRuntime) -> Result<(), Fail> {
-    let mut bytes = hex::decode(rt.alloc(), THIN)?;
-    bytes.extend_from_slice(&[1; 9])?;
+fn nothing_behind_end_is_asked_for(rt: HostRuntime) -> Result<(), Fail> {
+    let alloc = rt.alloc();
     for frames in [true, false] {
-        assert_eq!(rt; left_behind(rt.alloc(), &bytes, frames)?, (Status::Done, 9));
+        let source = Exact {
+            inner: MemorySource::new(hex::decode(alloc, THIN)?, Vec::new(alloc)),
+            faults: 0,
+        };
+        let mut input = StreamSource::new(alloc, source, frames)?;
+        let mut output = MemorySink::new(alloc, 4096, 2, Vec::new(alloc))?;
+        assert_eq!(rt; session(alloc, &mut input, &mut output), Status::Done);
     }
     Ok(())
 }
