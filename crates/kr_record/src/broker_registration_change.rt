@@ -83,7 +83,6 @@ fn read_flags(
 
 /// A broker, its epoch, and what changes, as a record.
 #[tactic(auto, unfolding(crate::specs::Reading::registration_change_at))]
-#[inline(never)]
 pub(crate) fn read_broker_registration_change(
     alloc: Global,
     bytes: &[u8],

@@ -17,7 +17,6 @@ use std::alloc::{AllocError, Global};
 
 /// The kind and the name of a resource, a key, and its value, as a record.
 #[tactic(auto, unfolding(crate::specs::Reading::config_at))]
-#[inline(never)]
 pub(crate) fn read_config(
     alloc: Global,
     bytes: &[u8],

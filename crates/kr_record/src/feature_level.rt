@@ -15,7 +15,6 @@ use std::alloc::{AllocError, Global};
 
 /// The name and the level of a feature, as a record.
 #[tactic(auto, unfolding(crate::specs::Reading::feature_at))]
-#[inline(never)]
 pub(crate) fn read_feature_level(
     alloc: Global,
     bytes: &[u8],

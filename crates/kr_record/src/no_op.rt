@@ -9,7 +9,6 @@ use kr_defs::Record;
 use kr_wire::skip_tags;
 
 /// The record that says nothing.
-#[inline(never)]
 pub(crate) fn read_no_op(bytes: &[u8], at: usize) -> Result<(Record, usize), RecordFault>
     requires { at ≤ length bytes.now }
     ensures { ReadsKind result bytes.now (λ t. kinds.NoOp) (no_tags_at (drop at bytes.now)) }

@@ -148,7 +148,6 @@ fn read_led(
 
 /// The index of a partition, its topic, and its state, as a record.
 #[tactic(auto, unfolding(crate::specs::Reading::partition_at))]
-#[inline(never)]
 pub(crate) fn read_partition(
     alloc: Global,
     bytes: &[u8],

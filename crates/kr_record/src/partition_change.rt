@@ -198,7 +198,6 @@ fn read_changes(
 
 /// The index of a partition, its topic, and what changes, as a record.
 #[tactic(auto, unfolding(crate::specs::Reading::change_at))]
-#[inline(never)]
 pub(crate) fn read_partition_change(
     alloc: Global,
     bytes: &[u8],

@@ -97,7 +97,6 @@ fn read_stopping(bytes: &[u8], at: usize, version: u32) -> Result<(bool, usize),
 
 /// The registration of a broker, as a record.
 #[tactic(auto, unfolding(crate::specs::Reading::registration_at))]
-#[inline(never)]
 pub(crate) fn read_register_broker(
     alloc: Global,
     bytes: &[u8],

@@ -13,7 +13,6 @@ use std::alloc::AllocError;
 
 /// The id of a topic that is removed, as a record.
 #[tactic(auto, unfolding(crate::specs::Reading::topic_id_at))]
-#[inline(never)]
 pub(crate) fn read_remove_topic(bytes: &[u8], at: usize) -> Result<(Record, usize), RecordFault>
     requires { at ≤ length bytes.now }
     ensures { ReadsKind result bytes.now (λ t. kinds.RemoveTopic t) (topic_id_at (drop at bytes.now)) }

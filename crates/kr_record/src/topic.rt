@@ -15,7 +15,6 @@ use std::alloc::{AllocError, Global};
 
 /// The name and the id of a topic, as a record.
 #[tactic(auto, unfolding(crate::specs::Reading::topic_at))]
-#[inline(never)]
 pub(crate) fn read_topic(
     alloc: Global,
     bytes: &[u8],

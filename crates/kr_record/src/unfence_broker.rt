@@ -9,7 +9,6 @@ use crate::fault::RecordFault;
 use kr_defs::Record;
 
 /// A broker that is unfenced, and its epoch, as a record.
-#[inline(never)]
 pub(crate) fn read_unfence_broker(bytes: &[u8], at: usize) -> Result<(Record, usize), RecordFault>
     requires { at ≤ length bytes.now }
     ensures { ReadsKind result bytes.now (λ t. kinds.UnfenceBroker t.0 t.1) (broker_epoch_at (drop at bytes.now)) }

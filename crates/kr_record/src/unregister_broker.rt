@@ -9,7 +9,6 @@ use crate::fault::RecordFault;
 use kr_defs::Record;
 
 /// A broker whose registration ends, and its epoch, as a record.
-#[inline(never)]
 pub(crate) fn read_unregister_broker(
     bytes: &[u8],
     at: usize,
