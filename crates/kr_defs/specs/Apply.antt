@@ -1,5 +1,5 @@
 -- KIP-631: the meaning of a record is the image after it. The causes why there is none, and the limits, are this project's own.
-use Rattle.std.specs.Prelude.{◌≡◌, ℕ, ℤ, pos, negsuc, int_lt, false, Bool, not, ◌&&◌, ◌||◌, List, length, bytes_eq, filter, Option, Some, None, Result, Ok, ◌==◌, nat_le, nat_lt, if◌then◌else◌}
+use Rattle.std.specs.Prelude.{◌≡◌, ℕ, ℤ, pos, negsuc, int_lt, false, Bool, not, ◌&&◌, ◌||◌, List, length, bytes_eq, filter, All, IsTrue, Option, Some, None, Result, Ok, ◌==◌, nat_le, nat_lt, if◌then◌else◌}
 use Rattle.std.specs.Ordering.{int_cmp, int_eq}
 use Rattle.std.specs.Option.{option_map_or}
 use Rattle.kr_defs.specs.declared.broker.Broker.{Broker}
@@ -93,6 +93,10 @@ broker_kind = pos 4
 -- a setting of the topic with this name
 abbrev pub is_setting_of : List ℕ → ConfigKey → Bool
 is_setting_of name key = int_eq key.kind topic_kind && bytes_eq key.name name
+
+-- the image has no setting of the topic with this name
+abbrev pub HasNoSettingOf : List ℕ → Image → Type 0
+HasNoSettingOf name image = All (λ e. IsTrue (not (is_setting_of name e.0))) image.configs
 
 -- the topic goes, with its partitions and its settings
 abbrev pub remove_topic : Image → ℕ → Result Image Ill

@@ -43,8 +43,7 @@ pub fn removed_whole()
     ensures partitions { (image after : Image) (id : ℕ) → Removes image id after →
         All (λ e. IsTrue (not (e.0.0 == id))) after.partitions }
     ensures configs { (image after : Image) (id : ℕ) (name : List ℕ) → Removes image id after →
-        topic_name image.topics id ≡ Some name →
-        All (λ e. IsTrue (not (apply.is_setting_of name e.0))) after.configs }
+        topic_name image.topics id ≡ Some name → apply.HasNoSettingOf name after }
 {}
 
 /// The image at the tip of a log that is longer by one item is what the item makes of the image before. Below, nothing changes.

@@ -1,3 +1,4 @@
 pub mod Bodies
 pub mod Elements
 pub mod Chains
+pub mod Fronts

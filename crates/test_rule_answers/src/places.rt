@@ -1,9 +1,7 @@
 //! What placement answers, in words.
 
-ghost use Rattle.std.specs.Prelude.{◌≡◌, ◌<◌, ◌≤◌, ◌≤ℤ◌, ◌+◌, pos, length, unsigned_abs, IfOk, string_bytes};
-ghost use Rattle.kr_defs.specs.Placed.{placed};
+ghost use Rattle.std.specs.Prelude.{◌≡◌, ◌<◌, ◌≤◌, ◌≤ℤ◌, pos, length, unsigned_abs, IfOk, string_bytes};
 ghost use Rattle.test_rule_answers.specs.PlaceWords as words;
-ghost use Rattle.test_words.specs.PlainWords as plain;
 
 use kr_place::{PlaceFault, Racked, place};
 use std::alloc::{AllocError, Global};
@@ -26,9 +24,8 @@ pub fn place_answer(
     requires start { pos 0 ≤ℤ start }
     requires index { pos 0 ≤ℤ index }
     requires factor { pos 1 ≤ℤ factor }
-    ensures placed { unsigned_abs factor ≤ length brokers.now → IfOk result (λ text. string_bytes
-        text ≡ plain.ids_words (placed brokers.now (unsigned_abs start + unsigned_abs index)
-        (unsigned_abs factor))) }
+    ensures placed { unsigned_abs factor ≤ length brokers.now → IfOk result (λ text.
+        string_bytes text ≡ words.placed_words brokers.now start index factor) }
     ensures too_few { length brokers.now < unsigned_abs factor → IfOk result (λ text.
         string_bytes text ≡ words.too_few_words (length brokers.now) factor) }
 {
