@@ -40,7 +40,8 @@ fn draft_of(
     fenced: bool,
     shuts_down: bool,
 ) -> Draft<BrokerHeartbeatReply>
-    ensures { result ≡ broker_heartbeat.told request.now (record { records = records; fenced = fenced; shuts_down = shuts_down }) }
+    ensures { result ≡ broker_heartbeat.told request.now
+        (record { records = records; fenced = fenced; shuts_down = shuts_down }) }
 {
     Draft {
         records,
@@ -61,7 +62,8 @@ fn of_fenced<S: Store>(
     state: &Broker,
 ) -> Result<Draft<BrokerHeartbeatReply>, NoMemory>
     requires { entries.get int_cmp seen.now.brokers request.now.broker ≡ Some state.now }
-    ensures { IfOk result (λ draft. draft ≡ broker_heartbeat.told request.now (broker_heartbeat.of_fenced minimum.now seen.now request.now state.now)) }
+    ensures { IfOk result (λ draft. draft ≡ broker_heartbeat.told request.now
+        (broker_heartbeat.of_fenced minimum.now seen.now request.now state.now)) }
 {
     if request.want_shutdown || state.stopping {
         return Ok(draft_of(request, Records::new(alloc), true, true));
@@ -90,7 +92,8 @@ fn is_passed_on<S: Store>(
     sessions: &Sessions,
     broker: &i32,
 ) -> Result<bool, NoMemory>
-    ensures { IfOk result (λ passed. passed ≡ broker_heartbeat.is_passed_on sessions.now.heartbeats seen.now broker.now) }
+    ensures { IfOk result (λ passed. passed ≡
+        broker_heartbeat.is_passed_on sessions.now.heartbeats seen.now broker.now) }
 {
     let stopped = sessions.stopped_at(*broker);
     match &stopped {
@@ -109,7 +112,8 @@ fn of_stopping<S: Store>(
     sessions: &Sessions,
     request: &BrokerHeartbeat,
 ) -> Result<Draft<BrokerHeartbeatReply>, NoMemory>
-    ensures { IfOk result (λ draft. draft ≡ broker_heartbeat.told request.now (broker_heartbeat.of_stopping minimum.now sessions.now.heartbeats seen.now request.now)) }
+    ensures { IfOk result (λ draft. draft ≡ broker_heartbeat.told request.now
+        (broker_heartbeat.of_stopping minimum.now sessions.now.heartbeats seen.now request.now)) }
 {
     if is_passed_on(alloc, seen, sessions, &request.broker)? {
         let records = fencing_records(alloc, seen, minimum, &request.broker, &request.epoch)?;
@@ -138,7 +142,8 @@ fn stopping_records<S: Store>(
     broker: &i32,
     epoch: &i64,
 ) -> Result<Records, NoMemory>
-    ensures { IfOk result (λ records. records ≡ broker_heartbeat.stopping_records minimum.now seen.now broker.now epoch.now) }
+    ensures { IfOk result (λ records. records ≡
+        broker_heartbeat.stopping_records minimum.now seen.now broker.now epoch.now) }
 {
     let mut records = Records::new(alloc);
     records.push(stop_record(broker, epoch))?;
@@ -152,7 +157,8 @@ fn of_active<S: Store>(
     minimum: &i32,
     request: &BrokerHeartbeat,
 ) -> Result<Draft<BrokerHeartbeatReply>, NoMemory>
-    ensures { IfOk result (λ draft. draft ≡ broker_heartbeat.told request.now (broker_heartbeat.of_active minimum.now seen.now request.now)) }
+    ensures { IfOk result (λ draft. draft ≡ broker_heartbeat.told request.now
+        (broker_heartbeat.of_active minimum.now seen.now request.now)) }
 {
     if request.want_fence {
         let records = fencing_records(alloc, seen, minimum, &request.broker, &request.epoch)?;

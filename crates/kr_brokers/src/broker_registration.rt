@@ -137,7 +137,8 @@ fn registration_draft<S: Store>(
     work: &Work,
     request: &BrokerRegistration,
 ) -> Result<Draft<BrokerRegistrationReply>, NoMemory>
-    ensures { IfOk result (λ draft. draft ≡ broker_registration.registered options.now seen.now (place_of work.now) request.now) }
+    ensures { IfOk result (λ draft. draft ≡
+        broker_registration.registered options.now seen.now (place_of work.now) request.now) }
 {
     let state = registration(alloc, work, request)?;
     let mut records = Records::new(alloc);

@@ -1,21 +1,20 @@
 //! The elections that a broker may win once it is unfenced.
 
-ghost use Rattle.std.specs.Prelude.{◌≡◌, ◌++◌, ◌&&◌, ◌||◌, not, negsuc, pos, ◌∷◌, [], Some, None, IfOk, OnOk, filter, map, if◌then◌else◌};
-ghost use Rattle.std.specs.Ordering.{int_cmp, int_eq};
+ghost use Rattle.std.specs.Prelude.{◌≡◌, ◌++◌, negsuc, pos, Some, IfOk, OnOk};
+ghost use Rattle.std.specs.Ordering.{int_cmp};
 ghost use Rattle.kr_defs.specs.declared.record.Record.TheVariants as kinds;
-ghost use Rattle.kr_defs.specs.Brokers as brokers;
 ghost use Rattle.kr_defs.specs.Build.{built};
-ghost use Rattle.kr_defs.specs.DefaultWant as wants;
 ghost use Rattle.kr_defs.specs.Map as entries;
 ghost use Rattle.kr_defs.specs.Settings.{facts_with};
 ghost use Rattle.kr_defs.specs.Walk.{changes_of, walk};
 ghost use Rattle.kr_calls.specs.BrokerHeartbeat as broker_heartbeat;
+ghost use Rattle.kr_walks.specs.BrokerIds.{ids_where};
+ghost use Rattle.kr_brokers.specs.Unfencing.{active_with, electing_with};
 
 use kr_base::NoMemory;
-use kr_change::build;
-use kr_defs::{Broker, Ids, Partition, PartitionChange, Record, Records, Text};
+use kr_defs::{Broker, Partition, PartitionChange, Record, Records, Text, Want};
 use kr_store::{Seen, Store};
-use kr_walks::{BrokerTest, Change, add_changes, brokers_where, default_want, facts, is_active};
+use kr_walks::{BrokerTest, Change, add_changes, build_with, default_want, is_active};
 use std::alloc::Global;
 
 // A broker is active, or would be if it is this one and were unfenced.
@@ -31,42 +30,25 @@ fn active_with_test(broker: &i32) -> ActiveWith
 }
 
 impl BrokerTest for ActiveWith {
-    ghost accepts = { λ t e. brokers.is_active e.1 || int_eq e.0 t.broker && not e.1.stopping };
+    ghost accepts = { λ t e. active_with t.broker e };
 
     fn accepts(&self, id: &i32, state: &Broker) -> bool {
         is_active(state) || *id == self.broker && !state.stopping
     }
 }
 
-// The brokers that are active once this one is unfenced.
-fn active_with<S: Store>(
-    alloc: Global,
-    seen: &Seen<S>,
-    broker: &i32,
-    state: &Broker,
-) -> Result<Ids, NoMemory>
-    requires { entries.get int_cmp seen.now.brokers broker.now ≡ Some state.now }
-    ensures { IfOk result (λ ids. ids ≡ brokers.active_of (broker_heartbeat.unfenced_brokers seen.now broker.now state.now)) }
-{
-    seen.is_valid();
-    let test = active_with_test(broker);
-    brokers_where(alloc, seen, &test)
-}
-
-// A broker that is unfenced, and the brokers that are active then.
+// A broker that is unfenced. `minimum` is that of the options.
 #[derive(Drop)]
 struct Candidate {
     minimum: i32,
-    active: Ids,
     broker: i32,
 }
 
-fn candidate_of(minimum: &i32, active: Ids, broker: &i32) -> Candidate
-    ensures { result ≡ record { minimum = minimum.now; active = active; broker = broker.now } }
+fn candidate_of(minimum: &i32, broker: &i32) -> Candidate
+    ensures { result ≡ record { minimum = minimum.now; broker = broker.now } }
 {
     Candidate {
         minimum: *minimum,
-        active,
         broker: *broker,
     }
 }
@@ -77,8 +59,25 @@ fn waits_for(broker: &i32, partition: &Partition) -> bool
     partition.leader == -1 && partition.replicas.contains(broker)
 }
 
+// The change of a partition where the brokers are active that are once this one is unfenced.
+fn build_unfenced<S: Store>(
+    alloc: Global,
+    seen: &Seen<S>,
+    broker: &i32,
+    minimum: &i32,
+    topic: &Text,
+    partition: &Partition,
+    want: &Want,
+) -> Result<Option<PartitionChange>, NoMemory>
+    ensures { IfOk result (λ change. change ≡ built partition.now want.now
+        (facts_with minimum.now seen.now (ids_where (active_with broker.now) seen.now.brokers) topic.now)) }
+{
+    let test = active_with_test(broker);
+    build_with(alloc, seen, &test, minimum, topic, partition, want)
+}
+
 impl Change for Candidate {
-    ghost change = { λ t image w. if broker_heartbeat.waits_for t.broker w.partition then built w.partition (wants.default_want w.partition) (facts_with t.minimum image t.active w.topic) else None };
+    ghost change = { λ t image w. electing_with t.minimum t.broker image w };
 
     fn change<S: Store>(
         &self,
@@ -92,8 +91,8 @@ impl Change for Candidate {
             return Ok(None);
         }
         let want = default_want(alloc, partition)?;
-        let facts = facts(alloc, seen, &self.minimum, &self.active, topic)?;
-        build(alloc, partition, &want, &facts)
+        let broker = &self.broker;
+        build_unfenced(alloc, seen, broker, &self.minimum, topic, partition, &want)
     }
 }
 
@@ -107,11 +106,13 @@ fn add_elections<S: Store>(
     records: &mut Records,
 ) -> Result<(), NoMemory>
     requires { entries.get int_cmp seen.now.brokers broker.now ≡ Some state.now }
-    ensures { OnOk result (records.new ≡ records.old ++ changes_of (broker_heartbeat.electing minimum.now seen.now broker.now state.now) (walk seen.now)) }
+    ensures { OnOk result (records.new ≡ records.old ++ changes_of
+        (broker_heartbeat.electing minimum.now seen.now broker.now state.now) (walk seen.now)) }
 {
-    let active = active_with(alloc, seen, broker, state)?;
-    let rule = candidate_of(minimum, active, broker);
-    add_changes(alloc, seen, &rule, records)
+    seen.is_valid();
+    let rule = candidate_of(minimum, broker);
+    add_changes(alloc, seen, &rule, records)?;
+    Ok(())
 }
 
 fn unfence_record(broker: &i32, epoch: &i64) -> Record
@@ -134,7 +135,8 @@ pub(crate) fn unfencing_records<S: Store>(
     state: &Broker,
 ) -> Result<Records, NoMemory>
     requires { entries.get int_cmp seen.now.brokers broker.now ≡ Some state.now }
-    ensures { IfOk result (λ records. records ≡ broker_heartbeat.unfencing minimum.now seen.now broker.now state.now) }
+    ensures { IfOk result (λ records. records ≡
+        broker_heartbeat.unfencing minimum.now seen.now broker.now state.now) }
 {
     let mut records = Records::new(alloc);
     records.push(unfence_record(broker, &state.epoch))?;

@@ -6,8 +6,9 @@ ghost use Rattle.kr_defs.specs.Partition as formed;
 ghost use Rattle.kr_change.specs.Built.{IsWellFormedUnder};
 
 use crate::completing::end_reassignment;
+use crate::conditions::Conditions;
 use crate::differing::difference;
-use crate::electing::elect;
+use crate::electing::elect_under;
 use crate::eligible::eligible_after;
 use crate::lists::within;
 use kr_base::NoMemory;
@@ -92,23 +93,23 @@ fn recovery_after(choice: Choice, recovery: i8) -> i8
 
 // The partition that follows, its epochs as before.
 #[tactic(auto, unfolding(kr_defs::specs::Build::aimed))]
-fn aim(
+fn aim<C: Conditions>(
     alloc: Global,
     partition: &Partition,
     want: &Want,
-    facts: &Facts,
+    conditions: &C,
 ) -> Result<Partition, NoMemory>
-    ensures { IfOk result (λ after. after ≡ builds.aimed partition.now want.now facts.now) }
+    ensures { IfOk result (λ after. after ≡ builds.aimed partition.now want.now (C.facts conditions.now)) }
 {
     let lists = assignment_asked_for(alloc, want)?;
     let before = end_reassignment(alloc, lists)?;
-    let (leader, choice) = elect(
+    let (leader, choice) = elect_under(
         partition,
         &before.replicas,
         &before.in_sync,
         want.mode,
         want.restarted,
-        facts,
+        conditions,
     );
     let after = settle(alloc, before, leader, choice)?;
     let (eligible, last_known) = standing_by(
@@ -116,7 +117,7 @@ fn aim(
         partition,
         &after,
         choice,
-        facts.minimum,
+        conditions.minimum(),
         want.restarted,
     )?;
     Ok(Partition {
@@ -133,16 +134,17 @@ fn aim(
     })
 }
 
+/// `build` where what an election follows from needn't be written down first.
 #[tactic(auto, unfolding(kr_defs::specs::Build::built))]
-fn change_of(
+pub fn build_under<C: Conditions>(
     alloc: Global,
     partition: &Partition,
     want: &Want,
-    facts: &Facts,
+    conditions: &C,
 ) -> Result<Option<PartitionChange>, NoMemory>
-    ensures { IfOk result (λ change. change ≡ builds.built partition.now want.now facts.now) }
+    ensures { IfOk result (λ change. change ≡ builds.built partition.now want.now (C.facts conditions.now)) }
 {
-    let after = aim(alloc, partition, want, facts)?;
+    let after = aim(alloc, partition, want, conditions)?;
     Ok(difference(partition, after))
 }
 
@@ -159,5 +161,5 @@ pub fn build(
     ensures well_formed { IsTrue (formed.is_well_formed partition.now) → IsTrue (builds.is_sensible want.now) →
         IfOk result (λ built. IsWellFormedUnder partition.now built) }
 {
-    change_of(alloc, partition, want, facts)
+    build_under(alloc, partition, want, facts)
 }

@@ -1,32 +1,16 @@
 -- A broker leaves the replicas in sync of partitions that are named (KIP-631).
-use Rattle.std.specs.Prelude.{ℕ, ℤ, pos, false, List, [], ◌∷◌, Option, None, flat_map, if◌then◌else◌}
+use Rattle.std.specs.Prelude.{ℕ, ℤ, pos, false, List, [], ◌∷◌, Option, flat_map}
 use Rattle.std.specs.List.{cons_option}
 use Rattle.std.specs.Option.{option_map_or}
 use Rattle.kr_defs.specs.declared.partition.PartitionChange.{PartitionChange}
 use Rattle.kr_defs.specs.declared.record.Record.{Record}
 use Rattle.kr_defs.specs.declared.record.Record.TheVariants as kinds
-use Rattle.kr_defs.specs.Brokers.{active}
-use Rattle.kr_defs.specs.Build.{built}
-use Rattle.kr_defs.specs.Ids.{without}
 use Rattle.kr_defs.specs.Image.{Image}
 use Rattle.kr_defs.specs.Map as entries
 use Rattle.kr_defs.specs.Map.{partition_order}
-use Rattle.kr_defs.specs.Settings.{facts_with}
 use Rattle.kr_defs.specs.Walk.{Walked, change_of}
-use Rattle.kr_calls.specs.TakingOut.{is_held, taking_out, without_broker}
+use Rattle.kr_calls.specs.TakingOut.{taking_out}
 use Rattle.kr_store.specs.Images.{topic_with}
-use Rattle.kr_fencing.specs.declared.leaving.Leaver.{Leaver}
-
--- the change of a partition that has the broker in sync
-abbrev pub leaving : Leaver → Image → Walked → Option PartitionChange
-leaving t image w =
-    if is_held w.partition t.broker false
-    then built w.partition (without_broker w.partition t.broker false) (facts_with t.minimum image t.active w.topic)
-    else None
-
--- a broker of the image, and the active ones besides
-abbrev pub leaver_of : ℤ → Image → ℤ → Leaver
-leaver_of minimum image broker = record { minimum = minimum; active = without (active image) (broker ∷ []); broker = broker }
 
 -- the record of the change of the partition with this key, where there are both
 abbrev pub records_in_topic : (Walked → Option PartitionChange) → Image → List ℕ → ℕ × ℤ → List Record

@@ -1,28 +1,17 @@
 //! The records that fence a broker.
 
-ghost use Rattle.std.specs.Prelude.{◌≡◌, pos, IfOk};
-ghost use Rattle.kr_defs.specs.declared.record.Record.TheVariants as kinds;
+ghost use Rattle.std.specs.Prelude.{◌≡◌, IfOk};
 ghost use Rattle.kr_calls.specs.TakingOut as taking;
 ghost use Rattle.kr_fencing.specs.FencingIndex.{Indexes};
 ghost use Rattle.kr_fencing.specs.Leaving.{fencing_at};
 
 use crate::FencingIndex;
-use crate::leaving::{add_changes, leaver_of};
+use crate::leaving::add_changes;
 use kr_base::NoMemory;
-use kr_defs::{Record, Records};
+use kr_defs::Records;
 use kr_store::{Seen, Store};
+use kr_walks::fence_record;
 use std::alloc::Global;
-
-fn fence_record(broker: &i32, epoch: &i64) -> Record
-    ensures { result ≡ kinds.BrokerRegistrationChange broker.now epoch.now (pos 1) (pos 0) }
-{
-    Record::BrokerRegistrationChange {
-        broker: *broker,
-        epoch: *epoch,
-        fenced: 1,
-        stopping: 0,
-    }
-}
 
 // The broker is fenced, and taken out of the partitions with these keys.
 fn fencing_of_keys<S: Store>(
@@ -36,10 +25,9 @@ fn fencing_of_keys<S: Store>(
     ensures { IfOk result (λ records. records ≡
         fencing_at minimum.now seen.now broker.now epoch.now keys.now) }
 {
-    let leaver = leaver_of(alloc, seen, minimum, broker)?;
     let mut records = Records::new(alloc);
     records.push(fence_record(broker, epoch))?;
-    add_changes(alloc, seen, &leaver, keys, &mut records)?;
+    add_changes(alloc, seen, minimum, broker, keys, &mut records)?;
     Ok(records)
 }
 

@@ -32,6 +32,7 @@ pub trait Get<M>: Drop {
 
 impl<'a, M> Reader<'a, M> {
     /// The next value.
+    #[inline(always)]
     pub fn get<T: Get<M>>(&mut self) -> Result<T, ReadFault>
         ensures { Takes result self.new (value_at T.schema self.old) }
     {
@@ -44,6 +45,7 @@ impl<M> Get<M> for i8 {
 
     ghost is_whole = { refl };
 
+    #[inline(always)]
     fn get(from: &mut Reader<'_, M>) -> Result<i8, ReadFault> {
         from.i8()
     }
@@ -58,6 +60,7 @@ impl<M> Get<M> for i16 {
 
     ghost is_whole = { refl };
 
+    #[inline(always)]
     fn get(from: &mut Reader<'_, M>) -> Result<i16, ReadFault> {
         from.i16()
     }
@@ -72,6 +75,7 @@ impl<M> Get<M> for i32 {
 
     ghost is_whole = { refl };
 
+    #[inline(always)]
     fn get(from: &mut Reader<'_, M>) -> Result<i32, ReadFault> {
         from.i32()
     }
@@ -86,6 +90,7 @@ impl<M> Get<M> for i64 {
 
     ghost is_whole = { refl };
 
+    #[inline(always)]
     fn get(from: &mut Reader<'_, M>) -> Result<i64, ReadFault> {
         from.i64()
     }
@@ -100,6 +105,7 @@ impl<M> Get<M> for u16 {
 
     ghost is_whole = { refl };
 
+    #[inline(always)]
     fn get(from: &mut Reader<'_, M>) -> Result<u16, ReadFault> {
         from.u16()
     }
@@ -114,6 +120,7 @@ impl<M> Get<M> for u128 {
 
     ghost is_whole = { refl };
 
+    #[inline(always)]
     fn get(from: &mut Reader<'_, M>) -> Result<u128, ReadFault> {
         from.id()
     }
@@ -128,6 +135,7 @@ impl<M> Get<M> for bool {
 
     ghost is_whole = { refl };
 
+    #[inline(always)]
     fn get(from: &mut Reader<'_, M>) -> Result<bool, ReadFault> {
         from.bool()
     }
@@ -142,6 +150,7 @@ impl<M> Get<M> for Text {
 
     ghost is_whole = { refl };
 
+    #[inline(always)]
     fn get(from: &mut Reader<'_, M>) -> Result<Text, ReadFault> {
         from.text()
     }
@@ -156,6 +165,7 @@ impl<M> Get<M> for Option<Text> {
 
     ghost is_whole = { refl };
 
+    #[inline(always)]
     fn get(from: &mut Reader<'_, M>) -> Result<Option<Text>, ReadFault> {
         from.text_or_null()
     }
@@ -170,6 +180,7 @@ impl<M, T: Get<M>> Get<M> for Rows<T> {
 
     ghost is_whole = { T.is_whole };
 
+    #[inline(always)]
     #[tactic(auto, unfolding(kr_wire::specs::Reading::list_at))]
     fn get(from: &mut Reader<'_, M>) -> Result<Rows<T>, ReadFault> {
         let count = from.count()?;
@@ -187,6 +198,7 @@ impl<M, T: Get<M>> Get<M> for Option<Rows<T>> {
 
     ghost is_whole = { T.is_whole };
 
+    #[inline(always)]
     #[tactic(auto, unfolding(kr_wire::specs::Reading::list_or_null_at))]
     fn get(from: &mut Reader<'_, M>) -> Result<Option<Rows<T>>, ReadFault> {
         let Some(count) = from.count_or_null()? else {
@@ -210,7 +222,19 @@ fn room<M, T: Get<M>>(from: &Reader<'_, M>, count: u32) -> usize
 }
 
 // So many values.
+#[inline(always)]
+#[tactic(auto, unfolding(kr_wire::specs::Reading::elements_at))]
 fn elements<M, T: Get<M>>(from: &mut Reader<'_, M>, count: u32) -> Result<Vec<T>, ReadFault>
+    ensures { TakesBy (λ v. v.items) result from.new (elements_at (value_at T.schema) count from.old) }
+{
+    if count == 0 {
+        return Ok(Vec::new(from.alloc()));
+    }
+    some_elements(from, count)
+}
+
+// The same, for which room is taken.
+fn some_elements<M, T: Get<M>>(from: &mut Reader<'_, M>, count: u32) -> Result<Vec<T>, ReadFault>
     ensures { TakesBy (λ v. v.items) result from.new (elements_at (value_at T.schema) count from.old) }
 {
     let mut list = Vec::with_capacity(from.alloc(), room::<M, T>(from, count))?;

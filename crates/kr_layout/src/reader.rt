@@ -1,6 +1,6 @@
 //! Bytes that are read one value after the other.
 
-ghost use Rattle.std.specs.Prelude.{◌≡◌, ◌==◌, ◌≤◌, length, drop, IfOk};
+ghost use Rattle.std.specs.Prelude.{◌≡◌, ◌==◌, ◌≤◌, ◌∷◌, length, drop, IfOk, IsTrue, IsFalse};
 ghost use Rattle.std.specs.Option.{option_map};
 ghost use Rattle.std.specs.Int.{w8, w16, w32, w64};
 ghost use Rattle.kr_wire.specs.Reading.{none_known, bool_at, count_at, count_or_null_at, id_at, number_at, signed_at, tags_at, text_at, text_or_null_at, uvarint_at};
@@ -53,6 +53,7 @@ impl<'a, M> Reader<'a, M> {
     }
 
     /// How many bytes are still to be read.
+    #[inline(always)]
     pub fn len(&self) -> usize
         ensures { result ≡ length self.now }
     {
@@ -60,6 +61,7 @@ impl<'a, M> Reader<'a, M> {
     }
 
     /// Nothing is left.
+    #[inline(always)]
     pub fn is_empty(&self) -> bool
         ensures { result ≡ (length self.now == 0) }
     {
@@ -67,6 +69,7 @@ impl<'a, M> Reader<'a, M> {
     }
 
     /// The next value, a signed number of one byte.
+    #[inline(always)]
     pub fn i8(&mut self) -> Result<i8, ReadFault>
         ensures { Takes result self.new (signed_at w8 self.old) }
     {
@@ -76,6 +79,7 @@ impl<'a, M> Reader<'a, M> {
     }
 
     /// The next value, a signed number of two bytes, the high byte first.
+    #[inline(always)]
     pub fn i16(&mut self) -> Result<i16, ReadFault>
         ensures { Takes result self.new (signed_at w16 self.old) }
     {
@@ -85,6 +89,7 @@ impl<'a, M> Reader<'a, M> {
     }
 
     /// The next value, a signed number of four bytes, the high byte first.
+    #[inline(always)]
     pub fn i32(&mut self) -> Result<i32, ReadFault>
         ensures { Takes result self.new (signed_at w32 self.old) }
     {
@@ -94,6 +99,7 @@ impl<'a, M> Reader<'a, M> {
     }
 
     /// The next value, a signed number of eight bytes, the high byte first.
+    #[inline(always)]
     pub fn i64(&mut self) -> Result<i64, ReadFault>
         ensures { Takes result self.new (signed_at w64 self.old) }
     {
@@ -103,6 +109,7 @@ impl<'a, M> Reader<'a, M> {
     }
 
     /// The next value, an unsigned number of two bytes, the high byte first.
+    #[inline(always)]
     pub fn u16(&mut self) -> Result<u16, ReadFault>
         ensures { Takes result self.new (number_at w16 self.old) }
     {
@@ -112,6 +119,7 @@ impl<'a, M> Reader<'a, M> {
     }
 
     /// An id.
+    #[inline(always)]
     pub fn id(&mut self) -> Result<u128, ReadFault>
         ensures { Takes result self.new (id_at self.old) }
     {
@@ -121,6 +129,7 @@ impl<'a, M> Reader<'a, M> {
     }
 
     /// The next value, a byte that is 0 for false.
+    #[inline(always)]
     pub fn bool(&mut self) -> Result<bool, ReadFault>
         ensures { Takes result self.new (bool_at self.old) }
     {
@@ -130,6 +139,7 @@ impl<'a, M> Reader<'a, M> {
     }
 
     /// The next value, a text behind its length.
+    #[inline(always)]
     pub fn text(&mut self) -> Result<Text, ReadFault>
         ensures { Takes result self.new (text_at self.old) }
     {
@@ -140,6 +150,7 @@ impl<'a, M> Reader<'a, M> {
     }
 
     /// The next value, a text behind its length, or null.
+    #[inline(always)]
     pub fn text_or_null(&mut self) -> Result<Option<Text>, ReadFault>
         ensures { Takes result self.new (text_or_null_at self.old) }
     {
@@ -150,6 +161,7 @@ impl<'a, M> Reader<'a, M> {
     }
 
     /// The count of a list.
+    #[inline(always)]
     pub fn count(&mut self) -> Result<u32, ReadFault>
         ensures { Takes result self.new (count_at self.old) }
     {
@@ -159,6 +171,7 @@ impl<'a, M> Reader<'a, M> {
     }
 
     /// The count of a list, or null.
+    #[inline(always)]
     pub fn count_or_null(&mut self) -> Result<Option<u32>, ReadFault>
         ensures { Takes result self.new (count_or_null_at self.old) }
     {
@@ -168,7 +181,21 @@ impl<'a, M> Reader<'a, M> {
     }
 
     /// Tagged fields of which none is known.
+    #[inline(always)]
+    #[tactic(auto, using(crate::proofs::Fronts::no_field))]
     pub fn end(&mut self) -> Result<(), ReadFault>
+        ensures { Takes result self.new (tags_at none_known tt self.old) }
+    {
+        if self.passes_zero() {
+            return Ok(());
+        }
+        self.some_fields()
+    }
+
+    // The same, however many fields there are.
+    #[cold]
+    #[inline(never)]
+    fn some_fields(&mut self) -> Result<(), ReadFault>
         ensures { Takes result self.new (tags_at none_known tt self.old) }
     {
         let next = skip_tags(self.bytes, self.at)?;
@@ -197,6 +224,19 @@ impl<'a, M> Reader<'a, M> {
 
     pub fn alloc(&self) -> Global {
         self.alloc
+    }
+
+    // The next byte is taken where it is 0.
+    #[inline(always)]
+    fn passes_zero(&mut self) -> bool
+        ensures passed { IsTrue result → self.old ≡ 0 ∷ self.new }
+        ensures left { IsFalse result → self.new ≡ self.old }
+    {
+        if self.at < self.bytes.len() && self.bytes[self.at] == 0 {
+            self.at += 1;
+            return true;
+        }
+        false
     }
 }
 

@@ -16,12 +16,12 @@ use kr_calls::errors::{
     UNKNOWN_TOPIC_OR_PARTITION,
 };
 use kr_calls::{Draft, PartitionElectionResult, PartitionElectionResults, ReplicaElectionResult};
-use kr_change::{Mode, Want, build};
+use kr_change::{Mode, Want};
 use kr_defs::{Copied, Ids, Options, Partition, PartitionChange, Text};
 use kr_gather::change_records;
 use kr_rules::{Groups, ItemRule, Refusal, Work};
 use kr_store::{Seen, Store};
-use kr_walks::{active, default_want, facts};
+use kr_walks::{ActiveOnes, build_with, default_want, is_accepted};
 use std::alloc::Global;
 
 /// The rule for elections of one kind: 0 the preferred leaders, 1 any replica where there is no leader.
@@ -95,21 +95,21 @@ fn election_change<S: Store>(
     ensures { IfOk result (λ change. change ≡ built partition.now (elect_leaders.in_mode partition.now mode) (facts_of options.now seen.now name.now)) }
 {
     let want = in_mode(alloc, partition, mode)?;
-    let active = active(alloc, seen)?;
-    let facts = facts(alloc, seen, &options.minimum, &active, name)?;
-    build(alloc, partition, &want, &facts)
+    build_with(
+        alloc,
+        seen,
+        &ActiveOnes,
+        &options.minimum,
+        name,
+        partition,
+        &want,
+    )
 }
 
-fn is_in_sync_and_active<S: Store>(
-    alloc: Global,
-    seen: &Seen<S>,
-    partition: &Partition,
-    id: &i32,
-) -> Result<bool, NoMemory>
-    ensures { IfOk result (λ is. is ≡ (has partition.now.in_sync id.now && has (active seen.now) id.now)) }
+fn is_in_sync_and_active<S: Store>(seen: &Seen<S>, partition: &Partition, id: &i32) -> bool
+    ensures { result ≡ (has partition.now.in_sync id.now && has (active seen.now) id.now) }
 {
-    let active = active(alloc, seen)?;
-    Ok(partition.in_sync.contains(id) && active.contains(id))
+    partition.in_sync.contains(id) && is_accepted(seen, &ActiveOnes, id)
 }
 
 // The first replica is to lead.
@@ -128,7 +128,7 @@ fn prefers<S: Store>(
     if partition.leader == first {
         return Err(Refusal::Error(ELECTION_NOT_NEEDED));
     }
-    if !is_in_sync_and_active(alloc, seen, partition, &first)? {
+    if !is_in_sync_and_active(seen, partition, &first) {
         return Err(Refusal::Error(PREFERRED_LEADER_NOT_AVAILABLE));
     }
     let change = election_change(alloc, seen, options, name, partition, Mode::Preferred)?;

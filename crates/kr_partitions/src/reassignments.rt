@@ -14,12 +14,12 @@ use kr_calls::{
     Draft, ReassignablePartition, ReassignablePartitionResponse, ReassignablePartitionResponses,
     ReassignableTopic, ReassignableTopicResponse,
 };
-use kr_change::{Want, build};
+use kr_change::Want;
 use kr_defs::{Copied, Ids, Options, Partition, PartitionChange, Text, are_apart};
 use kr_gather::{are_registered, are_targets, change_records, without};
 use kr_rules::{Groups, ItemRule, Refusal, Work};
 use kr_store::{Seen, Store};
-use kr_walks::{active, default_want, facts, is_unclean};
+use kr_walks::{ActiveOnes, build_with, default_want, is_unclean};
 use std::alloc::Global;
 
 /// The rule for reassignments.
@@ -158,9 +158,8 @@ fn of_want<S: Store>(
     if loses_all(alloc, seen, name, partition, want)? {
         return Err(Refusal::Error(INVALID_REPLICA_ASSIGNMENT));
     }
-    let active = active(alloc, seen)?;
-    let facts = facts(alloc, seen, &rule.options.minimum, &active, name)?;
-    let change = build(alloc, partition, want, &facts)?;
+    let minimum = &rule.options.minimum;
+    let change = build_with(alloc, seen, &ActiveOnes, minimum, name, partition, want)?;
     Ok(draft_of(alloc, name, entry, topic, change)?)
 }
 

@@ -16,12 +16,12 @@ use kr_calls::{
     AlterPartitionResult, AlterPartitionResults, AlterPartitionTopic, AlterPartitionTopicResult,
     BrokerState, Draft, PartitionReport,
 };
-use kr_change::{Want, build, merge};
+use kr_change::{Want, merge};
 use kr_defs::{Broker, Copied, Ids, Options, Partition, PartitionChange, Records, Text};
 use kr_gather::change_records;
 use kr_rules::{Groups, ItemRule, Refusal, Work};
 use kr_store::{Seen, Store};
-use kr_walks::{active, default_want, facts, is_active};
+use kr_walks::{ActiveOnes, build_with, default_want, is_active};
 use std::alloc::Global;
 
 /// The rule for the reports of one broker.
@@ -189,9 +189,8 @@ fn accept<S: Store>(
     ensures { IfOk result (λ draft. draft ≡ alter_partition.accepted rule.now.options.now rule.now.broker seen.now (topic.now, report.now) name.now partition.now) }
 {
     let want = want_of(alloc, partition, report, members)?;
-    let active = active(alloc, seen)?;
-    let facts = facts(alloc, seen, &rule.options.minimum, &active, name)?;
-    let change = build(alloc, partition, &want, &facts)?;
+    let minimum = &rule.options.minimum;
+    let change = build_with(alloc, seen, &ActiveOnes, minimum, name, partition, &want)?;
     draft_of(alloc, &rule.broker, topic, report, partition, change)
 }
 

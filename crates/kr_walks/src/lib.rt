@@ -2,13 +2,15 @@
 #![tactic(auto)]
 
 mod brokers;
+mod electing;
 mod partitions;
 mod settings;
 mod taking_out;
 mod topics;
 
-pub use brokers::{BrokerTest, active, brokers_where, is_active};
-pub use partitions::{Change, add_changes, leads};
-pub use settings::{facts, is_unclean, minimum_at, minimum_of, value_at};
-pub use taking_out::{default_want, fencing_records, take_out};
+pub use brokers::{ActiveOnes, BrokerTest, active, brokers_where, is_active};
+pub use electing::{build_with, build_without, is_accepted};
+pub use partitions::{Change, add_change, add_changes, leads};
+pub use settings::{is_unclean, minimum_at, minimum_of, value_at};
+pub use taking_out::{default_want, fence_record, fencing_records, leaving_change, take_out};
 pub use topics::{count_of, has_agreeing_name};

@@ -32,7 +32,8 @@ pub trait Change {
             (record { topic = topic.now; key = key.now; partition = partition.now })) };
 }
 
-fn add_change(
+/// Adds the record of the change of the partition with this key, if there is one.
+pub fn add_change(
     records: &mut Records,
     key: &(u128, i32),
     change: Option<PartitionChange>,

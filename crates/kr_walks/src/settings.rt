@@ -6,9 +6,7 @@ ghost use Rattle.kr_defs.specs.Apply.{topic_kind, broker_kind};
 ghost use Rattle.kr_defs.specs.Settings as settings;
 
 use kr_base::NoMemory;
-use kr_defs::{
-    ConfigKey, Copied, Facts, Ids, MINIMUM_KEY, Text, UNCLEAN_KEY, read_minimum, read_switch,
-};
+use kr_defs::{ConfigKey, Copied, MINIMUM_KEY, Text, UNCLEAN_KEY, read_minimum, read_switch};
 use kr_store::{Seen, Store};
 use std::alloc::Global;
 
@@ -119,24 +117,4 @@ pub fn is_unclean<S: Store>(alloc: Global, seen: &Seen<S>, topic: &Text) -> Resu
     ensures { IfOk result (λ unclean. unclean ≡ settings.is_unclean seen.now topic.now) }
 {
     Ok(switch_set(alloc, seen, topic)?.unwrap_or(false))
-}
-
-/// What an election of the topic follows from, with these brokers active. `otherwise` is the minimum of the options.
-pub fn facts<S: Store>(
-    alloc: Global,
-    seen: &Seen<S>,
-    otherwise: &i32,
-    active: &Ids,
-    topic: &Text,
-) -> Result<Facts, NoMemory>
-    ensures { IfOk result (λ facts. facts ≡ settings.facts_with otherwise.now seen.now active.now topic.now) }
-{
-    let active = active.copied(alloc)?;
-    let unclean = is_unclean(alloc, seen, topic)?;
-    let minimum = minimum_of(alloc, seen, otherwise, topic)?;
-    Ok(Facts {
-        active,
-        unclean,
-        minimum,
-    })
 }

@@ -1,18 +1,14 @@
 //! A broker is taken out of the partitions that it keeps in sync.
 
 ghost use Rattle.std.specs.Prelude.{◌≡◌, ◌++◌, [], ◌∷◌, pos, IfOk, OnOk, Some, None, if◌then◌else◌};
-ghost use Rattle.kr_defs.specs.Build.{built};
 ghost use Rattle.kr_defs.specs.DefaultWant as wants;
 ghost use Rattle.kr_defs.specs.Ids.{without};
-ghost use Rattle.kr_defs.specs.Settings.{facts_with};
 ghost use Rattle.kr_defs.specs.declared.record.Record.TheVariants as kinds;
 ghost use Rattle.kr_calls.specs.TakingOut as taking;
 
-use crate::brokers::active;
+use crate::electing::build_without;
 use crate::partitions::{Change, add_changes};
-use crate::settings::facts;
 use kr_base::NoMemory;
-use kr_change::build;
 use kr_defs::{Copied, Ids, Mode, Partition, PartitionChange, Record, Records, Text, Want};
 use kr_store::{Seen, Store};
 use std::alloc::Global;
@@ -49,21 +45,19 @@ fn others(alloc: Global, ids: &Ids, broker: &i32) -> Result<Ids, NoMemory>
     Ok(left)
 }
 
-// A broker that is taken out, and the active ones besides.
+// A broker that is taken out. `minimum` is that of the options.
 #[derive(Drop)]
 struct Leaver {
     minimum: i32,
-    active: Ids,
     broker: i32,
     restarted: bool,
 }
 
-fn leaver_of(minimum: &i32, active: Ids, broker: &i32, restarted: bool) -> Leaver
-    ensures { result ≡ record { minimum = minimum.now; active = active; broker = broker.now; restarted = restarted } }
+fn leaver_of(minimum: &i32, broker: &i32, restarted: bool) -> Leaver
+    ensures { result ≡ record { minimum = minimum.now; broker = broker.now; restarted = restarted } }
 {
     Leaver {
         minimum: *minimum,
-        active,
         broker: *broker,
         restarted,
     }
@@ -98,23 +92,50 @@ fn without_broker(
     })
 }
 
+/// The change that takes a broker out of a partition, as restarted where it has restarted uncleanly. `minimum` is that of the
+/// options.
+pub fn leaving_change<S: Store>(
+    alloc: Global,
+    seen: &Seen<S>,
+    minimum: &i32,
+    broker: &i32,
+    restarted: bool,
+    topic: &Text,
+    key: &(u128, i32),
+    partition: &Partition,
+) -> Result<Option<PartitionChange>, NoMemory>
+    ensures { IfOk result (λ change. change ≡ taking.taking_out minimum.now seen.now broker.now restarted
+        (record { topic = topic.now; key = key.now; partition = partition.now })) }
+{
+    if !is_held(partition, broker, restarted) {
+        return Ok(None);
+    }
+    let want = without_broker(alloc, partition, broker, restarted)?;
+    build_without(alloc, seen, broker, minimum, topic, partition, &want)
+}
+
 impl Change for Leaver {
-    ghost change = { λ t image w. if taking.is_held w.partition t.broker t.restarted then built w.partition (taking.without_broker w.partition t.broker t.restarted) (facts_with t.minimum image t.active w.topic) else None };
+    ghost change = { λ t image w. taking.taking_out t.minimum image t.broker t.restarted w };
 
     fn change<S: Store>(
         &self,
         alloc: Global,
         seen: &Seen<S>,
         topic: &Text,
-        _key: &(u128, i32),
+        key: &(u128, i32),
         partition: &Partition,
     ) -> Result<Option<PartitionChange>, NoMemory> {
-        if !is_held(partition, &self.broker, self.restarted) {
-            return Ok(None);
-        }
-        let want = without_broker(alloc, partition, &self.broker, self.restarted)?;
-        let facts = facts(alloc, seen, &self.minimum, &self.active, topic)?;
-        build(alloc, partition, &want, &facts)
+        let minimum = &self.minimum;
+        leaving_change(
+            alloc,
+            seen,
+            minimum,
+            &self.broker,
+            self.restarted,
+            topic,
+            key,
+            partition,
+        )
     }
 }
 
@@ -130,13 +151,12 @@ pub fn take_out<S: Store>(
 ) -> Result<(), NoMemory>
     ensures { OnOk result (records.new ≡ records.old ++ taking.taken_out minimum.now seen.now broker.now restarted) }
 {
-    let everyone = active(alloc, seen)?;
-    let active = others(alloc, &everyone, broker)?;
-    let rule = leaver_of(minimum, active, broker, restarted);
+    let rule = leaver_of(minimum, broker, restarted);
     add_changes(alloc, seen, &rule, records)
 }
 
-fn fence_record(broker: &i32, epoch: &i64) -> Record
+/// The record that fences a broker of this epoch.
+pub fn fence_record(broker: &i32, epoch: &i64) -> Record
     ensures { result ≡ kinds.BrokerRegistrationChange broker.now epoch.now (pos 1) (pos 0) }
 {
     Record::BrokerRegistrationChange {

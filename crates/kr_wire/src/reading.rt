@@ -47,6 +47,7 @@ fn read_groups(bytes: &[u8], at: usize, top: u8, room: u8) -> Result<(u64, usize
 }
 
 // A number in groups of seven bits, the low groups first.
+#[inline(always)]
 fn read_number(bytes: &[u8], at: usize, top: u8, room: u8) -> Result<(u64, usize), WireFault>
     requires start { at ≤ length bytes.now }
     requires small { room ≤ 8 }
@@ -68,6 +69,7 @@ fn read_number(bytes: &[u8], at: usize, top: u8, room: u8) -> Result<(u64, usize
 
 /// A number of 32 bits in groups of seven, the low groups first, in at most five bytes. The fault is
 /// `Short`, `TooBig` or `Overlong`, whichever is met first.
+#[inline(always)]
 #[tactic(auto, unfolding(crate::specs::Reading::uvarint_at))]
 pub fn read_uvarint(bytes: &[u8], at: usize) -> Result<(u32, usize), WireFault>
     requires { at ≤ length bytes.now }
@@ -116,6 +118,7 @@ pub fn read_varlong(bytes: &[u8], at: usize) -> Result<(i64, usize), WireFault>
 }
 
 /// So many bytes, and the place behind them.
+#[inline(always)]
 pub fn piece(bytes: &[u8], at: usize, len: usize) -> Result<(&[u8], usize), WireFault>
     requires { at ≤ length bytes.now }
     ensures read { Reads (λ s. s.now) result bytes.now (piece_at len (drop at bytes.now)) }
@@ -269,6 +272,7 @@ pub fn read_str_or_null(bytes: &[u8], at: usize) -> Result<(Option<Span>, usize)
 
 /// A text behind its length plus one, where it stands. The fault is that of the length, `BadNull`,
 /// `Short` or `BadText`, in this order.
+#[inline(always)]
 #[tactic(auto, unfolding(crate::specs::Reading::text_at))]
 pub fn read_text(bytes: &[u8], at: usize) -> Result<(&str, usize), WireFault>
     requires { at ≤ length bytes.now }
@@ -282,6 +286,7 @@ pub fn read_text(bytes: &[u8], at: usize) -> Result<(&str, usize), WireFault>
 }
 
 /// A text where it stands, or null. The fault is that of the length, `Short` or `BadText`, in this order.
+#[inline(always)]
 #[tactic(auto, unfolding(crate::specs::Reading::text_or_null_at))]
 pub fn read_text_or_null(bytes: &[u8], at: usize) -> Result<(Option<&str>, usize), WireFault>
     requires { at ≤ length bytes.now }
@@ -297,6 +302,7 @@ pub fn read_text_or_null(bytes: &[u8], at: usize) -> Result<(Option<&str>, usize
 }
 
 // So many bytes of UTF-8.
+#[inline(always)]
 #[tactic(auto, using(crate::proofs::Texts::text_passes, crate::proofs::Texts::other_fails))]
 fn text_piece(bytes: &[u8], start: usize, len: usize) -> Result<(&str, usize), WireFault>
     requires { start ≤ length bytes.now }
@@ -306,6 +312,7 @@ fn text_piece(bytes: &[u8], start: usize, len: usize) -> Result<(&str, usize), W
     Ok((text_of(piece)?, end))
 }
 
+#[inline(always)]
 #[tactic(auto, using(crate::proofs::Texts::text_passes, crate::proofs::Texts::other_fails))]
 fn text_of(bytes: &[u8]) -> Result<&str, WireFault>
     ensures { MatchResult result
@@ -345,6 +352,7 @@ fn is_text(bytes: &[u8]) -> bool
 
 /// The count of a list, written plus one, which is no more than the bytes behind it. The fault is that
 /// of the number, `BadNull` or `Short`, in this order.
+#[inline(always)]
 #[tactic(auto, unfolding(crate::specs::Reading::count_at))]
 pub fn read_count(bytes: &[u8], at: usize) -> Result<(u32, usize), WireFault>
     requires { at ≤ length bytes.now }
@@ -359,6 +367,7 @@ pub fn read_count(bytes: &[u8], at: usize) -> Result<(u32, usize), WireFault>
 }
 
 /// The count of a list, or null. The fault is that of the number or `Short`.
+#[inline(always)]
 #[tactic(auto, unfolding(crate::specs::Reading::count_or_null_at))]
 pub fn read_count_or_null(bytes: &[u8], at: usize) -> Result<(Option<u32>, usize), WireFault>
     requires { at ≤ length bytes.now }
@@ -375,6 +384,7 @@ pub fn read_count_or_null(bytes: &[u8], at: usize) -> Result<(Option<u32>, usize
 }
 
 // The count, where as many bytes are left.
+#[inline(always)]
 fn with_room(bytes: &[u8], at: usize, count: u32) -> Result<(u32, usize), WireFault>
     requires { at ≤ length bytes.now }
     ensures read { Reads (λ n. n) result bytes.now (room_at count (drop at bytes.now)) }

@@ -19,4 +19,4 @@ keeps p want facts (Ok o) is formed sensible =
 keeps p want facts (Err e) is formed sensible = tt
 
 pub returns-clause-well_formed : goal.returns-clause-well_formed
-returns-clause-well_formed c formed sensible = keeps c.args.partition.now c.args.want.now c.args.facts.now c.change_of.result c.change_of.ensures formed sensible
+returns-clause-well_formed c formed sensible = keeps c.args.partition.now c.args.want.now c.args.facts.now c.build_under.result c.build_under.ensures formed sensible

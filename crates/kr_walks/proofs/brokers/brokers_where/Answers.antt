@@ -2,7 +2,8 @@ use Rattle.std.proofs.Common.{◌∙◌, refl}
 use Rattle.std.specs.Option.{option_copied}
 use Rattle.std.proofs.lemmas.Cmp.{int_cmp_total}
 use Rattle.kr_defs.proofs.Walks.{walk_more, walk_less, walk_over}
-use Rattle.kr_walks.proofs.BrokerIds.{ids_where, ids_in_parts}
+use Rattle.kr_walks.specs.BrokerIds.{ids_where}
+use Rattle.kr_walks.proofs.BrokerIds.{ids_in_parts}
 use Rattle.kr_walks.proofs.brokers.brokers_where.Goals as goal
 
 pub loop-id-preserved : goal.loop-id-preserved

@@ -2,7 +2,7 @@ use Rattle.std.proofs.Common.{◌≡◌, ◌++◌, length}
 use Rattle.std.specs.Option.{option_copied}
 use Rattle.std.specs.Ordering.{int_cmp}
 use Rattle.kr_defs.specs.Map.{above}
-use Rattle.kr_walks.proofs.BrokerIds.{ids_where}
+use Rattle.kr_walks.specs.BrokerIds.{ids_where}
 use Rattle.kr_walks.proofs.brokers.brokers_where.Given as goal
 
 abbrev pub invariant-loop-id : goal.invariant-loop-id

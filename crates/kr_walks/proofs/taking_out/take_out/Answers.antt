@@ -1,4 +1,4 @@
 use Rattle.kr_walks.proofs.taking_out.take_out.Goals as goal
 
 pub returns : goal.returns
-returns g c = rw (c.leaver_of-rule.ensures, c.in_ok-active.ensures, c.in_ok-everyone.ensures) at c.add_changes.ensures
+returns g c = rw c.leaver_of-rule.ensures at c.add_changes.ensures

@@ -2,7 +2,7 @@ use Rattle.std.proofs.lemmas.Result.{err_from_is_err_and}
 use Rattle.kr_wire.specs.Schema.{value_at}
 use Rattle.kr_wire.proofs.Elements.{goes_on, is_done}
 use Rattle.kr_layout.proofs.Elements.{ends}
-use Rattle.kr_layout.proofs.get.elements.Goals as goal
+use Rattle.kr_layout.proofs.get.some_elements.Goals as goal
 
 pub returns-in_err-get : goal.returns-in_err-get
 returns-in_err-get g c =
