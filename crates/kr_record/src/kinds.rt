@@ -20,7 +20,7 @@ use kr_wire::put_uvarint;
 
 // Hands the kinds to another macro: of each its key, the newest version, which is the one that is
 // written, a record of it and the structure in that, if there is one, and what stands in the record,
-// in the order of its layout. Each is a pattern as well as a value.
+// in the order of its layout.
 macro_rules! each_kind {
     ($with:ident($($value:ident),*)) => {
         $with! {
@@ -31,7 +31,7 @@ macro_rules! each_kind {
                 }
                 = {
                     (broker, (incarnation, (epoch, (endpoints, (features, (rack, (fenced,
-                    (SinceOne { flag: stopping }, ()))))))))
+                    (stopping, ()))))))))
                 };
             1, 0: { Record::UnregisterBroker { broker, epoch } } = { (broker, (epoch, ())) };
             2, 0: { Record::Topic { name, id } } = { (name, (id, ())) };
@@ -61,7 +61,7 @@ macro_rules! each_kind {
                     (index, (topic, tags!(
                         0 since 0 in_sync, 1 since 0 leader, 2 since 0 replicas,
                         3 since 0 removing, 4 since 0 adding, 5 since 0 recovery,
-                        6 since 2 eligible, 7 since 2 last_known, 8 since 1 ()
+                        6 since 2 eligible, 7 since 2 last_known, 8 since 1 (&())
                     )))
                 };
             7, 0: { Record::FenceBroker { broker, epoch } } = { (broker, (epoch, ())) };
@@ -380,23 +380,15 @@ pub(crate) fn put_record(out: &mut Vec<u8>, value: &Record) -> Result<(), NoMemo
     each_kind!(writing(value, out))
 }
 
-// The frame of a record, and what stands in it.
+// The frame version, the key and the version of a record, and what stands in it.
+#[tactic(auto, unfolding(crate::specs::Spelling::framed))]
 fn put_kind<P: Pieces>(out: &mut Vec<u8>, key: u32, version: u32, parts: &P) -> Result<(), NoMemory>
     ensures { OnOk result (out.new.items ≡ out.old.items ++ (framed key version ++ P.bytes parts.now)) }
-{
-    put_frame(out, key, version)?;
-    parts.put_pieces(out)
-}
-
-// The frame version, the key and the version of a record.
-#[tactic(auto, unfolding(crate::specs::Spelling::framed))]
-fn put_frame(out: &mut Vec<u8>, key: u32, version: u32) -> Result<(), NoMemory>
-    ensures { OnOk result (out.new.items ≡ out.old.items ++ framed key version) }
 {
     put_uvarint(out, 1)?;
     put_uvarint(out, key)?;
     put_uvarint(out, version)?;
-    Ok(())
+    parts.put_pieces(out)
 }
 
 /// Each record that is held can stand in bytes.
