@@ -1,4 +1,3 @@
-pub mod Appends
 pub mod Arms
 pub mod FieldLoop
 pub mod LayoutForms

@@ -18,59 +18,59 @@ use kr_defs::{Broker, Ids, Partition, PartitionChange, Record};
 use kr_layout::Reader;
 use kr_wire::put_uvarint;
 
-// Hands the kinds to another macro: of each its key, the newest version, which is the one that is
-// written, a record of it and the structure in that, if there is one, and what stands in the record,
-// in the order of its layout.
+// Does something with each kind of record: hands to another macro the key, the newest version, which is the one that is
+// written, and what stands in the record, in the order of its layout.
 macro_rules! each_kind {
-    ($with:ident($($value:ident),*)) => {
-        $with! {
-            ($($value),*)
-            0, 1: { Record::RegisterBroker { broker, state } }
-                where state {
-                    Broker { epoch, incarnation, endpoints, features, rack, fenced, stopping }
-                }
-                = {
-                    (broker, (incarnation, (epoch, (endpoints, (features, (rack, (fenced,
-                    (stopping, ()))))))))
-                };
-            1, 0: { Record::UnregisterBroker { broker, epoch } } = { (broker, (epoch, ())) };
-            2, 0: { Record::Topic { name, id } } = { (name, (id, ())) };
-            3, 2: { Record::Partition { index, topic, state } }
-                where state {
-                    Partition {
-                        replicas, in_sync, removing, adding, leader, leader_epoch, partition_epoch,
-                        recovery, eligible, last_known,
-                    }
-                }
-                = {
-                    (index, (topic, (
-                        (Placed { ids: replicas }, (in_sync, (removing, (adding, (leader,
-                        (leader_epoch, partition_epoch)))))),
-                        tags!(0 since 0 recovery, 1 since 2 eligible, 2 since 2 last_known),
-                    )))
-                };
-            4, 0: { Record::Config { kind, name, key, value } }
-                = { (kind, (name, (key, (value, ())))) };
-            5, 2: { Record::PartitionChange { index, topic, change } }
-                where change {
-                    PartitionChange {
-                        in_sync, leader, replicas, removing, adding, recovery, eligible, last_known,
-                    }
-                }
-                = {
-                    (index, (topic, tags!(
-                        0 since 0 in_sync, 1 since 0 leader, 2 since 0 replicas,
-                        3 since 0 removing, 4 since 0 adding, 5 since 0 recovery,
-                        6 since 2 eligible, 7 since 2 last_known, 8 since 1 (&())
-                    )))
-                };
-            7, 0: { Record::FenceBroker { broker, epoch } } = { (broker, (epoch, ())) };
-            8, 0: { Record::UnfenceBroker { broker, epoch } } = { (broker, (epoch, ())) };
-            9, 0: { Record::RemoveTopic { topic } } = { (topic, ()) };
-            12, 0: { Record::FeatureLevel { name, level } } = { (name, (level, ())) };
-            17, 1: { Record::BrokerRegistrationChange { broker, epoch, fenced, stopping } }
-                = { (broker, (epoch, tags!(0 since 0 fenced, 1 since 1 stopping))) };
-            20, 0: { Record::NoOp } = { () };
+    ($value:ident, $with:ident($($more:ident)?)) => {
+        match $value {
+            Record::RegisterBroker { broker, state } => {
+                let Broker {
+                    epoch, incarnation, endpoints, features, rack, fenced, stopping,
+                } = state;
+                $with!($($more,)? 0, 1, (broker, (incarnation, (epoch, (endpoints, (features,
+                    (rack, (fenced, (stopping, ())))))))))
+            }
+            Record::UnregisterBroker { broker, epoch } => {
+                $with!($($more,)? 1, 0, (broker, (epoch, ())))
+            }
+            Record::Topic { name, id } => $with!($($more,)? 2, 0, (name, (id, ()))),
+            Record::Partition { index, topic, state } => {
+                let Partition {
+                    replicas, in_sync, removing, adding, leader, leader_epoch, partition_epoch,
+                    recovery, eligible, last_known,
+                } = state;
+                $with!($($more,)? 3, 2, (index, (topic, (
+                    (Placed { ids: replicas }, (in_sync, (removing, (adding, (leader,
+                    (leader_epoch, partition_epoch)))))),
+                    tags!(0 since 0 recovery, 1 since 2 eligible, 2 since 2 last_known),
+                ))))
+            }
+            Record::Config { kind, name, key, value } => {
+                $with!($($more,)? 4, 0, (kind, (name, (key, (value, ())))))
+            }
+            Record::PartitionChange { index, topic, change } => {
+                let PartitionChange {
+                    in_sync, leader, replicas, removing, adding, recovery, eligible, last_known,
+                } = change;
+                $with!($($more,)? 5, 2, (index, (topic, tags!(
+                    0 since 0 in_sync, 1 since 0 leader, 2 since 0 replicas,
+                    3 since 0 removing, 4 since 0 adding, 5 since 0 recovery,
+                    6 since 2 eligible, 7 since 2 last_known, 8 since 1 (&())
+                ))))
+            }
+            Record::FenceBroker { broker, epoch } => {
+                $with!($($more,)? 7, 0, (broker, (epoch, ())))
+            }
+            Record::UnfenceBroker { broker, epoch } => {
+                $with!($($more,)? 8, 0, (broker, (epoch, ())))
+            }
+            Record::RemoveTopic { topic } => $with!($($more,)? 9, 0, (topic, ())),
+            Record::FeatureLevel { name, level } => $with!($($more,)? 12, 0, (name, (level, ()))),
+            Record::BrokerRegistrationChange { broker, epoch, fenced, stopping } => {
+                $with!($($more,)? 17, 1,
+                    (broker, (epoch, tags!(0 since 0 fenced, 1 since 1 stopping))))
+            }
+            Record::NoOp => $with!($($more,)? 20, 0, ()),
         }
     };
 }
@@ -84,32 +84,14 @@ macro_rules! tags {
 }
 
 macro_rules! writing {
-    (
-        ($value:ident, $out:ident)
-        $($number:literal, $newest:literal: {$($record:tt)*}
-            $(where $own:ident {$($structure:tt)*})? = {$($parts:tt)*};)*
-    ) => {
-        match $value {
-            $($($record)* => {
-                $(let $($structure)* = $own;)?
-                put_kind($out, $number, $newest, &$($parts)*)
-            })*
-        }
+    ($out:ident, $key:literal, $newest:literal, $parts:expr) => {
+        put_kind($out, $key, $newest, &$parts)
     };
 }
 
 macro_rules! looking {
-    (
-        ($value:ident)
-        $($number:literal, $newest:literal: {$($record:tt)*}
-            $(where $own:ident {$($structure:tt)*})? = {$($parts:tt)*};)*
-    ) => {
-        match $value {
-            $($($record)* => {
-                $(let $($structure)* = $own;)?
-                $($parts)*.look();
-            })*
-        }
+    ($key:literal, $newest:literal, $parts:expr) => {
+        $parts.look()
     };
 }
 
@@ -377,7 +359,7 @@ fn read_version<P: Parts>(
 pub(crate) fn put_record(out: &mut Vec<u8>, value: &Record) -> Result<(), NoMemory>
     ensures { OnOk result (out.new.items ≡ out.old.items ++ record_value value.now) }
 {
-    each_kind!(writing(value, out))
+    each_kind!(value, writing(out))
 }
 
 // The frame version, the key and the version of a record, and what stands in it.
@@ -395,5 +377,5 @@ fn put_kind<P: Pieces>(out: &mut Vec<u8>, key: u32, version: u32, parts: &P) -> 
 pub fn record_is_held(value: &Record)
     ensures { IsHeld value.now }
 {
-    each_kind!(looking(value))
+    each_kind!(value, looking())
 }
