@@ -1,7 +1,9 @@
-//! One session over objects that fail, and from a source that gives one byte a read.
+//! One session over objects that fail, from a source that gives one byte a read, and from one that has nothing behind its end.
+
+ghost use Rattle.std.specs.Prelude.{Some};
 
 use kr_base::{Failed, MemorySink, MemorySource, Source};
-use kr_run::{Status, session};
+use kr_run::{Status, StreamSource, session};
 use std::alloc::Global;
 use std::test::Fail;
 
@@ -45,6 +47,48 @@ fn byte_by_byte(rt: HostRuntime) -> Result<(), Fail> {
     assert_eq!(rt; session(alloc, &mut input, &mut output), Status::Done);
     assert_eq!(rt; output.written(), given.as_slice());
     assert_eq!(rt; (input.inner.left().len(), input.inner.calls()), (0, 140));
+    Ok(())
+}
+
+// A source that fails where it is asked for more bytes than are left.
+#[derive(Drop)]
+struct Exact {
+    inner: MemorySource,
+    faults: u64,
+}
+
+impl Source for Exact {
+    ghost left = { λ s. Some s.inner.left };
+
+    ghost faults = { λ s. s.faults };
+
+    fn read(&mut self, into: &mut [u8]) -> Result<usize, Failed> {
+        if into.len() <= self.inner.left().len() {
+            if let Ok(count) = self.inner.read(into) {
+                return Ok(count);
+            }
+        }
+        self.faults = self.faults.saturating_add(1);
+        Err(Failed)
+    }
+
+    fn faults(&self) -> u64 {
+        self.faults
+    }
+}
+
+#[test]
+fn nothing_behind_end_is_asked_for(rt: HostRuntime) -> Result<(), Fail> {
+    let alloc = rt.alloc();
+    for frames in [true, false] {
+        let source = Exact {
+            inner: MemorySource::new(hex::decode(alloc, THIN)?, Vec::new(alloc)),
+            faults: 0,
+        };
+        let mut input = StreamSource::new(alloc, source, frames)?;
+        let mut output = MemorySink::new(alloc, 4096, 2, Vec::new(alloc))?;
+        assert_eq!(rt; session(alloc, &mut input, &mut output), Status::Done);
+    }
     Ok(())
 }
 
