@@ -6,4 +6,4 @@ mod running;
 mod seeds;
 
 pub use kr_run::Status;
-pub use running::{refuse, run};
+pub use running::{refuse, run, serves_session};

@@ -87,6 +87,16 @@ pub fn run<S: Source, K: Sink, E: Sink>(
     tell(alloc, status, notes)
 }
 
+/// Whether the words ask for a session, which comes as frames.
+pub fn serves_session(words: &[Text]) -> bool
+    ensures { IsTrue result ↔ IsSession words.now }
+{
+    match word_of(words) {
+        Some(Word::Session) => true,
+        _ => false,
+    }
+}
+
 /// Answers for words that aren't known: Usage where one isn't text, NoMemory where memory for them ran out, each with its
 /// line.
 pub fn refuse<E: Sink>(alloc: Global, fault: WordsFault, notes: &mut E) -> Status

@@ -3,10 +3,13 @@
 #![tactic(auto)]
 
 use kr_base::{ReadSource, WriteSink};
-use kr_run::{Status, session};
+use kr_run::{Status, StreamSource, session};
 
 fn main(rt: HostRuntime) -> Status {
-    let mut input = ReadSource::new(rt.stdin());
+    let mut input = match StreamSource::new(rt.alloc(), ReadSource::new(rt.stdin()), true) {
+        Ok(input) => input,
+        Err(_) => return Status::NoMemory,
+    };
     let mut output = WriteSink::new(rt.stdout());
     session(rt.alloc(), &mut input, &mut output)
 }

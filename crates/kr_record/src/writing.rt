@@ -20,7 +20,7 @@ use crate::remove_topic::put_remove_topic;
 use crate::topic::put_topic;
 use kr_base::NoMemory;
 use kr_defs::Record;
-use kr_wire::put_uvarint;
+use kr_wire::FewBytes;
 use std::alloc::AllocError;
 use std::mem;
 
@@ -49,9 +49,11 @@ fn kind_of(value: &Record) -> (u32, u32)
 fn put_frame(out: &mut Vec<u8>, key: u32, version: u32) -> Result<(), AllocError>
     ensures { OnOk result (out.new.items ≡ out.old.items ++ framed key version) }
 {
-    put_uvarint(out, 1)?;
-    put_uvarint(out, key)?;
-    put_uvarint(out, version)
+    let mut frame = FewBytes::new();
+    frame.push_uvarint(1);
+    frame.push_uvarint(key);
+    frame.push_uvarint(version);
+    frame.put(out)
 }
 
 fn put_layout(out: &mut Vec<u8>, value: &Record) -> Result<(), AllocError>

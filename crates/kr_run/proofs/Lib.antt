@@ -4,3 +4,4 @@ pub mod PastEvents
 pub mod SessionSteps
 pub mod Streams
 pub mod Statuses
+pub mod HandedOn

@@ -3,9 +3,9 @@
 #![tactic(auto)]
 
 use kr_base::{ReadSource, WriteSink};
-use kr_command::refuse;
+use kr_command::{refuse, serves_session};
 pub use kr_command::{Status, run};
-use kr_run::words_of;
+use kr_run::{StreamSource, WordsFault, words_of};
 
 fn main(rt: HostRuntime) -> Status {
     let mut notes = WriteSink::new(rt.stderr());
@@ -13,7 +13,11 @@ fn main(rt: HostRuntime) -> Status {
         Ok(words) => words,
         Err(fault) => return refuse(rt.alloc(), fault, &mut notes),
     };
-    let mut input = ReadSource::new(rt.stdin());
+    let frames = serves_session(&words);
+    let mut input = match StreamSource::new(rt.alloc(), ReadSource::new(rt.stdin()), frames) {
+        Ok(input) => input,
+        Err(_) => return refuse(rt.alloc(), WordsFault::NoMemory, &mut notes),
+    };
     let mut output = WriteSink::new(rt.stdout());
     run(rt.alloc(), &words, &mut input, &mut output, &mut notes)
 }

@@ -1,7 +1,7 @@
-//! One session over objects that fail, and from a source that gives one byte a read.
+//! One session over objects that fail, from a source that gives one byte a read, and with bytes behind its end.
 
-use kr_base::{Failed, MemorySink, MemorySource, Source};
-use kr_run::{Status, session};
+use kr_base::{Failed, MemorySink, MemorySource, ReadSource, Source};
+use kr_run::{Status, StreamSource, session};
 use std::alloc::Global;
 use std::test::Fail;
 
@@ -45,6 +45,25 @@ fn byte_by_byte(rt: HostRuntime) -> Result<(), Fail> {
     assert_eq!(rt; session(alloc, &mut input, &mut output), Status::Done);
     assert_eq!(rt; output.written(), given.as_slice());
     assert_eq!(rt; (input.inner.left().len(), input.inner.calls()), (0, 140));
+    Ok(())
+}
+
+// How the session ended whose bytes these begin with, read as frames or as another stream, and how many are left.
+fn left_behind(alloc: Global, bytes: &[u8], frames: bool) -> Result<(Status, usize), Fail> {
+    let mut rest = bytes;
+    let mut output = MemorySink::new(alloc, 4096, 2, Vec::new(alloc))?;
+    let mut input = StreamSource::new(alloc, ReadSource::new(&mut rest), frames)?;
+    let status = session(alloc, &mut input, &mut output);
+    Ok((status, rest.len()))
+}
+
+#[test]
+fn nothing_behind_end_is_read(rt: HostRuntime) -> Result<(), Fail> {
+    let mut bytes = hex::decode(rt.alloc(), THIN)?;
+    bytes.extend_from_slice(&[1; 9])?;
+    for frames in [true, false] {
+        assert_eq!(rt; left_behind(rt.alloc(), &bytes, frames)?, (Status::Done, 9));
+    }
     Ok(())
 }
 
