@@ -16,7 +16,7 @@ use crate::tags::Field;
 use kr_base::NoMemory;
 use kr_defs::{Broker, Ids, Partition, PartitionChange, Record};
 use kr_layout::Reader;
-use kr_wire::put_uvarint;
+use kr_wire::FewBytes;
 
 // Does something with each kind of record: hands to another macro the key, the newest version, which is the one that is
 // written, and what stands in the record, in the order of its layout.
@@ -367,9 +367,11 @@ pub(crate) fn put_record(out: &mut Vec<u8>, value: &Record) -> Result<(), NoMemo
 fn put_kind<P: Pieces>(out: &mut Vec<u8>, key: u32, version: u32, parts: &P) -> Result<(), NoMemory>
     ensures { OnOk result (out.new.items ≡ out.old.items ++ (framed key version ++ P.bytes parts.now)) }
 {
-    put_uvarint(out, 1)?;
-    put_uvarint(out, key)?;
-    put_uvarint(out, version)?;
+    let mut frame = FewBytes::new();
+    frame.push_uvarint(1);
+    frame.push_uvarint(key);
+    frame.push_uvarint(version);
+    frame.put(out)?;
     parts.put_pieces(out)
 }
 
