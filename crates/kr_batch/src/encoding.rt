@@ -11,9 +11,7 @@ ghost use Rattle.kr_batch.specs.BatchBytes.{VALUES_END, IsHeldItem, IsWritable, 
 use crate::{Batch, crc32c};
 use kr_base::NoMemory;
 use kr_defs::Item;
-use kr_wire::{
-    FewBytes, put_both, put_i8, put_i16, put_i32, put_i64, put_u32, put_varint,
-};
+use kr_wire::{FewBytes, put_both, put_i8, put_i16, put_i32, put_i64, put_u32, put_varint};
 use std::alloc::AllocError;
 
 /// Appends the batch. Without memory nothing changes.

@@ -4,8 +4,8 @@
 //! behind it, or the first fault. Writing appends to a vector, or leaves it as it was.
 #![tactic(auto)]
 
-pub mod laws;
 mod few_bytes;
+pub mod laws;
 mod reading;
 mod writing;
 
