@@ -1,5 +1,5 @@
 -- What is read by a layout stands for the value, and what stands for a value is read as it: one induction.
-use Rattle.std.proofs.Common.{◌≡◌, ℕ, Bool, true, false, ◌&&◌, List, refl}
+use Rattle.std.proofs.Common.{◌≡◌, ℕ, Bool, true, false, List, refl}
 use Rattle.kr_wire.specs.Grammar.{includes}
 use Rattle.kr_wire.specs.Reading.{Read}
 use Rattle.kr_wire.specs.Schema.{Int32, Array, Dropped, Uuid}

@@ -1,5 +1,5 @@
 -- The records that have a written form: this project's own limits, from the sizes that 32 bits can hold.
-use Rattle.std.specs.Prelude.{ℕ, ℤ, ◌^◌, ◌<◌, ◌≢◌, List, length, Option, Some, All, IfSome}
+use Rattle.std.specs.Prelude.{ℤ, ◌^◌, ◌<◌, ◌≢◌, List, length, Some, All, IfSome}
 use Rattle.kr_defs.specs.declared.broker.Endpoint.{Endpoint}
 use Rattle.kr_defs.specs.declared.broker.Range.{Range}
 use Rattle.kr_defs.specs.declared.record.Record.{Record}

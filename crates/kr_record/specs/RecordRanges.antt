@@ -1,5 +1,5 @@
 -- What every record that a program holds meets: its numbers fit their types, and its texts are UTF-8.
-use Rattle.std.specs.Prelude.{ℕ, ℤ, ◌^◌, ◌<◌, List, Option, All, FitsSigned, IsUtf8, IfSome}
+use Rattle.std.specs.Prelude.{ℤ, ◌^◌, ◌<◌, List, All, FitsSigned, IsUtf8, IfSome}
 use Rattle.std.specs.Int.{w8, w16, w32, w64}
 use Rattle.kr_defs.specs.declared.record.Record.{Record}
 use Rattle.kr_wire.specs.Schema.{Schema, Int8, Int16, Int32, Int64, Uint16, Uuid, Text, TextOrNull, Array, ◌▸◌, Structure}

@@ -1,5 +1,5 @@
 -- RegisterBroker, key 0, versions 0 and 1 (KIP-631).
-use Rattle.std.specs.Prelude.{◌≡◌, ℕ, ℤ, Bool, false, refl, List, Option}
+use Rattle.std.specs.Prelude.{ℕ, ℤ, Bool, false, refl, List, Option}
 use Rattle.kr_defs.specs.declared.broker.Broker.{Broker}
 use Rattle.kr_defs.specs.declared.broker.Endpoint.{Endpoint}
 use Rattle.kr_defs.specs.declared.broker.Range.{Range}

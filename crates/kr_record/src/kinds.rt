@@ -254,13 +254,20 @@ type ChangeParts = (
 fn read_partition_change(from: &mut Reader<'_, Mine>, version: u32) -> Result<Record, RecordFault>
     ensures { GivesFront result from.new (kind_at kinds.partition_change version from.old) }
 {
-    let (index, (topic, parts)): (i32, (u128, ChangeParts)) = read_version(from, 5, version, 2)?;
+    let parts: (i32, (u128, ChangeParts)) = read_version(from, 5, version, 2)?;
+    Ok(partition_change_of(parts))
+}
+
+fn partition_change_of(parts: (i32, (u128, ChangeParts))) -> Record
+    ensures { result ≡ kinds.partition_change.record_of parts }
+{
+    let (index, (topic, parts)) = parts;
     let change = change_of(parts);
-    Ok(Record::PartitionChange {
+    Record::PartitionChange {
         index,
         topic,
         change,
-    })
+    }
 }
 
 fn change_of(parts: ChangeParts) -> PartitionChange
