@@ -17,7 +17,7 @@ held_as r s e held = subst IsHeld (sym e) held
 pub put_as : (result : Result (Unit {0}) NoMemory) (before after : List ℕ) (r s : Record) → r ≡ s → OnOk result (after ≡ before ++ record_value s) → OnOk result (after ≡ before ++ record_value r)
 put_as result before after r s e put = subst (λ (x : Record). OnOk result (after ≡ before ++ record_value x)) (sym e) put
 
-pub read_as : {X : Type 0} (k : Kind X) (version : ℕ) (bytes left : List ℕ) (x : X) → parts_at k version bytes ≡ Ok (x, left) → kind_at k version bytes ≡ Ok (k.record_of x, left)
+pub read_as : (k : Kind) (version : ℕ) (bytes left : List ℕ) (x : k.Parts) → parts_at k version bytes ≡ Ok (x, left) → kind_at k version bytes ≡ Ok (k.record_of x, left)
 unfolding kind_at
 read_as k version bytes left x e = rw e refl
 
@@ -25,6 +25,6 @@ unless_as : {A B : Type 0} (b : Bool) → (A → B) → Unless b A → Unless b 
 unless_as true f u = tt
 unless_as false f u = f u
 
-pub refused_as : {X : Type 0} (k : Kind X) (version : ℕ) (bytes : List ℕ) (e : RecordFault) → IsFault e (parts_at k version bytes) → IsFault e (kind_at k version bytes)
+pub refused_as : (k : Kind) (version : ℕ) (bytes : List ℕ) (e : RecordFault) → IsFault e (parts_at k version bytes) → IsFault e (kind_at k version bytes)
 unfolding kind_at
 refused_as k version bytes e fault = unless_as (is_free e) (λ (h : parts_at k version bytes ≡ Err e). rw h refl) fault

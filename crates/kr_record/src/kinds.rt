@@ -1,7 +1,7 @@
 //! The kinds of records.
 
 ghost use Rattle.std.specs.Prelude.{◌≡◌, ◌++◌, OnOk};
-ghost use Rattle.kr_record.specs.Answers.{GivesFront};
+ghost use Rattle.kr_record.specs.Answers.{GivesFront, GivesMade};
 ghost use Rattle.kr_record.specs.Reading.{kind_at, layout_at, served_at};
 ghost use Rattle.kr_record.specs.Records as kinds;
 ghost use Rattle.kr_record.specs.RecordRanges.{IsHeld};
@@ -14,7 +14,7 @@ use crate::parts::{Parts, Placed, SinceOne};
 use crate::pieces::Pieces;
 use crate::tags::Field;
 use kr_base::NoMemory;
-use kr_defs::{Broker, Ids, Partition, PartitionChange, Record};
+use kr_defs::{Broker, Partition, PartitionChange, Record};
 use kr_layout::Reader;
 use kr_wire::put_uvarint;
 
@@ -143,240 +143,115 @@ pub(crate) fn read_kind(
 fn read_register_broker(from: &mut Reader<'_, Mine>, version: u32) -> Result<Record, RecordFault>
     ensures { GivesFront result from.new (kind_at kinds.register_broker version from.old) }
 {
-    let (
-        broker,
-        (
-            incarnation,
-            (epoch, (endpoints, (features, (rack, (fenced, (SinceOne { flag: stopping }, ())))))),
-        ),
-    ) = read_version(from, 0, version, 1)?;
-    let state = Broker {
-        epoch,
-        incarnation,
-        endpoints,
-        features,
-        rack,
-        fenced,
-        stopping,
-    };
-    Ok(Record::RegisterBroker { broker, state })
+    let record_of = |(broker, (incarnation, (epoch, (endpoints, (features, (rack, (fenced, (SinceOne { flag: stopping }, ()))))))))| { let state = Broker { epoch, incarnation, endpoints, features, rack, fenced, stopping }; Record::RegisterBroker { broker, state } };
+    read_version(from, 0, version, 1, record_of)
 }
 
 #[tactic(auto, unfolding(crate::specs::Reading::kind_at))]
 fn read_unregister_broker(from: &mut Reader<'_, Mine>, version: u32) -> Result<Record, RecordFault>
     ensures { GivesFront result from.new (kind_at kinds.unregister_broker version from.old) }
 {
-    let (broker, (epoch, ())) = read_version(from, 1, version, 0)?;
-    Ok(Record::UnregisterBroker { broker, epoch })
+    let record_of = |(broker, (epoch, ()))| Record::UnregisterBroker { broker, epoch };
+    read_version(from, 1, version, 0, record_of)
 }
 
 #[tactic(auto, unfolding(crate::specs::Reading::kind_at))]
 fn read_topic(from: &mut Reader<'_, Mine>, version: u32) -> Result<Record, RecordFault>
     ensures { GivesFront result from.new (kind_at kinds.topic version from.old) }
 {
-    let (name, (id, ())) = read_version(from, 2, version, 0)?;
-    Ok(Record::Topic { name, id })
+    let record_of = |(name, (id, ()))| Record::Topic { name, id };
+    read_version(from, 2, version, 0, record_of)
 }
-
-type PartitionParts = (
-    i32,
-    (
-        u128,
-        (
-            (Placed<Ids>, (Ids, (Ids, (Ids, (i32, (i32, i32)))))),
-            (Field<0, 0, i8>, (Field<1, 2, Ids>, (Field<2, 2, Ids>, ()))),
-        ),
-    ),
-);
 
 #[tactic(auto, unfolding(crate::specs::Reading::kind_at))]
 fn read_partition(from: &mut Reader<'_, Mine>, version: u32) -> Result<Record, RecordFault>
     ensures { GivesFront result from.new (kind_at kinds.partition version from.old) }
 {
-    let parts: PartitionParts = read_version(from, 3, version, 2)?;
-    Ok(partition_of(parts))
-}
-
-fn partition_of(parts: PartitionParts) -> Record
-    ensures { result ≡ kinds.partition.record_of parts }
-{
-    let (
-        index,
-        (
-            topic,
-            (
-                (
-                    Placed { ids: replicas },
-                    (in_sync, (removing, (adding, (leader, (leader_epoch, partition_epoch))))),
-                ),
-                tags!( 0 since 0 recovery, 1 since 2 eligible, 2 since 2 last_known ),
-            ),
-        ),
-    ) = parts;
-    let state = Partition {
-        replicas,
-        in_sync,
-        removing,
-        adding,
-        leader,
-        leader_epoch,
-        partition_epoch,
-        recovery,
-        eligible,
-        last_known,
-    };
-    Record::Partition {
-        index,
-        topic,
-        state,
-    }
+    let record_of = |(index, (topic, ((Placed { ids: replicas }, (in_sync, (removing, (adding, (leader, (leader_epoch, partition_epoch)))))), tags!(0 since 0 recovery, 1 since 2 eligible, 2 since 2 last_known))))| { let state = Partition { replicas, in_sync, removing, adding, leader, leader_epoch, partition_epoch, recovery, eligible, last_known }; Record::Partition { index, topic, state } };
+    read_version(from, 3, version, 2, record_of)
 }
 
 #[tactic(auto, unfolding(crate::specs::Reading::kind_at))]
 fn read_config(from: &mut Reader<'_, Mine>, version: u32) -> Result<Record, RecordFault>
     ensures { GivesFront result from.new (kind_at kinds.config version from.old) }
 {
-    let (kind, (name, (key, (value, ())))) = read_version(from, 4, version, 0)?;
-    Ok(Record::Config {
-        kind,
-        name,
-        key,
-        value,
-    })
+    let record_of = |(kind, (name, (key, (value, ()))))| Record::Config { kind, name, key, value };
+    read_version(from, 4, version, 0, record_of)
 }
-
-type ChangeParts = (
-    Field<0, 0, Option<Ids>>,
-    (
-        Field<1, 0, Option<i32>>,
-        (
-            Field<2, 0, Option<Ids>>,
-            (
-                Field<3, 0, Option<Ids>>,
-                (
-                    Field<4, 0, Option<Ids>>,
-                    (
-                        Field<5, 0, Option<i8>>,
-                        (
-                            Field<6, 2, Option<Ids>>,
-                            (Field<7, 2, Option<Ids>>, (Field<8, 1, ()>, ())),
-                        ),
-                    ),
-                ),
-            ),
-        ),
-    ),
-);
 
 #[tactic(auto, unfolding(crate::specs::Reading::kind_at))]
 fn read_partition_change(from: &mut Reader<'_, Mine>, version: u32) -> Result<Record, RecordFault>
     ensures { GivesFront result from.new (kind_at kinds.partition_change version from.old) }
 {
-    let parts: (i32, (u128, ChangeParts)) = read_version(from, 5, version, 2)?;
-    Ok(partition_change_of(parts))
-}
-
-fn partition_change_of(parts: (i32, (u128, ChangeParts))) -> Record
-    ensures { result ≡ kinds.partition_change.record_of parts }
-{
-    let (index, (topic, parts)) = parts;
-    let change = change_of(parts);
-    Record::PartitionChange {
-        index,
-        topic,
-        change,
-    }
-}
-
-fn change_of(parts: ChangeParts) -> PartitionChange
-    ensures { result ≡ kinds.change_of parts }
-{
-    let tags!( 0 since 0 in_sync, 1 since 0 leader, 2 since 0 replicas, 3 since 0 removing, 4 since 0 adding, 5 since 0 recovery, 6 since 2 eligible, 7 since 2 last_known, 8 since 1 () ) =
-        parts;
-    PartitionChange {
-        in_sync,
-        leader,
-        replicas,
-        removing,
-        adding,
-        recovery,
-        eligible,
-        last_known,
-    }
+    let record_of = |(index, (topic, tags!(0 since 0 in_sync, 1 since 0 leader, 2 since 0 replicas, 3 since 0 removing, 4 since 0 adding, 5 since 0 recovery, 6 since 2 eligible, 7 since 2 last_known, 8 since 1 ())))| { let change = PartitionChange { in_sync, leader, replicas, removing, adding, recovery, eligible, last_known }; Record::PartitionChange { index, topic, change } };
+    read_version(from, 5, version, 2, record_of)
 }
 
 #[tactic(auto, unfolding(crate::specs::Reading::kind_at))]
 fn read_fence_broker(from: &mut Reader<'_, Mine>, version: u32) -> Result<Record, RecordFault>
     ensures { GivesFront result from.new (kind_at kinds.fence_broker version from.old) }
 {
-    let (broker, (epoch, ())) = read_version(from, 7, version, 0)?;
-    Ok(Record::FenceBroker { broker, epoch })
+    let record_of = |(broker, (epoch, ()))| Record::FenceBroker { broker, epoch };
+    read_version(from, 7, version, 0, record_of)
 }
 
 #[tactic(auto, unfolding(crate::specs::Reading::kind_at))]
 fn read_unfence_broker(from: &mut Reader<'_, Mine>, version: u32) -> Result<Record, RecordFault>
     ensures { GivesFront result from.new (kind_at kinds.unfence_broker version from.old) }
 {
-    let (broker, (epoch, ())) = read_version(from, 8, version, 0)?;
-    Ok(Record::UnfenceBroker { broker, epoch })
+    let record_of = |(broker, (epoch, ()))| Record::UnfenceBroker { broker, epoch };
+    read_version(from, 8, version, 0, record_of)
 }
 
 #[tactic(auto, unfolding(crate::specs::Reading::kind_at))]
 fn read_remove_topic(from: &mut Reader<'_, Mine>, version: u32) -> Result<Record, RecordFault>
     ensures { GivesFront result from.new (kind_at kinds.remove_topic version from.old) }
 {
-    let (topic, ()) = read_version(from, 9, version, 0)?;
-    Ok(Record::RemoveTopic { topic })
+    let record_of = |(topic, ())| Record::RemoveTopic { topic };
+    read_version(from, 9, version, 0, record_of)
 }
 
 #[tactic(auto, unfolding(crate::specs::Reading::kind_at))]
 fn read_feature_level(from: &mut Reader<'_, Mine>, version: u32) -> Result<Record, RecordFault>
     ensures { GivesFront result from.new (kind_at kinds.feature_level version from.old) }
 {
-    let (name, (level, ())) = read_version(from, 12, version, 0)?;
-    Ok(Record::FeatureLevel { name, level })
+    let record_of = |(name, (level, ()))| Record::FeatureLevel { name, level };
+    read_version(from, 12, version, 0, record_of)
 }
 
 #[tactic(auto, unfolding(crate::specs::Reading::kind_at))]
-fn read_broker_registration_change(
-    from: &mut Reader<'_, Mine>,
-    version: u32,
-) -> Result<Record, RecordFault>
+fn read_broker_registration_change(from: &mut Reader<'_, Mine>, version: u32) -> Result<Record, RecordFault>
     ensures { GivesFront result from.new (kind_at kinds.broker_registration_change version from.old) }
 {
-    let (broker, (epoch, tags!(0 since 0 fenced, 1 since 1 stopping))) = read_version(
-        from, 17, version, 1,
-    )?;
-    Ok(Record::BrokerRegistrationChange {
-        broker,
-        epoch,
-        fenced,
-        stopping,
-    })
+    let record_of = |(broker, (epoch, tags!(0 since 0 fenced, 1 since 1 stopping)))| Record::BrokerRegistrationChange { broker, epoch, fenced, stopping };
+    read_version(from, 17, version, 1, record_of)
 }
 
 #[tactic(auto, unfolding(crate::specs::Reading::kind_at))]
 fn read_no_op(from: &mut Reader<'_, Mine>, version: u32) -> Result<Record, RecordFault>
     ensures { GivesFront result from.new (kind_at kinds.no_op version from.old) }
 {
-    let () = read_version(from, 20, version, 0)?;
-    Ok(Record::NoOp)
+    let record_of = |()| Record::NoOp;
+    read_version(from, 20, version, 0, record_of)
 }
 
-// What stands in a record of a kind, in a version that it has.
+// A record of what stands in one of a kind, in a version that it has.
 #[tactic(auto, unfolding(crate::specs::Reading::served_at))]
-fn read_version<P: Parts>(
+fn read_version<P: Parts, F: FnOnce(P) -> Record>(
     from: &mut Reader<'_, Mine>,
     key: u32,
     version: u32,
     newest: u32,
-) -> Result<P, RecordFault>
-    ensures { GivesFront result from.new (served_at key newest P.layout version from.old) }
+    record_of: F,
+) -> Result<Record, RecordFault>
+    requires { F.IsAlwaysCallable record_of }
+    ensures { GivesMade (F.post record_of) result from.new (served_at key newest P.layout version from.old) }
 {
     if version > newest {
         return Err(RecordFault::UnknownVersion { key, version });
     }
-    Ok(P::read(from, version)?)
+    let parts = P::read(from, version)?;
+    Ok(record_of(parts))
 }
 
 /// Appends the record's written form. Without memory some front of it may be appended.
