@@ -1,7 +1,8 @@
 -- The kinds of records: Kafka's metadata record schemas, each version that is served.
-use Rattle.std.specs.Prelude.{negsuc, false, refl, ℕ, ℤ, ◌==◌, if◌then◌else◌}
+use Rattle.std.specs.Prelude.{negsuc, false, refl, ℕ, ℤ, List, Option, ◌==◌, if◌then◌else◌}
 use Rattle.kr_defs.specs.declared.broker.Endpoint.{Endpoint}
 use Rattle.kr_defs.specs.declared.broker.Range.{Range}
+use Rattle.kr_defs.specs.declared.partition.PartitionChange.{PartitionChange}
 use Rattle.kr_defs.specs.declared.record.Record.{Record}
 use Rattle.kr_defs.specs.declared.record.Record.TheVariants as kinds
 use Rattle.kr_record.specs.Layout.{Schema, Int8, Int16, Int32, Int64, Uint16, Boolean, Uuid, Text, TextOrNull, End, Array, ◌▸◌, Structure, NoField, Field, Int8NotZero, Int8OrNone, Int32OrNone, Int32sOrNull, Int32sOrEmpty, UuidsDropped, RecordLayout, Of, Since, ◌▹◌, Directories, Tagged, Kind, kind}
@@ -23,7 +24,7 @@ abbrev pub register_broker : Kind
 register_broker = kind 0 1
     (Of Int32 ▹ Of Uuid ▹ Of Int64 ▹ Of (Array endpoint_layout) ▹ Of (Array range_layout) ▹ Of TextOrNull ▹ Of Boolean ▹ Since 1 false Boolean ▹ Of End)
     (λ (broker, (incarnation, (epoch, (endpoints, (features, (rack, (fenced, (stopping, end)))))))).
-      kinds.RegisterBroker broker (record { epoch = epoch; incarnation = incarnation; endpoints = endpoints; features = features; rack = rack; fenced = fenced; stopping = stopping }))
+    kinds.RegisterBroker broker (record { epoch = epoch; incarnation = incarnation; endpoints = endpoints; features = features; rack = rack; fenced = fenced; stopping = stopping }))
 
 -- the broker and its epoch
 abbrev pub broker_epoch : RecordLayout (ℤ × (ℤ × Unit {0}))
@@ -60,10 +61,13 @@ partition = kind 3 2
     (Of Int32 ▹ Of Uuid ▹ Directories 1 (Of (Array Int32) ▹ Of (Array Int32) ▹ Of (Array Int32) ▹ Of Int32 ▹ Of Int32 ▹ Of Int32)
     ▹ Tagged (Field 0 0 Int8NotZero (Field 1 2 Int32sOrEmpty (Field 2 2 Int32sOrEmpty NoField))))
     (λ (index, (topic, ((replicas, (in_sync, (removing, (adding, (leader, (leader_epoch, partition_epoch)))))), (recovery, (eligible, (last_known, none)))))).
-      kinds.Partition index topic (record {
-        replicas = replicas; in_sync = in_sync; removing = removing; adding = adding; leader = leader;
-        leader_epoch = leader_epoch; partition_epoch = partition_epoch; recovery = recovery; eligible = eligible; last_known = last_known;
-      }))
+    kinds.Partition index topic (record { replicas = replicas; in_sync = in_sync; removing = removing; adding = adding; leader = leader; leader_epoch = leader_epoch; partition_epoch = partition_epoch; recovery = recovery; eligible = eligible; last_known = last_known }))
+
+abbrev pub ChangedIds : Type 0
+ChangedIds = Option (List ℤ)
+
+abbrev pub change_of : ChangedIds × (Option ℤ × (ChangedIds × (ChangedIds × (ChangedIds × (Option ℤ × (ChangedIds × (ChangedIds × (Unit {0} × Unit {0})))))))) → PartitionChange
+change_of (in_sync, (leader, (replicas, (removing, (adding, (recovery, (eligible, (last_known, (directories, none))))))))) = record { in_sync = in_sync; leader = leader; replicas = replicas; removing = removing; adding = adding; recovery = recovery; eligible = eligible; last_known = last_known }
 
 -- the index, the topic, and what changes: those in sync, the leader, the replicas, those removed and added, the recovery state; since version 2
 -- the eligible and the last known leaders; since version 1 the directories. Null is "no change", and an empty list is "becomes empty"; the leader
@@ -71,13 +75,9 @@ partition = kind 3 2
 abbrev pub partition_change : Kind
 partition_change = kind 5 2
     (Of Int32 ▹ Of Uuid ▹ Tagged (
-      Field 0 0 Int32sOrNull (Field 1 0 (Int32OrNone (negsuc 1)) (Field 2 0 Int32sOrNull (Field 3 0 Int32sOrNull (Field 4 0 Int32sOrNull
-      (Field 5 0 (Int8OrNone (negsuc 0)) (Field 6 2 Int32sOrNull (Field 7 2 Int32sOrNull (Field 8 1 UuidsDropped NoField))))))))))
-    (λ (index, (topic, (in_sync, (leader, (replicas, (removing, (adding, (recovery, (eligible, (last_known, (directories, none))))))))))).
-      kinds.PartitionChange index topic (record {
-        in_sync = in_sync; leader = leader; replicas = replicas; removing = removing; adding = adding; recovery = recovery;
-        eligible = eligible; last_known = last_known;
-      }))
+    Field 0 0 Int32sOrNull (Field 1 0 (Int32OrNone (negsuc 1)) (Field 2 0 Int32sOrNull (Field 3 0 Int32sOrNull (Field 4 0 Int32sOrNull
+    (Field 5 0 (Int8OrNone (negsuc 0)) (Field 6 2 Int32sOrNull (Field 7 2 Int32sOrNull (Field 8 1 UuidsDropped NoField))))))))))
+    (λ (index, (topic, parts)). kinds.PartitionChange index topic (change_of parts))
 
 -- ---- others (KIP-584, KIP-631, KIP-835)
 
@@ -115,8 +115,8 @@ chosen (kinds.RegisterBroker broker b) =
     of_kind register_broker (broker, (b.incarnation, (b.epoch, (b.endpoints, (b.features, (b.rack, (b.fenced, (b.stopping, tt))))))))
 chosen (kinds.UnregisterBroker broker epoch) = of_kind unregister_broker (broker, (epoch, tt))
 chosen (kinds.Topic name id) = of_kind topic (name, (id, tt))
-chosen (kinds.Partition index id p) = of_kind partition (
-    index, (id, ((p.replicas, (p.in_sync, (p.removing, (p.adding, (p.leader, (p.leader_epoch, p.partition_epoch)))))), (p.recovery, (p.eligible, (p.last_known, tt))))))
+chosen (kinds.Partition index id p) =
+    of_kind partition (index, (id, ((p.replicas, (p.in_sync, (p.removing, (p.adding, (p.leader, (p.leader_epoch, p.partition_epoch)))))), (p.recovery, (p.eligible, (p.last_known, tt))))))
 chosen (kinds.Config kind name key value) = of_kind config (kind, (name, (key, (value, tt))))
 chosen (kinds.PartitionChange index id c) =
     of_kind partition_change (index, (id, (c.in_sync, (c.leader, (c.replicas, (c.removing, (c.adding, (c.recovery, (c.eligible, (c.last_known, (tt, tt)))))))))))

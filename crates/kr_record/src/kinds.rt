@@ -14,7 +14,7 @@ use crate::parts::{Parts, Placed, SinceOne};
 use crate::pieces::Pieces;
 use crate::tags::Field;
 use kr_base::NoMemory;
-use kr_defs::{Broker, Partition, PartitionChange, Record};
+use kr_defs::{Broker, Ids, Partition, PartitionChange, Record};
 use kr_layout::Reader;
 use kr_wire::put_uvarint;
 
@@ -22,7 +22,7 @@ use kr_wire::put_uvarint;
 // written, a record of it and the structure in that, if there is one, and what stands in the record,
 // in the order of its layout. Each is a pattern as well as a value.
 macro_rules! each_kind {
-    ($with:ident($($value:ident),*)) => {
+    ($with:ident($($value:tt),*)) => {
         $with! {
             ($($value),*)
             0, 1: { Record::RegisterBroker { broker, state } }
@@ -81,6 +81,40 @@ macro_rules! tags {
     ($tag:tt since $first:tt $part:tt $(, $($more:tt)*)?) => {
         (Field::<$tag, $first, _> { part: $part }, tags!($($($more)*)?))
     };
+}
+
+// Reading a record of the kind with the key: the kinds before it are left out.
+macro_rules! reading {
+    ((0, $from:ident, $version:ident) 0, $($kind:tt)*) => { made!($from, $version, 0, $($kind)*) };
+    ((1, $from:ident, $version:ident) 1, $($kind:tt)*) => { made!($from, $version, 1, $($kind)*) };
+    ((2, $from:ident, $version:ident) 2, $($kind:tt)*) => { made!($from, $version, 2, $($kind)*) };
+    ((3, $from:ident, $version:ident) 3, $($kind:tt)*) => { made!($from, $version, 3, $($kind)*) };
+    ((4, $from:ident, $version:ident) 4, $($kind:tt)*) => { made!($from, $version, 4, $($kind)*) };
+    ((7, $from:ident, $version:ident) 7, $($kind:tt)*) => { made!($from, $version, 7, $($kind)*) };
+    ((8, $from:ident, $version:ident) 8, $($kind:tt)*) => { made!($from, $version, 8, $($kind)*) };
+    ((9, $from:ident, $version:ident) 9, $($kind:tt)*) => { made!($from, $version, 9, $($kind)*) };
+    ((12, $from:ident, $version:ident) 12, $($kind:tt)*) => { made!($from, $version, 12, $($kind)*) };
+    ((17, $from:ident, $version:ident) 17, $($kind:tt)*) => { made!($from, $version, 17, $($kind)*) };
+    ((20, $from:ident, $version:ident) 20, $($kind:tt)*) => { made!($from, $version, 20, $($kind)*) };
+    (
+        $values:tt $number:literal, $newest:literal: {$($record:tt)*}
+            $(where $own:ident {$($structure:tt)*})? = {$($parts:tt)*}; $($others:tt)*
+    ) => {
+        reading!($values $($others)*)
+    };
+}
+
+macro_rules! made {
+    (
+        $from:ident, $version:ident, $number:literal, $newest:literal: {$($record:tt)*}
+            $(where $own:ident {$($structure:tt)*})? = {$($parts:tt)*}; $($others:tt)*
+    ) => {{
+        let record_of = |$($parts)*| {
+            $(let $own = $($structure)*;)?
+            $($record)*
+        };
+        read_version($from, $number, $version, $newest, record_of)
+    }};
 }
 
 macro_rules! writing {
@@ -143,96 +177,139 @@ pub(crate) fn read_kind(
 fn read_register_broker(from: &mut Reader<'_, Mine>, version: u32) -> Result<Record, RecordFault>
     ensures { GivesFront result from.new (kind_at kinds.register_broker version from.old) }
 {
-    let record_of = |(broker, (incarnation, (epoch, (endpoints, (features, (rack, (fenced, (SinceOne { flag: stopping }, ()))))))))| { let state = Broker { epoch, incarnation, endpoints, features, rack, fenced, stopping }; Record::RegisterBroker { broker, state } };
-    read_version(from, 0, version, 1, record_of)
+    each_kind!(reading(0, from, version))
 }
 
 #[tactic(auto, unfolding(crate::specs::Reading::kind_at))]
 fn read_unregister_broker(from: &mut Reader<'_, Mine>, version: u32) -> Result<Record, RecordFault>
     ensures { GivesFront result from.new (kind_at kinds.unregister_broker version from.old) }
 {
-    let record_of = |(broker, (epoch, ()))| Record::UnregisterBroker { broker, epoch };
-    read_version(from, 1, version, 0, record_of)
+    each_kind!(reading(1, from, version))
 }
 
 #[tactic(auto, unfolding(crate::specs::Reading::kind_at))]
 fn read_topic(from: &mut Reader<'_, Mine>, version: u32) -> Result<Record, RecordFault>
     ensures { GivesFront result from.new (kind_at kinds.topic version from.old) }
 {
-    let record_of = |(name, (id, ()))| Record::Topic { name, id };
-    read_version(from, 2, version, 0, record_of)
+    each_kind!(reading(2, from, version))
 }
 
 #[tactic(auto, unfolding(crate::specs::Reading::kind_at))]
 fn read_partition(from: &mut Reader<'_, Mine>, version: u32) -> Result<Record, RecordFault>
     ensures { GivesFront result from.new (kind_at kinds.partition version from.old) }
 {
-    let record_of = |(index, (topic, ((Placed { ids: replicas }, (in_sync, (removing, (adding, (leader, (leader_epoch, partition_epoch)))))), tags!(0 since 0 recovery, 1 since 2 eligible, 2 since 2 last_known))))| { let state = Partition { replicas, in_sync, removing, adding, leader, leader_epoch, partition_epoch, recovery, eligible, last_known }; Record::Partition { index, topic, state } };
-    read_version(from, 3, version, 2, record_of)
+    each_kind!(reading(3, from, version))
 }
 
 #[tactic(auto, unfolding(crate::specs::Reading::kind_at))]
 fn read_config(from: &mut Reader<'_, Mine>, version: u32) -> Result<Record, RecordFault>
     ensures { GivesFront result from.new (kind_at kinds.config version from.old) }
 {
-    let record_of = |(kind, (name, (key, (value, ()))))| Record::Config { kind, name, key, value };
-    read_version(from, 4, version, 0, record_of)
+    each_kind!(reading(4, from, version))
 }
 
 #[tactic(auto, unfolding(crate::specs::Reading::kind_at))]
 fn read_partition_change(from: &mut Reader<'_, Mine>, version: u32) -> Result<Record, RecordFault>
     ensures { GivesFront result from.new (kind_at kinds.partition_change version from.old) }
 {
-    let record_of = |(index, (topic, tags!(0 since 0 in_sync, 1 since 0 leader, 2 since 0 replicas, 3 since 0 removing, 4 since 0 adding, 5 since 0 recovery, 6 since 2 eligible, 7 since 2 last_known, 8 since 1 ())))| { let change = PartitionChange { in_sync, leader, replicas, removing, adding, recovery, eligible, last_known }; Record::PartitionChange { index, topic, change } };
-    read_version(from, 5, version, 2, record_of)
+    read_version(from, 5, version, 2, partition_change_of)
+}
+
+type ChangeParts = (
+    Field<0, 0, Option<Ids>>,
+    (
+        Field<1, 0, Option<i32>>,
+        (
+            Field<2, 0, Option<Ids>>,
+            (
+                Field<3, 0, Option<Ids>>,
+                (
+                    Field<4, 0, Option<Ids>>,
+                    (
+                        Field<5, 0, Option<i8>>,
+                        (
+                            Field<6, 2, Option<Ids>>,
+                            (Field<7, 2, Option<Ids>>, (Field<8, 1, ()>, ())),
+                        ),
+                    ),
+                ),
+            ),
+        ),
+    ),
+);
+
+fn partition_change_of(parts: (i32, (u128, ChangeParts))) -> Record
+    ensures { result ≡ kinds.partition_change.record_of parts }
+{
+    let (index, (topic, parts)) = parts;
+    let change = change_of(parts);
+    Record::PartitionChange {
+        index,
+        topic,
+        change,
+    }
+}
+
+fn change_of(parts: ChangeParts) -> PartitionChange
+    ensures { result ≡ kinds.change_of parts }
+{
+    let tags!( 0 since 0 in_sync, 1 since 0 leader, 2 since 0 replicas, 3 since 0 removing, 4 since 0 adding, 5 since 0 recovery, 6 since 2 eligible, 7 since 2 last_known, 8 since 1 () ) =
+        parts;
+    PartitionChange {
+        in_sync,
+        leader,
+        replicas,
+        removing,
+        adding,
+        recovery,
+        eligible,
+        last_known,
+    }
 }
 
 #[tactic(auto, unfolding(crate::specs::Reading::kind_at))]
 fn read_fence_broker(from: &mut Reader<'_, Mine>, version: u32) -> Result<Record, RecordFault>
     ensures { GivesFront result from.new (kind_at kinds.fence_broker version from.old) }
 {
-    let record_of = |(broker, (epoch, ()))| Record::FenceBroker { broker, epoch };
-    read_version(from, 7, version, 0, record_of)
+    each_kind!(reading(7, from, version))
 }
 
 #[tactic(auto, unfolding(crate::specs::Reading::kind_at))]
 fn read_unfence_broker(from: &mut Reader<'_, Mine>, version: u32) -> Result<Record, RecordFault>
     ensures { GivesFront result from.new (kind_at kinds.unfence_broker version from.old) }
 {
-    let record_of = |(broker, (epoch, ()))| Record::UnfenceBroker { broker, epoch };
-    read_version(from, 8, version, 0, record_of)
+    each_kind!(reading(8, from, version))
 }
 
 #[tactic(auto, unfolding(crate::specs::Reading::kind_at))]
 fn read_remove_topic(from: &mut Reader<'_, Mine>, version: u32) -> Result<Record, RecordFault>
     ensures { GivesFront result from.new (kind_at kinds.remove_topic version from.old) }
 {
-    let record_of = |(topic, ())| Record::RemoveTopic { topic };
-    read_version(from, 9, version, 0, record_of)
+    each_kind!(reading(9, from, version))
 }
 
 #[tactic(auto, unfolding(crate::specs::Reading::kind_at))]
 fn read_feature_level(from: &mut Reader<'_, Mine>, version: u32) -> Result<Record, RecordFault>
     ensures { GivesFront result from.new (kind_at kinds.feature_level version from.old) }
 {
-    let record_of = |(name, (level, ()))| Record::FeatureLevel { name, level };
-    read_version(from, 12, version, 0, record_of)
+    each_kind!(reading(12, from, version))
 }
 
 #[tactic(auto, unfolding(crate::specs::Reading::kind_at))]
-fn read_broker_registration_change(from: &mut Reader<'_, Mine>, version: u32) -> Result<Record, RecordFault>
+fn read_broker_registration_change(
+    from: &mut Reader<'_, Mine>,
+    version: u32,
+) -> Result<Record, RecordFault>
     ensures { GivesFront result from.new (kind_at kinds.broker_registration_change version from.old) }
 {
-    let record_of = |(broker, (epoch, tags!(0 since 0 fenced, 1 since 1 stopping)))| Record::BrokerRegistrationChange { broker, epoch, fenced, stopping };
-    read_version(from, 17, version, 1, record_of)
+    each_kind!(reading(17, from, version))
 }
 
 #[tactic(auto, unfolding(crate::specs::Reading::kind_at))]
 fn read_no_op(from: &mut Reader<'_, Mine>, version: u32) -> Result<Record, RecordFault>
     ensures { GivesFront result from.new (kind_at kinds.no_op version from.old) }
 {
-    let record_of = |()| Record::NoOp;
-    read_version(from, 20, version, 0, record_of)
+    each_kind!(reading(20, from, version))
 }
 
 // A record of what stands in one of a kind, in a version that it has.
