@@ -2,7 +2,6 @@ pub mod Appends
 pub mod Arms
 pub mod FieldLoop
 pub mod LayoutForms
-pub mod LayoutLaws
 pub mod PartForms
 pub mod RecordForms
 pub mod RecordLaws

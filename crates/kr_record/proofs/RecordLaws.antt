@@ -1,5 +1,5 @@
 -- The laws of records.
-use Rattle.std.proofs.Common.{Fits, w8, get_or, ◌≡◌, ℕ, ◌≤◌, ◌<◌, cond, eqb, ltb, true, false, List, ◌++◌, Result, Ok, Err, refl, ap, subst, ◌∙◌, arith, lit<}
+use Rattle.std.proofs.Common.{Fits, w8, get_or, ◌≡◌, ℕ, ◌≤◌, ◌<◌, Bool, cond, eqb, ltb, true, false, List, ◌++◌, Result, Ok, Err, refl, ap, subst, ◌∙◌, arith, lit<}
 use Rattle.std.specs.Prelude.{not, IfOk}
 use Rattle.std.proofs.lemmas.Bool.Decides.{nat_tests}
 use Rattle.std.proofs.lemmas.Bool.{ltb-false, le-ltb}
@@ -7,18 +7,38 @@ use Rattle.kr_defs.specs.declared.record.Record.{Record}
 use Rattle.kr_defs.specs.declared.record.Record.TheVariants as kinds
 use Rattle.kr_wire.specs.declared.WireFault.{WireFault}
 use Rattle.kr_wire.specs.Reading.{Read}
-use Rattle.kr_wire.specs.Grammar.{◌⌢◌, IsUvarint}
-use Rattle.kr_wire.proofs.ReadingLaws.{IsBytes, Yields, Law, joined, sound_then, sound_last, sound_guard, sound_as, sound_if, complete_then, complete_last, complete_guard, all_sound, all_complete, one_value}
+use Rattle.kr_wire.specs.Grammar.{◌⌢◌, IsUvarint, includes}
+use Rattle.kr_wire.specs.Schema.{Int32, Array, Dropped, Uuid}
+use Rattle.kr_wire.proofs.ReadingLaws.{IsBytes, Yields, Law, joined, ◌before◌, structure_law, sound_done, sound_then, sound_last, sound_guard, sound_as, sound_if, complete_then, complete_last, complete_guard, all_sound, all_complete, one_value}
 use Rattle.kr_wire.proofs.Numbers.{uvarint_law}
+use Rattle.kr_wire.proofs.Schemas as schemas
+use Rattle.kr_wire.proofs.Tables.{both, fields_law}
 use Rattle.kr_record.specs.declared.fault.RecordFault.{RecordFault}
 use Rattle.kr_record.specs.declared.fault.RecordFault.TheVariants as faults
 use Rattle.kr_record.specs.Answers.{Gives}
 use Rattle.kr_record.specs.Records.{chosen, of_kind, register_broker, unregister_broker, topic, partition, config, partition_change, fence_broker, unfence_broker, remove_topic, feature_level, broker_registration_change, no_op}
-use Rattle.kr_record.specs.Layout.{Kind, IsInVersion, is_whole}
+use Rattle.kr_record.specs.Layout.{RecordLayout, Of, Since, ◌▹◌, Directories, Tagged, Kind, IsSince, IsInVersion, since_at, version_at, is_whole}
 use Rattle.kr_record.specs.Reading.{wired, layout_at, kind_at, served_at, parts_at, record_at, record_of}
 use Rattle.kr_record.specs.Grammar.{IsOfKind, IsLayout, IsRecord}
-use Rattle.kr_record.proofs.LayoutLaws.{law}
 use Rattle.kr_record.proofs.LayoutForms.{is_newest}
+
+-- ---- layouts: what is read by one stands for the value, and what stands for a value is read as it
+
+since_law : {X : Type 0} {One : X → List ℕ → Type 0} {read : List ℕ → Read X} (here : Bool) → Law One read → (absent : X) → Law (IsSince here One absent) (since_at here read absent)
+since_law true law absent = law
+since_law {X} {One} {read} false law absent = record {
+  sound = λ bytes fits. sound_done (IsSince false One absent) bytes absent (refl, refl);
+  complete = λ x front rest is. rw (is.0, is.1) refl;
+}
+
+law : {X : Type 0} (s : RecordLayout X) → is_whole s ≡ true → (version : ℕ) → Law (IsInVersion s version) (version_at s version)
+law (Of s) e version = schemas.law s e
+law (Since first absent s) e version = since_law (includes first version) (schemas.law s e) absent
+law (a ▹ b) e version = let h = both (is_whole a) (is_whole b) e in law a h.0 version before law b h.1 version
+law (Directories first a) e version =
+    structure_law (λ p. p.0) (λ x. (x, tt)) (λ p. refl) (λ x. refl)
+    ((schemas.law (Array Int32) refl before law a e version) before since_law (includes first version) (schemas.law (Dropped (Array Uuid)) refl) tt)
+law (Tagged t) e version = fields_law t e version
 
 -- ---- a fault of the wire is one of the record
 
