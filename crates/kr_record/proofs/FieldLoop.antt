@@ -1,7 +1,6 @@
 -- Reading tagged fields one after the other, as a loop does.
 use Rattle.std.proofs.Common.{◌≡◌, ℕ, suc, ◌-◌, ◌+◌, ◌≤◌, ◌<◌, List, take, drop, Option, Some, Ok, Err, refl, sym, ap, ◌∙◌, arith}
 use Rattle.kr_wire.specs.Reading.{◌>>=◌, Read, Known, tag_at, field_of, fields_at}
-use Rattle.kr_wire.specs.declared.WireFault.{WireFault}
 use Rattle.kr_layout.specs.declared.fault.ReadFault.{ReadFault}
 use Rattle.kr_layout.specs.declared.fault.ReadFault.TheVariants as reads
 use Rattle.kr_layout.specs.Answers.{IsFaultOf, field_at}
@@ -28,25 +27,17 @@ module _ {X : Type 0} (known : Known X) (count i : ℕ) (last : Option ℕ) (byt
       let step : others (count - (i + 1)) (field_at last bytes) ≡ fields_at known (count - (i + 1)) (Some tag) after rest = ap (others (count - (i + 1))) read ∙ rw field refl in
       sym step ∙ sym (one_more lt) ∙ so_far
 
-  at_tag : (fault : WireFault) → i < count → field_at last bytes ≡ Err fault → fields_at known (count - i) last value bytes ≡ total → total ≡ Err fault
-  at_tag fault lt read so_far = sym so_far ∙ one_more lt ∙ ap (others (count - (i + 1))) read
-
-  in_field : (tag : ℕ) (part rest : List ℕ) (fault : WireFault) → i < count → field_at last bytes ≡ Ok ((tag, part), rest) → field_of (known tag) value part ≡ Err fault
-      → fields_at known (count - i) last value bytes ≡ total → total ≡ Err fault
-  in_field tag part rest fault lt read field so_far = sym so_far ∙ one_more lt ∙ ap (others (count - (i + 1))) read ∙ rw field refl
-
   pub ends_at_tag : (e : ReadFault) → i < count → IsFaultOf e (field_at last bytes) → fields_at known (count - i) last value bytes ≡ total → IsFaultOf e total
-  ends_at_tag (reads.Wire fault) lt read so_far = at_tag fault lt read so_far
+  ends_at_tag (reads.Wire fault) lt read so_far = sym so_far ∙ one_more lt ∙ ap (others (count - (i + 1))) read
   ends_at_tag reads.NoMemory lt read so_far = tt
 
   pub ends_in_field : (tag : ℕ) (part rest : List ℕ) (e : ReadFault) → i < count → field_at last bytes ≡ Ok ((tag, part), rest) → IsFieldFault e (field_of (known tag) value part)
       → fields_at known (count - i) last value bytes ≡ total → IsFaultOf e total
-  ends_in_field tag part rest (reads.Wire fault) lt read field so_far = in_field tag part rest fault lt read field so_far
+  ends_in_field tag part rest (reads.Wire fault) lt read field so_far = sym so_far ∙ one_more lt ∙ ap (others (count - (i + 1))) read ∙ rw field refl
   ends_in_field tag part rest reads.NoMemory lt read field so_far = tt
 
   pub done : count ≤ i → fields_at known (count - i) last value bytes ≡ total → total ≡ Ok (value, bytes)
   unfolding fields_at
   done le so_far =
       let k : count - i ≡ 0 = omega arith in
-      let step : fields_at known (count - i) last value bytes ≡ Ok (value, bytes) = rw k refl in
-      sym so_far ∙ step
+      sym so_far ∙ rw k refl

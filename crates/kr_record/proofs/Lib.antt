@@ -1,7 +1,6 @@
 pub mod Arms
 pub mod FieldLoop
 pub mod LayoutForms
-pub mod LayoutLaws
 pub mod PartForms
 pub mod RecordForms
 pub mod RecordLaws

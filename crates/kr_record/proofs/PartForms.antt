@@ -30,8 +30,8 @@ byte n =
     ] in
     step refl
 
-apart : (default n : ℤ) → n ≢ default → int_eq n default ≡ false
-apart default n other = elim (int_eq n default) as (λ b. int_eq n default ≡ b → b ≡ false) [ true ↦ λ e. absurd (other ((Decides-int_eq n default).0 e)) | false ↦ λ e. refl ] refl
+apart : (default n : ℤ) → Some n ≢ Some default → int_eq n default ≡ false
+apart default n other = elim (int_eq n default) as (λ b. int_eq n default ≡ b → b ≡ false) [ true ↦ λ e. absurd (other (ap (λ (m : ℤ). Some m) ((Decides-int_eq n default).0 e))) | false ↦ λ e. refl ] refl
 
 -- a number that was seen is the one that stands there, and isn't the one that spells "no change"
 seen : (default n m : ℤ) → Some n ≡ unless_default default m → (n ≡ m) × (int_eq n default ≡ false)
@@ -45,11 +45,10 @@ module _ (w : Width) (few : bits w ≤ 64) (low : byte_len w < 2 ^ 32) (default 
   changed None = left_out refl (λ same. cc) tt
   changed (Some n) =
       let plain = signed w n few in
-      let differs : Some n ≢ Some default → int_eq n default ≡ false = λ other. apart default n (λ same. other (ap (λ (m : ℤ). Some m) same)) in
       record {
-        long = λ p. let no = differs p in rw no (ap (λ (m : ℕ). Some m) (plain.size tt));
+        long = λ p. let no = apart default n p in rw no (ap (λ (m : ℕ). Some m) (plain.size tt));
         few = λ p. omega (arith, plain.size tt);
-        stands = λ p q. let no = differs p in record { n = n; is = rw no refl; spelled = plain.stands tt q };
+        stands = λ p q. let no = apart default n p in record { n = n; is = rw no refl; spelled = plain.stands tt q };
         fits = λ p q. plain.fits tt q;
         within = λ d is. let no = (seen default n is.n is.is).1 in rw no (omega (arith, is.spelled.spelled.long));
         short = λ d is few same. let no = (seen default n is.n is.is).1 in let own : n ≡ default = cc in let yes = (Decides-int_eq n default).1 own in cc;
@@ -65,9 +64,6 @@ length_ids xs = length_list (written.signed w32) 4 length_signed_32 xs
 ids_few : (xs : List ℤ) → FitsField xs → length (ids xs) < 2 ^ 32
 ids_few xs fits = omega (arith, length_ids xs, uvarint_few (length xs + 1))
 
-int32_long : (n : ℤ) (bytes : List ℕ) → IsSigned w32 n bytes → 4 ≤ length bytes
-int32_long n bytes is = omega (arith, is.spelled.long)
-
 listed : (xs : List ℤ) → Plain (IsList (IsSigned w32) xs) (ids xs) (list_bytes 4 xs) (FitsField xs) (AreInts xs)
 listed xs =
     let all = int32s xs in
@@ -75,7 +71,7 @@ listed xs =
       size = λ fits. all.size (omega arith);
       stands = λ fits q. all.stands (omega arith) q;
       fits = λ fits q. all.fits (omega arith) q;
-      follows = record { cost = all.follows.cost; short = λ d is few. omega (arith, each_long 4 int32_long xs is.right is.second, both_lengths d is); held = all.follows.held };
+      follows = record { cost = all.follows.cost; short = λ d is few. omega (arith, each_long 4 (λ n b one. omega (arith, one.spelled.long)) xs is.right is.second, both_lengths d is); held = all.follows.held };
     }
 
 ids_or_null : (o : Option (List ℤ)) → FieldForm (IsListOrNull (IsSigned w32) o) (o ≡ None) (option_map ids o) (ids_field_or o) (IfSome o FitsField) (IfSome o AreInts)

@@ -1,8 +1,7 @@
 -- What is written of a record, and what follows of bytes that stand for one.
-use Rattle.std.proofs.Common.{◌≡◌, ℕ, ◌+◌, ◌*◌, ◌^◌, ◌<◌, ◌≤◌, ◌&&◌, ltb, List, [], ◌∷◌, ◌++◌, length, Ok, refl, ap, ◌∙◌, append_assoc, arith, lit<}
+use Rattle.std.proofs.Common.{◌≡◌, ℕ, ◌+◌, ◌*◌, ◌^◌, ◌<◌, ◌≤◌, List, [], ◌∷◌, ◌++◌, length, Ok, refl, ap, ◌∙◌, append_assoc, arith, lit<}
 use Rattle.std.specs.Prelude.{negsuc, Option, None}
 use Rattle.std.specs.List.{sum_by}
-use Rattle.std.proofs.lemmas.Bool.{ltb-true}
 use Rattle.std.proofs.lemmas.List.{length-append}
 use Rattle.std.proofs.lemmas.List.Sums.{sum_by-append, sum_by-cons}
 use Rattle.kr_defs.specs.declared.broker.Endpoint.{Endpoint}
@@ -14,17 +13,14 @@ use Rattle.kr_wire.specs.Laws.{IsBytes}
 use Rattle.kr_wire.specs.Grammar.{◌⌢◌, IsUvarint}
 use Rattle.kr_wire.proofs.SpellingLaws.{Form, ◌plus◌, form, small}
 use Rattle.kr_wire.proofs.WrittenBytes.{OfBytes}
-use Rattle.kr_wire.proofs.Tables.{both}
-use Rattle.kr_record.specs.RegisterBroker.{endpoint_layout, range_layout}
-use Rattle.kr_record.specs.Layout.{is_whole}
-use Rattle.kr_record.specs.Records.{chosen}
+use Rattle.kr_record.specs.Records.{chosen, endpoint_layout, range_layout}
 use Rattle.kr_record.specs.Encodable.{IsEncodable}
 use Rattle.kr_record.specs.Grammar.{IsLayout, IsRecord}
 use Rattle.kr_record.specs.RecordRanges.{IsHeld}
 use Rattle.kr_record.specs.Reading.{record_of}
 use Rattle.kr_record.specs.Spelling.{framed, written_bytes, plain_bytes, record_value}
-use Rattle.kr_record.proofs.LayoutForms.{is_newest, most_bytes, layout_form}
-use Rattle.kr_record.proofs.RecordLaws.{is_served, is_chosen, of_complete}
+use Rattle.kr_record.proofs.LayoutForms.{most_bytes, layout_form}
+use Rattle.kr_record.proofs.RecordLaws.{is_chosen, of_complete}
 
 -- a kind with a small key, in its newest version, and what stood for it with some key, in some version
 framed_form : (r : Record) (key version : ℕ) → let k = (chosen r).kind in
@@ -33,16 +29,15 @@ framed_form : (r : Record) (key version : ℕ) → let k = (chosen r).kind in
 unfolding record_value framed
 framed_form r key version =
     let k = (chosen r).kind in
-    let served = both (is_whole k.layout && is_newest k.layout k.newest) (ltb k.key 128 && ltb k.newest 128) (is_chosen r).served in
-    let low = both (ltb k.key 128) (ltb k.newest 128) served.1 in
-    let part = layout_form k.layout k.newest (both (is_whole k.layout) (is_newest k.layout k.newest) served.0).1 version (chosen r).parts in
+    let c = is_chosen r in
+    let part = layout_form k.layout k.newest c.spelled version (chosen r).parts in
     let layout : Form (IsLayout k.key k.newest r) (IsLayout key version r) _ _ _ _ _ = record {
       size = part.size;
       stands = λ p q. (refl, omega arith, part.stands p q);
       fits = part.fits;
       follows = record { cost = λ b is. part.follows.cost b is.2; short = λ b is. part.follows.short b is.2; held = λ b is. part.follows.held b is.2 };
     } in
-    form (small 1 1 (lit< tt) plus small k.key key (ltb-true _ _ low.0) plus small k.newest version (ltb-true _ _ low.1) plus layout) (simp append_assoc) (omega arith) (omega arith)
+    form (small 1 1 (lit< tt) plus small k.key key c.low.0 plus small k.newest version c.low.1 plus layout) (simp append_assoc) (omega arith) (omega arith)
     (λ p. p.1.1.1) (λ p. (tt, (tt, (tt, p)))) (λ q. q.1.1.1) (λ q. (tt, (tt, (tt, q))))
 
 pub stands : (r : Record) → IsEncodable r → IsHeld r → IsRecord r (record_value r)
@@ -91,21 +86,12 @@ all_bytes (kinds.RegisterBroker broker state) =
     let endpoints = endpoints_bytes state.endpoints in
     let ranges = ranges_bytes state.features in
     (omega (arith, endpoints, ranges), omega (arith, endpoints, ranges))
-all_bytes (kinds.UnregisterBroker broker epoch) = (refl, omega arith)
-all_bytes (kinds.Topic name n) = (omega arith, omega arith)
-all_bytes (kinds.Partition index n state) = (omega arith, omega arith)
-all_bytes (kinds.Config kind name key value) = (omega arith, omega arith)
 all_bytes (kinds.PartitionChange index n c) =
     let none = none_more (
     ids_field_or c.in_sync ∷ number_field_or 4 (negsuc 1) c.leader ∷ ids_field_or c.replicas ∷ ids_field_or c.removing ∷ ids_field_or c.adding
     ∷ number_field_or 1 (negsuc 0) c.recovery ∷ ids_field_or c.eligible ∷ ids_field_or c.last_known ∷ []) in
     (omega (arith, none), omega (arith, none))
-all_bytes (kinds.FenceBroker broker epoch) = (refl, omega arith)
-all_bytes (kinds.UnfenceBroker broker epoch) = (refl, omega arith)
-all_bytes (kinds.RemoveTopic n) = (refl, omega arith)
-all_bytes (kinds.FeatureLevel name level) = (omega arith, omega arith)
-all_bytes (kinds.BrokerRegistrationChange broker epoch fenced stopping) = (omega arith, omega arith)
-all_bytes kinds.NoOp = (refl, omega arith)
+all_bytes _ = (omega arith, omega arith)
 
 pub size : (r : Record) → IsEncodable r → length (record_value r) ≡ value_bytes r
 size r fits = (framed_form r 0 0).size fits ∙ (all_bytes r).0

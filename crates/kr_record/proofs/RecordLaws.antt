@@ -1,5 +1,5 @@
 -- The laws of records.
-use Rattle.std.proofs.Common.{Fits, w8, get_or, ◌≡◌, ℕ, ◌≤◌, Bool, cond, ◌&&◌, eqb, ltb, true, false, List, ◌++◌, Result, Ok, Err, refl, ap, subst, ◌∙◌, arith}
+use Rattle.std.proofs.Common.{Fits, w8, get_or, ◌≡◌, ℕ, ◌≤◌, ◌<◌, Bool, cond, eqb, ltb, true, false, List, ◌++◌, Result, Ok, Err, refl, ap, subst, ◌∙◌, arith, lit<}
 use Rattle.std.specs.Prelude.{not, IfOk}
 use Rattle.std.proofs.lemmas.Bool.Decides.{nat_tests}
 use Rattle.std.proofs.lemmas.Bool.{ltb-false, le-ltb}
@@ -7,19 +7,38 @@ use Rattle.kr_defs.specs.declared.record.Record.{Record}
 use Rattle.kr_defs.specs.declared.record.Record.TheVariants as kinds
 use Rattle.kr_wire.specs.declared.WireFault.{WireFault}
 use Rattle.kr_wire.specs.Reading.{Read}
-use Rattle.kr_wire.specs.Grammar.{◌⌢◌, IsUvarint}
-use Rattle.kr_wire.proofs.ReadingLaws.{IsBytes, Yields, Law, joined, sound_then, sound_last, sound_guard, sound_as, complete_then, complete_last, complete_guard, all_sound, all_complete, one_value}
+use Rattle.kr_wire.specs.Grammar.{◌⌢◌, IsUvarint, includes}
+use Rattle.kr_wire.specs.Schema.{Int32, Array, Dropped, Uuid}
+use Rattle.kr_wire.proofs.ReadingLaws.{IsBytes, Yields, Law, joined, ◌before◌, structure_law, sound_done, sound_then, sound_last, sound_guard, sound_as, sound_if, complete_then, complete_last, complete_guard, all_sound, all_complete, one_value}
 use Rattle.kr_wire.proofs.Numbers.{uvarint_law}
-use Rattle.kr_wire.proofs.Tables.{both}
+use Rattle.kr_wire.proofs.Schemas as schemas
+use Rattle.kr_wire.proofs.Tables.{both, fields_law}
 use Rattle.kr_record.specs.declared.fault.RecordFault.{RecordFault}
 use Rattle.kr_record.specs.declared.fault.RecordFault.TheVariants as faults
 use Rattle.kr_record.specs.Answers.{Gives}
-use Rattle.kr_record.specs.Records.{OfKind, chosen, register_broker, unregister_broker, topic, partition, config, partition_change, fence_broker, unfence_broker, remove_topic, feature_level, broker_registration_change, no_op}
-use Rattle.kr_record.specs.Layout.{Kind, IsInVersion, is_whole}
+use Rattle.kr_record.specs.Records.{chosen, of_kind, register_broker, unregister_broker, topic, partition, config, partition_change, fence_broker, unfence_broker, remove_topic, feature_level, broker_registration_change, no_op}
+use Rattle.kr_record.specs.Layout.{RecordLayout, Of, Since, ◌▹◌, Directories, Tagged, Kind, IsSince, IsInVersion, since_at, version_at, is_whole}
 use Rattle.kr_record.specs.Reading.{wired, layout_at, kind_at, served_at, parts_at, record_at, record_of}
-use Rattle.kr_record.specs.Grammar.{IsLayout, IsRecord}
-use Rattle.kr_record.proofs.LayoutLaws.{law}
+use Rattle.kr_record.specs.Grammar.{IsOfKind, IsLayout, IsRecord}
 use Rattle.kr_record.proofs.LayoutForms.{is_newest}
+
+-- ---- layouts: what is read by one stands for the value, and what stands for a value is read as it
+
+since_law : {X : Type 0} {One : X → List ℕ → Type 0} {read : List ℕ → Read X} (here : Bool) → Law One read → (absent : X) → Law (IsSince here One absent) (since_at here read absent)
+since_law true law absent = law
+since_law {X} {One} {read} false law absent = record {
+  sound = λ bytes fits. sound_done (IsSince false One absent) bytes absent (refl, refl);
+  complete = λ x front rest is. rw (is.0, is.1) refl;
+}
+
+law : {X : Type 0} (s : RecordLayout X) → is_whole s ≡ true → (version : ℕ) → Law (IsInVersion s version) (version_at s version)
+law (Of s) e version = schemas.law s e
+law (Since first absent s) e version = since_law (includes first version) (schemas.law s e) absent
+law (a ▹ b) e version = let h = both (is_whole a) (is_whole b) e in law a h.0 version before law b h.1 version
+law (Directories first a) e version =
+    structure_law (λ p. p.0) (λ x. (x, tt)) (λ p. refl) (λ x. refl)
+    ((schemas.law (Array Int32) refl before law a e version) before since_law (includes first version) (schemas.law (Dropped (Array Uuid)) refl) tt)
+law (Tagged t) e version = fields_law t e version
 
 -- ---- a fault of the wire is one of the record
 
@@ -38,38 +57,24 @@ wired_law law = record {
 
 -- ---- the kinds
 
--- the layout is read, the newest version is written, and the key and the version take a byte each
-abbrev pub is_served : {X : Type 0} → Kind X → Bool
-is_served k = (is_whole k.layout && is_newest k.layout k.newest) && (ltb k.key 128 && ltb k.newest 128)
+-- What holds of the kind of each record: it is found by its key, its layout is read, the newest version is written, the key and
+-- the version take a byte each, and what stands in the record makes it.
+pub record IsChosen (r : Record) (k : Kind) (parts : k.Parts) : Type 0 where
+  pub found : (version : ℕ) (bytes : List ℕ) → layout_at k.key version bytes ≡ kind_at k version bytes
+  pub whole : is_whole k.layout ≡ true
+  pub spelled : is_newest k.layout k.newest ≡ true
+  pub low : (k.key < 128) × (k.newest < 128)
+  pub back : k.record_of parts ≡ r
 
--- What holds of the kind of each record: it is found by its key, it is served, and what stands in the record makes it.
-pub record IsChosen (r : Record) (of : OfKind) : Type 0 where
-  pub found : (version : ℕ) (bytes : List ℕ) → layout_at of.kind.key version bytes ≡ kind_at of.kind version bytes
-  pub served : is_served of.kind ≡ true
-  pub back : of.kind.record_of of.parts ≡ r
-
-pub is_chosen : (r : Record) → IsChosen r (chosen r)
+pub is_chosen : (r : Record) → IsChosen r (chosen r).kind (chosen r).parts
 unfolding layout_at chosen
-is_chosen (kinds.RegisterBroker broker state) = record { found = λ version bytes. refl; served = refl; back = refl }
-is_chosen (kinds.UnregisterBroker broker epoch) = record { found = λ version bytes. refl; served = refl; back = refl }
-is_chosen (kinds.Topic name id) = record { found = λ version bytes. refl; served = refl; back = refl }
-is_chosen (kinds.Partition index id state) = record { found = λ version bytes. refl; served = refl; back = refl }
-is_chosen (kinds.Config kind name key value) = record { found = λ version bytes. refl; served = refl; back = refl }
-is_chosen (kinds.PartitionChange index id change) = record { found = λ version bytes. refl; served = refl; back = refl }
-is_chosen (kinds.FenceBroker broker epoch) = record { found = λ version bytes. refl; served = refl; back = refl }
-is_chosen (kinds.UnfenceBroker broker epoch) = record { found = λ version bytes. refl; served = refl; back = refl }
-is_chosen (kinds.RemoveTopic id) = record { found = λ version bytes. refl; served = refl; back = refl }
-is_chosen (kinds.FeatureLevel name level) = record { found = λ version bytes. refl; served = refl; back = refl }
-is_chosen (kinds.BrokerRegistrationChange broker epoch fenced stopping) = record { found = λ version bytes. refl; served = refl; back = refl }
-is_chosen kinds.NoOp = record { found = λ version bytes. refl; served = refl; back = refl }
+is_chosen kinds.NoOp = record { found = λ version bytes. refl; whole = refl; spelled = refl; low = (lit< tt, lit< tt); back = refl }
+is_chosen _ = record { found = λ version bytes. refl; whole = refl; spelled = refl; low = (lit< tt, lit< tt); back = refl }
 
-readable : {X : Type 0} (k : Kind X) → is_served k ≡ true → is_whole k.layout ≡ true
-readable k served = (both (is_whole k.layout) (is_newest k.layout k.newest) (both (is_whole k.layout && is_newest k.layout k.newest) (ltb k.key 128 && ltb k.newest 128) served).0).0
-
-parts_law : {X : Type 0} (k : Kind X) → is_served k ≡ true → (version : ℕ) → Law (λ x front. (version ≤ k.newest) × IsInVersion k.layout version x front) (parts_at k version)
+parts_law : (k : Kind) → is_whole k.layout ≡ true → (version : ℕ) → Law (λ x front. (version ≤ k.newest) × IsInVersion k.layout version x front) (parts_at k version)
 unfolding served_at
-parts_law {X} k served version =
-    let layout = wired_law (law k.layout (readable k served) version) in
+parts_law k whole version =
+    let layout = wired_law (law k.layout whole version) in
     record {
       sound = λ bytes fits. sound_guard _ bytes (ltb k.newest version) _ _ (λ le. sound_as (IsInVersion k.layout version) _ bytes _ (layout.sound bytes fits) (λ x front is. (ltb-false _ _ le, is)));
       complete = λ x front rest is. complete_guard _ _ _ _ (le-ltb _ _ is.0) (layout.complete x front rest is.1);
@@ -83,25 +88,19 @@ module _ (key version : ℕ) (bytes : List ℕ) (fits : IsBytes bytes) where
   Reads read = Yields (IsLayout key version) bytes read
 
   -- the kind with the key, or others
-  kind_or : {X : Type 0} (k : Kind X) → is_served k ≡ true
-      → ((x : X) (front : List ℕ) → key ≡ k.key → (version ≤ k.newest) × IsInVersion k.layout version x front → IsLayout key version (k.record_of x) front)
+  kind_or : (k : Kind) → is_whole k.layout ≡ true → ((x : k.Parts) (front : List ℕ) → IsOfKind (of_kind k x) key version front → IsLayout key version (k.record_of x) front)
       → (others : Result (Record × List ℕ) RecordFault) → Reads others → Reads (cond (eqb key k.key) (kind_at k version bytes) others)
   unfolding kind_at
-  kind_or {X} k served step others more =
-      let P : Bool → Type 0 = λ b. eqb key k.key ≡ b → Reads (cond b (kind_at k version bytes) others) in
-      let pick : P (eqb key k.key) = elim (eqb key k.key) as P [
-        | true ↦ λ e. sound_last (parts_law k served version) _ k.record_of bytes fits (λ x front is. step x front (same_key key k.key e) is)
-        | false ↦ λ e. more
-      ] in
-      pick refl
+  kind_or k whole there others more =
+      sound_if (IsLayout key version) bytes (eqb key k.key) (kind_at k version bytes) others
+      (λ e. sound_last (parts_law k whole version) _ k.record_of bytes fits (λ x front is. there x front (same_key key k.key e, is.0, is.1))) (λ e. more)
 
   layout_sound : Reads (layout_at key version bytes)
   unfolding layout_at chosen
   layout_sound =
-      kind_or register_broker refl (λ x front e is. (e, is.0, is.1)) _ (kind_or unregister_broker refl (λ x front e is. (e, is.0, is.1)) _ (kind_or topic refl (λ x front e is. (e, is.0, is.1)) _
-      (kind_or partition refl (λ x front e is. (e, is.0, is.1)) _ (kind_or config refl (λ x front e is. (e, is.0, is.1)) _ (kind_or partition_change refl (λ x front e is. (e, is.0, is.1)) _
-      (kind_or fence_broker refl (λ x front e is. (e, is.0, is.1)) _ (kind_or unfence_broker refl (λ x front e is. (e, is.0, is.1)) _ (kind_or remove_topic refl (λ x front e is. (e, is.0, is.1)) _
-      (kind_or feature_level refl (λ x front e is. (e, is.0, is.1)) _ (kind_or broker_registration_change refl (λ x front e is. (e, is.0, is.1)) _ (kind_or no_op refl (λ x front e is. (e, is.0, is.1)) _
+      kind_or register_broker refl (λ x front is. is) _ (kind_or unregister_broker refl (λ x front is. is) _ (kind_or topic refl (λ x front is. is) _ (kind_or partition refl (λ x front is. is) _
+      (kind_or config refl (λ x front is. is) _ (kind_or partition_change refl (λ x front is. is) _ (kind_or fence_broker refl (λ x front is. is) _ (kind_or unfence_broker refl (λ x front is. is) _
+      (kind_or remove_topic refl (λ x front is. is) _ (kind_or feature_level refl (λ x front is. is) _ (kind_or broker_registration_change refl (λ x front is. is) _ (kind_or no_op refl (λ x front is. is) _
       (λ r rest e. absurd cc))))))))))))
 
 layout_complete : (key version : ℕ) (r : Record) (bytes rest : List ℕ) → IsLayout key version r bytes → layout_at key version (bytes ++ rest) ≡ Ok (r, rest)
@@ -110,7 +109,7 @@ layout_complete key version r bytes rest is =
     let s = is_chosen r in
     let k = (chosen r).kind in
     let front : Record → Result (Record × List ℕ) RecordFault = λ x. Ok (x, rest) in
-    rw (is.0, s.found) (complete_last (parts_law k s.served version) (chosen r).parts k.record_of rest bytes (is.1, is.2) ∙ ap front s.back)
+    rw (is.0, s.found) (complete_last (parts_law k s.whole version) (chosen r).parts k.record_of rest bytes (is.1, is.2) ∙ ap front s.back)
 
 -- ---- records
 

@@ -6,8 +6,7 @@ use Rattle.kr_defs.specs.declared.record.Record.{Record}
 use Rattle.kr_wire.specs.Schema.{Schema, Int32, Text, TextOrNull, Array, ◌▸◌, Structure}
 use Rattle.kr_wire.specs.Tables.{Part, Int8OrNone, Int32OrNone, Int32sOrNull, Int32sOrEmpty, Table, NoField, Field}
 use Rattle.kr_record.specs.Layout.{RecordLayout, Of, Since, ◌▹◌, Directories, Tagged}
-use Rattle.kr_record.specs.Records.{chosen}
-use Rattle.kr_record.specs.RegisterBroker.{endpoint_layout, range_layout}
+use Rattle.kr_record.specs.Records.{chosen, endpoint_layout, range_layout}
 
 -- a text or a list of fewer than 2^31 bytes or elements
 abbrev pub IsShort : {X : Type 0} → List X → Type 0

@@ -24,11 +24,15 @@ pub data RecordLayout : Type 0 → Type 1 where
 
 -- A kind of record: its key, the newest version that is served, which is the one that is written, its layout, and the
 -- record of what stands in it.
-pub record Kind (X : Type 0) : Type 1 where
+pub record Kind : Type 1 where
+  pub Parts : Type 0
   pub key : ℕ
   pub newest : ℕ
-  pub layout : RecordLayout X
-  pub record_of : X → Record
+  pub layout : RecordLayout Parts
+  pub record_of : Parts → Record
+
+abbrev pub kind : {X : Type 0} → ℕ → ℕ → RecordLayout X → (X → Record) → Kind
+kind {X} key newest layout record_of = record { Parts = X; key = key; newest = newest; layout = layout; record_of = record_of }
 
 abbrev pub IsSince : {X : Type 0} → Bool → (X → List ℕ → Type 0) → X → X → List ℕ → Type 0
 IsSince true One absent x bytes = One x bytes

@@ -2,7 +2,7 @@
 
 ghost use Rattle.std.specs.Prelude.{refl};
 ghost use Rattle.kr_record.specs.RecordRanges.{AreHeld};
-ghost use Rattle.kr_record.specs.RegisterBroker.{endpoint_layout, range_layout};
+ghost use Rattle.kr_record.specs.Records.{endpoint_layout, range_layout};
 
 use crate::held::Held;
 use crate::mine::Mine;

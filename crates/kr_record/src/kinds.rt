@@ -1,7 +1,7 @@
 //! The kinds of records.
 
 ghost use Rattle.std.specs.Prelude.{◌≡◌, ◌++◌, OnOk};
-ghost use Rattle.kr_record.specs.Answers.{GivesFront};
+ghost use Rattle.kr_record.specs.Answers.{GivesFront, GivesMade};
 ghost use Rattle.kr_record.specs.Reading.{kind_at, layout_at, served_at};
 ghost use Rattle.kr_record.specs.Records as kinds;
 ghost use Rattle.kr_record.specs.RecordRanges.{IsHeld};
@@ -18,59 +18,59 @@ use kr_defs::{Broker, Ids, Partition, PartitionChange, Record};
 use kr_layout::Reader;
 use kr_wire::FewBytes;
 
-// Does something with each kind of record: hands to another macro the key, the newest version, which is the one that is
-// written, and what stands in the record, in the order of its layout.
+// Hands the kinds to another macro: of each its key, the newest version, which is the one that is
+// written, a record of it and the structure in that, if there is one, and what stands in the record,
+// in the order of its layout. Each is a pattern as well as a value.
 macro_rules! each_kind {
-    ($value:ident, $with:ident($($more:ident)?)) => {
-        match $value {
-            Record::RegisterBroker { broker, state } => {
-                let Broker {
-                    epoch, incarnation, endpoints, features, rack, fenced, stopping,
-                } = state;
-                $with!($($more,)? 0, 1, (broker, (incarnation, (epoch, (endpoints, (features,
-                    (rack, (fenced, (stopping, ())))))))))
-            }
-            Record::UnregisterBroker { broker, epoch } => {
-                $with!($($more,)? 1, 0, (broker, (epoch, ())))
-            }
-            Record::Topic { name, id } => $with!($($more,)? 2, 0, (name, (id, ()))),
-            Record::Partition { index, topic, state } => {
-                let Partition {
-                    replicas, in_sync, removing, adding, leader, leader_epoch, partition_epoch,
-                    recovery, eligible, last_known,
-                } = state;
-                $with!($($more,)? 3, 2, (index, (topic, (
-                    (Placed { ids: replicas }, (in_sync, (removing, (adding, (leader,
-                    (leader_epoch, partition_epoch)))))),
-                    tags!(0 since 0 recovery, 1 since 2 eligible, 2 since 2 last_known),
-                ))))
-            }
-            Record::Config { kind, name, key, value } => {
-                $with!($($more,)? 4, 0, (kind, (name, (key, (value, ())))))
-            }
-            Record::PartitionChange { index, topic, change } => {
-                let PartitionChange {
-                    in_sync, leader, replicas, removing, adding, recovery, eligible, last_known,
-                } = change;
-                $with!($($more,)? 5, 2, (index, (topic, tags!(
-                    0 since 0 in_sync, 1 since 0 leader, 2 since 0 replicas,
-                    3 since 0 removing, 4 since 0 adding, 5 since 0 recovery,
-                    6 since 2 eligible, 7 since 2 last_known, 8 since 1 (&())
-                ))))
-            }
-            Record::FenceBroker { broker, epoch } => {
-                $with!($($more,)? 7, 0, (broker, (epoch, ())))
-            }
-            Record::UnfenceBroker { broker, epoch } => {
-                $with!($($more,)? 8, 0, (broker, (epoch, ())))
-            }
-            Record::RemoveTopic { topic } => $with!($($more,)? 9, 0, (topic, ())),
-            Record::FeatureLevel { name, level } => $with!($($more,)? 12, 0, (name, (level, ()))),
-            Record::BrokerRegistrationChange { broker, epoch, fenced, stopping } => {
-                $with!($($more,)? 17, 1,
-                    (broker, (epoch, tags!(0 since 0 fenced, 1 since 1 stopping))))
-            }
-            Record::NoOp => $with!($($more,)? 20, 0, ()),
+    ($with:ident($($value:tt),*)) => {
+        $with! {
+            ($($value),*)
+            0, 1: { Record::RegisterBroker { broker, state } }
+                where state {
+                    Broker { epoch, incarnation, endpoints, features, rack, fenced, stopping }
+                }
+                = {
+                    (broker, (incarnation, (epoch, (endpoints, (features, (rack, (fenced,
+                    (SinceOne { flag: stopping }, ()))))))))
+                };
+            1, 0: { Record::UnregisterBroker { broker, epoch } } = { (broker, (epoch, ())) };
+            2, 0: { Record::Topic { name, id } } = { (name, (id, ())) };
+            3, 2: { Record::Partition { index, topic, state } }
+                where state {
+                    Partition {
+                        replicas, in_sync, removing, adding, leader, leader_epoch, partition_epoch,
+                        recovery, eligible, last_known,
+                    }
+                }
+                = {
+                    (index, (topic, (
+                        (Placed { ids: replicas }, (in_sync, (removing, (adding, (leader,
+                        (leader_epoch, partition_epoch)))))),
+                        tags!(0 since 0 recovery, 1 since 2 eligible, 2 since 2 last_known),
+                    )))
+                };
+            4, 0: { Record::Config { kind, name, key, value } }
+                = { (kind, (name, (key, (value, ())))) };
+            5, 2: { Record::PartitionChange { index, topic, change } }
+                where change {
+                    PartitionChange {
+                        in_sync, leader, replicas, removing, adding, recovery, eligible, last_known,
+                    }
+                }
+                = {
+                    (index, (topic, tags!(
+                        0 since 0 in_sync, 1 since 0 leader, 2 since 0 replicas,
+                        3 since 0 removing, 4 since 0 adding, 5 since 0 recovery,
+                        6 since 2 eligible, 7 since 2 last_known, 8 since 1 ()
+                    )))
+                };
+            7, 0: { Record::FenceBroker { broker, epoch } } = { (broker, (epoch, ())) };
+            8, 0: { Record::UnfenceBroker { broker, epoch } } = { (broker, (epoch, ())) };
+            9, 0: { Record::RemoveTopic { topic } } = { (topic, ()) };
+            12, 0: { Record::FeatureLevel { name, level } } = { (name, (level, ())) };
+            17, 1: { Record::BrokerRegistrationChange { broker, epoch, fenced, stopping } }
+                = { (broker, (epoch, tags!(0 since 0 fenced, 1 since 1 stopping))) };
+            20, 0: { Record::NoOp } = { () };
         }
     };
 }
@@ -83,15 +83,67 @@ macro_rules! tags {
     };
 }
 
+// Reading a record of the kind with the key: the kinds before it are left out.
+macro_rules! reading {
+    ((0, $from:ident, $version:ident) 0, $($kind:tt)*) => { made!($from, $version, 0, $($kind)*) };
+    ((1, $from:ident, $version:ident) 1, $($kind:tt)*) => { made!($from, $version, 1, $($kind)*) };
+    ((2, $from:ident, $version:ident) 2, $($kind:tt)*) => { made!($from, $version, 2, $($kind)*) };
+    ((3, $from:ident, $version:ident) 3, $($kind:tt)*) => { made!($from, $version, 3, $($kind)*) };
+    ((4, $from:ident, $version:ident) 4, $($kind:tt)*) => { made!($from, $version, 4, $($kind)*) };
+    ((7, $from:ident, $version:ident) 7, $($kind:tt)*) => { made!($from, $version, 7, $($kind)*) };
+    ((8, $from:ident, $version:ident) 8, $($kind:tt)*) => { made!($from, $version, 8, $($kind)*) };
+    ((9, $from:ident, $version:ident) 9, $($kind:tt)*) => { made!($from, $version, 9, $($kind)*) };
+    ((12, $from:ident, $version:ident) 12, $($kind:tt)*) => { made!($from, $version, 12, $($kind)*) };
+    ((17, $from:ident, $version:ident) 17, $($kind:tt)*) => { made!($from, $version, 17, $($kind)*) };
+    ((20, $from:ident, $version:ident) 20, $($kind:tt)*) => { made!($from, $version, 20, $($kind)*) };
+    (
+        $values:tt $number:literal, $newest:literal: {$($record:tt)*}
+            $(where $own:ident {$($structure:tt)*})? = {$($parts:tt)*}; $($others:tt)*
+    ) => {
+        reading!($values $($others)*)
+    };
+}
+
+macro_rules! made {
+    (
+        $from:ident, $version:ident, $number:literal, $newest:literal: {$($record:tt)*}
+            $(where $own:ident {$($structure:tt)*})? = {$($parts:tt)*}; $($others:tt)*
+    ) => {{
+        let record_of = |$($parts)*| {
+            $(let $own = $($structure)*;)?
+            $($record)*
+        };
+        read_version($from, $number, $version, $newest, record_of)
+    }};
+}
+
 macro_rules! writing {
-    ($out:ident, $key:literal, $newest:literal, $parts:expr) => {
-        put_kind($out, $key, $newest, &$parts)
+    (
+        ($value:ident, $out:ident)
+        $($number:literal, $newest:literal: {$($record:tt)*}
+            $(where $own:ident {$($structure:tt)*})? = {$($parts:tt)*};)*
+    ) => {
+        match $value {
+            $($($record)* => {
+                $(let $($structure)* = $own;)?
+                put_kind($out, $number, $newest, &$($parts)*)
+            })*
+        }
     };
 }
 
 macro_rules! looking {
-    ($key:literal, $newest:literal, $parts:expr) => {
-        $parts.look()
+    (
+        ($value:ident)
+        $($number:literal, $newest:literal: {$($record:tt)*}
+            $(where $own:ident {$($structure:tt)*})? = {$($parts:tt)*};)*
+    ) => {
+        match $value {
+            $($($record)* => {
+                $(let $($structure)* = $own;)?
+                $($parts)*.look();
+            })*
+        }
     };
 }
 
@@ -125,106 +177,42 @@ pub(crate) fn read_kind(
 fn read_register_broker(from: &mut Reader<'_, Mine>, version: u32) -> Result<Record, RecordFault>
     ensures { GivesFront result from.new (kind_at kinds.register_broker version from.old) }
 {
-    let (
-        broker,
-        (
-            incarnation,
-            (epoch, (endpoints, (features, (rack, (fenced, (SinceOne { flag: stopping }, ())))))),
-        ),
-    ) = read_version(from, 0, version, 1)?;
-    let state = Broker {
-        epoch,
-        incarnation,
-        endpoints,
-        features,
-        rack,
-        fenced,
-        stopping,
-    };
-    Ok(Record::RegisterBroker { broker, state })
+    each_kind!(reading(0, from, version))
 }
 
 #[tactic(auto, unfolding(crate::specs::Reading::kind_at))]
 fn read_unregister_broker(from: &mut Reader<'_, Mine>, version: u32) -> Result<Record, RecordFault>
     ensures { GivesFront result from.new (kind_at kinds.unregister_broker version from.old) }
 {
-    let (broker, (epoch, ())) = read_version(from, 1, version, 0)?;
-    Ok(Record::UnregisterBroker { broker, epoch })
+    each_kind!(reading(1, from, version))
 }
 
 #[tactic(auto, unfolding(crate::specs::Reading::kind_at))]
 fn read_topic(from: &mut Reader<'_, Mine>, version: u32) -> Result<Record, RecordFault>
     ensures { GivesFront result from.new (kind_at kinds.topic version from.old) }
 {
-    let (name, (id, ())) = read_version(from, 2, version, 0)?;
-    Ok(Record::Topic { name, id })
+    each_kind!(reading(2, from, version))
 }
-
-type PartitionParts = (
-    i32,
-    (
-        u128,
-        (
-            (Placed<Ids>, (Ids, (Ids, (Ids, (i32, (i32, i32)))))),
-            (Field<0, 0, i8>, (Field<1, 2, Ids>, (Field<2, 2, Ids>, ()))),
-        ),
-    ),
-);
 
 #[tactic(auto, unfolding(crate::specs::Reading::kind_at))]
 fn read_partition(from: &mut Reader<'_, Mine>, version: u32) -> Result<Record, RecordFault>
     ensures { GivesFront result from.new (kind_at kinds.partition version from.old) }
 {
-    let parts: PartitionParts = read_version(from, 3, version, 2)?;
-    Ok(partition_of(parts))
-}
-
-fn partition_of(parts: PartitionParts) -> Record
-    ensures { result ≡ kinds.partition.record_of parts }
-{
-    let (
-        index,
-        (
-            topic,
-            (
-                (
-                    Placed { ids: replicas },
-                    (in_sync, (removing, (adding, (leader, (leader_epoch, partition_epoch))))),
-                ),
-                tags!( 0 since 0 recovery, 1 since 2 eligible, 2 since 2 last_known ),
-            ),
-        ),
-    ) = parts;
-    let state = Partition {
-        replicas,
-        in_sync,
-        removing,
-        adding,
-        leader,
-        leader_epoch,
-        partition_epoch,
-        recovery,
-        eligible,
-        last_known,
-    };
-    Record::Partition {
-        index,
-        topic,
-        state,
-    }
+    each_kind!(reading(3, from, version))
 }
 
 #[tactic(auto, unfolding(crate::specs::Reading::kind_at))]
 fn read_config(from: &mut Reader<'_, Mine>, version: u32) -> Result<Record, RecordFault>
     ensures { GivesFront result from.new (kind_at kinds.config version from.old) }
 {
-    let (kind, (name, (key, (value, ())))) = read_version(from, 4, version, 0)?;
-    Ok(Record::Config {
-        kind,
-        name,
-        key,
-        value,
-    })
+    each_kind!(reading(4, from, version))
+}
+
+#[tactic(auto, unfolding(crate::specs::Reading::kind_at))]
+fn read_partition_change(from: &mut Reader<'_, Mine>, version: u32) -> Result<Record, RecordFault>
+    ensures { GivesFront result from.new (kind_at kinds.partition_change version from.old) }
+{
+    read_version(from, 5, version, 2, partition_change_of)
 }
 
 type ChangeParts = (
@@ -249,14 +237,6 @@ type ChangeParts = (
         ),
     ),
 );
-
-#[tactic(auto, unfolding(crate::specs::Reading::kind_at))]
-fn read_partition_change(from: &mut Reader<'_, Mine>, version: u32) -> Result<Record, RecordFault>
-    ensures { GivesFront result from.new (kind_at kinds.partition_change version from.old) }
-{
-    let parts: (i32, (u128, ChangeParts)) = read_version(from, 5, version, 2)?;
-    Ok(partition_change_of(parts))
-}
 
 fn partition_change_of(parts: (i32, (u128, ChangeParts))) -> Record
     ensures { result ≡ kinds.partition_change.record_of parts }
@@ -291,32 +271,28 @@ fn change_of(parts: ChangeParts) -> PartitionChange
 fn read_fence_broker(from: &mut Reader<'_, Mine>, version: u32) -> Result<Record, RecordFault>
     ensures { GivesFront result from.new (kind_at kinds.fence_broker version from.old) }
 {
-    let (broker, (epoch, ())) = read_version(from, 7, version, 0)?;
-    Ok(Record::FenceBroker { broker, epoch })
+    each_kind!(reading(7, from, version))
 }
 
 #[tactic(auto, unfolding(crate::specs::Reading::kind_at))]
 fn read_unfence_broker(from: &mut Reader<'_, Mine>, version: u32) -> Result<Record, RecordFault>
     ensures { GivesFront result from.new (kind_at kinds.unfence_broker version from.old) }
 {
-    let (broker, (epoch, ())) = read_version(from, 8, version, 0)?;
-    Ok(Record::UnfenceBroker { broker, epoch })
+    each_kind!(reading(8, from, version))
 }
 
 #[tactic(auto, unfolding(crate::specs::Reading::kind_at))]
 fn read_remove_topic(from: &mut Reader<'_, Mine>, version: u32) -> Result<Record, RecordFault>
     ensures { GivesFront result from.new (kind_at kinds.remove_topic version from.old) }
 {
-    let (topic, ()) = read_version(from, 9, version, 0)?;
-    Ok(Record::RemoveTopic { topic })
+    each_kind!(reading(9, from, version))
 }
 
 #[tactic(auto, unfolding(crate::specs::Reading::kind_at))]
 fn read_feature_level(from: &mut Reader<'_, Mine>, version: u32) -> Result<Record, RecordFault>
     ensures { GivesFront result from.new (kind_at kinds.feature_level version from.old) }
 {
-    let (name, (level, ())) = read_version(from, 12, version, 0)?;
-    Ok(Record::FeatureLevel { name, level })
+    each_kind!(reading(12, from, version))
 }
 
 #[tactic(auto, unfolding(crate::specs::Reading::kind_at))]
@@ -326,39 +302,33 @@ fn read_broker_registration_change(
 ) -> Result<Record, RecordFault>
     ensures { GivesFront result from.new (kind_at kinds.broker_registration_change version from.old) }
 {
-    let (broker, (epoch, tags!(0 since 0 fenced, 1 since 1 stopping))) = read_version(
-        from, 17, version, 1,
-    )?;
-    Ok(Record::BrokerRegistrationChange {
-        broker,
-        epoch,
-        fenced,
-        stopping,
-    })
+    each_kind!(reading(17, from, version))
 }
 
 #[tactic(auto, unfolding(crate::specs::Reading::kind_at))]
 fn read_no_op(from: &mut Reader<'_, Mine>, version: u32) -> Result<Record, RecordFault>
     ensures { GivesFront result from.new (kind_at kinds.no_op version from.old) }
 {
-    let () = read_version(from, 20, version, 0)?;
-    Ok(Record::NoOp)
+    each_kind!(reading(20, from, version))
 }
 
-// What stands in a record of a kind, in a version that it has.
+// A record of what stands in one of a kind, in a version that it has.
 #[tactic(auto, unfolding(crate::specs::Reading::served_at))]
-fn read_version<P: Parts>(
+fn read_version<P: Parts, F: FnOnce(P) -> Record>(
     from: &mut Reader<'_, Mine>,
     key: u32,
     version: u32,
     newest: u32,
-) -> Result<P, RecordFault>
-    ensures { GivesFront result from.new (served_at key newest P.layout version from.old) }
+    record_of: F,
+) -> Result<Record, RecordFault>
+    requires { F.IsAlwaysCallable record_of }
+    ensures { GivesMade (F.post record_of) result from.new (served_at key newest P.layout version from.old) }
 {
     if version > newest {
         return Err(RecordFault::UnknownVersion { key, version });
     }
-    Ok(P::read(from, version)?)
+    let parts = P::read(from, version)?;
+    Ok(record_of(parts))
 }
 
 /// Appends the record's written form. Without memory some front of it may be appended.
@@ -366,7 +336,7 @@ fn read_version<P: Parts>(
 pub(crate) fn put_record(out: &mut Vec<u8>, value: &Record) -> Result<(), NoMemory>
     ensures { OnOk result (out.new.items ≡ out.old.items ++ record_value value.now) }
 {
-    each_kind!(value, writing(out))
+    each_kind!(writing(value, out))
 }
 
 // The frame version, the key and the version of a record, and what stands in it.
@@ -386,5 +356,5 @@ fn put_kind<P: Pieces>(out: &mut Vec<u8>, key: u32, version: u32, parts: &P) -> 
 pub fn record_is_held(value: &Record)
     ensures { IsHeld value.now }
 {
-    each_kind!(value, looking())
+    each_kind!(looking(value))
 }
