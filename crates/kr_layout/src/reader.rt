@@ -204,6 +204,7 @@ impl<'a, M> Reader<'a, M> {
     }
 
     /// The next value, a number in groups of seven bits.
+    #[inline(always)]
     pub fn uvarint(&mut self) -> Result<u32, ReadFault>
         ensures { Takes result self.new (uvarint_at self.old) }
     {

@@ -1,13 +1,13 @@
 -- What is written by a layout: it has as many bytes as the layout says where texts and lists are short, and stands for the value and
 -- is bytes where numbers and texts are those of their types. And what follows of bytes that stand for a value in some version. One
 -- induction for both.
-use Rattle.std.proofs.Common.{◌≡◌, ℕ, ◌+◌, ◌*◌, ◌<◌, ◌≤◌, ◌^◌, Bool, true, false, ◌&&◌, ltb, leb, List, ◌++◌, length, Option, Some, None, refl, sym, ap, subst, ◌∙◌, arith, lit<, lit≤}
-use Rattle.std.specs.Prelude.{All}
+use Rattle.std.proofs.Common.{◌≡◌, ℕ, ◌+◌, ◌*◌, ◌<◌, ◌≤◌, ◌^◌, Bool, true, false, ◌&&◌, ltb, leb, List, [], ◌∷◌, ◌++◌, length, Option, Some, None, refl, sym, ap, subst, ◌∙◌, arith, lit<, lit≤}
+use Rattle.std.specs.Prelude.{ℤ, All}
 use Rattle.std.specs.List.{sum_by}
 use Rattle.std.specs.Int.{w8, w16, w32, w64}
 use Rattle.std.proofs.lemmas.Bool.Decides.{nat_tests}
-use Rattle.std.proofs.lemmas.List.{length-append, length-replicate}
-use Rattle.std.proofs.lemmas.List.Elements.{All-replicate}
+use Rattle.std.proofs.lemmas.List.{length-append, length-map}
+use Rattle.std.proofs.lemmas.List.Elements.{All-nil, All-cons}
 use Rattle.std.proofs.lemmas.List.Sums.{sum_by-cons}
 use Rattle.kr_defs.specs.Sizes.{uvarint_bytes, list_bytes, tags_bytes}
 use Rattle.kr_wire.specs.Grammar.{IfTaggedSince, given, includes}
@@ -110,6 +110,11 @@ table_form (Field tag first part more) version z e =
 
 -- ---- layouts
 
+-- one all-zero directory per replica
+zeros_small : (replicas : List ℤ) → All (λ n. n < 2 ^ 128) (no_directories replicas)
+zeros_small [] = All-nil _
+zeros_small (r ∷ replicas) = All-cons (λ n. n < 2 ^ 128) 0 (no_directories replicas) (lit< tt) (zeros_small replicas)
+
 -- what is there in this version
 is_here : {X : Type 0} (here : Bool) (One : X → List ℕ → Type 0) (absent x : X) (bytes : List ℕ) → here ≡ true → One x bytes → IsSince here One absent x bytes
 is_here true One absent x bytes e is = is
@@ -158,8 +163,8 @@ layout_form (a ▹ b) newest e version x = let h = both (is_newest a newest) (is
 layout_form (Directories first a) newest e version x =
     let h = both (includes first newest) (is_newest a newest) e in
     let front = plain_form (Array Int32) refl x.0 plus layout_form a newest h.1 version x.1 in
-    let same : length (no_directories x.0) ≡ length x.0 = length-replicate (length x.0) 0 in
-    let small : All (λ n. n < 2 ^ 128) (no_directories x.0) = All-replicate (λ n. n < 2 ^ 128) (length x.0) 0 (lit< tt) in
+    let zero_id : ℤ → ℕ = λ r. 0 in
+    let same : length (no_directories x.0) ≡ length x.0 = length-map x.0 zero_id in
     let zeros = list_of 16 id (λ n b is. omega (arith, not_empty Uuid n b is)) (no_directories x.0) in
     let short : length x.0 < 2 ^ 31 → length (no_directories x.0) < 2 ^ 31 = λ p. omega (arith, same) in
     record {
@@ -167,9 +172,9 @@ layout_form (Directories first a) newest e version x =
           let directories : length (written.list written.id (no_directories x.0)) ≡ list_bytes 16 x.0 = zeros.size (short p.0) ∙ ap (λ (n : ℕ). uvarint_bytes (n + 1) + 16 * n) same in
           omega (arith, length-append (ids x.0 ++ layouts.written a x.1) (written.list written.id (no_directories x.0)), front.size p, directories);
       stands = λ p q.
-          let directories : plain.Is (Dropped (Array Uuid)) tt (written.list written.id (no_directories x.0)) = record { value = no_directories x.0; spelled = zeros.stands (short p.0) small } in
+          let directories : plain.Is (Dropped (Array Uuid)) tt (written.list written.id (no_directories x.0)) = record { value = no_directories x.0; spelled = zeros.stands (short p.0) (zeros_small x.0) } in
           joined _ _ (front.stands p q) (is_here (includes first newest) (plain.Is (Dropped (Array Uuid))) tt tt _ h.0 directories);
-      fits = λ p q. front.fits p q and zeros.fits (short p.0) small;
+      fits = λ p q. front.fits p q and zeros.fits (short p.0) (zeros_small x.0);
       follows = then (front.follows beside free) (omega arith) (λ p. p.0) (λ q. q.0);
     }
 layout_form (Tagged t) newest e version z =

@@ -1,3 +1,4 @@
+pub mod Appends
 pub mod Arms
 pub mod FieldLoop
 pub mod LayoutForms

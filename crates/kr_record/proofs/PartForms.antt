@@ -1,5 +1,5 @@
 -- What is written of the data of a tagged field, and what follows of data that stand in bytes.
-use Rattle.std.proofs.Common.{◌≡◌, ℕ, ◌+◌, ◌*◌, ◌<◌, ◌≤◌, ◌^◌, Bool, true, false, cond, List, [], ◌∷◌, length, Option, Some, None, refl, sym, ap, subst, arith, lit<, lit≤}
+use Rattle.std.proofs.Common.{◌≡◌, ℕ, ◌+◌, ◌<◌, ◌≤◌, ◌^◌, Bool, true, false, cond, List, [], ◌∷◌, length, Option, Some, None, refl, sym, ap, subst, arith, lit<, lit≤}
 use Rattle.std.specs.Prelude.{ℤ, pos, ◌≢◌, FitsSigned, IfSome}
 use Rattle.std.specs.Option.{option_map, unwrap_or}
 use Rattle.std.specs.Ordering.{int_eq}
@@ -10,7 +10,7 @@ use Rattle.std.proofs.lemmas.List.Elements.{All-nil}
 use Rattle.kr_defs.specs.Sizes.{list_bytes, number_field, number_field_or, ids_field, ids_field_or}
 use Rattle.kr_wire.specs.Grammar.{IsSigned, IsList, IsListOrNull}
 use Rattle.kr_wire.specs.Spelling as written
-use Rattle.kr_wire.proofs.Lengths.{length_signed, length_signed_32, length_list, uvarint_few, each_long, both_lengths}
+use Rattle.kr_wire.proofs.Lengths.{length_signed, uvarint_few, each_long, both_lengths}
 use Rattle.kr_wire.proofs.Numbers.{not_zero}
 use Rattle.kr_wire.proofs.SpellingLaws.{Plain, signed, int32s}
 use Rattle.kr_wire.proofs.TaggedForms.{FieldForm, left_out, present}
@@ -18,6 +18,7 @@ use Rattle.kr_wire.specs.Tables.{ids, unless_empty, written_data, Part, Int8NotZ
 use Rattle.kr_record.specs.Encodable.{FitsField, IsShortPart}
 use Rattle.kr_record.specs.RecordRanges.{AreInts, IsHeldPart}
 use Rattle.kr_record.specs.Spelling.{data_bytes}
+use Rattle.kr_record.proofs.Appends.{length_ids}
 
 -- ---- a number that is left out at its default
 
@@ -57,9 +58,6 @@ module _ (w : Width) (few : bits w ≤ 64) (low : byte_len w < 2 ^ 32) (default 
       }
 
 -- ---- a list of ids
-
-pub length_ids : (xs : List ℤ) → length (ids xs) ≡ length (written.uvarint (length xs + 1)) + 4 * length xs
-length_ids xs = length_list (written.signed w32) 4 length_signed_32 xs
 
 ids_few : (xs : List ℤ) → FitsField xs → length (ids xs) < 2 ^ 32
 ids_few xs fits = omega (arith, length_ids xs, uvarint_few (length xs + 1))

@@ -42,8 +42,3 @@ Gives = answers.Gives is_free
 abbrev pub GivesFront : {Y : Type 0} → Result Y RecordFault → List ℕ → Result (Y × List ℕ) RecordFault → Type 0
 GivesFront (Ok x) left read = read ≡ Ok (x, left)
 GivesFront (Err e) left read = IsFault e read
-
--- the same of a record that is made of what was read
-abbrev pub GivesMade : {X Y : Type 0} → (X → Y → Type 0) → Result Y RecordFault → List ℕ → Result (X × List ℕ) RecordFault → Type 0
-GivesMade {X} Makes (Ok y) left read = (x : X) × (read ≡ Ok (x, left)) × Makes x y
-GivesMade Makes (Err e) left read = IsFault e read

@@ -1,5 +1,5 @@
 -- What is written for a value by a layout, in the newest version, and in how many bytes.
-use Rattle.std.specs.Prelude.{ℕ, ℤ, pos, ◌+◌, List, [], ◌∷◌, ◌++◌, length, replicate, Option, None}
+use Rattle.std.specs.Prelude.{ℕ, ℤ, pos, ◌+◌, List, [], ◌∷◌, ◌++◌, map, Option, None}
 use Rattle.kr_defs.specs.declared.record.Record.{Record}
 use Rattle.kr_defs.specs.Sizes.{text_bytes, text_or_null_bytes, rows_bytes, list_bytes, number_field, number_field_or, ids_field, ids_field_or, tags_bytes}
 use Rattle.kr_wire.specs.Schema as plain
@@ -30,7 +30,7 @@ field_sizes (Field tag first part more) z = data_bytes part z.0 ∷ field_sizes 
 
 -- one all-zero directory per replica
 abbrev pub no_directories : List ℤ → List ℕ
-no_directories replicas = replicate (length replicas) 0
+no_directories replicas = map (λ r. 0) replicas
 
 abbrev pub written : {X : Type 0} → RecordLayout X → X → List ℕ
 written (Of s) = plain.written s

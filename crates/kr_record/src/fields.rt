@@ -53,6 +53,19 @@ impl<'a, const TAG: u32, const FIRST: u32, P: TaggedPart, F: FieldPieces> FieldP
     }
 }
 
+// A field that is never written.
+impl<const TAG: u32, const FIRST: u32, F: FieldPieces> FieldPieces for (Field<TAG, FIRST, ()>, F) {
+    ghost fields = { λ f. F.fields f.1 };
+
+    fn count(&self) -> Result<u32, NoMemory> {
+        self.1.count()
+    }
+
+    fn put_fields(&self, out: &mut Vec<u8>) -> Result<(), NoMemory> {
+        self.1.put_fields(out)
+    }
+}
+
 fn put_field<P: TaggedPart>(out: &mut Vec<u8>, tag: u32, part: &P) -> Result<(), NoMemory>
     ensures { OnOk result (out.new.items ≡ out.old.items ++ flat_map field (tagged tag (written_data P.part part.now))) }
 {

@@ -3,7 +3,7 @@
 ghost use Rattle.std.specs.Prelude.{All, FitsSigned, IfSome, IsUtf8, ◌<◌, ◌^◌};
 ghost use Rattle.std.specs.Int.{w16, w32, w64, w8};
 
-use crate::parts::Placed;
+use crate::parts::{Placed, SinceOne};
 use crate::tags::Field;
 use kr_defs::{Rows, Text};
 
@@ -109,6 +109,14 @@ impl<A: Held, B: Held> Held for (A, B) {
     fn look(&self) {
         self.0.look();
         self.1.look();
+    }
+}
+
+impl<F: Held> Held for SinceOne<F> {
+    ghost held = { F.held };
+
+    fn look(&self) {
+        self.flag.look();
     }
 }
 

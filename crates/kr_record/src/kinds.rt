@@ -1,7 +1,7 @@
 //! The kinds of records.
 
 ghost use Rattle.std.specs.Prelude.{◌≡◌, ◌++◌, OnOk};
-ghost use Rattle.kr_record.specs.Answers.{GivesFront, GivesMade};
+ghost use Rattle.kr_record.specs.Answers.{GivesFront};
 ghost use Rattle.kr_record.specs.Reading.{kind_at, layout_at, served_at};
 ghost use Rattle.kr_record.specs.Records as kinds;
 ghost use Rattle.kr_record.specs.RecordRanges.{IsHeld};
@@ -88,7 +88,6 @@ macro_rules! reading {
     ((0, $from:ident, $version:ident) 0, $($kind:tt)*) => { made!($from, $version, 0, $($kind)*) };
     ((1, $from:ident, $version:ident) 1, $($kind:tt)*) => { made!($from, $version, 1, $($kind)*) };
     ((2, $from:ident, $version:ident) 2, $($kind:tt)*) => { made!($from, $version, 2, $($kind)*) };
-    ((3, $from:ident, $version:ident) 3, $($kind:tt)*) => { made!($from, $version, 3, $($kind)*) };
     ((4, $from:ident, $version:ident) 4, $($kind:tt)*) => { made!($from, $version, 4, $($kind)*) };
     ((7, $from:ident, $version:ident) 7, $($kind:tt)*) => { made!($from, $version, 7, $($kind)*) };
     ((8, $from:ident, $version:ident) 8, $($kind:tt)*) => { made!($from, $version, 8, $($kind)*) };
@@ -109,11 +108,9 @@ macro_rules! made {
         $from:ident, $version:ident, $number:literal, $newest:literal: {$($record:tt)*}
             $(where $own:ident {$($structure:tt)*})? = {$($parts:tt)*}; $($others:tt)*
     ) => {{
-        let record_of = |$($parts)*| {
-            $(let $own = $($structure)*;)?
-            $($record)*
-        };
-        read_version($from, $number, $version, $newest, record_of)
+        let $($parts)* = read_version($from, $number, $version, $newest)?;
+        $(let $own = $($structure)*;)?
+        Ok($($record)*)
     }};
 }
 
@@ -194,11 +191,58 @@ fn read_topic(from: &mut Reader<'_, Mine>, version: u32) -> Result<Record, Recor
     each_kind!(reading(2, from, version))
 }
 
+type PartitionParts = (
+    i32,
+    (
+        u128,
+        (
+            (Placed<Ids>, (Ids, (Ids, (Ids, (i32, (i32, i32)))))),
+            (Field<0, 0, i8>, (Field<1, 2, Ids>, (Field<2, 2, Ids>, ()))),
+        ),
+    ),
+);
+
 #[tactic(auto, unfolding(crate::specs::Reading::kind_at))]
 fn read_partition(from: &mut Reader<'_, Mine>, version: u32) -> Result<Record, RecordFault>
     ensures { GivesFront result from.new (kind_at kinds.partition version from.old) }
 {
-    each_kind!(reading(3, from, version))
+    let parts: PartitionParts = read_version(from, 3, version, 2)?;
+    Ok(partition_of(parts))
+}
+
+fn partition_of(parts: PartitionParts) -> Record
+    ensures { result ≡ kinds.partition.record_of parts }
+{
+    let (
+        index,
+        (
+            topic,
+            (
+                (
+                    Placed { ids: replicas },
+                    (in_sync, (removing, (adding, (leader, (leader_epoch, partition_epoch))))),
+                ),
+                tags!( 0 since 0 recovery, 1 since 2 eligible, 2 since 2 last_known ),
+            ),
+        ),
+    ) = parts;
+    let state = Partition {
+        replicas,
+        in_sync,
+        removing,
+        adding,
+        leader,
+        leader_epoch,
+        partition_epoch,
+        recovery,
+        eligible,
+        last_known,
+    };
+    Record::Partition {
+        index,
+        topic,
+        state,
+    }
 }
 
 #[tactic(auto, unfolding(crate::specs::Reading::kind_at))]
@@ -212,7 +256,8 @@ fn read_config(from: &mut Reader<'_, Mine>, version: u32) -> Result<Record, Reco
 fn read_partition_change(from: &mut Reader<'_, Mine>, version: u32) -> Result<Record, RecordFault>
     ensures { GivesFront result from.new (kind_at kinds.partition_change version from.old) }
 {
-    read_version(from, 5, version, 2, partition_change_of)
+    let parts: (i32, (u128, ChangeParts)) = read_version(from, 5, version, 2)?;
+    Ok(partition_change_of(parts))
 }
 
 type ChangeParts = (
@@ -312,23 +357,20 @@ fn read_no_op(from: &mut Reader<'_, Mine>, version: u32) -> Result<Record, Recor
     each_kind!(reading(20, from, version))
 }
 
-// A record of what stands in one of a kind, in a version that it has.
+// What stands in a record of a kind, in a version that it has.
 #[tactic(auto, unfolding(crate::specs::Reading::served_at))]
-fn read_version<P: Parts, F: FnOnce(P) -> Record>(
+fn read_version<P: Parts>(
     from: &mut Reader<'_, Mine>,
     key: u32,
     version: u32,
     newest: u32,
-    record_of: F,
-) -> Result<Record, RecordFault>
-    requires { F.IsAlwaysCallable record_of }
-    ensures { GivesMade (F.post record_of) result from.new (served_at key newest P.layout version from.old) }
+) -> Result<P, RecordFault>
+    ensures { GivesFront result from.new (served_at key newest P.layout version from.old) }
 {
     if version > newest {
         return Err(RecordFault::UnknownVersion { key, version });
     }
-    let parts = P::read(from, version)?;
-    Ok(record_of(parts))
+    Ok(P::read(from, version)?)
 }
 
 /// Appends the record's written form. Without memory some front of it may be appended.

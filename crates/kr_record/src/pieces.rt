@@ -9,12 +9,13 @@ ghost use Rattle.kr_record.specs.Spelling.{no_directories};
 
 use crate::fields::{FieldPieces, put_tags};
 use crate::mine::{Mine, put};
-use crate::parts::Placed;
+use crate::parts::{Placed, SinceOne};
 use crate::tagged::TaggedPart;
 use crate::tags::Field;
 use kr_base::NoMemory;
-use kr_defs::{Ids, Rows};
+use kr_defs::Ids;
 use kr_layout::{Put, put_end};
+use kr_wire::{put_count, put_id};
 
 /// Parts that are written, up to the end of a structure or of some part of it.
 pub(crate) trait Pieces {
@@ -50,6 +51,14 @@ impl<A: Pieces, B: Pieces> Pieces for (A, B) {
     }
 }
 
+impl<F: Pieces> Pieces for SinceOne<F> {
+    ghost bytes = { F.bytes };
+
+    fn put_pieces(&self, out: &mut Vec<u8>) -> Result<(), NoMemory> {
+        self.flag.put_pieces(out)
+    }
+}
+
 impl<'a, M: Pieces, B: Pieces> Pieces for ((Placed<&'a Ids>, M), B) {
     ghost bytes = { λ p. ((tables.ids p.0.0.now ++ M.bytes p.0.1) ++ list id (no_directories p.0.0.now)) ++ B.bytes p.1 };
 
@@ -65,8 +74,15 @@ impl<'a, M: Pieces, B: Pieces> Pieces for ((Placed<&'a Ids>, M), B) {
 fn put_directories(out: &mut Vec<u8>, replicas: &Ids) -> Result<(), NoMemory>
     ensures { OnOk result (out.new.items ≡ out.old.items ++ list id (no_directories replicas.now)) }
 {
-    let zeros: Rows<u128> = Rows::from_vec(vec![in *out.allocator(); 0; replicas.len()]?);
-    put(out, &zeros)
+    let replicas = replicas.as_slice();
+    if replicas.len() >= 1 << 31 {
+        return Err(NoMemory);
+    }
+    put_count(out, replicas.len() as u32)?;
+    for _replica in replicas {
+        put_id(out, 0)?;
+    }
+    Ok(())
 }
 
 impl<'a, const TAG: u32, const FIRST: u32, P: TaggedPart, F: FieldPieces> Pieces

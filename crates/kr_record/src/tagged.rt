@@ -36,7 +36,7 @@ impl FieldData for i32 {
 }
 
 impl FieldData for Ids {
-    #[tactic(auto, using(crate::proofs::PartForms::length_ids))]
+    #[tactic(auto, using(crate::proofs::Appends::length_ids))]
     fn size(&self) -> Result<u32, NoMemory> {
         if self.len() >= 1 << 29 {
             return Err(NoMemory);
