@@ -146,6 +146,7 @@ macro_rules! looking {
 
 /// The record of the kind with the key.
 #[tactic(auto, unfolding(crate::specs::Reading::layout_at))]
+#[inline(always)]
 pub(crate) fn read_kind(
     from: &mut Reader<'_, Mine>,
     key: u32,
@@ -171,6 +172,7 @@ pub(crate) fn read_kind(
 }
 
 #[tactic(auto, unfolding(crate::specs::Reading::kind_at))]
+#[inline(always)]
 fn read_register_broker(from: &mut Reader<'_, Mine>, version: u32) -> Result<Record, RecordFault>
     ensures { GivesFront result from.new (kind_at kinds.register_broker version from.old) }
 {
@@ -178,6 +180,7 @@ fn read_register_broker(from: &mut Reader<'_, Mine>, version: u32) -> Result<Rec
 }
 
 #[tactic(auto, unfolding(crate::specs::Reading::kind_at))]
+#[inline(always)]
 fn read_unregister_broker(from: &mut Reader<'_, Mine>, version: u32) -> Result<Record, RecordFault>
     ensures { GivesFront result from.new (kind_at kinds.unregister_broker version from.old) }
 {
@@ -185,6 +188,7 @@ fn read_unregister_broker(from: &mut Reader<'_, Mine>, version: u32) -> Result<R
 }
 
 #[tactic(auto, unfolding(crate::specs::Reading::kind_at))]
+#[inline(always)]
 fn read_topic(from: &mut Reader<'_, Mine>, version: u32) -> Result<Record, RecordFault>
     ensures { GivesFront result from.new (kind_at kinds.topic version from.old) }
 {
@@ -203,6 +207,7 @@ type PartitionParts = (
 );
 
 #[tactic(auto, unfolding(crate::specs::Reading::kind_at))]
+#[inline(always)]
 fn read_partition(from: &mut Reader<'_, Mine>, version: u32) -> Result<Record, RecordFault>
     ensures { GivesFront result from.new (kind_at kinds.partition version from.old) }
 {
@@ -210,6 +215,7 @@ fn read_partition(from: &mut Reader<'_, Mine>, version: u32) -> Result<Record, R
     Ok(partition_of(parts))
 }
 
+#[inline(always)]
 fn partition_of(parts: PartitionParts) -> Record
     ensures { result ≡ kinds.partition.record_of parts }
 {
@@ -246,6 +252,7 @@ fn partition_of(parts: PartitionParts) -> Record
 }
 
 #[tactic(auto, unfolding(crate::specs::Reading::kind_at))]
+#[inline(always)]
 fn read_config(from: &mut Reader<'_, Mine>, version: u32) -> Result<Record, RecordFault>
     ensures { GivesFront result from.new (kind_at kinds.config version from.old) }
 {
@@ -253,6 +260,7 @@ fn read_config(from: &mut Reader<'_, Mine>, version: u32) -> Result<Record, Reco
 }
 
 #[tactic(auto, unfolding(crate::specs::Reading::kind_at))]
+#[inline(always)]
 fn read_partition_change(from: &mut Reader<'_, Mine>, version: u32) -> Result<Record, RecordFault>
     ensures { GivesFront result from.new (kind_at kinds.partition_change version from.old) }
 {
@@ -283,6 +291,7 @@ type ChangeParts = (
     ),
 );
 
+#[inline(always)]
 fn partition_change_of(parts: (i32, (u128, ChangeParts))) -> Record
     ensures { result ≡ kinds.partition_change.record_of parts }
 {
@@ -295,6 +304,7 @@ fn partition_change_of(parts: (i32, (u128, ChangeParts))) -> Record
     }
 }
 
+#[inline(always)]
 fn change_of(parts: ChangeParts) -> PartitionChange
     ensures { result ≡ kinds.change_of parts }
 {
@@ -313,6 +323,7 @@ fn change_of(parts: ChangeParts) -> PartitionChange
 }
 
 #[tactic(auto, unfolding(crate::specs::Reading::kind_at))]
+#[inline(always)]
 fn read_fence_broker(from: &mut Reader<'_, Mine>, version: u32) -> Result<Record, RecordFault>
     ensures { GivesFront result from.new (kind_at kinds.fence_broker version from.old) }
 {
@@ -320,6 +331,7 @@ fn read_fence_broker(from: &mut Reader<'_, Mine>, version: u32) -> Result<Record
 }
 
 #[tactic(auto, unfolding(crate::specs::Reading::kind_at))]
+#[inline(always)]
 fn read_unfence_broker(from: &mut Reader<'_, Mine>, version: u32) -> Result<Record, RecordFault>
     ensures { GivesFront result from.new (kind_at kinds.unfence_broker version from.old) }
 {
@@ -327,6 +339,7 @@ fn read_unfence_broker(from: &mut Reader<'_, Mine>, version: u32) -> Result<Reco
 }
 
 #[tactic(auto, unfolding(crate::specs::Reading::kind_at))]
+#[inline(always)]
 fn read_remove_topic(from: &mut Reader<'_, Mine>, version: u32) -> Result<Record, RecordFault>
     ensures { GivesFront result from.new (kind_at kinds.remove_topic version from.old) }
 {
@@ -334,6 +347,7 @@ fn read_remove_topic(from: &mut Reader<'_, Mine>, version: u32) -> Result<Record
 }
 
 #[tactic(auto, unfolding(crate::specs::Reading::kind_at))]
+#[inline(always)]
 fn read_feature_level(from: &mut Reader<'_, Mine>, version: u32) -> Result<Record, RecordFault>
     ensures { GivesFront result from.new (kind_at kinds.feature_level version from.old) }
 {
@@ -341,6 +355,7 @@ fn read_feature_level(from: &mut Reader<'_, Mine>, version: u32) -> Result<Recor
 }
 
 #[tactic(auto, unfolding(crate::specs::Reading::kind_at))]
+#[inline(always)]
 fn read_broker_registration_change(
     from: &mut Reader<'_, Mine>,
     version: u32,
@@ -351,6 +366,7 @@ fn read_broker_registration_change(
 }
 
 #[tactic(auto, unfolding(crate::specs::Reading::kind_at))]
+#[inline(always)]
 fn read_no_op(from: &mut Reader<'_, Mine>, version: u32) -> Result<Record, RecordFault>
     ensures { GivesFront result from.new (kind_at kinds.no_op version from.old) }
 {
@@ -359,6 +375,7 @@ fn read_no_op(from: &mut Reader<'_, Mine>, version: u32) -> Result<Record, Recor
 
 // What stands in a record of a kind, in a version that it has.
 #[tactic(auto, unfolding(crate::specs::Reading::served_at))]
+#[inline(always)]
 fn read_version<P: Parts>(
     from: &mut Reader<'_, Mine>,
     key: u32,

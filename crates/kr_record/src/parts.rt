@@ -26,6 +26,7 @@ pub(crate) trait Parts: Drop {
 impl Parts for () {
     ghost layout = { Of End };
 
+    #[inline(always)]
     fn read(from: &mut Reader<'_, Mine>, version: u32) -> Result<(), ReadFault> {
         from.end()
     }
@@ -34,6 +35,7 @@ impl Parts for () {
 impl<T: Get<Mine>> Parts for T {
     ghost layout = { Of T.schema };
 
+    #[inline(always)]
     fn read(from: &mut Reader<'_, Mine>, version: u32) -> Result<T, ReadFault> {
         from.get()
     }
@@ -42,6 +44,7 @@ impl<T: Get<Mine>> Parts for T {
 impl<A: Parts, B: Parts> Parts for (A, B) {
     ghost layout = { A.layout ▹ B.layout };
 
+    #[inline(always)]
     fn read(from: &mut Reader<'_, Mine>, version: u32) -> Result<(A, B), ReadFault> {
         let first = A::read(from, version)?;
         let others = B::read(from, version)?;
@@ -64,6 +67,7 @@ impl<F> Model for SinceOne<F> {
 impl Parts for SinceOne<bool> {
     ghost layout = { layouts.Since 1 false Boolean };
 
+    #[inline(always)]
     fn read(from: &mut Reader<'_, Mine>, version: u32) -> Result<SinceOne<bool>, ReadFault> {
         let flag = if version >= 1 { from.get()? } else { false };
         Ok(SinceOne { flag })
@@ -85,6 +89,7 @@ impl<I> Model for Placed<I> {
 impl<M: Parts, B: Parts> Parts for ((Placed<Ids>, M), B) {
     ghost layout = { Directories 1 M.layout ▹ B.layout };
 
+    #[inline(always)]
     fn read(from: &mut Reader<'_, Mine>, version: u32) -> Result<((Placed<Ids>, M), B), ReadFault> {
         let ids: Ids = from.get()?;
         let others = M::read(from, version)?;
@@ -108,6 +113,7 @@ impl<const TAG: u32, const FIRST: u32, P: TaggedPart, F: Fields> Parts
     for (Field<TAG, FIRST, P>, F) {
     ghost layout = { Tagged (tables.Field TAG FIRST P.part F.table) };
 
+    #[inline(always)]
     fn read(
         from: &mut Reader<'_, Mine>,
         version: u32,

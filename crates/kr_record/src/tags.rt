@@ -44,6 +44,7 @@ impl Fields for () {
 
     fn absent(alloc: Global) {}
 
+    #[inline(always)]
     fn set(&mut self, alloc: Global, version: u32, tag: u32, data: &[u8]) -> Result<(), ReadFault> {
         Ok(())
     }
@@ -58,6 +59,7 @@ impl<const TAG: u32, const FIRST: u32, P: TaggedPart, F: Fields> Fields
         (Field { part }, F::absent(alloc))
     }
 
+    #[inline(always)]
     fn set(&mut self, alloc: Global, version: u32, tag: u32, data: &[u8]) -> Result<(), ReadFault> {
         if version >= FIRST && tag == TAG {
             self.0.part = whole(alloc, data)?;
@@ -68,6 +70,7 @@ impl<const TAG: u32, const FIRST: u32, P: TaggedPart, F: Fields> Fields
 }
 
 /// What all of the data of a field give.
+#[inline(always)]
 fn whole<P: TaggedPart>(alloc: Global, data: &[u8]) -> Result<P, ReadFault>
     ensures { GivesField result (whole_field (part_at P.part «data».now)) }
 {
@@ -86,6 +89,7 @@ fn whole<P: TaggedPart>(alloc: Global, data: &[u8]) -> Result<P, ReadFault>
 
 /// A count, and so many tagged fields.
 #[tactic(auto, unfolding(kr_wire::specs::Reading::tags_at))]
+#[inline(always)]
 pub(crate) fn read_tags<F: Fields>(
     from: &mut Reader<'_, Mine>,
     version: u32,
@@ -96,6 +100,7 @@ pub(crate) fn read_tags<F: Fields>(
     read_fields(from, version, count)
 }
 
+#[inline(always)]
 fn read_fields<F: Fields>(
     from: &mut Reader<'_, Mine>,
     version: u32,
