@@ -18,7 +18,7 @@ pub use answers::{Failed, NoEpoch, NoMemory};
 pub use clock::{Clock, MemoryClock, SystemClock};
 pub use gate::{CountingGate, Gate, OpenGate};
 pub use history::History;
-pub use memory::{MemorySink, MemorySource};
+pub use memory::{MemorySink, MemorySource, copy_front};
 pub use outside::{Sink, Source};
 pub use quorum::{MemoryQuorum, Quorum};
 pub use shared::Shared;

@@ -1,6 +1,6 @@
 //! A source and a sink in memory, whose calls fail by a list.
 
-ghost use Rattle.std.specs.Prelude.{◌≡◌, ◌+◌, ◌-◌, ◌≤◌, min, Some, [], ◌++◌, take, slice_range, length, IfOk, OnOk, OnErr, ◌↔◌, IsErr, IsOk, IsTrue, Contains};
+ghost use Rattle.std.specs.Prelude.{◌≡◌, ◌+◌, ◌-◌, ◌≤◌, min, Some, [], ◌++◌, take, length, IfOk, OnOk, OnErr, ◌↔◌, IsErr, IsOk, IsTrue, Contains};
 ghost use Rattle.std.specs.Io.{ReadsAtMost};
 ghost use Rattle.std.specs.Io.KnownBytes.{ReadConsumes};
 ghost use Rattle.kr_base.specs.Causes.{HasCause, raised};
@@ -87,7 +87,7 @@ impl Source for MemorySource {
             self.faults = self.faults.saturating_add(1);
             return Err(Failed);
         }
-        let count = copy_front(self.bytes.as_slice(), self.at, into);
+        let count = copy_front(self.left(), into);
         self.at += count;
         Ok(count)
     }
@@ -97,16 +97,14 @@ impl Source for MemorySource {
     }
 }
 
-// The bytes from `at` on, as many as there is room for.
-fn copy_front(bytes: &[u8], at: usize, into: &mut [u8]) -> usize
-    requires { at ≤ length bytes.now }
-    ensures bound { result ≤ length into.new }
-    ensures room { at + result ≤ length bytes.now }
-    ensures copied { take result into.new ≡ slice_range bytes.now at (at + result) }
-    ensures all { result ≡ min (length into.new) (length bytes.now - at) }
+/// Copies as many bytes as `into` has room for to its front, and answers how many.
+pub fn copy_front(from: &[u8], into: &mut [u8]) -> usize
+    ensures count { result ≡ min (length from.now) (length into.old) }
+    ensures len { length into.new ≡ length into.old }
+    ensures copied { take result into.new ≡ take result from.now }
 {
-    let count = into.len().min(bytes.len() - at);
-    into[..count].copy_from_slice(&bytes[at..at + count]);
+    let count = from.len().min(into.len());
+    into[..count].copy_from_slice(&from[..count]);
     count
 }
 

@@ -1,9 +1,10 @@
 -- Writing records one after the other.
-use Rattle.std.proofs.Common.{◌≡◌, ℕ, suc, ◌+◌, ◌<◌, ◌≤◌, List, ◌∷◌, ◌++◌, length, get_or, drop, append_assoc, sym, ap, ◌∙◌, add-one, drop-cons}
+use Rattle.std.proofs.Common.{◌≡◌, ℕ, pos, suc, ◌+◌, ◌<◌, ◌≤◌, List, ◌∷◌, ◌++◌, length, get_or, drop, append_assoc, sym, ap, ◌∙◌, add-one, drop-cons}
 use Rattle.std.proofs.lemmas.List.{append-nil}
 use Rattle.std.proofs.Math.ListN.{drop_of_length-le}
 use Rattle.kr_defs.specs.declared.record.Item.{Item}
-use Rattle.kr_batch.specs.BatchBytes.{record_bytes, records_bytes, item_value}
+use Rattle.kr_wire.specs.Spelling.{varint32}
+use Rattle.kr_batch.specs.BatchBytes.{front_bytes, record_body, record_bytes, records_bytes, item_value}
 
 pub goes_on : (old new whole : List ℕ) (items : List Item) (i : ℕ) (item : Item) → i < length items → item ≡ get_or items i item
     → new ≡ old ++ record_bytes i (item_value item) → old ++ records_bytes i (drop i items) ≡ whole
@@ -17,3 +18,8 @@ goes_on old new whole items i item lt is added so_far =
 pub ends : (old whole : List ℕ) (items : List Item) (i : ℕ) → length items ≤ i → old ++ records_bytes i (drop i items) ≡ whole → old ≡ whole
 unfolding records_bytes
 ends old whole items i le so_far = sym (append-nil old) ∙ ap (λ l. old ++ records_bytes i l) (sym (drop_of_length-le items le)) ∙ so_far
+
+-- a record is what stands before its value, the value, and no headers
+pub whole_record : (out : List ℕ) (delta : ℕ) (value : List ℕ) → out ++ front_bytes delta value ++ value ++ varint32 (pos 0) ≡ out ++ record_bytes delta value
+unfolding record_body
+whole_record out delta value = simp append_assoc

@@ -37,6 +37,12 @@ record_body delta value =
     signed w8 (pos 0) ++ varint64 (pos 0) ++ varint32 (pos delta) ++ varint32 (negsuc 0)
     ++ varint32 (pos (length value)) ++ value ++ varint32 (pos 0)
 
+-- what stands before the value of a record: the length of the body, and the body up to it
+abbrev pub front_bytes : ℕ → List ℕ → List ℕ
+front_bytes delta value =
+    varint32 (pos (length (record_body delta value))) ++ signed w8 (pos 0) ++ varint64 (pos 0) ++ varint32 (pos delta) ++ varint32 (negsuc 0)
+    ++ varint32 (pos (length value))
+
 -- a record's body behind its length
 abbrev pub record_bytes : ℕ → List ℕ → List ℕ
 record_bytes delta value = varint32 (pos (length (record_body delta value))) ++ record_body delta value

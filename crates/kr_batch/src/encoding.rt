@@ -6,14 +6,12 @@ ghost use Rattle.std.specs.List.{All};
 ghost use Rattle.kr_defs.specs.declared.limits.TheConstants.{MOST_RECORDS};
 ghost use Rattle.kr_wire.specs.Spelling.{varint32};
 ghost use Rattle.kr_batch.specs.Grammar.{IsBatch};
-ghost use Rattle.kr_batch.specs.BatchBytes.{VALUES_END, IsHeldItem, IsWritable, batch_bytes, checked_bytes, fixed_bytes, head_bytes, no_producer, record_body, record_bytes, records_bytes, start_bytes, item_value, values_size};
+ghost use Rattle.kr_batch.specs.BatchBytes.{VALUES_END, IsHeldItem, IsWritable, batch_bytes, checked_bytes, fixed_bytes, front_bytes, head_bytes, no_producer, record_body, record_bytes, records_bytes, start_bytes, item_value, values_size};
 
 use crate::{Batch, crc32c};
 use kr_base::NoMemory;
 use kr_defs::Item;
-use kr_wire::{
-    put_both, put_i8, put_i16, put_i32, put_i64, put_u32, put_uvarint, put_varint, put_varlong,
-};
+use kr_wire::{FewBytes, put_both, put_i8, put_i16, put_i32, put_i64, put_u32, put_varint};
 use std::alloc::AllocError;
 
 /// Appends the batch. Without memory nothing changes.
@@ -128,37 +126,44 @@ fn put_value(item: &Item, out: &mut Vec<u8>) -> Result<(), NoMemory>
     }
 }
 
+#[tactic(auto, using(crate::proofs::Records::whole_record))]
 fn put_record(delta: u32, value: &[u8], out: &mut Vec<u8>) -> Result<(), AllocError>
     requires delta { delta < MOST_RECORDS }
     requires value { length value.now < VALUES_END }
     ensures { OnOk result (out.new.items ≡ out.old.items ++ record_bytes delta value.now) }
 {
-    put_length(out, body_len(delta, value))?;
-    put_body(delta, value, out)
-}
-
-#[tactic(auto, unfolding(crate::specs::BatchBytes::record_body))]
-fn put_body(delta: u32, value: &[u8], out: &mut Vec<u8>) -> Result<(), AllocError>
-    requires delta { delta < MOST_RECORDS }
-    requires value { length value.now < VALUES_END }
-    ensures { OnOk result (out.new.items ≡ out.old.items ++ record_body delta value.now) }
-{
-    put_i8(out, 0)?;
-    put_varlong(out, 0)?;
-    put_length(out, delta)?;
-    put_varint(out, -1)?;
-    put_length(out, value.len() as u32)?;
+    let front = record_front(delta, value);
+    front.put(out)?;
     out.extend_from_slice(value)?;
     put_varint(out, 0)
 }
 
+// What stands before the value of a record.
+#[tactic(auto, unfolding(kr_wire::specs::Spelling::varint32, kr_wire::specs::Spelling::varint64, kr_wire::specs::Spelling::signed))]
+fn record_front(delta: u32, value: &[u8]) -> FewBytes
+    requires delta { delta < MOST_RECORDS }
+    requires value { length value.now < VALUES_END }
+    ensures { result ≡ front_bytes delta value.now }
+{
+    let mut front = FewBytes::new();
+    push_length(&mut front, body_len(delta, value));
+    front.push(0);
+    front.push(0);
+    push_length(&mut front, delta);
+    front.push(1);
+    push_length(&mut front, value.len() as u32);
+    front
+}
+
 // A varint that isn't negative.
 #[tactic(auto, unfolding(kr_wire::specs::Spelling::uvarint, kr_wire::specs::Spelling::varint32))]
-fn put_length(out: &mut Vec<u8>, len: u32) -> Result<(), AllocError>
-    requires { len < 2 ^ 31 }
-    ensures { OnOk result (out.new.items ≡ out.old.items ++ varint32 (pos len)) }
+fn push_length(front: &mut FewBytes, len: u32)
+    requires small { len < 2 ^ 31 }
+    requires room { length front.old ≤ 19 }
+    ensures length { front.new ≡ front.old ++ varint32 (pos len) }
+    ensures few { length front.new ≤ length front.old + 5 }
 {
-    put_uvarint(out, 2 * len)
+    front.push_uvarint(2 * len);
 }
 
 #[tactic(auto, using(crate::proofs::Sizes::body_length))]

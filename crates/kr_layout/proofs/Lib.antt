@@ -1,4 +1,5 @@
 pub mod Bodies
 pub mod Elements
 pub mod Chains
+pub mod Fields
 pub mod Fronts

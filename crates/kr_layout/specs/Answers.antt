@@ -1,6 +1,6 @@
 -- How a reader's answer follows from reading, and what a writer appends. Want of memory is free.
-use Rattle.std.specs.Prelude.{◌≡◌, ℕ, List, ◌++◌, length, Result, Ok, Err, IfOk, nat_lt}
-use Rattle.kr_wire.specs.Reading.{◌>>=◌, Read, refuse◌when◌else◌}
+use Rattle.std.specs.Prelude.{◌≡◌, ℕ, List, ◌++◌, length, take, drop, Option, Result, Ok, Err, IfOk, nat_lt}
+use Rattle.kr_wire.specs.Reading.{◌>>=◌, Read, tag_at, refuse◌when◌else◌}
 use Rattle.kr_wire.specs.Schema.{Schema, value_at, written, Fits}
 use Rattle.kr_layout.specs.declared.fault.ReadFault.{ReadFault}
 use Rattle.kr_layout.specs.declared.fault.ReadFault.TheVariants as reads
@@ -21,6 +21,10 @@ Takes (Err e) left read = IsFaultOf e read
 abbrev pub TakesBy : {X Y : Type 0} → (X → Y) → Result X ReadFault → List ℕ → Read Y → Type 0
 TakesBy view (Ok x) left read = read ≡ Ok (view x, left)
 TakesBy view (Err e) left read = IsFaultOf e read
+
+-- a tag, and the data behind it
+abbrev pub field_at : Option ℕ → List ℕ → Read (ℕ × List ℕ)
+field_at last bytes = tag_at last bytes >>= λ t. Ok ((t.0.0, take t.0.1 t.1), drop t.0.1 t.1)
 
 -- a fault of the wire as one of a body
 abbrev pub wired : {X : Type 0} → Read X → Result (X × List ℕ) BodyFault

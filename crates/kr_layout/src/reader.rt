@@ -3,14 +3,14 @@
 ghost use Rattle.std.specs.Prelude.{◌≡◌, ◌==◌, ◌≤◌, ◌∷◌, length, drop, IfOk, IsTrue, IsFalse};
 ghost use Rattle.std.specs.Option.{option_map};
 ghost use Rattle.std.specs.Int.{w8, w16, w32, w64};
-ghost use Rattle.kr_wire.specs.Reading.{none_known, bool_at, count_at, count_or_null_at, id_at, number_at, signed_at, tags_at, text_at, text_or_null_at};
-ghost use Rattle.kr_layout.specs.Answers.{Takes};
+ghost use Rattle.kr_wire.specs.Reading.{none_known, bool_at, count_at, count_or_null_at, id_at, number_at, signed_at, tags_at, text_at, text_or_null_at, uvarint_at};
+ghost use Rattle.kr_layout.specs.Answers.{Takes, TakesBy, field_at};
 
 use crate::ReadFault;
 use kr_defs::Text;
 use kr_wire::{
     read_bool, read_count, read_count_or_null, read_i8, read_i16, read_i32, read_i64, read_id,
-    read_text, read_text_or_null, read_u16, skip_tags,
+    read_tag, read_text, read_text_or_null, read_u16, read_uvarint, skip_tags,
 };
 use std::alloc::{AllocError, Global};
 use std::marker::{Model, PhantomData};
@@ -201,6 +201,26 @@ impl<'a, M> Reader<'a, M> {
         let next = skip_tags(self.bytes, self.at)?;
         self.at = next;
         Ok(())
+    }
+
+    /// The next value, a number in groups of seven bits.
+    #[inline(always)]
+    pub fn uvarint(&mut self) -> Result<u32, ReadFault>
+        ensures { Takes result self.new (uvarint_at self.old) }
+    {
+        let (number, next) = read_uvarint(self.bytes, self.at)?;
+        self.at = next;
+        Ok(number)
+    }
+
+    /// The tag of a tagged field and its data, behind a field with the last tag.
+    pub fn field(&mut self, last: Option<u32>) -> Result<(u32, &'a [u8]), ReadFault>
+        ensures { TakesBy (λ f. (f.0, f.1.now)) result self.new (field_at last self.old) }
+    {
+        let (tag, place) = read_tag(self.bytes, self.at, last)?;
+        let data = &self.bytes[place..tag.end];
+        self.at = tag.end;
+        Ok((tag.number, data))
     }
 
     pub fn alloc(&self) -> Global {

@@ -1,11 +1,7 @@
-pub mod Elements
-pub mod FieldSteps
-pub mod KindSpelling
-pub mod KnownFields
-pub mod RecordLaws
-pub mod LayoutLaws
-pub mod Lengths
-pub mod PartSpelling
-pub mod Parts
+pub mod Appends
+pub mod Arms
+pub mod FieldLoop
+pub mod LayoutForms
+pub mod PartForms
 pub mod RecordForms
-pub mod RecordWriting
+pub mod RecordLaws

@@ -1,51 +1,108 @@
--- What is written of a record stands for it, is read as it, and is bytes.
-use Rattle.std.proofs.Common.{◌≡◌, ℕ, ◌+◌, ◌<◌, List, ◌++◌, append_assoc, Ok, refl, arith, lit<, lit≤}
+-- What is written of a record, and what follows of bytes that stand for one.
+use Rattle.std.proofs.Common.{◌≡◌, ℕ, ◌+◌, ◌*◌, ◌^◌, ◌<◌, ◌≤◌, List, [], ◌∷◌, ◌++◌, length, Ok, refl, ap, ◌∙◌, append_assoc, arith, lit<}
+use Rattle.std.specs.Prelude.{negsuc, Option, None}
+use Rattle.std.specs.List.{sum_by}
+use Rattle.std.proofs.lemmas.List.{length-append}
+use Rattle.std.proofs.lemmas.List.Sums.{sum_by-append, sum_by-cons}
+use Rattle.kr_defs.specs.declared.broker.Endpoint.{Endpoint}
+use Rattle.kr_defs.specs.declared.broker.Range.{Range}
 use Rattle.kr_defs.specs.declared.record.Record.{Record}
 use Rattle.kr_defs.specs.declared.record.Record.TheVariants as kinds
-use Rattle.kr_defs.specs.Sizes.{value_bytes}
+use Rattle.kr_defs.specs.Sizes.{text_bytes, no_tags_bytes, field_there, field_bytes, tags_bytes, number_field_or, ids_field_or, value_bytes}
 use Rattle.kr_wire.specs.Laws.{IsBytes}
-use Rattle.kr_wire.proofs.SpellingLaws.{Spells, ◌plus◌, spells, small}
+use Rattle.kr_wire.specs.Grammar.{◌⌢◌, IsUvarint}
+use Rattle.kr_wire.proofs.SpellingLaws.{Form, ◌plus◌, form, small}
 use Rattle.kr_wire.proofs.WrittenBytes.{OfBytes}
+use Rattle.kr_record.specs.Records.{chosen, endpoint_layout, range_layout}
 use Rattle.kr_record.specs.Encodable.{IsEncodable}
 use Rattle.kr_record.specs.Grammar.{IsLayout, IsRecord}
 use Rattle.kr_record.specs.RecordRanges.{IsHeld}
 use Rattle.kr_record.specs.Reading.{record_of}
-use Rattle.kr_record.specs.Spelling.{framed, record_value}
-use Rattle.kr_record.proofs.RecordLaws.{of_complete}
-use Rattle.kr_record.proofs.KindSpelling.{end, registration_spells, broker_epoch_spells, topic_spells, topic_id_spells, partition_spells, config_spells, change_spells, feature_spells, registration_change_spells}
+use Rattle.kr_record.specs.Spelling.{framed, written_bytes, plain_bytes, record_value}
+use Rattle.kr_record.proofs.LayoutForms.{most_bytes, layout_form}
+use Rattle.kr_record.proofs.RecordLaws.{is_chosen, of_complete}
 
-framed_spells : (r : Record) (key version : ℕ) {Is : List ℕ → Type 0} {layout : List ℕ} {n : ℕ} {P Q : Type 0} → key < 128 → version < 128 → ((bytes : List ℕ) → Is bytes → IsLayout key version r bytes)
-    → Spells Is layout n P Q → Spells (IsRecord r) (framed key version ++ layout) (3 + n) P Q
-unfolding framed
-framed_spells r key version known served kind part =
-    let layout : Spells (IsLayout key version r) _ _ _ _ = record { size = part.size; stands = λ p q. kind _ (part.stands p q); fits = part.fits } in
-    let all = spells (small 1 (lit< tt) plus small key known plus small version served plus layout) (simp append_assoc) (omega arith) (λ p. (tt, (tt, (tt, p)))) (λ q. (tt, (tt, (tt, q)))) in
-    record { size = all.size; stands = λ p q. record { key = key; version = version; spelled = all.stands p q }; fits = all.fits }
-
-pub record_spells : (r : Record) → Spells (IsRecord r) (record_value r) (value_bytes r) (IsEncodable r) (IsHeld r)
-unfolding record_value value_bytes
-record_spells (kinds.RegisterBroker broker state) = framed_spells _ 0 1 (lit< tt) (lit< tt) (λ bytes is. (refl, lit≤ tt, is)) (registration_spells broker state)
-record_spells (kinds.UnregisterBroker broker epoch) = framed_spells _ 1 0 (lit< tt) (lit< tt) (λ bytes is. (refl, lit≤ tt, is)) (broker_epoch_spells broker epoch)
-record_spells (kinds.Topic name n) = framed_spells _ 2 0 (lit< tt) (lit< tt) (λ bytes is. (refl, lit≤ tt, is)) (topic_spells name n)
-record_spells (kinds.Partition index n state) = framed_spells _ 3 2 (lit< tt) (lit< tt) (λ bytes is. (refl, lit≤ tt, is)) (partition_spells index n state)
-record_spells (kinds.Config kind name key value) = framed_spells _ 4 0 (lit< tt) (lit< tt) (λ bytes is. (refl, lit≤ tt, is)) (config_spells kind name key value)
-record_spells (kinds.PartitionChange index n c) = framed_spells _ 5 2 (lit< tt) (lit< tt) (λ bytes is. (refl, lit≤ tt, is)) (change_spells index n c)
-record_spells (kinds.FenceBroker broker epoch) = framed_spells _ 7 0 (lit< tt) (lit< tt) (λ bytes is. (refl, lit≤ tt, is)) (broker_epoch_spells broker epoch)
-record_spells (kinds.UnfenceBroker broker epoch) = framed_spells _ 8 0 (lit< tt) (lit< tt) (λ bytes is. (refl, lit≤ tt, is)) (broker_epoch_spells broker epoch)
-record_spells (kinds.RemoveTopic n) = framed_spells _ 9 0 (lit< tt) (lit< tt) (λ bytes is. (refl, lit≤ tt, is)) (topic_id_spells n)
-record_spells (kinds.FeatureLevel name level) = framed_spells _ 12 0 (lit< tt) (lit< tt) (λ bytes is. (refl, lit≤ tt, is)) (feature_spells name level)
-record_spells (kinds.BrokerRegistrationChange broker epoch fenced stopping) =
-    framed_spells _ 17 1 (lit< tt) (lit< tt) (λ bytes is. (refl, lit≤ tt, is)) (registration_change_spells broker epoch fenced stopping)
-record_spells kinds.NoOp = framed_spells _ 20 0 (lit< tt) (lit< tt) (λ bytes is. (refl, lit≤ tt, is)) end
+-- a kind with a small key, in its newest version, and what stood for it with some key, in some version
+framed_form : (r : Record) (key version : ℕ) → let k = (chosen r).kind in
+    Form (IsUvarint 1 ⌢ IsUvarint k.key ⌢ IsUvarint k.newest ⌢ IsLayout k.key k.newest r) (IsUvarint 1 ⌢ IsUvarint key ⌢ IsUvarint version ⌢ IsLayout key version r)
+    (record_value r) (3 + written_bytes k.layout (chosen r).parts) (3 + most_bytes k.layout (chosen r).parts) (IsEncodable r) (IsHeld r)
+unfolding record_value framed
+framed_form r key version =
+    let k = (chosen r).kind in
+    let c = is_chosen r in
+    let part = layout_form k.layout k.newest c.spelled version (chosen r).parts in
+    let layout : Form (IsLayout k.key k.newest r) (IsLayout key version r) _ _ _ _ _ = record {
+      size = part.size;
+      stands = λ p q. (refl, omega arith, part.stands p q);
+      fits = part.fits;
+      follows = record { cost = λ b is. part.follows.cost b is.2; short = λ b is. part.follows.short b is.2; held = λ b is. part.follows.held b is.2 };
+    } in
+    form (small 1 1 (lit< tt) plus small k.key key c.low.0 plus small k.newest version c.low.1 plus layout) (simp append_assoc) (omega arith) (omega arith)
+    (λ p. p.1.1.1) (λ p. (tt, (tt, (tt, p)))) (λ q. q.1.1.1) (λ q. (tt, (tt, (tt, q))))
 
 pub stands : (r : Record) → IsEncodable r → IsHeld r → IsRecord r (record_value r)
-stands r fits held = (record_spells r).stands fits held
+stands r fits held = record { key = (chosen r).kind.key; version = (chosen r).kind.newest; spelled = (framed_form r 0 0).stands fits held }
 
 pub again : (r : Record) → IsEncodable r → IsHeld r → record_of (record_value r) ≡ Ok r
 again r fits held = of_complete (record_value r) r (stands r fits held)
 
 pub record_fits : (r : Record) → IsEncodable r → IsHeld r → OfBytes (record_value r)
-record_fits r fits held = (record_spells r).fits fits held
+record_fits r fits held = (framed_form r 0 0).fits fits held
 
 pub bytes : (r : Record) → IsEncodable r → IsHeld r → IsBytes (record_value r)
 bytes r fits held = (record_fits r fits held).each
+
+-- ---- what stands in bytes
+
+pub short : (r : Record) (bytes : List ℕ) → IsRecord r bytes → length bytes < 2 ^ 31 → IsEncodable r
+short r bytes is few = (framed_form r is.key is.version).follows.short bytes is.spelled few
+
+pub held : (r : Record) (bytes : List ℕ) → IsRecord r bytes → IsBytes bytes → IsHeld r
+held r bytes is fit = (framed_form r is.key is.version).follows.held bytes is.spelled fit
+
+-- ---- how many bytes are written
+
+same_sum : {X : Type 0} (f g : X → ℕ) → ((x : X) → f x ≡ g x) → (xs : List X) → sum_by f xs ≡ sum_by g xs
+same_sum f g same [] = refl
+same_sum f g same (x ∷ xs) = omega (arith, sum_by-cons f x xs, sum_by-cons g x xs, same x, same_sum f g same xs)
+
+endpoints_bytes : (es : List Endpoint) → sum_by (plain_bytes endpoint_layout) es ≡ sum_by (λ e. text_bytes e.name + text_bytes e.host + 2 + 2 + no_tags_bytes) es
+endpoints_bytes es = same_sum (plain_bytes endpoint_layout) _ (λ e. omega arith) es
+
+ranges_bytes : (rs : List Range) → sum_by (plain_bytes range_layout) rs ≡ sum_by (λ r. text_bytes r.name + 2 + 2 + no_tags_bytes) rs
+ranges_bytes rs = same_sum (plain_bytes range_layout) _ (λ r. omega arith) rs
+
+-- a field that is never written
+none_more : (sizes : List (Option ℕ)) → tags_bytes (sizes ++ None ∷ []) ≡ tags_bytes sizes
+none_more sizes =
+    let there : sum_by field_there (sizes ++ None ∷ []) ≡ sum_by field_there sizes = omega (arith, sum_by-append field_there sizes (None ∷ []), sum_by-cons field_there None []) in
+    let bytes : sum_by field_bytes (sizes ++ None ∷ []) ≡ sum_by field_bytes sizes = omega (arith, sum_by-append field_bytes sizes (None ∷ []), sum_by-cons field_bytes None []) in
+    rw (there, bytes) refl
+
+-- they are those that are told, and no more than eight times as many as stood for a record
+all_bytes : (r : Record) → let k = (chosen r).kind in (3 + written_bytes k.layout (chosen r).parts ≡ value_bytes r) × (value_bytes r ≤ 3 + most_bytes k.layout (chosen r).parts)
+unfolding value_bytes chosen
+all_bytes (kinds.RegisterBroker broker state) =
+    let endpoints = endpoints_bytes state.endpoints in
+    let ranges = ranges_bytes state.features in
+    (omega (arith, endpoints, ranges), omega (arith, endpoints, ranges))
+all_bytes (kinds.PartitionChange index n c) =
+    let none = none_more (
+    ids_field_or c.in_sync ∷ number_field_or 4 (negsuc 1) c.leader ∷ ids_field_or c.replicas ∷ ids_field_or c.removing ∷ ids_field_or c.adding
+    ∷ number_field_or 1 (negsuc 0) c.recovery ∷ ids_field_or c.eligible ∷ ids_field_or c.last_known ∷ []) in
+    (omega (arith, none), omega (arith, none))
+all_bytes _ = (omega arith, omega arith)
+
+pub size : (r : Record) → IsEncodable r → length (record_value r) ≡ value_bytes r
+size r fits = (framed_form r 0 0).size fits ∙ (all_bytes r).0
+
+pub cost : (r : Record) (bytes : List ℕ) → IsRecord r bytes → value_bytes r ≤ 8 * length bytes
+cost r bytes is = omega (arith, (all_bytes r).1, (framed_form r is.key is.version).follows.cost bytes is.spelled)
+
+-- what is appended makes the whole longer by as much
+pub appended : (old new : List ℕ) (r : Record) → IsEncodable r → new ≡ old ++ record_value r → length new ≡ length old + value_bytes r
+appended old new r fits wrote = omega (arith, ap (λ (l : List ℕ). length l) wrote, length-append old (record_value r), size r fits)
+
+pub ruleset laws = (stands, again, size, bytes)
+
+pub ruleset encoded = (appended, stands)

@@ -1,23 +1,44 @@
 -- The laws of records.
-use Rattle.std.proofs.Common.{Fits, w8, get_or, ◌≡◌, ℕ, ◌≤◌, eqb, true, false, List, ◌++◌, Option, Some, Result, Ok, Err, refl, ap, subst, arith}
+use Rattle.std.proofs.Common.{Fits, w8, get_or, ◌≡◌, ℕ, ◌≤◌, ◌<◌, Bool, cond, eqb, ltb, true, false, List, ◌++◌, Result, Ok, Err, refl, ap, subst, ◌∙◌, arith, lit<}
 use Rattle.std.specs.Prelude.{not, IfOk}
 use Rattle.std.proofs.lemmas.Bool.Decides.{nat_tests}
 use Rattle.std.proofs.lemmas.Bool.{ltb-false, le-ltb}
 use Rattle.kr_defs.specs.declared.record.Record.{Record}
 use Rattle.kr_defs.specs.declared.record.Record.TheVariants as kinds
 use Rattle.kr_wire.specs.declared.WireFault.{WireFault}
-use Rattle.kr_wire.specs.Reading.{Read, refuse◌when◌else◌}
-use Rattle.kr_wire.specs.Grammar.{◌⌢◌, IsUvarint}
-use Rattle.kr_wire.proofs.ReadingLaws.{IsBytes, Yields, Law, joined, sound_then, sound_last, sound_guard, sound_if, sound_as, complete_then, complete_last, complete_guard, all_sound, all_complete, one_value}
+use Rattle.kr_wire.specs.Reading.{Read}
+use Rattle.kr_wire.specs.Grammar.{◌⌢◌, IsUvarint, includes}
+use Rattle.kr_wire.specs.Schema.{Int32, Array, Dropped, Uuid}
+use Rattle.kr_wire.proofs.ReadingLaws.{IsBytes, Yields, Law, joined, ◌before◌, structure_law, sound_done, sound_then, sound_last, sound_guard, sound_as, sound_if, complete_then, complete_last, complete_guard, all_sound, all_complete, one_value}
 use Rattle.kr_wire.proofs.Numbers.{uvarint_law}
-use Rattle.kr_wire.proofs.Tags.{no_tags_law}
+use Rattle.kr_wire.proofs.Schemas as schemas
+use Rattle.kr_wire.proofs.Tables.{both, fields_law}
 use Rattle.kr_record.specs.declared.fault.RecordFault.{RecordFault}
 use Rattle.kr_record.specs.declared.fault.RecordFault.TheVariants as faults
-use Rattle.kr_record.specs.declared.broker_registration_change.Flags.{Flags}
 use Rattle.kr_record.specs.Answers.{Gives}
-use Rattle.kr_record.specs.Reading.{wired, as_record, newest_of, is_newer, layout_at, kind_at, record_at, record_of}
-use Rattle.kr_record.specs.Grammar.{IsLayout, IsRecord}
-use Rattle.kr_record.proofs.LayoutLaws.{registration_law, broker_epoch_law, topic_law, topic_id_law, partition_law, config_law, change_law, feature_law, registration_change_law}
+use Rattle.kr_record.specs.Records.{chosen, of_kind, register_broker, unregister_broker, topic, partition, config, partition_change, fence_broker, unfence_broker, remove_topic, feature_level, broker_registration_change, no_op}
+use Rattle.kr_record.specs.Layout.{RecordLayout, Of, Since, ◌▹◌, Directories, Tagged, Kind, IsSince, IsInVersion, since_at, version_at, is_whole}
+use Rattle.kr_record.specs.Reading.{wired, layout_at, kind_at, served_at, parts_at, record_at, record_of}
+use Rattle.kr_record.specs.Grammar.{IsOfKind, IsLayout, IsRecord}
+use Rattle.kr_record.proofs.LayoutForms.{is_newest}
+
+-- ---- layouts: what is read by one stands for the value, and what stands for a value is read as it
+
+since_law : {X : Type 0} {One : X → List ℕ → Type 0} {read : List ℕ → Read X} (here : Bool) → Law One read → (absent : X) → Law (IsSince here One absent) (since_at here read absent)
+since_law true law absent = law
+since_law {X} {One} {read} false law absent = record {
+  sound = λ bytes fits. sound_done (IsSince false One absent) bytes absent (refl, refl);
+  complete = λ x front rest is. rw (is.0, is.1) refl;
+}
+
+law : {X : Type 0} (s : RecordLayout X) → is_whole s ≡ true → (version : ℕ) → Law (IsInVersion s version) (version_at s version)
+law (Of s) e version = schemas.law s e
+law (Since first absent s) e version = since_law (includes first version) (schemas.law s e) absent
+law (a ▹ b) e version = let h = both (is_whole a) (is_whole b) e in law a h.0 version before law b h.1 version
+law (Directories first a) e version =
+    structure_law (λ p. p.0) (λ x. (x, tt)) (λ p. refl) (λ x. refl)
+    ((schemas.law (Array Int32) refl before law a e version) before since_law (includes first version) (schemas.law (Dropped (Array Uuid)) refl) tt)
+law (Tagged t) e version = fields_law t e version
 
 -- ---- a fault of the wire is one of the record
 
@@ -36,61 +57,59 @@ wired_law law = record {
 
 -- ---- the kinds
 
-module _ {X : Type 0} {Is : X → List ℕ → Type 0} {read : List ℕ → Read X} (law : Law Is read) where
-  kind_sound : (kind : X → Record) (key version : ℕ) (bytes : List ℕ) → IsBytes bytes
-      → ((x : X) (front : List ℕ) → Is x front → IsLayout key version (kind x) front)
-      → Yields (IsLayout key version) bytes (wired (as_record kind (read bytes)))
-  kind_sound kind key version bytes fits step = sound_wired _ bytes _ (sound_last law _ kind bytes fits step)
+-- What holds of the kind of each record: it is found by its key, its layout is read, the newest version is written, the key and
+-- the version take a byte each, and what stands in the record makes it.
+pub record IsChosen (r : Record) (k : Kind) (parts : k.Parts) : Type 0 where
+  pub found : (version : ℕ) (bytes : List ℕ) → layout_at k.key version bytes ≡ kind_at k version bytes
+  pub whole : is_whole k.layout ≡ true
+  pub spelled : is_newest k.layout k.newest ≡ true
+  pub low : (k.key < 128) × (k.newest < 128)
+  pub back : k.record_of parts ≡ r
 
-  kind_complete : (kind : X → Record) (key newest version : ℕ) (x : X) (bytes rest : List ℕ) → version ≤ newest → Is x bytes
-      → (refuse (faults.UnknownVersion key version) when is_newer (Some newest) version else wired (as_record kind (read (bytes ++ rest)))) ≡ Ok (kind x, rest)
-  kind_complete kind key newest version x bytes rest known is =
-      complete_guard _ _ _ _ (le-ltb _ _ known) (ap wired (complete_last law x kind rest bytes is))
+pub is_chosen : (r : Record) → IsChosen r (chosen r).kind (chosen r).parts
+unfolding layout_at chosen
+is_chosen kinds.NoOp = record { found = λ version bytes. refl; whole = refl; spelled = refl; low = (lit< tt, lit< tt); back = refl }
+is_chosen _ = record { found = λ version bytes. refl; whole = refl; spelled = refl; low = (lit< tt, lit< tt); back = refl }
 
-is_key : (key n : ℕ) → eqb key n ≡ true → key ≡ n
-is_key key n e = grind (arith, nat_tests)
+parts_law : (k : Kind) → is_whole k.layout ≡ true → (version : ℕ) → Law (λ x front. (version ≤ k.newest) × IsInVersion k.layout version x front) (parts_at k version)
+unfolding served_at
+parts_law k whole version =
+    let layout = wired_law (law k.layout whole version) in
+    record {
+      sound = λ bytes fits. sound_guard _ bytes (ltb k.newest version) _ _ (λ le. sound_as (IsInVersion k.layout version) _ bytes _ (layout.sound bytes fits) (λ x front is. (ltb-false _ _ le, is)));
+      complete = λ x front rest is. complete_guard _ _ _ _ (le-ltb _ _ is.0) (layout.complete x front rest is.1);
+    }
 
--- a version that isn't newer is one that the kind with the key has
-has : (key n newest version : ℕ) → eqb key n ≡ true → newest_of n ≡ Some newest → is_newer (newest_of key) version ≡ false → (key ≡ n) × (version ≤ newest)
-has key n newest version e of known =
-    let same : key ≡ n = is_key key n e in
-    let at : is_newer (newest_of n) version ≡ false = subst (λ (k : ℕ). is_newer (newest_of k) version ≡ false) same known in
-    (same, ltb-false _ _ (subst (λ (o : Option ℕ). is_newer o version ≡ false) of at))
+same_key : (a b : ℕ) → eqb a b ≡ true → a ≡ b
+same_key a b e = grind (arith, nat_tests)
 
-layout_sound : (key version : ℕ) (bytes : List ℕ) → IsBytes bytes → Yields (IsLayout key version) bytes (layout_at key version bytes)
-unfolding layout_at kind_at
-layout_sound key version bytes fits =
-    sound_guard _ bytes (is_newer (newest_of key) version) _ _ (λ known.
-    sound_if _ bytes (eqb key 0) _ _ (λ e. kind_sound (registration_law version) (λ t. kinds.RegisterBroker t.0 t.1) key version bytes fits (λ t a is. let h = has key 0 1 version e refl known in (h.0, h.1, is))) (λ n0.
-    sound_if _ bytes (eqb key 1) _ _ (λ e. kind_sound broker_epoch_law (λ t. kinds.UnregisterBroker t.0 t.1) key version bytes fits (λ t a is. let h = has key 1 0 version e refl known in (h.0, h.1, is))) (λ n1.
-    sound_if _ bytes (eqb key 2) _ _ (λ e. kind_sound topic_law (λ t. kinds.Topic t.0 t.1) key version bytes fits (λ t a is. let h = has key 2 0 version e refl known in (h.0, h.1, is))) (λ n2.
-    sound_if _ bytes (eqb key 3) _ _ (λ e. kind_sound (partition_law version) (λ t. kinds.Partition t.0 t.1 t.2) key version bytes fits (λ t a is. let h = has key 3 2 version e refl known in (h.0, h.1, is))) (λ n3.
-    sound_if _ bytes (eqb key 4) _ _ (λ e. kind_sound config_law (λ t. kinds.Config t.0 t.1 t.2 t.3) key version bytes fits (λ t a is. let h = has key 4 0 version e refl known in (h.0, h.1, is))) (λ n4.
-    sound_if _ bytes (eqb key 5) _ _ (λ e. kind_sound (change_law version) (λ t. kinds.PartitionChange t.0 t.1 t.2) key version bytes fits (λ t a is. let h = has key 5 2 version e refl known in (h.0, h.1, is))) (λ n5.
-    sound_if _ bytes (eqb key 7) _ _ (λ e. kind_sound broker_epoch_law (λ t. kinds.FenceBroker t.0 t.1) key version bytes fits (λ t a is. let h = has key 7 0 version e refl known in (h.0, h.1, is))) (λ n7.
-    sound_if _ bytes (eqb key 8) _ _ (λ e. kind_sound broker_epoch_law (λ t. kinds.UnfenceBroker t.0 t.1) key version bytes fits (λ t a is. let h = has key 8 0 version e refl known in (h.0, h.1, is))) (λ n8.
-    sound_if _ bytes (eqb key 9) _ _ (λ e. kind_sound topic_id_law (λ t. kinds.RemoveTopic t) key version bytes fits (λ t a is. let h = has key 9 0 version e refl known in (h.0, h.1, is))) (λ n9.
-    sound_if _ bytes (eqb key 12) _ _ (λ e. kind_sound feature_law (λ t. kinds.FeatureLevel t.0 t.1) key version bytes fits (λ t a is. let h = has key 12 0 version e refl known in (h.0, h.1, is))) (λ n12.
-    sound_if _ bytes (eqb key 17) _ _ (λ e. kind_sound (registration_change_law version) (λ t. kinds.BrokerRegistrationChange t.0 t.1 t.2.fenced t.2.stopping) key version bytes fits (λ t a is. let h = has key 17 1 version e refl known in (h.0, h.1, is))) (λ n17.
-    sound_if _ bytes (eqb key 20) _ _ (λ e. kind_sound no_tags_law (λ t. kinds.NoOp) key version bytes fits (λ t a is. let h = has key 20 0 version e refl known in (h.0, h.1, is)))
-    (λ n20 r rest e. absurd cc)))))))))))))
+module _ (key version : ℕ) (bytes : List ℕ) (fits : IsBytes bytes) where
+  abbrev Reads : Result (Record × List ℕ) RecordFault → Type 0
+  Reads read = Yields (IsLayout key version) bytes read
+
+  -- the kind with the key, or others
+  kind_or : (k : Kind) → is_whole k.layout ≡ true → ((x : k.Parts) (front : List ℕ) → IsOfKind (of_kind k x) key version front → IsLayout key version (k.record_of x) front)
+      → (others : Result (Record × List ℕ) RecordFault) → Reads others → Reads (cond (eqb key k.key) (kind_at k version bytes) others)
+  unfolding kind_at
+  kind_or k whole there others more =
+      sound_if (IsLayout key version) bytes (eqb key k.key) (kind_at k version bytes) others
+      (λ e. sound_last (parts_law k whole version) _ k.record_of bytes fits (λ x front is. there x front (same_key key k.key e, is.0, is.1))) (λ e. more)
+
+  layout_sound : Reads (layout_at key version bytes)
+  unfolding layout_at chosen
+  layout_sound =
+      kind_or register_broker refl (λ x front is. is) _ (kind_or unregister_broker refl (λ x front is. is) _ (kind_or topic refl (λ x front is. is) _ (kind_or partition refl (λ x front is. is) _
+      (kind_or config refl (λ x front is. is) _ (kind_or partition_change refl (λ x front is. is) _ (kind_or fence_broker refl (λ x front is. is) _ (kind_or unfence_broker refl (λ x front is. is) _
+      (kind_or remove_topic refl (λ x front is. is) _ (kind_or feature_level refl (λ x front is. is) _ (kind_or broker_registration_change refl (λ x front is. is) _ (kind_or no_op refl (λ x front is. is) _
+      (λ r rest e. absurd cc))))))))))))
 
 layout_complete : (key version : ℕ) (r : Record) (bytes rest : List ℕ) → IsLayout key version r bytes → layout_at key version (bytes ++ rest) ≡ Ok (r, rest)
-unfolding layout_at kind_at
-layout_complete key version (kinds.RegisterBroker broker state) bytes rest is = rw is.0 (kind_complete (registration_law version) (λ t. kinds.RegisterBroker t.0 t.1) 0 1 version (broker, state) bytes rest is.1 is.2)
-layout_complete key version (kinds.UnregisterBroker broker epoch) bytes rest is = rw is.0 (kind_complete broker_epoch_law (λ t. kinds.UnregisterBroker t.0 t.1) 1 0 version (broker, epoch) bytes rest is.1 is.2)
-layout_complete key version (kinds.Topic name id) bytes rest is = rw is.0 (kind_complete topic_law (λ t. kinds.Topic t.0 t.1) 2 0 version (name, id) bytes rest is.1 is.2)
-layout_complete key version (kinds.Partition index topic state) bytes rest is = rw is.0 (kind_complete (partition_law version) (λ t. kinds.Partition t.0 t.1 t.2) 3 2 version (index, topic, state) bytes rest is.1 is.2)
-layout_complete key version (kinds.Config kind name setting value) bytes rest is = rw is.0 (kind_complete config_law (λ t. kinds.Config t.0 t.1 t.2 t.3) 4 0 version (kind, name, setting, value) bytes rest is.1 is.2)
-layout_complete key version (kinds.PartitionChange index topic change) bytes rest is = rw is.0 (kind_complete (change_law version) (λ t. kinds.PartitionChange t.0 t.1 t.2) 5 2 version (index, topic, change) bytes rest is.1 is.2)
-layout_complete key version (kinds.FenceBroker broker epoch) bytes rest is = rw is.0 (kind_complete broker_epoch_law (λ t. kinds.FenceBroker t.0 t.1) 7 0 version (broker, epoch) bytes rest is.1 is.2)
-layout_complete key version (kinds.UnfenceBroker broker epoch) bytes rest is = rw is.0 (kind_complete broker_epoch_law (λ t. kinds.UnfenceBroker t.0 t.1) 8 0 version (broker, epoch) bytes rest is.1 is.2)
-layout_complete key version (kinds.RemoveTopic topic) bytes rest is = rw is.0 (kind_complete topic_id_law (λ t. kinds.RemoveTopic t) 9 0 version topic bytes rest is.1 is.2)
-layout_complete key version (kinds.FeatureLevel name level) bytes rest is = rw is.0 (kind_complete feature_law (λ t. kinds.FeatureLevel t.0 t.1) 12 0 version (name, level) bytes rest is.1 is.2)
-layout_complete key version (kinds.BrokerRegistrationChange broker epoch fenced stopping) bytes rest is =
-    let flags : Flags = record { fenced = fenced; stopping = stopping } in
-    rw is.0 (kind_complete (registration_change_law version) (λ t. kinds.BrokerRegistrationChange t.0 t.1 t.2.fenced t.2.stopping) 17 1 version (broker, epoch, flags) bytes rest is.1 is.2)
-layout_complete key version kinds.NoOp bytes rest is = rw is.0 (kind_complete no_tags_law (λ t. kinds.NoOp) 20 0 version tt bytes rest is.1 is.2)
+unfolding kind_at
+layout_complete key version r bytes rest is =
+    let s = is_chosen r in
+    let k = (chosen r).kind in
+    let front : Record → Result (Record × List ℕ) RecordFault = λ x. Ok (x, rest) in
+    rw (is.0, s.found) (complete_last (parts_law k s.whole version) (chosen r).parts k.record_of rest bytes (is.1, is.2) ∙ ap front s.back)
 
 -- ---- records
 

@@ -1,32 +1,31 @@
 -- How a decoder's answer follows from reading. Want of memory is free.
-use Rattle.std.specs.Prelude.{◌≡◌, ℕ, ◌≤◌, Bool, true, false, List, length, drop, Result, Ok, Err}
+use Rattle.std.specs.Prelude.{◌≡◌, ℕ, Bool, true, false, List, Result, Ok, Err}
 use Rattle.kr_wire.specs.Answers as answers
-use Rattle.kr_wire.specs.Reading.{Read}
 use Rattle.kr_wire.specs.declared.WireFault.{WireFault}
+use Rattle.kr_layout.specs.declared.fault.ReadFault.{ReadFault}
+use Rattle.kr_layout.specs.declared.fault.ReadFault.TheVariants as reads
 use Rattle.kr_record.specs.declared.fault.RecordFault.{RecordFault}
 use Rattle.kr_record.specs.declared.fault.RecordFault.TheVariants as faults
 
--- the fault of a layout, or want of memory
-abbrev pub IsWireFault : {Y : Type 0} → RecordFault → Read Y → Type 0
-IsWireFault (faults.Wire fault) read = read ≡ Err fault
-IsWireFault faults.NoMemory read = Unit {0}
-IsWireFault _ read = ⊥
+-- the fault of a layout as one of a record
+abbrev pub of_read_fault : ReadFault → RecordFault
+of_read_fault (reads.Wire fault) = faults.Wire fault
+of_read_fault reads.NoMemory = faults.NoMemory
 
-abbrev pub ReadsField : {X Y : Type 0} → (X → Y) → Result (X × ℕ) RecordFault → List ℕ → Read Y → Type 0
-ReadsField view (Ok x) bytes read = (read ≡ Ok (view x.0, drop x.1 bytes)) × (x.1 ≤ length bytes)
-ReadsField view (Err e) bytes read = IsWireFault e read
+-- the fault of a field's data, or want of memory
+abbrev pub IsFieldFault : {Y : Type 0} → ReadFault → Result Y WireFault → Type 0
+IsFieldFault (reads.Wire fault) read = read ≡ Err fault
+IsFieldFault reads.NoMemory read = Unit {0}
 
--- the same without a place
-abbrev pub GivesWire : {Y : Type 0} → Result Y RecordFault → Result Y WireFault → Type 0
-GivesWire (Ok x) read = read ≡ Ok x
-GivesWire (Err (faults.Wire fault)) read = read ≡ Err fault
-GivesWire (Err faults.NoMemory) read = Unit {0}
-GivesWire (Err e) read = ⊥
+-- what a field's data give
+abbrev pub GivesField : {Y : Type 0} → Result Y ReadFault → Result Y WireFault → Type 0
+GivesField (Ok x) read = read ≡ Ok x
+GivesField (Err e) read = IsFieldFault e read
 
 -- the same of a value that is changed in place
-abbrev pub Sets : {Y : Type 0} → Result (Unit {0}) RecordFault → Y → Result Y WireFault → Type 0
+abbrev pub Sets : {Y : Type 0} → Result (Unit {0}) ReadFault → Y → Result Y WireFault → Type 0
 Sets (Ok nothing) new read = read ≡ Ok new
-Sets (Err e) new read = GivesWire (Err e) read
+Sets (Err e) new read = IsFieldFault e read
 
 -- want of memory
 abbrev pub is_free : RecordFault → Bool
@@ -39,5 +38,7 @@ IsFault = answers.IsFault is_free
 abbrev pub Gives : {Y : Type 0} → Result Y RecordFault → Result Y RecordFault → Type 0
 Gives = answers.Gives is_free
 
-abbrev pub GivesField : {Y : Type 0} → Result (Y × ℕ) RecordFault → List ℕ → Result (Y × List ℕ) RecordFault → Type 0
-GivesField = answers.GivesAt is_free
+-- the same of what there was to read
+abbrev pub GivesFront : {Y : Type 0} → Result Y RecordFault → List ℕ → Result (Y × List ℕ) RecordFault → Type 0
+GivesFront (Ok x) left read = read ≡ Ok (x, left)
+GivesFront (Err e) left read = IsFault e read

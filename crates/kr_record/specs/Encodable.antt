@@ -1,12 +1,12 @@
 -- The records that have a written form: this project's own limits, from the sizes that 32 bits can hold.
-use Rattle.std.specs.Prelude.{ℕ, ℤ, negsuc, ◌^◌, ◌<◌, ◌≢◌, List, length, Option, Some, All, IfSome}
-use Rattle.kr_defs.specs.declared.broker.Broker.{Broker}
+use Rattle.std.specs.Prelude.{ℤ, ◌^◌, ◌<◌, ◌≢◌, List, length, Some, All, IfSome}
 use Rattle.kr_defs.specs.declared.broker.Endpoint.{Endpoint}
 use Rattle.kr_defs.specs.declared.broker.Range.{Range}
-use Rattle.kr_defs.specs.declared.partition.Partition.{Partition}
-use Rattle.kr_defs.specs.declared.partition.PartitionChange.{PartitionChange}
 use Rattle.kr_defs.specs.declared.record.Record.{Record}
-use Rattle.kr_defs.specs.declared.record.Record.TheVariants as kinds
+use Rattle.kr_wire.specs.Schema.{Schema, Int32, Text, TextOrNull, Array, ◌▸◌, Structure}
+use Rattle.kr_wire.specs.Tables.{Part, Int8OrNone, Int32OrNone, Int32sOrNull, Int32sOrEmpty, Table, NoField, Field}
+use Rattle.kr_record.specs.Layout.{RecordLayout, Of, Since, ◌▹◌, Directories, Tagged}
+use Rattle.kr_record.specs.Records.{chosen, endpoint_layout, range_layout}
 
 -- a text or a list of fewer than 2^31 bytes or elements
 abbrev pub IsShort : {X : Type 0} → List X → Type 0
@@ -16,49 +16,40 @@ IsShort xs = length xs < 2 ^ 31
 abbrev pub FitsField : List ℤ → Type 0
 FitsField ids = length ids < 2 ^ 29
 
-pub record IsShortEndpoint (e : Endpoint) : Type 0 where
-  pub name : IsShort e.name
-  pub host : IsShort e.host
+-- The texts and lists of a value are short.
+abbrev pub AreShort : {X : Type 0} → Schema X → X → Type 0
+AreShort Text t = IsShort t
+AreShort TextOrNull o = IfSome o IsShort
+AreShort (Array Int32) ids = IsShort ids
+AreShort (Array s) xs = IsShort xs × All (AreShort s) xs
+AreShort (a ▸ b) x = AreShort a x.0 × AreShort b x.1
+AreShort (Structure s of fields there back) y = AreShort s (fields y)
+AreShort _ x = Unit {0}
+
+abbrev pub IsShortEndpoint : Endpoint → Type 0
+IsShortEndpoint = AreShort endpoint_layout
 
 abbrev pub IsShortRange : Range → Type 0
-IsShortRange r = IsShort r.name
+IsShortRange = AreShort range_layout
 
-pub record IsShortBroker (b : Broker) : Type 0 where
-  pub endpoints : IsShort b.endpoints
-  pub each_endpoint : All IsShortEndpoint b.endpoints
-  pub features : IsShort b.features
-  pub each_feature : All IsShortRange b.features
-  pub rack : IfSome b.rack IsShort
+-- A number that spells "no change" isn't one to change to.
+abbrev pub IsShortPart : {P : Type 0} → Part P → P → Type 0
+IsShortPart (Int8OrNone default) o = o ≢ Some default
+IsShortPart (Int32OrNone default) o = o ≢ Some default
+IsShortPart Int32sOrNull o = IfSome o FitsField
+IsShortPart Int32sOrEmpty ids = FitsField ids
+IsShortPart _ p = Unit {0}
 
-pub record IsShortPartition (p : Partition) : Type 0 where
-  pub replicas : IsShort p.replicas
-  pub in_sync : IsShort p.in_sync
-  pub removing : IsShort p.removing
-  pub adding : IsShort p.adding
-  pub eligible : FitsField p.eligible
-  pub last_known : FitsField p.last_known
+abbrev pub AreShortParts : {Z : Type 0} → Table Z → Z → Type 0
+AreShortParts NoField z = Unit {0}
+AreShortParts (Field tag first part more) z = IsShortPart part z.0 × AreShortParts more z.1
 
--- The leader -2 and the recovery state -1 spell "no change".
-pub record IsSpelledChange (c : PartitionChange) : Type 0 where
-  pub in_sync : IfSome c.in_sync FitsField
-  pub replicas : IfSome c.replicas FitsField
-  pub removing : IfSome c.removing FitsField
-  pub adding : IfSome c.adding FitsField
-  pub eligible : IfSome c.eligible FitsField
-  pub last_known : IfSome c.last_known FitsField
-  pub leader : c.leader ≢ Some (negsuc 1)
-  pub recovery : c.recovery ≢ Some (negsuc 0)
-
-pub record IsShortConfig (name key : List ℕ) (value : Option (List ℕ)) : Type 0 where
-  pub short_name : IsShort name
-  pub short_key : IsShort key
-  pub short_value : IfSome value IsShort
+abbrev pub HasShort : {X : Type 0} → RecordLayout X → X → Type 0
+HasShort (Of s) = AreShort s
+HasShort (Since first absent s) = AreShort s
+HasShort (a ▹ b) = λ x. HasShort a x.0 × HasShort b x.1
+HasShort (Directories first a) = λ x. IsShort x.0 × HasShort a x.1
+HasShort (Tagged table) = AreShortParts table
 
 abbrev pub IsEncodable : Record → Type 0
-IsEncodable (kinds.RegisterBroker broker state) = IsShortBroker state
-IsEncodable (kinds.Topic name id) = IsShort name
-IsEncodable (kinds.Partition index topic state) = IsShortPartition state
-IsEncodable (kinds.Config kind name key value) = IsShortConfig name key value
-IsEncodable (kinds.PartitionChange index topic change) = IsSpelledChange change
-IsEncodable (kinds.FeatureLevel name level) = IsShort name
-IsEncodable other = Unit {0}
+IsEncodable r = HasShort (chosen r).kind.layout (chosen r).parts

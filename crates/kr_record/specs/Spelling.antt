@@ -1,176 +1,71 @@
--- The bytes that are written for a record: Kafka's metadata record schemas at the newest version that is served.
-use Rattle.std.specs.Prelude.{ℕ, ℤ, pos, List, [], ◌++◌, length, map, Option, Some, None, ◌==◌, if◌then◌else◌}
-use Rattle.std.specs.List.{flat_map}
-use Rattle.std.specs.Option.{option_map}
-use Rattle.std.specs.Int.{w8, w16, w32, w64}
-use Rattle.kr_defs.specs.declared.broker.Broker.{Broker}
-use Rattle.kr_defs.specs.declared.broker.Endpoint.{Endpoint}
-use Rattle.kr_defs.specs.declared.broker.Range.{Range}
-use Rattle.kr_defs.specs.declared.partition.Partition.{Partition}
-use Rattle.kr_defs.specs.declared.partition.PartitionChange.{PartitionChange}
+-- What is written for a value by a layout, in the newest version, and in how many bytes.
+use Rattle.std.specs.Prelude.{ℕ, ℤ, pos, ◌+◌, List, [], ◌∷◌, ◌++◌, map, Option, None}
 use Rattle.kr_defs.specs.declared.record.Record.{Record}
-use Rattle.kr_defs.specs.declared.record.Record.TheVariants as kinds
-use Rattle.kr_record.specs.Grammar.{unless_default}
-use Rattle.kr_wire.specs.Spelling.{uvarint, number, signed, bool, id, text, text_or_null, list, field, tags, tagged}
+use Rattle.kr_defs.specs.Sizes.{text_bytes, text_or_null_bytes, rows_bytes, list_bytes, number_field, number_field_or, ids_field, ids_field_or, tags_bytes}
+use Rattle.kr_wire.specs.Schema as plain
+use Rattle.kr_wire.specs.Schema.{Schema, Int16, Int32, Int64, Uint16, Uuid, Text, TextOrNull, Array, ◌▸◌, Structure}
+use Rattle.kr_wire.specs.Spelling.{uvarint, id, list, tags}
+use Rattle.kr_wire.specs.Tables.{Part, Int8NotZero, Int8OrNone, Int32OrNone, Int32sOrNull, Int32sOrEmpty, UuidsDropped, Table, NoField, Field, ids, written_fields}
+use Rattle.kr_record.specs.Layout.{RecordLayout, Of, Since, ◌▹◌, Directories, Tagged}
+use Rattle.kr_record.specs.Records.{chosen}
 
--- ---- parts
+-- ---- the data of a tagged field
 
-abbrev pub ids : List ℤ → List ℕ
-ids xs = list (signed w32) xs
+abbrev pub data_bytes : {P : Type 0} → Part P → P → Option ℕ
+data_bytes Int8NotZero = number_field 1 (pos 0)
+data_bytes (Int8OrNone default) = number_field_or 1 default
+data_bytes (Int32OrNone default) = number_field_or 4 default
+data_bytes Int32sOrNull = ids_field_or
+data_bytes Int32sOrEmpty = ids_field
+data_bytes UuidsDropped = λ u. None
 
-unfoldable pub two_ids : List ℤ → List ℤ → List ℕ
-two_ids xs ys = ids xs ++ ids ys
+-- ---- tagged fields
 
--- no tagged fields
-unfoldable pub no_tags : List ℕ
-no_tags = tags []
+-- the sizes of their data
+abbrev pub field_sizes : {Z : Type 0} → Table Z → Z → List (Option ℕ)
+field_sizes NoField z = []
+field_sizes (Field tag first part more) z = data_bytes part z.0 ∷ field_sizes more z.1
 
--- a list that is left out where it is empty
-abbrev pub unless_empty : List ℤ → Option (List ℤ)
-unless_empty xs = if length xs == 0 then None else Some xs
-
--- ---- RegisterBroker, version 1 (KIP-631)
-
-unfoldable pub endpoint : Endpoint → List ℕ
-endpoint e = text e.name ++ text e.host ++ number w16 e.port ++ signed w16 e.protocol ++ no_tags
-
-unfoldable pub range : Range → List ℕ
-range r = text r.name ++ signed w16 r.min ++ signed w16 r.max ++ no_tags
-
-unfoldable pub spelled_registration : ℤ → Broker → List ℕ
-spelled_registration broker b =
-    signed w32 broker ++ id b.incarnation ++ signed w64 b.epoch ++ list endpoint b.endpoints ++ list range b.features
-    ++ text_or_null b.rack ++ bool b.fenced ++ bool b.stopping ++ no_tags
-
--- ---- UnregisterBroker, FenceBroker and UnfenceBroker, version 0 (KIP-631)
-
-unfoldable pub broker_epoch : ℤ → ℤ → List ℕ
-broker_epoch broker epoch = signed w32 broker ++ signed w64 epoch ++ no_tags
-
--- ---- Topic and RemoveTopic, version 0 (KIP-516)
-
-unfoldable pub topic : List ℕ → ℕ → List ℕ
-topic name topic_id = text name ++ id topic_id ++ no_tags
-
-unfoldable pub topic_id : ℕ → List ℕ
-topic_id n = id n ++ no_tags
-
--- ---- Partition, version 2 (KIP-631, KIP-858, KIP-966)
+-- ---- layouts
 
 -- one all-zero directory per replica
 abbrev pub no_directories : List ℤ → List ℕ
 no_directories replicas = map (λ r. 0) replicas
 
-abbrev pub partition_fields : Partition → List (ℕ × List ℕ)
-partition_fields p =
-    tagged 0 (option_map (signed w8) (unless_default (pos 0) p.recovery))
-    ++ tagged 1 (option_map ids (unless_empty p.eligible))
-    ++ tagged 2 (option_map ids (unless_empty p.last_known))
+abbrev pub written : {X : Type 0} → RecordLayout X → X → List ℕ
+written (Of s) = plain.written s
+written (Since first absent s) = plain.written s
+written (a ▹ b) = λ x. written a x.0 ++ written b x.1
+written (Directories first a) = λ x. (ids x.0 ++ written a x.1) ++ list id (no_directories x.0)
+written (Tagged table) = λ z. tags (written_fields table z)
 
-unfoldable pub partition_tags : Partition → List ℕ
-partition_tags p = tags (partition_fields p)
+-- how many bytes are written, of the parts that are the same in each version
+abbrev pub plain_bytes : {X : Type 0} → Schema X → X → ℕ
+plain_bytes Int16 n = 2
+plain_bytes Int32 n = 4
+plain_bytes Int64 n = 8
+plain_bytes Uint16 n = 2
+plain_bytes Uuid n = 16
+plain_bytes Text t = text_bytes t
+plain_bytes TextOrNull o = text_or_null_bytes o
+plain_bytes (Array Int32) ids = list_bytes 4 ids
+plain_bytes (Array s) xs = rows_bytes (plain_bytes s) xs
+plain_bytes (a ▸ b) x = plain_bytes a x.0 + plain_bytes b x.1
+plain_bytes (Structure s of fields there back) y = plain_bytes s (fields y)
+plain_bytes _ x = 1
 
--- its place, and its lists of replicas
-unfoldable pub place_and_lists : ℤ → ℕ → Partition → List ℕ
-place_and_lists index topic p = signed w32 index ++ id topic ++ two_ids p.replicas p.in_sync ++ two_ids p.removing p.adding
-
--- its leader and epochs, and what is behind them
-unfoldable pub led : Partition → List ℕ
-led p = signed w32 p.leader ++ signed w32 p.leader_epoch ++ signed w32 p.partition_epoch ++ list id (no_directories p.replicas) ++ partition_tags p
-
-unfoldable pub partition : ℤ → ℕ → Partition → List ℕ
-partition index topic p = place_and_lists index topic p ++ led p
-
--- ---- Config, version 0 (KIP-631)
-
-unfoldable pub config : ℤ → List ℕ → List ℕ → Option (List ℕ) → List ℕ
-config kind name key value = signed w8 kind ++ text name ++ text key ++ text_or_null value ++ no_tags
-
--- ---- PartitionChange, version 2 (KIP-631, KIP-966); directories aren't written
-
-abbrev pub change_fields : PartitionChange → List (ℕ × List ℕ)
-change_fields c =
-    tagged 0 (option_map ids c.in_sync)
-    ++ tagged 1 (option_map (signed w32) c.leader)
-    ++ tagged 2 (option_map ids c.replicas)
-    ++ tagged 3 (option_map ids c.removing)
-    ++ tagged 4 (option_map ids c.adding)
-    ++ tagged 5 (option_map (signed w8) c.recovery)
-    ++ tagged 6 (option_map ids c.eligible)
-    ++ tagged 7 (option_map ids c.last_known)
-
--- the bytes of its first four fields, and of the other four
-unfoldable pub first_changes : PartitionChange → List ℕ
-first_changes c =
-    flat_map field (tagged 0 (option_map ids c.in_sync))
-    ++ flat_map field (tagged 1 (option_map (signed w32) c.leader))
-    ++ flat_map field (tagged 2 (option_map ids c.replicas))
-    ++ flat_map field (tagged 3 (option_map ids c.removing))
-
-unfoldable pub later_changes : PartitionChange → List ℕ
-later_changes c =
-    flat_map field (tagged 4 (option_map ids c.adding))
-    ++ flat_map field (tagged 5 (option_map (signed w8) c.recovery))
-    ++ flat_map field (tagged 6 (option_map ids c.eligible))
-    ++ flat_map field (tagged 7 (option_map ids c.last_known))
-
-unfoldable pub change_tags : PartitionChange → List ℕ
-change_tags c = tags (change_fields c)
-
-unfoldable pub change : ℤ → ℕ → PartitionChange → List ℕ
-change index topic c = signed w32 index ++ id topic ++ change_tags c
-
--- ---- FeatureLevel, version 0 (KIP-584)
-
-unfoldable pub feature : List ℕ → ℤ → List ℕ
-feature name level = text name ++ signed w16 level ++ no_tags
-
--- ---- BrokerRegistrationChange, version 1 (KIP-631, KIP-841)
-
-abbrev pub flags : ℤ → ℤ → List (ℕ × List ℕ)
-flags fenced stopping =
-    tagged 0 (option_map (signed w8) (unless_default (pos 0) fenced))
-    ++ tagged 1 (option_map (signed w8) (unless_default (pos 0) stopping))
-
-unfoldable pub flag_tags : ℤ → ℤ → List ℕ
-flag_tags fenced stopping = tags (flags fenced stopping)
-
-unfoldable pub registration_change : ℤ → ℤ → ℤ → ℤ → List ℕ
-registration_change broker epoch fenced stopping = signed w32 broker ++ signed w64 epoch ++ flag_tags fenced stopping
+abbrev pub written_bytes : {X : Type 0} → RecordLayout X → X → ℕ
+written_bytes (Of s) = plain_bytes s
+written_bytes (Since first absent s) = plain_bytes s
+written_bytes (a ▹ b) = λ x. written_bytes a x.0 + written_bytes b x.1
+written_bytes (Directories first a) = λ x. list_bytes 4 x.0 + written_bytes a x.1 + list_bytes 16 x.0
+written_bytes (Tagged table) = λ z. tags_bytes (field_sizes table z)
 
 -- ---- a record: frame version 1, the kind's key, the version, and the layout
 
 unfoldable pub framed : ℕ → ℕ → List ℕ
 framed key version = uvarint 1 ++ uvarint key ++ uvarint version
 
--- the key of a record's kind, and the version that is written
-abbrev pub kind_of : Record → ℕ × ℕ
-kind_of (kinds.RegisterBroker broker state) = (0, 1)
-kind_of (kinds.UnregisterBroker broker epoch) = (1, 0)
-kind_of (kinds.Topic name topic_id) = (2, 0)
-kind_of (kinds.Partition index topic state) = (3, 2)
-kind_of (kinds.Config kind name key value) = (4, 0)
-kind_of (kinds.PartitionChange index topic c) = (5, 2)
-kind_of (kinds.FenceBroker broker epoch) = (7, 0)
-kind_of (kinds.UnfenceBroker broker epoch) = (8, 0)
-kind_of (kinds.RemoveTopic topic) = (9, 0)
-kind_of (kinds.FeatureLevel name level) = (12, 0)
-kind_of (kinds.BrokerRegistrationChange broker epoch fenced stopping) = (17, 1)
-kind_of kinds.NoOp = (20, 0)
-
-abbrev pub layout_of : Record → List ℕ
-layout_of (kinds.RegisterBroker broker state) = spelled_registration broker state
-layout_of (kinds.UnregisterBroker broker epoch) = broker_epoch broker epoch
-layout_of (kinds.Topic name topic_id) = topic name topic_id
-layout_of (kinds.Partition index topic state) = partition index topic state
-layout_of (kinds.Config kind name key value) = config kind name key value
-layout_of (kinds.PartitionChange index topic c) = change index topic c
-layout_of (kinds.FenceBroker broker epoch) = broker_epoch broker epoch
-layout_of (kinds.UnfenceBroker broker epoch) = broker_epoch broker epoch
-layout_of (kinds.RemoveTopic topic) = topic_id topic
-layout_of (kinds.FeatureLevel name level) = feature name level
-layout_of (kinds.BrokerRegistrationChange broker epoch fenced stopping) = registration_change broker epoch fenced stopping
-layout_of kinds.NoOp = no_tags
-
+-- the key of its kind, the version that is written, and what stands in it
 unfoldable pub record_value : Record → List ℕ
-record_value r = framed (kind_of r).0 (kind_of r).1 ++ layout_of r
+record_value r = framed (chosen r).kind.key (chosen r).kind.newest ++ written (chosen r).kind.layout (chosen r).parts

@@ -1,10 +1,10 @@
 //! Why bytes are no record.
 
 ghost use Rattle.std.specs.Prelude.{◌≡◌};
-ghost use Rattle.kr_record.specs.declared.fault.RecordFault.TheVariants.{NoMemory, Wire};
+ghost use Rattle.kr_record.specs.Answers.{of_read_fault};
 
+use kr_layout::ReadFault;
 use kr_wire::WireFault;
-use std::alloc::{AllocError, AllocFailed};
 use thiserror::Error;
 
 /// The first fault of bytes that stand for no record, or want of memory.
@@ -25,26 +25,13 @@ pub enum RecordFault {
     NoMemory,
 }
 
-impl From<WireFault> for RecordFault {
-    ghost from_gives = { λ f e. e ≡ Wire f };
+impl From<ReadFault> for RecordFault {
+    ghost from_gives = { λ f e. e ≡ of_read_fault f };
 
-    fn from(fault: WireFault) -> RecordFault {
-        RecordFault::Wire(fault)
-    }
-}
-
-impl From<AllocError> for RecordFault {
-    ghost from_gives = { λ _ e. e ≡ NoMemory };
-
-    fn from(_e: AllocError) -> RecordFault {
-        RecordFault::NoMemory
-    }
-}
-
-impl<T: Drop> From<AllocFailed<T>> for RecordFault {
-    ghost from_gives = { λ _ e. e ≡ NoMemory };
-
-    fn from(_e: AllocFailed<T>) -> RecordFault {
-        RecordFault::NoMemory
+    fn from(fault: ReadFault) -> RecordFault {
+        match fault {
+            ReadFault::Wire(fault) => RecordFault::Wire(fault),
+            ReadFault::NoMemory => RecordFault::NoMemory,
+        }
     }
 }

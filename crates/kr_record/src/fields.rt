@@ -1,120 +1,88 @@
 //! Tagged fields to bytes.
 
-ghost use Rattle.std.specs.Prelude.{◌≡◌, ◌≤◌, ◌++◌, pos, length, if◌then◌else◌, OnOk, IfSome};
-ghost use Rattle.std.specs.Int.{w8, w32};
-ghost use Rattle.std.specs.Option.{option_map};
+ghost use Rattle.std.specs.Prelude.{◌≡◌, ℕ, ◌++◌, List, [], length, OnOk, IfOk};
 ghost use Rattle.std.specs.List.{flat_map};
-ghost use Rattle.kr_wire.specs.Spelling.{field, signed, tagged, uvarint};
-ghost use Rattle.kr_record.specs.Encodable.{FitsField};
-ghost use Rattle.kr_record.specs.Grammar.{unless_default};
-ghost use Rattle.kr_record.specs.Spelling;
-ghost use Rattle.kr_record.specs.Spelling.{ids};
+ghost use Rattle.kr_wire.specs.Spelling.{field, tagged, tags};
+ghost use Rattle.kr_wire.specs.Tables.{written_data};
 
-use crate::listed::{Spelled, put_list};
-use kr_defs::Ids;
-use kr_wire::put_tag;
-use std::alloc::AllocError;
+use crate::mine::put;
+use crate::tagged::{FieldData, TaggedPart};
+use crate::tags::Field;
+use kr_base::NoMemory;
+use kr_wire::{put_tag, put_uvarint};
 
-// How many bytes a uvarint takes.
-#[tactic(auto, using(kr_wire::proofs::Lengths::length_uvarint))]
-fn uvarint_len(value: u32) -> u32
-    ensures length { result ≡ length (uvarint value) }
-    ensures small { result ≤ 5 }
-{
-    if value < 128 {
-        1
-    } else if value < 16384 {
-        2
-    } else if value < 2097152 {
-        3
-    } else if value < 268435456 {
-        4
-    } else {
-        5
+/// Tagged fields that are written, in rising order of their tags.
+pub(crate) trait FieldPieces {
+    ghost fields: { Self → List (ℕ × List ℕ) };
+
+    /// How many there are. As many as 2^32 want memory that there isn't.
+    fn count(&self) -> Result<u32, NoMemory>
+        ensures { IfOk result (λ n. n ≡ length (fields self.now)) };
+
+    fn put_fields(&self, out: &mut Vec<u8>) -> Result<(), NoMemory>
+        ensures { OnOk result (out.new.items ≡ out.old.items ++ flat_map field (fields self.now)) };
+}
+
+impl FieldPieces for () {
+    ghost fields = { λ u. [] };
+
+    fn count(&self) -> Result<u32, NoMemory> {
+        Ok(0)
+    }
+
+    fn put_fields(&self, out: &mut Vec<u8>) -> Result<(), NoMemory> {
+        Ok(())
     }
 }
 
-/// One field, where it is there.
-pub(crate) fn one_if(there: bool) -> u32
-    ensures one { result ≡ (if there then 1 else 0) }
-    ensures small { result ≤ 1 }
-{
-    u32::from(there)
+impl<'a, const TAG: u32, const FIRST: u32, P: TaggedPart, F: FieldPieces> FieldPieces
+    for (Field<TAG, FIRST, &'a P>, F) {
+    ghost fields = { λ f. tagged TAG (written_data P.part f.0.now) ++ F.fields f.1 };
+
+    fn count(&self) -> Result<u32, NoMemory> {
+        let behind = self.1.count()?;
+        match self.0.part.data() {
+            None => Ok(behind),
+            Some(_) => behind.checked_add(1).ok_or(NoMemory),
+        }
+    }
+
+    fn put_fields(&self, out: &mut Vec<u8>) -> Result<(), NoMemory> {
+        put_field(out, TAG, self.0.part)?;
+        self.1.put_fields(out)
+    }
 }
 
-/// A list, unless it is empty.
-pub(crate) fn unless_empty(list: &Ids) -> Option<&Ids>
-    ensures { option_map (λ ids. ids.now) result ≡ Spelling.unless_empty list.now }
-{
-    if list.is_empty() { None } else { Some(list) }
+// A field that is never written.
+impl<const TAG: u32, const FIRST: u32, F: FieldPieces> FieldPieces for (Field<TAG, FIRST, ()>, F) {
+    ghost fields = { λ f. F.fields f.1 };
+
+    fn count(&self) -> Result<u32, NoMemory> {
+        self.1.count()
+    }
+
+    fn put_fields(&self, out: &mut Vec<u8>) -> Result<(), NoMemory> {
+        self.1.put_fields(out)
+    }
 }
 
-/// A number, unless it is 0.
-pub(crate) fn unless_zero(number: &i8) -> Option<&i8>
-    ensures { option_map (λ n. n.now) result ≡ unless_default (pos 0) number.now }
+fn put_field<P: TaggedPart>(out: &mut Vec<u8>, tag: u32, part: &P) -> Result<(), NoMemory>
+    ensures { OnOk result (out.new.items ≡ out.old.items ++ flat_map field (tagged tag (written_data P.part part.now))) }
 {
-    if *number == 0 { None } else { Some(number) }
-}
-
-pub(crate) fn put_ids_field(
-    out: &mut Vec<u8>,
-    tag: u32,
-    value: Option<&Ids>,
-) -> Result<(), AllocError>
-    requires { IfSome (option_map (λ ids. ids.now) value) FitsField }
-    ensures { OnOk result (out.new.items ≡ out.old.items ++ flat_map field (tagged tag (option_map ids (option_map (λ ids. ids.now) value.entry)))) }
-{
-    match value {
+    match part.data() {
         None => Ok(()),
-        Some(list) => put_ids_data(out, tag, list),
+        Some(data) => {
+            put_tag(out, tag, data.size()?)?;
+            put(out, data)
+        }
     }
 }
 
-fn put_ids_data(out: &mut Vec<u8>, tag: u32, list: &Ids) -> Result<(), AllocError>
-    requires { FitsField list.now }
-    ensures { OnOk result (out.new.items ≡ out.old.items ++ field (tag, ids list.now)) }
+/// A count, and so many fields.
+pub(crate) fn put_tags<F: FieldPieces>(out: &mut Vec<u8>, fields: &F) -> Result<(), NoMemory>
+    ensures { OnOk result (out.new.items ≡ out.old.items ++ tags (F.fields fields.now)) }
 {
-    let count = list.len() as u32;
-    put_tag(out, tag, uvarint_len(count + 1) + 4 * count)?;
-    put_list(out, list)
-}
-
-pub(crate) fn put_i32_field(
-    out: &mut Vec<u8>,
-    tag: u32,
-    value: Option<&i32>,
-) -> Result<(), AllocError>
-    ensures { OnOk result (out.new.items ≡ out.old.items ++ flat_map field (tagged tag (option_map (signed w32) (option_map (λ n. n.now) value.entry)))) }
-{
-    match value {
-        None => Ok(()),
-        Some(number) => put_i32_data(out, tag, number),
-    }
-}
-
-fn put_i32_data(out: &mut Vec<u8>, tag: u32, number: &i32) -> Result<(), AllocError>
-    ensures { OnOk result (out.new.items ≡ out.old.items ++ field (tag, signed w32 number.now)) }
-{
-    put_tag(out, tag, 4)?;
-    number.put(out)
-}
-
-pub(crate) fn put_i8_field(
-    out: &mut Vec<u8>,
-    tag: u32,
-    value: Option<&i8>,
-) -> Result<(), AllocError>
-    ensures { OnOk result (out.new.items ≡ out.old.items ++ flat_map field (tagged tag (option_map (signed w8) (option_map (λ n. n.now) value.entry)))) }
-{
-    match value {
-        None => Ok(()),
-        Some(number) => put_i8_data(out, tag, number),
-    }
-}
-
-fn put_i8_data(out: &mut Vec<u8>, tag: u32, number: &i8) -> Result<(), AllocError>
-    ensures { OnOk result (out.new.items ≡ out.old.items ++ field (tag, signed w8 number.now)) }
-{
-    put_tag(out, tag, 1)?;
-    number.put(out)
+    let count = fields.count()?;
+    put_uvarint(out, count)?;
+    fields.put_fields(out)
 }

@@ -1,107 +1,137 @@
-//! What a record's types see to: its numbers fit them, and its texts are UTF-8. These functions only look.
+//! What the types of a value see to: its numbers fit them, and its texts are UTF-8. These functions only look.
 
-ghost use Rattle.std.specs.Prelude.{FitsSigned, IsUtf8, IfSome};
-ghost use Rattle.std.specs.Int.{w32};
-ghost use Rattle.kr_record.specs.RecordRanges.{AreInts, IsHeld};
+ghost use Rattle.std.specs.Prelude.{All, FitsSigned, IfSome, IsUtf8, ◌<◌, ◌^◌};
+ghost use Rattle.std.specs.Int.{w16, w32, w64, w8};
 
-use crate::config::config_is_held;
-use crate::partition::partition_is_held;
-use crate::partition_change::change_is_held;
-use crate::register_broker::broker_is_held;
-use kr_defs::{Ids, Record, Text};
+use crate::parts::{Placed, SinceOne};
+use crate::tags::Field;
+use kr_defs::{Rows, Text};
 
-pub(crate) fn text_is_held(text: &Text)
-    ensures { IsUtf8 text.now }
-{
-    let _bytes = text.as_bytes();
+pub(crate) trait Held {
+    ghost held: { Self → Type 0 };
+
+    fn look(&self)
+        ensures { held self.now };
 }
 
-pub(crate) fn optional_text_is_held(text: &Option<Text>)
-    ensures { IfSome text.now IsUtf8 }
-{
-    if let Some(text) = text {
-        text_is_held(text);
+impl Held for () {
+    ghost held = { λ u. Unit {0} };
+
+    fn look(&self) {}
+}
+
+impl Held for bool {
+    ghost held = { λ b. Unit {0} };
+
+    fn look(&self) {}
+}
+
+impl Held for i8 {
+    ghost held = { FitsSigned w8 };
+
+    fn look(&self) {
+        let _number = *self;
     }
 }
 
-fn id_is_held(id: &i32)
-    ensures { FitsSigned w32 id.now }
-{
-    let _id = *id;
-}
+impl Held for i16 {
+    ghost held = { FitsSigned w16 };
 
-pub(crate) fn ids_are_held(ids: &Ids)
-    ensures { AreInts ids.now }
-{
-    let ids = ids.as_slice();
-    for id in ids {
-        id_is_held(id);
+    fn look(&self) {
+        let _number = *self;
     }
 }
 
-pub(crate) fn optional_ids_are_held(ids: &Option<Ids>)
-    ensures { IfSome ids.now AreInts }
-{
-    if let Some(ids) = ids {
-        ids_are_held(ids);
+impl Held for i32 {
+    ghost held = { FitsSigned w32 };
+
+    fn look(&self) {
+        let _number = *self;
     }
 }
 
-/// Each record that is held can stand in bytes.
-pub fn record_is_held(value: &Record)
-    ensures { IsHeld value.now }
-{
-    match value {
-        Record::RegisterBroker { broker, state } => {
-            let _broker = *broker;
-            broker_is_held(state);
+impl Held for i64 {
+    ghost held = { FitsSigned w64 };
+
+    fn look(&self) {
+        let _number = *self;
+    }
+}
+
+impl Held for u128 {
+    ghost held = { λ n. n < 2 ^ 128 };
+
+    fn look(&self) {
+        let _number = *self;
+    }
+}
+
+impl Held for Text {
+    ghost held = { IsUtf8 };
+
+    fn look(&self) {
+        let _bytes = self.as_bytes();
+    }
+}
+
+impl<T: Held> Held for Option<T> {
+    ghost held = { λ o. IfSome o T.held };
+
+    fn look(&self) {
+        if let Some(value) = self {
+            value.look();
         }
-        Record::UnregisterBroker { broker, epoch }
-        | Record::FenceBroker { broker, epoch }
-        | Record::UnfenceBroker { broker, epoch } => {
-            let _numbers = (*broker, *epoch);
+    }
+}
+
+impl<T: Held> Held for Rows<T> {
+    ghost held = { λ xs. All T.held xs };
+
+    fn look(&self) {
+        let rows = self.as_slice();
+        for row in rows {
+            row.look();
         }
-        Record::Topic { name, id } => {
-            let _id = *id;
-            text_is_held(name);
-        }
-        Record::Partition {
-            index,
-            topic,
-            state,
-        } => {
-            let _numbers = (*index, *topic);
-            partition_is_held(state);
-        }
-        Record::Config {
-            kind,
-            name,
-            key,
-            value,
-        } => config_is_held(kind, name, key, value),
-        Record::PartitionChange {
-            index,
-            topic,
-            change,
-        } => {
-            let _numbers = (*index, *topic);
-            change_is_held(change);
-        }
-        Record::RemoveTopic { topic } => {
-            let _topic = *topic;
-        }
-        Record::FeatureLevel { name, level } => {
-            let _level = *level;
-            text_is_held(name);
-        }
-        Record::BrokerRegistrationChange {
-            broker,
-            epoch,
-            fenced,
-            stopping,
-        } => {
-            let _numbers = (*broker, *epoch, *fenced, *stopping);
-        }
-        Record::NoOp => {}
+    }
+}
+
+impl<'a, T: Held> Held for &'a T {
+    ghost held = { λ r. T.held r.now };
+
+    fn look(&self) {
+        T::look(*self);
+    }
+}
+
+impl<A: Held, B: Held> Held for (A, B) {
+    ghost held = { λ p. A.held p.0 × B.held p.1 };
+
+    fn look(&self) {
+        self.0.look();
+        self.1.look();
+    }
+}
+
+impl<F: Held> Held for SinceOne<F> {
+    ghost held = { F.held };
+
+    fn look(&self) {
+        self.flag.look();
+    }
+}
+
+impl<I: Held> Held for Placed<I> {
+    ghost held = { I.held };
+
+    fn look(&self) {
+        self.ids.look();
+    }
+}
+
+impl<const TAG: u32, const FIRST: u32, P: Held> Held for Field<TAG, FIRST, P> {
+    ghost held = { P.held };
+
+    fn look(&self) {
+        self.part.look();
     }
 }

@@ -18,6 +18,7 @@ pub fn records()
 
 /// What is written of a record stands for it, is read as it, has as many bytes as its kind's layout takes, and
 /// has no number in it that isn't a byte.
+#[tactic(auto, using(crate::proofs::RecordForms::laws))]
 pub fn written_records()
     ensures stands { (r : AnyRecord) → IsEncodable r → IsHeld r → IsRecord r (record_value r) }
     ensures again { (r : AnyRecord) → IsEncodable r → IsHeld r → record_of (record_value r) ≡ Ok r }

@@ -1,33 +1,22 @@
-//! Metadata records: decoded and encoded as their grammar says.
+//! Metadata records: decoded and encoded as their layouts say.
 #![tactic(auto)]
 
-mod broker_epoch;
-mod broker_registration_change;
-mod config;
+mod endpoints;
 mod fault;
-mod feature_level;
-mod fence_broker;
 mod fields;
 mod held;
+mod kinds;
 mod laws;
-mod listed;
-mod lists;
-mod no_op;
-mod partition;
-mod partition_change;
+mod mine;
+mod parts;
+mod pieces;
 mod reading;
-mod register_broker;
-mod remove_topic;
 mod tagged;
-mod texts;
-mod topic;
-mod unfence_broker;
-mod unregister_broker;
-mod whole;
+mod tags;
 mod writing;
 
 pub use fault::RecordFault;
-pub use held::record_is_held;
+pub use kinds::record_is_held;
 pub use laws::{records, written_records};
 pub use reading::decode;
 pub use writing::{append, encode};

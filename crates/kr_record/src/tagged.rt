@@ -1,62 +1,207 @@
-//! Tagged fields of anything that has some.
+//! The data of a tagged field.
 
-ghost use Rattle.std.specs.Prelude.{◌≡◌, ◌≤◌, List, ℕ, None, length, drop};
-ghost use Rattle.kr_wire.specs.Reading.{Known, field_of, fields_at, tags_at};
-ghost use Rattle.kr_record.specs.Answers.{ReadsField, Sets};
+ghost use Rattle.std.specs.Prelude.{◌≡◌, ◌≤◌, negsuc, [], length, IfOk};
+ghost use Rattle.std.specs.Option.{option_map, unwrap_or};
+ghost use Rattle.kr_layout.specs.Answers.{Takes};
+ghost use Rattle.kr_wire.specs.Schema.{written};
+ghost use Rattle.kr_wire.specs.Spelling.{uvarint};
+ghost use Rattle.kr_wire.specs.Tables as tables;
+ghost use Rattle.kr_wire.specs.Tables.{Int32OrNone, Int32sOrEmpty, Int32sOrNull, Int8NotZero, Int8OrNone, Part, UuidsDropped, part_at, written_data};
 
-use crate::fault::RecordFault;
-use kr_wire::{read_tag, read_uvarint};
+use crate::mine::Mine;
+use kr_base::NoMemory;
+use kr_defs::{Ids, Rows};
+use kr_layout::{Put, ReadFault, Reader};
 use std::alloc::Global;
 
-/// A value that is read from tagged fields, one after the other.
-pub(crate) trait Tagged: Drop {
-    ghost known: { ℕ → Known Self };
-
-    /// Sets what the field with this tag and these data says. After a fault nothing is said of the value.
-    fn set_field(
-        &mut self,
-        alloc: Global,
-        version: u32,
-        tag: u32,
-        data: &[u8],
-    ) -> Result<(), RecordFault>
-        ensures { Sets result self.new (field_of (known version tag) self.old «data».now) };
+/// The data of a field, as they are written.
+pub(crate) trait FieldData: Put<Mine> {
+    /// How many bytes they take. As many as 2^29 ids want memory that there isn't.
+    fn size(&self) -> Result<u32, NoMemory>
+        ensures { IfOk result (λ n. n ≡ length (written Self.schema self.now)) };
 }
 
-#[tactic(auto, unfolding(kr_wire::specs::Reading::tags_at))]
-pub(crate) fn read_tags<T: Tagged>(
-    alloc: Global,
-    version: u32,
-    bytes: &[u8],
-    at: usize,
-    value: T,
-) -> Result<(T, usize), RecordFault>
-    requires { at ≤ length bytes.now }
-    ensures { ReadsField (λ x. x) result bytes.now (tags_at (T.known version) value (drop at bytes.now)) }
-{
-    let (count, start) = read_uvarint(bytes, at)?;
-    read_fields(alloc, version, bytes, start, count, value)
-}
-
-fn read_fields<T: Tagged>(
-    alloc: Global,
-    version: u32,
-    bytes: &[u8],
-    start: usize,
-    count: u32,
-    value: T,
-) -> Result<(T, usize), RecordFault>
-    requires { start ≤ length bytes.now }
-    ensures { ReadsField (λ x. x) result bytes.now (fields_at (T.known version) count None value (drop start bytes.now)) }
-{
-    let mut value = value;
-    let mut next = start;
-    let mut last = None;
-    for _ in 0..count {
-        let (tag, place) = read_tag(bytes, next, last)?;
-        value.set_field(alloc, version, tag.number, &bytes[place..tag.end])?;
-        next = tag.end;
-        last = Some(tag.number);
+impl FieldData for i8 {
+    #[tactic(auto, using(kr_wire::proofs::Lengths::length_signed_8))]
+    fn size(&self) -> Result<u32, NoMemory> {
+        Ok(1)
     }
-    Ok((value, next))
+}
+
+impl FieldData for i32 {
+    #[tactic(auto, using(kr_wire::proofs::Lengths::length_signed_32))]
+    fn size(&self) -> Result<u32, NoMemory> {
+        Ok(4)
+    }
+}
+
+impl FieldData for Ids {
+    #[tactic(auto, using(crate::proofs::Appends::length_ids))]
+    fn size(&self) -> Result<u32, NoMemory> {
+        if self.len() >= 1 << 29 {
+            return Err(NoMemory);
+        }
+        let count = self.len() as u32;
+        Ok(uvarint_len(count + 1) + 4 * count)
+    }
+}
+
+// How many bytes a uvarint takes.
+#[tactic(auto, using(kr_wire::proofs::Lengths::length_uvarint))]
+fn uvarint_len(value: u32) -> u32
+    ensures length { result ≡ length (uvarint value) }
+    ensures small { result ≤ 5 }
+{
+    if value < 128 {
+        1
+    } else if value < 16384 {
+        2
+    } else if value < 2097152 {
+        3
+    } else if value < 268435456 {
+        4
+    } else {
+        5
+    }
+}
+
+/// A part of a value that stands in a tagged field.
+pub(crate) trait TaggedPart: Drop {
+    type Data: FieldData;
+
+    ghost part: { Part Self };
+
+    /// What it is where the field is absent.
+    fn absent(alloc: Global) -> Self
+        ensures { result ≡ tables.absent part };
+
+    /// What the data give.
+    fn read(from: &mut Reader<'_, Mine>) -> Result<Self, ReadFault>
+        ensures { Takes result from.new (part_at part from.old) };
+
+    /// The data that are written, if any.
+    fn data(&self) -> Option<&Self::Data>
+        ensures { option_map (λ d. written Self.Data.schema d.now) result ≡ written_data part self.now };
+}
+
+impl TaggedPart for i8 {
+    type Data = i8;
+
+    ghost part = { Int8NotZero };
+
+    fn absent(alloc: Global) -> i8 {
+        0
+    }
+
+    fn read(from: &mut Reader<'_, Mine>) -> Result<i8, ReadFault> {
+        from.get()
+    }
+
+    fn data(&self) -> Option<&i8> {
+        if *self == 0 { None } else { Some(self) }
+    }
+}
+
+impl TaggedPart for Option<i8> {
+    type Data = i8;
+
+    ghost part = { Int8OrNone (negsuc 0) };
+
+    fn absent(alloc: Global) -> Option<i8> {
+        None
+    }
+
+    fn read(from: &mut Reader<'_, Mine>) -> Result<Option<i8>, ReadFault> {
+        let number: i8 = from.get()?;
+        Ok(if number == -1 { None } else { Some(number) })
+    }
+
+    fn data(&self) -> Option<&i8> {
+        self.as_ref()
+    }
+}
+
+impl TaggedPart for Option<i32> {
+    type Data = i32;
+
+    ghost part = { Int32OrNone (negsuc 1) };
+
+    fn absent(alloc: Global) -> Option<i32> {
+        None
+    }
+
+    fn read(from: &mut Reader<'_, Mine>) -> Result<Option<i32>, ReadFault> {
+        let number: i32 = from.get()?;
+        Ok(if number == -2 { None } else { Some(number) })
+    }
+
+    fn data(&self) -> Option<&i32> {
+        self.as_ref()
+    }
+}
+
+impl TaggedPart for Option<Ids> {
+    type Data = Ids;
+
+    ghost part = { Int32sOrNull };
+
+    fn absent(alloc: Global) -> Option<Ids> {
+        None
+    }
+
+    fn read(from: &mut Reader<'_, Mine>) -> Result<Option<Ids>, ReadFault> {
+        from.get()
+    }
+
+    fn data(&self) -> Option<&Ids> {
+        self.as_ref()
+    }
+}
+
+impl TaggedPart for Ids {
+    type Data = Ids;
+
+    ghost part = { Int32sOrEmpty };
+
+    fn absent(alloc: Global) -> Ids {
+        Rows::new(alloc)
+    }
+
+    fn read(from: &mut Reader<'_, Mine>) -> Result<Ids, ReadFault> {
+        let ids: Option<Ids> = from.get()?;
+        Ok(or_empty(from.alloc(), ids))
+    }
+
+    fn data(&self) -> Option<&Ids> {
+        if self.is_empty() { None } else { Some(self) }
+    }
+}
+
+impl TaggedPart for () {
+    type Data = i8;
+
+    ghost part = { UuidsDropped };
+
+    fn absent(alloc: Global) -> () {
+        ()
+    }
+
+    fn read(from: &mut Reader<'_, Mine>) -> Result<(), ReadFault> {
+        let _directories: Option<Rows<u128>> = from.get()?;
+        Ok(())
+    }
+
+    fn data(&self) -> Option<&i8> {
+        None
+    }
+}
+
+// The ids, where null means none.
+fn or_empty(alloc: Global, ids: Option<Ids>) -> Ids
+    ensures { result ≡ unwrap_or ids [] }
+{
+    match ids {
+        None => Rows::new(alloc),
+        Some(ids) => ids,
+    }
 }

@@ -4,7 +4,7 @@ ghost use Rattle.std.specs.Prelude.{◌≡◌, ◌<◌, ◌≤◌, min, [], ◌+
 ghost use Rattle.std.specs.Io.KnownBytes.{Consumes, IsAtEnd, Keeps};
 ghost use Rattle.kr_base.specs.Causes.{HasCause};
 
-use kr_base::{Failed, NoMemory, Source};
+use kr_base::{Failed, NoMemory, Source, copy_front};
 use std::alloc::Global;
 use std::marker::Model;
 
@@ -94,15 +94,4 @@ impl Ahead {
         self.advance(count);
         count
     }
-}
-
-// As many bytes as there is room for.
-fn copy_front(from: &[u8], into: &mut [u8]) -> usize
-    ensures count { result ≡ min (length from.now) (length into.old) }
-    ensures len { length into.new ≡ length into.old }
-    ensures copied { take result into.new ≡ take result from.now }
-{
-    let count = from.len().min(into.len());
-    into[..count].copy_from_slice(&from[..count]);
-    count
 }

@@ -23,8 +23,9 @@ use Rattle.kr_defs.specs.Sizes.{uvarint_bytes, text_bytes, text_or_null_bytes, l
 use Rattle.kr_defs.specs.Walk.{walked, of_topic, walk_topic}
 use Rattle.kr_defs.proofs.Changes.{formed_parts}
 use Rattle.kr_defs.proofs.IdLists.{same_id, refutes, refuted, all_at, all_from, has_kept}
+use Rattle.kr_record.specs.Records.{chosen}
 use Rattle.kr_record.specs.Encodable.{IsEncodable, IsShortEndpoint, IsShortRange}
-use Rattle.kr_record.proofs.Lengths.{size}
+use Rattle.kr_record.proofs.RecordForms.{size}
 use Rattle.kr_snapshot.specs.inner.EntryRecords.{feature_record, broker_record, partition_record, config_record}
 use Rattle.kr_snapshot.specs.inner.Writer.{setting_text, IsLight, most_beside, texts, IsSound, MayAdd}
 use Rattle.kr_snapshot.specs.declared.batch_writer.BatchWriter.{BatchWriter}
@@ -114,13 +115,13 @@ endpoints_short : (es : List Endpoint) → sum_by endpoint_text es ≤ 4096 → 
 endpoints_short [] few = tt
 endpoints_short (e ∷ es) few =
     let b = sum_by-cons endpoint_text e es in
-    (record { name = omega (arith, b, few); host = omega (arith, b, few) }, endpoints_short es (omega (arith, b, few)))
+    ((omega (arith, b, few), (omega (arith, b, few), (tt, (tt, tt)))), endpoints_short es (omega (arith, b, few)))
 
 ranges_short : (rs : List Range) → sum_by range_text rs ≤ 4096 → AllByRecursion IsShortRange rs
 ranges_short [] few = tt
 ranges_short (r ∷ rs) few =
     let b = sum_by-cons range_text r rs in
-    (omega (arith, b, few), ranges_short rs (omega (arith, b, few)))
+    ((omega (arith, b, few), (tt, (tt, tt))), ranges_short rs (omega (arith, b, few)))
 
 rack_short : (rack : Option (List ℕ)) → length (unwrap_or rack []) ≤ 4096 → IfSome rack (λ (t : List ℕ). length t < 2 ^ 31)
 rack_short None few = tt
@@ -173,14 +174,14 @@ light : (r : Record) → IsEncodable r → value_bytes r ≤ most_beside + setti
 light r encodable few = record { encodable = encodable; size = (let a = size r encodable in omega (arith, a, few)) }
 
 light_feature : (e : List ℕ × ℤ) → nat_le (length e.0) LONGEST_FEATURE ≡ true → IsLight (feature_record e)
-unfolding value_bytes
+unfolding value_bytes chosen
 light_feature e short =
     let few = leb-true (length e.0) LONGEST_FEATURE short in
     let a = text_few e.0 in
-    light (feature_record e) (omega (arith, few)) (omega (arith, few, a))
+    light (feature_record e) (omega (arith, few), (tt, tt)) (omega (arith, few, a))
 
 light_broker : (e : ℤ × Broker) → is_small_registration e.1 ≡ true → IsLight (broker_record e)
-unfolding value_bytes
+unfolding value_bytes chosen
 light_broker e small =
     let b = e.1 in
     let p = and_parts (nat_le (length b.endpoints) MOST_ENDPOINTS && nat_le (length b.features) MOST_RANGES) (nat_le (registration_text b) MOST_REGISTRATION_TEXT) small in
@@ -194,24 +195,20 @@ light_broker e small =
     let i = number_few (length b.endpoints + 1) in
     let j = number_few (length b.features + 1) in
     light (broker_record e)
-    (record {
-      endpoints = omega (arith, few_endpoints);
-      each_endpoint = All-from_recursion IsShortEndpoint b.endpoints (endpoints_short b.endpoints (omega (arith, little)));
-      features = omega (arith, few_ranges);
-      each_feature = All-from_recursion IsShortRange b.features (ranges_short b.features (omega (arith, little)));
-      rack = rack_short b.rack (omega (arith, little));
-    })
+    (let endpoints = All-from_recursion IsShortEndpoint b.endpoints (endpoints_short b.endpoints (omega (arith, little))) in
+    let features = All-from_recursion IsShortRange b.features (ranges_short b.features (omega (arith, little))) in
+    (tt, (tt, (tt, ((omega (arith, few_endpoints), endpoints), ((omega (arith, few_ranges), features), (rack_short b.rack (omega (arith, little)), (tt, (tt, tt)))))))))
     (omega (arith, few_endpoints, few_ranges, little, f, g, h, i, j))
 
 light_topic : (name : List ℕ) (id : ℕ) → is_topic_name name ≡ true → IsLight (kinds.Topic name id)
-unfolding value_bytes
+unfolding value_bytes chosen
 light_topic name id is =
     let few = leb-true (length name) LONGEST_TOPIC (name_short name is) in
     let a = text_few name in
-    light (kinds.Topic name id) (omega (arith, few)) (omega (arith, few, a))
+    light (kinds.Topic name id) (omega (arith, few), (tt, tt)) (omega (arith, few, a))
 
 light_partition : (e : (ℕ × ℤ) × Partition) → is_well_formed e.1 ≡ true → IsLight (partition_record e)
-unfolding value_bytes
+unfolding value_bytes chosen
 light_partition e formed =
     let p = e.1 in
     let f = formed_parts p formed in
@@ -231,24 +228,20 @@ light_partition e formed =
     let i = ids_few p.last_known in
     let tags = tags_few (number_field 1 (pos 0) p.recovery) (ids_field p.eligible) (ids_field p.last_known) in
     light (partition_record e)
-    (record {
-      replicas = omega (arith, most);
-      in_sync = omega (arith, most, in_sync);
-      removing = (let m = moves.1 in omega (arith, most, m));
-      adding = (let m = moves.0 in omega (arith, most, m));
-      eligible = omega (arith, most, eligible);
-      last_known = omega (arith, most, last);
-    })
+    (let replicas : length p.replicas < 2 ^ 31 = omega (arith, most) in
+    let removing : length p.removing < 2 ^ 31 = (let m = moves.1 in omega (arith, most, m)) in
+    let adding : length p.adding < 2 ^ 31 = (let m = moves.0 in omega (arith, most, m)) in
+    (tt, (tt, ((replicas, (omega (arith, most, in_sync), (removing, (adding, (tt, (tt, tt)))))), (tt, (omega (arith, most, eligible), (omega (arith, most, last), tt)))))))
     (let m = moves.0 in let n = moves.1 in omega (arith, most, in_sync, eligible, last, m, n, a, b, c, d, g, h, i, tags))
 
 light_config : (e : ConfigKey × List ℕ) → length e.0.name + length e.0.key + length e.1 ≤ MOST_CONFIG_TEXT → IsLight (config_record e)
-unfolding value_bytes
+unfolding value_bytes chosen
 light_config e little =
     let a = text_few e.0.name in
     let b = text_few e.0.key in
     let c = text_few e.1 in
     light (config_record e)
-    (record { short_name = omega (arith, little); short_key = omega (arith, little); short_value = omega (arith, little) })
+    (tt, (omega (arith, little), (omega (arith, little), (omega (arith, little), tt))))
     (omega (arith, a, b, c))
 
 -- ---- sections, and the text in each

@@ -1,20 +1,17 @@
 -- What follows of bytes that stand for something: how many bytes are written for it, that it is short where they are few,
 -- and that its numbers and texts are those of their types where each is below 256.
-use Rattle.std.proofs.Common.{ℕ, ◌+◌, ◌*◌, ◌^◌, ◌<◌, ◌≤◌, Bool, List, [], ◌∷◌, length, sym, subst, ap, arith, lit≤}
-use Rattle.std.specs.Prelude.{ℤ, All, FitsSigned, IsUtf8}
-use Rattle.std.specs.List.{sum_by}
+use Rattle.std.proofs.Common.{ℕ, ◌+◌, ◌*◌, ◌^◌, ◌<◌, ◌≤◌, Bool, List, length, sym, subst, ap, arith, lit≤}
+use Rattle.std.specs.Prelude.{ℤ, FitsSigned}
 use Rattle.std.specs.Int.{Width, w8, w16, w32, w64, w128, byte_len}
-use Rattle.std.proofs.lemmas.List.Elements.{All-nil, All-cons}
-use Rattle.std.proofs.lemmas.List.Sums.{sum_by-cons}
 use Rattle.std.proofs.Math.Facts.{sfits_to_z}
 use mir.Val.{bits, Fits}
 use Rattle.kr_wire.specs.Laws.{IsBytes}
-use Rattle.kr_wire.specs.Grammar.{◌⌢◌, Exactly, IsUvarint, IsNumber, IsSigned, IsBool, IsId, IsText, Each, IsList, NoTags}
+use Rattle.kr_wire.specs.Grammar.{◌⌢◌, Exactly, IsUvarint, IsNumber, IsSigned, IsBool, IsId, NoTags}
 use Rattle.kr_wire.proofs.ReadingLaws.{IsBytes-before, IsBytes-behind}
-use Rattle.kr_wire.proofs.Lengths.{uvarint_bytes, uvarint_least, some_uvarint, both_lengths, each_long}
+use Rattle.kr_wire.proofs.Lengths.{some_uvarint, both_lengths}
 
--- At most n bytes are written for eight: a structure has at most eight tagged fields that are written, and each of them is
--- no longer than all that were read.
+-- At most n bytes for eight: a structure has at most eight tagged fields that are written, and each of them is no longer than
+-- all that were read.
 pub record Follows (Is : List ℕ → Type 0) (n : ℕ) (Short Held : Type 0) : Type 0 where
   pub cost : (bytes : List ℕ) → Is bytes → n ≤ 8 * length bytes
   pub short : (bytes : List ℕ) → Is bytes → length bytes < 2 ^ 31 → Short
@@ -24,9 +21,9 @@ pub free : {Is : List ℕ → Type 0} → Follows Is 0 (Unit {0}) (Unit {0})
 free = record { cost = λ bytes is. omega arith; short = λ bytes is few. tt; held = λ bytes is fit. tt }
 
 -- one part after the other
-infixr 6 ◌and◌
-pub ◌and◌ : {First Second : List ℕ → Type 0} {m n : ℕ} {P Q R S : Type 0} → Follows First m P Q → Follows Second n R S → Follows (First ⌢ Second) (m + n) (P × R) (Q × S)
-first and second = record {
+infixr 6 ◌beside◌
+pub ◌beside◌ : {First Second : List ℕ → Type 0} {m n : ℕ} {P Q R S : Type 0} → Follows First m P Q → Follows Second n R S → Follows (First ⌢ Second) (m + n) (P × R) (Q × S)
+first beside second = record {
   cost = λ bytes is. omega (arith, first.cost is.left is.first, second.cost is.right is.second, both_lengths bytes is);
   short = λ bytes is few.
       let left : length is.left < 2 ^ 31 = omega (arith, both_lengths bytes is) in
@@ -58,7 +55,7 @@ number w n few = record {
   held = λ bytes is fit. number_below w n bytes few is fit;
 }
 
-signed : (w : Width) (n : ℤ) → bits w ≤ 64 → Follows (IsSigned w n) (8 * byte_len w) (Unit {0}) (FitsSigned w n)
+pub signed : (w : Width) (n : ℤ) → bits w ≤ 64 → Follows (IsSigned w n) (8 * byte_len w) (Unit {0}) (FitsSigned w n)
 signed w n few = record {
   cost = λ bytes is. omega (arith, is.spelled.long);
   short = λ bytes is few. tt;
@@ -67,27 +64,12 @@ signed w n few = record {
       subst (FitsSigned w) (sym is.signed) (sfits_to_z below);
 }
 
-pub int8 : (n : ℤ) → Follows (IsSigned w8 n) 8 (Unit {0}) (FitsSigned w8 n)
-int8 n = signed w8 n (lit≤ tt)
-
-pub int16 : (n : ℤ) → Follows (IsSigned w16 n) 16 (Unit {0}) (FitsSigned w16 n)
-int16 n = signed w16 n (lit≤ tt)
-
-pub int32 : (n : ℤ) → Follows (IsSigned w32 n) 32 (Unit {0}) (FitsSigned w32 n)
-int32 n = signed w32 n (lit≤ tt)
-
-pub int64 : (n : ℤ) → Follows (IsSigned w64 n) 64 (Unit {0}) (FitsSigned w64 n)
-int64 n = signed w64 n (lit≤ tt)
-
-pub uint16 : (n : ℕ) → Follows (IsNumber w16 n) 16 (Unit {0}) (n < 2 ^ 16)
-uint16 n = number w16 n (lit≤ tt)
-
 pub id : (n : ℕ) → Follows (IsId n) 128 (Unit {0}) (n < 2 ^ 128)
 id n = record {
-  cost = λ bytes is. (number w64 is.high (lit≤ tt) and number w64 is.low (lit≤ tt)).cost bytes is.spelled;
+  cost = λ bytes is. (number w64 is.high (lit≤ tt) beside number w64 is.low (lit≤ tt)).cost bytes is.spelled;
   short = λ bytes is few. tt;
   held = λ bytes is fit.
-      let p = (number w64 is.high (lit≤ tt) and number w64 is.low (lit≤ tt)).held bytes is.spelled fit in
+      let p = (number w64 is.high (lit≤ tt) beside number w64 is.low (lit≤ tt)).held bytes is.spelled fit in
       omega (arith, is.whole, p.0, p.1);
 }
 
@@ -98,56 +80,11 @@ pub uvarint : (n : ℕ) → Follows (IsUvarint n) 8 (Unit {0}) (Unit {0})
 uvarint n = record { cost = λ bytes is. omega (arith, some_uvarint n bytes is); short = λ bytes is few. tt; held = λ bytes is fit. tt }
 
 pub no_tags : Follows NoTags 8 (Unit {0}) (Unit {0})
-no_tags = record { cost = λ bytes is. (uvarint (length is.fields) and free).cost bytes is.spelled; short = λ bytes is few. tt; held = λ bytes is fit. tt }
-
--- ---- texts and lists
+no_tags = record { cost = λ bytes is. (uvarint (length is.fields) beside free).cost bytes is.spelled; short = λ bytes is few. tt; held = λ bytes is fit. tt }
 
 pub exactly : (piece : List ℕ) → Follows (Exactly piece) (8 * length piece) (length piece < 2 ^ 31) (IsBytes piece)
 exactly piece = record {
   cost = λ bytes is. omega (arith, ap (λ (l : List ℕ). length l) is);
   short = λ bytes is few. subst (λ (l : List ℕ). length l < 2 ^ 31) is few;
   held = λ bytes is fit. subst IsBytes is fit;
-}
-
--- a count before what it counts
-sized : (m : ℕ) {Is : List ℕ → Type 0} {n : ℕ} {P Q : Type 0} → Follows Is n P Q → Follows (IsUvarint m ⌢ Is) (uvarint_bytes m + n) P Q
-sized m follows = record {
-  cost = λ bytes is. let same : m ≤ m = omega arith in omega (arith, uvarint_least m m is.left same is.first, follows.cost is.right is.second, both_lengths bytes is);
-  short = λ bytes is few. ((free and follows).short bytes is few).1;
-  held = λ bytes is fit. ((free and follows).held bytes is fit).1;
-}
-
-pub text : (t : List ℕ) → Follows (IsText t) (uvarint_bytes (length t + 1) + length t) (length t < 2 ^ 31) (IsUtf8 t)
-text t = record {
-  cost = λ bytes is. omega (arith, (sized (length t + 1) (exactly t)).cost bytes is.spelled);
-  short = λ bytes is few. (sized (length t + 1) (exactly t)).short bytes is.spelled few;
-  held = λ bytes is fit. is.utf8;
-}
-
-module _ {X : Type 0} {One : X → List ℕ → Type 0} {size : X → ℕ} {P Q : X → Type 0} (each : (x : X) → Follows (One x) (size x) (P x) (Q x)) where
-  elements : (xs : List X) → Follows (Each One xs) (sum_by size xs) (All P xs) (All Q xs)
-  elements [] = then free (omega arith) (λ p. All-nil P) (λ q. All-nil Q)
-  elements (x ∷ xs) = then (each x and elements xs) (omega (arith, sum_by-cons size x xs)) (λ p. All-cons P x xs p.0 p.1) (λ q. All-cons Q x xs q.0 q.1)
-
-  -- of which each takes a byte or more
-  pub list : ((x : X) → 1 ≤ size x) → (xs : List X) → Follows (IsList One xs) (uvarint_bytes (length xs + 1) + sum_by size xs) ((length xs < 2 ^ 31) × All P xs) (All Q xs)
-  list some xs =
-      let follows = sized (length xs + 1) (elements xs) in
-      let long : (x : X) (bytes : List ℕ) → One x bytes → 1 ≤ length bytes = λ x bytes is. omega (arith, some x, (each x).cost bytes is) in
-      record {
-        cost = follows.cost;
-        short = λ bytes is few. (omega (arith, each_long 1 long xs is.right is.second, both_lengths bytes is), follows.short bytes is few);
-        held = follows.held;
-      }
-
-int32_long : (n : ℤ) (bytes : List ℕ) → IsSigned w32 n bytes → 4 ≤ length bytes
-int32_long n bytes is = omega (arith, (int32 n).cost bytes is)
-
-pub int32s : (xs : List ℤ) → Follows (IsList (IsSigned w32) xs) (8 * (uvarint_bytes (length xs + 1) + 4 * length xs)) (length xs < 2 ^ 29) (All (FitsSigned w32) xs)
-int32s xs = record {
-  cost = λ bytes is.
-      let same : length xs + 1 ≤ length xs + 1 = omega arith in
-      omega (arith, uvarint_least (length xs + 1) (length xs + 1) is.left same is.first, each_long 4 int32_long xs is.right is.second, both_lengths bytes is);
-  short = λ bytes is few. omega (arith, each_long 4 int32_long xs is.right is.second, both_lengths bytes is);
-  held = λ bytes is fit. (sized (length xs + 1) (elements int32 xs)).held bytes is fit;
 }

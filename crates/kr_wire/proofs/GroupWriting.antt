@@ -19,24 +19,20 @@ pub two_groups : (room n : ℕ) → 1 ≤ room → 128 ≤ n → n < 16384 → (
 two_groups zero n some big small = absurd (omega arith)
 two_groups (suc room) n some big small = sym (group_first room n big ∙ ap (λ (g : List ℕ). (128 + n % 128) ∷ g) (group_last room (n / 128) (inr (omega arith))))
 
-pub writes_one : (bytes : List ℕ) (len room rest : ℕ) (whole : List ℕ) → len < length bytes → len < room → 128 ≤ rest
-    → take len bytes ++ groups (room - len) rest ≡ whole
-    → take (len + 1) (slice_set bytes len (128 + rest % 128)) ++ groups (room - (len + 1)) (rest / 128) ≡ whole
-writes_one bytes len room rest whole in_bytes in_room big so_far =
-    let e : room - len ≡ suc (room - (len + 1)) = omega arith in
-    let first : groups (room - len) rest ≡ (128 + rest % 128) ∷ groups (room - (len + 1)) (rest / 128) = rw e (group_first (room - (len + 1)) rest big) in
-    rw (take_more_set bytes len (128 + rest % 128) in_bytes, append_assoc) (ap (λ (g : List ℕ). take len bytes ++ g) (sym first) ∙ so_far)
+-- a number pushed behind some bytes, group by group
+pub pushes_one : (so_far : List ℕ) (left rest : ℕ) (whole : List ℕ) → 0 < left → 128 ≤ rest → so_far ++ groups left rest ≡ whole
+    → so_far ++ (128 + rest % 128) ∷ [] ++ groups (left - 1) (rest / 128) ≡ whole
+pushes_one so_far left rest whole some big is =
+    let e : left ≡ suc (left - 1) = omega arith in
+    let first : groups left rest ≡ (128 + rest % 128) ∷ groups (left - 1) (rest / 128) = ap (λ (n : ℕ). groups n rest) e ∙ group_first (left - 1) rest big in
+    append_assoc so_far ((128 + rest % 128) ∷ []) (groups (left - 1) (rest / 128)) ∙ (ap (λ (g : List ℕ). so_far ++ g) (sym first) ∙ is)
 
-pub writes_last : (bytes : List ℕ) (len room rest : ℕ) (whole : List ℕ) → len < length bytes → (room - len ≡ 0) ⊎ (rest < 128)
-    → take len bytes ++ groups (room - len) rest ≡ whole
-    → take (len + 1) (slice_set bytes len rest) ≡ whole
-writes_last bytes len room rest whole in_bytes last so_far =
-    rw (take_more_set bytes len rest in_bytes) (ap (λ (g : List ℕ). take len bytes ++ g) (sym (group_last (room - len) rest last)) ∙ so_far)
+pub pushes_last : (so_far : List ℕ) (left rest : ℕ) (whole : List ℕ) → (left ≡ 0) ⊎ (rest < 128) → so_far ++ groups left rest ≡ whole → so_far ++ rest ∷ [] ≡ whole
+pushes_last so_far left rest whole last is = ap (λ (g : List ℕ). so_far ++ g) (sym (group_last left rest last)) ∙ is
 
--- the number that is left is smaller by a group
-pub fewer : (len room rest : ℕ) → len < room → rest < 128 ^ (room - len + 1) → rest / 128 < 128 ^ (room - (len + 1) + 1)
-fewer len room rest lt fits =
-    let e : room - len + 1 ≡ suc (room - (len + 1) + 1) = omega arith in
-    let fits' : rest < 128 ^ suc (room - (len + 1) + 1) = rw e at fits in
-    let p = pow-succ' 128 (room - (len + 1) + 1) in
+pub smaller : (left rest : ℕ) → 0 < left → rest < 128 ^ (left + 1) → rest / 128 < 128 ^ (left - 1 + 1)
+smaller left rest some fits =
+    let e : left + 1 ≡ suc (left - 1 + 1) = omega arith in
+    let fits' : rest < 128 ^ suc (left - 1 + 1) = rw e at fits in
+    let p = pow-succ' 128 (left - 1 + 1) in
     omega (arith, p)

@@ -79,7 +79,7 @@ long (Dropped s) x bytes is = long s is.value bytes is.spelled
 long (Constant c s) x bytes is = long s c bytes is
 long (Structure s of fields there back) x bytes is = long s (fields x) bytes is
 
-not_empty : {X : Type 0} (s : Schema X) (x : X) (bytes : List ℕ) → Is s x bytes → 0 < length bytes
+pub not_empty : {X : Type 0} (s : Schema X) (x : X) (bytes : List ℕ) → Is s x bytes → 0 < length bytes
 not_empty s x bytes is = let a = some s in let b = long s x bytes is in omega arith
 
 -- ---- what is read stands for the value, and what stands for a value is read as it

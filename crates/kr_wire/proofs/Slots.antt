@@ -23,28 +23,12 @@ whole_ok (Err BadTag) x e = absurd cc
 whole_ok (Err BadText) x e = absurd cc
 whole_ok (Err BadNull) x e = absurd cc
 
--- ---- an if-chain over the tag
-
 abbrev pub Opens : {X : Type 0} → Option (X → List ℕ → Result X WireFault) → List ℕ → Type 0
 Opens {X} known d = (before : X) → (after : X) × (field_of known before d ≡ Ok after)
-
-pub opens_none : {X : Type 0} (d : List ℕ) → Opens {X = X} None d
-opens_none d before = (before, refl)
-
-pub opens_if : {X : Type 0} (b : Bool) (r s : Option (X → List ℕ → Result X WireFault)) (d : List ℕ) → (b ≡ true → Opens r d) → (b ≡ false → Opens s d) → Opens (cond b r s) d
-opens_if true r s d if_so if_not = if_so refl
-opens_if false r s d if_so if_not = if_not refl
 
 -- what a field leaves of the value
 abbrev pub Keeps : {X V : Type 0} → (X → V) → Option (X → List ℕ → Result X WireFault) → Type 0
 Keeps {X} get known = (before after : X) (d : List ℕ) → field_of known before d ≡ Ok after → get after ≡ get before
-
-pub keeps_none : {X V : Type 0} (get : X → V) → Keeps get None
-keeps_none get before after d e = ap get (sym (is_ok _ _ e))
-
-pub keeps_if : {X V : Type 0} (get : X → V) (b : Bool) (r s : Option (X → List ℕ → Result X WireFault)) → (b ≡ true → Keeps get r) → (b ≡ false → Keeps get s) → Keeps get (cond b r s)
-keeps_if get true r s if_so if_not = if_so refl
-keeps_if get false r s if_so if_not = if_not refl
 
 -- ---- one part of the value
 

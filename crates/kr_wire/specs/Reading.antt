@@ -148,11 +148,6 @@ field_of (Some read) before bytes = read before bytes
 abbrev pub field_as : {X V : Type 0} → (List ℕ → Read V) → (X → V → X) → X → List ℕ → Result X WireFault
 field_as read put before bytes = whole_field (read bytes) >>= λ v. Ok (put before v)
 
--- the fields of a table, by tag
-abbrev pub known_in : {X : Type 0} → List (ℕ × (X → List ℕ → Result X WireFault)) → Known X
-known_in [] tag = None
-known_in (e ∷ table) tag = cond (tag == e.0) (Some e.1) (known_in table tag)
-
 -- the tag isn't above the last one
 abbrev pub is_falling : Option ℕ → ℕ → Bool
 is_falling None tag = false

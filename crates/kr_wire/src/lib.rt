@@ -4,10 +4,12 @@
 //! behind it, or the first fault. Writing appends to a vector, or leaves it as it was.
 #![tactic(auto)]
 
+mod few_bytes;
 pub mod laws;
 mod reading;
 mod writing;
 
+pub use few_bytes::FewBytes;
 pub use reading::{
     Span, Tag, piece, read_bool, read_count, read_count_or_null, read_i8, read_i16, read_i32,
     read_i64, read_id, read_str, read_str_or_null, read_tag, read_text, read_text_or_null,

@@ -7,26 +7,8 @@ ghost use Rattle.kr_wire.specs.Grammar;
 ghost use Rattle.kr_wire.specs.Spelling;
 ghost use Rattle.kr_wire.specs.Spelling.{bool, groups, id, null, number, signed, tag, text, text_or_null, uvarint, varint32, varint64};
 
+use crate::FewBytes;
 use std::alloc::AllocError;
-
-// The groups of a number, in the first bytes of the array, and how many they are.
-fn groups_of(value: u64, room: usize) -> ([u8; 10], usize)
-    requires few { room ≤ 9 }
-    requires fits { value < 128 ^ (room + 1) }
-    ensures count { result.1 ≤ 10 }
-    ensures groups { take result.1 result.0 ≡ groups room value }
-{
-    let mut bytes = [0; 10];
-    let mut len = 0;
-    let mut rest = value;
-    while len < room && rest >= 128 {
-        bytes[len] = 128 + (rest % 128) as u8;
-        rest /= 128;
-        len += 1;
-    }
-    bytes[len] = rest as u8;
-    (bytes, len + 1)
-}
 
 // A number in groups of seven bits, with room for so many before the last.
 fn put_groups(out: &mut Vec<u8>, value: u64, room: usize) -> Result<(), AllocError>
@@ -62,8 +44,9 @@ fn put_many_groups(out: &mut Vec<u8>, value: u64, room: usize) -> Result<(), All
     ensures ok { OnOk result (out.new.items ≡ out.old.items ++ groups room value) }
     ensures err { OnErr result (out.new.items ≡ out.old.items) }
 {
-    let (bytes, len) = groups_of(value, room);
-    out.extend_from_slice(&bytes[..len])
+    let mut bytes = FewBytes::new();
+    bytes.push_groups(value, room);
+    bytes.put(out)
 }
 
 /// A number in groups of seven bits, the low groups first, in the fewest bytes.
@@ -195,9 +178,10 @@ pub fn put_id(out: &mut Vec<u8>, value: u128) -> Result<(), AllocError>
     ensures ok { OnOk result (out.new.items ≡ out.old.items ++ id value) }
     ensures err { OnErr result (out.new.items ≡ out.old.items) }
 {
-    let high = (value >> 64) as u64;
-    let low = (value % (1 << 64)) as u64;
-    put_both(out, &high.to_be_bytes(), &low.to_be_bytes())
+    let mut bytes = [0; 16];
+    bytes[..8].copy_from_slice(&((value >> 64) as u64).to_be_bytes());
+    bytes[8..].copy_from_slice(&((value % (1 << 64)) as u64).to_be_bytes());
+    out.extend_from_slice(&bytes)
 }
 
 /// A text behind its length plus one.
@@ -251,10 +235,8 @@ pub fn put_tag(out: &mut Vec<u8>, number: u32, size: u32) -> Result<(), AllocErr
     ensures ok { OnOk result (out.new.items ≡ out.old.items ++ tag number size) }
     ensures err { OnErr result (out.new.items ≡ out.old.items) }
 {
-    if number < 128 && size < 128 {
-        return out.extend_from_slice(&[number as u8, size as u8]);
-    }
-    let (number, number_len) = groups_of(u64::from(number), 4);
-    let (size, size_len) = groups_of(u64::from(size), 4);
-    put_both(out, &number[..number_len], &size[..size_len])
+    let mut bytes = FewBytes::new();
+    bytes.push_uvarint(number);
+    bytes.push_uvarint(size);
+    bytes.put(out)
 }

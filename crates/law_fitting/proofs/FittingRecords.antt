@@ -18,7 +18,7 @@ use Rattle.kr_defs.specs.ImageLaws.{as_items}
 use Rattle.kr_defs.specs.Sizes as sizes
 use Rattle.kr_defs.proofs.Tests.{both}
 use Rattle.kr_record.specs.Encodable.{IsEncodable}
-use Rattle.kr_record.proofs.Lengths.{size}
+use Rattle.kr_record.proofs.RecordForms.{size}
 use Rattle.kr_batch.specs.BatchBytes.{IsWritable, item_value, values_size}
 use Rattle.kr_calls.specs.Deciding.{apply_records}
 use Rattle.kr_calls.specs.Decide.{work_of}

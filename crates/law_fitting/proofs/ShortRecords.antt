@@ -22,6 +22,7 @@ use Rattle.kr_defs.specs.Sizes.{uvarint_bytes, text_bytes, text_or_null_bytes, l
 use Rattle.kr_defs.proofs.Changes.{formed_parts}
 use Rattle.kr_defs.proofs.IdLists.{all_at}
 use Rattle.kr_defs.proofs.Tests.{gives_done, gives_found, gives_refuse, not_false}
+use Rattle.kr_record.specs.Records.{chosen}
 use Rattle.kr_record.specs.Encodable.{FitsField, IsEncodable, IsShort, IsShortEndpoint, IsShortRange}
 
 -- the most bytes of a request
@@ -104,7 +105,7 @@ endpoints_short : (es : List Endpoint) → IsFew (sum_by endpoint_bytes es) → 
 endpoints_short [] few = tt
 endpoints_short (e ∷ es) few =
     let parts = in_endpoint (text_bytes e.name) (text_bytes e.host) (sum_by endpoint_bytes es) (sum_by endpoint_bytes (e ∷ es)) (sum_by-cons endpoint_bytes e es) few in
-    (record { name = text_short e.name parts.0; host = text_short e.host parts.1 }, endpoints_short es parts.2)
+    ((text_short e.name parts.0, (text_short e.host parts.1, (tt, (tt, tt)))), endpoints_short es parts.2)
 
 endpoints_fewer : (es : List Endpoint) → length es ≤ sum_by endpoint_bytes es
 endpoints_fewer [] = omega arith
@@ -114,7 +115,7 @@ ranges_short : (rs : List Range) → IsFew (sum_by range_bytes rs) → AllByRecu
 ranges_short [] few = tt
 ranges_short (r ∷ rs) few =
     let parts = in_range (text_bytes r.name) (sum_by range_bytes rs) (sum_by range_bytes (r ∷ rs)) (sum_by-cons range_bytes r rs) few in
-    (text_short r.name parts.0, ranges_short rs parts.1)
+    ((text_short r.name parts.0, (tt, (tt, tt))), ranges_short rs parts.1)
 
 ranges_fewer : (rs : List Range) → length rs ≤ sum_by range_bytes rs
 ranges_fewer [] = omega arith
@@ -159,20 +160,18 @@ meaning_told image after index topic c is =
 -- ---- records
 
 pub written : (image after : Image) (r : Record) → apply_record image r ≡ Ok after → IsFew (value_bytes r) → IsEncodable r
-unfolding value_bytes apply_record
+unfolding value_bytes apply_record chosen
 written image after (kinds.RegisterBroker broker state) meaning few =
     let parts = in_registration (rows_bytes endpoint_bytes state.endpoints) (rows_bytes range_bytes state.features) (text_or_null_bytes state.rack) few in
     let endpoints = second (uvarint_bytes (length state.endpoints + 1)) (sum_by endpoint_bytes state.endpoints) parts.0 in
     let features = second (uvarint_bytes (length state.features + 1)) (sum_by range_bytes state.features) parts.1 in
-    record {
-      endpoints = below (length state.endpoints) (sum_by endpoint_bytes state.endpoints) (endpoints_fewer state.endpoints) endpoints;
-      each_endpoint = All-from_recursion IsShortEndpoint state.endpoints (endpoints_short state.endpoints endpoints);
-      features = below (length state.features) (sum_by range_bytes state.features) (ranges_fewer state.features) features;
-      each_feature = All-from_recursion IsShortRange state.features (ranges_short state.features features);
-      rack = text_or_null_short state.rack parts.2;
-    }
-written image after (kinds.UnregisterBroker broker epoch) meaning few = tt
-written image after (kinds.Topic name id) meaning few = text_short name (in_text (text_bytes name) few)
+    let few_endpoints = below (length state.endpoints) (sum_by endpoint_bytes state.endpoints) (endpoints_fewer state.endpoints) endpoints in
+    let each_endpoint = All-from_recursion IsShortEndpoint state.endpoints (endpoints_short state.endpoints endpoints) in
+    let few_features = below (length state.features) (sum_by range_bytes state.features) (ranges_fewer state.features) features in
+    let each_feature = All-from_recursion IsShortRange state.features (ranges_short state.features features) in
+    (tt, (tt, (tt, ((few_endpoints, each_endpoint), ((few_features, each_feature), (text_or_null_short state.rack parts.2, (tt, (tt, tt))))))))
+written image after (kinds.UnregisterBroker broker epoch) meaning few = (tt, (tt, tt))
+written image after (kinds.Topic name id) meaning few = (text_short name (in_text (text_bytes name) few), (tt, tt))
 written image after (kinds.Partition index topic state) meaning few =
     let fields = number_field 1 (pos 0) state.recovery ∷ ids_field state.eligible ∷ ids_field state.last_known ∷ [] in
     let parts = in_partition (list_bytes 4 state.replicas) (list_bytes 4 state.in_sync) (list_bytes 4 state.removing) (list_bytes 4 state.adding) (list_bytes 16 state.replicas) (tags_bytes fields) few in
@@ -180,17 +179,14 @@ written image after (kinds.Partition index topic state) meaning few =
     let one = fields_few (number_field 1 (pos 0) state.recovery) (ids_field state.eligible ∷ ids_field state.last_known ∷ []) all in
     let two = fields_few (ids_field state.eligible) (ids_field state.last_known ∷ []) one.1 in
     let three = fields_few (ids_field state.last_known) [] two.1 in
-    record {
-      replicas = ids_short state.replicas parts.0;
-      in_sync = ids_short state.in_sync parts.1;
-      removing = ids_short state.removing parts.2;
-      adding = ids_short state.adding parts.3;
-      eligible = field_fits state.eligible two.0;
-      last_known = field_fits state.last_known three.0;
-    }
+    let replicas = ids_short state.replicas parts.0 in
+    let in_sync = ids_short state.in_sync parts.1 in
+    let removing = ids_short state.removing parts.2 in
+    let adding = ids_short state.adding parts.3 in
+    (tt, (tt, ((replicas, (in_sync, (removing, (adding, (tt, (tt, tt)))))), (tt, (field_fits state.eligible two.0, (field_fits state.last_known three.0, tt))))))
 written image after (kinds.Config kind name key value) meaning few =
     let parts = in_config (text_bytes name) (text_bytes key) (text_or_null_bytes value) few in
-    record { short_name = text_short name parts.0; short_key = text_short key parts.1; short_value = text_or_null_short value parts.2 }
+    (tt, (text_short name parts.0, (text_short key parts.1, (text_or_null_short value parts.2, tt))))
 written image after (kinds.PartitionChange index topic change) meaning few =
     let a = ids_field_or change.in_sync in
     let b = number_field_or 4 (negsuc 1) change.leader in
@@ -211,19 +207,16 @@ written image after (kinds.PartitionChange index topic change) meaning few =
     let in_g = fields_few g (h ∷ []) in_f.1 in
     let in_h = fields_few h [] in_g.1 in
     let told = meaning_told image after index topic change meaning in
-    record {
-      in_sync = field_or_fits change.in_sync in_a.0;
-      replicas = field_or_fits change.replicas in_c.0;
-      removing = field_or_fits change.removing in_d.0;
-      adding = field_or_fits change.adding in_e.0;
-      eligible = field_or_fits change.eligible in_g.0;
-      last_known = field_or_fits change.last_known in_h.0;
-      leader = told.leader;
-      recovery = told.recovery;
-    }
-written image after (kinds.FenceBroker broker epoch) meaning few = tt
-written image after (kinds.UnfenceBroker broker epoch) meaning few = tt
-written image after (kinds.RemoveTopic topic) meaning few = tt
-written image after (kinds.FeatureLevel name level) meaning few = text_short name (in_feature (text_bytes name) few)
-written image after (kinds.BrokerRegistrationChange broker epoch fenced stopping) meaning few = tt
+    let first = field_or_fits change.in_sync in_a.0 in
+    let third = field_or_fits change.replicas in_c.0 in
+    let fourth = field_or_fits change.removing in_d.0 in
+    let fifth = field_or_fits change.adding in_e.0 in
+    let seventh = field_or_fits change.eligible in_g.0 in
+    let eighth = field_or_fits change.last_known in_h.0 in
+    (tt, (tt, (first, (told.leader, (third, (fourth, (fifth, (told.recovery, (seventh, (eighth, (tt, tt)))))))))))
+written image after (kinds.FenceBroker broker epoch) meaning few = (tt, (tt, tt))
+written image after (kinds.UnfenceBroker broker epoch) meaning few = (tt, (tt, tt))
+written image after (kinds.RemoveTopic topic) meaning few = (tt, tt)
+written image after (kinds.FeatureLevel name level) meaning few = (text_short name (in_feature (text_bytes name) few), (tt, tt))
+written image after (kinds.BrokerRegistrationChange broker epoch fenced stopping) meaning few = (tt, (tt, (tt, (tt, tt))))
 written image after kinds.NoOp meaning few = tt

@@ -1,3 +1,1 @@
-pub mod Layouts
-pub mod Parts
 pub mod ReadAgain

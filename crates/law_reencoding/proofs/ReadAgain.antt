@@ -1,5 +1,5 @@
 -- A batch that stands in fewer than 2^27 bytes, and has records, can be written again.
-use Rattle.std.proofs.Common.{◌≡◌, ℕ, ℤ, pos, ◌+◌, ◌*◌, ◌^◌, ◌<◌, ◌≤◌, Bool, true, false, List, [], ◌∷◌, length, arith}
+use Rattle.std.proofs.Common.{◌≡◌, ℕ, ℤ, pos, ◌+◌, ◌*◌, ◌^◌, ◌<◌, ◌≤◌, Bool, true, false, List, [], ◌∷◌, length, arith, lit≤}
 use Rattle.std.specs.Prelude.{FitsSigned}
 use Rattle.std.specs.List.{All, sum_by}
 use Rattle.std.specs.Int.{w32, w64}
@@ -12,11 +12,10 @@ use Rattle.kr_defs.specs.declared.record.Item.TheVariants as items
 use Rattle.kr_defs.specs.Sizes as sizes
 use Rattle.kr_wire.specs.Laws.{IsBytes}
 use Rattle.kr_wire.specs.Grammar.{◌⌢◌, Exactly}
-use Rattle.kr_wire.proofs.FormLaws.{Follows, free, ◌and◌, then, int32, int64, exactly}
-use Rattle.law_reencoding.proofs.Layouts.{short, held, cost}
+use Rattle.kr_wire.proofs.FormLaws.{Follows, free, ◌beside◌, then, signed, exactly}
 use Rattle.kr_record.specs.Encodable.{IsEncodable}
 use Rattle.kr_record.specs.RecordRanges.{IsHeld}
-use Rattle.kr_record.proofs.Lengths.{size}
+use Rattle.kr_record.proofs.RecordForms.{short, held, cost, size}
 use Rattle.kr_batch.specs.declared.Batch.{Batch}
 use Rattle.kr_batch.specs.Grammar.{IsSized, IsBody, IsEntry, AreEntries, IsStart, IsSum, IsCount, IsFixed, AreItems, IsBatch}
 use Rattle.kr_batch.specs.BatchBytes.{IsWritable, IsHeldItem, IsRegular, item_value, values_size}
@@ -25,10 +24,10 @@ use Rattle.law_reencoding.specs.Items.{HasRecords}
 -- ---- a record's value
 
 sized : (piece : List ℕ) → Follows (IsSized piece) (8 * length piece) (length piece < 2 ^ 31) (IsBytes piece)
-sized piece = then (free and exactly piece) (omega arith) (λ p. p.1) (λ q. q.1)
+sized piece = then (free beside exactly piece) (omega arith) (λ p. p.1) (λ q. q.1)
 
 body : (delta : ℤ) (value : List ℕ) → Follows (IsBody (delta, value)) (8 * length value) (length value < 2 ^ 31) (IsBytes value)
-body delta value = then (free and free and free and free and sized value and free) (omega arith) (λ p. p.1.1.1.1.0) (λ q. q.1.1.1.1.0)
+body delta value = then (free beside free beside free beside free beside sized value beside free) (omega arith) (λ p. p.1.1.1.1.0) (λ q. q.1.1.1.1.0)
 
 entry : (at : ℕ) (r : Record) → Follows (IsEntry at r) (sizes.value_bytes r) (IsEncodable r) (IsHeld r)
 entry at r = record {
@@ -48,7 +47,7 @@ item_bytes items.Control = 0
 entries : (all : List Item) (at : ℕ) → Follows (AreEntries at all) (sum_by item_bytes all) (All IsWritable all) (All IsHeldItem all)
 entries [] at = then free (omega arith) (λ p. All-nil IsWritable) (λ q. All-nil IsHeldItem)
 entries (items.Record r ∷ others) at =
-    then (entry at r and entries others (at + 1)) (omega (arith, sum_by-cons item_bytes (items.Record r) others))
+    then (entry at r beside entries others (at + 1)) (omega (arith, sum_by-cons item_bytes (items.Record r) others))
     (λ p. All-cons IsWritable (items.Record r) others p.0 p.1)
     (λ q. All-cons IsHeldItem (items.Record r) others q.0 q.1)
 entries (items.Control ∷ others) at = record { cost = λ bytes is. absurd is; short = λ bytes is few. absurd is; held = λ bytes is fit. absurd is }
@@ -79,10 +78,10 @@ items_stand false all bytes some has is = is
 -- ---- the fields before the records
 
 start : (base : ℤ) (behind : List ℕ) → Follows (IsStart (base, length behind) ⌢ Exactly behind) (8 * length behind) (Unit {0}) (FitsSigned w64 base × IsBytes behind)
-start base behind = then ((int64 base and free) and exactly behind) (omega arith) (λ p. tt) (λ q. (q.0.0, q.1))
+start base behind = then ((signed w64 base (lit≤ tt) beside free) beside exactly behind) (omega arith) (λ p. tt) (λ q. (q.0.0, q.1))
 
 sum : (epoch : ℤ) (crc : ℕ) (checked : List ℕ) → Follows (IsSum (epoch, crc) ⌢ Exactly checked) (8 * length checked) (Unit {0}) (FitsSigned w32 epoch × IsBytes checked)
-sum epoch crc checked = then ((int32 epoch and free) and exactly checked) (omega arith) (λ p. tt) (λ q. (q.0.0, q.1))
+sum epoch crc checked = then ((signed w32 epoch (lit≤ tt) beside free) beside exactly checked) (omega arith) (λ p. tt) (λ q. (q.0.0, q.1))
 
 count : (n : ℕ) → Follows (IsCount n) 0 (Unit {0}) ((1 ≤ n) × (n ≤ MOST_RECORDS))
 count n = record { cost = λ bytes is. omega arith; short = λ bytes is few. tt; held = λ bytes is fit. (is.some, is.few) }
@@ -90,7 +89,7 @@ count n = record { cost = λ bytes is. omega arith; short = λ bytes is few. tt;
 fixed : (control : Bool) (time : ℤ) (n : ℕ) (records : List ℕ)
     → Follows (IsFixed (control, time, n) ⌢ Exactly records) (8 * length records) (Unit {0}) ((FitsSigned w64 time × ((1 ≤ n) × (n ≤ MOST_RECORDS))) × IsBytes records)
 fixed control time n records =
-    then ((free and free and int64 time and free and count n) and exactly records) (omega arith) (λ p. tt) (λ q. ((q.0.1.1.0, q.0.1.1.1.1), q.1))
+    then ((free beside free beside signed w64 time (lit≤ tt) beside free beside count n) beside exactly records) (omega arith) (λ p. tt) (λ q. ((q.0.1.1.0, q.0.1.1.1.1), q.1))
 
 -- ---- a batch
 

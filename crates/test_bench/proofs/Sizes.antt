@@ -10,9 +10,10 @@ use Rattle.kr_wire.specs.Spelling.{uvarint, signed, id}
 use Rattle.kr_defs.specs.declared.record.Record.{Record}
 use Rattle.kr_defs.specs.declared.record.Item.{Item}
 use Rattle.kr_defs.specs.declared.record.Item.TheVariants as items
+use Rattle.kr_record.specs.Records.{chosen}
 use Rattle.kr_record.specs.Encodable.{IsEncodable}
 use Rattle.kr_record.specs.RecordRanges.{IsHeld}
-use Rattle.kr_record.specs.Spelling.{record_value, framed, change, change_tags, config, no_tags}
+use Rattle.kr_record.specs.Spelling.{record_value, framed}
 use Rattle.kr_batch.specs.declared.Batch.{Batch}
 use Rattle.kr_batch.specs.BatchBytes.{item_value, values_size, IsHeldItem, IsRegular, IsWritable}
 use Rattle.test_bench.specs.Batches.{batch_of_kind}
@@ -56,22 +57,25 @@ module _ (at : ℤ → Record) (size : ℕ) where
 -- ---- changes
 
 change_length : (index : ℤ) → length (record_value (numbered_change index)) ≡ 41
-unfolding record_value framed change change_tags uvarint signed id
+unfolding record_value chosen framed uvarint signed id
 change_length index = refl
 
 change_writable : (index : ℤ) → IsEncodable (numbered_change index)
+unfolding chosen
 change_writable index = search rules
 
 change_held : (n : ℕ) → n < 10000 → IsHeld (numbered_change (pos n))
+unfolding chosen
 change_held n lt = search (rules, lt)
 
 -- ---- settings
 
 setting_length : (index : ℤ) → length (record_value (setting_at index)) ≡ 35
-unfolding record_value framed config no_tags uvarint signed id
+unfolding record_value chosen framed uvarint signed id
 setting_length index = refl
 
 setting_writable : (index : ℤ) → IsEncodable (setting_at index)
+unfolding chosen
 setting_writable index = search (rules, arith)
 
 orders : IsUtf8 (codes "orders")
@@ -87,12 +91,8 @@ unfolding is_utf8 chars encode
 week = IsUtf8-from_is_utf8 (codes "604800000") refl
 
 setting_held : (n : ℕ) → n < 10000 → IsHeld (setting_at (pos n))
-setting_held n lt = record {
-  held_kind = search rules;
-  held_name = orders;
-  held_key = retention;
-  held_value = week;
-}
+unfolding chosen
+setting_held n lt = (search rules, (orders, (retention, (week, tt))))
 
 -- ---- both
 

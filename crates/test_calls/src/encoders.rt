@@ -4,6 +4,7 @@ use kr_base::NoMemory;
 use kr_defs::Record;
 
 #[test]
+#[tactic(auto, unfolding(kr_record::specs::Records::chosen))]
 fn a_record_behind_a_byte(rt: HostRuntime) -> Result<(), NoMemory> {
     let mut out = vec![in rt.alloc(); 0xAB]?;
     kr_record::encode(&Record::NoOp, &mut out)?;

@@ -1,5 +1,4 @@
-use Rattle.kr_record.proofs.RecordForms.{stands}
-use Rattle.law_reencoding.proofs.Layouts.{short, held, cost}
+use Rattle.kr_record.proofs.RecordForms.{stands, short, held, cost}
 use Rattle.law_reencoding.proofs.records.records_again.Goals as goal
 
 pub returns-clause-short : goal.returns-clause-short

@@ -1,5 +1,0 @@
-use Rattle.kr_record.proofs.RecordWriting.{and_last, and_same, field_32}
-use Rattle.kr_record.proofs.fields.put_i32_data.Goals as goal
-
-pub returns : goal.returns
-returns c = and_same _ _ _ _ _ (field_32 c.args.tag c.args.number.now) (and_last _ _ _ _ _ _ c.in_ok-put_tag.ensures.ok c.put.ensures)
