@@ -35,7 +35,7 @@ macro_rules! each_kind {
                 };
             1, 0: { Record::UnregisterBroker { broker, epoch } } = { (broker, (epoch, ())) };
             2, 0: { Record::Topic { name, id } } = { (name, (id, ())) };
-            3, 2: { Record::Partition { index, topic, state } }
+            3, 2 by read_partition: { Record::Partition { index, topic, state } }
                 where state {
                     Partition {
                         replicas, in_sync, removing, adding, leader, leader_epoch, partition_epoch,
@@ -51,7 +51,7 @@ macro_rules! each_kind {
                 };
             4, 0: { Record::Config { kind, name, key, value } }
                 = { (kind, (name, (key, (value, ())))) };
-            5, 2: { Record::PartitionChange { index, topic, change } }
+            5, 2 by read_partition_change: { Record::PartitionChange { index, topic, change } }
                 where change {
                     PartitionChange {
                         in_sync, leader, replicas, removing, adding, recovery, eligible, last_known,
@@ -83,30 +83,27 @@ macro_rules! tags {
     };
 }
 
-// Reading a record of the kind with the key: the kinds before it are left out.
 macro_rules! reading {
-    ((0, $from:ident, $version:ident) 0, $($kind:tt)*) => { made!($from, $version, 0, $($kind)*) };
-    ((1, $from:ident, $version:ident) 1, $($kind:tt)*) => { made!($from, $version, 1, $($kind)*) };
-    ((2, $from:ident, $version:ident) 2, $($kind:tt)*) => { made!($from, $version, 2, $($kind)*) };
-    ((4, $from:ident, $version:ident) 4, $($kind:tt)*) => { made!($from, $version, 4, $($kind)*) };
-    ((7, $from:ident, $version:ident) 7, $($kind:tt)*) => { made!($from, $version, 7, $($kind)*) };
-    ((8, $from:ident, $version:ident) 8, $($kind:tt)*) => { made!($from, $version, 8, $($kind)*) };
-    ((9, $from:ident, $version:ident) 9, $($kind:tt)*) => { made!($from, $version, 9, $($kind)*) };
-    ((12, $from:ident, $version:ident) 12, $($kind:tt)*) => { made!($from, $version, 12, $($kind)*) };
-    ((17, $from:ident, $version:ident) 17, $($kind:tt)*) => { made!($from, $version, 17, $($kind)*) };
-    ((20, $from:ident, $version:ident) 20, $($kind:tt)*) => { made!($from, $version, 20, $($kind)*) };
     (
-        $values:tt $number:literal, $newest:literal: {$($record:tt)*}
-            $(where $own:ident {$($structure:tt)*})? = {$($parts:tt)*}; $($others:tt)*
+        ($from:ident, $key:ident, $version:ident)
+        $($number:literal, $newest:literal $(by $read:ident)?: {$($record:tt)*}
+            $(where $own:ident {$($structure:tt)*})? = {$($parts:tt)*};)*
     ) => {
-        reading!($values $($others)*)
+        match $key {
+            $($number => made!(
+                ($from, $version) $(by $read)? $number, $newest {$($record)*} {$($parts)*}
+                    $($own {$($structure)*})?
+            ),)*
+            _ => Err(RecordFault::UnknownKey { key: $key }),
+        }
     };
 }
 
 macro_rules! made {
+    (($from:ident, $version:ident) by $read:ident $($kind:tt)*) => { $read($from, $version) };
     (
-        $from:ident, $version:ident, $number:literal, $newest:literal: {$($record:tt)*}
-            $(where $own:ident {$($structure:tt)*})? = {$($parts:tt)*}; $($others:tt)*
+        ($from:ident, $version:ident) $number:literal, $newest:literal {$($record:tt)*} {$($parts:tt)*}
+            $($own:ident {$($structure:tt)*})?
     ) => {{
         let $($parts)* = read_version($from, $number, $version, $newest)?;
         $(let $own = $($structure)*;)?
@@ -117,7 +114,7 @@ macro_rules! made {
 macro_rules! writing {
     (
         ($value:ident, $out:ident)
-        $($number:literal, $newest:literal: {$($record:tt)*}
+        $($number:literal, $newest:literal $(by $read:ident)?: {$($record:tt)*}
             $(where $own:ident {$($structure:tt)*})? = {$($parts:tt)*};)*
     ) => {
         match $value {
@@ -132,7 +129,7 @@ macro_rules! writing {
 macro_rules! looking {
     (
         ($value:ident)
-        $($number:literal, $newest:literal: {$($record:tt)*}
+        $($number:literal, $newest:literal $(by $read:ident)?: {$($record:tt)*}
             $(where $own:ident {$($structure:tt)*})? = {$($parts:tt)*};)*
     ) => {
         match $value {
@@ -145,7 +142,7 @@ macro_rules! looking {
 }
 
 /// The record of the kind with the key.
-#[tactic(auto, unfolding(crate::specs::Reading::layout_at))]
+#[tactic(auto, unfolding(crate::specs::Reading::layout_at, crate::specs::Reading::kind_at))]
 #[inline(always)]
 pub(crate) fn read_kind(
     from: &mut Reader<'_, Mine>,
@@ -154,45 +151,7 @@ pub(crate) fn read_kind(
 ) -> Result<Record, RecordFault>
     ensures { GivesFront result from.new (layout_at key version from.old) }
 {
-    match key {
-        0 => read_register_broker(from, version),
-        1 => read_unregister_broker(from, version),
-        2 => read_topic(from, version),
-        3 => read_partition(from, version),
-        4 => read_config(from, version),
-        5 => read_partition_change(from, version),
-        7 => read_fence_broker(from, version),
-        8 => read_unfence_broker(from, version),
-        9 => read_remove_topic(from, version),
-        12 => read_feature_level(from, version),
-        17 => read_broker_registration_change(from, version),
-        20 => read_no_op(from, version),
-        _ => Err(RecordFault::UnknownKey { key }),
-    }
-}
-
-#[tactic(auto, unfolding(crate::specs::Reading::kind_at))]
-#[inline(always)]
-fn read_register_broker(from: &mut Reader<'_, Mine>, version: u32) -> Result<Record, RecordFault>
-    ensures { GivesFront result from.new (kind_at kinds.register_broker version from.old) }
-{
-    each_kind!(reading(0, from, version))
-}
-
-#[tactic(auto, unfolding(crate::specs::Reading::kind_at))]
-#[inline(always)]
-fn read_unregister_broker(from: &mut Reader<'_, Mine>, version: u32) -> Result<Record, RecordFault>
-    ensures { GivesFront result from.new (kind_at kinds.unregister_broker version from.old) }
-{
-    each_kind!(reading(1, from, version))
-}
-
-#[tactic(auto, unfolding(crate::specs::Reading::kind_at))]
-#[inline(always)]
-fn read_topic(from: &mut Reader<'_, Mine>, version: u32) -> Result<Record, RecordFault>
-    ensures { GivesFront result from.new (kind_at kinds.topic version from.old) }
-{
-    each_kind!(reading(2, from, version))
+    each_kind!(reading(from, key, version))
 }
 
 type PartitionParts = (
@@ -249,14 +208,6 @@ fn partition_of(parts: PartitionParts) -> Record
         topic,
         state,
     }
-}
-
-#[tactic(auto, unfolding(crate::specs::Reading::kind_at))]
-#[inline(always)]
-fn read_config(from: &mut Reader<'_, Mine>, version: u32) -> Result<Record, RecordFault>
-    ensures { GivesFront result from.new (kind_at kinds.config version from.old) }
-{
-    each_kind!(reading(4, from, version))
 }
 
 #[tactic(auto, unfolding(crate::specs::Reading::kind_at))]
@@ -320,57 +271,6 @@ fn change_of(parts: ChangeParts) -> PartitionChange
         eligible,
         last_known,
     }
-}
-
-#[tactic(auto, unfolding(crate::specs::Reading::kind_at))]
-#[inline(always)]
-fn read_fence_broker(from: &mut Reader<'_, Mine>, version: u32) -> Result<Record, RecordFault>
-    ensures { GivesFront result from.new (kind_at kinds.fence_broker version from.old) }
-{
-    each_kind!(reading(7, from, version))
-}
-
-#[tactic(auto, unfolding(crate::specs::Reading::kind_at))]
-#[inline(always)]
-fn read_unfence_broker(from: &mut Reader<'_, Mine>, version: u32) -> Result<Record, RecordFault>
-    ensures { GivesFront result from.new (kind_at kinds.unfence_broker version from.old) }
-{
-    each_kind!(reading(8, from, version))
-}
-
-#[tactic(auto, unfolding(crate::specs::Reading::kind_at))]
-#[inline(always)]
-fn read_remove_topic(from: &mut Reader<'_, Mine>, version: u32) -> Result<Record, RecordFault>
-    ensures { GivesFront result from.new (kind_at kinds.remove_topic version from.old) }
-{
-    each_kind!(reading(9, from, version))
-}
-
-#[tactic(auto, unfolding(crate::specs::Reading::kind_at))]
-#[inline(always)]
-fn read_feature_level(from: &mut Reader<'_, Mine>, version: u32) -> Result<Record, RecordFault>
-    ensures { GivesFront result from.new (kind_at kinds.feature_level version from.old) }
-{
-    each_kind!(reading(12, from, version))
-}
-
-#[tactic(auto, unfolding(crate::specs::Reading::kind_at))]
-#[inline(always)]
-fn read_broker_registration_change(
-    from: &mut Reader<'_, Mine>,
-    version: u32,
-) -> Result<Record, RecordFault>
-    ensures { GivesFront result from.new (kind_at kinds.broker_registration_change version from.old) }
-{
-    each_kind!(reading(17, from, version))
-}
-
-#[tactic(auto, unfolding(crate::specs::Reading::kind_at))]
-#[inline(always)]
-fn read_no_op(from: &mut Reader<'_, Mine>, version: u32) -> Result<Record, RecordFault>
-    ensures { GivesFront result from.new (kind_at kinds.no_op version from.old) }
-{
-    each_kind!(reading(20, from, version))
 }
 
 // What stands in a record of a kind, in a version that it has.
