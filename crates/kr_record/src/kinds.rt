@@ -2,6 +2,7 @@
 
 ghost use Rattle.std.specs.Prelude.{◌≡◌, ◌++◌, OnOk};
 ghost use Rattle.kr_record.specs.Answers.{GivesFront};
+ghost use Rattle.kr_record.specs.Encodable.{IsEncodable};
 ghost use Rattle.kr_record.specs.Reading.{kind_at, layout_at, served_at};
 ghost use Rattle.kr_record.specs.Records as kinds;
 ghost use Rattle.kr_record.specs.RecordRanges.{IsHeld};
@@ -9,70 +10,70 @@ ghost use Rattle.kr_record.specs.Spelling.{framed, record_value};
 
 use crate::fault::RecordFault;
 use crate::held::Held;
-use crate::mine::Mine;
-use crate::parts::{Parts, Placed, SinceOne};
+use crate::parts::{Field, Mine, Parts, Since};
 use crate::pieces::Pieces;
-use crate::tags::Field;
 use kr_base::NoMemory;
 use kr_defs::{Broker, Ids, Partition, PartitionChange, Record};
 use kr_layout::Reader;
 use kr_wire::FewBytes;
 
 // Hands the kinds to another macro: of each its key, the newest version, which is the one that is
-// written, a record of it and the structure in that, if there is one, and what stands in the record,
-// in the order of its layout. Each is a pattern as well as a value.
+// written, the function that reads it where it has its own, the fields of a record of it, one of them
+// a structure with its fields, if there is one, and what stands in the record, in the order of its
+// layout. The last is a pattern as well as a value.
 macro_rules! each_kind {
     ($with:ident($($value:tt),*)) => {
         $with! {
             ($($value),*)
-            0, 1: { Record::RegisterBroker { broker, state } }
-                where state {
-                    Broker { epoch, incarnation, endpoints, features, rack, fenced, stopping }
+            [0, 1: RegisterBroker { broker }
+                where state: Broker {
+                    epoch, incarnation, endpoints, features, rack, fenced, stopping
                 }
                 = {
                     (broker, (incarnation, (epoch, (endpoints, (features, (rack, (fenced,
-                    (SinceOne { flag: stopping }, ()))))))))
-                };
-            1, 0: { Record::UnregisterBroker { broker, epoch } } = { (broker, (epoch, ())) };
-            2, 0: { Record::Topic { name, id } } = { (name, (id, ())) };
-            3, 2 by read_partition: { Record::Partition { index, topic, state } }
-                where state {
-                    Partition {
-                        replicas, in_sync, removing, adding, leader, leader_epoch, partition_epoch,
-                        recovery, eligible, last_known,
-                    }
+                    (Since::<1, _> { part: stopping }, ()))))))))
+                }]
+            [1, 0: UnregisterBroker { broker, epoch } = { (broker, (epoch, ())) }]
+            [2, 0: Topic { name, id } = { (name, (id, ())) }]
+            [3, 2 by read_partition: Partition { index, topic }
+                where state: Partition {
+                    replicas, in_sync, removing, adding, leader, leader_epoch, partition_epoch,
+                    recovery, eligible, last_known
                 }
                 = {
                     (index, (topic, (
-                        (Placed { ids: replicas }, (in_sync, (removing, (adding, (leader,
+                        (Since::<1, _> { part: replicas }, (in_sync, (removing, (adding, (leader,
                         (leader_epoch, partition_epoch)))))),
                         tags!(0 since 0 recovery, 1 since 2 eligible, 2 since 2 last_known),
                     )))
-                };
-            4, 0: { Record::Config { kind, name, key, value } }
-                = { (kind, (name, (key, (value, ())))) };
-            5, 2 by read_partition_change: { Record::PartitionChange { index, topic, change } }
-                where change {
-                    PartitionChange {
-                        in_sync, leader, replicas, removing, adding, recovery, eligible, last_known,
-                    }
+                }]
+            [4, 0: Config { kind, name, key, value } = { (kind, (name, (key, (value, ())))) }]
+            [5, 2 by read_partition_change: PartitionChange { index, topic }
+                where change: PartitionChange {
+                    in_sync, leader, replicas, removing, adding, recovery, eligible, last_known
                 }
                 = {
                     (index, (topic, tags!(
                         0 since 0 in_sync, 1 since 0 leader, 2 since 0 replicas,
                         3 since 0 removing, 4 since 0 adding, 5 since 0 recovery,
-                        6 since 2 eligible, 7 since 2 last_known, 8 since 1 ()
+                        6 since 2 eligible, 7 since 2 last_known, 8 since 1 (nothing!($with))
                     )))
-                };
-            7, 0: { Record::FenceBroker { broker, epoch } } = { (broker, (epoch, ())) };
-            8, 0: { Record::UnfenceBroker { broker, epoch } } = { (broker, (epoch, ())) };
-            9, 0: { Record::RemoveTopic { topic } } = { (topic, ()) };
-            12, 0: { Record::FeatureLevel { name, level } } = { (name, (level, ())) };
-            17, 1: { Record::BrokerRegistrationChange { broker, epoch, fenced, stopping } }
-                = { (broker, (epoch, tags!(0 since 0 fenced, 1 since 1 stopping))) };
-            20, 0: { Record::NoOp } = { () };
+                }]
+            [7, 0: FenceBroker { broker, epoch } = { (broker, (epoch, ())) }]
+            [8, 0: UnfenceBroker { broker, epoch } = { (broker, (epoch, ())) }]
+            [9, 0: RemoveTopic { topic } = { (topic, ()) }]
+            [12, 0: FeatureLevel { name, level } = { (name, (level, ())) }]
+            [17, 1: BrokerRegistrationChange { broker, epoch, fenced, stopping }
+                = { (broker, (epoch, tags!(0 since 0 fenced, 1 since 1 stopping))) }]
+            [20, 0: NoOp {} = { () }]
         }
     };
+}
+
+// What is never written, as it is read and as it is written.
+macro_rules! nothing {
+    (writing) => { &() };
+    ($with:ident) => { () };
 }
 
 // Tagged fields: of each its tag, the first version that has it, and its part.
@@ -86,13 +87,13 @@ macro_rules! tags {
 macro_rules! reading {
     (
         ($from:ident, $key:ident, $version:ident)
-        $($number:literal, $newest:literal $(by $read:ident)?: {$($record:tt)*}
-            $(where $own:ident {$($structure:tt)*})? = {$($parts:tt)*};)*
+        $([$number:literal, $newest:literal $(by $read:ident)?: $kind:ident {$($field:ident),*}
+            $(where $own:ident: $structure:ident {$($part:ident),*})? = {$($parts:tt)*}])*
     ) => {
         match $key {
             $($number => made!(
-                ($from, $version) $(by $read)? $number, $newest {$($record)*} {$($parts)*}
-                    $($own {$($structure)*})?
+                ($from, $version) $(by $read)? $number, $newest: $kind {$($field,)* $($own)?}
+                    $($own: $structure {$($part),*})? = {$($parts)*}
             ),)*
             _ => Err(RecordFault::UnknownKey { key: $key }),
         }
@@ -102,24 +103,24 @@ macro_rules! reading {
 macro_rules! made {
     (($from:ident, $version:ident) by $read:ident $($kind:tt)*) => { $read($from, $version) };
     (
-        ($from:ident, $version:ident) $number:literal, $newest:literal {$($record:tt)*} {$($parts:tt)*}
-            $($own:ident {$($structure:tt)*})?
+        ($from:ident, $version:ident) $number:literal, $newest:literal: $kind:ident {$($field:tt)*}
+            $($own:ident: $structure:ident {$($part:ident),*})? = {$($parts:tt)*}
     ) => {{
         let $($parts)* = read_version($from, $number, $version, $newest)?;
-        $(let $own = $($structure)*;)?
-        Ok($($record)*)
+        $(let $own = $structure {$($part),*};)?
+        Ok(Record::$kind {$($field)*})
     }};
 }
 
 macro_rules! writing {
     (
         ($value:ident, $out:ident)
-        $($number:literal, $newest:literal $(by $read:ident)?: {$($record:tt)*}
-            $(where $own:ident {$($structure:tt)*})? = {$($parts:tt)*};)*
+        $([$number:literal, $newest:literal $(by $read:ident)?: $kind:ident {$($field:ident),*}
+            $(where $own:ident: $structure:ident {$($part:ident),*})? = {$($parts:tt)*}])*
     ) => {
         match $value {
-            $($($record)* => {
-                $(let $($structure)* = $own;)?
+            $(Record::$kind {$($field,)* $($own)?} => {
+                $(let $structure {$($part),*} = $own;)?
                 put_kind($out, $number, $newest, &$($parts)*)
             })*
         }
@@ -129,12 +130,12 @@ macro_rules! writing {
 macro_rules! looking {
     (
         ($value:ident)
-        $($number:literal, $newest:literal $(by $read:ident)?: {$($record:tt)*}
-            $(where $own:ident {$($structure:tt)*})? = {$($parts:tt)*};)*
+        $([$number:literal, $newest:literal $(by $read:ident)?: $kind:ident {$($field:ident),*}
+            $(where $own:ident: $structure:ident {$($part:ident),*})? = {$($parts:tt)*}])*
     ) => {
         match $value {
-            $($($record)* => {
-                $(let $($structure)* = $own;)?
+            $(Record::$kind {$($field,)* $($own)?} => {
+                $(let $structure {$($part),*} = $own;)?
                 $($parts)*.look();
             })*
         }
@@ -159,7 +160,7 @@ type PartitionParts = (
     (
         u128,
         (
-            (Placed<Ids>, (Ids, (Ids, (Ids, (i32, (i32, i32)))))),
+            (Since<1, Ids>, (Ids, (Ids, (Ids, (i32, (i32, i32)))))),
             (Field<0, 0, i8>, (Field<1, 2, Ids>, (Field<2, 2, Ids>, ()))),
         ),
     ),
@@ -184,7 +185,7 @@ fn partition_of(parts: PartitionParts) -> Record
             topic,
             (
                 (
-                    Placed { ids: replicas },
+                    Since::<1, _> { part: replicas },
                     (in_sync, (removing, (adding, (leader, (leader_epoch, partition_epoch))))),
                 ),
                 tags!( 0 since 0 recovery, 1 since 2 eligible, 2 since 2 last_known ),
@@ -210,7 +211,6 @@ fn partition_of(parts: PartitionParts) -> Record
     }
 }
 
-#[tactic(auto, unfolding(crate::specs::Reading::kind_at))]
 #[inline(always)]
 fn read_partition_change(from: &mut Reader<'_, Mine>, version: u32) -> Result<Record, RecordFault>
     ensures { GivesFront result from.new (kind_at kinds.partition_change version from.old) }
@@ -292,7 +292,8 @@ fn read_version<P: Parts>(
 
 /// Appends the record's written form. Without memory some front of it may be appended.
 #[tactic(auto, unfolding(crate::specs::Spelling::record_value))]
-pub(crate) fn put_record(out: &mut Vec<u8>, value: &Record) -> Result<(), NoMemory>
+pub fn append(value: &Record, out: &mut Vec<u8>) -> Result<(), NoMemory>
+    requires { IsEncodable value.now }
     ensures { OnOk result (out.new.items ≡ out.old.items ++ record_value value.now) }
 {
     each_kind!(writing(value, out))

@@ -1,15 +1,14 @@
 //! Records from bytes.
 
-ghost use Rattle.std.specs.Prelude.{◌≡◌, Ok, Err, IfOk, if◌then◌else◌};
+ghost use Rattle.std.specs.Prelude.{◌≡◌, ℕ, List, Ok, IfOk};
 ghost use Rattle.kr_defs.specs.declared.record.Record.{Record as AnyRecord};
-ghost use Rattle.kr_record.specs.declared.fault.RecordFault.TheVariants as faults;
 ghost use Rattle.kr_record.specs.Grammar.{IsRecord};
 ghost use Rattle.kr_record.specs.Answers.{Gives};
 ghost use Rattle.kr_record.specs.Reading.{record_of};
 
 use crate::fault::RecordFault;
 use crate::kinds::read_kind;
-use crate::mine::Mine;
+use crate::parts::Mine;
 use kr_defs::Record;
 use kr_layout::Reader;
 use std::alloc::Global;
@@ -26,17 +25,10 @@ fn record(alloc: Global, value: &[u8]) -> Result<Record, RecordFault>
     let key = from.uvarint()?;
     let version = from.uvarint()?;
     let record = read_kind(&mut from, key, version)?;
-    whole(record, from.is_empty())
-}
-
-// The record, if nothing is behind it.
-fn whole(value: Record, is_end: bool) -> Result<Record, RecordFault>
-    ensures { result ≡ (if is_end then Ok value else Err faults.Trailing) }
-{
-    if !is_end {
+    if !from.is_empty() {
         return Err(RecordFault::Trailing);
     }
-    Ok(value)
+    Ok(record)
 }
 
 /// The record that all of the bytes stand for, or the first fault, in the order of reading: the frame
@@ -52,3 +44,9 @@ pub fn decode(alloc: Global, value: &[u8]) -> Result<Record, RecordFault>
 {
     record(alloc, value)
 }
+
+/// Bytes stand for one record at most, and what stands for a record is read as it. This function does nothing.
+pub fn records()
+    ensures one { (r : AnyRecord) (s : AnyRecord) (bytes : List ℕ) → IsRecord r bytes → IsRecord s bytes → r ≡ s }
+    ensures read { (r : AnyRecord) (bytes : List ℕ) → IsRecord r bytes → record_of bytes ≡ Ok r }
+{}
