@@ -15,6 +15,7 @@ use kr_layout::Reader;
 use std::alloc::Global;
 
 #[tactic(auto, unfolding(crate::specs::Reading::record_of, crate::specs::Reading::record_at))]
+#[inline(always)]
 fn record(alloc: Global, value: &[u8]) -> Result<Record, RecordFault>
     ensures { Gives result (record_of value.now) }
 {
@@ -30,6 +31,7 @@ fn record(alloc: Global, value: &[u8]) -> Result<Record, RecordFault>
 }
 
 // The record, if nothing is behind it.
+#[inline(always)]
 fn whole(value: Record, is_end: bool) -> Result<Record, RecordFault>
     ensures { result ≡ (if is_end then Ok value else Err faults.Trailing) }
 {
@@ -42,6 +44,7 @@ fn whole(value: Record, is_end: bool) -> Result<Record, RecordFault>
 /// The record that all of the bytes stand for, or the first fault, in the order of reading: the frame
 /// version is judged before the key is read, the key when the version is read, bytes left over last.
 #[tactic(auto, using(crate::proofs::RecordLaws::decoded))]
+#[inline(always)]
 pub fn decode(alloc: Global, value: &[u8]) -> Result<Record, RecordFault>
     // What is decoded is what the bytes stand for.
     ensures found { IfOk result (λ r. IsRecord r value.now) }
