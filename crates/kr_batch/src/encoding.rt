@@ -11,7 +11,7 @@ ghost use Rattle.kr_batch.specs.BatchBytes.{VALUES_END, IsHeldItem, IsWritable, 
 use crate::{Batch, crc32c};
 use kr_base::NoMemory;
 use kr_defs::Item;
-use kr_wire::{FewBytes, put_both, put_i8, put_i16, put_i32, put_i64, put_u32, put_varint};
+use kr_wire::{FewBytes, put_both, put_bytes, put_uvarint, put_i8, put_i16, put_i32, put_i64, put_u32, put_varint};
 use std::alloc::AllocError;
 
 /// Appends the batch. Without memory nothing changes.
@@ -26,7 +26,7 @@ pub fn encode(batch: &Batch, out: &mut Vec<u8>) -> Result<(), NoMemory>
     // What is appended stands for the batch, where its base is at least 0.
     ensures stands { pos 0 ≤ℤ batch.now.base → All IsHeldItem batch.now.items → OnOk result (IsBatch batch.now (batch_bytes batch.now)) }
 {
-    let mut checked = Vec::new(*out.allocator());
+    let mut checked = Vec::with_capacity(*out.allocator(), 64 * batch.items.len() + 49)?;
     put_checked(batch, &mut checked)?;
     let mut head = Vec::new(*out.allocator());
     let size = size_with(batch, &checked);
@@ -132,14 +132,33 @@ fn put_record(delta: u32, value: &[u8], out: &mut Vec<u8>) -> Result<(), AllocEr
     requires value { length value.now < VALUES_END }
     ensures { OnOk result (out.new.items ≡ out.old.items ++ record_bytes delta value.now) }
 {
-    let front = record_front(delta, value);
-    front.put(out)?;
+    put_front(delta, value, out)?;
     out.extend_from_slice(value)?;
-    put_varint(out, 0)
+    put_uvarint(out, 0)
 }
 
-// What stands before the value of a record.
+// What stands before the value of a record. Where each length takes one byte these are put at once.
+fn put_front(delta: u32, value: &[u8], out: &mut Vec<u8>) -> Result<(), AllocError>
+    requires delta { delta < MOST_RECORDS }
+    requires value { length value.now < VALUES_END }
+    ensures { OnOk result (out.new.items ≡ out.old.items ++ front_bytes delta value.now) }
+{
+    let size = body_len(delta, value);
+    if size < 64 && delta < 64 {
+        return put_bytes(out, &[2 * size as u8, 0, 0, 2 * delta as u8, 1, 2 * value.len() as u8]);
+    }
+    if size < 64 && delta < 8192 {
+        let low = 128 + (2 * delta % 128) as u8;
+        let high = (delta / 64) as u8;
+        return put_bytes(out, &[2 * size as u8, 0, 0, low, high, 1, 2 * value.len() as u8]);
+    }
+    let front = record_front(delta, value);
+    front.put(out)
+}
+
+// The same, whatever the lengths.
 #[tactic(auto, unfolding(kr_wire::specs::Spelling::varint32, kr_wire::specs::Spelling::varint64, kr_wire::specs::Spelling::signed))]
+#[inline(never)]
 fn record_front(delta: u32, value: &[u8]) -> FewBytes
     requires delta { delta < MOST_RECORDS }
     requires value { length value.now < VALUES_END }

@@ -66,16 +66,21 @@ impl<const TAG: u32, const FIRST: u32, F: FieldPieces> FieldPieces for (Field<TA
     }
 }
 
+#[inline(always)]
 fn put_field<P: TaggedPart>(out: &mut Vec<u8>, tag: u32, part: &P) -> Result<(), NoMemory>
     ensures { OnOk result (out.new.items ≡ out.old.items ++ flat_map field (tagged tag (written_data P.part part.now))) }
 {
     match part.data() {
         None => Ok(()),
-        Some(data) => {
-            put_tag(out, tag, data.size()?)?;
-            put(out, data)
-        }
+        Some(data) => put_data(out, tag, data),
     }
+}
+
+fn put_data<D: FieldData>(out: &mut Vec<u8>, tag: u32, data: &D) -> Result<(), NoMemory>
+    ensures { OnOk result (out.new.items ≡ out.old.items ++ field (tag, written D.schema data.now)) }
+{
+    put_tag(out, tag, data.size()?)?;
+    put(out, data)
 }
 
 /// A count, and so many fields.

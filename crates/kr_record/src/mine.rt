@@ -10,6 +10,7 @@ use kr_layout::Put;
 pub struct Mine;
 
 /// Appends what is written for a value. Without memory some front of it may be appended.
+#[inline(always)]
 pub(crate) fn put<T: Put<Mine>>(out: &mut Vec<u8>, value: &T) -> Result<(), NoMemory>
     ensures { OnOk result (out.new.items ≡ out.old.items ++ written T.schema value.now) }
 {
