@@ -11,7 +11,7 @@ ghost use Rattle.kr_batch.specs.BatchBytes.{VALUES_END, IsHeldItem, IsWritable, 
 use crate::{Batch, crc32c};
 use kr_base::NoMemory;
 use kr_defs::Item;
-use kr_wire::{FewBytes, put_both, put_bytes, put_uvarint, put_i8, put_i16, put_i32, put_i64, put_u32, put_varint};
+use kr_wire::{FewBytes, put_both, put_bytes, put_i8, put_i16, put_i32, put_i64, put_u32, put_varint};
 use std::alloc::AllocError;
 
 /// Appends the batch. Without memory nothing changes.
@@ -134,26 +134,29 @@ fn put_record(delta: u32, value: &[u8], out: &mut Vec<u8>) -> Result<(), AllocEr
 {
     put_front(delta, value, out)?;
     out.extend_from_slice(value)?;
-    put_uvarint(out, 0)
+    put_varint(out, 0)
 }
 
 // What stands before the value of a record. Where each length takes one byte these are put at once.
+#[tactic(auto, using(crate::proofs::Fronts::short_front, crate::proofs::Fronts::middle_front))]
 fn put_front(delta: u32, value: &[u8], out: &mut Vec<u8>) -> Result<(), AllocError>
     requires delta { delta < MOST_RECORDS }
     requires value { length value.now < VALUES_END }
     ensures { OnOk result (out.new.items ≡ out.old.items ++ front_bytes delta value.now) }
 {
     let size = body_len(delta, value);
-    if size < 64 && delta < 64 {
-        return put_bytes(out, &[2 * size as u8, 0, 0, 2 * delta as u8, 1, 2 * value.len() as u8]);
+    let len = value.len() as u32;
+    if size < 64 && len < 64 && delta < 64 {
+        let bytes = [(2 * size) as u8, 0, 0, (2 * delta) as u8, 1, (2 * len) as u8];
+        return put_bytes(out, &bytes);
     }
-    if size < 64 && delta < 8192 {
+    if size < 64 && len < 64 && delta < 8192 {
         let low = 128 + (2 * delta % 128) as u8;
-        let high = (delta / 64) as u8;
-        return put_bytes(out, &[2 * size as u8, 0, 0, low, high, 1, 2 * value.len() as u8]);
+        let high = (2 * delta / 128) as u8;
+        let bytes = [(2 * size) as u8, 0, 0, low, high, 1, (2 * len) as u8];
+        return put_bytes(out, &bytes);
     }
-    let front = record_front(delta, value);
-    front.put(out)
+    record_front(delta, value).put(out)
 }
 
 // The same, whatever the lengths.

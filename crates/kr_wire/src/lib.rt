@@ -16,8 +16,9 @@ pub use reading::{
     read_u16, read_u32, read_u64, read_utf8, read_uvarint, read_varint, read_varlong, skip_tags,
 };
 pub use writing::{
-    put_bool, put_both, put_bytes, put_count, put_i8, put_i16, put_i32, put_i64, put_id, put_null, put_str,
-    put_str_or_null, put_tag, put_u16, put_u32, put_u64, put_uvarint, put_varint, put_varlong,
+    put_bool, put_both, put_bytes, put_count, put_i8, put_i16, put_i32, put_i64, put_id, put_null,
+    put_str, put_str_or_null, put_tag, put_u16, put_u32, put_u64, put_uvarint, put_varint,
+    put_varlong,
 };
 
 /// Why bytes stand for nothing: the first fault that reading meets.
