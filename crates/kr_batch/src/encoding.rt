@@ -11,7 +11,9 @@ ghost use Rattle.kr_batch.specs.BatchBytes.{VALUES_END, IsHeldItem, IsWritable, 
 use crate::{Batch, crc32c};
 use kr_base::NoMemory;
 use kr_defs::Item;
-use kr_wire::{FewBytes, put_both, put_bytes, put_i8, put_i16, put_i32, put_i64, put_u32, put_varint};
+use kr_wire::{
+    FewBytes, put_both, put_bytes, put_i8, put_i16, put_i32, put_i64, put_u32, put_varint,
+};
 use std::alloc::AllocError;
 
 /// Appends the batch. Without memory nothing changes.
@@ -147,7 +149,14 @@ fn put_front(delta: u32, value: &[u8], out: &mut Vec<u8>) -> Result<(), AllocErr
     let size = body_len(delta, value);
     let len = value.len() as u32;
     if size < 64 && len < 64 && delta < 64 {
-        let bytes = [(2 * size) as u8, 0, 0, (2 * delta) as u8, 1, (2 * len) as u8];
+        let bytes = [
+            (2 * size) as u8,
+            0,
+            0,
+            (2 * delta) as u8,
+            1,
+            (2 * len) as u8,
+        ];
         return put_bytes(out, &bytes);
     }
     if size < 64 && len < 64 && delta < 8192 {
