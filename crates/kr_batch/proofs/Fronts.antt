@@ -1,7 +1,7 @@
 -- What stands before the value of a record, where its lengths take one byte.
-use Rattle.std.proofs.Common.{◌≡◌, ℕ, pos, suc, ◌+◌, ◌*◌, ◌/◌, ◌%◌, ◌<◌, ◌≤◌, List, [], ◌∷◌, ◌++◌, length, refl, sym, ap, arith}
+use Rattle.std.proofs.Common.{◌≡◌, ℕ, pos, ◌+◌, ◌*◌, ◌/◌, ◌%◌, ◌<◌, ◌≤◌, List, [], ◌∷◌, length, refl, sym, arith}
 use Rattle.std.proofs.lemmas.Bool.{lt-ltb}
-use Rattle.kr_wire.specs.Spelling.{groups, varint32, varint64, signed}
+use Rattle.kr_wire.specs.Spelling.{varint32, varint64, signed}
 use Rattle.kr_wire.proofs.GroupWriting.{two_groups}
 use Rattle.kr_batch.specs.BatchBytes.{front_bytes, record_body}
 
@@ -15,12 +15,12 @@ two_bytes n le lt = sym (two_groups 4 (2 * n) (omega arith) (omega arith) (omega
 
 pub short_front : (size delta : ℕ) (value : List ℕ) → size ≡ length (record_body delta value) → size < 64 → length value < 64 → delta < 64
     → 2 * size ∷ 0 ∷ 0 ∷ 2 * delta ∷ 1 ∷ 2 * length value ∷ [] ≡ front_bytes delta value
-unfolding varint64 signed
+unfolding varint64 signed varint32
 short_front size delta value is small few near =
     rw (sym is, one_byte size small, one_byte delta near, one_byte (length value) few) refl
 
 pub middle_front : (size delta : ℕ) (value : List ℕ) → size ≡ length (record_body delta value) → size < 64 → length value < 64 → 64 ≤ delta → delta < 8192
     → 2 * size ∷ 0 ∷ 0 ∷ (128 + 2 * delta % 128) ∷ 2 * delta / 128 ∷ 1 ∷ 2 * length value ∷ [] ≡ front_bytes delta value
-unfolding varint64 signed
+unfolding varint64 signed varint32
 middle_front size delta value is small few far near =
     rw (sym is, one_byte size small, two_bytes delta far near, one_byte (length value) few) refl

@@ -5,6 +5,7 @@ pub mod Crc
 pub mod Entries
 pub mod Faults
 pub mod Frames
+pub mod Fronts
 pub mod Heads
 pub mod Lookups
 pub mod Records

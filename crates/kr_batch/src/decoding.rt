@@ -80,6 +80,7 @@ fn read_entries(alloc: Global, bytes: &[u8], count: u32) -> Result<Items, BatchF
 }
 
 #[tactic(auto, unfolding(crate::specs::Reading::entry_at), using(crate::proofs::Faults::through))]
+#[inline(always)]
 fn read_entry(
     alloc: Global,
     bytes: &[u8],
@@ -121,6 +122,7 @@ fn is_at(delta: i32, number: u32) -> bool
 }
 
 #[tactic(auto, using(crate::proofs::Faults::value_fault))]
+#[inline(always)]
 fn read_value(alloc: Global, value: &[u8], number: u32) -> Result<Record, BatchFault>
     ensures { Gives result (caused number (record_of value.now)) }
 {

@@ -16,6 +16,9 @@ use kr_wire::{
 };
 use std::alloc::AllocError;
 
+// The room that is taken at first for a record, in bytes. Most take less.
+const RECORD_ROOM: usize = 64;
+
 /// Appends the batch. Without memory nothing changes.
 #[tactic(auto, unfolding(crate::specs::BatchBytes::batch_bytes))]
 pub fn encode(batch: &Batch, out: &mut Vec<u8>) -> Result<(), NoMemory>
@@ -28,7 +31,7 @@ pub fn encode(batch: &Batch, out: &mut Vec<u8>) -> Result<(), NoMemory>
     // What is appended stands for the batch, where its base is at least 0.
     ensures stands { pos 0 ≤ℤ batch.now.base → All IsHeldItem batch.now.items → OnOk result (IsBatch batch.now (batch_bytes batch.now)) }
 {
-    let mut checked = Vec::with_capacity(*out.allocator(), 64 * batch.items.len() + 49)?;
+    let mut checked = Vec::with_capacity(*out.allocator(), RECORD_ROOM * batch.items.len())?;
     put_checked(batch, &mut checked)?;
     let mut head = Vec::new(*out.allocator());
     let size = size_with(batch, &checked);
@@ -140,7 +143,6 @@ fn put_record(delta: u32, value: &[u8], out: &mut Vec<u8>) -> Result<(), AllocEr
 }
 
 // What stands before the value of a record. Where each length takes one byte these are put at once.
-#[tactic(auto, using(crate::proofs::Fronts::short_front, crate::proofs::Fronts::middle_front))]
 fn put_front(delta: u32, value: &[u8], out: &mut Vec<u8>) -> Result<(), AllocError>
     requires delta { delta < MOST_RECORDS }
     requires value { length value.now < VALUES_END }
@@ -148,22 +150,17 @@ fn put_front(delta: u32, value: &[u8], out: &mut Vec<u8>) -> Result<(), AllocErr
 {
     let size = body_len(delta, value);
     let len = value.len() as u32;
-    if size < 64 && len < 64 && delta < 64 {
-        let bytes = [
-            (2 * size) as u8,
-            0,
-            0,
-            (2 * delta) as u8,
-            1,
-            (2 * len) as u8,
-        ];
-        return put_bytes(out, &bytes);
-    }
-    if size < 64 && len < 64 && delta < 8192 {
-        let low = 128 + (2 * delta % 128) as u8;
-        let high = (2 * delta / 128) as u8;
-        let bytes = [(2 * size) as u8, 0, 0, low, high, 1, (2 * len) as u8];
-        return put_bytes(out, &bytes);
+    if size < 64 && len < 64 {
+        if delta < 64 {
+            let bytes = [(2 * size) as u8, 0, 0, (2 * delta) as u8, 1, (2 * len) as u8];
+            return put_bytes(out, &bytes);
+        }
+        if delta < 8192 {
+            let low = 128 + (2 * delta % 128) as u8;
+            let high = (2 * delta / 128) as u8;
+            let bytes = [(2 * size) as u8, 0, 0, low, high, 1, (2 * len) as u8];
+            return put_bytes(out, &bytes);
+        }
     }
     record_front(delta, value).put(out)
 }
