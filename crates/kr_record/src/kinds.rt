@@ -1,6 +1,6 @@
 //! The kinds of records.
 
-ghost use Rattle.std.specs.Prelude.{◌≡◌, ◌++◌, OnOk};
+ghost use Rattle.std.specs.Prelude.{◌≡◌, ◌≢◌, ◌++◌, OnOk};
 ghost use Rattle.kr_record.specs.Answers.{GivesFront};
 ghost use Rattle.kr_record.specs.Encodable.{IsEncodable};
 ghost use Rattle.kr_record.specs.Reading.{kind_at, layout_at, served_at};
@@ -17,63 +17,69 @@ use kr_defs::{Broker, Ids, Partition, PartitionChange, Record};
 use kr_layout::Reader;
 use kr_wire::FewBytes;
 
-// Hands the kinds to another macro: of each its key, the newest version, which is the one that is
-// written, the function that reads it where it has its own, the fields of a record of it, one of them
-// a structure with its fields, if there is one, and what stands in the record, in the order of its
-// layout. The last is a pattern as well as a value.
+// Hands the kinds to another macro, first those that most records are of: of each its key, the newest
+// version, which is the one that is written, the fields of a record of it, one of them a structure with
+// its fields, if there is one, and what stands in the record, in the order of its layout. The last is a
+// pattern as well as a value.
 macro_rules! each_kind {
-    ($with:ident($($value:tt),*)) => {
+    ($with:ident($($value:tt)*)) => {
         $with! {
-            ($($value),*)
-            [0, 1: RegisterBroker { broker }
-                where state: Broker {
-                    epoch, incarnation, endpoints, features, rack, fenced, stopping
-                }
-                = {
-                    (broker, (incarnation, (epoch, (endpoints, (features, (rack, (fenced,
-                    (Since::<1, _> { part: stopping }, ()))))))))
-                }]
-            [1, 0: UnregisterBroker { broker, epoch } = { (broker, (epoch, ())) }]
-            [2, 0: Topic { name, id } = { (name, (id, ())) }]
-            [3, 2 by read_partition: Partition { index, topic }
-                where state: Partition {
-                    replicas, in_sync, removing, adding, leader, leader_epoch, partition_epoch,
-                    recovery, eligible, last_known
-                }
-                = {
-                    (index, (topic, (
-                        (Since::<1, _> { part: replicas }, (in_sync, (removing, (adding, (leader,
-                        (leader_epoch, partition_epoch)))))),
-                        tags!(0 since 0 recovery, 1 since 2 eligible, 2 since 2 last_known),
-                    )))
-                }]
-            [4, 0: Config { kind, name, key, value } = { (kind, (name, (key, (value, ())))) }]
-            [5, 2 by read_partition_change: PartitionChange { index, topic }
-                where change: PartitionChange {
-                    in_sync, leader, replicas, removing, adding, recovery, eligible, last_known
-                }
-                = {
-                    (index, (topic, tags!(
-                        0 since 0 in_sync, 1 since 0 leader, 2 since 0 replicas,
-                        3 since 0 removing, 4 since 0 adding, 5 since 0 recovery,
-                        6 since 2 eligible, 7 since 2 last_known, 8 since 1 (nothing!($with))
-                    )))
-                }]
-            [7, 0: FenceBroker { broker, epoch } = { (broker, (epoch, ())) }]
-            [8, 0: UnfenceBroker { broker, epoch } = { (broker, (epoch, ())) }]
-            [9, 0: RemoveTopic { topic } = { (topic, ()) }]
-            [12, 0: FeatureLevel { name, level } = { (name, (level, ())) }]
-            [17, 1: BrokerRegistrationChange { broker, epoch, fenced, stopping }
-                = { (broker, (epoch, tags!(0 since 0 fenced, 1 since 1 stopping))) }]
-            [20, 0: NoOp {} = { () }]
+            ($($value)*)
+            {
+                [2, 0: Topic { name, id } = { (name, (id, ())) }]
+                [3, 2: Partition { index, topic }
+                    where state: Partition {
+                        replicas, in_sync, removing, adding, leader, leader_epoch, partition_epoch,
+                        recovery, eligible, last_known
+                    }
+                    = {
+                        (index, (topic, (
+                            Since::<1, _> { part: (replicas, (in_sync, (removing, (adding, (leader,
+                            (leader_epoch, partition_epoch)))))) },
+                            tags!(0 since 0 recovery, 1 since 2 eligible, 2 since 2 last_known),
+                        )))
+                    }]
+                [4, 0: Config { kind, name, key, value } = { (kind, (name, (key, (value, ())))) }]
+            }
+            {
+                [0, 1: RegisterBroker { broker }
+                    where state: Broker {
+                        epoch, incarnation, endpoints, features, rack, fenced, stopping
+                    }
+                    = {
+                        (broker, (incarnation, (epoch, (endpoints, (features, (rack, (fenced,
+                        (Since::<1, _> { part: stopping }, ()))))))))
+                    }]
+                [1, 0: UnregisterBroker { broker, epoch } = { (broker, (epoch, ())) }]
+                [7, 0: FenceBroker { broker, epoch } = { (broker, (epoch, ())) }]
+                [8, 0: UnfenceBroker { broker, epoch } = { (broker, (epoch, ())) }]
+                [9, 0: RemoveTopic { topic } = { (topic, ()) }]
+                [12, 0: FeatureLevel { name, level } = { (name, (level, ())) }]
+                [17, 1: BrokerRegistrationChange { broker, epoch, fenced, stopping }
+                    = { (broker, (epoch, tags!(0 since 0 fenced, 1 since 1 stopping))) }]
+                [20, 0: NoOp {} = { () }]
+            }
+            {
+                [5, 2: PartitionChange { index, topic }
+                    where change: PartitionChange {
+                        in_sync, leader, replicas, removing, adding, recovery, eligible, last_known
+                    }
+                    = {
+                        (index, (topic, tags!(
+                            0 since 0 in_sync, 1 since 0 leader, 2 since 0 replicas,
+                            3 since 0 removing, 4 since 0 adding, 5 since 0 recovery,
+                            6 since 2 eligible, 7 since 2 last_known, 8 since 1 (nothing!($with))
+                        )))
+                    }]
+            }
         }
     };
 }
 
 // What is never written, as it is read and as it is written.
 macro_rules! nothing {
-    (writing) => { &() };
-    ($with:ident) => { () };
+    (reading) => { () };
+    (seeing) => { &() };
 }
 
 // Tagged fields: of each its tag, the first version that has it, and its part.
@@ -85,59 +91,36 @@ macro_rules! tags {
 }
 
 macro_rules! reading {
+    ((behind $($value:tt)*) $group:tt $($groups:tt)+) => { reading!(($($value)*) $($groups)+) };
     (
-        ($from:ident, $key:ident, $version:ident)
-        $([$number:literal, $newest:literal $(by $read:ident)?: $kind:ident {$($field:ident),*}
-            $(where $own:ident: $structure:ident {$($part:ident),*})? = {$($parts:tt)*}])*
+        ($from:ident, $key:ident, $version:ident, $($others:tt)*)
+        {$([$number:literal, $newest:literal: $kind:ident {$($field:ident),*}
+            $(where $own:ident: $structure:ident {$($part:ident),*})? = {$($parts:tt)*}])*}
+        $($groups:tt)*
     ) => {
         match $key {
-            $($number => made!(
-                ($from, $version) $(by $read)? $number, $newest: $kind {$($field,)* $($own)?}
-                    $($own: $structure {$($part),*})? = {$($parts)*}
-            ),)*
-            _ => Err(RecordFault::UnknownKey { key: $key }),
+            $($number => {
+                let $($parts)* = read_version($from, $number, $version, $newest)?;
+                $(let $own = $structure {$($part),*};)?
+                Ok(Record::$kind {$($field,)* $($own)?})
+            })*
+            $($others)*
         }
     };
 }
 
-macro_rules! made {
-    (($from:ident, $version:ident) by $read:ident $($kind:tt)*) => { $read($from, $version) };
+macro_rules! seeing {
     (
-        ($from:ident, $version:ident) $number:literal, $newest:literal: $kind:ident {$($field:tt)*}
-            $($own:ident: $structure:ident {$($part:ident),*})? = {$($parts:tt)*}
-    ) => {{
-        let $($parts)* = read_version($from, $number, $version, $newest)?;
-        $(let $own = $structure {$($part),*};)?
-        Ok(Record::$kind {$($field)*})
-    }};
-}
-
-macro_rules! writing {
-    (
-        ($value:ident, $out:ident)
-        $([$number:literal, $newest:literal $(by $read:ident)?: $kind:ident {$($field:ident),*}
-            $(where $own:ident: $structure:ident {$($part:ident),*})? = {$($parts:tt)*}])*
+        ($value:ident, |$key:ident, $version:ident, $seen:ident| $then:expr)
+        $({$([$number:literal, $newest:literal: $kind:ident {$($field:ident),*}
+            $(where $own:ident: $structure:ident {$($part:ident),*})? = {$($parts:tt)*}])*})*
     ) => {
         match $value {
-            $(Record::$kind {$($field,)* $($own)?} => {
+            $($(Record::$kind {$($field,)* $($own)?} => {
                 $(let $structure {$($part),*} = $own;)?
-                put_kind($out, $number, $newest, &$($parts)*)
-            })*
-        }
-    };
-}
-
-macro_rules! looking {
-    (
-        ($value:ident)
-        $([$number:literal, $newest:literal $(by $read:ident)?: $kind:ident {$($field:ident),*}
-            $(where $own:ident: $structure:ident {$($part:ident),*})? = {$($parts:tt)*}])*
-    ) => {
-        match $value {
-            $(Record::$kind {$($field,)* $($own)?} => {
-                $(let $structure {$($part),*} = $own;)?
-                $($parts)*.look();
-            })*
+                let ($key, $version, $seen) = ($number, $newest, $($parts)*);
+                $then
+            })*)*
         }
     };
 }
@@ -152,63 +135,21 @@ pub(crate) fn read_kind(
 ) -> Result<Record, RecordFault>
     ensures { GivesFront result from.new (layout_at key version from.old) }
 {
-    each_kind!(reading(from, key, version))
+    each_kind!(reading(
+        from, key, version,
+        5 => read_partition_change(from, version),
+        _ => Ok(read_rare(from, key, version)?),
+    ))
 }
 
-type PartitionParts = (
-    i32,
-    (
-        u128,
-        (
-            (Since<1, Ids>, (Ids, (Ids, (Ids, (i32, (i32, i32)))))),
-            (Field<0, 0, i8>, (Field<1, 2, Ids>, (Field<2, 2, Ids>, ()))),
-        ),
-    ),
-);
-
-#[tactic(auto, unfolding(crate::specs::Reading::kind_at))]
-#[inline(always)]
-fn read_partition(from: &mut Reader<'_, Mine>, version: u32) -> Result<Record, RecordFault>
-    ensures { GivesFront result from.new (kind_at kinds.partition version from.old) }
+// The same of a key that none of the kinds has that most records are of. It stands alone, so that what it
+// reads doesn't share a place with what they do.
+#[tactic(auto, unfolding(crate::specs::Reading::layout_at, crate::specs::Reading::kind_at))]
+#[inline(never)]
+fn read_rare(from: &mut Reader<'_, Mine>, key: u32, version: u32) -> Result<Record, RecordFault>
+    ensures { key ≢ 2 → key ≢ 3 → key ≢ 4 → key ≢ 5 → GivesFront result from.new (layout_at key version from.old) }
 {
-    let parts: PartitionParts = read_version(from, 3, version, 2)?;
-    Ok(partition_of(parts))
-}
-
-#[inline(always)]
-fn partition_of(parts: PartitionParts) -> Record
-    ensures { result ≡ kinds.partition.record_of parts }
-{
-    let (
-        index,
-        (
-            topic,
-            (
-                (
-                    Since::<1, _> { part: replicas },
-                    (in_sync, (removing, (adding, (leader, (leader_epoch, partition_epoch))))),
-                ),
-                tags!( 0 since 0 recovery, 1 since 2 eligible, 2 since 2 last_known ),
-            ),
-        ),
-    ) = parts;
-    let state = Partition {
-        replicas,
-        in_sync,
-        removing,
-        adding,
-        leader,
-        leader_epoch,
-        partition_epoch,
-        recovery,
-        eligible,
-        last_known,
-    };
-    Record::Partition {
-        index,
-        topic,
-        state,
-    }
+    each_kind!(reading(behind from, key, version, _ => Err(RecordFault::UnknownKey { key })))
 }
 
 #[inline(always)]
@@ -219,28 +160,11 @@ fn read_partition_change(from: &mut Reader<'_, Mine>, version: u32) -> Result<Re
     Ok(partition_change_of(parts))
 }
 
-type ChangeParts = (
-    Field<0, 0, Option<Ids>>,
-    (
-        Field<1, 0, Option<i32>>,
-        (
-            Field<2, 0, Option<Ids>>,
-            (
-                Field<3, 0, Option<Ids>>,
-                (
-                    Field<4, 0, Option<Ids>>,
-                    (
-                        Field<5, 0, Option<i8>>,
-                        (
-                            Field<6, 2, Option<Ids>>,
-                            (Field<7, 2, Option<Ids>>, (Field<8, 1, ()>, ())),
-                        ),
-                    ),
-                ),
-            ),
-        ),
-    ),
-);
+// The tagged fields of a partition's change.
+type ChangedIds<const TAG: u32, const FIRST: u32> = Field<TAG, FIRST, Option<Ids>>;
+type LaterFields = (ChangedIds<6, 2>, (ChangedIds<7, 2>, (Field<8, 1, ()>, ())));
+type OtherFields = (ChangedIds<3, 0>, (ChangedIds<4, 0>, (Field<5, 0, Option<i8>>, LaterFields)));
+type ChangeParts = (ChangedIds<0, 0>, (Field<1, 0, Option<i32>>, (ChangedIds<2, 0>, OtherFields)));
 
 #[inline(always)]
 fn partition_change_of(parts: (i32, (u128, ChangeParts))) -> Record
@@ -296,7 +220,7 @@ pub fn append(value: &Record, out: &mut Vec<u8>) -> Result<(), NoMemory>
     requires { IsEncodable value.now }
     ensures { OnOk result (out.new.items ≡ out.old.items ++ record_value value.now) }
 {
-    each_kind!(writing(value, out))
+    each_kind!(seeing(value, |key, version, parts| put_kind(out, key, version, &parts)))
 }
 
 // The frame version, the key and the version of a record, and what stands in it.
@@ -316,5 +240,5 @@ fn put_kind<P: Pieces>(out: &mut Vec<u8>, key: u32, version: u32, parts: &P) -> 
 pub fn record_is_held(value: &Record)
     ensures { IsHeld value.now }
 {
-    each_kind!(looking(value))
+    each_kind!(seeing(value, |_key, _version, parts| parts.look()))
 }

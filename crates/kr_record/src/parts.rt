@@ -1,14 +1,14 @@
 //! Values that are read one after the other, as nested pairs.
 
-ghost use Rattle.std.specs.Prelude.{◌≡◌, ℕ, None};
-ghost use Rattle.kr_wire.specs.Reading.{fields_at, tags_at, whole_field};
-ghost use Rattle.kr_wire.specs.Schema.{Array, Dropped, End, Uuid, value_at};
+ghost use Rattle.std.specs.Prelude.{◌≡◌};
+ghost use Rattle.kr_wire.specs.Reading.{tags_at, whole_field};
+ghost use Rattle.kr_wire.specs.Schema.{End};
 ghost use Rattle.kr_wire.specs.Tables as tables;
 ghost use Rattle.kr_wire.specs.Tables.{NoField, Table, absents, known, part_at, set_part};
 ghost use Rattle.kr_layout.specs.Answers.{Takes};
 ghost use Rattle.kr_record.specs.Answers.{GivesField, Sets};
 ghost use Rattle.kr_record.specs.Layout as layouts;
-ghost use Rattle.kr_record.specs.Layout.{Directories, Of, RecordLayout, Tagged, since_at, version_at, ◌▹◌};
+ghost use Rattle.kr_record.specs.Layout.{Directories, Of, RecordLayout, Tagged, version_at, ◌▹◌};
 
 use crate::tagged::TaggedPart;
 use kr_defs::{Ids, Rows};
@@ -81,30 +81,23 @@ impl<const FIRST: u32> Parts for Since<FIRST, bool> {
     }
 }
 
-impl<const FIRST: u32, M: Parts, B: Parts> Parts for ((Since<FIRST, Ids>, M), B) {
-    ghost layout = { Directories FIRST M.layout ▹ B.layout };
+impl<const FIRST: u32, M: Parts> Parts for Since<FIRST, (Ids, M)> {
+    ghost layout = { Directories FIRST M.layout };
 
     #[inline(always)]
     fn read(
         from: &mut Reader<'_, Mine>,
         version: u32,
-    ) -> Result<((Since<FIRST, Ids>, M), B), ReadFault> {
-        let part: Ids = from.get()?;
+    ) -> Result<Since<FIRST, (Ids, M)>, ReadFault> {
+        let ids: Ids = from.get()?;
         let others = M::read(from, version)?;
-        skip_directories(from, version >= FIRST)?;
-        let behind = B::read(from, version)?;
-        Ok(((Since { part }, others), behind))
+        if version >= FIRST {
+            let _dropped: Rows<u128> = from.get()?;
+        }
+        Ok(Since {
+            part: (ids, others),
+        })
     }
-}
-
-// Directories, where a version has them. They are dropped.
-fn skip_directories(from: &mut Reader<'_, Mine>, here: bool) -> Result<(), ReadFault>
-    ensures { Takes result from.new (since_at here (value_at (Dropped (Array Uuid))) tt from.old) }
-{
-    if here {
-        let _directories: Rows<u128> = from.get()?;
-    }
-    Ok(())
 }
 
 impl<const TAG: u32, const FIRST: u32, P: TaggedPart, F: Fields> Parts
@@ -182,36 +175,19 @@ fn whole<P: TaggedPart>(alloc: Global, data: &[u8]) -> Result<P, ReadFault>
 {
     let mut from = Reader::new(alloc, data, 0);
     match P::read(&mut from) {
-        Ok(value) => {
-            if !from.is_empty() {
-                return Err(ReadFault::Wire(WireFault::BadTag));
-            }
-            Ok(value)
-        }
-        Err(ReadFault::Wire(WireFault::Short)) => Err(ReadFault::Wire(WireFault::BadTag)),
+        Ok(value) if from.is_empty() => Ok(value),
+        Ok(_) | Err(ReadFault::Wire(WireFault::Short)) => Err(ReadFault::Wire(WireFault::BadTag)),
         Err(fault) => Err(fault),
     }
 }
 
 /// A count, and so many tagged fields.
-#[tactic(auto, unfolding(kr_wire::specs::Reading::tags_at))]
+#[tactic(auto, unfolding(kr_wire::specs::Reading::tags_at), using(crate::proofs::FieldLoop::fields_read))]
 #[inline(always)]
 fn read_tags<F: Fields>(from: &mut Reader<'_, Mine>, version: u32) -> Result<F, ReadFault>
     ensures { Takes result from.new (tags_at (known F.table version) (absents F.table) from.old) }
 {
     let count = from.uvarint()?;
-    read_fields(from, version, count)
-}
-
-#[tactic(auto, using(crate::proofs::FieldLoop::fields_read))]
-#[inline(always)]
-fn read_fields<F: Fields>(
-    from: &mut Reader<'_, Mine>,
-    version: u32,
-    count: u32,
-) -> Result<F, ReadFault>
-    ensures { Takes result from.new (fields_at (known F.table version) count None (absents F.table) from.old) }
-{
     let mut value = F::absent(from.alloc());
     let mut last = None;
     for _ in 0..count {

@@ -57,14 +57,12 @@ impl<'a, const FIRST: u32> Pieces for Since<FIRST, &'a bool> {
     }
 }
 
-impl<'a, const FIRST: u32, M: Pieces, B: Pieces> Pieces for ((Since<FIRST, &'a Ids>, M), B) {
-    ghost bytes = { λ p. ((tables.ids p.0.0.now ++ M.bytes p.0.1) ++ list id (no_directories p.0.0.now)) ++ B.bytes p.1 };
+impl<'a, const FIRST: u32, M: Pieces> Pieces for Since<FIRST, (&'a Ids, M)> {
+    ghost bytes = { λ p. (tables.ids p.0.now ++ M.bytes p.1) ++ list id (no_directories p.0.now) };
 
     fn put_pieces(&self, out: &mut Vec<u8>) -> Result<(), NoMemory> {
-        self.0.0.part.put_pieces(out)?;
-        self.0.1.put_pieces(out)?;
-        put_directories(out, self.0.0.part)?;
-        self.1.put_pieces(out)
+        self.part.put_pieces(out)?;
+        put_directories(out, self.part.0)
     }
 }
 
@@ -132,13 +130,19 @@ impl<'a, const TAG: u32, const FIRST: u32, P: TaggedPart, F: FieldPieces> FieldP
     }
 
     fn put_fields(&self, out: &mut Vec<u8>) -> Result<(), NoMemory> {
-        match self.0.part.data() {
-            None => self.1.put_fields(out),
-            Some(data) => {
-                put_tag(out, TAG, data.size()?)?;
-                data.put_pieces(out)?;
-                self.1.put_fields(out)
-            }
+        put_field(out, TAG, self.0.part)?;
+        self.1.put_fields(out)
+    }
+}
+
+fn put_field<P: TaggedPart>(out: &mut Vec<u8>, tag: u32, part: &P) -> Result<(), NoMemory>
+    ensures { OnOk result (out.new.items ≡ out.old.items ++ flat_map field (tagged tag (written_data P.part part.now))) }
+{
+    match part.data() {
+        None => Ok(()),
+        Some(data) => {
+            put_tag(out, tag, data.size()?)?;
+            data.put_pieces(out)
         }
     }
 }
