@@ -41,3 +41,5 @@ module _ {X : Type 0} (known : Known X) (count i : ℕ) (last : Option ℕ) (byt
   done le so_far =
       let k : count - i ≡ 0 = omega arith in
       sym so_far ∙ rw k refl
+
+pub ruleset fields_read = (ends_at_tag, done)

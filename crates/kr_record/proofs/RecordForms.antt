@@ -1,9 +1,10 @@
 -- What is written of a record, and what follows of bytes that stand for one.
-use Rattle.std.proofs.Common.{◌≡◌, ℕ, ◌+◌, ◌*◌, ◌^◌, ◌<◌, ◌≤◌, List, [], ◌∷◌, ◌++◌, length, Ok, refl, ap, ◌∙◌, append_assoc, arith, lit<}
-use Rattle.std.specs.Prelude.{negsuc, Option, None}
+use Rattle.std.proofs.Common.{◌≡◌, ℕ, ◌+◌, ◌*◌, ◌^◌, ◌<◌, ◌≤◌, List, [], ◌∷◌, ◌++◌, length, Result, Ok, refl, sym, ap, subst, ◌∙◌, append_assoc, arith, lit<}
+use Rattle.std.specs.Prelude.{negsuc, Option, None, OnOk}
 use Rattle.std.specs.List.{sum_by}
-use Rattle.std.proofs.lemmas.List.{length-append}
+use Rattle.std.proofs.lemmas.List.Recursion.{is_sum_by}
 use Rattle.std.proofs.lemmas.List.Sums.{sum_by-append, sum_by-cons}
+use Rattle.kr_base.specs.declared.answers.NoMemory.{NoMemory}
 use Rattle.kr_defs.specs.declared.broker.Endpoint.{Endpoint}
 use Rattle.kr_defs.specs.declared.broker.Range.{Range}
 use Rattle.kr_defs.specs.declared.record.Record.{Record}
@@ -18,14 +19,15 @@ use Rattle.kr_record.specs.Encodable.{IsEncodable}
 use Rattle.kr_record.specs.Grammar.{IsLayout, IsRecord}
 use Rattle.kr_record.specs.RecordRanges.{IsHeld}
 use Rattle.kr_record.specs.Reading.{record_of}
-use Rattle.kr_record.specs.Spelling.{framed, written_bytes, plain_bytes, record_value}
+use Rattle.kr_record.specs.Limits.{of_schema, of_layout}
+use Rattle.kr_record.specs.Spelling.{framed, record_value}
 use Rattle.kr_record.proofs.LayoutForms.{most_bytes, layout_form}
 use Rattle.kr_record.proofs.RecordLaws.{is_chosen, of_complete}
 
 -- a kind with a small key, in its newest version, and what stood for it with some key, in some version
 framed_form : (r : Record) (key version : ℕ) → let k = (chosen r).kind in
     Form (IsUvarint 1 ⌢ IsUvarint k.key ⌢ IsUvarint k.newest ⌢ IsLayout k.key k.newest r) (IsUvarint 1 ⌢ IsUvarint key ⌢ IsUvarint version ⌢ IsLayout key version r)
-    (record_value r) (3 + written_bytes k.layout (chosen r).parts) (3 + most_bytes k.layout (chosen r).parts) (IsEncodable r) (IsHeld r)
+    (record_value r) (3 + (of_layout k.layout).size (chosen r).parts) (3 + most_bytes k.layout (chosen r).parts) (IsEncodable r) (IsHeld r)
 unfolding record_value framed
 framed_form r key version =
     let k = (chosen r).kind in
@@ -60,17 +62,20 @@ short r bytes is few = (framed_form r is.key is.version).follows.short bytes is.
 pub held : (r : Record) (bytes : List ℕ) → IsRecord r bytes → IsBytes bytes → IsHeld r
 held r bytes is fit = (framed_form r is.key is.version).follows.held bytes is.spelled fit
 
+-- what is matched is what its match says
+pub held_as : (r s : Record) → r ≡ s → IsHeld s → IsHeld r
+held_as r s e held = subst IsHeld (sym e) held
+
+pub put_as : (result : Result (Unit {0}) NoMemory) (before after : List ℕ) (r s : Record) → r ≡ s → OnOk result (after ≡ before ++ record_value s) → OnOk result (after ≡ before ++ record_value r)
+put_as result before after r s e put = subst (λ (x : Record). OnOk result (after ≡ before ++ record_value x)) (sym e) put
+
 -- ---- how many bytes are written
 
-same_sum : {X : Type 0} (f g : X → ℕ) → ((x : X) → f x ≡ g x) → (xs : List X) → sum_by f xs ≡ sum_by g xs
-same_sum f g same [] = refl
-same_sum f g same (x ∷ xs) = omega (arith, sum_by-cons f x xs, sum_by-cons g x xs, same x, same_sum f g same xs)
+endpoints_bytes : (es : List Endpoint) → sum_by (of_schema endpoint_layout).size es ≡ sum_by (λ e. text_bytes e.name + text_bytes e.host + 2 + 2 + no_tags_bytes) es
+endpoints_bytes es = is_sum_by (sum_by (of_schema endpoint_layout).size) _ refl (λ e more. omega (arith, sum_by-cons (of_schema endpoint_layout).size e more)) es
 
-endpoints_bytes : (es : List Endpoint) → sum_by (plain_bytes endpoint_layout) es ≡ sum_by (λ e. text_bytes e.name + text_bytes e.host + 2 + 2 + no_tags_bytes) es
-endpoints_bytes es = same_sum (plain_bytes endpoint_layout) _ (λ e. omega arith) es
-
-ranges_bytes : (rs : List Range) → sum_by (plain_bytes range_layout) rs ≡ sum_by (λ r. text_bytes r.name + 2 + 2 + no_tags_bytes) rs
-ranges_bytes rs = same_sum (plain_bytes range_layout) _ (λ r. omega arith) rs
+ranges_bytes : (rs : List Range) → sum_by (of_schema range_layout).size rs ≡ sum_by (λ r. text_bytes r.name + 2 + 2 + no_tags_bytes) rs
+ranges_bytes rs = is_sum_by (sum_by (of_schema range_layout).size) _ refl (λ r more. omega (arith, sum_by-cons (of_schema range_layout).size r more)) rs
 
 -- a field that is never written
 none_more : (sizes : List (Option ℕ)) → tags_bytes (sizes ++ None ∷ []) ≡ tags_bytes sizes
@@ -80,7 +85,7 @@ none_more sizes =
     rw (there, bytes) refl
 
 -- they are those that are told, and no more than eight times as many as stood for a record
-all_bytes : (r : Record) → let k = (chosen r).kind in (3 + written_bytes k.layout (chosen r).parts ≡ value_bytes r) × (value_bytes r ≤ 3 + most_bytes k.layout (chosen r).parts)
+all_bytes : (r : Record) → let k = (chosen r).kind in (3 + (of_layout k.layout).size (chosen r).parts ≡ value_bytes r) × (value_bytes r ≤ 3 + most_bytes k.layout (chosen r).parts)
 unfolding value_bytes chosen
 all_bytes (kinds.RegisterBroker broker state) =
     let endpoints = endpoints_bytes state.endpoints in
@@ -99,10 +104,8 @@ size r fits = (framed_form r 0 0).size fits ∙ (all_bytes r).0
 pub cost : (r : Record) (bytes : List ℕ) → IsRecord r bytes → value_bytes r ≤ 8 * length bytes
 cost r bytes is = omega (arith, (all_bytes r).1, (framed_form r is.key is.version).follows.cost bytes is.spelled)
 
--- what is appended makes the whole longer by as much
-pub appended : (old new : List ℕ) (r : Record) → IsEncodable r → new ≡ old ++ record_value r → length new ≡ length old + value_bytes r
-appended old new r fits wrote = omega (arith, ap (λ (l : List ℕ). length l) wrote, length-append old (record_value r), size r fits)
-
 pub ruleset laws = (stands, again, size, bytes)
 
-pub ruleset encoded = (appended, stands)
+pub ruleset encoded = (size, stands)
+
+pub ruleset read_again = (stands, short, held, cost)

@@ -8,17 +8,18 @@ use Rattle.kr_defs.specs.declared.record.Record.TheVariants as kinds
 use Rattle.kr_wire.specs.declared.WireFault.{WireFault}
 use Rattle.kr_wire.specs.Reading.{Read}
 use Rattle.kr_wire.specs.Grammar.{◌⌢◌, IsUvarint, includes}
-use Rattle.kr_wire.specs.Schema.{Int32, Array, Dropped, Uuid}
+use Rattle.kr_wire.specs.Schema.{Int32, Boolean, Array, Dropped, Uuid}
 use Rattle.kr_wire.proofs.ReadingLaws.{IsBytes, Yields, Law, joined, ◌before◌, structure_law, sound_done, sound_then, sound_last, sound_guard, sound_as, sound_if, complete_then, complete_last, complete_guard, all_sound, all_complete, one_value}
 use Rattle.kr_wire.proofs.Numbers.{uvarint_law}
 use Rattle.kr_wire.proofs.Schemas as schemas
 use Rattle.kr_wire.proofs.Tables.{both, fields_law}
 use Rattle.kr_record.specs.declared.fault.RecordFault.{RecordFault}
 use Rattle.kr_record.specs.declared.fault.RecordFault.TheVariants as faults
-use Rattle.kr_record.specs.Answers.{Gives}
+use Rattle.kr_wire.specs.Answers.{Unless}
+use Rattle.kr_record.specs.Answers.{Gives, IsFault, is_free}
 use Rattle.kr_record.specs.Records.{chosen, of_kind, register_broker, unregister_broker, topic, partition, config, partition_change, fence_broker, unfence_broker, remove_topic, feature_level, broker_registration_change, no_op}
-use Rattle.kr_record.specs.Layout.{RecordLayout, Of, Since, ◌▹◌, Directories, Tagged, Kind, IsSince, IsInVersion, since_at, version_at, is_whole}
-use Rattle.kr_record.specs.Reading.{wired, layout_at, kind_at, served_at, parts_at, record_at, record_of}
+use Rattle.kr_record.specs.Layout.{RecordLayout, Of, Flag, ◌▹◌, Directories, Tagged, Kind, IsSince, IsInVersion, since_at, version_at, is_whole}
+use Rattle.kr_record.specs.Reading.{wired, layout_at, kind_at, served_at, record_at, record_of}
 use Rattle.kr_record.specs.Grammar.{IsOfKind, IsLayout, IsRecord}
 use Rattle.kr_record.proofs.LayoutForms.{is_newest}
 
@@ -33,7 +34,7 @@ since_law {X} {One} {read} false law absent = record {
 
 law : {X : Type 0} (s : RecordLayout X) → is_whole s ≡ true → (version : ℕ) → Law (IsInVersion s version) (version_at s version)
 law (Of s) e version = schemas.law s e
-law (Since first absent s) e version = since_law (includes first version) (schemas.law s e) absent
+law (Flag first) e version = since_law (includes first version) (schemas.law Boolean refl) false
 law (a ▹ b) e version = let h = both (is_whole a) (is_whole b) e in law a h.0 version before law b h.1 version
 law (Directories first a) e version =
     structure_law (λ p. p.0) (λ x. (x, tt)) (λ p. refl) (λ x. refl)
@@ -46,12 +47,9 @@ wired_ok : {X : Type 0} (r : Result X WireFault) (x : X) → wired r ≡ Ok x �
 wired_ok {X} (Ok y) x e = let same : y ≡ x = cc in ap (λ z. let r : Result X WireFault = Ok z in r) same
 wired_ok (Err d) x e = absurd cc
 
-sound_wired : {Y : Type 0} (Is : Y → List ℕ → Type 0) (bytes : List ℕ) (r : Read Y) → Yields Is bytes r → Yields Is bytes (wired r)
-sound_wired Is bytes r law y rest e = law y rest (wired_ok r (y, rest) e)
-
 wired_law : {X : Type 0} {Is : X → List ℕ → Type 0} {read : List ℕ → Read X} → Law Is read → Law Is (λ bytes. wired (read bytes))
 wired_law law = record {
-  sound = λ bytes fits. sound_wired _ bytes _ (law.sound bytes fits);
+  sound = λ bytes fits x rest e. law.sound bytes fits x rest (wired_ok _ (x, rest) e);
   complete = λ x front rest is. ap wired (law.complete x front rest is);
 }
 
@@ -71,7 +69,7 @@ unfolding layout_at chosen
 is_chosen kinds.NoOp = record { found = λ version bytes. refl; whole = refl; spelled = refl; low = (lit< tt, lit< tt); back = refl }
 is_chosen _ = record { found = λ version bytes. refl; whole = refl; spelled = refl; low = (lit< tt, lit< tt); back = refl }
 
-parts_law : (k : Kind) → is_whole k.layout ≡ true → (version : ℕ) → Law (λ x front. (version ≤ k.newest) × IsInVersion k.layout version x front) (parts_at k version)
+parts_law : (k : Kind) → is_whole k.layout ≡ true → (version : ℕ) → Law (λ x front. (version ≤ k.newest) × IsInVersion k.layout version x front) (served_at k.key k.newest k.layout version)
 unfolding served_at
 parts_law k whole version =
     let layout = wired_law (law k.layout whole version) in
@@ -80,8 +78,17 @@ parts_law k whole version =
       complete = λ x front rest is. complete_guard _ _ _ _ (le-ltb _ _ is.0) (layout.complete x front rest is.1);
     }
 
-same_key : (a b : ℕ) → eqb a b ≡ true → a ≡ b
-same_key a b e = grind (arith, nat_tests)
+pub read_as : (k : Kind) (version : ℕ) (bytes left : List ℕ) (x : k.Parts) → served_at k.key k.newest k.layout version bytes ≡ Ok (x, left) → kind_at k version bytes ≡ Ok (k.record_of x, left)
+unfolding kind_at
+read_as k version bytes left x e = rw e refl
+
+unless_as : {A B : Type 0} (b : Bool) → (A → B) → Unless b A → Unless b B
+unless_as true f u = tt
+unless_as false f u = f u
+
+pub refused_as : (k : Kind) (version : ℕ) (bytes : List ℕ) (e : RecordFault) → IsFault e (served_at k.key k.newest k.layout version bytes) → IsFault e (kind_at k version bytes)
+unfolding kind_at
+refused_as k version bytes e fault = unless_as (is_free e) (λ (h : served_at k.key k.newest k.layout version bytes ≡ Err e). rw h refl) fault
 
 module _ (key version : ℕ) (bytes : List ℕ) (fits : IsBytes bytes) where
   abbrev Reads : Result (Record × List ℕ) RecordFault → Type 0
@@ -93,7 +100,7 @@ module _ (key version : ℕ) (bytes : List ℕ) (fits : IsBytes bytes) where
   unfolding kind_at
   kind_or k whole there others more =
       sound_if (IsLayout key version) bytes (eqb key k.key) (kind_at k version bytes) others
-      (λ e. sound_last (parts_law k whole version) _ k.record_of bytes fits (λ x front is. there x front (same_key key k.key e, is.0, is.1))) (λ e. more)
+      (λ e. let same : key ≡ k.key = grind (arith, nat_tests) in sound_last (parts_law k whole version) _ k.record_of bytes fits (λ x front is. there x front (same, is.0, is.1))) (λ e. more)
 
   layout_sound : Reads (layout_at key version bytes)
   unfolding layout_at chosen

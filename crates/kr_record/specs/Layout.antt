@@ -13,8 +13,8 @@ infixr 6 ◌▹◌
 pub data RecordLayout : Type 0 → Type 1 where
   -- the same in each version
   Of : {X : Type 0} → Schema X → RecordLayout X
-  -- there since a version, and before it this value
-  Since : {X : Type 0} → ℕ → X → Schema X → RecordLayout X
+  -- a flag that is there since a version, and false before
+  Flag : ℕ → RecordLayout Bool
   -- one after the other
   ◌▹◌ : {X Y : Type 0} → RecordLayout X → RecordLayout Y → RecordLayout (X × Y)
   -- ids, other parts, and since a version behind these a directory for each id: dropped when they are read, and written as zeros
@@ -41,7 +41,7 @@ IsSince false One absent x bytes = (bytes ≡ []) × (x ≡ absent)
 -- The bytes stand for the value in the version.
 abbrev pub IsInVersion : {X : Type 0} → RecordLayout X → ℕ → X → List ℕ → Type 0
 IsInVersion (Of s) version = plain.Is s
-IsInVersion (Since first absent s) version = IsSince (includes first version) (plain.Is s) absent
+IsInVersion (Flag first) version = IsSince (includes first version) (plain.Is Boolean) false
 IsInVersion (a ▹ b) version = λ v. IsInVersion a version v.0 ⌢ IsInVersion b version v.1
 IsInVersion (Directories first a) version = λ x. (plain.Is (Array Int32) x.0 ⌢ IsInVersion a version x.1) ⌢ IsSince (includes first version) (plain.Is (Dropped (Array Uuid))) tt tt
 IsInVersion (Tagged table) version = λ z. IsTags (Are table version z)
@@ -52,7 +52,7 @@ since_at here read absent bytes = cond here (read bytes) (Ok (absent, bytes))
 -- Reading the value from the front of some bytes of the version.
 abbrev pub version_at : {X : Type 0} → RecordLayout X → ℕ → List ℕ → Read X
 version_at (Of s) version = plain.value_at s
-version_at (Since first absent s) version = since_at (includes first version) (plain.value_at s) absent
+version_at (Flag first) version = since_at (includes first version) (plain.value_at Boolean) false
 version_at (a ▹ b) version = version_at a version followed_by version_at b version
 version_at (Directories first a) version =
     structure_at (λ p. p.0) ((plain.value_at (Array Int32) followed_by version_at a version) followed_by since_at (includes first version) (plain.value_at (Dropped (Array Uuid))) tt)
@@ -61,7 +61,7 @@ version_at (Tagged table) version = tags_at (known table version) (absents table
 -- No constant is in it, and the tags rise.
 abbrev pub is_whole : {X : Type 0} → RecordLayout X → Bool
 is_whole (Of s) = plain.is_readable s
-is_whole (Since first absent s) = plain.is_readable s
+is_whole (Flag first) = true
 is_whole (a ▹ b) = is_whole a && is_whole b
 is_whole (Directories first a) = is_whole a
 is_whole (Tagged table) = are_rising table

@@ -2,6 +2,7 @@ pub mod Answers
 pub mod Encodable
 pub mod Grammar
 pub mod Layout
+pub mod Limits
 pub mod Reading
 pub mod RecordRanges
 pub mod Records

@@ -16,12 +16,9 @@ wired (Err fault) = Err (faults.Wire fault)
 unfoldable pub served_at : {X : Type 0} → ℕ → ℕ → RecordLayout X → ℕ → List ℕ → Result (X × List ℕ) RecordFault
 served_at key newest layout version bytes = refuse (faults.UnknownVersion key version) when nat_lt newest version else wired (version_at layout version bytes)
 
-abbrev pub parts_at : (k : Kind) → ℕ → List ℕ → Result (k.Parts × List ℕ) RecordFault
-parts_at k = served_at k.key k.newest k.layout
-
 -- a record of the kind
 unfoldable pub kind_at : Kind → ℕ → List ℕ → Result (Record × List ℕ) RecordFault
-kind_at k version bytes = structure_at k.record_of (parts_at k version) bytes
+kind_at k version bytes = structure_at k.record_of (served_at k.key k.newest k.layout version) bytes
 
 -- the record of the kind with the key
 unfoldable pub layout_at : ℕ → ℕ → List ℕ → Result (Record × List ℕ) RecordFault

@@ -1,11 +1,11 @@
 -- The kinds of records: Kafka's metadata record schemas, each version that is served.
-use Rattle.std.specs.Prelude.{negsuc, false, refl, ℕ, ℤ, List, Option, ◌==◌, if◌then◌else◌}
+use Rattle.std.specs.Prelude.{negsuc, refl, ℕ, ℤ, List, Option, ◌==◌, if◌then◌else◌}
 use Rattle.kr_defs.specs.declared.broker.Endpoint.{Endpoint}
 use Rattle.kr_defs.specs.declared.broker.Range.{Range}
 use Rattle.kr_defs.specs.declared.partition.PartitionChange.{PartitionChange}
 use Rattle.kr_defs.specs.declared.record.Record.{Record}
 use Rattle.kr_defs.specs.declared.record.Record.TheVariants as kinds
-use Rattle.kr_record.specs.Layout.{Schema, Int8, Int16, Int32, Int64, Uint16, Boolean, Uuid, Text, TextOrNull, End, Array, ◌▸◌, Structure, NoField, Field, Int8NotZero, Int8OrNone, Int32OrNone, Int32sOrNull, Int32sOrEmpty, UuidsDropped, RecordLayout, Of, Since, ◌▹◌, Directories, Tagged, Kind, kind}
+use Rattle.kr_record.specs.Layout.{Schema, Int8, Int16, Int32, Int64, Uint16, Boolean, Uuid, Text, TextOrNull, End, Array, ◌▸◌, Structure, NoField, Field, Int8NotZero, Int8OrNone, Int32OrNone, Int32sOrNull, Int32sOrEmpty, UuidsDropped, RecordLayout, Of, Flag, ◌▹◌, Directories, Tagged, Kind, kind}
 
 -- ---- brokers (KIP-631, KIP-841)
 
@@ -22,7 +22,7 @@ range_layout = Structure (Text ▸ Int16 ▸ Int16 ▸ End)
 -- the broker, its incarnation and epoch, its endpoints and features, its rack, and whether it is fenced; since version 1 whether it is stopping
 abbrev pub register_broker : Kind
 register_broker = kind 0 1
-    (Of Int32 ▹ Of Uuid ▹ Of Int64 ▹ Of (Array endpoint_layout) ▹ Of (Array range_layout) ▹ Of TextOrNull ▹ Of Boolean ▹ Since 1 false Boolean ▹ Of End)
+    (Of Int32 ▹ Of Uuid ▹ Of Int64 ▹ Of (Array endpoint_layout) ▹ Of (Array range_layout) ▹ Of TextOrNull ▹ Of Boolean ▹ Flag 1 ▹ Of End)
     (λ (broker, (incarnation, (epoch, (endpoints, (features, (rack, (fenced, (stopping, end)))))))).
     kinds.RegisterBroker broker (record { epoch = epoch; incarnation = incarnation; endpoints = endpoints; features = features; rack = rack; fenced = fenced; stopping = stopping }))
 

@@ -1,11 +1,11 @@
 //! The structures in the registration of a broker.
 
 ghost use Rattle.std.specs.Prelude.{refl};
-ghost use Rattle.kr_record.specs.RecordRanges.{AreHeld};
+ghost use Rattle.kr_record.specs.Limits.{of_schema};
 ghost use Rattle.kr_record.specs.Records.{endpoint_layout, range_layout};
 
 use crate::held::Held;
-use crate::mine::Mine;
+use crate::parts::Mine;
 use kr_base::NoMemory;
 use kr_defs::{Endpoint, Range};
 use kr_layout::{Get, Put, ReadFault, Reader, put_end};
@@ -44,7 +44,7 @@ impl Put<Mine> for Endpoint {
 }
 
 impl Held for Endpoint {
-    ghost held = { AreHeld endpoint_layout };
+    ghost held = { (of_schema endpoint_layout).held };
 
     fn look(&self) {
         self.name.look();
@@ -86,7 +86,7 @@ impl Put<Mine> for Range {
 }
 
 impl Held for Range {
-    ghost held = { AreHeld range_layout };
+    ghost held = { (of_schema range_layout).held };
 
     fn look(&self) {
         self.name.look();

@@ -3,8 +3,7 @@
 ghost use Rattle.std.specs.Prelude.{All, FitsSigned, IfSome, IsUtf8, ◌<◌, ◌^◌};
 ghost use Rattle.std.specs.Int.{w16, w32, w64, w8};
 
-use crate::parts::{Placed, SinceOne};
-use crate::tags::Field;
+use crate::parts::{Field, Since};
 use kr_defs::{Rows, Text};
 
 pub(crate) trait Held {
@@ -112,19 +111,11 @@ impl<A: Held, B: Held> Held for (A, B) {
     }
 }
 
-impl<F: Held> Held for SinceOne<F> {
-    ghost held = { F.held };
+impl<const FIRST: u32, P: Held> Held for Since<FIRST, P> {
+    ghost held = { P.held };
 
     fn look(&self) {
-        self.flag.look();
-    }
-}
-
-impl<I: Held> Held for Placed<I> {
-    ghost held = { I.held };
-
-    fn look(&self) {
-        self.ids.look();
+        self.part.look();
     }
 }
 

@@ -1,7 +1,8 @@
 //! The kinds of records.
 
-ghost use Rattle.std.specs.Prelude.{◌≡◌, ◌++◌, OnOk};
+ghost use Rattle.std.specs.Prelude.{◌≡◌, ◌≢◌, ◌++◌, OnOk};
 ghost use Rattle.kr_record.specs.Answers.{GivesFront};
+ghost use Rattle.kr_record.specs.Encodable.{IsEncodable};
 ghost use Rattle.kr_record.specs.Reading.{kind_at, layout_at, served_at};
 ghost use Rattle.kr_record.specs.Records as kinds;
 ghost use Rattle.kr_record.specs.RecordRanges.{IsHeld};
@@ -9,70 +10,76 @@ ghost use Rattle.kr_record.specs.Spelling.{framed, record_value};
 
 use crate::fault::RecordFault;
 use crate::held::Held;
-use crate::mine::Mine;
-use crate::parts::{Parts, Placed, SinceOne};
+use crate::parts::{Field, Mine, Parts, Since};
 use crate::pieces::Pieces;
-use crate::tags::Field;
 use kr_base::NoMemory;
 use kr_defs::{Broker, Ids, Partition, PartitionChange, Record};
 use kr_layout::Reader;
 use kr_wire::FewBytes;
 
-// Hands the kinds to another macro: of each its key, the newest version, which is the one that is
-// written, a record of it and the structure in that, if there is one, and what stands in the record,
-// in the order of its layout. Each is a pattern as well as a value.
+// Hands the kinds to another macro, first those that most records are of: of each its key, the newest
+// version, which is the one that is written, the fields of a record of it, one of them a structure with
+// its fields, if there is one, and what stands in the record, in the order of its layout. The last is a
+// pattern as well as a value.
 macro_rules! each_kind {
-    ($with:ident($($value:tt),*)) => {
+    ($with:ident($($value:tt)*)) => {
         $with! {
-            ($($value),*)
-            0, 1: { Record::RegisterBroker { broker, state } }
-                where state {
-                    Broker { epoch, incarnation, endpoints, features, rack, fenced, stopping }
-                }
-                = {
-                    (broker, (incarnation, (epoch, (endpoints, (features, (rack, (fenced,
-                    (SinceOne { flag: stopping }, ()))))))))
-                };
-            1, 0: { Record::UnregisterBroker { broker, epoch } } = { (broker, (epoch, ())) };
-            2, 0: { Record::Topic { name, id } } = { (name, (id, ())) };
-            3, 2: { Record::Partition { index, topic, state } }
-                where state {
-                    Partition {
+            ($($value)*)
+            {
+                [2, 0: Topic { name, id } = { (name, (id, ())) }]
+                [3, 2: Partition { index, topic }
+                    where state: Partition {
                         replicas, in_sync, removing, adding, leader, leader_epoch, partition_epoch,
-                        recovery, eligible, last_known,
+                        recovery, eligible, last_known
                     }
-                }
-                = {
-                    (index, (topic, (
-                        (Placed { ids: replicas }, (in_sync, (removing, (adding, (leader,
-                        (leader_epoch, partition_epoch)))))),
-                        tags!(0 since 0 recovery, 1 since 2 eligible, 2 since 2 last_known),
-                    )))
-                };
-            4, 0: { Record::Config { kind, name, key, value } }
-                = { (kind, (name, (key, (value, ())))) };
-            5, 2: { Record::PartitionChange { index, topic, change } }
-                where change {
-                    PartitionChange {
-                        in_sync, leader, replicas, removing, adding, recovery, eligible, last_known,
+                    = {
+                        (index, (topic, (
+                            Since::<1, _> { part: (replicas, (in_sync, (removing, (adding, (leader,
+                            (leader_epoch, partition_epoch)))))) },
+                            tags!(0 since 0 recovery, 1 since 2 eligible, 2 since 2 last_known),
+                        )))
+                    }]
+                [4, 0: Config { kind, name, key, value } = { (kind, (name, (key, (value, ())))) }]
+            }
+            {
+                [0, 1: RegisterBroker { broker }
+                    where state: Broker {
+                        epoch, incarnation, endpoints, features, rack, fenced, stopping
                     }
-                }
-                = {
-                    (index, (topic, tags!(
-                        0 since 0 in_sync, 1 since 0 leader, 2 since 0 replicas,
-                        3 since 0 removing, 4 since 0 adding, 5 since 0 recovery,
-                        6 since 2 eligible, 7 since 2 last_known, 8 since 1 ()
-                    )))
-                };
-            7, 0: { Record::FenceBroker { broker, epoch } } = { (broker, (epoch, ())) };
-            8, 0: { Record::UnfenceBroker { broker, epoch } } = { (broker, (epoch, ())) };
-            9, 0: { Record::RemoveTopic { topic } } = { (topic, ()) };
-            12, 0: { Record::FeatureLevel { name, level } } = { (name, (level, ())) };
-            17, 1: { Record::BrokerRegistrationChange { broker, epoch, fenced, stopping } }
-                = { (broker, (epoch, tags!(0 since 0 fenced, 1 since 1 stopping))) };
-            20, 0: { Record::NoOp } = { () };
+                    = {
+                        (broker, (incarnation, (epoch, (endpoints, (features, (rack, (fenced,
+                        (Since::<1, _> { part: stopping }, ()))))))))
+                    }]
+                [1, 0: UnregisterBroker { broker, epoch } = { (broker, (epoch, ())) }]
+                [7, 0: FenceBroker { broker, epoch } = { (broker, (epoch, ())) }]
+                [8, 0: UnfenceBroker { broker, epoch } = { (broker, (epoch, ())) }]
+                [9, 0: RemoveTopic { topic } = { (topic, ()) }]
+                [12, 0: FeatureLevel { name, level } = { (name, (level, ())) }]
+                [17, 1: BrokerRegistrationChange { broker, epoch, fenced, stopping }
+                    = { (broker, (epoch, tags!(0 since 0 fenced, 1 since 1 stopping))) }]
+                [20, 0: NoOp {} = { () }]
+            }
+            {
+                [5, 2: PartitionChange { index, topic }
+                    where change: PartitionChange {
+                        in_sync, leader, replicas, removing, adding, recovery, eligible, last_known
+                    }
+                    = {
+                        (index, (topic, tags!(
+                            0 since 0 in_sync, 1 since 0 leader, 2 since 0 replicas,
+                            3 since 0 removing, 4 since 0 adding, 5 since 0 recovery,
+                            6 since 2 eligible, 7 since 2 last_known, 8 since 1 (nothing!($with))
+                        )))
+                    }]
+            }
         }
     };
+}
+
+// What is never written, as it is read and as it is written.
+macro_rules! nothing {
+    (reading) => { () };
+    (seeing) => { &() };
 }
 
 // Tagged fields: of each its tag, the first version that has it, and its part.
@@ -83,69 +90,43 @@ macro_rules! tags {
     };
 }
 
-// Reading a record of the kind with the key: the kinds before it are left out.
 macro_rules! reading {
-    ((0, $from:ident, $version:ident) 0, $($kind:tt)*) => { made!($from, $version, 0, $($kind)*) };
-    ((1, $from:ident, $version:ident) 1, $($kind:tt)*) => { made!($from, $version, 1, $($kind)*) };
-    ((2, $from:ident, $version:ident) 2, $($kind:tt)*) => { made!($from, $version, 2, $($kind)*) };
-    ((4, $from:ident, $version:ident) 4, $($kind:tt)*) => { made!($from, $version, 4, $($kind)*) };
-    ((7, $from:ident, $version:ident) 7, $($kind:tt)*) => { made!($from, $version, 7, $($kind)*) };
-    ((8, $from:ident, $version:ident) 8, $($kind:tt)*) => { made!($from, $version, 8, $($kind)*) };
-    ((9, $from:ident, $version:ident) 9, $($kind:tt)*) => { made!($from, $version, 9, $($kind)*) };
-    ((12, $from:ident, $version:ident) 12, $($kind:tt)*) => { made!($from, $version, 12, $($kind)*) };
-    ((17, $from:ident, $version:ident) 17, $($kind:tt)*) => { made!($from, $version, 17, $($kind)*) };
-    ((20, $from:ident, $version:ident) 20, $($kind:tt)*) => { made!($from, $version, 20, $($kind)*) };
+    ((behind $($value:tt)*) $group:tt $($groups:tt)+) => { reading!(($($value)*) $($groups)+) };
     (
-        $values:tt $number:literal, $newest:literal: {$($record:tt)*}
-            $(where $own:ident {$($structure:tt)*})? = {$($parts:tt)*}; $($others:tt)*
+        ($from:ident, $key:ident, $version:ident, $($others:tt)*)
+        {$([$number:literal, $newest:literal: $kind:ident {$($field:ident),*}
+            $(where $own:ident: $structure:ident {$($part:ident),*})? = {$($parts:tt)*}])*}
+        $($groups:tt)*
     ) => {
-        reading!($values $($others)*)
-    };
-}
-
-macro_rules! made {
-    (
-        $from:ident, $version:ident, $number:literal, $newest:literal: {$($record:tt)*}
-            $(where $own:ident {$($structure:tt)*})? = {$($parts:tt)*}; $($others:tt)*
-    ) => {{
-        let $($parts)* = read_version($from, $number, $version, $newest)?;
-        $(let $own = $($structure)*;)?
-        Ok($($record)*)
-    }};
-}
-
-macro_rules! writing {
-    (
-        ($value:ident, $out:ident)
-        $($number:literal, $newest:literal: {$($record:tt)*}
-            $(where $own:ident {$($structure:tt)*})? = {$($parts:tt)*};)*
-    ) => {
-        match $value {
-            $($($record)* => {
-                $(let $($structure)* = $own;)?
-                put_kind($out, $number, $newest, &$($parts)*)
+        match $key {
+            $($number => {
+                let $($parts)* = read_version($from, $number, $version, $newest)?;
+                $(let $own = $structure {$($part),*};)?
+                Ok(Record::$kind {$($field,)* $($own)?})
             })*
+            $($others)*
         }
     };
 }
 
-macro_rules! looking {
+macro_rules! seeing {
     (
-        ($value:ident)
-        $($number:literal, $newest:literal: {$($record:tt)*}
-            $(where $own:ident {$($structure:tt)*})? = {$($parts:tt)*};)*
+        ($value:ident, |$key:ident, $version:ident, $seen:ident| $then:expr)
+        $({$([$number:literal, $newest:literal: $kind:ident {$($field:ident),*}
+            $(where $own:ident: $structure:ident {$($part:ident),*})? = {$($parts:tt)*}])*})*
     ) => {
         match $value {
-            $($($record)* => {
-                $(let $($structure)* = $own;)?
-                $($parts)*.look();
-            })*
+            $($(Record::$kind {$($field,)* $($own)?} => {
+                $(let $structure {$($part),*} = $own;)?
+                let ($key, $version, $seen) = ($number, $newest, $($parts)*);
+                $then
+            })*)*
         }
     };
 }
 
 /// The record of the kind with the key.
-#[tactic(auto, unfolding(crate::specs::Reading::layout_at))]
+#[tactic(auto, unfolding(crate::specs::Reading::layout_at, crate::specs::Reading::kind_at))]
 #[inline(always)]
 pub(crate) fn read_kind(
     from: &mut Reader<'_, Mine>,
@@ -154,112 +135,23 @@ pub(crate) fn read_kind(
 ) -> Result<Record, RecordFault>
     ensures { GivesFront result from.new (layout_at key version from.old) }
 {
-    match key {
-        0 => read_register_broker(from, version),
-        1 => read_unregister_broker(from, version),
-        2 => read_topic(from, version),
-        3 => read_partition(from, version),
-        4 => read_config(from, version),
+    each_kind!(reading(
+        from, key, version,
         5 => read_partition_change(from, version),
-        7 => read_fence_broker(from, version),
-        8 => read_unfence_broker(from, version),
-        9 => read_remove_topic(from, version),
-        12 => read_feature_level(from, version),
-        17 => read_broker_registration_change(from, version),
-        20 => read_no_op(from, version),
-        _ => Err(RecordFault::UnknownKey { key }),
-    }
+        _ => Ok(read_rare(from, key, version)?),
+    ))
 }
 
-#[tactic(auto, unfolding(crate::specs::Reading::kind_at))]
-#[inline(always)]
-fn read_register_broker(from: &mut Reader<'_, Mine>, version: u32) -> Result<Record, RecordFault>
-    ensures { GivesFront result from.new (kind_at kinds.register_broker version from.old) }
+// The same of a key that none of the kinds has that most records are of. It stands alone, so that what it
+// reads doesn't share a place with what they do.
+#[tactic(auto, unfolding(crate::specs::Reading::layout_at, crate::specs::Reading::kind_at))]
+#[inline(never)]
+fn read_rare(from: &mut Reader<'_, Mine>, key: u32, version: u32) -> Result<Record, RecordFault>
+    ensures { key ≢ 2 → key ≢ 3 → key ≢ 4 → key ≢ 5 → GivesFront result from.new (layout_at key version from.old) }
 {
-    each_kind!(reading(0, from, version))
+    each_kind!(reading(behind from, key, version, _ => Err(RecordFault::UnknownKey { key })))
 }
 
-#[tactic(auto, unfolding(crate::specs::Reading::kind_at))]
-#[inline(always)]
-fn read_unregister_broker(from: &mut Reader<'_, Mine>, version: u32) -> Result<Record, RecordFault>
-    ensures { GivesFront result from.new (kind_at kinds.unregister_broker version from.old) }
-{
-    each_kind!(reading(1, from, version))
-}
-
-#[tactic(auto, unfolding(crate::specs::Reading::kind_at))]
-#[inline(always)]
-fn read_topic(from: &mut Reader<'_, Mine>, version: u32) -> Result<Record, RecordFault>
-    ensures { GivesFront result from.new (kind_at kinds.topic version from.old) }
-{
-    each_kind!(reading(2, from, version))
-}
-
-type PartitionParts = (
-    i32,
-    (
-        u128,
-        (
-            (Placed<Ids>, (Ids, (Ids, (Ids, (i32, (i32, i32)))))),
-            (Field<0, 0, i8>, (Field<1, 2, Ids>, (Field<2, 2, Ids>, ()))),
-        ),
-    ),
-);
-
-#[tactic(auto, unfolding(crate::specs::Reading::kind_at))]
-#[inline(always)]
-fn read_partition(from: &mut Reader<'_, Mine>, version: u32) -> Result<Record, RecordFault>
-    ensures { GivesFront result from.new (kind_at kinds.partition version from.old) }
-{
-    let parts: PartitionParts = read_version(from, 3, version, 2)?;
-    Ok(partition_of(parts))
-}
-
-#[inline(always)]
-fn partition_of(parts: PartitionParts) -> Record
-    ensures { result ≡ kinds.partition.record_of parts }
-{
-    let (
-        index,
-        (
-            topic,
-            (
-                (
-                    Placed { ids: replicas },
-                    (in_sync, (removing, (adding, (leader, (leader_epoch, partition_epoch))))),
-                ),
-                tags!( 0 since 0 recovery, 1 since 2 eligible, 2 since 2 last_known ),
-            ),
-        ),
-    ) = parts;
-    let state = Partition {
-        replicas,
-        in_sync,
-        removing,
-        adding,
-        leader,
-        leader_epoch,
-        partition_epoch,
-        recovery,
-        eligible,
-        last_known,
-    };
-    Record::Partition {
-        index,
-        topic,
-        state,
-    }
-}
-
-#[tactic(auto, unfolding(crate::specs::Reading::kind_at))]
-#[inline(always)]
-fn read_config(from: &mut Reader<'_, Mine>, version: u32) -> Result<Record, RecordFault>
-    ensures { GivesFront result from.new (kind_at kinds.config version from.old) }
-{
-    each_kind!(reading(4, from, version))
-}
-
-#[tactic(auto, unfolding(crate::specs::Reading::kind_at))]
 #[inline(always)]
 fn read_partition_change(from: &mut Reader<'_, Mine>, version: u32) -> Result<Record, RecordFault>
     ensures { GivesFront result from.new (kind_at kinds.partition_change version from.old) }
@@ -268,28 +160,11 @@ fn read_partition_change(from: &mut Reader<'_, Mine>, version: u32) -> Result<Re
     Ok(partition_change_of(parts))
 }
 
-type ChangeParts = (
-    Field<0, 0, Option<Ids>>,
-    (
-        Field<1, 0, Option<i32>>,
-        (
-            Field<2, 0, Option<Ids>>,
-            (
-                Field<3, 0, Option<Ids>>,
-                (
-                    Field<4, 0, Option<Ids>>,
-                    (
-                        Field<5, 0, Option<i8>>,
-                        (
-                            Field<6, 2, Option<Ids>>,
-                            (Field<7, 2, Option<Ids>>, (Field<8, 1, ()>, ())),
-                        ),
-                    ),
-                ),
-            ),
-        ),
-    ),
-);
+// The tagged fields of a partition's change.
+type ChangedIds<const TAG: u32, const FIRST: u32> = Field<TAG, FIRST, Option<Ids>>;
+type LaterFields = (ChangedIds<6, 2>, (ChangedIds<7, 2>, (Field<8, 1, ()>, ())));
+type OtherFields = (ChangedIds<3, 0>, (ChangedIds<4, 0>, (Field<5, 0, Option<i8>>, LaterFields)));
+type ChangeParts = (ChangedIds<0, 0>, (Field<1, 0, Option<i32>>, (ChangedIds<2, 0>, OtherFields)));
 
 #[inline(always)]
 fn partition_change_of(parts: (i32, (u128, ChangeParts))) -> Record
@@ -322,57 +197,6 @@ fn change_of(parts: ChangeParts) -> PartitionChange
     }
 }
 
-#[tactic(auto, unfolding(crate::specs::Reading::kind_at))]
-#[inline(always)]
-fn read_fence_broker(from: &mut Reader<'_, Mine>, version: u32) -> Result<Record, RecordFault>
-    ensures { GivesFront result from.new (kind_at kinds.fence_broker version from.old) }
-{
-    each_kind!(reading(7, from, version))
-}
-
-#[tactic(auto, unfolding(crate::specs::Reading::kind_at))]
-#[inline(always)]
-fn read_unfence_broker(from: &mut Reader<'_, Mine>, version: u32) -> Result<Record, RecordFault>
-    ensures { GivesFront result from.new (kind_at kinds.unfence_broker version from.old) }
-{
-    each_kind!(reading(8, from, version))
-}
-
-#[tactic(auto, unfolding(crate::specs::Reading::kind_at))]
-#[inline(always)]
-fn read_remove_topic(from: &mut Reader<'_, Mine>, version: u32) -> Result<Record, RecordFault>
-    ensures { GivesFront result from.new (kind_at kinds.remove_topic version from.old) }
-{
-    each_kind!(reading(9, from, version))
-}
-
-#[tactic(auto, unfolding(crate::specs::Reading::kind_at))]
-#[inline(always)]
-fn read_feature_level(from: &mut Reader<'_, Mine>, version: u32) -> Result<Record, RecordFault>
-    ensures { GivesFront result from.new (kind_at kinds.feature_level version from.old) }
-{
-    each_kind!(reading(12, from, version))
-}
-
-#[tactic(auto, unfolding(crate::specs::Reading::kind_at))]
-#[inline(always)]
-fn read_broker_registration_change(
-    from: &mut Reader<'_, Mine>,
-    version: u32,
-) -> Result<Record, RecordFault>
-    ensures { GivesFront result from.new (kind_at kinds.broker_registration_change version from.old) }
-{
-    each_kind!(reading(17, from, version))
-}
-
-#[tactic(auto, unfolding(crate::specs::Reading::kind_at))]
-#[inline(always)]
-fn read_no_op(from: &mut Reader<'_, Mine>, version: u32) -> Result<Record, RecordFault>
-    ensures { GivesFront result from.new (kind_at kinds.no_op version from.old) }
-{
-    each_kind!(reading(20, from, version))
-}
-
 // What stands in a record of a kind, in a version that it has.
 #[tactic(auto, unfolding(crate::specs::Reading::served_at))]
 #[inline(always)]
@@ -392,10 +216,11 @@ fn read_version<P: Parts>(
 
 /// Appends the record's written form. Without memory some front of it may be appended.
 #[tactic(auto, unfolding(crate::specs::Spelling::record_value))]
-pub(crate) fn put_record(out: &mut Vec<u8>, value: &Record) -> Result<(), NoMemory>
+pub fn append(value: &Record, out: &mut Vec<u8>) -> Result<(), NoMemory>
+    requires { IsEncodable value.now }
     ensures { OnOk result (out.new.items ≡ out.old.items ++ record_value value.now) }
 {
-    each_kind!(writing(value, out))
+    each_kind!(seeing(value, |key, version, parts| put_kind(out, key, version, &parts)))
 }
 
 // The frame version, the key and the version of a record, and what stands in it.
@@ -415,5 +240,5 @@ fn put_kind<P: Pieces>(out: &mut Vec<u8>, key: u32, version: u32, parts: &P) -> 
 pub fn record_is_held(value: &Record)
     ensures { IsHeld value.now }
 {
-    each_kind!(looking(value))
+    each_kind!(seeing(value, |_key, _version, parts| parts.look()))
 }

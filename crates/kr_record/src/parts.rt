@@ -1,18 +1,24 @@
 //! Values that are read one after the other, as nested pairs.
 
-ghost use Rattle.std.specs.Prelude.{false};
-ghost use Rattle.kr_wire.specs.Schema.{Array, Boolean, Dropped, End, Uuid};
+ghost use Rattle.std.specs.Prelude.{◌≡◌};
+ghost use Rattle.kr_wire.specs.Reading.{tags_at, whole_field};
+ghost use Rattle.kr_wire.specs.Schema.{End};
 ghost use Rattle.kr_wire.specs.Tables as tables;
+ghost use Rattle.kr_wire.specs.Tables.{NoField, Table, absents, known, part_at, set_part};
 ghost use Rattle.kr_layout.specs.Answers.{Takes};
+ghost use Rattle.kr_record.specs.Answers.{GivesField, Sets};
 ghost use Rattle.kr_record.specs.Layout as layouts;
 ghost use Rattle.kr_record.specs.Layout.{Directories, Of, RecordLayout, Tagged, version_at, ◌▹◌};
 
-use crate::mine::Mine;
 use crate::tagged::TaggedPart;
-use crate::tags::{Field, Fields, read_tags};
 use kr_defs::{Ids, Rows};
 use kr_layout::{Get, ReadFault, Reader};
+use kr_wire::WireFault;
+use std::alloc::Global;
 use std::marker::Model;
+
+/// This crate's own, for what it reads and writes by layouts.
+pub struct Mine;
 
 /// Parts that are read, up to the end of a structure or of some part of it.
 pub(crate) trait Parts: Drop {
@@ -52,61 +58,46 @@ impl<A: Parts, B: Parts> Parts for (A, B) {
     }
 }
 
-/// A flag that is there since version 1, and false in version 0.
+/// A flag that is there since a version, and false before. Or ids with parts behind them, behind which since a version
+/// a directory for each id stands.
 #[derive(Drop)]
-pub(crate) struct SinceOne<F> {
-    pub flag: F,
+pub(crate) struct Since<const FIRST: u32, P> {
+    pub part: P,
 }
 
-impl<F> Model for SinceOne<F> {
-    ghost Value = { F };
+impl<const FIRST: u32, P> Model for Since<FIRST, P> {
+    ghost Value = { P };
 
-    ghost view = { λ s. s.flag };
+    ghost view = { λ s. s.part };
 }
 
-impl Parts for SinceOne<bool> {
-    ghost layout = { layouts.Since 1 false Boolean };
+impl<const FIRST: u32> Parts for Since<FIRST, bool> {
+    ghost layout = { layouts.Flag FIRST };
 
     #[inline(always)]
-    fn read(from: &mut Reader<'_, Mine>, version: u32) -> Result<SinceOne<bool>, ReadFault> {
-        let flag = if version >= 1 { from.get()? } else { false };
-        Ok(SinceOne { flag })
+    fn read(from: &mut Reader<'_, Mine>, version: u32) -> Result<Since<FIRST, bool>, ReadFault> {
+        let part = if version >= FIRST { from.get()? } else { false };
+        Ok(Since { part })
     }
 }
 
-/// Ids with parts behind them, behind which since version 1 a directory for each id stands.
-#[derive(Drop)]
-pub(crate) struct Placed<I> {
-    pub ids: I,
-}
-
-impl<I> Model for Placed<I> {
-    ghost Value = { I };
-
-    ghost view = { λ p. p.ids };
-}
-
-impl<M: Parts, B: Parts> Parts for ((Placed<Ids>, M), B) {
-    ghost layout = { Directories 1 M.layout ▹ B.layout };
+impl<const FIRST: u32, M: Parts> Parts for Since<FIRST, (Ids, M)> {
+    ghost layout = { Directories FIRST M.layout };
 
     #[inline(always)]
-    fn read(from: &mut Reader<'_, Mine>, version: u32) -> Result<((Placed<Ids>, M), B), ReadFault> {
+    fn read(
+        from: &mut Reader<'_, Mine>,
+        version: u32,
+    ) -> Result<Since<FIRST, (Ids, M)>, ReadFault> {
         let ids: Ids = from.get()?;
         let others = M::read(from, version)?;
-        skip_directories(from, version)?;
-        let behind = B::read(from, version)?;
-        Ok(((Placed { ids }, others), behind))
+        if version >= FIRST {
+            let _dropped: Rows<u128> = from.get()?;
+        }
+        Ok(Since {
+            part: (ids, others),
+        })
     }
-}
-
-// Directories, which version 0 doesn't have. They are dropped.
-fn skip_directories(from: &mut Reader<'_, Mine>, version: u32) -> Result<(), ReadFault>
-    ensures { Takes result from.new (version_at (layouts.Since 1 tt (Dropped (Array Uuid))) version from.old) }
-{
-    if version >= 1 {
-        let _directories: Rows<u128> = from.get()?;
-    }
-    Ok(())
 }
 
 impl<const TAG: u32, const FIRST: u32, P: TaggedPart, F: Fields> Parts
@@ -120,4 +111,89 @@ impl<const TAG: u32, const FIRST: u32, P: TaggedPart, F: Fields> Parts
     ) -> Result<(Field<TAG, FIRST, P>, F), ReadFault> {
         read_tags(from, version)
     }
+}
+
+/// A tagged field with this tag, since a version.
+#[derive(Drop)]
+pub(crate) struct Field<const TAG: u32, const FIRST: u32, P> {
+    pub part: P,
+}
+
+impl<const TAG: u32, const FIRST: u32, P> Model for Field<TAG, FIRST, P> {
+    ghost Value = { P };
+
+    ghost view = { λ f. f.part };
+}
+
+/// Tagged fields that are read.
+pub(crate) trait Fields: Drop {
+    ghost table: { Table Self };
+
+    /// What they are where none is there.
+    fn absent(alloc: Global) -> Self
+        ensures { result ≡ absents table };
+
+    /// Sets what the field with this tag and these data says. After a fault nothing is said of the value.
+    fn set(&mut self, alloc: Global, version: u32, tag: u32, data: &[u8]) -> Result<(), ReadFault>
+        ensures { Sets result self.new (set_part table version tag self.old «data».now) };
+}
+
+impl Fields for () {
+    ghost table = { NoField };
+
+    fn absent(alloc: Global) {}
+
+    #[inline(always)]
+    fn set(&mut self, alloc: Global, version: u32, tag: u32, data: &[u8]) -> Result<(), ReadFault> {
+        Ok(())
+    }
+}
+
+impl<const TAG: u32, const FIRST: u32, P: TaggedPart, F: Fields> Fields
+    for (Field<TAG, FIRST, P>, F) {
+    ghost table = { tables.Field TAG FIRST P.part F.table };
+
+    fn absent(alloc: Global) -> (Field<TAG, FIRST, P>, F) {
+        let part = P::absent(alloc);
+        (Field { part }, F::absent(alloc))
+    }
+
+    #[inline(always)]
+    fn set(&mut self, alloc: Global, version: u32, tag: u32, data: &[u8]) -> Result<(), ReadFault> {
+        if version >= FIRST && tag == TAG {
+            self.0.part = whole(alloc, data)?;
+            return Ok(());
+        }
+        self.1.set(alloc, version, tag, data)
+    }
+}
+
+/// What all of the data of a field give.
+#[inline(always)]
+fn whole<P: TaggedPart>(alloc: Global, data: &[u8]) -> Result<P, ReadFault>
+    ensures { GivesField result (whole_field (part_at P.part «data».now)) }
+{
+    let mut from = Reader::new(alloc, data, 0);
+    match P::read(&mut from) {
+        Ok(value) if from.is_empty() => Ok(value),
+        Ok(_) | Err(ReadFault::Wire(WireFault::Short)) => Err(ReadFault::Wire(WireFault::BadTag)),
+        Err(fault) => Err(fault),
+    }
+}
+
+/// A count, and so many tagged fields.
+#[tactic(auto, unfolding(kr_wire::specs::Reading::tags_at), using(crate::proofs::FieldLoop::fields_read))]
+#[inline(always)]
+fn read_tags<F: Fields>(from: &mut Reader<'_, Mine>, version: u32) -> Result<F, ReadFault>
+    ensures { Takes result from.new (tags_at (known F.table version) (absents F.table) from.old) }
+{
+    let count = from.uvarint()?;
+    let mut value = F::absent(from.alloc());
+    let mut last = None;
+    for _ in 0..count {
+        let (tag, data) = from.field(last)?;
+        value.set(from.alloc(), version, tag, data)?;
+        last = Some(tag);
+    }
+    Ok(value)
 }

@@ -1,6 +1,6 @@
 //! Records from bytes.
 
-ghost use Rattle.std.specs.Prelude.{◌≡◌, Ok, Err, IfOk, if◌then◌else◌};
+ghost use Rattle.std.specs.Prelude.{◌≡◌, ℕ, List, Ok, Err, IfOk, if◌then◌else◌};
 ghost use Rattle.kr_defs.specs.declared.record.Record.{Record as AnyRecord};
 ghost use Rattle.kr_record.specs.declared.fault.RecordFault.TheVariants as faults;
 ghost use Rattle.kr_record.specs.Grammar.{IsRecord};
@@ -9,12 +9,13 @@ ghost use Rattle.kr_record.specs.Reading.{record_of};
 
 use crate::fault::RecordFault;
 use crate::kinds::read_kind;
-use crate::mine::Mine;
+use crate::parts::Mine;
 use kr_defs::Record;
 use kr_layout::Reader;
 use std::alloc::Global;
 
 #[tactic(auto, unfolding(crate::specs::Reading::record_of, crate::specs::Reading::record_at))]
+#[inline(always)]
 fn record(alloc: Global, value: &[u8]) -> Result<Record, RecordFault>
     ensures { Gives result (record_of value.now) }
 {
@@ -30,6 +31,7 @@ fn record(alloc: Global, value: &[u8]) -> Result<Record, RecordFault>
 }
 
 // The record, if nothing is behind it.
+#[inline(always)]
 fn whole(value: Record, is_end: bool) -> Result<Record, RecordFault>
     ensures { result ≡ (if is_end then Ok value else Err faults.Trailing) }
 {
@@ -42,6 +44,7 @@ fn whole(value: Record, is_end: bool) -> Result<Record, RecordFault>
 /// The record that all of the bytes stand for, or the first fault, in the order of reading: the frame
 /// version is judged before the key is read, the key when the version is read, bytes left over last.
 #[tactic(auto, using(crate::proofs::RecordLaws::decoded))]
+#[inline(always)]
 pub fn decode(alloc: Global, value: &[u8]) -> Result<Record, RecordFault>
     // What is decoded is what the bytes stand for.
     ensures found { IfOk result (λ r. IsRecord r value.now) }
@@ -52,3 +55,9 @@ pub fn decode(alloc: Global, value: &[u8]) -> Result<Record, RecordFault>
 {
     record(alloc, value)
 }
+
+/// Bytes stand for one record at most, and what stands for a record is read as it. This function does nothing.
+pub fn records()
+    ensures one { (r : AnyRecord) (s : AnyRecord) (bytes : List ℕ) → IsRecord r bytes → IsRecord s bytes → r ≡ s }
+    ensures read { (r : AnyRecord) (bytes : List ℕ) → IsRecord r bytes → record_of bytes ≡ Ok r }
+{}

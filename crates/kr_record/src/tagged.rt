@@ -1,14 +1,14 @@
 //! The data of a tagged field.
 
-ghost use Rattle.std.specs.Prelude.{◌≡◌, ◌≤◌, negsuc, [], length, IfOk};
-ghost use Rattle.std.specs.Option.{option_map, unwrap_or};
+ghost use Rattle.std.specs.Prelude.{◌≡◌, ◌≤◌, negsuc, length, IfOk};
+ghost use Rattle.std.specs.Option.{option_map};
 ghost use Rattle.kr_layout.specs.Answers.{Takes};
 ghost use Rattle.kr_wire.specs.Schema.{written};
 ghost use Rattle.kr_wire.specs.Spelling.{uvarint};
 ghost use Rattle.kr_wire.specs.Tables as tables;
 ghost use Rattle.kr_wire.specs.Tables.{Int32OrNone, Int32sOrEmpty, Int32sOrNull, Int8NotZero, Int8OrNone, Part, UuidsDropped, part_at, written_data};
 
-use crate::mine::Mine;
+use crate::parts::Mine;
 use kr_base::NoMemory;
 use kr_defs::{Ids, Rows};
 use kr_layout::{Put, ReadFault, Reader};
@@ -36,7 +36,7 @@ impl FieldData for i32 {
 }
 
 impl FieldData for Ids {
-    #[tactic(auto, using(crate::proofs::Appends::length_ids))]
+    #[tactic(auto, using(crate::proofs::LayoutForms::length_ids))]
     fn size(&self) -> Result<u32, NoMemory> {
         if self.len() >= 1 << 29 {
             return Err(NoMemory);
@@ -169,7 +169,7 @@ impl TaggedPart for Ids {
 
     fn read(from: &mut Reader<'_, Mine>) -> Result<Ids, ReadFault> {
         let ids: Option<Ids> = from.get()?;
-        Ok(or_empty(from.alloc(), ids))
+        Ok(ids.unwrap_or(Rows::new(from.alloc())))
     }
 
     fn data(&self) -> Option<&Ids> {
@@ -193,15 +193,5 @@ impl TaggedPart for () {
 
     fn data(&self) -> Option<&i8> {
         None
-    }
-}
-
-// The ids, where null means none.
-fn or_empty(alloc: Global, ids: Option<Ids>) -> Ids
-    ensures { result ≡ unwrap_or ids [] }
-{
-    match ids {
-        None => Rows::new(alloc),
-        Some(ids) => ids,
     }
 }

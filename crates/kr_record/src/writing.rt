@@ -1,23 +1,19 @@
 //! Records to bytes.
 
-ghost use Rattle.std.specs.Prelude.{◌≡◌, ◌+◌, ◌++◌, length, OnOk, OnErr};
+ghost use Rattle.std.specs.Prelude.{◌≡◌, ℕ, ◌+◌, ◌++◌, List, length, Ok, OnOk, OnErr};
 ghost use Rattle.kr_defs.specs.Sizes.{value_bytes};
+ghost use Rattle.kr_defs.specs.declared.record.Record.{Record as AnyRecord};
+ghost use Rattle.kr_wire.specs.Laws.{IsBytes};
 ghost use Rattle.kr_record.specs.Encodable.{IsEncodable};
 ghost use Rattle.kr_record.specs.Grammar.{IsRecord};
+ghost use Rattle.kr_record.specs.Reading.{record_of};
+ghost use Rattle.kr_record.specs.RecordRanges.{IsHeld};
 ghost use Rattle.kr_record.specs.Spelling.{record_value};
 
-use crate::kinds::{put_record, record_is_held};
+use crate::kinds::{append, record_is_held};
 use kr_base::NoMemory;
 use kr_defs::Record;
 use std::mem;
-
-/// Appends the record's written form. Without memory some front of it may be appended.
-pub fn append(value: &Record, out: &mut Vec<u8>) -> Result<(), NoMemory>
-    requires { IsEncodable value.now }
-    ensures { OnOk result (out.new.items ≡ out.old.items ++ record_value value.now) }
-{
-    put_record(out, value)
-}
 
 /// Appends the record's written form. Without memory nothing is appended.
 #[tactic(auto, using(crate::proofs::RecordForms::encoded))]
@@ -33,9 +29,19 @@ pub fn encode(value: &Record, out: &mut Vec<u8>) -> Result<(), NoMemory>
     record_is_held(value);
     // The record is written alone first, so that `out` is as it was where memory runs out.
     let before = mem::try_take(out)?;
-    let written = put_record(out, value);
+    let written = append(value, out);
     let bytes = mem::replace(out, before);
     written?;
     out.extend_from_slice(&bytes)?;
     Ok(())
 }
+
+/// What is written of a record stands for it, is read as it, has as many bytes as its kind's layout takes, and
+/// has no number in it that isn't a byte. This function does nothing.
+#[tactic(auto, using(crate::proofs::RecordForms::laws))]
+pub fn written_records()
+    ensures stands { (r : AnyRecord) → IsEncodable r → IsHeld r → IsRecord r (record_value r) }
+    ensures again { (r : AnyRecord) → IsEncodable r → IsHeld r → record_of (record_value r) ≡ Ok r }
+    ensures size { (r : AnyRecord) → IsEncodable r → length (record_value r) ≡ value_bytes r }
+    ensures bytes { (r : AnyRecord) → IsEncodable r → IsHeld r → IsBytes (record_value r) }
+{}

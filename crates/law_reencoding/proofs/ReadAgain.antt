@@ -65,13 +65,10 @@ values_long (items.Record r ∷ others) fit =
     )
 values_long (items.Control ∷ others) fit = absurd (All-head IsWritable items.Control others fit)
 
-record_no_control : (r : Record) (others more : List Item) → items.Record r ∷ others ≡ items.Control ∷ more → ⊥
-record_no_control r others more e = cc
-
 -- the items of a batch that has records
 items_stand : (control : Bool) (all : List Item) (bytes : List ℕ) → 1 ≤ length all → HasRecords all → AreItems control all bytes → AreEntries 0 all bytes
 items_stand true [] bytes some has is = absurd (omega arith)
-items_stand true (items.Record r ∷ others) bytes some has is = absurd (record_no_control r others _ is)
+items_stand true (items.Record r ∷ others) bytes some has is = absurd (let same : items.Record r ∷ others ≡ items.Control ∷ _ = is in cc)
 items_stand true (items.Control ∷ others) bytes some has is = absurd cc
 items_stand false all bytes some has is = is
 

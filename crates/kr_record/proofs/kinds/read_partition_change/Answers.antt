@@ -1,6 +1,6 @@
 use Rattle.std.proofs.lemmas.Result.{err_from_is_err_and}
 use Rattle.kr_record.specs.Records.{partition_change}
-use Rattle.kr_record.proofs.Arms.{read_as, refused_as}
+use Rattle.kr_record.proofs.RecordLaws.{read_as, refused_as}
 use Rattle.kr_record.proofs.kinds.read_partition_change.Goals as goal
 
 pub returns-in_err-parts : goal.returns-in_err-parts

@@ -1,5 +1,5 @@
 use Rattle.kr_record.specs.Records.{chosen}
-use Rattle.kr_record.proofs.Arms.{held_as}
+use Rattle.kr_record.proofs.RecordForms.{held_as}
 use Rattle.kr_record.proofs.kinds.record_is_held.Goals as goal
 
 pub returns-in-RegisterBroker : goal.returns-in-RegisterBroker

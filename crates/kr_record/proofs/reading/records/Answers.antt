@@ -1,5 +1,5 @@
 use Rattle.kr_record.proofs.RecordLaws.{one_record, of_complete}
-use Rattle.kr_record.proofs.laws.records.Goals as goal
+use Rattle.kr_record.proofs.reading.records.Goals as goal
 
 pub returns-clause-one : goal.returns-clause-one
 returns-clause-one c r s bytes is other = one_record r s bytes is other

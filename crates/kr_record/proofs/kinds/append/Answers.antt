@@ -1,7 +1,7 @@
 use Rattle.kr_record.specs.Records.{chosen}
 use Rattle.kr_record.specs.Spelling.{record_value}
-use Rattle.kr_record.proofs.Arms.{put_as}
-use Rattle.kr_record.proofs.kinds.put_record.Goals as goal
+use Rattle.kr_record.proofs.RecordForms.{put_as}
+use Rattle.kr_record.proofs.kinds.append.Goals as goal
 
 pub returns-in-RegisterBroker : goal.returns-in-RegisterBroker
 returns-in-RegisterBroker c = unfold record_value chosen in put_as _ _ _ _ _ c.in-RegisterBroker.is c.put_kind.ensures
