@@ -152,7 +152,14 @@ fn put_front(delta: u32, value: &[u8], out: &mut Vec<u8>) -> Result<(), AllocErr
     let len = value.len() as u32;
     if size < 64 && len < 64 {
         if delta < 64 {
-            let bytes = [(2 * size) as u8, 0, 0, (2 * delta) as u8, 1, (2 * len) as u8];
+            let bytes = [
+                (2 * size) as u8,
+                0,
+                0,
+                (2 * delta) as u8,
+                1,
+                (2 * len) as u8,
+            ];
             return put_bytes(out, &bytes);
         }
         if delta < 8192 {

@@ -27,18 +27,6 @@ macro_rules! each_kind {
             ($($value)*)
             {
                 [2, 0: Topic { name, id } = { (name, (id, ())) }]
-                [3, 2: Partition { index, topic }
-                    where state: Partition {
-                        replicas, in_sync, removing, adding, leader, leader_epoch, partition_epoch,
-                        recovery, eligible, last_known
-                    }
-                    = {
-                        (index, (topic, (
-                            Since::<1, _> { part: (replicas, (in_sync, (removing, (adding, (leader,
-                            (leader_epoch, partition_epoch)))))) },
-                            tags!(0 since 0 recovery, 1 since 2 eligible, 2 since 2 last_known),
-                        )))
-                    }]
                 [4, 0: Config { kind, name, key, value } = { (kind, (name, (key, (value, ())))) }]
             }
             {
@@ -60,6 +48,18 @@ macro_rules! each_kind {
                 [20, 0: NoOp {} = { () }]
             }
             {
+                [3, 2: Partition { index, topic }
+                    where state: Partition {
+                        replicas, in_sync, removing, adding, leader, leader_epoch, partition_epoch,
+                        recovery, eligible, last_known
+                    }
+                    = {
+                        (index, (topic, (
+                            (Since::<1, _> { part: replicas }, (in_sync, (removing, (adding, (leader,
+                            (leader_epoch, partition_epoch)))))),
+                            tags!(0 since 0 recovery, 1 since 2 eligible, 2 since 2 last_known),
+                        )))
+                    }]
                 [5, 2: PartitionChange { index, topic }
                     where change: PartitionChange {
                         in_sync, leader, replicas, removing, adding, recovery, eligible, last_known
@@ -79,7 +79,8 @@ macro_rules! each_kind {
 // What is never written, as it is read and as it is written.
 macro_rules! nothing {
     (reading) => { () };
-    (seeing) => { &() };
+    (writing) => { &() };
+    (looking) => { () };
 }
 
 // Tagged fields: of each its tag, the first version that has it, and its part.
@@ -109,17 +110,31 @@ macro_rules! reading {
     };
 }
 
-macro_rules! seeing {
+macro_rules! writing {
     (
-        ($value:ident, |$key:ident, $version:ident, $seen:ident| $then:expr)
+        ($value:ident, $out:ident)
         $({$([$number:literal, $newest:literal: $kind:ident {$($field:ident),*}
             $(where $own:ident: $structure:ident {$($part:ident),*})? = {$($parts:tt)*}])*})*
     ) => {
         match $value {
             $($(Record::$kind {$($field,)* $($own)?} => {
                 $(let $structure {$($part),*} = $own;)?
-                let ($key, $version, $seen) = ($number, $newest, $($parts)*);
-                $then
+                put_kind($out, $number, $newest, &$($parts)*)
+            })*)*
+        }
+    };
+}
+
+macro_rules! looking {
+    (
+        ($value:ident)
+        $({$([$number:literal, $newest:literal: $kind:ident {$($field:ident),*}
+            $(where $own:ident: $structure:ident {$($part:ident),*})? = {$($parts:tt)*}])*})*
+    ) => {
+        match $value {
+            $($(Record::$kind {$($field,)* $($own)?} => {
+                $(let $structure {$($part),*} = $own;)?
+                $($parts)*.look();
             })*)*
         }
     };
@@ -137,6 +152,7 @@ pub(crate) fn read_kind(
 {
     each_kind!(reading(
         from, key, version,
+        3 => read_partition(from, version),
         5 => read_partition_change(from, version),
         _ => Ok(read_rare(from, key, version)?),
     ))
@@ -152,6 +168,62 @@ fn read_rare(from: &mut Reader<'_, Mine>, key: u32, version: u32) -> Result<Reco
     each_kind!(reading(behind from, key, version, _ => Err(RecordFault::UnknownKey { key })))
 }
 
+type PartitionParts = (
+    i32,
+    (
+        u128,
+        (
+            (Since<1, Ids>, (Ids, (Ids, (Ids, (i32, (i32, i32)))))),
+            (Field<0, 0, i8>, (Field<1, 2, Ids>, (Field<2, 2, Ids>, ()))),
+        ),
+    ),
+);
+
+#[tactic(auto, unfolding(crate::specs::Reading::kind_at))]
+#[inline(always)]
+fn read_partition(from: &mut Reader<'_, Mine>, version: u32) -> Result<Record, RecordFault>
+    ensures { GivesFront result from.new (kind_at kinds.partition version from.old) }
+{
+    let parts: PartitionParts = read_version(from, 3, version, 2)?;
+    Ok(partition_of(parts))
+}
+
+#[inline(always)]
+fn partition_of(parts: PartitionParts) -> Record
+    ensures { result ≡ kinds.partition.record_of parts }
+{
+    let (
+        index,
+        (
+            topic,
+            (
+                (
+                    Since::<1, _> { part: replicas },
+                    (in_sync, (removing, (adding, (leader, (leader_epoch, partition_epoch))))),
+                ),
+                tags!( 0 since 0 recovery, 1 since 2 eligible, 2 since 2 last_known ),
+            ),
+        ),
+    ) = parts;
+    let state = Partition {
+        replicas,
+        in_sync,
+        removing,
+        adding,
+        leader,
+        leader_epoch,
+        partition_epoch,
+        recovery,
+        eligible,
+        last_known,
+    };
+    Record::Partition {
+        index,
+        topic,
+        state,
+    }
+}
+
 #[inline(always)]
 fn read_partition_change(from: &mut Reader<'_, Mine>, version: u32) -> Result<Record, RecordFault>
     ensures { GivesFront result from.new (kind_at kinds.partition_change version from.old) }
@@ -162,9 +234,18 @@ fn read_partition_change(from: &mut Reader<'_, Mine>, version: u32) -> Result<Re
 
 // The tagged fields of a partition's change.
 type ChangedIds<const TAG: u32, const FIRST: u32> = Field<TAG, FIRST, Option<Ids>>;
+
 type LaterFields = (ChangedIds<6, 2>, (ChangedIds<7, 2>, (Field<8, 1, ()>, ())));
-type OtherFields = (ChangedIds<3, 0>, (ChangedIds<4, 0>, (Field<5, 0, Option<i8>>, LaterFields)));
-type ChangeParts = (ChangedIds<0, 0>, (Field<1, 0, Option<i32>>, (ChangedIds<2, 0>, OtherFields)));
+
+type OtherFields = (
+    ChangedIds<3, 0>,
+    (ChangedIds<4, 0>, (Field<5, 0, Option<i8>>, LaterFields)),
+);
+
+type ChangeParts = (
+    ChangedIds<0, 0>,
+    (Field<1, 0, Option<i32>>, (ChangedIds<2, 0>, OtherFields)),
+);
 
 #[inline(always)]
 fn partition_change_of(parts: (i32, (u128, ChangeParts))) -> Record
@@ -220,7 +301,7 @@ pub fn append(value: &Record, out: &mut Vec<u8>) -> Result<(), NoMemory>
     requires { IsEncodable value.now }
     ensures { OnOk result (out.new.items ≡ out.old.items ++ record_value value.now) }
 {
-    each_kind!(seeing(value, |key, version, parts| put_kind(out, key, version, &parts)))
+    each_kind!(writing(value, out))
 }
 
 // The frame version, the key and the version of a record, and what stands in it.
@@ -240,5 +321,5 @@ fn put_kind<P: Pieces>(out: &mut Vec<u8>, key: u32, version: u32, parts: &P) -> 
 pub fn record_is_held(value: &Record)
     ensures { IsHeld value.now }
 {
-    each_kind!(seeing(value, |_key, _version, parts| parts.look()))
+    each_kind!(looking(value))
 }

@@ -57,12 +57,14 @@ impl<'a, const FIRST: u32> Pieces for Since<FIRST, &'a bool> {
     }
 }
 
-impl<'a, const FIRST: u32, M: Pieces> Pieces for Since<FIRST, (&'a Ids, M)> {
-    ghost bytes = { λ p. (tables.ids p.0.now ++ M.bytes p.1) ++ list id (no_directories p.0.now) };
+impl<'a, const FIRST: u32, M: Pieces, B: Pieces> Pieces for ((Since<FIRST, &'a Ids>, M), B) {
+    ghost bytes = { λ p. ((tables.ids p.0.0.now ++ M.bytes p.0.1) ++ list id (no_directories p.0.0.now)) ++ B.bytes p.1 };
 
     fn put_pieces(&self, out: &mut Vec<u8>) -> Result<(), NoMemory> {
-        self.part.put_pieces(out)?;
-        put_directories(out, self.part.0)
+        self.0.0.part.put_pieces(out)?;
+        self.0.1.put_pieces(out)?;
+        put_directories(out, self.0.0.part)?;
+        self.1.put_pieces(out)
     }
 }
 

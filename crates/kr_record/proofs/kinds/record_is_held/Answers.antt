@@ -3,13 +3,13 @@ use Rattle.kr_record.proofs.RecordForms.{held_as}
 use Rattle.kr_record.proofs.kinds.record_is_held.Goals as goal
 
 pub returns-in-RegisterBroker : goal.returns-in-RegisterBroker
-returns-in-RegisterBroker c = unfold chosen in held_as _ _ c.in-RegisterBroker.is c.look.ensures
+returns-in-RegisterBroker c = unfold chosen in held_as _ _ c.in-RegisterBroker.is c.look-in-RegisterBroker.ensures
 
 pub returns-in-UnregisterBroker : goal.returns-in-UnregisterBroker
 returns-in-UnregisterBroker c = unfold chosen in held_as _ _ c.in-UnregisterBroker.is c.look-in-UnregisterBroker.ensures
 
 pub returns-in-Topic : goal.returns-in-Topic
-returns-in-Topic c = unfold chosen in held_as _ _ c.in-Topic.is c.look-in-Topic.ensures
+returns-in-Topic c = unfold chosen in held_as _ _ c.in-Topic.is c.look.ensures
 
 pub returns-in-Partition : goal.returns-in-Partition
 returns-in-Partition c = unfold chosen in held_as _ _ c.in-Partition.is c.look-in-Partition.ensures
