@@ -28,7 +28,7 @@ use Rattle.kr_wire.proofs.TaggedForms as tagged
 use Rattle.kr_wire.proofs.TaggedForms.{FieldForm, FieldsForm, field_there, left_out, present}
 use Rattle.kr_wire.proofs.TaggedSpelling.{AreFound, found, rising}
 use Rattle.kr_record.specs.Layout.{RecordLayout, Of, Flag, ◌▹◌, Directories, Tagged, IsSince, IsInVersion}
-use Rattle.kr_record.specs.Limits.{FitsField, AreInts, of_schema, of_part, of_table, of_layout}
+use Rattle.kr_record.specs.Limits.{FitsField, AreInts, of_schema, of_part, of_table, of_record_layout}
 use Rattle.kr_record.specs.Spelling.{no_directories}
 use Rattle.kr_record.specs.Spelling as layouts
 
@@ -240,7 +240,7 @@ most_bytes (Directories first a) = λ x. 8 * list_bytes 4 x.0 + most_bytes a x.1
 most_bytes (Tagged t) = λ z. tags_bytes ((of_table t).size z)
 
 pub layout_form : {X : Type 0} (s : RecordLayout X) (newest : ℕ) → is_newest s newest ≡ true → (version : ℕ) (x : X)
-    → Form (IsInVersion s newest x) (IsInVersion s version x) (layouts.written s x) ((of_layout s).size x) (most_bytes s x) ((of_layout s).short x) ((of_layout s).held x)
+    → Form (IsInVersion s newest x) (IsInVersion s version x) (layouts.written s x) ((of_record_layout s).size x) (most_bytes s x) ((of_record_layout s).short x) ((of_record_layout s).held x)
 layout_form (Of s) newest e version x = plain_form s e x
 layout_form (Flag first) newest e version x =
     let part = bool x in

@@ -19,7 +19,7 @@ use Rattle.kr_record.specs.Encodable.{IsEncodable}
 use Rattle.kr_record.specs.Grammar.{IsLayout, IsRecord}
 use Rattle.kr_record.specs.RecordRanges.{IsHeld}
 use Rattle.kr_record.specs.Reading.{record_of}
-use Rattle.kr_record.specs.Limits.{of_schema, of_layout}
+use Rattle.kr_record.specs.Limits.{of_schema, of_record_layout}
 use Rattle.kr_record.specs.Spelling.{framed, record_value}
 use Rattle.kr_record.proofs.LayoutForms.{most_bytes, layout_form}
 use Rattle.kr_record.proofs.RecordLaws.{is_chosen, of_complete}
@@ -27,7 +27,7 @@ use Rattle.kr_record.proofs.RecordLaws.{is_chosen, of_complete}
 -- a kind with a small key, in its newest version, and what stood for it with some key, in some version
 framed_form : (r : Record) (key version : ℕ) → let k = (chosen r).kind in
     Form (IsUvarint 1 ⌢ IsUvarint k.key ⌢ IsUvarint k.newest ⌢ IsLayout k.key k.newest r) (IsUvarint 1 ⌢ IsUvarint key ⌢ IsUvarint version ⌢ IsLayout key version r)
-    (record_value r) (3 + (of_layout k.layout).size (chosen r).parts) (3 + most_bytes k.layout (chosen r).parts) (IsEncodable r) (IsHeld r)
+    (record_value r) (3 + (of_record_layout k.layout).size (chosen r).parts) (3 + most_bytes k.layout (chosen r).parts) (IsEncodable r) (IsHeld r)
 unfolding record_value framed
 framed_form r key version =
     let k = (chosen r).kind in
@@ -85,7 +85,7 @@ none_more sizes =
     rw (there, bytes) refl
 
 -- they are those that are told, and no more than eight times as many as stood for a record
-all_bytes : (r : Record) → let k = (chosen r).kind in (3 + (of_layout k.layout).size (chosen r).parts ≡ value_bytes r) × (value_bytes r ≤ 3 + most_bytes k.layout (chosen r).parts)
+all_bytes : (r : Record) → let k = (chosen r).kind in (3 + (of_record_layout k.layout).size (chosen r).parts ≡ value_bytes r) × (value_bytes r ≤ 3 + most_bytes k.layout (chosen r).parts)
 unfolding value_bytes chosen
 all_bytes (kinds.RegisterBroker broker state) =
     let endpoints = endpoints_bytes state.endpoints in

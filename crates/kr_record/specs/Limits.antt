@@ -20,8 +20,8 @@ abbrev pub free : {X : Type 0} → X → Type 0
 free x = Unit {0}
 
 -- one after the other
-abbrev pub in_turn : {X Y : Type 0} → Limits X ℕ → Limits Y ℕ → Limits (X × Y) ℕ
-in_turn a b = limits (λ v. a.size v.0 + b.size v.1) (λ v. a.short v.0 × b.short v.1) (λ v. a.held v.0 × b.held v.1)
+abbrev pub in_sequence : {X Y : Type 0} → Limits X ℕ → Limits Y ℕ → Limits (X × Y) ℕ
+in_sequence a b = limits (λ v. a.size v.0 + b.size v.1) (λ v. a.short v.0 × b.short v.1) (λ v. a.held v.0 × b.held v.1)
 
 -- a text or a list of fewer than 2^31 bytes or elements
 abbrev pub IsShort : {X : Type 0} → List X → Type 0
@@ -46,7 +46,7 @@ of_schema Text = limits text_bytes IsShort IsUtf8
 of_schema TextOrNull = limits text_or_null_bytes (λ o. IfSome o IsShort) (λ o. IfSome o IsUtf8)
 of_schema (Array Int32) = limits (list_bytes 4) IsShort AreInts
 of_schema (Array s) = limits (rows_bytes (of_schema s).size) (λ xs. IsShort xs × All (of_schema s).short xs) (All (of_schema s).held)
-of_schema (a ▸ b) = in_turn (of_schema a) (of_schema b)
+of_schema (a ▸ b) = in_sequence (of_schema a) (of_schema b)
 of_schema (Structure s of fields there back) = limits (λ y. (of_schema s).size (fields y)) (λ y. (of_schema s).short (fields y)) (λ y. (of_schema s).held (fields y))
 of_schema _ = limits (λ x. 1) free free
 
@@ -66,11 +66,11 @@ of_table (Field tag first part more) =
     let others = of_table more in
     limits (λ z. one.size z.0 ∷ others.size z.1) (λ z. one.short z.0 × others.short z.1) (λ z. one.held z.0 × others.held z.1)
 
-abbrev pub of_layout : {X : Type 0} → RecordLayout X → Limits X ℕ
-of_layout (Of s) = of_schema s
-of_layout (Flag first) = limits (λ b. 1) free free
-of_layout (a ▹ b) = in_turn (of_layout a) (of_layout b)
-of_layout (Directories first a) =
-    let others = of_layout a in
+abbrev pub of_record_layout : {X : Type 0} → RecordLayout X → Limits X ℕ
+of_record_layout (Of s) = of_schema s
+of_record_layout (Flag first) = limits (λ b. 1) free free
+of_record_layout (a ▹ b) = in_sequence (of_record_layout a) (of_record_layout b)
+of_record_layout (Directories first a) =
+    let others = of_record_layout a in
     limits (λ x. list_bytes 4 x.0 + others.size x.1 + list_bytes 16 x.0) (λ x. IsShort x.0 × others.short x.1) (λ x. AreInts x.0 × others.held x.1)
-of_layout (Tagged table) = let all = of_table table in limits (λ z. tags_bytes (all.size z)) all.short all.held
+of_record_layout (Tagged table) = let all = of_table table in limits (λ z. tags_bytes (all.size z)) all.short all.held
