@@ -3,7 +3,6 @@
 ghost use Rattle.std.specs.Prelude.{All, FitsSigned, IfSome, IsUtf8, ◌<◌, ◌^◌};
 ghost use Rattle.std.specs.Int.{w16, w32, w64, w8};
 
-use crate::parts::{Field, Since};
 use kr_defs::{Rows, Text};
 
 pub(crate) trait Held {
@@ -11,12 +10,6 @@ pub(crate) trait Held {
 
     fn look(&self)
         ensures { held self.now };
-}
-
-impl Held for () {
-    ghost held = { λ u. Unit {0} };
-
-    fn look(&self) {}
 }
 
 impl Held for bool {
@@ -91,38 +84,5 @@ impl<T: Held> Held for Rows<T> {
         for row in rows {
             row.look();
         }
-    }
-}
-
-impl<'a, T: Held> Held for &'a T {
-    ghost held = { λ r. T.held r.now };
-
-    fn look(&self) {
-        T::look(*self);
-    }
-}
-
-impl<A: Held, B: Held> Held for (A, B) {
-    ghost held = { λ p. A.held p.0 × B.held p.1 };
-
-    fn look(&self) {
-        self.0.look();
-        self.1.look();
-    }
-}
-
-impl<const FIRST: u32, P: Held> Held for Since<FIRST, P> {
-    ghost held = { P.held };
-
-    fn look(&self) {
-        self.part.look();
-    }
-}
-
-impl<const TAG: u32, const FIRST: u32, P: Held> Held for Field<TAG, FIRST, P> {
-    ghost held = { P.held };
-
-    fn look(&self) {
-        self.part.look();
     }
 }

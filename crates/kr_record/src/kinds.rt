@@ -17,18 +17,14 @@ use kr_defs::{Broker, Ids, Partition, PartitionChange, Record};
 use kr_layout::Reader;
 use kr_wire::FewBytes;
 
-// Hands the kinds to another macro, first those that most records are of: of each its key, the newest
-// version, which is the one that is written, the fields of a record of it, one of them a structure with
-// its fields, if there is one, and what stands in the record, in the order of its layout. The last is a
-// pattern as well as a value.
+// Hands the kinds to another macro: of each its key, the newest version, which is the one that is
+// written, the fields of a record of it, one of them a structure with its fields, if there is one, and
+// what stands in the record, in the order of its layout. The last is a pattern as well as a value. The
+// kind that has a reader of its own stands in a second group.
 macro_rules! each_kind {
-    ($with:ident($($value:tt)*)) => {
+    ($with:ident($($value:tt),*)) => {
         $with! {
-            ($($value)*)
-            {
-                [2, 0: Topic { name, id } = { (name, (id, ())) }]
-                [4, 0: Config { kind, name, key, value } = { (kind, (name, (key, (value, ())))) }]
-            }
+            ($($value),*)
             {
                 [0, 1: RegisterBroker { broker }
                     where state: Broker {
@@ -39,6 +35,20 @@ macro_rules! each_kind {
                         (Since::<1, _> { part: stopping }, ()))))))))
                     }]
                 [1, 0: UnregisterBroker { broker, epoch } = { (broker, (epoch, ())) }]
+                [2, 0: Topic { name, id } = { (name, (id, ())) }]
+                [3, 2: Partition { index, topic }
+                    where state: Partition {
+                        replicas, in_sync, removing, adding, leader, leader_epoch, partition_epoch,
+                        recovery, eligible, last_known
+                    }
+                    = {
+                        (index, (topic, (
+                            with_directories!($with, 1, replicas, (in_sync, (removing, (adding,
+                            (leader, (leader_epoch, partition_epoch)))))),
+                            tags!(0 since 0 recovery, 1 since 2 eligible, 2 since 2 last_known),
+                        )))
+                    }]
+                [4, 0: Config { kind, name, key, value } = { (kind, (name, (key, (value, ())))) }]
                 [7, 0: FenceBroker { broker, epoch } = { (broker, (epoch, ())) }]
                 [8, 0: UnfenceBroker { broker, epoch } = { (broker, (epoch, ())) }]
                 [9, 0: RemoveTopic { topic } = { (topic, ()) }]
@@ -48,18 +58,6 @@ macro_rules! each_kind {
                 [20, 0: NoOp {} = { () }]
             }
             {
-                [3, 2: Partition { index, topic }
-                    where state: Partition {
-                        replicas, in_sync, removing, adding, leader, leader_epoch, partition_epoch,
-                        recovery, eligible, last_known
-                    }
-                    = {
-                        (index, (topic, (
-                            (Since::<1, _> { part: replicas }, (in_sync, (removing, (adding, (leader,
-                            (leader_epoch, partition_epoch)))))),
-                            tags!(0 since 0 recovery, 1 since 2 eligible, 2 since 2 last_known),
-                        )))
-                    }]
                 [5, 2: PartitionChange { index, topic }
                     where change: PartitionChange {
                         in_sync, leader, replicas, removing, adding, recovery, eligible, last_known
@@ -78,9 +76,18 @@ macro_rules! each_kind {
 
 // What is never written, as it is read and as it is written.
 macro_rules! nothing {
-    (reading) => { () };
     (writing) => { &() };
-    (looking) => { () };
+    ($with:ident) => { () };
+}
+
+// Ids and others, behind which since a version a directory for each id stands.
+macro_rules! with_directories {
+    (writing, $first:literal, $ids:ident, $others:tt) => {
+        (Since::<$first, _> { part: $ids }, $others)
+    };
+    ($with:ident, $first:literal, $ids:ident, $others:tt) => {
+        Since::<$first, _> { part: ($ids, $others) }
+    };
 }
 
 // Tagged fields: of each its tag, the first version that has it, and its part.
@@ -92,12 +99,11 @@ macro_rules! tags {
 }
 
 macro_rules! reading {
-    ((behind $($value:tt)*) $group:tt $($groups:tt)+) => { reading!(($($value)*) $($groups)+) };
     (
-        ($from:ident, $key:ident, $version:ident, $($others:tt)*)
+        ($from:ident, $key:ident, $version:ident)
         {$([$number:literal, $newest:literal: $kind:ident {$($field:ident),*}
             $(where $own:ident: $structure:ident {$($part:ident),*})? = {$($parts:tt)*}])*}
-        $($groups:tt)*
+        $group:tt
     ) => {
         match $key {
             $($number => {
@@ -105,7 +111,7 @@ macro_rules! reading {
                 $(let $own = $structure {$($part),*};)?
                 Ok(Record::$kind {$($field,)* $($own)?})
             })*
-            $($others)*
+            _ => Err(RecordFault::UnknownKey { key: $key }),
         }
     };
 }
@@ -133,8 +139,8 @@ macro_rules! looking {
     ) => {
         match $value {
             $($(Record::$kind {$($field,)* $($own)?} => {
-                $(let $structure {$($part),*} = $own;)?
-                $($parts)*.look();
+                $($field.look();)*
+                $($($own.$part.look();)*)?
             })*)*
         }
     };
@@ -150,78 +156,20 @@ pub(crate) fn read_kind(
 ) -> Result<Record, RecordFault>
     ensures { GivesFront result from.new (layout_at key version from.old) }
 {
-    each_kind!(reading(
-        from, key, version,
-        3 => read_partition(from, version),
-        5 => read_partition_change(from, version),
-        _ => Ok(read_rare(from, key, version)?),
-    ))
+    if key == 5 {
+        return read_partition_change(from, version);
+    }
+    Ok(read_other(from, key, version)?)
 }
 
-// The same of a key that none of the kinds has that most records are of. It stands alone, so that what it
-// reads doesn't share a place with what they do.
+// The same of another key than that of a partition's change, of which most records are. It stands alone,
+// so that what reads these doesn't grow too large to be put in line.
 #[tactic(auto, unfolding(crate::specs::Reading::layout_at, crate::specs::Reading::kind_at))]
 #[inline(never)]
-fn read_rare(from: &mut Reader<'_, Mine>, key: u32, version: u32) -> Result<Record, RecordFault>
-    ensures { key ≢ 2 → key ≢ 3 → key ≢ 4 → key ≢ 5 → GivesFront result from.new (layout_at key version from.old) }
+fn read_other(from: &mut Reader<'_, Mine>, key: u32, version: u32) -> Result<Record, RecordFault>
+    ensures { key ≢ 5 → GivesFront result from.new (layout_at key version from.old) }
 {
-    each_kind!(reading(behind from, key, version, _ => Err(RecordFault::UnknownKey { key })))
-}
-
-type PartitionParts = (
-    i32,
-    (
-        u128,
-        (
-            (Since<1, Ids>, (Ids, (Ids, (Ids, (i32, (i32, i32)))))),
-            (Field<0, 0, i8>, (Field<1, 2, Ids>, (Field<2, 2, Ids>, ()))),
-        ),
-    ),
-);
-
-#[tactic(auto, unfolding(crate::specs::Reading::kind_at))]
-#[inline(always)]
-fn read_partition(from: &mut Reader<'_, Mine>, version: u32) -> Result<Record, RecordFault>
-    ensures { GivesFront result from.new (kind_at kinds.partition version from.old) }
-{
-    let parts: PartitionParts = read_version(from, 3, version, 2)?;
-    Ok(partition_of(parts))
-}
-
-#[inline(always)]
-fn partition_of(parts: PartitionParts) -> Record
-    ensures { result ≡ kinds.partition.record_of parts }
-{
-    let (
-        index,
-        (
-            topic,
-            (
-                (
-                    Since::<1, _> { part: replicas },
-                    (in_sync, (removing, (adding, (leader, (leader_epoch, partition_epoch))))),
-                ),
-                tags!( 0 since 0 recovery, 1 since 2 eligible, 2 since 2 last_known ),
-            ),
-        ),
-    ) = parts;
-    let state = Partition {
-        replicas,
-        in_sync,
-        removing,
-        adding,
-        leader,
-        leader_epoch,
-        partition_epoch,
-        recovery,
-        eligible,
-        last_known,
-    };
-    Record::Partition {
-        index,
-        topic,
-        state,
-    }
+    each_kind!(reading(from, key, version))
 }
 
 #[inline(always)]

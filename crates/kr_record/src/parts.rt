@@ -2,13 +2,13 @@
 
 ghost use Rattle.std.specs.Prelude.{◌≡◌};
 ghost use Rattle.kr_wire.specs.Reading.{tags_at, whole_field};
-ghost use Rattle.kr_wire.specs.Schema.{Array, Dropped, End, Uuid, value_at};
+ghost use Rattle.kr_wire.specs.Schema.{End};
 ghost use Rattle.kr_wire.specs.Tables as tables;
 ghost use Rattle.kr_wire.specs.Tables.{NoField, Table, absents, known, part_at, set_part};
 ghost use Rattle.kr_layout.specs.Answers.{Takes};
 ghost use Rattle.kr_record.specs.Answers.{GivesField, Sets};
 ghost use Rattle.kr_record.specs.Layout as layouts;
-ghost use Rattle.kr_record.specs.Layout.{Directories, Of, RecordLayout, Tagged, since_at, version_at, ◌▹◌};
+ghost use Rattle.kr_record.specs.Layout.{Directories, Of, RecordLayout, Tagged, version_at, ◌▹◌};
 
 use crate::tagged::TaggedPart;
 use kr_defs::{Ids, Rows};
@@ -81,30 +81,23 @@ impl<const FIRST: u32> Parts for Since<FIRST, bool> {
     }
 }
 
-impl<const FIRST: u32, M: Parts, B: Parts> Parts for ((Since<FIRST, Ids>, M), B) {
-    ghost layout = { Directories FIRST M.layout ▹ B.layout };
+impl<const FIRST: u32, M: Parts> Parts for Since<FIRST, (Ids, M)> {
+    ghost layout = { Directories FIRST M.layout };
 
     #[inline(always)]
     fn read(
         from: &mut Reader<'_, Mine>,
         version: u32,
-    ) -> Result<((Since<FIRST, Ids>, M), B), ReadFault> {
-        let part: Ids = from.get()?;
+    ) -> Result<Since<FIRST, (Ids, M)>, ReadFault> {
+        let ids: Ids = from.get()?;
         let others = M::read(from, version)?;
-        skip_directories(from, version >= FIRST)?;
-        let behind = B::read(from, version)?;
-        Ok(((Since { part }, others), behind))
+        if version >= FIRST {
+            let _dropped: Rows<u128> = from.get()?;
+        }
+        Ok(Since {
+            part: (ids, others),
+        })
     }
-}
-
-// Directories, where a version has them. They are dropped.
-fn skip_directories(from: &mut Reader<'_, Mine>, here: bool) -> Result<(), ReadFault>
-    ensures { Takes result from.new (since_at here (value_at (Dropped (Array Uuid))) tt from.old) }
-{
-    if here {
-        let _directories: Rows<u128> = from.get()?;
-    }
-    Ok(())
 }
 
 impl<const TAG: u32, const FIRST: u32, P: TaggedPart, F: Fields> Parts
@@ -175,8 +168,7 @@ impl<const TAG: u32, const FIRST: u32, P: TaggedPart, F: Fields> Fields
     }
 }
 
-/// What all of the data of a field give.
-#[inline(always)]
+/// What all of the data of a field give. It is left to the compiler where this stands in line: in all places it is too much.
 fn whole<P: TaggedPart>(alloc: Global, data: &[u8]) -> Result<P, ReadFault>
     ensures { GivesField result (whole_field (part_at P.part «data».now)) }
 {

@@ -4,13 +4,13 @@ use Rattle.kr_record.proofs.RecordForms.{put_as}
 use Rattle.kr_record.proofs.kinds.append.Goals as goal
 
 pub returns-in-RegisterBroker : goal.returns-in-RegisterBroker
-returns-in-RegisterBroker c = unfold record_value chosen in put_as _ _ _ _ _ c.in-RegisterBroker.is c.put_kind-in-RegisterBroker.ensures
+returns-in-RegisterBroker c = unfold record_value chosen in put_as _ _ _ _ _ c.in-RegisterBroker.is c.put_kind.ensures
 
 pub returns-in-UnregisterBroker : goal.returns-in-UnregisterBroker
 returns-in-UnregisterBroker c = unfold record_value chosen in put_as _ _ _ _ _ c.in-UnregisterBroker.is c.put_kind-in-UnregisterBroker.ensures
 
 pub returns-in-Topic : goal.returns-in-Topic
-returns-in-Topic c = unfold record_value chosen in put_as _ _ _ _ _ c.in-Topic.is c.put_kind.ensures
+returns-in-Topic c = unfold record_value chosen in put_as _ _ _ _ _ c.in-Topic.is c.put_kind-in-Topic.ensures
 
 pub returns-in-Partition : goal.returns-in-Partition
 returns-in-Partition c = unfold record_value chosen in put_as _ _ _ _ _ c.in-Partition.is c.put_kind-in-Partition.ensures
