@@ -50,10 +50,12 @@ impl BatchWriter {
         let batch = batch_of(self.before, &self.body, group);
         encode(&batch, &mut self.body)?;
         self.before += count;
+        self.group = emptied(batch);
         Ok(())
     }
 
     // Where the batch in hand is full it is written.
+    #[inline(always)]
     fn make_room(&mut self) -> Result<(), NoMemory>
         requires { IsSound self.old }
         ensures sound { OnOk result (IsSound self.new) }
@@ -69,6 +71,7 @@ impl BatchWriter {
     }
 
     /// Adds a record.
+    #[inline(always)]
     pub fn push(&mut self, value: Record) -> Result<(), NoMemory>
         requires may { MayAdd self.old (value ∷ []) }
         requires held { IsHeld value }
@@ -114,4 +117,14 @@ fn batch_of(before: usize, body: &Vec<u8>, group: Vec<Item>) -> Batch
         time: 0,
         items: Items::from_vec(group),
     }
+}
+
+// The room of a batch's items, for others.
+fn emptied(batch: Batch) -> Vec<Item>
+    ensures { result.items ≡ [] }
+{
+    let Batch { items, .. } = batch;
+    let mut group = items.into_vec();
+    group.clear();
+    group
 }

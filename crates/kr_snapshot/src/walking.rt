@@ -49,6 +49,7 @@ fn topic(alloc: Global, name: &Text, id: &u128) -> Result<Record, NoMemory>
     Ok(record)
 }
 
+#[inline(always)]
 fn partition(alloc: Global, key: &(u128, i32), state: &Partition) -> Result<Record, NoMemory>
     ensures of { IfOk result (λ r. r ≡ partition_record (key.now, state.now)) }
     ensures held { IfOk result IsHeld }
