@@ -1,0 +1,4 @@
+pub mod Batches
+pub mod Changes
+pub mod NumberedRecords
+pub mod Settings
