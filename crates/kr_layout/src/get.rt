@@ -150,7 +150,6 @@ impl<M> Get<M> for Text {
 
     ghost is_whole = { refl };
 
-    #[inline(always)]
     fn get(from: &mut Reader<'_, M>) -> Result<Text, ReadFault> {
         from.text()
     }
@@ -165,7 +164,6 @@ impl<M> Get<M> for Option<Text> {
 
     ghost is_whole = { refl };
 
-    #[inline(always)]
     fn get(from: &mut Reader<'_, M>) -> Result<Option<Text>, ReadFault> {
         from.text_or_null()
     }

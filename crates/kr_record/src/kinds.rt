@@ -22,9 +22,12 @@ use kr_wire::FewBytes;
 // what stands in the record, in the order of its layout. The last is a pattern as well as a value. The
 // kind that has a reader of its own stands in a second group.
 macro_rules! each_kind {
-    ($with:ident($($value:tt),*)) => {
+    ($with:ident($($value:tt)*)) => {
         $with! {
-            ($($value),*)
+            ($($value)*)
+            {
+                [4, 0: Config { kind, name, key, value } = { (kind, (name, (key, (value, ())))) }]
+            }
             {
                 [0, 1: RegisterBroker { broker }
                     where state: Broker {
@@ -48,7 +51,6 @@ macro_rules! each_kind {
                             tags!(0 since 0 recovery, 1 since 2 eligible, 2 since 2 last_known),
                         )))
                     }]
-                [4, 0: Config { kind, name, key, value } = { (kind, (name, (key, (value, ())))) }]
                 [7, 0: FenceBroker { broker, epoch } = { (broker, (epoch, ())) }]
                 [8, 0: UnfenceBroker { broker, epoch } = { (broker, (epoch, ())) }]
                 [9, 0: RemoveTopic { topic } = { (topic, ()) }]
@@ -99,11 +101,12 @@ macro_rules! tags {
 }
 
 macro_rules! reading {
+    ((behind, $($value:tt)*) $group:tt $($groups:tt)+) => { reading!(($($value)*) $($groups)+) };
     (
-        ($from:ident, $key:ident, $version:ident)
+        ($from:ident, $key:ident, $version:ident, $($others:tt)*)
         {$([$number:literal, $newest:literal: $kind:ident {$($field:ident),*}
             $(where $own:ident: $structure:ident {$($part:ident),*})? = {$($parts:tt)*}])*}
-        $group:tt
+        $($groups:tt)*
     ) => {
         match $key {
             $($number => {
@@ -111,7 +114,7 @@ macro_rules! reading {
                 $(let $own = $structure {$($part),*};)?
                 Ok(Record::$kind {$($field,)* $($own)?})
             })*
-            _ => Err(RecordFault::UnknownKey { key: $key }),
+            $($others)*
         }
     };
 }
@@ -156,20 +159,21 @@ pub(crate) fn read_kind(
 ) -> Result<Record, RecordFault>
     ensures { GivesFront result from.new (layout_at key version from.old) }
 {
-    if key == 5 {
-        return read_partition_change(from, version);
-    }
-    Ok(read_other(from, key, version)?)
+    each_kind!(reading(
+        from, key, version,
+        5 => read_partition_change(from, version),
+        _ => Ok(read_rare(from, key, version)?),
+    ))
 }
 
-// The same of another key than that of a partition's change, of which most records are. It stands alone,
-// so that what reads these doesn't grow too large to be put in line.
+// The same of a key that none of the kinds has that most records are of. It stands alone, so that what
+// reads these doesn't grow too large to be put in line.
 #[tactic(auto, unfolding(crate::specs::Reading::layout_at, crate::specs::Reading::kind_at))]
 #[inline(never)]
-fn read_other(from: &mut Reader<'_, Mine>, key: u32, version: u32) -> Result<Record, RecordFault>
-    ensures { key ≢ 5 → GivesFront result from.new (layout_at key version from.old) }
+fn read_rare(from: &mut Reader<'_, Mine>, key: u32, version: u32) -> Result<Record, RecordFault>
+    ensures { key ≢ 2 → key ≢ 3 → key ≢ 4 → key ≢ 5 → GivesFront result from.new (layout_at key version from.old) }
 {
-    each_kind!(reading(from, key, version))
+    each_kind!(reading(behind, from, key, version, _ => Err(RecordFault::UnknownKey { key })))
 }
 
 #[inline(always)]
