@@ -114,11 +114,33 @@ fn put_records(items: &[Item], out: &mut Vec<u8>) -> Result<(), NoMemory>
 {
     let mut value = Vec::new(*out.allocator());
     for (number, item) in items.iter().enumerate() {
-        value.clear();
-        put_value(item, &mut value)?;
-        put_record(number as u32, &value, out)?;
+        if !put_short_record(number as u32, item, out)? {
+            value.clear();
+            put_value(item, &mut value)?;
+            put_record(number as u32, &value, out)?;
+        }
     }
     Ok(())
+}
+
+fn put_short_record(delta: u32, item: &Item, out: &mut Vec<u8>) -> Result<bool, NoMemory> {
+    if delta < 64 || delta >= 8192 {
+        return Ok(false);
+    }
+    let start = out.len();
+    put_bytes(out, &[0, 0, 0, 0, 0, 0, 0])?;
+    put_value(item, out)?;
+    let len = out.len() - start - 7;
+    if len >= 57 {
+        out.truncate(start);
+        return Ok(false);
+    }
+    put_varint(out, 0)?;
+    let low = 128 + (2 * delta % 128) as u8;
+    let high = (2 * delta / 128) as u8;
+    let front = [(2 * (len + 7)) as u8, 0, 0, low, high, 1, (2 * len) as u8];
+    out[start..start + 7].copy_from_slice(&front);
+    Ok(true)
 }
 
 fn put_value(item: &Item, out: &mut Vec<u8>) -> Result<(), NoMemory>
