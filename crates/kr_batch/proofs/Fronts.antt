@@ -1,26 +1,55 @@
--- What stands before the value of a record, where its lengths take one byte.
-use Rattle.std.proofs.Common.{◌≡◌, ℕ, pos, ◌+◌, ◌*◌, ◌/◌, ◌%◌, ◌<◌, ◌≤◌, List, [], ◌∷◌, length, refl, sym, arith}
+-- A record whose size and whose value's length take a byte each, which are put when the value stands.
+use Rattle.std.proofs.Common.{◌≡◌, ℕ, pos, negsuc, w8, ◌+◌, ◌-◌, ◌*◌, ◌<◌, List, [], ◌∷◌, ◌++◌, length, slice_set, take, drop, append_assoc, length-append, refl, sym, ap, ◌∙◌, arith}
+use Rattle.std.proofs.Math.Seq.{set-append_seam, drop-append_seam}
 use Rattle.std.proofs.lemmas.Bool.{lt-ltb}
-use Rattle.kr_wire.specs.Spelling.{varint32, varint64, signed}
-use Rattle.kr_wire.proofs.GroupWriting.{two_groups}
-use Rattle.kr_batch.specs.BatchBytes.{front_bytes, record_body}
+use Rattle.std.proofs.lemmas.List.{take_all}
+use Rattle.kr_wire.specs.Spelling.{uvarint, varint32, varint64, signed}
+use Rattle.kr_batch.specs.BatchBytes.{front_bytes, record_body, record_bytes}
+use Rattle.kr_batch.proofs.Records.{whole_record}
 
 one_byte : (n : ℕ) → n < 64 → varint32 (pos n) ≡ 2 * n ∷ []
 unfolding varint32
 one_byte n lt = rw (lt-ltb (2 * n) 128 (omega arith)) refl
 
-two_bytes : (n : ℕ) → 64 ≤ n → n < 8192 → varint32 (pos n) ≡ (128 + 2 * n % 128) ∷ 2 * n / 128 ∷ []
+zeros : (signed w8 (pos 0) ≡ 0 ∷ []) × (varint64 (pos 0) ≡ 0 ∷ [])
+unfolding signed varint64
+zeros = (refl, refl)
+
+no_key : varint32 (negsuc 0) ≡ 1 ∷ []
 unfolding varint32
-two_bytes n le lt = sym (two_groups 4 (2 * n) (omega arith) (omega arith) (omega arith))
+no_key = refl
 
-pub short_front : (size delta : ℕ) (value : List ℕ) → size ≡ length (record_body delta value) → size < 64 → length value < 64 → delta < 64
-    → 2 * size ∷ 0 ∷ 0 ∷ 2 * delta ∷ 1 ∷ 2 * length value ∷ [] ≡ front_bytes delta value
-unfolding varint64 signed varint32
-short_front size delta value is small few near =
-    rw (sym is, one_byte size small, one_byte delta near, one_byte (length value) few) refl
+number : (n : ℕ) → varint32 (pos n) ≡ uvarint (2 * n)
+unfolding varint32 uvarint
+number n = refl
 
-pub middle_front : (size delta : ℕ) (value : List ℕ) → size ≡ length (record_body delta value) → size < 64 → length value < 64 → 64 ≤ delta → delta < 8192
-    → 2 * size ∷ 0 ∷ 0 ∷ (128 + 2 * delta % 128) ∷ 2 * delta / 128 ∷ 1 ∷ 2 * length value ∷ [] ≡ front_bytes delta value
-unfolding varint64 signed varint32
-middle_front size delta value is small few far near =
-    rw (sym is, one_byte size small, two_bytes delta far near, one_byte (length value) few) refl
+short_front : (delta : ℕ) (value : List ℕ) → length (record_body delta value) < 64 → length value < 64
+    → 2 * length (record_body delta value) ∷ 0 ∷ 0 ∷ (uvarint (2 * delta) ++ 1 ∷ 2 * length value ∷ []) ≡ front_bytes delta value
+short_front delta value small few =
+    rw (one_byte (length (record_body delta value)) small, zeros.0, zeros.1, no_key, one_byte (length value) few, number delta)
+    (ap (λ (l : List ℕ). 2 * length (record_body delta value) ∷ 0 ∷ 0 ∷ l) (sym (append_assoc (uvarint (2 * delta)) (1 ∷ []) (2 * length value ∷ []))))
+
+-- the size at the start and the length before the value, each set where a 0 stood
+pub set_in_front : (out : List ℕ) (delta : ℕ) (value whole : List ℕ) (start at size len : ℕ)
+    → whole ≡ ((((out ++ 0 ∷ 0 ∷ 0 ∷ []) ++ uvarint (2 * delta)) ++ 1 ∷ 0 ∷ []) ++ value) ++ varint32 (pos 0)
+    → start ≡ length out → at ≡ length (((out ++ 0 ∷ 0 ∷ 0 ∷ []) ++ uvarint (2 * delta)) ++ 1 ∷ 0 ∷ [])
+    → size ≡ length (record_body delta value) → len ≡ length value → size < 64 → len < 64
+    → slice_set (slice_set whole start (2 * size)) (at - 1) (2 * len) ≡ out ++ record_bytes delta value
+set_in_front out delta value whole start at size len is begins stands sized long small few =
+    let u = uvarint (2 * delta) in
+    let tail = value ++ varint32 (pos 0) in
+    let front = out ++ 2 * size ∷ 0 ∷ 0 ∷ (u ++ 1 ∷ []) in
+    let zeros : whole ≡ out ++ 0 ∷ (0 ∷ 0 ∷ (u ++ 1 ∷ 0 ∷ tail)) = is ∙ simp append_assoc in
+    let first : slice_set whole start (2 * size) ≡ out ++ 2 * size ∷ (0 ∷ 0 ∷ (u ++ 1 ∷ 0 ∷ tail)) = rw (zeros, begins) (set-append_seam out 0 (0 ∷ 0 ∷ (u ++ 1 ∷ 0 ∷ tail)) (2 * size)) in
+    let apart : out ++ 2 * size ∷ (0 ∷ 0 ∷ (u ++ 1 ∷ 0 ∷ tail)) ≡ front ++ 0 ∷ tail = simp append_assoc in
+    let place : at - 1 ≡ length front = omega (arith, stands, length-append ((out ++ 0 ∷ 0 ∷ 0 ∷ []) ++ u) (1 ∷ 0 ∷ []), length-append (out ++ 0 ∷ 0 ∷ 0 ∷ []) u, length-append out (0 ∷ 0 ∷ 0 ∷ []), length-append out (2 * size ∷ 0 ∷ 0 ∷ (u ++ 1 ∷ [])), length-append u (1 ∷ [])) in
+    let second : slice_set (slice_set whole start (2 * size)) (at - 1) (2 * len) ≡ front ++ 2 * len ∷ tail = rw (first, apart, place) (set-append_seam front 0 tail (2 * len)) in
+    let fronts : 2 * size ∷ 0 ∷ 0 ∷ (u ++ 1 ∷ 2 * len ∷ []) ≡ front_bytes delta value = rw (sized, long) (short_front delta value (rw sized at small) (rw long at few)) in
+    let parts : front ++ 2 * len ∷ tail ≡ out ++ (2 * size ∷ 0 ∷ 0 ∷ (u ++ 1 ∷ 2 * len ∷ [])) ++ value ++ varint32 (pos 0) = simp append_assoc in
+    second ∙ (parts ∙ (ap (λ (f : List ℕ). out ++ f ++ value ++ varint32 (pos 0)) fronts ∙ whole_record out delta value))
+
+-- what stands behind some bytes
+pub behind : (whole front value : List ℕ) → whole ≡ front ++ value → take (length whole - length front) (drop (length front) whole) ≡ value
+behind whole front value is =
+    let others : drop (length front) whole ≡ value = rw is (drop-append_seam front value) in
+    rw others (take_all (length whole - length front) value (omega (arith, ap (λ (l : List ℕ). length l) is, length-append front value)))

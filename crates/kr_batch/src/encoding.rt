@@ -1,6 +1,6 @@
 //! Batches to bytes.
 
-ghost use Rattle.std.specs.Prelude.{◌≡◌, pos, ◌≤ℤ◌, ◌+◌, ◌-◌, ◌<◌, ◌≤◌, ◌^◌, ◌++◌, length, OnOk, OnErr, FitsSigned, vec_len};
+ghost use Rattle.std.specs.Prelude.{◌≡◌, pos, ◌≤ℤ◌, ◌+◌, ◌-◌, ◌<◌, ◌≤◌, ◌^◌, ◌++◌, length, if◌then◌else◌, IfOk, OnOk, OnErr, FitsSigned, vec_len};
 ghost use Rattle.std.specs.Int.{w64};
 ghost use Rattle.std.specs.List.{All};
 ghost use Rattle.kr_defs.specs.declared.limits.TheConstants.{MOST_RECORDS};
@@ -12,7 +12,8 @@ use crate::{Batch, crc32c};
 use kr_base::NoMemory;
 use kr_defs::Item;
 use kr_wire::{
-    FewBytes, put_both, put_bytes, put_i8, put_i16, put_i32, put_i64, put_u32, put_varint,
+    FewBytes, put_both, put_bytes, put_i8, put_i16, put_i32, put_i64, put_u32, put_uvarint,
+    put_varint,
 };
 use std::alloc::AllocError;
 
@@ -114,11 +115,54 @@ fn put_records(items: &[Item], out: &mut Vec<u8>) -> Result<(), NoMemory>
 {
     let mut value = Vec::new(*out.allocator());
     for (number, item) in items.iter().enumerate() {
-        value.clear();
-        put_value(item, &mut value)?;
-        put_record(number as u32, &value, out)?;
+        put_item(number as u32, item, &mut value, out)?;
     }
     Ok(())
+}
+
+// An item as a record. The value of one whose lengths don't take a byte each is written elsewhere first.
+fn put_item(delta: u32, item: &Item, value: &mut Vec<u8>, out: &mut Vec<u8>) -> Result<(), NoMemory>
+    requires delta { delta < MOST_RECORDS }
+    requires each { IsWritable item.now }
+    requires small { length (item_value item.now) < VALUES_END }
+    ensures { OnOk result (out.new.items ≡ out.old.items ++ record_bytes delta (item_value item.now)) }
+{
+    // Where the last value was short this one most likely is.
+    if value.len() < 64 && put_short(delta, item, out)? {
+        return Ok(());
+    }
+    value.clear();
+    put_value(item, value)?;
+    put_record(delta, value, out)?;
+    Ok(())
+}
+
+// A record whose size and whose value's length take a byte each: the value is written where it stays, and these two
+// are put last. Whether it was so short: where it wasn't nothing is put.
+fn put_short(delta: u32, item: &Item, out: &mut Vec<u8>) -> Result<bool, NoMemory>
+    requires delta { delta < MOST_RECORDS }
+    requires value { IsWritable item.now }
+    ensures { IfOk result (λ is_short. out.new.items ≡
+        (if is_short then out.old.items ++ record_bytes delta (item_value item.now) else out.old.items)) }
+{
+    let start = out.as_slice().len();
+    put_bytes(out, &[0, 0, 0])?;
+    put_uvarint(out, 2 * delta)?;
+    put_bytes(out, &[1, 0])?;
+    let at = out.as_slice().len();
+    put_value(item, out)?;
+    let len = out.as_slice().len() - at;
+    if len < 64 {
+        let size = body_len(delta, &out[at..]);
+        if size < 64 {
+            put_varint(out, 0)?;
+            out[start] = (2 * size) as u8;
+            out[at - 1] = (2 * len) as u8;
+            return Ok(true);
+        }
+    }
+    out.truncate(start);
+    Ok(false)
 }
 
 fn put_value(item: &Item, out: &mut Vec<u8>) -> Result<(), NoMemory>
@@ -137,42 +181,12 @@ fn put_record(delta: u32, value: &[u8], out: &mut Vec<u8>) -> Result<(), AllocEr
     requires value { length value.now < VALUES_END }
     ensures { OnOk result (out.new.items ≡ out.old.items ++ record_bytes delta value.now) }
 {
-    put_front(delta, value, out)?;
+    record_front(delta, value).put(out)?;
     out.extend_from_slice(value)?;
     put_varint(out, 0)
 }
 
-// What stands before the value of a record. Where each length takes one byte these are put at once.
-fn put_front(delta: u32, value: &[u8], out: &mut Vec<u8>) -> Result<(), AllocError>
-    requires delta { delta < MOST_RECORDS }
-    requires value { length value.now < VALUES_END }
-    ensures { OnOk result (out.new.items ≡ out.old.items ++ front_bytes delta value.now) }
-{
-    let size = body_len(delta, value);
-    let len = value.len() as u32;
-    if size < 64 && len < 64 {
-        if delta < 64 {
-            let bytes = [
-                (2 * size) as u8,
-                0,
-                0,
-                (2 * delta) as u8,
-                1,
-                (2 * len) as u8,
-            ];
-            return put_bytes(out, &bytes);
-        }
-        if delta < 8192 {
-            let low = 128 + (2 * delta % 128) as u8;
-            let high = (2 * delta / 128) as u8;
-            let bytes = [(2 * size) as u8, 0, 0, low, high, 1, (2 * len) as u8];
-            return put_bytes(out, &bytes);
-        }
-    }
-    record_front(delta, value).put(out)
-}
-
-// The same, whatever the lengths.
+// What stands before the value of a record.
 #[tactic(auto, unfolding(kr_wire::specs::Spelling::varint32, kr_wire::specs::Spelling::varint64, kr_wire::specs::Spelling::signed))]
 #[inline(never)]
 fn record_front(delta: u32, value: &[u8]) -> FewBytes

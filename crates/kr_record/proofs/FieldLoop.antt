@@ -15,25 +15,23 @@ module _ {X : Type 0} (known : Known X) (count i : ℕ) (last : Option ℕ) (byt
   by_tag n (Ok t) = refl
   by_tag n (Err e) = refl
 
-  one_more : i < count → fields_at known (count - i) last value bytes ≡ others (count - (i + 1)) (field_at last bytes)
+  one_more : i < count → fields_at known (count - i) last value bytes ≡ total → others (count - (i + 1)) (field_at last bytes) ≡ total
   unfolding fields_at
-  one_more lt =
+  one_more lt so_far =
       let k : count - i ≡ suc (count - (i + 1)) = omega arith in
-      ap (λ (n : ℕ). fields_at known n last value bytes) k ∙ by_tag (count - (i + 1)) (tag_at last bytes)
+      sym (ap (λ (n : ℕ). fields_at known n last value bytes) k ∙ by_tag (count - (i + 1)) (tag_at last bytes)) ∙ so_far
 
   pub takes : (tag : ℕ) (part rest : List ℕ) (after : X) → i < count → field_at last bytes ≡ Ok ((tag, part), rest) → field_of (known tag) value part ≡ Ok after
       → fields_at known (count - i) last value bytes ≡ total → fields_at known (count - (i + 1)) (Some tag) after rest ≡ total
-  takes tag part rest after lt read field so_far =
-      let step : others (count - (i + 1)) (field_at last bytes) ≡ fields_at known (count - (i + 1)) (Some tag) after rest = ap (others (count - (i + 1))) read ∙ rw field refl in
-      sym step ∙ sym (one_more lt) ∙ so_far
+  takes tag part rest after lt read field so_far = sym (ap (others (count - (i + 1))) read ∙ rw field refl) ∙ one_more lt so_far
 
   pub ends_at_tag : (e : ReadFault) → i < count → IsFaultOf e (field_at last bytes) → fields_at known (count - i) last value bytes ≡ total → IsFaultOf e total
-  ends_at_tag (reads.Wire fault) lt read so_far = sym so_far ∙ one_more lt ∙ ap (others (count - (i + 1))) read
+  ends_at_tag (reads.Wire fault) lt read so_far = sym (one_more lt so_far) ∙ ap (others (count - (i + 1))) read
   ends_at_tag reads.NoMemory lt read so_far = tt
 
   pub ends_in_field : (tag : ℕ) (part rest : List ℕ) (e : ReadFault) → i < count → field_at last bytes ≡ Ok ((tag, part), rest) → IsFieldFault e (field_of (known tag) value part)
       → fields_at known (count - i) last value bytes ≡ total → IsFaultOf e total
-  ends_in_field tag part rest (reads.Wire fault) lt read field so_far = sym so_far ∙ one_more lt ∙ ap (others (count - (i + 1))) read ∙ rw field refl
+  ends_in_field tag part rest (reads.Wire fault) lt read field so_far = sym (one_more lt so_far) ∙ ap (others (count - (i + 1))) read ∙ rw field refl
   ends_in_field tag part rest reads.NoMemory lt read field so_far = tt
 
   pub done : count ≤ i → fields_at known (count - i) last value bytes ≡ total → total ≡ Ok (value, bytes)

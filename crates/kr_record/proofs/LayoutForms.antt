@@ -2,7 +2,7 @@
 -- is bytes where numbers and texts are those of their types. And what follows of bytes that stand for a value in some version. One
 -- induction for both.
 use Rattle.std.proofs.Common.{◌≡◌, ℕ, ◌+◌, ◌*◌, ◌<◌, ◌≤◌, ◌^◌, Bool, true, false, cond, ◌&&◌, ltb, leb, List, [], ◌∷◌, ◌++◌, length, map, take, get_or, Option, Some, None, refl, sym, ap, subst, ◌∙◌, arith, lit<, lit≤}
-use Rattle.std.specs.Prelude.{ℤ, pos, ◌≢◌, All, FitsSigned, IfSome}
+use Rattle.std.specs.Prelude.{ℤ, pos, ◌≢◌, FitsSigned, IfSome}
 use Rattle.std.specs.List.{flat_map, sum_by}
 use Rattle.std.specs.Option.{option_map, unwrap_or}
 use Rattle.std.specs.Ordering.{int_eq}
@@ -10,7 +10,7 @@ use Rattle.std.specs.Int.{Width, w8, w16, w32, w64, byte_len}
 use mir.Val.{bits}
 use Rattle.std.proofs.lemmas.Bool.Decides.{Decides-int_eq, nat_tests}
 use Rattle.std.proofs.lemmas.List.{flat_map_more, take_more, map-append, length-map}
-use Rattle.std.proofs.lemmas.List.Elements.{All-nil, All-cons}
+use Rattle.std.proofs.lemmas.List.Elements.{All-nil, All-map}
 use Rattle.std.proofs.lemmas.List.Sums.{sum_by-cons}
 use Rattle.kr_defs.specs.Sizes.{uvarint_bytes, list_bytes, tags_bytes, number_field, number_field_or, ids_field, ids_field_or}
 use Rattle.kr_wire.specs.Grammar.{IsSigned, IsList, IsListOrNull, IfTaggedSince, given, includes}
@@ -203,22 +203,19 @@ one_zero_more start xs i before after lt so_far wrote =
     let step : no_directories (take (i + 1) xs) ≡ no_directories (take i xs) ++ 0 ∷ [] = ap (λ (ys : List ℤ). map zero_id ys) (take_more xs i (pos 0) lt) ∙ map-append zero_id (take i xs) (get_or xs i (pos 0) ∷ []) in
     wrote ∙ ap (λ (t : List ℕ). t ++ written.id 0) so_far ∙ flat_map_more written.id start (no_directories (take i xs)) 0 ∙ ap (λ (ys : List ℕ). start ++ flat_map written.id ys) (sym step)
 
-zeros_small : (replicas : List ℤ) → All (λ n. n < 2 ^ 128) (no_directories replicas)
-zeros_small [] = All-nil _
-zeros_small (r ∷ replicas) = All-cons (λ n. n < 2 ^ 128) 0 (no_directories replicas) (lit< tt) (zeros_small replicas)
-
 -- which stand in a version that has them
 directories : (here : Bool) → here ≡ true → (xs : List ℤ) → length xs < 2 ^ 31
     → let There = IsSince here (plain.Is (Dropped (Array Uuid))) tt tt in Form There There (written.list written.id (no_directories xs)) (list_bytes 16 xs) 0 (Unit {0}) (Unit {0})
 directories true e xs few =
     let zero_id : ℤ → ℕ = λ r. 0 in
+    let small = All-map (λ n. n < 2 ^ 128) zero_id xs (λ k d lt. lit< tt) in
     let same : length (no_directories xs) ≡ length xs = length-map xs zero_id in
     let short : length (no_directories xs) < 2 ^ 31 = omega (arith, same) in
     let all = list_of 16 id (λ n b is. omega (arith, not_empty Uuid n b is)) (no_directories xs) in
     record {
       size = λ p. all.size short ∙ ap (λ (n : ℕ). uvarint_bytes (n + 1) + 16 * n) same;
-      stands = λ p q. let there : plain.Is (Dropped (Array Uuid)) tt (written.list written.id (no_directories xs)) = record { value = no_directories xs; spelled = all.stands short (zeros_small xs) } in there;
-      fits = λ p q. all.fits short (zeros_small xs);
+      stands = λ p q. let there : plain.Is (Dropped (Array Uuid)) tt (written.list written.id (no_directories xs)) = record { value = no_directories xs; spelled = all.stands short small } in there;
+      fits = λ p q. all.fits short small;
       follows = free;
     }
 directories false e xs few = absurd cc

@@ -1,12 +1,9 @@
 -- What is written of a record, and what follows of bytes that stand for one.
-use Rattle.std.proofs.Common.{◌≡◌, ℕ, ◌+◌, ◌*◌, ◌^◌, ◌<◌, ◌≤◌, List, [], ◌∷◌, ◌++◌, length, Result, Ok, refl, sym, ap, subst, ◌∙◌, append_assoc, arith, lit<}
-use Rattle.std.specs.Prelude.{negsuc, Option, None, OnOk}
+use Rattle.std.proofs.Common.{◌≡◌, ℕ, ◌+◌, ◌*◌, ◌^◌, ◌<◌, ◌≤◌, List, [], ◌∷◌, ◌++◌, length, Ok, refl, ◌∙◌, append_assoc, arith, lit<}
+use Rattle.std.specs.Prelude.{negsuc, Option, None}
 use Rattle.std.specs.List.{sum_by}
 use Rattle.std.proofs.lemmas.List.Recursion.{is_sum_by}
 use Rattle.std.proofs.lemmas.List.Sums.{sum_by-append, sum_by-cons}
-use Rattle.kr_base.specs.declared.answers.NoMemory.{NoMemory}
-use Rattle.kr_defs.specs.declared.broker.Endpoint.{Endpoint}
-use Rattle.kr_defs.specs.declared.broker.Range.{Range}
 use Rattle.kr_defs.specs.declared.record.Record.{Record}
 use Rattle.kr_defs.specs.declared.record.Record.TheVariants as kinds
 use Rattle.kr_defs.specs.Sizes.{text_bytes, no_tags_bytes, field_there, field_bytes, tags_bytes, number_field_or, ids_field_or, value_bytes}
@@ -14,13 +11,14 @@ use Rattle.kr_wire.specs.Laws.{IsBytes}
 use Rattle.kr_wire.specs.Grammar.{◌⌢◌, IsUvarint}
 use Rattle.kr_wire.proofs.SpellingLaws.{Form, ◌plus◌, form, small}
 use Rattle.kr_wire.proofs.WrittenBytes.{OfBytes}
-use Rattle.kr_record.specs.Records.{chosen, endpoint_layout, range_layout}
-use Rattle.kr_record.specs.Encodable.{IsEncodable}
+use Rattle.kr_record.specs.Layout.{Kind}
+use Rattle.kr_record.specs.Records.{OfKind, of_kind, chosen, endpoint_layout, range_layout}
+use Rattle.kr_record.specs.Encodable.{IsEncodable, IsHeld}
 use Rattle.kr_record.specs.Grammar.{IsLayout, IsRecord}
-use Rattle.kr_record.specs.RecordRanges.{IsHeld}
 use Rattle.kr_record.specs.Reading.{record_of}
 use Rattle.kr_record.specs.Limits.{of_schema, of_record_layout}
 use Rattle.kr_record.specs.Spelling.{framed, record_value}
+use Rattle.kr_record.specs.Spelling as layouts
 use Rattle.kr_record.proofs.LayoutForms.{most_bytes, layout_form}
 use Rattle.kr_record.proofs.RecordLaws.{is_chosen, of_complete}
 
@@ -51,9 +49,6 @@ again r fits held = of_complete (record_value r) r (stands r fits held)
 pub record_fits : (r : Record) → IsEncodable r → IsHeld r → OfBytes (record_value r)
 record_fits r fits held = (framed_form r 0 0).fits fits held
 
-pub bytes : (r : Record) → IsEncodable r → IsHeld r → IsBytes (record_value r)
-bytes r fits held = (record_fits r fits held).each
-
 -- ---- what stands in bytes
 
 pub short : (r : Record) (bytes : List ℕ) → IsRecord r bytes → length bytes < 2 ^ 31 → IsEncodable r
@@ -62,20 +57,38 @@ short r bytes is few = (framed_form r is.key is.version).follows.short bytes is.
 pub held : (r : Record) (bytes : List ℕ) → IsRecord r bytes → IsBytes bytes → IsHeld r
 held r bytes is fit = (framed_form r is.key is.version).follows.held bytes is.spelled fit
 
--- what is matched is what its match says
-pub held_as : (r s : Record) → r ≡ s → IsHeld s → IsHeld r
-held_as r s e held = subst IsHeld (sym e) held
+-- ---- what a match on a record says: its kind, and what stands in it
 
-pub put_as : (result : Result (Unit {0}) NoMemory) (before after : List ℕ) (r s : Record) → r ≡ s → OnOk result (after ≡ before ++ record_value s) → OnOk result (after ≡ before ++ record_value r)
-put_as result before after r s e put = subst (λ (x : Record). OnOk result (after ≡ before ++ record_value x)) (sym e) put
+unfoldable pub held_of : OfKind → Type 0
+held_of of = (of_record_layout of.kind.layout).held of.parts
+
+pub held_as : (r : Record) → held_of (chosen r) → IsHeld r
+unfolding held_of
+held_as r held = held
+
+pub held_kind : (k : Kind) (x : k.Parts) → (of_record_layout k.layout).held x → held_of (of_kind k x)
+unfolding held_of
+held_kind k x held = held
+
+pub ruleset looked_at = (held_as, held_kind)
+
+unfoldable pub value_of : OfKind → List ℕ
+value_of of = framed of.kind.key of.kind.newest ++ layouts.written of.kind.layout of.parts
+
+pub value_as : (r : Record) → record_value r ≡ value_of (chosen r)
+unfolding record_value value_of
+value_as r = refl
+
+pub value_kind : (k : Kind) (x : k.Parts) → value_of (of_kind k x) ≡ framed k.key k.newest ++ layouts.written k.layout x
+unfolding value_of
+value_kind k x = refl
+
+pub ruleset put_out = (value_as, value_kind)
 
 -- ---- how many bytes are written
 
-endpoints_bytes : (es : List Endpoint) → sum_by (of_schema endpoint_layout).size es ≡ sum_by (λ e. text_bytes e.name + text_bytes e.host + 2 + 2 + no_tags_bytes) es
-endpoints_bytes es = is_sum_by (sum_by (of_schema endpoint_layout).size) _ refl (λ e more. omega (arith, sum_by-cons (of_schema endpoint_layout).size e more)) es
-
-ranges_bytes : (rs : List Range) → sum_by (of_schema range_layout).size rs ≡ sum_by (λ r. text_bytes r.name + 2 + 2 + no_tags_bytes) rs
-ranges_bytes rs = is_sum_by (sum_by (of_schema range_layout).size) _ refl (λ r more. omega (arith, sum_by-cons (of_schema range_layout).size r more)) rs
+same_sums : {X : Type 0} (f g : X → ℕ) → ((x : X) → f x ≡ g x) → (xs : List X) → sum_by f xs ≡ sum_by g xs
+same_sums f g same xs = is_sum_by (sum_by f) g refl (λ x more. omega (arith, same x, sum_by-cons f x more)) xs
 
 -- a field that is never written
 none_more : (sizes : List (Option ℕ)) → tags_bytes (sizes ++ None ∷ []) ≡ tags_bytes sizes
@@ -88,8 +101,8 @@ none_more sizes =
 all_bytes : (r : Record) → let k = (chosen r).kind in (3 + (of_record_layout k.layout).size (chosen r).parts ≡ value_bytes r) × (value_bytes r ≤ 3 + most_bytes k.layout (chosen r).parts)
 unfolding value_bytes chosen
 all_bytes (kinds.RegisterBroker broker state) =
-    let endpoints = endpoints_bytes state.endpoints in
-    let ranges = ranges_bytes state.features in
+    let endpoints = same_sums (of_schema endpoint_layout).size (λ e. text_bytes e.name + text_bytes e.host + 2 + 2 + no_tags_bytes) (λ e. omega arith) state.endpoints in
+    let ranges = same_sums (of_schema range_layout).size (λ r. text_bytes r.name + 2 + 2 + no_tags_bytes) (λ r. omega arith) state.features in
     (omega (arith, endpoints, ranges), omega (arith, endpoints, ranges))
 all_bytes (kinds.PartitionChange index n c) =
     let none = none_more (
@@ -104,8 +117,6 @@ size r fits = (framed_form r 0 0).size fits ∙ (all_bytes r).0
 pub cost : (r : Record) (bytes : List ℕ) → IsRecord r bytes → value_bytes r ≤ 8 * length bytes
 cost r bytes is = omega (arith, (all_bytes r).1, (framed_form r is.key is.version).follows.cost bytes is.spelled)
 
-pub ruleset laws = (stands, again, size, bytes)
+pub ruleset laws = (stands, again, size, record_fits)
 
 pub ruleset encoded = (size, stands)
-
-pub ruleset read_again = (stands, short, held, cost)

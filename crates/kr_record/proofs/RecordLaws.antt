@@ -9,14 +9,13 @@ use Rattle.kr_wire.specs.declared.WireFault.{WireFault}
 use Rattle.kr_wire.specs.Reading.{Read}
 use Rattle.kr_wire.specs.Grammar.{◌⌢◌, IsUvarint, includes}
 use Rattle.kr_wire.specs.Schema.{Int32, Boolean, Array, Dropped, Uuid}
-use Rattle.kr_wire.proofs.ReadingLaws.{IsBytes, Yields, Law, joined, ◌before◌, structure_law, sound_done, sound_then, sound_last, sound_guard, sound_as, sound_if, complete_then, complete_last, complete_guard, all_sound, all_complete, one_value}
+use Rattle.kr_wire.proofs.ReadingLaws.{IsBytes, Yields, Law, joined, ◌before◌, structure_law, sound_done, sound_then, sound_last, sound_guard, sound_as, sound_if, complete_then, complete_last, complete_guard, all_sound, all_complete}
 use Rattle.kr_wire.proofs.Numbers.{uvarint_law}
 use Rattle.kr_wire.proofs.Schemas as schemas
 use Rattle.kr_wire.proofs.Tables.{both, fields_law}
 use Rattle.kr_record.specs.declared.fault.RecordFault.{RecordFault}
 use Rattle.kr_record.specs.declared.fault.RecordFault.TheVariants as faults
-use Rattle.kr_wire.specs.Answers.{Unless}
-use Rattle.kr_record.specs.Answers.{Gives, IsFault, is_free}
+use Rattle.kr_record.specs.Answers.{Gives, IsFault}
 use Rattle.kr_record.specs.Records.{chosen, of_kind, register_broker, unregister_broker, topic, partition, config, partition_change, fence_broker, unfence_broker, remove_topic, feature_level, broker_registration_change, no_op}
 use Rattle.kr_record.specs.Layout.{RecordLayout, Of, Flag, ◌▹◌, Directories, Tagged, Kind, IsSince, IsInVersion, since_at, version_at, is_whole}
 use Rattle.kr_record.specs.Reading.{wired, layout_at, kind_at, served_at, record_at, record_of}
@@ -82,13 +81,10 @@ pub read_as : (k : Kind) (version : ℕ) (bytes left : List ℕ) (x : k.Parts) �
 unfolding kind_at
 read_as k version bytes left x e = rw e refl
 
-unless_as : {A B : Type 0} (b : Bool) → (A → B) → Unless b A → Unless b B
-unless_as true f u = tt
-unless_as false f u = f u
-
 pub refused_as : (k : Kind) (version : ℕ) (bytes : List ℕ) (e : RecordFault) → IsFault e (served_at k.key k.newest k.layout version bytes) → IsFault e (kind_at k version bytes)
 unfolding kind_at
-refused_as k version bytes e fault = unless_as (is_free e) (λ (h : served_at k.key k.newest k.layout version bytes ≡ Err e). rw h refl) fault
+refused_as k version bytes faults.NoMemory fault = tt
+refused_as k version bytes _ fault = rw fault refl
 
 module _ (key version : ℕ) (bytes : List ℕ) (fits : IsBytes bytes) where
   abbrev Reads : Result (Record × List ℕ) RecordFault → Type 0
@@ -151,10 +147,6 @@ pub of_complete : (bytes : List ℕ) (r : Record) → IsRecord r bytes → recor
 unfolding record_of
 of_complete bytes r is = all_complete record_law faults.Trailing bytes r is
 
--- bytes stand for one record at most
-pub one_record : (r s : Record) (bytes : List ℕ) → IsRecord r bytes → IsRecord s bytes → r ≡ s
-one_record r s bytes is other = one_value record_law r s bytes is other
-
 -- what a decoder's answer says
 pub found : (bytes : List ℕ) (answer : Result Record RecordFault) → ((i : ℕ) → Fits w8 (get_or bytes i 0)) → Gives answer (record_of bytes) → IfOk answer (λ r. IsRecord r bytes)
 found bytes (Ok r) fits given = of_sound bytes r (λ i. omega (arith, fits i)) given
@@ -162,5 +154,3 @@ found bytes (Err e) fits given = tt
 
 pub only : (bytes : List ℕ) (answer : Result Record RecordFault) → Gives answer (record_of bytes) → (r : Record) → IsRecord r bytes → Gives answer (Ok r)
 only bytes answer given r is = subst (λ (f : Result Record RecordFault). Gives answer f) (of_complete bytes r is) given
-
-pub ruleset decoded = (found, only)

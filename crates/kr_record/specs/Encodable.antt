@@ -1,4 +1,4 @@
--- The records that have a written form.
+-- The records that have a written form, and what every record that a program holds meets.
 use Rattle.kr_defs.specs.declared.broker.Endpoint.{Endpoint}
 use Rattle.kr_defs.specs.declared.broker.Range.{Range}
 use Rattle.kr_defs.specs.declared.record.Record.{Record}
@@ -14,3 +14,6 @@ IsShortRange = (of_schema range_layout).short
 
 abbrev pub IsEncodable : Record → Type 0
 IsEncodable r = (of_record_layout (chosen r).kind.layout).short (chosen r).parts
+
+abbrev pub IsHeld : Record → Type 0
+IsHeld r = (of_record_layout (chosen r).kind.layout).held (chosen r).parts

@@ -4,6 +4,5 @@ pub mod Grammar
 pub mod Layout
 pub mod Limits
 pub mod Reading
-pub mod RecordRanges
 pub mod Records
 pub mod Spelling

@@ -2,10 +2,9 @@
 
 ghost use Rattle.std.specs.Prelude.{◌≡◌, ◌≢◌, ◌++◌, OnOk};
 ghost use Rattle.kr_record.specs.Answers.{GivesFront};
-ghost use Rattle.kr_record.specs.Encodable.{IsEncodable};
+ghost use Rattle.kr_record.specs.Encodable.{IsEncodable, IsHeld};
 ghost use Rattle.kr_record.specs.Reading.{kind_at, layout_at, served_at};
 ghost use Rattle.kr_record.specs.Records as kinds;
-ghost use Rattle.kr_record.specs.RecordRanges.{IsHeld};
 ghost use Rattle.kr_record.specs.Spelling.{framed, record_value};
 
 use crate::fault::RecordFault;
@@ -19,8 +18,8 @@ use kr_wire::FewBytes;
 
 // Hands the kinds to another macro: of each its key, the newest version, which is the one that is
 // written, the fields of a record of it, one of them a structure with its fields, if there is one, and
-// what stands in the record, in the order of its layout. The last is a pattern as well as a value. The
-// kind that has a reader of its own stands in a second group.
+// what stands in the record, in the order of its layout. The last is a pattern as well as a value, but in
+// the second group, of the kind that has a reader of its own.
 macro_rules! each_kind {
     ($with:ident($($value:tt),*)) => {
         $with! {
@@ -66,18 +65,12 @@ macro_rules! each_kind {
                         (index, (topic, tags!(
                             0 since 0 in_sync, 1 since 0 leader, 2 since 0 replicas,
                             3 since 0 removing, 4 since 0 adding, 5 since 0 recovery,
-                            6 since 2 eligible, 7 since 2 last_known, 8 since 1 (nothing!($with))
+                            6 since 2 eligible, 7 since 2 last_known, 8 since 1 (&())
                         )))
                     }]
             }
         }
     };
-}
-
-// What is never written, as it is read and as it is written.
-macro_rules! nothing {
-    (writing) => { &() };
-    ($with:ident) => { () };
 }
 
 // Ids and others, behind which since a version a directory for each id stands.
@@ -176,37 +169,25 @@ fn read_other(from: &mut Reader<'_, Mine>, key: u32, version: u32) -> Result<Rec
 fn read_partition_change(from: &mut Reader<'_, Mine>, version: u32) -> Result<Record, RecordFault>
     ensures { GivesFront result from.new (kind_at kinds.partition_change version from.old) }
 {
-    let parts: (i32, (u128, ChangeParts)) = read_version(from, 5, version, 2)?;
-    Ok(partition_change_of(parts))
-}
-
-// The tagged fields of a partition's change.
-type ChangedIds<const TAG: u32, const FIRST: u32> = Field<TAG, FIRST, Option<Ids>>;
-
-type LaterFields = (ChangedIds<6, 2>, (ChangedIds<7, 2>, (Field<8, 1, ()>, ())));
-
-type OtherFields = (
-    ChangedIds<3, 0>,
-    (ChangedIds<4, 0>, (Field<5, 0, Option<i8>>, LaterFields)),
-);
-
-type ChangeParts = (
-    ChangedIds<0, 0>,
-    (Field<1, 0, Option<i32>>, (ChangedIds<2, 0>, OtherFields)),
-);
-
-#[inline(always)]
-fn partition_change_of(parts: (i32, (u128, ChangeParts))) -> Record
-    ensures { result ≡ kinds.partition_change.record_of parts }
-{
-    let (index, (topic, parts)) = parts;
+    let (index, (topic, parts)): (i32, (u128, ChangeParts)) = read_version(from, 5, version, 2)?;
     let change = change_of(parts);
-    Record::PartitionChange {
+    Ok(Record::PartitionChange {
         index,
         topic,
         change,
-    }
+    })
 }
+
+// The tagged fields of a partition's change: those from tag 6 on, from 4, from 2, and all.
+type ChangedIds<const TAG: u32, const FIRST: u32> = Field<TAG, FIRST, Option<Ids>>;
+
+type From6 = (ChangedIds<6, 2>, (ChangedIds<7, 2>, (Field<8, 1, ()>, ())));
+
+type From4 = (ChangedIds<4, 0>, (Field<5, 0, Option<i8>>, From6));
+
+type From2 = (ChangedIds<2, 0>, (ChangedIds<3, 0>, From4));
+
+type ChangeParts = (ChangedIds<0, 0>, (Field<1, 0, Option<i32>>, From2));
 
 #[inline(always)]
 fn change_of(parts: ChangeParts) -> PartitionChange
@@ -244,7 +225,7 @@ fn read_version<P: Parts>(
 }
 
 /// Appends the record's written form. Without memory some front of it may be appended.
-#[tactic(auto, unfolding(crate::specs::Spelling::record_value))]
+#[tactic(auto, unfolding(crate::specs::Records::chosen), using(crate::proofs::RecordForms::put_out))]
 pub fn append(value: &Record, out: &mut Vec<u8>) -> Result<(), NoMemory>
     requires { IsEncodable value.now }
     ensures { OnOk result (out.new.items ≡ out.old.items ++ record_value value.now) }
@@ -266,6 +247,7 @@ fn put_kind<P: Pieces>(out: &mut Vec<u8>, key: u32, version: u32, parts: &P) -> 
 }
 
 /// Each record that is held can stand in bytes.
+#[tactic(auto, unfolding(crate::specs::Records::chosen), using(crate::proofs::RecordForms::looked_at))]
 pub fn record_is_held(value: &Record)
     ensures { IsHeld value.now }
 {

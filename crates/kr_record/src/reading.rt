@@ -43,7 +43,6 @@ fn whole(value: Record, is_end: bool) -> Result<Record, RecordFault>
 
 /// The record that all of the bytes stand for, or the first fault, in the order of reading: the frame
 /// version is judged before the key is read, the key when the version is read, bytes left over last.
-#[tactic(auto, using(crate::proofs::RecordLaws::decoded))]
 #[inline(always)]
 pub fn decode(alloc: Global, value: &[u8]) -> Result<Record, RecordFault>
     // What is decoded is what the bytes stand for.

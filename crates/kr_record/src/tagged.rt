@@ -52,16 +52,12 @@ fn uvarint_len(value: u32) -> u32
     ensures length { result ≡ length (uvarint value) }
     ensures small { result ≤ 5 }
 {
-    if value < 128 {
-        1
-    } else if value < 16384 {
-        2
-    } else if value < 2097152 {
-        3
-    } else if value < 268435456 {
-        4
-    } else {
-        5
+    match value {
+        0..128 => 1,
+        128..16384 => 2,
+        16384..2097152 => 3,
+        2097152..268435456 => 4,
+        _ => 5,
     }
 }
 
@@ -182,9 +178,7 @@ impl TaggedPart for () {
 
     ghost part = { UuidsDropped };
 
-    fn absent(alloc: Global) -> () {
-        ()
-    }
+    fn absent(alloc: Global) {}
 
     fn read(from: &mut Reader<'_, Mine>) -> Result<(), ReadFault> {
         let _directories: Option<Rows<u128>> = from.get()?;

@@ -1,13 +1,12 @@
 //! Records to bytes.
 
-ghost use Rattle.std.specs.Prelude.{◌≡◌, ℕ, ◌+◌, ◌++◌, List, length, Ok, OnOk, OnErr};
+ghost use Rattle.std.specs.Prelude.{◌≡◌, ◌+◌, ◌++◌, length, Ok, OnOk, OnErr};
 ghost use Rattle.kr_defs.specs.Sizes.{value_bytes};
 ghost use Rattle.kr_defs.specs.declared.record.Record.{Record as AnyRecord};
 ghost use Rattle.kr_wire.specs.Laws.{IsBytes};
-ghost use Rattle.kr_record.specs.Encodable.{IsEncodable};
+ghost use Rattle.kr_record.specs.Encodable.{IsEncodable, IsHeld};
 ghost use Rattle.kr_record.specs.Grammar.{IsRecord};
 ghost use Rattle.kr_record.specs.Reading.{record_of};
-ghost use Rattle.kr_record.specs.RecordRanges.{IsHeld};
 ghost use Rattle.kr_record.specs.Spelling.{record_value};
 
 use crate::kinds::{append, record_is_held};

@@ -10,7 +10,7 @@ use Rattle.kr_defs.specs.declared.record.Record.{Record}
 use Rattle.kr_defs.specs.declared.record.Item.{Item}
 use Rattle.kr_defs.specs.declared.record.Item.TheVariants as items
 use Rattle.kr_wire.specs.Spelling.{signed, varint32, varint64}
-use Rattle.kr_record.specs.RecordRanges.{IsHeld}
+use Rattle.kr_record.specs.Encodable.{IsHeld}
 use Rattle.kr_batch.specs.BatchBytes.{VALUES_END, IsWritable, item_value, values_size, record_body, record_bytes, records_bytes, fixed_bytes, checked_bytes, head_bytes, batch_bytes}
 use Rattle.kr_batch.specs.Crc.{crc32c}
 use Rattle.std.specs.Int.{w8}

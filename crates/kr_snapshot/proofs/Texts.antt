@@ -20,7 +20,7 @@ use Rattle.kr_wire.specs.Grammar.{IsSigned}
 use Rattle.kr_wire.specs.Spelling.{signed}
 use Rattle.kr_wire.proofs.ReadingLaws.{joined}
 use Rattle.kr_wire.proofs.WrittenForms.{signed_spelled}
-use Rattle.kr_record.specs.RecordRanges.{IsHeld}
+use Rattle.kr_record.specs.Encodable.{IsHeld}
 use Rattle.kr_batch.specs.BatchBytes.{IsHeldItem, batch_bytes}
 use Rattle.kr_batch.proofs.WrittenBatches.{batch_spelled}
 use Rattle.kr_snapshot.specs.Grammar.{IsPart, AreParts, all_of, Makes, IsImage}

@@ -20,7 +20,7 @@ use Rattle.kr_defs.specs.Records.{topic_records, partition_record as walked_reco
 use Rattle.kr_defs.specs.Walk.{walked, of_topic}
 use Rattle.kr_defs.proofs.Walks.{walk_next, walk_end}
 use Rattle.kr_defs.proofs.TopicWalks.{group_begin}
-use Rattle.kr_record.specs.RecordRanges.{IsHeld}
+use Rattle.kr_record.specs.Encodable.{IsHeld}
 use Rattle.kr_snapshot.specs.inner.EntryRecords.{partition_record}
 use Rattle.kr_snapshot.specs.ImageText.{chunks, batches_bytes}
 use Rattle.kr_snapshot.specs.inner.Writer.{setting_text, IsLight, texts, IsSound, body_with, count_so_far, Adds, IsAmid, MayAdd}

@@ -3,7 +3,7 @@ use Rattle.std.specs.Prelude.{ℤ, pos, ◌≤ℤ◌, ◌<◌, ◌^◌, length, 
 use Rattle.std.specs.Int.{w64}
 use Rattle.kr_defs.specs.Image.{Image, IsValid}
 use Rattle.kr_defs.specs.Records.{records_of}
-use Rattle.kr_record.specs.RecordRanges.{IsHeld}
+use Rattle.kr_record.specs.Encodable.{IsHeld}
 
 -- a claim on each valid image whose numbers and texts are those of their types, at an offset and with a count that fit
 abbrev pub WhereItFits : ℤ → Image → Type 0 → Type 0

@@ -3,7 +3,7 @@
 ghost use Rattle.std.specs.Prelude.{◌≡◌, ◌<◌, ◌≤◌, ◌^◌, [], ◌∷◌, length, List, OnOk, IfOk};
 ghost use Rattle.kr_defs.specs.declared.limits.TheConstants.{IMAGE_BATCH as most};
 ghost use Rattle.kr_defs.specs.declared.record.Item.{Item as AnyItem};
-ghost use Rattle.kr_record.specs.RecordRanges.{IsHeld};
+ghost use Rattle.kr_record.specs.Encodable.{IsHeld};
 ghost use Rattle.kr_snapshot.specs.inner.Writer.{IsSound, MayAdd, Puts, Adds, body_with, count_so_far, text_of};
 ghost use Rattle.kr_snapshot.specs.ImageText.{batch_of_group};
 
@@ -50,7 +50,7 @@ impl BatchWriter {
         let batch = batch_of(self.before, &self.body, group);
         encode(&batch, &mut self.body)?;
         self.before += count;
-        self.group = emptied(batch);
+        self.group = room_of(batch);
         Ok(())
     }
 
@@ -120,7 +120,7 @@ fn batch_of(before: usize, body: &Vec<u8>, group: Vec<Item>) -> Batch
 }
 
 // The room of a batch's items, for others.
-fn emptied(batch: Batch) -> Vec<Item>
+fn room_of(batch: Batch) -> Vec<Item>
     ensures { result.items ≡ [] }
 {
     let Batch { items, .. } = batch;

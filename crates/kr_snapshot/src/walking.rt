@@ -5,7 +5,7 @@ ghost use Rattle.kr_defs.specs.declared.record.Record.TheVariants as kinds;
 ghost use Rattle.kr_defs.specs.Map.{above, partition_order};
 ghost use Rattle.kr_defs.specs.Records.{topic_records};
 ghost use Rattle.kr_defs.specs.Walk.{of_topic};
-ghost use Rattle.kr_record.specs.RecordRanges.{IsHeld};
+ghost use Rattle.kr_record.specs.Encodable.{IsHeld};
 ghost use Rattle.kr_snapshot.specs.inner.EntryRecords.{feature_record, broker_record, partition_record, config_record};
 ghost use Rattle.kr_snapshot.specs.inner.Writer.{MayAdd, Adds};
 

@@ -4,7 +4,7 @@ ghost use Rattle.std.specs.Prelude.{◌≡◌, ◌↔◌, ◌<◌, ◌^◌, ◌+
 ghost use Rattle.kr_defs.specs.declared.limits.TheConstants.{IMAGE_BATCH as most};
 ghost use Rattle.kr_defs.specs.ImageLaws.{as_items};
 ghost use Rattle.kr_defs.specs.Records.{records_of};
-ghost use Rattle.kr_record.specs.RecordRanges.{IsHeld};
+ghost use Rattle.kr_record.specs.Encodable.{IsHeld};
 ghost use Rattle.kr_store.specs.Images.{image_of_place};
 ghost use Rattle.kr_snapshot.specs.Grammar.{IsImage};
 ghost use Rattle.kr_snapshot.specs.inner.Writer.{Adds, MayAdd};

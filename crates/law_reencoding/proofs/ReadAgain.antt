@@ -13,8 +13,7 @@ use Rattle.kr_defs.specs.Sizes as sizes
 use Rattle.kr_wire.specs.Laws.{IsBytes}
 use Rattle.kr_wire.specs.Grammar.{◌⌢◌, Exactly}
 use Rattle.kr_wire.proofs.FormLaws.{Follows, free, ◌beside◌, then, signed, exactly}
-use Rattle.kr_record.specs.Encodable.{IsEncodable}
-use Rattle.kr_record.specs.RecordRanges.{IsHeld}
+use Rattle.kr_record.specs.Encodable.{IsEncodable, IsHeld}
 use Rattle.kr_record.proofs.RecordForms.{short, held, cost, size}
 use Rattle.kr_batch.specs.declared.Batch.{Batch}
 use Rattle.kr_batch.specs.Grammar.{IsSized, IsBody, IsEntry, AreEntries, IsStart, IsSum, IsCount, IsFixed, AreItems, IsBatch}
@@ -56,13 +55,8 @@ entries (items.Control ∷ others) at = record { cost = λ bytes is. absurd is; 
 values_long : (all : List Item) → All IsWritable all → values_size all ≤ sum_by item_bytes all
 values_long [] fit = omega arith
 values_long (items.Record r ∷ others) fit =
-    omega (
-      arith,
-      size r (All-head IsWritable (items.Record r) others fit),
-      values_long others (All-tail IsWritable (items.Record r) others fit),
-      sum_by-cons (λ x. length (item_value x)) (items.Record r) others,
-      sum_by-cons item_bytes (items.Record r) others,
-    )
+    let writable = All-tail IsWritable (items.Record r) others fit in
+    omega (arith, size r (All-head IsWritable (items.Record r) others fit), values_long others writable, sum_by-cons (λ x. length (item_value x)) (items.Record r) others, sum_by-cons item_bytes (items.Record r) others)
 values_long (items.Control ∷ others) fit = absurd (All-head IsWritable items.Control others fit)
 
 -- the items of a batch that has records

@@ -5,9 +5,8 @@ ghost use Rattle.std.specs.Prelude.{◌<◌, ◌≤◌, ◌*◌, ◌^◌, List, 
 ghost use Rattle.kr_defs.specs.Sizes.{value_bytes};
 ghost use Rattle.kr_defs.specs.declared.record.Record.{Record as AnyRecord};
 ghost use Rattle.kr_wire.specs.Laws.{IsBytes};
-ghost use Rattle.kr_record.specs.Encodable.{IsEncodable};
+ghost use Rattle.kr_record.specs.Encodable.{IsEncodable, IsHeld};
 ghost use Rattle.kr_record.specs.Grammar.{IsRecord};
-ghost use Rattle.kr_record.specs.RecordRanges.{IsHeld};
 ghost use Rattle.kr_record.specs.Spelling.{record_value};
 ghost use Rattle.kr_batch.specs.declared.Batch.{Batch as AnyBatch};
 ghost use Rattle.kr_batch.specs.Grammar.{IsBatch};
@@ -16,7 +15,6 @@ ghost use Rattle.law_reencoding.specs.Items.{HasRecords};
 
 /// A record that stands in fewer than 2^31 bytes has a written form, its numbers and texts are those of their types,
 /// and what is written stands for it. A written value has at most eight times as many bytes as stood for the record.
-#[tactic(auto, using(kr_record::proofs::RecordForms::read_again))]
 pub fn records_again()
     ensures short { (r : AnyRecord) (bytes : List ℕ) → IsRecord r bytes → length bytes < 2 ^ 31 → IsEncodable r }
     ensures held { (r : AnyRecord) (bytes : List ℕ) → IsRecord r bytes → IsBytes bytes → IsHeld r }

@@ -11,8 +11,7 @@ use Rattle.kr_defs.specs.declared.record.Record.{Record}
 use Rattle.kr_defs.specs.declared.record.Item.{Item}
 use Rattle.kr_defs.specs.declared.record.Item.TheVariants as items
 use Rattle.kr_record.specs.Records.{chosen}
-use Rattle.kr_record.specs.Encodable.{IsEncodable}
-use Rattle.kr_record.specs.RecordRanges.{IsHeld}
+use Rattle.kr_record.specs.Encodable.{IsEncodable, IsHeld}
 use Rattle.kr_record.specs.Spelling.{record_value, framed}
 use Rattle.kr_batch.specs.declared.Batch.{Batch}
 use Rattle.kr_batch.specs.BatchBytes.{item_value, values_size, IsHeldItem, IsRegular, IsWritable}

@@ -6,8 +6,7 @@ use Rattle.kr_defs.specs.declared.record.Record.TheVariants as kinds
 use Rattle.kr_defs.specs.declared.record.Item.{Item}
 use Rattle.kr_defs.specs.declared.record.Item.TheVariants as items
 use Rattle.kr_defs.specs.ImageLaws.{as_items}
-use Rattle.kr_record.specs.Encodable.{IsEncodable}
-use Rattle.kr_record.specs.RecordRanges.{IsHeld}
+use Rattle.kr_record.specs.Encodable.{IsEncodable, IsHeld}
 use Rattle.kr_record.specs.Spelling.{record_value}
 use Rattle.kr_batch.specs.BatchBytes.{batch_bytes}
 use Rattle.kr_snapshot.specs.ImageText.{batch_of_group, chunks, batches_bytes}

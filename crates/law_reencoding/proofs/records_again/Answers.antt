@@ -1,8 +1,5 @@
-use Rattle.kr_record.proofs.RecordForms.{short, held}
+use Rattle.kr_record.proofs.RecordForms.{short, held, stands, cost}
 use Rattle.law_reencoding.proofs.records_again.Goals as goal
 
-pub returns-clause-short : goal.returns-clause-short
-returns-clause-short c r bytes is few = short r bytes is few
-
-pub returns-clause-held : goal.returns-clause-held
-returns-clause-held c r bytes is fit = held r bytes is fit
+pub returns : goal.returns
+returns c = record { short = short; held = held; stands = λ r bytes is fit few. stands r (short r bytes is few) (held r bytes is fit); size = cost }

@@ -1,5 +1,5 @@
-use Rattle.kr_record.proofs.RecordLaws.{found}
+use Rattle.kr_record.proofs.RecordLaws.{found, only}
 use Rattle.kr_record.proofs.reading.decode.Goals as goal
 
-pub returns-clause-found : goal.returns-clause-found
-returns-clause-found c = found _ _ c.type_inv.value c.record.ensures
+pub returns : goal.returns
+returns c = record { found = found _ _ c.type_inv.value c.record.ensures; only = only _ _ c.record.ensures; exact = c.record.ensures }

@@ -1,6 +1,5 @@
-use Rattle.std.proofs.Common.{take}
-use Rattle.std.specs.Prelude.{All}
+use Rattle.std.specs.List.{AllWithin}
 use Rattle.kr_record.proofs.held.RowsHeld.look.Given as goal
 
 abbrev pub invariant-loop-row : goal.invariant-loop-row
-invariant-loop-row g l = All g.T.Held.held (take l.row-index l.rows)
+invariant-loop-row g l = AllWithin g.T.Held.held l.rows 0 l.row-index
