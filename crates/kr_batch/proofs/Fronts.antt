@@ -1,9 +1,11 @@
 -- A record whose size and whose value's length take a byte each, which are put when the value stands.
-use Rattle.std.proofs.Common.{◌≡◌, ℕ, pos, negsuc, w8, ◌+◌, ◌-◌, ◌*◌, ◌<◌, List, [], ◌∷◌, ◌++◌, length, slice_set, take, drop, append_assoc, length-append, refl, sym, ap, ◌∙◌, arith}
+use Rattle.std.proofs.Common.{◌≡◌, ℕ, pos, negsuc, w8, ◌+◌, ◌-◌, ◌*◌, ◌/◌, ◌%◌, ◌<◌, ◌≤◌, List, [], ◌∷◌, ◌++◌, length, slice_set, take, drop, append_assoc, length-append, refl, sym, ap, ◌∙◌, arith}
 use Rattle.std.proofs.Math.Seq.{set-append_seam, drop-append_seam}
 use Rattle.std.proofs.lemmas.Bool.{lt-ltb}
-use Rattle.std.proofs.lemmas.List.{take_all}
-use Rattle.kr_wire.specs.Spelling.{uvarint, varint32, varint64, signed}
+use Rattle.std.proofs.lemmas.List.{take_all, append-nil}
+use Rattle.std.proofs.Math.ListN.{drop_of_length-le}
+use Rattle.kr_wire.specs.Spelling.{varint32, varint64, signed}
+use Rattle.kr_wire.proofs.GroupWriting.{two_groups}
 use Rattle.kr_batch.specs.BatchBytes.{front_bytes, record_body, record_bytes}
 use Rattle.kr_batch.proofs.Records.{whole_record}
 
@@ -19,24 +21,27 @@ no_key : varint32 (negsuc 0) ≡ 1 ∷ []
 unfolding varint32
 no_key = refl
 
-number : (n : ℕ) → varint32 (pos n) ≡ uvarint (2 * n)
-unfolding varint32 uvarint
-number n = refl
+-- the number of most records
+pub two_bytes : (n : ℕ) → 64 ≤ n → n < 8192 → (128 + 2 * n % 128) ∷ n / 64 ∷ [] ≡ varint32 (pos n)
+unfolding varint32
+two_bytes n big small =
+    let high : n / 64 ≡ 2 * n / 128 = omega arith in
+    rw high (two_groups 4 (2 * n) (omega arith) (omega arith) (omega arith))
 
 short_front : (delta : ℕ) (value : List ℕ) → length (record_body delta value) < 64 → length value < 64
-    → 2 * length (record_body delta value) ∷ 0 ∷ 0 ∷ (uvarint (2 * delta) ++ 1 ∷ 2 * length value ∷ []) ≡ front_bytes delta value
+    → 2 * length (record_body delta value) ∷ 0 ∷ 0 ∷ (varint32 (pos delta) ++ 1 ∷ 2 * length value ∷ []) ≡ front_bytes delta value
 short_front delta value small few =
-    rw (one_byte (length (record_body delta value)) small, zeros.0, zeros.1, no_key, one_byte (length value) few, number delta)
-    (ap (λ (l : List ℕ). 2 * length (record_body delta value) ∷ 0 ∷ 0 ∷ l) (sym (append_assoc (uvarint (2 * delta)) (1 ∷ []) (2 * length value ∷ []))))
+    rw (one_byte (length (record_body delta value)) small, zeros.0, zeros.1, no_key, one_byte (length value) few)
+    (ap (λ (l : List ℕ). 2 * length (record_body delta value) ∷ 0 ∷ 0 ∷ l) (sym (append_assoc (varint32 (pos delta)) (1 ∷ []) (2 * length value ∷ []))))
 
 -- the size at the start and the length before the value, each set where a 0 stood
 pub set_in_front : (out : List ℕ) (delta : ℕ) (value whole : List ℕ) (start at size len : ℕ)
-    → whole ≡ ((((out ++ 0 ∷ 0 ∷ 0 ∷ []) ++ uvarint (2 * delta)) ++ 1 ∷ 0 ∷ []) ++ value) ++ varint32 (pos 0)
-    → start ≡ length out → at ≡ length (((out ++ 0 ∷ 0 ∷ 0 ∷ []) ++ uvarint (2 * delta)) ++ 1 ∷ 0 ∷ [])
+    → whole ≡ ((((out ++ 0 ∷ 0 ∷ 0 ∷ []) ++ varint32 (pos delta)) ++ 1 ∷ 0 ∷ []) ++ value) ++ varint32 (pos 0)
+    → start ≡ length out → at ≡ length (((out ++ 0 ∷ 0 ∷ 0 ∷ []) ++ varint32 (pos delta)) ++ 1 ∷ 0 ∷ [])
     → size ≡ length (record_body delta value) → len ≡ length value → size < 64 → len < 64
     → slice_set (slice_set whole start (2 * size)) (at - 1) (2 * len) ≡ out ++ record_bytes delta value
 set_in_front out delta value whole start at size len is begins stands sized long small few =
-    let u = uvarint (2 * delta) in
+    let u = varint32 (pos delta) in
     let tail = value ++ varint32 (pos 0) in
     let front = out ++ 2 * size ∷ 0 ∷ 0 ∷ (u ++ 1 ∷ []) in
     let zeros : whole ≡ out ++ 0 ∷ (0 ∷ 0 ∷ (u ++ 1 ∷ 0 ∷ tail)) = is ∙ simp append_assoc in
@@ -53,3 +58,9 @@ pub behind : (whole front value : List ℕ) → whole ≡ front ++ value → tak
 behind whole front value is =
     let others : drop (length front) whole ≡ value = rw is (drop-append_seam front value) in
     rw others (take_all (length whole - length front) value (omega (arith, ap (λ (l : List ℕ). length l) is, length-append front value)))
+
+-- all of some bytes set
+pub set_all : (len : ℕ) (new items whole : List ℕ) → len ≡ length items → length new ≡ length items → new ≡ whole → take len (new ++ drop (length new) items) ≡ whole
+set_all len new items whole long same is =
+    let none : drop (length new) items ≡ [] = drop_of_length-le items (omega (arith, same)) in
+    rw none (ap (take len) (append-nil new) ∙ take_all len new (omega (arith, long, same)) ∙ is)

@@ -6,7 +6,7 @@ use Rattle.kr_wire.specs.Spelling.{groups, varint32, varint64, number, signed}
 use Rattle.kr_wire.proofs.Lengths.{one_group, more_groups, groups_few}
 use Rattle.kr_defs.specs.declared.record.Item.{Item}
 use Rattle.kr_batch.specs.declared.Batch.{Batch}
-use Rattle.kr_batch.specs.BatchBytes.{VALUES_END, record_body, record_bytes, records_bytes, no_producer, fixed_bytes, checked_bytes, item_value, values_size}
+use Rattle.kr_batch.specs.BatchBytes.{VALUES_END, record_body, record_bytes, records_bytes, no_producer, fixed_bytes, checked_bytes, start_bytes, head_bytes, item_value, values_size}
 
 pub one : (n : ℕ) → n < 64 → 1 ≡ length (varint32 (pos n))
 unfolding varint32
@@ -95,6 +95,10 @@ records_length delta (i ∷ items) =
 fixed_length : (count : ℕ) (time : ℤ) → length (fixed_bytes count time) ≡ 40
 unfolding fixed_bytes no_producer signed number
 fixed_length count time = refl
+
+pub head_length : (base : ℤ) (size : ℕ) (epoch : ℤ) (crc : ℕ) → length (head_bytes base size epoch crc) ≡ 21
+unfolding head_bytes start_bytes signed number
+head_length base size epoch crc = refl
 
 pub checked_length : (batch : Batch) → length batch.items ≤ 10000 → values_size batch.items < VALUES_END → length (checked_bytes batch) + 9 < 2 ^ 31
 unfolding checked_bytes

@@ -72,14 +72,20 @@ start_bytes base size epoch = signed w64 base ++ number w32 size ++ signed w32 e
 unfoldable pub head_bytes : ℤ → ℕ → ℤ → ℕ → List ℕ
 head_bytes base size epoch crc = start_bytes base size epoch ++ signed w8 (pos 2) ++ number w32 crc
 
+-- all of it, by what the CRC is over
+abbrev pub whole_bytes : ℤ → ℤ → List ℕ → List ℕ
+whole_bytes base epoch checked = head_bytes base (length checked + 9) epoch (crc32c checked) ++ checked
+
 unfoldable pub batch_bytes : Batch → List ℕ
-batch_bytes batch =
-    let checked = checked_bytes batch in
-    head_bytes batch.base (length checked + 9) batch.epoch (crc32c checked) ++ checked
+batch_bytes batch = whole_bytes batch.base batch.epoch (checked_bytes batch)
 
 -- The values of a batch take fewer bytes together than this, so that each length in it fits its field of four bytes.
 abbrev pub VALUES_END : ℕ
 VALUES_END = 2 ^ 30
+
+-- What the records of a batch take together, fewer bytes than this.
+abbrev pub RECORDS_END : ℕ
+RECORDS_END = 2 ^ 31
 
 -- A batch whose written form stands for it: the base is at least 0, it has 1 to 10,000 records that have a written
 -- form, and its numbers and texts are those of their types.

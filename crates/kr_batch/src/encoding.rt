@@ -1,16 +1,19 @@
 //! Batches to bytes.
 
-ghost use Rattle.std.specs.Prelude.{◌≡◌, pos, ◌≤ℤ◌, ◌+◌, ◌-◌, ◌<◌, ◌≤◌, ◌^◌, ◌++◌, length, if◌then◌else◌, IfOk, OnOk, OnErr, FitsSigned, vec_len};
+ghost use Rattle.std.specs.Prelude.{◌≡◌, pos, ◌≤ℤ◌, ◌+◌, ◌-◌, ◌<◌, ◌≤◌, ◌^◌, ◌++◌, drop, length, if◌then◌else◌, IfOk, OnOk, OnErr, FitsSigned, vec_len};
 ghost use Rattle.std.specs.Int.{w64};
 ghost use Rattle.std.specs.List.{All};
 ghost use Rattle.kr_defs.specs.declared.limits.TheConstants.{MOST_RECORDS};
 ghost use Rattle.kr_wire.specs.Spelling.{varint32};
+ghost use Rattle.kr_record.specs.Encodable.{IsEncodable};
+ghost use Rattle.kr_record.specs.Spelling.{record_value};
 ghost use Rattle.kr_batch.specs.Grammar.{IsBatch};
-ghost use Rattle.kr_batch.specs.BatchBytes.{VALUES_END, IsHeldItem, IsWritable, batch_bytes, checked_bytes, fixed_bytes, front_bytes, head_bytes, no_producer, record_body, record_bytes, records_bytes, start_bytes, item_value, values_size};
+ghost use Rattle.kr_batch.specs.BatchBytes.{RECORDS_END, VALUES_END, IsHeldItem, IsWritable, batch_bytes, checked_bytes, fixed_bytes, front_bytes, head_bytes, no_producer, record_body, record_bytes, records_bytes, start_bytes, item_value, values_size, whole_bytes};
 
 use crate::{Batch, crc32c};
 use kr_base::NoMemory;
-use kr_defs::Item;
+use kr_defs::{Item, Record};
+use kr_record::append;
 use kr_wire::{
     FewBytes, put_both, put_bytes, put_i8, put_i16, put_i32, put_i64, put_u32, put_uvarint,
     put_varint,
@@ -19,6 +22,11 @@ use std::alloc::AllocError;
 
 // The room that is taken at first for a record, in bytes. Most take less.
 const RECORD_ROOM: usize = 64;
+
+// What stands before the bytes that the CRC is over, and at their start before the records, in bytes.
+const HEAD: usize = 21;
+
+const FIXED: usize = 40;
 
 /// Appends the batch. Without memory nothing changes.
 #[tactic(auto, unfolding(crate::specs::BatchBytes::batch_bytes))]
@@ -32,24 +40,71 @@ pub fn encode(batch: &Batch, out: &mut Vec<u8>) -> Result<(), NoMemory>
     // What is appended stands for the batch, where its base is at least 0.
     ensures stands { pos 0 ≤ℤ batch.now.base → All IsHeldItem batch.now.items → OnOk result (IsBatch batch.now (batch_bytes batch.now)) }
 {
-    let mut checked = Vec::with_capacity(*out.allocator(), RECORD_ROOM * batch.items.len())?;
-    put_checked(batch, &mut checked)?;
-    let mut head = Vec::new(*out.allocator());
-    let size = size_with(batch, &checked);
-    put_head(batch.base, size, batch.epoch, crc32c(&checked), &mut head)?;
-    put_both(out, &head, &checked)?;
+    let room = HEAD + FIXED + RECORD_ROOM * batch.items.len();
+    let mut whole = Vec::with_capacity(*out.allocator(), room)?;
+    put_bytes(&mut whole, &[0; HEAD])?;
+    put_checked(batch, &mut whole)?;
+    set_head(batch.base, batch.epoch, &mut whole)?;
+    Ok(give(whole, out)?)
+}
+
+/// Appends the batch of records that stand in bytes already, as `put_numbered` writes them, from 0 on. Without memory
+/// nothing changes.
+pub fn put_batch(
+    base: i64,
+    epoch: i32,
+    time: i64,
+    count: u32,
+    records: &[u8],
+    out: &mut Vec<u8>,
+) -> Result<(), NoMemory>
+    requires some { 1 ≤ count }
+    requires small { length records.now < RECORDS_END }
+    ensures ok { OnOk result (out.new.items ≡ out.old.items ++ whole_bytes base epoch (fixed_bytes count time ++ records.now)) }
+    ensures err { OnErr result (out.new.items ≡ out.old.items) }
+{
+    let mut whole = Vec::with_capacity(*out.allocator(), HEAD + FIXED + records.len())?;
+    put_bytes(&mut whole, &[0; HEAD])?;
+    put_fixed(count, time, &mut whole)?;
+    whole.extend_from_slice(records)?;
+    set_head(base, epoch, &mut whole)?;
+    Ok(give(whole, out)?)
+}
+
+// Appends the bytes. Where there are none before them, they aren't copied.
+fn give(bytes: Vec<u8>, out: &mut Vec<u8>) -> Result<(), AllocError>
+    ensures ok { OnOk result (out.new.items ≡ out.old.items ++ bytes.items) }
+    ensures err { OnErr result (out.new.items ≡ out.old.items) }
+{
+    if out.is_empty() {
+        *out = bytes;
+        return Ok(());
+    }
+    out.extend_from_slice(&bytes)
+}
+
+// Sets the head, for which there is room before the bytes that the CRC is over.
+#[tactic(auto, using(crate::proofs::Sizes::head_length))]
+fn set_head(base: i64, epoch: i32, whole: &mut Vec<u8>) -> Result<(), AllocError>
+    requires room { HEAD ≤ length whole.old.items }
+    requires small { length whole.old.items < 2 ^ 32 }
+    ensures { OnOk result (whole.new.items ≡ whole_bytes base epoch (drop HEAD whole.old.items)) }
+{
+    let checked = &whole[HEAD..];
+    let size = checked.len() as u32 + 9;
+    let crc = crc32c(checked);
+    let mut head = Vec::new(*whole.allocator());
+    put_head(base, size, epoch, crc, &mut head)?;
+    set_front(whole, &head);
     Ok(())
 }
 
-// The size of all that follows the size.
-#[tactic(auto, using(crate::proofs::Sizes::checked_length))]
-fn size_with(batch: &Batch, checked: &[u8]) -> u32
-    requires few { length batch.now.items ≤ MOST_RECORDS }
-    requires small { values_size batch.now.items < VALUES_END }
-    requires checked { checked.now ≡ checked_bytes batch.now }
-    ensures { result ≡ length checked.now + 9 }
+fn set_front(bytes: &mut [u8], front: &[u8])
+    requires { length front.now ≤ length bytes.old }
+    ensures bytes { bytes.new ≡ front.now ++ drop (length front.now) bytes.old }
+    ensures len { length bytes.new ≡ length bytes.old }
 {
-    checked.len() as u32 + 9
+    bytes[..front.len()].copy_from_slice(front);
 }
 
 // What stands before the bytes that the CRC is over.
@@ -120,37 +175,55 @@ fn put_records(items: &[Item], out: &mut Vec<u8>) -> Result<(), NoMemory>
     Ok(())
 }
 
-// An item as a record. The value of one whose lengths don't take a byte each is written elsewhere first.
 fn put_item(delta: u32, item: &Item, value: &mut Vec<u8>, out: &mut Vec<u8>) -> Result<(), NoMemory>
     requires delta { delta < MOST_RECORDS }
     requires each { IsWritable item.now }
     requires small { length (item_value item.now) < VALUES_END }
     ensures { OnOk result (out.new.items ≡ out.old.items ++ record_bytes delta (item_value item.now)) }
 {
+    match item {
+        Item::Record(record) => put_numbered(delta, record, value, out),
+        Item::Control => Ok(()),
+    }
+}
+
+/// Appends a record as it stands in a batch, where it has this number. Without memory some front of it may be appended.
+/// `value` is room for a value that takes 64 bytes or more, which is written there first.
+pub fn put_numbered(
+    delta: u32,
+    record: &Record,
+    value: &mut Vec<u8>,
+    out: &mut Vec<u8>,
+) -> Result<(), NoMemory>
+    requires delta { delta < MOST_RECORDS }
+    requires encodable { IsEncodable record.now }
+    requires small { length (record_value record.now) < VALUES_END }
+    ensures { OnOk result (out.new.items ≡ out.old.items ++ record_bytes delta (record_value record.now)) }
+{
     // Where the last value was short this one most likely is.
-    if value.len() < 64 && put_short(delta, item, out)? {
+    if value.len() < 64 && put_short(delta, record, out)? {
         return Ok(());
     }
     value.clear();
-    put_value(item, value)?;
+    append(record, value)?;
     put_record(delta, value, out)?;
     Ok(())
 }
 
-// A record whose size and whose value's length take a byte each: the value is written where it stays, and these two
-// are put last. Whether it was so short: where it wasn't nothing is put.
-fn put_short(delta: u32, item: &Item, out: &mut Vec<u8>) -> Result<bool, NoMemory>
+// A record whose size and whose value's length take a byte each: the value is written where it stays, and
+// these two are put last. Whether it was so short: where it wasn't nothing is put.
+fn put_short(delta: u32, record: &Record, out: &mut Vec<u8>) -> Result<bool, NoMemory>
     requires delta { delta < MOST_RECORDS }
-    requires value { IsWritable item.now }
+    requires encodable { IsEncodable record.now }
     ensures { IfOk result (λ is_short. out.new.items ≡
-        (if is_short then out.old.items ++ record_bytes delta (item_value item.now) else out.old.items)) }
+        (if is_short then out.old.items ++ record_bytes delta (record_value record.now) else out.old.items)) }
 {
     let start = out.as_slice().len();
     put_bytes(out, &[0, 0, 0])?;
-    put_uvarint(out, 2 * delta)?;
+    put_delta(out, delta)?;
     put_bytes(out, &[1, 0])?;
     let at = out.as_slice().len();
-    put_value(item, out)?;
+    append(record, out)?;
     let len = out.as_slice().len() - at;
     if len < 64 {
         let size = body_len(delta, &out[at..]);
@@ -165,14 +238,17 @@ fn put_short(delta: u32, item: &Item, out: &mut Vec<u8>) -> Result<bool, NoMemor
     Ok(false)
 }
 
-fn put_value(item: &Item, out: &mut Vec<u8>) -> Result<(), NoMemory>
-    requires { IsWritable item.now }
-    ensures { OnOk result (out.new.items ≡ out.old.items ++ item_value item.now) }
+// The number of a record, as a varint. That of most has two bytes, which are put in line.
+#[tactic(auto, unfolding(kr_wire::specs::Spelling::varint32, kr_wire::specs::Spelling::uvarint), using(crate::proofs::Fronts::two_bytes))]
+#[inline(always)]
+fn put_delta(out: &mut Vec<u8>, delta: u32) -> Result<(), AllocError>
+    requires { delta < MOST_RECORDS }
+    ensures { OnOk result (out.new.items ≡ out.old.items ++ varint32 (pos delta)) }
 {
-    match item {
-        Item::Record(record) => kr_record::append(record, out),
-        Item::Control => Ok(()),
+    if delta < 64 || delta >= 8192 {
+        return put_uvarint(out, 2 * delta);
     }
+    put_bytes(out, &[128 + (2 * delta % 128) as u8, (delta / 64) as u8])
 }
 
 #[tactic(auto, using(crate::proofs::Records::whole_record))]

@@ -12,7 +12,7 @@ mod table;
 
 pub use checksum::crc32c;
 pub use decoding::decode;
-pub use encoding::encode;
+pub use encoding::{encode, put_batch, put_numbered};
 pub use fault::{BatchFault, Cause};
 pub use heading::{Heading, LEAST_SIZE, START, head};
 use kr_defs::Items;
