@@ -1,5 +1,5 @@
 -- How many bytes are written.
-use Rattle.std.proofs.Common.{◌≡◌, ℕ, ℤ, pos, negsuc, zero, suc, ◌+◌, ◌*◌, ◌/◌, ◌^◌, ◌<◌, ◌≤◌, inl, inr, List, [], ◌∷◌, length, Some, refl, sym, arith, length-append}
+use Rattle.std.proofs.Common.{◌≡◌, ℕ, ℤ, pos, negsuc, zero, suc, ◌+◌, ◌*◌, ◌/◌, ◌^◌, ◌<◌, ◌≤◌, inl, inr, List, [], ◌∷◌, ◌++◌, length, Some, refl, sym, ap, arith, length-append}
 use Rattle.std.specs.Int.{w8}
 use Rattle.std.proofs.lemmas.List.Sums.{sum_by-cons}
 use Rattle.kr_wire.specs.Spelling.{groups, varint32, varint64, number, signed}
@@ -82,7 +82,7 @@ record_length delta value =
     let h = length-append (varint32 (pos (length (record_body delta value)))) (record_body delta value) in
     omega (arith, a, b, d, e, h)
 
-records_length : (delta : ℕ) (items : List Item) → length (records_bytes delta items) ≤ 19 * length items + values_size items
+pub records_length : (delta : ℕ) (items : List Item) → length (records_bytes delta items) ≤ 19 * length items + values_size items
 unfolding records_bytes
 records_length delta [] = omega arith
 records_length delta (i ∷ items) =
@@ -92,9 +92,16 @@ records_length delta (i ∷ items) =
     let e = sum_by-cons (λ x. length (item_value x)) i items in
     omega (arith, a, b, d, e)
 
-fixed_length : (count : ℕ) (time : ℤ) → length (fixed_bytes count time) ≡ 40
+pub fixed_length : (count : ℕ) (time : ℤ) → length (fixed_bytes count time) ≡ 40
 unfolding fixed_bytes no_producer signed number
 fixed_length count time = refl
+
+pub behind_fixed : (count : ℕ) (time : ℤ) (first second third records : List ℕ) → second ≡ first ++ fixed_bytes count time → third ≡ second ++ records
+    → length third ≡ length first + 40 + length records
+behind_fixed count time first second third records fixed all =
+    let a = ap (λ (l : List ℕ). length l) fixed in
+    let b = ap (λ (l : List ℕ). length l) all in
+    omega (arith, a, b, fixed_length count time, length-append first (fixed_bytes count time), length-append second records)
 
 pub head_length : (base : ℤ) (size : ℕ) (epoch : ℤ) (crc : ℕ) → length (head_bytes base size epoch crc) ≡ 21
 unfolding head_bytes start_bytes signed number

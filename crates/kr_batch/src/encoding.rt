@@ -7,6 +7,7 @@ ghost use Rattle.kr_defs.specs.declared.limits.TheConstants.{MOST_RECORDS};
 ghost use Rattle.kr_wire.specs.Spelling.{varint32};
 ghost use Rattle.kr_record.specs.Encodable.{IsEncodable};
 ghost use Rattle.kr_record.specs.Spelling.{record_value};
+ghost use Rattle.kr_batch.specs.Crc as crc;
 ghost use Rattle.kr_batch.specs.Grammar.{IsBatch};
 ghost use Rattle.kr_batch.specs.BatchBytes.{RECORDS_END, VALUES_END, IsHeldItem, IsWritable, batch_bytes, checked_bytes, fixed_bytes, front_bytes, head_bytes, no_producer, record_body, record_bytes, records_bytes, start_bytes, item_value, values_size, whole_bytes};
 
@@ -18,7 +19,7 @@ use kr_wire::{
     FewBytes, put_both, put_bytes, put_i8, put_i16, put_i32, put_i64, put_u32, put_uvarint,
     put_varint,
 };
-use std::alloc::AllocError;
+use std::alloc::{AllocError, Global};
 
 // The room that is taken at first for a record, in bytes. Most take less.
 const RECORD_ROOM: usize = 64;
@@ -66,7 +67,7 @@ pub fn put_batch(
     let mut whole = Vec::with_capacity(*out.allocator(), HEAD + FIXED + records.len())?;
     put_bytes(&mut whole, &[0; HEAD])?;
     put_fixed(count, time, &mut whole)?;
-    whole.extend_from_slice(records)?;
+    put_bytes(&mut whole, records)?;
     set_head(base, epoch, &mut whole)?;
     Ok(give(whole, out)?)
 }
@@ -90,13 +91,19 @@ fn set_head(base: i64, epoch: i32, whole: &mut Vec<u8>) -> Result<(), AllocError
     requires small { length whole.old.items < 2 ^ 32 }
     ensures { OnOk result (whole.new.items ≡ whole_bytes base epoch (drop HEAD whole.old.items)) }
 {
-    let checked = &whole[HEAD..];
-    let size = checked.len() as u32 + 9;
-    let crc = crc32c(checked);
-    let mut head = Vec::new(*whole.allocator());
-    put_head(base, size, epoch, crc, &mut head)?;
+    let head = head_of(*whole.allocator(), base, epoch, &whole[HEAD..])?;
     set_front(whole, &head);
     Ok(())
+}
+
+fn head_of(alloc: Global, base: i64, epoch: i32, checked: &[u8]) -> Result<Vec<u8>, AllocError>
+    requires { length checked.now + 9 < 2 ^ 32 }
+    ensures { IfOk result (λ h. h.items ≡ head_bytes base (length checked.now + 9) epoch (crc.crc32c checked.now)) }
+{
+    let mut head = Vec::new(alloc);
+    let size = checked.len() as u32 + 9;
+    put_head(base, size, epoch, crc32c(checked), &mut head)?;
+    Ok(head)
 }
 
 fn set_front(bytes: &mut [u8], front: &[u8])

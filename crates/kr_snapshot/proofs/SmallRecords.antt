@@ -27,7 +27,7 @@ use Rattle.kr_record.specs.Records.{chosen}
 use Rattle.kr_record.specs.Encodable.{IsEncodable, IsShortEndpoint, IsShortRange}
 use Rattle.kr_record.proofs.RecordForms.{size}
 use Rattle.kr_snapshot.specs.inner.EntryRecords.{feature_record, broker_record, partition_record, config_record}
-use Rattle.kr_snapshot.specs.inner.Writer.{setting_text, IsLight, most_beside, texts, IsSound, MayAdd}
+use Rattle.kr_snapshot.specs.inner.Writer.{setting_text, IsLight, most_beside, texts, Stands, MayAdd}
 use Rattle.kr_snapshot.specs.declared.batch_writer.BatchWriter.{BatchWriter}
 
 -- ---- ids among others
@@ -349,9 +349,5 @@ module _ (image : Image) (valid : IsValid image) where
   in_sections = append_assoc (features ++ brokers) topics configs ∙ append_assoc features brokers (topics ++ configs)
 
 -- all of them may be added to a new writer
-pub may_begin : (image : Image) (w : BatchWriter) → IsValid image → IsSound w → w.group.items ≡ [] → MayAdd w (records_of image)
-may_begin image w valid sound empty = record {
-  sound = sound;
-  light = own_light image valid;
-  little = (let a = own_text image valid in rw empty (omega (arith, a)));
-}
+pub may_begin : (image : Image) (w : BatchWriter) → IsValid image → Stands w [] → MayAdd w (records_of image)
+may_begin image w valid stands = record { done = []; stands = stands; light = own_light image valid; little = (let own = own_text image valid in omega (arith, own)) }

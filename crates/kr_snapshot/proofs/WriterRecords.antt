@@ -23,7 +23,7 @@ use Rattle.kr_defs.proofs.TopicWalks.{group_begin}
 use Rattle.kr_record.specs.Encodable.{IsHeld}
 use Rattle.kr_snapshot.specs.inner.EntryRecords.{partition_record}
 use Rattle.kr_snapshot.specs.ImageText.{chunks, batches_bytes}
-use Rattle.kr_snapshot.specs.inner.Writer.{setting_text, IsLight, texts, IsSound, body_with, count_so_far, Adds, IsAmid, MayAdd}
+use Rattle.kr_snapshot.specs.inner.Writer.{setting_text, IsLight, texts, Stands, Adds, IsAmid, MayAdd}
 use Rattle.kr_snapshot.specs.declared.batch_writer.BatchWriter.{BatchWriter}
 
 pub all_front : {X : Type 0} (P : X → Type 0) (xs ys : List X) → AllByRecursion P (xs ++ ys) → AllByRecursion P xs
@@ -34,29 +34,21 @@ pub all_back : {X : Type 0} (P : X → Type 0) (xs ys : List X) → AllByRecursi
 all_back P [] ys a = a
 all_back P (x ∷ xs) ys a = all_back P xs ys a.1
 
-pub adds_none : (w : BatchWriter) → IsSound w → Adds w w []
-adds_none w sound = record { sound = sound; bytes = λ more. refl; count = omega arith; text = omega arith; held = All-nil IsHeld }
+pub adds_none : (w : BatchWriter) → Adds w w []
+adds_none w = record { stands = λ done s little. subst (Stands w) (sym (append-nil done)) s; held = All-nil IsHeld }
 
 pub adds_then : (a b c : BatchWriter) (xs ys : List Record) → Adds a b xs → Adds b c ys → Adds a c (xs ++ ys)
 adds_then a b c xs ys first second =
-    let long = length-append xs ys in
     let sum = sum_by-append setting_text xs ys in
-    let n = first.count in
-    let m = second.count in
-    let t = first.text in
-    let u = second.text in
     record {
-      sound = second.sound;
-      bytes = λ more.
-          second.bytes more ∙ (first.bytes (as_items ys ++ more)
-          ∙ ap (body_with a) (sym (append_assoc (as_items xs) (as_items ys) more) ∙ ap (λ (is : List Item). is ++ more) (sym (map-append (λ r. items.Record r) xs ys))));
-      count = omega (arith, long, n, m);
-      text = omega (arith, sum, t, u);
+      stands = λ done s little.
+          subst (Stands c) (append_assoc done xs ys)
+          (second.stands (done ++ xs) (first.stands done s (omega (arith, sum, little))) (omega (arith, sum, little, sum_by-append setting_text done xs)));
       held = All-append IsHeld xs ys first.held second.held;
     }
 
 pub amid_start : (w : BatchWriter) (all : List Record) → MayAdd w all → IsAmid w w all all
-amid_start w all may = record { done = []; parts = refl; adds = adds_none w may.sound }
+amid_start w all may = record { done = []; parts = refl; adds = adds_none w }
 
 module _ (w now : BatchWriter) (all left : List Record) (amid : IsAmid w now all left) where
   pub amid_may : (front back : List Record) → left ≡ front ++ back → MayAdd w all → MayAdd now front
@@ -67,10 +59,11 @@ module _ (w now : BatchWriter) (all left : List Record) (amid : IsAmid w now all
       let sum = ap texts parts in
       let s = sum_by-append setting_text amid.done (front ++ back) in
       let t = sum_by-append setting_text front back in
-      let u = amid.adds.text in
+      let u = sum_by-append setting_text may.done amid.done in
       let most = may.little in
       record {
-        sound = amid.adds.sound;
+        done = may.done ++ amid.done;
+        stands = amid.adds.stands may.done may.stands (omega (arith, sum, s, most));
         light = All-from_recursion IsLight front own;
         little = omega (arith, sum, s, t, u, most);
       }
@@ -108,15 +101,7 @@ topic_parts name id ps indexes =
 
 -- ---- all of them
 
-pub all_bytes : (w after : BatchWriter) (records : List Record) → w.body.items ≡ [] → w.group.items ≡ [] → w.before ≡ 0 → Adds w after records
-    → (bytes : List ℕ) → bytes ≡ body_with after [] → bytes ≡ batches_bytes 0 (chunks IMAGE_BATCH (as_items records))
-all_bytes w after records body group before adds bytes is =
-    is ∙ (adds.bytes [] ∙ (ap (body_with w) (append-nil (as_items records)) ∙ rw (body, group, before) refl))
-
-pub all_count : (w after : BatchWriter) (records : List Record) → w.group.items ≡ [] → w.before ≡ 0 → Adds w after records → (n : ℕ) → n ≡ count_so_far after → n ≡ length records
-all_count w after records group before adds n is =
-    let c = adds.count in
-    let g : length w.group.items ≡ 0 = ap (λ (l : List Item). length l) group in
-    omega (arith, is, c, g, before)
+pub may_none : (w : BatchWriter) (records : List Record) → MayAdd w records → MayAdd w []
+may_none w records may = record { done = may.done; stands = may.stands; light = All-nil IsLight; little = (let most = may.little in omega (arith, most)) }
 
 pub ruleset adding = (amid_start)

@@ -94,7 +94,8 @@ pub(crate) fn put_features<S: Store>(
     seen.is_valid();
     let mut after = None;
     while let Some((name, level)) = seen.next_feature(after) {
-        writer.push(feature(alloc, name, level)?)?;
+        let record = feature(alloc, name, level)?;
+        writer.push(&record)?;
         after = Some(name);
     }
     Ok(())
@@ -113,7 +114,8 @@ pub(crate) fn put_brokers<S: Store>(
     seen.is_valid();
     let mut after = None;
     while let Some((id, state)) = seen.next_broker(after) {
-        writer.push(registration(alloc, id, state)?)?;
+        let record = registration(alloc, id, state)?;
+        writer.push(&record)?;
         after = Some(id);
     }
     Ok(())
@@ -132,7 +134,8 @@ fn put_above<S: Store>(
 {
     let mut after = first;
     while let Some((key, state)) = seen.next_of_topic(&after) {
-        writer.push(partition(alloc, key, state)?)?;
+        let record = partition(alloc, key, state)?;
+        writer.push(&record)?;
         after = *key;
     }
     Ok(())
@@ -150,7 +153,8 @@ fn put_topic<S: Store>(
     ensures { OnOk result (Adds writer.old writer.new (topic_records seen.now.partitions (name.now, id.now))) }
 {
     seen.is_valid();
-    writer.push(topic(alloc, name, id)?)?;
+    let record = topic(alloc, name, id)?;
+    writer.push(&record)?;
     put_above(alloc, seen, before_all(id), writer)
 }
 
@@ -186,7 +190,8 @@ pub(crate) fn put_configs<S: Store>(
     seen.is_valid();
     let mut after = None;
     while let Some((key, value)) = seen.next_config(after) {
-        writer.push(setting(alloc, key, value)?)?;
+        let record = setting(alloc, key, value)?;
+        writer.push(&record)?;
         after = Some(key);
     }
     Ok(())

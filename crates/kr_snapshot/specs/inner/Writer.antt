@@ -1,5 +1,5 @@
 -- What a writer of batches has, and what is added to it.
-use Rattle.std.specs.Prelude.{◌≡◌, ℕ, ◌+◌, ◌≤◌, List, [], ◌++◌, length, sum_by, All, Some}
+use Rattle.std.specs.Prelude.{◌≡◌, ℕ, ◌+◌, ◌≤◌, pos, List, [], ◌++◌, length, sum_by, All, Some}
 use Rattle.kr_defs.specs.declared.limits.TheConstants.{IMAGE_BATCH, MOST_CONFIG_TEXT}
 use Rattle.kr_defs.specs.declared.record.Record.{Record}
 use Rattle.kr_defs.specs.declared.record.Record.TheVariants as kinds
@@ -8,8 +8,8 @@ use Rattle.kr_defs.specs.declared.record.Item.TheVariants as items
 use Rattle.kr_defs.specs.ImageLaws.{as_items}
 use Rattle.kr_record.specs.Encodable.{IsEncodable, IsHeld}
 use Rattle.kr_record.specs.Spelling.{record_value}
-use Rattle.kr_batch.specs.BatchBytes.{batch_bytes}
-use Rattle.kr_snapshot.specs.ImageText.{batch_of_group, chunks, batches_bytes}
+use Rattle.kr_batch.specs.BatchBytes.{fixed_bytes, records_bytes, whole_bytes}
+use Rattle.kr_snapshot.specs.ImageText.{chunks, batches_bytes}
 use Rattle.kr_snapshot.specs.declared.batch_writer.BatchWriter.{BatchWriter}
 
 -- the text of a setting, which is limited over all settings of an image
@@ -37,38 +37,31 @@ IsLightItem items.Control = ⊥
 abbrev pub texts : List Record → ℕ
 texts records = sum_by setting_text records
 
--- the text of the settings in hand
-abbrev pub text_of : BatchWriter → ℕ
-text_of w = sum_by item_text w.group.items
-
-pub record IsSound (w : BatchWriter) : Type 0 where
-  pub few : length w.group.items ≤ IMAGE_BATCH
-  pub each : All IsLightItem w.group.items
-  pub little : text_of w ≤ MOST_CONFIG_TEXT
+-- These records are the writer's so far: the batches, and then those of the next batch, whose bytes are as they will stand in it.
+pub record Stands (w : BatchWriter) (done : List Record) : Type 0 where
+  -- the records of the next batch
+  pub group : List Item
+  pub few : length group ≤ IMAGE_BATCH
+  pub each : All IsLightItem group
+  pub text : sum_by item_text group ≤ texts done
+  pub counted : w.count ≡ length group
+  pub spelled : w.records.items ≡ records_bytes 0 group
   -- each record that was written takes a byte
   pub behind : w.before ≤ length w.body.items
+  pub all : w.before + w.count ≡ length done
+  -- with others behind them, too
+  pub bytes : (more : List Item) → w.body.items ++ batches_bytes w.before (chunks IMAGE_BATCH (group ++ more)) ≡ batches_bytes 0 (chunks IMAGE_BATCH (as_items done ++ more))
 
--- the bytes of the batches, once these items come
-abbrev pub body_with : BatchWriter → List Item → List ℕ
-body_with w more = w.body.items ++ batches_bytes w.before (chunks IMAGE_BATCH (w.group.items ++ more))
-
--- how many records came
-abbrev pub count_so_far : BatchWriter → ℕ
-count_so_far w = w.before + length w.group.items
-
--- the records in hand were written as a batch
+-- the records of the next batch were written as a batch
 pub record Puts (w after : BatchWriter) : Type 0 where
-  pub sound : IsSound after
-  pub body : after.body.items ≡ w.body.items ++ batch_bytes (batch_of_group w.before w.group.items)
-  pub before : after.before ≡ w.before + length w.group.items
-  pub group : after.group.items ≡ []
+  pub body : after.body.items ≡ w.body.items ++ whole_bytes (pos w.before) (pos 0) (fixed_bytes w.count (pos 0) ++ w.records.items)
+  pub before : after.before ≡ w.before + w.count
+  pub count : after.count ≡ 0
+  pub records : after.records.items ≡ []
 
 -- the records were added
 pub record Adds (w after : BatchWriter) (records : List Record) : Type 0 where
-  pub sound : IsSound after
-  pub bytes : (more : List Item) → body_with after more ≡ body_with w (as_items records ++ more)
-  pub count : count_so_far after ≡ count_so_far w + length records
-  pub text : text_of after ≤ text_of w + texts records
+  pub stands : (done : List Record) → Stands w done → texts done + texts records ≤ MOST_CONFIG_TEXT → Stands after (done ++ records)
   -- their numbers fit their types, and their texts are UTF-8
   pub held : All IsHeld records
 
@@ -78,8 +71,9 @@ pub record IsAmid (w after : BatchWriter) (all left : List Record) : Type 0 wher
   pub parts : all ≡ done ++ left
   pub adds : Adds w after done
 
--- the records may be added
+-- the records may be added to those so far
 pub record MayAdd (w : BatchWriter) (records : List Record) : Type 0 where
-  pub sound : IsSound w
+  pub done : List Record
+  pub stands : Stands w done
   pub light : All IsLight records
-  pub little : text_of w + texts records ≤ MOST_CONFIG_TEXT
+  pub little : texts done + texts records ≤ MOST_CONFIG_TEXT
