@@ -2,7 +2,6 @@
 use Rattle.std.proofs.Common.{◌≡◌, ℕ, ◌+◌, ◌*◌, ◌^◌, ◌<◌, ◌≤◌, List, [], ◌∷◌, ◌++◌, length, Ok, refl, ◌∙◌, append_assoc, arith, lit<}
 use Rattle.std.specs.Prelude.{negsuc, Option, None}
 use Rattle.std.specs.List.{sum_by}
-use Rattle.std.proofs.lemmas.List.Recursion.{is_sum_by}
 use Rattle.std.proofs.lemmas.List.Sums.{sum_by-append, sum_by-cons}
 use Rattle.kr_defs.specs.declared.record.Record.{Record}
 use Rattle.kr_defs.specs.declared.record.Record.TheVariants as kinds
@@ -88,7 +87,7 @@ pub ruleset put_out = (value_as, value_kind)
 -- ---- how many bytes are written
 
 same_sums : {X : Type 0} (f g : X → ℕ) → ((x : X) → f x ≡ g x) → (xs : List X) → sum_by f xs ≡ sum_by g xs
-same_sums f g same xs = is_sum_by (sum_by f) g refl (λ x more. omega (arith, same x, sum_by-cons f x more)) xs
+same_sums f g same xs i = sum_by (λ x. same x i) xs
 
 -- a field that is never written
 none_more : (sizes : List (Option ℕ)) → tags_bytes (sizes ++ None ∷ []) ≡ tags_bytes sizes
@@ -118,5 +117,3 @@ pub cost : (r : Record) (bytes : List ℕ) → IsRecord r bytes → value_bytes 
 cost r bytes is = omega (arith, (all_bytes r).1, (framed_form r is.key is.version).follows.cost bytes is.spelled)
 
 pub ruleset laws = (stands, again, size, record_fits)
-
-pub ruleset encoded = (size, stands)

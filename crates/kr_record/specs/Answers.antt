@@ -17,15 +17,10 @@ abbrev pub IsFieldFault : {Y : Type 0} → ReadFault → Result Y WireFault → 
 IsFieldFault (reads.Wire fault) read = read ≡ Err fault
 IsFieldFault reads.NoMemory read = Unit {0}
 
--- what a field's data give
-abbrev pub GivesField : {Y : Type 0} → Result Y ReadFault → Result Y WireFault → Type 0
-GivesField (Ok x) read = read ≡ Ok x
-GivesField (Err e) read = IsFieldFault e read
-
--- the same of a value that is changed in place
-abbrev pub Sets : {Y : Type 0} → Result (Unit {0}) ReadFault → Y → Result Y WireFault → Type 0
-Sets (Ok nothing) new read = read ≡ Ok new
-Sets (Err e) new read = IsFieldFault e read
+-- what a field's data give, as it is seen in the answer
+abbrev pub GivesField : {X Y : Type 0} → (X → Y) → Result X ReadFault → Result Y WireFault → Type 0
+GivesField view (Ok x) read = read ≡ Ok (view x)
+GivesField view (Err e) read = IsFieldFault e read
 
 -- want of memory
 abbrev pub is_free : RecordFault → Bool

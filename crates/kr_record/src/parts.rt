@@ -6,7 +6,7 @@ ghost use Rattle.kr_wire.specs.Schema.{End};
 ghost use Rattle.kr_wire.specs.Tables as tables;
 ghost use Rattle.kr_wire.specs.Tables.{NoField, Table, absents, known, part_at, set_part};
 ghost use Rattle.kr_layout.specs.Answers.{Takes};
-ghost use Rattle.kr_record.specs.Answers.{GivesField, Sets};
+ghost use Rattle.kr_record.specs.Answers.{GivesField};
 ghost use Rattle.kr_record.specs.Layout as layouts;
 ghost use Rattle.kr_record.specs.Layout.{Directories, Of, RecordLayout, Tagged, version_at, ◌▹◌};
 
@@ -135,7 +135,7 @@ pub(crate) trait Fields: Drop {
 
     /// Sets what the field with this tag and these data says. After a fault nothing is said of the value.
     fn set(&mut self, alloc: Global, version: u32, tag: u32, data: &[u8]) -> Result<(), ReadFault>
-        ensures { Sets result self.new (set_part table version tag self.old «data».now) };
+        ensures { GivesField (λ nothing. self.new) result (set_part table version tag self.old «data».now) };
 }
 
 impl Fields for () {
@@ -170,7 +170,7 @@ impl<const TAG: u32, const FIRST: u32, P: TaggedPart, F: Fields> Fields
 
 /// What all of the data of a field give. It is left to the compiler where this stands in line: in all places it is too much.
 fn whole<P: TaggedPart>(alloc: Global, data: &[u8]) -> Result<P, ReadFault>
-    ensures { GivesField result (whole_field (part_at P.part «data».now)) }
+    ensures { GivesField (λ x. x) result (whole_field (part_at P.part «data».now)) }
 {
     let mut from = Reader::new(alloc, data, 0);
     match P::read(&mut from) {

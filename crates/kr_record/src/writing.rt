@@ -15,7 +15,7 @@ use kr_defs::Record;
 use std::mem;
 
 /// Appends the record's written form. Without memory nothing is appended.
-#[tactic(auto, using(crate::proofs::RecordForms::encoded))]
+#[tactic(auto, using(crate::proofs::RecordForms::size, crate::proofs::RecordForms::stands))]
 pub fn encode(value: &Record, out: &mut Vec<u8>) -> Result<(), NoMemory>
     requires { IsEncodable value.now }
     ensures ok { OnOk result (out.new.items ≡ out.old.items ++ record_value value.now) }

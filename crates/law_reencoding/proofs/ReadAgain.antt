@@ -2,7 +2,8 @@
 use Rattle.std.proofs.Common.{◌≡◌, ℕ, ℤ, pos, ◌+◌, ◌*◌, ◌^◌, ◌<◌, ◌≤◌, Bool, true, false, List, [], ◌∷◌, length, arith, lit≤}
 use Rattle.std.specs.Prelude.{FitsSigned}
 use Rattle.std.specs.List.{All, sum_by}
-use Rattle.std.specs.Int.{w32, w64}
+use Rattle.std.specs.Int.{Width, w32, w64}
+use mir.Val.{bits}
 use Rattle.std.proofs.lemmas.List.Elements.{All-nil, All-cons, All-head, All-tail}
 use Rattle.std.proofs.lemmas.List.Sums.{sum_by-cons}
 use Rattle.kr_defs.specs.declared.limits.TheConstants.{MOST_RECORDS}
@@ -11,12 +12,12 @@ use Rattle.kr_defs.specs.declared.record.Item.{Item}
 use Rattle.kr_defs.specs.declared.record.Item.TheVariants as items
 use Rattle.kr_defs.specs.Sizes as sizes
 use Rattle.kr_wire.specs.Laws.{IsBytes}
-use Rattle.kr_wire.specs.Grammar.{◌⌢◌, Exactly}
+use Rattle.kr_wire.specs.Grammar.{◌⌢◌, Exactly, IsSigned}
 use Rattle.kr_wire.proofs.FormLaws.{Follows, free, ◌beside◌, then, signed, exactly}
 use Rattle.kr_record.specs.Encodable.{IsEncodable, IsHeld}
 use Rattle.kr_record.proofs.RecordForms.{short, held, cost, size}
 use Rattle.kr_batch.specs.declared.Batch.{Batch}
-use Rattle.kr_batch.specs.Grammar.{IsSized, IsBody, IsEntry, AreEntries, IsStart, IsSum, IsCount, IsFixed, AreItems, IsBatch}
+use Rattle.kr_batch.specs.Grammar.{IsSized, IsBody, IsEntry, AreEntries, IsCount, IsFixed, AreItems, IsBatch}
 use Rattle.kr_batch.specs.BatchBytes.{IsWritable, IsHeldItem, IsRegular, item_value, values_size}
 use Rattle.law_reencoding.specs.Items.{HasRecords}
 
@@ -68,26 +69,21 @@ items_stand false all bytes some has is = is
 
 -- ---- the fields before the records
 
-start : (base : ℤ) (behind : List ℕ) → Follows (IsStart (base, length behind) ⌢ Exactly behind) (8 * length behind) (Unit {0}) (FitsSigned w64 base × IsBytes behind)
-start base behind = then ((signed w64 base (lit≤ tt) beside free) beside exactly behind) (omega arith) (λ p. tt) (λ q. (q.0.0, q.1))
-
-sum : (epoch : ℤ) (crc : ℕ) (checked : List ℕ) → Follows (IsSum (epoch, crc) ⌢ Exactly checked) (8 * length checked) (Unit {0}) (FitsSigned w32 epoch × IsBytes checked)
-sum epoch crc checked = then ((signed w32 epoch (lit≤ tt) beside free) beside exactly checked) (omega arith) (λ p. tt) (λ q. (q.0.0, q.1))
-
-count : (n : ℕ) → Follows (IsCount n) 0 (Unit {0}) ((1 ≤ n) × (n ≤ MOST_RECORDS))
-count n = record { cost = λ bytes is. omega arith; short = λ bytes is few. tt; held = λ bytes is fit. (is.some, is.few) }
+begun : (w : Width) (n : ℤ) (behind : List ℕ) {More : List ℕ → Type 0} → bits w ≤ 64 → Follows ((IsSigned w n ⌢ More) ⌢ Exactly behind) (8 * length behind) (Unit {0}) (FitsSigned w n × IsBytes behind)
+begun w n behind few = then ((signed w n few beside free) beside exactly behind) (omega arith) (λ p. tt) (λ q. (q.0.0, q.1))
 
 fixed : (control : Bool) (time : ℤ) (n : ℕ) (records : List ℕ)
     → Follows (IsFixed (control, time, n) ⌢ Exactly records) (8 * length records) (Unit {0}) ((FitsSigned w64 time × ((1 ≤ n) × (n ≤ MOST_RECORDS))) × IsBytes records)
 fixed control time n records =
-    then ((free beside free beside signed w64 time (lit≤ tt) beside free beside count n) beside exactly records) (omega arith) (λ p. tt) (λ q. ((q.0.1.1.0, q.0.1.1.1.1), q.1))
+    let count : Follows (IsCount n) 0 (Unit {0}) ((1 ≤ n) × (n ≤ MOST_RECORDS)) = record { cost = λ bytes is. omega arith; short = λ bytes is few. tt; held = λ bytes is fit. (is.some, is.few) } in
+    then ((free beside free beside signed w64 time (lit≤ tt) beside free beside count) beside exactly records) (omega arith) (λ p. tt) (λ q. ((q.0.1.1.0, q.0.1.1.1.1), q.1))
 
 -- ---- a batch
 
 pub read_regular : (batch : Batch) (bytes : List ℕ) → IsBatch batch bytes → IsBytes bytes → length bytes < 2 ^ 27 → HasRecords batch.items → IsRegular batch
 read_regular batch bytes is known few some =
-    let starts = start batch.base is.behind in
-    let sums = sum batch.epoch _ is.checked in
+    let starts = begun w64 batch.base is.behind (lit≤ tt) in
+    let sums = begun w32 batch.epoch is.checked (lit≤ tt) in
     let fixes = fixed is.control batch.time (length batch.items) is.records in
     let all = entries batch.items 0 in
     let started = starts.held bytes is.start known in
