@@ -14,7 +14,7 @@ use crate::pieces::Pieces;
 use kr_base::NoMemory;
 use kr_defs::{Broker, Ids, Partition, PartitionChange, Record};
 use kr_layout::Reader;
-use kr_wire::FewBytes;
+use kr_wire::put_uvarint;
 
 // Hands the kinds to another macro: of each its key, the newest version, which is the one that is
 // written, the fields of a record of it, one of them a structure with its fields, if there is one, and
@@ -238,11 +238,9 @@ pub fn append(value: &Record, out: &mut Vec<u8>) -> Result<(), NoMemory>
 fn put_kind<P: Pieces>(out: &mut Vec<u8>, key: u32, version: u32, parts: &P) -> Result<(), NoMemory>
     ensures { OnOk result (out.new.items ≡ out.old.items ++ (framed key version ++ P.bytes parts.now)) }
 {
-    let mut frame = FewBytes::new();
-    frame.push_uvarint(1);
-    frame.push_uvarint(key);
-    frame.push_uvarint(version);
-    frame.put(out)?;
+    put_uvarint(out, 1)?;
+    put_uvarint(out, key)?;
+    put_uvarint(out, version)?;
     parts.put_pieces(out)
 }
 

@@ -1,7 +1,8 @@
 //! Records from bytes.
 
-ghost use Rattle.std.specs.Prelude.{◌≡◌, ℕ, List, Ok, IfOk};
+ghost use Rattle.std.specs.Prelude.{◌≡◌, ℕ, List, Ok, Err, IfOk, if◌then◌else◌};
 ghost use Rattle.kr_defs.specs.declared.record.Record.{Record as AnyRecord};
+ghost use Rattle.kr_record.specs.declared.fault.RecordFault.TheVariants as faults;
 ghost use Rattle.kr_record.specs.Grammar.{IsRecord};
 ghost use Rattle.kr_record.specs.Answers.{Gives};
 ghost use Rattle.kr_record.specs.Reading.{record_of};
@@ -26,10 +27,18 @@ fn record(alloc: Global, value: &[u8]) -> Result<Record, RecordFault>
     let key = from.uvarint()?;
     let version = from.uvarint()?;
     let record = read_kind(&mut from, key, version)?;
-    if !from.is_empty() {
+    whole(record, from.is_empty())
+}
+
+// The record, if nothing is behind it.
+#[inline(always)]
+fn whole(value: Record, is_end: bool) -> Result<Record, RecordFault>
+    ensures { result ≡ (if is_end then Ok value else Err faults.Trailing) }
+{
+    if !is_end {
         return Err(RecordFault::Trailing);
     }
-    Ok(record)
+    Ok(value)
 }
 
 /// The record that all of the bytes stand for, or the first fault, in the order of reading: the frame
