@@ -80,8 +80,7 @@ impl<T: Held> Held for Rows<T> {
     ghost held = { λ xs. All T.held xs };
 
     fn look(&self) {
-        let rows = self.as_slice();
-        for row in rows {
+        for row in self.as_slice() {
             row.look();
         }
     }

@@ -73,12 +73,11 @@ impl<'a, const FIRST: u32, M: Pieces, B: Pieces> Pieces for ((Since<FIRST, &'a I
 fn put_directories(out: &mut Vec<u8>, replicas: &Ids) -> Result<(), NoMemory>
     ensures { OnOk result (out.new.items ≡ out.old.items ++ list id (no_directories replicas.now)) }
 {
-    let replicas = replicas.as_slice();
     if replicas.len() >= 1 << 31 {
         return Err(NoMemory);
     }
     put_count(out, replicas.len() as u32)?;
-    for _replica in replicas {
+    for _replica in replicas.as_slice() {
         put_id(out, 0)?;
     }
     Ok(())

@@ -2,8 +2,7 @@
 use Rattle.std.proofs.Common.{◌≡◌, ℕ, ℤ, pos, ◌+◌, ◌*◌, ◌^◌, ◌<◌, ◌≤◌, Bool, true, false, List, [], ◌∷◌, length, arith, lit≤}
 use Rattle.std.specs.Prelude.{FitsSigned}
 use Rattle.std.specs.List.{All, sum_by}
-use Rattle.std.specs.Int.{Width, w32, w64}
-use mir.Val.{bits}
+use Rattle.std.specs.Int.{w32, w64}
 use Rattle.std.proofs.lemmas.List.Elements.{All-nil, All-cons, All-head, All-tail}
 use Rattle.std.proofs.lemmas.List.Sums.{sum_by-cons}
 use Rattle.kr_defs.specs.declared.limits.TheConstants.{MOST_RECORDS}
@@ -12,7 +11,7 @@ use Rattle.kr_defs.specs.declared.record.Item.{Item}
 use Rattle.kr_defs.specs.declared.record.Item.TheVariants as items
 use Rattle.kr_defs.specs.Sizes as sizes
 use Rattle.kr_wire.specs.Laws.{IsBytes}
-use Rattle.kr_wire.specs.Grammar.{◌⌢◌, Exactly, IsSigned}
+use Rattle.kr_wire.specs.Grammar.{◌⌢◌, Exactly}
 use Rattle.kr_wire.proofs.FormLaws.{Follows, free, ◌beside◌, then, signed, exactly}
 use Rattle.kr_record.specs.Encodable.{IsEncodable, IsHeld}
 use Rattle.kr_record.proofs.RecordForms.{short, held, cost, size}
@@ -69,8 +68,8 @@ items_stand false all bytes some has is = is
 
 -- ---- the fields before the records
 
-begun : (w : Width) (n : ℤ) (behind : List ℕ) {More : List ℕ → Type 0} → bits w ≤ 64 → Follows ((IsSigned w n ⌢ More) ⌢ Exactly behind) (8 * length behind) (Unit {0}) (FitsSigned w n × IsBytes behind)
-begun w n behind few = then ((signed w n few beside free) beside exactly behind) (omega arith) (λ p. tt) (λ q. (q.0.0, q.1))
+begun : {One More : List ℕ → Type 0} {m : ℕ} {Held : Type 0} (behind : List ℕ) → Follows One m (Unit {0}) Held → Follows ((One ⌢ More) ⌢ Exactly behind) (8 * length behind) (Unit {0}) (Held × IsBytes behind)
+begun behind one = then ((one beside free) beside exactly behind) (omega arith) (λ p. tt) (λ q. (q.0.0, q.1))
 
 fixed : (control : Bool) (time : ℤ) (n : ℕ) (records : List ℕ)
     → Follows (IsFixed (control, time, n) ⌢ Exactly records) (8 * length records) (Unit {0}) ((FitsSigned w64 time × ((1 ≤ n) × (n ≤ MOST_RECORDS))) × IsBytes records)
@@ -82,8 +81,8 @@ fixed control time n records =
 
 pub read_regular : (batch : Batch) (bytes : List ℕ) → IsBatch batch bytes → IsBytes bytes → length bytes < 2 ^ 27 → HasRecords batch.items → IsRegular batch
 read_regular batch bytes is known few some =
-    let starts = begun w64 batch.base is.behind (lit≤ tt) in
-    let sums = begun w32 batch.epoch is.checked (lit≤ tt) in
+    let starts = begun is.behind (signed w64 batch.base (lit≤ tt)) in
+    let sums = begun is.checked (signed w32 batch.epoch (lit≤ tt)) in
     let fixes = fixed is.control batch.time (length batch.items) is.records in
     let all = entries batch.items 0 in
     let started = starts.held bytes is.start known in

@@ -1,4 +1,3 @@
-use mir.Val.{SFits}
 use Rattle.std.proofs.Common.{rules, w32}
 use Rattle.std.proofs.lemmas.Int.{to_z-of_z}
 use Rattle.std.proofs.lemmas.Result.{err_from_is_err_and}
@@ -13,5 +12,4 @@ returns-in_err-index c =
 
 pub returns : goal.returns
 returns c =
-    let fits : SFits w32 c.in_ok-index.index = search rules in
-    rw (c.change_of-change.ensures, to_z-of_z w32 c.in_ok-index.index fits) (read_as partition_change c.args.version c.args.from.now c.read_version.new.from _ c.in_ok-index.ensures)
+    rw (c.change_of-change.ensures, to_z-of_z w32 c.in_ok-index.index (search rules)) (read_as partition_change c.args.version c.args.from.now c.read_version.new.from _ c.in_ok-index.ensures)
