@@ -1,11 +1,10 @@
 -- A record whose size and whose value's length take a byte each, which are put when the value stands.
-use Rattle.std.proofs.Common.{◌≡◌, ℕ, pos, negsuc, w8, ◌+◌, ◌-◌, ◌*◌, ◌/◌, ◌%◌, ◌<◌, ◌≤◌, List, [], ◌∷◌, ◌++◌, length, slice_set, take, drop, append_assoc, length-append, refl, sym, ap, ◌∙◌, arith}
+use Rattle.std.proofs.Common.{◌≡◌, ℕ, pos, negsuc, w8, ◌+◌, ◌-◌, ◌*◌, ◌<◌, List, [], ◌∷◌, ◌++◌, length, slice_set, take, drop, append_assoc, length-append, refl, sym, ap, ◌∙◌, arith}
 use Rattle.std.proofs.Math.Seq.{set-append_seam, drop-append_seam}
 use Rattle.std.proofs.lemmas.Bool.{lt-ltb}
 use Rattle.std.proofs.lemmas.List.{take_all, append-nil}
 use Rattle.std.proofs.Math.ListN.{drop_of_length-le}
-use Rattle.kr_wire.specs.Spelling.{varint32, varint64, signed}
-use Rattle.kr_wire.proofs.GroupWriting.{two_groups}
+use Rattle.kr_wire.specs.Spelling.{uvarint, varint32, varint64, signed}
 use Rattle.kr_batch.specs.BatchBytes.{front_bytes, record_body, record_bytes}
 use Rattle.kr_batch.proofs.Records.{whole_record}
 
@@ -21,12 +20,9 @@ no_key : varint32 (negsuc 0) ≡ 1 ∷ []
 unfolding varint32
 no_key = refl
 
--- the number of most records
-pub two_bytes : (n : ℕ) → 64 ≤ n → n < 8192 → (128 + 2 * n % 128) ∷ n / 64 ∷ [] ≡ varint32 (pos n)
-unfolding varint32
-two_bytes n big small =
-    let high : n / 64 ≡ 2 * n / 128 = omega arith in
-    rw high (two_groups 4 (2 * n) (omega arith) (omega arith) (omega arith))
+pub number : (n : ℕ) → uvarint (2 * n) ≡ varint32 (pos n)
+unfolding varint32 uvarint
+number n = refl
 
 short_front : (delta : ℕ) (value : List ℕ) → length (record_body delta value) < 64 → length value < 64
     → 2 * length (record_body delta value) ∷ 0 ∷ 0 ∷ (varint32 (pos delta) ++ 1 ∷ 2 * length value ∷ []) ≡ front_bytes delta value

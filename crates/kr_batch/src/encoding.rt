@@ -227,7 +227,7 @@ fn put_short(delta: u32, record: &Record, out: &mut Vec<u8>) -> Result<bool, NoM
 {
     let start = out.as_slice().len();
     put_bytes(out, &[0, 0, 0])?;
-    put_delta(out, delta)?;
+    put_uvarint(out, 2 * delta)?;
     put_bytes(out, &[1, 0])?;
     let at = out.as_slice().len();
     append(record, out)?;
@@ -243,19 +243,6 @@ fn put_short(delta: u32, record: &Record, out: &mut Vec<u8>) -> Result<bool, NoM
     }
     out.truncate(start);
     Ok(false)
-}
-
-// The number of a record, as a varint. That of most has two bytes, which are put in line.
-#[tactic(auto, unfolding(kr_wire::specs::Spelling::varint32, kr_wire::specs::Spelling::uvarint), using(crate::proofs::Fronts::two_bytes))]
-#[inline(always)]
-fn put_delta(out: &mut Vec<u8>, delta: u32) -> Result<(), AllocError>
-    requires { delta < MOST_RECORDS }
-    ensures { OnOk result (out.new.items ≡ out.old.items ++ varint32 (pos delta)) }
-{
-    if delta < 64 || delta >= 8192 {
-        return put_uvarint(out, 2 * delta);
-    }
-    put_bytes(out, &[128 + (2 * delta % 128) as u8, (delta / 64) as u8])
 }
 
 #[tactic(auto, using(crate::proofs::Records::whole_record))]

@@ -2,13 +2,13 @@ use Rattle.std.proofs.Common.{◌≡◌, ℕ, pos, ◌-◌, ◌*◌, List, [], �
 use Rattle.kr_wire.specs.Spelling.{varint32}
 use Rattle.kr_record.specs.Spelling.{record_value}
 use Rattle.kr_batch.specs.BatchBytes.{record_body}
-use Rattle.kr_batch.proofs.Fronts.{behind, set_in_front}
+use Rattle.kr_batch.proofs.Fronts.{behind, number, set_in_front}
 use Rattle.kr_batch.proofs.encoding.put_short.Goals as goal
 
 pub returns-then-size-lt64 : goal.returns-then-size-lt64
 returns-then-size-lt64 c =
     let value = record_value c.args.record.now in
-    let front = c.in_ok-put_bytes-2.ensures.ok ∙ ap (λ (l : List ℕ). l ++ 1 ∷ 0 ∷ []) (c.in_ok-put_delta.ensures ∙ ap (λ (l : List ℕ). l ++ varint32 (pos c.args.delta)) c.in_ok-put_bytes.ensures.ok) in
+    let front = c.in_ok-put_bytes-2.ensures.ok ∙ ap (λ (l : List ℕ). l ++ 1 ∷ 0 ∷ []) ((c.in_ok-put_uvarint.ensures.ok ∙ ap (λ (l : List ℕ). c.put_bytes.new.out.items ++ l) (number c.args.delta)) ∙ ap (λ (l : List ℕ). l ++ varint32 (pos c.args.delta)) c.in_ok-put_bytes.ensures.ok) in
     let whole = c.in_ok-put_varint.ensures.ok ∙ ap (λ (l : List ℕ). l ++ varint32 (pos 0)) (c.in_ok-append.ensures ∙ ap (λ (l : List ℕ). l ++ value) front) in
     let begins = ap (λ (l : List ℕ). length l) c.as_slice-start.ensures.value in
     let stands = ap (λ (l : List ℕ). length l) (c.as_slice-at.ensures.value ∙ front) in
