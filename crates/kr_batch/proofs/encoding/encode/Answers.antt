@@ -12,6 +12,10 @@ returns-clause-stands c based each =
 
 pub set_head-requires-clause-small : goal.set_head-requires-clause-small
 set_head-requires-clause-small c =
-    omega (arith, checked_length c.args.batch.now c.requires.few c.requires.small,
-    ap (λ (l : List ℕ). length l) (rw c.in_ok-whole.ensures.items at c.in_ok-put_bytes.ensures.ok), ap (λ (l : List ℕ). length l) c.in_ok-put_checked.ensures.ok,
-    length-append c.put_bytes.new.out.items (checked_bytes c.args.batch.now))
+    omega (
+      arith,
+      checked_length c.args.batch.now c.requires.few c.requires.small,
+      ap (λ (l : List ℕ). length l) (rw c.in_ok-whole.ensures.items at c.in_ok-put_bytes.ensures.ok),
+      ap (λ (l : List ℕ). length l) c.in_ok-put_checked.ensures.ok,
+      length-append c.put_bytes.new.out.items (checked_bytes c.args.batch.now),
+    )
