@@ -1,6 +1,7 @@
 //! The records of an image, in their order, go to a writer.
 
-ghost use Rattle.std.specs.Prelude.{◌≡◌, ◌∷◌, [], map, flat_map, IfOk, OnOk, Some};
+ghost use Rattle.std.specs.Prelude.{◌≡◌, ℕ, ℤ, ◌∷◌, [], map, flat_map, IfOk, OnOk, Some};
+ghost use Rattle.kr_defs.specs.declared.partition.Partition.{Partition as AnyPartition};
 ghost use Rattle.kr_defs.specs.declared.record.Record.TheVariants as kinds;
 ghost use Rattle.kr_defs.specs.Map.{above, partition_order};
 ghost use Rattle.kr_defs.specs.Records.{topic_records};
@@ -11,10 +12,11 @@ ghost use Rattle.kr_snapshot.specs.inner.Writer.{MayAdd, Adds};
 
 use crate::batch_writer::BatchWriter;
 use kr_base::NoMemory;
-use kr_defs::{Broker, ConfigKey, Copied, Partition, Record, Text};
+use kr_defs::{Broker, ConfigKey, Copied, Ids, Partition, Record, Rows, Text};
 use kr_record::record_is_held;
 use kr_store::{Seen, Store, before_all};
 use std::alloc::Global;
+use std::mem;
 
 fn feature(alloc: Global, name: &Text, level: &i16) -> Result<Record, NoMemory>
     ensures of { IfOk result (λ r. r ≡ feature_record (name.now, level.now)) }
@@ -49,20 +51,78 @@ fn topic(alloc: Global, name: &Text, id: &u128) -> Result<Record, NoMemory>
     Ok(record)
 }
 
-#[inline(always)]
 fn partition(alloc: Global, key: &(u128, i32), state: &Partition) -> Result<Record, NoMemory>
-    ensures of { IfOk result (λ r. r ≡ partition_record (key.now, state.now)) }
-    ensures held { IfOk result IsHeld }
+    ensures { IfOk result (λ r. r ≡ partition_record (key.now, state.now)) }
 {
-    let (topic, index) = (key.0, key.1);
     let state = state.copied(alloc)?;
-    let record = Record::Partition {
-        index,
-        topic,
+    Ok(Record::Partition {
+        index: key.1,
+        topic: key.0,
         state,
-    };
-    record_is_held(&record);
-    Ok(record)
+    })
+}
+
+// Makes it the record of a partition. Where it is one of another, the room of its lists is used again.
+#[inline(always)]
+fn set_partition(
+    alloc: Global,
+    record: &mut Record,
+    key: &(u128, i32),
+    state: &Partition,
+) -> Result<(), NoMemory>
+    ensures of { OnOk result (record.new ≡ partition_record (key.now, state.now)) }
+    ensures held { OnOk result (IsHeld record.new) }
+{
+    match record {
+        Record::Partition { state: own, .. } => set_state(alloc, own, state)?,
+        _ => *record = partition(alloc, key, state)?,
+    }
+    set_place(record, key);
+    record_is_held(record);
+    Ok(())
+}
+
+// Sets the index and the topic of a partition's record.
+#[inline(always)]
+fn set_place(record: &mut Record, key: &(u128, i32))
+    ensures { (i : ℤ) (t : ℕ) (s : AnyPartition) → record.old ≡ kinds.Partition i t s → record.new ≡ kinds.Partition key.now.1 key.now.0 s }
+{
+    match record {
+        Record::Partition { index, .. } => *index = key.1,
+        _ => {}
+    }
+    match record {
+        Record::Partition { topic, .. } => *topic = key.0,
+        _ => {}
+    }
+}
+
+#[inline(always)]
+fn set_state(alloc: Global, own: &mut Partition, state: &Partition) -> Result<(), NoMemory>
+    ensures { OnOk result (own.new ≡ state.now) }
+{
+    set_ids(alloc, &mut own.replicas, &state.replicas)?;
+    set_ids(alloc, &mut own.in_sync, &state.in_sync)?;
+    set_ids(alloc, &mut own.eligible, &state.eligible)?;
+    set_ids(alloc, &mut own.last_known, &state.last_known)?;
+    set_ids(alloc, &mut own.adding, &state.adding)?;
+    set_ids(alloc, &mut own.removing, &state.removing)?;
+    own.leader = state.leader;
+    own.recovery = state.recovery;
+    own.leader_epoch = state.leader_epoch;
+    own.partition_epoch = state.partition_epoch;
+    Ok(())
+}
+
+#[inline(always)]
+fn set_ids(alloc: Global, own: &mut Ids, ids: &Ids) -> Result<(), NoMemory>
+    ensures { OnOk result (own.new ≡ ids.now) }
+{
+    let mut list = mem::replace(own, Rows::new(alloc)).into_vec();
+    list.clear();
+    list.extend_from_slice(ids.as_slice())?;
+    *own = Rows::from_vec(list);
+    Ok(())
 }
 
 fn setting(alloc: Global, key: &ConfigKey, value: &Text) -> Result<Record, NoMemory>
@@ -133,8 +193,9 @@ fn put_above<S: Store>(
     ensures { OnOk result (Adds writer.old writer.new (map partition_record (of_topic first.0 (above partition_order seen.now.partitions (Some first))))) }
 {
     let mut after = first;
+    let mut record = Record::NoOp;
     while let Some((key, state)) = seen.next_of_topic(&after) {
-        let record = partition(alloc, key, state)?;
+        set_partition(alloc, &mut record, key, state)?;
         writer.push(&record)?;
         after = *key;
     }
