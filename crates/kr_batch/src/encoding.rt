@@ -1,6 +1,6 @@
 //! Batches to bytes.
 
-ghost use Rattle.std.specs.Prelude.{◌≡◌, pos, ◌≤ℤ◌, ◌+◌, ◌-◌, ◌<◌, ◌≤◌, ◌^◌, ◌++◌, drop, length, if◌then◌else◌, IfOk, OnOk, OnErr, FitsSigned, vec_len};
+ghost use Rattle.std.specs.Prelude.{◌≡◌, pos, ◌≤ℤ◌, ◌+◌, ◌-◌, ◌*◌, ◌/◌, ◌%◌, ◌<◌, ◌≤◌, ◌^◌, ◌++◌, drop, length, slice_set, if◌then◌else◌, IfOk, OnOk, OnErr, FitsSigned, vec_len};
 ghost use Rattle.std.specs.Int.{w64};
 ghost use Rattle.std.specs.List.{All};
 ghost use Rattle.kr_defs.specs.declared.limits.TheConstants.{MOST_RECORDS};
@@ -207,8 +207,13 @@ pub fn put_numbered(
     requires small { length (record_value record.now) < VALUES_END }
     ensures { OnOk result (out.new.items ≡ out.old.items ++ record_bytes delta (record_value record.now)) }
 {
-    // Where the last value was short this one most likely is.
-    if value.len() < 64 && put_short(delta, record, out)? {
+    // This value most likely is as long as the last one that was written there.
+    let is_placed = match value.len() {
+        0..64 => put_short(delta, record, out)?,
+        64..8192 => put_longer(delta, record, out)?,
+        _ => false,
+    };
+    if is_placed {
         return Ok(());
     }
     value.clear();
@@ -243,6 +248,44 @@ fn put_short(delta: u32, record: &Record, out: &mut Vec<u8>) -> Result<bool, NoM
     }
     out.truncate(start);
     Ok(false)
+}
+
+// The same of a record whose size and whose value's length take two bytes each.
+fn put_longer(delta: u32, record: &Record, out: &mut Vec<u8>) -> Result<bool, NoMemory>
+    requires delta { delta < MOST_RECORDS }
+    requires encodable { IsEncodable record.now }
+    ensures { IfOk result (λ is_so. out.new.items ≡
+        (if is_so then out.old.items ++ record_bytes delta (record_value record.now) else out.old.items)) }
+{
+    let start = out.as_slice().len();
+    put_bytes(out, &[0, 0, 0, 0])?;
+    put_uvarint(out, 2 * delta)?;
+    put_bytes(out, &[1, 0, 0])?;
+    let at = out.as_slice().len();
+    append(record, out)?;
+    let len = out.as_slice().len() - at;
+    if len >= 64 && len < 8192 {
+        let size = body_len(delta, &out[at..]);
+        if size < 8192 {
+            put_varint(out, 0)?;
+            set_length(out, start, size);
+            set_length(out, at - 2, len as u32);
+            return Ok(true);
+        }
+    }
+    out.truncate(start);
+    Ok(false)
+}
+
+// Sets a varint of two bytes.
+fn set_length(out: &mut Vec<u8>, at: usize, len: u32)
+    requires room { at + 1 < length out.old.items }
+    requires two { 64 ≤ len }
+    requires small { len < 8192 }
+    ensures { out.new.items ≡ slice_set (slice_set out.old.items at (128 + 2 * len % 128)) (at + 1) (len / 64) }
+{
+    out[at] = 128 + (2 * len % 128) as u8;
+    out[at + 1] = (len / 64) as u8;
 }
 
 #[tactic(auto, using(crate::proofs::Records::whole_record))]
@@ -291,6 +334,7 @@ fn body_len(delta: u32, value: &[u8]) -> u32
     requires value { length value.now < VALUES_END }
     ensures size { result ≡ length (record_body delta value.now) }
     ensures small { result < 2 ^ 31 }
+    ensures longer { length value.now ≤ result }
 {
     let len = value.len() as u32;
     varint_len(delta) + varint_len(len) + len + 4

@@ -118,6 +118,9 @@ fn set_state(alloc: Global, own: &mut Partition, state: &Partition) -> Result<()
 fn set_ids(alloc: Global, own: &mut Ids, ids: &Ids) -> Result<(), NoMemory>
     ensures { OnOk result (own.new ≡ ids.now) }
 {
+    if own.is_empty() && ids.is_empty() {
+        return Ok(());
+    }
     let mut list = mem::replace(own, Rows::new(alloc)).into_vec();
     list.clear();
     list.extend_from_slice(ids.as_slice())?;
