@@ -1,5 +1,5 @@
 -- The laws of records and of a batch.
-use Rattle.std.proofs.Common.{Fits, w8, ◌≡◌, ℕ, ℤ, zero, suc, pos, negsuc, ◌+◌, ◌≤◌, Bool, true, false, eqb, ltb, get_or, List, [], ◌∷◌, ◌++◌, length, Option, Some, None, Result, Ok, Err, cond, refl, sym, ap, subst, ◌∙◌, arith}
+use Rattle.std.proofs.Common.{Fits, w8, ◌≡◌, ℕ, ℤ, zero, suc, pos, negsuc, ◌+◌, ◌≤◌, Bool, true, false, eqb, ltb, get_or, List, [], ◌∷◌, ◌++◌, length, Some, None, Result, Ok, Err, cond, refl, sym, ap, subst, ◌∙◌, arith}
 use Rattle.std.specs.Prelude.{int_lt, not, ◌&&◌, ◌≤ℤ◌, IfOk}
 use Rattle.std.specs.Ordering.{int_eq}
 use Rattle.std.specs.Result.{result_ok}

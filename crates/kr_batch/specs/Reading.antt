@@ -1,5 +1,5 @@
 -- Reading a batch: what the bytes give, or the first fault. Want of memory is free.
-use Rattle.std.specs.Prelude.{ℕ, ℤ, zero, suc, pos, negsuc, int_lt, int_le, ◌+◌, ◌-◌, ◌/◌, ◌%◌, ◌^◌, Bool, not, ◌&&◌, ◌||◌, List, [], ◌∷◌, length, Option, Some, None, Result, Ok, Err, ◌==◌, nat_lt, nat_le, if◌then◌else◌}
+use Rattle.std.specs.Prelude.{ℕ, ℤ, zero, suc, pos, int_lt, int_le, ◌+◌, ◌-◌, ◌^◌, Bool, not, ◌&&◌, ◌||◌, List, [], ◌∷◌, length, Option, Some, None, Result, Ok, Err, ◌==◌, nat_lt, nat_le, if◌then◌else◌}
 use Rattle.std.specs.Ordering.{int_eq}
 use Rattle.std.proofs.Math.ListN.{replicate}
 use Rattle.std.specs.Int.{w8, w16, w32, w64, cast_signed}

@@ -1,5 +1,5 @@
 -- Bytes that come in pieces are read as all of them batch by batch.
-use Rattle.std.proofs.Common.{◌≡◌, ◌∙◌, ℕ, ℤ, pos, zero, suc, ◌+◌, ◌-◌, ◌<◌, ◌≤◌, ◌^◌, Bool, true, false, cond, List, [], ◌∷◌, ◌++◌, length, length-append, append_assoc, Option, Some, None, Result, Ok, Err, refl, sym, ap, subst, arith, inl, inr}
+use Rattle.std.proofs.Common.{◌≡◌, ◌∙◌, ℕ, ℤ, pos, zero, suc, ◌+◌, ◌<◌, ◌≤◌, ◌^◌, Bool, true, false, List, [], ◌∷◌, ◌++◌, length, length-append, append_assoc, Option, Some, None, Result, Ok, Err, refl, sym, ap, subst, arith, inl, inr}
 use Rattle.std.specs.Prelude.{take, drop, nat_lt, nat_le, int_lt, unsigned_abs, ◌||◌}
 use Rattle.std.specs.Int.{w32, w64, from_be_bytes, cast_signed}
 use Rattle.std.proofs.lemmas.Bool.{cases_Bool, cases_lt, lt-ltb, le-ltb, ltb-true, ltb-false}
@@ -9,7 +9,7 @@ use Rattle.kr_defs.specs.Image.{Image}
 use Rattle.kr_wire.specs.declared.WireFault.{WireFault}
 use Rattle.kr_wire.specs.declared.WireFault.TheVariants as wire
 use Rattle.kr_wire.specs.Reading.{◌>>=◌, refuse◌when◌else◌, signed_at}
-use Rattle.kr_wire.specs.Grammar.{IsNumber, IsSigned}
+use Rattle.kr_wire.specs.Grammar.{IsSigned}
 use Rattle.kr_wire.proofs.Numbers.{signed_law}
 use Rattle.kr_batch.specs.declared.fault.BatchFault.{BatchFault}
 use Rattle.kr_batch.specs.declared.fault.BatchFault.TheVariants as refusals

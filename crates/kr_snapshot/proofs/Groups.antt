@@ -1,5 +1,5 @@
 -- Records in groups, and the batches of them.
-use Rattle.std.proofs.Common.{pos, negsuc, ◌≡◌, ◌∙◌, ℕ, ◌+◌, ◌*◌, ◌<◌, ◌≤◌, List, [], ◌∷◌, ◌++◌, length, length-append, append_assoc, refl, sym, ap, subst, arith, All}
+use Rattle.std.proofs.Common.{pos, negsuc, ◌≡◌, ◌∙◌, ℕ, ◌+◌, ◌*◌, ◌<◌, ◌≤◌, List, [], ◌∷◌, ◌++◌, length, length-append, append_assoc, refl, sym, ap, arith, All}
 use Rattle.std.specs.Prelude.{sum_by}
 use Rattle.std.specs.List.{AllByRecursion}
 use Rattle.std.proofs.lemmas.List.{append-nil, map-append}
@@ -20,7 +20,7 @@ use Rattle.kr_batch.specs.Crc.{crc32c}
 use Rattle.std.specs.Int.{w8}
 use Rattle.kr_snapshot.specs.ImageText.{chunks, batch_of_group, batches_bytes}
 use Rattle.kr_snapshot.proofs.Chunks.{no_elements, chunk_first, chunk_last}
-use Rattle.kr_snapshot.specs.inner.Writer.{setting_text, item_text, texts, IsLight, IsLightItem, most_beside, Stands, MayAdd, Puts, Adds}
+use Rattle.kr_snapshot.specs.inner.Writer.{setting_text, item_text, IsLight, IsLightItem, most_beside, Stands, MayAdd, Puts, Adds}
 use Rattle.kr_snapshot.specs.declared.batch_writer.BatchWriter.{BatchWriter}
 
 -- light items can be written

@@ -1,20 +1,16 @@
 -- Records that are added to a writer one after the other.
-use Rattle.std.proofs.Common.{◌≡◌, ◌∙◌, ℕ, ℤ, List, [], ◌∷◌, ◌++◌, length, length-append, append_assoc, refl, sym, ap, subst, arith, All, negsuc}
+use Rattle.std.proofs.Common.{◌≡◌, ◌∙◌, ℕ, ℤ, List, [], ◌∷◌, ◌++◌, append_assoc, refl, sym, ap, subst, arith, All, negsuc}
 use Rattle.std.specs.Prelude.{map, Option, Some, None, IsTrue}
 use Rattle.std.specs.declared.cmp.Ordering.{Ordering}
 use Rattle.std.specs.Cmp.{IsTotalOrder}
 use Rattle.std.specs.List.{AllByRecursion}
-use Rattle.std.proofs.lemmas.List.{append-nil, map-append}
+use Rattle.std.proofs.lemmas.List.{append-nil}
 use Rattle.std.proofs.lemmas.List.Elements.{All-nil, All-append, All-from_recursion, recursion_from_All}
 use Rattle.std.proofs.lemmas.List.Sums.{sum_by-append}
-use Rattle.kr_defs.specs.declared.limits.TheConstants.{IMAGE_BATCH}
 use Rattle.kr_defs.specs.declared.partition.Partition.{Partition}
 use Rattle.kr_defs.specs.declared.record.Record.{Record}
 use Rattle.kr_defs.specs.declared.record.Record.TheVariants as kinds
-use Rattle.kr_defs.specs.declared.record.Item.{Item}
-use Rattle.kr_defs.specs.declared.record.Item.TheVariants as items
 use Rattle.kr_defs.specs.Image.{is_index}
-use Rattle.kr_defs.specs.ImageLaws.{as_items}
 use Rattle.kr_defs.specs.Map.{IsMap, above, next, partition_order}
 use Rattle.kr_defs.specs.Records.{topic_records, partition_record as walked_record}
 use Rattle.kr_defs.specs.Walk.{walked, of_topic}
@@ -22,7 +18,6 @@ use Rattle.kr_defs.proofs.Walks.{walk_next, walk_end}
 use Rattle.kr_defs.proofs.TopicWalks.{group_begin}
 use Rattle.kr_record.specs.Encodable.{IsHeld}
 use Rattle.kr_snapshot.specs.inner.EntryRecords.{partition_record}
-use Rattle.kr_snapshot.specs.ImageText.{chunks, batches_bytes}
 use Rattle.kr_snapshot.specs.inner.Writer.{setting_text, IsLight, texts, Stands, Adds, IsAmid, MayAdd}
 use Rattle.kr_snapshot.specs.declared.batch_writer.BatchWriter.{BatchWriter}
 

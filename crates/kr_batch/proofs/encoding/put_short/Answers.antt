@@ -1,4 +1,4 @@
-use Rattle.std.proofs.Common.{◌≡◌, ℕ, pos, ◌-◌, ◌*◌, List, [], ◌∷◌, ◌++◌, length, take, drop, length-append, ap, ◌∙◌, arith}
+use Rattle.std.proofs.Common.{◌≡◌, ℕ, pos, ◌-◌, List, [], ◌∷◌, ◌++◌, length, take, drop, length-append, ap, ◌∙◌, arith}
 use Rattle.kr_wire.specs.Spelling.{varint32}
 use Rattle.kr_record.specs.Spelling.{record_value}
 use Rattle.kr_batch.specs.BatchBytes.{record_body}

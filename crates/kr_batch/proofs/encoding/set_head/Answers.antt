@@ -1,4 +1,4 @@
-use Rattle.std.proofs.Common.{rules, ◌≡◌, ◌∙◌, ◌-◌, List, ℕ, ◌+◌, ◌++◌, length, take, drop, ap, refl, arith}
+use Rattle.std.proofs.Common.{rules, ◌≡◌, ◌∙◌, ◌-◌, List, ℕ, ◌+◌, length, take, drop, ap, refl, arith}
 use Rattle.std.proofs.lemmas.List.{take_all, length-drop}
 use Rattle.kr_batch.specs.BatchBytes.{head_bytes, whole_bytes}
 use Rattle.kr_batch.specs.Crc.{crc32c}

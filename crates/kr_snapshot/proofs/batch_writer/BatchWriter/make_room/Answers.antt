@@ -1,4 +1,4 @@
-use Rattle.std.proofs.Common.{◌≡◌, ◌<◌, arith}
+use Rattle.std.proofs.Common.{◌≡◌, arith}
 use Rattle.std.proofs.lemmas.Result.{on_ok_weaker}
 use Rattle.kr_defs.specs.declared.limits.TheConstants.{IMAGE_BATCH}
 use Rattle.kr_snapshot.proofs.Groups.{put_full}
