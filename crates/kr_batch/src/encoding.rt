@@ -39,7 +39,8 @@ pub fn encode(batch: &Batch, out: &mut Vec<u8>) -> Result<(), NoMemory>
     ensures ok { OnOk result (out.new.items ≡ out.old.items ++ batch_bytes batch.now) }
     ensures err { OnErr result (out.new.items ≡ out.old.items) }
     // What is appended stands for the batch, where its base is at least 0.
-    ensures stands { pos 0 ≤ℤ batch.now.base → All IsHeldItem batch.now.items → OnOk result (IsBatch batch.now (batch_bytes batch.now)) }
+    ensures stands { pos 0 ≤ℤ batch.now.base → All IsHeldItem batch.now.items →
+        OnOk result (IsBatch batch.now (batch_bytes batch.now)) }
 {
     let room = HEAD + FIXED + RECORD_ROOM * batch.items.len();
     let mut whole = Vec::with_capacity(*out.allocator(), room)?;
@@ -61,7 +62,8 @@ pub fn put_batch(
 ) -> Result<(), NoMemory>
     requires some { 1 ≤ count }
     requires small { length records.now < RECORDS_END }
-    ensures ok { OnOk result (out.new.items ≡ out.old.items ++ whole_bytes base epoch (fixed_bytes count time ++ records.now)) }
+    ensures ok { OnOk result (out.new.items ≡
+        out.old.items ++ whole_bytes base epoch (fixed_bytes count time ++ records.now)) }
     ensures err { OnErr result (out.new.items ≡ out.old.items) }
 {
     let mut whole = Vec::with_capacity(*out.allocator(), HEAD + FIXED + records.len())?;
@@ -98,7 +100,8 @@ fn set_head(base: i64, epoch: i32, whole: &mut Vec<u8>) -> Result<(), AllocError
 
 fn head_of(alloc: Global, base: i64, epoch: i32, checked: &[u8]) -> Result<Vec<u8>, AllocError>
     requires { length checked.now + 9 < 2 ^ 32 }
-    ensures { IfOk result (λ h. h.items ≡ head_bytes base (length checked.now + 9) epoch (crc.crc32c checked.now)) }
+    ensures { IfOk result (λ h. h.items ≡
+        head_bytes base (length checked.now + 9) epoch (crc.crc32c checked.now)) }
 {
     let mut head = Vec::new(alloc);
     let size = checked.len() as u32 + 9;
@@ -186,7 +189,8 @@ fn put_item(delta: u32, item: &Item, value: &mut Vec<u8>, out: &mut Vec<u8>) -> 
     requires delta { delta < MOST_RECORDS }
     requires each { IsWritable item.now }
     requires small { length (item_value item.now) < VALUES_END }
-    ensures { OnOk result (out.new.items ≡ out.old.items ++ record_bytes delta (item_value item.now)) }
+    ensures { OnOk result (out.new.items ≡
+        out.old.items ++ record_bytes delta (item_value item.now)) }
 {
     match item {
         Item::Record(record) => put_numbered(delta, record, value, out),
@@ -205,7 +209,8 @@ pub fn put_numbered(
     requires delta { delta < MOST_RECORDS }
     requires encodable { IsEncodable record.now }
     requires small { length (record_value record.now) < VALUES_END }
-    ensures { OnOk result (out.new.items ≡ out.old.items ++ record_bytes delta (record_value record.now)) }
+    ensures { OnOk result (out.new.items ≡
+        out.old.items ++ record_bytes delta (record_value record.now)) }
 {
     // This value most likely is as long as the last one that was written there.
     let is_placed = match value.len() {
@@ -282,7 +287,8 @@ fn set_length(out: &mut Vec<u8>, at: usize, len: u32)
     requires room { at + 1 < length out.old.items }
     requires two { 64 ≤ len }
     requires small { len < 8192 }
-    ensures { out.new.items ≡ slice_set (slice_set out.old.items at (128 + 2 * len % 128)) (at + 1) (len / 64) }
+    ensures { out.new.items ≡
+        slice_set (slice_set out.old.items at (128 + 2 * len % 128)) (at + 1) (len / 64) }
 {
     out[at] = 128 + (2 * len % 128) as u8;
     out[at + 1] = (len / 64) as u8;

@@ -60,7 +60,8 @@ impl BatchWriter {
     fn make_room(&mut self) -> Result<(), NoMemory>
         requires { MayAdd self.old [] }
         ensures room { OnOk result (self.new.count < most) }
-        ensures stands { (done : List AnyRecord) → Stands self.old done → OnOk result (Stands self.new done) }
+        ensures stands { (done : List AnyRecord) → Stands self.old done →
+            OnOk result (Stands self.new done) }
     {
         if (self.count as usize) < IMAGE_BATCH {
             return Ok(());
@@ -84,8 +85,10 @@ impl BatchWriter {
     fn put_rest(&mut self) -> Result<(), NoMemory>
         requires { MayAdd self.old [] }
         ensures behind { OnOk result (self.new.before ≤ length self.new.body.items) }
-        ensures body { (done : List AnyRecord) → Stands self.old done → OnOk result (self.new.body.items ≡ batches_bytes 0 (chunks most (as_items done))) }
-        ensures all { (done : List AnyRecord) → Stands self.old done → OnOk result (self.new.before ≡ length done) }
+        ensures body { (done : List AnyRecord) → Stands self.old done →
+            OnOk result (self.new.body.items ≡ batches_bytes 0 (chunks most (as_items done))) }
+        ensures all { (done : List AnyRecord) → Stands self.old done →
+            OnOk result (self.new.before ≡ length done) }
     {
         if self.count == 0 {
             return Ok(());
@@ -96,8 +99,10 @@ impl BatchWriter {
     /// The bytes of all batches, and how many records they have.
     pub fn finish(mut self) -> Result<(Vec<u8>, usize), NoMemory>
         requires { MayAdd self [] }
-        ensures bytes { (done : List AnyRecord) → Stands self done → IfOk result (λ x. x.0.items ≡ batches_bytes 0 (chunks most (as_items done))) }
-        ensures count { (done : List AnyRecord) → Stands self done → IfOk result (λ x. x.1 ≡ length done) }
+        ensures bytes { (done : List AnyRecord) → Stands self done →
+            IfOk result (λ x. x.0.items ≡ batches_bytes 0 (chunks most (as_items done))) }
+        ensures count { (done : List AnyRecord) → Stands self done →
+            IfOk result (λ x. x.1 ≡ length done) }
         ensures small { IfOk result (λ x. x.1 < 2 ^ 63) }
     {
         self.put_rest()?;

@@ -85,7 +85,8 @@ fn set_partition(
 // Sets the index and the topic of a partition's record.
 #[inline(always)]
 fn set_place(record: &mut Record, key: &(u128, i32))
-    ensures { (i : ℤ) (t : ℕ) (s : AnyPartition) → record.old ≡ kinds.Partition i t s → record.new ≡ kinds.Partition key.now.1 key.now.0 s }
+    ensures { (i : ℤ) (t : ℕ) (s : AnyPartition) → record.old ≡ kinds.Partition i t s →
+        record.new ≡ kinds.Partition key.now.1 key.now.0 s }
 {
     match record {
         Record::Partition { index, .. } => *index = key.1,
@@ -192,8 +193,10 @@ fn put_above<S: Store>(
     first: (u128, i32),
     writer: &mut BatchWriter,
 ) -> Result<(), NoMemory>
-    requires { MayAdd writer.old (map partition_record (of_topic first.0 (above partition_order seen.now.partitions (Some first)))) }
-    ensures { OnOk result (Adds writer.old writer.new (map partition_record (of_topic first.0 (above partition_order seen.now.partitions (Some first))))) }
+    requires { MayAdd writer.old (map partition_record
+        (of_topic first.0 (above partition_order seen.now.partitions (Some first)))) }
+    ensures { OnOk result (Adds writer.old writer.new (map partition_record
+        (of_topic first.0 (above partition_order seen.now.partitions (Some first))))) }
 {
     let mut after = first;
     let mut record = Record::NoOp;
@@ -214,7 +217,8 @@ fn put_topic<S: Store>(
     writer: &mut BatchWriter,
 ) -> Result<(), NoMemory>
     requires { MayAdd writer.old (topic_records seen.now.partitions (name.now, id.now)) }
-    ensures { OnOk result (Adds writer.old writer.new (topic_records seen.now.partitions (name.now, id.now))) }
+    ensures { OnOk result (Adds writer.old writer.new
+        (topic_records seen.now.partitions (name.now, id.now))) }
 {
     seen.is_valid();
     let record = topic(alloc, name, id)?;
@@ -230,7 +234,8 @@ pub(crate) fn put_topics<S: Store>(
     writer: &mut BatchWriter,
 ) -> Result<(), NoMemory>
     requires { MayAdd writer.old (flat_map (topic_records seen.now.partitions) seen.now.topics) }
-    ensures { OnOk result (Adds writer.old writer.new (flat_map (topic_records seen.now.partitions) seen.now.topics)) }
+    ensures { OnOk result (Adds writer.old writer.new
+        (flat_map (topic_records seen.now.partitions) seen.now.topics)) }
 {
     seen.is_valid();
     let mut after = None;
