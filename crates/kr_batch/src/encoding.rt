@@ -199,7 +199,8 @@ fn put_item(delta: u32, item: &Item, value: &mut Vec<u8>, out: &mut Vec<u8>) -> 
 }
 
 /// Appends a record as it stands in a batch, where it has this number. Without memory some front of it may be appended.
-/// `value` is room for a value that takes 64 bytes or more, which is written there first.
+/// `value` is room that is used again, whatever it has: a value of another length than the one there foretells is
+/// written to it first.
 pub fn put_numbered(
     delta: u32,
     record: &Record,
@@ -227,8 +228,8 @@ pub fn put_numbered(
     Ok(())
 }
 
-// A record whose size and whose value's length take a byte each: the value is written where it stays, and
-// these two are put last. Whether it was so short: where it wasn't nothing is put.
+// A record whose size and whose value's length take a byte each: the value is written where it stays, and these two
+// are put last. Whether it was so short: where it wasn't nothing is put.
 fn put_short(delta: u32, record: &Record, out: &mut Vec<u8>) -> Result<bool, NoMemory>
     requires delta { delta < MOST_RECORDS }
     requires encodable { IsEncodable record.now }
