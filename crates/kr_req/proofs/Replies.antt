@@ -1,5 +1,5 @@
 -- The laws of replies: what is written stands for them and for no other.
-use Rattle.std.proofs.Common.{◌≡◌, ℕ, ℤ, List, [], ◌++◌, refl, sym, ap, ◌∙◌, append_assoc}
+use Rattle.std.proofs.Common.{◌≡◌, ℕ, ℤ, List, [], ◌++◌, refl, sym, ap, ◌∙◌}
 use Rattle.std.specs.Int.{w32}
 use Rattle.kr_wire.specs.Laws.{Apart}
 use Rattle.kr_wire.specs.Schema.{Int16, Int32, End}
@@ -11,7 +11,6 @@ use Rattle.kr_calls.specs.declared.calls.Reply.{Reply}
 use Rattle.kr_calls.specs.declared.calls.Reply.TheVariants as replies
 use Rattle.kr_req.specs.Messages.{IsReply, IsReplyBody}
 use Rattle.kr_req.specs.WrittenReplies.{BodyFits, RepliesAreWritten, ReplyFits, answered, body_bytes, reply_bytes}
-use Rattle.kr_req.specs.inner.ReplyBodies.{PutsBody}
 use Rattle.kr_bodies.specs.BrokerHeartbeat.{broker_heartbeat_reply}
 use Rattle.kr_bodies.specs.BrokerRegistration.{broker_registration_reply}
 use Rattle.kr_bodies.specs.UnregisterBroker.{unregister_broker_reply}
@@ -95,34 +94,3 @@ replies_written request = written_once
     let f = replies_apart m.0 n.0 m.1 n.1 a b s t (is.0 ∙ sym other.0) is.1 other.1 same in
     let both : (m.0, m.1) ≡ (n.0, n.1) = rw (f.0, f.1) refl in
     (both, f.2))
-
--- ---- what is appended
-
--- the bytes of the body
-body_put : (reply : Reply) (before after : List ℕ) → PutsBody reply before after → (after ≡ before ++ body_bytes reply) × BodyFits reply
-body_put (replies.BrokerRegistration p) before after put = (put.bytes, put.fits)
-body_put (replies.BrokerHeartbeat p) before after put = (put.bytes, put.fits)
-body_put (replies.UnregisterBroker p) before after put = (put.bytes, put.fits)
-body_put (replies.CreateTopics p) before after put = (put.bytes, put.fits)
-body_put (replies.DeleteTopics p) before after put = (put.bytes, put.fits)
-body_put (replies.CreatePartitions p) before after put = (put.bytes, put.fits)
-body_put (replies.AlterPartition p) before after put = (put.bytes, put.fits)
-body_put (replies.ElectLeaders p) before after put = (put.bytes, put.fits)
-body_put (replies.AlterPartitionReassignments p) before after put = (put.bytes, put.fits)
-body_put (replies.ListPartitionReassignments p) before after put = (put.bytes, put.fits)
-body_put (replies.IncrementalAlterConfigs p) before after put = (put.bytes, put.fits)
-body_put (replies.Metadata p) before after put = (put.bytes, put.fits)
-body_put (replies.Bare error) before after put = (put.bytes, put.fits)
-
--- the body of a reply fits where it was put
-pub body_fits : (reply : Reply) (before after : List ℕ) → PutsBody reply before after → BodyFits reply
-body_fits reply before after put = (body_put reply before after put).1
-
--- a message that begins with the header and goes on with the body, behind what there was
-pub reply_added : (correlation : ℤ) (reply : Reply) (begun header message before after : List ℕ)
-    → begun ≡ [] → header ≡ begun ++ signed w32 correlation ++ tags [] → PutsBody reply header message → after ≡ before ++ message
-    → after ≡ before ++ reply_bytes correlation reply
-reply_added correlation reply begun header message before after none follows put appended =
-    let b = body_put reply header message put in
-    let is : header ≡ signed w32 correlation ++ tags [] = follows ∙ ap (λ (l : List ℕ). l ++ signed w32 correlation ++ tags []) none in
-    appended ∙ ap (λ (l : List ℕ). before ++ l) (b.0 ∙ ap (λ (l : List ℕ). l ++ body_bytes reply) is ∙ append_assoc (signed w32 correlation) (tags []) (body_bytes reply))

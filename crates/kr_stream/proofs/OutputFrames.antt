@@ -1,12 +1,14 @@
 -- What is written for an output, and that it stands for it.
-use Rattle.std.proofs.Common.{◌≡◌, ℕ, ℤ, ◌+◌, ◌<◌, ◌^◌, List, [], ◌∷◌, ◌++◌, length, append_assoc, Vec, Global, Result, Ok, Err, refl, sym, ap, subst, ◌∙◌, arith}
-use Rattle.std.specs.Prelude.{IfOk, OnOk}
+use Rattle.std.proofs.Common.{◌≡◌, ℕ, ◌+◌, List, [], ◌∷◌, ◌++◌, length, length-append, take, drop, refl, sym, ap, ◌∙◌, arith}
+use Rattle.std.proofs.Math.Seq.{drop-append_seam}
+use Rattle.std.proofs.Math.ListN.{drop_of_length-le}
+use Rattle.std.proofs.lemmas.List.{take_all, append-nil}
 use Rattle.std.specs.Int.{w32, w64}
 use Rattle.std.proofs.lemmas.List.Elements.{All-head, All-tail}
 use Rattle.kr_wire.specs.Spelling.{number, signed}
+use Rattle.kr_wire.proofs.Lengths.{length_number_32}
 use Rattle.kr_wire.proofs.ReadingLaws.{joined}
 use Rattle.kr_wire.proofs.WrittenForms.{number_spelled, signed_spelled}
-use Rattle.kr_calls.specs.declared.calls.Reply.{Reply}
 use Rattle.kr_calls.specs.declared.events.Reason.{Reason}
 use Rattle.kr_calls.specs.declared.events.Output.{Output}
 use Rattle.kr_calls.specs.declared.events.Output.TheVariants as outputs
@@ -16,35 +18,18 @@ use Rattle.kr_stream.specs.Laws.{WrittenOutputsStand}
 use Rattle.kr_stream.specs.RefusalNumbers.{first_number, reason_number, second_number, third_number}
 use Rattle.kr_stream.specs.Outputs.{number_of, BodyFits, FrameFits, IsOutput, IsOutputBody, IsReason, ReasonFits, body_bytes, frame_bytes, frames_bytes, reason_bytes, sized_bytes}
 
--- ---- what is written
+pub unsized_length : (kind : ℕ) (body items : List ℕ) → items ≡ number w32 0 ++ kind ∷ body → length items ≡ length body + 5
+unsized_length kind body items is = omega (arith, ap (λ (l : List ℕ). length l) is, length-append (number w32 0) (kind ∷ body), length_number_32 0)
 
--- the size, the number of the kind and the body, one behind the other
-pub sized_is : (kind size : ℕ) (body begun a b c : List ℕ) → size ≡ length body + 1 → begun ≡ [] → a ≡ begun ++ number w32 size → b ≡ a ++ kind ∷ [] → c ≡ b ++ body → c ≡ sized_bytes kind body
-sized_is kind size body begun a b c same none pa pb pc = pc ∙ rw (pb, pa, none, same) (simp append_assoc)
-
--- a frame with the body of the output
-module _ (output o : Output) (slice body : List ℕ) (same : output ≡ o) (value : slice ≡ body) (is : body ≡ body_bytes o) where
-  body_is : slice ≡ body_bytes output
-  body_is = value ∙ (is ∙ ap body_bytes (sym same))
-
-  pub output_is : {E : Type 0} (result : Result (Vec ℕ Global) E) → IfOk result (λ bytes. bytes.items ≡ sized_bytes (number_of o) slice) → IfOk result (λ bytes. bytes.items ≡ frame_bytes output)
-  output_is (Ok bytes) f = f ∙ (ap (λ (p : Output). sized_bytes (number_of p) slice) (sym same) ∙ ap (sized_bytes (number_of output)) body_is)
-  output_is (Err e) f = tt
-
-  pub output_fits : {E : Type 0} (result : Result (Vec ℕ Global) E) → BodyFits o → OnOk result (length slice + 1 < 2 ^ 32) → OnOk result (FrameFits output)
-  output_fits (Ok bytes) fits size = record { body = subst BodyFits (sym same) fits; size = subst (λ (l : List ℕ). length l + 1 < 2 ^ 32) body_is size }
-  output_fits (Err e) fits size = tt
-
--- the client, and the reply's message behind it
-pub reply_is : (client : ℕ) (correlation same : ℤ) (reply : Reply) (begun before after : List ℕ) → begun ≡ [] → before ≡ begun ++ number w32 client → same ≡ correlation → after ≡ before ++ reply_bytes same reply
-    → after ≡ body_bytes (outputs.Reply client correlation reply)
-reply_is client correlation same reply begun before after none is equal appended =
-    appended ∙ (ap (λ (z : ℤ). before ++ reply_bytes z reply) equal ∙ ap (λ (l : List ℕ). l ++ reply_bytes correlation reply) (is ∙ ap (λ (l : List ℕ). l ++ number w32 client) none))
-
--- the number of the event, and the reason, one behind the other
-pub refusal_is : (event : ℕ) (reason : Reason) (which : ℕ) (first second third : ℤ) (begun a b c d e : List ℕ) → which ≡ reason_number reason → first ≡ first_number reason → second ≡ second_number reason → third ≡ third_number reason
-    → begun ≡ [] → a ≡ begun ++ number w64 event → b ≡ a ++ which ∷ [] → c ≡ b ++ signed w64 first → d ≡ c ++ signed w64 second → e ≡ d ++ signed w64 third → e ≡ body_bytes (outputs.Refused event reason)
-refusal_is event reason which first second third begun a b c d e is_which is_first is_second is_third none pa pb pc pd pe = pe ∙ rw (pd, pc, pb, pa, none, is_which, is_first, is_second, is_third) (simp append_assoc)
+-- the size set before the number of the kind and the body
+pub sized_is : (kind size len : ℕ) (body items set : List ℕ) → items ≡ number w32 0 ++ kind ∷ body → size ≡ length body + 1 → set ≡ number w32 size ++ drop 4 items → len ≡ length items
+    → take len (set ++ drop (length set) items) ≡ sized_bytes kind body
+sized_is kind size len body items set stands sized is long =
+    let rest : drop 4 items ≡ kind ∷ body = rw stands (ap (λ (n : ℕ). drop n (number w32 0 ++ kind ∷ body)) (sym (length_number_32 0)) ∙ drop-append_seam (number w32 0) (kind ∷ body)) in
+    let whole : set ≡ number w32 size ++ (kind ∷ body) = is ∙ ap (λ (l : List ℕ). number w32 size ++ l) rest in
+    let same : length set ≡ length items = omega (arith, ap (λ (l : List ℕ). length l) whole, length-append (number w32 size) (kind ∷ body), length_number_32 size, unsized_length kind body items stands) in
+    let none : drop (length set) items ≡ [] = drop_of_length-le items (omega (arith, same)) in
+    rw none (ap (take len) (append-nil set) ∙ take_all len set (omega (arith, long, same)) ∙ rw sized at whole)
 
 -- ---- it stands for the output
 

@@ -1,16 +1,15 @@
 //! Outputs to frames.
 
-ghost use Rattle.std.specs.Prelude.{◌≡◌, ◌∷◌, ◌++◌, ◌+◌, ◌≤◌, length, IfOk, OnOk, OnErr, IsErrOf, FitsSigned, [], ◌<◌, ◌^◌};
-ghost use Rattle.std.specs.Int.{w8, w32, w64};
+ghost use Rattle.std.specs.Prelude.{◌≡◌, ◌∷◌, ◌++◌, ◌≤◌, drop, length, IfOk, OnOk, IsErrOf};
+ghost use Rattle.std.specs.Int.{w32};
 ghost use Rattle.kr_base.specs.Causes.{Rose};
-ghost use Rattle.kr_wire.specs.Spelling.{number, signed};
-ghost use Rattle.kr_stream.specs.Outputs as outputs;
-ghost use Rattle.kr_stream.specs.Outputs.{BodyFits, FrameFits, Wrote, WroteFront, body_bytes, frame_bytes, sized_bytes};
+ghost use Rattle.kr_wire.specs.Spelling.{number};
+ghost use Rattle.kr_stream.specs.Outputs.{BodyFits, FrameFits, ReasonFits, Wrote, WroteFront, body_bytes, frame_bytes, number_of, reason_bytes};
 
 use crate::WriteFault;
 use crate::refusal_numbers::{first_number, reason_number, second_number, third_number};
 use kr_base::{NoMemory, Sink};
-use kr_calls::{Output, Reason, Reply};
+use kr_calls::{Output, Reason};
 use kr_req::encode_reply;
 use kr_wire::{put_i64, put_u32, put_u64};
 use std::alloc::Global;
@@ -44,95 +43,93 @@ pub fn write_frame<K: Sink>(alloc: Global, output: &Output, sink: &mut K) -> Res
     }
 }
 
-// The frame's bytes.
+// The frame's bytes. The size of what follows it is set last, where it fits its field.
 fn frame(alloc: Global, output: &Output) -> Result<Vec<u8>, NoMemory>
     ensures bytes { IfOk result (λ bytes. bytes.items ≡ frame_bytes output.now) }
     ensures fits { OnOk result (FrameFits output.now) }
 {
+    let mut bytes = without_size(alloc, output)?;
+    let size = bytes.len() as u64 - 4;
+    if size > u64::from(u32::MAX) {
+        return Err(NoMemory);
+    }
+    set_size(bytes.as_mut_slice(), size as u32);
+    Ok(bytes)
+}
+
+// A frame's bytes with zeros for its size.
+fn without_size(alloc: Global, output: &Output) -> Result<Vec<u8>, NoMemory>
+    ensures bytes { IfOk result (λ bytes. bytes.items ≡
+        number w32 0 ++ (number_of output.now ∷ body_bytes output.now)) }
+    ensures fits { OnOk result (BodyFits output.now) }
+{
+    let mut bytes = Vec::with_capacity(alloc, room_of(output))?;
+    put_u32(&mut bytes, 0)?;
+    put_output(output, &mut bytes)?;
+    Ok(bytes)
+}
+
+// The room that is taken at first for a frame, in bytes. Most replies and all refusals take no more.
+fn room_of(output: &Output) -> usize {
     match output {
-        Output::Append { bytes } => sized_frame(alloc, APPEND, bytes.as_slice()),
+        Output::Append { bytes } | Output::Image { bytes } => bytes.len().saturating_add(5),
+        Output::Reply { .. } | Output::Refused { .. } => 64,
+    }
+}
+
+// Sets the size at the front.
+#[tactic(auto, unfolding(kr_wire::specs::Spelling::number))]
+fn set_size(bytes: &mut [u8], size: u32)
+    requires { 4 ≤ length bytes.old }
+    ensures bytes { bytes.new ≡ number w32 size ++ drop 4 bytes.old }
+    ensures len { length bytes.new ≡ length bytes.old }
+{
+    bytes[..4].copy_from_slice(&size.to_be_bytes());
+}
+
+// The number of the kind, and the body.
+fn put_output(output: &Output, out: &mut Vec<u8>) -> Result<(), NoMemory>
+    ensures bytes { OnOk result (out.new.items ≡
+        out.old.items ++ (number_of output.now ∷ body_bytes output.now)) }
+    ensures fits { OnOk result (BodyFits output.now) }
+{
+    match output {
+        Output::Append { bytes } => put_kind(APPEND, bytes.as_slice(), out),
         Output::Reply {
             client,
             correlation,
             reply,
         } => {
-            let body = reply_body(alloc, *client, correlation, reply)?;
-            sized_frame(alloc, REPLY, body.as_slice())
+            out.push(REPLY)?;
+            put_u32(out, *client)?;
+            encode_reply(*correlation, reply, out)
         }
         Output::Refused { event, reason } => {
-            let body = refusal_body(alloc, *event, reason)?;
-            sized_frame(alloc, REFUSED, body.as_slice())
+            out.push(REFUSED)?;
+            put_u64(out, *event)?;
+            put_reason(reason, out)
         }
-        Output::Image { bytes } => sized_frame(alloc, IMAGE, bytes.as_slice()),
+        Output::Image { bytes } => put_kind(IMAGE, bytes.as_slice(), out),
     }
 }
 
-// The client, and its reply.
-fn reply_body(
-    alloc: Global,
-    client: u32,
-    correlation: &i32,
-    reply: &Reply,
-) -> Result<Vec<u8>, NoMemory>
-    ensures bytes { IfOk result (λ body. body.items ≡ body_bytes (Output.Reply client correlation.now reply.now)) }
-    ensures fits { OnOk result (BodyFits (Output.Reply client correlation.now reply.now)) }
+// The number of a kind, and bytes as its body.
+fn put_kind(kind: u8, body: &[u8], out: &mut Vec<u8>) -> Result<(), NoMemory>
+    ensures { OnOk result (out.new.items ≡ out.old.items ++ (kind ∷ body.now)) }
 {
-    let mut body = Vec::new(alloc);
-    put_u32(&mut body, client)?;
-    encode_reply(int32(correlation), reply, &mut body)?;
-    Ok(body)
-}
-
-// A number behind a reference.
-fn int32(number: &i32) -> i32
-    ensures same { result ≡ number.now }
-    ensures fits { FitsSigned w32 result }
-{
-    *number
-}
-
-// The number of the event, and the reason.
-fn refusal_body(alloc: Global, event: u64, reason: &Reason) -> Result<Vec<u8>, NoMemory>
-    ensures bytes { IfOk result (λ body. body.items ≡ body_bytes (Output.Refused event reason.now)) }
-    ensures fits { OnOk result (BodyFits (Output.Refused event reason.now)) }
-{
-    let mut body = Vec::new(alloc);
-    put_u64(&mut body, event)?;
-    put_byte(&reason_number(reason), &mut body)?;
-    put_number(&first_number(reason), &mut body)?;
-    put_number(&second_number(reason), &mut body)?;
-    put_number(&third_number(reason), &mut body)?;
-    Ok(body)
-}
-
-fn put_byte(byte: &u8, out: &mut Vec<u8>) -> Result<(), NoMemory>
-    ensures ok { OnOk result (out.new.items ≡ out.old.items ++ byte.now ∷ []) }
-    ensures fits { OnOk result (byte.now < 2 ^ 8) }
-{
-    out.push(*byte)?;
+    out.push(kind)?;
+    out.extend_from_slice(body)?;
     Ok(())
 }
 
-fn put_number(number: &i64, out: &mut Vec<u8>) -> Result<(), NoMemory>
-    ensures ok { OnOk result (out.new.items ≡ out.old.items ++ signed w64 number.now) }
-    ensures fits { OnOk result (FitsSigned w64 number.now) }
+// The number of the reason, and its three numbers.
+fn put_reason(reason: &Reason, out: &mut Vec<u8>) -> Result<(), NoMemory>
+    ensures bytes { OnOk result (out.new.items ≡ out.old.items ++ reason_bytes reason.now) }
+    ensures fits { OnOk result (ReasonFits reason.now) }
 {
-    put_i64(out, *number)?;
+    out.push(reason_number(reason))?;
+    put_i64(out, first_number(reason))?;
+    put_i64(out, second_number(reason))?;
+    put_i64(out, third_number(reason))?;
     Ok(())
-}
-
-// A kind and a body behind their size, where it fits its field.
-fn sized_frame(alloc: Global, kind: u8, body: &[u8]) -> Result<Vec<u8>, NoMemory>
-    ensures bytes { IfOk result (λ bytes. bytes.items ≡ sized_bytes kind body.now) }
-    ensures size { OnOk result (length body.now + 1 < 2 ^ 32) }
-{
-    let size = body.len() as u64 + 1;
-    if size > u64::from(u32::MAX) {
-        return Err(NoMemory);
-    }
-    let mut bytes = Vec::new(alloc);
-    put_u32(&mut bytes, size as u32)?;
-    bytes.push(kind)?;
-    bytes.extend_from_slice(body)?;
-    Ok(bytes)
 }

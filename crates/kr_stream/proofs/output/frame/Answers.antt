@@ -1,23 +1,24 @@
-use Rattle.kr_calls.specs.declared.events.Output.TheVariants as outputs
-use Rattle.kr_stream.proofs.OutputFrames.{output_fits, output_is}
+use Rattle.std.proofs.Common.{◌-◌, List, ℕ, ◌++◌, drop, length, sym, ap, ◌∙◌, arith}
+use Rattle.std.specs.Int.{w32}
+use Rattle.kr_wire.specs.Spelling.{number}
+use Rattle.kr_stream.proofs.OutputFrames.{sized_is, unsized_length}
+use Rattle.kr_stream.specs.Outputs.{body_bytes, number_of}
 use Rattle.kr_stream.proofs.output.frame.Goals as goal
 
-pub returns-in_ok-body-in-Reply-clause-bytes : goal.returns-in_ok-body-in-Reply-clause-bytes
-returns-in_ok-body-in-Reply-clause-bytes c =
-    output_is c.args.output.now (outputs.Reply c.in-Reply.client c.in-Reply.correlation c.in-Reply.reply) c.as_slice-in-Reply.result.now c.in_ok-body-in-Reply.body.items c.in-Reply.is c.as_slice-in-Reply.ensures.value
-    c.in_ok-body-in-Reply.ensures.bytes c.sized_frame-in-Reply.result c.sized_frame-in-Reply.ensures.bytes
+pub overflow_sub-size : goal.overflow_sub-size
+overflow_sub-size c = omega (arith, c.len.ensures, unsized_length (number_of c.args.output.now) (body_bytes c.args.output.now) _ c.in_ok-bytes.ensures.bytes)
 
-pub returns-in_ok-body-in-Reply-clause-fits : goal.returns-in_ok-body-in-Reply-clause-fits
-returns-in_ok-body-in-Reply-clause-fits c =
-    output_fits c.args.output.now (outputs.Reply c.in-Reply.client c.in-Reply.correlation c.in-Reply.reply) c.as_slice-in-Reply.result.now c.in_ok-body-in-Reply.body.items c.in-Reply.is c.as_slice-in-Reply.ensures.value
-    c.in_ok-body-in-Reply.ensures.bytes c.sized_frame-in-Reply.result c.in_ok-body-in-Reply.ensures.fits c.sized_frame-in-Reply.ensures.size
+pub set_size-requires : goal.set_size-requires
+set_size-requires c =
+    omega (arith, unsized_length (number_of c.args.output.now) (body_bytes c.args.output.now) _ c.in_ok-bytes.ensures.bytes, ap (λ (l : List ℕ). length l) c.as_mut_slice.ensures.value)
 
-pub returns-in_ok-body-in-Refused-clause-bytes : goal.returns-in_ok-body-in-Refused-clause-bytes
-returns-in_ok-body-in-Refused-clause-bytes c =
-    output_is c.args.output.now (outputs.Refused c.in-Refused.event c.in-Refused.reason) c.as_slice-in-Refused.result.now c.in_ok-body-in-Refused.body.items c.in-Refused.is c.as_slice-in-Refused.ensures.value
-    c.in_ok-body-in-Refused.ensures.bytes c.sized_frame-in-Refused.result c.sized_frame-in-Refused.ensures.bytes
+pub returns-clause-bytes : goal.returns-clause-bytes
+returns-clause-bytes c =
+    let kind = number_of c.args.output.now in
+    let body = body_bytes c.args.output.now in
+    sized_is kind _ _ body _ c.set_size.new.bytes c.in_ok-bytes.ensures.bytes (omega (arith, c.len.ensures, unsized_length kind body _ c.in_ok-bytes.ensures.bytes))
+    (c.set_size.ensures.bytes ∙ ap (λ (l : List ℕ). number w32 (c.len.result - 4) ++ drop 4 l) c.as_mut_slice.ensures.value) (sym c.as_mut_slice.ensures.len ∙ ap (λ (l : List ℕ). length l) c.as_mut_slice.ensures.value)
 
-pub returns-in_ok-body-in-Refused-clause-fits : goal.returns-in_ok-body-in-Refused-clause-fits
-returns-in_ok-body-in-Refused-clause-fits c =
-    output_fits c.args.output.now (outputs.Refused c.in-Refused.event c.in-Refused.reason) c.as_slice-in-Refused.result.now c.in_ok-body-in-Refused.body.items c.in-Refused.is c.as_slice-in-Refused.ensures.value
-    c.in_ok-body-in-Refused.ensures.bytes c.sized_frame-in-Refused.result c.in_ok-body-in-Refused.ensures.fits c.sized_frame-in-Refused.ensures.size
+pub returns-clause-fits : goal.returns-clause-fits
+returns-clause-fits c =
+    record { body = c.in_ok-bytes.ensures.fits; size = omega (arith, c.if-size-from.false, c.len.ensures, unsized_length (number_of c.args.output.now) (body_bytes c.args.output.now) _ c.in_ok-bytes.ensures.bytes) }
