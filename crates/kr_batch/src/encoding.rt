@@ -1,6 +1,6 @@
 //! Batches to bytes.
 
-ghost use Rattle.std.specs.Prelude.{◌≡◌, pos, ◌≤ℤ◌, ◌+◌, ◌-◌, ◌*◌, ◌/◌, ◌%◌, ◌<◌, ◌≤◌, ◌^◌, ◌++◌, drop, length, slice_set, if◌then◌else◌, IfOk, OnOk, OnErr, FitsSigned, vec_len};
+ghost use Rattle.std.specs.Prelude.{◌≡◌, pos, ◌≤ℤ◌, ◌+◌, ◌-◌, ◌*◌, ◌/◌, ◌%◌, ◌<◌, ◌≤◌, ◌^◌, ◌++◌, take, drop, length, if◌then◌else◌, IfOk, OnOk, OnErr, FitsSigned, vec_len};
 ghost use Rattle.std.specs.Int.{w64};
 ghost use Rattle.std.specs.List.{All};
 ghost use Rattle.kr_defs.specs.declared.limits.TheConstants.{MOST_RECORDS};
@@ -215,8 +215,8 @@ pub fn put_numbered(
 {
     // This value most likely is as long as the last one that was written there.
     let is_placed = match value.len() {
-        0..64 => put_short(delta, record, out)?,
-        64..8192 => put_longer(delta, record, out)?,
+        0..64 => put_placed(delta, record, 1, out)?,
+        64..8192 => put_placed(delta, record, 2, out)?,
         _ => false,
     };
     if is_placed {
@@ -228,54 +228,35 @@ pub fn put_numbered(
     Ok(())
 }
 
-// A record whose size and whose value's length take a byte each: the value is written where it stays, and these two
-// are put last. Whether it was so short: where it wasn't nothing is put.
-fn put_short(delta: u32, record: &Record, out: &mut Vec<u8>) -> Result<bool, NoMemory>
+// A record whose size and whose value's length take so many bytes each: the value is written where it stays, and these two
+// are put last. Whether they take so many: where they don't nothing is put.
+#[inline(always)]
+fn put_placed(
+    delta: u32,
+    record: &Record,
+    width: usize,
+    out: &mut Vec<u8>,
+) -> Result<bool, NoMemory>
     requires delta { delta < MOST_RECORDS }
     requires encodable { IsEncodable record.now }
-    ensures { IfOk result (λ is_short. out.new.items ≡
-        (if is_short then out.old.items ++ record_bytes delta (record_value record.now) else out.old.items)) }
-{
-    let start = out.as_slice().len();
-    put_bytes(out, &[0, 0, 0])?;
-    put_uvarint(out, 2 * delta)?;
-    put_bytes(out, &[1, 0])?;
-    let at = out.as_slice().len();
-    append(record, out)?;
-    let len = out.as_slice().len() - at;
-    if len < 64 {
-        let size = body_len(delta, &out[at..]);
-        if size < 64 {
-            put_varint(out, 0)?;
-            out[start] = (2 * size) as u8;
-            out[at - 1] = (2 * len) as u8;
-            return Ok(true);
-        }
-    }
-    out.truncate(start);
-    Ok(false)
-}
-
-// The same of a record whose size and whose value's length take two bytes each.
-fn put_longer(delta: u32, record: &Record, out: &mut Vec<u8>) -> Result<bool, NoMemory>
-    requires delta { delta < MOST_RECORDS }
-    requires encodable { IsEncodable record.now }
+    requires some { 1 ≤ width }
+    requires few { width ≤ 2 }
     ensures { IfOk result (λ is_so. out.new.items ≡
         (if is_so then out.old.items ++ record_bytes delta (record_value record.now) else out.old.items)) }
 {
     let start = out.as_slice().len();
-    put_bytes(out, &[0, 0, 0, 0])?;
+    put_bytes(out, &[0, 0, 0, 0][..width + 2])?;
     put_uvarint(out, 2 * delta)?;
-    put_bytes(out, &[1, 0, 0])?;
+    put_bytes(out, &[1, 0, 0][..width + 1])?;
     let at = out.as_slice().len();
     append(record, out)?;
     let len = out.as_slice().len() - at;
-    if len >= 64 && len < 8192 {
+    if len < 8192 && varint_len(len as u32) == width as u32 {
         let size = body_len(delta, &out[at..]);
-        if size < 8192 {
+        if varint_len(size) == width as u32 {
             put_varint(out, 0)?;
-            set_length(out, start, size);
-            set_length(out, at - 2, len as u32);
+            set_length(out, start, width, size);
+            set_length(out, at - width, width, len as u32);
             return Ok(true);
         }
     }
@@ -283,16 +264,22 @@ fn put_longer(delta: u32, record: &Record, out: &mut Vec<u8>) -> Result<bool, No
     Ok(false)
 }
 
-// Sets a varint of two bytes.
-fn set_length(out: &mut Vec<u8>, at: usize, len: u32)
-    requires room { at + 1 < length out.old.items }
-    requires two { 64 ≤ len }
-    requires small { len < 8192 }
+// Sets a length that takes so many bytes, one or two.
+#[inline(always)]
+fn set_length(out: &mut Vec<u8>, at: usize, width: usize, len: u32)
+    requires some { 1 ≤ width }
+    requires few { width ≤ 2 }
+    requires fits { length (varint32 (pos len)) ≡ width }
+    requires room { at + width ≤ length out.old.items }
     ensures { out.new.items ≡
-        slice_set (slice_set out.old.items at (128 + 2 * len % 128)) (at + 1) (len / 64) }
+        take at out.old.items ++ varint32 (pos len) ++ drop (at + width) out.old.items }
 {
-    out[at] = 128 + (2 * len % 128) as u8;
-    out[at + 1] = (len / 64) as u8;
+    if width == 1 {
+        out[at] = (2 * len) as u8;
+    } else {
+        out[at] = 128 + (2 * len % 128) as u8;
+        out[at + 1] = (len / 64) as u8;
+    }
 }
 
 #[tactic(auto, using(crate::proofs::Records::whole_record))]
