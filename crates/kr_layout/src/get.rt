@@ -234,6 +234,7 @@ fn elements<M, T: Get<M>>(from: &mut Reader<'_, M>, count: u32) -> Result<Vec<T>
 }
 
 // The same, for which room is taken.
+#[inline(always)]
 fn some_elements<M, T: Get<M>>(from: &mut Reader<'_, M>, count: u32) -> Result<Vec<T>, ReadFault>
     ensures { TakesBy (λ v. v.items) result from.new (elements_at (value_at T.schema) count from.old) }
 {

@@ -214,6 +214,7 @@ impl<'a, M> Reader<'a, M> {
     }
 
     /// The tag of a tagged field and its data, behind a field with the last tag.
+    #[inline(always)]
     pub fn field(&mut self, last: Option<u32>) -> Result<(u32, &'a [u8]), ReadFault>
         ensures { TakesBy (λ f. (f.0, f.1.now)) result self.new (field_at last self.old) }
     {

@@ -152,6 +152,14 @@ pub(crate) fn read_kind(
     if key == 5 {
         return read_partition_change(from, version);
     }
+    other_kind(from, key, version)
+}
+
+// The same of another key. It has the room for such a record, so that none is made ready for a partition's change.
+#[inline(always)]
+fn other_kind(from: &mut Reader<'_, Mine>, key: u32, version: u32) -> Result<Record, RecordFault>
+    ensures { key ≢ 5 → GivesFront result from.new (layout_at key version from.old) }
+{
     Ok(read_other(from, key, version)?)
 }
 

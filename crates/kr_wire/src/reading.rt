@@ -1,6 +1,6 @@
 //! Reading at a place of some bytes.
 
-ghost use Rattle.std.specs.Prelude.{◌≡◌, ◌==◌, false, true, ◌+◌, ◌-◌, ◌*◌, ◌^◌, ◌<◌, ◌≤◌, length, drop, slice_range, IfOk, IfSome, FitsSigned, MatchResult, IsTrue, IsUtf8};
+ghost use Rattle.std.specs.Prelude.{◌≡◌, ◌==◌, false, true, ◌+◌, ◌-◌, ◌*◌, ◌^◌, ◌<◌, ◌≤◌, ◌∷◌, length, drop, slice_range, IfOk, IfSome, FitsSigned, MatchResult, IsTrue, IsUtf8};
 ghost use Rattle.std.specs.Int.{w8, w16, w32, w64};
 ghost use Rattle.std.specs.Option.{option_map};
 ghost use Rattle.std.specs.Str.{is_utf8};
@@ -63,8 +63,23 @@ fn read_number(bytes: &[u8], at: usize, top: u8, room: u8) -> Result<(u64, usize
     if byte < 128 {
         return Ok((u64::from(byte), at + 1));
     }
-    let (high, next) = read_groups(bytes, at + 1, top, room)?;
-    Ok((u64::from(byte - 128) + 128 * high, next))
+    read_long(bytes, byte, at + 1, top, room)
+}
+
+// The same behind its first byte, where that isn't the last. It stands alone, so that a number of one byte has no room
+// for more groups.
+#[inline(always)]
+fn read_long(bytes: &[u8], first: u8, at: usize, top: u8, room: u8) -> Result<(u64, usize), WireFault>
+    requires long { 128 ≤ first }
+    requires start { at ≤ length bytes.now }
+    requires small { room ≤ 8 }
+    requires low { top ≤ 15 }
+    requires fits { (top + 1) * 128 ^ (room + 1) ≤ 2 ^ 64 }
+    ensures read { Reads (λ n. n) result bytes.now (varint_at top room (first ∷ drop at bytes.now)) }
+    ensures bound { IfOk result (λ x. x.0 < (top + 1) * 128 ^ (room + 1)) }
+{
+    let (high, next) = read_groups(bytes, at, top, room)?;
+    Ok((u64::from(first - 128) + 128 * high, next))
 }
 
 /// A number of 32 bits in groups of seven, the low groups first, in at most five bytes. The fault is
@@ -417,6 +432,7 @@ fn is_falling(last: Option<u32>, number: u32) -> bool
 /// The number of a tagged field and the size of its data, and the place of the data. The fault is that
 /// of the number, `BadTag` where it isn't above the last one, that of the size, or `Short` where the data
 /// end behind the bytes.
+#[inline(always)]
 pub fn read_tag(bytes: &[u8], at: usize, last: Option<u32>) -> Result<(Tag, usize), WireFault>
     requires { at ≤ length bytes.now }
     ensures read { MatchResult result

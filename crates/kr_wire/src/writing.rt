@@ -82,6 +82,17 @@ fn put_many_groups(out: &mut Vec<u8>, value: u64, room: usize) -> Result<(), All
     if room > 0 && value >= 128 && value < 16384 {
         return put_bytes(out, &two_groups(value, room));
     }
+    put_all_groups(out, value, room)
+}
+
+// The same. It stands alone, so that two groups need no room for more.
+#[inline(never)]
+fn put_all_groups(out: &mut Vec<u8>, value: u64, room: usize) -> Result<(), AllocError>
+    requires few { room ≤ 9 }
+    requires fits { value < 128 ^ (room + 1) }
+    ensures ok { OnOk result (out.new.items ≡ out.old.items ++ groups room value) }
+    ensures err { OnErr result (out.new.items ≡ out.old.items) }
+{
     let mut bytes = FewBytes::new();
     bytes.push_groups(value, room);
     bytes.put(out)
