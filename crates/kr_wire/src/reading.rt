@@ -69,7 +69,13 @@ fn read_number(bytes: &[u8], at: usize, top: u8, room: u8) -> Result<(u64, usize
 // The same behind its first byte, where that isn't the last. It stands alone, so that a number of one byte has no room
 // for more groups.
 #[inline(always)]
-fn read_long(bytes: &[u8], first: u8, at: usize, top: u8, room: u8) -> Result<(u64, usize), WireFault>
+fn read_long(
+    bytes: &[u8],
+    first: u8,
+    at: usize,
+    top: u8,
+    room: u8,
+) -> Result<(u64, usize), WireFault>
     requires long { 128 ≤ first }
     requires start { at ≤ length bytes.now }
     requires small { room ≤ 8 }
