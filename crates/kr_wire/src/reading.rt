@@ -66,10 +66,32 @@ fn read_number(bytes: &[u8], at: usize, top: u8, room: u8) -> Result<(u64, usize
     read_long(bytes, byte, at + 1, top, room)
 }
 
-// The same behind its first byte, where that isn't the last. It stands alone, so that a number of one byte has no room
-// for more groups.
+// The same behind its first byte, where that isn't the last.
 #[inline(always)]
 fn read_long(
+    bytes: &[u8],
+    first: u8,
+    at: usize,
+    top: u8,
+    room: u8,
+) -> Result<(u64, usize), WireFault>
+    requires long { 128 ≤ first }
+    requires start { at ≤ length bytes.now }
+    requires small { room ≤ 8 }
+    requires low { top ≤ 15 }
+    requires fits { (top + 1) * 128 ^ (room + 1) ≤ 2 ^ 64 }
+    ensures read { Reads (λ n. n) result bytes.now (varint_at top room (first ∷ drop at bytes.now)) }
+    ensures bound { IfOk result (λ x. x.0 < (top + 1) * 128 ^ (room + 1)) }
+{
+    if room > 0 && at < bytes.len() && bytes[at] > 0 && bytes[at] < 128 {
+        return Ok((u64::from(first - 128) + 128 * u64::from(bytes[at]), at + 1));
+    }
+    read_longer(bytes, first, at, top, room)
+}
+
+// The same, however many groups there are. It stands alone, so that a number of one byte or two needs no room for them.
+#[inline(always)]
+fn read_longer(
     bytes: &[u8],
     first: u8,
     at: usize,
