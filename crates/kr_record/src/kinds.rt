@@ -1,6 +1,7 @@
 //! The kinds of records.
 
 ghost use Rattle.std.specs.Prelude.{◌≡◌, ◌≢◌, ◌++◌, OnOk};
+ghost use Rattle.kr_defs.specs.declared.record.Record.TheVariants as variants;
 ghost use Rattle.kr_record.specs.Answers.{GivesFront};
 ghost use Rattle.kr_record.specs.Encodable.{IsEncodable, IsHeld};
 ghost use Rattle.kr_record.specs.Reading.{kind_at, layout_at, served_at};
@@ -78,6 +79,9 @@ macro_rules! with_directories {
     (writing, $first:literal, $ids:ident, $others:tt) => {
         (Since::<$first, _> { part: $ids }, $others)
     };
+    (writing_change, $first:literal, $ids:ident, $others:tt) => {
+        (Since::<$first, _> { part: $ids }, $others)
+    };
     ($with:ident, $first:literal, $ids:ident, $others:tt) => {
         Since::<$first, _> { part: ($ids, $others) }
     };
@@ -112,16 +116,34 @@ macro_rules! reading {
 macro_rules! writing {
     (
         ($value:ident, $out:ident)
-        $({$([$number:literal, $newest:literal: $kind:ident {$($field:ident),*}
-            $(where $own:ident: $structure:ident {$($part:ident),*})? = {$($parts:tt)*}])*})*
+        {$([$number:literal, $newest:literal: $kind:ident {$($field:ident),*}
+            $(where $own:ident: $structure:ident {$($part:ident),*})? = {$($parts:tt)*}])*}
+        $group:tt
     ) => {
         match $value {
-            $($(Record::$kind {$($field,)* $($own)?} => {
+            $(Record::$kind {$($field,)* $($own)?} => {
                 $(let $structure {$($part),*} = $own;)?
                 put_kind($out, $number, $newest, &$($parts)*)
-            })*)*
+            })*
+            Record::PartitionChange { index, topic, change } => {
+                put_partition_change(*index, *topic, change, $out)
+            }
         }
     };
+}
+
+// The kind of the second group, which is that of a partition's change, from what such a record has.
+macro_rules! writing_change {
+    (
+        ($index:ident, $topic:ident, $change:ident, $out:ident)
+        $group:tt
+        {[$number:literal, $newest:literal: $kind:ident {$($field:ident),*}
+            where $own:ident: $structure:ident {$($part:ident),*} = {$($parts:tt)*}]}
+    ) => {{
+        let ($($field),*) = (&$index, &$topic);
+        let $structure {$($part),*} = $change;
+        put_kind($out, $number, $newest, &$($parts)*)
+    }};
 }
 
 macro_rules! looking {
@@ -233,12 +255,42 @@ fn read_version<P: Parts>(
 }
 
 /// Appends the record's written form. Without memory some front of it may be appended.
-#[tactic(auto, unfolding(crate::specs::Records::chosen), using(crate::proofs::RecordForms::put_out))]
 pub fn append(value: &Record, out: &mut Vec<u8>) -> Result<(), NoMemory>
     requires { IsEncodable value.now }
     ensures { OnOk result (out.new.items ≡ out.old.items ++ record_value value.now) }
 {
+    if let Record::PartitionChange {
+        index,
+        topic,
+        change,
+    } = value
+    {
+        return put_partition_change(*index, *topic, change, out);
+    }
+    append_any(value, out)
+}
+
+// The same of any kind. It stands alone, so that a partition's change, of which most records are, needs no room for others.
+#[tactic(auto, unfolding(crate::specs::Records::chosen), using(crate::proofs::RecordForms::put_out))]
+#[inline(never)]
+fn append_any(value: &Record, out: &mut Vec<u8>) -> Result<(), NoMemory>
+    requires { IsEncodable value.now }
+    ensures { OnOk result (out.new.items ≡ out.old.items ++ record_value value.now) }
+{
     each_kind!(writing(value, out))
+}
+
+#[tactic(auto, unfolding(crate::specs::Records::chosen), using(crate::proofs::RecordForms::put_out))]
+fn put_partition_change(
+    index: i32,
+    topic: u128,
+    change: &PartitionChange,
+    out: &mut Vec<u8>,
+) -> Result<(), NoMemory>
+    ensures { OnOk result (out.new.items ≡
+        out.old.items ++ record_value (variants.PartitionChange index topic change.now)) }
+{
+    each_kind!(writing_change(index, topic, change, out))
 }
 
 // The frame version, the key and the version of a record, and what stands in it.

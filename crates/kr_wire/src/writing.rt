@@ -140,6 +140,7 @@ pub fn put_varlong(out: &mut Vec<u8>, value: i64) -> Result<(), AllocError>
 }
 
 /// Both, or neither.
+#[inline(never)]
 pub fn put_both(out: &mut Vec<u8>, first: &[u8], second: &[u8]) -> Result<(), AllocError>
     ensures ok { OnOk result (out.new.items ≡ out.old.items ++ (first.now ++ second.now)) }
     ensures err { OnErr result (out.new.items ≡ out.old.items) }
@@ -210,7 +211,22 @@ pub fn put_i32(out: &mut Vec<u8>, value: i32) -> Result<(), AllocError>
     ensures ok { OnOk result (out.new.items ≡ out.old.items ++ signed w32 value) }
     ensures err { OnErr result (out.new.items ≡ out.old.items) }
 {
-    put_bytes(out, &value.to_be_bytes())
+    if out.capacity() - out.len() >= 4 {
+        let _fits = out.extend_from_slice(&value.to_be_bytes());
+        return Ok(());
+    }
+    grow_by_i32(out, value)
+}
+
+// The same, whether it fits or not. It is given the number, whose bytes so needn't stand in memory where they fit.
+#[tactic(auto, unfolding(crate::specs::Spelling::signed))]
+#[cold]
+#[inline(never)]
+fn grow_by_i32(out: &mut Vec<u8>, value: i32) -> Result<(), AllocError>
+    ensures ok { OnOk result (out.new.items ≡ out.old.items ++ signed w32 value) }
+    ensures err { OnErr result (out.new.items ≡ out.old.items) }
+{
+    out.extend_from_slice(&value.to_be_bytes())
 }
 
 /// Eight bytes, high byte first, in two's complement.
@@ -249,10 +265,14 @@ fn put_halves(out: &mut Vec<u8>, high: u64, low: u64) -> Result<(), AllocError>
     ensures ok { OnOk result (out.new.items ≡ out.old.items ++ (number w64 high ++ number w64 low)) }
     ensures err { OnErr result (out.new.items ≡ out.old.items) }
 {
-    let mut bytes = [0; 16];
-    bytes[..8].copy_from_slice(&high.to_be_bytes());
-    bytes[8..].copy_from_slice(&low.to_be_bytes());
-    put_bytes(out, &bytes)
+    if out.capacity() - out.len() >= 16 {
+        let mut bytes = [0; 16];
+        bytes[..8].copy_from_slice(&high.to_be_bytes());
+        bytes[8..].copy_from_slice(&low.to_be_bytes());
+        let _fits = out.extend_from_slice(&bytes);
+        return Ok(());
+    }
+    put_both(out, &high.to_be_bytes(), &low.to_be_bytes())
 }
 
 /// A text behind its length plus one.
