@@ -1,10 +1,9 @@
 -- A record whose size and whose value's length are put when the value stands.
 use Rattle.std.proofs.Common.{◌≡◌, ℕ, zero, suc, pos, negsuc, w8, ◌+◌, ◌-◌, ◌*◌, ◌/◌, ◌%◌, ◌<◌, ◌≤◌, List, [], ◌∷◌, ◌++◌, length, replicate, slice_set, take, drop, append_assoc, length-append, refl, sym, ap, ◌∙◌, arith}
-use Rattle.std.proofs.Math.Seq.{drop-append_seam, take-append_seam}
+use Rattle.std.proofs.Math.Seq.{drop-append_seam, lt-length-set, take-append_seam}
 use Rattle.std.proofs.lemmas.Bool.{lt-ltb}
 use Rattle.std.proofs.lemmas.List.{take_all, append-nil, length-replicate, set_split, take_more_set, drop-set-lt}
 use Rattle.std.proofs.Math.ListN.{drop_of_length-le}
-use Rattle.std.proofs.Math.Seq.{lt-length-set}
 use Rattle.kr_wire.specs.Spelling.{uvarint, varint32, varint64, signed}
 use Rattle.kr_wire.proofs.GroupWriting.{two_groups}
 use Rattle.kr_batch.specs.BatchBytes.{front_bytes, record_body, record_bytes}

@@ -16,8 +16,7 @@ use kr_base::NoMemory;
 use kr_defs::{Item, Record};
 use kr_record::append;
 use kr_wire::{
-    FewBytes, put_both, put_bytes, put_i8, put_i16, put_i32, put_i64, put_u32, put_uvarint,
-    put_varint,
+    FewBytes, put_bytes, put_i8, put_i16, put_i32, put_i64, put_u32, put_uvarint, put_varint,
 };
 use std::alloc::{AllocError, Global};
 

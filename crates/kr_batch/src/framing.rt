@@ -54,7 +54,9 @@ fn read_body(bytes: &[u8]) -> Result<((i32, &[u8]), usize), WireFault>
 
 #[tactic(auto, unfolding(crate::specs::Reading::batch_body))]
 fn whole_body(bytes: &[u8]) -> Result<(i32, &[u8]), WireFault>
-    ensures { MatchResult result (λ f. batch_body bytes.now ≡ Ok (f.0, f.1.now)) (λ e. batch_body bytes.now ≡ Err e) }
+    ensures { MatchResult result
+        (λ f. batch_body bytes.now ≡ Ok (f.0, f.1.now))
+        (λ e. batch_body bytes.now ≡ Err e) }
 {
     let (frame, next) = read_body(bytes)?;
     if next < bytes.len() {

@@ -23,7 +23,9 @@ pub const LEAST_SIZE: u32 = 49;
 /// The base, and all that follows the size.
 #[tactic(auto, unfolding(crate::specs::Reading::base_and_rest))]
 pub(crate) fn read_place(bytes: &[u8]) -> Result<(i64, &[u8]), BatchFault>
-    ensures { MatchResult result (λ x. base_and_rest bytes.now ≡ Ok (x.0, x.1.now)) (λ e. base_and_rest bytes.now ≡ Err e) }
+    ensures { MatchResult result
+        (λ x. base_and_rest bytes.now ≡ Ok (x.0, x.1.now))
+        (λ e. base_and_rest bytes.now ≡ Err e) }
 {
     let ((base, size), next) = read_start(bytes)?;
     let (_start, rest) = bytes.split_at(next);
@@ -56,7 +58,9 @@ fn read_start(bytes: &[u8]) -> Result<((i64, u32), usize), BatchFault>
 /// The epoch, and what the CRC is over.
 #[tactic(auto, unfolding(crate::specs::Reading::sum_of))]
 pub(crate) fn read_sum(bytes: &[u8]) -> Result<(i32, &[u8]), BatchFault>
-    ensures { MatchResult result (λ x. sum_of bytes.now ≡ Ok (x.0, x.1.now)) (λ e. sum_of bytes.now ≡ Err e) }
+    ensures { MatchResult result
+        (λ x. sum_of bytes.now ≡ Ok (x.0, x.1.now))
+        (λ e. sum_of bytes.now ≡ Err e) }
 {
     let ((epoch, stored), next) = read_stored(bytes)?;
     let (_start, checked) = bytes.split_at(next);
