@@ -23,7 +23,7 @@ use Rattle.kr_defs.proofs.Maps.{below_all, none_below}
 use Rattle.kr_defs.proofs.Tests.{some_is}
 use Rattle.kr_defs.proofs.Walks.{behind_apart}
 use Rattle.kr_calls.specs.BrokerHeartbeat.{electing, waits_for}
-use Rattle.kr_walks.specs.BrokerIds.{ids_where}
+use Rattle.kr_replication.specs.BrokerIds.{ids_where}
 use Rattle.kr_brokers.specs.Unfencing.{active_with, electing_with}
 
 module _ (b : ℤ) where

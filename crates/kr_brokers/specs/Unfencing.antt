@@ -10,7 +10,7 @@ use Rattle.kr_defs.specs.Image.{Image}
 use Rattle.kr_defs.specs.Settings.{facts_with}
 use Rattle.kr_defs.specs.Walk.{Walked}
 use Rattle.kr_calls.specs.BrokerHeartbeat.{waits_for}
-use Rattle.kr_walks.specs.BrokerIds.{ids_where}
+use Rattle.kr_replication.specs.BrokerIds.{ids_where}
 
 -- active, or would be if it is this one and were unfenced
 abbrev pub active_with : ℤ → ℤ × Broker → Bool

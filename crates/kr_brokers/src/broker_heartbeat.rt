@@ -12,10 +12,10 @@ use kr_base::{NoMemory, Steps};
 use kr_calls::errors::STALE_BROKER_EPOCH;
 use kr_calls::{BrokerHeartbeat, BrokerHeartbeatReply, Draft, Effect, Reply};
 use kr_defs::{Broker, Options, Record, Records};
+use kr_replication::{FencingIndex, active, fencing_records, leads, take_out};
 use kr_rules::{Handler, Refusal, Rule, Work, decide_one};
 use kr_sessions::{Context, Sessions};
 use kr_store::{Seen, Store};
-use kr_walks::{active, fencing_records, leads, take_out};
 use std::alloc::Global;
 use std::sync::ledger::Ledger;
 
@@ -116,7 +116,14 @@ fn of_stopping<S: Store>(
         (broker_heartbeat.of_stopping minimum.now sessions.now.heartbeats seen.now request.now)) }
 {
     if is_passed_on(alloc, seen, sessions, &request.broker)? {
-        let records = fencing_records(alloc, seen, minimum, &request.broker, &request.epoch)?;
+        let records = fencing_records(
+            alloc,
+            seen,
+            minimum,
+            &request.broker,
+            &request.epoch,
+            &FencingIndex::new(alloc),
+        )?;
         Ok(draft_of(request, records, true, true))
     } else {
         Ok(draft_of(request, Records::new(alloc), false, false))
@@ -161,7 +168,14 @@ fn of_active<S: Store>(
         (broker_heartbeat.of_active minimum.now seen.now request.now)) }
 {
     if request.want_fence {
-        let records = fencing_records(alloc, seen, minimum, &request.broker, &request.epoch)?;
+        let records = fencing_records(
+            alloc,
+            seen,
+            minimum,
+            &request.broker,
+            &request.epoch,
+            &FencingIndex::new(alloc),
+        )?;
         return Ok(draft_of(request, records, true, request.want_shutdown));
     }
     if !request.want_shutdown {
@@ -171,7 +185,14 @@ fn of_active<S: Store>(
         let records = stopping_records(alloc, seen, minimum, &request.broker, &request.epoch)?;
         return Ok(draft_of(request, records, false, false));
     }
-    let records = fencing_records(alloc, seen, minimum, &request.broker, &request.epoch)?;
+    let records = fencing_records(
+        alloc,
+        seen,
+        minimum,
+        &request.broker,
+        &request.epoch,
+        &FencingIndex::new(alloc),
+    )?;
     Ok(draft_of(request, records, true, true))
 }
 

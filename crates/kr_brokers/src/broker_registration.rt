@@ -10,10 +10,10 @@ use kr_base::{NoMemory, Steps};
 use kr_calls::errors::{DUPLICATE_BROKER_REGISTRATION, INCONSISTENT_CLUSTER_ID, INVALID_REQUEST};
 use kr_calls::{BrokerRegistration, BrokerRegistrationReply, Draft, Effect, Reply};
 use kr_defs::{Broker, Copied, Options, Record, Records};
+use kr_replication::take_out;
 use kr_rules::{Handler, Refusal, Rule, Work, decide_one};
 use kr_sessions::{Context, Sessions};
 use kr_store::{Seen, Store};
-use kr_walks::take_out;
 use std::alloc::Global;
 use std::sync::ledger::Ledger;
 

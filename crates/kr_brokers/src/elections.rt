@@ -8,13 +8,13 @@ ghost use Rattle.kr_defs.specs.Map as entries;
 ghost use Rattle.kr_defs.specs.Settings.{facts_with};
 ghost use Rattle.kr_defs.specs.Walk.{changes_of, walk};
 ghost use Rattle.kr_calls.specs.BrokerHeartbeat as broker_heartbeat;
-ghost use Rattle.kr_walks.specs.BrokerIds.{ids_where};
+ghost use Rattle.kr_replication.specs.BrokerIds.{ids_where};
 ghost use Rattle.kr_brokers.specs.Unfencing.{active_with, electing_with};
 
 use kr_base::NoMemory;
 use kr_defs::{Broker, Partition, PartitionChange, Record, Records, Text, Want};
+use kr_replication::{BrokerTest, Change, add_changes, build_with, default_want, is_active};
 use kr_store::{Seen, Store};
-use kr_walks::{BrokerTest, Change, add_changes, build_with, default_want, is_active};
 use std::alloc::Global;
 
 // A broker is active, or would be if it is this one and were unfenced.

@@ -6,14 +6,14 @@ ghost use Rattle.kr_defs.specs.Map as entries;
 ghost use Rattle.kr_calls.specs.Deciding.{apply_records, weights};
 ghost use Rattle.kr_rules.specs.Handlers.{IsAtPlace};
 ghost use Rattle.kr_store.specs.Images.{last_kept};
-ghost use Rattle.kr_fencing.specs.FencingIndex.{Indexes};
+ghost use Rattle.kr_replication.specs.FencingIndex.{Indexes};
 ghost use Rattle.kr_brokers.specs.Expiry.{FencesExpired};
 
 use kr_base::{NoMemory, Steps};
 use kr_calls::Effect;
 use kr_calls::laws::taking_out_is_never_refused;
 use kr_defs::Record;
-use kr_fencing::{FencingIndex, fencing_records};
+use kr_replication::{FencingIndex, fencing_records};
 use kr_sessions::Context;
 use kr_store::{ApplyFault, Seen, Store};
 use std::alloc::Global;

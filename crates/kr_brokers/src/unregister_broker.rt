@@ -9,10 +9,10 @@ use kr_base::{NoMemory, Steps};
 use kr_calls::errors::BROKER_ID_NOT_REGISTERED;
 use kr_calls::{Draft, Effect, Reply, UnregisterBroker, UnregisterBrokerReply};
 use kr_defs::{Options, Record, Records};
+use kr_replication::take_out;
 use kr_rules::{Handler, Refusal, Rule, Work, decide_one};
 use kr_sessions::Context;
 use kr_store::{Seen, Store};
-use kr_walks::take_out;
 use std::alloc::Global;
 use std::sync::ledger::Ledger;
 

@@ -12,9 +12,9 @@ use kr_base::NoMemory;
 use kr_calls::errors::{INVALID_CONFIG, INVALID_REQUEST};
 use kr_calls::{ConfigOperation, ConfigResource};
 use kr_defs::{Copied, Text, is_list_key, is_setting_key, is_setting_value};
+use kr_replication::value_at;
 use kr_rules::Refusal;
 use kr_store::{Seen, Store};
-use kr_walks::value_at;
 use std::alloc::Global;
 
 // Kafka's AlterConfigOp.OpType.

@@ -9,8 +9,8 @@ use crate::values::Values;
 use kr_base::NoMemory;
 use kr_calls::ConfigResource;
 use kr_defs::{Copied, Record, Records, Text};
+use kr_replication::value_at;
 use kr_store::{Seen, Store};
-use kr_walks::value_at;
 use std::alloc::Global;
 
 /// The settings have the same value, or both have none.

@@ -18,8 +18,8 @@ use crate::values::Values;
 use kr_base::NoMemory;
 use kr_calls::ConfigResource;
 use kr_defs::{Ids, MINIMUM_KEY, Options, Partition, PartitionChange, Records, Text, read_minimum};
+use kr_replication::{Change, add_changes, minimum_at, minimum_of, value_at};
 use kr_store::{Seen, Store};
-use kr_walks::{Change, add_changes, minimum_at, minimum_of, value_at};
 use std::alloc::Global;
 
 // Kafka's types of resources.

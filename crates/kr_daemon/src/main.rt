@@ -1,9 +1,9 @@
 //! The daemon: a controller that is served over TCP.
 #![tactic(auto)]
 
+use kr_flags::{SettingsFault, help, settings};
 use kr_host::{Ended, run, tell_no_memory, tell_refused};
-use kr_run::{WordsFault, words_of};
-use kr_settings::{SettingsFault, help, settings};
+use kr_process::{WordsFault, words_of};
 
 fn main(rt: HostRuntime) -> Ended {
     let words = match words_of(&rt) {

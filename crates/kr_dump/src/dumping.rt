@@ -7,7 +7,7 @@ use crate::lines::put_offset;
 use crate::parts::{BrokerLine, ConfigLine, FeatureLine, TopicLines};
 use kr_base::NoMemory;
 use kr_defs::Bytes;
-use kr_gather::add_image;
+use kr_listing::add_image;
 use kr_store::{Seen, Store};
 use std::alloc::Global;
 

@@ -5,7 +5,7 @@ ghost use Rattle.kr_dump.specs.DumpText as texts;
 use crate::lines::{put_broker, put_config, put_feature, put_partition, put_topic};
 use kr_base::NoMemory;
 use kr_defs::{Broker, Bytes, ConfigKey, Partition, Text};
-use kr_gather::{BrokerPart, ConfigPart, FeaturePart, PartitionPart, TopicPart, add_partitions};
+use kr_listing::{BrokerPart, ConfigPart, FeaturePart, PartitionPart, TopicPart, add_partitions};
 use kr_store::{Seen, Store};
 use std::alloc::Global;
 

@@ -20,18 +20,18 @@ use Rattle.kr_defs.specs.ImageLaws.{as_items}
 use Rattle.kr_defs.specs.Log.{Log, apply_all, image_at, tip}
 use Rattle.law_safety.specs.HearingLaws.{HearsOf}
 use Rattle.kr_store.specs.Images.{Images, marked}
-use Rattle.kr_world.specs.declared.writes.Write.{Write}
-use Rattle.kr_world.specs.Engine.{Core, IsEngine, Rise, writes_in_order, kept_image}
-use Rattle.kr_world.specs.Entries.{item_entries}
-use Rattle.kr_world.specs.Outputs.{is_open}
-use Rattle.kr_world.specs.World.{State, World, image_of_tip, tip_of, with_records, log_with}
-use Rattle.kr_world.specs.Weights.{IsWeighed, item_weights}
+use Rattle.kr_model.specs.declared.writes.Write.{Write}
+use Rattle.kr_model.specs.Engine.{Core, IsEngine, Rise, writes_in_order, kept_image}
+use Rattle.kr_model.specs.Entries.{item_entries}
+use Rattle.kr_model.specs.Outputs.{is_open}
+use Rattle.kr_model.specs.World.{State, World, image_of_tip, tip_of, with_records, log_with}
+use Rattle.kr_model.specs.Weights.{IsWeighed, item_weights}
 use Rattle.kr_engine.specs.inner.Append.{CallsAreCounted, Writes, core_after_append, batch_at, place_behind}
-use Rattle.kr_world.proofs.LongerLogs.{kept_then, present_then, rise_more}
-use Rattle.kr_world.proofs.LogEntries.{batch_written, not_none}
-use Rattle.kr_world.proofs.Logs.{tip_written, as_records}
-use Rattle.kr_world.proofs.Queues.{never}
-use Rattle.kr_world.proofs.Weights.{weighed_behind, weights_of_records}
+use Rattle.kr_model.proofs.LongerLogs.{kept_then, present_then, rise_more}
+use Rattle.kr_model.proofs.LogEntries.{batch_written, not_none}
+use Rattle.kr_model.proofs.Logs.{tip_written, as_records}
+use Rattle.kr_model.proofs.Queues.{never}
+use Rattle.kr_model.proofs.Weights.{weighed_behind, weights_of_records}
 
 -- ---- the engine
 

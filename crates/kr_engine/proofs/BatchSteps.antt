@@ -23,28 +23,28 @@ use Rattle.kr_defs.specs.Log.{Log, apply_all, first_ill, tip}
 use Rattle.kr_defs.proofs.IdLists.{same_id}
 use Rattle.kr_defs.proofs.Tests.{none_is, not_false, some_is}
 use Rattle.kr_store.specs.Images.{Images, IsAbove, last_image}
-use Rattle.kr_world.specs.declared.writes.Write.{Write}
+use Rattle.kr_model.specs.declared.writes.Write.{Write}
 use Rattle.kr_engine.specs.inner.Changes.{cleared_core, counted_core, timed_core, core_with_entries, refused_core, Settles, core_at}
-use Rattle.kr_world.specs.Engine.{Core, IsEngine, IsState, IsStep, Rise, kept_image, outputs_left}
-use Rattle.kr_world.specs.Entries.{item_entries}
-use Rattle.kr_world.specs.Events.{with_next_number, next_number, outcome, at_time_of}
-use Rattle.kr_world.specs.Outputs.{answers, is_open_in}
-use Rattle.kr_world.specs.Reasons.{already_leading, bad_batch, exhausted, gap, ill_formed}
+use Rattle.kr_model.specs.Engine.{Core, IsEngine, IsState, IsStep, Rise, kept_image, outputs_left}
+use Rattle.kr_model.specs.Entries.{item_entries}
+use Rattle.kr_model.specs.Events.{with_next_number, next_number, outcome, at_time_of}
+use Rattle.kr_model.specs.Outputs.{answers, is_open_in}
+use Rattle.kr_model.specs.Reasons.{already_leading, bad_batch, exhausted, gap, ill_formed}
 use Rattle.kr_engine.specs.inner.Ready.{IsReady}
-use Rattle.kr_world.specs.Batch as replicas
-use Rattle.kr_world.specs.Batch.{batch_or, end_of, batch, take_batch, unless_ill}
+use Rattle.kr_model.specs.Batch as replicas
+use Rattle.kr_model.specs.Batch.{batch_or, end_of, batch, take_batch, unless_ill}
 use Rattle.kr_engine.specs.inner.Batch.{AppliesOrReverts, batch_reason, core_after_batch, core_after_read_batch, items_reason, read_batch_reason}
-use Rattle.kr_world.specs.Weights.{AreWeighed}
-use Rattle.kr_world.specs.World.{State, image_of_tip, is_far, seen_at, tip_of, log_with}
-use Rattle.kr_world.proofs.Places.{near}
+use Rattle.kr_model.specs.Weights.{AreWeighed}
+use Rattle.kr_model.specs.World.{State, image_of_tip, is_far, seen_at, tip_of, log_with}
+use Rattle.kr_model.proofs.Places.{near}
 use Rattle.kr_engine.proofs.LeadSteps.{no_writes, none_row}
-use Rattle.kr_world.proofs.LongerLogs.{present_then, seen_then}
-use Rattle.kr_world.proofs.LogEntries.{behind}
-use Rattle.kr_world.proofs.Logs.{means_unless_ill, tip_written}
-use Rattle.kr_world.proofs.Queues.{IsDrained, drained, never}
-use Rattle.kr_world.proofs.StandingEngines.{same_image, tip_only, core_of, is_core}
+use Rattle.kr_model.proofs.LongerLogs.{present_then, seen_then}
+use Rattle.kr_model.proofs.LogEntries.{behind}
+use Rattle.kr_model.proofs.Logs.{means_unless_ill, tip_written}
+use Rattle.kr_model.proofs.Queues.{IsDrained, drained, never}
+use Rattle.kr_model.proofs.StandingEngines.{same_image, tip_only, core_of, is_core}
 use Rattle.kr_engine.proofs.StandbyOutcomes.{settled_step}
-use Rattle.kr_world.proofs.EventsWithoutWrites.{answers_then, held_then, waits_then}
+use Rattle.kr_model.proofs.EventsWithoutWrites.{answers_then, held_then, waits_then}
 use Rattle.kr_engine.proofs.FirstReasons.{IsAccepted, row, unless_refused}
 
 -- ---- items that are applied, or not

@@ -6,26 +6,26 @@ use Rattle.kr_calls.specs.declared.events.Reason.{Reason}
 use Rattle.kr_calls.specs.declared.events.Event.TheVariants as events
 use Rattle.kr_defs.specs.Image.{Image}
 use Rattle.kr_store.specs.Images.{forgotten, kept_at}
-use Rattle.kr_world.specs.declared.writes.Write.{Write}
-use Rattle.kr_world.specs.Commit as commits
-use Rattle.kr_world.specs.Commit.{commit, is_end}
+use Rattle.kr_model.specs.declared.writes.Write.{Write}
+use Rattle.kr_model.specs.Commit as commits
+use Rattle.kr_model.specs.Commit.{commit, is_end}
 use Rattle.kr_engine.specs.inner.Changes.{cleared_core, counted_core, refused_core_or}
-use Rattle.kr_world.specs.Engine.{Core, IsEngine, IsSound, IsState, IsStep, outputs_left}
+use Rattle.kr_model.specs.Engine.{Core, IsEngine, IsSound, IsState, IsStep, outputs_left}
 use Rattle.kr_engine.specs.inner.Commit.{commit_reason, core_after_commit, forgetting_steps, steps_unless}
-use Rattle.kr_world.specs.Entries.{item_entries}
-use Rattle.kr_world.specs.Events.{with_next_number, next_number}
-use Rattle.kr_world.specs.Weights.{commit_steps}
-use Rattle.kr_world.specs.World.{leads_in, State, tip_of}
-use Rattle.kr_world.specs.Outputs.{answers, answers_in, is_open_in}
-use Rattle.kr_world.specs.Reasons.{bad_commit, not_leading}
-use Rattle.kr_world.proofs.EventOutcomes.{entries_accepted, outputs_accepted, refuses, stands_accepted, writes_accepted}
-use Rattle.kr_world.proofs.LogEntries.{none_behind}
-use Rattle.kr_world.proofs.Places.{Moves, is_kept, moves}
-use Rattle.kr_world.proofs.Queues.{IsDrained, drained}
-use Rattle.kr_world.proofs.SoundEngines.{stepped_sound}
-use Rattle.kr_world.proofs.Weights.{commit_bound, commit_weighed}
+use Rattle.kr_model.specs.Entries.{item_entries}
+use Rattle.kr_model.specs.Events.{with_next_number, next_number}
+use Rattle.kr_model.specs.Weights.{commit_steps}
+use Rattle.kr_model.specs.World.{leads_in, State, tip_of}
+use Rattle.kr_model.specs.Outputs.{answers, answers_in, is_open_in}
+use Rattle.kr_model.specs.Reasons.{bad_commit, not_leading}
+use Rattle.kr_model.proofs.EventOutcomes.{entries_accepted, outputs_accepted, refuses, stands_accepted, writes_accepted}
+use Rattle.kr_model.proofs.LogEntries.{none_behind}
+use Rattle.kr_model.proofs.Places.{Moves, is_kept, moves}
+use Rattle.kr_model.proofs.Queues.{IsDrained, drained}
+use Rattle.kr_model.proofs.SoundEngines.{stepped_sound}
+use Rattle.kr_model.proofs.Weights.{commit_bound, commit_weighed}
 use Rattle.kr_engine.proofs.Refusals.{refused_step}
-use Rattle.kr_world.proofs.EventsWithoutWrites.{answers_then, fewer_wait, held_then, waits_then}
+use Rattle.kr_model.proofs.EventsWithoutWrites.{answers_then, fewer_wait, held_then, waits_then}
 
 -- ---- the tests say the same of the engine and of the world
 

@@ -7,7 +7,7 @@ use Rattle.kr_defs.specs.declared.limits.TheConstants.{MOST_RECORDS}
 use Rattle.kr_defs.specs.declared.record.Item.TheVariants as items
 use Rattle.kr_defs.specs.declared.record.Record.{Record}
 use Rattle.kr_defs.specs.ImageLaws.{as_items}
-use Rattle.law_fitting.specs.Fitting.{FitsBatch}
+use Rattle.law_batch_limits.specs.Fitting.{FitsBatch}
 
 same_length : (records : List Record) → length (as_items records) ≡ length records
 same_length records = length-map records (λ (r : Record). items.Record r)

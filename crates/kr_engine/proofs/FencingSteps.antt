@@ -13,21 +13,21 @@ use Rattle.kr_defs.specs.ImageLaws.{as_items}
 use Rattle.kr_defs.specs.Map as entries
 use Rattle.law_safety.specs.HearingLaws.{HearsOf}
 use Rattle.law_safety.proofs.SafeRequests.{valid_after}
-use Rattle.kr_world.specs.declared.writes.Write.{Write}
-use Rattle.kr_world.specs.Engine.{Core, IsEngine, writes_in_order}
-use Rattle.kr_world.specs.Entries.{item_entries}
-use Rattle.kr_world.specs.Outputs.{append, append_fencings, is_open}
+use Rattle.kr_model.specs.declared.writes.Write.{Write}
+use Rattle.kr_model.specs.Engine.{Core, IsEngine, writes_in_order}
+use Rattle.kr_model.specs.Entries.{item_entries}
+use Rattle.kr_model.specs.Outputs.{append, append_fencings, is_open}
 use Rattle.kr_engine.specs.inner.Tick.{FencesAll}
-use Rattle.kr_world.specs.Tick.{fence, fence_all, fencing_of}
-use Rattle.kr_world.specs.World as worlds
-use Rattle.kr_world.specs.World.{State, image_of_tip, tip_of}
+use Rattle.kr_model.specs.Tick.{fence, fence_all, fencing_of}
+use Rattle.kr_model.specs.World as worlds
+use Rattle.kr_model.specs.World.{State, image_of_tip, tip_of}
 use Rattle.kr_engine.specs.inner.Append.{Fences, append_output}
-use Rattle.kr_world.proofs.StandingEngines.{same_image, is_core}
+use Rattle.kr_model.proofs.StandingEngines.{same_image, is_core}
 use Rattle.kr_engine.proofs.AppendSteps.{engine_behind}
-use Rattle.kr_world.proofs.LogEntries.{Gains, batch_written, gains_none, gains_then}
-use Rattle.kr_world.proofs.ContactTimes.{left_in_time}
-use Rattle.kr_world.proofs.FencedBrokers.{hears_by}
-use Rattle.kr_world.proofs.WriteOrders.{reached_later}
+use Rattle.kr_model.proofs.LogEntries.{Gains, batch_written, gains_none, gains_then}
+use Rattle.kr_model.proofs.ContactTimes.{left_in_time}
+use Rattle.kr_model.proofs.FencedBrokers.{hears_by}
+use Rattle.kr_model.proofs.WriteOrders.{reached_later}
 
 -- ---- one broker
 

@@ -20,33 +20,33 @@ use Rattle.kr_defs.specs.Image.{Image, IsValid}
 use Rattle.kr_defs.specs.ImageLaws.{as_items}
 use Rattle.kr_defs.specs.Map as entries
 use Rattle.kr_defs.proofs.Tests.{both, none_is}
-use Rattle.kr_fencing.specs.FencingIndex.{Indexes, KeysOfBrokers}
-use Rattle.kr_fencing.proofs.KeptIndexes.{fencing_indexed}
-use Rattle.law_fitting.specs.Fitting.{FitsBatch}
-use Rattle.law_fitting.proofs.FittingRecords.{records_fit}
+use Rattle.kr_replication.specs.FencingIndex.{Indexes, KeysOfBrokers}
+use Rattle.kr_replication.proofs.KeptIndexes.{fencing_indexed}
+use Rattle.law_batch_limits.specs.Fitting.{FitsBatch}
+use Rattle.law_batch_limits.proofs.FittingRecords.{records_fit}
 use Rattle.law_safety.proofs.FencingSizes.{fencings_fit}
 use Rattle.law_safety.specs.HearingLaws.{HearsOf}
 use Rattle.kr_store.specs.Images.{AreValid, IsAbove, marked}
-use Rattle.kr_world.specs.declared.writes.Write.{Write}
+use Rattle.kr_model.specs.declared.writes.Write.{Write}
 use Rattle.kr_engine.specs.inner.Changes.{BreaksOff, counted_core, timed_core}
-use Rattle.kr_world.specs.Engine.{Core, IsEngine, IsSound, IsStep, outputs_left}
-use Rattle.kr_world.specs.Entries.{item_entries}
-use Rattle.kr_world.specs.Events.{at_time_of}
+use Rattle.kr_model.specs.Engine.{Core, IsEngine, IsSound, IsStep, outputs_left}
+use Rattle.kr_model.specs.Entries.{item_entries}
+use Rattle.kr_model.specs.Events.{at_time_of}
 use Rattle.kr_engine.specs.inner.Ready.{IsReady}
-use Rattle.kr_world.specs.Reasons.{exhausted}
+use Rattle.kr_model.specs.Reasons.{exhausted}
 use Rattle.kr_engine.specs.inner.Tick.{CanFence, CanFenceAll, FencesAll, SettlesTick, lapsed_contacts, tick_reason}
-use Rattle.kr_world.specs.Tick as worlds
-use Rattle.kr_world.specs.Tick.{fencing_of}
-use Rattle.kr_world.specs.World.{State, is_far, tip_of}
+use Rattle.kr_model.specs.Tick as worlds
+use Rattle.kr_model.specs.Tick.{fencing_of}
+use Rattle.kr_model.specs.World.{State, is_far, tip_of}
 use Rattle.kr_engine.specs.inner.Append.{Fences, Writes, core_after_append, batch_at, place_behind}
 use Rattle.kr_engine.proofs.LeadSteps.{none_row}
 use Rattle.kr_engine.proofs.FencingSteps.{fence_stands, fence_stays}
 use Rattle.kr_engine.proofs.ReadyEngines as engines_ready
-use Rattle.kr_world.proofs.StandingEngines.{same_image}
+use Rattle.kr_model.proofs.StandingEngines.{same_image}
 use Rattle.kr_engine.proofs.TickSteps.{few_lapsed, tick_step, timed_engine}
-use Rattle.kr_world.proofs.LogEntries.{not_none}
-use Rattle.kr_world.proofs.Places.{near_enough}
-use Rattle.kr_world.proofs.Queues.{never}
+use Rattle.kr_model.proofs.LogEntries.{not_none}
+use Rattle.kr_model.proofs.Places.{near_enough}
+use Rattle.kr_model.proofs.Queues.{never}
 use Rattle.kr_engine.proofs.AppendSteps.{writes_by}
 use Rattle.kr_engine.proofs.Undoing.{adding_breaks, contacts_back, heard_breaks, images_break, same_breaks, written_then}
 

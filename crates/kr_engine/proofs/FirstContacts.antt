@@ -9,11 +9,11 @@ use Rattle.kr_defs.specs.Image.{Image}
 use Rattle.kr_defs.proofs.IdLists.{same_id}
 use Rattle.kr_defs.proofs.Tests.{none_is, not_false}
 use Rattle.kr_store.specs.Images.{AreValid, Images, IsAbove}
-use Rattle.kr_world.specs.Engine.{Core}
+use Rattle.kr_model.specs.Engine.{Core}
 use Rattle.kr_engine.specs.inner.Lead.{lead_reason}
-use Rattle.kr_world.specs.Reasons.{already_leading, bad_next, old_epoch}
+use Rattle.kr_model.specs.Reasons.{already_leading, bad_next, old_epoch}
 use Rattle.kr_engine.specs.inner.Ready.{IsReady}
-use Rattle.kr_world.proofs.UnfencedBrokers.{stopping_once, stopping_within, unfenced_once}
+use Rattle.kr_model.proofs.UnfencedBrokers.{stopping_once, stopping_within, unfenced_once}
 use Rattle.kr_engine.proofs.LeadSteps.{none_row}
 
 pub unfenced_distinct : (images : Images) → AreValid images → IsTrue (is_distinct (brokers.unfenced images.tip))

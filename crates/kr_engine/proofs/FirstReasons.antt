@@ -4,15 +4,15 @@ use Rattle.std.specs.Prelude.{Option, Some, None, Result, Ok, Err, filter}
 use Rattle.kr_calls.specs.declared.events.Event.{Event}
 use Rattle.kr_calls.specs.declared.events.Reason.{Reason}
 use Rattle.kr_defs.specs.declared.options.Options.{Options}
-use Rattle.kr_world.specs.declared.writes.Write.{Write}
+use Rattle.kr_model.specs.declared.writes.Write.{Write}
 use Rattle.kr_engine.specs.inner.Changes.{counted_core, timed_core, refused_core_or}
-use Rattle.kr_world.specs.Engine.{Core, IsEngine, IsStep, outputs_left}
-use Rattle.kr_world.specs.Entries.{entries_added}
-use Rattle.kr_world.specs.Events.{with_next_number, outcome, at_time_of}
-use Rattle.kr_world.specs.Outputs.{is_open_in, outputs_then, writes_of}
-use Rattle.kr_world.specs.World.{State}
-use Rattle.kr_world.proofs.EventOutcomes.{entries_accepted, outputs_accepted, stands_accepted, writes_accepted}
-use Rattle.kr_world.proofs.Queues.{IsDrained}
+use Rattle.kr_model.specs.Engine.{Core, IsEngine, IsStep, outputs_left}
+use Rattle.kr_model.specs.Entries.{entries_added}
+use Rattle.kr_model.specs.Events.{with_next_number, outcome, at_time_of}
+use Rattle.kr_model.specs.Outputs.{is_open_in, outputs_then, writes_of}
+use Rattle.kr_model.specs.World.{State}
+use Rattle.kr_model.proofs.EventOutcomes.{entries_accepted, outputs_accepted, stands_accepted, writes_accepted}
+use Rattle.kr_model.proofs.Queues.{IsDrained}
 use Rattle.kr_engine.proofs.Refusals.{refused_step}
 
 -- ---- rows of reasons

@@ -7,18 +7,18 @@ use Rattle.kr_calls.specs.declared.events.Output.TheVariants as given
 use Rattle.kr_defs.specs.Image.{Image, empty}
 use Rattle.kr_snapshot.specs.ImageText.{image_text}
 use Rattle.kr_store.specs.Images.{kept_at}
-use Rattle.kr_world.specs.declared.writes.Write.{Write}
+use Rattle.kr_model.specs.declared.writes.Write.{Write}
 use Rattle.kr_engine.specs.inner.Changes.{cleared_core, counted_core}
-use Rattle.kr_world.specs.Engine.{Core, IsEngine, IsStep, kept_image, outputs_left}
+use Rattle.kr_model.specs.Engine.{Core, IsEngine, IsStep, kept_image, outputs_left}
 use Rattle.kr_engine.specs.inner.Image.{core_after_image}
-use Rattle.kr_world.specs.Entries.{item_entries}
-use Rattle.kr_world.specs.Outputs.{answers, answers_in}
-use Rattle.kr_world.specs.World.{State, image_of_end, tip_of}
-use Rattle.kr_world.proofs.EventOutcomes.{outputs_accepted, stands_accepted}
-use Rattle.kr_world.proofs.LogEntries.{none_behind}
-use Rattle.kr_world.proofs.KeptImages.{first_found}
-use Rattle.kr_world.proofs.Queues.{IsDrained, drained}
-use Rattle.kr_world.proofs.EventsWithoutWrites.{answers_then, held_then, passes}
+use Rattle.kr_model.specs.Entries.{item_entries}
+use Rattle.kr_model.specs.Outputs.{answers, answers_in}
+use Rattle.kr_model.specs.World.{State, image_of_end, tip_of}
+use Rattle.kr_model.proofs.EventOutcomes.{outputs_accepted, stands_accepted}
+use Rattle.kr_model.proofs.LogEntries.{none_behind}
+use Rattle.kr_model.proofs.KeptImages.{first_found}
+use Rattle.kr_model.proofs.Queues.{IsDrained, drained}
+use Rattle.kr_model.proofs.EventsWithoutWrites.{answers_then, held_then, passes}
 
 module _ (e : Core) (d : IsDrained e) where
   abbrev after : Core

@@ -18,28 +18,28 @@ use Rattle.kr_defs.proofs.Tests.{none_is, not_false}
 use Rattle.law_safety.specs.HearingLaws.{HearsOf}
 use Rattle.law_safety.proofs.HearingRequests.{leaders_begin_hearing}
 use Rattle.kr_store.specs.Images.{marked}
-use Rattle.kr_world.specs.declared.writes.Write.{Write}
+use Rattle.kr_model.specs.declared.writes.Write.{Write}
 use Rattle.kr_engine.specs.inner.Changes.{counted_core, timed_core, refused_core_or, Settles}
 use Rattle.kr_engine.specs.inner.Lead.{core_after_lead, lead_reason}
-use Rattle.kr_world.specs.Engine.{Core, IsEngine, IsState, IsStep, Rise, kept_image, outputs_left}
-use Rattle.kr_world.specs.Entries.{item_entries}
-use Rattle.kr_world.specs.Events.{with_next_number, next_number, outcome, at_time_of}
-use Rattle.kr_world.specs.Lead.{after_lead, lead, may_begin_at}
-use Rattle.kr_world.specs.Outputs.{answers, answers_in, is_open, is_open_in}
-use Rattle.kr_world.specs.Reasons.{already_leading, bad_next, exhausted, old_epoch}
-use Rattle.kr_world.specs.World as worlds
-use Rattle.kr_world.specs.World.{State, World, image_of_tip, is_far, seen_at, tip_of, with_batch, log_with}
-use Rattle.kr_world.proofs.LongerLogs.{control_at_tip, kept_then, rise_more, seen_then}
-use Rattle.kr_world.proofs.ContactTimes.{begun_now}
-use Rattle.kr_world.proofs.Weights.{weighed_behind}
-use Rattle.kr_world.proofs.LogEntries.{behind, none_behind}
-use Rattle.kr_world.proofs.Logs.{tip_written}
-use Rattle.kr_world.proofs.KeptImages.{none_open}
-use Rattle.kr_world.proofs.Queues.{IsDrained, drained}
-use Rattle.kr_world.proofs.StandingEngines.{same_image, tip_only, core_of, is_core}
-use Rattle.kr_world.proofs.EventsWithoutWrites.{answers_then, held_then, timed_state, waits_then}
+use Rattle.kr_model.specs.Engine.{Core, IsEngine, IsState, IsStep, Rise, kept_image, outputs_left}
+use Rattle.kr_model.specs.Entries.{item_entries}
+use Rattle.kr_model.specs.Events.{with_next_number, next_number, outcome, at_time_of}
+use Rattle.kr_model.specs.Lead.{after_lead, lead, may_begin_at}
+use Rattle.kr_model.specs.Outputs.{answers, answers_in, is_open, is_open_in}
+use Rattle.kr_model.specs.Reasons.{already_leading, bad_next, exhausted, old_epoch}
+use Rattle.kr_model.specs.World as worlds
+use Rattle.kr_model.specs.World.{State, World, image_of_tip, is_far, seen_at, tip_of, with_batch, log_with}
+use Rattle.kr_model.proofs.LongerLogs.{control_at_tip, kept_then, rise_more, seen_then}
+use Rattle.kr_model.proofs.ContactTimes.{begun_now}
+use Rattle.kr_model.proofs.Weights.{weighed_behind}
+use Rattle.kr_model.proofs.LogEntries.{behind, none_behind}
+use Rattle.kr_model.proofs.Logs.{tip_written}
+use Rattle.kr_model.proofs.KeptImages.{none_open}
+use Rattle.kr_model.proofs.Queues.{IsDrained, drained}
+use Rattle.kr_model.proofs.StandingEngines.{same_image, tip_only, core_of, is_core}
+use Rattle.kr_model.proofs.EventsWithoutWrites.{answers_then, held_then, timed_state, waits_then}
 use Rattle.kr_engine.proofs.FirstReasons.{IsAccepted, row, step_by, unless_refused}
-use Rattle.kr_world.proofs.Places.{near}
+use Rattle.kr_model.proofs.Places.{near}
 
 pub none_row : {X : Type 0} (b : Bool) (x : X) (o : Option X) → cond b (Some x) o ≡ None → (b ≡ false) × (o ≡ None)
 none_row true x o is = absurd cc

@@ -14,24 +14,24 @@ use Rattle.kr_defs.specs.Records.{records_of}
 use Rattle.kr_defs.proofs.Tests.{Gives, none_is}
 use Rattle.kr_snapshot.specs.declared.fault.ImageFault.{ImageFault}
 use Rattle.kr_snapshot.specs.Reading.{image_of}
-use Rattle.kr_world.specs.declared.writes.Write.{Write}
+use Rattle.kr_model.specs.declared.writes.Write.{Write}
 use Rattle.kr_engine.specs.inner.Changes.{cleared_core, core_with_entries, counted_core, timed_core, Settles, core_at}
-use Rattle.kr_world.specs.Engine.{Core, IsEngine, IsState, IsStep, outputs_left}
-use Rattle.kr_world.specs.Events.{with_next_number, next_number, outcome, at_time_of}
-use Rattle.kr_world.specs.Outputs.{answers, is_open_in}
-use Rattle.kr_world.specs.Reasons.{already_leading, exhausted, older_image}
-use Rattle.kr_world.specs.Load.{image_or, load, take_image, after_load}
+use Rattle.kr_model.specs.Engine.{Core, IsEngine, IsState, IsStep, outputs_left}
+use Rattle.kr_model.specs.Events.{with_next_number, next_number, outcome, at_time_of}
+use Rattle.kr_model.specs.Outputs.{answers, is_open_in}
+use Rattle.kr_model.specs.Reasons.{already_leading, exhausted, older_image}
+use Rattle.kr_model.specs.Load.{image_or, load, take_image, after_load}
 use Rattle.kr_engine.specs.inner.Load.{load_reason, core_after_read_image, read_image_reason}
-use Rattle.kr_world.specs.World.{State, is_far, seen_at}
-use Rattle.kr_world.proofs.LoadedImages.{IsLoadable, loaded_valid}
-use Rattle.kr_world.proofs.Places.{near}
+use Rattle.kr_model.specs.World.{State, is_far, seen_at}
+use Rattle.kr_model.proofs.LoadedImages.{IsLoadable, loaded_valid}
+use Rattle.kr_model.proofs.Places.{near}
 use Rattle.kr_engine.proofs.LeadSteps.{no_writes, none_row}
 use Rattle.kr_engine.proofs.BatchSteps.{leads_not}
-use Rattle.kr_world.proofs.Queues.{IsDrained, drained}
+use Rattle.kr_model.proofs.Queues.{IsDrained, drained}
 use Rattle.kr_engine.proofs.StandbyOutcomes.{settled_step}
-use Rattle.kr_world.proofs.EventsWithoutWrites.{answers_then, held_then, waits_then}
+use Rattle.kr_model.proofs.EventsWithoutWrites.{answers_then, held_then, waits_then}
 use Rattle.kr_engine.proofs.FirstReasons.{IsAccepted, row, unless_refused}
-use Rattle.kr_world.proofs.StandingEngines.{core_of, is_core}
+use Rattle.kr_model.proofs.StandingEngines.{core_of, is_core}
 
 is_natural : (z : ℤ) (n : ℕ) → int_lt z (pos n) ≡ false → z ≡ pos (unsigned_abs z)
 is_natural (pos m) n test = refl

@@ -12,28 +12,28 @@ use Rattle.kr_defs.specs.declared.ill.Ill.{Ill}
 use Rattle.kr_defs.specs.Image.{Image, empty}
 use Rattle.kr_defs.specs.Log.{image_at, tip}
 use Rattle.kr_store.specs.Images.{Images, reverted}
-use Rattle.kr_world.specs.declared.writes.Write.{Write}
+use Rattle.kr_model.specs.declared.writes.Write.{Write}
 use Rattle.kr_engine.specs.inner.Changes.{cleared_core, counted_core, refused_core_or}
 use Rattle.kr_engine.specs.inner.Commit.{steps_unless}
 use Rattle.kr_engine.specs.inner.Lost.{core_after_lost, lost_reason, reverting_steps}
-use Rattle.kr_world.specs.Engine.{Core, IsEngine, IsSound, IsState, IsStep, kept_image, outputs_left}
-use Rattle.kr_world.specs.Entries.{item_entries}
-use Rattle.kr_world.specs.Events.{with_next_number, next_number}
-use Rattle.kr_world.specs.Lost.{cut, after_lost, lost}
-use Rattle.kr_world.specs.Weights.{lost_steps}
-use Rattle.kr_world.specs.World.{leads_in, State, seen_at, tip_of}
-use Rattle.kr_world.specs.Outputs.{answers, answers_in, is_open_in}
-use Rattle.kr_world.specs.Reasons.{not_leading}
+use Rattle.kr_model.specs.Engine.{Core, IsEngine, IsSound, IsState, IsStep, kept_image, outputs_left}
+use Rattle.kr_model.specs.Entries.{item_entries}
+use Rattle.kr_model.specs.Events.{with_next_number, next_number}
+use Rattle.kr_model.specs.Lost.{cut, after_lost, lost}
+use Rattle.kr_model.specs.Weights.{lost_steps}
+use Rattle.kr_model.specs.World.{leads_in, State, seen_at, tip_of}
+use Rattle.kr_model.specs.Outputs.{answers, answers_in, is_open_in}
+use Rattle.kr_model.specs.Reasons.{not_leading}
 use Rattle.kr_engine.proofs.CommitSteps.{same_leading}
-use Rattle.kr_world.proofs.EventOutcomes.{entries_accepted, outputs_accepted, refuses, stands_accepted, writes_accepted}
-use Rattle.kr_world.proofs.LogEntries.{cut_behind}
-use Rattle.kr_world.proofs.Logs.{cut_below, cut_tip}
-use Rattle.kr_world.proofs.Queues.{IsDrained, drained, never}
-use Rattle.kr_world.proofs.SoundEngines.{stepped_sound}
-use Rattle.kr_world.proofs.Weights.{lost_bound, lost_weighed}
+use Rattle.kr_model.proofs.EventOutcomes.{entries_accepted, outputs_accepted, refuses, stands_accepted, writes_accepted}
+use Rattle.kr_model.proofs.LogEntries.{cut_behind}
+use Rattle.kr_model.proofs.Logs.{cut_below, cut_tip}
+use Rattle.kr_model.proofs.Queues.{IsDrained, drained, never}
+use Rattle.kr_model.proofs.SoundEngines.{stepped_sound}
+use Rattle.kr_model.proofs.Weights.{lost_bound, lost_weighed}
 use Rattle.kr_engine.proofs.Refusals.{refused_step}
-use Rattle.kr_world.proofs.EventsWithoutWrites.{answers_then, held_then, waits_then}
-use Rattle.kr_world.proofs.KeptImages.{first_found, first_left, none_open, not_higher, seen_below, under}
+use Rattle.kr_model.proofs.EventsWithoutWrites.{answers_then, held_then, waits_then}
+use Rattle.kr_model.proofs.KeptImages.{first_found, first_left, none_open, not_higher, seen_below, under}
 
 -- ---- the step
 

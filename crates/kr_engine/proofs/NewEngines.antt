@@ -3,10 +3,10 @@ use Rattle.std.proofs.Common.{◌≡◌, sym, subst, [], refl, ap}
 use Rattle.std.specs.Prelude.{IfOk, Result, Ok, Err}
 use Rattle.kr_defs.specs.declared.options.Options.{Options}
 use Rattle.kr_defs.specs.Log.{image_at}
-use Rattle.kr_world.specs.Engine.{Core, IsEngine, outputs_left}
+use Rattle.kr_model.specs.Engine.{Core, IsEngine, outputs_left}
 use Rattle.kr_engine.specs.inner.Changes.{new_core}
-use Rattle.kr_world.specs.World.{start}
-use Rattle.kr_world.proofs.StandingEngines.{start_state}
+use Rattle.kr_model.specs.World.{start}
+use Rattle.kr_model.proofs.StandingEngines.{start_state}
 
 at_first : (options : Options) → IsEngine (new_core options) start []
 unfolding image_at

@@ -21,14 +21,14 @@ use Rattle.kr_defs.proofs.HeartbeatLists.{le_through}
 use Rattle.law_safety.specs.HearingLaws.{HearsOf}
 use Rattle.law_safety.proofs.BrokerTests.{by_get}
 use Rattle.kr_store.specs.Images.{AreValid}
-use Rattle.kr_world.specs.declared.writes.Write.{Write}
-use Rattle.kr_world.specs.Engine.{Core, IsEngine, IsSound}
+use Rattle.kr_model.specs.declared.writes.Write.{Write}
+use Rattle.kr_model.specs.Engine.{Core, IsEngine, IsSound}
 use Rattle.kr_engine.specs.inner.Changes.{cleared_core}
 use Rattle.kr_engine.specs.inner.Ready.{IsReady}
-use Rattle.kr_world.specs.World.{State, tip_of}
-use Rattle.kr_world.proofs.ContactTimes.{last_before}
-use Rattle.kr_world.proofs.EventsWithoutWrites.{grown}
-use Rattle.kr_world.proofs.StandingEngines.{all_kept_below, last_kept_is, rises, same_image, stands_still}
+use Rattle.kr_model.specs.World.{State, tip_of}
+use Rattle.kr_model.proofs.ContactTimes.{last_before}
+use Rattle.kr_model.proofs.EventsWithoutWrites.{grown}
+use Rattle.kr_model.proofs.StandingEngines.{all_kept_below, last_kept_is, rises, same_image, stands_still}
 
 -- ---- the stopping ones
 

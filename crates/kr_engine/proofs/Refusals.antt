@@ -5,15 +5,15 @@ use Rattle.kr_calls.specs.declared.events.Event.{Event}
 use Rattle.kr_calls.specs.declared.events.Output.{Output}
 use Rattle.kr_calls.specs.declared.events.Reason.{Reason}
 use Rattle.kr_calls.specs.declared.events.Output.TheVariants as given
-use Rattle.kr_world.specs.declared.writes.Write.{Write}
+use Rattle.kr_model.specs.declared.writes.Write.{Write}
 use Rattle.kr_engine.specs.inner.Changes.{counted_core, refused_core, timed_core}
-use Rattle.kr_world.specs.Engine.{Core, IsEngine, IsStep, outputs_left}
-use Rattle.kr_world.specs.Events.{next_number, outcome, at_time_of}
-use Rattle.kr_world.specs.Outputs.{answers}
-use Rattle.kr_world.specs.World.{State}
-use Rattle.kr_world.proofs.EventOutcomes.{entries_refused, outputs_refused, stands_refused, writes_refused}
-use Rattle.kr_world.proofs.Queues.{IsDrained}
-use Rattle.kr_world.proofs.EventsWithoutWrites.{held_then, passes}
+use Rattle.kr_model.specs.Engine.{Core, IsEngine, IsStep, outputs_left}
+use Rattle.kr_model.specs.Events.{next_number, outcome, at_time_of}
+use Rattle.kr_model.specs.Outputs.{answers}
+use Rattle.kr_model.specs.World.{State}
+use Rattle.kr_model.proofs.EventOutcomes.{entries_refused, outputs_refused, stands_refused, writes_refused}
+use Rattle.kr_model.proofs.Queues.{IsDrained}
+use Rattle.kr_model.proofs.EventsWithoutWrites.{held_then, passes}
 
 abbrev pub after : Core → Event → Reason → Core
 after e event reason = counted_core (refused_core (timed_core e event) reason)

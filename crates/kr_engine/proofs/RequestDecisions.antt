@@ -23,14 +23,14 @@ use Rattle.kr_defs.specs.Heartbeats.{Heartbeats, is_not_before, stopping_brokers
 use Rattle.kr_defs.specs.Ids.{has}
 use Rattle.kr_defs.specs.ImageLaws.{as_items}
 use Rattle.kr_defs.specs.Image.{Image, empty}
-use Rattle.law_fitting.specs.Fitting.{FitsBatch}
-use Rattle.law_fitting.proofs.FittingRecords.{requests_fit}
+use Rattle.law_batch_limits.specs.Fitting.{FitsBatch}
+use Rattle.law_batch_limits.proofs.FittingRecords.{requests_fit}
 use Rattle.kr_store.specs.Images.{AreValid, IsAbove, kept_at, marked}
 use Rattle.kr_store.proofs.LastKept.{last_found}
-use Rattle.kr_world.specs.Entries.{item_entries}
-use Rattle.kr_world.specs.declared.writes.Decided.{Decided}
-use Rattle.kr_world.specs.declared.writes.Write.{Write}
-use Rattle.kr_world.specs.Engine.{Core, basis_of}
+use Rattle.kr_model.specs.Entries.{item_entries}
+use Rattle.kr_model.specs.declared.writes.Decided.{Decided}
+use Rattle.kr_model.specs.declared.writes.Write.{Write}
+use Rattle.kr_model.specs.Engine.{Core, basis_of}
 use Rattle.kr_engine.specs.inner.Ready.{IsReady}
 use Rattle.kr_engine.specs.inner.Request.{Decides, TakesWrite, core_holding, decided_at, decided_by, image_kept, write_with}
 use Rattle.kr_engine.specs.inner.Changes.{BreaksOff, GivesAlone}

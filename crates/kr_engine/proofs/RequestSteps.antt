@@ -34,32 +34,32 @@ use Rattle.kr_defs.proofs.HeartbeatLists.{le_itself}
 use Rattle.law_safety.specs.HearingLaws.{HearsOf}
 use Rattle.law_safety.proofs.HearingRequests.{requests_keep_hearing}
 use Rattle.kr_store.specs.Images.{AreValid}
-use Rattle.kr_world.specs.declared.writes.Decided.{Decided}
-use Rattle.kr_world.specs.declared.writes.Write.{Write}
+use Rattle.kr_model.specs.declared.writes.Decided.{Decided}
+use Rattle.kr_model.specs.declared.writes.Write.{Write}
 use Rattle.kr_engine.specs.inner.Changes.{counted_core, timed_core}
-use Rattle.kr_world.specs.Engine.{Core, IsEngine, IsStep, writes_in_order, basis_of, outputs_left}
-use Rattle.kr_world.specs.Entries.{item_entries}
-use Rattle.kr_world.specs.Events.{with_next_number, outcome, at_time_of}
-use Rattle.kr_world.specs.Outputs.{answers, answers_in, answers_now, append, appends, error_of, is_open, is_open_in, outputs_then, write_of, writes_of}
-use Rattle.kr_world.specs.Reasons.{exhausted}
-use Rattle.kr_world.specs.Request.{after_ask, after_write, decision, is_decided}
-use Rattle.kr_world.specs.World as worlds
-use Rattle.kr_world.specs.World.{State, image_of_end, is_far, tip_of, with_records}
+use Rattle.kr_model.specs.Engine.{Core, IsEngine, IsStep, writes_in_order, basis_of, outputs_left}
+use Rattle.kr_model.specs.Entries.{item_entries}
+use Rattle.kr_model.specs.Events.{with_next_number, outcome, at_time_of}
+use Rattle.kr_model.specs.Outputs.{answers, answers_in, answers_now, append, appends, error_of, is_open, is_open_in, outputs_then, write_of, writes_of}
+use Rattle.kr_model.specs.Reasons.{exhausted}
+use Rattle.kr_model.specs.Request.{after_ask, after_write, decision, is_decided}
+use Rattle.kr_model.specs.World as worlds
+use Rattle.kr_model.specs.World.{State, image_of_end, is_far, tip_of, with_records}
 use Rattle.kr_engine.specs.inner.Append.{append_output}
 use Rattle.kr_engine.specs.inner.Request.{is_led_write, SettlesRequest, TakesCall, TakesWrite, request_reason, decided_at, decided_by, core_with_output, reply_at_once, waiting_write, write_with}
-use Rattle.kr_world.proofs.LogEntries.{Gains, batch_written, gained, gains_none}
+use Rattle.kr_model.proofs.LogEntries.{Gains, batch_written, gained, gains_none}
 use Rattle.kr_engine.proofs.AppendSteps.{IsLonger, engine_behind, longer_by}
-use Rattle.kr_world.proofs.ContactTimes.{AreInTime, decided_in_time}
-use Rattle.kr_world.proofs.EventsWithoutWrites.{answers_then, held_then, passes}
+use Rattle.kr_model.proofs.ContactTimes.{AreInTime, decided_in_time}
+use Rattle.kr_model.proofs.EventsWithoutWrites.{answers_then, held_then, passes}
 use Rattle.kr_engine.proofs.FirstReasons.{IsAccepted, accepted_step, row, unless_refused}
-use Rattle.kr_world.proofs.StandingEngines.{is_core, same_image}
-use Rattle.kr_world.proofs.WriteOrders.{reached_later, all_behind, all_open, all_reached, order_more}
+use Rattle.kr_model.proofs.StandingEngines.{is_core, same_image}
+use Rattle.kr_model.proofs.WriteOrders.{reached_later, all_behind, all_open, all_reached, order_more}
 use Rattle.kr_engine.proofs.ImageSteps.{committed_found}
 use Rattle.kr_engine.proofs.LeadSteps.{none_row}
-use Rattle.kr_world.proofs.Queues.{IsDrained, drained}
+use Rattle.kr_model.proofs.Queues.{IsDrained, drained}
 use Rattle.kr_engine.proofs.Refusals.{refused_step}
 use Rattle.kr_engine.proofs.TickSteps.{counted_engine, timed_engine}
-use Rattle.kr_world.proofs.Places.{near_enough}
+use Rattle.kr_model.proofs.Places.{near_enough}
 
 -- ---- a write that is decided
 

@@ -11,9 +11,9 @@ use Rattle.kr_calls.proofs.events.Output.TheSendSync as output
 use Rattle.kr_defs.proofs.options.Options.TheSendSync as options
 use Rattle.kr_image.proofs.store.ImageStore.TheSendSync as store
 use Rattle.kr_sessions.proofs.sessions.Sessions.TheSendSync as sessions
-use Rattle.kr_world.specs.contracts.past_basis.PastBasis.{the_row as basis_row}
-use Rattle.kr_world.specs.contracts.writes.Decided.{the_row as decided_row, the_type as decided_type}
-use Rattle.kr_world.specs.contracts.writes.Write.{the_row as write_row, the_type as write_type}
+use Rattle.kr_model.specs.contracts.past_basis.PastBasis.{the_row as basis_row}
+use Rattle.kr_model.specs.contracts.writes.Decided.{the_row as decided_row, the_type as decided_type}
+use Rattle.kr_model.specs.contracts.writes.Write.{the_row as write_row, the_type as write_type}
 use Rattle.kr_engine.specs.contracts.engine.Engine.{the_row}
 use Rattle.kr_engine.specs.contracts.engine.Engine.TheInside.{the_type}
 

@@ -3,12 +3,12 @@ use Rattle.std.proofs.Common.{◌≡◌, sym, subst, List}
 use Rattle.std.specs.Prelude.{Option, None}
 use Rattle.kr_calls.specs.declared.events.Event.{Event}
 use Rattle.kr_calls.specs.declared.events.Reason.{Reason}
-use Rattle.kr_world.specs.declared.writes.Write.{Write}
+use Rattle.kr_model.specs.declared.writes.Write.{Write}
 use Rattle.kr_engine.specs.inner.Changes.{counted_core, timed_core, Settles}
-use Rattle.kr_world.specs.Engine.{Core, IsEngine, IsStep}
-use Rattle.kr_world.specs.Events.{outcome, at_time_of}
-use Rattle.kr_world.specs.World.{State}
-use Rattle.kr_world.proofs.Queues.{IsDrained}
+use Rattle.kr_model.specs.Engine.{Core, IsEngine, IsStep}
+use Rattle.kr_model.specs.Events.{outcome, at_time_of}
+use Rattle.kr_model.specs.World.{State}
+use Rattle.kr_model.proofs.Queues.{IsDrained}
 use Rattle.kr_engine.proofs.FirstReasons.{IsAccepted, step_by, unless_refused}
 
 module _ (e : Core) (event : Event) (d : IsDrained e) where

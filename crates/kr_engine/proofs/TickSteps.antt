@@ -17,24 +17,24 @@ use Rattle.kr_defs.proofs.IdLists.{all_from}
 use Rattle.law_safety.specs.HearingLaws.{HearsOf}
 use Rattle.law_safety.proofs.Lengths.{distinct_few}
 use Rattle.kr_store.specs.Images.{AreValid}
-use Rattle.kr_world.specs.declared.writes.Write.{Write}
+use Rattle.kr_model.specs.declared.writes.Write.{Write}
 use Rattle.kr_engine.specs.inner.Changes.{counted_core, timed_core}
-use Rattle.kr_world.specs.Engine.{Core, IsEngine, IsStep, outputs_left}
-use Rattle.kr_world.specs.Events.{with_next_number, time_after, next_number, outcome, at_time_of}
-use Rattle.kr_world.specs.Outputs.{answers, answers_in, append_fencings, is_open, is_open_in}
-use Rattle.kr_world.specs.Reasons.{exhausted}
+use Rattle.kr_model.specs.Engine.{Core, IsEngine, IsStep, outputs_left}
+use Rattle.kr_model.specs.Events.{with_next_number, time_after, next_number, outcome, at_time_of}
+use Rattle.kr_model.specs.Outputs.{answers, answers_in, append_fencings, is_open, is_open_in}
+use Rattle.kr_model.specs.Reasons.{exhausted}
 use Rattle.kr_engine.specs.inner.Tick.{FencesAll, SettlesTick, lapsed_contacts, tick_reason}
-use Rattle.kr_world.specs.Tick.{fence_all, lapsed_contacts as lapsed_in, tick}
-use Rattle.kr_world.specs.World.{State, is_far, tip_of}
+use Rattle.kr_model.specs.Tick.{fence_all, lapsed_contacts as lapsed_in, tick}
+use Rattle.kr_model.specs.World.{State, is_far, tip_of}
 use Rattle.kr_engine.proofs.LeadSteps.{none_row}
-use Rattle.kr_world.proofs.LogEntries.{gained, gains_none}
+use Rattle.kr_model.proofs.LogEntries.{gained, gains_none}
 use Rattle.kr_engine.proofs.FencingSteps.{AllFenced, all_fenced, stays_itself}
-use Rattle.kr_world.proofs.Queues.{IsDrained, drained}
-use Rattle.kr_world.proofs.StandingEngines.{same_image, core_of, is_core}
+use Rattle.kr_model.proofs.Queues.{IsDrained, drained}
+use Rattle.kr_model.proofs.StandingEngines.{same_image, core_of, is_core}
 use Rattle.kr_engine.proofs.Refusals.{refused_step}
-use Rattle.kr_world.proofs.EventsWithoutWrites.{counted_state, held_then, timed_state}
+use Rattle.kr_model.proofs.EventsWithoutWrites.{counted_state, held_then, timed_state}
 use Rattle.kr_engine.proofs.FirstReasons.{IsAccepted, accepted_step, row, unless_refused}
-use Rattle.kr_world.proofs.Places.{near_enough}
+use Rattle.kr_model.proofs.Places.{near_enough}
 
 -- ---- at most 1,000 sessions end
 

@@ -18,14 +18,14 @@ use Rattle.kr_defs.specs.Image.{Image}
 use Rattle.kr_defs.specs.ImageLaws.{as_items}
 use Rattle.kr_store.specs.Images.{AreValid, Images, kept_at, marked, reverted}
 use Rattle.kr_store.proofs.LastKept.{last_found}
-use Rattle.kr_world.specs.Engine.{Core, IsSound, IsStep, outputs_left}
-use Rattle.kr_world.specs.Entries.{item_entries}
+use Rattle.kr_model.specs.Engine.{Core, IsSound, IsStep, outputs_left}
+use Rattle.kr_model.specs.Entries.{item_entries}
 use Rattle.kr_engine.specs.inner.Append.{Writes, batch_at, core_after_append, place_behind}
 use Rattle.kr_engine.specs.inner.Changes.{BreaksOff, GivesAlone, IsLonger, core_with_entries, counted_core}
 use Rattle.kr_engine.specs.inner.Ready.{IsReady}
-use Rattle.kr_world.proofs.LogEntries.{not_none}
-use Rattle.kr_world.proofs.Queues.{drained}
-use Rattle.kr_world.proofs.SoundEngines.{stepped_sound}
+use Rattle.kr_model.proofs.LogEntries.{not_none}
+use Rattle.kr_model.proofs.Queues.{drained}
+use Rattle.kr_model.proofs.SoundEngines.{stepped_sound}
 
 -- ---- what is kept besides
 

@@ -6,9 +6,9 @@ ghost use Rattle.kr_defs.specs.declared.record.Item.TheVariants as items;
 ghost use Rattle.kr_defs.specs.ImageLaws.{as_items};
 ghost use Rattle.kr_batch.specs.BatchBytes.{VALUES_END, IsWritable, batch_bytes, values_size};
 ghost use Rattle.kr_calls.specs.declared.events.Output.TheVariants as given;
-ghost use Rattle.law_fitting.specs.Fitting.{FitsBatch};
+ghost use Rattle.law_batch_limits.specs.Fitting.{FitsBatch};
 ghost use Rattle.kr_store.specs.Images.{IsAbove};
-ghost use Rattle.kr_world.specs.Reasons as reasons;
+ghost use Rattle.kr_model.specs.Reasons as reasons;
 ghost use Rattle.kr_engine.specs.inner.Append.{batch_at, core_after_append};
 ghost use Rattle.kr_engine.specs.inner.Changes.{GivesAlone};
 

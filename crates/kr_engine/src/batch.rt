@@ -7,10 +7,10 @@ ghost use Rattle.kr_batch.specs.Reading.{batch_of};
 ghost use Rattle.kr_calls.specs.declared.events.Event.TheVariants as events;
 ghost use Rattle.kr_store.specs.Images.{kept_once};
 ghost use Rattle.kr_store.specs.Images.{IsAbove};
-ghost use Rattle.kr_world.specs.Engine.{IsSound, IsStep, outputs_left};
+ghost use Rattle.kr_model.specs.Engine.{IsSound, IsStep, outputs_left};
 ghost use Rattle.kr_engine.specs.inner.Changes.{core_at, BreaksOff, Settles};
 ghost use Rattle.kr_engine.specs.inner.Ready.{IsReady};
-ghost use Rattle.kr_world.specs.Batch.{end_of};
+ghost use Rattle.kr_model.specs.Batch.{end_of};
 ghost use Rattle.kr_engine.specs.inner.Batch.{batch_reason, core_after_batch, core_after_items, core_after_read_batch, decoded_batch_reason, items_reason, AppliesOrReverts};
 
 use crate::Engine;

@@ -5,10 +5,10 @@ ghost use Rattle.kr_calls.specs.declared.events.Event.TheVariants as events;
 ghost use Rattle.kr_store.specs.Images.{image_of_place, kept_at};
 ghost use Rattle.kr_engine.specs.inner.Changes.{cleared_core};
 ghost use Rattle.kr_engine.specs.inner.Commit.{commit_reason, core_after_commit, core_taking_commit, forgetting_steps, steps_unless};
-ghost use Rattle.kr_world.specs.declared.writes.Write.{Write as AnyWrite};
-ghost use Rattle.kr_world.specs.Engine.{IsEngine, IsSound, IsStep, outputs_left};
-ghost use Rattle.kr_world.specs.Weights.{commit_steps};
-ghost use Rattle.kr_world.specs.World.{State};
+ghost use Rattle.kr_model.specs.declared.writes.Write.{Write as AnyWrite};
+ghost use Rattle.kr_model.specs.Engine.{IsEngine, IsSound, IsStep, outputs_left};
+ghost use Rattle.kr_model.specs.Weights.{commit_steps};
+ghost use Rattle.kr_model.specs.World.{State};
 
 use crate::Engine;
 use crate::places::at_epoch;

@@ -3,18 +3,18 @@
 ghost use Rattle.std.specs.Prelude.{◌≡◌, ◌++◌, [], ◌∷◌, option_to_list, IsTrue, IfOk, IfNone, Some};
 ghost use Rattle.kr_defs.specs.OpenOptions.{are_options};
 ghost use Rattle.kr_store.specs.Images.{AreValid};
-ghost use Rattle.kr_world.specs.Engine.{IsEngine, IsSound, basis_of, outputs_left};
+ghost use Rattle.kr_model.specs.Engine.{IsEngine, IsSound, basis_of, outputs_left};
 ghost use Rattle.kr_engine.specs.inner.Changes.{cleared_core, counted_core, new_core, refused_core};
 ghost use Rattle.kr_engine.specs.inner.Ready.{IsReady};
-ghost use Rattle.kr_world.specs.World as worlds;
+ghost use Rattle.kr_model.specs.World as worlds;
 
 use kr_base::NoMemory;
 use kr_calls::{Entry, Output, Reason};
 use kr_defs::{Basis, Options};
 use kr_image::ImageStore;
+use kr_model::{PastBasis, Write};
 use kr_sessions::Sessions;
 use kr_store::Store;
-use kr_world::{PastBasis, Write};
 use std::alloc::Global;
 use std::collections::VecDeque;
 use std::marker::Model;
@@ -78,7 +78,7 @@ impl Drop for Engine {
 }
 
 impl Model for Engine {
-    ghost use Rattle.kr_world.specs.Engine.{Core};
+    ghost use Rattle.kr_model.specs.Engine.{Core};
 
     ghost Value = { Core };
 
@@ -175,7 +175,7 @@ impl Engine {
     }
 
     /// What the last event added to the log, as `fresh` has it, which is handed out with this and told no more.
-    #[tactic(auto, using(kr_world::proofs::SoundEngines::taken_sound))]
+    #[tactic(auto, using(kr_model::proofs::SoundEngines::taken_sound))]
     pub fn take_fresh(&mut self) -> Vec<Entry>
         ensures items { result.items ≡ self.old.fresh }
         ensures taken { self.new ≡ record self.old { fresh = [] } }

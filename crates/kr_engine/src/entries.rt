@@ -4,7 +4,7 @@ ghost use Rattle.std.specs.Prelude.{◌≡◌, ◌++◌, ◌+ℤ◌, ◌≤◌, 
 ghost use Rattle.kr_calls.specs.declared.events.Entry.TheVariants as entries;
 ghost use Rattle.kr_defs.specs.declared.limits.TheConstants.{MOST_RECORDS as most_records, PLACES_END as places_end};
 ghost use Rattle.kr_engine.specs.inner.Changes.{core_with_entries, GivesAlone};
-ghost use Rattle.kr_world.specs.Entries.{item_entries};
+ghost use Rattle.kr_model.specs.Entries.{item_entries};
 
 use crate::Engine;
 use kr_base::NoMemory;
@@ -51,7 +51,7 @@ impl Next {
 }
 
 // Adds items one behind the other, of which the first stands at the place.
-#[tactic(auto, using(kr_world::proofs::LogEntries::placing))]
+#[tactic(auto, using(kr_model::proofs::LogEntries::placing))]
 fn place_items(out: &mut Vec<Entry>, place: &i64, items: Items) -> Result<(), NoMemory>
     requires low { place.now ≤ℤ places_end }
     requires few { length items ≤ most_records }

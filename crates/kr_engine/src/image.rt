@@ -8,7 +8,7 @@ ghost use Rattle.kr_snapshot.specs.ImageText.{image_text};
 ghost use Rattle.kr_store.specs.Images.{kept_at};
 ghost use Rattle.kr_engine.specs.inner.Changes.{GivesAlone};
 ghost use Rattle.kr_engine.specs.inner.Image.{core_after_image};
-ghost use Rattle.kr_world.specs.Engine.{IsSound, IsStep, outputs_left};
+ghost use Rattle.kr_model.specs.Engine.{IsSound, IsStep, outputs_left};
 
 use crate::Engine;
 use crate::places::at_epoch;

@@ -9,7 +9,7 @@ ghost use Rattle.kr_defs.specs.Heartbeats as hearing;
 ghost use Rattle.kr_store.specs.Images.{IsAbove};
 ghost use Rattle.kr_engine.specs.inner.Changes.{GivesAlone, Settles};
 ghost use Rattle.kr_engine.specs.inner.Lead.{core_after_lead, core_up_to, lead_reason};
-ghost use Rattle.kr_world.specs.Engine.{IsSound, IsStep, outputs_left};
+ghost use Rattle.kr_model.specs.Engine.{IsSound, IsStep, outputs_left};
 ghost use Rattle.kr_engine.specs.inner.Ready.{IsReady};
 
 use crate::Engine;
@@ -19,9 +19,9 @@ use crate::reasons::{already_leading, bad_next, exhausted, old_epoch};
 use kr_base::NoMemory;
 use kr_calls::Reason;
 use kr_defs::{Broker, Ids, Item};
+use kr_replication::{BrokerTest, brokers_where};
 use kr_sessions::Sessions;
 use kr_store::{Seen, Store};
-use kr_walks::{BrokerTest, brokers_where};
 use std::alloc::Global;
 
 fn is_one_above(next: &i64, end: &i64) -> bool

@@ -7,7 +7,7 @@ ghost use Rattle.kr_defs.specs.Records.{records_of};
 ghost use Rattle.kr_snapshot.specs.ReaderState.{Restores};
 ghost use Rattle.kr_store.specs.Images.{kept_once};
 ghost use Rattle.kr_snapshot.specs.Reading.{image_of};
-ghost use Rattle.kr_world.specs.Engine.{IsSound, IsStep, outputs_left};
+ghost use Rattle.kr_model.specs.Engine.{IsSound, IsStep, outputs_left};
 ghost use Rattle.kr_engine.specs.inner.Changes.{core_with_entries, GivesAlone, Settles};
 ghost use Rattle.kr_engine.specs.inner.Load.{core_after_load, core_after_read_image, decoded_image_reason, load_reason};
 
@@ -17,8 +17,8 @@ use crate::places::is_far;
 use crate::reasons::{already_leading, bad_image, exhausted, older_image};
 use kr_base::NoMemory;
 use kr_defs::Bytes;
-use kr_gather::records_of;
 use kr_image::ImageStore;
+use kr_listing::records_of;
 use kr_snapshot::{ImageFault, Reader};
 use kr_store::Seen;
 use std::alloc::Global;

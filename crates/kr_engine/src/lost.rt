@@ -6,10 +6,10 @@ ghost use Rattle.kr_store.specs.Images.{reverted};
 ghost use Rattle.kr_engine.specs.inner.Changes.{counted_core, refused_core_or, cleared_core};
 ghost use Rattle.kr_engine.specs.inner.Commit.{steps_unless};
 ghost use Rattle.kr_engine.specs.inner.Lost.{core_after_lost, lost_reason, reverting_steps};
-ghost use Rattle.kr_world.specs.declared.writes.Write.{Write as AnyWrite};
-ghost use Rattle.kr_world.specs.Engine.{IsEngine, IsSound, IsStep, outputs_left};
-ghost use Rattle.kr_world.specs.Weights.{lost_steps};
-ghost use Rattle.kr_world.specs.World.{State};
+ghost use Rattle.kr_model.specs.declared.writes.Write.{Write as AnyWrite};
+ghost use Rattle.kr_model.specs.Engine.{IsEngine, IsSound, IsStep, outputs_left};
+ghost use Rattle.kr_model.specs.Weights.{lost_steps};
+ghost use Rattle.kr_model.specs.World.{State};
 
 use crate::Engine;
 use crate::reasons::not_leading;

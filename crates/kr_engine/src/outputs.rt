@@ -1,14 +1,14 @@
 //! Outputs are handed out, one after the other.
 
 ghost use Rattle.std.specs.Prelude.{◌≡◌, ◌++◌, ◌∷◌, [], option_to_list, filter, not, false, None, IsTrue, IfNone, List};
-ghost use Rattle.kr_world.specs.declared.writes.Write.{Write as AnyWrite};
-ghost use Rattle.kr_world.specs.Engine.{Hands, IsSound, HandsTold, output_of, writes_in_order};
-ghost use Rattle.kr_world.specs.Outputs as outputs;
+ghost use Rattle.kr_model.specs.declared.writes.Write.{Write as AnyWrite};
+ghost use Rattle.kr_model.specs.Engine.{Hands, IsSound, HandsTold, output_of, writes_in_order};
+ghost use Rattle.kr_model.specs.Outputs as outputs;
 
 use crate::Engine;
 use crate::writes::{is_open, told_alone, told_reply};
 use kr_calls::Output;
-use kr_world::{Told, Write};
+use kr_model::{Told, Write};
 use std::collections::VecDeque;
 
 // The first write waits no more.
@@ -23,7 +23,7 @@ fn is_first_due(leading: &Option<i32>, end: &i64, held: &VecDeque<Write>) -> boo
 }
 
 // The first write's reply, where it waits no more, and how the write ended.
-#[tactic(auto, using(kr_world::proofs::Queues::not_due, kr_world::proofs::Queues::due, kr_world::proofs::Queues::still_waits, kr_world::proofs::Queues::still_ordered))]
+#[tactic(auto, using(kr_model::proofs::Queues::not_due, kr_model::proofs::Queues::due, kr_model::proofs::Queues::still_waits, kr_model::proofs::Queues::still_ordered))]
 fn next_due(leading: &Option<i32>, end: &i64, held: &mut VecDeque<Write>) -> Option<Told>
     requires ordered { IsTrue (writes_in_order held.old.items) }
     ensures in_order { outputs.told_answers leading.now end.now held.old.items ≡ option_to_list result ++ outputs.told_answers leading.now end.now held.new.items }
@@ -69,7 +69,7 @@ impl Engine {
 
     /// The next output of the last event, as `next_output` hands it out, and with the reply of a write that waited how that
     /// write ended, and where and on what it was decided. It takes no memory.
-    #[tactic(auto, using(kr_world::proofs::OutputsLeft::handing))]
+    #[tactic(auto, using(kr_model::proofs::OutputsLeft::handing))]
     pub fn next_told(&mut self) -> Option<Told>
         requires { IsTrue (writes_in_order self.old.held) }
         ensures hands { Hands self.old self.new (output_of result) }

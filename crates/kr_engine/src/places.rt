@@ -2,7 +2,7 @@
 
 ghost use Rattle.std.specs.Prelude.{◌≡◌};
 ghost use Rattle.kr_store.specs.declared.places.At.TheVariants as places;
-ghost use Rattle.kr_world.specs.World.{is_far};
+ghost use Rattle.kr_model.specs.World.{is_far};
 
 use kr_defs::limits::GREATEST_TIP;
 use kr_store::At;

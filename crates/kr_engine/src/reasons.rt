@@ -1,7 +1,7 @@
 //! Why an event is refused.
 
 ghost use Rattle.std.specs.Prelude.{◌≡◌};
-ghost use Rattle.kr_world.specs.Reasons as reasons;
+ghost use Rattle.kr_model.specs.Reasons as reasons;
 
 use kr_batch::BatchFault;
 use kr_calls::{BatchRefusal, ImageRefusal, Reason};

@@ -11,8 +11,8 @@ ghost use Rattle.kr_defs.specs.declared.limits.TheConstants.{MOST_RECORDS as mos
 ghost use Rattle.kr_calls.specs.declared.calls.Reply.TheVariants as replies;
 ghost use Rattle.kr_calls.specs.declared.events.Event.TheVariants as events;
 ghost use Rattle.kr_calls.specs.declared.events.Output.TheVariants as given;
-ghost use Rattle.kr_world.specs.Engine.{IsSound, IsStep, outputs_left};
-ghost use Rattle.kr_world.specs.Outputs as outputs;
+ghost use Rattle.kr_model.specs.Engine.{IsSound, IsStep, outputs_left};
+ghost use Rattle.kr_model.specs.Outputs as outputs;
 ghost use Rattle.kr_engine.specs.inner.Ready.{IsReady};
 ghost use Rattle.kr_store.specs.Images.{kept_at};
 ghost use Rattle.kr_engine.specs.inner.Changes.{BreaksOff};
@@ -29,10 +29,10 @@ use kr_calls::{Ask, AskFault, Call, Effect, Output, Reason, Reply, Request};
 use kr_defs::Records;
 use kr_handlers::read;
 use kr_image::ImageStore;
+use kr_model::{Decided, PastBasis, Write};
 use kr_rules::refuse;
 use kr_sessions::Sessions;
 use kr_store::{ReadFault, Seen};
-use kr_world::{Decided, PastBasis, Write};
 use std::alloc::Global;
 use std::sync::ledger::Ledger;
 

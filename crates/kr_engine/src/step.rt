@@ -2,10 +2,10 @@
 
 ghost use Rattle.std.specs.Prelude.{◌≡◌, ◌≤◌, ◌+◌, ℤ, List, [], IsOk, OnOk, OnErr};
 ghost use Rattle.kr_calls.specs.declared.events.Event.TheVariants as events;
-ghost use Rattle.kr_world.specs.declared.writes.Write.{Write as AnyWrite};
-ghost use Rattle.kr_world.specs.Engine.{IsEngine, IsSound, IsStep, outputs_left};
-ghost use Rattle.kr_world.specs.Weights.{commit_steps, lost_steps};
-ghost use Rattle.kr_world.specs.World.{State};
+ghost use Rattle.kr_model.specs.declared.writes.Write.{Write as AnyWrite};
+ghost use Rattle.kr_model.specs.Engine.{IsEngine, IsSound, IsStep, outputs_left};
+ghost use Rattle.kr_model.specs.Weights.{commit_steps, lost_steps};
+ghost use Rattle.kr_model.specs.World.{State};
 
 use crate::Engine;
 use kr_base::{NoMemory, Steps};

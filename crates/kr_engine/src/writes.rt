@@ -1,12 +1,12 @@
 //! Which writes wait, and the replies of those that wait no more.
 
 ghost use Rattle.std.specs.Prelude.{◌≡◌, int_lt, if◌then◌else◌};
-ghost use Rattle.kr_world.specs.World as leaderships;
-ghost use Rattle.kr_world.specs.Outputs as outputs;
+ghost use Rattle.kr_model.specs.World as leaderships;
+ghost use Rattle.kr_model.specs.Outputs as outputs;
 ghost use Rattle.kr_calls.specs.declared.answers.AnswerKind.TheVariants as kinds;
 
 use kr_calls::{AnswerKind, Output};
-use kr_world::{Ended, Told, Write};
+use kr_model::{Ended, Told, Write};
 
 /// This node leads in the epoch.
 pub(crate) fn leads_in(leading: &Option<i32>, epoch: &i32) -> bool

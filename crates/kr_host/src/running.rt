@@ -1,7 +1,7 @@
 //! The daemon as a whole.
 
 ghost use Rattle.std.specs.Prelude.{◌<◌, ◌≤◌};
-ghost use Rattle.kr_settings.specs.Words.{AreInRange};
+ghost use Rattle.kr_flags.specs.Words.{AreInRange};
 
 use crate::clients::spawn_clients;
 use crate::door::Door;
@@ -13,8 +13,8 @@ use crate::linked::turn_linked;
 use crate::local::{lead_alone, turn_alone};
 use crate::opening::{Opened, open_seats, options_of};
 use kr_base::NoMemory;
+use kr_flags::Settings;
 use kr_local::LocalQuorum;
-use kr_settings::Settings;
 use kr_shared::{ClientSeat, LinkSeat, WorkerSeat};
 use std::io::{Eprint, Print};
 use std::net::{Net, TcpListener, TcpStream};

@@ -10,7 +10,7 @@ use Rattle.kr_calls.specs.declared.list_partition_reassignments.ListedTopic.{Lis
 use Rattle.kr_calls.specs.declared.list_partition_reassignments.OngoingPartitionReassignment.{OngoingPartitionReassignment}
 use Rattle.kr_calls.specs.declared.list_partition_reassignments.OngoingTopicReassignment.{OngoingTopicReassignment}
 use Rattle.kr_calls.specs.ListPartitionReassignments.{is_asked, ongoing, ongoing_of, shown}
-use Rattle.kr_gather.proofs.Parts.{given_parts, some_parts}
+use Rattle.kr_listing.proofs.Parts.{given_parts, some_parts}
 
 module _ (image : Image) (asked : Option (List ListedTopic)) where
   pub moving : (name : List ℕ) (id : ℕ) (rows : List OngoingPartitionReassignment) → rows ≡ flat_map (λ (e : (ℕ × ℤ) × Partition). if is_moving e.1 && is_asked asked name e.0.1 then ongoing e ∷ [] else []) (of_topic id image.partitions) → rows ≡ ongoing_of image asked (name, id)

@@ -18,10 +18,10 @@ use kr_calls::errors::{
 use kr_calls::{Draft, PartitionElectionResult, PartitionElectionResults, ReplicaElectionResult};
 use kr_change::{Mode, Want};
 use kr_defs::{Copied, Ids, Options, Partition, PartitionChange, Text};
-use kr_gather::change_records;
+use kr_listing::change_records;
+use kr_replication::{ActiveOnes, build_with, default_want, is_accepted};
 use kr_rules::{Groups, ItemRule, Refusal, Work};
 use kr_store::{Seen, Store};
-use kr_walks::{ActiveOnes, build_with, default_want, is_accepted};
 use std::alloc::Global;
 
 /// The rule for elections of one kind: 0 the preferred leaders, 1 any replica where there is no leader.

@@ -6,7 +6,7 @@ ghost use Rattle.kr_calls.specs.ElectLeaders as elect_leaders;
 use kr_base::NoMemory;
 use kr_calls::{ElectLeadersTopic, ElectLeadersTopics};
 use kr_defs::{Copied, Ids, Partition, Rows, Text};
-use kr_gather::{PartitionPart, TopicPart, gather_partitions, gather_topics};
+use kr_listing::{PartitionPart, TopicPart, gather_partitions, gather_topics};
 use kr_store::{Seen, Store};
 use std::alloc::Global;
 

@@ -13,7 +13,7 @@ use kr_calls::{
     OngoingPartitionReassignment, OngoingPartitionReassignments, OngoingTopicReassignment, Reply,
 };
 use kr_defs::{Copied, Options, Partition, Rows, Text};
-use kr_gather::{PartitionPart, TopicPart, gather_partitions, gather_topics};
+use kr_listing::{PartitionPart, TopicPart, gather_partitions, gather_topics};
 use kr_store::{Seen, Store};
 use std::alloc::Global;
 

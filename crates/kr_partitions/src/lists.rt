@@ -6,7 +6,7 @@ ghost use Rattle.kr_defs.specs.Reassign as reassign;
 
 use kr_base::NoMemory;
 use kr_defs::{Copied, Ids, Partition};
-use kr_gather::without;
+use kr_listing::without;
 use std::alloc::Global;
 
 /// The replicas before the reassignment that runs.

@@ -16,10 +16,10 @@ use kr_calls::{
 };
 use kr_change::Want;
 use kr_defs::{Copied, Ids, Options, Partition, PartitionChange, Text, are_apart};
-use kr_gather::{are_registered, are_targets, change_records, without};
+use kr_listing::{are_registered, are_targets, change_records, without};
+use kr_replication::{ActiveOnes, build_with, default_want, is_unclean};
 use kr_rules::{Groups, ItemRule, Refusal, Work};
 use kr_store::{Seen, Store};
-use kr_walks::{ActiveOnes, build_with, default_want, is_unclean};
 use std::alloc::Global;
 
 /// The rule for reassignments.

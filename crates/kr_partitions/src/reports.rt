@@ -18,10 +18,10 @@ use kr_calls::{
 };
 use kr_change::{Want, merge};
 use kr_defs::{Broker, Copied, Ids, Options, Partition, PartitionChange, Records, Text};
-use kr_gather::change_records;
+use kr_listing::change_records;
+use kr_replication::{ActiveOnes, build_with, default_want, is_active};
 use kr_rules::{Groups, ItemRule, Refusal, Work};
 use kr_store::{Seen, Store};
-use kr_walks::{ActiveOnes, build_with, default_want, is_active};
 use std::alloc::Global;
 
 /// The rule for the reports of one broker.

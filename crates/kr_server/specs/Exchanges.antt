@@ -9,7 +9,7 @@ use Rattle.kr_calls.specs.declared.calls.Reply.{Reply}
 use Rattle.kr_calls.specs.declared.calls.Reply.TheVariants as replies
 use Rattle.kr_req.specs.Messages.{IsAsk}
 use Rattle.kr_req.specs.WrittenReplies.{ReplyFits, reply_bytes}
-use Rattle.kr_world.specs.Outputs.{error_of}
+use Rattle.kr_model.specs.Outputs.{error_of}
 use Rattle.kr_server.specs.declared.exchange.Exchange.{Exchange}
 use Rattle.kr_server.specs.declared.exchange.Exchange.TheVariants as exchanges
 use Rattle.kr_server.specs.Messages.{IsMessageThat}

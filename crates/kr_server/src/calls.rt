@@ -5,7 +5,7 @@ ghost use Rattle.kr_calls.specs.Decide as rules;
 ghost use Rattle.kr_calls.specs.Decide.{is_read};
 ghost use Rattle.kr_calls.specs.declared.calls.Ask.TheVariants as asks;
 ghost use Rattle.kr_req.specs.Messages.{IsAsk};
-ghost use Rattle.kr_world.specs.Outputs as outputs;
+ghost use Rattle.kr_model.specs.Outputs as outputs;
 ghost use Rattle.kr_server.specs.Exchanges.{IsAskedFor};
 ghost use Rattle.kr_server.specs.SeatCalls.{IsExchanged};
 ghost use Rattle.kr_server.specs.inner.Serving.{IsNotExchanged};

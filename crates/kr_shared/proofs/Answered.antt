@@ -12,14 +12,14 @@ use Rattle.kr_calls.specs.declared.events.Entry.TheVariants as entries
 use Rattle.kr_calls.specs.RightAnswers.{AreRightAfter, IsRight}
 use Rattle.kr_defs.specs.declared.options.Options.{Options}
 use Rattle.kr_defs.specs.Log.{Log}
-use Rattle.kr_world.specs.declared.writes.Told.{Told}
-use Rattle.kr_world.specs.declared.writes.Write.{Write}
-use Rattle.kr_world.specs.Engine.{writes_in_order}
-use Rattle.kr_world.specs.Outputs.{due_writes, end_of_write, is_open, told_alone, told_answers, told_reply}
-use Rattle.kr_world.proofs.Queues.{first_is_due, first_waits_not, none_is_due, order_behind}
-use Rattle.law_following.specs.Following.{AreNotes, Shows}
-use Rattle.law_following.proofs.Decided.{decided_answers_are_right}
-use Rattle.law_following.proofs.Shown.{shown_logs_go_on}
+use Rattle.kr_model.specs.declared.writes.Told.{Told}
+use Rattle.kr_model.specs.declared.writes.Write.{Write}
+use Rattle.kr_model.specs.Engine.{writes_in_order}
+use Rattle.kr_model.specs.Outputs.{due_writes, end_of_write, is_open, told_alone, told_answers, told_reply}
+use Rattle.kr_model.proofs.Queues.{first_is_due, first_waits_not, none_is_due, order_behind}
+use Rattle.law_published_log.specs.Following.{AreNotes, Shows}
+use Rattle.law_published_log.proofs.Decided.{decided_answers_are_right}
+use Rattle.law_published_log.proofs.Shown.{shown_logs_go_on}
 use Rattle.kr_shared.specs.declared.asked.Asked.{Asked}
 use Rattle.kr_shared.specs.Answers.{Answering, decided_answer, answered_of, answering, with_told}
 use Rattle.kr_shared.specs.Standing.{AreWaiting, IsWaitingWrite}

@@ -4,7 +4,7 @@ use Rattle.std.specs.Prelude.{Option}
 use Rattle.std.proofs.lemmas.List.{append_assoc}
 use Rattle.std.proofs.lemmas.List.Sums.{fold-append}
 use Rattle.kr_base.specs.Causes.{Rose, raised}
-use Rattle.kr_world.specs.declared.writes.Told.{Told}
+use Rattle.kr_model.specs.declared.writes.Told.{Told}
 use Rattle.kr_shared.specs.Appends.{Appends, AppendsIf, AppendsOne, FailsAt, with_told_batch}
 
 rose_before : (before now after : ℕ) → before ≤ now → Rose now after → Rose before after

@@ -5,8 +5,8 @@ use Rattle.std.specs.Result.{is_err}
 use Rattle.kr_calls.specs.declared.events.Event.{Event}
 use Rattle.kr_calls.specs.declared.events.Event.TheVariants as events
 use Rattle.kr_view.specs.Shelves.{Shelf}
-use Rattle.kr_world.specs.Engine.{Core, IsSound, IsStep, outputs_left}
-use Rattle.law_following.specs.Following.{AreNotes}
+use Rattle.kr_model.specs.Engine.{Core, IsSound, IsStep, outputs_left}
+use Rattle.law_published_log.specs.Following.{AreNotes}
 use Rattle.kr_shared.specs.declared.answers.Aside.{Aside}
 use Rattle.kr_shared.specs.declared.answers.Asking.{Asking}
 use Rattle.kr_shared.specs.declared.taking.Given.{Given}

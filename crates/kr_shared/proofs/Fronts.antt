@@ -3,11 +3,11 @@ use Rattle.std.proofs.Common.{◌≡◌, ◌∙◌, sym, ℕ, ℤ, List, [], ◌
 use Rattle.std.specs.Prelude.{Option, Some, None, option_to_list}
 use Rattle.std.proofs.lemmas.List.{append_assoc, append-nil, map-append}
 use Rattle.kr_calls.specs.declared.events.Output.{Output}
-use Rattle.kr_world.specs.declared.writes.Told.{Told}
-use Rattle.kr_world.specs.declared.writes.Write.{Write}
-use Rattle.kr_world.specs.Engine.{Core, Hands, IsEngine, HandsTold, output_of, outputs_left, told_left}
-use Rattle.kr_world.specs.Outputs.{due_reply, due_writes, told_alone, told_answers, told_reply}
-use Rattle.kr_world.specs.World.{State}
+use Rattle.kr_model.specs.declared.writes.Told.{Told}
+use Rattle.kr_model.specs.declared.writes.Write.{Write}
+use Rattle.kr_model.specs.Engine.{Core, Hands, IsEngine, HandsTold, output_of, outputs_left, told_left}
+use Rattle.kr_model.specs.Outputs.{due_reply, due_writes, told_alone, told_answers, told_reply}
+use Rattle.kr_model.specs.World.{State}
 use Rattle.kr_shared.specs.Takes.{IsEmptied}
 
 pub record IsFront (before now : Core) (told : List Told) : Type 0 where

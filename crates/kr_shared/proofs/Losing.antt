@@ -15,18 +15,18 @@ use Rattle.kr_defs.proofs.IdLists.{id_itself}
 use Rattle.kr_view.specs.Shelves.{Shelf, next_at, shown_at, with_staged}
 use Rattle.kr_view.specs.Staged.{staged_above, staged_below}
 use Rattle.kr_view.proofs.Moves.{right-append}
-use Rattle.kr_world.specs.declared.writes.Told.{Told}
-use Rattle.kr_world.specs.declared.writes.Write.{Write}
-use Rattle.kr_world.specs.Engine.{Core, IsEngine, IsStep}
-use Rattle.kr_world.specs.Entries.{entries_by, items_from}
-use Rattle.kr_world.specs.Events.{at_time_of, happens, outcome, with_next_number}
-use Rattle.kr_world.specs.Lost.{after_lost, cut, lost}
-use Rattle.kr_world.specs.Outputs.{waiting_after}
-use Rattle.kr_world.specs.Reasons.{not_leading}
-use Rattle.kr_world.specs.World.{State, leads_in, tip_of}
-use Rattle.kr_world.proofs.LogEntries.{cut_behind}
-use Rattle.law_following.specs.Following.{AreNotes}
-use Rattle.law_following.proofs.Evolving.{Shorter}
+use Rattle.kr_model.specs.declared.writes.Told.{Told}
+use Rattle.kr_model.specs.declared.writes.Write.{Write}
+use Rattle.kr_model.specs.Engine.{Core, IsEngine, IsStep}
+use Rattle.kr_model.specs.Entries.{entries_by, items_from}
+use Rattle.kr_model.specs.Events.{at_time_of, happens, outcome, with_next_number}
+use Rattle.kr_model.specs.Lost.{after_lost, cut, lost}
+use Rattle.kr_model.specs.Outputs.{waiting_after}
+use Rattle.kr_model.specs.Reasons.{not_leading}
+use Rattle.kr_model.specs.World.{State, leads_in, tip_of}
+use Rattle.kr_model.proofs.LogEntries.{cut_behind}
+use Rattle.law_published_log.specs.Following.{AreNotes}
+use Rattle.law_published_log.proofs.Evolving.{Shorter}
 use Rattle.kr_shared.specs.declared.asked.Asked.{Asked}
 use Rattle.kr_shared.specs.declared.taking.Given.{Given}
 use Rattle.kr_shared.specs.Answers.{Answering, AreReplied, answer_all, answering}

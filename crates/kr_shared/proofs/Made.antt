@@ -8,10 +8,10 @@ use Rattle.kr_calls.specs.declared.events.Event.{Event}
 use Rattle.kr_calls.specs.declared.events.Output.{Output}
 use Rattle.kr_calls.specs.declared.events.Output.TheVariants as given
 use Rattle.kr_calls.specs.declared.calls.Reply.{Reply}
-use Rattle.kr_world.specs.declared.writes.Ended.{Ended}
-use Rattle.kr_world.specs.declared.writes.Told.{Told}
+use Rattle.kr_model.specs.declared.writes.Ended.{Ended}
+use Rattle.kr_model.specs.declared.writes.Told.{Told}
 use Rattle.kr_view.specs.Shelves.{Shelf, with_staged}
-use Rattle.law_following.specs.Following.{AreNotes}
+use Rattle.law_published_log.specs.Following.{AreNotes}
 use Rattle.kr_shared.specs.declared.answers.Asking.{Asking}
 use Rattle.kr_shared.specs.declared.asked.Asked.{Asked}
 use Rattle.kr_shared.specs.Answers.{Answering, answer_all, answer_entry, answering, aside_noted, decided_answer, first_reply, refusal_in, with_ended, with_reply, with_told, with_told_end}

@@ -10,12 +10,12 @@ use Rattle.kr_calls.specs.SeatList.{Reached, end_of, item_entries}
 use Rattle.kr_defs.specs.declared.options.Options.{Options}
 use Rattle.kr_view.specs.Shelves.{Shelf, next_at, shown_at, with_staged}
 use Rattle.kr_view.specs.Staged.{staged_above, staged_below}
-use Rattle.kr_world.specs.declared.writes.Write.{Write}
-use Rattle.kr_world.specs.Engine.{Core}
-use Rattle.kr_world.specs.Entries.{items_from}
-use Rattle.kr_world.specs.World.{State}
-use Rattle.law_following.specs.Following.{AreNotes}
-use Rattle.law_following.proofs.Shown.{shown_logs_go_on}
+use Rattle.kr_model.specs.declared.writes.Write.{Write}
+use Rattle.kr_model.specs.Engine.{Core}
+use Rattle.kr_model.specs.Entries.{items_from}
+use Rattle.kr_model.specs.World.{State}
+use Rattle.law_published_log.specs.Following.{AreNotes}
+use Rattle.law_published_log.proofs.Shown.{shown_logs_go_on}
 use Rattle.kr_shared.specs.Desks.{IsCaughtUp, DeskState, DeskStands, cut_if, ready, settled}
 use Rattle.kr_shared.specs.Lines.{HasLineRoom, LineView}
 use Rattle.kr_shared.specs.Standing.{StandsForSome, Standing}

@@ -13,14 +13,14 @@ use Rattle.kr_defs.specs.declared.record.Record.{Record}
 use Rattle.kr_defs.specs.Image.{Image, empty}
 use Rattle.kr_defs.specs.Log.{Log, image_at, tip}
 use Rattle.kr_view.specs.Staged.{staged_above, staged_below}
-use Rattle.kr_world.specs.Entries.{items_from}
-use Rattle.kr_world.specs.Lost.{cut}
-use Rattle.kr_world.specs.World.{log_with}
-use Rattle.kr_world.proofs.LogEntries.{placed_both}
-use Rattle.kr_world.proofs.Places.{is_below as is_lower, isnt_below}
-use Rattle.law_following.specs.Following.{Shows}
-use Rattle.law_following.specs.FollowingLaws.{log_from}
-use Rattle.law_following.proofs.Shown.{shown_logs_go_on}
+use Rattle.kr_model.specs.Entries.{items_from}
+use Rattle.kr_model.specs.Lost.{cut}
+use Rattle.kr_model.specs.World.{log_with}
+use Rattle.kr_model.proofs.LogEntries.{placed_both}
+use Rattle.kr_model.proofs.Places.{is_below as is_lower, isnt_below}
+use Rattle.law_published_log.specs.Following.{Shows}
+use Rattle.law_published_log.specs.FollowingLaws.{log_from}
+use Rattle.law_published_log.proofs.Shown.{shown_logs_go_on}
 
 -- ---- items below a place, and the others
 

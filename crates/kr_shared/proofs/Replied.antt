@@ -17,16 +17,16 @@ use Rattle.kr_defs.specs.declared.options.Options.{Options}
 use Rattle.kr_defs.specs.declared.record.Record.{Record}
 use Rattle.kr_defs.specs.Log.{Log}
 use Rattle.kr_queue.specs.Jobs.{is_link_event}
-use Rattle.kr_world.specs.declared.writes.Told.{Told}
-use Rattle.kr_world.specs.declared.writes.Write.{Write}
-use Rattle.kr_world.specs.Engine.{writes_in_order}
-use Rattle.kr_world.specs.Events.{with_next_number}
-use Rattle.kr_world.specs.Outputs.{answers, answers_in, answers_now, append, append_fencings, append_for, appends, due_reply, if_accepted, images, is_open, outputs_by, outputs_then, told_answers, told_reply, writes_of}
-use Rattle.kr_world.specs.Request.{decision, is_decided}
-use Rattle.kr_world.specs.Tick.{fence, fencing_of, lapsed_contacts}
-use Rattle.kr_world.specs.World.{State, World, image_of_tip}
-use Rattle.kr_world.proofs.Queues.{first_is_due, none_is_due, order_behind}
-use Rattle.law_following.proofs.Lists.{has_first}
+use Rattle.kr_model.specs.declared.writes.Told.{Told}
+use Rattle.kr_model.specs.declared.writes.Write.{Write}
+use Rattle.kr_model.specs.Engine.{writes_in_order}
+use Rattle.kr_model.specs.Events.{with_next_number}
+use Rattle.kr_model.specs.Outputs.{answers, answers_in, answers_now, append, append_fencings, append_for, appends, due_reply, if_accepted, images, is_open, outputs_by, outputs_then, told_answers, told_reply, writes_of}
+use Rattle.kr_model.specs.Request.{decision, is_decided}
+use Rattle.kr_model.specs.Tick.{fence, fencing_of, lapsed_contacts}
+use Rattle.kr_model.specs.World.{State, World, image_of_tip}
+use Rattle.kr_model.proofs.Queues.{first_is_due, none_is_due, order_behind}
+use Rattle.law_published_log.proofs.Lists.{has_first}
 use Rattle.kr_shared.specs.declared.asked.Asked.{Asked}
 use Rattle.kr_shared.specs.Answers.{AreReplied, Answering, decided_answer, answered_of, answering, with_told}
 use Rattle.kr_shared.specs.Standing.{AreWaiting}
@@ -77,7 +77,7 @@ module _ (options : Options) (log : Log) (end : ℕ) (leading : Option ℤ) wher
   pub all_replied : (ones : List Asked) (ws : List Write) (notes : List Entry) → AreWaiting options log ones ws → writes_in_order ws ≡ true
       → AreReplied (fold with_told (answering ones notes) (told_answers leading (pos end) ws)).notes (answers leading (pos end) ws)
   all_replied ones ws notes waits ordered =
-      subst (λ (os : List Output). AreReplied (fold with_told (answering ones notes) (told_of ws)).notes os) (outputs_due (pos end) (Rattle.kr_world.specs.Outputs.due_writes leading (pos end) ws)) (told_replied ones ws notes waits ordered)
+      subst (λ (os : List Output). AreReplied (fold with_told (answering ones notes) (told_of ws)).notes os) (outputs_due (pos end) (Rattle.kr_model.specs.Outputs.due_writes leading (pos end) ws)) (told_replied ones ws notes waits ordered)
 
 -- ---- outputs that are no reply
 
@@ -108,7 +108,7 @@ one_silent true bytes = tt
 one_silent false bytes = tt
 
 append_silent : (s : State) (records : List Record) → AreSilent (append s records)
-append_silent s records = one_silent (Rattle.std.specs.Prelude.length records == 0) (Rattle.kr_batch.specs.BatchBytes.batch_bytes (Rattle.kr_world.specs.Outputs.next_batch s records))
+append_silent s records = one_silent (Rattle.std.specs.Prelude.length records == 0) (Rattle.kr_batch.specs.BatchBytes.batch_bytes (Rattle.kr_model.specs.Outputs.next_batch s records))
 
 fencings_silent : (options : Options) (s : State) (brokers : List ℤ) → AreSilent (append_fencings options s brokers)
 fencings_silent options s [] = tt

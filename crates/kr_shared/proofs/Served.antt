@@ -17,20 +17,20 @@ use Rattle.kr_defs.proofs.OwnRecords.{own_records}
 use Rattle.kr_queue.specs.Jobs.{is_link_event}
 use Rattle.kr_view.specs.Shelves.{Shelf}
 use Rattle.kr_view.specs.Staged.{staged_below}
-use Rattle.kr_world.specs.declared.writes.Told.{Told}
-use Rattle.kr_world.specs.declared.writes.Write.{Write}
-use Rattle.kr_world.specs.Engine.{Core, IsEngine, writes_in_order}
-use Rattle.kr_world.specs.Entries.{items_from, log_entries}
-use Rattle.kr_world.specs.Events.{at_time_of, happens, outcome}
-use Rattle.kr_world.specs.Outputs.{answers, answers_in, answers_now, if_accepted, is_open, is_open_in, new_writes, outputs_of, told_alone, told_answers, waiting_after, writes_of}
-use Rattle.kr_world.specs.World.{State, World, log_with, tip_of}
-use Rattle.kr_world.proofs.DueWrites.{event_goes}
-use Rattle.kr_world.proofs.KeptImages.{none_open, not_higher}
-use Rattle.kr_world.proofs.Logs.{as_records}
-use Rattle.kr_world.proofs.StandingEngines.{tip_only}
-use Rattle.law_following.specs.Following.{AreNotes, Shows}
-use Rattle.law_following.proofs.Decided.{decided_on}
-use Rattle.law_following.proofs.Evolving.{Evolved, Longer, evolves}
+use Rattle.kr_model.specs.declared.writes.Told.{Told}
+use Rattle.kr_model.specs.declared.writes.Write.{Write}
+use Rattle.kr_model.specs.Engine.{Core, IsEngine, writes_in_order}
+use Rattle.kr_model.specs.Entries.{items_from, log_entries}
+use Rattle.kr_model.specs.Events.{at_time_of, happens, outcome}
+use Rattle.kr_model.specs.Outputs.{answers, answers_in, answers_now, if_accepted, is_open, is_open_in, new_writes, outputs_of, told_alone, told_answers, waiting_after, writes_of}
+use Rattle.kr_model.specs.World.{State, World, log_with, tip_of}
+use Rattle.kr_model.proofs.DueWrites.{event_goes}
+use Rattle.kr_model.proofs.KeptImages.{none_open, not_higher}
+use Rattle.kr_model.proofs.Logs.{as_records}
+use Rattle.kr_model.proofs.StandingEngines.{tip_only}
+use Rattle.law_published_log.specs.Following.{AreNotes, Shows}
+use Rattle.law_published_log.proofs.Decided.{decided_on}
+use Rattle.law_published_log.proofs.Evolving.{Evolved, Longer, evolves}
 use Rattle.kr_shared.specs.declared.asked.Asked.{Asked}
 use Rattle.kr_shared.specs.Answers.{Answering, AreReplied, answer_all, answered_of, answering, with_told}
 use Rattle.kr_shared.specs.Standing.{AreWaiting, IsWaitingWrite, Standing}
@@ -214,7 +214,7 @@ module _ (old : DeskView) (between : Core) (event : Event) (told : List Told) (s
     over : next.world.leading ≡ None → (end : ℤ) → filter (is_open next.world.leading end) held ≡ []
     over none end = ap (λ (l : Option ℤ). filter (is_open l end) held) none ∙ none_open end held
 
-    answered_shorter : Rattle.law_following.proofs.Evolving.Shorter s.world next.world → between.fresh ≡ [] → Answers (fold with_told (answering old.waiting []) told)
+    answered_shorter : Rattle.law_published_log.proofs.Evolving.Shorter s.world next.world → between.fresh ≡ [] → Answers (fold with_told (answering old.waiting []) told)
     answered_shorter c is =
         let e = ends_all o s.world.log s.world.committed next.world.leading old.waiting held [] (subst (AreWaiting o s.world.log old.waiting) (sym held_is) k.waits) ordered in
         let r = fold with_told (answering old.waiting []) (told_answers next.world.leading (pos s.world.committed) held) in

@@ -12,15 +12,15 @@ use Rattle.kr_calls.specs.RightAnswers.{AreRightAfter}
 use Rattle.kr_defs.specs.declared.options.Options.{Options}
 use Rattle.kr_view.specs.Shelves.{Shelf, next_at, shown_at, with_staged}
 use Rattle.kr_view.specs.Staged.{staged_above, staged_below}
-use Rattle.kr_world.specs.declared.writes.Told.{Told}
-use Rattle.kr_world.specs.declared.writes.Write.{Write}
-use Rattle.kr_world.specs.Engine.{Core, IsEngine, IsSound, IsStep, outputs_left}
-use Rattle.kr_world.specs.Events.{at_time_of, happens}
-use Rattle.kr_world.specs.Outputs.{waiting_after}
-use Rattle.kr_world.specs.World.{State}
-use Rattle.kr_world.proofs.OutputsLeft.{handing_out_stands}
-use Rattle.law_following.specs.Following.{AreNotes}
-use Rattle.law_following.proofs.Shown.{shown_logs_go_on}
+use Rattle.kr_model.specs.declared.writes.Told.{Told}
+use Rattle.kr_model.specs.declared.writes.Write.{Write}
+use Rattle.kr_model.specs.Engine.{Core, IsEngine, IsSound, IsStep, outputs_left}
+use Rattle.kr_model.specs.Events.{at_time_of, happens}
+use Rattle.kr_model.specs.Outputs.{waiting_after}
+use Rattle.kr_model.specs.World.{State}
+use Rattle.kr_model.proofs.OutputsLeft.{handing_out_stands}
+use Rattle.law_published_log.specs.Following.{AreNotes}
+use Rattle.law_published_log.proofs.Shown.{shown_logs_go_on}
 use Rattle.kr_shared.specs.declared.answers.Asking.{Asking}
 use Rattle.kr_shared.specs.declared.asked.Asked.{Asked}
 use Rattle.kr_shared.specs.declared.taking.Given.{Given}
@@ -170,7 +170,7 @@ module _ (old : DeskView) (between : Core) (event : Event) (asking : Option Aski
           ap (λ (l : List Entry). resting old.shelf.options (old.shelf.list ++ (staged_below between.committed stage ++ r.notes)) l)
           (ap (λ z. staged_above z stage) at_end ∙ p.rest);
       shows =
-          subst (Rattle.law_following.specs.Following.Shows (happens o s event).world.log end)
+          subst (Rattle.law_published_log.specs.Following.Shows (happens o s event).world.log end)
           (append_assoc old.shelf.list (staged_below (pos end) stage) r.notes ∙ ap (λ z. old.shelf.list ++ (staged_below z stage ++ r.notes)) (sym at_end))
           (shown_logs_go_on.notes (happens o s event).world.log end (old.shelf.list ++ staged_below (pos end) stage) r.notes p.shows replies.bare);
       waits = subst (λ (q : Options). AreWaiting q (happens o s event).world.log r.waiting (waiting_after o s writes event)) (sym (t.emptied.options ∙ t.step.options)) replies.waits;

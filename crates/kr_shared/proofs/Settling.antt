@@ -7,7 +7,7 @@ use Rattle.kr_calls.specs.SeatList.{is_below}
 use Rattle.kr_view.specs.CopiesRule.{GoesOn}
 use Rattle.kr_view.specs.Shelves.{IsDelayed, Shelf, left_at, next_at, shown_at, with_staged}
 use Rattle.kr_view.specs.Staged.{staged_above, staged_below}
-use Rattle.kr_world.specs.Engine.{Core}
+use Rattle.kr_model.specs.Engine.{Core}
 use Rattle.kr_shared.specs.Desks.{ComesToSame, IsPrepared, IsCaughtUp, DeskState, DeskStands, StaysDue, cut_if, ready, settled}
 use Rattle.kr_shared.specs.Lines.{HasLineRoom}
 use Rattle.kr_shared.specs.Standing.{StandsForSome}

@@ -14,22 +14,22 @@ use Rattle.kr_defs.specs.ImageLaws.{as_items}
 use Rattle.kr_defs.specs.Log.{Log, image_at, tip}
 use Rattle.kr_defs.specs.Records.{records_of}
 use Rattle.kr_view.specs.Shelves.{Shelf}
-use Rattle.kr_world.specs.declared.writes.Told.{Told}
-use Rattle.kr_world.specs.declared.writes.Write.{Write}
-use Rattle.kr_world.specs.Engine.{Core, IsEngine, Rise}
-use Rattle.kr_world.specs.Entries.{items_from, log_entries}
-use Rattle.kr_world.specs.Events.{happens}
-use Rattle.kr_world.specs.Lost.{cut}
-use Rattle.kr_world.specs.Outputs.{waiting_after}
-use Rattle.kr_world.specs.World.{State, World, log_with, tip_of}
-use Rattle.kr_world.proofs.DueWrites.{event_goes}
-use Rattle.kr_world.proofs.KeptImages.{not_higher}
-use Rattle.kr_world.proofs.LogEntries.{none_behind}
-use Rattle.kr_world.proofs.Logs.{as_records}
-use Rattle.kr_world.proofs.StandingEngines.{tip_only}
-use Rattle.law_following.specs.Following.{Shows}
-use Rattle.law_following.specs.FollowingLaws.{log_from}
-use Rattle.law_following.proofs.Evolving.{Evolved, Loaded, Longer, Shorter, evolves}
+use Rattle.kr_model.specs.declared.writes.Told.{Told}
+use Rattle.kr_model.specs.declared.writes.Write.{Write}
+use Rattle.kr_model.specs.Engine.{Core, IsEngine, Rise}
+use Rattle.kr_model.specs.Entries.{items_from, log_entries}
+use Rattle.kr_model.specs.Events.{happens}
+use Rattle.kr_model.specs.Lost.{cut}
+use Rattle.kr_model.specs.Outputs.{waiting_after}
+use Rattle.kr_model.specs.World.{State, World, log_with, tip_of}
+use Rattle.kr_model.proofs.DueWrites.{event_goes}
+use Rattle.kr_model.proofs.KeptImages.{not_higher}
+use Rattle.kr_model.proofs.LogEntries.{none_behind}
+use Rattle.kr_model.proofs.Logs.{as_records}
+use Rattle.kr_model.proofs.StandingEngines.{tip_only}
+use Rattle.law_published_log.specs.Following.{Shows}
+use Rattle.law_published_log.specs.FollowingLaws.{log_from}
+use Rattle.law_published_log.proofs.Evolving.{Evolved, Loaded, Longer, Shorter, evolves}
 use Rattle.kr_shared.specs.Standing.{Standing}
 use Rattle.kr_shared.specs.Takes.{TakesEvent}
 use Rattle.kr_shared.specs.Works.{DeskView, is_lost, staged_after}

@@ -9,9 +9,9 @@ use Rattle.kr_defs.specs.declared.options.Options.{Options}
 use Rattle.kr_defs.specs.declared.record.Item.{Item}
 use Rattle.kr_defs.specs.Log.{Log, first, image_at}
 use Rattle.kr_view.specs.Shelves.{Shelf}
-use Rattle.kr_world.specs.Engine.{Core, IsEngine, outputs_left}
-use Rattle.kr_world.specs.World.{seen_at, start}
-use Rattle.law_following.specs.Following.{Shows}
+use Rattle.kr_model.specs.Engine.{Core, IsEngine, outputs_left}
+use Rattle.kr_model.specs.World.{seen_at, start}
+use Rattle.law_published_log.specs.Following.{Shows}
 use Rattle.kr_view.specs.Shelves.{shown_at}
 use Rattle.kr_shared.specs.Desks.{IsNewDesk, IsCaughtUp, DeskState, DeskStands, cut_if, ready, settled}
 use Rattle.kr_shared.specs.Standing.{Standing}

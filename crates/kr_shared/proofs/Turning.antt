@@ -19,8 +19,8 @@ use Rattle.kr_queue.specs.declared.passes.View.{View}
 use Rattle.kr_queue.specs.Jobs.{is_fit, is_of}
 use Rattle.kr_queue.specs.QueueRule.{role_at}
 use Rattle.kr_queue.specs.Steps.{IsPop}
-use Rattle.kr_world.specs.Events.{happens}
-use Rattle.kr_world.specs.Outputs.{waiting_after}
+use Rattle.kr_model.specs.Events.{happens}
+use Rattle.kr_model.specs.Outputs.{waiting_after}
 use Rattle.kr_shared.specs.declared.answers.Asking.{Asking}
 use Rattle.kr_shared.specs.declared.desk.Caller.{Caller}
 use Rattle.kr_shared.specs.declared.worker.Turn.{Turn}

@@ -23,18 +23,18 @@ use Rattle.kr_defs.specs.declared.options.Options.{Options}
 use Rattle.kr_defs.specs.ImageLaws.{as_items}
 use Rattle.kr_defs.specs.Log.{Log, tip}
 use Rattle.kr_defs.proofs.Tests.{not_true}
-use Rattle.kr_world.specs.declared.writes.Told.{Told}
-use Rattle.kr_world.specs.declared.writes.Write.{Write}
-use Rattle.kr_world.specs.Engine.{Core, IsEngine}
-use Rattle.kr_world.specs.Events.{at_time_of, happens, next_number, outcome, with_next_number}
-use Rattle.kr_world.specs.Outputs.{answers_in, answers_now, append, is_open_in, new_writes, outputs_of, outputs_then, replies_now, told_alone, told_answers, write_of, writes_of}
-use Rattle.kr_world.specs.Reasons.{exhausted}
-use Rattle.kr_world.specs.Request.{after_ask, after_write, decision, is_decided}
-use Rattle.kr_world.specs.World.{State, World, image_of_end, is_far, log_with, tip_of}
-use Rattle.kr_world.proofs.EventOutcomes.{outputs_accepted, outputs_refused, writes_accepted, writes_refused}
-use Rattle.kr_world.proofs.LogEntries.{batch_written}
-use Rattle.law_following.specs.Following.{AreNotes}
-use Rattle.law_following.proofs.Evolving.{request_longer}
+use Rattle.kr_model.specs.declared.writes.Told.{Told}
+use Rattle.kr_model.specs.declared.writes.Write.{Write}
+use Rattle.kr_model.specs.Engine.{Core, IsEngine}
+use Rattle.kr_model.specs.Events.{at_time_of, happens, next_number, outcome, with_next_number}
+use Rattle.kr_model.specs.Outputs.{answers_in, answers_now, append, is_open_in, new_writes, outputs_of, outputs_then, replies_now, told_alone, told_answers, write_of, writes_of}
+use Rattle.kr_model.specs.Reasons.{exhausted}
+use Rattle.kr_model.specs.Request.{after_ask, after_write, decision, is_decided}
+use Rattle.kr_model.specs.World.{State, World, image_of_end, is_far, log_with, tip_of}
+use Rattle.kr_model.proofs.EventOutcomes.{outputs_accepted, outputs_refused, writes_accepted, writes_refused}
+use Rattle.kr_model.proofs.LogEntries.{batch_written}
+use Rattle.law_published_log.specs.Following.{AreNotes}
+use Rattle.law_published_log.proofs.Evolving.{request_longer}
 use Rattle.kr_shared.specs.declared.answers.Asking.{Asking}
 use Rattle.kr_shared.specs.declared.asked.Asked.{Asked}
 use Rattle.kr_shared.specs.Answers.{Answering, AreReplied, answer_all, aside_noted, aside_of, decided_answer, answer_write, answered_of, answering, asked_by, exhausted_answer, first_reply, lost_at_once, or_reply, or_reply_in, refusal_in, with_told}
@@ -43,7 +43,7 @@ use Rattle.kr_shared.specs.Standing.{AreWaiting, Standing}
 use Rattle.kr_shared.specs.Takes.{TakesEvent}
 use Rattle.kr_shared.specs.Tasks.{IsWrite}
 use Rattle.kr_shared.specs.Works.{DeskView}
-use Rattle.law_following.proofs.Lists.{has_first}
+use Rattle.law_published_log.proofs.Lists.{has_first}
 use Rattle.kr_shared.proofs.Replied.{AreSilent, appends_silent, both_silent, silent_replied}
 use Rattle.kr_shared.proofs.Answered.{alone_told}
 use Rattle.kr_shared.proofs.Made.{made, with_more}
@@ -125,7 +125,7 @@ module _ (old : DeskView) (between : Core) (client : ℕ) (now : ℤ) (call : Ca
         let e = waits_on old between event told s writes k t old.waiting still in
         let same = refused_told (answering old.waiting []) told (next_number s.world.count) reason out in
         subst (λ (r : Option Reason). Ends (answer_write a call led r old.waiting told)) (sym why) (record {
-          waits = subst (λ (r : Answering). AreWaiting o next.world.log r.waiting (Rattle.kr_world.specs.Outputs.waiting_after o s writes event)) same e;
+          waits = subst (λ (r : Answering). AreWaiting o next.world.log r.waiting (Rattle.kr_model.specs.Outputs.waiting_after o s writes event)) same e;
           bare = tt;
           right = (tt, tt);
           replied = subst (AreReplied (exhausted_answer a ∷ [])) (sym (outputs_refused old.engine o s writes event reason is)) (tt, tt);
@@ -157,10 +157,10 @@ module _ (old : DeskView) (between : Core) (client : ℕ) (now : ℤ) (call : Ca
         let now_given = map (given.Reply client call.correlation) (replies_now o s1 call.request) in
         both_accepted ((first ++ []) ++ now_given) at_last
         (both_accepted (first ++ []) now_given
-        (both_accepted first [] (one_append decided batches (appended (length (decision o s1 call.request).records == 0) (Rattle.kr_batch.specs.BatchBytes.batch_bytes (Rattle.kr_world.specs.Outputs.next_batch s1 (decision o s1 call.request).records)))) tt)
+        (both_accepted first [] (one_append decided batches (appended (length (decision o s1 call.request).records == 0) (Rattle.kr_batch.specs.BatchBytes.batch_bytes (Rattle.kr_model.specs.Outputs.next_batch s1 (decision o s1 call.request).records)))) tt)
         (replies_accepted (λ _. client) (λ _. call.correlation) (λ (r : Reply). r) (replies_now o s1 call.request)))
         (replies_accepted (λ (w : Write). w.client) (λ (w : Write). w.correlation) (λ (w : Write). cond (int_lt (pos after.world.committed) w.need) w.refusal w.reply)
-        (Rattle.kr_world.specs.Outputs.due_writes after.world.leading (pos after.world.committed) (writes ++ writes_of o s1 event)))
+        (Rattle.kr_model.specs.Outputs.due_writes after.world.leading (pos after.world.committed) (writes ++ writes_of o s1 event)))
 
     no_why : refusal_in told ≡ None
     no_why = reasons_in None told ∙ (ap (fold or_reason_of None) out_then ∙ no_reason (outputs_then o s1 writes event after) none_refused)
@@ -216,7 +216,7 @@ module _ (old : DeskView) (between : Core) (client : ℕ) (now : ℤ) (call : Ca
           ap (λ b. cond b (option_to_list (query o (image_of_end s1) call.request)) (cond (is_some s.world.leading) [] (reply ∷ []))) no_read
           ∙ ap (λ (l : Option ℤ). cond (is_some l) [] (reply ∷ [])) standby
 
-      none_then : Rattle.kr_world.specs.Outputs.waiting_after o s writes event ≡ []
+      none_then : Rattle.kr_model.specs.Outputs.waiting_after o s writes event ≡ []
       none_then =
           ap (λ (ws : List Write). filter (is_open_in next.world) (ws ++ new_writes o s event)) (none_waits old between event told s writes k t standby)
           ∙ ap (filter (is_open_in next.world)) (writes_then ∙ ap (λ b. cond b (write_of o s1 client call ∷ []) []) no)

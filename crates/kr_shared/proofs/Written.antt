@@ -24,17 +24,17 @@ use Rattle.kr_defs.specs.declared.record.Item.TheVariants as items
 use Rattle.kr_defs.specs.Image.{Image, empty}
 use Rattle.kr_defs.specs.ImageLaws.{as_items}
 use Rattle.kr_defs.specs.Log.{Log, tip}
-use Rattle.kr_world.specs.declared.writes.Ended.{Ended}
-use Rattle.kr_world.specs.declared.writes.Told.{Told}
-use Rattle.kr_world.specs.declared.writes.Write.{Write}
-use Rattle.kr_world.specs.Events.{at_time_of, happens, next_number, outcome}
-use Rattle.kr_world.specs.Outputs.{answers_in, if_accepted, is_open_in, new_writes, outputs_by, outputs_of, told_alone, waiting_after, write_of, writes_of}
-use Rattle.kr_world.specs.Reasons.{exhausted}
-use Rattle.kr_world.specs.Request.{after_ask, after_write, decision, is_decided}
-use Rattle.kr_world.specs.World.{State, World, is_far, log_with, seen_at, tip_of}
-use Rattle.kr_world.proofs.LogEntries.{batch_written, behind}
-use Rattle.kr_world.proofs.Logs.{tip_written, written_below}
-use Rattle.law_following.specs.Following.{IsDecided, decision_at}
+use Rattle.kr_model.specs.declared.writes.Ended.{Ended}
+use Rattle.kr_model.specs.declared.writes.Told.{Told}
+use Rattle.kr_model.specs.declared.writes.Write.{Write}
+use Rattle.kr_model.specs.Events.{at_time_of, happens, next_number, outcome}
+use Rattle.kr_model.specs.Outputs.{answers_in, if_accepted, is_open_in, new_writes, outputs_by, outputs_of, told_alone, waiting_after, write_of, writes_of}
+use Rattle.kr_model.specs.Reasons.{exhausted}
+use Rattle.kr_model.specs.Request.{after_ask, after_write, decision, is_decided}
+use Rattle.kr_model.specs.World.{State, World, is_far, log_with, seen_at, tip_of}
+use Rattle.kr_model.proofs.LogEntries.{batch_written, behind}
+use Rattle.kr_model.proofs.Logs.{tip_written, written_below}
+use Rattle.law_published_log.specs.Following.{IsDecided, decision_at}
 use Rattle.kr_shared.specs.declared.answers.Asking.{Asking}
 use Rattle.kr_shared.specs.declared.asked.Asked.{Asked}
 use Rattle.kr_shared.specs.Answers.{Answering, decided_answer, answered_of, answering, asked_by, exhausted_answer, or_reason, or_reply, or_reply_in, reason_in, refusal_in, with_ended, with_told, with_told_end}

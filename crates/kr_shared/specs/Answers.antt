@@ -11,8 +11,8 @@ use Rattle.kr_calls.specs.declared.events.Output.{Output}
 use Rattle.kr_calls.specs.declared.events.Reason.{Reason}
 use Rattle.kr_calls.specs.declared.events.Entry.TheVariants as entries
 use Rattle.kr_calls.specs.declared.events.Output.TheVariants as given
-use Rattle.kr_world.specs.declared.writes.Ended.{Ended}
-use Rattle.kr_world.specs.declared.writes.Told.{Told}
+use Rattle.kr_model.specs.declared.writes.Ended.{Ended}
+use Rattle.kr_model.specs.declared.writes.Told.{Told}
 use Rattle.kr_shared.specs.declared.answers.Aside.{Aside}
 use Rattle.kr_shared.specs.declared.answers.Asking.{Asking}
 use Rattle.kr_shared.specs.declared.asked.Asked.{Asked}

@@ -4,7 +4,7 @@ use Rattle.kr_base.specs.Appends.{with_piece}
 use Rattle.kr_base.specs.Causes.{Rose}
 use Rattle.kr_calls.specs.declared.events.Output.{Output}
 use Rattle.kr_calls.specs.declared.events.Output.TheVariants as given
-use Rattle.kr_world.specs.declared.writes.Told.{Told}
+use Rattle.kr_model.specs.declared.writes.Told.{Told}
 
 -- the batch of an output, if it is one
 abbrev pub batch_in : Output → Option (List ℕ)

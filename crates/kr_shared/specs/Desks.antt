@@ -5,8 +5,8 @@ use Rattle.kr_calls.specs.declared.events.Entry.{Entry}
 use Rattle.kr_calls.specs.declared.events.Event.{Event}
 use Rattle.kr_calls.specs.RightAnswers.{AreRightAfter}
 use Rattle.kr_view.specs.Shelves.{Shelf, next_at, shown_at, with_staged}
-use Rattle.kr_world.specs.Engine.{Core}
-use Rattle.kr_world.specs.World.{is_far}
+use Rattle.kr_model.specs.Engine.{Core}
+use Rattle.kr_model.specs.World.{is_far}
 use Rattle.kr_shared.specs.declared.answers.Aside.{Aside}
 use Rattle.kr_shared.specs.declared.answers.Asking.{Asking}
 use Rattle.kr_shared.specs.declared.asked.Asked.{Asked}

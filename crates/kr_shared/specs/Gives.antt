@@ -1,7 +1,7 @@
 -- What is given out for an event: to the quorum its batches, and to the writes that waited their replies. This project's own.
 use Rattle.std.specs.Prelude.{◌≡◌, ◌≤◌, ℕ, ◌+◌, List, Option}
-use Rattle.kr_world.specs.declared.writes.Told.{Told}
-use Rattle.kr_world.specs.Engine.{Core}
+use Rattle.kr_model.specs.declared.writes.Told.{Told}
+use Rattle.kr_model.specs.Engine.{Core}
 use Rattle.kr_shared.specs.declared.taking.Given.{Given}
 use Rattle.kr_shared.specs.Answers.{answer_all, answering, first_reply, or_reason, or_reply, refusal_in, with_told}
 use Rattle.kr_shared.specs.Appends.{Appends, AppendsIf}

@@ -7,7 +7,7 @@ use Rattle.kr_queue.specs.declared.passes.Role.TheVariants as roles
 use Rattle.kr_queue.specs.QueueRule.{a_pass}
 use Rattle.kr_view.specs.declared.opening.ViewFault.{ViewFault}
 use Rattle.kr_view.specs.declared.opening.ViewFault.TheVariants.{NoPlace, NoMemory}
-use Rattle.kr_world.specs.World.{start}
+use Rattle.kr_model.specs.World.{start}
 use Rattle.kr_shared.specs.Clients.{AreClientSeats, Client}
 use Rattle.kr_shared.specs.Standing.{Standing}
 use Rattle.kr_shared.specs.Turns.{Bench}

@@ -4,12 +4,12 @@ use Rattle.kr_calls.specs.declared.events.Entry.{Entry}
 use Rattle.kr_calls.specs.declared.events.Event.{Event}
 use Rattle.kr_calls.specs.declared.events.Reason.{Reason}
 use Rattle.kr_view.specs.Staged.{staged_above, staged_below}
-use Rattle.kr_world.specs.declared.writes.Told.{Told}
-use Rattle.kr_world.specs.declared.writes.Write.{Write}
-use Rattle.kr_world.specs.Engine.{Core}
-use Rattle.kr_world.specs.Events.{happens}
-use Rattle.kr_world.specs.Outputs.{waiting_after}
-use Rattle.kr_world.specs.World.{State}
+use Rattle.kr_model.specs.declared.writes.Told.{Told}
+use Rattle.kr_model.specs.declared.writes.Write.{Write}
+use Rattle.kr_model.specs.Engine.{Core}
+use Rattle.kr_model.specs.Events.{happens}
+use Rattle.kr_model.specs.Outputs.{waiting_after}
+use Rattle.kr_model.specs.World.{State}
 use Rattle.kr_shared.specs.declared.answers.Asking.{Asking}
 use Rattle.kr_shared.specs.Answers.{Answering, AreReplied, refusal_in}
 use Rattle.kr_shared.specs.Appends.{Appends}

@@ -5,11 +5,11 @@ use Rattle.kr_calls.specs.Refuse.{refuse}
 use Rattle.kr_calls.specs.SeatList.{item_entries}
 use Rattle.kr_defs.specs.declared.options.Options.{Options}
 use Rattle.kr_defs.specs.Log.{Log}
-use Rattle.kr_world.specs.declared.writes.Write.{Write}
-use Rattle.kr_world.specs.Engine.{IsEngine, outputs_left}
-use Rattle.kr_world.specs.Entries.{items_from}
-use Rattle.kr_world.specs.World.{State}
-use Rattle.law_following.specs.Following.{IsDecided, Shows}
+use Rattle.kr_model.specs.declared.writes.Write.{Write}
+use Rattle.kr_model.specs.Engine.{IsEngine, outputs_left}
+use Rattle.kr_model.specs.Entries.{items_from}
+use Rattle.kr_model.specs.World.{State}
+use Rattle.law_published_log.specs.Following.{IsDecided, Shows}
 use Rattle.kr_shared.specs.declared.asked.Asked.{Asked}
 use Rattle.kr_shared.specs.Answers.{answered_of}
 use Rattle.kr_shared.specs.Works.{DeskView, resting}

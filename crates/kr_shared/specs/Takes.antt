@@ -1,10 +1,10 @@
 -- An engine takes an event, and all that it gives for it is handed out. This project's own.
 use Rattle.std.specs.Prelude.{◌≡◌, [], List, map}
 use Rattle.kr_calls.specs.declared.events.Event.{Event}
-use Rattle.kr_world.specs.declared.writes.Told.{Told}
-use Rattle.kr_world.specs.declared.writes.Write.{Write}
-use Rattle.kr_world.specs.Engine.{Core, IsEngine, IsStep, outputs_left, told_left}
-use Rattle.kr_world.specs.World.{State}
+use Rattle.kr_model.specs.declared.writes.Told.{Told}
+use Rattle.kr_model.specs.declared.writes.Write.{Write}
+use Rattle.kr_model.specs.Engine.{Core, IsEngine, IsStep, outputs_left, told_left}
+use Rattle.kr_model.specs.World.{State}
 
 -- this was handed out, in order, and it was all
 pub record IsEmptied (before after : Core) (told : List Told) : Type 0 where

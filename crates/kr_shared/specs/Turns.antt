@@ -14,8 +14,8 @@ use Rattle.kr_queue.specs.declared.jobs.Job.{Job}
 use Rattle.kr_queue.specs.declared.jobs.Job.TheVariants as jobs
 use Rattle.kr_queue.specs.declared.passes.View.{View}
 use Rattle.kr_queue.specs.Steps.{Holds, IsPop}
-use Rattle.kr_world.specs.declared.writes.Write.{Write}
-use Rattle.kr_world.specs.World.{State}
+use Rattle.kr_model.specs.declared.writes.Write.{Write}
+use Rattle.kr_model.specs.World.{State}
 use Rattle.kr_shared.specs.declared.answers.Asking.{Asking}
 use Rattle.kr_shared.specs.declared.desk.Caller.{Caller}
 use Rattle.kr_shared.specs.declared.worker.Turn.{Turn}

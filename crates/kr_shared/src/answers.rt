@@ -9,7 +9,7 @@ use crate::asked::Asked;
 use crate::line::Line;
 use kr_calls::{Call, Output, Reason, Reply};
 use kr_defs::Basis;
-use kr_world::{Ended, Told};
+use kr_model::{Ended, Told};
 
 /// Who asks, the end of the log when it comes, and what the decision rests on.
 #[derive(Drop)]

@@ -5,7 +5,7 @@ ghost use Rattle.kr_shared.specs.Appends.{AppendsIf, AppendsOne};
 
 use kr_base::Quorum;
 use kr_calls::Output;
-use kr_world::Told;
+use kr_model::Told;
 
 // Gives the quorum the batch of an output, if it is one. False where that failed.
 fn append_one<Q: Quorum>(quorum: &mut Q, told: &Told) -> bool

@@ -7,9 +7,9 @@ ghost use Rattle.kr_calls.specs.Decide.{is_read};
 ghost use Rattle.kr_calls.specs.RightAnswers.{AreRightAfter};
 ghost use Rattle.kr_queue.specs.Jobs.{is_fit};
 ghost use Rattle.kr_view.specs.Shelves.{IsDelayed, next_at, shown_at, with_staged};
-ghost use Rattle.kr_world.specs.Engine.{IsSound, IsStep, outputs_left};
-ghost use Rattle.kr_world.specs.World.{is_far};
-ghost use Rattle.law_following.specs.Following.{AreNotes};
+ghost use Rattle.kr_model.specs.Engine.{IsSound, IsStep, outputs_left};
+ghost use Rattle.kr_model.specs.World.{is_far};
+ghost use Rattle.law_published_log.specs.Following.{AreNotes};
 ghost use Rattle.kr_shared.specs.Answers.{aside_noted};
 ghost use Rattle.kr_shared.specs.Desks.{ComesToSame, HasSpare, IsNewDesk, IsPrepared, IsCaughtUp, DeskStands, StaysDue, aside_by, cut_if, entered_by, settled, takes_writes};
 ghost use Rattle.kr_shared.specs.Gives.{GivesOut};
@@ -310,7 +310,7 @@ impl Desk {
     }
 
     // All that the engine gives is given out.
-    #[tactic(auto, using(kr_world::proofs::SoundEngines::sound_order))]
+    #[tactic(auto, using(kr_model::proofs::SoundEngines::sound_order))]
     fn give_out<Q: Quorum>(&mut self, quorum: &mut Q) -> Given
         requires ordered { IsSound self.old.engine }
         requires room { HasLineRoom self.old.line }

@@ -8,8 +8,8 @@ ghost use Rattle.kr_queue.specs.Passes.{view, IsPassOf, AreClients as ArePasses}
 ghost use Rattle.kr_queue.specs.QueueRule.{a_pass};
 ghost use Rattle.kr_view.specs.declared.opening.ViewFault.TheVariants as view_faults;
 ghost use Rattle.kr_view.specs.Opened.{AreSeats};
-ghost use Rattle.kr_world.specs.Engine.{IsEngine, outputs_left};
-ghost use Rattle.kr_world.specs.World.{start};
+ghost use Rattle.kr_model.specs.Engine.{IsEngine, outputs_left};
+ghost use Rattle.kr_model.specs.World.{start};
 ghost use Rattle.kr_shared.specs.Clients.{AreClientSeats, a_client};
 ghost use Rattle.kr_shared.specs.Opened.{IsOpenCause, AreSeated};
 ghost use Rattle.kr_shared.specs.Works.{resting};

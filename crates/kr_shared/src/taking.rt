@@ -1,7 +1,7 @@
 //! The engine hands out all that it gives for an event.
 
 ghost use Rattle.std.specs.Prelude.{◌≡◌, IsTrue};
-ghost use Rattle.kr_world.specs.Engine.{writes_in_order};
+ghost use Rattle.kr_model.specs.Engine.{writes_in_order};
 ghost use Rattle.kr_shared.specs.Gives.{GivesOne, GivesOut};
 ghost use Rattle.kr_shared.specs.Lines.{HasLineRoom};
 
@@ -11,7 +11,7 @@ use crate::line::Line;
 use kr_base::Quorum;
 use kr_calls::{Reason, Reply};
 use kr_engine::Engine;
-use kr_world::Told;
+use kr_model::Told;
 
 /// What was handed out.
 #[derive(Drop)]

@@ -3,9 +3,10 @@
 #![tactic(auto)]
 
 use kr_base::{ReadSource, WriteSink};
-use kr_command::{refuse, serves_session};
-pub use kr_command::{Status, run};
-use kr_run::{StreamSource, WordsFault, words_of};
+use kr_process::{WordsFault, words_of};
+use kr_session_loop::StreamSource;
+use kr_words::{refuse, serves_session};
+pub use kr_words::{Status, run};
 
 fn main(rt: HostRuntime) -> Status {
     let mut notes = WriteSink::new(rt.stderr());

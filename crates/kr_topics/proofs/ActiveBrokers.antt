@@ -16,7 +16,7 @@ use Rattle.kr_defs.specs.Image.{Image}
 use Rattle.kr_defs.specs.Map.{IsMap, get}
 use Rattle.kr_defs.specs.Placed.{Rack}
 use Rattle.kr_calls.specs.NewPartitions.{racked}
-use Rattle.kr_gather.proofs.Parts.{given_parts}
+use Rattle.kr_listing.proofs.Parts.{given_parts}
 
 pub racks : (image : Image) (rows : List (ℤ × Rack)) → rows ≡ flat_map (λ (e : ℤ × Broker). if is_active e.1 then (e.0, e.1.rack) ∷ [] else []) image.brokers → rows ≡ racked image
 racks image rows is = is ∙ given_parts (λ (e : ℤ × Broker). is_active e.1) (λ e. (e.0, e.1.rack)) image.brokers

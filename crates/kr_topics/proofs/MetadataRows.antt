@@ -17,7 +17,7 @@ use Rattle.kr_calls.specs.declared.metadata.MetadataRequestTopic.{MetadataReques
 use Rattle.kr_calls.specs.declared.metadata.MetadataTopic.{MetadataTopic}
 use Rattle.kr_calls.specs.Metadata.{broker_of, brokers_of, is_online, topic_asked_for, new_to, partition_metadata, refused, seen_with, shown, topic_metadata, topics_named}
 use Rattle.kr_defs.proofs.Tests.{not_false, not_true}
-use Rattle.kr_gather.proofs.Parts.{given_parts}
+use Rattle.kr_listing.proofs.Parts.{given_parts}
 use Rattle.kr_rules.proofs.SingleEntries.{here_of}
 use Rattle.kr_topics.specs.inner.NamedTopics.{Marks}
 

@@ -30,10 +30,10 @@ use kr_calls::{
 };
 use kr_defs::{Copied, Records, Rows};
 use kr_place::Grouped;
+use kr_replication::count_of;
 use kr_rules::{Handler, Refusal, Rule, Work, decide_or_validate};
 use kr_sessions::Context;
 use kr_store::{Seen, Store};
-use kr_walks::count_of;
 use std::alloc::Global;
 use std::sync::ledger::Ledger;
 

@@ -34,10 +34,10 @@ use kr_calls::{
 use kr_defs::limits::MOST_TARGETS;
 use kr_defs::{Copied, Options, Record, Records, Rows, Text, is_topic_name};
 use kr_place::Grouped;
+use kr_replication::has_agreeing_name;
 use kr_rules::{Handler, Refusal, Rule, Work, decide_or_validate};
 use kr_sessions::Context;
 use kr_store::{Seen, Store};
-use kr_walks::has_agreeing_name;
 use std::alloc::Global;
 use std::sync::ledger::Ledger;
 

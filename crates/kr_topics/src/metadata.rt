@@ -13,7 +13,7 @@ use kr_calls::{
     MetadataTopics, Reply,
 };
 use kr_defs::{Broker, Copied, Endpoint, Options, Text};
-use kr_gather::{BrokerPart, gather_brokers};
+use kr_listing::{BrokerPart, gather_brokers};
 use kr_store::{Seen, Store};
 use std::alloc::Global;
 

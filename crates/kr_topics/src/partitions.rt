@@ -16,11 +16,11 @@ ghost use Rattle.kr_topics.specs.inner.EntryRules.{has_room};
 use kr_base::NoMemory;
 use kr_defs::limits::MOST_PARTITIONS;
 use kr_defs::{Copied, Ids, Partition, Record, Records, Rows};
-use kr_gather::{are_registered, are_targets};
+use kr_listing::{are_registered, are_targets};
 use kr_place::Grouped;
+use kr_replication::is_active;
 use kr_rules::Work;
 use kr_store::{Seen, Store};
-use kr_walks::is_active;
 use std::alloc::Global;
 
 /// The replicas of some partitions, in the order of their indexes.

@@ -7,10 +7,10 @@ ghost use Rattle.kr_place.specs.Placing.{grouped};
 
 use kr_base::NoMemory;
 use kr_defs::{Broker, Copied, Rows, Text};
-use kr_gather::{BrokerPart, gather_brokers};
+use kr_listing::{BrokerPart, gather_brokers};
 use kr_place::Grouped;
+use kr_replication::is_active;
 use kr_store::{Seen, Store};
-use kr_walks::is_active;
 use std::alloc::Global;
 
 // Brokers, each with its rack.

@@ -10,7 +10,7 @@ use kr_calls::{
     MetadataPartition, MetadataPartitions, MetadataRequestTopic, MetadataTopic, MetadataTopics,
 };
 use kr_defs::{Copied, Ids, Partition, Rows, Text};
-use kr_gather::{PartitionPart, TopicPart, gather_partitions, gather_topics};
+use kr_listing::{PartitionPart, TopicPart, gather_partitions, gather_topics};
 use kr_store::{Seen, Store};
 use std::alloc::{AllocError, Global};
 

@@ -1,8 +1,8 @@
 //! The words and the notes of whole runs over memory.
 
 use kr_base::{MemorySink, MemorySource};
-use kr_command::{Status, run};
 use kr_defs::Text;
+use kr_words::{Status, run};
 use std::alloc::{AllocError, Global};
 use std::process::Abort;
 use std::test::Fail;

@@ -2,7 +2,8 @@
 //! at each would handle 360 million partitions, and not end within the minute that a test has.
 
 use kr_base::{MemorySink, MemorySource};
-use kr_run::{Status, session};
+use kr_process::Status;
+use kr_session_loop::session;
 use std::alloc::Global;
 use std::test::Fail;
 

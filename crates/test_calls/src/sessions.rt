@@ -3,7 +3,8 @@
 ghost use Rattle.std.specs.Prelude.{Some};
 
 use kr_base::{Failed, MemorySink, MemorySource, Source};
-use kr_run::{Status, StreamSource, session};
+use kr_process::Status;
+use kr_session_loop::{StreamSource, session};
 use std::alloc::Global;
 use std::test::Fail;
 

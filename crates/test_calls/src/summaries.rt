@@ -1,6 +1,6 @@
 //! What comes of the session of a number.
 
-use kr_make::{Summary, make, summary_text};
+use kr_workload::{Summary, make, summary_text};
 use std::test::Fail;
 
 // A Lead, and a Commit behind each of 312 requests; 6 registrations, 6 brokers that become active, 300 topics with 10

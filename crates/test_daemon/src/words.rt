@@ -1,7 +1,7 @@
 //! The words of the command line, each side of each limit.
 
 use kr_defs::Text;
-use kr_settings::{Settings, SettingsFault, help, settings};
+use kr_flags::{Settings, SettingsFault, help, settings};
 use std::alloc::{AllocError, Global};
 use std::test::Fail;
 

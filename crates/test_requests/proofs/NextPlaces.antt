@@ -13,8 +13,8 @@ use Rattle.kr_defs.specs.Image.{Image, empty}
 use Rattle.kr_defs.proofs.Tests.{some_is}
 use Rattle.kr_calls.specs.NextBasis.{broker_is_stopping}
 use Rattle.kr_store.specs.Images.{Images, IsAbove, no_images, marked, forgotten, last_kept, last_image}
-use Rattle.test_rule_answers.specs.Histories.{AreEpochs}
-use Rattle.test_rule_answers.proofs.EpochRows.{is_above, some_kept}
+use Rattle.testlib_rule_answers.specs.Histories.{AreEpochs}
+use Rattle.testlib_rule_answers.proofs.EpochRows.{is_above, some_kept}
 use Rattle.kr_rules.specs.Progress.{base_of}
 use Rattle.test_requests.specs.StoppingBrokers.{are_stopping}
 

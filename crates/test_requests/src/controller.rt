@@ -9,7 +9,7 @@ use kr_req::{decode, encode_reply};
 use kr_sessions::Sessions;
 use std::alloc::{AllocError, Global};
 use std::sync::ledger::Ledger;
-use test_words::RowFault;
+use testlib_words::RowFault;
 
 /// The controller's options and state.
 #[derive(Drop)]

@@ -2,8 +2,8 @@
 
 use kr_defs::{Record, Records};
 use std::alloc::{AllocError, Global};
-use test_rule_answers::record_of;
-use test_words::{RowFault, number_of};
+use testlib_rule_answers::record_of;
+use testlib_words::{RowFault, number_of};
 
 /// The expected message of a reply, in hex, and the records.
 #[derive(Drop)]

@@ -3,7 +3,7 @@
 ghost use Rattle.std.specs.Prelude.{◌≡◌, ◌∷◌, [], IfOk, OnOk};
 ghost use Rattle.kr_defs.specs.Heartbeats as heartbeats;
 ghost use Rattle.kr_calls.specs.NextBasis as following;
-ghost use Rattle.test_rule_answers.specs.Histories.{AreEpochs};
+ghost use Rattle.testlib_rule_answers.specs.Histories.{AreEpochs};
 ghost use Rattle.kr_rules.specs.Progress.{base_of};
 ghost use Rattle.test_requests.specs.StoppingBrokers as led;
 
@@ -13,8 +13,8 @@ use kr_defs::Stopping;
 use kr_image::ImageStore;
 use kr_sessions::Sessions;
 use kr_store::Seen;
-use test_rule_answers::is_not_before;
-use test_words::RowFault;
+use testlib_rule_answers::is_not_before;
+use testlib_words::RowFault;
 
 /// Takes note of whom is heard of after the request, which was decided on the image that is kept under the place.
 #[tactic(auto, using(crate::proofs::NextPlaces::hearing))]

@@ -2,7 +2,7 @@
 
 ghost use Rattle.std.specs.Prelude.{◌≡◌, ◌∷◌, [], int_lt, IfOk, IsTrue, OnErr, OnOk, Some};
 ghost use Rattle.kr_store.specs.Images.{last_kept};
-ghost use Rattle.test_rule_answers.specs.Histories.{AreEpochs};
+ghost use Rattle.testlib_rule_answers.specs.Histories.{AreEpochs};
 
 use crate::hearing::hear;
 use crate::serving::{fence, serve};
@@ -16,7 +16,7 @@ use kr_store::{ApplyFault, Store};
 use std::alloc::Global;
 use std::marker::Model;
 use std::sync::ledger::Ledger;
-use test_words::RowFault;
+use testlib_words::RowFault;
 
 /// An image, and the place of the next record, under which alone it is kept.
 #[derive(Drop)]
@@ -28,7 +28,7 @@ pub(crate) struct LeaderImage {
 impl Model for LeaderImage {
     ghost use Rattle.std.specs.Prelude.{ℤ, ◌∷◌, []};
     ghost use Rattle.kr_store.specs.Images.{Images};
-    ghost use Rattle.test_rule_answers.specs.Histories.{AreEpochs};
+    ghost use Rattle.testlib_rule_answers.specs.Histories.{AreEpochs};
 
     ghost Value = { Images × ℤ };
 

@@ -21,7 +21,7 @@ use std::io::Print;
 use std::marker::Brand;
 use std::process::ExitCode;
 use std::sync::ledger::{Blank, Ledger};
-use test_words::{Counts, Judge, RowFault, compare_input};
+use testlib_words::{Counts, Judge, RowFault, compare_input};
 
 // The controller that the rows ask, none before an `open`, and how many rows there were.
 #[derive(Drop)]

@@ -6,7 +6,7 @@ use kr_base::Steps;
 use kr_defs::{Options, Text};
 use std::alloc::Global;
 use std::sync::ledger::Ledger;
-use test_words::{Fields, RowFault};
+use testlib_words::{Fields, RowFault};
 
 /// Does what the row asks: a word, its fields with a space between each two, a tab, and what is expected. To the text
 /// is added how what comes differs from that.

@@ -12,7 +12,7 @@ use kr_sessions::Context;
 use kr_store::{At, Store};
 use std::alloc::Global;
 use std::sync::ledger::Ledger;
-use test_words::RowFault;
+use testlib_words::RowFault;
 
 /// What the request's rule gives; its records are in the present image.
 pub(crate) fn serve<L: Ledger>(

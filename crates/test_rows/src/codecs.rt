@@ -1,11 +1,11 @@
 //! Rows on readers and writers of bytes, and on sessions, folds and dumps.
 
 use std::alloc::{AllocError, Global};
-use test_codec_answers::{
+use testlib_codec_answers::{
     Primitive, Unanswered, batch_answer, dump_answer, fold_answer, image_answer, message_answer,
     primitive_answer, record_answer, session_answer,
 };
-use test_words::{Fields, RowFault};
+use testlib_words::{Fields, RowFault};
 
 /// A reader and bytes; for `tag` the last tag behind them, `.` for none.
 pub(crate) fn primitive_row(alloc: Global, fields: &mut Fields) -> Result<String, RowFault> {

@@ -2,8 +2,8 @@
 
 use kr_defs::Ids;
 use std::alloc::{AllocError, Global};
-use test_rule_answers::{Operation, heartbeats_answer};
-use test_words::{Fields, RowFault};
+use testlib_rule_answers::{Operation, heartbeats_answer};
+use testlib_words::{Fields, RowFault};
 
 /// A row has at most so many operations.
 pub(crate) const MOST_OPERATIONS: u32 = 2_000;

@@ -5,8 +5,8 @@ use kr_defs::{Broker, ConfigKey, Endpoint, Partition, Range, Text};
 use kr_image::ImageStore;
 use kr_store::{At, Store};
 use std::alloc::{AllocError, Global};
-use test_rule_answers::partition_text;
-use test_words::halves;
+use testlib_rule_answers::partition_text;
+use testlib_words::halves;
 
 // A walk passes at most so many entries.
 const MOST_ENTRIES: u32 = 20_000;

@@ -19,7 +19,7 @@ use std::io::Print;
 use std::process::ExitCode;
 use std::rt::Env;
 use std::{env, io};
-use test_words::{Counts, Judge, RowFault, compare_input};
+use testlib_words::{Counts, Judge, RowFault, compare_input};
 
 // What the lines are.
 #[derive(Clone, Copy, Drop)]

@@ -2,10 +2,10 @@
 
 use kr_defs::{Facts, Ids, Mode, Partition, PartitionChange, Want};
 use std::alloc::Global;
-use test_rule_answers::{
+use testlib_rule_answers::{
     build_answer, completes_answer, elect_answer, eligible_answer, merge_answer, target_answer,
 };
-use test_words::{Fields, RowFault};
+use testlib_words::{Fields, RowFault};
 
 /// A partition, and what is asked of it.
 #[derive(Drop)]

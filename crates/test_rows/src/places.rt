@@ -3,8 +3,8 @@
 use kr_defs::Text;
 use kr_place::Racked;
 use std::alloc::Global;
-use test_rule_answers::place_answer;
-use test_words::{Fields, RowFault, number_of};
+use testlib_rule_answers::place_answer;
+use testlib_words::{Fields, RowFault, number_of};
 
 /// The brokers with their racks, the start, the index and the factor.
 pub(crate) fn place_row(alloc: Global, fields: &mut Fields) -> Result<String, RowFault> {

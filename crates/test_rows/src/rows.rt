@@ -9,7 +9,7 @@ use crate::partitions::{build_row, completes_row, elect_row, eligible_row, merge
 use crate::places::place_row;
 use crate::stores::apply_row;
 use std::alloc::Global;
-use test_words::{Fields, RowFault};
+use testlib_words::{Fields, RowFault};
 
 /// The answer to what a row of this kind asks.
 pub(crate) fn answer(alloc: Global, kind: Kind, asked: &str) -> Result<String, RowFault> {

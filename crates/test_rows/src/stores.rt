@@ -12,8 +12,8 @@ use kr_store::{At, Counts, Store};
 use std::alloc::{AllocError, Global};
 use std::marker::Brand;
 use std::sync::ledger::{Blank, Ledger};
-use test_rule_answers::{History, record_of};
-use test_words::{Fields, RowFault};
+use testlib_rule_answers::{History, record_of};
+use testlib_words::{Fields, RowFault};
 
 /// A store that is told and asked, the place of its next record, and the answers.
 #[derive(Drop)]

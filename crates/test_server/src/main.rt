@@ -15,7 +15,7 @@ use std::process::ExitCode;
 use std::sync::Wait;
 use std::thread::Threads;
 use talk::Talk;
-use test_words::{Counts, RowFault};
+use testlib_words::{Counts, RowFault};
 
 fn main(rt: HostRuntime) -> ExitCode {
     match compare_lines(&rt) {

@@ -5,7 +5,7 @@ use crate::talk::Talk;
 use std::alloc::Global;
 use std::sync::Wait;
 use std::thread::Threads;
-use test_words::RowFault;
+use testlib_words::RowFault;
 
 /// Does what the row asks: a word, its fields with a space between each two, a tab, and what is expected. It answers how what
 /// comes differs from that, if it does.

@@ -7,7 +7,7 @@ ghost use Rattle.kr_defs.specs.OpenOptions as opening;
 use kr_defs::limits::{LONGEST_CLUSTER, MOST_DEFAULT_PARTITIONS, MOST_TARGETS};
 use kr_defs::{Options, Text};
 use std::alloc::Global;
-use test_words::{Fields, RowFault, bytes_of};
+use testlib_words::{Fields, RowFault, bytes_of};
 
 /// Options with which a controller may be started.
 #[derive(Drop)]

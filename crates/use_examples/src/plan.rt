@@ -7,7 +7,7 @@ use kr_base::NoMemory;
 use kr_defs::{Ids, Partition};
 use std::alloc::{AllocError, Global};
 use std::io::Print;
-use test_words::ids_text;
+use testlib_words::ids_text;
 
 // How many replicas have to be in sync.
 const MINIMUM: i32 = 2;

@@ -4,7 +4,7 @@ use kr_defs::Text;
 use kr_place::{Racked, place};
 use std::alloc::{AllocError, Global};
 use std::io::Print;
-use test_words::ids_text;
+use testlib_words::ids_text;
 
 // Four brokers in two racks.
 const RACKS: [(i32, &str); 4] = [(1, "a"), (2, "a"), (3, "b"), (4, "b")];

@@ -1,7 +1,7 @@
 //! One event at a time, and all outputs of each.
 
 ghost use Rattle.std.specs.Prelude.{◌≡◌, ◌≤◌, [], OnOk};
-ghost use Rattle.kr_world.specs.Engine.{IsSound, outputs_left};
+ghost use Rattle.kr_model.specs.Engine.{IsSound, outputs_left};
 
 use kr_base::Steps;
 use kr_calls::{Event, Output};

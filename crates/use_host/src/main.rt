@@ -6,7 +6,7 @@ mod events;
 mod hosting;
 
 ghost use Rattle.std.specs.Prelude.{◌≡◌, ◌<◌, [], OnOk, IfOk};
-ghost use Rattle.kr_world.specs.Engine.{IsSound, outputs_left};
+ghost use Rattle.kr_model.specs.Engine.{IsSound, outputs_left};
 
 use events::{commit_all, lead, options, registration};
 use hosting::take;

@@ -10,10 +10,10 @@ use Rattle.kr_defs.specs.Heartbeats.{leave}
 use Rattle.kr_defs.specs.Image.{Image}
 use Rattle.kr_defs.specs.ImageLaws.{as_items}
 use Rattle.kr_store.specs.Images.{Images, marked}
-use Rattle.kr_world.specs.Engine.{Core}
-use Rattle.kr_world.specs.Entries.{item_entries}
-use Rattle.kr_world.specs.Reasons.{led_epoch}
-use Rattle.kr_world.specs.Tick.{fencing_of}
+use Rattle.kr_model.specs.Engine.{Core}
+use Rattle.kr_model.specs.Entries.{item_entries}
+use Rattle.kr_model.specs.Reasons.{led_epoch}
+use Rattle.kr_model.specs.Tick.{fencing_of}
 
 -- records as a batch at the tip, in the led epoch, at the greatest time
 abbrev pub batch_at : Core → List Record → Batch

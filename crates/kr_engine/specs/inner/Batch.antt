@@ -11,12 +11,12 @@ use Rattle.kr_defs.specs.Log.{apply_all, first_ill}
 use Rattle.kr_batch.specs.declared.Batch.{Batch}
 use Rattle.kr_batch.specs.declared.fault.BatchFault.{BatchFault}
 use Rattle.kr_store.specs.Images.{Images, last_image}
-use Rattle.kr_world.specs.Engine.{Core}
+use Rattle.kr_model.specs.Engine.{Core}
 use Rattle.kr_engine.specs.inner.Changes.{core_with_entries, core_at}
-use Rattle.kr_world.specs.Entries.{item_entries}
-use Rattle.kr_world.specs.Reasons.{already_leading, bad_batch, exhausted, gap, ill_formed}
-use Rattle.kr_world.specs.Batch.{end_of}
-use Rattle.kr_world.specs.World.{is_far}
+use Rattle.kr_model.specs.Entries.{item_entries}
+use Rattle.kr_model.specs.Reasons.{already_leading, bad_batch, exhausted, gap, ill_formed}
+use Rattle.kr_model.specs.Batch.{end_of}
+use Rattle.kr_model.specs.World.{is_far}
 
 -- the item has a meaning, which is the present image; or it has none
 abbrev pub IsTaken : Images → Images → Item → Option Ill → Type 0

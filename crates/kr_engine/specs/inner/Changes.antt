@@ -8,8 +8,8 @@ use Rattle.kr_calls.specs.declared.events.Output.TheVariants as given
 use Rattle.kr_defs.specs.declared.options.Options.{Options}
 use Rattle.kr_defs.specs.Heartbeats as hearing
 use Rattle.kr_store.specs.Images.{Images, marked, no_images}
-use Rattle.kr_world.specs.Events.{time_after, next_number}
-use Rattle.kr_world.specs.Engine.{Core}
+use Rattle.kr_model.specs.Events.{time_after, next_number}
+use Rattle.kr_model.specs.Engine.{Core}
 use Rattle.kr_defs.specs.Image.{Image}
 use Rattle.kr_store.specs.Images.{kept_once}
 

@@ -2,9 +2,9 @@
 use Rattle.std.specs.Prelude.{◌+◌, ◌*◌, ℕ, ℤ, length, not, Option, Some, None, is_some, if◌then◌else◌}
 use Rattle.kr_calls.specs.declared.events.Reason.{Reason}
 use Rattle.kr_store.specs.Images.{Images, below, calls_of, forgotten, kept_at, oldest_from}
-use Rattle.kr_world.specs.World.{leads_in}
-use Rattle.kr_world.specs.Reasons.{bad_commit, not_leading}
-use Rattle.kr_world.specs.Engine.{Core}
+use Rattle.kr_model.specs.World.{leads_in}
+use Rattle.kr_model.specs.Reasons.{bad_commit, not_leading}
+use Rattle.kr_model.specs.Engine.{Core}
 use Rattle.kr_engine.specs.inner.Changes.{counted_core, refused_core_or}
 
 abbrev pub commit_reason : Core → ℤ → ℤ → Option Reason

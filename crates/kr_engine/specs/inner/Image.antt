@@ -4,7 +4,7 @@ use Rattle.kr_calls.specs.declared.events.Output.TheVariants as given
 use Rattle.kr_defs.specs.Image.{empty}
 use Rattle.kr_snapshot.specs.ImageText.{image_text}
 use Rattle.kr_store.specs.Images.{kept_at}
-use Rattle.kr_world.specs.Engine.{Core}
+use Rattle.kr_model.specs.Engine.{Core}
 
 abbrev pub core_after_image : Core → Core
 core_after_image e = record e { given = e.given ++ given.Image (image_text e.committed (unwrap_or (kept_at e.images e.committed) empty)) ∷ [] }

@@ -6,10 +6,10 @@ use Rattle.kr_defs.specs.declared.record.Item.TheVariants as items
 use Rattle.kr_defs.specs.Brokers.{stopping, unfenced}
 use Rattle.kr_defs.specs.Heartbeats as hearing
 use Rattle.kr_store.specs.Images.{marked}
-use Rattle.kr_world.specs.Entries.{item_entries}
-use Rattle.kr_world.specs.Reasons.{already_leading, bad_next, exhausted, old_epoch}
-use Rattle.kr_world.specs.World.{is_far}
-use Rattle.kr_world.specs.Engine.{Core}
+use Rattle.kr_model.specs.Entries.{item_entries}
+use Rattle.kr_model.specs.Reasons.{already_leading, bad_next, exhausted, old_epoch}
+use Rattle.kr_model.specs.World.{is_far}
+use Rattle.kr_model.specs.Engine.{Core}
 
 abbrev pub lead_reason : Core → ℤ → ℤ → Option Reason
 lead_reason e epoch next =

@@ -5,10 +5,10 @@ use Rattle.kr_calls.specs.declared.events.Entry.TheVariants as entries
 use Rattle.kr_defs.specs.Image.{Image}
 use Rattle.kr_defs.specs.Records.{records_of}
 use Rattle.kr_snapshot.specs.declared.fault.ImageFault.{ImageFault}
-use Rattle.kr_world.specs.Engine.{Core}
+use Rattle.kr_model.specs.Engine.{Core}
 use Rattle.kr_engine.specs.inner.Changes.{core_with_entries, core_at}
-use Rattle.kr_world.specs.Reasons.{already_leading, bad_image, exhausted, older_image}
-use Rattle.kr_world.specs.World.{is_far}
+use Rattle.kr_model.specs.Reasons.{already_leading, bad_image, exhausted, older_image}
+use Rattle.kr_model.specs.World.{is_far}
 
 abbrev pub decoded_image_reason : Core → ℤ → Option Reason
 decoded_image_reason e offset =

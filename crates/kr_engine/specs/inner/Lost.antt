@@ -3,9 +3,9 @@ use Rattle.std.specs.Prelude.{◌+◌, ◌*◌, ℕ, ℤ, length, not, Option, S
 use Rattle.kr_calls.specs.declared.events.Reason.{Reason}
 use Rattle.kr_defs.specs.Heartbeats as hearing
 use Rattle.kr_store.specs.Images.{Images, above, calls_of, reverted}
-use Rattle.kr_world.specs.World.{leads_in}
-use Rattle.kr_world.specs.Reasons.{not_leading}
-use Rattle.kr_world.specs.Engine.{Core}
+use Rattle.kr_model.specs.World.{leads_in}
+use Rattle.kr_model.specs.Reasons.{not_leading}
+use Rattle.kr_model.specs.Engine.{Core}
 
 abbrev pub lost_reason : Core → ℤ → Option Reason
 lost_reason e epoch = if not (leads_in e.leading epoch) then Some (not_leading epoch e.leading) else None

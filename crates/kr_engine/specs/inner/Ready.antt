@@ -5,7 +5,7 @@ use Rattle.kr_defs.specs.Heartbeats as hearing
 use Rattle.kr_defs.specs.Ids.{has}
 use Rattle.kr_calls.specs.NextBasis.{broker_is_stopping}
 use Rattle.kr_store.specs.Images.{IsAbove, last_kept}
-use Rattle.kr_world.specs.Engine.{Core}
+use Rattle.kr_model.specs.Engine.{Core}
 
 pub record IsReady (e : Core) : Type 0 where
   pub natural : pos 0 ≤ℤ e.committed

@@ -17,13 +17,13 @@ use Rattle.kr_calls.specs.NextBasis.{heartbeats_after}
 use Rattle.kr_calls.specs.Refuse.{refuse}
 use Rattle.kr_defs.specs.Image.{Image, empty}
 use Rattle.kr_store.specs.Images.{Images, kept_at}
-use Rattle.kr_world.specs.declared.writes.Decided.{Decided}
-use Rattle.kr_world.specs.declared.writes.Write.{Write}
-use Rattle.kr_world.specs.Engine.{Core, basis_of}
+use Rattle.kr_model.specs.declared.writes.Decided.{Decided}
+use Rattle.kr_model.specs.declared.writes.Write.{Write}
+use Rattle.kr_model.specs.Engine.{Core, basis_of}
 use Rattle.kr_engine.specs.inner.Changes.{refused_core}
-use Rattle.kr_world.specs.Outputs.{error_of}
-use Rattle.kr_world.specs.Reasons.{exhausted, led_epoch}
-use Rattle.kr_world.specs.World.{is_far}
+use Rattle.kr_model.specs.Outputs.{error_of}
+use Rattle.kr_model.specs.Reasons.{exhausted, led_epoch}
+use Rattle.kr_model.specs.World.{is_far}
 use Rattle.kr_engine.specs.inner.Append.{Writes}
 
 -- ---- a leading controller's write

@@ -4,10 +4,10 @@ use Rattle.kr_calls.specs.declared.events.Reason.{Reason}
 use Rattle.kr_defs.specs.declared.limits.TheConstants.{PLACES_END}
 use Rattle.kr_defs.specs.Heartbeats.{expired}
 use Rattle.kr_store.specs.Images.{AreValid}
-use Rattle.kr_world.specs.Engine.{Core, IsSound}
+use Rattle.kr_model.specs.Engine.{Core, IsSound}
 use Rattle.kr_engine.specs.inner.Changes.{refused_core}
-use Rattle.kr_world.specs.Reasons.{exhausted}
-use Rattle.kr_world.specs.World.{is_far}
+use Rattle.kr_model.specs.Reasons.{exhausted}
+use Rattle.kr_model.specs.World.{is_far}
 use Rattle.kr_engine.specs.inner.Append.{Fences}
 
 abbrev pub tick_reason : Core → Option Reason

@@ -1,6 +1,6 @@
 use Rattle.std.proofs.Common.{◌≡◌, ◌∙◌, ◌∷◌, length, ap, arith}
 use Rattle.std.specs.Vec.Iter.{into_iter_items}
-use Rattle.kr_world.proofs.LogEntries.{in_room, next_place, placed_on}
+use Rattle.kr_model.proofs.LogEntries.{in_room, next_place, placed_on}
 use Rattle.kr_engine.proofs.entries.place_items.Goals as goal
 
 pub go_on-requires : goal.go_on-requires

@@ -1,7 +1,7 @@
 use Rattle.std.proofs.Common.{◌≡◌, ◌++◌, length}
 use Rattle.std.specs.Prelude.{◌+ℤ◌, pos}
 use Rattle.std.specs.Vec.Iter.{into_iter_items, into_iter_len}
-use Rattle.kr_world.specs.Entries.{item_entries}
+use Rattle.kr_model.specs.Entries.{item_entries}
 use Rattle.kr_engine.proofs.entries.place_items.Given as goal
 
 abbrev pub invariant-loop-item : goal.invariant-loop-item

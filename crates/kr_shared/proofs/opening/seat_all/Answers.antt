@@ -1,5 +1,5 @@
 use Rattle.std.proofs.Common.{◌≡◌, ◌∙◌, [], sym, subst, ap, refl}
-use Rattle.kr_world.specs.World.{start}
+use Rattle.kr_model.specs.World.{start}
 use Rattle.kr_shared.specs.Standing.{Standing}
 use Rattle.kr_shared.specs.Turns.{Bench}
 use Rattle.kr_shared.specs.Works.{DeskView}

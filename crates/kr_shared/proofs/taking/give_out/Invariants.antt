@@ -1,6 +1,6 @@
 use Rattle.std.proofs.Common.{length}
 use Rattle.std.specs.Prelude.{IsTrue}
-use Rattle.kr_world.specs.Engine.{outputs_left, writes_in_order}
+use Rattle.kr_model.specs.Engine.{outputs_left, writes_in_order}
 use Rattle.kr_shared.specs.Lines.{HasLineRoom}
 use Rattle.kr_shared.proofs.Giving.{SoFar}
 use Rattle.kr_shared.proofs.taking.give_out.Given as goal

@@ -1,5 +1,5 @@
 use Rattle.std.specs.Prelude.{[], ◌∷◌}
-use Rattle.test_rule_answers.specs.Histories.{AreEpochs}
+use Rattle.testlib_rule_answers.specs.Histories.{AreEpochs}
 use Rattle.test_requests.proofs.leader_image.apply_all.Given as goal
 
 abbrev pub invariant-loop-record : goal.invariant-loop-record

@@ -1,5 +1,5 @@
 use Rattle.std.proofs.Common.{length}
-use Rattle.kr_world.specs.Engine.{IsSound, outputs_left}
+use Rattle.kr_model.specs.Engine.{IsSound, outputs_left}
 use Rattle.use_host.proofs.hosting.hand_out.Given as goal
 
 abbrev pub invariant-loop-output : goal.invariant-loop-output

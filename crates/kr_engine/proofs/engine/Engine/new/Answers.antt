@@ -1,7 +1,7 @@
 use Rattle.std.proofs.Common.{[]}
-use Rattle.kr_world.specs.Engine.{IsEngine, IsSound}
-use Rattle.kr_world.specs.World.{start}
-use Rattle.kr_world.proofs.SoundEngines.{opened_sound}
+use Rattle.kr_model.specs.Engine.{IsEngine, IsSound}
+use Rattle.kr_model.specs.World.{start}
+use Rattle.kr_model.proofs.SoundEngines.{opened_sound}
 use Rattle.kr_engine.proofs.NewEngines.{all_opened, opened_stands}
 use Rattle.kr_engine.proofs.engine.Engine.new.Goals as goal
 

@@ -1,4 +1,4 @@
-use Rattle.kr_world.proofs.OutputsLeft.{hands_answer}
+use Rattle.kr_model.proofs.OutputsLeft.{hands_answer}
 use Rattle.kr_engine.proofs.engine.Engine.next_told.Goals as goal
 
 pub returns-clause-hands : goal.returns-clause-hands

@@ -1,6 +1,6 @@
 use Rattle.std.proofs.Common.{length, refl, ap}
 use Rattle.kr_engine.proofs.RequestDecisions.{append_breaks, decided_there, image_there, stopping_below, write_few, write_fits}
-use Rattle.kr_world.specs.Engine.{Core}
+use Rattle.kr_model.specs.Engine.{Core}
 use Rattle.kr_engine.proofs.Undoing.{same_breaks, whatever}
 use Rattle.kr_engine.proofs.engine.Engine.take_write.Goals as goal
 

@@ -1,6 +1,6 @@
 use Rattle.std.proofs.Common.{◌∙◌, [], true, ap, refl, w32}
 use Rattle.std.proofs.lemmas.Int.{to_z-of_z}
-use Rattle.kr_world.specs.Engine.{Core}
+use Rattle.kr_model.specs.Engine.{Core}
 use Rattle.kr_shared.specs.Desks.{DeskState}
 use Rattle.kr_shared.proofs.Desks.{steps_lose, steps_lost, when_ok}
 use Rattle.kr_shared.proofs.desk.Desk.lose_led.Goals as goal

@@ -1,9 +1,0 @@
-//! The tool's one call: a command by its words.
-#![tactic(auto)]
-
-mod making;
-mod running;
-mod seeds;
-
-pub use kr_run::Status;
-pub use running::{refuse, run, serves_session};

@@ -1,4 +1,0 @@
-pub mod Indexes
-pub mod KeptIndexes
-pub mod KeyLists
-pub mod NamedChanges

@@ -1,3 +1,0 @@
-pub mod FencingIndex
-pub mod FencingLaws
-pub mod Leaving

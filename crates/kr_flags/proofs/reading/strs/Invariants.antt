@@ -1,0 +1,6 @@
+-- The words so far.
+use Rattle.std.proofs.Common.{◌≡◌, map, take}
+use Rattle.kr_flags.proofs.reading.strs.Given as goal
+
+abbrev pub invariant-loop-word : goal.invariant-loop-word
+invariant-loop-word l = map (λ s. s.now) l.strs.items ≡ take l.word-index l.words

@@ -1,9 +1,0 @@
-use Rattle.std.proofs.Common.{◌∙◌, ap, arith}
-use Rattle.std.proofs.lemmas.Result.{on_ok_weaker}
-use Rattle.kr_make.specs.Session.{ask_and_commit}
-use Rattle.kr_make.proofs.Goings.{goes_as}
-use Rattle.kr_make.proofs.Parts.{beat_is}
-use Rattle.kr_make.proofs.host.Host.beat.Goals as goal
-
-pub returns : goal.returns
-returns g c = on_ok_weaker c.ask_and_commit.result (λ last. goes_as _ _ _ _ 1 0 1 0 (λ seed made stands. ap (ask_and_commit seed made) (c.heartbeat_now-request.ensures seed made stands) ∙ beat_is seed made c.args.broker c.args.want_fence) (omega arith) (omega arith) last) c.ask_and_commit.ensures

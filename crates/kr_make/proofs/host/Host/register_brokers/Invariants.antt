@@ -1,7 +1,0 @@
-use Rattle.std.proofs.Common.{ℕ}
-use Rattle.kr_make.specs.inner.Standing.{Goes}
-use Rattle.kr_make.specs.Session.{register, steps}
-use Rattle.kr_make.proofs.host.Host.register_brokers.Given as goal
-
-abbrev pub invariant-loop-n : goal.invariant-loop-n
-invariant-loop-n g l = Goes l.fn.self l.self (λ (seed : ℕ). steps l.n (register seed)) l.n 0

@@ -1,0 +1,221 @@
+-- A write that waits no more never waits again.
+use Rattle.std.proofs.Common.{◌≡◌, ◌∙◌, sym, subst, ℕ, ℤ, pos, negsuc, Bool, true, false, cond, ◌+◌, ◌≤◌, List, [], ◌∷◌, ◌++◌, refl, ap, arith, inl, inr}
+use Rattle.std.proofs.lemmas.Bool.{and_from}
+use Rattle.std.proofs.lemmas.Bool.Decides.{nat_tests}
+use Rattle.std.specs.Prelude.{◌⊎◌, Option, Some, None, Result, Ok, Err, not, ◌&&◌, int_lt, int_le, is_some, unsigned_abs, unwrap_or, ◌==◌, length}
+use Rattle.std.specs.Ordering.{int_eq}
+use Rattle.std.specs.Result.{result_unwrap_or}
+use Rattle.kr_batch.specs.declared.Batch.{Batch}
+use Rattle.kr_batch.specs.Reading.{batch_of}
+use Rattle.kr_calls.specs.declared.calls.Ask.{Ask}
+use Rattle.kr_calls.specs.declared.calls.Request.{Request}
+use Rattle.kr_calls.specs.declared.events.Event.{Event}
+use Rattle.kr_calls.specs.declared.events.Reason.{Reason}
+use Rattle.kr_calls.specs.declared.calls.Ask.TheVariants as asks
+use Rattle.kr_calls.specs.declared.events.Event.TheVariants as events
+use Rattle.kr_defs.specs.declared.ill.Ill.{Ill}
+use Rattle.kr_defs.specs.declared.options.Options.{Options}
+use Rattle.kr_defs.specs.declared.record.Item.{Item}
+use Rattle.kr_defs.specs.declared.record.Item.TheVariants as items
+use Rattle.kr_defs.specs.Image.{Image}
+use Rattle.kr_defs.specs.ImageLaws.{as_items}
+use Rattle.kr_defs.specs.Log.{first_ill, tip}
+use Rattle.kr_defs.proofs.IdLists.{id_itself, same_id}
+use Rattle.kr_defs.proofs.Tests.{Gives, both, gives_done, gives_refuse, gives_then, not_false}
+use Rattle.kr_defs.proofs.HeartbeatLists.{le_itself}
+use Rattle.kr_snapshot.specs.Reading.{image_of}
+use Rattle.kr_model.specs.declared.writes.Write.{Write}
+use Rattle.kr_model.specs.Commit.{commit, after_commit, is_end}
+use Rattle.kr_model.specs.Engine.{Rise}
+use Rattle.kr_model.specs.Events.{with_next_number, happens, outcome, at_time_of}
+use Rattle.kr_model.specs.Lead.{after_lead, lead, may_begin_at, up_to}
+use Rattle.kr_model.specs.Lost.{after_lost, lost}
+use Rattle.kr_model.specs.World.{leads_in, State, World, image_of_tip, is_far, tip_of, with_batch, log_with}
+use Rattle.kr_model.specs.Outputs.{is_open_in}
+use Rattle.kr_model.specs.Reasons as reasons
+use Rattle.kr_model.specs.Batch.{batch_or, end_of, batch, take_batch, after_batch, unless_ill}
+use Rattle.kr_model.specs.Load.{image_or, load, take_image, after_load}
+use Rattle.kr_model.specs.Request.{after_ask, after_write, decision, is_decided, request}
+use Rattle.kr_model.specs.Tick.{fence, fence_all, fencing_of, lapsed_contacts, tick}
+use Rattle.kr_model.proofs.KeptImages.{not_higher}
+use Rattle.kr_model.proofs.Places.{moves}
+
+-- what a batch leaves of a world
+pub record Leaves (w after : World) : Type 0 where
+  pub leading : after.leading ≡ w.leading
+  pub greatest : after.greatest ≡ w.greatest
+  pub committed : after.committed ≡ w.committed
+
+pub leaves_itself : (w : World) → Leaves w w
+leaves_itself w = record { leading = refl; greatest = refl; committed = refl }
+
+leaves_if : (b : Bool) (w after : World) → Leaves w after → Leaves w (cond b w after)
+leaves_if true w after l = leaves_itself w
+leaves_if false w after l = l
+
+pub batch_leaves : (w : World) (items : List Item) → Leaves w (with_batch w items)
+batch_leaves w items =
+    leaves_if (length items == 0) w (record w { log = log_with w.log items; batch_ends = w.batch_ends ++ (tip w.log + length items) ∷ [] })
+    (record { leading = refl; greatest = refl; committed = refl })
+
+leaves_then : (u v w : World) → Leaves u v → Leaves v w → Leaves u w
+leaves_then u v w a b = record { leading = b.leading ∙ a.leading; greatest = b.greatest ∙ a.greatest; committed = b.committed ∙ a.committed }
+
+-- ---- what an event leaves of a world
+
+-- a leadership goes on, or begins in a later epoch than all before
+pub record Succeeds (w after : World) : Type 0 where
+  pub greatest : int_le w.greatest after.greatest ≡ true
+  pub leading : (epoch : ℤ) → after.leading ≡ Some epoch → (w.leading ≡ Some epoch) ⊎ ((int_lt w.greatest epoch ≡ true) × (after.greatest ≡ epoch))
+
+-- and the committed end never falls
+pub record Goes (w after : World) : Type 0 where
+  pub succeeds : Succeeds w after
+  pub committed : w.committed ≤ after.committed
+
+module _ (w after : World) where
+  pub goes_leaving : Leaves w after → Goes w after
+  goes_leaving l = record {
+    succeeds = record { greatest = subst (λ g. int_le w.greatest g ≡ true) (sym l.greatest) (le_itself w.greatest); leading = λ epoch is. inl (sym l.leading ∙ is) };
+    committed = subst (λ c. w.committed ≤ c) (sym l.committed) (omega arith);
+  }
+
+  moved_goes : after.leading ≡ w.leading → after.greatest ≡ w.greatest → w.committed ≤ after.committed → Goes w after
+  moved_goes leading greatest committed = record {
+    succeeds = record { greatest = subst (λ g. int_le w.greatest g ≡ true) (sym greatest) (le_itself w.greatest); leading = λ epoch is. inl (sym leading ∙ is) };
+    committed = committed;
+  }
+
+lt_le : (a b : ℤ) → int_lt a b ≡ true → int_le a b ≡ true
+lt_le (pos a) (pos b) h = grind (arith, nat_tests)
+lt_le (pos a) (negsuc b) h = absurd cc
+lt_le (negsuc a) (pos b) h = refl
+lt_le (negsuc a) (negsuc b) h = grind (arith, nat_tests)
+
+same_some : (a b : ℤ) → Some a ≡ Some b → a ≡ b
+same_some a b is = ap (λ (o : Option ℤ). unwrap_or o a) is
+
+up_to_leaves : (w : World) (next : ℤ) → Leaves w (up_to w next)
+up_to_leaves w next = leaves_if (int_eq next (pos w.committed)) w (with_batch w (items.Control ∷ [])) (batch_leaves w (items.Control ∷ []))
+
+-- a state that is made by records
+fenced_leaves : (options : Options) (s : State) (brokers : List ℤ) → Leaves s.world (fence_all options s brokers).world
+fenced_leaves options s [] = leaves_itself s.world
+fenced_leaves options s (broker ∷ brokers) =
+    leaves_then s.world (fence options s broker).world (fence_all options s (broker ∷ brokers)).world
+    (batch_leaves s.world (as_items (fencing_of options (image_of_tip s) broker))) (fenced_leaves options (fence options s broker) brokers)
+
+written_leaves : (options : Options) (s : State) (request : Request) → Leaves s.world (after_write options s request).world
+written_leaves options s request = batch_leaves s.world (as_items (decision options s request).records)
+
+asked_leaves : (options : Options) (s : State) (ask : Ask) → Leaves s.world (after_ask options s ask).world
+asked_leaves options s (asks.Call call) = after_leaves (is_decided s.world (asks.Call call)) s (after_write options s call.request) (written_leaves options s call.request)
+  where
+    after_leaves : (b : Bool) (s after : State) → Leaves s.world after.world → Leaves s.world (cond b after s).world
+    after_leaves true s after l = l
+    after_leaves false s after l = leaves_itself s.world
+asked_leaves options s (asks.Bare correlation fault) = leaves_itself s.world
+
+far_enough : (committed : ℕ) (offset : ℤ) → int_lt offset (pos committed) ≡ false → committed ≤ unsigned_abs offset
+far_enough committed (pos n) late = grind (arith, nat_tests)
+far_enough committed (negsuc n) late = absurd cc
+
+-- the ends of the batches rise from the committed end to the tip
+module _ (options : Options) (s : State) (rise : Rise s.world.committed s.world.batch_ends (tip_of s)) where
+  abbrev P : State → Type 0
+  P after = Goes s.world after.world
+
+  lead_goes : (epoch next : ℤ) → Gives P (lead s epoch next)
+  lead_goes epoch next =
+      gives_refuse P (reasons.already_leading s.world.leading) (is_some s.world.leading) _ (λ _. gives_refuse P (reasons.old_epoch epoch s.world.greatest) (not (int_lt s.world.greatest epoch)) _ (λ late.
+      gives_refuse P (reasons.bad_next next (pos s.world.committed)) (not (may_begin_at s.world next)) _ (λ _. gives_refuse P (reasons.exhausted next) (is_far next) _ (λ _.
+      let later = not_false (int_lt s.world.greatest epoch) late in
+      gives_done P (after_lead s epoch next) (record {
+        succeeds = record { greatest = lt_le s.world.greatest epoch later; leading = λ e is. inr (subst (λ z. int_lt s.world.greatest z ≡ true) (same_some epoch e is) later, same_some epoch e is) };
+        committed = subst (λ c. s.world.committed ≤ c) (sym (up_to_leaves s.world next).committed) (omega arith);
+      })))))
+
+  commit_goes : (epoch end : ℤ) → Gives P (commit s epoch end)
+  commit_goes epoch end =
+      gives_refuse P (reasons.not_leading epoch s.world.leading) (not (leads_in s.world.leading epoch)) _ (λ _.
+      gives_refuse P (reasons.bad_commit end (pos s.world.committed) (pos (tip_of s))) (not (is_end s.world end)) _ (λ ends.
+      gives_done P (after_commit s end) (moved_goes s.world (after_commit s end).world refl refl
+      (moves s.world.log (tip_of s) s.world.committed s.world.batch_ends end rise (not_false (is_end s.world end) ends)).above)))
+
+  lost_goes : (epoch : ℤ) → Gives P (lost s epoch)
+  lost_goes epoch =
+      gives_refuse P (reasons.not_leading epoch s.world.leading) (not (leads_in s.world.leading epoch)) _ (λ _.
+      gives_done P (after_lost s) (record { succeeds = record { greatest = le_itself s.world.greatest; leading = λ e is. absurd cc }; committed = omega arith }))
+
+  ill_on : (batch : Batch) (o : Option (ℤ × Ill)) → Gives P (unless_ill o (after_batch s batch))
+  ill_on batch None = gives_done P (after_batch s batch) (moved_goes s.world (after_batch s batch).world refl refl (let low = not_higher s.world.committed s.world.batch_ends (tip_of s) rise in omega (arith, low)))
+  ill_on batch (Some (place, cause)) = λ after is. absurd cc
+
+  batch_goes : (bytes : List ℕ) → Gives P (batch s bytes)
+  batch_goes bytes =
+      gives_refuse P (reasons.already_leading s.world.leading) (is_some s.world.leading) _ (λ _. gives_then (λ (b : Batch). Unit {0}) P (batch_or (batch_of bytes)) (take_batch s) (λ _ _. tt) (λ batch _.
+      gives_refuse P (reasons.gap (pos s.world.committed) batch.base) (not (int_eq batch.base (pos s.world.committed))) _ (λ _. gives_refuse P (reasons.exhausted (end_of batch)) (is_far (end_of batch)) _ (λ _.
+      ill_on batch (first_ill (image_of_tip s) (pos (tip_of s)) batch.items)))))
+
+  load_goes : (bytes : List ℕ) → Gives P (load s bytes)
+  load_goes bytes =
+      gives_refuse P (reasons.already_leading s.world.leading) (is_some s.world.leading) _ (λ _. gives_then (λ (x : ℤ × Image). Unit {0}) P (image_or (image_of bytes)) (take_image s) (λ _ _. tt) (λ x _.
+      gives_refuse P (reasons.older_image x.0 (pos s.world.committed)) (int_lt x.0 (pos s.world.committed)) _ (λ late. gives_refuse P (reasons.exhausted x.0) (is_far x.0) _ (λ _.
+      gives_done P (after_load s (unsigned_abs x.0) x.1) (moved_goes s.world (after_load s (unsigned_abs x.0) x.1).world refl refl (far_enough s.world.committed x.0 late))))))
+
+  tick_goes : Gives P (tick options s)
+  tick_goes =
+      gives_refuse P (reasons.exhausted (pos (tip_of s))) (is_some s.world.leading && is_far (pos (tip_of s))) _ (λ _.
+      gives_done P (fence_all options s (lapsed_contacts options s)) (goes_leaving s.world (fence_all options s (lapsed_contacts options s)).world (fenced_leaves options s (lapsed_contacts options s))))
+
+  request_goes : (ask : Ask) → Gives P (request options s ask)
+  request_goes ask =
+      gives_refuse P (reasons.exhausted (pos (tip_of s))) (is_decided s.world ask && is_far (pos (tip_of s))) _ (λ _.
+      gives_done P (after_ask options s ask) (goes_leaving s.world (after_ask options s ask).world (asked_leaves options s ask)))
+
+  outcome_goes : (event : Event) → Gives P (outcome options s event)
+  outcome_goes (events.Lead epoch next now) = lead_goes epoch next
+  outcome_goes (events.Commit epoch end) = commit_goes epoch end
+  outcome_goes (events.Lost epoch) = lost_goes epoch
+  outcome_goes (events.Batch bytes) = batch_goes bytes
+  outcome_goes (events.Load bytes) = load_goes bytes
+  outcome_goes (events.Tick now) = tick_goes
+  outcome_goes (events.Request client now ask) = request_goes ask
+  outcome_goes events.Image = gives_done P s (goes_leaving s.world s.world (leaves_itself s.world))
+
+goes_or : (w : World) (s : State) (r : Result State Reason) → Goes w s.world → Gives (λ (after : State). Goes w after.world) r → Goes w (with_next_number (result_unwrap_or r s)).world
+goes_or w s (Ok after) itself goes = let g = goes after refl in record { succeeds = record { greatest = g.succeeds.greatest; leading = g.succeeds.leading }; committed = g.committed }
+goes_or w s (Err reason) itself goes = record { succeeds = record { greatest = itself.succeeds.greatest; leading = itself.succeeds.leading }; committed = itself.committed }
+
+pub event_goes : (options : Options) (s : State) (event : Event) → Rise s.world.committed s.world.batch_ends (tip_of s) → Goes s.world (happens options s event).world
+event_goes options s event rise =
+    goes_or s.world (at_time_of s event) (outcome options (at_time_of s event) event) (goes_leaving s.world s.world (leaves_itself s.world)) (outcome_goes options (at_time_of s event) rise event)
+
+-- ---- a write that waits no more
+
+leads_so : (leading : Option ℤ) (epoch : ℤ) → leads_in leading epoch ≡ true → leading ≡ Some epoch
+leads_so None epoch is = absurd cc
+leads_so (Some led) epoch is = ap (λ (z : ℤ). Some z) (same_id led epoch is)
+
+leads_back : (leading : Option ℤ) (epoch : ℤ) → leading ≡ Some epoch → leads_in leading epoch ≡ true
+leads_back leading epoch is = ap (λ (l : Option ℤ). leads_in l epoch) is ∙ id_itself epoch
+
+not_both : (a b : ℤ) → int_lt a b ≡ true → int_le b a ≡ true → ⊥
+not_both (pos a) (pos b) h k = absurd (grind (arith, nat_tests))
+not_both (pos a) (negsuc b) h k = cc
+not_both (negsuc a) (pos b) h k = cc
+not_both (negsuc a) (negsuc b) h k = absurd (grind (arith, nat_tests))
+
+lt_before : (m n : ℕ) (z : ℤ) → m ≤ n → int_lt (pos n) z ≡ true → int_lt (pos m) z ≡ true
+lt_before m n (pos z) low h = grind (arith, nat_tests)
+lt_before m n (negsuc z) low h = absurd cc
+
+pub stays_closed : (w after : World) (write : Write) → Goes w after → int_le write.epoch w.greatest ≡ true → is_open_in after write ≡ true → is_open_in w write ≡ true
+stays_closed w after write g known opens =
+    let parts = both (leads_in after.leading write.epoch) (int_lt (pos after.committed) write.need) opens in
+    and_from (leads_in w.leading write.epoch) (int_lt (pos w.committed) write.need)
+    (elim (g.succeeds.leading write.epoch (leads_so after.leading write.epoch parts.0)) [
+      | inl same ↦ leads_back w.leading write.epoch same
+      | inr later ↦ absurd (not_both w.greatest write.epoch later.0 known)
+    ])
+    (lt_before w.committed after.committed write.need g.committed parts.1)

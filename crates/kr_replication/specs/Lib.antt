@@ -1,0 +1,4 @@
+pub mod BrokerIds
+pub mod FencingIndex
+pub mod FencingLaws
+pub mod Leaving

@@ -1,0 +1,24 @@
+//! What handlers share that looks over an image and changes nothing: active brokers, settings, walks over partitions, taking a
+//! broker out, and an index of the partitions that brokers have replicas of.
+#![tactic(auto)]
+
+mod brokers;
+mod electing;
+mod fencing;
+mod index;
+mod keys;
+pub mod laws;
+mod leaving;
+mod partitions;
+mod settings;
+mod taking_out;
+mod topics;
+
+pub use brokers::{ActiveOnes, BrokerTest, active, brokers_where, is_active};
+pub use electing::{build_with, build_without, is_accepted};
+pub use fencing::fencing_records;
+pub use index::FencingIndex;
+pub use partitions::{Change, add_changes, leads};
+pub use settings::{is_unclean, minimum_at, minimum_of, value_at};
+pub use taking_out::{default_want, take_out};
+pub use topics::{count_of, has_agreeing_name};

@@ -1,4 +1,0 @@
-pub mod BrokerIds
-pub mod Changes
-pub mod Counts
-pub mod EntryTests

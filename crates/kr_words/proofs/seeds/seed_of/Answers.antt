@@ -1,0 +1,10 @@
+use Rattle.std.proofs.Common.{◌-◌, ◌^◌, ◌∙◌, sym, ap}
+use Rattle.kr_defs.specs.Texts.{decimal_up_to}
+use Rattle.kr_words.proofs.DecimalTexts.{spells}
+use Rattle.kr_words.proofs.seeds.seed_of.Goals as goal
+
+pub returns : goal.returns
+returns c = λ seed.
+    let so = spells c.args.word.now seed in
+    let is = c.decimal_up_to.ensures ∙ ap (decimal_up_to (2 ^ 32 - 1)) c.as_bytes.ensures.value in
+    (λ found. so.0 (sym is ∙ found), λ spelled. is ∙ so.1 spelled)

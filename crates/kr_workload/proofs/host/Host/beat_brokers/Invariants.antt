@@ -1,0 +1,7 @@
+use Rattle.std.proofs.Common.{ℕ}
+use Rattle.kr_workload.specs.inner.Standing.{Goes}
+use Rattle.kr_workload.specs.Session.{first_heartbeat, steps}
+use Rattle.kr_workload.proofs.host.Host.beat_brokers.Given as goal
+
+abbrev pub invariant-loop-n : goal.invariant-loop-n
+invariant-loop-n g l = Goes l.fn.self l.self (λ (seed : ℕ). steps l.n (first_heartbeat seed)) l.n 0

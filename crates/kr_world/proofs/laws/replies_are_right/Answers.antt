@@ -1,5 +1,0 @@
-use Rattle.kr_world.proofs.RightReplies.{replies_are_right}
-use Rattle.kr_world.proofs.laws.replies_are_right.Goals as goal
-
-pub returns : goal.returns
-returns c = replies_are_right

@@ -1,5 +1,0 @@
-use Rattle.kr_world.proofs.SafeEntries.{steps_are_safe}
-use Rattle.kr_world.proofs.laws.steps_are_safe.Goals as goal
-
-pub returns : goal.returns
-returns c = steps_are_safe

@@ -1,5 +1,0 @@
-use Rattle.law_following.proofs.Decided.{decided_answers_are_right}
-use Rattle.law_following.proofs.decided_answers_are_right.Goals as goal
-
-pub returns : goal.returns
-returns c = decided_answers_are_right

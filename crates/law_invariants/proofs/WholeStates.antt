@@ -1,0 +1,256 @@
+-- What each event leaves whole: the log makes a valid image, a leader hears of its unfenced brokers, and the lists of
+-- heartbeats are in order.
+use Rattle.std.proofs.Common.{◌≡◌, ◌∙◌, sym, subst, ℕ, ℤ, pos, Bool, true, false, cond, List, [], ◌∷◌, refl, ap, arith, not}
+use Rattle.std.specs.Prelude.{◌&&◌, Option, Some, None, Result, Ok, Err, IsSome, int_lt, is_some, unsigned_abs}
+use Rattle.std.specs.Ordering.{int_cmp, int_eq}
+use Rattle.std.specs.Result.{result_unwrap_or}
+use Rattle.kr_batch.specs.declared.Batch.{Batch}
+use Rattle.kr_batch.specs.Reading.{batch_of}
+use Rattle.kr_calls.specs.declared.calls.Ask.{Ask}
+use Rattle.kr_calls.specs.declared.calls.Ask.TheVariants as asks
+use Rattle.kr_calls.specs.declared.calls.Request.{Request}
+use Rattle.kr_calls.specs.declared.events.Event.{Event}
+use Rattle.kr_calls.specs.declared.events.Event.TheVariants as events
+use Rattle.kr_calls.specs.declared.events.Reason.{Reason}
+use Rattle.kr_calls.specs.Decide.{is_read}
+use Rattle.kr_calls.proofs.DecisionMeanings.{requests_stand}
+use Rattle.kr_defs.specs.declared.ill.Ill.{Ill}
+use Rattle.kr_defs.specs.declared.options.Options.{Options}
+use Rattle.kr_defs.specs.declared.record.Item.{Item}
+use Rattle.kr_defs.specs.declared.record.Item.TheVariants as items
+use Rattle.kr_defs.specs.Brokers.{stopping, unfenced}
+use Rattle.kr_defs.specs.Heartbeats.{AreHeartbeats, heard}
+use Rattle.kr_defs.specs.Image.{Image, IsValid, empty}
+use Rattle.kr_defs.specs.ImageLaws.{as_items}
+use Rattle.kr_defs.specs.Log.{Log, apply_all, first_ill, image_at, tip}
+use Rattle.kr_defs.specs.Map as entries
+use Rattle.kr_defs.proofs.HeartbeatLists.{begun, ended, left}
+use Rattle.kr_defs.proofs.Logs.{valid_at}
+use Rattle.kr_defs.proofs.Tests.{Gives, both, gives_done, gives_refuse, gives_then, none_is}
+use Rattle.kr_snapshot.specs.declared.fault.ImageFault.{ImageFault}
+use Rattle.kr_snapshot.specs.Reading.{image_of}
+use Rattle.kr_model.specs.Batch.{after_batch, batch, batch_or, end_of, take_batch, unless_ill}
+use Rattle.kr_model.specs.Commit.{after_commit, commit, is_end}
+use Rattle.kr_model.specs.Events.{at_time_of, happens, outcome, time_after, with_next_number}
+use Rattle.kr_model.specs.Lead.{after_lead, lead, may_begin_at}
+use Rattle.kr_model.specs.Load.{after_load, image_or, load, take_image}
+use Rattle.kr_model.specs.Lost.{after_lost, cut, lost}
+use Rattle.kr_model.specs.Reasons as reasons
+use Rattle.kr_model.specs.Request.{after_ask, after_write, decision, is_decided, request}
+use Rattle.kr_model.specs.Tick.{fence, fence_all, fencing_of, lapsed_contacts, tick}
+use Rattle.kr_model.specs.World.{State, World, image_of_tip, is_far, leads_in, log_with, seen_at, tip_of, with_batch}
+use Rattle.kr_model.proofs.ContactTimes.{AreInTime, begun_now, decided_in_time, leaving_in_time}
+use Rattle.kr_model.proofs.DueWrites.{batch_leaves}
+use Rattle.kr_model.proofs.EventsWithoutWrites.{later_too, never_earlier}
+use Rattle.kr_model.proofs.FencedBrokers.{hears_by}
+use Rattle.kr_model.proofs.KeptImages.{not_higher, seen_below}
+use Rattle.kr_model.proofs.LoadedImages.{IsLoadable, loaded_valid}
+use Rattle.kr_model.proofs.LogEntries.{batch_written}
+use Rattle.kr_model.proofs.Logs.{as_records, at_tip, cut_below, cut_tip, means_unless_ill}
+use Rattle.kr_model.proofs.LongerLogs.{control_at_tip, present_then}
+use Rattle.kr_model.proofs.OrderlyStates.{IsOrderly, none_lapses}
+use Rattle.kr_model.proofs.Queues.{never}
+use Rattle.kr_model.proofs.SafeEntries.{fenced_to}
+use Rattle.kr_model.proofs.UnfencedBrokers.{stopping_once, stopping_within, unfenced_once}
+use Rattle.law_safety.specs.HearingLaws.{HearsOf}
+use Rattle.law_safety.proofs.HearingRequests.{leaders_begin_hearing, requests_keep_hearing}
+use Rattle.law_invariants.proofs.DecidedHeartbeats.{decided_stand}
+
+-- ---- logs
+
+-- the log starts from a valid image, and this one stands at its tip
+pub record Makes (log : Log) (image : Image) : Type 0 where
+  pub valid : IsValid log.image
+  pub shows : image_at log (tip log) ≡ Ok image
+
+seen_is : (log : Log) (image : Image) → Makes log image → seen_at log (tip log) ≡ image
+seen_is log image m = ap (λ (r : Result Image Ill). result_unwrap_or r empty) m.shows
+
+makes_then : (log : Log) (more : List Item) (before after : Image) → Makes log before → apply_all before more ≡ Ok after → Makes (log_with log more) after
+makes_then log more before after m means = record { valid = m.valid; shows = present_then log more before after m.shows means }
+
+batch_makes : (w : World) (more : List Item) (before after : Image) → Makes w.log before → apply_all before more ≡ Ok after → Makes (with_batch w more).log after
+batch_makes w more before after m means = subst (λ (log : Log). Makes log after) (sym (batch_written w more)) (makes_then w.log more before after m means)
+
+-- ---- states
+
+pub record IsWhole (s : State) : Type 0 where
+  pub log : Makes s.world.log (image_of_tip s)
+  pub hears : IsSome s.world.leading → HearsOf (heard s.basis) (image_of_tip s)
+  pub in_time : AreInTime s.basis.time (heard s.basis)
+  pub stand : AreHeartbeats (heard s.basis)
+
+whole : (s : State) (image : Image) → Makes s.world.log image → (IsSome s.world.leading → HearsOf (heard s.basis) image) → AreInTime s.basis.time (heard s.basis) → AreHeartbeats (heard s.basis) → IsWhole s
+whole s image m hears in_time stand =
+    let is = seen_is s.world.log image m in record {
+      log = subst (Makes s.world.log) (sym is) m;
+      hears = λ some. subst (HearsOf (heard s.basis)) (sym is) (hears some);
+      in_time = in_time;
+      stand = stand;
+    }
+
+pub valid_tip : (s : State) → IsWhole s → IsValid (image_of_tip s)
+valid_tip s w = valid_at s.world.log (tip_of s) w.log.valid (image_of_tip s) w.log.shows
+
+nobody_leads : (leading : Option ℤ) → leading ≡ None → IsSome leading → ⊥
+nobody_leads leading none some = never (subst (λ (l : Option ℤ). IsSome l) none some)
+
+-- ---- fencings
+
+module _ (options : Options) where
+  fence_whole : (s : State) (broker : ℤ) → IsSome s.world.leading → IsWhole s → IsWhole (fence options s broker)
+  fence_whole s broker leads w =
+      let image = image_of_tip s in
+      let f = fenced_to options image broker (valid_tip s w) in
+      let records = fencing_of options image broker in
+      whole (fence options s broker) f.after
+      (batch_makes s.world (as_items records) image f.after w.log (as_records image records ∙ f.means))
+      (λ _. hears_by options.minimum (heard s.basis) image f.after broker (entries.get int_cmp image.brokers broker) (valid_tip s w) refl (w.hears leads) f.means)
+      (leaving_in_time s.basis.time (heard s.basis) broker w.in_time)
+      (left (heard s.basis) broker w.stand)
+
+  fenced_whole : (brokers : List ℤ) (s : State) → IsSome s.world.leading → IsWhole s → IsWhole (fence_all options s brokers)
+  fenced_whole [] s leads w = w
+  fenced_whole (broker ∷ brokers) s leads w =
+      fenced_whole brokers (fence options s broker)
+      (subst (λ (l : Option ℤ). IsSome l) (sym (batch_leaves s.world (as_items (fencing_of options (image_of_tip s) broker))).leading) leads)
+      (fence_whole s broker leads w)
+
+-- ---- events
+
+loaded_or : (r : Result (ℤ × Image) ImageFault) → Gives IsLoadable r → Gives IsLoadable (image_or r)
+loaded_or (Ok x) gives = gives_done IsLoadable x (gives x refl)
+loaded_or (Err fault) gives = λ x is. absurd cc
+
+module _ (options : Options) (s : State) (k : IsOrderly s) (w : IsWhole s) where
+  abbrev P : State → Type 0
+  P after = IsWhole after
+
+  abbrev image : Image
+  image = image_of_tip s
+
+  valid : IsValid image
+  valid = valid_tip s w
+
+  led_log : (b : Bool) → Makes (cond b s.world (with_batch s.world (items.Control ∷ []))).log image
+  led_log true = w.log
+  led_log false =
+      subst (λ (log : Log). Makes log image) (sym (batch_written s.world (items.Control ∷ [])))
+      (record { valid = w.log.valid; shows = control_at_tip s.world.log image w.log.shows })
+
+  lead_whole : (epoch next : ℤ) → Gives P (lead s epoch next)
+  lead_whole epoch next =
+      gives_refuse P (reasons.already_leading s.world.leading) (is_some s.world.leading) _ (λ _. gives_refuse P (reasons.old_epoch epoch s.world.greatest) (not (int_lt s.world.greatest epoch)) _ (λ _.
+      gives_refuse P (reasons.bad_next next (pos s.world.committed)) (not (may_begin_at s.world next)) _ (λ _. gives_refuse P (reasons.exhausted next) (is_far next) _ (λ _.
+      gives_done P (after_lead s epoch next)
+      (whole (after_lead s epoch next) image (led_log (int_eq next (pos s.world.committed)))
+      (λ _. leaders_begin_hearing image s.basis.time next)
+      (begun_now s.basis.time (unfenced image))
+      (begun (unfenced image) (stopping image) s.basis.time next (unfenced_once image valid) (stopping_once image valid) (stopping_within image valid)))))))
+
+  commit_whole : (epoch end : ℤ) → Gives P (commit s epoch end)
+  commit_whole epoch end =
+      gives_refuse P (reasons.not_leading epoch s.world.leading) (not (leads_in s.world.leading epoch)) _ (λ _.
+      gives_refuse P (reasons.bad_commit end (pos s.world.committed) (pos (tip_of s))) (not (is_end s.world end)) _ (λ _.
+      gives_done P (after_commit s end) (record { log = w.log; hears = w.hears; in_time = w.in_time; stand = w.stand })))
+
+  cut_log : Makes (cut s.world.log s.world.committed) (seen_at s.world.log s.world.committed)
+  cut_log =
+      let end = s.world.committed in
+      let below = not_higher end s.world.batch_ends (tip_of s) k.rises.ends in record {
+        valid = w.log.valid;
+        shows =
+            ap (image_at (cut s.world.log end)) (cut_tip s.world.log end k.rises.started below)
+            ∙ (cut_below s.world.log end end (omega arith) ∙ seen_below s.world.log end image w.log.shows);
+      }
+
+  lost_whole : (epoch : ℤ) → Gives P (lost s epoch)
+  lost_whole epoch =
+      gives_refuse P (reasons.not_leading epoch s.world.leading) (not (leads_in s.world.leading epoch)) _ (λ _.
+      gives_done P (after_lost s) (whole (after_lost s) (seen_at s.world.log s.world.committed) cut_log (λ some. absurd (never some)) refl ended))
+
+  ill_whole : (more : Batch) (o : Option (ℤ × Ill)) → s.world.leading ≡ None → first_ill image (pos (tip_of s)) more.items ≡ o → Gives P (unless_ill o (after_batch s more))
+  ill_whole more None none means =
+      gives_done P (after_batch s more)
+      (whole (after_batch s more) (result_unwrap_or (apply_all image more.items) empty)
+      (makes_then s.world.log more.items image (result_unwrap_or (apply_all image more.items) empty) w.log (means_unless_ill image (pos (tip_of s)) more.items means))
+      (λ some. absurd (nobody_leads s.world.leading none some)) w.in_time w.stand)
+  ill_whole more (Some (place, cause)) none means = λ after is. absurd cc
+
+  batch_whole : (bytes : List ℕ) → Gives P (batch s bytes)
+  batch_whole bytes =
+      gives_refuse P (reasons.already_leading s.world.leading) (is_some s.world.leading) _ (λ none. gives_then (λ (b : Batch). Unit {0}) P (batch_or (batch_of bytes)) (take_batch s) (λ _ _. tt) (λ more _.
+      gives_refuse P (reasons.gap (pos s.world.committed) more.base) (not (int_eq more.base (pos s.world.committed))) _ (λ _. gives_refuse P (reasons.exhausted (end_of more)) (is_far (end_of more)) _ (λ _.
+      ill_whole more (first_ill image (pos (tip_of s)) more.items) (none_is s.world.leading none) refl))))
+
+  load_whole : (bytes : List ℕ) → Gives P (load s bytes)
+  load_whole bytes =
+      gives_refuse P (reasons.already_leading s.world.leading) (is_some s.world.leading) _ (λ none. gives_then IsLoadable P (image_or (image_of bytes)) (take_image s) (loaded_or (image_of bytes) (loaded_valid bytes)) (λ x good.
+      gives_refuse P (reasons.older_image x.0 (pos s.world.committed)) (int_lt x.0 (pos s.world.committed)) _ (λ _. gives_refuse P (reasons.exhausted x.0) (is_far x.0) _ (λ _.
+      let after = after_load s (unsigned_abs x.0) x.1 in
+      gives_done P after
+      (whole after x.1 (record { valid = good; shows = at_tip after.world.log }) (λ some. absurd (nobody_leads s.world.leading (none_is s.world.leading none) some)) w.in_time w.stand)))))
+
+  lapsed_whole : (leading : Option ℤ) → s.world.leading ≡ leading → IsWhole (fence_all options s (lapsed_contacts options s))
+  lapsed_whole None none = subst (λ brokers. IsWhole (fence_all options s brokers)) (sym (none_lapses options s (k.at_standby none).1)) w
+  lapsed_whole (Some epoch) is = fenced_whole options (lapsed_contacts options s) s (subst (λ (l : Option ℤ). IsSome l) (sym is) refl) w
+
+  tick_whole : Gives P (tick options s)
+  tick_whole =
+      gives_refuse P (reasons.exhausted (pos (tip_of s))) (is_some s.world.leading && is_far (pos (tip_of s))) _ (λ _.
+      gives_done P (fence_all options s (lapsed_contacts options s)) (lapsed_whole s.world.leading refl))
+
+  written_whole : (asked : Request) → IsSome s.world.leading → IsWhole (after_write options s asked)
+  written_whole asked leads =
+      let d = decision options s asked in
+      let place = pos (tip_of s) in
+      whole (after_write options s asked) d.image
+      (batch_makes s.world (as_items d.records) image d.image w.log (as_records image d.records ∙ requests_stand options s.basis.time (heard s.basis) image place asked))
+      (λ _. requests_keep_hearing options s.basis image place asked valid (w.hears leads))
+      (decided_in_time options s.basis image place asked w.in_time)
+      (decided_stand options s.basis image place asked valid (w.hears leads) w.in_time w.stand)
+
+  decided_whole : (asked : Request) (b : Bool) → (b ≡ true → IsSome s.world.leading) → IsWhole (cond b (after_write options s asked) s)
+  decided_whole asked true leads = written_whole asked (leads refl)
+  decided_whole asked false leads = w
+
+  asked_whole : (ask : Ask) → IsWhole (after_ask options s ask)
+  asked_whole (asks.Call call) =
+      decided_whole call.request (is_decided s.world (asks.Call call)) (λ is. (both (is_some s.world.leading) (not (is_read call.request)) is).0)
+  asked_whole (asks.Bare correlation fault) = w
+
+  request_whole : (ask : Ask) → Gives P (request options s ask)
+  request_whole ask =
+      gives_refuse P (reasons.exhausted (pos (tip_of s))) (is_decided s.world ask && is_far (pos (tip_of s))) _ (λ _. gives_done P (after_ask options s ask) (asked_whole ask))
+
+  outcome_whole : (event : Event) → Gives P (outcome options s event)
+  outcome_whole (events.Lead epoch next now) = lead_whole epoch next
+  outcome_whole (events.Commit epoch end) = commit_whole epoch end
+  outcome_whole (events.Lost epoch) = lost_whole epoch
+  outcome_whole (events.Batch bytes) = batch_whole bytes
+  outcome_whole (events.Load bytes) = load_whole bytes
+  outcome_whole (events.Tick now) = tick_whole
+  outcome_whole (events.Request client now ask) = request_whole ask
+  outcome_whole events.Image = gives_done P s w
+
+timed_whole : (s : State) (event : Event) → IsWhole s → IsWhole (at_time_of s event)
+timed_whole s event w = record {
+  log = w.log;
+  hears = w.hears;
+  in_time = later_too s.basis.contacts s.basis.time (time_after s.basis.time event) (never_earlier s.basis.time event) w.in_time;
+  stand = w.stand;
+}
+
+counted_whole : (s : State) → IsWhole s → IsWhole (with_next_number s)
+counted_whole s w = record { log = w.log; hears = w.hears; in_time = w.in_time; stand = w.stand }
+
+whole_or : (r : Result State Reason) (s : State) → IsWhole s → Gives IsWhole r → IsWhole (result_unwrap_or r s)
+whole_or (Ok after) s itself gives = gives after refl
+whole_or (Err reason) s itself gives = itself
+
+-- the state is orderly at the time of the event
+pub stays_whole : (options : Options) (s : State) (event : Event) → IsOrderly (at_time_of s event) → IsWhole s → IsWhole (happens options s event)
+stays_whole options s event k w =
+    let at = at_time_of s event in
+    let timed = timed_whole s event w in
+    counted_whole (result_unwrap_or (outcome options at event) at) (whole_or (outcome options at event) at timed (outcome_whole options at k timed event))

@@ -1,5 +1,0 @@
-use Rattle.law_prefix.proofs.ReplacedPrefixes.{replaced_prefix}
-use Rattle.law_prefix.proofs.a_prefix_may_be_replaced.Goals as goal
-
-pub returns : goal.returns
-returns c = replaced_prefix

@@ -1,0 +1,49 @@
+-- A list of entries that shows a log up to a place, and answers that rest on a log. This project's own.
+use Rattle.std.specs.Prelude.{◌≡◌, ◌+ℤ◌, ◌≤◌, ℕ, ◌+◌, ◌-◌, ℤ, pos, IsTrue, List, [], ◌∷◌, length, take, drop, All, Contains}
+use Rattle.kr_defs.specs.declared.options.Options.{Options}
+use Rattle.kr_defs.specs.declared.record.Item.{Item}
+use Rattle.kr_defs.specs.ImageLaws.{as_items}
+use Rattle.kr_defs.specs.Log.{Log, tip}
+use Rattle.kr_calls.specs.declared.answers.Answered.{Answered}
+use Rattle.kr_calls.specs.declared.events.Entry.{Entry}
+use Rattle.kr_calls.specs.declared.events.Entry.TheVariants as entries
+use Rattle.kr_calls.specs.Decide.{Decision, decide}
+use Rattle.kr_calls.specs.SeatList.{image_below, is_below, reached}
+use Rattle.kr_model.specs.World.{seen_at}
+
+-- the items stand in the list, one behind the other from the place on
+abbrev pub HaveItems : List Entry → ℤ → List Item → Type 0
+HaveItems list place [] = Unit {0}
+HaveItems list place (item ∷ items) = Contains list (entries.Item place item) × HaveItems list (place +ℤ pos 1) items
+
+-- The list shows the log up to the end: its image and end are those of the log there, its image below each earlier place is
+-- the log's, the log's items stand in it, and all of it is below the end.
+pub record Shows (log : Log) (end : ℕ) (list : List Entry) : Type 0 where
+  pub whole : reached list ≡ record { image = seen_at log end; end = pos end }
+  pub low : All (λ e. IsTrue (is_below (pos end) e)) list
+  pub images : (place : ℕ) → log.offset ≤ place → place ≤ end → image_below (pos place) list ≡ seen_at log place
+  pub items : HaveItems list (pos log.offset) (take (end - log.offset) log.items)
+
+-- pins, unpins, answers and stops
+abbrev pub AreNotes : List Entry → Type 0
+AreNotes [] = Unit {0}
+AreNotes (entries.Item place item ∷ es) = ⊥
+AreNotes (entries.Load offset records ∷ es) = ⊥
+AreNotes (entries.Pin pin ∷ es) = AreNotes es
+AreNotes (entries.Unpin pin ∷ es) = AreNotes es
+AreNotes (entries.Answer answer ∷ es) = AreNotes es
+AreNotes (entries.Stop number ∷ es) = AreNotes es
+
+-- what the rules say of the call on the log's image at the place
+abbrev pub decision_at : Options → Log → ℕ → Answered → Decision
+decision_at options log place a = decide options (seen_at log place) a.basis a.place a.call.request
+
+-- the answer is what the rules gave at its place of the log, and the records stand there
+pub record IsDecided (options : Options) (log : Log) (a : Answered) : Type 0 where
+  pub at : ℕ
+  pub place : a.place ≡ pos at
+  pub started : log.offset ≤ at
+  pub within : (at + a.count) ≤ tip log
+  pub count : length (decision_at options log at a).records ≡ a.count
+  pub records : take a.count (drop (at - log.offset) log.items) ≡ as_items (decision_at options log at a).records
+  pub reply : a.reply ≡ (decision_at options log at a).reply

@@ -1,5 +1,0 @@
-use Rattle.law_world.proofs.AllStates.{committed_rises}
-use Rattle.law_world.proofs.the_committed_end_never_falls.Goals as goal
-
-pub returns : goal.returns
-returns c = committed_rises

@@ -1,5 +1,0 @@
-use Rattle.std.proofs.Common.{length}
-use Rattle.test_rule_answers.proofs.heartbeats.+is_contact.Given as goal
-
-abbrev pub decreases-is_contact : goal.decreases-is_contact
-decreases-is_contact l = length l.contacts.now
