@@ -1,4 +1,5 @@
-"""The three transactions that change the log in etcd, and why what they leave is one log. Nothing of this is proved.
+"""The three transactions that change the log in etcd, and why what they leave is one log. The argument is proved over definitions of
+these transactions (crates/law_quorum, crates/law_link); that this script makes just these is not.
 
 Under a prefix stand `log/PLACE`, a batch by the place of its first record; `end`, the place behind the last batch; `leader`, who
 leads, under a lease; `epoch`, the greatest epoch that was led; and `image`, the place up to which an image stands for the log. No

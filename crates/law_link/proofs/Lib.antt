@@ -1,0 +1,4 @@
+mod Examples
+pub mod FoundLeaderships
+pub mod LinkSteps
+pub mod StepLaws
