@@ -1,6 +1,4 @@
 """Members of etcd, daemons and their links on this machine, in a folder of their own: what cluster and torture start and end."""
-import importlib.machinery
-import importlib.util
 import os
 import random
 import shlex
@@ -12,18 +10,13 @@ import sys
 import time
 
 HERE = os.path.dirname(os.path.abspath(__file__))
-ROOT = os.path.dirname(os.path.dirname(HERE))
-sys.dont_write_bytecode = True
+sys.path.insert(0, os.path.dirname(HERE))
 from batches import look
 from gateway import Gateway, Unknown
+from lib import client
+from lib.daemon import DAEMON, TOOL
+from lib.wire import Reading
 
-loader = importlib.machinery.SourceFileLoader("client", f"{ROOT}/tools/client")
-client = importlib.util.module_from_spec(importlib.util.spec_from_loader("client", loader))
-loader.exec_module(client)
-parser = client.parser()
-
-DAEMON = shlex.split(os.environ.get("DAEMON", f"{ROOT}/crates/kr_daemon/out/kr_daemon"))
-TOOL = shlex.split(os.environ.get("TOOL", f"{ROOT}/crates/kr_tool/out/kr_tool"))
 ETCD = shlex.split(os.environ.get("ETCD", "etcd"))
 LINK = [sys.executable, f"{HERE}/link"]
 LEASE = 5                # seconds, as a link takes it by itself
@@ -202,13 +195,13 @@ class Node:
 
 def request_of(words):
     """The message of a request in tools/client's words, and what tells its reply."""
-    options = parser.parse_args(words.split())
+    options = client.parser().parse_args(words.split())
     return options.request(options)
 
 
 def told(reply, tell):
     """The lines of a reply, each with its error; a bare reply is its error alone."""
-    reply = client.Reading(reply)
+    reply = Reading(reply)
     reply.number(4)
     reply.tags()
     return [(reply.number(2), "")] if len(reply.data) == 7 else list(tell(reply))

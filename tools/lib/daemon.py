@@ -1,0 +1,78 @@
+"""The daemon and the tool that make build leaves, or DAEMON and TOOL from the environment; a daemon that is started and ended,
+and a quorum at the other end of its link."""
+import os
+import shlex
+import socket
+import struct
+import subprocess
+import threading
+import time
+
+from lib import ROOT, client
+from lib.frames import end_of, frame
+
+DAEMON = shlex.split(os.environ.get("DAEMON", f"{ROOT}/crates/kr_daemon/out/kr_daemon"))
+TOOL = shlex.split(os.environ.get("TOOL", f"{ROOT}/crates/kr_tool/out/kr_tool"))
+
+
+def free_port():
+    with socket.socket() as one:
+        one.bind(("127.0.0.1", 0))
+        return one.getsockname()[1]
+
+
+def with_daemon(more, use):
+    """What `use` makes of the address of a daemon that is started with these further words."""
+    address = f"127.0.0.1:{free_port()}"
+    words = DAEMON + ["--listen", address, "--node", "1", "--cluster", "c1", "--salt", "7"] + more
+    daemon = subprocess.Popen(words, stdout=subprocess.PIPE)
+    try:
+        if daemon.stdout.readline() != b"listening\n":
+            raise SystemExit("the daemon doesn't listen")
+        return use(address)
+    finally:
+        daemon.kill()
+        daemon.wait()
+
+
+def ask_all(address, messages):
+    """The replies to the messages, once the daemon leads."""
+    one = client.Connection(address)
+    # A write that changes nothing is refused on standby.
+    while one.ask(client.message_of("alter x=y --dry"))[11:13] == struct.pack(">h", 41):
+        time.sleep(0.01)
+    return [one.ask(message) for message in messages]
+
+
+class Quorum(threading.Thread):
+    """The other end of a link: leads, commits each append, and keeps what it sent and what it got, in order."""
+
+    def __init__(self):
+        super().__init__(daemon=True)
+        self.listener = socket.create_server(("127.0.0.1", 0))
+        self.address = "127.0.0.1:%d" % self.listener.getsockname()[1]
+        self.batches, self.refused = [], []
+
+    def run(self):
+        link = self.listener.accept()[0]
+        link.sendall(frame(2, struct.pack(">iqq", 1, 0, int(time.time() * 1000))))
+        data = b""
+        while True:
+            while len(data) >= 4 and len(data) >= 4 + struct.unpack_from(">I", data)[0]:
+                size = 4 + struct.unpack_from(">I", data)[0]
+                self.take(link, data[4], data[5:size])
+                data = data[size:]
+            try:
+                piece = link.recv(65536)
+            except OSError:
+                return
+            if not piece:
+                return
+            data += piece
+
+    def take(self, link, kind, body):
+        if kind == 0x81:
+            self.batches.append(body)
+            link.sendall(frame(3, struct.pack(">iq", 1, end_of(body))))
+        else:
+            self.refused.append(body)
