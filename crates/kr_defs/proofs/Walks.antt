@@ -47,7 +47,8 @@ module _ {K V : Type 0} {R : K → K → Ordering} (o : IsTotalOrder R) where
   above_passed : (e : K × V) (es : List (K × V)) (k : K) → R e.0 k ≡ Less → above R (e ∷ es) (Some k) ≡ above R es (Some k)
   above_passed e es k lt = rw (o.antisymm k e.0 ∙ ap ordering_reverse lt) refl
 
-  found_among : (P : K → Type 0) (k : K) (es : List (K × V)) (e : K × V) → AllByRecursion P (keys_of es) → slice_get (above R es (Some k)) 0 ≡ Some e → P e.0
+  -- what holds of each key holds of the next one's
+  pub found_among : (P : K → Type 0) (k : K) (es : List (K × V)) (e : K × V) → AllByRecursion P (keys_of es) → slice_get (above R es (Some k)) 0 ≡ Some e → P e.0
   found_among P k [] e a found = absurd cc
   found_among P k (d ∷ ds) e a found =
       elim (is_lt (R k d.0)) as (λ b. slice_get (cond (b && true) (d ∷ above R ds (Some k)) (above R ds (Some k))) 0 ≡ Some e → P e.0) [

@@ -15,10 +15,12 @@ fn are_natural(list: &[i32]) -> bool
     list.iter().all(|id| *id >= 0)
 }
 
-fn is_part(list: &Ids, replicas: &Ids) -> bool
+/// Each of the list is a replica, and stands once. A list longer than the replicas costs their number a member: it is walked
+/// for what stands twice only where all are replicas, and then one of the first does.
+pub fn is_part(list: &Ids, replicas: &Ids) -> bool
     ensures { result ≡ rules.is_part list.now replicas.now }
 {
-    is_distinct(list.as_slice()) && is_within(list.as_slice(), replicas)
+    is_within(list.as_slice(), replicas) && is_distinct(list.as_slice())
 }
 
 /// 1 to 64 ids, each once, none negative.

@@ -35,7 +35,7 @@ pub use built_laws::{
 pub use changing::{Assignment, Choice, Facts, Mode, Want};
 pub use copied::Copied;
 pub use epoch_laws::{forgetting_leaves_the_others, reverts_leave_the_others, reverts_restore};
-pub use forming::{are_replicas, is_reassignment, is_sensible, is_well_formed};
+pub use forming::{are_replicas, is_part, is_reassignment, is_sensible, is_well_formed};
 pub use id_lists::{are_apart, is_distinct, is_within};
 pub use ill::Ill;
 pub use image_laws::own_records_make_images;

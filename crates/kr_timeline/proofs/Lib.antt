@@ -1,5 +1,6 @@
 pub mod Bools
 pub mod Versions
+pub mod Searches
 pub mod Entries
 pub mod Trims
 pub mod Standing

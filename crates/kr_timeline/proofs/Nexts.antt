@@ -4,7 +4,7 @@ use Rattle.std.specs.declared.cmp.Ordering.{Ordering}
 use Rattle.std.specs.declared.ops.Bound.TheVariants.{Excluded, Unbounded}
 use Rattle.std.specs.BTreeMap.Range.{range_contains}
 use Rattle.kr_defs.specs.Map.{above}
-use Rattle.kr_timeline.specs.Chains.{value_at, standing, map_of}
+use Rattle.kr_timeline.specs.Chains.{AreFalling, value_at, standing, map_of}
 
 module _ {K V : Type 0} where
   map_of-filter : (test : K → Bool) (m : ℕ) (chains : List (K × List (ℕ × Option V))) → filter (λ (e : K × V). test e.0) (map_of m chains) ≡ map_of m (filter (λ (e : K × List (ℕ × Option V)). test e.0) chains)
@@ -23,3 +23,13 @@ module _ {K V : Type 0} where
 
   pub above_map_of : (order : K → K → Ordering) (m : ℕ) (chains : List (K × List (ℕ × Option V))) (key : K) → above order (map_of m chains) (Some key) ≡ map_of m (above order chains (Some key))
   above_map_of order m chains key = map_of-filter (range_contains order (Excluded key) Unbounded) m chains
+
+  falls-filter : (test : K → Bool) (chains : List (K × List (ℕ × Option V))) → AreFalling chains → AreFalling (filter (λ (e : K × List (ℕ × Option V)). test e.0) chains)
+  falls-filter test [] a = tt
+  falls-filter test (e ∷ chains) a = elim (test e.0) as (λ b. AreFalling (cond b (e ∷ filter (λ (q : K × List (ℕ × Option V)). test q.0) chains) (filter (λ (q : K × List (ℕ × Option V)). test q.0) chains))) [
+    | true ↦ (a.0, falls-filter test chains a.1)
+    | false ↦ falls-filter test chains a.1
+  ]
+
+  pub falls-above : (order : K → K → Ordering) (chains : List (K × List (ℕ × Option V))) (key : K) → AreFalling chains → AreFalling (above order chains (Some key))
+  falls-above order chains key a = falls-filter (range_contains order (Excluded key) Unbounded) chains a

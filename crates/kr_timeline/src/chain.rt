@@ -84,16 +84,16 @@ impl<V> Model for Chain<V> {
     ghost view = { λ c. c.newest ∷ c.older.items };
 }
 
-// The value of the first version up to the number.
+// The value of the first version up to the number. The numbers fall, so those above it stand in front.
 fn value_among<V: Drop>(versions: &VecDeque<Version<V>>, number: u64) -> Option<&V>
+    requires { Falls versions.now.items }
     ensures { option_copied result ≡ value_at number versions.now.items }
 {
-    for version in versions {
-        if version.is_up_to(number) {
-            return version.value();
-        }
+    let place = versions.partition_point(|version| !version.is_up_to(number));
+    match versions.get(place) {
+        Some(version) => version.value(),
+        None => None,
     }
-    None
 }
 
 impl<V: Drop> Chain<V> {
@@ -109,6 +109,7 @@ impl<V: Drop> Chain<V> {
 
     /// The value of the newest version up to the number.
     pub fn at(&self, number: u64) -> Option<&V>
+        requires { Falls self.now }
         ensures { option_copied result ≡ value_at number self.now }
     {
         if self.newest.is_up_to(number) {

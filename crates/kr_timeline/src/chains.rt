@@ -22,6 +22,7 @@ pub(crate) fn get<'a, K: Ord + Drop, V: Drop>(
     number: u64,
     key: &K,
 ) -> Option<&'a V>
+    requires { AreFalling chains.now.entries }
     ensures value { option_copied result ≡
         entries.get K.cmp (map_of number chains.now.entries) key.now }
 {
@@ -147,6 +148,7 @@ pub(crate) fn write<K: Key + Drop, V: Drop>(
 
 // The first entry of the map at the number.
 fn first_of<K: Ord + Drop, V: Drop>(chains: &BTreeMap<K, Chain<V>>, number: u64) -> Option<(&K, &V)>
+    requires { AreFalling chains.now.entries }
     ensures { entry_copied result ≡ slice_get (map_of number chains.now.entries) 0 }
 {
     for (key, chain) in chains {
@@ -163,6 +165,7 @@ fn first_above<'a, K: Ord + Drop, V: Drop>(
     number: u64,
     after: &K,
 ) -> Option<(&'a K, &'a V)>
+    requires { AreFalling chains.now.entries }
     ensures { entry_copied result ≡
         slice_get (map_of number (entries.above K.cmp chains.now.entries (Some after.now))) 0 }
 {
@@ -182,6 +185,7 @@ pub(crate) fn next<'a, K: Ord + Drop, V: Drop>(
     number: u64,
     after: Option<&K>,
 ) -> Option<(&'a K, &'a V)>
+    requires { AreFalling chains.now.entries }
     ensures { entry_copied result ≡
         entries.next K.cmp (map_of number chains.now.entries) (option_copied after.entry) }
 {
