@@ -1,7 +1,7 @@
 """One node's link to a log in etcd: listens for the daemon (`kr_daemon --link ADDR`), feeds it the log (the image that stands for
 its beginning, and the batches behind), campaigns for the leadership under a lease, and appends its batches by one transaction at a
 time. Nothing of it is proved; transactions.py beside it says what keeps the log one. A line for each change of state goes to
-standard output. docs/OPERATING.md has what an operator needs.
+standard output. docs/ETCD.md has what an operator needs.
 
 usage: tools/quorum/link --listen ADDR --etcd ADDR,ADDR,.. [--name NAME] [--prefix TEXT] [--lease SECONDS] [--images PLACES]"""
 import argparse
