@@ -1,14 +1,12 @@
 //! Partitions are shown in runs, and read meanwhile in another thread.
 
-ghost use Rattle.std.specs.Prelude.{◌≡◌, true, IfOk, IsTrue, OnOk};
-ghost use Rattle.kr_calls.specs.Decide.{is_read};
-ghost use Rattle.kr_view.specs.Staged.{is_logged};
-ghost use Rattle.kr_view.specs.StagedLaws.{HasNothing, IsLogged};
+ghost use Rattle.kr_view.specs.StagedLaws.{HasNothing, IsPlain};
+ghost use Rattle.std.specs.Prelude.{OnOk};
 
+use crate::calls::all_topics;
+use crate::shown::{options, partition, show_plain, stage_record, topic};
 use kr_base::NoMemory;
-use kr_calls::{Call, Entry, Metadata, MetadataReply, Reply, Request};
-use kr_defs::{Ids, Item, Options, Partition, Record, Text};
-use kr_view::laws::logged_entries_are_right;
+use kr_calls::{MetadataReply, Reply};
 use kr_view::{Opening, Publisher, ReaderSeat, ReaderSeats, open};
 use std::alloc::Global;
 use std::sync::Wait;
@@ -24,17 +22,6 @@ const READS: u32 = 50;
 
 const TOPIC: u128 = 7;
 
-// What a reader saw.
-#[derive(Drop)]
-struct Outcome {
-    // Whole runs alone, and never fewer partitions than before.
-    is_whole: bool,
-    // How many partitions in the end.
-    last: Option<usize>,
-    end: i64,
-    misses: u64,
-}
-
 #[test]
 fn partitions_are_shown_while_they_are_read(rt: HostRuntime) -> Result<(), NoMemory> {
     let alloc = rt.alloc();
@@ -42,23 +29,20 @@ fn partitions_are_shown_while_they_are_read(rt: HostRuntime) -> Result<(), NoMem
     let Ok((mut publisher, seats)) = open(&rt, alloc, &mut opening, options(alloc), 1) else {
         return Err(NoMemory);
     };
-    let outcome = show_and_read(&rt, alloc, &mut publisher, seats);
+    let holds = show_and_read(&rt, alloc, &mut publisher, seats);
     publisher.close(&rt);
-    let outcome = outcome?;
-    assert!(rt; outcome.is_whole);
-    assert_eq!(rt; outcome.last, Some(9_000));
-    assert_eq!(rt; outcome.end, 9_001);
-    assert_eq!(rt; outcome.misses, 0);
-    assert_eq!(rt; opening.refusals(), 0);
+    assert!(rt; holds?);
+    assert!(rt; opening.refusals() == 0);
     Ok(())
 }
 
+// Whether the reader saw whole runs alone, never fewer partitions than before, and all of them in the end.
 fn show_and_read<R: Threads + Wait>(
     rt: &R,
     alloc: Global,
     publisher: &mut Publisher,
     seats: ReaderSeats,
-) -> Result<Outcome, NoMemory>
+) -> Result<bool, NoMemory>
     requires { HasNothing publisher.old }
 {
     let Some(seat) = seats.into_vec().pop() else {
@@ -70,77 +54,26 @@ fn show_and_read<R: Threads + Wait>(
     let shown = show_all(rt, alloc, publisher);
     let (is_whole, mut seat) = reader.join(rt);
     shown?;
-    let last = read_once(&mut seat);
-    Ok(Outcome {
-        is_whole,
-        last,
-        end: seat.end(),
-        misses: seat.misses(),
-    })
+    Ok(is_whole && sees_all(&mut seat))
 }
 
-fn options(alloc: Global) -> Options {
-    Options {
-        node: 1,
-        salt: 1,
-        session_ms: 9_000,
-        partitions: 1,
-        factor: 1,
-        minimum: 1,
-        cluster: Text::new(alloc),
-    }
+fn sees_all(seat: &mut ReaderSeat) -> bool {
+    read_once(seat) == Some(9_000) && seat.end() == 9_001 && seat.misses() == 0
 }
 
 // The topic stands at place 0, and its partitions at the places from 1 on.
-fn record_at(alloc: Global, place: i32) -> Result<Record, NoMemory> {
-    if place == 0 {
-        let name = Text::from_str(alloc, "orders")?;
-        return Ok(Record::Topic { name, id: TOPIC });
-    }
-    let mut replicas = Ids::new(alloc);
-    replicas.push(1)?;
-    let mut in_sync = Ids::new(alloc);
-    in_sync.push(1)?;
-    let state = Partition {
-        replicas,
-        in_sync,
-        eligible: Ids::new(alloc),
-        last_known: Ids::new(alloc),
-        adding: Ids::new(alloc),
-        removing: Ids::new(alloc),
-        leader: 1,
-        recovery: 0,
-        leader_epoch: 0,
-        partition_epoch: 0,
-    };
-    Ok(Record::Partition {
-        index: place.wrapping_sub(1),
-        topic: TOPIC,
-        state,
-    })
-}
-
-fn entry_at(alloc: Global, place: i32) -> Result<Entry, NoMemory>
-    ensures { IfOk result (λ e. is_logged e ≡ true) }
-{
-    let item = Item::Record(record_at(alloc, place)?);
-    let place = i64::from(place);
-    Ok(Entry::Item { place, item })
-}
-
 fn stage_run(alloc: Global, publisher: &mut Publisher, first: i32, end: i32) -> Result<(), NoMemory>
     requires { HasNothing publisher.old }
-    ensures { OnOk result (IsLogged publisher.new) }
+    ensures { OnOk result (IsPlain publisher.new) }
 {
     for place in first..end {
-        if publisher.stage(entry_at(alloc, place)?).is_err() {
-            return Err(NoMemory);
-        }
+        let record = partition(alloc, TOPIC, place.wrapping_sub(1))?;
+        stage_record(publisher, i64::from(place), record)?;
     }
     Ok(())
 }
 
-// Shows the entries from the first place up to the end at one step.
+// Shows the partitions from the first place up to the end at one step.
 fn show_run<R: Wait>(
     rt: &R,
     alloc: Global,
@@ -152,30 +85,19 @@ fn show_run<R: Wait>(
     ensures { OnOk result (HasNothing publisher.new) }
 {
     stage_run(alloc, publisher, first, end)?;
-    logged_entries_are_right();
-    publisher.publish(rt, i64::from(end))?;
-    publisher.drop_staged();
-    Ok(())
+    show_plain(rt, publisher, i64::from(end))
 }
 
 fn show_all<R: Wait>(rt: &R, alloc: Global, publisher: &mut Publisher) -> Result<(), NoMemory>
     requires { HasNothing publisher.old }
 {
-    show_run(rt, alloc, publisher, 0, 1)?;
+    stage_record(publisher, 0, topic(alloc, "orders", TOPIC)?)?;
+    show_plain(rt, publisher, 1)?;
     for run in 0..RUNS {
         let first = run.wrapping_mul(AT_ONCE).wrapping_add(1);
         show_run(rt, alloc, publisher, first, first.wrapping_add(AT_ONCE))?;
     }
     Ok(())
-}
-
-fn all_topics() -> Call
-    ensures { IsTrue (is_read result.request) }
-{
-    Call {
-        correlation: 1,
-        request: Request::Metadata(Metadata { topics: None }),
-    }
 }
 
 // How many partitions the reply has of the one topic.

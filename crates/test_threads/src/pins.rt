@@ -1,13 +1,13 @@
 //! A place is kept while more is shown, until it is given back.
 
-ghost use Rattle.std.specs.Prelude.{◌≡◌, [], ◌∷◌, pos, true, IfOk, OnOk};
+ghost use Rattle.std.specs.Prelude.{◌≡◌, [], ◌∷◌, pos, OnOk};
 ghost use Rattle.kr_calls.specs.declared.events.Entry.TheVariants as entries;
-ghost use Rattle.kr_view.specs.StagedLaws.{HasNothing, IsPlain, is_plain_entry};
+ghost use Rattle.kr_view.specs.StagedLaws.{HasNothing};
 
+use crate::shown::{options, partition, show_plain, stage_record, topic};
 use kr_base::NoMemory;
 use kr_calls::{Entry, Pin};
-use kr_defs::{Ids, Item, Options, Partition, Record, Records, Text};
-use kr_view::laws::logged_entries_are_right;
+use kr_defs::{Records, Text};
 use kr_view::{
     Opening, PageRow, Publisher, ReaderSeat, ReaderSeats, RecordReader, ScanFault, ScanKey, open,
 };
@@ -34,37 +34,6 @@ fn a_pinned_place_is_kept(rt: HostRuntime) -> Result<(), NoMemory> {
     publisher.close(&rt);
     assert!(rt; outcome?);
     Ok(())
-}
-
-fn options(alloc: Global) -> Options {
-    Options {
-        node: 1,
-        salt: 1,
-        session_ms: 9_000,
-        partitions: 1,
-        factor: 1,
-        minimum: 1,
-        cluster: Text::new(alloc),
-    }
-}
-
-fn partition(alloc: Global) -> Result<Partition, NoMemory> {
-    let mut replicas = Ids::new(alloc);
-    replicas.push(1)?;
-    let mut in_sync = Ids::new(alloc);
-    in_sync.push(1)?;
-    Ok(Partition {
-        replicas,
-        in_sync,
-        eligible: Ids::new(alloc),
-        last_known: Ids::new(alloc),
-        adding: Ids::new(alloc),
-        removing: Ids::new(alloc),
-        leader: 1,
-        recovery: 0,
-        leader_epoch: 0,
-        partition_epoch: 0,
-    })
 }
 
 // The log begins by an image without records.
@@ -108,28 +77,10 @@ fn show_topic<R: Wait>(
     requires { HasNothing publisher.old }
     ensures { OnOk result (HasNothing publisher.new) }
 {
-    let name = Text::from_str(alloc, name)?;
-    let topic = Record::Topic { name, id };
-    let state = partition(alloc)?;
-    let first = Record::Partition {
-        index: 0,
-        topic: id,
-        state,
-    };
-    stage_record(publisher, place, topic)?;
+    let first = partition(alloc, id, 0)?;
+    stage_record(publisher, place, topic(alloc, name, id)?)?;
     stage_record(publisher, place.wrapping_add(1), first)?;
     show_plain(rt, publisher, place.wrapping_add(2))
-}
-
-fn stage_record(publisher: &mut Publisher, place: i64, record: Record) -> Result<(), NoMemory>
-    requires { IsPlain publisher.old }
-    ensures { OnOk result (IsPlain publisher.new) }
-{
-    let item = Item::Record(record);
-    match publisher.stage(Entry::Item { place, item }) {
-        Ok(()) => Ok(()),
-        Err(_) => Err(NoMemory),
-    }
 }
 
 // The pin is given back.
@@ -141,16 +92,6 @@ fn show_unpin<R: Wait>(rt: &R, publisher: &mut Publisher) -> Result<(), NoMemory
         return Err(NoMemory);
     }
     show_plain(rt, publisher, START)
-}
-
-fn show_plain<R: Wait>(rt: &R, publisher: &mut Publisher, end: i64) -> Result<(), NoMemory>
-    requires { IsPlain publisher.old }
-    ensures { OnOk result (HasNothing publisher.new) }
-{
-    logged_entries_are_right();
-    publisher.publish(rt, end)?;
-    publisher.drop_staged();
-    Ok(())
 }
 
 // The row is of partition 0 of this topic.

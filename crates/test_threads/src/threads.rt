@@ -1,210 +1,237 @@
-//! One thread, and a worker with four clients on threads of their own.
+//! A worker, and beside it a link that commits and the clients, each on a thread of its own.
 
-ghost use Rattle.std.specs.Prelude.{◌≡◌, ◌+◌, length, OnOk, IsTrue};
-ghost use Rattle.kr_queue.specs.declared.passes.Role.TheVariants.{Worker, Link, Client};
-ghost use Rattle.kr_queue.specs.Jobs.{may_push};
-ghost use Rattle.kr_queue.specs.Passes.{view, IsPassOf, AreClients};
+ghost use Rattle.std.specs.Prelude.{◌<◌, ◌≤◌, IfOk, IsTrue};
+ghost use Rattle.kr_defs.specs.OpenOptions.{are_options};
 
-use kr_base::NoMemory;
-use kr_calls::{Call, Request, UnregisterBroker};
-use kr_queue::{Job, Pass, Passes, Queue, open};
+use kr_base::{Failed, Gate, MemoryClock, MemoryQuorum, NoMemory, Quorum};
+use kr_batch::head;
+use kr_calls::Event;
+use kr_defs::{Options, Text};
+use kr_shared::{Bell, ClientSeat, LinkSeat, Turn, WorkerSeat, open};
+use kr_view::Opening;
 use std::alloc::Global;
 use std::sync::Wait;
+use std::sync::atomic::{AtomicBool, AtomicI64, Ordering};
 use std::thread;
 use std::thread::Threads;
 
-// How many writes each client pushes.
-const EACH: u64 = 100;
+// What each client does on its thread.
+pub(crate) trait Part {
+    // True where all came as it should.
+    fn play<R: Wait>(&self, rt: &R, seat: &mut ClientSeat) -> bool;
+}
 
+// What the threads tell the link's.
 #[derive(Drop)]
-struct Popper<'a> {
-    queue: &'a Queue,
-    pass: Pass,
-    ghost own: { IsPassOf queue.now pass × ((view pass).role ≡ Worker) },
+pub(crate) struct Signs {
+    // Where the quorum's log ends.
+    end: AtomicI64,
+    // All clients are done.
+    done: AtomicBool,
+    // Rung where the link may have something to do.
+    news: Bell,
 }
 
-#[derive(Drop)]
-struct Stopper<'a> {
-    queue: &'a Queue,
-    pass: Pass,
-    ghost own: { IsPassOf queue.now pass × ((view pass).role ≡ Link) },
-}
-
-#[derive(Drop)]
-struct Writer<'a> {
-    queue: &'a Queue,
-    pass: Pass,
-    seat: u32,
-    ghost own: { IsPassOf queue.now pass × ((view pass).role ≡ Client seat) },
-}
-
-#[test]
-fn a_job_is_popped_once(rt: HostRuntime) -> Result<(), NoMemory> {
-    let (queue, mut passes) = open(rt.alloc(), 0)?;
-    let pushed = queue.push(&rt, &mut passes.link, Job::Stop { number: 7 });
-    assert!(rt; pushed.is_ok());
-    let popped = queue.pop(&rt, &mut passes.worker);
-    assert!(rt; matches!(popped, Some(Job::Stop { number: 7 })));
-    assert!(rt; queue.pop(&rt, &mut passes.worker).is_none());
-    Ok(())
-}
-
-#[test]
-fn each_job_comes_once_and_in_its_pushers_order(rt: HostRuntime) -> Result<(), NoMemory> {
-    let (queue, passes) = open(rt.alloc(), 4)?;
-    let (pushed, writes) = exchange(&rt, rt.alloc(), &queue, passes)?;
-    assert!(rt; pushed);
-    assert_eq!(rt; writes.len(), 400);
-    for seat in 1..5 {
-        assert!(rt; is_in_order(writes.as_slice(), seat));
+impl Signs {
+    pub(crate) fn new() -> Signs {
+        Signs {
+            end: AtomicI64::new(0),
+            done: AtomicBool::new(false),
+            news: Bell::new(),
+        }
     }
-    assert!(rt; !is_in_order(writes.as_slice(), 5));
-    Ok(())
 }
 
-// The seat's tickets are 0, 1 and so on, up to EACH.
-fn is_in_order(writes: &[(u32, u64)], seat: u32) -> bool {
-    let mut next = 0u64;
-    for write in writes {
-        if write.0 == seat {
-            if write.1 != next {
+// It keeps what is appended, and tells where the log ends.
+#[derive(Drop)]
+pub(crate) struct TellingQuorum<'a> {
+    pub kept: MemoryQuorum,
+    // It tells no end, so that nothing is committed.
+    is_silent: bool,
+    signs: &'a Signs,
+}
+
+impl TellingQuorum<'_> {
+    // The appends of the listed numbers fail. Where there are some, nothing is committed.
+    pub(crate) fn new(
+        alloc: Global,
+        failing: Vec<u64>,
+        signs: &Signs,
+    ) -> Result<TellingQuorum<'_>, NoMemory> {
+        let is_silent = !failing.is_empty();
+        Ok(TellingQuorum {
+            is_silent,
+            kept: MemoryQuorum::new(alloc, 1_000_000, 4_000, failing)?,
+            signs,
+        })
+    }
+}
+
+impl Quorum for TellingQuorum<'_> {
+    ghost use Rattle.std.specs.Prelude.{Some};
+
+    ghost pieces = { λ s. Some s.kept.pieces };
+
+    ghost faults = { λ s. s.kept.faults };
+
+    fn append(&mut self, bytes: &[u8]) -> Result<(), Failed> {
+        self.kept.append(bytes)?;
+        if !self.is_silent {
+            self.signs.end.store(end_after(bytes), Ordering::SeqCst);
+        }
+        Ok(())
+    }
+
+    fn faults(&self) -> u64 {
+        self.kept.faults()
+    }
+}
+
+fn end_after(batch: &[u8]) -> i64 {
+    match head(batch) {
+        Some(heading) => heading.base.saturating_add(i64::from(heading.count)),
+        None => 0,
+    }
+}
+
+fn options(alloc: Global) -> Result<Options, NoMemory>
+    ensures { IfOk result (λ options. IsTrue (are_options options)) }
+{
+    Ok(Options {
+        node: 1,
+        salt: 7,
+        session_ms: 9000,
+        partitions: 1,
+        factor: 1,
+        minimum: 1,
+        cluster: Text::from_str(alloc, "c1")?,
+    })
+}
+
+// Commits what is appended, until all clients are done, and then stops the worker. True where nothing failed.
+fn commit_all<R: Wait>(rt: &R, mut link: LinkSeat, signs: &Signs) -> bool {
+    let mut committed = 0i64;
+    for _ in rt.forever() {
+        let seen = signs.news.number(rt);
+        let end = signs.end.load(Ordering::SeqCst);
+        if end > committed {
+            committed = end;
+            if link.push(rt, Event::Commit { epoch: 1, end }).is_err() {
                 return false;
             }
-            next = next.wrapping_add(1);
-        }
-    }
-    next == EACH
-}
-
-// What the worker popped of four clients, and whether all was pushed.
-fn exchange<R: Threads + Wait + Sync>(
-    rt: &R,
-    alloc: Global,
-    queue: &Queue,
-    passes: Passes,
-) -> Result<(bool, Vec<(u32, u64)>), NoMemory>
-    requires worker { IsPassOf queue.now passes.worker × ((view passes.worker).role ≡ Worker) }
-    requires link { IsPassOf queue.now passes.link × ((view passes.link).role ≡ Link) }
-    requires clients { AreClients queue.now passes.clients × (length passes.clients ≡ 4) }
-{
-    let Passes {
-        worker,
-        link,
-        clients,
-    } = passes;
-    let popper = Popper {
-        queue,
-        pass: worker,
-    };
-    let stopper = Stopper { queue, pass: link };
-    let mut clients = clients.into_vec();
-    let fourth = last_writer(queue, &mut clients, 4)?;
-    let third = last_writer(queue, &mut clients, 3)?;
-    let second = last_writer(queue, &mut clients, 2)?;
-    let first = last_writer(queue, &mut clients, 1)?;
-    let (pushed, popped) = thread::join(
-        rt,
-        move || push_and_stop(rt, stopper, first, second, third, fourth),
-        move || pop_writes(rt, alloc, popper),
-    );
-    Ok((pushed, popped?))
-}
-
-// The client with the greatest seat.
-#[tactic(auto, using(kr_queue::proofs::Clients::one_less))]
-fn last_writer<'a>(
-    queue: &'a Queue,
-    clients: &mut Vec<Pass>,
-    seat: u32,
-) -> Result<Writer<'a>, NoMemory>
-    requires clients { AreClients queue.now clients.old.items }
-    requires count { length clients.old.items ≡ seat }
-    ensures clients { AreClients queue.now clients.new.items }
-    ensures count { OnOk result (length clients.new.items + 1 ≡ seat) }
-{
-    match clients.pop() {
-        Some(pass) => Ok(Writer { queue, pass, seat }),
-        None => Err(NoMemory),
-    }
-}
-
-// Each client pushes on a thread of its own, and then the stop is pushed. False where memory ran out.
-fn push_and_stop<R: Threads + Wait + Sync>(
-    rt: &R,
-    stopper: Stopper<'_>,
-    first: Writer<'_>,
-    second: Writer<'_>,
-    third: Writer<'_>,
-    fourth: Writer<'_>,
-) -> bool {
-    let (low, high) = thread::join(
-        rt,
-        move || push_both(rt, first, second),
-        move || push_both(rt, third, fourth),
-    );
-    push_stop(rt, stopper) && low && high
-}
-
-fn push_both<R: Threads + Wait + Sync>(rt: &R, first: Writer<'_>, second: Writer<'_>) -> bool {
-    let (one, other) = thread::join(
-        rt,
-        move || push_writes(rt, first),
-        move || push_writes(rt, second),
-    );
-    one && other
-}
-
-fn push_writes<R: Wait>(rt: &R, writer: Writer<'_>) -> bool {
-    let Writer {
-        queue,
-        mut pass,
-        seat,
-    } = writer;
-    for ticket in 0..EACH {
-        let pushed = queue.push(rt, &mut pass, a_write(seat, ticket));
-        if pushed.is_err() {
-            return false;
-        }
-    }
-    true
-}
-
-fn a_write(seat: u32, ticket: u64) -> Job
-    ensures { IsTrue (may_push (Client seat) result) }
-{
-    let call = Call {
-        correlation: 0,
-        request: Request::UnregisterBroker(UnregisterBroker { broker: 1 }),
-    };
-    Job::Write {
-        seat,
-        ticket,
-        floor: 0,
-        call,
-    }
-}
-
-fn push_stop<R: Wait>(rt: &R, stopper: Stopper<'_>) -> bool {
-    let Stopper { queue, mut pass } = stopper;
-    let pushed = queue.push(rt, &mut pass, Job::Stop { number: 1 });
-    pushed.is_ok()
-}
-
-// Pops until the stop comes, and answers each write's seat and ticket.
-fn pop_writes<R: Wait>(
-    rt: &R,
-    alloc: Global,
-    popper: Popper<'_>,
-) -> Result<Vec<(u32, u64)>, NoMemory> {
-    let Popper { queue, mut pass } = popper;
-    let mut writes = Vec::new(alloc);
-    for _ in rt.forever() {
-        match queue.pop(rt, &mut pass) {
-            Some(Job::Write { seat, ticket, .. }) => writes.push((seat, ticket))?,
-            Some(Job::Link { .. } | Job::Pin { .. } | Job::Unpin { .. }) => {}
-            Some(Job::Stop { .. }) => return Ok(writes),
-            None => thread::yield_now(),
+        } else if signs.done.load(Ordering::SeqCst) {
+            return link.stop(rt, 1).is_ok();
+        } else {
+            signs.news.wait_past(rt, seen);
         }
     }
     unreachable!()
+}
+
+// Each client plays on a thread of its own, and the link hears when all are done. True where all came as it should.
+fn play_all<R: Threads + Wait + Sync, P: Part + Sync>(
+    rt: &R,
+    seats: Vec<ClientSeat>,
+    part: &P,
+    signs: &Signs,
+) -> bool {
+    let played = thread::map_vec(rt, seats, &|mut seat: ClientSeat| part.play(rt, &mut seat));
+    signs.done.store(true, Ordering::SeqCst);
+    signs.news.ring(rt);
+    match played {
+        Ok(played) => played.as_slice().iter().all(|fine| *fine),
+        Err(_) => false,
+    }
+}
+
+fn play_and_commit<R: Threads + Wait + Sync, P: Part + Sync>(
+    rt: &R,
+    link: LinkSeat,
+    seats: Vec<ClientSeat>,
+    part: &P,
+    signs: &Signs,
+) -> bool {
+    let (committed, played) = thread::join(
+        rt,
+        move || commit_all(rt, link, signs),
+        move || play_all(rt, seats, part, signs),
+    );
+    committed && played
+}
+
+// Turns until the stop comes. Where no job is left, the link hears of it. True where nothing failed.
+fn turn_all<R: Wait, G: Gate>(
+    rt: &R,
+    alloc: Global,
+    worker: &mut WorkerSeat,
+    gate: &mut G,
+    quorum: &mut TellingQuorum<'_>,
+) -> bool {
+    let signs = quorum.signs;
+    let mut clock = MemoryClock::new(Vec::new(alloc));
+    for _ in rt.forever() {
+        let seen = worker.jobs().number(rt);
+        match worker.turn(rt, gate, quorum, &mut clock) {
+            Ok(Turn::Stopped) => return true,
+            Ok(Turn::Did) => {}
+            Ok(Turn::Idle) => {
+                signs.news.ring(rt);
+                worker.jobs().wait_past(rt, seen);
+            }
+            Err(_) => return false,
+        }
+    }
+    unreachable!()
+}
+
+// The worker turns on this thread, and the others are beside it.
+fn turn_beside<R: Threads + Wait + Sync, G: Gate, P: Part + Sync>(
+    rt: &R,
+    alloc: Global,
+    worker: &mut WorkerSeat,
+    link: LinkSeat,
+    seats: Vec<ClientSeat>,
+    gate: &mut G,
+    quorum: &mut TellingQuorum<'_>,
+    part: &P,
+) -> bool {
+    let signs = quorum.signs;
+    let (played, turned) = thread::join(
+        rt,
+        move || play_and_commit(rt, link, seats, part, signs),
+        || turn_all(rt, alloc, worker, gate, quorum),
+    );
+    played && turned
+}
+
+fn lead<R: Wait>(rt: &R, link: &mut LinkSeat) -> bool {
+    let lead = Event::Lead {
+        epoch: 1,
+        next: 0,
+        now: 1000,
+    };
+    link.push(rt, lead).is_ok()
+}
+
+// A controller that leads from place 0 on serves so many clients, which play their parts. True where all came as it should.
+pub(crate) fn serve<R: Threads + Wait + Sync, G: Gate, P: Part + Sync>(
+    rt: &R,
+    alloc: Global,
+    clients: u32,
+    gate: &mut G,
+    quorum: &mut TellingQuorum<'_>,
+    part: &P,
+) -> Result<bool, NoMemory>
+    requires { (0 < clients) × (clients ≤ 64) }
+{
+    let options = options(alloc)?;
+    let mut opening = Opening::new();
+    let Ok((mut worker, mut link, seats)) = open(rt, alloc, &mut opening, options, clients) else {
+        return Ok(false);
+    };
+    let leads = lead(rt, &mut link);
+    let seats = seats.into_vec();
+    let played = turn_beside(rt, alloc, &mut worker, link, seats, gate, quorum, part);
+    worker.close(rt);
+    Ok(leads && played)
 }

@@ -1,5 +1,5 @@
-use Rattle.kr_view.specs.StagedLaws.{IsLogged}
+use Rattle.kr_view.specs.StagedLaws.{IsPlain}
 use Rattle.test_threads.proofs.copies.stage_run.Given as goal
 
 abbrev pub invariant-loop-place : goal.invariant-loop-place
-invariant-loop-place l = IsLogged l.publisher
+invariant-loop-place l = IsPlain l.publisher

@@ -1,15 +1,20 @@
-//! What a row asks, read from its fields, and done.
+//! Compares how a client's connection is served, over memory and in another thread than the controller's worker, with rows of
+//! expected replies and ends.
 
 use crate::controller::serve_talk;
+use crate::rows::ROWS;
 use crate::talk::Talk;
 use std::alloc::Global;
 use std::sync::Wait;
+use std::test::Fail;
 use std::thread::Threads;
 use testlib_words::RowFault;
 
-/// Does what the row asks: a word, its fields with a space between each two, a tab, and what is expected. It answers how what
-/// comes differs from that, if it does.
-pub(crate) fn do_row<R: Threads + Wait + Sync>(
+// How many rows there are.
+const COUNT: usize = 143;
+
+// Does what the row asks. Where that is the end, it answers how what came differs from what the row expects, if it does.
+fn do_row<R: Threads + Wait + Sync>(
     rt: &R,
     alloc: Global,
     talk: &mut Option<Talk>,
@@ -50,4 +55,30 @@ fn end<R: Threads + Wait + Sync>(
         return Ok(None);
     }
     Ok(Some(text))
+}
+
+// How a row differs.
+fn difference(came: &Result<Option<String>, RowFault>) -> &str {
+    match came {
+        Ok(Some(text)) => text.as_str(),
+        Ok(None) => "",
+        Err(RowFault::Fields) => "no row",
+        Err(RowFault::NoMemory) => "no memory",
+    }
+}
+
+#[test]
+fn connections_are_served_as_rows_say(rt: HostRuntime) -> Result<(), Fail> {
+    let mut talk = None;
+    let mut count = 0usize;
+    for line in ROWS.lines() {
+        if !line.is_empty() && !line.starts_with('#') {
+            let came = do_row(&rt, rt.alloc(), &mut talk, line);
+            assert!(rt; matches!(&came, Ok(None)), "{line}: {}", difference(&came));
+            count = count.saturating_add(1);
+        }
+    }
+    assert_eq!(rt; count, COUNT);
+    assert!(rt; talk.is_none());
+    Ok(())
 }

@@ -102,7 +102,7 @@ pub(crate) fn setting(alloc: Global, value: u64) -> Result<Call, NoMemory>
     })
 }
 
-fn all_topics() -> Call
+pub(crate) fn all_topics() -> Call
     ensures { IsTrue (is_read result.request) }
 {
     Call {

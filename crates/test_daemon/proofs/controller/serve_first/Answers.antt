@@ -4,9 +4,9 @@ use Rattle.std.proofs.Crossing as heap
 use Rattle.std.proofs.sync.atomic.AtomicU64.TheSendSync as number
 use Rattle.kr_base.proofs.memory.MemorySource.TheSendSync as source
 use Rattle.kr_shared.proofs.Sent.{client_send}
-use Rattle.test_server.proofs.Closures.{and_more, closure_send, none}
-use Rattle.test_server.proofs.replies.ReplySink.TheSendSync as sink
-use Rattle.test_server.proofs.controller.serve_first.Goals as goal
+use Rattle.test_daemon.proofs.Closures.{and_more, closure_send, none}
+use Rattle.test_daemon.proofs.replies.ReplySink.TheSendSync as sink
+use Rattle.test_daemon.proofs.controller.serve_first.Goals as goal
 
 -- the runtime, the allocator, the client's seat, its source, its sink, and where it says that it is done
 pub join-has_turned-requires-send-F : goal.join-has_turned-requires-send-F

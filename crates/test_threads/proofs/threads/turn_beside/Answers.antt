@@ -9,10 +9,10 @@ use Rattle.std.specs.contracts.vec.Vec as Vec
 use Rattle.kr_shared.proofs.Sent.{client_send}
 use Rattle.kr_shared.proofs.links.LinkSeat.TheSendSync as link
 use Rattle.kr_shared.specs.contracts.clients.ClientSeat.{the_row as client_row}
-use Rattle.test_worker.proofs.threads.Signs.TheSendSync as signs
-use Rattle.test_worker.proofs.threads.turn_beside.Given.{Over}
-use Rattle.test_worker.proofs.threads.turn_beside.Goals as goal
-use Rattle.test_worker.proofs.threads.turn_beside.Lts as types
+use Rattle.test_threads.proofs.threads.Signs.TheSendSync as signs
+use Rattle.test_threads.proofs.threads.turn_beside.Given.{Over}
+use Rattle.test_threads.proofs.threads.turn_beside.Goals as goal
+use Rattle.test_threads.proofs.threads.turn_beside.Lts as types
 
 clients_send : IsSend (Vec.the_row client_row Heap.the_row ghosts)
 clients_send = heap.Vec-send client_row client_send
