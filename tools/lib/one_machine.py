@@ -54,18 +54,22 @@ class Node:
     """The two processes, each with its lines handed to `say`."""
 
     def __init__(self, daemon, folder, address, kept, say, at=None):
-        self.address, self.say, self.at, self.over = address, say, at, False
+        self.address, self.say, self.at = address, say, at
         folder = os.path.abspath(folder)
-        link = f"127.0.0.1:{free_port()}"
+        self.link = f"127.0.0.1:{free_port()}"
         self.commands = {
-            "link": LINK + ["--listen", link, "--file", f"{folder}/log", "--name", f"node {kept['node']}"],
-            "daemon": daemon + ["--listen", address, "--node", kept["node"], "--cluster", kept["cluster"], "--salt", kept["salt"], "--link", link],
+            "link": LINK + ["--listen", self.link, "--file", f"{folder}/log", "--name", f"node {kept['node']}"],
+            "daemon": daemon + ["--listen", address, "--node", kept["node"], "--cluster", kept["cluster"], "--salt", kept["salt"], "--link", self.link],
         }
-        self.running = {}
+        self.running, self.listening = {}, threading.Event()
 
     def start(self):
+        """The link first, until it listens: the daemon connects once."""
+        self.listening.clear()
         for name in self.commands:
             self.start_one(name)
+            while name == "link" and self.running[name].poll() is None and not self.listening.wait(0.1):
+                pass
 
     def start_one(self, name):
         # A group of its own: Ctrl-C is for who started them, and whatever a command starts ends with it.
@@ -77,14 +81,21 @@ class Node:
     def _tell(self, name, one):
         for line in one.stdout:
             self.say(f"{name}: {line.rstrip()}")
+            if name == "link" and line == "listening\n":
+                self.listening.set()
 
     def revive(self):
-        """Starts again what ended."""
-        for name, one in list(self.running.items()):
-            if one.poll() is not None and not self.over:
+        """Starts again what ended; a daemon ends with its link."""
+        for name, one in self.running.items():
+            if one.poll() is not None:
                 self.say(f"{name}: ended with status {one.returncode}, and is started again")
-                time.sleep(PAUSE)
-                self.start_one(name)
+        if self.running["link"].poll() is not None:
+            self.end()
+            time.sleep(PAUSE)
+            self.start()
+        elif self.running["daemon"].poll() is not None:
+            time.sleep(PAUSE)
+            self.start_one("daemon")
 
     def is_up(self):
         return all(one.poll() is None for one in self.running.values()) and is_open(self.address)
@@ -98,7 +109,6 @@ class Node:
 
     def end(self):
         """The daemon first: what it answered is in the file."""
-        self.over = True
         for name in ("daemon", "link"):
             one = self.running.get(name)
             if one and one.poll() is None:
