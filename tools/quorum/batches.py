@@ -3,7 +3,7 @@ they are larger than etcd takes at once."""
 import hashlib
 import struct
 
-from gateway import get, made_at, put, value_is
+from store import Get, MadeAt, Put, ValueIs
 
 PART = 1 << 20           # bytes; etcd takes 1.5 MiB in a request, all keys and values together
 TOGETHER = 100           # batches in an append, of a part's bytes together; etcd takes 128 operations
@@ -41,7 +41,7 @@ def value_for(etcd, prefix, compare, batch):
     place, _, epoch = span(batch)
     count = -(-len(batch) // PART)
     for at in range(count):
-        etcd.transact([compare], [put(part_key(prefix, place, epoch, at), batch[at * PART:(at + 1) * PART])], [])
+        etcd.transact([compare], [Put(part_key(prefix, place, epoch, at), batch[at * PART:(at + 1) * PART])], [])
     return struct.pack(">BI", IN_PARTS, count) + batch[:HEAD]
 
 
@@ -60,7 +60,7 @@ def whole(value, part):
 def batch_of(etcd, prefix, value):
     """The batch for which a value stands in etcd."""
     def part(place, epoch, at):
-        _, (read,) = etcd.transact([], [get(part_key(prefix, place, epoch, at))], [])
+        _, (read,) = etcd.transact([], [Get(part_key(prefix, place, epoch, at))], [])
         return read[0][1] if read else None
     return whole(value, part)
 
@@ -72,7 +72,7 @@ def number(read):
 
 def look(etcd, prefix):
     """The log's end, whether somebody leads, and the place up to which an image stands for it: one linearizable read."""
-    _, (end, leader, image) = etcd.transact([], [get(prefix + b"end"), get(prefix + b"leader"), get(prefix + b"image")], [])
+    _, (end, leader, image) = etcd.transact([], [Get(prefix + b"end"), Get(prefix + b"leader"), Get(prefix + b"image")], [])
     return number(end), bool(leader), number(image)
 
 
@@ -121,23 +121,23 @@ def image_value(image):
 
 def put_image_parts(etcd, prefix, compare, image):
     for at in range(-(-len(image) // PART)):
-        part = put(image_part_key(prefix, offset_of(image), at), image[at * PART:(at + 1) * PART])
+        part = Put(image_part_key(prefix, offset_of(image), at), image[at * PART:(at + 1) * PART])
         etcd.transact([compare], [part], [])
 
 
 def same_image(prefix, read):
     """Holds as long as the image is the one that was read."""
-    return value_is(prefix + b"image", read[0][1]) if read else made_at(prefix + b"image", 0)
+    return ValueIs(prefix + b"image", read[0][1]) if read else MadeAt(prefix + b"image", 0)
 
 
 def read_image(etcd, prefix):
     """The image that stands for the beginning of the log, None where there is none."""
     while True:
-        _, (value,) = etcd.transact([], [get(prefix + b"image")], [])
+        _, (value,) = etcd.transact([], [Get(prefix + b"image")], [])
         if not value:
             return None
         offset, size, its_digest = value[0][1].split()
-        parts = (etcd.transact([], [get(image_part_key(prefix, int(offset), at))], [])[1][0] for at in range(-(-int(size) // PART)))
+        parts = (etcd.transact([], [Get(image_part_key(prefix, int(offset), at))], [])[1][0] for at in range(-(-int(size) // PART)))
         image = b"".join(part[0][1] for part in parts if part)
         if digest(image) == its_digest:
             return image

@@ -1,18 +1,13 @@
-"""A small client of etcd over its JSON gateway (v3, HTTP), with Python's standard library alone. One of these serves one thread."""
+"""etcd as a store (store.py), over its JSON gateway (v3, HTTP), with Python's standard library alone. One of these serves one
+thread."""
 import base64
 import http.client
 import json
 
+from store import Delete, Get, MadeAt, NoLease, Put, Unknown, ValueIs
+
 SECONDS = 1.0           # how long a member may take to answer one call
 NOT_FOUND = 5           # the gateway's number for a lease that isn't there
-
-
-class Unknown(Exception):
-    """No member answered: whether the call took effect isn't known."""
-
-
-class NoLease(Exception):
-    """The lease isn't there any more; the call had no effect."""
 
 
 def packed(data):
@@ -23,28 +18,19 @@ def unpacked(text):
     return base64.b64decode(text)
 
 
-# ---- what transactions are made of
-
-def get(key):
-    return {"request_range": {"key": packed(key)}}
-
-
-def put(key, value, lease=0):
-    return {"request_put": {"key": packed(key), "value": packed(value), "lease": str(lease)}}
-
-
-def delete(key, end):
-    """The keys from `key` up to `end`."""
-    return {"request_delete_range": {"key": packed(key), "range_end": packed(end)}}
-
-
-def value_is(key, value):
-    return {"key": packed(key), "target": "VALUE", "result": "EQUAL", "value": packed(value)}
-
-
-def made_at(key, revision):
-    """The key was made at this revision, or isn't there: 0."""
-    return {"key": packed(key), "target": "CREATE", "result": "EQUAL", "create_revision": str(revision)}
+def operation(it):
+    """An operation or a comparison as the gateway takes it."""
+    match it:
+        case Get(key):
+            return {"request_range": {"key": packed(key)}}
+        case Put(key, value, lease):
+            return {"request_put": {"key": packed(key), "value": packed(value), "lease": str(lease)}}
+        case Delete(key, end):
+            return {"request_delete_range": {"key": packed(key), "range_end": packed(end)}}
+        case ValueIs(key, value):
+            return {"key": packed(key), "target": "VALUE", "result": "EQUAL", "value": packed(value)}
+        case MadeAt(key, revision):
+            return {"key": packed(key), "target": "CREATE", "result": "EQUAL", "create_revision": str(revision)}
 
 
 def found(answer):
@@ -84,6 +70,10 @@ class Gateway:
             raise NoLease(str(data.get("message")))
         raise ValueError(str(data.get("message") or data.get("error")))
 
+    @property
+    def answers(self):
+        return self.open is not None
+
     def close(self):
         if self.open:
             self.open.close()
@@ -91,6 +81,7 @@ class Gateway:
 
     def transact(self, compare, success, failure):
         """Whether each comparison held, and what each read of the branch that was taken found."""
+        compare, success, failure = ([operation(it) for it in each] for each in (compare, success, failure))
         answer = self.call("kv/txn", {"compare": compare, "success": success, "failure": failure})
         reads = [found(it["response_range"]) for it in answer.get("responses", []) if "response_range" in it]
         return answer.get("succeeded", False), reads

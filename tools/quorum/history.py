@@ -8,7 +8,8 @@ import time
 from typing import NamedTuple
 
 from batches import Broken, span, whole
-from gateway import Gateway, Unknown, unpacked
+from gateway import Gateway, unpacked
+from store import Unknown
 from tape import digest
 
 SHOWN = 200              # bytes of a record's value that are kept

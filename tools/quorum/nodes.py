@@ -12,7 +12,8 @@ import time
 HERE = os.path.dirname(os.path.abspath(__file__))
 sys.path.insert(0, os.path.dirname(HERE))
 from batches import look
-from gateway import Gateway, Unknown
+from gateway import Gateway
+from store import Unknown
 from lib import client
 from lib.daemon import DAEMON, TOOL
 from lib.wire import Reading
@@ -38,9 +39,9 @@ class Failed(Exception):
     """Something didn't hold, or not in time."""
 
 
-def missing_program():
+def missing_program(wants_etcd=True):
     """What isn't there to start with, in words; None where nothing lacks."""
-    if not shutil.which(ETCD[0]):
+    if wants_etcd and not shutil.which(ETCD[0]):
         return "etcd isn't on the PATH: install it (Debian: apt-get install etcd-server) and run this again"
     for program in (DAEMON[0], TOOL[0]):
         if not shutil.which(program):
@@ -153,7 +154,7 @@ class Members:
 
 class Node:
     """A daemon and its link. The daemon connects to `dial`, which is its link where nothing is set between them; the link to
-    `members`, addresses of etcd's members."""
+    `members`, addresses of etcd's members, or to a file, whose path these are then."""
 
     def __init__(self, number, processes, members, link=LINK, lease=LEASE, daemon=DAEMON):
         self.number, self.processes, self.members, self.lease = number, processes, members, lease
@@ -164,7 +165,8 @@ class Node:
 
     def start_link(self):
         """Until it listens, or has ended: a fault may end it at once, and who looks after it starts it again."""
-        words = ["--listen", self.link_address, "--etcd", ",".join(self.members), "--name", f"node {self.number}"]
+        store = ["--file", self.members] if isinstance(self.members, str) else ["--etcd", ",".join(self.members)]
+        words = ["--listen", self.link_address, *store, "--name", f"node {self.number}"]
         name = f"link{self.number}"
         before = self.processes.said(name).count("listening")
         self.link = self.processes.start(name, self.link_command + words + ["--lease", str(self.lease)])

@@ -30,19 +30,19 @@ The log at a revision is its batches from place 0 up to `end`, of which those be
    `leader` and `epoch` stay, so 1 to 5 do.
 """
 from batches import at_place, image_part_key, image_value, number, offset_of, part_key, put_image_parts, same_image, span, value_for
-from gateway import delete, get, made_at, put, value_is
+from store import Delete, Get, MadeAt, Put, ValueIs
 
 
 def campaign(etcd, prefix, token, lease):
     """Takes the leadership where nobody has it: (epoch, mark, end of the log), or None. The token is this call's alone."""
     leader, epoch, end = prefix + b"leader", prefix + b"epoch", prefix + b"end"
-    _, (before,) = etcd.transact([], [get(epoch)], [])
+    _, (before,) = etcd.transact([], [Get(epoch)], [])
     mine = number(before) + 1
-    same = value_is(epoch, b"%d" % (mine - 1)) if before else made_at(epoch, 0)
+    same = ValueIs(epoch, b"%d" % (mine - 1)) if before else MadeAt(epoch, 0)
     _, (led, highest, last) = etcd.transact(
-        [made_at(leader, 0), same],
-        [put(leader, token, lease), put(epoch, b"%d" % mine), get(leader), get(epoch), get(end)],
-        [get(leader), get(epoch), get(end)])
+        [MadeAt(leader, 0), same],
+        [Put(leader, token, lease), Put(epoch, b"%d" % mine), Get(leader), Get(epoch), Get(end)],
+        [Get(leader), Get(epoch), Get(end)])
     if led and led[0][1] == token:          # taken now, or by an earlier try of this call whose answer was lost
         return number(highest), led[0][2], number(last)
     return None
@@ -57,12 +57,12 @@ def append(etcd, prefix, mark, batches):
         if span(batch)[0] != behind:
             return False
         behind = span(batch)[1]
-    values = [value_for(etcd, prefix, made_at(leader, mark), batch) for batch in batches]
+    values = [value_for(etcd, prefix, MadeAt(leader, mark), batch) for batch in batches]
     places = [prefix + at_place(span(batch)[0]) for batch in batches]
     stands, reads = etcd.transact(
-        [made_at(leader, mark), value_is(end, b"%d" % base) if base else made_at(end, 0)],
-        [put(place, value) for place, value in zip(places, values)] + [put(end, b"%d" % behind)],
-        [get(places[0]), get(prefix + b"image")])
+        [MadeAt(leader, mark), ValueIs(end, b"%d" % base) if base else MadeAt(end, 0)],
+        [Put(place, value) for place, value in zip(places, values)] + [Put(end, b"%d" % behind)],
+        [Get(places[0]), Get(prefix + b"image")])
     if stands or [value for _, value, _ in reads[0]] == values[:1]:
         return True
     return None if number(reads[1]) > base else False
@@ -72,14 +72,14 @@ def drop(etcd, prefix, image):
     """Drops the batches for which an image stands, and puts it in their place. Whether it did. The image is of a place that is no
     later than the log's end."""
     offset = offset_of(image)
-    _, (before, last, behind) = etcd.transact([], [get(prefix + b"image"), get(prefix + b"end"), get(prefix + at_place(offset))], [])
+    _, (before, last, behind) = etcd.transact([], [Get(prefix + b"image"), Get(prefix + b"end"), Get(prefix + at_place(offset))], [])
     if offset <= number(before) or not (behind or offset == number(last)):
         return False
     put_image_parts(etcd, prefix, same_image(prefix, before), image)
     stands, _ = etcd.transact(
         [same_image(prefix, before)],
-        [put(prefix + b"image", image_value(image)), delete(prefix + at_place(0), prefix + at_place(offset)),
-         delete(part_key(prefix, 0, 0, 0), prefix + b"parts/%016x" % offset),
-         delete(image_part_key(prefix, 0, 0), image_part_key(prefix, offset, 0))],
+        [Put(prefix + b"image", image_value(image)), Delete(prefix + at_place(0), prefix + at_place(offset)),
+         Delete(part_key(prefix, 0, 0, 0), prefix + b"parts/%016x" % offset),
+         Delete(image_part_key(prefix, 0, 0), image_part_key(prefix, offset, 0))],
         [])
     return stands

@@ -1,9 +1,9 @@
-"""One node's link to a log in etcd: listens for the daemon (`kr_daemon --link ADDR`), feeds it the log (the image that stands for
-its beginning, and the batches behind), campaigns for the leadership under a lease, and appends its batches by one transaction at a
-time. Nothing of it is proved; transactions.py beside it says what keeps the log one. A line for each change of state goes to
-standard output. docs/ETCD.md has what an operator needs.
+"""One node's link to a log in a store, etcd or a file of this machine: listens for the daemon (`kr_daemon --link ADDR`), feeds it
+the log (the image that stands for its beginning, and the batches behind), campaigns for the leadership under a lease, and appends its
+batches by one transaction at a time. Nothing of it is proved; transactions.py beside it says what keeps the log one. A line for each
+change of state goes to standard output. docs/ETCD.md and docs/OPERATING.md have what an operator needs.
 
-usage: tools/quorum/link --listen ADDR --etcd ADDR,ADDR,.. [--name NAME] [--prefix TEXT] [--lease SECONDS] [--images PLACES]"""
+usage: tools/quorum/link --listen ADDR (--etcd ADDR,ADDR,.. | --file LOG) [--name NAME] [--prefix TEXT] [--lease SECONDS] [--images PLACES]"""
 import argparse
 import http.client
 import os
@@ -17,7 +17,9 @@ import time
 import uuid
 
 from batches import PART, TOGETHER, Broken, Dropped, look, offset_of, read, read_image, span
-from gateway import Gateway, NoLease, Unknown
+from file_store import FileStore, Unusable
+from gateway import Gateway
+from store import NoLease, Unknown
 from transactions import append, campaign, drop
 
 LEAD, COMMIT, LOST, BATCH, LOAD, TICK, IMAGE = 2, 3, 4, 5, 6, 7, 9
@@ -112,11 +114,11 @@ class Leadership:
 
     def _renew(self):
         """The lease counts as lost once it may have run out, from before the call that renewed it last."""
-        etcd = Gateway(self.options.etcd)
+        store = self.options.store()
         while not self.over and time.monotonic() - self.asked < self.options.lease:
             began = time.monotonic()
             try:
-                if not etcd.renew(self.lease):
+                if not store.renew(self.lease):
                     break
                 self.asked = began
             except Unknown:
@@ -143,20 +145,20 @@ class Leadership:
         return group
 
     def _append(self):
-        etcd = Gateway(self.options.etcd, lambda: self.lapsed or self.over)
+        store = self.options.store(lambda: self.lapsed or self.over)
         while group := self._group():
-            stands = self._settle(etcd, group)
+            stands = self._settle(store, group)
             self.line.put(("settled", self, stands, span(group[-1])[1]))
             if not stands:
                 return
         self.line.put(("lapsed", self))
 
-    def _settle(self, etcd, group):
+    def _settle(self, store, group):
         """True, False, or None where it stays unknown as long as the lease may stand. The same again does no harm."""
         is_told = False
         while True:
             try:
-                return append(etcd, self.options.prefix, self.mark, group)
+                return append(store, self.options.prefix, self.mark, group)
             except Unknown as fault:
                 if self.lapsed or self.over:
                     return None
@@ -172,7 +174,7 @@ class Leadership:
 
     def give_back(self):
         try:
-            Gateway(self.options.etcd).revoke(self.lease)
+            self.options.store().revoke(self.lease)
         except (Unknown, NoLease):
             pass                                             # it runs out
 
@@ -182,7 +184,7 @@ class Link:
 
     def __init__(self, options):
         self.options, self.line = options, queue.SimpleQueue()
-        self.etcd, self.daemon, self.lead, self.woken, self.quorum = Gateway(options.etcd), None, None, False, True
+        self.store, self.daemon, self.lead, self.woken, self.quorum = options.store(), None, None, False, True
 
     # ---- the daemon
 
@@ -228,7 +230,7 @@ class Link:
         """Reads the log to its end; campaigns where nobody leads and the daemon answers."""
         if self.lead or not self.daemon:
             return
-        end, is_led, image = look(self.etcd, self.options.prefix)
+        end, is_led, image = look(self.store, self.options.prefix)
         heard = self.daemon.heard
         if self.catch_up(end, image) and not is_led and heard and time.monotonic() - heard < 2 * BEAT and self.daemon.silent() < 2 * BEAT:
             self.campaign()
@@ -239,9 +241,9 @@ class Link:
         if len(self.daemon.pings) > 2:
             return False
         if self.daemon.fed < image:
-            self.daemon.load(read_image(self.etcd, self.options.prefix))
+            self.daemon.load(read_image(self.store, self.options.prefix))
         try:
-            for batch in read(self.etcd, self.options.prefix, self.daemon.fed, end):
+            for batch in read(self.store, self.options.prefix, self.daemon.fed, end):
                 self.daemon.feed(batch)
                 if self.daemon.unpinged >= AHEAD:
                     self.daemon.ping(NOBODY)
@@ -259,12 +261,12 @@ class Link:
 
     def campaign(self):
         asked = time.monotonic()
-        lease = self.etcd.grant(self.options.lease)
+        lease = self.store.grant(self.options.lease)
         token = f"{self.options.name} {uuid.uuid4().hex}".encode()
         try:
-            won = campaign(self.etcd, self.options.prefix, token, lease)
+            won = campaign(self.store, self.options.prefix, token, lease)
             if not won:
-                return self.etcd.revoke(lease)
+                return self.store.revoke(lease)
         except NoLease:
             return                                           # it ran out before the key was taken
         lead = Leadership(self.options, self.line, won, lease, asked)
@@ -303,7 +305,7 @@ class Link:
 
     def consider_image(self):
         """An image is asked for once the daemon is far enough past the last one, of who leads only where nobody else gave one."""
-        _, _, image = look(self.etcd, self.options.prefix)
+        _, _, image = look(self.store, self.options.prefix)
         if not self.daemon.is_asked and self.daemon.fed - image >= self.options.images * (2 if self.lead else 1):
             self.daemon.ask_image()
 
@@ -313,7 +315,7 @@ class Link:
             if len(image) > MOST_IMAGE:
                 say(f"an image of {len(image)} bytes is more than a daemon can be handed in: no batch is dropped")
                 return                                       # none is asked for any more
-            if drop(Gateway(self.options.etcd), self.options.prefix, image):
+            if drop(self.options.store(), self.options.prefix, image):
                 say(f"an image of {len(image)} bytes stands for the log up to place {offset_of(image)}")
         except Unknown as fault:
             say(f"an image has no place: {fault}")
@@ -346,15 +348,15 @@ class Link:
 
     def watch(self):
         """Changes only wake the link: what is fed comes from reads, and a look each beat makes up for a change that gets lost."""
-        etcd = Gateway(self.options.etcd)
+        store = self.options.store()
         while True:
             try:
-                for _ in etcd.changes(self.options.prefix, self.options.prefix[:-1] + bytes([self.options.prefix[-1] + 1])):
+                for _ in store.changes(self.options.prefix, self.options.prefix[:-1] + bytes([self.options.prefix[-1] + 1])):
                     if not self.woken:
                         self.woken = True
                         self.line.put(("woken",))
             except (OSError, http.client.HTTPException, ValueError):
-                pass                                         # another member next
+                pass                                         # of etcd, another member next
             time.sleep(0.2)
 
     def run(self, server):
@@ -367,15 +369,15 @@ class Link:
                 if time.monotonic() >= beat:
                     beat = time.monotonic() + BEAT
                     self.beat()
-                if not self.quorum and self.etcd.open:
+                if not self.quorum and self.store.answers:
                     self.quorum = True
-                    say("the members answer again")
+                    say(self.options.again)
             except Unknown as fault:
                 if self.quorum:
-                    say(f"no member answers: {fault}")
+                    say(f"{self.options.nobody}: {fault}")
                 self.quorum = False
             except Broken as fault:
-                say(f"the log in etcd is broken: {fault}")
+                say(f"the log in the store is broken: {fault}")
                 return 1
 
     def step(self, seconds):
@@ -395,9 +397,11 @@ def end_with(fault):
 def words(text):
     p = argparse.ArgumentParser(prog="tools/quorum/link", description=__doc__.split("\n\n")[0])
     p.add_argument("--listen", required=True, metavar="ADDR", help="where the daemon connects: its --link")
-    p.add_argument("--etcd", required=True, metavar="ADDR,..", type=lambda word: word.split(","), help="the members' client addresses, host:port")
+    where = p.add_mutually_exclusive_group(required=True)
+    where.add_argument("--etcd", metavar="ADDR,..", type=lambda word: word.split(","), help="the members' client addresses, host:port")
+    where.add_argument("--file", metavar="LOG", help="a file of this machine, for a node that keeps the log alone; it is made where there is none")
     p.add_argument("--name", default=socket.gethostname(), help="stands in the leader key while this node leads (default %(default)s)")
-    p.add_argument("--prefix", default="/pibranog/", type=str.encode, help="of its keys in etcd (default /pibranog/)")
+    p.add_argument("--prefix", default="/pibranog/", type=str.encode, help="of its keys in the store (default /pibranog/)")
     p.add_argument("--lease", type=int, default=5, metavar="SECONDS", help="2 to 7; with a tick it is below a broker's session of 9 (default %(default)s)")
     p.add_argument("--images", type=int, default=10000, metavar="PLACES", help="asks the daemon for an image, and drops the batches before it, each time the "
                    "log has grown by so many places; 0: never (default %(default)s)")
@@ -405,6 +409,17 @@ def words(text):
     if not 2 <= options.lease <= 7 or not options.prefix or options.images < 0:
         p.error("a lease of 2 to 7 seconds, a prefix, and places from 0 on are wanted")
     return options
+
+
+def open_store(options):
+    """Sets what gives each thread its store, and what is said where none answers."""
+    if options.file:
+        file = FileStore(options.file)
+        options.store = lambda gives_up=None: file
+        options.nobody, options.again = "the file takes nothing", "the file takes writes again"
+    else:
+        options.store = lambda gives_up=lambda: False: Gateway(options.etcd, gives_up)
+        options.nobody, options.again = "no member answers", "the members answer again"
 
 
 def main():
@@ -416,6 +431,11 @@ def main():
         say(f"can't listen on {options.listen}: {error}")
         return 1
     threading.excepthook = end_with
+    try:
+        open_store(options)
+    except Unusable as fault:
+        say(f"no store: {fault}")
+        return 1
     link = Link(options)
     signal.signal(signal.SIGTERM, lambda *_: sys.exit(0))
     say("listening")
