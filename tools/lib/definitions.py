@@ -96,16 +96,28 @@ def counts():
     return "\n".join(lines) + "\n"
 
 
+def shared_end(comments):
+    """What three comments or more all end with, from a comma on; nothing where they don't."""
+    if len(comments) < 3:
+        return ""
+    end = os.path.commonprefix([comment[::-1] for comment in comments])[::-1]
+    found = re.search(r", (.*)", end, re.S)
+    return found[0] if found else ""
+
+
 def listing():
-    """A heading for each crate with definitions, and a line for each of its files."""
+    """A heading for each crate with definitions, and a line for each of its files; what all of these end with stands once."""
     program = set(reached([PROGRAM])[0])
     parts = []
     for crate in crates():
-        lines = []
-        for path in files_of(crate):
+        said = {path: first_comment(path) for path in files_of(crate)}
+        end = shared_end(list(said.values()))
+        lines = [f"Each {end[2:]}\n\n"] if end else []
+        for path, comment in said.items():
             name = path.split("/specs/")[1][:-len(".antt")]
-            lines.append(f"- `{name}` ({lines_of(path)}{'*' if path in program else ''}): {first_comment(path)}\n")
-        if lines:
+            told = comment[:len(comment) - len(end)] + "." if end else comment
+            lines.append(f"- `{name}` ({lines_of(path)}{'*' if path in program else ''}): {told}\n")
+        if said:
             parts.append(f"### {crate}\n\n" + "".join(lines))
     return "\n".join(parts)
 
