@@ -11,7 +11,7 @@ CRATES = os.path.join(ROOT, "crates")
 NUMBER = r"[iu](?:8|16|32|64|128|size)"
 ITEM = re.compile(r"^( *)pub (?:const fn|fn|struct|enum|trait|const|type) (\w+)")
 FUNCTION = re.compile(r"^( *)(?:pub(?:\(\w+\))? )?(?:const )?fn (\w+)")
-FIELD = re.compile(r"^ *pub (\w+): ([^,]+),?$")
+FIELD = re.compile(r"^    pub (\w+): (.+?),?$")
 VARIANT = re.compile(r"^    ([A-Z]\w*)(?: \{.*|\(.*|,)?$")
 BLOCK = re.compile(r"^pub (struct|enum|trait) (\w+)[^;]*$")
 
@@ -32,14 +32,15 @@ def short(path):
 
 
 def top_of(lines, at):
-    """The first line of what stands in this one, its attributes included."""
+    """The first line of what stands in this one, its attributes included, of which one may have several lines."""
     top = at
-    while top > 0 and lines[top - 1].strip().endswith("]") and not lines[top - 1].strip().startswith("//"):
-        begin = top - 1
-        while begin > 0 and not lines[begin].strip().startswith("#["):
-            begin -= 1
+    while True:
+        begin = next((n for n in range(top - 1, max(top - 8, -1), -1) if lines[n].strip().startswith("#[")), None)
+        attribute = [] if begin is None else [line.strip() for line in lines[begin:top]]
+        text = " ".join(attribute)
+        if not all(attribute) or not text.endswith("]") or text.count("[") != text.count("]"):
+            return top
         top = begin
-    return top
 
 
 def said_of(lines, at):
@@ -78,7 +79,7 @@ def items_of(path):
             kind = "function" if " fn " in line else line.split()[1]
             yield Item(path, at, kind, found[2], "", said_of(lines, at))
         block = BLOCK.match(line)
-        if block:
+        if block and not line.endswith("}"):
             yield from parts_of(path, lines, at, block[1], block[2])
 
 
