@@ -119,6 +119,8 @@ def functions_of(path):
 def head_end(lines, at, indent):
     """The line in which the body of a function begins, or that ends a function without one."""
     for head in range(at, len(lines)):
-        if lines[head].startswith(indent) and lines[head][len(indent):][:1].strip() and lines[head].endswith(("{", ";")):
+        if not lines[head].startswith(indent) or not lines[head].strip():
+            return at
+        if lines[head][len(indent):][:1].strip() and lines[head].endswith(("{", ";")):
             return head
     return at
