@@ -1,5 +1,6 @@
 -- Brokers may be fenced, one after the other.
-use Rattle.std.proofs.Common.{◌≡◌, ◌∙◌, sym, subst, ℤ, pos, true, false, cond, ◌+◌, ◌*◌, ◌≤◌, List, [], ◌∷◌, ◌++◌, length, refl, ap, arith}
+use Rattle.std.proofs.Common.{◌≡◌, ◌∙◌, sym, subst, ℤ, pos, true, false, cond, ◌+◌, ◌*◌, ◌≤◌, ◌<◌, ℕ, List, [], ◌∷◌, ◌++◌, length, drop, get_or, refl, ap, arith}
+use Rattle.std.proofs.lemmas.List.{drop_more}
 use Rattle.std.proofs.lemmas.Int.{ints}
 use Rattle.std.specs.Prelude.{◌&&◌, ◌==◌, ◌+ℤ◌, ◌-ℤ◌, ◌≤ℤ◌, Option, Some, None, Result, Ok, Err, IsSome, IsTrue, fold, int_lt, is_some, unsigned_abs}
 use Rattle.std.specs.List.{list_all}
@@ -209,7 +210,7 @@ pub record FencesOn (start at : Core) (brokers rest : List ℤ) : Type 0 where
 pub none_fenced : (e : Core) (brokers : List ℤ) → CanFenceAll e brokers → FencesOn e e brokers brokers
 none_fenced e brokers can = record { heard = e.heard; left = refl; can = can; all = λ after f. f; breaks = λ after b. b; stays = refl }
 
-pub one_fenced : (start at next : Core) (brokers : List ℤ) (broker : ℤ) (others : List ℤ) → FencesOn start at brokers (broker ∷ others) → Fences at (record next { heard = leave at.heard broker }) broker → next.heard ≡ at.heard → AreValid next.images
+one_fenced : (start at next : Core) (brokers : List ℤ) (broker : ℤ) (others : List ℤ) → FencesOn start at brokers (broker ∷ others) → Fences at (record next { heard = leave at.heard broker }) broker → next.heard ≡ at.heard → AreValid next.images
     → FencesOn start next brokers others
 one_fenced start at next brokers broker others on f same valid =
     let here : Core = record at { heard = on.heard } in
@@ -230,10 +231,38 @@ one_fenced start at next brokers broker others on f same valid =
       stays = same ∙ on.stays;
     }
 
+-- at a turn of the walk over the brokers
+module _ (start at : Core) (brokers : List ℤ) (i : ℕ) (on : FencesOn start at brokers (drop i brokers)) (some : i < length brokers) where
+  abbrev broker : ℤ
+  broker = get_or brokers i (pos 0)
+
+  abbrev others : List ℤ
+  others = drop (i + 1) brokers
+
+  on_there : FencesOn start at brokers (broker ∷ others)
+  on_there = subst (FencesOn start at brokers) (drop_more brokers i (pos 0) some) on
+
+  abbrev here : Core
+  here = record at { heard = on_there.heard }
+
+  pub next_valid : AreValid at.images
+  next_valid = one_valid here (broker ∷ others) broker others refl on_there.can
+
+  pub next_open : MayAppend at
+  next_open = let o = one_open here (broker ∷ others) broker others refl on_there.can in record { natural = o.natural; low = o.low; last = o.last; above = o.above }
+
+  module _ (next : Core) (f : Fences at (record next { heard = leave at.heard broker }) broker) where
+    pub next_fenced : next.heard ≡ at.heard → AreValid next.images → FencesOn start next brokers others
+    next_fenced = one_fenced start at next brokers broker others on_there f
+
+    pub next_indexed : (listed : KeysOfBrokers) → Indexes listed at.images.tip → Indexes listed next.images.tip
+    next_indexed listed index =
+        then_indexed here (broker ∷ others) broker others refl on_there.can listed (record next { heard = leave on_there.heard broker }) (apart at next broker on_there.heard f) index
+
 pub all_fenced : (start at : Core) (brokers : List ℤ) → FencesOn start at brokers [] → FencesAll start (record at { heard = fold leave start.heard brokers }) brokers
 all_fenced start at brokers on = on.all (record at { heard = fold leave start.heard brokers }) (ap (λ h. record at { heard = h }) (sym on.left))
 
-pub ruleset fence_all = (none_fenced, one_fenced, all_fenced)
+pub ruleset fence_all = (none_fenced, all_fenced)
 
 -- ---- they leave the contacts
 
