@@ -1,6 +1,8 @@
 -- Brokers may be fenced, one after the other.
-use Rattle.std.proofs.Common.{◌≡◌, ◌∙◌, sym, subst, ℤ, pos, true, false, cond, ◌+◌, ◌*◌, ◌≤◌, List, [], ◌∷◌, ◌++◌, length, refl, ap, arith}
-use Rattle.std.specs.Prelude.{◌&&◌, ◌==◌, ◌+ℤ◌, ◌-ℤ◌, ◌≤ℤ◌, Option, Some, None, Result, Ok, Err, OnErr, OnOk, IsSome, IsTrue, int_lt, is_some, unsigned_abs}
+use Rattle.std.proofs.Common.{◌≡◌, ◌∙◌, sym, subst, ℤ, pos, true, false, cond, ◌+◌, ◌*◌, ◌≤◌, ◌<◌, ℕ, List, [], ◌∷◌, ◌++◌, length, drop, get_or, refl, ap, arith}
+use Rattle.std.proofs.lemmas.List.{drop_more}
+use Rattle.std.proofs.lemmas.Int.{ints}
+use Rattle.std.specs.Prelude.{◌&&◌, ◌==◌, ◌+ℤ◌, ◌-ℤ◌, ◌≤ℤ◌, Option, Some, None, Result, Ok, Err, IsSome, IsTrue, fold, int_lt, is_some, unsigned_abs}
 use Rattle.std.specs.List.{list_all}
 use Rattle.std.specs.Option.{option_map_or}
 use Rattle.std.specs.Ordering.{int_cmp}
@@ -32,7 +34,7 @@ use Rattle.kr_engine.specs.inner.Changes.{BreaksOff, counted_core, timed_core}
 use Rattle.kr_model.specs.Engine.{Core, IsEngine, IsSound, IsStep, outputs_left}
 use Rattle.kr_model.specs.Entries.{item_entries}
 use Rattle.kr_model.specs.Events.{at_time_of}
-use Rattle.kr_engine.specs.inner.Ready.{IsReady}
+use Rattle.kr_engine.specs.inner.Ready.{IsReady, MayAppend}
 use Rattle.kr_model.specs.Reasons.{exhausted}
 use Rattle.kr_engine.specs.inner.Tick.{CanFence, CanFenceAll, FencesAll, SettlesTick, lapsed_contacts, tick_reason}
 use Rattle.kr_model.specs.Tick as worlds
@@ -48,7 +50,7 @@ use Rattle.kr_model.proofs.LogEntries.{not_none}
 use Rattle.kr_model.proofs.Places.{near_enough}
 use Rattle.kr_model.proofs.Queues.{never}
 use Rattle.kr_engine.proofs.AppendSteps.{writes_by}
-use Rattle.kr_engine.proofs.Undoing.{adding_breaks, contacts_back, heard_breaks, images_break, same_breaks, written_then}
+use Rattle.kr_engine.proofs.Undoing.{adding_breaks, images_break, same_breaks, written_then}
 
 -- ---- one
 
@@ -64,13 +66,9 @@ fencing_fits e between broker records valid is meaning =
     subst FitsBatch (sym is) (fits_by e.options.minimum e.images.tip between.images.tip broker (entries.get int_cmp e.images.tip.brokers broker) valid.tip
     (subst (λ rs. apply_records e.images.tip rs ≡ Ok between.images.tip) is meaning))
 
-pub fencing_above : (e between : Core) → IsReady e → between.images.kept ≡ e.images.kept → between ≡ record e { images = between.images } → (place : ℤ) → IsTrue (int_lt between.tip place) → IsAbove between.images.kept place
+pub fencing_above : (e between : Core) → MayAppend e → between.images.kept ≡ e.images.kept → between ≡ record e { images = between.images } → (place : ℤ) → IsTrue (int_lt between.tip place) → IsAbove between.images.kept place
 fencing_above e between r kept same place high =
     subst (λ (kept : List (ℤ × Image)). IsAbove kept place) (sym kept) (r.above place (sym (ap (λ (a : Core). int_lt a.tip place) same) ∙ high))
-
-heard_apart : (a b : Core) (heard : hearing.Heartbeats) → a ≡ record b { heard = heard } → a ≡ record b { held = a.held; heard = a.heard }
-heard_apart a b heard is =
-    is ∙ (ap (λ hs. record b { held = hs; heard = heard }) (sym (ap (λ (c : Core). c.held) is)) ∙ ap (λ h. record b { held = a.held; heard = h }) (sym (ap (λ (c : Core). c.heard) is)))
 
 -- appending leaves the contacts and the writes that wait
 record Leaves (before after : Core) : Type 0 where
@@ -89,23 +87,27 @@ append_leaves e records =
       | false ↦ record { heard = refl; held = refl }
     ]
 
-pub fences_by : (e between behind after : Core) (broker : ℤ) (records : List Record) → AreValid e.images → records ≡ fencing_of e.options e.images.tip broker → apply_records e.images.tip records ≡ Ok between.images.tip
-    → between.images.kept ≡ e.images.kept → between.images.made ≤ e.images.made + weights e.images.tip records → between.images.kept_made ≡ e.images.kept_made → between ≡ record e { images = between.images } → behind ≡ core_after_append between records → after ≡ record behind { heard = leave behind.heard broker } → Fences e after broker
-fences_by e between behind after broker records valid is meaning kept made calls same appends outputs_left =
+pub fences_by : (e between behind : Core) (broker : ℤ) (records : List Record) → AreValid e.images → records ≡ fencing_of e.options e.images.tip broker → apply_records e.images.tip records ≡ Ok between.images.tip
+    → between.images.kept ≡ e.images.kept → between.images.made ≤ e.images.made + weights e.images.tip records → between.images.kept_made ≡ e.images.kept_made → between ≡ record e { images = between.images } → behind ≡ core_after_append between records → Fences e (record behind { heard = leave e.heard broker }) broker
+fences_by e between behind broker records valid is meaning kept made calls same appends =
     let fits = fencing_fits e between broker records valid is meaning in
     let own = append_leaves between records in
+    let after : Core = record behind { heard = leave e.heard broker } in
     record {
       writes = subst (λ rs. Writes e after rs) is
           (writes_by e between after records (same ∙ ap (λ h. record e { images = between.images; heard = h }) (sym (ap (λ (b : Core). b.heard) same))) kept made calls meaning fits.few
-          (heard_apart after behind (leave behind.heard broker) outputs_left ∙ ap (λ (b : Core). record b { held = after.held; heard = after.heard }) appends));
-      heard = ap (λ (a : Core). a.heard) outputs_left ∙ ap (λ h. leave h broker) (ap (λ (a : Core). a.heard) appends ∙ (own.heard ∙ ap (λ (a : Core). a.heard) same));
-      held = ap (λ (a : Core). a.held) outputs_left ∙ (ap (λ (a : Core). a.held) appends ∙ (own.held ∙ ap (λ (a : Core). a.held) same));
+          (ap (λ (b : Core). record b { held = behind.held; heard = leave e.heard broker }) appends));
+      heard = refl;
+      held = ap (λ (a : Core). a.held) appends ∙ (own.held ∙ ap (λ (a : Core). a.held) same);
     }
 
-pub fencing_low : (e between : Core) → IsReady e → between ≡ record e { images = between.images } → between.tip ≤ℤ PLACES_END
+pub heard_still : (e between behind : Core) (records : List Record) → between ≡ record e { images = between.images } → behind ≡ core_after_append between records → behind.heard ≡ e.heard
+heard_still e between behind records same appends = ap (λ (a : Core). a.heard) appends ∙ ((append_leaves between records).heard ∙ ap (λ (a : Core). a.heard) same)
+
+pub fencing_low : (e between : Core) → MayAppend e → between ≡ record e { images = between.images } → between.tip ≤ℤ PLACES_END
 fencing_low e between r same = subst (λ t. t ≤ℤ PLACES_END) (sym (ap (λ (a : Core). a.tip) same)) r.low
 
-pub ruleset fence = (fencing_fits, fencing_above, fencing_low, fences_by, images_break, adding_breaks)
+pub ruleset fence = (fencing_fits, fencing_above, fencing_low, heard_still, images_break, adding_breaks)
 
 -- ---- the records
 
@@ -136,6 +138,12 @@ indexed_by listed minimum image after broker (Some state) valid is meaning index
 
 -- ---- all
 
+open_of : (e : Core) → IsReady e → MayAppend e
+open_of e r = record { natural = le_both r.natural r.rising; low = r.low; last = r.last; above = r.above }
+  where
+    le_both : pos 0 ≤ℤ e.committed → e.committed ≤ℤ e.tip → pos 0 ≤ℤ e.tip
+    le_both low high = omega (arith, ints, low, high)
+
 module _ (e : Core) (brokers : List ℤ) (broker : ℤ) (others : List ℤ) (is : brokers ≡ broker ∷ others) (can : CanFenceAll e brokers) where
   own_can : CanFence e (length (broker ∷ others))
   own_can = subst (CanFenceAll e) is can
@@ -143,8 +151,8 @@ module _ (e : Core) (brokers : List ℤ) (broker : ℤ) (others : List ℤ) (is 
   pub one_valid : AreValid e.images
   one_valid = own_can.valid
 
-  pub one_ready : IsReady e
-  one_ready = engines_ready.ready e own_can.sound own_can.valid
+  pub one_open : MayAppend e
+  one_open = open_of e (engines_ready.ready e own_can.sound own_can.valid)
 
   pub then_indexed : (listed : KeysOfBrokers) (between : Core) → Fences e between broker → Indexes listed e.images.tip → Indexes listed between.images.tip
   then_indexed listed between f index =
@@ -175,17 +183,101 @@ module _ (e : Core) (brokers : List ℤ) (broker : ℤ) (others : List ℤ) (is 
   pub then_can : (between : Core) → Fences e between broker → AreValid between.images → CanFenceAll between others
   then_can between f valid = can_next others refl between f valid
 
-pub all_more : (e between after : Core) (brokers : List ℤ) (broker : ℤ) (others : List ℤ) → brokers ≡ broker ∷ others → Fences e between broker → FencesAll between after others → FencesAll e after brokers
-all_more e between after brokers broker others is first rest = subst (FencesAll e after) (sym is) (between, first, rest)
+-- the same where other brokers are contacts
+apart : (e between : Core) (broker : ℤ) (h : hearing.Heartbeats) → Fences e (record between { heard = leave e.heard broker }) broker → Fences (record e { heard = h }) (record between { heard = leave h broker }) broker
+apart e between broker h f = record {
+  writes = record {
+    meaning = f.writes.meaning;
+    kept = f.writes.kept;
+    counted = f.writes.counted;
+    few = f.writes.few;
+    same = ap (λ (c : Core). record c { heard = leave h broker }) f.writes.same;
+  };
+  heard = refl;
+  held = f.held;
+}
 
-pub all_done : (e : Core) (brokers : List ℤ) → brokers ≡ [] → FencesAll e e brokers
-all_done e brokers is = subst (FencesAll e e) (sym is) refl
+-- some of the brokers are fenced, and these are left
+pub record FencesOn (start at : Core) (brokers rest : List ℤ) : Type 0 where
+  -- the contacts without those that were fenced
+  pub heard : hearing.Heartbeats
+  pub left : fold leave heard rest ≡ fold leave start.heard brokers
+  pub can : CanFenceAll (record at { heard = heard }) rest
+  pub all : (after : Core) → FencesAll (record at { heard = heard }) after rest → FencesAll start after brokers
+  pub breaks : (after : Core) → BreaksOff at after → BreaksOff start after
+  pub stays : at.heard ≡ start.heard
 
-pub more_breaks : {X E : Type 0} (result : Result X E) (e between after : Core) (broker : ℤ) → Fences e between broker → OnErr result (BreaksOff between (record after { heard = between.heard })) → OnErr result (BreaksOff e (record after { heard = e.heard }))
-more_breaks (Ok x) e between after broker f broken = tt
-more_breaks (Err fault) e between after broker f broken = written_then e between after (fencing_of e.options e.images.tip broker) f.writes f.held broken
+pub none_fenced : (e : Core) (brokers : List ℤ) → CanFenceAll e brokers → FencesOn e e brokers brokers
+none_fenced e brokers can = record { heard = e.heard; left = refl; can = can; all = λ after f. f; breaks = λ after b. b; stays = refl }
 
-pub ruleset fence_all = (one_valid, one_ready, then_can, all_more, all_done, heard_breaks, more_breaks)
+one_fenced : (start at next : Core) (brokers : List ℤ) (broker : ℤ) (others : List ℤ) → FencesOn start at brokers (broker ∷ others) → Fences at (record next { heard = leave at.heard broker }) broker → next.heard ≡ at.heard → AreValid next.images
+    → FencesOn start next brokers others
+one_fenced start at next brokers broker others on f same valid =
+    let here : Core = record at { heard = on.heard } in
+    let then : Core = record next { heard = leave on.heard broker } in
+    let fenced = apart at next broker on.heard f in
+    record {
+      heard = leave on.heard broker;
+      left = on.left;
+      can = then_can here (broker ∷ others) broker others refl on.can then fenced valid;
+      all = λ after rest. on.all after (then, fenced, rest);
+      breaks = λ after b. on.breaks after (written_then at next after (fencing_of at.options at.images.tip broker) (record {
+        meaning = f.writes.meaning;
+        kept = f.writes.kept;
+        counted = f.writes.counted;
+        few = f.writes.few;
+        same = ap (λ (c : Core). record c { heard = next.heard }) f.writes.same;
+      }) f.held same b);
+      stays = same ∙ on.stays;
+    }
+
+-- at a turn of the walk over the brokers
+module _ (start at : Core) (brokers : List ℤ) (i : ℕ) (on : FencesOn start at brokers (drop i brokers)) (some : i < length brokers) where
+  abbrev broker : ℤ
+  broker = get_or brokers i (pos 0)
+
+  abbrev others : List ℤ
+  others = drop (i + 1) brokers
+
+  on_there : FencesOn start at brokers (broker ∷ others)
+  on_there = subst (FencesOn start at brokers) (drop_more brokers i (pos 0) some) on
+
+  abbrev here : Core
+  here = record at { heard = on_there.heard }
+
+  pub next_valid : AreValid at.images
+  next_valid = one_valid here (broker ∷ others) broker others refl on_there.can
+
+  pub next_open : MayAppend at
+  next_open = let o = one_open here (broker ∷ others) broker others refl on_there.can in record { natural = o.natural; low = o.low; last = o.last; above = o.above }
+
+  module _ (next : Core) (f : Fences at (record next { heard = leave at.heard broker }) broker) where
+    pub next_fenced : next.heard ≡ at.heard → AreValid next.images → FencesOn start next brokers others
+    next_fenced = one_fenced start at next brokers broker others on_there f
+
+    pub next_indexed : (listed : KeysOfBrokers) → Indexes listed at.images.tip → Indexes listed next.images.tip
+    next_indexed listed index =
+        then_indexed here (broker ∷ others) broker others refl on_there.can listed (record next { heard = leave on_there.heard broker }) (apart at next broker on_there.heard f) index
+
+pub all_fenced : (start at : Core) (brokers : List ℤ) → FencesOn start at brokers [] → FencesAll start (record at { heard = fold leave start.heard brokers }) brokers
+all_fenced start at brokers on = on.all (record at { heard = fold leave start.heard brokers }) (ap (λ h. record at { heard = h }) (sym on.left))
+
+pub ruleset fence_all = (none_fenced, all_fenced)
+
+-- ---- they leave the contacts
+
+pub one_left : (start at next : Core) (brokers : List ℤ) (broker : ℤ) (others : List ℤ) → fold leave at.heard (broker ∷ others) ≡ fold leave start.heard brokers → next ≡ record at { heard = leave at.heard broker }
+    → fold leave next.heard others ≡ fold leave start.heard brokers
+one_left start at next brokers broker others left is = ap (λ (c : Core). fold leave c.heard others) is ∙ left
+
+pub still_same : (start at next : Core) (broker : ℤ) → at ≡ record start { heard = at.heard } → next ≡ record at { heard = leave at.heard broker } → next ≡ record start { heard = next.heard }
+still_same start at next broker same is =
+    is ∙ (ap (λ (c : Core). record c { heard = leave at.heard broker }) same ∙ ap (λ h. record start { heard = h }) (sym (ap (λ (c : Core). c.heard) is)))
+
+pub all_left : (start at : Core) (brokers : List ℤ) → at ≡ record start { heard = at.heard } → at.heard ≡ fold leave start.heard brokers → at ≡ record start { heard = fold leave start.heard brokers }
+all_left start at brokers same left = same ∙ ap (λ h. record start { heard = h }) left
+
+pub ruleset forget_contacts = (one_left, still_same, all_left)
 
 -- ---- those whose session has ended
 
@@ -226,9 +318,9 @@ pub noted_step : (e noted core after : Core) (now : ℤ) → noted ≡ timed_cor
 noted_step e noted core after now is drained valid are settles counts =
     tick_step e core after now drained valid are (subst (λ (before : Core). SettlesTick before core (tick_reason before)) is settles) counts
 
-pub lapsed_fenced : {X E : Type 0} (fenced : Result X E) (e between after : Core) (brokers : List ℤ) → OnOk fenced (FencesAll e between brokers) → OnOk fenced (after ≡ between) → OnOk fenced (FencesAll e after brokers)
-lapsed_fenced (Ok x) e between after brokers all same = subst (λ (a : Core). FencesAll e a brokers) (sym same) all
-lapsed_fenced (Err fault) e between after brokers all same = tt
+pub lapsed_fenced : (e between after : Core) (brokers : List ℤ) → FencesAll e (record between { heard = fold leave e.heard brokers }) brokers → between.heard ≡ e.heard → after ≡ record between { heard = fold leave between.heard brokers } → FencesAll e after brokers
+lapsed_fenced e between after brokers all same left =
+    subst (λ (a : Core). FencesAll e a brokers) (sym (left ∙ ap (λ h. record between { heard = fold leave h brokers }) same)) all
 
 nobody_fenced : (e : Core) (brokers : List ℤ) → length brokers == 0 ≡ true → FencesAll e e brokers
 nobody_fenced e [] none = refl
@@ -237,6 +329,6 @@ nobody_fenced e (broker ∷ brokers) none = absurd (never (sym (not_none (length
 pub none_lapsed : (e : Core) (lapsed brokers : List ℤ) → lapsed ≡ brokers → true ≡ (length lapsed == 0) → FencesAll e e brokers
 none_lapsed e lapsed brokers is none = subst (FencesAll e e) is (nobody_fenced e lapsed (sym none))
 
-pub ruleset fence_lapsed = (lapsed_fenced, contacts_back, same_breaks, none_lapsed)
+pub ruleset fence_lapsed = (lapsed_fenced, same_breaks, none_lapsed)
 
 pub ruleset tick = (can_lapse, ready_in_time)

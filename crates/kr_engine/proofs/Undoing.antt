@@ -144,14 +144,6 @@ appended_breaks e between after (r ∷ records) b at is =
     end_later : int_lt e.tip (place_behind between (r ∷ records)) ≡ true
     end_later = ap (λ t. int_lt e.tip (t +ℤ pos (suc (length records)))) at ∙ higher e.tip (length records)
 
-pub heard_breaks : (e after : Core) → BreaksOff e after → BreaksOff e (record after { heard = e.heard })
-heard_breaks e after b = record { same = ap (λ (a : Core). record a { heard = e.heard }) b.same; longer = b.longer }
-
-pub contacts_back : {X E : Type 0} (fenced : Result X E) (e between after : Core) (heard : Heartbeats) → OnErr fenced (BreaksOff e (record between { heard = e.heard })) → OnErr fenced (after ≡ record between { heard = heard })
-    → heard ≡ e.heard → OnErr fenced (BreaksOff e after)
-contacts_back (Ok x) e between after heard broken back same = tt
-contacts_back (Err fault) e between after heard broken back same = subst (λ (a : Core). BreaksOff e a) (sym (back ∙ ap (λ h. record between { heard = h }) same)) broken
-
 -- items are added, and then nothing
 pub added_breaks : (e between with_items after : Core) (new : List Entry) → after ≡ with_items → with_items ≡ core_with_entries between new → between ≡ record e { images = between.images }
     → between.images.kept ≡ e.images.kept → between.images.kept_made ≡ e.images.kept_made → BreaksOff e after
@@ -162,12 +154,13 @@ pub adding_breaks : (e between after : Core) → GivesAlone between after → be
 adding_breaks e between after begins is kept calls = begun_then e between after (images_break e between is kept calls) begins
 
 -- records are written, and what comes then breaks off
-pub written_then : (e between after : Core) (records : List Record) → Writes e between records → between.held ≡ e.held → BreaksOff between (record after { heard = between.heard }) → BreaksOff e (record after { heard = e.heard })
-written_then e between after records w held b = record {
+pub written_then : (e between after : Core) (records : List Record) → Writes e between records → between.held ≡ e.held → between.heard ≡ e.heard → BreaksOff between after → BreaksOff e after
+written_then e between after records w held heard b = record {
   same =
-      ap (λ (a : Core). record a { heard = e.heard }) b.same
-      ∙ (ap (λ (c : Core). record c { images = after.images; tip = after.tip; given = after.given; fresh = after.fresh; heard = e.heard }) w.same
-      ∙ ap (λ hs. record e { images = after.images; tip = after.tip; given = after.given; fresh = after.fresh; held = hs }) held);
+      b.same
+      ∙ (ap (λ (c : Core). record c { images = after.images; tip = after.tip; given = after.given; fresh = after.fresh }) w.same
+      ∙ (ap (λ hs. record e { images = after.images; tip = after.tip; given = after.given; fresh = after.fresh; heard = between.heard; held = hs }) held
+      ∙ ap (λ h. record e { images = after.images; tip = after.tip; given = after.given; fresh = after.fresh; heard = h }) heard));
   longer = longer_then e.images between.images after.images e.tip (length records) (written_longer e between records w)
       (subst (λ t. IsLonger between.images after.images t) (ap (λ (a : Core). a.tip) w.same) b.longer);
 }

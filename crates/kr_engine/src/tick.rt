@@ -1,6 +1,6 @@
 //! Time goes on.
 
-ghost use Rattle.std.specs.Prelude.{◌≡◌, ◌≤◌, ◌+◌, ◌≤ℤ◌, ◌-ℤ◌, ◌&&◌, [], pos, is_some, None, Some, Ok, IfOk, OnOk, OnErr, IsSome};
+ghost use Rattle.std.specs.Prelude.{◌≡◌, ◌≤◌, ◌+◌, ◌≤ℤ◌, ◌-ℤ◌, ◌&&◌, [], pos, fold, is_some, None, Some, Ok, IfOk, OnOk, OnErr, IsSome};
 ghost use Rattle.std.specs.Ordering.{int_cmp};
 ghost use Rattle.kr_defs.specs.declared.limits.TheConstants.{PLACES_END as places_end};
 ghost use Rattle.kr_defs.specs.Heartbeats.{AreHeartbeats, leave};
@@ -10,7 +10,7 @@ ghost use Rattle.kr_calls.specs.Deciding.{apply_records, weights};
 ghost use Rattle.kr_store.specs.Images.{AreValid, last_kept};
 ghost use Rattle.kr_replication.specs.FencingIndex.{Indexes};
 ghost use Rattle.kr_model.specs.Engine.{IsSound, IsStep, outputs_left};
-ghost use Rattle.kr_engine.specs.inner.Ready.{IsReady};
+ghost use Rattle.kr_engine.specs.inner.Ready.{IsReady, MayAppend};
 ghost use Rattle.kr_engine.specs.inner.Tick.{lapsed_contacts, tick_reason, CanFenceAll, FencesAll, SettlesTick};
 ghost use Rattle.kr_model.specs.Tick.{fencing_of};
 ghost use Rattle.kr_engine.specs.inner.Append.{Fences};
@@ -25,7 +25,7 @@ use kr_calls::{Effect, Reason, Reply};
 use kr_defs::{Ids, Records};
 use kr_image::ImageStore;
 use kr_replication::FencingIndex;
-use kr_sessions::{Context, Sessions};
+use kr_sessions::Context;
 use kr_store::{Seen, Store};
 use std::alloc::Global;
 use std::sync::ledger::Ledger;
@@ -96,7 +96,7 @@ impl Engine {
         index: &FencingIndex,
         steps: &mut Steps<L>,
     ) -> Result<Records, NoMemory>
-        requires ready { IsReady self.old }
+        requires open { MayAppend self.old }
         requires indexed { Indexes index.now self.old.images.tip }
         ensures records { IfOk result (λ records. records ≡ fencing_of self.old.options self.old.images.tip broker.now) }
         ensures image { IfOk result (λ records. apply_records self.old.images.tip records ≡ Ok self.new.images.tip) }
@@ -110,13 +110,7 @@ impl Engine {
         fencing_of(self.alloc, &mut self.store, &context, broker, index, steps)
     }
 
-    fn forget_contact(&mut self, broker: &i32)
-        ensures { self.new ≡ record self.old { heard = leave self.old.heard broker.now } }
-    {
-        self.sessions.leave(*broker);
-    }
-
-    // The broker is fenced by one batch, and leaves the contacts.
+    // The broker is fenced by one batch. It stays a contact, so that nothing is to be put back where memory is wanted.
     #[tactic(auto, using(crate::proofs::Fencings::fence))]
     fn fence<L: Ledger>(
         &mut self,
@@ -124,21 +118,22 @@ impl Engine {
         index: &FencingIndex,
         steps: &mut Steps<L>,
     ) -> Result<(), NoMemory>
-        requires ready { IsReady self.old }
+        requires open { MayAppend self.old }
         requires indexed { Indexes index.now self.old.images.tip }
         requires valid { AreValid self.old.images }
-        ensures fences { OnOk result (Fences self.old self.new broker.now) }
+        ensures fences { OnOk result (Fences self.old (record self.new { heard = leave self.old.heard broker.now }) broker.now) }
+        ensures heard { OnOk result (self.new.heard ≡ self.old.heard) }
         ensures broken { OnErr result (BreaksOff self.old self.new) }
         ensures valid { OnOk result (AreValid self.new.images) }
         ensures later { steps.old ≤ steps.new }
     {
         let records = self.fencing_records(broker, index, steps)?;
         self.append(records)?;
-        self.forget_contact(broker);
         self.look_at_images();
         Ok(())
     }
 
+    // Each of the brokers is fenced by one batch, and stays a contact.
     #[tactic(auto, using(crate::proofs::Fencings::fence_all))]
     fn fence_all<L: Ledger>(
         &mut self,
@@ -148,16 +143,30 @@ impl Engine {
     ) -> Result<(), NoMemory>
         requires indexed { Indexes index.now self.old.images.tip }
         requires can { CanFenceAll self.old brokers.now }
-        ensures all { OnOk result (FencesAll self.old self.new brokers.now) }
-        ensures broken { OnErr result (BreaksOff self.old (record self.new { heard = self.old.heard })) }
+        ensures all { OnOk result (FencesAll self.old (record self.new { heard = fold leave self.old.heard brokers.now }) brokers.now) }
+        ensures heard { OnOk result (self.new.heard ≡ self.old.heard) }
+        ensures broken { OnErr result (BreaksOff self.old self.new) }
         ensures later { steps.old ≤ steps.new }
     {
-        match brokers.split_first() {
-            None => Ok(()),
-            Some((broker, others)) => {
-                self.fence(broker, index, steps)?;
-                self.fence_all(others, index, steps)
-            }
+        for broker in brokers {
+            self.fence(broker, index, steps)?;
+        }
+        Ok(())
+    }
+
+    fn forget_contact(&mut self, broker: &i32)
+        ensures { self.new ≡ record self.old { heard = leave self.old.heard broker.now } }
+    {
+        self.sessions.leave(*broker);
+    }
+
+    // The brokers leave the contacts.
+    #[tactic(auto, using(crate::proofs::Fencings::forget_contacts))]
+    fn forget_contacts(&mut self, brokers: &[i32])
+        ensures { self.new ≡ record self.old { heard = fold leave self.old.heard brokers.now } }
+    {
+        for broker in brokers {
+            self.forget_contact(broker);
         }
     }
 
@@ -188,16 +197,6 @@ impl Engine {
         FencingIndex::of(self.alloc, &Seen::tip(&self.store), brokers)
     }
 
-    // Where memory was wanted, the contacts are those that were found.
-    fn undo_contacts(&mut self, fenced: &Result<(), NoMemory>, found: Sessions)
-        ensures ok { OnOk fenced.now (self.new ≡ self.old) }
-        ensures err { OnErr fenced.now (self.new ≡ record self.old { heard = found.heartbeats }) }
-    {
-        if fenced.is_err() {
-            self.sessions = found;
-        }
-    }
-
     #[tactic(auto, using(crate::proofs::Fencings::fence_lapsed))]
     fn fence_lapsed<L: Ledger>(&mut self, steps: &mut Steps<L>) -> Result<(), NoMemory>
         requires ready { IsReady self.old }
@@ -211,10 +210,9 @@ impl Engine {
             return Ok(());
         }
         let index = self.index_of(lapsed.as_slice())?;
-        let found = self.sessions.copied()?;
-        let fenced = self.fence_all(lapsed.as_slice(), &index, steps);
-        self.undo_contacts(&fenced, found);
-        fenced
+        self.fence_all(lapsed.as_slice(), &index, steps)?;
+        self.forget_contacts(lapsed.as_slice());
+        Ok(())
     }
 
     fn settle_tick<L: Ledger>(&mut self, steps: &mut Steps<L>) -> Result<(), NoMemory>

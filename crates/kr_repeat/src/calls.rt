@@ -1,6 +1,6 @@
 //! Whole calls.
 
-ghost use Rattle.std.specs.Prelude.{◌≡◌, IfOk, IsTrue, false};
+ghost use Rattle.std.specs.Prelude.{◌≡◌, ◌↔◌, IfOk, IsTrue, false};
 ghost use Rattle.kr_calls.specs.Decide.{is_read};
 
 use crate::Repeat;
@@ -32,9 +32,9 @@ fn request_again(request: &Request, alloc: Global) -> Result<Request, NoMemory>
     }
 }
 
-// Reads are the same as nothing.
+// The requests are the same write.
 fn same_request(request: &Request, other: &Request) -> bool
-    ensures { IsTrue result → request.now ≡ other.now }
+    ensures { IsTrue result ↔ ((is_read request.now ≡ false) × (request.now ≡ other.now)) }
 {
     match (request, other) {
         (Request::BrokerRegistration(p), Request::BrokerRegistration(q)) => p.is(q),
@@ -65,9 +65,9 @@ pub fn write_again(call: &Call, alloc: Global) -> Result<Call, NoMemory>
     })
 }
 
-/// The calls are the same; of two reads it isn't told.
+/// The calls are the same write.
 pub fn same_call(call: &Call, other: &Call) -> bool
-    ensures { IsTrue result → call.now ≡ other.now }
+    ensures { IsTrue result ↔ ((is_read call.now.request ≡ false) × (call.now ≡ other.now)) }
 {
     call.correlation == other.correlation && same_request(&call.request, &other.request)
 }

@@ -31,6 +31,8 @@ pub record Submits (old new : Client) (call : Call) (result : Result Answered Su
   pub number : new.number ≡ old.number
   pub ticket : new.ticket ≡ raised old.ticket
   pub misses : MayRise old.misses new.misses
+  -- the seat holds the places that it held
+  pub held : new.held ≡ old.held
 
 -- what `read` tells of a call and its result
 pub record Queries (old new : Client) (call : Call) (result : Result Reply CopyFault) : Type 0 where

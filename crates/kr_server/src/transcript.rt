@@ -61,11 +61,14 @@ impl Transcript for MemoryTranscript {
 pub struct NoTranscript;
 
 impl Transcript for NoTranscript {
-    ghost use Rattle.std.specs.Prelude.{None};
+    ghost use Rattle.std.specs.Prelude.{None, IsOk};
 
     ghost list = { λ _. None };
 
-    fn add(&mut self, _exchange: Exchange) -> Result<(), NoMemory> {
+    /// It answers Ok.
+    fn add(&mut self, _exchange: Exchange) -> Result<(), NoMemory>
+        ensures never { IsOk result }
+    {
         Ok(())
     }
 }

@@ -322,7 +322,7 @@ impl ClientSeat {
     /// Writes, and waits for the answer: what was decided on a place that isn't below the end of all that the seat had seen,
     /// once its records stand in the list that the seat then holds; or Kafka's NOT_CONTROLLER, where the leadership was lost
     /// before. Ended where the worker stops, Ahead where the seat has seen more of the log than this controller has, and
-    /// Exhausted where the log takes no more.
+    /// Exhausted where the log takes no more. However it ends, the seat holds the places that it held.
     #[tactic(auto, using(crate::proofs::Onwards::onward_refl, crate::proofs::Misses::stays))]
     pub fn submit<R: Wait>(&mut self, rt: &R, call: &Call) -> Result<Shared<Answered>, SubmitFault>
         requires { IsTrue (not (is_read call.now.request)) }
@@ -336,6 +336,7 @@ impl ClientSeat {
         ensures number { self.new.number ≡ self.old.number }
         ensures ticket { self.new.ticket ≡ raised self.old.ticket }
         ensures misses { MayRise self.old.misses self.new.misses }
+        ensures held { self.new.held ≡ self.old.held }
     {
         let floor = self.reader.end();
         if self.ask(rt, call, &floor).is_err() {

@@ -20,3 +20,11 @@ pub record IsReady (e : Core) : Type 0 where
   pub at_standby : e.leading ≡ None → e.committed ≡ e.tip
   pub in_time : IsTrue (hearing.is_not_before e.heard e.time)
   pub among : (id : ℤ) → IsTrue (has (hearing.stopping_brokers e.heard) id) → IsTrue (broker_is_stopping e.images.tip id)
+
+-- records may be appended at the tip
+pub record MayAppend (e : Core) : Type 0 where
+  pub natural : pos 0 ≤ℤ e.tip
+  pub low : e.tip ≤ℤ PLACES_END
+  -- the present image is kept under the place of the tip, and none under a later place
+  pub last : last_kept e.images ≡ Some (e.tip, e.images.tip)
+  pub above : (place : ℤ) → IsTrue (int_lt e.tip place) → IsAbove e.images.kept place

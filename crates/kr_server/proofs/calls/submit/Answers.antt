@@ -8,5 +8,5 @@ pub returns-in-Err-clause-err : goal.returns-in-Err-clause-err
 returns-in-Err-clause-err g c = λ message asked.
     let e = c.in-Err.ensures in
     let told : Submits c.args.seat.now c.submit.new.self c.args.call (Err c.in-Err.fault) =
-    record { write = c.requires; onward = e.onward; answer = e.cause; pushed = e.pushed; number = e.number; ticket = e.ticket; misses = e.misses } in
+    record { write = c.requires; onward = e.onward; answer = e.cause; pushed = e.pushed; number = e.number; ticket = e.ticket; misses = e.misses; held = e.held } in
     subst (IsNotExchanged message c.args.seat.now c.submit.new.self) (sym c.refusal_end.ensures) (refused_write _ _ c.args.call c.in-Err.fault message told asked)

@@ -3,5 +3,5 @@ use Rattle.kr_engine.proofs.engine.Engine.fence.Goals as goal
 
 pub returns-clause-fences : goal.returns-clause-fences
 returns-clause-fences g c =
-    fences_by c.args.self.now c.fencing_records.new.self c.append.new.self c.forget_contact.new.self c.args.broker.now c.in_ok-records.records
-    c.requires.valid c.in_ok-records.ensures.records c.in_ok-records.ensures.image c.in_ok-records.ensures.kept c.in_ok-records.ensures.made c.in_ok-records.ensures.calls c.in_ok-records.ensures.same c.in_ok-append.ensures.appended c.forget_contact.ensures
+    fences_by c.args.self.now c.fencing_records.new.self c.append.new.self c.args.broker.now c.in_ok-records.records
+    c.requires.valid c.in_ok-records.ensures.records c.in_ok-records.ensures.image c.in_ok-records.ensures.kept c.in_ok-records.ensures.made c.in_ok-records.ensures.calls c.in_ok-records.ensures.same c.in_ok-append.ensures.appended
