@@ -121,7 +121,8 @@ impl Engine {
         requires open { MayAppend self.old }
         requires indexed { Indexes index.now self.old.images.tip }
         requires valid { AreValid self.old.images }
-        ensures fences { OnOk result (Fences self.old (record self.new { heard = leave self.old.heard broker.now }) broker.now) }
+        ensures fences { OnOk result (Fences self.old
+            (record self.new { heard = leave self.old.heard broker.now }) broker.now) }
         ensures heard { OnOk result (self.new.heard ≡ self.old.heard) }
         ensures broken { OnErr result (BreaksOff self.old self.new) }
         ensures valid { OnOk result (AreValid self.new.images) }
@@ -143,7 +144,8 @@ impl Engine {
     ) -> Result<(), NoMemory>
         requires indexed { Indexes index.now self.old.images.tip }
         requires can { CanFenceAll self.old brokers.now }
-        ensures all { OnOk result (FencesAll self.old (record self.new { heard = fold leave self.old.heard brokers.now }) brokers.now) }
+        ensures all { OnOk result (FencesAll self.old
+            (record self.new { heard = fold leave self.old.heard brokers.now }) brokers.now) }
         ensures heard { OnOk result (self.new.heard ≡ self.old.heard) }
         ensures broken { OnErr result (BreaksOff self.old self.new) }
         ensures later { steps.old ≤ steps.new }
