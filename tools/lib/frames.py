@@ -2,7 +2,7 @@
 import struct
 
 
-def frame(kind, body):
+def frame(kind, body=b""):
     return struct.pack(">IB", len(body) + 1, kind) + body
 
 

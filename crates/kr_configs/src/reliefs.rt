@@ -1,11 +1,14 @@
 //! Where a changed minimum leaves enough replicas in sync, none stands by (KIP-966).
 
-ghost use Rattle.std.specs.Prelude.{◌≡◌, ◌++◌, ◌==◌, ◌&&◌, not, [], bytes_eq, length, IfOk, OnOk, option_and_then};
+ghost use Rattle.std.specs.Prelude.{◌≡◌, ◌++◌, ◌==◌, ◌&&◌, not, [], bytes_eq, length, true, false, IfOk, OnOk, option_and_then};
 ghost use Rattle.std.specs.Option.{option_copied};
 ghost use Rattle.std.specs.Ordering.{int_eq};
 ghost use Rattle.kr_calls.specs.IncrementalAlterConfigs as incremental_alter_configs;
+ghost use Rattle.kr_defs.specs.Apply.{topic_kind};
 ghost use Rattle.kr_defs.specs.Build.{unless};
 ghost use Rattle.kr_defs.specs.Eligible as eligible;
+ghost use Rattle.kr_defs.specs.Map as entries;
+ghost use Rattle.kr_defs.specs.Map.{text_order};
 ghost use Rattle.kr_defs.specs.NewPartition as partitions;
 ghost use Rattle.kr_defs.specs.Settings as settings;
 ghost use Rattle.kr_defs.specs.Walk.{changes_of, walk};
@@ -18,7 +21,7 @@ use crate::values::Values;
 use kr_base::NoMemory;
 use kr_calls::ConfigResource;
 use kr_defs::{Ids, MINIMUM_KEY, Options, Partition, PartitionChange, Records, Text, read_minimum};
-use kr_replication::{Change, add_changes, minimum_at, minimum_of, value_at};
+use kr_replication::{Change, add_changes, add_changes_of_topic, minimum_at, minimum_of, value_at};
 use kr_store::{Seen, Store};
 use std::alloc::Global;
 
@@ -193,8 +196,69 @@ fn keeps_minimum<S: Store>(
     Ok(is_same_value(after, before))
 }
 
+// The id of the topic of this name.
+fn topic_id<S: Store>(seen: &Seen<S>, name: &Text) -> Option<u128>
+    ensures { result ≡ entries.get text_order seen.now.topics name.now }
+{
+    match seen.topic_named(name) {
+        Some(topic) => Some(topic.id),
+        None => None,
+    }
+}
+
+// The reliefs by a topic's own setting: those of its partitions.
+fn add_topic_reliefs<S: Store>(
+    alloc: Global,
+    seen: &Seen<S>,
+    relief: &Relief,
+    records: &mut Records,
+) -> Result<(), NoMemory>
+    requires { int_eq relief.now.entry.now.kind topic_kind ≡ true }
+    ensures { OnOk result (records.new ≡ records.old ++
+        changes_of (incremental_alter_configs.relief relief.now.options.now seen.now
+        (after seen.now relief.now.entry.now relief.now.values.now)) (walk seen.now)) }
+{
+    seen.is_valid();
+    relief.values.are_once();
+    match topic_id(seen, &relief.entry.name) {
+        Some(id) => {
+            add_changes_of_topic(alloc, seen, relief, &relief.entry.name, &id, records)?;
+            Ok(())
+        }
+        None => Ok(()),
+    }
+}
+
+// The reliefs by another setting: one of a single broker is the minimum of no topic.
+fn add_broker_reliefs<S: Store>(
+    alloc: Global,
+    seen: &Seen<S>,
+    relief: &Relief,
+    records: &mut Records,
+) -> Result<(), NoMemory>
+    requires { int_eq relief.now.entry.now.kind topic_kind ≡ false }
+    ensures { OnOk result (records.new ≡ records.old ++
+        changes_of (incremental_alter_configs.relief relief.now.options.now seen.now
+        (after seen.now relief.now.entry.now relief.now.values.now)) (walk seen.now)) }
+{
+    seen.is_valid();
+    relief.values.are_once();
+    if relief.entry.name.is_empty() {
+        add_changes(alloc, seen, relief, records)
+    } else {
+        Ok(())
+    }
+}
+
+// It is a topic's setting.
+fn is_of_topic(entry: &ConfigResource) -> bool
+    ensures { result ≡ int_eq entry.now.kind topic_kind }
+{
+    entry.kind == TOPIC
+}
+
 /// Adds a change for each partition of a topic whose minimum is another with these values, where enough are in sync for it:
-/// nobody stands by any more. A minimum that stays needs no walk.
+/// nobody stands by any more. A minimum that stays needs no walk, and a topic's own one only that over its partitions.
 pub(crate) fn add_reliefs<S: Store>(
     alloc: Global,
     seen: &Seen<S>,
@@ -217,5 +281,9 @@ pub(crate) fn add_reliefs<S: Store>(
         entry,
         values,
     };
-    add_changes(alloc, seen, &relief, records)
+    if is_of_topic(entry) {
+        add_topic_reliefs(alloc, seen, &relief, records)
+    } else {
+        add_broker_reliefs(alloc, seen, &relief, records)
+    }
 }

@@ -1,3 +1,4 @@
 pub mod LeaderlessElections
 pub mod OngoingRows
+pub mod ReportedMembers
 pub mod WholeTopics

@@ -1,11 +1,13 @@
 //! Which lists of members a leader can report.
 
-ghost use Rattle.std.specs.Prelude.{◌≡◌, IfOk, map};
+ghost use Rattle.std.specs.Prelude.{◌≡◌, ◌==◌, ◌||◌, not, length, IfOk, map};
+ghost use Rattle.kr_defs.specs.Ids.{has};
+ghost use Rattle.kr_defs.specs.Partition.{is_part};
 ghost use Rattle.kr_calls.specs.AlterPartition as alter_partition;
 
 use kr_base::NoMemory;
 use kr_calls::{BrokerState, PartitionReport};
-use kr_defs::{Ids, Partition, is_distinct, is_within};
+use kr_defs::{Ids, Partition, is_part};
 use std::alloc::Global;
 
 fn ids_of(alloc: Global, states: &[BrokerState]) -> Result<Ids, NoMemory>
@@ -25,12 +27,21 @@ pub(crate) fn members(alloc: Global, report: &PartitionReport) -> Result<Ids, No
     ids_of(alloc, report.in_sync.as_slice())
 }
 
+// There are none, or without the leader, or not each a replica that stands once. A list with others than replicas ends at the
+// first, and so does a longer one than theirs at what stands twice.
+fn are_no_members(partition: &Partition, members: &Ids) -> bool
+    ensures { result ≡ (length members.now == 0
+        || not (has members.now partition.now.leader)
+        || not (is_part members.now partition.now.replicas)) }
+{
+    members.is_empty()
+        || !members.contains(&partition.leader)
+        || !is_part(members, &partition.replicas)
+}
+
 /// They aren't some of the replicas, each once, with the leader.
 pub(crate) fn are_bad_members(partition: &Partition, members: &Ids) -> bool
     ensures { result ≡ alter_partition.are_bad_members partition.now members.now }
 {
-    members.is_empty()
-        || !is_distinct(members.as_slice())
-        || !members.contains(&partition.leader)
-        || !is_within(members.as_slice(), &partition.replicas)
+    are_no_members(partition, members)
 }

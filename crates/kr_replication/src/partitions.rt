@@ -75,8 +75,8 @@ fn add_above<C: Change, S: Store>(
     Ok(())
 }
 
-// The changes of the partitions of one topic.
-fn add_topic<C: Change, S: Store>(
+/// Adds the changes of the partitions of one topic, by index.
+pub fn add_changes_of_topic<C: Change, S: Store>(
     alloc: Global,
     seen: &Seen<S>,
     rule: &C,
@@ -105,7 +105,7 @@ pub fn add_changes<C: Change, S: Store>(
     seen.is_valid();
     let mut after = None;
     while let Some((name, id)) = seen.next_topic(after) {
-        add_topic(alloc, seen, rule, name, id, records)?;
+        add_changes_of_topic(alloc, seen, rule, name, id, records)?;
         after = Some(name);
     }
     Ok(())

@@ -1,6 +1,6 @@
 use Rattle.std.proofs.Common.{◌∙◌, ap, ◌++◌}
 use Rattle.kr_replication.proofs.Changes.{key_begin}
-use Rattle.kr_replication.proofs.partitions.add_topic.Goals as goal
+use Rattle.kr_replication.proofs.partitions.add_changes_of_topic.Goals as goal
 
 pub returns : goal.returns
 returns g c =

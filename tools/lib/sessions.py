@@ -1,0 +1,199 @@
+"""Sessions of many events, made frame by frame, and what a run of one costs. Linux only."""
+import struct
+import subprocess
+import sys
+import tempfile
+
+from lib.frames import frame
+from lib.wire import uvarint
+
+CLUSTER = b"bench"
+SALT = 1
+
+
+def text(said):
+    return uvarint(len(said) + 1) + said
+
+
+def rows(*elements):
+    return uvarint(len(elements) + 1) + b"".join(elements)
+
+
+def numbers(*some):
+    return rows(*(struct.pack(">i", one) for one in some))
+
+
+def topic_id(place):
+    """The id of the topic whose record stands there."""
+    return struct.pack(">QQ", SALT, place + 1)
+
+
+# ---- frames
+
+def opened(session_ms=9_000):
+    return frame(0x01, struct.pack(">iQIihi", 1, SALT, session_ms, 1, 1, 1) + CLUSTER)
+
+
+def lead(epoch, place, now=0):
+    return frame(0x02, struct.pack(">iqq", epoch, place, now))
+
+
+def commit(epoch, end):
+    return frame(0x03, struct.pack(">iq", epoch, end))
+
+
+def lost(epoch):
+    return frame(0x04, struct.pack(">i", epoch))
+
+
+def tick(now):
+    return frame(0x07, struct.pack(">q", now))
+
+
+def request(key, version, body, now=0):
+    head = struct.pack(">hhih", key, version, 1, -1) + b"\0"
+    return frame(0x08, struct.pack(">Iq", 1, now) + head + body + b"\0")
+
+
+def registration(broker, incarnation=None, listeners=1, features=0, previous=-1):
+    listener = text(b"PLAINTEXT") + text(b"localhost") + struct.pack(">Hh", 9000, 0) + b"\0"
+    feature = text(b"f") + struct.pack(">hh", 0, 0) + b"\0"
+    body = struct.pack(">i", broker) + text(CLUSTER) + struct.pack(">QQ", 0, incarnation or broker)
+    body += rows(*[listener] * listeners) + rows(*[feature] * features)
+    return request(62, 3, body + b"\0\0" + rows() + struct.pack(">q", previous))
+
+
+def heartbeat(broker, epoch, offset, now=0, fence=False, stop=False):
+    return request(63, 0, struct.pack(">iqqBB", broker, epoch, offset, fence, stop), now)
+
+
+def unregistration(broker):
+    return request(64, 0, struct.pack(">i", broker))
+
+
+def new_topic(name, partitions=1, factor=1, assignments=(), settings=()):
+    """A topic to create, which one request may have many of."""
+    given = rows(*(struct.pack(">i", at) + numbers(*ids) + b"\0" for at, ids in enumerate(assignments)))
+    head = text(name) + struct.pack(">ih", -1 if assignments else partitions, -1 if assignments else factor)
+    return head + given + rows(*(text(key) + text(value) + b"\0" for key, value in settings)) + b"\0"
+
+
+def topics(*some):
+    return request(19, 7, rows(*some) + struct.pack(">iB", 0, 0))
+
+
+def topic(name, partitions, factor, assignments=()):
+    return topics(new_topic(name, partitions, factor, assignments))
+
+
+def operation(key, value):
+    return text(key) + b"\0" + text(value) + b"\0"
+
+
+def alterations(*resources):
+    """Of each resource its type, its name and what is set."""
+    each = (bytes([kind]) + text(name) + rows(*operations) + b"\0" for kind, name, operations in resources)
+    return request(44, 1, rows(*each) + b"\0")
+
+
+def setting(value):
+    return alterations((4, b"", [operation(b"note", value)]))
+
+
+def election(*asked):
+    """Of each topic its name and the indexes."""
+    return request(43, 2, b"\0" + rows(*(text(name) + numbers(*indexes) + b"\0" for name, indexes in asked)) + struct.pack(">i", 0))
+
+
+def metadata(names=None):
+    asked = b"\0" if names is None else rows(*(bytes(16) + text(name) + b"\0" for name in names))
+    return request(3, 12, asked + b"\0\0")
+
+
+class Session:
+    """A session under way: its frames, its events, and the end of its log."""
+
+    def __init__(self, session_ms=9_000):
+        self.frames, self.events, self.end = [opened(session_ms)], 0, 0
+        self.epoch, self.asked = 0, 0
+        self.lead()
+
+    def add(self, one, records=0):
+        self.frames.append(one)
+        self.events += 1
+        self.asked += one[4] == 0x08
+        self.end += records
+
+    def lead(self):
+        self.epoch += 1
+        self.add(lead(self.epoch, self.end + 1), 1)
+
+    def commit(self, end=None):
+        self.add(commit(self.epoch, self.end if end is None else end))
+
+    def lose(self, end):
+        self.add(lost(self.epoch))
+        self.end = end
+        self.lead()
+
+    def brokers(self, count):
+        """Brokers 1 to count, registered and unfenced. The epoch of each is its number, since the control record of the leader has place 0."""
+        assert self.end == 1
+        for broker in range(1, count + 1):
+            self.add(registration(broker), 1)
+        self.commit()
+        for broker in range(1, count + 1):
+            self.add(heartbeat(broker, broker, self.end), 1)
+        self.commit()
+
+    def bytes(self):
+        return b"".join(self.frames + [frame(0x0A)])
+
+
+def look_at(told, asked):
+    """A refused event, and another number of replies than of requests, end this."""
+    at, found = 0, 0
+    while at < len(told):
+        size, kind = struct.unpack_from(">IB", told, at)
+        if kind == 0x83:
+            number, reason = struct.unpack_from(">QB", told, at + 5)
+            sys.exit(f"event {number} was refused for reason {reason}")
+        found += kind == 0x82
+        at += 4 + size
+    if found != asked:
+        sys.exit(f"{found} replies to {asked} requests")
+
+
+# Runs a program over the standard input and output of this one, and tells its seconds of processor time and its peak of memory
+# in KiB; past so many seconds, where there are some, it ends it. An interpreter of its own, since a process begins with the peak of the one that started it.
+LAUNCHER = """
+import os, resource, sys
+limit = int(sys.argv[1])
+child = os.fork()
+if child == 0:
+    if limit:
+        resource.setrlimit(resource.RLIMIT_CPU, (limit, limit + 1))
+    os.execv(sys.argv[2], sys.argv[2:])
+_, status, usage = os.wait4(child, 0)
+sys.stderr.write(f"{os.waitstatus_to_exitcode(status)} {usage.ru_utime + usage.ru_stime} {usage.ru_maxrss}")
+"""
+
+
+class TooSlow(Exception):
+    """A run was ended past the seconds of processor time that it was given."""
+
+
+def run(tool, data, limit=0):
+    """Seconds of processor time, the peak of resident memory in bytes (some 10 MB where it is less), and what was written."""
+    with tempfile.TemporaryFile() as given, tempfile.TemporaryFile() as told:
+        given.write(data)
+        given.seek(0)
+        words = [sys.executable, "-I", "-S", "-c", LAUNCHER, str(limit), tool, "session"]
+        done = subprocess.run(words, stdin=given, stdout=told, stderr=subprocess.PIPE, check=True)
+        status, seconds, peak = done.stderr.decode().split()[-3:]
+        if limit and status == "-24":  # SIGXCPU
+            raise TooSlow
+        if status != "0":
+            sys.exit(f"{tool} session ended with {status}")
+        told.seek(0)
+        return float(seconds), int(peak) * 1024, told.read()
