@@ -81,14 +81,14 @@ pub fn add_changes_of_topic<C: Change, S: Store>(
     seen: &Seen<S>,
     rule: &C,
     name: &Text,
-    id: &u128,
+    id: u128,
     records: &mut Records,
 ) -> Result<(), NoMemory>
     ensures { OnOk result (records.new ≡ records.old ++ changes_of (C.change rule.now seen.now)
-        (walk_topic seen.now.partitions (name.now, id.now))) }
+        (walk_topic seen.now.partitions (name.now, id))) }
 {
     seen.is_valid();
-    add_above(alloc, seen, rule, name, before_all(id), records)?;
+    add_above(alloc, seen, rule, name, before_all(&id), records)?;
     Ok(())
 }
 
@@ -105,7 +105,7 @@ pub fn add_changes<C: Change, S: Store>(
     seen.is_valid();
     let mut after = None;
     while let Some((name, id)) = seen.next_topic(after) {
-        add_changes_of_topic(alloc, seen, rule, name, id, records)?;
+        add_changes_of_topic(alloc, seen, rule, name, *id, records)?;
         after = Some(name);
     }
     Ok(())
