@@ -1,8 +1,7 @@
-//! Tests of what rows of `test_rows` can't show: objects that fail, and calls with memory to spare that no row makes.
+//! Tests of what rows of `test_rows` can't show, below the engine: objects that fail, calls with memory to spare that no row
+//! makes, and what a worker asks of the outside.
 #![tactic(auto)]
 
-#[cfg(test)]
-mod commands;
 #[cfg(test)]
 mod contacts;
 #[cfg(test)]
@@ -14,10 +13,6 @@ mod encoders;
 #[cfg(test)]
 mod objects;
 #[cfg(test)]
-mod rounds;
-#[cfg(test)]
-mod sessions;
-#[cfg(test)]
-mod summaries;
+mod outside;
 #[cfg(test)]
 mod timelines;

@@ -1,5 +1,6 @@
 //! The examples by their words.
 
+use crate::host::print_host;
 use crate::image::print_image;
 use crate::plan::print_plan;
 use crate::records::print_batch;
@@ -8,6 +9,8 @@ use std::io::Print;
 /// What a caller does.
 #[derive(Clone, Copy, Debug, PartialEq, Eq)]
 pub(crate) enum Example {
+    /// A host steps the controller.
+    Host,
     /// A planner asks the rules.
     Plan,
     /// The author of a tool reads a record batch.
@@ -16,9 +19,20 @@ pub(crate) enum Example {
     Show,
 }
 
+impl Example {
+    /// It reads bytes.
+    pub(crate) fn reads(self) -> bool {
+        match self {
+            Example::Host | Example::Plan => false,
+            Example::Inspect | Example::Show => true,
+        }
+    }
+}
+
 /// The example of this word.
 pub(crate) fn example_of(word: &str) -> Option<Example> {
     match word {
+        "host" => Some(Example::Host),
         "plan" => Some(Example::Plan),
         "inspect" => Some(Example::Inspect),
         "show" => Some(Example::Show),
@@ -33,6 +47,7 @@ pub(crate) fn print_example<R: Print + AllocGlobal>(
     bytes: &[u8],
 ) -> anyhow::Result<()> {
     match example {
+        Example::Host => print_host(rt),
         Example::Plan => print_plan(rt),
         Example::Inspect => print_batch(rt, bytes),
         Example::Show => print_image(rt, bytes),

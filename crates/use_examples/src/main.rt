@@ -1,9 +1,13 @@
-//! What callers do with the crates alone, an example a word: `plan` asks the rules, `inspect` reads a record batch and `show`
-//! an image from standard input. With no word the examples come from standard input, a line each: the word, and behind a space
-//! the bytes that it reads, in hex. Where an example has a fault it is told, and the status is 1; other words have status 2.
+//! What callers do with the crates alone, an example a word: `host` steps the controller, `plan` asks the rules, `inspect` reads
+//! a record batch and `show` an image from standard input. With no word the examples come from standard input, a line each: the
+//! word, and behind a space the bytes that it reads, in hex. Where an example has a fault it is told, and the status is 1; other
+//! words have status 2.
 #![tactic(auto)]
 
+mod events;
 mod example;
+mod host;
+mod hosting;
 mod image;
 mod loss;
 mod names;
@@ -31,7 +35,7 @@ fn main(rt: HostRuntime) -> anyhow::Result<ExitCode> {
         Asked::One(example) => print_one(&rt, example)?,
         Asked::Stored => print_stored(&rt)?,
         Asked::Nothing => {
-            eprintln!(rt; "usage: use_examples [plan | inspect | show]")?;
+            eprintln!(rt; "usage: use_examples [host | plan | inspect | show]")?;
             return Ok(ExitCode::from(2));
         }
     }
@@ -54,7 +58,7 @@ fn read_words<R: Env + AllocGlobal>(rt: &R) -> std::io::Result<Asked> {
 // Does the example with all of standard input.
 fn print_one<R: Input + Print + AllocGlobal>(rt: &R, example: Example) -> anyhow::Result<()> {
     let mut bytes = Vec::new(rt.alloc());
-    if example != Example::Plan {
+    if example.reads() {
         rt.reader().read_to_end(&mut bytes)?;
     }
     print_example(rt, example, &bytes)

@@ -1,15 +1,11 @@
 //! What a host does with the controller: it hands over one event after the other, and takes all that comes out of each before
 //! the next. This one makes its node the leader, registers a broker, commits what was appended, and asks for the image.
-#![tactic(auto)]
-
-mod events;
-mod hosting;
 
 ghost use Rattle.std.specs.Prelude.{◌≡◌, ◌<◌, [], OnOk, IfOk};
 ghost use Rattle.kr_model.specs.Engine.{IsSound, outputs_left};
 
-use events::{commit_all, lead, options, registration};
-use hosting::take;
+use crate::events::{commit_all, lead, options, registration};
+use crate::hosting::take;
 use kr_base::Steps;
 use kr_calls::Event;
 use kr_engine::Engine;
@@ -18,8 +14,9 @@ use std::io::Print;
 use std::marker::Brand;
 use std::sync::ledger::{Blank, Ledger};
 
-fn main(rt: HostRuntime) -> anyhow::Result<()> {
-    host::<Brand, HostRuntime>(&rt, rt.alloc(), Blank::new(1))
+/// Steps the controller, and prints what it gives.
+pub(crate) fn print_host<R: Print + AllocGlobal>(rt: &R) -> anyhow::Result<()> {
+    host::<Brand, R>(rt, rt.alloc(), Blank::new(1))
 }
 
 fn open_engine(alloc: Global) -> Result<Engine, AllocError>

@@ -1,10 +1,11 @@
-//! What tests of the copies show.
+//! What tests of the copies show, and read.
 
 ghost use Rattle.kr_view.specs.StagedLaws.{HasNothing, IsPlain, is_plain_entry};
-ghost use Rattle.std.specs.Prelude.{OnOk};
+ghost use Rattle.std.specs.Prelude.{IsTrue, OnOk};
+ghost use Rattle.kr_calls.specs.Decide.{is_read};
 
 use kr_base::NoMemory;
-use kr_calls::Entry;
+use kr_calls::{Call, Entry, Metadata, Request};
 use kr_defs::{Ids, Item, Options, Partition, Record, Text};
 use kr_view::Publisher;
 use kr_view::laws::logged_entries_are_right;
@@ -69,6 +70,15 @@ pub(crate) fn stage_record(
     match publisher.stage(Entry::Item { place, item }) {
         Ok(()) => Ok(()),
         Err(_) => Err(NoMemory),
+    }
+}
+
+pub(crate) fn all_topics() -> Call
+    ensures { IsTrue (is_read result.request) }
+{
+    Call {
+        correlation: 5,
+        request: Request::Metadata(Metadata { topics: None }),
     }
 }
 

@@ -1,6 +1,6 @@
 use Rattle.std.proofs.Common.{length}
 use Rattle.kr_model.specs.Engine.{IsSound, outputs_left}
-use Rattle.use_host.proofs.hosting.hand_out.Given as goal
+use Rattle.use_examples.proofs.hosting.hand_out.Given as goal
 
 abbrev pub invariant-loop-output : goal.invariant-loop-output
 invariant-loop-output g l = IsSound l.engine

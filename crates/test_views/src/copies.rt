@@ -3,8 +3,7 @@
 ghost use Rattle.kr_view.specs.StagedLaws.{HasNothing, IsPlain};
 ghost use Rattle.std.specs.Prelude.{OnOk};
 
-use crate::calls::all_topics;
-use crate::shown::{options, partition, show_plain, stage_record, topic};
+use crate::shown::{all_topics, options, partition, show_plain, stage_record, topic};
 use kr_base::NoMemory;
 use kr_calls::{MetadataReply, Reply};
 use kr_view::{Opening, Publisher, ReaderSeat, ReaderSeats, open};
