@@ -20,6 +20,10 @@ class NoBrowser(Exception):
     """It doesn't start, doesn't answer in time, or refuses a command."""
 
 
+class Refused(NoBrowser):
+    """It answers a command with an error, as while a page is being left."""
+
+
 class Browser:
     """One browser with one page. Its profile goes to the folder."""
 
@@ -44,7 +48,7 @@ class Browser:
             told = json.loads(self._next(until))
             if told.get("id") == self.count:
                 if "error" in told:
-                    raise NoBrowser(f"{method}: {told['error']}")
+                    raise Refused(f"{method}: {told['error']}")
                 return told["result"]
         raise NoBrowser(f"{method} has no answer")
 
@@ -69,7 +73,10 @@ class Browser:
 
     def read(self):
         """What stands on the page now: (tables, texts), both by id; None while it is being fetched."""
-        told = self.call("Runtime.evaluate", {"expression": READ, "returnByValue": True})
+        try:
+            told = self.call("Runtime.evaluate", {"expression": READ, "returnByValue": True})
+        except Refused:
+            return None
         if "exceptionDetails" in told:
             return None
         found = json.loads(told["result"]["value"])

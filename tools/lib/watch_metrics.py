@@ -1,7 +1,8 @@
 """What a look showed (observed.py), for Prometheus by its own client library (Debian: python3-prometheus-client)."""
 from prometheus_client.core import GaugeMetricFamily
 
-STATES = ("active", "stopping", "fenced", "not fenced", "not registered", "fenced, or not registered")
+STATES = ("active", "stopping", "fenced", "not registered")
+UNTOLD = ("not fenced", "fenced, or not registered")     # where the log isn't told
 
 
 class Collector:
@@ -56,7 +57,8 @@ def log(seen):
 
 def cluster(seen):
     states = [seen.state_of(broker) for broker in seen.brokers]
-    yield by("brokers", "Brokers by their state.", "state", [(state, states.count(state)) for state in STATES if state in states or state in STATES[:3]])
+    told = STATES if seen.registered is not None else UNTOLD
+    yield by("brokers", "Brokers by their state.", "state", [(state, states.count(state)) for state in told])
     yield by("broker_active", "Whether the broker is neither fenced nor stopping.", "broker",
              [(str(broker), state in ("active", "not fenced")) for broker, state in zip(seen.brokers, states)])
     yield by("broker_partitions_led", "How many partitions the broker leads.", "broker",
