@@ -4,7 +4,7 @@ passed over; what a record may be was judged by the controller that wrote it (do
 import struct
 from typing import NamedTuple
 
-from lib.batches import Dropped, look, offset_of, read, read_image, span, values
+from lib.batches import Dropped, offset_of, read, read_image, span, standing, values
 from lib.wire import Reading
 
 MINIMUM = "min.insync.replicas"
@@ -33,8 +33,8 @@ class LogState:
         self.end, self.brokers, self.names, self.minimums = 0, {}, {}, {}
 
     def follow(self, store, prefix):
-        """Takes the log up to its end, as it is now."""
-        end, _, image = look(store, prefix)
+        """Takes the log up to its end, as it is now: its end, the place of an image, the greatest epoch, and who leads by name."""
+        end, leader, epoch, image = standing(store, prefix)
         if self.end < image:
             self.take_image(read_image(store, prefix))
         try:
@@ -43,6 +43,7 @@ class LogState:
                 self.end = span(batch)[1]
         except Dropped:
             pass                                             # from the image, the next time
+        return {"end": end, "image": image, "epoch": epoch, "leader": leader}
 
     def take_image(self, image):
         self.forget()

@@ -217,13 +217,14 @@ class Observer:
         nodes = list(self.pool.map(lambda pair: look_at(*pair), self.pairs))
         shows = max((node for node in nodes if node.replies), key=rank, default=None)
         metadata, moves = (metadata_of(shows.replies[0]), moves_of(shows.replies[1])) if shows else (None, {})
-        is_told = self._follow(next((node.status["store"] for node in nodes if node.status), None))
+        log = self._follow(next((node.status["store"] for node in nodes if node.status), None)) or log_of(nodes)
+        is_told = self.store is not None
         minimum = {topic: self.state.minimum(topic) for topic in metadata.topics} if is_told and metadata else None
         registered = dict(self.state.brokers) if is_told else None
-        return Seen(time.time(), nodes, shows, metadata, moves, log_of(nodes), registered, minimum, self.fault)
+        return Seen(time.time(), nodes, shows, metadata, moves, log, registered, minimum, self.fault)
 
     def _follow(self, told):
-        """Takes the log where a link tells that it is; whether its state is known. What was taken stays where it can't be read."""
+        """Takes the log where a link told that it is: how it stands, None where it can't be read; what was taken stays then."""
         place = told and {name: told[name] for name in told if name != "answers"}
         try:
             if place and place != self.where:
@@ -231,14 +232,15 @@ class Observer:
                 self.where, self.state = place, LogState()
             if self.store is None:
                 self.fault = "no link tells where the log is"
-                return False
-            self.state.follow(self.store, self.where["prefix"].encode())
+                return None
+            log = self.state.follow(self.store, self.where["prefix"].encode())
             self.fault = None
+            return log
         except Unknown as fault:
             self.fault = f"the log can't be read: {fault}"
         except (Unusable, Broken) as fault:
             self.fault, self.store, self.where = f"the log can't be read: {fault}", None, None
-        return self.store is not None
+        return None
 
 
 def rank(node):
@@ -248,7 +250,7 @@ def rank(node):
 
 
 def log_of(nodes):
-    """What the links' stores showed last; of each number the greatest, since none of them ever falls."""
+    """How the log stood when a link saw it last; of each number the greatest, since none of them ever falls."""
     told = [node.status["log"] for node in nodes if node.status and node.status["log"]["end"] is not None]
     if not told:
         return None
