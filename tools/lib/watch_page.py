@@ -8,11 +8,12 @@ STYLE = """
 body { font: 15px/1.45 system-ui, "DejaVu Sans", sans-serif; margin: 1.5rem auto; max-width: 62rem; padding: 0 1rem; color: #1c2430; background: #fff; }
 h1 { font-size: 1.35rem; margin: 0; } h2 { font-size: 1.05rem; margin: 1.6rem 0 .4rem; }
 p { margin: .3rem 0; } .quiet { color: #687386; }
-.tiles { display: flex; flex-wrap: wrap; gap: .6rem; margin: 1rem 0; }
-.tile { border: 1px solid #d9dee6; border-radius: .5rem; padding: .5rem .9rem; min-width: 7.5rem; }
+.tiles { display: flex; flex-wrap: wrap; gap: .6rem; margin: .7rem 0; }
+.tile { border: 1px solid #d9dee6; border-radius: .5rem; padding: .4rem .7rem; min-width: 5.5rem; font-size: .9rem; }
 .tile b { display: block; font-size: 1.25rem; }
 table { border-collapse: collapse; width: 100%; } th { text-align: left; font-weight: 600; color: #687386; }
 th, td { padding: .25rem .7rem .25rem 0; border-bottom: 1px solid #e6eaf0; vertical-align: top; }
+#nodes td:nth-child(-n+2) { white-space: nowrap; }
 .good { color: #14713d; } .bad { color: #b3261e; font-weight: 600; }
 """
 
@@ -56,7 +57,7 @@ def tiles(seen):
     leader, is_bad = leader_line(seen)
     log = seen.log or {}
     under = seen.under_minimum()
-    counts = [("without-leader", "partitions without leader", seen.without_leader()), ("under-minimum", "under their minimum", under),
+    counts = [("without-leader", "without leader", seen.without_leader()), ("under-minimum", "under their minimum", under),
               ("reassigned", "under reassignment", seen.reassigned()), ("not-led-by-first", "not led by their first", seen.not_led_by_first())]
     state = tile("leader", "leads", leader, is_bad) + tile("epoch", "epoch", log.get("epoch")) + tile("end", "end of the log", log.get("end"))
     state += tile("image", "an image stands up to", log.get("image"))
@@ -116,7 +117,7 @@ def page(seen, every, is_still):
 {f'<p class="bad" id="fault">{html.escape(seen.fault)}</p>' if seen.fault else ""}
 {tiles(seen)}
 <h2>Nodes</h2>
-{table("nodes", ["daemon", "name", "clients", "role", "link", "log up to", "behind", "answered its link"], [node_row(seen, node) for node in seen.nodes])}
+{table("nodes", ["daemon", "name", "clients", "role", "link", "has up to", "behind", "heard of"], [node_row(seen, node) for node in seen.nodes])}
 <h2>Brokers</h2>
 {table("brokers", ["id", "state", "since (UTC)", "epoch", "address", "rack", "leads", "in sync", "replicas"], [broker_row(seen, *one) for one in seen.loads().items()])}
 <h2>Partitions to look at</h2>
