@@ -46,6 +46,8 @@ class LogState:
         return {"end": end, "image": image, "epoch": epoch, "leader": leader}
 
     def take_image(self, image):
+        """An image has no times: since when a broker's state is what it is stays known where it is the same as before."""
+        before = self.brokers
         self.forget()
         at = 16                                              # behind its place and its number of records
         while at < len(image):
@@ -53,6 +55,9 @@ class LogState:
             self.take(image[at:behind], None)
             at = behind
         self.end = offset_of(image)
+        for number, broker in self.brokers.items():
+            if number in before and before[number]._replace(since=None) == broker:
+                self.brokers[number] = before[number]
 
     def take(self, batch, when):
         if struct.unpack_from(">h", batch, 21)[0] & CONTROL:
