@@ -119,3 +119,5 @@ class Node:
                 except subprocess.TimeoutExpired:
                     send(one, signal.SIGKILL)
                     one.wait()
+        if os.path.exists(f"{self.folder}/pids"):
+            os.remove(f"{self.folder}/pids")                 # other processes get these numbers
