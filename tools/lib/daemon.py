@@ -48,7 +48,7 @@ def ask_all(address, messages):
     """The replies to the messages, once the daemon leads."""
     one = client.Connection(address)
     # A write that changes nothing is refused on standby.
-    while one.ask(client.message_of("alter x=y --dry"))[11:13] == struct.pack(">h", 41):
+    while one.ask(client.message_of("alter x=y --dry"))[10:12] == struct.pack(">h", 41):
         time.sleep(0.01)
     return [one.ask(message) for message in messages]
 

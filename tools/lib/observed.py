@@ -119,7 +119,7 @@ def look_at(address, path):
         line = client.Connection(address, SECONDS)
         try:
             replies = [line.ask(read) for read in READS]
-            leads = struct.unpack_from(">h", line.ask(WRITE), 11)[0] == 0
+            leads = line.ask(WRITE)[10:12] == b"\0\0"
         finally:
             line.socket.close()
     except NoReply as found:
@@ -216,7 +216,10 @@ class Observer:
     def look(self):
         nodes = list(self.pool.map(lambda pair: look_at(*pair), self.pairs))
         shows = max((node for node in nodes if node.replies), key=rank, default=None)
-        metadata, moves = (metadata_of(shows.replies[0]), moves_of(shows.replies[1])) if shows else (None, {})
+        try:
+            metadata, moves = (metadata_of(shows.replies[0]), moves_of(shows.replies[1])) if shows else (None, {})
+        except (NoReply, ValueError):                        # who answers there is no controller
+            shows, metadata, moves = None, None, {}
         log = self._follow(next((node.status["store"] for node in nodes if node.status), None)) or log_of(nodes)
         is_told = self.store is not None
         minimum = {topic: self.state.minimum(topic) for topic in metadata.topics} if is_told and metadata else None
