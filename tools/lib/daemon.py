@@ -1,24 +1,33 @@
-"""The daemon and the tool that make build leaves, or DAEMON and TOOL from the environment; a daemon that is started and ended,
-and a quorum at the other end of its link."""
+"""The daemon and the tool that make build leaves, or DAEMON and TOOL from the environment, and the link; a daemon that is started
+and ended, and a quorum at the other end of its link."""
 import os
 import shlex
 import socket
 import struct
 import subprocess
+import sys
 import threading
 import time
 
 from lib import ROOT, client
 from lib.frames import end_of, frame
 
-DAEMON = shlex.split(os.environ.get("DAEMON", f"{ROOT}/crates/kr_daemon/out/kr_daemon"))
-TOOL = shlex.split(os.environ.get("TOOL", f"{ROOT}/crates/kr_tool/out/kr_tool"))
+DAEMON = shlex.split(os.environ.get("DAEMON", f"{ROOT}/bin/kr_daemon"))
+LINK = [sys.executable, f"{ROOT}/tools/quorum/link"]
+TOOL = shlex.split(os.environ.get("TOOL", f"{ROOT}/bin/kr_tool"))
 
 
 def free_port():
     with socket.socket() as one:
         one.bind(("127.0.0.1", 0))
         return one.getsockname()[1]
+
+
+def is_open(address):
+    """Whether somebody listens there."""
+    host, _, port = address.rpartition(":")
+    with socket.socket() as one:
+        return one.connect_ex((host, int(port))) == 0
 
 
 def with_daemon(more, use):
@@ -39,7 +48,7 @@ def ask_all(address, messages):
     """The replies to the messages, once the daemon leads."""
     one = client.Connection(address)
     # A write that changes nothing is refused on standby.
-    while one.ask(client.message_of("alter x=y --dry"))[11:13] == struct.pack(">h", 41):
+    while one.ask(client.message_of("alter x=y --dry"))[10:12] == struct.pack(">h", 41):
         time.sleep(0.01)
     return [one.ask(message) for message in messages]
 

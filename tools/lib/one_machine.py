@@ -3,16 +3,12 @@ ended together; what ends by itself is started again."""
 import os
 import random
 import signal
-import socket
 import subprocess
-import sys
 import threading
 import time
 
-from lib import ROOT
-from lib.daemon import free_port
+from lib.daemon import LINK, free_port, is_open
 
-LINK = [sys.executable, f"{ROOT}/tools/quorum/link"]
 PAUSE = 0.5              # seconds before what ended is started again
 GRACE = 5                # seconds in which a link that is told to end does
 
@@ -27,19 +23,13 @@ def settings(folder, **asked):
             if value is not None and str(value) != kept[name]:
                 raise SystemExit(f"{path} has {name}={kept[name]}, and {value} was asked for")
         return kept
-    kept = {"node": str(asked["node"] or 1), "cluster": asked["cluster"] or "pibranog", "salt": str(asked["salt"] or random.randrange(1, 1 << 63))}
+    kept = {"node": str(asked["node"] or 1), "cluster": asked["cluster"] or "c1", "salt": str(asked["salt"] or random.randrange(1, 1 << 63))}
     with open(f"{path}.new", "w", encoding="utf-8") as file:
         file.writelines(f"{name}={value}\n" for name, value in kept.items())
         file.flush()
         os.fsync(file.fileno())
     os.rename(f"{path}.new", path)
     return kept
-
-
-def is_open(address):
-    host, _, port = address.rpartition(":")
-    with socket.socket() as one:
-        return one.connect_ex((host, int(port))) == 0
 
 
 def send(one, number):
@@ -55,10 +45,11 @@ class Node:
 
     def __init__(self, daemon, folder, address, kept, say, at=None):
         self.address, self.say, self.at = address, say, at
-        folder = os.path.abspath(folder)
+        self.folder = folder = os.path.abspath(folder)
         self.link = f"127.0.0.1:{free_port()}"
         self.commands = {
-            "link": LINK + ["--listen", self.link, "--file", f"{folder}/log", "--name", f"node {kept['node']}"],
+            "link": LINK + ["--listen", self.link, "--file", f"{folder}/log", "--name", f"node {kept['node']}",
+                             "--status", f"{folder}/status.json"],
             "daemon": daemon + ["--listen", address, "--node", kept["node"], "--cluster", kept["cluster"], "--salt", kept["salt"], "--link", self.link],
         }
         self.running, self.listening = {}, threading.Event()
@@ -76,7 +67,17 @@ class Node:
         one = subprocess.Popen(self.commands[name], cwd=self.at, stdin=subprocess.DEVNULL, stdout=subprocess.PIPE, stderr=subprocess.STDOUT,
                                text=True, start_new_session=True)
         self.running[name] = one
+        self._note()
         threading.Thread(target=self._tell, args=(name, one), daemon=True).start()
+
+    def _note(self):
+        """The numbers of all processes stand in the folder."""
+        try:
+            with open(f"{self.folder}/pids.new", "w", encoding="ascii") as file:
+                file.writelines(f"{number}\n" for number in (os.getpid(), *(one.pid for one in self.running.values() if one.poll() is None)))
+            os.rename(f"{self.folder}/pids.new", f"{self.folder}/pids")
+        except OSError as fault:
+            self.say(f"the process numbers aren't written: {fault}")
 
     def _tell(self, name, one):
         for line in one.stdout:
@@ -118,3 +119,5 @@ class Node:
                 except subprocess.TimeoutExpired:
                     send(one, signal.SIGKILL)
                     one.wait()
+        if os.path.exists(f"{self.folder}/pids"):
+            os.remove(f"{self.folder}/pids")                 # other processes get these numbers

@@ -3,14 +3,13 @@ transactions.py: for torture. etcd keeps what its keys were until it is told to 
 import http.client
 import itertools
 import json
-import struct
 import time
 from typing import NamedTuple
 
-from batches import Broken, span, whole
-from gateway import Gateway, unpacked
-from store import Unknown
 from tape import digest
+from lib.batches import Broken, span, values, whole
+from lib.gateway import Gateway, unpacked
+from lib.store import Unknown
 
 SHOWN = 200              # bytes of a record's value that are kept
 TRIES = 60               # of a call of etcd
@@ -32,30 +31,6 @@ class Standing(NamedTuple):
     end: int
     epoch: int
     digest: bytes
-
-
-def varint(data, at):
-    """A signed number of the batch's framing, and where it ends."""
-    number = shift = 0
-    while True:
-        byte = data[at]
-        number, at, shift = number | (byte & 127) << shift, at + 1, shift + 7
-        if byte < 128:
-            return (number >> 1) ^ -(number & 1), at
-
-
-def values(batch):
-    """The values of a batch's records, in order."""
-    at = 61
-    for _ in range(struct.unpack_from(">i", batch, 57)[0]):
-        size, at = varint(batch, at)
-        behind = at + size
-        _, at = varint(batch, at + 1)                        # the attributes, a byte; the timestamp delta
-        _, at = varint(batch, at)                            # the offset delta
-        _, at = varint(batch, at)                            # the key's length: no key
-        size, at = varint(batch, at)
-        yield batch[at:at + size]
-        at = behind
 
 
 class History:

@@ -4,8 +4,10 @@ import struct
 import subprocess
 
 from history import History
-from nodes import CLUSTER, PREFIX, SALT, SOON, TOOL, Failed, client, request_of, until
 from tape import digest
+from lib import client
+from lib.daemon import TOOL
+from lib.nodes import CLUSTER, PREFIX, SALT, SOON, Failed, request_of, until
 
 OPEN, LOAD, REQUEST, END, REPLY = 0x01, 0x06, 0x08, 0x0A, 0x82
 

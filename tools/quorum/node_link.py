@@ -3,7 +3,8 @@ the log (the image that stands for its beginning, and the batches behind), campa
 batches by one transaction at a time. Nothing of it is proved; transactions.py beside it says what keeps the log one. A line for each
 change of state goes to standard output. docs/ETCD.md and docs/OPERATING.md have what an operator needs.
 
-usage: tools/quorum/link --listen ADDR (--etcd ADDR,ADDR,.. | --file LOG) [--name NAME] [--prefix TEXT] [--lease SECONDS] [--images PLACES]"""
+usage: tools/quorum/link --listen ADDR (--etcd ADDR,ADDR,.. | --file LOG) [--name NAME] [--prefix TEXT] [--lease SECONDS] [--images PLACES]
+                         [--status FILE]"""
 import argparse
 import http.client
 import os
@@ -16,10 +17,11 @@ import threading
 import time
 import uuid
 
-from batches import PART, TOGETHER, Broken, Dropped, look, offset_of, read, read_image, span
-from file_store import FileStore, Unusable
-from gateway import Gateway
-from store import NoLease, Unknown
+from lib.batches import PART, TOGETHER, Broken, Dropped, look, offset_of, read, read_image, span
+from lib.file_store import FileStore, Unusable
+from lib.gateway import Gateway
+from lib.store import NoLease, Unknown
+from status import Status
 from transactions import append, campaign, drop
 
 LEAD, COMMIT, LOST, BATCH, LOAD, TICK, IMAGE = 2, 3, 4, 5, 6, 7, 9
@@ -362,6 +364,8 @@ class Link:
     def run(self, server):
         for work, words in ((self.accept, (server,)), (self.watch, ())):
             threading.Thread(target=work, args=words, daemon=True).start()
+        if self.options.status:
+            Status(self, self.options, say).start()
         beat = time.monotonic()
         while True:
             try:
@@ -405,6 +409,7 @@ def words(text):
     p.add_argument("--lease", type=int, default=5, metavar="SECONDS", help="2 to 7; with a tick it is below a broker's session of 9 (default %(default)s)")
     p.add_argument("--images", type=int, default=10000, metavar="PLACES", help="asks the daemon for an image, and drops the batches before it, each time the "
                    "log has grown by so many places; 0: never (default %(default)s)")
+    p.add_argument("--status", metavar="FILE", help="keeps what the link knows there, for machines (default none)")
     options = p.parse_args(text)
     if not 2 <= options.lease <= 7 or not options.prefix or options.images < 0:
         p.error("a lease of 2 to 7 seconds, a prefix, and places from 0 on are wanted")

@@ -8,7 +8,7 @@ import threading
 import time
 from typing import NamedTuple
 
-from batches import span
+from lib.batches import span
 from between import Between, shut
 
 LEAD, COMMIT, LOST, BATCH, LOAD, IMAGE = 2, 3, 4, 5, 6, 9

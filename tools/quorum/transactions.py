@@ -29,8 +29,8 @@ The log at a revision is its batches from place 0 up to `end`, of which those be
    log (6); it is the controller's promise that who is handed in the image goes on as if it had been handed in those batches. `end`,
    `leader` and `epoch` stay, so 1 to 5 do.
 """
-from batches import at_place, image_part_key, image_value, number, offset_of, part_key, put_image_parts, same_image, span, value_for
-from store import Delete, Get, MadeAt, Put, ValueIs
+from lib.batches import at_place, image_part_key, image_value, number, offset_of, part_key, put_image_parts, same_image, span, value_for
+from lib.store import Delete, Get, MadeAt, Put, ValueIs
 
 
 def campaign(etcd, prefix, token, lease):

@@ -6,9 +6,9 @@ import struct
 import threading
 import time
 
-from nodes import NOT_CONTROLLER, SOON, client, request_of, told, until
+from lib import client
+from lib.nodes import NOT_CONTROLLER, SOON, request_of, told
 
-ACTIVE = (1, 2, 3)       # brokers that are heard of each second
 LARGE, MANY = "x" * 8_000, 140   # the value of a large setting, and how many go in one request: above what stands in one piece
 PAUSE = 0.4              # seconds between two writes of a client, at most
 TOPIC, REGISTER, CONFIG = b"\x01\x02\x00", b"\x01\x00\x01", b"\x01\x04\x00"    # frame version, key and version of a record
@@ -105,44 +105,3 @@ class Writer(threading.Thread):
             self.open.socket.close()
         self.open, self.at = None, (self.at + 1) % len(self.nodes)
         time.sleep(0.05)
-
-
-class Brokers(threading.Thread):
-    """Brokers that are active as long as somebody leads."""
-
-    def __init__(self, nodes):
-        super().__init__(daemon=True)
-        self.nodes, self.at, self.epochs, self.stop = nodes, 0, {}, False
-
-    def register(self):
-        for broker in ACTIVE:
-            until(f"broker {broker} is registered", lambda: self.is_registered(broker))
-
-    def is_registered(self, broker):
-        try:
-            error, line = self.nodes[self.at].ask(f"register {broker} --host h{broker}")[0]
-        except client.NoReply:
-            error = NOT_CONTROLLER
-        if error:
-            self.at = (self.at + 1) % len(self.nodes)
-            return False
-        self.epochs[broker] = int(line.split("epoch ")[1])
-        return True
-
-    def run(self):
-        while not self.stop:
-            try:
-                errors = [self.heartbeat(broker, epoch) for broker, epoch in self.epochs.items()]
-            except client.NoReply:
-                errors = [NOT_CONTROLLER]
-            if any(errors):
-                self.at = (self.at + 1) % len(self.nodes)
-            time.sleep(0.1 if any(errors) else 1.0)
-
-    def heartbeat(self, broker, epoch):
-        message, tell = request_of(f"heartbeat {broker} {epoch}")
-        one = client.Connection(self.nodes[self.at].address, 3)
-        try:
-            return told(one.ask(message), tell)[0][0]
-        finally:
-            one.socket.close()

@@ -9,7 +9,7 @@ import threading
 import time
 import urllib.parse
 
-from store import Delete, Get, MadeAt, NoLease, Put, Unknown, ValueIs
+from lib.store import Delete, Get, MadeAt, NoLease, Put, Unknown, ValueIs
 
 FORMAT = 0x50694272      # the file's application id, "PiBr"
 VERSION = 1              # of what stands in it

@@ -3,7 +3,7 @@ they are larger than etcd takes at once."""
 import hashlib
 import struct
 
-from store import Get, MadeAt, Put, ValueIs
+from lib.store import Get, MadeAt, Put, ValueIs
 
 PART = 1 << 20           # bytes; etcd takes 1.5 MiB in a request, all keys and values together
 TOGETHER = 100           # batches in an append, of a part's bytes together; etcd takes 128 operations
@@ -76,6 +76,14 @@ def look(etcd, prefix):
     return number(end), bool(leader), number(image)
 
 
+def standing(etcd, prefix):
+    """The log's end, the name of who leads or None, the greatest epoch that was led, and the place of an image: one such read."""
+    keys = (b"end", b"leader", b"epoch", b"image")
+    _, (end, leader, epoch, image) = etcd.transact([], [Get(prefix + key) for key in keys], [])
+    name = leader[0][1].decode(errors="replace").rpartition(" ")[0] if leader else None
+    return number(end), name, number(epoch), number(image)
+
+
 def read(etcd, prefix, start, end):
     """The batches from `start` up to `end`, which is no later than an end that was read before. Dropped is raised where an image
     stands for some of them by now."""
@@ -97,6 +105,32 @@ def read(etcd, prefix, start, end):
 def missing(etcd, prefix, start, what):
     """Why a batch isn't there."""
     return Dropped() if look(etcd, prefix)[2] > start else Broken(what)
+
+
+# ---- records
+
+def varint(data, at):
+    """A signed number of the batch's framing, and where it ends."""
+    number = shift = 0
+    while True:
+        byte = data[at]
+        number, at, shift = number | (byte & 127) << shift, at + 1, shift + 7
+        if byte < 128:
+            return (number >> 1) ^ -(number & 1), at
+
+
+def values(batch):
+    """The values of a batch's records, in order."""
+    at = 61
+    for _ in range(struct.unpack_from(">i", batch, 57)[0]):
+        size, at = varint(batch, at)
+        behind = at + size
+        _, at = varint(batch, at + 1)                        # the attributes, a byte; the timestamp delta
+        _, at = varint(batch, at)                            # the offset delta
+        _, at = varint(batch, at)                            # the key's length: no key
+        size, at = varint(batch, at)
+        yield batch[at:at + size]
+        at = behind
 
 
 # ---- images

@@ -4,7 +4,7 @@ import base64
 import http.client
 import json
 
-from store import Delete, Get, MadeAt, NoLease, Put, Unknown, ValueIs
+from lib.store import Delete, Get, MadeAt, NoLease, Put, Unknown, ValueIs
 
 SECONDS = 1.0           # how long a member may take to answer one call
 NOT_FOUND = 5           # the gateway's number for a lease that isn't there

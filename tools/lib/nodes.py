@@ -9,17 +9,15 @@ import subprocess
 import sys
 import time
 
-HERE = os.path.dirname(os.path.abspath(__file__))
-sys.path.insert(0, os.path.dirname(HERE))
-from batches import look
-from gateway import Gateway
-from store import Unknown
-from lib import client
-from lib.daemon import DAEMON, TOOL
+from lib import ROOT, client
+from lib.batches import look
+from lib.daemon import DAEMON, LINK, TOOL, is_open
+from lib.gateway import Gateway
+from lib.store import Unknown
 from lib.wire import Reading
 
 ETCD = shlex.split(os.environ.get("ETCD", "etcd"))
-LINK = [sys.executable, f"{HERE}/link"]
+QUORUM = f"{ROOT}/tools/quorum"
 LEASE = 5                # seconds, as a link takes it by itself
 SOON = 30                # seconds after which what hasn't come counts as lost
 PREFIX = b"/pibranog/"   # of the keys, as a link takes it by itself
@@ -65,12 +63,6 @@ def free_ports(count):
         if len(found) == count:
             return found
     raise Failed("no ports are free")
-
-
-def is_open(address):
-    host, _, port = address.rpartition(":")
-    with socket.socket() as one:
-        return one.connect_ex((host, int(port))) == 0
 
 
 def until(what, holds):
