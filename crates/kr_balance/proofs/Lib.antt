@@ -1,0 +1,4 @@
+mod ActiveIds
+mod Counted
+mod PlanExamples
+mod RightTallies

@@ -1,0 +1,3 @@
+pub mod Election
+pub mod GivingBack
+pub mod Balancing
