@@ -15,9 +15,9 @@ use Rattle.kr_defs.specs.Map.{IsMap, above, get, next, partition_order}
 use Rattle.kr_defs.proofs.ImageParts.{partition_total}
 use Rattle.kr_defs.proofs.Maps.{length-filter_le}
 use Rattle.kr_defs.proofs.Walks.{get_other, walk_end, walk_next}
-use Rattle.kr_balance.specs.Plan.{is_imbalanced, is_imbalanced_of, prefers, imbalanced, preferring, preferred_leader}
+use Rattle.kr_balance.specs.Plan.{is_imbalanced, is_imbalanced_of, prefers_broker, imbalanced, preferring, preferred_leader}
 use Rattle.kr_balance.specs.declared.counts.Tally.{Tally}
-use Rattle.kr_balance.specs.inner.Tallies.{Counts, no_tally, one_more, tally_of, with_one}
+use Rattle.kr_balance.specs.inner.Tallies.{Counts, empty_tally, one_more, tally_of, with_one}
 
 abbrev Entry : Type 0
 Entry = (ℕ × ℤ) × Partition
@@ -34,15 +34,15 @@ get_same (e ∷ es) k v =
     ] refl
 
 pub own_tally : (es : List (ℤ × Tally)) (k : ℤ) (is_imbalanced : Bool) → tally_of (with_one es k is_imbalanced) k ≡ one_more (tally_of es k) is_imbalanced
-own_tally es k is_imbalanced = ap (λ o. unwrap_or o no_tally) (get_same es k (one_more (tally_of es k) is_imbalanced))
+own_tally es k is_imbalanced = ap (λ o. unwrap_or o empty_tally) (get_same es k (one_more (tally_of es k) is_imbalanced))
 
 pub other_tally : (es : List (ℤ × Tally)) (k b : ℤ) (is_imbalanced : Bool) → int_eq k b ≡ false → tally_of (with_one es k is_imbalanced) b ≡ tally_of es b
-other_tally es k b is_imbalanced apart = ap (λ o. unwrap_or o no_tally) (get_other int_cmp_total es k b (one_more (tally_of es k) is_imbalanced) (int_eq_equiv.symm b k ∙ apart))
+other_tally es k b is_imbalanced apart = ap (λ o. unwrap_or o empty_tally) (get_other int_cmp_total es k b (one_more (tally_of es k) is_imbalanced) (int_eq_equiv.symm b k ∙ apart))
 
 -- ---- what is left of a walk
 
 abbrev pub preferring_left : List Entry → Option (ℕ × ℤ) → ℤ → ℕ
-preferring_left ps after b = length (filter (prefers b) (above partition_order ps after))
+preferring_left ps after b = length (filter (prefers_broker b) (above partition_order ps after))
 
 abbrev pub imbalanced_left : Image → Option (ℕ × ℤ) → ℤ → ℕ
 imbalanced_left image after b = length (filter (is_imbalanced_of image b) (above partition_order image.partitions after))
@@ -85,8 +85,8 @@ module _ (image : Image) (ordered : IsMap partition_order image.partitions) (aft
       record {
         preferring = λ b.
             ap (λ n. n + preferring_left image.partitions (Some e.0) b) (preferring_then es (preferred_leader e.1) b (is_imbalanced image e.1))
-            ∙ (counted_by (prefers b e) (tally_of es b).preferring e (filter (prefers b) rest)
-            ∙ (ap (λ (l : List Entry). (tally_of es b).preferring + length (filter (prefers b) l)) (sym begins) ∙ c.preferring b));
+            ∙ (counted_by (prefers_broker b e) (tally_of es b).preferring e (filter (prefers_broker b) rest)
+            ∙ (ap (λ (l : List Entry). (tally_of es b).preferring + length (filter (prefers_broker b) l)) (sym begins) ∙ c.preferring b));
         imbalanced = λ b.
             ap (λ n. n + imbalanced_left image (Some e.0) b) (imbalanced_then es (preferred_leader e.1) b (is_imbalanced image e.1))
             ∙ (counted_by (is_imbalanced_of image b e) (tally_of es b).imbalanced e (filter (is_imbalanced_of image b) rest)
@@ -96,7 +96,7 @@ module _ (image : Image) (ordered : IsMap partition_order image.partitions) (aft
   pub count_over : None ≡ next partition_order image.partitions after → (es : List (ℤ × Tally)) → Counted image es after → Counts image es
   count_over none es c b =
       let end = walk_end (above partition_order image.partitions after) (sym none) in
-      let owns = ap (λ (l : List Entry). length (filter (prefers b) l)) end in
+      let owns = ap (λ (l : List Entry). length (filter (prefers_broker b) l)) end in
       let offs = ap (λ (l : List Entry). length (filter (is_imbalanced_of image b) l)) end in
       let o = c.preferring b in
       let f = c.imbalanced b in
@@ -105,7 +105,7 @@ module _ (image : Image) (ordered : IsMap partition_order image.partitions) (aft
       λ i. record { preferring = own_is i; imbalanced = off_is i }
 
 pub few_preferring : (image : Image) (es : List (ℤ × Tally)) (after : Option (ℕ × ℤ)) (b : ℤ) → Counted image es after → length image.partitions ≤ MOST_PARTITIONS → (tally_of es b).preferring < 1000000000
-few_preferring image es after b c few = let o = c.preferring b in let l = length-filter_le (prefers b) image.partitions in omega (arith, o, l, few)
+few_preferring image es after b c few = let o = c.preferring b in let l = length-filter_le (prefers_broker b) image.partitions in omega (arith, o, l, few)
 
 pub few_imbalanced : (image : Image) (es : List (ℤ × Tally)) (after : Option (ℕ × ℤ)) (b : ℤ) → Counted image es after → length image.partitions ≤ MOST_PARTITIONS → (tally_of es b).imbalanced < 1000000000
 few_imbalanced image es after b c few = let o = c.imbalanced b in let l = length-filter_le (is_imbalanced_of image b) image.partitions in omega (arith, o, l, few)

@@ -20,32 +20,32 @@ is_imbalanced image p =
     && has (active image) (preferred_leader p) && not (is_moving p)
 
 -- of all partitions those that prefer the broker, under reassignment or not, and of these the imbalanced ones
-abbrev pub prefers : ℤ → (ℕ × ℤ) × Partition → Bool
-prefers broker e = int_eq (preferred_leader e.1) broker
+abbrev pub prefers_broker : ℤ → (ℕ × ℤ) × Partition → Bool
+prefers_broker broker e = int_eq (preferred_leader e.1) broker
 
 abbrev pub is_imbalanced_of : Image → ℤ → (ℕ × ℤ) × Partition → Bool
-is_imbalanced_of image broker e = prefers broker e && is_imbalanced image e.1
+is_imbalanced_of image broker e = prefers_broker broker e && is_imbalanced image e.1
 
 abbrev pub preferring : Image → ℤ → ℕ
-preferring image broker = length (filter (prefers broker) image.partitions)
+preferring image broker = length (filter (prefers_broker broker) image.partitions)
 
 abbrev pub imbalanced : Image → ℤ → ℕ
 imbalanced image broker = length (filter (is_imbalanced_of image broker) image.partitions)
 
 -- more than so many of a hundred of those that prefer the broker are imbalanced
-abbrev pub is_above : Image → ℕ → ℤ → Bool
-is_above image percent broker = nat_lt (percent * preferring image broker) (imbalanced image broker * 100)
+abbrev pub is_above_percentage : Image → ℕ → ℤ → Bool
+is_above_percentage image percent broker = nat_lt (percent * preferring image broker) (imbalanced image broker * 100)
 
 abbrev pub is_planned : Image → ℕ → Walked → Bool
-is_planned image percent w = is_imbalanced image w.partition && is_above image percent (preferred_leader w.partition)
+is_planned image percent w = is_imbalanced image w.partition && is_above_percentage image percent (preferred_leader w.partition)
 
 -- the imbalanced partitions of all brokers that are above, in walking order
 abbrev pub planned : Image → ℕ → List Walked
 planned image percent = filter (is_planned image percent) (walk image)
 
 -- a partition by its topic's name and its index
-abbrev pub named : Walked → List ℕ × ℤ
-named w = (w.topic, w.key.1)
+abbrev pub by_name : Walked → List ℕ × ℤ
+by_name w = (w.topic, w.key.1)
 
 abbrev pub plan : Image → ℕ → List (List ℕ × ℤ)
-plan image percent = map named (planned image percent)
+plan image percent = map by_name (planned image percent)

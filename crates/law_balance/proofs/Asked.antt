@@ -6,7 +6,7 @@ use Rattle.std.proofs.lemmas.List.{append-nil, map-append}
 use Rattle.std.proofs.lemmas.Slice.Eq.{bytes_eq-Decides}
 use Rattle.kr_calls.specs.declared.elect_leaders.ElectLeadersTopic.{ElectLeadersTopic}
 use Rattle.kr_calls.specs.ElectLeaders.{Entry, Group, entries_of}
-use Rattle.law_balance.specs.Election.{asked_before, topics_of}
+use Rattle.law_balance.specs.Election.{asked_before, entries_by_topic}
 
 abbrev pub group_of : ElectLeadersTopic → Group
 group_of t = (t.topic, t.partitions)
@@ -33,6 +33,6 @@ before_asked topic indexes (t ∷ ts) =
       | false ↦ λ is. refl
     ] refl
 
-pub named_asked : (ns : List Entry) → all_asked (topics_of ns) ≡ ns
+pub named_asked : (ns : List Entry) → all_asked (entries_by_topic ns) ≡ ns
 named_asked [] = refl
-named_asked (n ∷ ns) = before_asked n.0 (n.1 ∷ []) (topics_of ns) ∙ ap (λ (es : List Entry). n ∷ es) (named_asked ns)
+named_asked (n ∷ ns) = before_asked n.0 (n.1 ∷ []) (entries_by_topic ns) ∙ ap (λ (es : List Entry). n ∷ es) (named_asked ns)

@@ -37,7 +37,7 @@ use Rattle.kr_calls.specs.declared.elect_leaders.PartitionElectionResult.{Partit
 use Rattle.kr_calls.specs.Deciding.{Work, after_all, answers, apply_records, done, has_few_targets, is_request, is_within_limits, one, settled, taken, work_with}
 use Rattle.kr_calls.specs.ElectLeaders.{Entry, answer, drafted, of_partition, prefers, rule}
 use Rattle.law_safety.proofs.FencingSizes.{change_small, short_lists}
-use Rattle.kr_balance.specs.Plan.{is_imbalanced, named, preferred_leader}
+use Rattle.kr_balance.specs.Plan.{is_imbalanced, by_name, preferred_leader}
 use Rattle.law_balance.specs.Balancing.{IsBack}
 use Rattle.law_balance.specs.GivingBack.{GoesBack}
 use Rattle.law_balance.proofs.GoingBack.{imbalanced_go_back, imbalanced_parts, preferred}
@@ -125,15 +125,15 @@ takes w v c few applied =
 -- what the rule says of an imbalanced partition that stands
 drafts : (options : Options) (now : Image) (place : ℤ) (v : Walked) (o : Option PartitionChange) → get text_order now.topics v.topic ≡ Some v.key.0 → There now v → is_imbalanced now v.partition ≡ true
     → built v.partition (preferred v.partition) (facts_of options now v.topic) ≡ o
-    → rule options (pos 0) now place (named v) ≡ Ok (drafted (named v) v.key.0 o)
+    → rule options (pos 0) now place (by_name v) ≡ Ok (drafted (by_name v) v.key.0 o)
 drafts options now place v o known there imbalanced is =
     let i = imbalanced_parts now v.partition imbalanced in
     let p = v.partition in
-    ap (λ (t : Option ℕ). found UNKNOWN_TOPIC_OR_PARTITION t (λ id. found UNKNOWN_TOPIC_OR_PARTITION (get partition_order now.partitions (id, v.key.1)) (λ p. of_partition options (pos 0) now (named v) id p))) known
-    ∙ (ap (λ (t : Option Partition). found UNKNOWN_TOPIC_OR_PARTITION t (λ p. of_partition options (pos 0) now (named v) v.key.0 p)) there
-    ∙ (ap (λ b. cond b (Err ELECTION_NOT_NEEDED) (cond (not (has p.in_sync (preferred_leader p) && has (active now) (preferred_leader p))) (Err PREFERRED_LEADER_NOT_AVAILABLE) (Ok (drafted (named v) v.key.0 (built p (preferred p) (facts_of options now v.topic)))))) i.other
-    ∙ (ap (λ b. cond (not b) (Err PREFERRED_LEADER_NOT_AVAILABLE) (Ok (drafted (named v) v.key.0 (built p (preferred p) (facts_of options now v.topic))))) (and_from (has p.in_sync (preferred_leader p)) (has (active now) (preferred_leader p)) i.in_sync i.active)
-    ∙ ap (λ c. Ok (drafted (named v) v.key.0 c)) is)))
+    ap (λ (t : Option ℕ). found UNKNOWN_TOPIC_OR_PARTITION t (λ id. found UNKNOWN_TOPIC_OR_PARTITION (get partition_order now.partitions (id, v.key.1)) (λ p. of_partition options (pos 0) now (by_name v) id p))) known
+    ∙ (ap (λ (t : Option Partition). found UNKNOWN_TOPIC_OR_PARTITION t (λ p. of_partition options (pos 0) now (by_name v) v.key.0 p)) there
+    ∙ (ap (λ b. cond b (Err ELECTION_NOT_NEEDED) (cond (not (has p.in_sync (preferred_leader p) && has (active now) (preferred_leader p))) (Err PREFERRED_LEADER_NOT_AVAILABLE) (Ok (drafted (by_name v) v.key.0 (built p (preferred p) (facts_of options now v.topic)))))) i.other
+    ∙ (ap (λ b. cond (not b) (Err PREFERRED_LEADER_NOT_AVAILABLE) (Ok (drafted (by_name v) v.key.0 (built p (preferred p) (facts_of options now v.topic))))) (and_from (has p.in_sync (preferred_leader p)) (has (active now) (preferred_leader p)) i.in_sync i.active)
+    ∙ ap (λ c. Ok (drafted (by_name v) v.key.0 c)) is)))
 
 -- the election of a partition, and what it leaves
 pub record Elected (w : Work) (v : Walked) (n : ℕ) (after : Work × PartitionElectionResult) : Type 0 where
@@ -143,14 +143,14 @@ pub record Elected (w : Work) (v : Walked) (n : ℕ) (after : Work × PartitionE
   pub few : AreFew after.0.records (n + 1)
   pub answer : after.1.error ≡ pos 0
 
-done_is : (options : Options) (w : Work) (v : Walked) (c : PartitionChange) → rule options (pos 0) w.image w.place (named v) ≡ Ok (drafted (named v) v.key.0 (Some c))
-    → taken w (kinds.PartitionChange v.key.1 v.key.0 c ∷ []) ≡ Some (changed w v c) → one answer (rule options (pos 0)) w (named v) ≡ (changed w v c, answer (pos 0) (named v))
+done_is : (options : Options) (w : Work) (v : Walked) (c : PartitionChange) → rule options (pos 0) w.image w.place (by_name v) ≡ Ok (drafted (by_name v) v.key.0 (Some c))
+    → taken w (kinds.PartitionChange v.key.1 v.key.0 c ∷ []) ≡ Some (changed w v c) → one answer (rule options (pos 0)) w (by_name v) ≡ (changed w v c, answer (pos 0) (by_name v))
 unfolding done
-done_is options w v c drafted is = ap (λ (r : Result (Draft PartitionElectionResult) ℤ). done answer w (named v) r) drafted ∙ ap (λ (o : Option Work). settled answer w (named v) (answer (pos 0) (named v)) o) is
+done_is options w v c drafted is = ap (λ (r : Result (Draft PartitionElectionResult) ℤ). done answer w (by_name v) r) drafted ∙ ap (λ (o : Option Work). settled answer w (by_name v) (answer (pos 0) (by_name v)) o) is
 
 elected_by : (options : Options) (w : Work) (v : Walked) (n : ℕ) (o : Option PartitionChange) → There w.image v → has_topic w.image.topics v.key.0 ≡ true → AreFew w.records n → n + 1 ≤ 9000
     → IsSomeAnd o (λ c. GoesBack v.partition (merged v.partition c)) → IfSome o (λ c. IsTrue (is_well_formed (merged v.partition c)))
-    → rule options (pos 0) w.image w.place (named v) ≡ Ok (drafted (named v) v.key.0 o) → Elected w v n (one answer (rule options (pos 0)) w (named v))
+    → rule options (pos 0) w.image w.place (by_name v) ≡ Ok (drafted (by_name v) v.key.0 o) → Elected w v n (one answer (rule options (pos 0)) w (by_name v))
 elected_by options w v n None there topic few most back well drafted = absurd back
 elected_by options w v n (Some c) there topic few most back well drafted =
     let more = one_more w.records n (kinds.PartitionChange v.key.1 v.key.0 c) (one_small v c well) few in
@@ -160,7 +160,7 @@ elected_by options w v n (Some c) there topic few most back well drafted =
 
 module _ (options : Options) (image : Image) where
   elects : (w : Work) (v : Walked) (n : ℕ) → w.image.brokers ≡ image.brokers → w.image.topics ≡ image.topics → IsFit image v → There w.image v → AreFew w.records n → n + 1 ≤ 9000
-      → Elected w v n (one answer (rule options (pos 0)) w (named v))
+      → Elected w v n (one answer (rule options (pos 0)) w (by_name v))
   elects w v n brokers topics f there few most =
       let facts = facts_of options w.image v.topic in
       let imbalanced : is_imbalanced w.image v.partition ≡ true =
@@ -183,9 +183,9 @@ module _ (options : Options) (image : Image) where
     pub others : (key : Key) → Others vs key → get partition_order after.partitions key ≡ get partition_order before.partitions key
 
   pub record AllElected (w : Work) (vs : List Walked) (n : ℕ) : Type 0 where
-    pub leaves : Leaves w.image (after_all answer (rule options (pos 0)) w (map named vs)).image vs
-    pub count : length (after_all answer (rule options (pos 0)) w (map named vs)).records ≡ n + length vs
-    pub answered : AllByRecursion (λ (r : PartitionElectionResult). r.error ≡ pos 0) (answers answer (rule options (pos 0)) w (map named vs))
+    pub leaves : Leaves w.image (after_all answer (rule options (pos 0)) w (map by_name vs)).image vs
+    pub count : length (after_all answer (rule options (pos 0)) w (map by_name vs)).records ≡ n + length vs
+    pub answered : AllByRecursion (λ (r : PartitionElectionResult). r.error ≡ pos 0) (answers answer (rule options (pos 0)) w (map by_name vs))
 
   still_there : (now : Image) (v : Walked) (p : Partition) (vs : List Walked) → AllByRecursion (λ (u : Walked). is_eq (partition_order u.key v.key) ≡ false) vs → AllByRecursion (There now) vs → AllByRecursion (There (with_partition now v.key p)) vs
   still_there now v p [] apart there = tt
@@ -216,7 +216,7 @@ module _ (options : Options) (image : Image) where
     answered = tt;
   }
   all_elected (v ∷ vs) w n brokers topics ordered fit there apart few most =
-      let next = one answer (rule options (pos 0)) w (named v) in
+      let next = one answer (rule options (pos 0)) w (by_name v) in
       let e : Elected w v n next = elects w v n brokers topics fit.0 there.0 few (omega (arith, most)) in
       let partitions = insert partition_order w.image.partitions v.key e.p in
       let ordered_then : IsMap partition_order partitions = subst (IsStrictlySortedBy partition_order) (sym (keys_stay w.image.partitions v.key v.partition e.p ordered there.0)) ordered in
@@ -225,8 +225,8 @@ module _ (options : Options) (image : Image) where
       (subst (λ (i : Image). AllByRecursion (There i) vs) (sym e.image) (still_there w.image v e.p vs apart.0 there.1)) apart.1 e.few (omega (arith, most)) in
       let count = rest.count in
       record {
-        leaves = leaves_more w.image (after_all answer (rule options (pos 0)) next.0 (map named vs)).image v vs e.p ordered there.0 e.back apart.0
-            (subst (λ (i : Image). Leaves i (after_all answer (rule options (pos 0)) next.0 (map named vs)).image vs) e.image rest.leaves);
+        leaves = leaves_more w.image (after_all answer (rule options (pos 0)) next.0 (map by_name vs)).image v vs e.p ordered there.0 e.back apart.0
+            (subst (λ (i : Image). Leaves i (after_all answer (rule options (pos 0)) next.0 (map by_name vs)).image vs) e.image rest.leaves);
         count = omega (arith, count);
         answered = (e.answer, rest.answered);
       }

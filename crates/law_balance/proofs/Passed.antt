@@ -21,7 +21,7 @@ use Rattle.kr_defs.proofs.ImageParts.{partition_total}
 use Rattle.kr_defs.proofs.Tests.{some_is}
 use Rattle.kr_defs.proofs.TopicWalks.{equal_ids, same_topic}
 use Rattle.kr_defs.proofs.Walks.{own_entries}
-use Rattle.kr_balance.specs.Plan.{imbalanced, is_above, is_imbalanced, is_imbalanced_of, is_planned, planned, preferred_leader, prefers}
+use Rattle.kr_balance.specs.Plan.{imbalanced, is_above_percentage, is_imbalanced, is_imbalanced_of, is_planned, planned, preferred_leader, prefers_broker}
 use Rattle.law_balance.specs.Balancing.{IsBack}
 use Rattle.law_balance.specs.GivingBack.{GoesBack}
 use Rattle.law_balance.proofs.Elections.{Others}
@@ -76,7 +76,7 @@ all_walked P (t ∷ ts) es all =
 
 module _ (image : Image) (percent : ℕ) where
   abbrev is_due : Partition → Bool
-  is_due p = is_imbalanced image p && is_above image percent (preferred_leader p)
+  is_due p = is_imbalanced image p && is_above_percentage image percent (preferred_leader p)
 
   abbrev Spared : List Walked → Walked → Type 0
   Spared those w = Others those w.key → is_planned image percent w ≡ false
@@ -140,19 +140,19 @@ module _ (image : Image) (percent : ℕ) where
     back_at w None p is back = absurd back
     back_at w (Some q) p is back = subst (λ (x : Partition). is_imbalanced after x ≡ false) (some_is q p is) (leads_itself q (back.led ∙ sym (prefer_same w.partition q back.replicas)))
 
-    not_due : (e : Entry) → get partition_order after.partitions e.0 ≡ Some e.1 → AllByRecursion (IsBack after) (planned image percent) → (is_imbalanced after e.1 && is_above image percent (preferred_leader e.1)) ≡ false
+    not_due : (e : Entry) → get partition_order after.partitions e.0 ≡ Some e.1 → AllByRecursion (IsBack after) (planned image percent) → (is_imbalanced after e.1 && is_above_percentage image percent (preferred_leader e.1)) ≡ false
     not_due e there back =
         elim (other_or_back (planned image percent) e.0 back) [
           | inl other ↦
-              ap (λ bs. (not (int_eq e.1.leader (preferred_leader e.1)) && has e.1.in_sync (preferred_leader e.1) && has (active_of bs) (preferred_leader e.1) && not (is_moving e.1)) && is_above image percent (preferred_leader e.1)) brokers
+              ap (λ bs. (not (int_eq e.1.leader (preferred_leader e.1)) && has e.1.in_sync (preferred_leader e.1) && has (active_of bs) (preferred_leader e.1) && not (is_moving e.1)) && is_above_percentage image percent (preferred_leader e.1)) brokers
               ∙ entry_at IsSpared image.partitions e.0 e.1 (all_spared valid) (sym (others e.0 other) ∙ there) other
-          | inr one ↦ ap (λ b. b && is_above image percent (preferred_leader e.1)) (back_at one.0 (get partition_order after.partitions e.0) e.1 there one.1)
+          | inr one ↦ ap (λ b. b && is_above_percentage image percent (preferred_leader e.1)) (back_at one.0 (get partition_order after.partitions e.0) e.1 there one.1)
         ]
 
-    not_of : (broker : ℤ) (e : Entry) → is_above image percent broker ≡ true → (is_imbalanced after e.1 && is_above image percent (preferred_leader e.1)) ≡ false → is_imbalanced_of after broker e ≡ false
+    not_of : (broker : ℤ) (e : Entry) → is_above_percentage image percent broker ≡ true → (is_imbalanced after e.1 && is_above_percentage image percent (preferred_leader e.1)) ≡ false → is_imbalanced_of after broker e ≡ false
     not_of broker e above differs =
         elim (cases_Bool (int_eq (preferred_leader e.1) broker)) [
-          | inl same ↦ ap (λ t. t && is_imbalanced after e.1) same ∙ alone (is_imbalanced after e.1) (is_above image percent (preferred_leader e.1)) (ap (is_above image percent) ((Decides-int_eq (preferred_leader e.1) broker).0 same) ∙ above) differs
+          | inl same ↦ ap (λ t. t && is_imbalanced after e.1) same ∙ alone (is_imbalanced after e.1) (is_above_percentage image percent (preferred_leader e.1)) (ap (is_above_percentage image percent) ((Decides-int_eq (preferred_leader e.1) broker).0 same) ∙ above) differs
           | inr other ↦ ap (λ t. t && is_imbalanced after e.1) other
         ]
       where
@@ -160,12 +160,12 @@ module _ (image : Image) (percent : ℕ) where
         alone true b is differs = absurd cc
         alone false b is differs = refl
 
-    none_of : (broker : ℤ) → is_above image percent broker ≡ true → AllByRecursion (IsBack after) (planned image percent) → (es : Entries) → AllByRecursion (λ (e : Entry). get partition_order after.partitions e.0 ≡ Some e.1) es → length (filter (is_imbalanced_of after broker) es) ≡ 0
+    none_of : (broker : ℤ) → is_above_percentage image percent broker ≡ true → AllByRecursion (IsBack after) (planned image percent) → (es : Entries) → AllByRecursion (λ (e : Entry). get partition_order after.partitions e.0 ≡ Some e.1) es → length (filter (is_imbalanced_of after broker) es) ≡ 0
     none_of broker above back [] own = refl
     none_of broker above back (e ∷ es) own =
         ap (λ b. length (cond b (e ∷ filter (is_imbalanced_of after broker) es) (filter (is_imbalanced_of after broker) es))) (not_of broker e above (not_due e own.0 back))
         ∙ none_of broker above back es own.1
 
-    pub none_imbalanced : (broker : ℤ) → is_above image percent broker ≡ true → AllByRecursion (IsBack after) (planned image percent) → imbalanced after broker ≡ 0
+    pub none_imbalanced : (broker : ℤ) → is_above_percentage image percent broker ≡ true → AllByRecursion (IsBack after) (planned image percent) → imbalanced after broker ≡ 0
     none_imbalanced broker above back =
         none_of broker above back after.partitions (own_entries partition_total after.partitions (subst (IsStrictlySortedBy partition_order) (sym keys) valid.partitions.ordered))

@@ -27,8 +27,8 @@ use Rattle.kr_calls.specs.Deciding.{Work, after_all, after_groups, answers, grou
 use Rattle.kr_calls.specs.ElectLeaders.{Entry, answer, answer_of, decided, entries_of, rule}
 use Rattle.kr_calls.proofs.WalkedChanges.{value_at}
 use Rattle.law_safety.proofs.Lengths.{walk_few}
-use Rattle.kr_balance.specs.Plan.{is_above, is_imbalanced, is_planned, named, plan, planned, preferred_leader}
-use Rattle.law_balance.specs.Election.{topics_of}
+use Rattle.kr_balance.specs.Plan.{is_above_percentage, is_imbalanced, is_planned, by_name, plan, planned, preferred_leader}
+use Rattle.law_balance.specs.Election.{entries_by_topic}
 use Rattle.law_balance.specs.Balancing.{Balances, IsBack, RoundsBalance}
 use Rattle.law_balance.proofs.Asked.{group_of, named_asked}
 use Rattle.law_balance.proofs.Elections.{AllElected, Apart, IsFit, There, all_elected}
@@ -54,19 +54,19 @@ module _ (image : Image) (percent : ℕ) (valid : IsValid image) where
   IsNamed w = topic_name image.topics w.key.0 ≡ Some w.topic
 
   fit : (w : Walked) → There image w → IsNamed w → is_planned image percent w ≡ true → IsFit image w
-  fit w there named is = record {
-    imbalanced = (and_parts (is_imbalanced image w.partition) (is_above image percent (preferred_leader w.partition)) is).0;
+  fit w there by_name is = record {
+    imbalanced = (and_parts (is_imbalanced image w.partition) (is_above_percentage image percent (preferred_leader w.partition)) is).0;
     well = value_at partition_order (λ (p : Partition). is_well_formed p ≡ true) image.partitions w.key w.partition (recursion_from_All (λ e. IsTrue (is_well_formed e.1)) image.partitions valid.partitions.well_formed) there;
-    topic = has_name (topic_name image.topics w.key.0) w.topic named;
-    found = under_name image.topics image.topics w.key.0 w.topic (own_entries text_total image.topics valid.topics.ordered) named;
+    topic = has_name (topic_name image.topics w.key.0) w.topic by_name;
+    found = under_name image.topics image.topics w.key.0 w.topic (own_entries text_total image.topics valid.topics.ordered) by_name;
   }
 
   all_fit : (ws : List Walked) → AllByRecursion (There image) ws → AllByRecursion IsNamed ws → AllByRecursion (IsFit image) (filter (is_planned image percent) ws)
-  all_fit [] there named = tt
-  all_fit (w ∷ ws) there named =
+  all_fit [] there by_name = tt
+  all_fit (w ∷ ws) there by_name =
       elim (is_planned image percent w) as (λ b. is_planned image percent w ≡ b → AllByRecursion (IsFit image) (cond b (w ∷ filter (is_planned image percent) ws) (filter (is_planned image percent) ws))) [
-        | true ↦ λ is. (fit w there.0 named.0 is, all_fit ws there.1 named.1)
-        | false ↦ λ is. all_fit ws there.1 named.1
+        | true ↦ λ is. (fit w there.0 by_name.0 is, all_fit ws there.1 by_name.1)
+        | false ↦ λ is. all_fit ws there.1 by_name.1
       ] refl
 
   kept_all : (P : Walked → Type 0) (ws : List Walked) → AllByRecursion P ws → AllByRecursion P (filter (is_planned image percent) ws)
@@ -124,11 +124,11 @@ rounds_balance options basis image place percent valid =
     let ns = plan image percent in
     let r = rule options (pos 0) in
     let begun = nothing_decided place image in
-    let groups = map group_of (topics_of ns) in
+    let groups = map group_of (entries_by_topic ns) in
     let joined = groups_joined answer r entries_of answer_of begun groups ∙ ap (after_all answer r begun) (named_asked ns) in
     let all = elected image percent valid options place in
     let count = all.count in
-    let named_too = length-map (planned image percent) named in
+    let named_too = length-map (planned image percent) by_name in
     record {
       balances = subst (λ (w : Work). Balances image w.image percent) (sym joined) (balanced image percent valid options place);
       answers = (

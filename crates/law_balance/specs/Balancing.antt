@@ -11,8 +11,8 @@ use Rattle.kr_calls.specs.declared.calls.Reply.{Reply}
 use Rattle.kr_calls.specs.declared.calls.Reply.TheVariants as replies
 use Rattle.kr_calls.specs.declared.calls.Request.TheVariants as requests
 use Rattle.kr_calls.specs.Decide.{Decision, decide}
-use Rattle.kr_balance.specs.Plan.{imbalanced, is_above, plan, planned}
-use Rattle.law_balance.specs.Election.{election}
+use Rattle.kr_balance.specs.Plan.{imbalanced, is_above_percentage, plan, planned}
+use Rattle.law_balance.specs.Election.{preferred_election}
 use Rattle.law_balance.specs.GivingBack.{GoesBack}
 
 -- the preferred leader that the partition had leads it, and is the first of its replicas still
@@ -27,7 +27,7 @@ pub record Balances (image after : Image) (percent : ℕ) : Type 0 where
   -- every planned partition is led by its first replica
   pub back : All (IsBack after) (planned image percent)
   -- of no broker that was above is a partition imbalanced
-  pub none_imbalanced : (broker : ℤ) → is_above image percent broker ≡ true → imbalanced after broker ≡ 0
+  pub none_imbalanced : (broker : ℤ) → is_above_percentage image percent broker ≡ true → imbalanced after broker ≡ 0
   -- all else is as before
   pub brokers : after.brokers ≡ image.brokers
   pub topics : after.topics ≡ image.topics
@@ -51,4 +51,4 @@ pub record IsRound (image : Image) (percent : ℕ) (d : Decision) : Type 0 where
 abbrev pub RoundsBalance : Type 0
 RoundsBalance =
     (options : Options) (basis : Basis) (image : Image) (place : ℤ) (percent : ℕ) → IsValid image →
-    IsRound image percent (decide options image basis place (requests.ElectLeaders (election (plan image percent))))
+    IsRound image percent (decide options image basis place (requests.ElectLeaders (preferred_election (plan image percent))))

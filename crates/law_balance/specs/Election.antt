@@ -12,10 +12,10 @@ asked_before topic indexes (t ∷ ts) =
     else record { topic = topic; partitions = indexes } ∷ t ∷ ts
 
 -- neighbours of one topic stand under one entry
-abbrev pub topics_of : List (List ℕ × ℤ) → List ElectLeadersTopic
-topics_of [] = []
-topics_of (n ∷ ns) = asked_before n.0 (n.1 ∷ []) (topics_of ns)
+abbrev pub entries_by_topic : List (List ℕ × ℤ) → List ElectLeadersTopic
+entries_by_topic [] = []
+entries_by_topic (n ∷ ns) = asked_before n.0 (n.1 ∷ []) (entries_by_topic ns)
 
 -- the preferred leaders of these are to lead
-abbrev pub election : List (List ℕ × ℤ) → ElectLeaders
-election partitions = record { kind = pos 0; topics = Some (topics_of partitions) }
+abbrev pub preferred_election : List (List ℕ × ℤ) → ElectLeaders
+preferred_election partitions = record { kind = pos 0; topics = Some (entries_by_topic partitions) }

@@ -6,11 +6,11 @@ use Rattle.kr_defs.specs.Map as entries
 use Rattle.kr_balance.specs.Plan.{imbalanced, preferring}
 use Rattle.kr_balance.specs.declared.counts.Tally.{Tally}
 
-abbrev pub no_tally : Tally
-no_tally = record { preferring = 0; imbalanced = 0 }
+abbrev pub empty_tally : Tally
+empty_tally = record { preferring = 0; imbalanced = 0 }
 
 abbrev pub tally_of : List (ℤ × Tally) → ℤ → Tally
-tally_of tallies broker = unwrap_or (entries.get int_cmp tallies broker) no_tally
+tally_of tallies broker = unwrap_or (entries.get int_cmp tallies broker) empty_tally
 
 abbrev pub one_more : Tally → Bool → Tally
 one_more t is_imbalanced = record { preferring = t.preferring + 1; imbalanced = if is_imbalanced then t.imbalanced + 1 else t.imbalanced }
