@@ -1,7 +1,7 @@
 //! The request for the election of partitions that are named.
 
 ghost use Rattle.std.specs.Prelude.{◌≡◌, [], ◌∷◌, ◌++◌, bytes_eq, IfOk, OnOk};
-ghost use Rattle.kr_rebalance.specs.inner.Grouping.{grouped, last_of};
+ghost use Rattle.kr_rebalance.specs.inner.Grouping.{with_partition, open_entry};
 ghost use Rattle.law_balance.specs.Election as elections;
 
 use kr_base::NoMemory;
@@ -26,7 +26,11 @@ struct Grouping {
 
 impl Grouping {
     fn begin(alloc: Global, first: &(Text, i32)) -> Result<Grouping, NoMemory>
-        ensures { IfOk result (λ g. g ≡ record { done = []; topic = first.now.0; partitions = first.now.1 ∷ [] }) }
+        ensures { IfOk result (λ g. g ≡ record {
+          done = [];
+          topic = first.now.0;
+          partitions = first.now.1 ∷ [];
+        }) }
     {
         let topic = first.0.copied(alloc)?;
         let mut partitions = Rows::new(alloc);
@@ -40,7 +44,11 @@ impl Grouping {
 
     // The entry that none joins any more.
     fn end_entry(&mut self, alloc: Global, topic: Text) -> Result<(), NoMemory>
-        ensures { OnOk result (self.new ≡ record { done = self.old.done ++ last_of self.old ∷ []; topic = topic; partitions = [] }) }
+        ensures { OnOk result (self.new ≡ record {
+          done = self.old.done ++ open_entry self.old ∷ [];
+          topic = topic;
+          partitions = [];
+        }) }
     {
         let partitions = mem::replace(&mut self.partitions, Rows::new(alloc));
         let topic = mem::replace(&mut self.topic, topic);
@@ -49,7 +57,7 @@ impl Grouping {
     }
 
     fn add(&mut self, alloc: Global, named: &(Text, i32)) -> Result<(), NoMemory>
-        ensures { OnOk result (self.new ≡ grouped self.old named.now) }
+        ensures { OnOk result (self.new ≡ with_partition self.old named.now) }
     {
         if is_of_topic(named, &self.topic) {
             self.partitions.push(named.1)?;
@@ -61,7 +69,7 @@ impl Grouping {
     }
 
     fn finish(self) -> Result<ElectLeadersTopics, NoMemory>
-        ensures { IfOk result (λ topics. topics ≡ self.done ++ last_of self ∷ []) }
+        ensures { IfOk result (λ topics. topics ≡ self.done ++ open_entry self ∷ []) }
     {
         let Grouping {
             mut done,

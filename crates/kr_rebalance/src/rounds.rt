@@ -24,16 +24,17 @@ fn event_of(
     alloc: Global,
     engine: &Engine,
     client: u32,
-    now: &i64,
+    now: i64,
     percent: u8,
 ) -> Result<Event, NoMemory>
-    ensures { IfOk result (λ event. event ≡ round_event client now.now engine.now.images.tip percent) }
+    ensures { IfOk result (λ event. event
+        ≡ round_event client now engine.now.images.tip percent) }
 {
     let planned = plan_of(alloc, &Seen::tip(engine.store()), percent)?;
     let request = Request::ElectLeaders(election(alloc, planned.as_slice())?);
     Ok(Event::Request {
         client,
-        now: *now,
+        now,
         ask: Ask::Call(Call {
             correlation: 0,
             request,
@@ -58,7 +59,7 @@ pub fn round<L: Ledger>(
     alloc: Global,
     engine: &mut Engine,
     client: u32,
-    now: &i64,
+    now: i64,
     percent: u8,
     steps: &mut Steps<L>,
 ) -> Result<(), NoMemory>
@@ -66,12 +67,15 @@ pub fn round<L: Ledger>(
     requires drained { outputs_left engine.old ≡ [] }
     requires leads { IsSome engine.old.leading }
     requires low { IsTrue (not (is_far engine.old.tip)) }
-    ensures step { OnOk result (IsStep engine.old engine.new (round_event client now.now engine.old.images.tip percent)) }
+    ensures step { OnOk result (IsStep engine.old engine.new
+        (round_event client now engine.old.images.tip percent)) }
     ensures unchanged { OnErr result (engine.new ≡ engine.old) }
     ensures sound { IsSound engine.new }
-    ensures balanced { OnOk result (Balances engine.old.images.tip engine.new.images.tip percent) }
+    ensures balanced { OnOk result
+        (Balances engine.old.images.tip engine.new.images.tip percent) }
     ensures answered { OnOk result ((s : State) (writes : List Write) → IsEngine engine.old s writes →
-        All (λ write. IsWithoutErrors write.reply) (new_writes engine.old.options s (round_event client now.now engine.old.images.tip percent))) }
+        All (λ write. IsWithoutErrors write.reply) (new_writes engine.old.options s
+        (round_event client now engine.old.images.tip percent))) }
 {
     rounds_balance();
     records_have_meanings();

@@ -1,19 +1,19 @@
--- Partitions that are named, grouped by neighbours of one topic.
+-- Partitions that are named, with_partition by neighbours of one topic.
 use Rattle.std.specs.Prelude.{ℕ, ℤ, List, [], ◌∷◌, ◌++◌, bytes_eq, if◌then◌else◌}
 use Rattle.kr_calls.specs.declared.elect_leaders.ElectLeadersTopic.{ElectLeadersTopic}
 use Rattle.kr_rebalance.specs.declared.election.Grouping.{Grouping}
 use Rattle.law_balance.specs.Election.{asked_before, entries_by_topic}
 
 -- the entry that more may join
-abbrev pub last_of : Grouping → ElectLeadersTopic
-last_of g = record { topic = g.topic; partitions = g.partitions }
+abbrev pub open_entry : Grouping → ElectLeadersTopic
+open_entry g = record { topic = g.topic; partitions = g.partitions }
 
 -- with one partition more
-abbrev pub grouped : Grouping → List ℕ × ℤ → Grouping
-grouped g n =
+abbrev pub with_partition : Grouping → List ℕ × ℤ → Grouping
+with_partition g n =
     if bytes_eq n.0 g.topic
     then record g { partitions = g.partitions ++ n.1 ∷ [] }
-    else record { done = g.done ++ last_of g ∷ []; topic = n.0; partitions = n.1 ∷ [] }
+    else record { done = g.done ++ open_entry g ∷ []; topic = n.0; partitions = n.1 ∷ [] }
 
 -- the entries, where these partitions follow
 abbrev pub entries_with : Grouping → List (List ℕ × ℤ) → List ElectLeadersTopic
