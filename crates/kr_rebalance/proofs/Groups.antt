@@ -1,11 +1,11 @@
--- Entries that are with_partition one after the other are those of the definition.
+-- Entries that are grouped_with one after the other are those of the definition.
 use Rattle.std.proofs.Common.{◌≡◌, ◌∙◌, Bool, true, false, cond, ℕ, ℤ, List, [], ◌∷◌, ◌++◌, refl, sym, ap, subst, append_assoc, ◌<◌, ◌+◌, length, drop, get_or}
 use Rattle.std.specs.Prelude.{bytes_eq}
 use Rattle.std.proofs.lemmas.List.{drop_more}
 use Rattle.std.proofs.lemmas.Slice.Eq.{bytes_eq-Decides}
 use Rattle.kr_calls.specs.declared.elect_leaders.ElectLeadersTopic.{ElectLeadersTopic}
 use Rattle.kr_rebalance.specs.declared.election.Grouping.{Grouping}
-use Rattle.kr_rebalance.specs.inner.Grouping.{entries_with, with_partition, open_entry}
+use Rattle.kr_rebalance.specs.inner.Grouping.{entries_with, grouped_with, open_entry}
 use Rattle.law_balance.specs.Election.{asked_before, entries_by_topic}
 
 abbrev entry : List ℕ → List ℤ → ElectLeadersTopic
@@ -32,7 +32,7 @@ apart topic other first then (t ∷ ts) differ =
       | false ↦ ap (λ b. cond b (entry topic (first ++ then) ∷ t ∷ ts) (entry topic first ∷ entry other then ∷ t ∷ ts)) differ
     ]
 
-pub grouped_more : (g : Grouping) (n : List ℕ × ℤ) (ns : List (List ℕ × ℤ)) → entries_with (with_partition g n) ns ≡ entries_with g (n ∷ ns)
+pub grouped_more : (g : Grouping) (n : List ℕ × ℤ) (ns : List (List ℕ × ℤ)) → entries_with (grouped_with g n) ns ≡ entries_with g (n ∷ ns)
 grouped_more g n ns =
     let ts = entries_by_topic ns in
     elim (bytes_eq n.0 g.topic) as (λ b. bytes_eq n.0 g.topic ≡ b → entries_with (cond b (record g { partitions = g.partitions ++ n.1 ∷ [] }) (record { done = g.done ++ open_entry g ∷ []; topic = n.0; partitions = n.1 ∷ [] })) ns ≡ entries_with g (n ∷ ns)) [
@@ -44,7 +44,7 @@ grouped_more g n ns =
     ] refl
 
 -- the next one of a list joins
-pub grouped_here : (g after : Grouping) (ns : List (List ℕ × ℤ)) (i : ℕ) (n : List ℕ × ℤ) (topics : List ElectLeadersTopic) → i < length ns → n ≡ get_or ns i n → after ≡ with_partition g n → entries_with g (drop i ns) ≡ topics → entries_with after (drop (i + 1) ns) ≡ topics
+pub grouped_here : (g after : Grouping) (ns : List (List ℕ × ℤ)) (i : ℕ) (n : List ℕ × ℤ) (topics : List ElectLeadersTopic) → i < length ns → n ≡ get_or ns i n → after ≡ grouped_with g n → entries_with g (drop i ns) ≡ topics → entries_with after (drop (i + 1) ns) ≡ topics
 grouped_here g after ns i n topics within is joins so_far =
     ap (λ (x : Grouping). entries_with x (drop (i + 1) ns)) joins
     ∙ (grouped_more g n (drop (i + 1) ns) ∙ (ap (λ (xs : List (List ℕ × ℤ)). entries_with g xs) (sym (drop_more ns i n within ∙ ap (λ (x : List ℕ × ℤ). x ∷ drop (i + 1) ns) (sym is))) ∙ so_far))

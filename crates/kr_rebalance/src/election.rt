@@ -1,7 +1,7 @@
 //! The request for the election of partitions that are named.
 
 ghost use Rattle.std.specs.Prelude.{◌≡◌, [], ◌∷◌, ◌++◌, bytes_eq, IfOk, OnOk};
-ghost use Rattle.kr_rebalance.specs.inner.Grouping.{with_partition, open_entry};
+ghost use Rattle.kr_rebalance.specs.inner.Grouping.{grouped_with, open_entry};
 ghost use Rattle.law_balance.specs.Election as elections;
 
 use kr_base::NoMemory;
@@ -57,7 +57,7 @@ impl Grouping {
     }
 
     fn add(&mut self, alloc: Global, named: &(Text, i32)) -> Result<(), NoMemory>
-        ensures { OnOk result (self.new ≡ with_partition self.old named.now) }
+        ensures { OnOk result (self.new ≡ grouped_with self.old named.now) }
     {
         if is_of_topic(named, &self.topic) {
             self.partitions.push(named.1)?;

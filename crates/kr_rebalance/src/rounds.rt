@@ -73,7 +73,8 @@ pub fn round<L: Ledger>(
     ensures sound { IsSound engine.new }
     ensures balanced { OnOk result
         (Balances engine.old.images.tip engine.new.images.tip percent) }
-    ensures answered { OnOk result ((s : State) (writes : List Write) → IsEngine engine.old s writes →
+    ensures answered { OnOk result ((s : State) (writes : List Write) →
+        IsEngine engine.old s writes →
         All (λ write. IsWithoutErrors write.reply) (new_writes engine.old.options s
         (round_event client now engine.old.images.tip percent))) }
 {

@@ -1,4 +1,4 @@
--- Partitions that are named, with_partition by neighbours of one topic.
+-- Partitions that are named, grouped_with by neighbours of one topic.
 use Rattle.std.specs.Prelude.{ℕ, ℤ, List, [], ◌∷◌, ◌++◌, bytes_eq, if◌then◌else◌}
 use Rattle.kr_calls.specs.declared.elect_leaders.ElectLeadersTopic.{ElectLeadersTopic}
 use Rattle.kr_rebalance.specs.declared.election.Grouping.{Grouping}
@@ -9,8 +9,8 @@ abbrev pub open_entry : Grouping → ElectLeadersTopic
 open_entry g = record { topic = g.topic; partitions = g.partitions }
 
 -- with one partition more
-abbrev pub with_partition : Grouping → List ℕ × ℤ → Grouping
-with_partition g n =
+abbrev pub grouped_with : Grouping → List ℕ × ℤ → Grouping
+grouped_with g n =
     if bytes_eq n.0 g.topic
     then record g { partitions = g.partitions ++ n.1 ∷ [] }
     else record { done = g.done ++ open_entry g ∷ []; topic = n.0; partitions = n.1 ∷ [] }
