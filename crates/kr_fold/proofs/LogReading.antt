@@ -1,10 +1,11 @@
 -- A log is read batch after batch.
-use Rattle.std.proofs.Common.{◌≡◌, ◌∙◌, ℕ, ◌+◌, ◌<◌, ◌≤◌, ◌⊎◌, inl, inr, List, [], ◌++◌, length, length-append, append_assoc, ℤ, Option, Some, None, refl, sym, ap, subst, arith}
-use Rattle.std.specs.Prelude.{IfSome, IsSome, pos, negsuc, ◌+ℤ◌}
+use Rattle.std.proofs.Common.{◌≡◌, ◌∙◌, ℕ, ◌+◌, ◌<◌, ◌≤◌, ◌⊎◌, ◌-◌, inl, inr, List, [], ◌∷◌, ◌++◌, length, length-append, append_assoc, ℤ, Option, Some, None, refl, sym, ap, subst, arith}
+use Rattle.std.specs.Prelude.{IfSome, IsSome, IsTrue, int_lt, pos, slice_get, ◌+ℤ◌}
 use Rattle.std.proofs.lemmas.Int.{ints}
 use Rattle.kr_defs.specs.declared.limits.TheConstants.{MOST_RECORDS}
 use Rattle.std.specs.Io.KnownBytes.{Consumes, IsAtEnd}
 use Rattle.std.proofs.lemmas.List.{append-nil}
+use Rattle.std.proofs.lemmas.List.Elements.{All-from_recursion}
 use Rattle.kr_base.proofs.Pieces.{consumes_more}
 use Rattle.kr_batch.specs.declared.Batch.{Batch}
 use Rattle.kr_batch.specs.Grammar.{IsBatch}
@@ -16,10 +17,10 @@ use Rattle.kr_fold.specs.inner.SourceReads.{HasNone, Took}
 use Rattle.kr_fold.specs.Logs.{Folded, folded_with, IsLog, NoneFollows, nothing}
 use Rattle.kr_fold.specs.Endings.{ReadsLog, EndsLog, BreaksLog, IsBreak, IsLogFault, TookLog}
 use Rattle.kr_defs.specs.Image.{Image, empty}
-use Rattle.kr_store.specs.Images.{Images, last_kept, marked, no_images}
+use Rattle.kr_store.specs.Images.{Images, IsAbove, kept_once, last_kept, marked, no_images}
 use Rattle.kr_batch.proofs.Batches.{one_value}
 use Rattle.kr_fold.specs.declared.log.Place.{Place}
-use Rattle.kr_fold.specs.inner.NextBatches.{IsFollowed, IsWithin, log_at}
+use Rattle.kr_fold.specs.inner.NextBatches.{IsFollowed, IsWithin, KeepsOne, log_at}
 use Rattle.kr_fold.proofs.Sizes.{batch_sized, sized_front, no_size_none, cut_none}
 use Rattle.kr_fold.proofs.Batches.{log_more, log_of_none}
 use Rattle.kr_fold.proofs.Pieces.{consumes_none}
@@ -161,11 +162,11 @@ within_beyond place next bytes count tip len within tip_is few sized end at_tip 
 
 -- ---- at the start
 
--- a new store with an epoch kept is empty
-pub marked_new : (new store : Images) → new ≡ no_images → store ≡ marked new (negsuc 0) → IsSome (last_kept store) × (store.tip ≡ empty)
+-- a new store with an epoch kept is empty, and keeps that one
+pub marked_new : (new store : Images) → new ≡ no_images → store ≡ marked new (pos 0) → KeepsOne store (pos 0) × (store.tip ≡ empty)
 marked_new new store is kept =
-    let whole : store ≡ marked no_images (negsuc 0) = kept ∙ ap (λ (i : Images). marked i (negsuc 0)) is in
-    (subst (λ (i : Images). IsSome (last_kept i)) (sym whole) refl, ap (λ (i : Images). i.tip) whole)
+    let whole : store ≡ marked no_images (pos 0) = kept ∙ ap (λ (i : Images). marked i (pos 0)) is in
+    (record { image = empty; is = ap (λ (i : Images). i.kept) whole }, ap (λ (i : Images). i.tip) whole)
 
 pub reads_nothing : (left : Option (List ℕ)) (place : Place) (image : Image) → place.tip ≡ pos 0 → place.at ≡ 0 → image ≡ empty → ReadsLog left left (log_at place image) place.at
 reads_nothing left place image tip at is = record {
@@ -200,3 +201,28 @@ at_most_of left' rest (inr (inr cut)) = inl cut.cut
 
 pub break_forgotten : (left left' : Option (List ℕ)) (at : ℕ) → IsLogFault left left' (faults.Malformed at) → IsLogFault left left' faults.NoMemory
 break_forgotten left left' at b = record { log = b.log; front = b.front; rest = b.rest; is = b.is; took = b.took; within = b.within; behind = at_most_of left' b.rest b.behind.told }
+
+-- behind a batch that was read
+pub read_forgotten : (left left' : Option (List ℕ)) (log : Folded) (at : ℕ) → ReadsLog left left' log at → at ≤ longest → IsLogFault left left' faults.NoMemory
+read_forgotten left left' log at reads within = record {
+  log = log;
+  front = reads.taken;
+  rest = [];
+  is = reads.is;
+  took = subst (λ (l : List ℕ). Consumes left left' l) (sym (append-nil reads.taken)) reads.took;
+  within = let e = length-append reads.taken [] in let p = reads.place in omega (arith, e, p, within);
+  behind = inl none_unfinished;
+}
+
+-- ---- the one epoch that is kept
+
+pub some_kept : (images : Images) (epoch : ℤ) → KeepsOne images epoch → IsSome (last_kept images)
+some_kept images epoch one = subst (λ (kept : List (ℤ × Image)). IsSome (slice_get kept (length kept - 1))) (sym one.is) refl
+
+-- it is below those of more bytes
+pub one_below : (images after : Images) (at at' : ℕ) → KeepsOne images (pos at) → after.kept ≡ images.kept → at < at' → IsAbove after.kept (pos at')
+one_below images after at at' one same rises =
+    subst (λ (kept : List (ℤ × Image)). IsAbove kept (pos at')) (sym (same ∙ one.is)) (All-from_recursion (λ (k : ℤ × Image). IsTrue (int_lt k.0 (pos at'))) ((pos at, one.image) ∷ []) (grind (arith, ints, rises), tt))
+
+pub kept_alone : (images : Images) (epoch : ℤ) (image : Image) → images ≡ kept_once epoch image → KeepsOne images epoch
+kept_alone images epoch image is = record { image = image; is = ap (λ (i : Images). i.kept) is }

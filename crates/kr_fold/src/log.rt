@@ -1,13 +1,13 @@
 //! A log's batches, one after the other, and the image that their items make.
 
-ghost use Rattle.std.specs.Prelude.{◌≡◌, ◌+◌, ◌≤◌, ◌<◌, ◌≤ℤ◌, ◌+ℤ◌, pos, length, IfOk, IfErr, IfSome, IsErrOf, IsSome, Option};
+ghost use Rattle.std.specs.Prelude.{◌≡◌, ◌+◌, ◌≤◌, ◌<◌, ◌≤ℤ◌, ◌+ℤ◌, pos, length, IfOk, IfErr, IfSome, IsErrOf, IsSome, OnErr, OnOk, Option};
 ghost use Rattle.std.specs.Ordering.{int_eq};
 ghost use Rattle.kr_defs.specs.declared.limits.TheConstants.{MOST_RECORDS as most_records, PLACES_END as places_end};
 ghost use Rattle.kr_base.specs.Causes.{Rose};
-ghost use Rattle.kr_store.specs.Images.{last_kept};
+ghost use Rattle.kr_store.specs.Images.{IsAbove, kept_once, last_kept};
 ghost use Rattle.kr_fold.specs.Endings.{EndsLog, IsLogFault};
 ghost use Rattle.kr_fold.specs.inner.NextBatches as followed;
-ghost use Rattle.kr_fold.specs.inner.NextBatches.{AreApplied, IsItemApplied, IsFollowed, IsBatchOrNone, IsWithin, ReadsOn};
+ghost use Rattle.kr_fold.specs.inner.NextBatches.{AreApplied, IsItemApplied, IsFollowed, IsBatchOrNone, IsWithin, KeepsOne, ReadsOn};
 ghost use Rattle.kr_fold.specs.SourceBytes.{longest};
 
 use crate::batch::read_batch;
@@ -177,6 +177,58 @@ fn read_next<S: Source, L: Ledger>(
     Ok(Some(beyond(place, tip, bytes.len())))
 }
 
+// How many bytes were read, as an epoch.
+fn epoch_of(place: &Place) -> i64
+    requires { IsWithin place.now }
+    ensures { result ≡ pos place.now.at }
+{
+    place.at as i64
+}
+
+// The present image is kept under the epoch, and no other is.
+#[tactic(auto, using(kr_store::proofs::Alone::alone))]
+fn keep_alone<L: Ledger>(
+    store: &mut ImageStore,
+    epoch: &i64,
+    steps: &mut Steps<L>,
+) -> Result<(), NoMemory>
+    requires { IsAbove store.old.kept epoch.now }
+    ensures kept { OnOk result (store.new ≡ kept_once epoch.now store.old.tip) }
+    ensures same { OnErr result (store.new ≡ store.old) }
+{
+    let _valid = store.counts();
+    store.mark(*epoch)?;
+    store.forget_below(*epoch, steps);
+    Ok(())
+}
+
+// Reads the next batch, and keeps the image behind it alone: what its batch and those before took out takes no memory then.
+fn read_on<S: Source, L: Ledger>(
+    alloc: Global,
+    source: &mut S,
+    store: &mut ImageStore,
+    place: &Place,
+    steps: &mut Steps<L>,
+) -> Result<Option<Place>, ToolFault>
+    requires alone { KeepsOne store.old (pos place.now.at) }
+    requires within { IsWithin place.now }
+    ensures next { ReadsOn (S.left source.old)
+        (S.left source.new) place.now store.old.tip store.new.tip result }
+    ensures within { IfOk result (λ next. IfSome next (λ p. IsWithin p × (place.now.at < p.at))) }
+    ensures alone { IfOk result (λ next. IfSome next (λ p. KeepsOne store.new (pos p.at))) }
+    ensures read { IsErrOf result ToolFault.ReadFault →
+        Rose (S.faults source.old) (S.faults source.new) }
+    ensures later { S.faults source.old ≤ S.faults source.new }
+{
+    let next = match read_next(alloc, source, store, place, steps) {
+        Ok(Some(next)) => next,
+        Ok(None) => return Ok(None),
+        Err(fault) => return Err(fault),
+    };
+    keep_alone(store, &epoch_of(&next), steps)?;
+    Ok(Some(next))
+}
+
 /// Reads a log from place 0 to the end of the input: the store of its image, and the place behind its last item.
 pub(crate) fn read_log<S: Source, L: Ledger>(
     alloc: Global,
@@ -197,10 +249,10 @@ pub(crate) fn read_log<S: Source, L: Ledger>(
 {
     let mut steps: Steps<L> = Steps::new(blank);
     let mut store = ImageStore::new(alloc);
-    store.mark(-1)?;
+    store.mark(0)?; // no byte is read
     let mut place = Place { tip: 0, at: 0 };
     loop {
-        match read_next(alloc, source, &mut store, &place, &mut steps) {
+        match read_on(alloc, source, &mut store, &place, &mut steps) {
             Ok(Some(next)) => place = next,
             Ok(None) => return Ok((store, place.tip)),
             Err(fault) => return Err(fault),

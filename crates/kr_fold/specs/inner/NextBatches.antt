@@ -1,5 +1,5 @@
 -- A log's next batch, as the code judges it.
-use Rattle.std.specs.Prelude.{◌≡◌, ℕ, ℤ, pos, ◌+ℤ◌, ◌*◌, ◌≤◌, ◌≤ℤ◌, Option, Some, None, List, length, Result, Ok, Err, MatchResult}
+use Rattle.std.specs.Prelude.{◌≡◌, ℕ, ℤ, pos, ◌+ℤ◌, ◌*◌, ◌≤◌, ◌≤ℤ◌, Option, Some, None, List, [], ◌∷◌, length, Result, Ok, Err, MatchResult}
 use Rattle.kr_base.specs.declared.answers.NoMemory.{NoMemory}
 use Rattle.kr_batch.specs.declared.fault.BatchFault.{BatchFault}
 use Rattle.kr_batch.specs.declared.fault.BatchFault.TheVariants as faults
@@ -11,6 +11,7 @@ use Rattle.kr_defs.specs.Image.{Image}
 use Rattle.kr_defs.specs.Log.{apply_all}
 use Rattle.kr_batch.specs.declared.Batch.{Batch}
 use Rattle.kr_batch.specs.Grammar.{IsBatch}
+use Rattle.kr_store.specs.Images.{Images}
 use Rattle.kr_fold.specs.declared.fault.ToolFault.{ToolFault}
 use Rattle.kr_fold.specs.declared.log.Place.{Place}
 use Rattle.kr_fold.specs.Logs.{Folded, folded_with}
@@ -41,6 +42,13 @@ abbrev pub IsFollowed : ℤ → Image → Image → Batch → Option ℤ → Typ
 IsFollowed tip image after batch (Some next) =
     (folded_with (record { tip = tip; image = image }) batch ≡ Some (record { tip = next; image = after })) × (next ≡ tip +ℤ pos (length batch.items))
 IsFollowed tip image after batch None = folded_with (record { tip = tip; image = image }) batch ≡ None
+
+-- ---- what is kept of the log
+
+-- this epoch is kept, and no other
+pub record KeepsOne (images : Images) (epoch : ℤ) : Type 0 where
+  pub image : Image
+  pub is : images.kept ≡ (epoch, image) ∷ []
 
 -- ---- places
 
