@@ -1,7 +1,7 @@
 //! A record of the metadata log as Kafka's tools show it: a line of JSON.
 #![tactic(auto)]
 
-mod data;
+mod kinds;
 mod line;
 mod members;
 mod place;

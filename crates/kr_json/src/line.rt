@@ -3,7 +3,7 @@
 ghost use Rattle.std.specs.Prelude.{◌≡◌, ◌+ℤ◌, pos, ◌++◌, OnErr, OnOk};
 ghost use Rattle.kr_json.specs.Lines as lines;
 
-use crate::data::{kind_name, put_data};
+use crate::kinds::{kind_name, put_data};
 use crate::members::{put_i32, put_i64, put_i128};
 use crate::place::Place;
 use crate::text::put_str;
