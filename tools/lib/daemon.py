@@ -1,4 +1,4 @@
-"""The daemon and the tool that make build leaves, or DAEMON and TOOL from the environment; a daemon that is started and ended,
+"""The programs that make build leaves, or DAEMON, TOOL and JUDGE from the environment; a daemon that is started and ended,
 and a quorum at the other end of its link."""
 import os
 import shlex
@@ -13,6 +13,7 @@ from lib.frames import end_of, frame
 
 DAEMON = shlex.split(os.environ.get("DAEMON", f"{ROOT}/crates/kr_daemon/out/kr_daemon"))
 TOOL = shlex.split(os.environ.get("TOOL", f"{ROOT}/crates/kr_tool/out/kr_tool"))
+JUDGE = shlex.split(os.environ.get("JUDGE", f"{ROOT}/crates/kr_judge/out/kr_judge"))
 
 
 def free_port():

@@ -1,5 +1,5 @@
-"""The log as all changes of its keys made it, one revision of etcd after the other, each held against the rules of
-transactions.py: for torture. etcd keeps what its keys were until it is told to compact."""
+"""The log as all changes of its keys made it, one revision of etcd after the other, each as a line of a tape too: for torture. etcd
+keeps what its keys were until it is told to compact."""
 import http.client
 import itertools
 import json
@@ -9,6 +9,8 @@ from typing import NamedTuple
 
 from batches import Broken, span, whole
 from gateway import Gateway, unpacked
+from link_tape import about_batch, about_image
+from link_tape import digest as number_for
 from store import Unknown
 from tape import digest
 
@@ -25,6 +27,15 @@ def patiently(call):
             fault = error
             time.sleep(0.5)
     raise Unknown(f"{type(fault).__name__}: {fault}")
+
+
+class Change(NamedTuple):
+    """What etcd showed behind a change, and the change in the words of a tape; of an image it isn't known who put it."""
+    revision: int
+    first: int
+    end: int
+    word: str
+    parts: tuple
 
 
 class Standing(NamedTuple):
@@ -59,13 +70,14 @@ def values(batch):
 
 
 class History:
-    """The log at the revision that was reached, the values of its records by their places, and what broke a rule on the way."""
+    """The log at the revision that was reached, the values of its records by their places, and the changes that made it."""
 
     def __init__(self, members, prefix, path):
         self.etcd, self.prefix, self.path = Gateway(members), prefix, path
-        self.revision = self.end = self.epoch = self.image = 0
-        self.is_led = False
+        self.revision = self.end = self.epoch = self.image = self.end_told = 0
         self.log, self.value_at, self.place_of, self.parts, self.faults = {}, {}, {}, {}, []
+        self.standing, self.first, self.below = set(), 0, 0  # places under which a batch stands; the least; batches below it
+        self.taken, self.changes = {}, []                    # node and key of each epoch; what made the log
         self.size, self.size_at, self.images = 0, {}, []     # bytes of the log, up to each end; images that nobody looked at yet
 
     def catch_up(self):
@@ -93,43 +105,58 @@ class History:
                 gone.add(key)
             else:
                 puts[key] = unpacked(change["kv"].get("value", ""))
+        while self.revision + 1 < revision:                  # of keys that aren't the log's
+            self.revision += 1
+            self._tell("other")
         self.revision = revision
         self.parts.update({key: value for key, value in puts.items() if key.startswith(b"parts/")})
-        self._lead(puts, gone)
-        self._append([puts[key] for key in sorted(puts) if key.startswith(b"log/")], puts.get(b"end"))
-        self._drop(puts.get(b"image"), {int(key[4:], 16) for key in gone if key.startswith(b"log/")})
+        self.end_told = int(puts.get(b"end", self.end_told))
+        found = [batch for key in sorted(puts) if key.startswith(b"log/") for batch in self._whole(puts[key])]
+        for batch in found:
+            self._keep(batch)
+        self._drop({int(key[4:], 16) for key in gone if key.startswith(b"log/")})
+        self._tell(*self._change(puts, gone, found))
 
-    def _fault(self, text):
-        self.faults.append(f"revision {self.revision}: {text}")
+    def _tell(self, word, *parts):
+        self.changes.append(Change(self.revision, self.first, self.end_told, word, parts))
 
-    def _lead(self, puts, gone):
-        """A leadership takes the key that nobody has, and raises the epoch by one."""
+    def _change(self, puts, gone, found):
+        """Which change of transactions.py the keys tell, in the words of a tape."""
         if b"leader" in puts:
-            if self.is_led or int(puts.get(b"epoch", b"0")) != self.epoch + 1:
-                self._fault(f"a leadership began in epoch {puts.get(b'epoch')}, where the greatest is {self.epoch}, which leads: {self.is_led}")
-            self.is_led, self.epoch = True, int(puts.get(b"epoch", b"0"))
-        if b"leader" in gone:
-            self.is_led = False
+            name, self.epoch = puts[b"leader"], int(puts.get(b"epoch", b"0"))
+            node = int(name.split()[1])
+            self.taken[self.epoch] = node, self.revision
+            return "campaign", node, number_for(name), self.epoch
+        if found:
+            epoch = about_batch(found[0])[2]
+            node, made = self.taken.get(epoch, (0, 0))
+            return "append", node, epoch, made, *(part for batch in found for part in about_batch(batch))
+        if b"image" in puts:
+            before, self.image = self.image, int(puts[b"image"].split()[0])
+            start = b"parts/image/%016x/" % self.image
+            image = b"".join(self.parts[key] for key in sorted(self.parts) if key.startswith(start))
+            self.images.append((self.image, image))
+            return "drop", before, *about_image(image)
+        return ("expire",) if b"leader" in gone else ("other",)
 
-    def _append(self, found, end):
-        """An append is of the epoch that leads, begins at the end, has no gaps, and moves the end behind it."""
-        for value in found:
-            try:
-                batch = whole(value, lambda *part: self.parts.get(b"parts/%016x/%d/%08x" % part))
-            except Broken as fault:
-                self._fault(str(fault))
-                continue
-            place, behind, epoch = span(batch)
-            if epoch != self.epoch or not self.is_led:
-                self._fault(f"a batch of epoch {epoch} was appended where {f'epoch {self.epoch} leads' if self.is_led else 'nobody leads'}")
-            if place != self.end or place in self.log:
-                self._fault(f"a batch was put at place {place} where the log ends at {self.end}")
-            self._keep(place, behind, epoch, batch)
-        if end is not None and int(end) != self.end:
-            self._fault(f"the end became {int(end)} where the log ends at {self.end}")
+    def _whole(self, value):
+        try:
+            yield whole(value, lambda *part: self.parts.get(b"parts/%016x/%d/%08x" % part))
+        except Broken as fault:
+            self.faults.append(f"revision {self.revision}: {fault}")
 
-    def _keep(self, place, behind, epoch, batch):
+    def _drop(self, gone):
+        """The least place is none where batches lack behind it."""
+        self.standing -= gone
+        while self.first in self.log and self.first not in self.standing:
+            self.below, self.first = self.below + 1, self.log[self.first].end
+        if len(self.log) - self.below != len(self.standing):
+            self.faults.append(f"revision {self.revision}: batches lack behind place {self.first}")
+
+    def _keep(self, batch):
+        place, behind, epoch = span(batch)
         self.log[place], self.end = Standing(behind, epoch, digest(batch)), behind
+        self.standing.add(place)
         for at, value in enumerate(values(batch), place):
             self.value_at[at] = value[:SHOWN]
             self.place_of[value[:SHOWN]] = at
@@ -137,20 +164,6 @@ class History:
             file.write(batch)
         self.size += len(batch)
         self.size_at[behind] = self.size
-
-    def _drop(self, image, gone):
-        """Batches go only with an image that stands for all before its place, where a batch ends."""
-        if image is None:
-            if gone:
-                self._fault(f"{len(gone)} batches were dropped, and no image came")
-            return
-        before, self.image = self.image, int(image.split()[0])
-        if self.image <= before or self.image not in self.size_at:
-            self._fault(f"an image of place {self.image} came, behind one of {before}, of the log up to {self.end}")
-        if gone != {place for place in self.log if before <= place < self.image}:
-            self._fault(f"an image of place {self.image} dropped {len(gone)} batches, which aren't those before it")
-        start = b"parts/image/%016x/" % self.image
-        self.images.append((self.image, b"".join(self.parts[key] for key in sorted(self.parts) if key.startswith(start))))
 
     def bytes(self):
         """All batches of the log, one behind the other."""

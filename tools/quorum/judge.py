@@ -1,11 +1,13 @@
-"""What must hold behind each round of torture: of the writes that were answered, of each daemon's committed log, of etcd's keys,
-and of what the nodes show."""
+"""What must hold behind each round of torture: of the writes that were answered, of each daemon's committed log, of what etcd and the
+links did (by kr_judge), and of what the nodes show."""
 import struct
 import subprocess
 
 from history import History
+from link_tape import digest as number_for
 from nodes import CLUSTER, PREFIX, SALT, SOON, TOOL, Failed, client, request_of, until
 from tape import digest
+from whole_tape import WholeTape
 
 OPEN, LOAD, REQUEST, END, REPLY = 0x01, 0x06, 0x08, 0x0A, 0x82
 
@@ -47,11 +49,12 @@ def shown_by_tool(log):
 class Judge:
     """What was found wrong so far, how much was lost, and the times that were measured on the way."""
 
-    def __init__(self, members, nodes, tapes, path):
+    def __init__(self, members, nodes, tapes, path, link_tapes):
         self.nodes, self.tapes = nodes, tapes
         self.history = History(members.clients, PREFIX, path)
+        self.whole = WholeTape(self.history, link_tapes)
         self.faults, self.lost = [], 0
-        self.images, self.loads = {}, 0                      # digests of the images that were kept, by their places; loads of them
+        self.images, self.loads = {}, 0                      # numbers of the images that were kept, by their places; loads of them
         self.writes = []                                     # (error, seconds, whether it stands) of each
         self.last_place = {}                                 # of what a client wrote, by the client's number
         self.committed, self.lags = {}, []                   # when a place was committed; how long after that a standby was fed it
@@ -70,6 +73,7 @@ class Judge:
                 self._success(number, write, place)
         self._logs(entries, hit)
         self._images()
+        self.faults += self.whole.faults()
         for life in self._lives():
             self.faults += [f"node {life.number}: {fault}" for fault in life.faults]
             life.faults = []
@@ -101,16 +105,13 @@ class Judge:
                 self.lags.append(entry.when - committed)
 
     def _images(self):
-        """Each image that was kept is the fold of the log up to its place, to the byte, and what was loaded was one of them."""
-        for place, image in self.history.images:
-            self.images[place] = digest(image)
-            if image != fold(self.history.bytes()[:self.history.size_at.get(place, 0)]):
-                self.faults.append(f"the image of place {place} isn't the fold of the log up to there")
+        """Each image is judged by the fold of the log up to its place, where a batch ends there."""
+        for place in [place for place, _ in self.history.images if place in self.history.size_at]:
+            self.images[place] = number_for(fold(self.history.bytes()[:self.history.size_at[place]]))
         self.history.images = []
+        self.whole.folds = list(self.images.items())
         for life in self._lives():
             self.loads += len(life.loads)
-            self.faults += [f"node {life.number} was handed in an image of place {place} that isn't the one that was kept"
-                            for place, loaded in life.loads if self.images.get(place) != loaded]
             life.loads = []
 
     def compare(self):

@@ -15,7 +15,7 @@ from batches import look
 from gateway import Gateway
 from store import Unknown
 from lib import client
-from lib.daemon import DAEMON, TOOL
+from lib.daemon import DAEMON, JUDGE, TOOL
 from lib.wire import Reading
 
 ETCD = shlex.split(os.environ.get("ETCD", "etcd"))
@@ -39,13 +39,13 @@ class Failed(Exception):
     """Something didn't hold, or not in time."""
 
 
-def missing_program(wants_etcd=True):
+def missing_program(wants_etcd=True, wants_judge=False):
     """What isn't there to start with, in words; None where nothing lacks."""
     if wants_etcd and not shutil.which(ETCD[0]):
         return "etcd isn't on the PATH: install it (Debian: apt-get install etcd-server) and run this again"
-    for program in (DAEMON[0], TOOL[0]):
+    for program in (DAEMON[0], TOOL[0], JUDGE[0])[:3 if wants_judge else 2]:
         if not shutil.which(program):
-            return f"{program} isn't there: make build makes it; or name another one by DAEMON and TOOL"
+            return f"{program} isn't there: make build makes it; or name another one by DAEMON, TOOL and JUDGE"
     return None
 
 

@@ -1,0 +1,246 @@
+-- What is kept while a tape is read, and which fault a line has. Each test stands for a condition of the laws on links.
+use Rattle.std.specs.Prelude.{ℕ, ◌+◌, ◌-◌, Bool, true, false, cond, not, ◌&&◌, ◌||◌, List, [], ◌∷◌, ◌++◌, length, drop, Option, None, Some, is_none, is_some, find, nat_eq, nat_le, nat_lt, replicate, reverse, slice_get, slice_index_or, slice_set}
+use Rattle.std.specs.List.{list_any}
+use Rattle.std.specs.Option.{option_map_or}
+use Rattle.law_quorum.specs.Batches.{Batch, StoredImage, offset_of_image, behind}
+use Rattle.law_quorum.specs.Changes.{Leader, base_of_first, is_leaderless, leads_by}
+use Rattle.law_quorum.specs.Nodes.{Node, after_loss, committed, loaded, new_node, told_to_lead}
+use Rattle.law_link.specs.Links.{Call, Held, Keep, Link, idle}
+use Rattle.law_tape.specs.Equality.{begins_with, same_batch, same_bytes, same_call, same_held, same_keep}
+use Rattle.law_tape.specs.declared.fault.Fault.{Fault}
+use Rattle.law_tape.specs.declared.fault.Fault.TheVariants as faults
+use Rattle.law_tape.specs.declared.line.Seen.{Seen}
+use Rattle.law_tape.specs.declared.line.StoreChange.{StoreChange}
+use Rattle.law_tape.specs.declared.line.StoreChange.TheVariants as changes
+use Rattle.law_tape.specs.declared.line.LinkAct.{LinkAct}
+use Rattle.law_tape.specs.declared.line.LinkAct.TheVariants as acts
+use Rattle.law_tape.specs.declared.line.Line.{Line}
+use Rattle.law_tape.specs.declared.line.Line.TheVariants as lines
+
+-- a leadership: its node, its epoch, the revision of its key, and the log's end when it began
+pub record Taken : Type 0 where
+  pub node : ℕ
+  pub epoch : ℕ
+  pub made : ℕ
+  pub start : ℕ
+
+-- the store's keys, its log, and the leaderships in the order in which they began
+pub record StoreState : Type 0 where
+  pub revision : ℕ
+  pub end : ℕ
+  pub epoch : ℕ
+  pub leader : Option Leader
+  pub image : Option StoredImage
+  pub log : List Batch
+  pub taken : List Taken
+
+-- a node's daemon and its link, whose lists of what happened have the latest last
+pub record Side : Type 0 where
+  pub node : Node
+  pub link : Link
+
+infix 5 refuse◌when◌else◌
+abbrev pub refuse◌when◌else◌ : Fault → Bool → Option Fault → Option Fault
+refuse fault when test else rest = cond test (Some fault) rest
+
+-- ---- tests
+
+-- what the folds of the log have behind their places, which they begin with; nothing where there is none of a place
+abbrev pub digest_at : List StoredImage → ℕ → List ℕ
+digest_at [] place = []
+digest_at (fold ∷ folds) place = cond (nat_eq fold.offset place) (drop 1 fold.bytes) (digest_at folds place)
+
+abbrev pub is_fold : List StoredImage → StoredImage → Bool
+is_fold folds image = same_bytes image.bytes (image.offset ∷ digest_at folds image.offset)
+
+-- a batch of the log ends at the place, or the log begins there
+abbrev pub is_boundary : ℕ → List Batch → ℕ → Bool
+is_boundary from log place = nat_eq from place || list_any (λ b. nat_eq (b.base + b.count) place) log
+
+abbrev pub has_at : StoreState → Batch → ℕ → Bool
+has_at t b place = nat_eq b.base place && list_any (same_batch b) t.log
+
+-- the place behind batches that begin at a place, where they meet and none is empty
+abbrev pub end_behind : ℕ → List Batch → Option ℕ
+end_behind from [] = Some from
+end_behind from (b ∷ bs) = cond (nat_eq b.base from && nat_lt 0 b.count) (end_behind (b.base + b.count) bs) None
+
+abbrev pub is_number : Option ℕ → ℕ → Bool
+is_number None n = false
+is_number (Some m) n = nat_eq m n
+
+abbrev pub is_first : List Batch → Batch → Bool
+is_first list b = option_map_or (λ first. same_batch first b) false (slice_get list 0)
+
+abbrev pub is_empty : List Batch → Bool
+is_empty list = nat_eq (length list) 0
+
+abbrev pub holds : Option Held → Held → Bool
+holds None h = false
+holds (Some held) h = same_held held h
+
+abbrev pub holds_epoch : Option Held → ℕ → Bool
+holds_epoch None epoch = false
+holds_epoch (Some held) epoch = nat_eq held.epoch epoch
+
+abbrev pub took : List Taken → ℕ → Held → Bool
+took [] k h = false
+took (l ∷ ls) k h = cond (nat_eq l.epoch h.epoch) (nat_eq l.node k && nat_eq l.made h.made && nat_eq l.start h.start) (took ls k h)
+
+-- ---- changes of the store
+
+abbrev pub calls_of : StoreChange → ℕ
+calls_of (changes.Append node call) = node
+calls_of (changes.Drop node keep) = node
+calls_of _ = 0
+
+-- a change that leaves the log's end and the least place under which a batch stands so
+abbrev pub seen_fault : StoreState → Seen → Option ℕ → ℕ → Option Fault
+seen_fault t seen end first =
+    refuse faults.OtherRevision when not (nat_eq (t.revision + 1) seen.revision) else
+    refuse faults.OtherEnd when not (is_number end seen.end) else
+    refuse faults.OtherFirst when not (nat_eq first seen.first) else None
+
+abbrev pub change_fault : StoreState → Link → Seen → StoreChange → Option Fault
+change_fault t link seen (changes.Append node call) =
+    refuse faults.NoCall when not (list_any (same_call call) (reverse link.calls)) else
+    refuse faults.OtherKeys when not (leads_by t.leader call.made && nat_eq t.end (base_of_first call.group)) else
+    seen_fault t seen (end_behind t.end call.group) (offset_of_image t.image)
+change_fault t link seen (changes.Drop node keep) =
+    refuse faults.NoKeep when not (list_any (same_keep keep) (reverse link.keeps)) else
+    refuse faults.OtherKeys when not (nat_eq (offset_of_image t.image) keep.before) else
+    seen_fault t seen (Some t.end) keep.image.offset
+change_fault t link seen (changes.Campaign node token epoch) =
+    refuse faults.OtherKeys when not (is_leaderless t.leader && nat_eq (t.epoch + 1) epoch) else
+    seen_fault t seen (Some t.end) (offset_of_image t.image)
+change_fault t link seen changes.Expire = seen_fault t seen (Some t.end) (offset_of_image t.image)
+change_fault t link seen changes.Other = seen_fault t seen (Some t.end) (offset_of_image t.image)
+
+abbrev pub store_after : StoreState → Seen → StoreChange → StoreState
+store_after t seen (changes.Append node call) = record t { revision = seen.revision; end = seen.end; log = t.log ++ call.group }
+store_after t seen (changes.Drop node keep) = record t { revision = seen.revision; image = Some keep.image }
+store_after t seen (changes.Campaign node token epoch) = record t {
+  revision = seen.revision;
+  leader = Some (record { node = node; token = token; made = seen.revision });
+  epoch = epoch;
+  taken = t.taken ++ record { node = node; epoch = epoch; made = seen.revision; start = t.end } ∷ [];
+}
+store_after t seen changes.Expire = record t { revision = seen.revision; leader = None }
+store_after t seen changes.Other = record t { revision = seen.revision }
+
+-- ---- what links and daemons do
+
+abbrev pub act_fault : List StoredImage → StoreState → ℕ → Side → LinkAct → Option Fault
+act_fault folds t k s (acts.Win h) =
+    refuse faults.Holds when is_some s.link.held else
+    refuse faults.ToldBefore when list_any (λ epoch. nat_eq epoch h.epoch) (reverse s.link.won) else
+    refuse faults.NotTaken when not (took (reverse t.taken) k h) else None
+act_fault folds t k s (acts.Read b) =
+    refuse faults.Leads when is_some s.node.leads else
+    refuse faults.NotInLog when not (has_at t b s.node.end) else None
+act_fault folds t k s (acts.Take image) =
+    refuse faults.Leads when is_some s.node.leads else
+    refuse faults.OlderImage when not (nat_le s.node.end image.offset) else
+    refuse faults.NoBoundary when not (is_boundary 0 t.log image.offset) else
+    refuse faults.OtherImage when not (is_fold folds image) else None
+act_fault folds t k s (acts.Begin h) =
+    refuse faults.NotHeld when not (holds s.link.held h) else
+    refuse faults.Leads when is_some s.node.leads else
+    refuse faults.OtherPlace when not (nat_eq s.node.end h.start) else None
+act_fault folds t k s (acts.Write b) =
+    refuse faults.NotLeading when not (is_number s.node.leads b.epoch) else
+    refuse faults.OtherPlace when not (is_number (end_behind s.node.end s.node.own) b.base) else
+    refuse faults.Empty when not (nat_lt 0 b.count) else None
+act_fault folds t k s (acts.Stray b) =
+    refuse faults.NeverLed when not (list_any (λ epoch. nat_eq epoch b.epoch) (reverse s.link.won)) else
+    refuse faults.StillHeld when holds_epoch s.link.held b.epoch else None
+act_fault folds t k s (acts.Hear b) =
+    refuse faults.NotNext when not (is_first s.link.pipe b) else
+    refuse faults.NotLeading when not (is_number s.node.leads b.epoch) else None
+act_fault folds t k s (acts.Pass b) =
+    refuse faults.NotNext when not (is_first s.link.pipe b) else
+    refuse faults.OfTheEpoch when is_number s.node.leads b.epoch else None
+act_fault folds t k s (acts.Ask h group) =
+    refuse faults.NotHeld when not (holds s.link.held h) else
+    refuse faults.NotLeading when not (is_number s.node.leads h.epoch) else
+    refuse faults.UnderWay when not (is_empty s.link.asked) else
+    refuse faults.Empty when is_empty group else
+    refuse faults.NotNext when not (begins_with s.link.waits group) else None
+act_fault folds t k s (acts.Settle h end) =
+    refuse faults.NotHeld when not (holds s.link.held h) else
+    refuse faults.NotLeading when not (is_number s.node.leads h.epoch) else
+    refuse faults.NoneAsked when is_empty s.link.asked else
+    refuse faults.NotInLog when not (option_map_or (λ b. has_at t b s.node.end) false (slice_get s.link.asked 0)) else
+    refuse faults.OtherEnd when not (is_number (end_behind s.node.end s.link.asked) end) else None
+act_fault folds t k s (acts.Give keep) =
+    refuse faults.OlderImage when not (nat_lt keep.before keep.image.offset) else
+    refuse faults.NoBoundary when not (is_boundary (offset_of_image s.node.image) s.node.batches keep.image.offset) else
+    refuse faults.OtherImage when not (is_fold folds keep.image) else None
+act_fault folds t k s (acts.GiveUp epoch) = refuse faults.NotLeading when not (is_number s.node.leads epoch) else None
+act_fault folds t k s acts.LetGo = refuse faults.Leads when is_some s.node.leads else None
+act_fault folds t k s acts.Renew = None
+
+abbrev pub node_after : Node → Link → LinkAct → Node
+node_after n link (acts.Read b) = record n { batches = n.batches ++ b ∷ []; end = b.base + b.count }
+node_after n link (acts.Take image) = loaded n image
+node_after n link (acts.Begin h) = told_to_lead n h.epoch
+node_after n link (acts.Write b) = record n { own = n.own ++ b ∷ [] }
+node_after n link (acts.Settle h end) = committed n end
+node_after n link (acts.GiveUp epoch) = after_loss n
+node_after n link acts.Renew = new_node
+node_after n link _ = n
+
+abbrev pub link_after : Link → LinkAct → Link
+link_after l (acts.Win h) = record l { held = Some h; asked = []; waits = []; won = l.won ++ h.epoch ∷ [] }
+link_after l (acts.Begin h) = record l { asked = []; waits = [] }
+link_after l (acts.Write b) = record l { pipe = l.pipe ++ b ∷ [] }
+link_after l (acts.Stray b) = record l { pipe = l.pipe ++ b ∷ [] }
+link_after l (acts.Hear b) = record l { pipe = drop 1 l.pipe; waits = l.waits ++ b ∷ [] }
+link_after l (acts.Pass b) = record l { pipe = drop 1 l.pipe }
+link_after l (acts.Ask h group) = record l { asked = group; waits = drop (length group) l.waits; calls = l.calls ++ record { epoch = h.epoch; made = h.made; group = group } ∷ [] }
+link_after l (acts.Settle h end) = record l { asked = [] }
+link_after l (acts.Give keep) = record l { keeps = l.keeps ++ keep ∷ [] }
+link_after l (acts.GiveUp epoch) = idle l
+link_after l acts.LetGo = idle l
+link_after l acts.Renew = record (idle l) { pipe = [] }
+link_after l _ = l
+
+abbrev pub side_after : Side → LinkAct → Side
+side_after s act = record { node = node_after s.node s.link act; link = link_after s.link act }
+
+-- ---- a tape
+
+pub record TapeState : Type 0 where
+  pub store : StoreState
+  -- by the numbers of the nodes
+  pub sides : List Side
+
+abbrev pub new_side : Side
+new_side = record { node = new_node; link = record { held = None; asked = []; waits = []; pipe = []; won = []; calls = []; keeps = [] } }
+
+-- a store without keys, and the sides of nodes 0 to 255
+abbrev pub tape_begins : TapeState
+tape_begins = record {
+  store = record { revision = 0; end = 0; epoch = 0; leader = None; image = None; log = []; taken = [] };
+  sides = replicate 256 new_side;
+}
+
+abbrev pub side_of : List Side → ℕ → Side
+side_of sides k = slice_index_or sides k new_side
+
+abbrev pub line_fault : List StoredImage → TapeState → Line → Option Fault
+line_fault folds s (lines.Store seen change) = change_fault s.store (side_of s.sides (calls_of change)).link seen change
+line_fault folds s (lines.Link k act) = act_fault folds s.store k (side_of s.sides k) act
+
+abbrev pub state_after : TapeState → Line → TapeState
+state_after s (lines.Store seen change) = record s { store = store_after s.store seen change }
+state_after s (lines.Link k act) = record s { sides = slice_set s.sides k (side_after (side_of s.sides k) act) }
+
+-- the number of the first line that isn't allowed, from 0 on, and why
+abbrev pub first_refused : List StoredImage → ℕ → TapeState → List Line → Option (ℕ × Fault)
+first_refused folds at s [] = None
+first_refused folds at s (line ∷ lines') = refusal_or (line_fault folds s line)
+  where
+    refusal_or : Option Fault → Option (ℕ × Fault)
+    refusal_or None = first_refused folds (at + 1) (state_after s line) lines'
+    refusal_or (Some fault) = Some (at, fault)
