@@ -1,15 +1,14 @@
--- What is kept while a tape is read stands for what the laws speak of.
+-- What is kept while a tape is read shows what the laws speak of.
 use Rattle.std.proofs.Common.{◌≡◌, ◌∙◌, sym, ℕ, ◌+◌, ◌<◌, ◌≤◌, Bool, true, false, cond, List, [], ◌∷◌, ◌++◌, refl, ap, subst, arith, inl, inr, ◌⊎◌, map, reverse}
 use Rattle.std.proofs.lemmas.Bool.{eqb-true}
-use Rattle.std.proofs.lemmas.List.{reverse-append}
-use Rattle.std.specs.Prelude.{◌&&◌, ◌||◌, not, length, drop, Option, None, Some, is_some, is_none, nat_eq, nat_le, nat_lt, slice_get, slice_set, unwrap_or}
-use Rattle.std.specs.List.{list_any}
+use Rattle.std.proofs.lemmas.Bool.Decides.{nat_tests}
+use Rattle.std.proofs.lemmas.List.{get_or-set_same, get_or-set_other}
+use Rattle.std.specs.Prelude.{length, Option, None, Some, nat_eq, slice_index_or, slice_set}
 use Rattle.law_quorum.specs.Batches.{Batch, StoredImage, behind, offset_of_image}
 use Rattle.law_quorum.specs.History.{Leadership, Point}
 use Rattle.law_quorum.specs.Laws.{IsImageOf}
-use Rattle.law_quorum.specs.Nodes.{Node}
-use Rattle.law_link.specs.Links.{Call, Has, Held, Keep, Link, Web}
-use Rattle.law_tape.specs.Rules.{Side, StoreState, Taken, TapeState, side_of}
+use Rattle.law_link.specs.Links.{Link, Web}
+use Rattle.law_tape.specs.Rules.{Side, StoreState, Taken, TapeState, new_side, side_of}
 use Rattle.law_tape.specs.Tapes.{fold_of}
 
 -- the lists of what happened, the latest first
@@ -37,10 +36,9 @@ pub record Shows (folds : List StoredImage) (w : Web) (s : TapeState) : Type 0 w
   -- the place of an image is told by its bytes
   pub loaded : (k : ℕ) (gone : List Batch) → IsImageOf (fold_of folds) (w.cluster.nodes k).image gone → behind 0 gone ≡ offset_of_image (w.cluster.nodes k).image
 
--- ---- sides by their numbers
-
-abbrev with_side : List Side → ℕ → Side → ℕ → Side
-with_side sides k side j = cond (nat_eq k j) side (side_of sides j)
-
 pub side_set : (sides : List Side) (k : ℕ) (side : Side) → k < length sides → (j : ℕ) → side_of (slice_set sides k side) j ≡ cond (nat_eq k j) side (side_of sides j)
-side_set sides k side low j = ?
+side_set sides k side low j = by (nat_eq k j) refl
+  where
+    by : (t : Bool) → nat_eq k j ≡ t → side_of (slice_set sides k side) j ≡ cond t side (side_of sides j)
+    by true e = subst (λ (i : ℕ). side_of (slice_set sides k side) i ≡ side) (eqb-true k j e) (get_or-set_same sides k side new_side low)
+    by false e = get_or-set_other sides k j side new_side (λ same. absurd (grind (arith, nat_tests)))

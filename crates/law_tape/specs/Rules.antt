@@ -1,10 +1,10 @@
 -- What is kept while a tape is read, and which fault a line has. Each test stands for a condition of the laws on links.
-use Rattle.std.specs.Prelude.{ℕ, ◌+◌, ◌-◌, Bool, true, false, cond, not, ◌&&◌, ◌||◌, List, [], ◌∷◌, ◌++◌, length, drop, Option, None, Some, is_none, is_some, find, nat_eq, nat_le, nat_lt, replicate, reverse, slice_get, slice_index_or, slice_set}
+use Rattle.std.specs.Prelude.{ℕ, ◌+◌, ◌-◌, Bool, true, false, cond, not, ◌&&◌, ◌||◌, List, [], ◌∷◌, ◌++◌, length, drop, Option, None, Some, is_some, find, nat_eq, nat_le, nat_lt, replicate, reverse, slice_get, slice_index_or, slice_set, take}
 use Rattle.std.specs.List.{list_any}
 use Rattle.std.specs.Option.{option_map_or}
 use Rattle.law_quorum.specs.Batches.{Batch, StoredImage, offset_of_image, behind}
 use Rattle.law_quorum.specs.Changes.{Leader, base_of_first, is_leaderless, leads_by}
-use Rattle.law_quorum.specs.Nodes.{Node, after_loss, committed, loaded, new_node, told_to_lead}
+use Rattle.law_quorum.specs.Nodes.{Node, after_loss, loaded, new_node, told_to_lead}
 use Rattle.law_link.specs.Links.{Call, Held, Keep, Link, idle}
 use Rattle.law_tape.specs.Equality.{begins_with, same_batch, same_bytes, same_call, same_held, same_keep}
 use Rattle.law_tape.specs.declared.fault.Fault.{Fault}
@@ -70,7 +70,7 @@ is_number None n = false
 is_number (Some m) n = nat_eq m n
 
 abbrev pub is_first : List Batch → Batch → Bool
-is_first list b = option_map_or (λ first. same_batch first b) false (slice_get list 0)
+is_first list b = option_map_or (λ first. same_batch first b) (slice_get list 0) false
 
 abbrev pub is_empty : List Batch → Bool
 is_empty list = nat_eq (length list) 0
@@ -83,9 +83,11 @@ abbrev pub holds_epoch : Option Held → ℕ → Bool
 holds_epoch None epoch = false
 holds_epoch (Some held) epoch = nat_eq held.epoch epoch
 
+abbrev pub is_of : ℕ → Held → Taken → Bool
+is_of k h l = nat_eq l.node k && nat_eq l.made h.made && nat_eq l.start h.start
+
 abbrev pub took : List Taken → ℕ → Held → Bool
-took [] k h = false
-took (l ∷ ls) k h = cond (nat_eq l.epoch h.epoch) (nat_eq l.node k && nat_eq l.made h.made && nat_eq l.start h.start) (took ls k h)
+took ls k h = option_map_or (is_of k h) (find (λ l. nat_eq l.epoch h.epoch) ls) false
 
 -- ---- changes of the store
 
@@ -170,7 +172,7 @@ act_fault folds t k s (acts.Settle h end) =
     refuse faults.NotHeld when not (holds s.link.held h) else
     refuse faults.NotLeading when not (is_number s.node.leads h.epoch) else
     refuse faults.NoneAsked when is_empty s.link.asked else
-    refuse faults.NotInLog when not (option_map_or (λ b. has_at t b s.node.end) false (slice_get s.link.asked 0)) else
+    refuse faults.NotInLog when not (option_map_or (λ b. has_at t b s.node.end) (slice_get s.link.asked 0) false) else
     refuse faults.OtherEnd when not (is_number (end_behind s.node.end s.link.asked) end) else None
 act_fault folds t k s (acts.Give keep) =
     refuse faults.OlderImage when not (nat_lt keep.before keep.image.offset) else
@@ -185,7 +187,12 @@ node_after n link (acts.Read b) = record n { batches = n.batches ++ b ∷ []; en
 node_after n link (acts.Take image) = loaded n image
 node_after n link (acts.Begin h) = told_to_lead n h.epoch
 node_after n link (acts.Write b) = record n { own = n.own ++ b ∷ [] }
-node_after n link (acts.Settle h end) = committed n end
+node_after n link (acts.Settle h end) = record n {
+  batches = n.batches ++ take (length link.asked) n.own;
+  end = end;
+  settled = n.settled ++ take (length link.asked) n.own;
+  own = drop (length link.asked) n.own;
+}
 node_after n link (acts.GiveUp epoch) = after_loss n
 node_after n link acts.Renew = new_node
 node_after n link _ = n
@@ -236,11 +243,11 @@ abbrev pub state_after : TapeState → Line → TapeState
 state_after s (lines.Store seen change) = record s { store = store_after s.store seen change }
 state_after s (lines.Link k act) = record s { sides = slice_set s.sides k (side_after (side_of s.sides k) act) }
 
+abbrev pub refusal_or : Option Fault → ℕ → Option (ℕ × Fault) → Option (ℕ × Fault)
+refusal_or None at rest = rest
+refusal_or (Some fault) at rest = Some (at, fault)
+
 -- the number of the first line that isn't allowed, from 0 on, and why
 abbrev pub first_refused : List StoredImage → ℕ → TapeState → List Line → Option (ℕ × Fault)
 first_refused folds at s [] = None
-first_refused folds at s (line ∷ lines') = refusal_or (line_fault folds s line)
-  where
-    refusal_or : Option Fault → Option (ℕ × Fault)
-    refusal_or None = first_refused folds (at + 1) (state_after s line) lines'
-    refusal_or (Some fault) = Some (at, fault)
+first_refused folds at s (line ∷ lines') = refusal_or (line_fault folds s line) at (first_refused folds (at + 1) (state_after s line) lines')

@@ -17,9 +17,9 @@ pub struct Batch {
 
 impl Model for Batch {
     ghost use Rattle.std.specs.Prelude.{[], ◌∷◌};
-    ghost use Rattle.law_quorum.specs.Batches as batches;
+    ghost use Rattle.law_quorum.specs.Batches as log_words;
 
-    ghost Value = { batches.Batch };
+    ghost Value = { log_words.Batch };
 
     ghost view = { λ b. record { base = b.base; count = b.count; epoch = b.epoch; bytes = b.digest ∷ [] } };
 }
@@ -124,9 +124,9 @@ pub struct Held {
 }
 
 impl Model for Held {
-    ghost use Rattle.law_link.specs.Links as links;
+    ghost use Rattle.law_link.specs.Links as link_words;
 
-    ghost Value = { links.Held };
+    ghost Value = { link_words.Held };
 
     ghost view = { λ h. record { epoch = h.epoch; made = h.made; start = h.start } };
 }
@@ -160,9 +160,9 @@ pub struct Call {
 }
 
 impl Model for Call {
-    ghost use Rattle.law_link.specs.Links as links;
+    ghost use Rattle.law_link.specs.Links as link_words;
 
-    ghost Value = { links.Call };
+    ghost Value = { link_words.Call };
 
     ghost view = { λ c. record { epoch = c.epoch; made = c.made; group = c.group } };
 }
@@ -184,9 +184,9 @@ pub struct Keep {
 }
 
 impl Model for Keep {
-    ghost use Rattle.law_link.specs.Links as links;
+    ghost use Rattle.law_link.specs.Links as link_words;
 
-    ghost Value = { links.Keep };
+    ghost Value = { link_words.Keep };
 
     ghost view = { λ k. record { before = k.before; image = k.image } };
 }

@@ -1,6 +1,6 @@
 //! Which line of a tape is the first that isn't allowed.
 
-ghost use Rattle.std.specs.Prelude.{◌≡◌, IfOk, OnOk, Option, ℕ, replicate};
+ghost use Rattle.std.specs.Prelude.{◌≡◌, IfOk, OnOk, replicate};
 ghost use Rattle.std.specs.Option.{option_map};
 ghost use Rattle.law_tape.specs.Rules.{first_refused, line_fault, new_side, state_after, tape_begins};
 
@@ -10,7 +10,7 @@ use crate::line::Line;
 use crate::seat::Seat;
 use crate::store::Store;
 use kr_base::NoMemory;
-use std::alloc::AllocError;
+use std::alloc::{AllocError, Global};
 use std::marker::Model;
 
 /// How many nodes a tape may tell of.
@@ -21,15 +21,6 @@ const NODES: usize = 256;
 pub struct Refusal {
     pub line: usize,
     pub fault: Fault,
-}
-
-impl Model for Refusal {
-    ghost use Rattle.std.specs.Prelude.{ℕ};
-    ghost use Rattle.law_tape.specs.declared.fault as faults;
-
-    ghost Value = { ℕ × faults.Fault.Fault };
-
-    ghost view = { λ r. (r.line, r.fault) };
 }
 
 /// What the lines so far show.
@@ -69,12 +60,12 @@ impl Tape {
         }
     }
 
-    fn take(&mut self, line: &Line) -> Result<(), AllocError>
+    fn take(&mut self, alloc: Global, line: &Line) -> Result<(), AllocError>
         ensures { OnOk result (self.new ≡ state_after self.old line.now) }
     {
         match line {
             Line::Store { seen, change } => self.store.take(seen, change),
-            Line::Link { node, act } => self.seats[*node as usize].take(act),
+            Line::Link { node, act } => self.seats[*node as usize].take(alloc, act),
         }
     }
 }
@@ -83,7 +74,7 @@ fn new_seats(alloc: Global) -> Result<Vec<Seat>, AllocError>
     ensures { IfOk result (λ seats. seats.items ≡ replicate 256 new_side) }
 {
     let mut seats = Vec::new(alloc);
-    for _ in 0..NODES {
+    for _node in 0..NODES {
         seats.push(Seat::new(alloc))?;
     }
     Ok(seats)
@@ -91,14 +82,14 @@ fn new_seats(alloc: Global) -> Result<Vec<Seat>, AllocError>
 
 /// The first line that isn't allowed, and why; none where each is. The folds are the images that the log's beginnings give.
 pub fn judge(alloc: Global, folds: &[Image], lines: &[Line]) -> Result<Option<Refusal>, NoMemory>
-    ensures { IfOk result (λ answer. answer ≡ first_refused folds.now 0 tape_begins lines.now) }
+    ensures { IfOk result (λ answer. option_map (λ refusal. (refusal.line, refusal.fault)) answer ≡ first_refused folds.now 0 tape_begins lines.now) }
 {
     let mut tape = Tape::new(alloc)?;
     for (at, line) in lines.iter().enumerate() {
         if let Some(fault) = tape.fault(folds, line) {
             return Ok(Some(Refusal { line: at, fault }));
         }
-        tape.take(line)?;
+        tape.take(alloc, line)?;
     }
     Ok(None)
 }

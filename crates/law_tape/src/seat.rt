@@ -1,18 +1,20 @@
 //! A node's daemon and its link, as a tape shows them.
 
-ghost use Rattle.std.specs.Prelude.{◌≡◌, ◌++◌, [], ◌∷◌, OnOk, IfOk, take, drop, length, nat_eq, is_some};
-ghost use Rattle.std.specs.Prelude.{reverse};
+ghost use Rattle.std.specs.Prelude.{◌≡◌, ℕ, [], ◌++◌, OnOk, IfOk, take, drop, reverse, slice_get};
 ghost use Rattle.std.specs.List.{list_any};
+ghost use Rattle.std.specs.Option.{option_map_or};
+ghost use Rattle.law_quorum.specs.Batches as log_words;
 ghost use Rattle.law_quorum.specs.Batches.{offset_of_image};
-ghost use Rattle.law_quorum.specs.Nodes.{ended_batches, unended_batches};
+ghost use Rattle.law_link.specs.Links as link_words;
 ghost use Rattle.law_tape.specs.Equality.{same_call, same_keep};
-ghost use Rattle.law_tape.specs.Rules.{act_fault, end_behind, holds, holds_epoch, is_boundary, is_empty, is_first, is_fold, is_number, new_side, side_after};
+ghost use Rattle.law_tape.specs.Rules.{StoreState, act_fault, has_at, holds, holds_epoch, is_first, is_fold, is_number, new_side, side_after};
 
 use crate::batch::{Batch, Call, Held, Image, Keep, begins_with};
 use crate::fault::Fault;
 use crate::line::LinkAct;
 use crate::store::{Store, end_behind, has_boundary, is_number};
-use std::alloc::AllocError;
+use kr_defs::Rows;
+use std::alloc::{AllocError, Global};
 use std::marker::Model;
 
 /// What a node's daemon was handed and wrote, and what its link knows. The lists of what happened have the latest last.
@@ -311,9 +313,9 @@ impl Seat {
 
     // The first batch of the append under way stands at the daemon's end.
     fn stands(&self, store: &Store) -> bool
-        ensures { result ≡ option_map_or (λ b. has_at store.now b self.now.node.end) false (slice_get self.now.link.asked 0) }
+        ensures { result ≡ option_map_or (λ b. has_at store.now b self.now.node.end) (slice_get self.now.link.asked 0) false }
     {
-        match self.asked.get(0) {
+        match self.asked.first() {
             Some(first) => store.has_at(first, self.end),
             None => false,
         }
@@ -333,7 +335,7 @@ impl Seat {
 fn is_first(list: &[Batch], batch: &Batch) -> bool
     ensures { result ≡ is_first list.now batch.now }
 {
-    match list.get(0) {
+    match list.first() {
         Some(first) => first.is(batch),
         None => false,
     }
@@ -355,7 +357,7 @@ fn is_fold(folds: &[Image], image: &Image) -> bool
 
 impl Seat {
     /// Takes an act that is allowed.
-    pub fn take(&mut self, act: &LinkAct) -> Result<(), AllocError>
+    pub fn take(&mut self, alloc: Global, act: &LinkAct) -> Result<(), AllocError>
         ensures { OnOk result (self.new ≡ side_after self.old act.now) }
     {
         match act {
@@ -371,13 +373,10 @@ impl Seat {
             }
             LinkAct::Write(batch) => self.write(batch),
             LinkAct::Stray(batch) => self.stray(batch),
-            LinkAct::Hear(batch) => self.hear(batch),
-            LinkAct::Pass(_) => {
-                self.pass();
-                Ok(())
-            }
-            LinkAct::Ask { held, group } => self.ask(held, group.as_slice()),
-            LinkAct::Settle { end, .. } => self.settle(*end),
+            LinkAct::Hear(batch) => self.hear(alloc, batch),
+            LinkAct::Pass(_) => self.pass(alloc),
+            LinkAct::Ask { held, group } => self.ask(alloc, held, group.as_slice()),
+            LinkAct::Settle { end, .. } => self.settle(alloc, *end),
             LinkAct::Give(keep) => self.give(keep),
             LinkAct::GiveUp { .. } => {
                 self.give_up();
@@ -447,44 +446,41 @@ impl Seat {
         Ok(())
     }
 
-    fn hear(&mut self, batch: &Batch) -> Result<(), AllocError>
+    fn hear(&mut self, alloc: Global, batch: &Batch) -> Result<(), AllocError>
         ensures { OnOk result (self.new ≡ side_after self.old (LinkAct.Hear batch.now)) }
     {
         self.waits.push(batch.copied())?;
-        drop_first(&mut self.pipe, 1);
+        self.pipe = split(alloc, &mut self.pipe, 1)?;
         Ok(())
     }
 
-    fn pass(&mut self)
-        ensures { (batch : batches.Batch) → self.new ≡ side_after self.old (LinkAct.Pass batch) }
+    fn pass(&mut self, alloc: Global) -> Result<(), AllocError>
+        ensures { (batch : log_words.Batch) → OnOk result (self.new ≡ side_after self.old (LinkAct.Pass batch)) }
     {
-        drop_first(&mut self.pipe, 1);
+        self.pipe = split(alloc, &mut self.pipe, 1)?;
+        Ok(())
     }
 
-    fn ask(&mut self, held: &Held, group: &[Batch]) -> Result<(), AllocError>
+    fn ask(&mut self, alloc: Global, held: &Held, group: &[Batch]) -> Result<(), AllocError>
         ensures { OnOk result (self.new ≡ side_after self.old (LinkAct.Ask held.now group.now)) }
     {
-        let mut asked = Vec::new(*self.asked.allocator());
-        append_copies(&mut asked, group)?;
-        self.asked.clear();
-        append_copies(&mut self.asked, group)?;
+        self.asked = copies(alloc, group)?;
+        self.waits = split(alloc, &mut self.waits, group.len())?;
         self.calls.push(Call {
             epoch: held.epoch,
             made: held.made,
-            group: Rows::from_vec(asked),
+            group: Rows::from_vec(copies(alloc, group)?),
         })?;
-        drop_first(&mut self.waits, group.len());
         Ok(())
     }
 
-    fn settle(&mut self, end: u64) -> Result<(), AllocError>
-        ensures { (held : links.Held) → OnOk result (self.new ≡ side_after self.old (LinkAct.Settle held end)) }
+    fn settle(&mut self, alloc: Global, end: u64) -> Result<(), AllocError>
+        ensures { (held : link_words.Held) → OnOk result (self.new ≡ side_after self.old (LinkAct.Settle held end)) }
     {
-        let count = ended_count(self.own.as_slice(), end as u128);
-        let own = self.own.split_off(count)?;
+        let rest = split(alloc, &mut self.own, self.asked.len())?;
         append_copies(&mut self.batches, self.own.as_slice())?;
         append_copies(&mut self.settled, self.own.as_slice())?;
-        self.own = own;
+        self.own = rest;
         self.end = end as u128;
         self.asked.clear();
         Ok(())
@@ -528,15 +524,15 @@ impl Seat {
     }
 }
 
-// Without its first batches.
-fn drop_first(list: &mut Vec<Batch>, count: usize)
-    ensures { list.new.items ≡ drop count list.old.items }
+// Keeps so many batches from the first on, and gives the others.
+fn split(alloc: Global, list: &mut Vec<Batch>, count: usize) -> Result<Vec<Batch>, AllocError>
+    ensures first { OnOk result (list.new.items ≡ take count list.old.items) }
+    ensures others { IfOk result (λ rest. rest.items ≡ drop count list.old.items) }
 {
-    for _ in 0..count {
-        if !list.is_empty() {
-            let _first = list.remove(0);
-        }
+    if list.len() <= count {
+        return Ok(Vec::new(alloc));
     }
+    list.split_off(count)
 }
 
 fn append_copies(list: &mut Vec<Batch>, more: &[Batch]) -> Result<(), AllocError>
@@ -548,16 +544,10 @@ fn append_copies(list: &mut Vec<Batch>, more: &[Batch]) -> Result<(), AllocError
     Ok(())
 }
 
-// How many batches from the first on end at the place or below.
-fn ended_count(own: &[Batch], end: u128) -> usize
-    ensures within { result ≤ length own.now }
-    ensures ended { take result own.now ≡ ended_batches end own.now }
-    ensures others { drop result own.now ≡ unended_batches end own.now }
+fn copies(alloc: Global, batches: &[Batch]) -> Result<Vec<Batch>, AllocError>
+    ensures { IfOk result (λ list. list.items ≡ batches.now) }
 {
-    for at in 0..own.len() {
-        if end < own[at].end() {
-            return at;
-        }
-    }
-    own.len()
+    let mut list = Vec::new(alloc);
+    append_copies(&mut list, batches)?;
+    Ok(list)
 }

@@ -1,18 +1,18 @@
 //! The store as a tape shows it.
 
-ghost use Rattle.std.specs.Prelude.{◌≡◌, ◌+◌, ◌++◌, [], ◌∷◌, nat_eq, ℕ, Option, OnOk};
-ghost use Rattle.std.specs.Prelude.{reverse};
+ghost use Rattle.std.specs.Prelude.{◌≡◌, ◌++◌, [], ◌∷◌, ℕ, true, OnOk, reverse};
 ghost use Rattle.std.specs.List.{list_any};
-ghost use Rattle.law_quorum.specs.Batches.{offset_of_image, StoredImage};
-ghost use Rattle.law_quorum.specs.Changes.{base_of_first, leads_by, is_leaderless};
-ghost use Rattle.law_tape.specs.Equality.{same_batch, same_call, same_keep};
-ghost use Rattle.law_tape.specs.Rules.{change_fault, end_behind, has_at, is_boundary, is_number, seen_fault, store_after, took};
+ghost use Rattle.law_quorum.specs.Batches.{offset_of_image};
+ghost use Rattle.law_quorum.specs.Changes.{base_of_first, leads_by};
+ghost use Rattle.law_link.specs.Links as link_words;
+ghost use Rattle.law_tape.specs.Equality.{same_batch};
+ghost use Rattle.law_tape.specs.Rules.{change_fault, end_behind, has_at, is_boundary, is_number, is_of, seen_fault, store_after, took};
 
 use crate::batch::{Batch, Call, Held, Image, Keep};
 use crate::fault::Fault;
 use crate::line::{Seen, StoreChange};
 use crate::seat::Seat;
-use std::alloc::AllocError;
+use std::alloc::{AllocError, Global};
 use std::collections::BTreeMap;
 use std::marker::Model;
 
@@ -26,9 +26,9 @@ pub struct Log {
 
 impl Model for Log {
     ghost use Rattle.std.specs.Prelude.{List};
-    ghost use Rattle.law_quorum.specs.Batches as batches;
+    ghost use Rattle.law_quorum.specs.Batches as log_words;
 
-    ghost Value = { List batches.Batch };
+    ghost Value = { List log_words.Batch };
 
     ghost view = { λ s. s.list.items };
 }
@@ -164,6 +164,14 @@ impl Model for Leadership {
     ghost view = { λ l. record { node = l.node; epoch = l.epoch; made = l.made; start = l.start } };
 }
 
+impl Leadership {
+    fn is_of(&self, node: u8, held: &Held) -> bool
+        ensures { result ≡ is_of node held.now self.now }
+    {
+        self.node == node && self.made == held.made && self.start == held.start as u128
+    }
+}
+
 /// The store's keys, its log, and the leaderships that it saw.
 #[derive(Drop)]
 pub struct Store {
@@ -225,12 +233,10 @@ impl Store {
 fn took(taken: &[Leadership], node: u8, held: &Held) -> bool
     ensures { result ≡ took (reverse taken.now) node held.now }
 {
-    for one in taken.iter().rev() {
-        if one.epoch == held.epoch {
-            return one.node == node && one.made == held.made && one.start == held.start as u128;
-        }
+    match taken.iter().rev().find(|one| one.epoch == held.epoch) {
+        Some(one) => one.is_of(node, held),
+        None => false,
     }
-    false
 }
 
 // ---- changes
@@ -274,7 +280,7 @@ impl Store {
     }
 
     fn campaign_fault(&self, seen: &Seen, epoch: u64) -> Option<Fault>
-        ensures { (link : links.Link) (node token : ℕ) → result ≡ change_fault self.now link seen.now (StoreChange.Campaign node token epoch) }
+        ensures { (link : link_words.Link) (node token : ℕ) → result ≡ change_fault self.now link seen.now (StoreChange.Campaign node token epoch) }
     {
         if !(self.leader.is_none() && self.epoch as u128 + 1 == epoch as u128) {
             Some(Fault::OtherKeys)
