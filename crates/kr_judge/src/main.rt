@@ -21,7 +21,11 @@ fn main(rt: HostRuntime) -> Status {
     };
     let said = match judge(rt.alloc(), tape.folds.as_slice(), tape.lines.as_slice()) {
         Ok(None) => println!(rt; "none"),
-        Ok(Some(refusal)) => println!(rt; "line {}: {}", number(tape.folds.len(), refusal.line), refusal.fault),
+        Ok(Some(refusal)) => println!(rt;
+            "line {}: {}",
+            number(tape.folds.len(), refusal.line),
+            refusal.fault
+        ),
         Err(_) => return Status::NoMemory,
     };
     match said {

@@ -101,7 +101,10 @@ fn read_change(alloc: Global, words: &[&str]) -> Result<Option<TapeLine>, AllocE
         Some(parts) => parts,
         None => return Ok(None),
     };
-    match (seen_of(list.as_slice()), change(alloc, word[0], parts.as_slice())?) {
+    match (
+        seen_of(list.as_slice()),
+        change(alloc, word[0], parts.as_slice())?,
+    ) {
         (Some(seen), Some(change)) => Ok(Some(TapeLine::Happened(Line::Store { seen, change }))),
         _ => Ok(None),
     }
@@ -116,7 +119,10 @@ fn read_act(alloc: Global, words: &[&str]) -> Result<Option<TapeLine>, AllocErro
         Some(parts) => parts,
         None => return Ok(None),
     };
-    match (head[0].parse::<u8>(), act(alloc, head[1], parts.as_slice())?) {
+    match (
+        head[0].parse::<u8>(),
+        act(alloc, head[1], parts.as_slice())?,
+    ) {
         (Ok(node), Some(act)) => Ok(Some(TapeLine::Happened(Line::Link { node, act }))),
         _ => Ok(None),
     }

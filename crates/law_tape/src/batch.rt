@@ -7,7 +7,7 @@ use kr_defs::Rows;
 use std::marker::Model;
 
 /// A batch of records: the place of its first record, how many it has, its epoch, and a digest of its bytes.
-#[derive(Debug, Drop)]
+#[derive(Drop)]
 pub struct Batch {
     pub base: u64,
     pub count: u64,
@@ -41,7 +41,10 @@ impl Batch {
     pub fn is(&self, other: &Batch) -> bool
         ensures { result ≡ same_batch self.now other.now }
     {
-        self.base == other.base && self.count == other.count && self.epoch == other.epoch && self.digest == other.digest
+        self.base == other.base
+            && self.count == other.count
+            && self.epoch == other.epoch
+            && self.digest == other.digest
     }
 
     /// It begins at the place.
@@ -74,7 +77,7 @@ impl Batch {
 }
 
 /// An image that stands for a log up to a place, told by a digest of its bytes.
-#[derive(Debug, Drop)]
+#[derive(Drop)]
 pub struct Image {
     pub offset: u64,
     pub digest: u64,
@@ -116,7 +119,7 @@ impl Image {
 }
 
 /// A leadership that a node took: its epoch, the revision at which its key was made, and the log's end then.
-#[derive(Debug, Drop)]
+#[derive(Drop)]
 pub struct Held {
     pub epoch: u64,
     pub made: u64,
@@ -152,7 +155,7 @@ impl Held {
 }
 
 /// A call of an append: the epoch and the revision of the leadership for which it is made, and its batches.
-#[derive(Debug, Drop)]
+#[derive(Drop)]
 pub struct Call {
     pub epoch: u64,
     pub made: u64,
@@ -172,12 +175,14 @@ impl Call {
     pub fn is(&self, other: &Call) -> bool
         ensures { result ≡ same_call self.now other.now }
     {
-        self.epoch == other.epoch && self.made == other.made && are_same(self.group.as_slice(), other.group.as_slice())
+        self.epoch == other.epoch
+            && self.made == other.made
+            && are_same(self.group.as_slice(), other.group.as_slice())
     }
 }
 
 /// A call that puts an image in the place of batches, where the image that stands is of the place before.
-#[derive(Debug, Drop)]
+#[derive(Drop)]
 pub struct Keep {
     pub before: u64,
     pub image: Image,
@@ -214,12 +219,20 @@ impl Keep {
 pub fn are_same(some: &[Batch], others: &[Batch]) -> bool
     ensures { result ≡ same_batches some.now others.now }
 {
-    some.len() == others.len() && some.iter().zip(others.iter()).all(|(one, other)| one.is(other))
+    some.len() == others.len()
+        && some
+            .iter()
+            .zip(others.iter())
+            .all(|(one, other)| one.is(other))
 }
 
 /// The list begins with the others.
 pub fn begins_with(list: &[Batch], others: &[Batch]) -> bool
     ensures { result ≡ begins_with list.now others.now }
 {
-    others.len() <= list.len() && list.iter().zip(others.iter()).all(|(one, other)| one.is(other))
+    others.len() <= list.len()
+        && list
+            .iter()
+            .zip(others.iter())
+            .all(|(one, other)| one.is(other))
 }

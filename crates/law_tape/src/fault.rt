@@ -1,7 +1,7 @@
 //! Why a line of a tape isn't allowed.
 
 /// Why no link that keeps its rules can have brought a line about.
-#[derive(Clone, Copy, Debug, Drop, PartialEq, Eq, thiserror::Error)]
+#[derive(Debug, Drop, thiserror::Error)]
 pub enum Fault {
     #[error("no link called for this append")]
     NoCall,

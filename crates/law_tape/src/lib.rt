@@ -4,12 +4,12 @@
 
 mod batch;
 mod fault;
-mod judge;
 mod line;
 mod seat;
 mod store;
+mod verdict;
 
 pub use batch::{Batch, Call, Held, Image, Keep};
 pub use fault::Fault;
-pub use judge::{Refusal, judge};
 pub use line::{Line, LinkAct, Seen, StoreChange};
+pub use verdict::{Refusal, judge};

@@ -8,7 +8,7 @@ use kr_defs::Rows;
 
 /// What the store showed behind a change: the change's revision, the least place under which a batch stands (the log's end where none
 /// does), and the log's end.
-#[derive(Debug, Drop)]
+#[derive(Drop)]
 pub struct Seen {
     pub revision: u64,
     pub first: u64,
@@ -16,7 +16,7 @@ pub struct Seen {
 }
 
 /// A change that the store made. A node is told by its number.
-#[derive(Debug, Drop)]
+#[derive(Drop)]
 pub enum StoreChange {
     /// An append took effect.
     Append { node: u8, call: Call },
@@ -31,7 +31,7 @@ pub enum StoreChange {
 }
 
 /// What a node's link or its daemon did.
-#[derive(Debug, Drop)]
+#[derive(Drop)]
 pub enum LinkAct {
     /// The link was told that its campaign took effect.
     Win(Held),
@@ -64,7 +64,7 @@ pub enum LinkAct {
 }
 
 /// A line of a tape.
-#[derive(Debug, Drop)]
+#[derive(Drop)]
 pub enum Line {
     /// The store made a change.
     Store { seen: Seen, change: StoreChange },

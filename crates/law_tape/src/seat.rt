@@ -1,6 +1,6 @@
 //! A node's daemon and its link, as a tape shows them.
 
-ghost use Rattle.std.specs.Prelude.{◌≡◌, ℕ, [], ◌++◌, OnOk, IfOk, take, drop, reverse, slice_get};
+ghost use Rattle.std.specs.Prelude.{◌≡◌, ℕ, [], ◌++◌, false, OnOk, IfOk, take, drop, reverse, slice_get};
 ghost use Rattle.std.specs.List.{list_any};
 ghost use Rattle.std.specs.Option.{option_map_or};
 ghost use Rattle.law_quorum.specs.Batches as log_words;
@@ -252,7 +252,11 @@ impl Seat {
     {
         if !(keep.before < keep.image.offset) {
             Some(Fault::OlderImage)
-        } else if !has_boundary(self.loaded(), self.batches.as_slice(), keep.image.offset as u128) {
+        } else if !has_boundary(
+            self.loaded(),
+            self.batches.as_slice(),
+            keep.image.offset as u128,
+        ) {
             Some(Fault::NoBoundary)
         } else if !is_fold(folds, &keep.image) {
             Some(Fault::OtherImage)

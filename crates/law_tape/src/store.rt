@@ -263,7 +263,11 @@ impl Store {
         } else if !(self.leads_by(call.made) && self.end == base_of_first(call.group.as_slice())) {
             Some(Fault::OtherKeys)
         } else {
-            self.seen_fault(seen, end_behind(self.end, call.group.as_slice()), self.dropped())
+            self.seen_fault(
+                seen,
+                end_behind(self.end, call.group.as_slice()),
+                self.dropped(),
+            )
         }
     }
 
@@ -327,31 +331,65 @@ impl Store {
         ensures { OnOk result (self.new ≡ store_after self.old seen.now change.now) }
     {
         match change {
-            StoreChange::Append { call, .. } => {
-                self.log.append(call.group.as_slice())?;
-                self.end = seen.end as u128;
+            StoreChange::Append { call, .. } => self.append(seen, call),
+            StoreChange::Drop { keep, .. } => {
+                self.put_image(seen, keep);
+                Ok(())
             }
-            StoreChange::Drop { keep, .. } => self.image = Some(keep.image.copied()),
-            StoreChange::Campaign { node, token, epoch } => self.campaign(seen.revision, *node, *token, *epoch)?,
-            StoreChange::Expire => self.leader = None,
-            StoreChange::Other => {}
+            StoreChange::Campaign { node, token, epoch } => self.campaign(
+                seen, *node, *token, *epoch,
+            ),
+            StoreChange::Expire => {
+                self.expire(seen);
+                Ok(())
+            }
+            StoreChange::Other => {
+                self.revision = seen.revision;
+                Ok(())
+            }
         }
+    }
+
+    fn append(&mut self, seen: &Seen, call: &Call) -> Result<(), AllocError>
+        ensures { (node : ℕ) → OnOk result (self.new ≡ store_after self.old seen.now (StoreChange.Append node call.now)) }
+    {
+        self.log.append(call.group.as_slice())?;
+        self.end = seen.end as u128;
         self.revision = seen.revision;
         Ok(())
     }
 
-    fn campaign(&mut self, made: u64, node: u8, token: u64, epoch: u64) -> Result<(), AllocError>
-        ensures { OnOk result (self.new ≡ record self.old { leader = Some (record { node = node; token = token; made = made }); epoch = epoch; taken = self.old.taken ++ record { node = node; epoch = epoch; made = made; start = self.old.end } ∷ [] }) }
+    fn put_image(&mut self, seen: &Seen, keep: &Keep)
+        ensures { (node : ℕ) → self.new ≡ store_after self.old seen.now (StoreChange.Drop node keep.now) }
+    {
+        self.image = Some(keep.image.copied());
+        self.revision = seen.revision;
+    }
+
+    fn campaign(&mut self, seen: &Seen, node: u8, token: u64, epoch: u64) -> Result<(), AllocError>
+        ensures { OnOk result (self.new ≡ store_after self.old seen.now (StoreChange.Campaign node token epoch)) }
     {
         self.taken.push(Leadership {
             node,
             epoch,
-            made,
+            made: seen.revision,
             start: self.end,
         })?;
-        self.leader = Some(LeaderKey { node, token, made });
+        self.leader = Some(LeaderKey {
+            node,
+            token,
+            made: seen.revision,
+        });
         self.epoch = epoch;
+        self.revision = seen.revision;
         Ok(())
+    }
+
+    fn expire(&mut self, seen: &Seen)
+        ensures { self.new ≡ store_after self.old seen.now StoreChange.Expire }
+    {
+        self.leader = None;
+        self.revision = seen.revision;
     }
 }
 

@@ -17,7 +17,7 @@ use std::marker::Model;
 const NODES: usize = 256;
 
 /// A line that isn't allowed: its number, from 0 on, and why.
-#[derive(Clone, Copy, Debug, Drop, PartialEq, Eq)]
+#[derive(Drop)]
 pub struct Refusal {
     pub line: usize,
     pub fault: Fault,
@@ -55,8 +55,15 @@ impl Tape {
         ensures { result ≡ line_fault folds.now self.now line.now }
     {
         match line {
-            Line::Store { seen, change } => self.store.fault(&self.seats[change.node() as usize], seen, change),
-            Line::Link { node, act } => self.seats[*node as usize].fault(folds, &self.store, *node, act),
+            Line::Store { seen, change } => self
+                .store
+                .fault(&self.seats[change.node() as usize], seen, change),
+            Line::Link { node, act } => self.seats[*node as usize].fault(
+                folds,
+                &self.store,
+                *node,
+                act,
+            ),
         }
     }
 
