@@ -60,6 +60,9 @@ is_boundary from log place = nat_eq from place || list_any (λ b. nat_eq (b.base
 abbrev pub has_at : StoreState → Batch → ℕ → Bool
 has_at t b place = nat_eq b.base place && list_any (same_batch b) t.log
 
+abbrev pub has_first_at : StoreState → List Batch → ℕ → Bool
+has_first_at t list place = option_map_or (λ b. has_at t b place) (slice_get list 0) false
+
 -- the place behind batches that begin at a place, where they meet and none is empty
 abbrev pub end_behind : ℕ → List Batch → Option ℕ
 end_behind from [] = Some from
@@ -172,7 +175,7 @@ act_fault folds t k s (acts.Settle h end) =
     refuse faults.NotHeld when not (holds s.link.held h) else
     refuse faults.NotLeading when not (is_number s.node.leads h.epoch) else
     refuse faults.NoneAsked when is_empty s.link.asked else
-    refuse faults.NotInLog when not (option_map_or (λ b. has_at t b s.node.end) (slice_get s.link.asked 0) false) else
+    refuse faults.NotInLog when not (has_first_at t s.link.asked s.node.end) else
     refuse faults.OtherEnd when not (is_number (end_behind s.node.end s.link.asked) end) else None
 act_fault folds t k s (acts.Give keep) =
     refuse faults.OlderImage when not (nat_lt keep.before keep.image.offset) else
@@ -222,8 +225,11 @@ pub record TapeState : Type 0 where
   -- by the numbers of the nodes
   pub sides : List Side
 
+abbrev pub new_link : Link
+new_link = record { held = None; asked = []; waits = []; pipe = []; won = []; calls = []; keeps = [] }
+
 abbrev pub new_side : Side
-new_side = record { node = new_node; link = record { held = None; asked = []; waits = []; pipe = []; won = []; calls = []; keeps = [] } }
+new_side = record { node = new_node; link = new_link }
 
 -- a store without keys, and the sides of nodes 0 to 255
 abbrev pub tape_begins : TapeState

@@ -3,8 +3,11 @@
 #![tactic(auto)]
 
 mod batch;
+mod daemon;
 mod fault;
 mod line;
+mod link;
+mod lists;
 mod seat;
 mod store;
 mod verdict;

@@ -11,7 +11,8 @@ ghost use Rattle.law_tape.specs.Rules.{change_fault, end_behind, has_at, is_boun
 use crate::batch::{Batch, Call, Held, Image, Keep};
 use crate::fault::Fault;
 use crate::line::{Seen, StoreChange};
-use crate::seat::Seat;
+use crate::link::Link;
+use crate::lists::{end_behind, has_boundary, is_number};
 use std::alloc::{AllocError, Global};
 use std::collections::BTreeMap;
 use std::marker::Model;
@@ -96,37 +97,6 @@ fn stands_at(list: &[Batch], hint: usize, batch: &Batch) -> bool
 {
     match list.get(hint) {
         Some(other) => batch.is(other),
-        None => false,
-    }
-}
-
-/// A batch of the list ends at the place, or the list begins there.
-pub fn has_boundary(from: u64, list: &[Batch], place: u128) -> bool
-    ensures { result ≡ is_boundary from list.now place }
-{
-    from as u128 == place || list.iter().any(|batch| batch.end() == place)
-}
-
-/// The place behind batches that begin at a place, where they meet and none is empty.
-pub fn end_behind(from: u128, group: &[Batch]) -> Option<u128>
-    ensures { result ≡ end_behind from group.now }
-{
-    let mut end = from;
-    for batch in group {
-        if !(batch.begins_at(end) && batch.has_records()) {
-            return None;
-        }
-        end = batch.end();
-    }
-    Some(end)
-}
-
-/// It is this number.
-pub fn is_number(some: Option<u128>, number: u64) -> bool
-    ensures { result ≡ is_number some number }
-{
-    match some {
-        Some(it) => it == number as u128,
         None => false,
     }
 }
@@ -243,22 +213,22 @@ fn took(taken: &[Leadership], node: u8, held: &Held) -> bool
 
 impl Store {
     /// Why the change isn't one that the store can have made; none where it is.
-    pub fn fault(&self, seat: &Seat, seen: &Seen, change: &StoreChange) -> Option<Fault>
-        ensures { result ≡ change_fault self.now seat.now.link seen.now change.now }
+    pub fn fault(&self, link: &Link, seen: &Seen, change: &StoreChange) -> Option<Fault>
+        ensures { result ≡ change_fault self.now link.now seen.now change.now }
     {
         match change {
-            StoreChange::Append { call, .. } => self.append_fault(seat, seen, call),
-            StoreChange::Drop { keep, .. } => self.drop_fault(seat, seen, keep),
+            StoreChange::Append { call, .. } => self.append_fault(link, seen, call),
+            StoreChange::Drop { keep, .. } => self.drop_fault(link, seen, keep),
             StoreChange::Campaign { epoch, .. } => self.campaign_fault(seen, *epoch),
             StoreChange::Expire => self.seen_fault(seen, Some(self.end), self.dropped()),
             StoreChange::Other => self.seen_fault(seen, Some(self.end), self.dropped()),
         }
     }
 
-    fn append_fault(&self, seat: &Seat, seen: &Seen, call: &Call) -> Option<Fault>
-        ensures { (node : ℕ) → result ≡ change_fault self.now seat.now.link seen.now (StoreChange.Append node call.now) }
+    fn append_fault(&self, link: &Link, seen: &Seen, call: &Call) -> Option<Fault>
+        ensures { (node : ℕ) → result ≡ change_fault self.now link.now seen.now (StoreChange.Append node call.now) }
     {
-        if !seat.called(call) {
+        if !link.called(call) {
             Some(Fault::NoCall)
         } else if !(self.leads_by(call.made) && self.end == base_of_first(call.group.as_slice())) {
             Some(Fault::OtherKeys)
@@ -271,10 +241,10 @@ impl Store {
         }
     }
 
-    fn drop_fault(&self, seat: &Seat, seen: &Seen, keep: &Keep) -> Option<Fault>
-        ensures { (node : ℕ) → result ≡ change_fault self.now seat.now.link seen.now (StoreChange.Drop node keep.now) }
+    fn drop_fault(&self, link: &Link, seen: &Seen, keep: &Keep) -> Option<Fault>
+        ensures { (node : ℕ) → result ≡ change_fault self.now link.now seen.now (StoreChange.Drop node keep.now) }
     {
-        if !seat.gave(keep) {
+        if !link.gave(keep) {
             Some(Fault::NoKeep)
         } else if self.dropped() != keep.before {
             Some(Fault::OtherKeys)

@@ -57,7 +57,7 @@ impl Tape {
         match line {
             Line::Store { seen, change } => self
                 .store
-                .fault(&self.seats[change.node() as usize], seen, change),
+                .fault(self.seats[change.node() as usize].link(), seen, change),
             Line::Link { node, act } => self.seats[*node as usize].fault(
                 folds,
                 &self.store,

@@ -1,5 +1,5 @@
 use Rattle.std.proofs.Common.{◌≡◌, ◌++◌, take}
-use Rattle.law_tape.proofs.seat.append_copies.Given as goal
+use Rattle.law_tape.proofs.lists.append_copies.Given as goal
 
 abbrev pub invariant-loop-batch : goal.invariant-loop-batch
 invariant-loop-batch l = l.list.items ≡ l.initial.list.items ++ take l.batch-index l.more
