@@ -121,6 +121,10 @@ class FileStore:
     def revision(self, _):
         return self.latest
 
+    @property
+    def seen(self):
+        return self.latest
+
     def changes(self, first, end):
         """Every change of any key counts: all keys of the file are the link's."""
         seen = self.latest

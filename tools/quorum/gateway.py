@@ -44,6 +44,7 @@ class Gateway:
 
     def __init__(self, members, gives_up=lambda: False):
         self.members, self.gives_up, self.at, self.open = members, gives_up, 0, None
+        self.seen = 0                                        # the greatest revision that an answer told
 
     def call(self, path, body):
         fault = None
@@ -65,6 +66,7 @@ class Gateway:
         reply = self.open.getresponse()
         data = json.loads(reply.read())
         if reply.status == 200 and "error" not in data:
+            self.seen = max(self.seen, int(data.get("header", {}).get("revision", 0)))
             return data
         if data.get("code") == NOT_FOUND:
             raise NoLease(str(data.get("message")))

@@ -3,8 +3,10 @@ the log (the image that stands for its beginning, and the batches behind), campa
 batches by one transaction at a time. Nothing of it is proved; transactions.py beside it says what keeps the log one. A line for each
 change of state goes to standard output. docs/ETCD.md and docs/OPERATING.md have what an operator needs.
 
-usage: tools/quorum/link --listen ADDR (--etcd ADDR,ADDR,.. | --file LOG) [--name NAME] [--prefix TEXT] [--lease SECONDS] [--images PLACES]"""
+usage: tools/quorum/link --listen ADDR (--etcd ADDR,ADDR,.. | --file LOG) [--name NAME] [--prefix TEXT] [--lease SECONDS] [--images PLACES]
+                          [--tape FILE]"""
 import argparse
+import collections
 import http.client
 import os
 import queue
@@ -19,6 +21,7 @@ import uuid
 from batches import PART, TOGETHER, Broken, Dropped, look, offset_of, read, read_image, span
 from file_store import FileStore, Unusable
 from gateway import Gateway
+from link_tape import LinkTape
 from store import NoLease, Unknown
 from transactions import append, campaign, drop
 
@@ -106,9 +109,10 @@ class Leadership:
 
     def __init__(self, options, line, won, lease, asked):
         self.options, self.line, self.lease, self.asked = options, line, lease, asked
-        self.epoch, self.mark, self.start = won
-        self.over = self.lapsed = False
-        self.batches, self.kept = queue.SimpleQueue(), None
+        self.epoch, self.mark, self.start = self.held = won
+        self.over = self.lapsed = self.is_asked = False
+        self.batches, self.kept, self.next = queue.SimpleQueue(), None, None
+        self.stood = collections.deque()                     # ends up to which its appends stand, each with the revision that shows it
         for work in (self._renew, self._append):
             threading.Thread(target=work, daemon=True).start()
 
@@ -146,9 +150,11 @@ class Leadership:
 
     def _append(self):
         store = self.options.store(lambda: self.lapsed or self.over)
-        while group := self._group():
-            stands = self._settle(store, group)
-            self.line.put(("settled", self, stands, span(group[-1])[1]))
+        while (group := self._group()) and self.options.tape.ask(self, group):
+            stands, end = self._settle(store, group), span(group[-1])[1]
+            if stands:
+                self.stood.append((end, store.seen))
+            self.line.put(("settled", self, stands, end))
             if not stands:
                 return
         self.line.put(("lapsed", self))
@@ -168,7 +174,7 @@ class Leadership:
                 time.sleep(0.05)
 
     def end(self):
-        self.over = True
+        self.options.tape.end(self)
         self.batches.put(None)
         threading.Thread(target=self.give_back).start()
 
@@ -192,6 +198,7 @@ class Link:
         if self.daemon:
             self.part("another daemon connected")
         self.daemon = Daemon(stream, self.line)
+        self.options.tape.step("renew")
         say("a daemon connected")
         self.daemon.ping(NOBODY)
 
@@ -203,19 +210,29 @@ class Link:
         """Nothing of a daemon is kept: the next one is fed from the start."""
         say(why)
         if self.lead:
-            self.lead.end()
-        self.daemon.close()
-        self.daemon = self.lead = None
+            self.stop(self.lead)
+        with self.options.tape.turn:                         # an image that it gave isn't kept from here on
+            self.options.tape.write("renew")
+            daemon, self.daemon, self.lead = self.daemon, None, None
+        daemon.close()
 
     def on_frame(self, daemon, kind, body):
         if daemon is not self.daemon:
             return
         if kind == REFUSED:
             self.refused(*struct.unpack(">QBqqq", body))
-        elif kind == APPEND and self.lead and span(body)[2] == self.lead.epoch:
-            self.lead.batches.put(body)                      # one of another epoch comes from a leadership that is over
+        elif kind == APPEND:
+            self.heard(body)
         elif kind == IMAGED:
             threading.Thread(target=self.keep, args=(daemon, body), daemon=True).start()
+
+    def heard(self, batch):
+        """One of another epoch than is led comes from a leadership that is over."""
+        is_led = self.lead is not None and span(batch)[2] == self.lead.epoch
+        self.options.tape.step("write" if is_led else "stray", batch)
+        self.options.tape.step("hear" if is_led else "pass", batch)
+        if is_led:
+            self.lead.batches.put(batch)
 
     def refused(self, event, reason, _, led, third):
         sent, expected = self.daemon.pings.pop(event, (None, None))
@@ -241,9 +258,12 @@ class Link:
         if len(self.daemon.pings) > 2:
             return False
         if self.daemon.fed < image:
-            self.daemon.load(read_image(self.store, self.options.prefix))
+            loaded = read_image(self.store, self.options.prefix)
+            self.options.tape.step("take", loaded, rests_on=self.store.seen)
+            self.daemon.load(loaded)
         try:
             for batch in read(self.store, self.options.prefix, self.daemon.fed, end):
+                self.options.tape.step("read", batch, rests_on=self.store.seen)
                 self.daemon.feed(batch)
                 if self.daemon.unpinged >= AHEAD:
                     self.daemon.ping(NOBODY)
@@ -270,14 +290,18 @@ class Link:
         except NoLease:
             return                                           # it ran out before the key was taken
         lead = Leadership(self.options, self.line, won, lease, asked)
+        self.options.tape.step("win", *lead.held, rests_on=lead.mark)
+        is_fed = False
         try:
             is_fed = self.catch_up(lead.start)               # nobody else moves the end from here on
-        except Unknown:
-            lead.end()
-            raise
+        finally:
+            if not is_fed:
+                lead.end()
+                self.options.tape.step("let-go")
         if not is_fed:
-            return lead.end()
+            return
         self.lead = lead
+        self.options.tape.step("begin", *lead.held)
         self.daemon.send(LEAD, struct.pack(">iqq", lead.epoch, lead.start, int(time.time() * 1000)))
         say(f"leads in epoch {lead.epoch} from place {lead.start}")
 
@@ -285,10 +309,22 @@ class Link:
         if lead is not self.lead:
             return                                           # it comes back as a batch of the log
         if stands:
-            self.daemon.send(COMMIT, struct.pack(">iq", lead.epoch, end))
-            self.daemon.fed = end
+            self.commit(lead, end)
         else:
             self.lost("an append was refused" if stands is False else "it isn't known whether an append stands")
+
+    def commit(self, lead, end):
+        """Each append that stands is committed once: one that was committed before its turn has none."""
+        _, seen = lead.stood.popleft() if lead.stood else (end, 0)
+        self.options.tape.settle(lead, end, seen)
+        self.daemon.send(COMMIT, struct.pack(">iq", lead.epoch, end))
+        self.daemon.fed = end
+
+    def stop(self, lead):
+        """It asks for nothing more, and what stands by now is committed."""
+        lead.end()
+        while lead.stood:
+            self.commit(lead, lead.stood[0][0])
 
     def on_lapsed(self, lead):
         if lead is self.lead:
@@ -297,8 +333,9 @@ class Link:
     def lost(self, why):
         """What was settled was committed before; the daemon answers 41 to the writes that wait."""
         lead, self.lead = self.lead, None
+        self.stop(lead)
+        self.options.tape.step("give-up", lead.epoch)
         self.daemon.send(LOST, struct.pack(">i", lead.epoch))
-        lead.end()
         say(f"leads no more in epoch {lead.epoch}: {why}")
 
     # ---- images
@@ -315,11 +352,18 @@ class Link:
             if len(image) > MOST_IMAGE:
                 say(f"an image of {len(image)} bytes is more than a daemon can be handed in: no batch is dropped")
                 return                                       # none is asked for any more
-            if drop(self.options.store(), self.options.prefix, image):
+            if drop(self.options.store(), self.options.prefix, image, lambda before: self.gives(daemon, before, image)):
                 say(f"an image of {len(image)} bytes stands for the log up to place {offset_of(image)}")
         except Unknown as fault:
             say(f"an image has no place: {fault}")
         daemon.is_asked = False
+
+    def gives(self, daemon, before, image):
+        """Whether the image of a daemon is kept behind this place: not where another daemon came meanwhile."""
+        with self.options.tape.turn:
+            if daemon is self.daemon:
+                self.options.tape.write("give", before, image)
+            return daemon is self.daemon
 
     # ---- time
 
@@ -403,6 +447,7 @@ def words(text):
     p.add_argument("--name", default=socket.gethostname(), help="stands in the leader key while this node leads (default %(default)s)")
     p.add_argument("--prefix", default="/pibranog/", type=str.encode, help="of its keys in the store (default /pibranog/)")
     p.add_argument("--lease", type=int, default=5, metavar="SECONDS", help="2 to 7; with a tick it is below a broker's session of 9 (default %(default)s)")
+    p.add_argument("--tape", metavar="FILE", help="where each step of the link is kept (default: nowhere)")
     p.add_argument("--images", type=int, default=10000, metavar="PLACES", help="asks the daemon for an image, and drops the batches before it, each time the "
                    "log has grown by so many places; 0: never (default %(default)s)")
     options = p.parse_args(text)
@@ -436,6 +481,7 @@ def main():
     except Unusable as fault:
         say(f"no store: {fault}")
         return 1
+    options.tape = LinkTape(options.tape)
     link = Link(options)
     signal.signal(signal.SIGTERM, lambda *_: sys.exit(0))
     say("listening")

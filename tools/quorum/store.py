@@ -7,6 +7,7 @@ other list of operations, all or none of it, at a revision of its own; one that 
     range(key, end, most)                 the keys from `key` up to `end`, in order, `most` of them at most
     grant(seconds), renew(lease), revoke(lease)   a lease, with which the keys end that were put under it
     revision(key)                         the latest change's
+    seen                                  a revision of which the answers so far tell, no earlier than any of them
     changes(first, end)                   something for each change of a key between, from now on; what is lost is made up by reads
     answers                               whether it answered when it was asked last
     close()

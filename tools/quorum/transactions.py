@@ -68,12 +68,12 @@ def append(etcd, prefix, mark, batches):
     return None if number(reads[1]) > base else False
 
 
-def drop(etcd, prefix, image):
+def drop(etcd, prefix, image, goes_on=lambda before: True):
     """Drops the batches for which an image stands, and puts it in their place. Whether it did. The image is of a place that is no
-    later than the log's end."""
+    later than the log's end. Who asks is told the place of the image that stands, and may leave it."""
     offset = offset_of(image)
     _, (before, last, behind) = etcd.transact([], [Get(prefix + b"image"), Get(prefix + b"end"), Get(prefix + at_place(offset))], [])
-    if offset <= number(before) or not (behind or offset == number(last)):
+    if offset <= number(before) or not (behind or offset == number(last)) or not goes_on(number(before)):
         return False
     put_image_parts(etcd, prefix, same_image(prefix, before), image)
     stands, _ = etcd.transact(
