@@ -9,7 +9,9 @@ use Rattle.law_quorum.specs.Batches.{Batch, BatchStandsAt, Meet, StoredImage, be
 use Rattle.law_quorum.specs.Changes.{Append, Campaign, Change, Drop, Expire, Keys, Leader, Other, base_of_first, compares, is_leaderless, keys_after, keys_written, leads_by, put_batches, with_revision}
 use Rattle.law_quorum.specs.History.{Leadership, Point, leaderships_after, point_after, with_wrote}
 use Rattle.law_quorum.specs.Laws.{IsOneLog}
+use Rattle.law_quorum.proofs.KeptLog.{taken}
 use Rattle.law_quorum.proofs.Places.{behind_append, meet_after, put_behind}
+use Rattle.law_link.specs.Links.{Call, Keep}
 use Rattle.law_tape.specs.Rules.{StoreState, Taken, end_behind, is_number, seen_fault, store_after}
 use Rattle.law_tape.specs.Tapes.{IsFirst, TookEffect, change_of}
 use Rattle.law_tape.specs.declared.line.Seen.{Seen}
@@ -73,3 +75,81 @@ one_least make p a b one x y = by_order (nat_lt a b) refl (nat_lt b a) refl
     by_order true e t f = absurd (below a b (grind (arith, nat_tests)) x y)
     by_order false e true f = absurd (below b a (grind (arith, nat_tests)) y x)
     by_order false e false f = grind (arith, nat_tests)
+
+-- ---- what is kept after a change
+
+same_taken : (group : List Batch) (ls : List Leadership) → map taken_of (with_wrote group ls) ≡ map taken_of ls
+same_taken group [] = refl
+same_taken group (l ∷ ls) = refl
+
+module _ (p : Point) (t : StoreState) (seen : Seen) (h : StandsFor p t) (next : p.keys.revision + 1 ≡ seen.revision) where
+  -- the point, where the change took effect
+  abbrev pub after : Change → Point
+  after change = taken p change true
+
+  append_stands : (node : ℕ) (call : Call) → behind p.keys.end call.group ≡ seen.end → Meet p.keys.end call.group → offset_of_image p.keys.image ≤ p.keys.end
+      → StandsFor (after (change_of (changes.Append node call))) (store_after t seen (changes.Append node call))
+  append_stands node call ends meets low = record {
+    revision = next;
+    end = ends;
+    epoch = h.epoch;
+    leader = h.leader;
+    image = h.image;
+    log = ap (λ (log : List Batch). log ++ call.group) h.log;
+    taken = same_taken call.group p.leaderships ∙ h.taken;
+    low = λ place below. put_behind p.keys.end call.group p.keys.places place meets (omega arith) ∙ h.low place below;
+  }
+
+  drop_stands : (node : ℕ) (keep : Keep) → StandsFor (after (change_of (changes.Drop node keep))) (store_after t seen (changes.Drop node keep))
+  drop_stands node keep = record {
+    revision = next;
+    end = h.end;
+    epoch = h.epoch;
+    leader = h.leader;
+    image = refl;
+    log = ap (λ (log : List Batch). log ++ []) h.log ∙ append-nil t.log;
+    taken = h.taken;
+    low = λ place below.
+        let gone : nat_lt place keep.image.offset ≡ true = grind (arith, nat_tests) in
+        ap (λ x. cond x None (p.keys.places place)) gone;
+  }
+
+  campaign_stands : (node token epoch : ℕ) → behind 0 p.log ≡ p.keys.end → StandsFor (after (change_of (changes.Campaign node token epoch))) (store_after t seen (changes.Campaign node token epoch))
+  campaign_stands node token epoch ends = record {
+    revision = next;
+    end = h.end;
+    epoch = refl;
+    leader = ap (λ made. Some (record { node = node; token = token; made = made })) next;
+    image = h.image;
+    log = ap (λ (log : List Batch). log ++ []) h.log ∙ append-nil t.log;
+    taken =
+        ap (λ made. record { node = node; epoch = epoch; made = made; start = behind 0 p.log } ∷ map taken_of p.leaderships) next
+        ∙ (ap (λ start. record { node = node; epoch = epoch; made = seen.revision; start = start } ∷ map taken_of p.leaderships) (ends ∙ h.end)
+        ∙ (ap (λ ls. record { node = node; epoch = epoch; made = seen.revision; start = t.end } ∷ ls) h.taken
+        ∙ sym (reverse-append t.taken (record { node = node; epoch = epoch; made = seen.revision; start = t.end } ∷ []))));
+    low = h.low;
+  }
+
+  expire_stands : StandsFor (after Expire) (store_after t seen changes.Expire)
+  expire_stands = record {
+    revision = next;
+    end = h.end;
+    epoch = h.epoch;
+    leader = refl;
+    image = h.image;
+    log = ap (λ (log : List Batch). log ++ []) h.log ∙ append-nil t.log;
+    taken = h.taken;
+    low = h.low;
+  }
+
+  other_stands : StandsFor (after Other) (store_after t seen changes.Other)
+  other_stands = record {
+    revision = next;
+    end = h.end;
+    epoch = h.epoch;
+    leader = h.leader;
+    image = h.image;
+    log = ap (λ (log : List Batch). log ++ []) h.log ∙ append-nil t.log;
+    taken = h.taken;
+    low = h.low;
+  }
