@@ -54,22 +54,21 @@ class LinkTape:
         with self.turn:
             if lead.over:
                 return False
-            if lead.is_asked:
-                lead.next = group
-            else:
-                self._ask(lead, group)
+            lead.asks.append(group)
+            if len(lead.asks) == 1:
+                self._ask(lead)
             return True
 
-    def _ask(self, lead, group):
-        lead.is_asked, lead.next = True, None
-        self.write("ask", *lead.held, *group)
+    def _ask(self, lead):
+        self.write("ask", *lead.held, *lead.asks[0])
 
     def settle(self, lead, end, rests_on):
         with self.turn:
             self.write("settle", *lead.held, end, rests_on=rests_on)
-            lead.is_asked = False
-            if lead.next:
-                self._ask(lead, lead.next)
+            if lead.asks:                                    # none for a commit that a fault made
+                lead.asks.popleft()
+            if lead.asks:
+                self._ask(lead)
 
     def end(self, lead):
         """From now on it asks for nothing."""

@@ -110,8 +110,9 @@ class Leadership:
     def __init__(self, options, line, won, lease, asked):
         self.options, self.line, self.lease, self.asked = options, line, lease, asked
         self.epoch, self.mark, self.start = self.held = won
-        self.over = self.lapsed = self.is_asked = False
-        self.batches, self.kept, self.next = queue.SimpleQueue(), None, None
+        self.over = self.lapsed = False
+        self.batches, self.kept = queue.SimpleQueue(), None
+        self.asks = collections.deque()                      # its appends that aren't committed
         self.stood = collections.deque()                     # ends up to which its appends stand, each with the revision that shows it
         for work in (self._renew, self._append):
             threading.Thread(target=work, daemon=True).start()
