@@ -653,7 +653,7 @@ module _ (make : List Batch → List ℕ) where
 
   -- ---- all
 
-  step_right : (w : Web) (step : LinkStep) → IsWeb make w → IsPossible make w step → AreAllowed make w.cluster (handed w step) × IsWeb make (stepped w step)
+  pub step_right : (w : Web) (step : LinkStep) → IsWeb make w → IsPossible make w step → AreAllowed make w.cluster (handed w step) × IsWeb make (stepped w step)
   step_right w (Execute k call) h a = ((execute_sent w h k call a, tt), execute_by w h k call a (compares w.cluster.point.keys (append_of call)) refl)
   step_right w (Clear k keep) h a =
       let sent = clear_sent w h k keep a in
@@ -686,7 +686,7 @@ module _ (make : List Batch → List ℕ) where
       let r = step_right w step h here in
       allowed_both w.cluster (handed w step) (all_handed (stepped w step) steps) r.0 (steps_right (stepped w step) steps r.1 a)
 
-  first_web : IsWeb make no_web
+  pub first_web : IsWeb make no_web
   first_web = record { cluster = first_cluster make; carry = tt; calls = λ k. tt; unused = λ epoch l found. absurd cc; right = λ k. tt; keeps = λ k. tt; piped = λ k. tt }
 
 pub links_hand_right : LinksHandRight
