@@ -4,7 +4,6 @@ import struct
 import subprocess
 
 from history import History
-from link_tape import digest as number_for
 from nodes import CLUSTER, PREFIX, SALT, SOON, TOOL, Failed, client, request_of, until
 from tape import digest
 from whole_tape import WholeTape
@@ -52,9 +51,9 @@ class Judge:
     def __init__(self, members, nodes, tapes, path, link_tapes):
         self.nodes, self.tapes = nodes, tapes
         self.history = History(members.clients, PREFIX, path)
-        self.whole = WholeTape(self.history, link_tapes)
+        self.whole = WholeTape(self.history, link_tapes, fold)
         self.faults, self.lost = [], 0
-        self.images, self.loads = {}, 0                      # numbers of the images that were kept, by their places; loads of them
+        self.images, self.loads = {}, 0                      # the images that were kept, by their places; loads of them
         self.writes = []                                     # (error, seconds, whether it stands) of each
         self.last_place = {}                                 # of what a client wrote, by the client's number
         self.committed, self.lags = {}, []                   # when a place was committed; how long after that a standby was fed it
@@ -105,11 +104,9 @@ class Judge:
                 self.lags.append(entry.when - committed)
 
     def _images(self):
-        """Each image is judged by the fold of the log up to its place, where a batch ends there."""
-        for place in [place for place, _ in self.history.images if place in self.history.size_at]:
-            self.images[place] = number_for(fold(self.history.bytes()[:self.history.size_at[place]]))
+        """What was kept and what was handed in, of which the tape tells."""
+        self.images.update(self.history.images)
         self.history.images = []
-        self.whole.folds = list(self.images.items())
         for life in self._lives():
             self.loads += len(life.loads)
             life.loads = []

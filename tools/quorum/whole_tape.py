@@ -6,6 +6,7 @@ import collections
 import os
 import subprocess
 
+from link_tape import digest
 from nodes import Failed
 from lib.daemon import JUDGE
 
@@ -35,15 +36,17 @@ class LinkLines:
 
 
 class WholeTape:
-    def __init__(self, history, paths):
-        self.history = history
+    """`fold` gives the image of a log's batches."""
+
+    def __init__(self, history, paths, fold):
+        self.history, self.fold = history, fold
         self.links = [LinkLines(number, path) for number, path in enumerate(paths, 1)]
-        self.folds = []                                      # place and number of each image that the log's fold gives
+        self.folds = {}                                      # the number of the image that the log gives, at each place of which one was given
         self.judged_lines = 0
 
     def lines(self):
-        for fold in self.folds:
-            yield "fold {} {}".format(*fold)
+        for place, number in self.folds.items():
+            yield f"fold {place} {number}"
         for link in self.links:
             yield from link.behind[0]
         for change in self.history.changes:
@@ -58,6 +61,9 @@ class WholeTape:
         """What kr_judge says of the tape up to now, the line with it; nothing where it allows each."""
         for link in self.links:
             link.catch_up()
+        for place in {place for link in self.links for _, place, _ in link.gives} - self.folds.keys():
+            if place in self.history.size_at:                # where a batch ends
+                self.folds[place] = digest(self.fold(self.history.bytes()[:self.history.size_at[place]]))
         lines = list(self.lines())
         self.judged_lines = len(lines)
         done = subprocess.run(JUDGE, input="".join(f"{line}\n" for line in lines).encode(), stdout=subprocess.PIPE)
