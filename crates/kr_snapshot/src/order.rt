@@ -37,6 +37,7 @@ pub(crate) struct Order {
 }
 
 impl Order {
+    /// The order before the first record.
     pub fn new() -> Order
         ensures { seen_in result ≡ ranks.nothing_seen }
     {
