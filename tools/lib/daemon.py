@@ -21,6 +21,39 @@ def free_port():
         return one.getsockname()[1]
 
 
+class Daemon:
+    """A daemon that is started with these further words, with the lines of its standard error."""
+
+    def __init__(self, more):
+        self.address = f"127.0.0.1:{free_port()}"
+        words = DAEMON + ["--listen", self.address, "--node", "1", "--cluster", "c1", "--salt", "7"] + more
+        self.process = subprocess.Popen(words, stdout=subprocess.PIPE, stderr=subprocess.PIPE, text=True)
+        self.lines = []
+        if self.process.stdout.readline() != "listening\n":
+            raise SystemExit("the daemon doesn't listen")
+        threading.Thread(target=self.listen, daemon=True).start()
+
+    def listen(self):
+        for line in self.process.stderr:
+            self.lines.append(line.rstrip("\n"))
+
+    def told(self, text):
+        """How many lines told this so far."""
+        return sum(text in line for line in self.lines)
+
+    def memory(self, name="VmRSS"):
+        """A number of /proc/PID/status, in KiB."""
+        with open(f"/proc/{self.process.pid}/status") as status:
+            return next(int(line.split()[1]) for line in status if line.startswith(name + ":"))
+
+    def __enter__(self):
+        return self
+
+    def __exit__(self, *_):
+        self.process.kill()
+        self.process.wait()
+
+
 def with_daemon(more, use):
     """What `use` makes of the address of a daemon that is started with these further words."""
     address = f"127.0.0.1:{free_port()}"

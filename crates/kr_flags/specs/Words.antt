@@ -1,6 +1,6 @@
 -- What the words of the command line say. This project's own, over clap's definition of the matches of a simple command.
-use Rattle.std.specs.Prelude.{◌≡◌, ◌≤◌, ◌≤ℤ◌, ◌<◌, ◌⊎◌, ℕ, true, false, List, length, codes, Option, Some, None, is_some, option_and_then, option_map, pos}
-use Rattle.clap.specs.Words.{App, IsPlainArg, Rule, rule_of, first_of, first_value, found_of, matches_of, new_app, new_rule, takes, with_rule}
+use Rattle.std.specs.Prelude.{◌≡◌, ◌≤◌, ◌≤ℤ◌, ◌<◌, ◌⊎◌, ℕ, true, false, List, [], length, codes, Option, Some, None, is_some, option_and_then, option_map, pos}
+use Rattle.clap.specs.Words.{App, IsPlainArg, Rule, fault_of, rule_of, first_of, first_value, found_of, matches_of, new_app, new_rule, takes, with_rule}
 use Rattle.clap.specs.Simple.{on_top}
 use Rattle.clap.specs.declared.builder.action.ArgAction.TheVariants.{Set}
 use Rattle.clap.specs.declared.parser.matches.ArgMatches.{ArgMatches}
@@ -32,9 +32,9 @@ kr_daemon =
     (optional (codes "link")))
     (optional (codes "clients"))
 
--- the command takes the words
+-- the command takes the words: by clap's definition of the errors at them there is none
 abbrev pub AreTaken : List (List ℕ) → Type 0
-AreTaken words = takes kr_daemon words ≡ true
+AreTaken words = fault_of kr_daemon words ≡ []
 
 -- the value that the words give the option of this name
 abbrev pub value_given : List ℕ → List (List ℕ) → Option (List ℕ)

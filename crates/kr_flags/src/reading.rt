@@ -1,10 +1,10 @@
 //! Reading the words of the command line.
 
-ghost use Rattle.std.specs.Prelude.{◌≡◌, ◌≢◌, ◌<◌, ◌≤◌, ◌≤ℤ◌, ◌⊎◌, ℕ, List, Some, None, true, false, is_some, map, option_map, pos, IfOk, IsErrOf, IfSome, IsSomeAnd, IsNone};
+ghost use Rattle.std.specs.Prelude.{◌≡◌, ◌≢◌, ◌<◌, ◌≤◌, ◌≤ℤ◌, ◌⊎◌, ℕ, List, Some, None, true, false, is_some, map, option_map, pos, IfOk, IsErrOf, OnOk, IfSome, IsSomeAnd, IsNone};
 ghost use Rattle.clap.specs.Words.{first_value, found_of, kind_of, takes};
 ghost use Rattle.kr_defs.specs.Texts.{decimal_up_to};
 ghost use Rattle.kr_flags.specs.Words as spec;
-ghost use Rattle.kr_flags.specs.Words.{AreInRange, AreWrong, HasNeeded, Says, value_given};
+ghost use Rattle.kr_flags.specs.Words.{AreInRange, AreTaken, AreWrong, HasNeeded, Says, value_given};
 
 use crate::command::kr_daemon;
 use crate::numbers::long_up_to;
@@ -49,6 +49,7 @@ fn parse<'a>(alloc: Global, words: &'a [&'a str]) -> Result<ArgMatches<'a>, Sett
     ensures values { IfOk result (λ m. (name : List ℕ) → first_value (found_of m) name
         ≡ value_given name (map (λ s. s.now) words.now)) }
     ensures needed { IfOk result HasNeeded }
+    ensures taken { OnOk result (AreTaken (map (λ s. s.now) words.now)) }
     ensures refused { IsErrOf result SettingsFault.Refused
         → takes spec.kr_daemon (map (λ s. s.now) words.now) ≡ false }
 {
@@ -105,9 +106,10 @@ fn link_of(alloc: Global, text: Option<&str>) -> Result<Option<Text>, AllocError
     }
 }
 
-/// The settings that the words say, without the program's name. Refused only where the command doesn't take them, or where a
-/// value isn't what its option stands for.
+/// The settings that the words say, without the program's name, where the command takes them. Refused only where it doesn't, or
+/// where a value isn't what its option stands for.
 pub fn settings(alloc: Global, words: &[Text]) -> Result<Settings, SettingsFault>
+    ensures taken { OnOk result (AreTaken words.now) }
     ensures says { IfOk result (Says words.now) }
     ensures refused { IsErrOf result SettingsFault.Refused → AreWrong words.now }
     ensures range { IfOk result AreInRange }
@@ -117,6 +119,7 @@ pub fn settings(alloc: Global, words: &[Text]) -> Result<Settings, SettingsFault
 }
 
 fn settings_in<'a>(alloc: Global, words: &'a [&'a str]) -> Result<Settings, SettingsFault>
+    ensures taken { OnOk result (AreTaken (map (λ s. s.now) words.now)) }
     ensures says { IfOk result (Says (map (λ s. s.now) words.now)) }
     ensures refused { IsErrOf result SettingsFault.Refused
         → AreWrong (map (λ s. s.now) words.now) }
