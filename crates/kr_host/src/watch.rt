@@ -77,21 +77,21 @@ fn tell<R: Eprint>(rt: &R, phase: Phase) {
             eprintln!(rt; "kr_daemon: a connection ended: nothing came for {IDLE_SECONDS} seconds")
         }
         Phase::Message => {
-            eprintln!(rt; "kr_daemon: a connection ended: a message was unfinished for {MESSAGE_SECONDS} seconds")
+            eprintln!(rt;
+                "kr_daemon: a connection ended: a message was unfinished for {MESSAGE_SECONDS} seconds"
+            )
         }
         Phase::Reply => {
-            eprintln!(rt; "kr_daemon: a connection ended: a reply wasn't taken for {REPLY_SECONDS} seconds")
+            eprintln!(rt;
+                "kr_daemon: a connection ended: a reply wasn't taken for {REPLY_SECONDS} seconds"
+            )
         }
         Phase::Answer => Ok(()),
     };
 }
 
 // Looks at all connections, again and again, until the door is closed.
-fn watch_all<R: Wait + Eprint + time::Clock>(
-    rt: &R,
-    watches: &[Arc<Watch, Global>],
-    door: &Door,
-) {
+fn watch_all<R: Wait + Eprint + time::Clock>(rt: &R, watches: &[Arc<Watch, Global>], door: &Door) {
     let mut second: u64 = 0;
     for _ in rt.forever() {
         thread::sleep(rt, Duration::from_secs(LOOK_SECONDS));
