@@ -1,6 +1,6 @@
 //! A source whose next bytes are held once they have come.
 
-ghost use Rattle.std.specs.Prelude.{◌≡◌, ◌≤◌, ◌+◌, [], false, take, drop, length, vec_len, IfOk, OnErr};
+ghost use Rattle.std.specs.Prelude.{◌≡◌, ◌<◌, ◌≤◌, ◌+◌, [], take, drop, length, vec_len, IfOk, OnErr};
 ghost use Rattle.std.specs.Io.{ReadsAtMost};
 ghost use Rattle.std.specs.Io.KnownBytes.{Consumes, Keeps, ReadConsumes, prepend_known};
 ghost use Rattle.kr_base.specs.Causes.{HasCause, raised};
@@ -138,21 +138,27 @@ fn take_behind<S: Source>(
 {
     let len = held.len();
     held.resize(len.saturating_add(most), 0)?;
-    let read = read_behind(source, held, len);
-    held.truncate(len.saturating_add(read.unwrap_or(0)));
-    Ok(read)
+    match read_behind(source, held.as_mut_slice(), len) {
+        Ok(count) => {
+            held.truncate(len + count);
+            Ok(Ok(count))
+        }
+        Err(failed) => {
+            held.truncate(len);
+            Ok(Err(failed))
+        }
+    }
 }
 
 // One read, into what is behind `at`.
-fn read_behind<S: Source>(source: &mut S, held: &mut Vec<u8>, at: usize) -> Result<usize, Failed>
-    requires { at ≤ vec_len held.old }
-    ensures before { take at held.new.items ≡ take at held.old.items }
-    ensures len { vec_len held.new ≡ vec_len held.old }
-    ensures bytes { IfOk result (λ count. Consumes (S.left source.old) (S.left source.new) (take count (drop at held.new.items))) }
-    ensures bound { IfOk result (λ count. at + count ≤ vec_len held.new) }
+fn read_behind<S: Source>(source: &mut S, into: &mut [u8], at: usize) -> Result<usize, Failed>
+    requires { at ≤ length into.old }
+    ensures before { take at into.new ≡ take at into.old }
+    ensures bound { IfOk result (λ count. at + count ≤ length into.new) }
+    ensures bytes { IfOk result (λ count. Consumes (S.left source.old) (S.left source.new) (take count (drop at into.new))) }
     ensures failed { OnErr result (Keeps (S.left source.old) (S.left source.new)) }
 {
-    let (_, rest) = held.as_mut_slice().split_at_mut(at);
+    let (_, rest) = into.split_at_mut(at);
     source.read(rest)
 }
 
@@ -162,16 +168,10 @@ impl<S: Source> Source for HeldSource<S> {
     ghost faults = { λ s. s.faults };
 
     fn read(&mut self, into: &mut [u8]) -> Result<usize, Failed> {
-        let read = if self.at < self.held.len() {
-            let count = copy_front(self.held(), into);
-            self.at += count;
-            self.at_end = false;
-            Ok(count)
-        } else {
-            self.read_on(into)
-        };
-        self.read = self.read.saturating_add(read.unwrap_or(0) as u64);
-        read
+        if self.at < self.held.len() {
+            return Ok(self.read_held(into));
+        }
+        self.read_on(into)
     }
 
     fn faults(&self) -> u64 {
@@ -180,28 +180,52 @@ impl<S: Source> Source for HeldSource<S> {
 }
 
 impl<S: Source> HeldSource<S> {
+    // Reads of what is held.
+    fn read_held(&mut self, into: &mut [u8]) -> usize
+        requires { self.old.at < vec_len self.old.held }
+        ensures bound { result ≤ length into.new }
+        ensures bytes { Consumes (⟦<HeldSource<S> as Source>⟧.left self.old) (⟦<HeldSource<S> as Source>⟧.left self.new) (take result into.new) }
+        ensures some { 0 < length into.new → 0 < result }
+        ensures faults { self.new.faults ≡ self.old.faults }
+    {
+        let count = copy_front(&self.held.as_slice()[self.at..], into);
+        self.at += count;
+        self.count_read(count);
+        count
+    }
+
     // Reads where nothing is held.
     fn read_on(&mut self, into: &mut [u8]) -> Result<usize, Failed>
         requires { self.old.at ≡ vec_len self.old.held }
         ensures bound { ReadsAtMost result into.new }
         ensures bytes { ReadConsumes (⟦<HeldSource<S> as Source>⟧.left self.old) (⟦<HeldSource<S> as Source>⟧.left self.new) result into.new }
-        ensures cause { HasCause (⟦<HeldSource<S> as Source>⟧.faults self.old) (⟦<HeldSource<S> as Source>⟧.faults self.new) result }
+        ensures cause { HasCause self.old.faults self.new.faults result }
     {
         if self.has_failed {
             return Err(self.fail());
         }
         match self.inner.read(into) {
             Ok(count) => {
-                self.at_end = count == 0;
+                self.count_read(count);
                 Ok(count)
             }
             Err(Failed) => Err(self.fail()),
         }
     }
 
+    // So many bytes were read.
+    fn count_read(&mut self, count: usize)
+        ensures same { (self.new.inner ≡ self.old.inner) × (self.new.held ≡ self.old.held) × (self.new.at ≡ self.old.at) }
+        ensures faults { self.new.faults ≡ self.old.faults }
+    {
+        self.at_end = count == 0;
+        self.read = self.read.saturating_add(count as u64);
+    }
+
     // Counts a fault.
     fn fail(&mut self) -> Failed
-        ensures { self.new ≡ record self.old { faults = raised self.old.faults; has_failed = false } }
+        ensures same { (self.new.inner ≡ self.old.inner) × (self.new.held ≡ self.old.held) × (self.new.at ≡ self.old.at) }
+        ensures raised { self.new.faults ≡ raised self.old.faults }
     {
         self.has_failed = false;
         self.faults = self.faults.saturating_add(1);

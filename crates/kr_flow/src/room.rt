@@ -88,7 +88,7 @@ impl EventRoom {
         ensures { result ≡ rooms.has_room self.now.waiting bytes }
     {
         self.waiting.is_empty()
-            || (bytes <= MOST_WAITING_BYTES && self.bytes <= MOST_WAITING_BYTES - bytes)
+            || u128::from(self.bytes) + u128::from(bytes) <= u128::from(MOST_WAITING_BYTES)
     }
 
     /// How many events the worker took; the count stands still at the greatest u64.

@@ -26,12 +26,21 @@ fn serve<R: Wait + Copy>(
     let _ = stream.set_nodelay(true);
     let stream = Arc::new(alloc, stream)?;
     watch.begin(rt, Arc::try_clone(&stream)?);
-    let line: &TcpStream = &stream;
-    let mut source = ClientSource::new(*rt, watch, ReadSource::new(line));
-    let mut sink = ClientSink::new(*rt, watch, WriteSink::new(line));
-    let end = serve_client(rt, alloc, seat, &mut source, &mut sink, &mut NoTranscript);
+    let end = serve_stream(rt, alloc, seat, watch, &stream);
     watch.end(rt);
     Ok(end)
+}
+
+fn serve_stream<R: Wait + Copy>(
+    rt: &R,
+    alloc: Global,
+    seat: &mut ClientSeat,
+    watch: &Watch,
+    stream: &TcpStream,
+) -> ServeEnd {
+    let mut source = ClientSource::new(*rt, watch, ReadSource::new(stream));
+    let mut sink = ClientSink::new(*rt, watch, WriteSink::new(stream));
+    serve_client(rt, alloc, seat, &mut source, &mut sink, &mut NoTranscript)
 }
 
 /// Accepts one connection after the other and serves it at the seat, until the worker is stopped.

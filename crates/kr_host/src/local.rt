@@ -1,5 +1,8 @@
 //! A controller with a quorum of its own, which commits at once.
 
+ghost use Rattle.std.specs.Prelude.{◌≡◌, ◌++◌, ◌∷◌, [], IsTrue};
+ghost use Rattle.kr_queue.specs.declared.jobs.Job.TheVariants as jobs;
+ghost use Rattle.kr_queue.specs.Jobs.{is_link_event};
 ghost use Rattle.kr_host.specs.Leading.{PushesLead};
 
 use crate::door::Door;
@@ -21,26 +24,35 @@ use std::time;
 // The epoch in which it leads.
 const EPOCH: i32 = 1;
 
-/// Leads from the first place of the log on.
-pub fn lead_alone<R: Wait + time::Clock + Copy>(rt: &R, alloc: Global, link: LinkSeat) -> EventSeat
-    ensures { PushesLead link result.pushed }
+// Pushes an event, again and again where it isn't pushed.
+fn push<R: Wait + time::Clock>(rt: &R, seat: &mut EventSeat, event: Event)
+    requires { IsTrue (is_link_event event) }
+    ensures { seat.new.pushed ≡ seat.old.pushed ++ jobs.Link event ∷ [] }
 {
-    let now = SystemClock::new(*rt).now();
-    let mut seat = EventSeat::new(alloc, link);
-    let mut event = Event::Lead {
-        epoch: EPOCH,
-        next: 0,
-        now,
-    };
+    let mut event = event;
     for _ in rt.forever() {
         match seat.push(rt, event, waiting_of(Origin::Quorum, 0)) {
-            Ok(()) => return seat,
+            Ok(()) => return,
             Err(Unpushed::NoRoom(back)) => event = back,
             Err(Unpushed::NoMemory(back)) => event = back,
         }
         rest(rt);
     }
     unreachable!()
+}
+
+/// Leads from the first place of the log on.
+pub fn lead_alone<R: Wait + time::Clock + Copy>(rt: &R, alloc: Global, link: LinkSeat) -> EventSeat
+    ensures { PushesLead link result.pushed }
+{
+    let mut seat = EventSeat::new(alloc, link);
+    let lead = Event::Lead {
+        epoch: EPOCH,
+        next: 0,
+        now: SystemClock::new(*rt).now(),
+    };
+    push(rt, &mut seat, lead);
+    seat
 }
 
 // Pushes the commit that is due, if one is. Where it isn't pushed it is due still.

@@ -1,6 +1,6 @@
 //! What a daemon opens when it starts.
 
-ghost use Rattle.std.specs.Prelude.{◌≡◌, ◌<◌, ◌≤◌, option_map, IsTrue};
+ghost use Rattle.std.specs.Prelude.{◌≡◌, ◌<◌, ◌≤◌, IsTrue};
 ghost use Rattle.kr_defs.specs.OpenOptions.{are_options};
 ghost use Rattle.kr_flags.specs.Words.{AreInRange};
 ghost use Rattle.kr_host.specs.Starts as starts;

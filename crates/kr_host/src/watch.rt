@@ -2,7 +2,7 @@
 
 use crate::door::Door;
 use kr_base::NoMemory;
-use kr_flow::{IDLE_SECONDS, MESSAGE_SECONDS, Phase, REPLY_SECONDS, Watched};
+use kr_flow::{Phase, Watched};
 use std::alloc::Global;
 use std::io::Eprint;
 use std::net::{Shutdown, TcpStream};
@@ -70,24 +70,21 @@ impl Watch {
     }
 }
 
+// What a connection didn't do in time.
+fn reason_of(phase: Phase) -> &'static str {
+    match phase {
+        Phase::Idle => "nothing came",
+        Phase::Message => "a message was unfinished",
+        Phase::Answer => "no answer came",
+        Phase::Reply => "a reply wasn't taken",
+    }
+}
+
 // Tells why a connection was ended, on standard error.
 fn tell<R: Eprint>(rt: &R, phase: Phase) {
-    let _ = match phase {
-        Phase::Idle => {
-            eprintln!(rt; "kr_daemon: a connection ended: nothing came for {IDLE_SECONDS} seconds")
-        }
-        Phase::Message => {
-            eprintln!(rt;
-                "kr_daemon: a connection ended: a message was unfinished for {MESSAGE_SECONDS} seconds"
-            )
-        }
-        Phase::Reply => {
-            eprintln!(rt;
-                "kr_daemon: a connection ended: a reply wasn't taken for {REPLY_SECONDS} seconds"
-            )
-        }
-        Phase::Answer => Ok(()),
-    };
+    let reason = reason_of(phase);
+    let seconds = phase.limit().unwrap_or(0);
+    let _ = eprintln!(rt; "kr_daemon: a connection ended: {reason} for {seconds} seconds");
 }
 
 // Looks at all connections, again and again, until the door is closed.
