@@ -1,6 +1,8 @@
 -- Bytes that are held before they are read.
 use Rattle.std.proofs.Common.{◌≡◌, ◌∙◌, ℕ, ◌+◌, ◌<◌, ◌≤◌, List, [], ◌++◌, Option, Some, None, length, take, drop, refl, sym, ap, subst, append_assoc, arith}
-use Rattle.std.specs.Io.KnownBytes.{Consumes, Keeps, IsAtEnd, prepend_known}
+use Rattle.std.proofs.Math.Seq.{take-add}
+use Rattle.std.proofs.lemmas.List.{append-nil, drop-drop, take-append-drop}
+use Rattle.std.specs.Io.KnownBytes.{Consumes, Keeps, prepend_known}
 use Rattle.kr_flow.specs.Moves.{Moves}
 
 -- ---- bytes that stay
@@ -37,3 +39,28 @@ moved (Some xs) (Some ys) held held' m =
 pub taken_of_held : (l : Option (List ℕ)) (held taken rest : List ℕ) → held ≡ taken ++ rest → Consumes (prepend_known held l) (prepend_known rest l) taken
 taken_of_held None held taken rest h = tt
 taken_of_held (Some xs) held taken rest h = ap (λ h. h ++ xs) h ∙ append_assoc taken rest xs
+
+-- nothing more is held
+pub unmoved : (l l' : Option (List ℕ)) (held held' : List ℕ) → Keeps l l' → held' ≡ held → Moves l l' held held'
+unmoved l l' held held' kept same = record {
+  taken = [];
+  took = none_taken l l' kept;
+  stand = same ∙ sym (append-nil held);
+}
+
+-- a piece was read behind what was held
+pub moved_on : (l l' : Option (List ℕ)) (held into : List ℕ) (count : ℕ) → take (length held) into ≡ held → Consumes l l' (take count (drop (length held) into))
+    → Moves l l' held (take (length held + count) into)
+moved_on l l' held into count same took = record {
+  taken = take count (drop (length held) into);
+  took = took;
+  stand = take-add (length held) count into ∙ ap (λ h. h ++ take count (drop (length held) into)) same;
+}
+
+-- a front of what is held is read
+pub read_of_held : (l : Option (List ℕ)) (held into : List ℕ) (at count : ℕ) → take count into ≡ take count (drop at held)
+    → Consumes (prepend_known (drop at held) l) (prepend_known (drop (at + count) held) l) (take count into)
+read_of_held l held into at count same =
+    subst (λ t. Consumes (prepend_known (drop at held) l) (prepend_known (drop (at + count) held) l) t) (sym same)
+    (taken_of_held l (drop at held) (take count (drop at held)) (drop (at + count) held)
+    (sym (take-append-drop count (drop at held)) ∙ ap (λ r. take count (drop at held) ++ r) (drop-drop count at held)))

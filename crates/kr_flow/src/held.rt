@@ -72,6 +72,7 @@ impl<S: Source> HeldSource<S> {
     }
 
     /// Takes bytes until so many are held, or no more come. What is left to be read stays the same.
+    #[tactic(auto, using(crate::proofs::Holding::keeps_refl, crate::proofs::Holding::keeps_trans))]
     pub fn hold(&mut self, count: usize) -> Result<(), NoMemory>
         ensures left { Keeps (⟦<HeldSource<S> as Source>⟧.left self.old) (⟦<HeldSource<S> as Source>⟧.left self.new) }
         ensures faults { ⟦<HeldSource<S> as Source>⟧.faults self.new ≡ ⟦<HeldSource<S> as Source>⟧.faults self.old }
@@ -89,6 +90,7 @@ impl<S: Source> HeldSource<S> {
     }
 
     // Takes one more piece; it answers whether one came.
+    #[tactic(auto, using(crate::proofs::Holding::moved))]
     fn hold_more(&mut self, lack: usize) -> Result<bool, NoMemory>
         ensures left { Keeps (⟦<HeldSource<S> as Source>⟧.left self.old) (⟦<HeldSource<S> as Source>⟧.left self.new) }
         ensures faults { ⟦<HeldSource<S> as Source>⟧.faults self.new ≡ ⟦<HeldSource<S> as Source>⟧.faults self.old }
@@ -129,6 +131,7 @@ fn forget_front(alloc: Global, held: &mut Vec<u8>, at: usize)
 }
 
 // Reads at most so many bytes to the end of those that are held.
+#[tactic(auto, using(crate::proofs::Holding::unmoved, crate::proofs::Holding::moved_on))]
 fn take_behind<S: Source>(
     source: &mut S,
     held: &mut Vec<u8>,
@@ -181,6 +184,7 @@ impl<S: Source> Source for HeldSource<S> {
 
 impl<S: Source> HeldSource<S> {
     // Reads of what is held.
+    #[tactic(auto, using(crate::proofs::Holding::read_of_held))]
     fn read_held(&mut self, into: &mut [u8]) -> usize
         requires { self.old.at < vec_len self.old.held }
         ensures bound { result ≤ length into.new }
@@ -195,6 +199,7 @@ impl<S: Source> HeldSource<S> {
     }
 
     // Reads where nothing is held.
+    #[tactic(auto, using(crate::proofs::Holding::keeps_refl, crate::proofs::Holding::nothing_held))]
     fn read_on(&mut self, into: &mut [u8]) -> Result<usize, Failed>
         requires { self.old.at ≡ vec_len self.old.held }
         ensures bound { ReadsAtMost result into.new }

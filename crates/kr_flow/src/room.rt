@@ -106,6 +106,7 @@ impl EventRoom {
     }
 
     /// One more waits, behind all others.
+    #[tactic(auto, using(crate::proofs::Waits::more_is_bounded))]
     pub fn enter(&mut self, event: Waiting) -> Result<(), NoMemory>
         requires { IsTrue (rooms.has_room self.old.waiting event.bytes) }
         ensures ok { OnOk result (self.new
@@ -119,6 +120,7 @@ impl EventRoom {
     }
 
     /// The one that entered last, which couldn't be pushed, waits no more.
+    #[tactic(auto, using(crate::proofs::Waits::front_is_bounded))]
     pub fn cancel(&mut self)
         ensures { (before : List Waiting) (event : Waiting) → self.old.waiting ≡ before ++ event ∷ []
             → self.new ≡ record self.old { waiting = before } }
@@ -130,6 +132,7 @@ impl EventRoom {
 
     /// The worker has taken so many events in all, at most one more than before: where it is one more, the one that waited
     /// longest is taken, and is answered.
+    #[tactic(auto, using(crate::proofs::Waits::rest_is_bounded, crate::proofs::Waits::not_more, crate::proofs::Waits::none_first, crate::proofs::Waits::one_more_taken, crate::proofs::Waits::one_first, crate::proofs::Waits::none_waits, crate::proofs::Waits::none_waits_first))]
     pub fn note(&mut self, events: u64) -> Option<Waiting>
         ensures first { result ≡ rooms.noted_first self.old events }
         ensures rest { self.new ≡ rooms.noted self.old events }
