@@ -51,6 +51,7 @@ impl Progress {
     }
 
     /// Where they end behind these bytes.
+    #[tactic(auto, using(std::proofs::lemmas::List::Sums::fold_more))]
     pub fn take(&mut self, bytes: &[u8])
         ensures { self.new ≡ fold rules.step self.old bytes.now }
     {
