@@ -1,7 +1,7 @@
 -- Bytes that are held before they are read.
 use Rattle.std.proofs.Common.{◌≡◌, ◌∙◌, ℕ, ◌+◌, ◌<◌, ◌≤◌, List, [], ◌++◌, Option, Some, None, length, take, drop, refl, sym, ap, subst, append_assoc, arith}
 use Rattle.std.proofs.Math.Seq.{take-add}
-use Rattle.std.proofs.lemmas.List.{append-nil, drop-drop, take-append-drop}
+use Rattle.std.proofs.lemmas.List.{append-nil, drop-drop, take-append-drop, take-append-le, take_all}
 use Rattle.std.specs.Io.KnownBytes.{Consumes, Keeps, prepend_known}
 use Rattle.kr_flow.specs.Moves.{Moves}
 
@@ -40,22 +40,31 @@ pub taken_of_held : (l : Option (List ℕ)) (held taken rest : List ℕ) → hel
 taken_of_held None held taken rest h = tt
 taken_of_held (Some xs) held taken rest h = ap (λ h. h ++ xs) h ∙ append_assoc taken rest xs
 
--- nothing more is held
-pub unmoved : (l l' : Option (List ℕ)) (held held' : List ℕ) → Keeps l l' → held' ≡ held → Moves l l' held held'
-unmoved l l' held held' kept same = record {
-  taken = [];
-  took = none_taken l l' kept;
-  stand = same ∙ sym (append-nil held);
+-- what is held, with more behind it
+pub grown : (len n : ℕ) (held more : List ℕ) → len ≡ length held → length held ≤ n → take len (take n held ++ more) ≡ held
+grown len n held more same le =
+    ap (λ h. take len (h ++ more)) (take_all n held le) ∙ (take-append-le len held more (omega (arith, same)) ∙ take_all len held (omega (arith, same)))
+
+-- a piece was read behind the first bytes of those that are held
+pub read_behind_first : (l l' : Option (List ℕ)) (held into items : List ℕ) (len count : ℕ) → take len into ≡ take len held → Consumes l l' (take count (drop len into)) → items ≡ take (len + count) into
+    → Moves l l' (take len held) items
+read_behind_first l l' held into items len count same took stands = record {
+  taken = take count (drop len into);
+  took = took;
+  stand = stands ∙ (take-add len count into ∙ ap (λ h. h ++ take count (drop len into)) same);
 }
 
--- a piece was read behind what was held
-pub moved_on : (l l' : Option (List ℕ)) (held into : List ℕ) (count : ℕ) → take (length held) into ≡ held → Consumes l l' (take count (drop (length held) into))
-    → Moves l l' held (take (length held + count) into)
-moved_on l l' held into count same took = record {
-  taken = take count (drop (length held) into);
-  took = took;
-  stand = take-add (length held) count into ∙ ap (λ h. h ++ take count (drop (length held) into)) same;
+-- nothing was read
+pub none_behind_first : (l l' : Option (List ℕ)) (held into items : List ℕ) (len : ℕ) → take len into ≡ take len held → Keeps l l' → items ≡ take len into → Moves l l' (take len held) items
+none_behind_first l l' held into items len same kept stands = record {
+  taken = [];
+  took = none_taken l l' kept;
+  stand = (stands ∙ same) ∙ sym (append-nil (take len held));
 }
+
+-- nothing moved
+pub none_moved : (l : Option (List ℕ)) (held : List ℕ) → Moves l l held held
+none_moved l held = record { taken = []; took = none_taken l l (keeps_refl l); stand = sym (append-nil held) }
 
 -- a front of what is held is read
 pub read_of_held : (l : Option (List ℕ)) (held into : List ℕ) (at count : ℕ) → take count into ≡ take count (drop at held)

@@ -1,6 +1,6 @@
 //! A source whose next bytes are held once they have come.
 
-ghost use Rattle.std.specs.Prelude.{◌≡◌, ◌<◌, ◌≤◌, ◌+◌, [], take, drop, length, vec_len, IfOk, OnErr};
+ghost use Rattle.std.specs.Prelude.{◌≡◌, ◌<◌, ◌≤◌, ◌+◌, [], take, drop, length, vec_len, IfOk, OnErr, OnOk};
 ghost use Rattle.std.specs.Io.{ReadsAtMost};
 ghost use Rattle.std.specs.Io.KnownBytes.{Consumes, Keeps, ReadConsumes, prepend_known};
 ghost use Rattle.kr_base.specs.Causes.{HasCause, raised};
@@ -57,7 +57,9 @@ impl<S: Source> HeldSource<S> {
     }
 
     /// What is held and wasn't read.
-    pub fn held(&self) -> &[u8] {
+    pub fn held(&self) -> &[u8]
+        ensures { result.now ≡ drop self.now.at self.now.held.items }
+    {
         &self.held.as_slice()[self.at..]
     }
 
@@ -131,7 +133,7 @@ fn forget_front(alloc: Global, held: &mut Vec<u8>, at: usize)
 }
 
 // Reads at most so many bytes to the end of those that are held.
-#[tactic(auto, using(crate::proofs::Holding::unmoved, crate::proofs::Holding::moved_on))]
+#[tactic(auto, using(crate::proofs::Holding::none_moved))]
 fn take_behind<S: Source>(
     source: &mut S,
     held: &mut Vec<u8>,
@@ -140,15 +142,35 @@ fn take_behind<S: Source>(
     ensures { Moves (S.left source.old) (S.left source.new) held.old.items held.new.items }
 {
     let len = held.len();
-    held.resize(len.saturating_add(most), 0)?;
+    grow(held, most)?;
+    Ok(read_grown(source, held, len))
+}
+
+// So many zeros more, behind those that are held.
+#[tactic(auto, using(crate::proofs::Holding::grown))]
+fn grow(held: &mut Vec<u8>, most: usize) -> Result<(), NoMemory>
+    ensures front { OnOk result (take (vec_len held.old) held.new.items ≡ held.old.items) }
+    ensures more { OnOk result (vec_len held.old ≤ vec_len held.new) }
+    ensures same { OnErr result (held.new.items ≡ held.old.items) }
+{
+    let len = held.len().saturating_add(most);
+    held.resize(len, 0)?;
+    Ok(())
+}
+
+// One read, to behind the first `len` bytes; the others are gone.
+fn read_grown<S: Source>(source: &mut S, held: &mut Vec<u8>, len: usize) -> Result<usize, Failed>
+    requires { len ≤ vec_len held.old }
+    ensures { Moves (S.left source.old) (S.left source.new) (take len held.old.items) held.new.items }
+{
     match read_behind(source, held.as_mut_slice(), len) {
         Ok(count) => {
             held.truncate(len + count);
-            Ok(Ok(count))
+            Ok(count)
         }
         Err(failed) => {
             held.truncate(len);
-            Ok(Err(failed))
+            Err(failed)
         }
     }
 }
@@ -192,9 +214,10 @@ impl<S: Source> HeldSource<S> {
         ensures some { 0 < length into.new → 0 < result }
         ensures faults { self.new.faults ≡ self.old.faults }
     {
-        let count = copy_front(&self.held.as_slice()[self.at..], into);
+        let count = copy_front(self.held(), into);
         self.at += count;
-        self.count_read(count);
+        self.at_end = false;
+        self.read = self.read.saturating_add(count as u64);
         count
     }
 
@@ -211,25 +234,18 @@ impl<S: Source> HeldSource<S> {
         }
         match self.inner.read(into) {
             Ok(count) => {
-                self.count_read(count);
+                self.at_end = count == 0;
+                self.read = self.read.saturating_add(count as u64);
                 Ok(count)
             }
             Err(Failed) => Err(self.fail()),
         }
     }
 
-    // So many bytes were read.
-    fn count_read(&mut self, count: usize)
-        ensures same { (self.new.inner ≡ self.old.inner) × (self.new.held ≡ self.old.held) × (self.new.at ≡ self.old.at) }
-        ensures faults { self.new.faults ≡ self.old.faults }
-    {
-        self.at_end = count == 0;
-        self.read = self.read.saturating_add(count as u64);
-    }
-
     // Counts a fault.
     fn fail(&mut self) -> Failed
         ensures same { (self.new.inner ≡ self.old.inner) × (self.new.held ≡ self.old.held) × (self.new.at ≡ self.old.at) }
+        ensures later { self.old.faults ≤ self.new.faults }
         ensures raised { self.new.faults ≡ raised self.old.faults }
     {
         self.has_failed = false;
