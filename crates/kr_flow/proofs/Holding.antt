@@ -45,6 +45,11 @@ pub grown : (len n : ℕ) (held more : List ℕ) → len ≡ length held → len
 grown len n held more same le =
     ap (λ h. take len (h ++ more)) (take_all n held le) ∙ (take-append-le len held more (omega (arith, same)) ∙ take_all len held (omega (arith, same)))
 
+-- all of it is read
+pub whole : (n : ℕ) (into rest : List ℕ) → length into ≡ n → take n (into ++ rest) ≡ into
+whole n into rest same =
+    take-append-le n into rest (omega (arith, same)) ∙ take_all n into (omega (arith, same))
+
 -- a piece was read behind the first bytes of those that are held
 pub read_behind_first : (l l' : Option (List ℕ)) (held into items : List ℕ) (len count : ℕ) → take len into ≡ take len held → Consumes l l' (take count (drop len into)) → items ≡ take (len + count) into
     → Moves l l' (take len held) items

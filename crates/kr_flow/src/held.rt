@@ -179,6 +179,7 @@ fn read_grown<S: Source>(source: &mut S, held: &mut Vec<u8>, len: usize) -> Resu
 fn read_behind<S: Source>(source: &mut S, into: &mut [u8], at: usize) -> Result<usize, Failed>
     requires { at ≤ length into.old }
     ensures before { take at into.new ≡ take at into.old }
+    ensures len { length into.new ≡ length into.old }
     ensures bound { IfOk result (λ count. at + count ≤ length into.new) }
     ensures bytes { IfOk result (λ count. Consumes (S.left source.old) (S.left source.new) (take count (drop at into.new))) }
     ensures failed { OnErr result (Keeps (S.left source.old) (S.left source.new)) }
