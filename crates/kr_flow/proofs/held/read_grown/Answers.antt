@@ -1,5 +1,5 @@
 use Rattle.std.proofs.Common.{◌≡◌, ◌∙◌, ◌+◌, ◌++◌, ap, drop, length, take}
-use Rattle.kr_flow.proofs.Holding.{none_behind_first, read_behind_first, whole}
+use Rattle.kr_flow.proofs.Holding.{read_behind_first, whole}
 use Rattle.kr_flow.proofs.held.read_grown.Goals as goal
 
 pub returns-in-Ok : goal.returns-in-Ok
