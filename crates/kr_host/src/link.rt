@@ -68,8 +68,27 @@ fn next_frame<S: Source>(
     Ok((frame, source.count().saturating_sub(before)))
 }
 
-// Pushes one event after the other, each once it has room, and passes on each question for an image, until the link ends. While an
-// event waits for room nothing is read.
+// Pushes an event once it has room, or passes on a question for an image; where the link ended by the frame, it answers how.
+fn take_frame<R: Wait + time::Clock>(
+    rt: &R,
+    frame: Frame,
+    size: u64,
+    door: &Door,
+    images: &AskedImages,
+) -> Option<LinkEnd> {
+    match frame {
+        Frame::Event(Event::Image) => images.ask(rt),
+        Frame::Event(event) => match link_event(event) {
+            Some(event) => door.push(rt, event, size),
+            None => return Some(LinkEnd::Misplaced),
+        },
+        Frame::End => return Some(LinkEnd::Ended),
+        Frame::Open(_) => return Some(LinkEnd::Misplaced),
+    }
+    None
+}
+
+// Takes one frame after the other until the link ends. While an event waits for room nothing is read.
 fn push_all<R: Wait + time::Clock, S: Source>(
     rt: &R,
     alloc: Global,
@@ -80,13 +99,11 @@ fn push_all<R: Wait + time::Clock, S: Source>(
     let mut frames = Reader::link(alloc);
     for _ in rt.forever() {
         match next_frame(&mut frames, source) {
-            Ok((Frame::Event(Event::Image), _)) => images.ask(rt),
-            Ok((Frame::Event(event), size)) => match link_event(event) {
-                Some(event) => door.push(rt, event, size),
-                None => return LinkEnd::Misplaced,
-            },
-            Ok((Frame::End, _)) => return LinkEnd::Ended,
-            Ok((Frame::Open(_), _)) => return LinkEnd::Misplaced,
+            Ok((frame, size)) => {
+                if let Some(end) = take_frame(rt, frame, size, door, images) {
+                    return end;
+                }
+            }
             Err(StreamFault::Malformed { .. }) if source.is_at_end() => return LinkEnd::Closed,
             Err(fault) => return LinkEnd::Fault(fault),
         }
