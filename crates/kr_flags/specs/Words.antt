@@ -32,9 +32,10 @@ kr_daemon =
     (optional (codes "link")))
     (optional (codes "clients"))
 
--- the command takes the words: by clap's definition of the errors at them there is none
-abbrev pub AreTaken : List (List ℕ) → Type 0
-AreTaken words = fault_of kr_daemon words ≡ []
+-- the command takes the words, by clap's definition of that and of the errors at them
+pub record AreTaken (words : List (List ℕ)) : Type 0 where
+  pub taken : takes kr_daemon words ≡ true
+  pub faultless : fault_of kr_daemon words ≡ []
 
 -- the value that the words give the option of this name
 abbrev pub value_given : List ℕ → List (List ℕ) → Option (List ℕ)

@@ -1,3 +1,4 @@
 pub mod Clients
+pub mod QueueLaws
 pub mod Roles
 pub mod RuleSteps

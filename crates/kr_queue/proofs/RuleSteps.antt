@@ -34,7 +34,7 @@ at_more (x ∷ views) w v (suc number) at = ⊎_elim inl (λ new. inr (ap suc ne
 
 -- ---- a push
 
-pushed_kept : (number : ℕ) (v : View) (job : Job) (items : List Job) (views : List View) → IsTrue (may_push v.role job) → IsKept items views → get_elem? views number ≡ some v → IsKept (items ++ job ∷ []) (set views number (with_pushed v job))
+pub pushed_kept : (number : ℕ) (v : View) (job : Job) (items : List Job) (views : List View) → IsTrue (may_push v.role job) → IsKept items views → get_elem? views number ≡ some v → IsKept (items ++ job ∷ []) (set views number (with_pushed v job))
 pushed_kept number v job items views may kept at =
     let popped = kept.0 in let passes = length views in let all = popped ++ items in let w = with_pushed v job in
     let mine = kept.2 number v at in
@@ -61,7 +61,7 @@ pushes n number v job may = λ items views _ kept at.
 
 -- ---- a pop
 
-popped_kept : (number : ℕ) (v : View) (job : Job) (items : List Job) (views : List View) → v.role ≡ roles.Worker → IsKept (job ∷ items) views → get_elem? views number ≡ some v → IsKept items (set views number (with_popped v job))
+pub popped_kept : (number : ℕ) (v : View) (job : Job) (items : List Job) (views : List View) → v.role ≡ roles.Worker → IsKept (job ∷ items) views → get_elem? views number ≡ some v → IsKept items (set views number (with_popped v job))
 popped_kept number v job items views is_worker kept at =
     let popped = kept.0 in let passes = length views in let more = popped ++ job ∷ [] in let w = with_popped v job in
     let mine = kept.2 number v at in
@@ -77,7 +77,7 @@ popped_kept number v job items views is_worker kept at =
       λ j u e. subst (λ n. Knows more items n j u) (sym as_many) (known After views number w mine_after others_after j u e),
     )
 
-front_allowed : (passes : ℕ) (popped items : List Job) (job : Job) → All (IsAllowed passes) (popped ++ job ∷ items) → IsAllowed passes job
+pub front_allowed : (passes : ℕ) (popped items : List Job) (job : Job) → All (IsAllowed passes) (popped ++ job ∷ items) → IsAllowed passes job
 front_allowed passes popped items job allowed =
     let sum : length (popped ++ job ∷ items) ≡ length popped + suc (length items) = length-append popped (job ∷ items) in
     subst (IsAllowed passes) (get_or-append_seam popped job items job) (allowed (length popped) job (omega (arith, sum)))

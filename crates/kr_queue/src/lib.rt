@@ -2,10 +2,12 @@
 #![tactic(auto)]
 
 mod jobs;
+mod laws;
 mod passes;
 mod queue;
 mod rule;
 
 pub use jobs::Job;
+pub use laws::each_step_keeps_the_rule;
 pub use passes::{ClientPasses, Pass, Passes, Role, View};
 pub use queue::{Queue, open};

@@ -19,7 +19,7 @@ use Rattle.kr_calls.specs.declared.calls.Call.{Call}
 use Rattle.kr_calls.specs.declared.calls.Request.{Request}
 use Rattle.kr_req.specs.declared.api.ApiKey.{ApiKey}
 use Rattle.kr_req.specs.declared.api.ApiKey.TheVariants as apis
-use Rattle.kr_req.specs.Messages.{number_of, version_of, api_of, IsServed, IsStart, IsCall, IsAsk, short, unsupported, call, trailing, unread}
+use Rattle.kr_req.specs.Messages.{number_of, version_of, api_of, IsServed, IsStart, IsCall, IsAsk, MessagesAskOneThing, short, unsupported, call, trailing, unread}
 use Rattle.kr_req.specs.Reading.{is_api, served, served_by, head_at, called_ask, known_ask, started_ask, ask_of}
 use Rattle.kr_req.proofs.Headers.{start_law}
 use Rattle.kr_req.proofs.Bodies.{rest_at, rest_sound, rest_complete, ended, request_is}
@@ -211,6 +211,9 @@ started_found message fits (Err fault) e = elim (cases_lt (length message) 8) [
 pub ask_found : (message : List ℕ) → IsBytes message → IsAsk (ask_of message) message
 unfolding ask_of
 ask_found message fits = started_found message fits (head_at message) refl
+
+pub asks_one : MessagesAskOneThing
+asks_one message fits = (ask_of message, ask_found message fits, λ any is. sym (ask_is any message fits is))
 
 -- ---- what a decoder's answer says
 

@@ -3,7 +3,7 @@
 use Rattle.std.specs.Prelude.{◌≡◌, ℕ, ℤ, pos, negsuc, ◌<◌, ◌⊎◌, List, length, IsUtf8}
 use Rattle.std.specs.Int.{w16, w32}
 use Rattle.kr_wire.specs.Grammar.{◌⌢◌, Exactly, IsSigned, NoTags}
-use Rattle.kr_wire.specs.Laws.{Front}
+use Rattle.kr_wire.specs.Laws.{Front, IsBytes}
 use Rattle.kr_calls.specs.declared.calls.Ask.{Ask}
 use Rattle.kr_calls.specs.declared.calls.Ask.TheVariants as asks
 use Rattle.kr_calls.specs.declared.calls.AskFault.TheVariants as faults
@@ -136,6 +136,10 @@ pub data IsAsk : Ask → List ℕ → Type 0 where
       → IsAsk (asks.Bare c.correlation faults.Trailing) message
   unread : (key version correlation : ℤ) (message : List ℕ) → BeginsWith key version correlation message → IsServed key version
       → ((c : Call) (rest : List ℕ) → Front (IsCall c) message rest → ⊥) → IsAsk (asks.Bare correlation faults.Wire) message
+
+-- each message asks one thing: at least one, and no other
+abbrev pub MessagesAskOneThing : Type 0
+MessagesAskOneThing = (message : List ℕ) → IsBytes message → (ask : Ask) × IsAsk ask message × ((any : Ask) → IsAsk any message → any ≡ ask)
 
 -- ---- reply messages
 

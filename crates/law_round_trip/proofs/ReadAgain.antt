@@ -1,8 +1,9 @@
 -- A batch that stands in fewer than 2^27 bytes, and has records, can be written again.
-use Rattle.std.proofs.Common.{◌≡◌, ℕ, ℤ, pos, ◌+◌, ◌*◌, ◌^◌, ◌<◌, ◌≤◌, Bool, true, false, List, [], ◌∷◌, length, arith, lit≤}
+use Rattle.std.proofs.Common.{◌≡◌, ℕ, zero, suc, ℤ, pos, ◌+◌, ◌*◌, ◌^◌, ◌<◌, ◌≤◌, Bool, true, false, List, [], ◌∷◌, length, sym, subst, arith, lit≤}
 use Rattle.std.specs.Prelude.{FitsSigned}
 use Rattle.std.specs.List.{All, sum_by}
 use Rattle.std.specs.Int.{w32, w64}
+use Rattle.std.proofs.Math.ListN.{replicate}
 use Rattle.std.proofs.lemmas.List.Elements.{All-nil, All-cons, All-head, All-tail}
 use Rattle.std.proofs.lemmas.List.Sums.{sum_by-cons}
 use Rattle.kr_defs.specs.declared.limits.TheConstants.{MOST_RECORDS}
@@ -66,6 +67,16 @@ items_stand true (items.Record r ∷ others) bytes some has is = absurd (let sam
 items_stand true (items.Control ∷ others) bytes some has is = absurd cc
 items_stand false all bytes some has is = is
 
+-- ---- the items of any batch, records or not
+
+controls_held : (n : ℕ) → All IsHeldItem (replicate n items.Control)
+controls_held zero = All-nil IsHeldItem
+controls_held (suc n) = All-cons IsHeldItem items.Control (replicate n items.Control) tt (controls_held n)
+
+items_held : (control : Bool) (all : List Item) (bytes : List ℕ) → AreItems control all bytes → IsBytes bytes → All IsHeldItem all
+items_held true all bytes is known = subst (All IsHeldItem) (sym is) (controls_held (length all))
+items_held false all bytes is known = (entries all 0).held bytes is known
+
 -- ---- the fields before the records
 
 begun : {One More : List ℕ → Type 0} {m : ℕ} {Held : Type 0} (behind : List ℕ) → Follows One m (Unit {0}) Held → Follows ((One ⌢ More) ⌢ Exactly behind) (8 * length behind) (Unit {0}) (Held × IsBytes behind)
@@ -102,3 +113,10 @@ read_regular batch bytes is known few some =
       held = all.held is.records stand found.1;
       small = omega (arith, all.cost is.records stand, values_long batch.items writable);
     }
+
+pub read_held : (batch : Batch) (bytes : List ℕ) → IsBatch batch bytes → IsBytes bytes → All IsHeldItem batch.items
+read_held batch bytes is known =
+    let started = (begun is.behind (signed w64 batch.base (lit≤ tt))).held bytes is.start known in
+    let summed = (begun is.checked (signed w32 batch.epoch (lit≤ tt))).held is.behind is.sum started.1 in
+    let found = (fixed is.control batch.time (length batch.items) is.records).held is.checked is.fixed summed.1 in
+    items_held is.control batch.items is.records is.items found.1

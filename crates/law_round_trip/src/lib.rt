@@ -2,6 +2,7 @@
 #![tactic(auto)]
 
 ghost use Rattle.std.specs.Prelude.{◌<◌, ◌≤◌, ◌*◌, ◌^◌, List, ℕ, length};
+ghost use Rattle.std.specs.List.{All};
 ghost use Rattle.kr_defs.specs.Sizes.{value_bytes};
 ghost use Rattle.kr_defs.specs.declared.record.Record.{Record as AnyRecord};
 ghost use Rattle.kr_wire.specs.Laws.{IsBytes};
@@ -10,7 +11,7 @@ ghost use Rattle.kr_record.specs.Grammar.{IsRecord};
 ghost use Rattle.kr_record.specs.Spelling.{record_value};
 ghost use Rattle.kr_batch.specs.declared.Batch.{Batch as AnyBatch};
 ghost use Rattle.kr_batch.specs.Grammar.{IsBatch};
-ghost use Rattle.kr_batch.specs.BatchBytes.{IsRegular, batch_bytes};
+ghost use Rattle.kr_batch.specs.BatchBytes.{IsHeldItem, IsRegular, batch_bytes};
 ghost use Rattle.law_round_trip.specs.Items.{HasRecords};
 
 /// A record that stands in fewer than 2^31 bytes has a written form, its numbers and texts are those of their types,
@@ -22,10 +23,12 @@ pub fn records_again()
     ensures size { (r : AnyRecord) (bytes : List ℕ) → IsRecord r bytes → value_bytes r ≤ 8 * length bytes }
 {}
 
-/// A batch that stands in fewer than 2^27 bytes, and has records, can be written again, and what is written for it
-/// stands for it.
+/// The numbers and texts of a batch that stands in bytes are those of their types. One that stands in fewer than 2^27
+/// bytes, and has records, can be written again, and what is written for it stands for it.
 #[tactic(auto, using(crate::proofs::ReadAgain::read_regular, kr_batch::proofs::WrittenBatches::regular_spelled))]
 pub fn batches_again()
+    ensures held { (b : AnyBatch) (bytes : List ℕ) →
+        IsBatch b bytes → IsBytes bytes → All IsHeldItem b.items }
     ensures regular { (b : AnyBatch) (bytes : List ℕ) → IsBatch b bytes → IsBytes bytes → length bytes < 2 ^ 27 → HasRecords b.items → IsRegular b }
     ensures stands { (b : AnyBatch) (bytes : List ℕ) → IsBatch b bytes → IsBytes bytes → length bytes < 2 ^ 27 → HasRecords b.items → IsBatch b (batch_bytes b) }
 {}

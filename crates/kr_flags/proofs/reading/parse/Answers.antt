@@ -4,6 +4,7 @@ use Rattle.clap.specs.Words.{first_of, matches_of, found_of, fault_of, is_simple
 use Rattle.std.specs.Prelude.{Result, Ok, Err}
 use Rattle.kr_flags.specs.declared.told.SettingsFault.TheVariants.{Refused}
 use Rattle.kr_flags.specs.Words as spec
+use Rattle.kr_flags.proofs.Taken.{taken}
 use Rattle.kr_flags.proofs.reading.parse.Goals as goal
 
 simple : is_simple spec.kr_daemon ≡ true
@@ -19,7 +20,9 @@ returns-in-Ok-clause-values c = λ name.
 
 pub returns-in-Ok-clause-taken : goal.returns-in-Ok-clause-taken
 returns-in-Ok-clause-taken c =
-    sym (ap (λ app. fault_of app (map (λ s. s.now) c.args.words.now)) c.in_ok-command.ensures.app) ∙ c.in-Ok.ensures.kinds (ap is_simple_and_free c.in_ok-command.ensures.app ∙ free)
+    let words = map (λ s. s.now) c.args.words.now in
+    let none = sym (ap (λ app. fault_of app words) c.in_ok-command.ensures.app) ∙ c.in-Ok.ensures.kinds (ap is_simple_and_free c.in_ok-command.ensures.app ∙ free) in
+    record { taken = taken spec.kr_daemon words simple refl refl refl none; faultless = none }
 
 refuted : (b : Bool) {P : Type 0} → (b ≡ true → P) → (P → ⊥) → b ≡ false
 refuted false h never = refl
