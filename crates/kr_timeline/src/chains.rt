@@ -103,7 +103,8 @@ pub(crate) fn repeat<K: Ord + Drop, V: Copied + Drop>(
     above: u64,
 ) -> Result<(), NoMemory>
     requires { AreFalling chains.old.entries }
-    ensures absent { entries.get K.cmp chains.old.entries key.now ≡ None → chains.new.entries ≡ chains.old.entries }
+    ensures absent { entries.get K.cmp chains.old.entries key.now ≡ None →
+        chains.new.entries ≡ chains.old.entries }
     ensures ok { OnOk result
         (Rewrites K.cmp key.now (repeated from above) chains.old.entries chains.new.entries) }
     ensures err { OnErr result (chains.new.entries ≡ chains.old.entries) }
@@ -122,8 +123,10 @@ pub(crate) fn lower<K: Ord + Drop, V: Drop>(
     above: u64,
     number: u64,
 )
-    ensures absent { entries.get K.cmp chains.old.entries key.now ≡ None → chains.new.entries ≡ chains.old.entries }
-    ensures lowered { Rewrites K.cmp key.now (lowered above number) chains.old.entries chains.new.entries }
+    ensures absent { entries.get K.cmp chains.old.entries key.now ≡ None →
+        chains.new.entries ≡ chains.old.entries }
+    ensures lowered { Rewrites K.cmp key.now
+        (lowered above number) chains.old.entries chains.new.entries }
     ensures left { (chain : List (ℕ × Option V)) → entries.get K.cmp chains.old.entries key.now ≡
         Some chain → is_left (lowered above number chain) ≡ true }
 {

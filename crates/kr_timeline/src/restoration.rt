@@ -37,7 +37,8 @@ fn list_after<K: Copied + Drop>(
     alloc: Global,
 ) -> Result<(), NoMemory>
     requires { count ≤ deque_len kept.now }
-    ensures ok { OnOk result (keys.new.items ≡ keys.old.items ++ keys_in (drop count kept.now.items)) }
+    ensures ok { OnOk result (keys.new.items ≡
+        keys.old.items ++ keys_in (drop count kept.now.items)) }
     ensures err { OnErr result (take (length keys.old.items) keys.new.items ≡ keys.old.items) }
 {
     let mut place = count;
@@ -58,8 +59,10 @@ fn repeat_keys<K: Ord + Drop, V: Copied + Drop>(
 ) -> Result<(), NoMemory>
     requires falls { AreFalling chains.old.entries }
     requires up_to { Versions (λ _ n. nat_le n above) chains.old.entries }
-    ensures ok { OnOk result (chains.new.entries ≡ all_trimmed K.cmp (repeated from above) keys.now.items chains.old.entries) }
-    ensures err { OnErr result (RepeatsSome K.cmp from above keys.now.items chains.old.entries chains.new.entries) }
+    ensures ok { OnOk result (chains.new.entries ≡
+        all_trimmed K.cmp (repeated from above) keys.now.items chains.old.entries) }
+    ensures err { OnErr result
+        (RepeatsSome K.cmp from above keys.now.items chains.old.entries chains.new.entries) }
 {
     for key in keys {
         chains::repeat(chains, alloc, key, from, above)?;
@@ -74,7 +77,8 @@ fn lower_keys<K: Ord + Drop, V: Drop>(
     above: u64,
     number: u64,
 )
-    ensures { chains.new.entries ≡ all_trimmed K.cmp (lowered above number) keys.now.items chains.old.entries }
+    ensures { chains.new.entries ≡
+        all_trimmed K.cmp (lowered above number) keys.now.items chains.old.entries }
 {
     for key in keys {
         chains::lower(chains, key, above, number);
@@ -84,7 +88,8 @@ fn lower_keys<K: Ord + Drop, V: Drop>(
 // Drops the versions above the number of each of the keys.
 fn cut_keys<K: Ord + Drop, V: Drop>(chains: &mut BTreeMap<K, Chain<V>>, keys: &Vec<K>, number: u64)
     requires { AreFalling chains.old.entries }
-    ensures { chains.new.entries ≡ all_trimmed K.cmp (cut number) keys.now.items chains.old.entries }
+    ensures { chains.new.entries ≡
+        all_trimmed K.cmp (cut number) keys.now.items chains.old.entries }
 {
     for key in keys {
         chains::trim(chains, key, Trim::Above, number);
@@ -103,7 +108,8 @@ fn rewrite<K: Ord + Drop, V: Copied + Drop>(
     requires below { Versions (λ _ n. nat_le n number) chains.old.entries }
     requires some { AreLeft chains.old.entries }
     requires last { number < 2 ^ 64 - 1 }
-    ensures ok { OnOk result (chains.new.entries ≡ mapped (is_listed K.cmp keys.now.items) (restored from number) chains.old.entries) }
+    ensures ok { OnOk result (chains.new.entries ≡
+        mapped (is_listed K.cmp keys.now.items) (restored from number) chains.old.entries) }
     ensures err { OnErr result (chains.new.entries ≡ chains.old.entries) }
 {
     chains.len();
@@ -135,8 +141,10 @@ pub(crate) fn restore_after<K: Key + Drop, V: Copied + Drop>(
     requires below { Versions (λ _ n. nat_le n number) chains.old.entries }
     requires some { AreLeft chains.old.entries }
     requires last { number < 2 ^ 64 - 1 }
-    ensures listed { OnOk result (keys.new.items ≡ keys.old.items ++ keys_in (drop count kept.now.items)) }
-    ensures ok { OnOk result (chains.new.entries ≡ mapped (is_listed K.cmp keys.new.items) (restored from number) chains.old.entries) }
+    ensures listed { OnOk result (keys.new.items ≡
+        keys.old.items ++ keys_in (drop count kept.now.items)) }
+    ensures ok { OnOk result (chains.new.entries ≡
+        mapped (is_listed K.cmp keys.new.items) (restored from number) chains.old.entries) }
     ensures err { OnErr result (chains.new.entries ≡ chains.old.entries) }
     ensures keys { OnErr result (keys.new.items ≡ keys.old.items) }
 {
