@@ -1,5 +1,5 @@
 -- What a leader's requests and the ends of sessions write.
-use Rattle.std.proofs.Common.{◌≡◌, ◌∙◌, sym, subst, ℕ, ℤ, pos, ◌+◌, ◌≤◌, ◌<◌, Bool, true, false, cond, List, [], ◌∷◌, ◌++◌, length, map, refl, ap, arith}
+use Rattle.std.proofs.Common.{◌≡◌, ◌∙◌, sym, subst, ℕ, suc, ℤ, pos, ◌+◌, ◌≤◌, ◌<◌, Bool, true, false, cond, List, [], ◌∷◌, ◌++◌, length, map, refl, ap, arith}
 use Rattle.std.specs.Prelude.{Option, Some, None, Result, Ok, Err, IsOk, ◌==◌, ◌&&◌, not, is_some}
 use Rattle.std.specs.List.{AllByRecursion}
 use Rattle.std.specs.Result.{result_unwrap_or}
@@ -86,18 +86,13 @@ module _ (list : List Batch) (elected : ℤ) (settled : ℕ) where
     core_written [] means = subst (IsCore list elected (record { world = s.world; basis = basis }) settled) (sym (append-nil unsettled)) none_written
     core_written (r ∷ rs) means = by_tests (length (as_items (r ∷ rs)) == 0) (length (r ∷ rs) == 0) (not_none (length (as_items rs))) (not_none (length rs))
       where
-        abbrev longer : World
-        longer = record s.world {
-          log = log_with s.world.log (as_items (r ∷ rs));
-          batch_ends = s.world.batch_ends ++ (tip s.world.log + length (as_items (r ∷ rs))) ∷ [];
-        }
-
         by_tests : (a b : Bool) → a ≡ false → b ≡ false
-            → IsCore list elected (record { world = cond a s.world longer; basis = basis }) settled (unsettled ++ cond b [] (next_batch s (r ∷ rs) ∷ []))
+            → IsCore list elected (record { world = cond a s.world (record s.world { log = log_with s.world.log (as_items (r ∷ rs)); batch_ends = s.world.batch_ends ++ (tip s.world.log + length (as_items (r ∷ rs))) ∷ [] }); basis = basis }) settled (unsettled ++ cond b [] (next_batch s (r ∷ rs) ∷ []))
         by_tests true b is h = absurd cc
         by_tests false true h is = absurd cc
         by_tests false false h g =
-            written (next_batch s (r ∷ rs)) (s.world.batch_ends ++ (tip s.world.log + length (as_items (r ∷ rs))) ∷ []) (omega arith) means
+            let some : 0 < suc (length (as_items rs)) = omega arith in
+            written (next_batch s (r ∷ rs)) (s.world.batch_ends ++ (tip s.world.log + length (as_items (r ∷ rs))) ∷ []) some means
 
   -- ---- fencings
 
@@ -129,8 +124,7 @@ module _ (options : Options) where
 -- ---- a request
 
 module _ (list : List Batch) (elected : ℤ) (settled : ℕ) (unsettled : List Batch) (options : Options) (s : State) (client : ℕ) (now : ℤ) (call : Call)
-  (c : IsCore list elected s settled unsettled) (waiting : List Waiting) (h : AllWait s.world.log waiting) where
-
+    (c : IsCore list elected s settled unsettled) (waiting : List Waiting) (h : AllWait s.world.log waiting) where
   abbrev decided : Bool
   decided = is_decided s.world (asks.Call call)
 
@@ -146,13 +140,13 @@ module _ (list : List Batch) (elected : ℤ) (settled : ℕ) (unsettled : List B
       let long : length (items_of (batch_for s records)) ≡ length (as_items records) = ap (λ (l : List Item). length l) (batch_items s records) in
       let after : after_ask options s (asks.Call call) ≡ after_write options s call.request = ap (λ b. cond b (after_write options s call.request) s) is in
       let end : tip_of (after_ask options s (asks.Call call)) ≡ tip (log_with s.world.log (as_items records)) =
-        ap (λ (t : State). tip_of t) after ∙ ap (λ (log : Log). tip log) (batch_written s.world (as_items records)) in
+      ap (λ (t : State). tip_of t) after ∙ ap (λ (log : Log). tip log) (batch_written s.world (as_items records)) in
       record {
         front = s.world.log.items;
         back = [];
         at = refl;
         is = ap (λ (l : List Item). s.world.log.items ++ l) (sym (append-nil (items_of (batch_for s records)) ∙ batch_items s records));
-        count = sym (long ∙ length-map (λ (r : Record). items.Record r) records);
+        count = sym (long ∙ length-map records (λ (r : Record). items.Record r));
         need = ap (λ n. pos n) (end ∙ (tip_written s.world.log (as_items records) ∙ ap (λ n. tip s.world.log + n) (sym long)));
       }
 
@@ -163,7 +157,7 @@ module _ (list : List Batch) (elected : ℤ) (settled : ℕ) (unsettled : List B
       (meant (image_of_tip s) d.image records (requests_stand options s.basis.time (heard s.basis) (image_of_tip s) (pos (tip_of s)) call.request))
 
   leads : (o : Option ℤ) → s.world.leading ≡ o → decided ≡ true → (epoch : ℤ) × (s.world.leading ≡ Some epoch)
-  leads None none is = absurd (let e : (is_some s.world.leading && not (is_read call.request)) ≡ true = is in subst (λ (o : Option ℤ). (is_some o && not (is_read call.request)) ≡ true → ⊥) (sym none) (λ z. absurd cc) e)
+  leads None none is = absurd (let e : false ≡ true = subst (λ (o : Option ℤ). (is_some o && not (is_read call.request)) ≡ true) none is in cc)
   leads (Some epoch) led is = (epoch, led)
 
   abbrev Written : Bool → Type 0
@@ -175,11 +169,10 @@ module _ (list : List Batch) (elected : ℤ) (settled : ℕ) (unsettled : List B
   by_decided : (b : Bool) → decided ≡ b → Written b
   by_decided false is = (core_more list elected settled s unsettled c, waits_both s.world.log waiting [] h tt, refl)
   by_decided true is =
-      let led = leads s.world.leading refl is in
-      (
+      let led = leads s.world.leading refl is in (
         core_written list elected settled s unsettled (with_heartbeats s.basis (decision options s call.request).heartbeats) c led.0 led.1 records means,
         subst (λ (log : Log). AllWait log (waiting ++ own ∷ [])) (sym (batch_written s.world (as_items records)))
-        (waits_both (log_with s.world.log (as_items records)) waiting (own ∷ []) (waits_longer s.world.log (as_items records) waiting h) (own_waits is, tt)),
+            (waits_both (log_with s.world.log (as_items records)) waiting (own ∷ []) (waits_longer s.world.log (as_items records) waiting h) (own_waits is, tt)),
         (batch_leaves s.world (as_items records)).leading,
       )
 

@@ -5,3 +5,5 @@ pub mod Replies
 pub mod LeaderLogs
 pub mod Steps
 pub mod AllMoves
+pub mod NodeEvents
+mod Examples

@@ -477,7 +477,7 @@ module _ (r : Run) (g : IsRun r) where
 
   module _ (options : Options) (k : ℕ) (n : Node) (is : slice_get r.nodes k ≡ Some n) (none : n.state.world.leading ≡ None) (epoch now : ℤ) (high : int_lt r.elected epoch ≡ true)
       (whole : n.state.world.committed ≡ length_of r) where
-    event : Event
+    abbrev event : Event
     event = events.Lead epoch (pos n.state.world.committed) now
 
     own : IsNode r.list r.elected n

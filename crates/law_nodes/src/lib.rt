@@ -5,6 +5,7 @@
 mod moves;
 
 ghost use Rattle.law_nodes.specs.Agreement.{NodesAgree};
+ghost use Rattle.law_nodes.specs.NodeEvents.{NodesTakeEvents};
 
 pub use moves::{Move, MoveFault};
 
@@ -13,4 +14,10 @@ pub use moves::{Move, MoveFault};
 /// stand there in the list.
 pub fn nodes_agree()
     ensures { NodesAgree }
+{}
+
+/// An event makes of a node what it makes of a controller: of its state, of the writes that wait and of the batches that it
+/// appends; and what it tells clients are the replies that the event gives out, in order.
+pub fn nodes_take_events()
+    ensures { NodesTakeEvents }
 {}
