@@ -22,7 +22,7 @@ use Rattle.kr_model.specs.World.{image_of_end}
 use Rattle.law_nodes.specs.declared.moves.Move.{Move}
 use Rattle.law_nodes.specs.declared.moves.Move.TheVariants as moves
 use Rattle.law_nodes.specs.declared.moves.MoveFault.TheVariants as faults
-use Rattle.law_nodes.specs.Moves.{end_of, moved, run}
+use Rattle.law_nodes.specs.Moves.{committed_end, move_outcome, run}
 use Rattle.law_nodes.specs.Nodes.{NodeTold, Run}
 
 abbrev options : Options
@@ -58,7 +58,7 @@ abbrev lost : ℤ → NodeTold
 lost correlation = record { node = 0; client = 1; correlation = correlation; place = negsuc 0; items = []; reply = reply (pos 41) }
 
 abbrev ends : Run → List ℕ
-ends r = map (λ n. end_of n) r.nodes
+ends r = map (λ n. committed_end n) r.nodes
 
 abbrev settings : Run → List (List (ConfigKey × List ℕ))
 settings r = map (λ n. (image_of_end n.state).configs) r.nodes
@@ -75,7 +75,7 @@ abbrev late : Run
 late = run options 3 (
     elect 0 (pos 1) ∷ ask 0 (pos 7) (codes "2") ∷ moves.Settle 0 ∷ moves.Depose 0 ∷ elect 0 (pos 2) ∷ moves.Feed 1 ∷ elect 1 (pos 2) ∷ moves.Feed 0 ∷ [])
 
-is_behind : moved options (run options 3 deposed) (elect 0 (pos 2)) ≡ Err (faults.Behind (pos 0) (pos 1))
+is_behind : move_outcome options (run options 3 deposed) (elect 0 (pos 2)) ≡ Err (faults.Behind (pos 0) (pos 1))
 unfolding work_of incremental_alter_configs.decided done taken apply_record apply image_at value_bytes heartbeats_after refusals.refuse
 is_behind = refl
 
@@ -99,7 +99,7 @@ asked = run options 3 (elect 0 (pos 1) ∷ ask 0 (pos 7) (codes "2") ∷ [])
 abbrev told : Run
 told = run options 3 (elect 0 (pos 1) ∷ ask 0 (pos 7) (codes "2") ∷ moves.Tell 0 ∷ moves.Settle 0 ∷ moves.Tell 0 ∷ [])
 
-not_yet : moved options asked (moves.Tell 0) ≡ Err (faults.NothingNew (pos 0))
+not_yet : move_outcome options asked (moves.Tell 0) ≡ Err (faults.NothingNew (pos 0))
 unfolding work_of incremental_alter_configs.decided done taken apply_record apply image_at value_bytes heartbeats_after refusals.refuse
 not_yet = refl
 
@@ -107,7 +107,7 @@ told_then : told.told ≡ stands (pos 7) (pos 0) (codes "2") ∷ []
 unfolding work_of incremental_alter_configs.decided done taken apply_record apply image_at value_bytes heartbeats_after refusals.refuse
 told_then = refl
 
-no_more : moved options told (moves.Tell 0) ≡ Err (faults.NothingNew (pos 1))
+no_more : move_outcome options told (moves.Tell 0) ≡ Err (faults.NothingNew (pos 1))
 unfolding work_of incremental_alter_configs.decided done taken apply_record apply image_at value_bytes heartbeats_after refusals.refuse
 no_more = refl
 
@@ -116,7 +116,7 @@ no_more = refl
 abbrev passed : List Move
 passed = elect 0 (pos 1) ∷ ask 0 (pos 7) (codes "2") ∷ ask 0 (pos 8) (codes "3") ∷ moves.Settle 0 ∷ moves.Feed 1 ∷ elect 1 (pos 2) ∷ []
 
-is_passed : moved options (run options 3 passed) (moves.Settle 0) ≡ Err (faults.NotLatest (pos 1) (pos 2))
+is_passed : move_outcome options (run options 3 passed) (moves.Settle 0) ≡ Err (faults.NotLatest (pos 1) (pos 2))
 unfolding work_of incremental_alter_configs.decided done taken apply_record apply image_at value_bytes heartbeats_after refusals.refuse
 is_passed = refl
 
@@ -140,5 +140,5 @@ copied : ends (run options 3 (elect 0 (pos 1) ∷ ask 0 (pos 7) (codes "2") ∷ 
 unfolding work_of incremental_alter_configs.decided done taken apply_record apply image_at value_bytes heartbeats_after refusals.refuse
 copied = refl
 
-no_node : moved options (run options 3 []) (moves.Copy 4 3) ≡ Err (faults.NoNode 4 3)
+no_node : move_outcome options (run options 3 []) (moves.Copy 4 3) ≡ Err (faults.NoNode 4 3)
 no_node = refl

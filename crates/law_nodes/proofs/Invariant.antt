@@ -11,8 +11,8 @@ use Rattle.kr_defs.specs.Log.{Log, apply_all}
 use Rattle.kr_defs.proofs.Tests.{some_is}
 use Rattle.kr_model.specs.World.{State}
 use Rattle.law_nodes.specs.Agreement.{IsTold}
-use Rattle.law_nodes.specs.Nodes.{Node, NodeTold, Run, Waiting}
-use Rattle.law_nodes.specs.OneList.{Follows, items_of}
+use Rattle.law_nodes.specs.Nodes.{RunNode, NodeTold, Run, Waiting}
+use Rattle.law_nodes.specs.OneList.{Follows, list_items}
 use Rattle.law_nodes.proofs.Lists.{HasItems}
 
 -- a write that waits stands in its node's log, and needs the log up to its end
@@ -30,7 +30,7 @@ pub record IsCore (list : List Batch) (elected : ℤ) (s : State) (settled : ℕ
   pub settles : Follows list s.world.log settled
   pub order : s.world.committed ≤ settled
   -- what isn't settled stands above
-  pub tail : settles.rest ≡ items_of unsettled
+  pub tail : settles.rest ≡ list_items unsettled
   pub some : AllByRecursion HasItems unsettled
   -- all has a meaning
   pub means : IsOk (apply_all s.world.log.image s.world.log.items)
@@ -39,16 +39,16 @@ pub record IsCore (list : List Batch) (elected : ℤ) (s : State) (settled : ℕ
   pub low : (epoch : ℤ) → s.world.leading ≡ Some epoch → IsTrue (not (int_lt elected epoch))
   pub latest : s.world.leading ≡ Some elected → settles.ahead ≡ []
 
-pub record IsNode (list : List Batch) (elected : ℤ) (n : Node) : Type 0 where
+pub record IsNode (list : List Batch) (elected : ℤ) (n : RunNode) : Type 0 where
   pub core : IsCore list elected n.state n.settled n.unsettled
   pub waits : AllByRecursion (Waits n.state.world.log) n.waiting
   pub idle : n.state.world.leading ≡ None → n.waiting ≡ []
 
-abbrev pub Leads : ℤ → Node → Type 0
+abbrev pub Leads : ℤ → RunNode → Type 0
 Leads elected n = n.state.world.leading ≡ Some elected
 
 -- at most one node leads in the latest epoch
-abbrev pub OneLeads : ℤ → List Node → Type 0
+abbrev pub OneLeads : ℤ → List RunNode → Type 0
 OneLeads elected [] = Unit {0}
 OneLeads elected (n ∷ ns) = (Leads elected n → AllByRecursion (λ m. Leads elected m → ⊥) ns) × OneLeads elected ns
 
@@ -57,7 +57,7 @@ pub record IsRun (r : Run) : Type 0 where
   pub one : OneLeads r.elected r.nodes
   pub some : AllByRecursion HasItems r.list
   pub told : AllByRecursion (IsTold r.list) r.told
-  pub whole : IsOk (apply_all empty (items_of r.list))
+  pub whole : IsOk (apply_all empty (list_items r.list))
 
 -- ---- the same at another time, after another number of events
 
@@ -77,17 +77,17 @@ core_at list elected s settled unsettled count time c = record {
 
 -- ---- nodes by their numbers
 
-module _ (P Q : Node → Type 0) where
-  pub all_put : (ns : List Node) (k : ℕ) (m : Node) → AllByRecursion P ns → ((n : Node) → P n → Q n) → Q m → AllByRecursion Q (set ns k m)
+module _ (P Q : RunNode → Type 0) where
+  pub all_put : (ns : List RunNode) (k : ℕ) (m : RunNode) → AllByRecursion P ns → ((n : RunNode) → P n → Q n) → Q m → AllByRecursion Q (set ns k m)
   all_put [] k m h up own = tt
   all_put (n ∷ ns) zero m h up own = (own, all_up ns h.1 up)
     where
-      all_up : (xs : List Node) → AllByRecursion P xs → ((x : Node) → P x → Q x) → AllByRecursion Q xs
+      all_up : (xs : List RunNode) → AllByRecursion P xs → ((x : RunNode) → P x → Q x) → AllByRecursion Q xs
       all_up [] g u = tt
       all_up (x ∷ xs) g u = (u x g.0, all_up xs g.1 u)
   all_put (n ∷ ns) (suc k) m h up own = (up n h.0, all_put ns k m h.1 up own)
 
-pub at_node : (P : Node → Type 0) (ns : List Node) (k : ℕ) (n : Node) → AllByRecursion P ns → slice_get ns k ≡ Some n → P n
+pub at_node : (P : RunNode → Type 0) (ns : List RunNode) (k : ℕ) (n : RunNode) → AllByRecursion P ns → slice_get ns k ≡ Some n → P n
 at_node P [] k n h is = absurd cc
 at_node P (x ∷ xs) zero n h is = subst P (some_is x n is) h.0
 at_node P (x ∷ xs) (suc k) n h is = at_node P xs k n h.1 is
@@ -95,12 +95,12 @@ at_node P (x ∷ xs) (suc k) n h is = at_node P xs k n h.1 is
 -- ---- who leads
 
 -- a node takes the place of one that leads in the same epoch, or it doesn't lead in the latest
-others_put : (elected : ℤ) (ns : List Node) (k : ℕ) (m : Node) → AllByRecursion (λ x. Leads elected x → ⊥) ns → (Leads elected m → ⊥) → AllByRecursion (λ x. Leads elected x → ⊥) (set ns k m)
+others_put : (elected : ℤ) (ns : List RunNode) (k : ℕ) (m : RunNode) → AllByRecursion (λ x. Leads elected x → ⊥) ns → (Leads elected m → ⊥) → AllByRecursion (λ x. Leads elected x → ⊥) (set ns k m)
 others_put elected [] k m h own = tt
 others_put elected (n ∷ ns) zero m h own = (own, h.1)
 others_put elected (n ∷ ns) (suc k) m h own = (h.0, others_put elected ns k m h.1 own)
 
-pub one_put : (elected : ℤ) (ns : List Node) (k : ℕ) (n m : Node) → slice_get ns k ≡ Some n → (Leads elected m → Leads elected n) → OneLeads elected ns → OneLeads elected (set ns k m)
+pub one_put : (elected : ℤ) (ns : List RunNode) (k : ℕ) (n m : RunNode) → slice_get ns k ≡ Some n → (Leads elected m → Leads elected n) → OneLeads elected ns → OneLeads elected (set ns k m)
 one_put elected [] k n m is same h = tt
 one_put elected (x ∷ xs) zero n m is same h = (λ leads. h.0 (subst (Leads elected) (sym (some_is x n is)) (same leads)), h.1)
 one_put elected (x ∷ xs) (suc k) n m is same h = (

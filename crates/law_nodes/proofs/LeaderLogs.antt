@@ -31,7 +31,7 @@ use Rattle.kr_model.proofs.LogEntries.{batch_written, not_none}
 use Rattle.kr_model.proofs.Logs.{as_records, tip_written}
 use Rattle.kr_model.proofs.SafeEntries.{fenced_to}
 use Rattle.law_nodes.specs.Nodes.{Waiting, batch_for, batches_for, fencing_batches, writes_with}
-use Rattle.law_nodes.specs.OneList.{items_of}
+use Rattle.law_nodes.specs.OneList.{list_items}
 use Rattle.law_nodes.proofs.Invariant.{IsCore, Waits, never}
 use Rattle.law_nodes.proofs.Lists.{items_one, some_both}
 use Rattle.law_nodes.proofs.Logs
@@ -42,10 +42,10 @@ meant : (image after : Image) (records : List Record) → apply_records image re
 meant image after records is = subst (λ (r : Result Image Ill). IsOk r) (sym (as_records image records ∙ is)) refl
 
 -- the items of the batch that is made of records
-batch_items : (s : State) (records : List Record) → items_of (batch_for s records) ≡ as_items records
+batch_items : (s : State) (records : List Record) → list_items (batch_for s records) ≡ as_items records
 batch_items s [] = refl
 batch_items s (r ∷ rs) =
-    ap (λ b. items_of (cond b [] (next_batch s (r ∷ rs) ∷ []))) (not_none (length rs)) ∙ append-nil (as_items (r ∷ rs))
+    ap (λ b. list_items (cond b [] (next_batch s (r ∷ rs) ∷ []))) (not_none (length rs)) ∙ append-nil (as_items (r ∷ rs))
 
 module _ (list : List Batch) (elected : ℤ) (settled : ℕ) where
   -- ---- one batch
@@ -133,11 +133,11 @@ module _ (list : List Batch) (elected : ℤ) (settled : ℕ) (unsettled : List B
 
   -- the write of the request
   abbrev own : Waiting
-  own = record { write = write_of options s client call; items = items_of (batch_for s records) }
+  own = record { write = write_of options s client call; items = list_items (batch_for s records) }
 
   own_waits : decided ≡ true → Waits (log_with s.world.log (as_items records)) own
   own_waits is =
-      let long : length (items_of (batch_for s records)) ≡ length (as_items records) = ap (λ (l : List Item). length l) (batch_items s records) in
+      let long : length (list_items (batch_for s records)) ≡ length (as_items records) = ap (λ (l : List Item). length l) (batch_items s records) in
       let after : after_ask options s (asks.Call call) ≡ after_write options s call.request = ap (λ b. cond b (after_write options s call.request) s) is in
       let end : tip_of (after_ask options s (asks.Call call)) ≡ tip (log_with s.world.log (as_items records)) =
       ap (λ (t : State). tip_of t) after ∙ ap (λ (log : Log). tip log) (batch_written s.world (as_items records)) in
@@ -145,7 +145,7 @@ module _ (list : List Batch) (elected : ℤ) (settled : ℕ) (unsettled : List B
         front = s.world.log.items;
         back = [];
         at = refl;
-        is = ap (λ (l : List Item). s.world.log.items ++ l) (sym (append-nil (items_of (batch_for s records)) ∙ batch_items s records));
+        is = ap (λ (l : List Item). s.world.log.items ++ l) (sym (append-nil (list_items (batch_for s records)) ∙ batch_items s records));
         count = sym (long ∙ length-map records (λ (r : Record). items.Record r));
         need = ap (λ n. pos n) (end ∙ (tip_written s.world.log (as_items records) ∙ ap (λ n. tip s.world.log + n) (sym long)));
       }
@@ -163,7 +163,7 @@ module _ (list : List Batch) (elected : ℤ) (settled : ℕ) (unsettled : List B
   abbrev Written : Bool → Type 0
   Written b =
       IsCore list elected (cond b (after_write options s call.request) s) settled (unsettled ++ cond b (batch_for s records) [])
-      × AllWait (cond b (after_write options s call.request) s).world.log (waiting ++ map (λ write. record { write = write; items = items_of (cond b (batch_for s records) []) }) (cond b (write_of options s client call ∷ []) []))
+      × AllWait (cond b (after_write options s call.request) s).world.log (waiting ++ map (λ write. record { write = write; items = list_items (cond b (batch_for s records) []) }) (cond b (write_of options s client call ∷ []) []))
       × ((cond b (after_write options s call.request) s).world.leading ≡ s.world.leading)
 
   by_decided : (b : Bool) → decided ≡ b → Written b

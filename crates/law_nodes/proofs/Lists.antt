@@ -6,17 +6,17 @@ use Rattle.std.proofs.lemmas.List.{append-nil, append_assoc, length-append, take
 use Rattle.std.proofs.lemmas.List.Concat.{flat_map-append}
 use Rattle.kr_batch.specs.declared.Batch.{Batch}
 use Rattle.kr_defs.specs.declared.record.Item.{Item}
-use Rattle.law_nodes.specs.OneList.{Stands, batch_at, items_of}
+use Rattle.law_nodes.specs.OneList.{StandsIn, batch_from, list_items}
 
 -- a batch has items
 abbrev pub HasItems : Batch → Type 0
 HasItems b = 0 < length b.items
 
-pub items_append : (xs ys : List Batch) → items_of (xs ++ ys) ≡ items_of xs ++ items_of ys
+pub items_append : (xs ys : List Batch) → list_items (xs ++ ys) ≡ list_items xs ++ list_items ys
 items_append xs ys = flat_map-append (λ (b : Batch). b.items) xs ys
 
-pub items_one : (xs : List Batch) (b : Batch) → items_of (xs ++ b ∷ []) ≡ items_of xs ++ b.items
-items_one xs b = items_append xs (b ∷ []) ∙ ap (λ (l : List Item). items_of xs ++ l) (append-nil b.items)
+pub items_one : (xs : List Batch) (b : Batch) → list_items (xs ++ b ∷ []) ≡ list_items xs ++ b.items
+items_one xs b = items_append xs (b ∷ []) ∙ ap (λ (l : List Item). list_items xs ++ l) (append-nil b.items)
 
 -- ---- lists of batches that all have items
 
@@ -32,31 +32,31 @@ pub some_before : (xs ys : List Batch) → AllByRecursion HasItems (xs ++ ys) �
 some_before [] ys h = tt
 some_before (x ∷ xs) ys h = (h.0, some_before xs ys h.1)
 
-pub none_long : (bs : List Batch) → AllByRecursion HasItems bs → length (items_of bs) ≡ 0 → bs ≡ []
+pub none_long : (bs : List Batch) → AllByRecursion HasItems bs → length (list_items bs) ≡ 0 → bs ≡ []
 none_long [] h is = refl
 none_long (b ∷ bs) h is =
     let some = h.0 in
-    let long = length-append b.items (items_of bs) in
+    let long = length-append b.items (list_items bs) in
     absurd (omega (arith, some, long, is))
 
 -- ---- the batch at a place
 
-next_at : (bs : List Batch) (b : Batch) (at : ℕ) → 0 < at → batch_at at (b ∷ bs) ≡ batch_at (at - length b.items) bs
+next_at : (bs : List Batch) (b : Batch) (at : ℕ) → 0 < at → batch_from at (b ∷ bs) ≡ batch_from (at - length b.items) bs
 next_at bs b zero some = absurd (omega (arith, some))
 next_at bs b (suc at) some = refl
 
-pub batch_behind : (done ahead : List Batch) (b : Batch) → AllByRecursion HasItems done → batch_at (length (items_of done)) (done ++ b ∷ ahead) ≡ Some b
+pub batch_behind : (done ahead : List Batch) (b : Batch) → AllByRecursion HasItems done → batch_from (length (list_items done)) (done ++ b ∷ ahead) ≡ Some b
 batch_behind [] ahead b some = refl
 batch_behind (d ∷ ds) ahead b some =
-    let long = length-append d.items (items_of ds) in
+    let long = length-append d.items (list_items ds) in
     let here = some.0 in
-    next_at (ds ++ b ∷ ahead) d (length (d.items ++ items_of ds)) (omega (arith, long, here))
-    ∙ (ap (λ at. batch_at at (ds ++ b ∷ ahead)) (let e : length (d.items ++ items_of ds) - length d.items ≡ length (items_of ds) = omega (arith, long) in e)
+    next_at (ds ++ b ∷ ahead) d (length (d.items ++ list_items ds)) (omega (arith, long, here))
+    ∙ (ap (λ at. batch_from at (ds ++ b ∷ ahead)) (let e : length (d.items ++ list_items ds) - length d.items ≡ length (list_items ds) = omega (arith, long) in e)
     ∙ batch_behind ds ahead b some.1)
 
 -- ---- parts
 
-pub stands_on : (items more part : List Item) (from : ℕ) → Stands items from part → Stands (items ++ more) from part
+pub stands_on : (items more part : List Item) (from : ℕ) → StandsIn items from part → StandsIn (items ++ more) from part
 stands_on items more part from s = record {
   front = s.front;
   back = s.back ++ more;

@@ -15,7 +15,7 @@ use Rattle.kr_model.specs.Lost.{cut}
 use Rattle.kr_model.specs.World.{log_with, seen_at}
 use Rattle.kr_model.proofs.LoadedImages.{empty_valid}
 use Rattle.kr_model.proofs.Logs.{apply_append, at_tip}
-use Rattle.law_nodes.specs.OneList.{Follows, Stands, items_of}
+use Rattle.law_nodes.specs.OneList.{Follows, StandsIn, list_items}
 use Rattle.law_nodes.proofs.Lists.{HasItems, batch_behind, items_append, items_one, none_long, rest_of, some_before, some_behind}
 
 -- ---- images
@@ -27,9 +27,9 @@ shared_is list log end f =
     ap (λ (l : List Item). take (end - log.offset) l) f.items_are ∙ take_at f.shared f.rest (end - log.offset) (omega (arith, e))
 
 -- the list's items below the end
-pub front_is : (list : List Batch) (log : Log) (end : ℕ) (f : Follows list log end) → items_of list ≡ (f.before ++ f.shared) ++ items_of f.ahead
+pub front_is : (list : List Batch) (log : Log) (end : ℕ) (f : Follows list log end) → list_items list ≡ (f.before ++ f.shared) ++ list_items f.ahead
 front_is list log end f =
-    ap (λ (l : List Batch). items_of l) f.list_is ∙ (items_append f.done f.ahead ∙ ap (λ (l : List Item). l ++ items_of f.ahead) f.done_is)
+    ap (λ (l : List Batch). list_items l) f.list_is ∙ (items_append f.done f.ahead ∙ ap (λ (l : List Item). l ++ list_items f.ahead) f.done_is)
 
 pub end_length : (list : List Batch) (log : Log) (end : ℕ) (f : Follows list log end) → length (f.before ++ f.shared) ≡ end
 end_length list log end f =
@@ -38,13 +38,13 @@ end_length list log end f =
     let e = f.end_is in
     omega (arith, long, o, e)
 
-pub same_image : (list : List Batch) (log : Log) (end : ℕ) → Follows list log end → image_at log end ≡ apply_all empty (take end (items_of list))
+pub same_image : (list : List Batch) (log : Log) (end : ℕ) → Follows list log end → image_at log end ≡ apply_all empty (take end (list_items list))
 unfolding image_at
 same_image list log end f =
     ap (λ (l : List Item). apply_all log.image l) (shared_is list log end f)
     ∙ (sym (apply_append f.before f.shared empty ∙ ap (λ (r : Result Image Ill). and_then r (λ i. apply_all i f.shared)) f.starts)
     ∙ ap (λ (l : List Item). apply_all empty l)
-    (sym (ap (λ (l : List Item). take end l) (front_is list log end f) ∙ take_at (f.before ++ f.shared) (items_of f.ahead) end (end_length list log end f))))
+    (sym (ap (λ (l : List Item). take end l) (front_is list log end f) ∙ take_at (f.before ++ f.shared) (list_items f.ahead) end (end_length list log end f))))
 
 -- ---- facts on images
 
@@ -164,7 +164,7 @@ settle_batch list log end to f b tail none rest up = record {
   done_is =
       items_one list b
       ∙ (ap (λ (l : List Item). l ++ b.items)
-      (front_is list log end f ∙ (ap (λ (l : List Batch). (f.before ++ f.shared) ++ items_of l) none ∙ append-nil (f.before ++ f.shared)))
+      (front_is list log end f ∙ (ap (λ (l : List Batch). (f.before ++ f.shared) ++ list_items l) none ∙ append-nil (f.before ++ f.shared)))
       ∙ append_assoc f.before f.shared b.items);
   items_are = f.items_are ∙ (ap (λ (l : List Item). f.shared ++ l) rest ∙ sym (append_assoc f.shared b.items tail));
   offset_is = f.offset_is;
@@ -207,14 +207,14 @@ load_image list log end image f is = record {
   end_is = omega arith;
   starts =
       ap (λ (l : List Item). apply_all empty l)
-      (sym (ap (λ (l : List Item). take end l) (front_is list log end f) ∙ take_at (f.before ++ f.shared) (items_of f.ahead) end (end_length list log end f)))
+      (sym (ap (λ (l : List Item). take end l) (front_is list log end f) ∙ take_at (f.before ++ f.shared) (list_items f.ahead) end (end_length list log end f)))
       ∙ (sym (same_image list log end f) ∙ is);
 }
 
 -- ---- what a leader decided stands in the list once it is settled
 
 pub settled_stands : (list : List Batch) (log : Log) (end from : ℕ) (f : Follows list log end) (front part back : List Item)
-    → from ≡ log.offset + length front → log.items ≡ front ++ (part ++ back) → (from + length part) ≤ end → Stands (items_of list) from part
+    → from ≡ log.offset + length front → log.items ≡ front ++ (part ++ back) → (from + length part) ≤ end → StandsIn (list_items list) from part
 settled_stands list log end from f front part back at is low =
     let e = f.end_is in
     let o = f.offset_is in
@@ -224,49 +224,49 @@ settled_stands list log end from f front part back at is low =
     let long = length-append f.before front in
     record {
       front = f.before ++ front;
-      back = behind ++ items_of f.ahead;
+      back = behind ++ list_items f.ahead;
       at = omega (arith, o, at, long);
       is =
           front_is list log end f
-          ∙ (ap (λ (l : List Item). (f.before ++ l) ++ items_of f.ahead) whole
-          ∙ (ap (λ (l : List Item). (f.before ++ l) ++ items_of f.ahead) (append_assoc front part behind)
-          ∙ (ap (λ (l : List Item). l ++ items_of f.ahead) (sym (append_assoc f.before front (part ++ behind)))
-          ∙ (append_assoc (f.before ++ front) (part ++ behind) (items_of f.ahead)
-          ∙ ap (λ (l : List Item). (f.before ++ front) ++ l) (append_assoc part behind (items_of f.ahead))))));
+          ∙ (ap (λ (l : List Item). (f.before ++ l) ++ list_items f.ahead) whole
+          ∙ (ap (λ (l : List Item). (f.before ++ l) ++ list_items f.ahead) (append_assoc front part behind)
+          ∙ (ap (λ (l : List Item). l ++ list_items f.ahead) (sym (append_assoc f.before front (part ++ behind)))
+          ∙ (append_assoc (f.before ++ front) (part ++ behind) (list_items f.ahead)
+          ∙ ap (λ (l : List Item). (f.before ++ front) ++ l) (append_assoc part behind (list_items f.ahead))))));
     }
 
 -- ---- what the list has beyond the end
 
 pub low_means : (list : List Batch) (log : Log) (end : ℕ) (f : Follows list log end) (b : Batch) (bs : List Batch) → f.rest ≡ [] → f.ahead ≡ b ∷ bs
-    → IsOk (apply_all empty (items_of list)) → IsOk (apply_all log.image (log.items ++ b.items))
+    → IsOk (apply_all empty (list_items list)) → IsOk (apply_all log.image (log.items ++ b.items))
 low_means list log end f b bs none ahead whole =
-    let items_is : f.before ++ (log.items ++ b.items) ++ items_of bs ≡ items_of list =
-    ap (λ (l : List Item). f.before ++ (l ++ b.items) ++ items_of bs) (f.items_are ∙ (ap (λ (l : List Item). f.shared ++ l) none ∙ append-nil f.shared))
-    ∙ (ap (λ (l : List Item). l ++ items_of bs) (sym (append_assoc f.before f.shared b.items))
-    ∙ (append_assoc (f.before ++ f.shared) b.items (items_of bs)
-    ∙ sym (front_is list log end f ∙ ap (λ (l : List Batch). (f.before ++ f.shared) ++ items_of l) ahead))) in
+    let items_is : f.before ++ (log.items ++ b.items) ++ list_items bs ≡ list_items list =
+    ap (λ (l : List Item). f.before ++ (l ++ b.items) ++ list_items bs) (f.items_are ∙ (ap (λ (l : List Item). f.shared ++ l) none ∙ append-nil f.shared))
+    ∙ (ap (λ (l : List Item). l ++ list_items bs) (sym (append_assoc f.before f.shared b.items))
+    ∙ (append_assoc (f.before ++ f.shared) b.items (list_items bs)
+    ∙ sym (front_is list log end f ∙ ap (λ (l : List Batch). (f.before ++ f.shared) ++ list_items l) ahead))) in
     subst (λ (r : Result Image Ill). IsOk r) (from_start list log end f (log.items ++ b.items))
-    (front_means empty (f.before ++ (log.items ++ b.items)) (items_of bs) (subst (λ (l : List Item). IsOk (apply_all empty l)) (sym items_is) whole))
+    (front_means empty (f.before ++ (log.items ++ b.items)) (list_items bs) (subst (λ (l : List Item). IsOk (apply_all empty l)) (sym items_is) whole))
 
-pub no_more : (list : List Batch) (log : Log) (end : ℕ) (f : Follows list log end) → f.ahead ≡ [] → end ≡ length (items_of list)
+pub no_more : (list : List Batch) (log : Log) (end : ℕ) (f : Follows list log end) → f.ahead ≡ [] → end ≡ length (list_items list)
 no_more list log end f none =
-    sym (ap (λ l. length l) (front_is list log end f ∙ (ap (λ (l : List Batch). (f.before ++ f.shared) ++ items_of l) none ∙ append-nil (f.before ++ f.shared))) ∙ end_length list log end f)
+    sym (ap (λ l. length l) (front_is list log end f ∙ (ap (λ (l : List Batch). (f.before ++ f.shared) ++ list_items l) none ∙ append-nil (f.before ++ f.shared))) ∙ end_length list log end f)
 
-pub all_had : (list : List Batch) (log : Log) (end : ℕ) (f : Follows list log end) → AllByRecursion HasItems list → end ≡ length (items_of list) → f.ahead ≡ []
+pub all_had : (list : List Batch) (log : Log) (end : ℕ) (f : Follows list log end) → AllByRecursion HasItems list → end ≡ length (list_items list) → f.ahead ≡ []
 all_had list log end f some is =
-    let long = length-append (f.before ++ f.shared) (items_of f.ahead) in
+    let long = length-append (f.before ++ f.shared) (list_items f.ahead) in
     let all = ap (λ l. length l) (front_is list log end f) in
     let here = end_length list log end f in
     none_long f.ahead (some_behind f.done f.ahead (subst (AllByRecursion HasItems) f.list_is some)) (omega (arith, is, long, all, here))
 
-done_length : (list : List Batch) (log : Log) (end : ℕ) (f : Follows list log end) → length (items_of f.done) ≡ end
+done_length : (list : List Batch) (log : Log) (end : ℕ) (f : Follows list log end) → length (list_items f.done) ≡ end
 done_length list log end f = ap (λ l. length l) f.done_is ∙ end_length list log end f
 
-pub next_batch_is : (list : List Batch) (log : Log) (end : ℕ) (f : Follows list log end) (b : Batch) (bs : List Batch) → AllByRecursion HasItems list → f.ahead ≡ b ∷ bs → batch_at end list ≡ Some b
+pub next_batch_is : (list : List Batch) (log : Log) (end : ℕ) (f : Follows list log end) (b : Batch) (bs : List Batch) → AllByRecursion HasItems list → f.ahead ≡ b ∷ bs → batch_from end list ≡ Some b
 next_batch_is list log end f b bs some ahead =
     let parts = f.list_is ∙ ap (λ (l : List Batch). f.done ++ l) ahead in
-    ap (λ l. batch_at end l) parts
-    ∙ (ap (λ at. batch_at at (f.done ++ b ∷ bs)) (sym (done_length list log end f))
+    ap (λ l. batch_from end l) parts
+    ∙ (ap (λ at. batch_from at (f.done ++ b ∷ bs)) (sym (done_length list log end f))
     ∙ batch_behind f.done bs b (some_before f.done f.ahead (subst (AllByRecursion HasItems) f.list_is some)))
 
 -- ---- the image at the tip

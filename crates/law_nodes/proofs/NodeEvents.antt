@@ -23,9 +23,9 @@ use Rattle.kr_model.specs.Outputs.{answers_in, answers_now, append, append_fenci
 use Rattle.kr_model.specs.Request.{decision, is_decided}
 use Rattle.kr_model.specs.Tick.{fence, fencing_of, lapsed_contacts}
 use Rattle.kr_model.specs.World.{State, World, image_of_tip}
-use Rattle.law_nodes.specs.NodeEvents.{NodesTakeEvents, TakesEvent, is_reply, reply_of, writes_in}
-use Rattle.law_nodes.specs.Nodes.{Node, NodeTold, Waiting, after_by, batch_for, batches_of, fencing_batches, told_by, told_now, told_write, waits_in, writes_with}
-use Rattle.law_nodes.specs.OneList.{items_of}
+use Rattle.law_nodes.specs.NodeEvents.{NodesTakeEvents, ActsAsController, is_reply, as_output, writes_in}
+use Rattle.law_nodes.specs.Nodes.{RunNode, NodeTold, Waiting, after_by, batch_for, batches_of, fencing_batches, tells_by, told_now, told_write, waits_in, writes_with}
+use Rattle.law_nodes.specs.OneList.{list_items}
 
 -- ---- batches
 
@@ -79,27 +79,27 @@ no_image_reply s events.Image = refl
 
 -- ---- replies
 
-now_replied : (k : ℕ) (os : List Output) → filter is_reply os ≡ map reply_of (flat_map (told_now k) os)
+now_replied : (k : ℕ) (os : List Output) → filter is_reply os ≡ map as_output (flat_map (told_now k) os)
 now_replied k [] = refl
 now_replied k (given.Append bytes ∷ os) = now_replied k os
 now_replied k (given.Reply client correlation reply ∷ os) = ap (λ (rest : List Output). given.Reply client correlation reply ∷ rest) (now_replied k os)
 now_replied k (given.Refused event reason ∷ os) = now_replied k os
 now_replied k (given.Image bytes ∷ os) = now_replied k os
 
-write_replied : (k end : ℕ) (w : Waiting) → due_reply (pos end) w.write ≡ reply_of (told_write k end w)
+write_replied : (k end : ℕ) (w : Waiting) → due_reply (pos end) w.write ≡ as_output (told_write k end w)
 write_replied k end w =
     elim (int_lt (pos end) w.write.need) as (λ b. given.Reply w.write.client w.write.correlation (cond b w.write.refusal w.write.reply)
-      ≡ reply_of (cond b (record { node = k; client = w.write.client; correlation = w.write.correlation; place = negsuc 0; items = []; reply = w.write.refusal }) (record { node = k; client = w.write.client; correlation = w.write.correlation; place = w.write.decided.place; items = w.items; reply = w.write.reply }))) [
+    ≡ as_output (cond b (record { node = k; client = w.write.client; correlation = w.write.correlation; place = negsuc 0; items = []; reply = w.write.refusal }) (record { node = k; client = w.write.client; correlation = w.write.correlation; place = w.write.decided.place; items = w.items; reply = w.write.reply }))) [
       | true ↦ refl
       | false ↦ refl
     ]
 
-all_replied : (k : ℕ) (w : World) (ws : List Waiting) → filter is_reply (answers_in w (writes_in ws)) ≡ map reply_of (map (told_write k w.committed) (filter (λ x. not (waits_in w x)) ws))
+all_replied : (k : ℕ) (w : World) (ws : List Waiting) → filter is_reply (answers_in w (writes_in ws)) ≡ map as_output (map (told_write k w.committed) (filter (λ x. not (waits_in w x)) ws))
 all_replied k w [] = refl
 all_replied k w (x ∷ ws) =
     elim (not (waits_in w x)) as (λ b. filter is_reply (map (due_reply (pos w.committed)) (cond b (x.write ∷ filter (λ y. not (is_open w.leading (pos w.committed) y)) (writes_in ws)) (filter (λ y. not (is_open w.leading (pos w.committed) y)) (writes_in ws))))
-      ≡ map reply_of (map (told_write k w.committed) (cond b (x ∷ filter (λ y. not (waits_in w y)) ws) (filter (λ y. not (waits_in w y)) ws)))) [
-      | true ↦ ap (λ (o : Output). o ∷ filter is_reply (answers_in w (writes_in ws))) (write_replied k w.committed x) ∙ ap (λ (os : List Output). reply_of (told_write k w.committed x) ∷ os) (all_replied k w ws)
+    ≡ map as_output (map (told_write k w.committed) (cond b (x ∷ filter (λ y. not (waits_in w y)) ws) (filter (λ y. not (waits_in w y)) ws)))) [
+      | true ↦ ap (λ (o : Output). o ∷ filter is_reply (answers_in w (writes_in ws))) (write_replied k w.committed x) ∙ ap (λ (os : List Output). as_output (told_write k w.committed x) ∷ os) (all_replied k w ws)
       | false ↦ all_replied k w ws
     ]
 
@@ -118,13 +118,13 @@ some_writes w (x ∷ ws) =
       | false ↦ some_writes w ws
     ]
 
-module _ (options : Options) (k : ℕ) (n : Node) (event : Event) where
+module _ (options : Options) (k : ℕ) (n : RunNode) (event : Event) where
   abbrev s : State
   s = at_time_of n.state event
 
   writes_are : writes_in (writes_with options s n.waiting event) ≡ writes_in n.waiting ++ writes_of options s event
   writes_are =
-      let new : Write → Waiting = λ write. record { write = write; items = items_of (batches_of options s event) } in
+      let new : Write → Waiting = λ write. record { write = write; items = list_items (batches_of options s event) } in
       map-append (λ (w : Waiting). w.write) n.waiting (map new (writes_of options s event))
       ∙ ap (λ (vs : List Write). writes_in n.waiting ++ vs) (with_items new (λ w. refl) (writes_of options s event))
 
@@ -134,10 +134,10 @@ module _ (options : Options) (k : ℕ) (n : Node) (event : Event) where
 
   writes_then : filter (is_open_in n.state.world) (writes_in n.waiting) ≡ writes_in n.waiting → (q : Result State Reason)
       → writes_in (after_by options n s event q).waiting ≡ filter (is_open_in (with_next_number (result_unwrap_or q s)).world) (writes_in n.waiting ++ if_accepted q (writes_of options s event))
-  writes_then open (Ok after) = some_writes after.world (writes_with options s n.waiting event) ∙ ap (λ (vs : List Write). filter (is_open_in after.world) vs) writes_are
-  writes_then open (Err reason) = sym (ap (λ (vs : List Write). filter (is_open_in n.state.world) vs) (append-nil (writes_in n.waiting)) ∙ open)
+  writes_then undue (Ok after) = some_writes after.world (writes_with options s n.waiting event) ∙ ap (λ (vs : List Write). filter (is_open_in after.world) vs) writes_are
+  writes_then undue (Err reason) = sym (ap (λ (vs : List Write). filter (is_open_in n.state.world) vs) (append-nil (writes_in n.waiting)) ∙ undue)
 
-  told_then : (q : Result State Reason) → filter is_reply (outputs_by options s (writes_in n.waiting) event q) ≡ map reply_of (told_by options k n s event q)
+  told_then : (q : Result State Reason) → filter is_reply (outputs_by options s (writes_in n.waiting) event q) ≡ map as_output (tells_by options k n s event q)
   told_then (Err reason) = refl
   told_then (Ok after) =
       let now = answers_now options s event in
@@ -150,14 +150,14 @@ module _ (options : Options) (k : ℕ) (n : Node) (event : Event) where
       ∙ (ap (λ (os : List Output). os ++ filter is_reply (now ++ due)) (no_image_reply s event)
       ∙ (filter-append is_reply now due
       ∙ (ap (λ (os : List Output). os ++ filter is_reply due) (now_replied k now)
-      ∙ (ap (λ (vs : List Write). map reply_of (flat_map (told_now k) now) ++ filter is_reply (answers_in after.world vs)) (sym writes_are)
-      ∙ (ap (λ (os : List Output). map reply_of (flat_map (told_now k) now) ++ os) (all_replied k after.world ws)
-      ∙ sym (map-append reply_of (flat_map (told_now k) now) (map (told_write k after.world.committed) (filter (λ x. not (waits_in after.world x)) ws)))))))))))
+      ∙ (ap (λ (vs : List Write). map as_output (flat_map (told_now k) now) ++ filter is_reply (answers_in after.world vs)) (sym writes_are)
+      ∙ (ap (λ (os : List Output). map as_output (flat_map (told_now k) now) ++ os) (all_replied k after.world ws)
+      ∙ sym (map-append as_output (flat_map (told_now k) now) (map (told_write k after.world.committed) (filter (λ x. not (waits_in after.world x)) ws)))))))))))
 
-  pub takes : TakesEvent options k n event
+  pub takes : ActsAsController options k n event
   takes = record {
     state = state_is (outcome options s event);
-    writes = λ open. writes_then open (outcome options s event);
+    writes = λ undue. writes_then undue (outcome options s event);
     batches = all_appended options s event;
     told = told_then (outcome options s event);
   }

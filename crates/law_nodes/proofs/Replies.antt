@@ -13,7 +13,7 @@ use Rattle.kr_defs.specs.Log.{Log}
 use Rattle.kr_model.specs.World.{World, leads_in, log_with}
 use Rattle.law_nodes.specs.Agreement.{IsTold}
 use Rattle.law_nodes.specs.Nodes.{NodeTold, Waiting, told_now, told_write, waits_in}
-use Rattle.law_nodes.specs.OneList.{Follows, Stands, items_of}
+use Rattle.law_nodes.specs.OneList.{Follows, StandsIn, list_items}
 use Rattle.law_nodes.proofs.Invariant.{Waits}
 use Rattle.law_nodes.proofs.Lists.{items_one, stands_on}
 use Rattle.law_nodes.proofs.Logs
@@ -91,4 +91,4 @@ all_told list log end k f (w ∷ ws) h = (write_told list log end k f w h.0, all
 pub told_longer : (list : List Batch) (b : Batch) (ts : List NodeTold) → AllTold list ts → AllTold (list ++ b ∷ []) ts
 told_longer list b [] h = tt
 told_longer list b (t ∷ ts) h =
-    ((λ place at. subst (λ l. Stands l place t.items) (sym (items_one list b)) (stands_on (items_of list) b.items t.items place (h.0 place at))), told_longer list b ts h.1)
+    ((λ place at. subst (λ l. StandsIn l place t.items) (sym (items_one list b)) (stands_on (list_items list) b.items t.items place (h.0 place at))), told_longer list b ts h.1)

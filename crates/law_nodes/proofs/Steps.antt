@@ -38,9 +38,9 @@ use Rattle.kr_model.specs.World.{State, World, image_of_end, image_of_tip, is_fa
 use Rattle.kr_model.proofs.OrderlyStates.{none_lapses}
 use Rattle.law_nodes.specs.declared.moves.MoveFault.{MoveFault}
 use Rattle.law_nodes.specs.Moves as table
-use Rattle.law_nodes.specs.Moves.{changed, deposed, fed, found, length_of, loaded, on_standby, settle_first, steps, taken, while_leading, with_node}
-use Rattle.law_nodes.specs.Nodes.{Node, NodeTold, Run, Waiting, after_by, after_event, at_own_end, batches_of, fencing_batches, told_by, told_due, told_now, told_of, waits_in, writes_with}
-use Rattle.law_nodes.specs.OneList.{Follows, batch_at, items_of}
+use Rattle.law_nodes.specs.Moves.{put_node, deposed, feed_next, if_node, length_of, load_on, on_standby, settle_first, with_event, after_arrival, while_leading, on_node}
+use Rattle.law_nodes.specs.Nodes.{RunNode, NodeTold, Run, Waiting, after_by, after_event, at_own_end, batches_of, fencing_batches, tells_by, told_due, told_now, told_of, waits_in, writes_with}
+use Rattle.law_nodes.specs.OneList.{Follows, batch_from, list_items}
 use Rattle.law_nodes.proofs.Invariant.{IsCore, IsNode, IsRun, Leads, OneLeads, all_put, at_node, core_at, never, one_put}
 use Rattle.law_nodes.proofs.LeaderLogs.{asked, core_fenced, core_more, waits_fenced}
 use Rattle.law_nodes.proofs.Lists.{HasItems, some_both}
@@ -57,12 +57,12 @@ when : (b : Bool) (x y : Result Run MoveFault) → (b ≡ true → Keeps x) → 
 when true x y f g = f refl
 when false x y f g = g refl
 
-module _ (r : Run) (k : ℕ) (then : Node → Result Run MoveFault) (h : (n : Node) → slice_get r.nodes k ≡ Some n → Keeps (then n)) where
-  there_by : (o : Option Node) → slice_get r.nodes k ≡ o → Keeps (found r k o then)
+module _ (r : Run) (k : ℕ) (then : RunNode → Result Run MoveFault) (h : (n : RunNode) → slice_get r.nodes k ≡ Some n → Keeps (then n)) where
+  there_by : (o : Option RunNode) → slice_get r.nodes k ≡ o → Keeps (if_node r k o then)
   there_by None is = tt
   there_by (Some n) is = h n is
 
-  pub there : Keeps (with_node r k then)
+  pub there : Keeps (on_node r k then)
   there = there_by (slice_get r.nodes k) refl
 
 module _ (k : ℕ) (leading : Option ℤ) where
@@ -82,7 +82,7 @@ module _ (k : ℕ) (leading : Option ℤ) where
 
 -- ---- what an event makes of a node, and tells
 
-module _ (options : Options) (list : List Batch) (elected : ℤ) (k : ℕ) (n : Node) (event : Event) where
+module _ (options : Options) (list : List Batch) (elected : ℤ) (k : ℕ) (n : RunNode) (event : Event) where
   abbrev s : State
   s = at_time_of n.state event
 
@@ -101,7 +101,7 @@ module _ (options : Options) (list : List Batch) (elected : ℤ) (k : ℕ) (n : 
     timed = core_at list elected n.state n.settled n.unsettled n.state.world.count (time_after n.state.basis.time event) i.core
 
     after_is_by : (q : Result State Reason) → Gives Fine q
-        → IsNode list elected (after_by options n s event q) × AllTold list (told_by options k n s event q) × ((after_by options n s event q).state.world.leading ≡ n.state.world.leading)
+        → IsNode list elected (after_by options n s event q) × AllTold list (tells_by options k n s event q) × ((after_by options n s event q).state.world.leading ≡ n.state.world.leading)
     after_is_by (Ok after) gives =
         let f = gives after refl in (
           record {
@@ -130,7 +130,7 @@ module _ (options : Options) (list : List Batch) (elected : ℤ) (k : ℕ) (n : 
 
 -- ---- the events
 
-module _ (options : Options) (list : List Batch) (elected : ℤ) (k : ℕ) (n : Node) (i : IsNode list elected n) where
+module _ (options : Options) (list : List Batch) (elected : ℤ) (k : ℕ) (n : RunNode) (i : IsNode list elected n) where
   abbrev Fine_ : Event → State → Type 0
   Fine_ event after = Fine options list elected k n event after
 
@@ -229,11 +229,11 @@ module _ (options : Options) (list : List Batch) (elected : ℤ) (k : ℕ) (n : 
         waits = subst (AllWait (cut s.world.log s.world.committed)) (sym (none_waits (after_lost s).world refl (writes_with options s n.waiting event))) tt;
         idle = λ _. none_waits (after_lost s).world refl (writes_with options s n.waiting event);
       } in
-      let told : AllTold list (told_by options k n s event (Ok (after_lost s))) =
+      let told : AllTold list (tells_by options k n s event (Ok (after_lost s))) =
       all_told list s.world.log s.world.committed k c.committed _
       (waits_some s.world.log (λ x. not (waits_in (after_lost s).world x)) (writes_with options s n.waiting event) (same_waits s.world.log i.waits)) in (
         subst (λ q. IsNode list elected (at_own_end (after_by options n s event q))) (sym done) after,
-        subst (λ q. AllTold list (told_by options k n s event q)) (sym done) told,
+        subst (λ q. AllTold list (tells_by options k n s event q)) (sym done) told,
         ap (λ q. (after_by options n s event q).state.world.leading) done,
       )
 
@@ -244,7 +244,7 @@ module _ (options : Options) (list : List Batch) (elected : ℤ) (k : ℕ) (n : 
     same = (i.core.standby none).0
 
     alone : i.core.settles.rest ≡ []
-    alone = i.core.tail ∙ ap (λ (l : List Batch). items_of l) (i.core.standby none).1
+    alone = i.core.tail ∙ ap (λ (l : List Batch). list_items l) (i.core.standby none).1
 
     tip_is_end : tip_of n.state ≡ n.state.world.committed
     tip_is_end =
@@ -271,17 +271,17 @@ module _ (options : Options) (list : List Batch) (elected : ℤ) (k : ℕ) (n : 
       idle = i.idle;
     }
 
-    -- what is taken, or refused
+    -- what comes, or is refused
     abbrev Taken : State → Type 0
     Taken after = IsNode list elected (at_own_end (record n { state = with_next_number after })) × (after.world.leading ≡ None)
 
-    taken_is : (q : Result State Reason) → Gives Taken q → IsNode list elected (taken n q) × ((taken n q).state.world.leading ≡ None)
+    taken_is : (q : Result State Reason) → Gives Taken q → IsNode list elected (after_arrival n q) × ((after_arrival n q).state.world.leading ≡ None)
     taken_is (Ok after) gives = gives after refl
     taken_is (Err reason) gives =
         let o = own_end_is in
         (record { core = core_at list elected n.state n.state.world.committed [] (next_number n.state.world.count) n.state.basis.time o.core; waits = o.waits; idle = o.idle }, none)
 
-    fed_fine : (b : Batch) (bs : List Batch) → i.core.settles.ahead ≡ b ∷ bs → IsOk (apply_all empty (items_of list)) → Taken (after_batch n.state b)
+    fed_fine : (b : Batch) (bs : List Batch) → i.core.settles.ahead ≡ b ∷ bs → IsOk (apply_all empty (list_items list)) → Taken (after_batch n.state b)
     fed_fine b bs ahead whole =
         let s = n.state in
         let is = same in
@@ -309,7 +309,7 @@ module _ (options : Options) (list : List Batch) (elected : ℤ) (k : ℕ) (n : 
     ill_fine b None fine = gives_done Taken (after_batch n.state b) fine
     ill_fine b (Some (place, cause)) fine = λ after is. absurd cc
 
-    pub fed_is : (b : Batch) (bs : List Batch) → i.core.settles.ahead ≡ b ∷ bs → IsOk (apply_all empty (items_of list)) → IsNode list elected (taken n (take_batch n.state b)) × ((taken n (take_batch n.state b)).state.world.leading ≡ None)
+    pub fed_is : (b : Batch) (bs : List Batch) → i.core.settles.ahead ≡ b ∷ bs → IsOk (apply_all empty (list_items list)) → IsNode list elected (after_arrival n (take_batch n.state b)) × ((after_arrival n (take_batch n.state b)).state.world.leading ≡ None)
     fed_is b bs ahead whole =
         let s = n.state in
         taken_is (take_batch s b)
@@ -338,7 +338,7 @@ module _ (options : Options) (list : List Batch) (elected : ℤ) (k : ℕ) (n : 
         )
 
     pub loaded_is : (log : Log) (end : ℕ) → Follows list log end → IsOk (apply_all log.image log.items)
-        → let q = take_image n.state (pos end, seen_at log end) in IsNode list elected (taken n q) × ((taken n q).state.world.leading ≡ None)
+        → let q = take_image n.state (pos end, seen_at log end) in IsNode list elected (after_arrival n q) × ((after_arrival n q).state.world.leading ≡ None)
     loaded_is log end f means =
         let s = n.state in
         taken_is (take_image s (pos end, seen_at log end))
@@ -350,7 +350,7 @@ module _ (options : Options) (list : List Batch) (elected : ℤ) (k : ℕ) (n : 
     abbrev Led : ℤ → Event → State → Type 0
     Led epoch event after =
         IsNode list epoch (after_by options (at_own_end n) (at event) event (Ok after))
-        × AllTold list (told_by options k (at_own_end n) (at event) event (Ok after)) × (is_some after.world.leading ≡ true)
+        × AllTold list (tells_by options k (at_own_end n) (at event) event (Ok after)) × (is_some after.world.leading ≡ true)
 
     module _ (epoch : ℤ) (now : ℤ) (all : i.core.settles.ahead ≡ []) where
       abbrev leads_now : Event
@@ -397,11 +397,11 @@ module _ (options : Options) (list : List Batch) (elected : ℤ) (k : ℕ) (n : 
 -- ---- the moves
 
 module _ (r : Run) (g : IsRun r) where
-  node_is : (k : ℕ) (n : Node) → slice_get r.nodes k ≡ Some n → IsNode r.list r.elected n
+  node_is : (k : ℕ) (n : RunNode) → slice_get r.nodes k ≡ Some n → IsNode r.list r.elected n
   node_is k n is = at_node (IsNode r.list r.elected) r.nodes k n g.nodes is
 
   -- a node is in another state, more is told, and all else is as before
-  kept_with : (k : ℕ) (n m : Node) (more : List NodeTold) → slice_get r.nodes k ≡ Some n → IsNode r.list r.elected m → (Leads r.elected m → Leads r.elected n) → AllTold r.list more
+  kept_with : (k : ℕ) (n m : RunNode) (more : List NodeTold) → slice_get r.nodes k ≡ Some n → IsNode r.list r.elected m → (Leads r.elected m → Leads r.elected n) → AllTold r.list more
       → IsRun (record r { nodes = set r.nodes k m; told = r.told ++ more })
   kept_with k n m more is own same told = record {
     nodes = all_put (IsNode r.list r.elected) (IsNode r.list r.elected) r.nodes k m g.nodes (λ x h. h) own;
@@ -411,7 +411,7 @@ module _ (r : Run) (g : IsRun r) where
     whole = g.whole;
   }
 
-  kept_changed : (k : ℕ) (n m : Node) → slice_get r.nodes k ≡ Some n → IsNode r.list r.elected m → (Leads r.elected m → Leads r.elected n) → IsRun (changed r k m)
+  kept_changed : (k : ℕ) (n m : RunNode) → slice_get r.nodes k ≡ Some n → IsNode r.list r.elected m → (Leads r.elected m → Leads r.elected n) → IsRun (put_node r k m)
   kept_changed k n m is own same = record {
     nodes = all_put (IsNode r.list r.elected) (IsNode r.list r.elected) r.nodes k m g.nodes (λ x h. h) own;
     one = one_put r.elected r.nodes k n m is same g.one;
@@ -422,8 +422,8 @@ module _ (r : Run) (g : IsRun r) where
 
   -- ---- Feed
 
-  feed_by : (k : ℕ) (n : Node) (is : slice_get r.nodes k ≡ Some n) (none : n.state.world.leading ≡ None) (bs : List Batch) → (node_is k n is).core.settles.ahead ≡ bs
-      → (n.state.world.committed == length_of r) ≡ false → (options : Options) → Keeps (fed r k n (batch_at n.state.world.committed r.list))
+  feed_by : (k : ℕ) (n : RunNode) (is : slice_get r.nodes k ≡ Some n) (none : n.state.world.leading ≡ None) (bs : List Batch) → (node_is k n is).core.settles.ahead ≡ bs
+      → (n.state.world.committed == length_of r) ≡ false → (options : Options) → Keeps (feed_next r k n (batch_from n.state.world.committed r.list))
   feed_by k n is none [] ahead new options =
       let i = node_is k n is in
       let same : n.settled ≡ n.state.world.committed = (i.core.standby none).0 in
@@ -432,19 +432,19 @@ module _ (r : Run) (g : IsRun r) where
   feed_by k n is none (b ∷ bs) ahead new options =
       let i = node_is k n is in
       let same : n.settled ≡ n.state.world.committed = (i.core.standby none).0 in
-      let found : batch_at n.state.world.committed r.list ≡ Some b =
-      ap (λ at. batch_at at r.list) (sym same) ∙ Logs.next_batch_is r.list n.state.world.log n.settled i.core.settles b bs g.some ahead in
+      let next : batch_from n.state.world.committed r.list ≡ Some b =
+      ap (λ at. batch_from at r.list) (sym same) ∙ Logs.next_batch_is r.list n.state.world.log n.settled i.core.settles b bs g.some ahead in
       let after = fed_is options r.list r.elected k n i none b bs ahead g.whole in
-      subst (λ o. Keeps (fed r k n o)) (sym found)
-      (kept_changed k n (taken n (take_batch n.state b)) is after.0 (λ l. absurd (never _ after.1 l)))
+      subst (λ o. Keeps (feed_next r k n o)) (sym next)
+      (kept_changed k n (after_arrival n (take_batch n.state b)) is after.0 (λ l. absurd (never _ after.1 l)))
 
-  pub feeds : (options : Options) (k : ℕ) (n : Node) → slice_get r.nodes k ≡ Some n → Keeps (table.feed r k n)
+  pub feeds : (options : Options) (k : ℕ) (n : RunNode) → slice_get r.nodes k ≡ Some n → Keeps (table.feed r k n)
   feeds options k n is = standby k n.state.world.leading _ (λ none.
       when (n.state.world.committed == length_of r) _ _ (λ _. tt) (λ new. feed_by k n is none (node_is k n is).core.settles.ahead refl new options))
 
   -- ---- Elect
 
-  others_low : (epoch : ℤ) → int_lt r.elected epoch ≡ true → (x : Node) → IsNode r.list r.elected x → IsNode r.list epoch x
+  others_low : (epoch : ℤ) → int_lt r.elected epoch ≡ true → (x : RunNode) → IsNode r.list r.elected x → IsNode r.list epoch x
   others_low epoch up x i =
       let c = i.core in record {
         core = record {
@@ -462,20 +462,20 @@ module _ (r : Run) (g : IsRun r) where
         idle = i.idle;
       }
 
-  none_lead : (epoch : ℤ) → int_lt r.elected epoch ≡ true → (ns : List Node) → AllByRecursion (IsNode r.list r.elected) ns → AllByRecursion (λ x. Leads epoch x → ⊥) ns
+  none_lead : (epoch : ℤ) → int_lt r.elected epoch ≡ true → (ns : List RunNode) → AllByRecursion (IsNode r.list r.elected) ns → AllByRecursion (λ x. Leads epoch x → ⊥) ns
   none_lead epoch up [] h = tt
   none_lead epoch up (n ∷ ns) h = ((λ is. let l = h.0.core.low epoch is in grind (arith, ints)), none_lead epoch up ns h.1)
 
-  one_new : (epoch : ℤ) → int_lt r.elected epoch ≡ true → (ns : List Node) (k : ℕ) (m : Node) → AllByRecursion (IsNode r.list r.elected) ns → OneLeads epoch (set ns k m)
+  one_new : (epoch : ℤ) → int_lt r.elected epoch ≡ true → (ns : List RunNode) (k : ℕ) (m : RunNode) → AllByRecursion (IsNode r.list r.elected) ns → OneLeads epoch (set ns k m)
   one_new epoch up [] k m h = tt
   one_new epoch up (n ∷ ns) zero m h = ((λ _. none_lead epoch up ns h.1), old_ones ns h.1)
     where
-      old_ones : (xs : List Node) → AllByRecursion (IsNode r.list r.elected) xs → OneLeads epoch xs
+      old_ones : (xs : List RunNode) → AllByRecursion (IsNode r.list r.elected) xs → OneLeads epoch xs
       old_ones [] h = tt
       old_ones (x ∷ xs) h = ((λ _. none_lead epoch up xs h.1), old_ones xs h.1)
   one_new epoch up (n ∷ ns) (suc k) m h = ((λ is. absurd (let l = h.0.core.low epoch is in grind (arith, ints))), one_new epoch up ns k m h.1)
 
-  module _ (options : Options) (k : ℕ) (n : Node) (is : slice_get r.nodes k ≡ Some n) (none : n.state.world.leading ≡ None) (epoch now : ℤ) (high : int_lt r.elected epoch ≡ true)
+  module _ (options : Options) (k : ℕ) (n : RunNode) (is : slice_get r.nodes k ≡ Some n) (none : n.state.world.leading ≡ None) (epoch now : ℤ) (high : int_lt r.elected epoch ≡ true)
       (whole : n.state.world.committed ≡ length_of r) where
     abbrev event : Event
     event = events.Lead epoch (pos n.state.world.committed) now
@@ -488,13 +488,13 @@ module _ (r : Run) (g : IsRun r) where
         let same : n.settled ≡ n.state.world.committed = (own.core.standby none).0 in
         Logs.all_had r.list n.state.world.log n.settled own.core.settles g.some (same ∙ whole)
 
-    abbrev m : Node
+    abbrev m : RunNode
     m = at_own_end n
 
     abbrev By : Result State Reason → Bool → Run
     By q leads = record r {
       nodes = set r.nodes k (after_by options m (at_time_of n.state event) event q);
-      told = r.told ++ told_by options k m (at_time_of n.state event) event q;
+      told = r.told ++ tells_by options k m (at_time_of n.state event) event q;
       elected = cond leads epoch r.elected;
     }
 
@@ -504,7 +504,7 @@ module _ (r : Run) (g : IsRun r) where
       nodes = all_put (IsNode r.list r.elected) (IsNode r.list epoch) r.nodes k (after_by options m (at_time_of n.state event) event (Ok after)) g.nodes (others_low epoch high) l.0;
       one = one_new epoch high r.nodes k (after_by options m (at_time_of n.state event) event (Ok after)) g.nodes;
       some = g.some;
-      told = told_both r.list r.told (told_by options k m (at_time_of n.state event) event (Ok after)) g.told l.1;
+      told = told_both r.list r.told (tells_by options k m (at_time_of n.state event) event (Ok after)) g.told l.1;
       whole = g.whole;
     }
 
@@ -524,10 +524,10 @@ module _ (r : Run) (g : IsRun r) where
     elect_by (Ok after) gives = let l = gives after refl in leads_new after (is_some after.world.leading) l.2 l
     elect_by (Err reason) gives = none_new reason (is_some n.state.world.leading) (ap (λ (o : Option ℤ). is_some o) none)
 
-    pub elected_is : IsRun (table.elected options r k m epoch event)
+    pub elected_is : IsRun (table.after_election options r k m epoch event)
     elected_is = elect_by (outcome options (at_time_of n.state event) event) (lead_fine options r.list r.elected k n own none epoch now all)
 
-  pub elects : (options : Options) (k : ℕ) (epoch now : ℤ) (n : Node) → slice_get r.nodes k ≡ Some n → Keeps (table.elect options r k n epoch now)
+  pub elects : (options : Options) (k : ℕ) (epoch now : ℤ) (n : RunNode) → slice_get r.nodes k ≡ Some n → Keeps (table.elect options r k n epoch now)
   elects options k epoch now n is = standby k n.state.world.leading _ (λ none.
       when (not (int_lt r.elected epoch)) _ _ (λ _. tt) (λ up.
       when (not (n.state.world.committed == length_of r)) _ _ (λ _. tt) (λ whole.
@@ -535,7 +535,7 @@ module _ (r : Run) (g : IsRun r) where
 
   -- ---- Settle
 
-  settled_is : (n : Node) (b : Batch) (bs : List Batch) (i : IsNode r.list r.elected n) → n.unsettled ≡ b ∷ bs → n.state.world.leading ≡ Some r.elected
+  settled_is : (n : RunNode) (b : Batch) (bs : List Batch) (i : IsNode r.list r.elected n) → n.unsettled ≡ b ∷ bs → n.state.world.leading ≡ Some r.elected
       → IsNode (r.list ++ b ∷ []) r.elected (record n { settled = n.settled + length b.items; unsettled = bs })
   settled_is n b bs i has leads =
       let c = i.core in
@@ -544,7 +544,7 @@ module _ (r : Run) (g : IsRun r) where
       record {
         core = record {
           committed = Logs.longer_list r.list (b ∷ []) n.state.world.log n.state.world.committed c.committed;
-          settles = Logs.settle_batch r.list n.state.world.log n.settled (n.settled + length b.items) c.settles b (items_of bs) (c.latest leads) (c.tail ∙ ap (λ (l : List Batch). items_of l) has) refl;
+          settles = Logs.settle_batch r.list n.state.world.log n.settled (n.settled + length b.items) c.settles b (list_items bs) (c.latest leads) (c.tail ∙ ap (λ (l : List Batch). list_items l) has) refl;
           order = omega (arith, up);
           tail = refl;
           some = some.1;
@@ -558,7 +558,7 @@ module _ (r : Run) (g : IsRun r) where
       }
 
   -- one that doesn't lead in the latest epoch doesn't see that the list grows
-  other_settled : (b : Batch) (x : Node) → IsNode r.list r.elected x → (Leads r.elected x → ⊥) → IsNode (r.list ++ b ∷ []) r.elected x
+  other_settled : (b : Batch) (x : RunNode) → IsNode r.list r.elected x → (Leads r.elected x → ⊥) → IsNode (r.list ++ b ∷ []) r.elected x
   other_settled b x i not_latest =
       let c = i.core in record {
         core = record {
@@ -576,12 +576,12 @@ module _ (r : Run) (g : IsRun r) where
         idle = i.idle;
       }
 
-  all_settled : (b : Batch) (m : Node) → IsNode (r.list ++ b ∷ []) r.elected m → (ns : List Node) (k : ℕ) (n : Node) → slice_get ns k ≡ Some n → Leads r.elected n
+  all_settled : (b : Batch) (m : RunNode) → IsNode (r.list ++ b ∷ []) r.elected m → (ns : List RunNode) (k : ℕ) (n : RunNode) → slice_get ns k ≡ Some n → Leads r.elected n
       → AllByRecursion (IsNode r.list r.elected) ns → OneLeads r.elected ns → AllByRecursion (IsNode (r.list ++ b ∷ []) r.elected) (set ns k m)
   all_settled b m own [] k n is leads h one = tt
   all_settled b m own (x ∷ xs) zero n is leads h one = (own, others xs h.1 (one.0 (subst (Leads r.elected) (sym (some_is x n is)) leads)))
     where
-      others : (ys : List Node) → AllByRecursion (IsNode r.list r.elected) ys → AllByRecursion (λ y. Leads r.elected y → ⊥) ys → AllByRecursion (IsNode (r.list ++ b ∷ []) r.elected) ys
+      others : (ys : List RunNode) → AllByRecursion (IsNode r.list r.elected) ys → AllByRecursion (λ y. Leads r.elected y → ⊥) ys → AllByRecursion (IsNode (r.list ++ b ∷ []) r.elected) ys
       others [] h o = tt
       others (y ∷ ys) h o = (other_settled b y h.0 o.0, others ys h.1 o.1)
   all_settled b m own (x ∷ xs) (suc k) n is leads h one = (
@@ -590,18 +590,18 @@ module _ (r : Run) (g : IsRun r) where
   )
 
   -- the leader's log is the list's, with what isn't settled behind it
-  settle_means : (n : Node) (b : Batch) (bs : List Batch) (i : IsNode r.list r.elected n) → n.unsettled ≡ b ∷ bs → n.state.world.leading ≡ Some r.elected → IsOk (apply_all empty (items_of (r.list ++ b ∷ [])))
+  settle_means : (n : RunNode) (b : Batch) (bs : List Batch) (i : IsNode r.list r.elected n) → n.unsettled ≡ b ∷ bs → n.state.world.leading ≡ Some r.elected → IsOk (apply_all empty (list_items (r.list ++ b ∷ [])))
   settle_means n b bs i has leads =
       let c = i.core in
       let log = n.state.world.log in
       let to = n.settled + length b.items in
-      let f = Logs.settle_batch r.list log n.settled to c.settles b (items_of bs) (c.latest leads) (c.tail ∙ ap (λ (l : List Batch). items_of l) has) refl in
+      let f = Logs.settle_batch r.list log n.settled to c.settles b (list_items bs) (c.latest leads) (c.tail ∙ ap (λ (l : List Batch). list_items l) has) refl in
       subst (λ (l : List Item). IsOk (apply_all empty l))
       (sym (Logs.front_is (r.list ++ b ∷ []) log to f ∙ append-nil (c.settles.before ++ (c.settles.shared ++ b.items))))
       (subst (λ (q : Result Image Ill). IsOk q) (sym (Logs.from_start (r.list ++ b ∷ []) log to f (c.settles.shared ++ b.items)))
       (Logs.shared_means (r.list ++ b ∷ []) log to f c.means))
 
-  settle_by : (k : ℕ) (n : Node) → slice_get r.nodes k ≡ Some n → n.state.world.leading ≡ Some r.elected → (bs : List Batch) → n.unsettled ≡ bs → Keeps (settle_first r k n bs)
+  settle_by : (k : ℕ) (n : RunNode) → slice_get r.nodes k ≡ Some n → n.state.world.leading ≡ Some r.elected → (bs : List Batch) → n.unsettled ≡ bs → Keeps (settle_first r k n bs)
   settle_by k n is leads [] has = tt
   settle_by k n is leads (b ∷ bs) has =
       let i = node_is k n is in
@@ -615,7 +615,7 @@ module _ (r : Run) (g : IsRun r) where
         whole = settle_means n b bs i has leads;
       }
 
-  pub settles : (k : ℕ) (n : Node) → slice_get r.nodes k ≡ Some n → Keeps (table.settle r k n)
+  pub settles : (k : ℕ) (n : RunNode) → slice_get r.nodes k ≡ Some n → Keeps (table.settle r k n)
   settles k n is = leads k n.state.world.leading _ (λ epoch led.
       when (not (int_eq epoch r.elected)) _ _ (λ _. tt) (λ latest.
       let same : epoch ≡ r.elected = grind (arith, ints) in
@@ -623,24 +623,24 @@ module _ (r : Run) (g : IsRun r) where
 
   -- ---- one event
 
-  kept_steps : (options : Options) (k : ℕ) (n : Node) (event : Event) → slice_get r.nodes k ≡ Some n → Gives (Fine options r.list r.elected k n event) (outcome options (at_time_of n.state event) event)
-      → IsRun (steps options r k n event)
+  kept_steps : (options : Options) (k : ℕ) (n : RunNode) (event : Event) → slice_get r.nodes k ≡ Some n → Gives (Fine options r.list r.elected k n event) (outcome options (at_time_of n.state event) event)
+      → IsRun (with_event options r k n event)
   kept_steps options k n event is gives =
       let after = after_is options r.list r.elected k n event (node_is k n is) gives in
       kept_with k n (after_event options n event) (told_of options k n event) is after.0 (λ l. sym after.2 ∙ l) after.1
 
-  pub asks : (options : Options) (k client : ℕ) (now : ℤ) (call : Call) (n : Node) → slice_get r.nodes k ≡ Some n → IsRun (steps options r k n (events.Request client now (ask.Call call)))
+  pub asks : (options : Options) (k client : ℕ) (now : ℤ) (call : Call) (n : RunNode) → slice_get r.nodes k ≡ Some n → IsRun (with_event options r k n (events.Request client now (ask.Call call)))
   asks options k client now call n is = kept_steps options k n (events.Request client now (ask.Call call)) is (request_fine options r.list r.elected k n (node_is k n is) client now call)
 
-  pub ticks : (options : Options) (k : ℕ) (now : ℤ) (n : Node) → slice_get r.nodes k ≡ Some n → IsRun (steps options r k n (events.Tick now))
+  pub ticks : (options : Options) (k : ℕ) (now : ℤ) (n : RunNode) → slice_get r.nodes k ≡ Some n → IsRun (with_event options r k n (events.Tick now))
   ticks options k now n is = kept_steps options k n (events.Tick now) is (tick_fine options r.list r.elected k n (node_is k n is) now)
 
-  pub tells : (options : Options) (k : ℕ) (n : Node) → slice_get r.nodes k ≡ Some n → Keeps (table.tell options r k n)
+  pub tells : (options : Options) (k : ℕ) (n : RunNode) → slice_get r.nodes k ≡ Some n → Keeps (table.tell options r k n)
   tells options k n is = leads k n.state.world.leading _ (λ epoch led.
       when (not (nat_lt n.state.world.committed n.settled)) _ _ (λ _. tt) (λ _.
       kept_steps options k n (events.Commit epoch (pos n.settled)) is (commit_fine options r.list r.elected k n (node_is k n is) epoch led)))
 
-  pub deposes : (options : Options) (k : ℕ) (n : Node) → slice_get r.nodes k ≡ Some n → Keeps (table.depose options r k n)
+  pub deposes : (options : Options) (k : ℕ) (n : RunNode) → slice_get r.nodes k ≡ Some n → Keeps (table.depose options r k n)
   deposes options k n is = leads k n.state.world.leading _ (λ epoch led.
       let after = lost_is options r.list r.elected k n (node_is k n is) epoch led in
       kept_with k n (at_own_end (after_event options n (events.Lost epoch))) (told_of options k n (events.Lost epoch)) is after.0 (λ l. absurd (never _ after.2 l)) after.1)
@@ -648,26 +648,26 @@ module _ (r : Run) (g : IsRun r) where
 -- ---- Copy
 
 -- a node that has given its image leads, or doesn't, as before
-set_leading : (ns : List Node) (from to : ℕ) (f after n t : Node) → slice_get ns from ≡ Some f → slice_get ns to ≡ Some t → slice_get (set ns from after) to ≡ Some n
+set_leading : (ns : List RunNode) (from to : ℕ) (f after n t : RunNode) → slice_get ns from ≡ Some f → slice_get ns to ≡ Some t → slice_get (set ns from after) to ≡ Some n
     → after.state.world.leading ≡ f.state.world.leading → n.state.world.leading ≡ t.state.world.leading
 set_leading [] from to f after n t is_f is_t is_n same = absurd cc
 set_leading (x ∷ xs) zero zero f after n t is_f is_t is_n same =
-    ap (λ (m : Node). m.state.world.leading) (sym (some_is after n is_n)) ∙ (same ∙ ap (λ (m : Node). m.state.world.leading) (sym (some_is x f is_f) ∙ some_is x t is_t))
-set_leading (x ∷ xs) zero (suc to) f after n t is_f is_t is_n same = ap (λ (m : Node). m.state.world.leading) (some_is n t (sym is_n ∙ is_t))
-set_leading (x ∷ xs) (suc from) zero f after n t is_f is_t is_n same = ap (λ (m : Node). m.state.world.leading) (some_is n t (sym is_n ∙ is_t))
+    ap (λ (m : RunNode). m.state.world.leading) (sym (some_is after n is_n)) ∙ (same ∙ ap (λ (m : RunNode). m.state.world.leading) (sym (some_is x f is_f) ∙ some_is x t is_t))
+set_leading (x ∷ xs) zero (suc to) f after n t is_f is_t is_n same = ap (λ (m : RunNode). m.state.world.leading) (some_is n t (sym is_n ∙ is_t))
+set_leading (x ∷ xs) (suc from) zero f after n t is_f is_t is_n same = ap (λ (m : RunNode). m.state.world.leading) (some_is n t (sym is_n ∙ is_t))
 set_leading (x ∷ xs) (suc from) (suc to) f after n t is_f is_t is_n same = set_leading xs from to f after n t is_f is_t is_n same
 
 module _ (options : Options) (r : Run) (g : IsRun r) where
-  pub copies : (from to : ℕ) (f t : Node) → slice_get r.nodes from ≡ Some f → slice_get r.nodes to ≡ Some t → Keeps (table.copy options r from to f t)
+  pub copies : (from to : ℕ) (f t : RunNode) → slice_get r.nodes from ≡ Some f → slice_get r.nodes to ≡ Some t → Keeps (table.copy options r from to f t)
   copies from to f t is_f is_t = standby to t.state.world.leading _ (λ none.
       when (nat_lt f.state.world.committed t.state.world.committed) _ _ (λ _. tt) (λ _.
       let i = node_is r g from f is_f in
       copied (kept_steps r g options from f events.Image is_f (image_fine options r.list r.elected from f i)) i none))
     where
-      copied : IsRun (steps options r from f events.Image) → IsNode r.list r.elected f → t.state.world.leading ≡ None
-          → Keeps (loaded (steps options r from f events.Image) to (pos f.state.world.committed, image_of_end f.state))
-      copied after i none = there (steps options r from f events.Image) to _ (λ n is.
-          let next = steps options r from f events.Image in
+      copied : IsRun (with_event options r from f events.Image) → IsNode r.list r.elected f → t.state.world.leading ≡ None
+          → Keeps (load_on (with_event options r from f events.Image) to (pos f.state.world.committed, image_of_end f.state))
+      copied after i none = there (with_event options r from f events.Image) to _ (λ n is.
+          let next = with_event options r from f events.Image in
           let idle : n.state.world.leading ≡ None = set_leading r.nodes from to f (after_event options f events.Image) n t is_f is_t is refl ∙ none in
           let load = loaded_is options r.list r.elected to n (node_is next after to n is) idle f.state.world.log f.state.world.committed i.core.committed i.core.means in
-          kept_changed next after to n (taken n (take_image n.state (pos f.state.world.committed, seen_at f.state.world.log f.state.world.committed))) is load.0 (λ l. absurd (never _ load.1 l)))
+          kept_changed next after to n (after_arrival n (take_image n.state (pos f.state.world.committed, seen_at f.state.world.log f.state.world.committed))) is load.0 (λ l. absurd (never _ load.1 l)))

@@ -20,18 +20,18 @@ use Rattle.law_nodes.specs.declared.moves.Move.{Move}
 use Rattle.law_nodes.specs.declared.moves.Move.TheVariants as moves
 use Rattle.law_nodes.specs.declared.moves.MoveFault.{MoveFault}
 use Rattle.law_nodes.specs.declared.moves.MoveFault.TheVariants as faults
-use Rattle.law_nodes.specs.Nodes.{Node, Run, after_event, at_own_end, first_run, told_of}
-use Rattle.law_nodes.specs.OneList.{batch_at, items_of}
+use Rattle.law_nodes.specs.Nodes.{RunNode, Run, after_event, at_own_end, first_run, told_of}
+use Rattle.law_nodes.specs.OneList.{batch_from, list_items}
 
 -- ---- what a move asks of its node
 
-abbrev pub found : Run → ℕ → Option Node → (Node → Result Run MoveFault) → Result Run MoveFault
-found r k None then = Err (faults.NoNode k (length r.nodes))
-found r k (Some n) then = then n
+abbrev pub if_node : Run → ℕ → Option RunNode → (RunNode → Result Run MoveFault) → Result Run MoveFault
+if_node r k None then = Err (faults.NoNode k (length r.nodes))
+if_node r k (Some n) then = then n
 
 -- where there is such a node
-abbrev pub with_node : Run → ℕ → (Node → Result Run MoveFault) → Result Run MoveFault
-with_node r k then = found r k (slice_get r.nodes k) then
+abbrev pub on_node : Run → ℕ → (RunNode → Result Run MoveFault) → Result Run MoveFault
+on_node r k then = if_node r k (slice_get r.nodes k) then
 
 abbrev pub on_standby : ℕ → Option ℤ → Result Run MoveFault → Result Run MoveFault
 on_standby k None then = then
@@ -43,106 +43,106 @@ while_leading k (Some epoch) then = then epoch
 
 -- ---- what it changes
 
-abbrev pub end_of : Node → ℕ
-end_of n = n.state.world.committed
+abbrev pub committed_end : RunNode → ℕ
+committed_end n = n.state.world.committed
 
 abbrev pub length_of : Run → ℕ
-length_of r = length (items_of r.list)
+length_of r = length (list_items r.list)
 
-abbrev pub changed : Run → ℕ → Node → Run
-changed r k n = record r { nodes = set r.nodes k n }
+abbrev pub put_node : Run → ℕ → RunNode → Run
+put_node r k n = record r { nodes = set r.nodes k n }
 
 -- the node takes the event, and tells what is due
-abbrev pub steps : Options → Run → ℕ → Node → Event → Run
-steps options r k n event = record r { nodes = set r.nodes k (after_event options n event); told = r.told ++ told_of options k n event }
+abbrev pub with_event : Options → Run → ℕ → RunNode → Event → Run
+with_event options r k n event = record r { nodes = set r.nodes k (after_event options n event); told = r.told ++ told_of options k n event }
 
 -- ---- Feed: the list's batch at its end
 
 -- a batch or an image that comes, or that is refused, and then it is as before but for the number of its events
-abbrev pub taken : Node → Result State Reason → Node
-taken n after = at_own_end (record n { state = with_next_number (result_unwrap_or after n.state) })
+abbrev pub after_arrival : RunNode → Result State Reason → RunNode
+after_arrival n after = at_own_end (record n { state = with_next_number (result_unwrap_or after n.state) })
 
-abbrev pub fed : Run → ℕ → Node → Option Batch → Result Run MoveFault
-fed r k n None = Err (faults.NothingNew (pos (end_of n)))
-fed r k n (Some b) = Ok (changed r k (taken n (take_batch n.state b)))
+abbrev pub feed_next : Run → ℕ → RunNode → Option Batch → Result Run MoveFault
+feed_next r k n None = Err (faults.NothingNew (pos (committed_end n)))
+feed_next r k n (Some b) = Ok (put_node r k (after_arrival n (take_batch n.state b)))
 
-abbrev pub feed : Run → ℕ → Node → Result Run MoveFault
+abbrev pub feed : Run → ℕ → RunNode → Result Run MoveFault
 feed r k n =
     on_standby k n.state.world.leading (
-    refuse faults.NothingNew (pos (end_of n)) when end_of n == length_of r else
-    fed r k n (batch_at (end_of n) r.list))
+    refuse faults.NothingNew (pos (committed_end n)) when committed_end n == length_of r else
+    feed_next r k n (batch_from (committed_end n) r.list))
 
 -- ---- Elect: Lead at its end, where it has the whole list; nobody is elected where the node refuses
 
-abbrev pub elected : Options → Run → ℕ → Node → ℤ → Event → Run
-elected options r k n epoch event =
+abbrev pub after_election : Options → Run → ℕ → RunNode → ℤ → Event → Run
+after_election options r k n epoch event =
     let after = after_event options n event in record r {
       nodes = set r.nodes k after;
       told = r.told ++ told_of options k n event;
       elected = if is_some after.state.world.leading then epoch else r.elected;
     }
 
-abbrev pub elect : Options → Run → ℕ → Node → ℤ → ℤ → Result Run MoveFault
+abbrev pub elect : Options → Run → ℕ → RunNode → ℤ → ℤ → Result Run MoveFault
 elect options r k n epoch now =
     on_standby k n.state.world.leading (
     refuse faults.OldEpoch epoch r.elected when not (int_lt r.elected epoch) else
-    refuse faults.Behind (pos (end_of n)) (pos (length_of r)) when not (end_of n == length_of r) else
-    Ok (elected options r k (at_own_end n) epoch (events.Lead epoch (pos (end_of n)) now)))
+    refuse faults.Behind (pos (committed_end n)) (pos (length_of r)) when not (committed_end n == length_of r) else
+    Ok (after_election options r k (at_own_end n) epoch (events.Lead epoch (pos (committed_end n)) now)))
 
 -- ---- Settle: the first unsettled batch of the latest leader joins the list; the node isn't told
 
-abbrev pub settle_first : Run → ℕ → Node → List Batch → Result Run MoveFault
+abbrev pub settle_first : Run → ℕ → RunNode → List Batch → Result Run MoveFault
 settle_first r k n [] = Err (faults.NothingNew (pos (length_of r)))
 settle_first r k n (b ∷ bs) =
-    Ok (record (changed r k (record n { settled = n.settled + length b.items; unsettled = bs })) { list = r.list ++ b ∷ [] })
+    Ok (record (put_node r k (record n { settled = n.settled + length b.items; unsettled = bs })) { list = r.list ++ b ∷ [] })
 
-abbrev pub settle : Run → ℕ → Node → Result Run MoveFault
+abbrev pub settle : Run → ℕ → RunNode → Result Run MoveFault
 settle r k n = while_leading k n.state.world.leading (λ epoch.
     refuse faults.NotLatest epoch r.elected when not (int_eq epoch r.elected) else
     settle_first r k n n.unsettled)
 
 -- ---- Tell: Commit at the end of what it settled
 
-abbrev pub tell : Options → Run → ℕ → Node → Result Run MoveFault
+abbrev pub tell : Options → Run → ℕ → RunNode → Result Run MoveFault
 tell options r k n = while_leading k n.state.world.leading (λ epoch.
-    refuse faults.NothingNew (pos (end_of n)) when not (nat_lt (end_of n) n.settled) else
-    Ok (steps options r k n (events.Commit epoch (pos n.settled))))
+    refuse faults.NothingNew (pos (committed_end n)) when not (nat_lt (committed_end n) n.settled) else
+    Ok (with_event options r k n (events.Commit epoch (pos n.settled))))
 
 -- ---- Depose: Lost
 
-abbrev pub deposed : Options → Run → ℕ → Node → Event → Run
+abbrev pub deposed : Options → Run → ℕ → RunNode → Event → Run
 deposed options r k n event =
     record r { nodes = set r.nodes k (at_own_end (after_event options n event)); told = r.told ++ told_of options k n event }
 
-abbrev pub depose : Options → Run → ℕ → Node → Result Run MoveFault
+abbrev pub depose : Options → Run → ℕ → RunNode → Result Run MoveFault
 depose options r k n = while_leading k n.state.world.leading (λ epoch. Ok (deposed options r k n (events.Lost epoch)))
 
 -- ---- Copy: the image of one node's end, which another one loads
 
-abbrev pub loaded : Run → ℕ → ℤ × Image → Result Run MoveFault
-loaded r k image = with_node r k (λ n. Ok (changed r k (taken n (take_image n.state image))))
+abbrev pub load_on : Run → ℕ → ℤ × Image → Result Run MoveFault
+load_on r k image = on_node r k (λ n. Ok (put_node r k (after_arrival n (take_image n.state image))))
 
-abbrev pub copy : Options → Run → ℕ → ℕ → Node → Node → Result Run MoveFault
+abbrev pub copy : Options → Run → ℕ → ℕ → RunNode → RunNode → Result Run MoveFault
 copy options r from to f t =
     on_standby to t.state.world.leading (
-    refuse faults.OlderImage (pos (end_of f)) (pos (end_of t)) when nat_lt (end_of f) (end_of t) else
-    loaded (steps options r from f events.Image) to (pos (end_of f), image_of_end f.state))
+    refuse faults.OlderImage (pos (committed_end f)) (pos (committed_end t)) when nat_lt (committed_end f) (committed_end t) else
+    load_on (with_event options r from f events.Image) to (pos (committed_end f), image_of_end f.state))
 
 -- ---- all
 
-abbrev pub moved : Options → Run → Move → Result Run MoveFault
-moved options r (moves.Feed k) = with_node r k (λ n. feed r k n)
-moved options r (moves.Elect k epoch now) = with_node r k (λ n. elect options r k n epoch now)
-moved options r (moves.Ask k client now call) = with_node r k (λ n. Ok (steps options r k n (events.Request client now (asks.Call call))))
-moved options r (moves.Tick k now) = with_node r k (λ n. Ok (steps options r k n (events.Tick now)))
-moved options r (moves.Settle k) = with_node r k (λ n. settle r k n)
-moved options r (moves.Tell k) = with_node r k (λ n. tell options r k n)
-moved options r (moves.Depose k) = with_node r k (λ n. depose options r k n)
-moved options r (moves.Copy from to) = with_node r from (λ f. with_node r to (λ t. copy options r from to f t))
+abbrev pub move_outcome : Options → Run → Move → Result Run MoveFault
+move_outcome options r (moves.Feed k) = on_node r k (λ n. feed r k n)
+move_outcome options r (moves.Elect k epoch now) = on_node r k (λ n. elect options r k n epoch now)
+move_outcome options r (moves.Ask k client now call) = on_node r k (λ n. Ok (with_event options r k n (events.Request client now (asks.Call call))))
+move_outcome options r (moves.Tick k now) = on_node r k (λ n. Ok (with_event options r k n (events.Tick now)))
+move_outcome options r (moves.Settle k) = on_node r k (λ n. settle r k n)
+move_outcome options r (moves.Tell k) = on_node r k (λ n. tell options r k n)
+move_outcome options r (moves.Depose k) = on_node r k (λ n. depose options r k n)
+move_outcome options r (moves.Copy from to) = on_node r from (λ f. on_node r to (λ t. copy options r from to f t))
 
 -- a refused move changes nothing
 abbrev pub after_move : Options → Run → Move → Run
-after_move options r m = result_unwrap_or (moved options r m) r
+after_move options r m = result_unwrap_or (move_outcome options r m) r
 
 abbrev pub run : Options → ℕ → List Move → Run
 run options nodes ms = fold (after_move options) (first_run nodes) ms

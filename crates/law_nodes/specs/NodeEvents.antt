@@ -10,7 +10,7 @@ use Rattle.kr_defs.specs.declared.options.Options.{Options}
 use Rattle.kr_model.specs.declared.writes.Write.{Write}
 use Rattle.kr_model.specs.Events.{at_time_of, happens}
 use Rattle.kr_model.specs.Outputs.{appends, is_open_in, outputs_of, waiting_after}
-use Rattle.law_nodes.specs.Nodes.{Node, NodeTold, Waiting, after_event, batches_of, told_of}
+use Rattle.law_nodes.specs.Nodes.{RunNode, NodeTold, Waiting, after_event, batches_of, told_of}
 
 abbrev pub writes_in : List Waiting → List Write
 writes_in waiting = map (λ (w : Waiting). w.write) waiting
@@ -19,10 +19,10 @@ abbrev pub is_reply : Output → Bool
 is_reply (given.Reply client correlation reply) = true
 is_reply other = false
 
-abbrev pub reply_of : NodeTold → Output
-reply_of t = given.Reply t.client t.correlation t.reply
+abbrev pub as_output : NodeTold → Output
+as_output t = given.Reply t.client t.correlation t.reply
 
-pub record TakesEvent (options : Options) (k : ℕ) (n : Node) (event : Event) : Type 0 where
+pub record ActsAsController (options : Options) (k : ℕ) (n : RunNode) (event : Event) : Type 0 where
   pub state : (after_event options n event).state ≡ happens options n.state event
   -- where no write waited that is due
   pub writes : filter (is_open_in n.state.world) (writes_in n.waiting) ≡ writes_in n.waiting
@@ -30,7 +30,7 @@ pub record TakesEvent (options : Options) (k : ℕ) (n : Node) (event : Event) :
   -- the batches of an accepted event are those that it appends
   pub batches : appends options (at_time_of n.state event) event ≡ map (λ (b : Batch). given.Append (batch_bytes b)) (batches_of options (at_time_of n.state event) event)
   -- what is told are the replies that it gives out, in order
-  pub told : filter is_reply (outputs_of options n.state (writes_in n.waiting) event) ≡ map reply_of (told_of options k n event)
+  pub told : filter is_reply (outputs_of options n.state (writes_in n.waiting) event) ≡ map as_output (told_of options k n event)
 
 abbrev pub NodesTakeEvents : Type 0
-NodesTakeEvents = (options : Options) (k : ℕ) (n : Node) (event : Event) → TakesEvent options k n event
+NodesTakeEvents = (options : Options) (k : ℕ) (n : RunNode) (event : Event) → ActsAsController options k n event

@@ -7,17 +7,17 @@ use Rattle.kr_defs.specs.declared.record.Item.{Item}
 use Rattle.kr_defs.specs.Image.{empty}
 use Rattle.kr_defs.specs.Log.{Log, apply_all}
 
-abbrev pub items_of : List Batch → List Item
-items_of list = flat_map (λ (b : Batch). b.items) list
+abbrev pub list_items : List Batch → List Item
+list_items list = flat_map (λ (b : Batch). b.items) list
 
 -- the batch that begins at the place
-abbrev pub batch_at : ℕ → List Batch → Option Batch
-batch_at at [] = None
-batch_at zero (b ∷ bs) = Some b
-batch_at (suc at) (b ∷ bs) = batch_at (suc at - length b.items) bs
+abbrev pub batch_from : ℕ → List Batch → Option Batch
+batch_from at [] = None
+batch_from zero (b ∷ bs) = Some b
+batch_from (suc at) (b ∷ bs) = batch_from (suc at - length b.items) bs
 
 -- the part stands in the items from the place on
-pub record Stands (items : List Item) (from : ℕ) (part : List Item) : Type 0 where
+pub record StandsIn (items : List Item) (from : ℕ) (part : List Item) : Type 0 where
   pub front : List Item
   pub back : List Item
   pub at : from ≡ length front
@@ -32,7 +32,7 @@ pub record Follows (list : List Batch) (log : Log) (end : ℕ) : Type 0 where
   pub shared : List Item
   pub rest : List Item
   pub list_is : list ≡ done ++ ahead
-  pub done_is : items_of done ≡ before ++ shared
+  pub done_is : list_items done ≡ before ++ shared
   pub items_are : log.items ≡ shared ++ rest
   pub offset_is : log.offset ≡ length before
   pub end_is : end ≡ log.offset + length shared
