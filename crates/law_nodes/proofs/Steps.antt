@@ -42,7 +42,7 @@ use Rattle.law_nodes.specs.Moves.{put_node, deposed, feed_next, if_node, length_
 use Rattle.law_nodes.specs.Nodes.{RunNode, NodeTold, Run, Waiting, after_by, after_event, at_own_end, batches_of, fencing_batches, tells_by, told_due, told_now, told_of, waits_in, writes_with}
 use Rattle.law_nodes.specs.OneList.{Follows, batch_from, list_items}
 use Rattle.law_nodes.proofs.Invariant.{IsCore, IsNode, IsRun, Leads, OneLeads, all_put, at_node, core_at, never, one_put}
-use Rattle.law_nodes.proofs.LeaderLogs.{asked, core_fenced, core_more, waits_fenced}
+use Rattle.law_nodes.proofs.LeaderLogs.{asked, core_fenced, core_more, leading_fenced, waits_fenced}
 use Rattle.law_nodes.proofs.Lists.{HasItems, some_both}
 use Rattle.law_nodes.proofs.Logs
 use Rattle.law_nodes.proofs.Replies.{AllTold, AllWait, all_told, none_waits, now_told, told_both, told_longer, waits_both, waits_longer, waits_some}
