@@ -15,7 +15,7 @@ use Rattle.kr_model.specs.Lost.{cut}
 use Rattle.kr_model.specs.World.{log_with, seen_at}
 use Rattle.kr_model.proofs.LoadedImages.{empty_valid}
 use Rattle.kr_model.proofs.Logs.{apply_append, at_tip}
-use Rattle.law_nodes.specs.OneList.{Follows, StandsIn, list_items}
+use Rattle.law_nodes.specs.OneList.{Follows, batch_from, StandsIn, list_items}
 use Rattle.law_nodes.proofs.Lists.{HasItems, batch_behind, items_append, items_one, none_long, rest_of, some_before, some_behind}
 
 -- ---- images

@@ -143,16 +143,20 @@ module _ (options : Options) (k : ℕ) (n : RunNode) (event : Event) where
       let now = answers_now options s event in
       let due = answers_in after.world (writes_in n.waiting ++ writes_of options s event) in
       let ws = writes_with options s n.waiting event in
-      filter-append is_reply (appends options s event) (images s event ++ now ++ due)
-      ∙ (ap (λ (os : List Output). filter is_reply os ++ filter is_reply (images s event ++ now ++ due)) (all_appended options s event)
-      ∙ (ap (λ (os : List Output). os ++ filter is_reply (images s event ++ now ++ due)) (no_reply (batches_of options s event))
-      ∙ (filter-append is_reply (images s event) (now ++ due)
-      ∙ (ap (λ (os : List Output). os ++ filter is_reply (now ++ due)) (no_image_reply s event)
-      ∙ (filter-append is_reply now due
-      ∙ (ap (λ (os : List Output). os ++ filter is_reply due) (now_replied k now)
-      ∙ (ap (λ (vs : List Write). map as_output (flat_map (told_now k) now) ++ filter is_reply (answers_in after.world vs)) (sym writes_are)
-      ∙ (ap (λ (os : List Output). map as_output (flat_map (told_now k) now) ++ os) (all_replied k after.world ws)
-      ∙ sym (map-append as_output (flat_map (told_now k) now) (map (told_write k after.world.committed) (filter (λ x. not (waits_in after.world x)) ws)))))))))))
+      let given = appends options s event in
+      let shown = images s event in
+      let told = map as_output (flat_map (told_now k) now) in
+      let none : filter is_reply (given ++ shown) ≡ [] =
+      filter-append is_reply given shown
+      ∙ (ap (λ (os : List Output). filter is_reply os ++ filter is_reply shown) (all_appended options s event)
+      ∙ (ap (λ (os : List Output). os ++ filter is_reply shown) (no_reply (batches_of options s event)) ∙ no_image_reply s event)) in
+      let front : filter is_reply ((given ++ shown) ++ now) ≡ told =
+      filter-append is_reply (given ++ shown) now ∙ (ap (λ (os : List Output). os ++ filter is_reply now) none ∙ now_replied k now) in
+      filter-append is_reply ((given ++ shown) ++ now) due
+      ∙ (ap (λ (os : List Output). os ++ filter is_reply due) front
+      ∙ (ap (λ (vs : List Write). told ++ filter is_reply (answers_in after.world vs)) (sym writes_are)
+      ∙ (ap (λ (os : List Output). told ++ os) (all_replied k after.world ws)
+      ∙ sym (map-append as_output (flat_map (told_now k) now) (map (told_write k after.world.committed) (filter (λ x. not (waits_in after.world x)) ws))))))
 
   pub takes : ActsAsController options k n event
   takes = record {

@@ -509,8 +509,8 @@ module _ (r : Run) (g : IsRun r) where
     }
 
     none_new : (reason : Reason) (b : Bool) → b ≡ false → IsRun (By (Err reason) b)
-    none_new reason true is = absurd cc
-    none_new reason false is =
+    none_new reason true idle = absurd cc
+    none_new reason false idle =
         let o = own_end_is options r.list r.elected k n own none in
         kept_with k n (after_by options m (at_time_of n.state event) event (Err reason)) [] is
         (record {

@@ -26,20 +26,20 @@ use Rattle.law_nodes.specs.OneList.{batch_from, list_items}
 -- ---- what a move asks of its node
 
 abbrev pub if_node : Run → ℕ → Option RunNode → (RunNode → Result Run MoveFault) → Result Run MoveFault
-if_node r k None then = Err (faults.NoNode k (length r.nodes))
-if_node r k (Some n) then = then n
+if_node r k None next = Err (faults.NoNode k (length r.nodes))
+if_node r k (Some n) next = next n
 
 -- where there is such a node
 abbrev pub on_node : Run → ℕ → (RunNode → Result Run MoveFault) → Result Run MoveFault
-on_node r k then = if_node r k (slice_get r.nodes k) then
+on_node r k next = if_node r k (slice_get r.nodes k) next
 
 abbrev pub on_standby : ℕ → Option ℤ → Result Run MoveFault → Result Run MoveFault
-on_standby k None then = then
-on_standby k (Some epoch) then = Err (faults.NotStandby k)
+on_standby k None next = next
+on_standby k (Some epoch) next = Err (faults.NotStandby k)
 
 abbrev pub while_leading : ℕ → Option ℤ → (ℤ → Result Run MoveFault) → Result Run MoveFault
-while_leading k None then = Err (faults.NotLeading k)
-while_leading k (Some epoch) then = then epoch
+while_leading k None next = Err (faults.NotLeading k)
+while_leading k (Some epoch) next = next epoch
 
 -- ---- what it changes
 
