@@ -1,5 +1,7 @@
 //! What may be done with nodes over one committed list, and why it is refused.
 
+ghost use Rattle.std.specs.Prelude.{◌≡◌};
+
 use kr_base::NoMemory;
 use kr_calls::Call;
 use thiserror::Error;
