@@ -1,6 +1,6 @@
 -- Any moves keep it, and so the nodes agree.
-use Rattle.std.proofs.Common.{◌≡◌, ◌∙◌, sym, subst, ℕ, zero, suc, ℤ, pos, negsuc, List, [], ◌∷◌, ◌++◌, replicate, take, refl, ap, arith}
-use Rattle.std.specs.Prelude.{Option, Some, None, Result, Ok, Err, fold}
+use Rattle.std.proofs.Common.{◌≡◌, ◌∙◌, sym, ℕ, zero, suc, negsuc, List, [], ◌∷◌, replicate, take, refl, ap, arith}
+use Rattle.std.specs.Prelude.{Some, Result, Ok, Err, fold}
 use Rattle.std.specs.Result.{result_unwrap_or}
 use Rattle.std.specs.List.{AllByRecursion, slice_get}
 use Rattle.kr_calls.specs.declared.calls.Ask.TheVariants as ask
@@ -11,7 +11,7 @@ use Rattle.kr_defs.specs.Log.{apply_all, first}
 use Rattle.law_nodes.specs.declared.moves.Move.{Move}
 use Rattle.law_nodes.specs.declared.moves.Move.TheVariants as moves
 use Rattle.law_nodes.specs.declared.moves.MoveFault.{MoveFault}
-use Rattle.law_nodes.specs.Agreement.{RunAgrees, NodesAgree}
+use Rattle.law_nodes.specs.Agreement.{NodesAgree}
 use Rattle.law_nodes.specs.Moves as table
 use Rattle.law_nodes.specs.Moves.{after_move, move_outcome, run, with_event, on_node}
 use Rattle.law_nodes.specs.Nodes.{RunNode, Run, first_run, fresh_node}

@@ -1,9 +1,8 @@
 -- What stays true of all nodes, move by move.
-use Rattle.std.proofs.Common.{◌≡◌, ◌∙◌, sym, subst, ℕ, zero, suc, ℤ, pos, ◌+◌, ◌≤◌, List, [], ◌∷◌, ◌++◌, length, set, refl, ap}
+use Rattle.std.proofs.Common.{◌≡◌, sym, subst, ℕ, zero, suc, ℤ, pos, ◌+◌, ◌≤◌, List, [], ◌∷◌, ◌++◌, length, set}
 use Rattle.std.specs.Prelude.{Option, Some, None, IsOk, int_lt, not, IsTrue}
 use Rattle.std.specs.List.{AllByRecursion, slice_get}
 use Rattle.kr_batch.specs.declared.Batch.{Batch}
-use Rattle.kr_defs.specs.declared.basis.Basis.{Basis}
 use Rattle.kr_defs.specs.declared.record.Item.{Item}
 use Rattle.kr_defs.specs.Heartbeats.{end, heard}
 use Rattle.kr_defs.specs.Image.{empty}
@@ -11,7 +10,7 @@ use Rattle.kr_defs.specs.Log.{Log, apply_all}
 use Rattle.kr_defs.proofs.Tests.{some_is}
 use Rattle.kr_model.specs.World.{State}
 use Rattle.law_nodes.specs.Agreement.{IsTold}
-use Rattle.law_nodes.specs.Nodes.{RunNode, NodeTold, Run, Waiting}
+use Rattle.law_nodes.specs.Nodes.{RunNode, Run, Waiting}
 use Rattle.law_nodes.specs.OneList.{Follows, list_items}
 use Rattle.law_nodes.proofs.Lists.{HasItems}
 

@@ -1,9 +1,7 @@
 -- What a leader's requests and the ends of sessions write.
-use Rattle.std.proofs.Common.{◌≡◌, ◌∙◌, sym, subst, ℕ, suc, ℤ, pos, ◌+◌, ◌≤◌, ◌<◌, Bool, true, false, cond, List, [], ◌∷◌, ◌++◌, length, map, refl, ap, arith}
-use Rattle.std.specs.Prelude.{Option, Some, None, Result, Ok, Err, IsOk, ◌==◌, ◌&&◌, not, is_some}
-use Rattle.std.specs.List.{AllByRecursion}
-use Rattle.std.specs.Result.{result_unwrap_or}
-use Rattle.std.proofs.lemmas.List.{append-nil, append_assoc, length-append, length-map}
+use Rattle.std.proofs.Common.{◌≡◌, ◌∙◌, sym, subst, ℕ, suc, ℤ, pos, ◌+◌, ◌<◌, Bool, true, false, cond, List, [], ◌∷◌, ◌++◌, length, map, refl, ap, arith}
+use Rattle.std.specs.Prelude.{Option, Some, None, Result, Ok, IsOk, ◌==◌, ◌&&◌, not, is_some}
+use Rattle.std.proofs.lemmas.List.{append-nil, append_assoc, length-map}
 use Rattle.kr_batch.specs.declared.Batch.{Batch}
 use Rattle.kr_calls.specs.declared.calls.Ask.TheVariants as asks
 use Rattle.kr_calls.specs.declared.calls.Call.{Call}
@@ -18,14 +16,13 @@ use Rattle.kr_defs.specs.declared.record.Item.{Item}
 use Rattle.kr_defs.specs.declared.record.Item.TheVariants as items
 use Rattle.kr_defs.specs.declared.record.Record.{Record}
 use Rattle.kr_defs.specs.Heartbeats.{heard, leave}
-use Rattle.kr_defs.specs.Image.{Image, empty}
+use Rattle.kr_defs.specs.Image.{Image}
 use Rattle.kr_defs.specs.ImageLaws.{as_items}
 use Rattle.kr_defs.specs.Log.{Log, apply_all, tip}
-use Rattle.kr_model.specs.declared.writes.Write.{Write}
 use Rattle.kr_model.specs.Outputs.{next_batch, write_of}
 use Rattle.kr_model.specs.Request.{after_ask, after_write, decision, is_decided}
 use Rattle.kr_model.specs.Tick.{fence, fence_all, fencing_of}
-use Rattle.kr_model.specs.World.{State, World, image_of_tip, log_with, tip_of, with_heartbeats, with_records}
+use Rattle.kr_model.specs.World.{State, image_of_tip, log_with, tip_of, with_heartbeats, with_records}
 use Rattle.kr_model.proofs.DueWrites.{batch_leaves}
 use Rattle.kr_model.proofs.LogEntries.{batch_written, not_none}
 use Rattle.kr_model.proofs.Logs.{as_records, tip_written}

@@ -1,14 +1,12 @@
 -- What an event makes of a node is what it makes of a controller.
-use Rattle.std.proofs.Common.{◌≡◌, ◌∙◌, sym, ℕ, ℤ, pos, negsuc, Bool, true, false, cond, List, [], ◌∷◌, ◌++◌, length, map, refl, ap}
-use Rattle.std.specs.Prelude.{Option, Result, Ok, Err, filter, not, int_lt, ◌==◌, ◌&&◌}
+use Rattle.std.proofs.Common.{◌≡◌, ◌∙◌, sym, ℕ, ℤ, pos, negsuc, true, false, cond, List, [], ◌∷◌, ◌++◌, length, map, refl, ap}
+use Rattle.std.specs.Prelude.{Result, Ok, Err, filter, not, int_lt, ◌==◌}
 use Rattle.std.specs.List.{flat_map}
 use Rattle.std.specs.Result.{result_unwrap_or}
 use Rattle.std.proofs.lemmas.List.{append-nil, map-append}
 use Rattle.std.proofs.lemmas.List.Elements.{filter-append}
 use Rattle.kr_batch.specs.declared.Batch.{Batch}
 use Rattle.kr_batch.specs.BatchBytes.{batch_bytes}
-use Rattle.kr_calls.specs.declared.calls.Ask.{Ask}
-use Rattle.kr_calls.specs.declared.calls.Call.{Call}
 use Rattle.kr_calls.specs.declared.calls.Ask.TheVariants as ask
 use Rattle.kr_calls.specs.declared.events.Event.{Event}
 use Rattle.kr_calls.specs.declared.events.Event.TheVariants as events
@@ -24,7 +22,7 @@ use Rattle.kr_model.specs.Request.{decision, is_decided}
 use Rattle.kr_model.specs.Tick.{fence, fencing_of, lapsed_contacts}
 use Rattle.kr_model.specs.World.{State, World, image_of_tip}
 use Rattle.law_nodes.specs.NodeEvents.{NodesTakeEvents, ActsAsController, is_reply, as_output, writes_in}
-use Rattle.law_nodes.specs.Nodes.{RunNode, NodeTold, Waiting, after_by, batch_for, batches_of, fencing_batches, tells_by, told_now, told_write, waits_in, writes_with}
+use Rattle.law_nodes.specs.Nodes.{RunNode, Waiting, after_by, batch_for, batches_of, fencing_batches, tells_by, told_now, told_write, waits_in, writes_with}
 use Rattle.law_nodes.specs.OneList.{list_items}
 
 -- ---- batches

@@ -1,9 +1,7 @@
 -- Each move keeps it.
-use Rattle.std.proofs.Common.{◌≡◌, ◌∙◌, sym, subst, ℕ, zero, suc, ℤ, pos, ◌+◌, ◌≤◌, ◌<◌, true, false, cond, Bool, List, [], ◌∷◌, ◌++◌, length, map, set, refl, ap, arith}
-use Rattle.std.specs.Prelude.{Option, Some, None, Result, Ok, Err, IsOk, int_lt, nat_lt, ◌==◌, ◌&&◌, not, filter, is_some, unsigned_abs, unwrap_or}
-use Rattle.std.specs.Result.{result_unwrap_or, result_err}
+use Rattle.std.proofs.Common.{◌≡◌, ◌∙◌, sym, subst, ℕ, zero, suc, ℤ, pos, ◌+◌, true, false, cond, Bool, List, [], ◌∷◌, ◌++◌, length, set, refl, ap, arith}
+use Rattle.std.specs.Prelude.{Option, Some, None, Result, Ok, Err, IsOk, int_lt, nat_lt, ◌==◌, ◌&&◌, not, filter, is_some}
 use Rattle.std.specs.List.{AllByRecursion, flat_map, slice_get}
-use Rattle.std.specs.Option.{option_map}
 use Rattle.std.specs.Ordering.{int_eq}
 use Rattle.std.proofs.lemmas.Bool.Decides.{nat_tests}
 use Rattle.std.proofs.lemmas.Int.{ints}
@@ -18,23 +16,21 @@ use Rattle.kr_defs.specs.declared.ill.Ill.{Ill}
 use Rattle.kr_defs.specs.declared.options.Options.{Options}
 use Rattle.kr_defs.specs.declared.record.Item.{Item}
 use Rattle.kr_defs.specs.declared.record.Item.TheVariants as items
-use Rattle.kr_defs.specs.Heartbeats.{Heartbeats, heard}
 use Rattle.kr_defs.specs.Image.{Image, empty}
-use Rattle.kr_defs.specs.Log.{Log, apply_all, first_ill, image_at}
+use Rattle.kr_defs.specs.Log.{Log, apply_all, first_ill}
 use Rattle.kr_defs.proofs.IdLists.{id_itself}
-use Rattle.kr_defs.proofs.Logs.{cause_named}
 use Rattle.kr_defs.proofs.Tests.{Gives, gives_done, gives_refuse, some_is}
 use Rattle.kr_model.specs.Batch.{after_batch, end_of, take_batch, unless_ill}
-use Rattle.kr_model.specs.Commit.{after_commit, commit, is_end}
+use Rattle.kr_model.specs.Commit.{after_commit, is_end}
 use Rattle.kr_model.specs.Events.{at_time_of, next_number, outcome, time_after, with_next_number}
-use Rattle.kr_model.specs.Lead.{after_lead, lead, may_begin_at}
+use Rattle.kr_model.specs.Lead.{after_lead, may_begin_at}
 use Rattle.kr_model.specs.Load.{after_load, take_image}
 use Rattle.kr_model.specs.Lost.{after_lost, cut, lost}
-use Rattle.kr_model.specs.Outputs.{answers_now, append_fencings}
+use Rattle.kr_model.specs.Outputs.{answers_now}
 use Rattle.kr_model.specs.Reasons as reasons
-use Rattle.kr_model.specs.Request.{after_ask, is_decided, request}
-use Rattle.kr_model.specs.Tick.{fence_all, lapsed_contacts, tick}
-use Rattle.kr_model.specs.World.{State, World, image_of_end, image_of_tip, is_far, leads_in, log_with, seen_at, tip_of, with_batch}
+use Rattle.kr_model.specs.Request.{after_ask, is_decided}
+use Rattle.kr_model.specs.Tick.{fence_all, lapsed_contacts}
+use Rattle.kr_model.specs.World.{State, image_of_end, image_of_tip, is_far, leads_in, seen_at, tip_of, with_batch}
 use Rattle.kr_model.proofs.OrderlyStates.{none_lapses}
 use Rattle.law_nodes.specs.declared.moves.MoveFault.{MoveFault}
 use Rattle.law_nodes.specs.Moves as table

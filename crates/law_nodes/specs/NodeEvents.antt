@@ -1,6 +1,6 @@
 -- A node is a controller: an event makes of it what it makes of the state and of the writes of kr_model, and tells what is given
 -- out there.
-use Rattle.std.specs.Prelude.{◌≡◌, ℕ, List, [], ◌∷◌, map, filter, Bool, true, false}
+use Rattle.std.specs.Prelude.{◌≡◌, ℕ, List, map, filter, Bool, true, false}
 use Rattle.kr_batch.specs.declared.Batch.{Batch}
 use Rattle.kr_batch.specs.BatchBytes.{batch_bytes}
 use Rattle.kr_calls.specs.declared.events.Event.{Event}
