@@ -1,5 +1,5 @@
 -- A message asks at most one thing, which reading finds.
-use Rattle.std.proofs.Common.{Fits, w8, get_or, ◌≡◌, ℕ, Bool, true, false, cond, List, [], ◌∷◌, ◌++◌, append_assoc, Option, Some, None, Result, Ok, Err, refl, sym, ap, subst, ◌∙◌, arith}
+use Rattle.std.proofs.Common.{Fits, w8, get_or, ◌≡◌, ℕ, Bool, true, false, cond, List, [], ◌∷◌, ◌++◌, length, ◌==◌, append_assoc, Option, Some, None, Result, Ok, Err, refl, sym, ap, subst, ◌∙◌, arith}
 use Rattle.std.specs.Prelude.{ℤ, pos, IfOk, IfSome, ◌&&◌, ◌↔◌}
 use Rattle.std.specs.Ordering.{int_eq}
 use Rattle.std.proofs.lemmas.Bool.{and_parts}
@@ -29,6 +29,15 @@ rest_law = record {
       sound_as IsDescribe _ rest _ (describe_law.sound rest more) (λ d b second. joined a b first second));
   complete = λ d bytes rest is. complete_then client_law tt (IsDescribe d) _ d rest (λ tail second. describe_law.complete d tail rest second) bytes is;
 }
+
+-- nothing is left behind the request, or something is
+pub all_asked : (c : ℤ) (d : Describe) (left : List ℕ) → (length left == 0) ≡ true → describe_ask c (Ok (d, left)) ≡ asks.Ask c d
+all_asked c d [] none = refl
+all_asked c d (b ∷ bytes) none = absurd cc
+
+pub more_left : (c : ℤ) (d : Describe) (left : List ℕ) → (length left == 0) ≡ false → describe_ask c (Ok (d, left)) ≡ asks.Bare c
+more_left c d [] some = absurd cc
+more_left c d (b ∷ bytes) some = refl
 
 -- ---- starts
 

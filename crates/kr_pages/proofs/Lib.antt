@@ -3,3 +3,4 @@ pub mod Rising
 pub mod Nullable
 pub mod Messages
 pub mod Asks
+mod Examples

@@ -46,8 +46,8 @@ described_stands c d fits =
     joined (signed w32 c) _ (stands Int32 c fits.0)
     (joined (tags []) (page_bytes d) (stands End tt tt)
     (joined (signed w32 (pos 0)) _ (stands Int32 (pos 0) (search rules))
-    (joined (list (written described_topic) d.topics) _ (stands (Array described_topic) d.topics fits.1)
-    (joined (structure_or_null (written cursor) d.next) (tags []) (cursor_stands d.next fits.2) (stands End tt tt)))))
+    (joined (list (written described_topic) d.topics) _ (stands (Array described_topic) d.topics fits.1.0)
+    (joined (structure_or_null (written cursor) d.next) (tags []) (cursor_stands d.next fits.1.1) (stands End tt tt)))))
 
 described_apart : (p q : Described) (a b s t : List ℕ) → IsDescribed p a → IsDescribed q b → a ++ s ≡ b ++ t → (p ≡ q) × (s ≡ t)
 described_apart p q a b s t j k same =

@@ -19,7 +19,7 @@ use Rattle.kr_defs.proofs.Maps.{IsMap-filter, below_all}
 use Rattle.kr_defs.proofs.TopicWalks.{same_topic}
 use Rattle.kr_view.specs.declared.scans.ScanKey.{ScanKey}
 use Rattle.kr_view.specs.Scans.{scan_order}
-use Rattle.kr_pages.specs.Lines.{Line, bare_line, in_order, partition_line, lines, lines_or_bare, name_before, name_lines, names_of, lines_of_topic, with_name}
+use Rattle.kr_pages.specs.Lines.{Line, bare_line, in_order, line_of_partition, lines, lines_or_bare, name_before, name_lines, names_of, lines_of_topic, with_name}
 use Rattle.kr_pages.specs.Joined.{LinesRise, PagesJoinLines}
 use Rattle.kr_pages.proofs.Joining.{pages_join}
 
@@ -95,16 +95,16 @@ index_less name x y same less =
     ap (λ o. ordering_then o (int_cmp x.1 y.1)) (text_itself name) ∙ (ap (λ o. ordering_then o (int_cmp x.1 y.1)) (sym ids) ∙ less)
 
 rows_above : (name : List ℕ) (id : ℕ) (e : Entry) (es : List Entry) → e.0.0 ≡ id → AreIn id es → AllByRecursion (λ k. partition_order e.0 k ≡ Less) (keys_of es)
-    → AllByRecursion (λ k. scan_order (record { topic = name; index = e.0.1 }) k ≡ Less) (map (λ (l : Line). l.key) (map partition_line (map (walked name) es)))
+    → AllByRecursion (λ k. scan_order (record { topic = name; index = e.0.1 }) k ≡ Less) (map (λ (l : Line). l.key) (map line_of_partition (map (walked name) es)))
 rows_above name id e [] own are h = tt
 rows_above name id e (d ∷ ds) own are h = (index_less name e.0 d.0 (own ∙ sym are.0) h.0, rows_above name id e ds own are.1 h.1)
 
-rows_rise : (name : List ℕ) (id : ℕ) (es : List Entry) → AreIn id es → IsMap partition_order es → Rise (map partition_line (map (walked name) es))
+rows_rise : (name : List ℕ) (id : ℕ) (es : List Entry) → AreIn id es → IsMap partition_order es → Rise (map line_of_partition (map (walked name) es))
 unfolding IsStrictlySortedBy
 rows_rise name id [] are h = tt
 rows_rise name id (e ∷ es) are h = (rows_above name id e es are.0 are.1 h.0, rows_rise name id es are.1 h.1)
 
-rows_of : (name : List ℕ) (es : List Entry) → AreOf name (map partition_line (map (walked name) es))
+rows_of : (name : List ℕ) (es : List Entry) → AreOf name (map line_of_partition (map (walked name) es))
 rows_of name [] = tt
 rows_of name (e ∷ es) = (refl, rows_of name es)
 
@@ -125,7 +125,7 @@ module _ (image : Image) (valid : IsValid image) where
   name_rises name =
       elim (get text_order image.topics name) as (λ o. Rise (option_map_or (lines_of_topic image name) o (bare_line name None ∷ []))) [
         | None ↦ one_rises (bare_line name None)
-        | Some id ↦ or_bare_rise name id (map partition_line (walk_topic image.partitions (name, id)))
+        | Some id ↦ or_bare_rise name id (map line_of_partition (walk_topic image.partitions (name, id)))
             (rows_rise name id (of_topic id image.partitions) (kept_in id image.partitions) (IsMap-filter partition_order (λ (e : Entry). e.0.0 == id) image.partitions valid.partitions.ordered))
       ]
 
@@ -133,7 +133,7 @@ module _ (image : Image) (valid : IsValid image) where
   name_of name =
       elim (get text_order image.topics name) as (λ o. AreOf name (option_map_or (lines_of_topic image name) o (bare_line name None ∷ []))) [
         | None ↦ (refl, tt)
-        | Some id ↦ or_bare_of name id (map partition_line (walk_topic image.partitions (name, id))) (rows_of name (of_topic id image.partitions))
+        | Some id ↦ or_bare_of name id (map line_of_partition (walk_topic image.partitions (name, id))) (rows_of name (of_topic id image.partitions))
       ]
 
   -- ---- the lines of all names

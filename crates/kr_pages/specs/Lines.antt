@@ -17,8 +17,8 @@ pub record Line : Type 0 where
   pub id : Option ℕ
   pub partition : Option Partition
 
-abbrev pub partition_line : Walked → Line
-partition_line w = record { key = record { topic = w.topic; index = w.key.1 }; id = Some w.key.0; partition = Some w.partition }
+abbrev pub line_of_partition : Walked → Line
+line_of_partition w = record { key = record { topic = w.topic; index = w.key.1 }; id = Some w.key.0; partition = Some w.partition }
 
 -- the one line of a topic without partitions, or of a name that no topic has
 abbrev pub bare_line : List ℕ → Option ℕ → Line
@@ -29,7 +29,7 @@ lines_or_bare name id [] = bare_line name (Some id) ∷ []
 lines_or_bare name id (line ∷ lines) = line ∷ lines
 
 abbrev pub lines_of_topic : Image → List ℕ → ℕ → List Line
-lines_of_topic image name id = lines_or_bare name id (map partition_line (walk_topic image.partitions (name, id)))
+lines_of_topic image name id = lines_or_bare name id (map line_of_partition (walk_topic image.partitions (name, id)))
 
 abbrev pub name_lines : Image → List ℕ → List Line
 name_lines image name = option_map_or (lines_of_topic image name) (get text_order image.topics name) (bare_line name None ∷ [])

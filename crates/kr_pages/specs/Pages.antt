@@ -54,8 +54,8 @@ part_of image index p = record {
 abbrev pub parts_of : Image → Line → List DescribedPart
 parts_of image line = option_map_or (λ p. part_of image line.key.index p ∷ []) line.partition []
 
-abbrev pub topic_entry : Image → Line → DescribedTopic
-topic_entry image line = record {
+abbrev pub entry_of_topic : Image → Line → DescribedTopic
+entry_of_topic image line = record {
   error = option_map_or (λ (id : ℕ). pos 0) line.id UNKNOWN_TOPIC_OR_PARTITION;
   name = Some line.key.topic;
   id = unwrap_or line.id 0;
@@ -67,9 +67,9 @@ has_name name topic = option_map_or (bytes_eq name) topic.name false
 
 -- neighbours of one topic are one entry: a line is added to the last entry, or begins one
 abbrev pub with_line : Image → List DescribedTopic → Line → List DescribedTopic
-with_line image [] line = topic_entry image line ∷ []
+with_line image [] line = entry_of_topic image line ∷ []
 with_line image (last ∷ []) line =
-    if has_name line.key.topic last then record last { parts = last.parts ++ parts_of image line } ∷ [] else last ∷ topic_entry image line ∷ []
+    if has_name line.key.topic last then record last { parts = last.parts ++ parts_of image line } ∷ [] else last ∷ entry_of_topic image line ∷ []
 with_line image (first ∷ second ∷ rest) line = first ∷ with_line image (second ∷ rest) line
 
 abbrev pub topic_entries : Image → List Line → List DescribedTopic

@@ -23,8 +23,11 @@ page_bytes d = signed w32 (pos 0) ++ (list (written described_topic) d.topics ++
 abbrev pub described_bytes : ℤ → Described → List ℕ
 described_bytes correlation d = signed w32 correlation ++ (tags [] ++ page_bytes d)
 
+abbrev pub PageFits : Described → Type 0
+PageFits d = IsShortList (Fits described_topic) d.topics × FitsOrNull (Fits cursor) d.next
+
 abbrev pub DescribedFits : ℤ → Described → Type 0
-DescribedFits correlation d = FitsSigned w32 correlation × IsShortList (Fits described_topic) d.topics × FitsOrNull (Fits cursor) d.next
+DescribedFits correlation d = FitsSigned w32 correlation × PageFits d
 
 -- ---- laws
 

@@ -3,7 +3,7 @@
 ghost use Rattle.std.specs.Prelude.{◌≡◌, ◌++◌, OnOk, OnErr};
 ghost use Rattle.kr_layout.specs.Answers.{Begins, Puts};
 ghost use Rattle.kr_pages.specs.Messages.{cursor, described_part, described_topic};
-ghost use Rattle.kr_pages.specs.Written.{DescribedFits, described_bytes};
+ghost use Rattle.kr_pages.specs.Written.{DescribedFits, PageFits, described_bytes, page_bytes};
 
 use crate::nullable::put_or_null;
 use crate::{Described, DescribedPart, DescribedTopic, Mine};
@@ -56,8 +56,19 @@ impl Put<Mine> for DescribedTopic {
     }
 }
 
-// The correlation id, no tagged field, no throttling, the topics and the next cursor. Without memory some of it may stand behind
-// what there was.
+// No throttling, the topics and the next cursor. Without memory some of it may stand behind what there was.
+fn put_page(described: &Described, out: &mut Vec<u8>) -> Result<(), NoMemory>
+    ensures ok { OnOk result (out.new.items ≡ out.old.items ++ page_bytes described.now) }
+    ensures fits { OnOk result (PageFits described.now) }
+    ensures err { OnErr result (Begins out.old.items out.new.items) }
+{
+    put_i32(out, 0)?;
+    described.topics.put(&Mine, out)?;
+    put_or_null(&described.next, &Mine, out)?;
+    put_end(out)
+}
+
+// The correlation id, no tagged field, and the page. Without memory some of it may stand behind what there was.
 fn put_message(correlation: i32, described: &Described, out: &mut Vec<u8>) -> Result<(), NoMemory>
     ensures ok { OnOk result (out.new.items ≡ out.old.items
         ++ described_bytes correlation described.now) }
@@ -66,10 +77,7 @@ fn put_message(correlation: i32, described: &Described, out: &mut Vec<u8>) -> Re
 {
     put_i32(out, correlation)?;
     put_end(out)?;
-    put_i32(out, 0)?;
-    described.topics.put(&Mine, out)?;
-    put_or_null(&described.next, &Mine, out)?;
-    put_end(out)
+    put_page(described, out)
 }
 
 /// Appends what is written for the message of a reply. Without memory, which a text or a list of 2^31 or more wants too, nothing is

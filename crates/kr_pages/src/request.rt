@@ -83,7 +83,7 @@ fn read_describe(from: &mut Reader<'_, Mine>) -> Result<Describe, ReadFault>
 }
 
 // What all of the bytes behind the correlation id ask.
-#[tactic(auto, unfolding(crate::specs::Reading::rest_at))]
+#[tactic(auto, using(crate::proofs::Asks::all_asked, crate::proofs::Asks::more_left), unfolding(crate::specs::Reading::rest_at))]
 fn read_rest(
     alloc: Global,
     correlation: i32,

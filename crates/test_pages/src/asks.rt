@@ -16,10 +16,12 @@ pub(crate) fn ask_row(alloc: Global, fields: &mut Fields) -> Result<String, RowF
     match decode(alloc, &message)? {
         None => Ok(String::from_str(alloc, "none")?),
         Some(DescribeAsk::Bare { correlation }) => bare_text(alloc, correlation),
-        Some(DescribeAsk::Ask {
-            correlation,
-            describe,
-        }) => Ok(describe_text(alloc, correlation, &describe)?),
+        Some(
+            DescribeAsk::Ask {
+                correlation,
+                describe,
+            },
+        ) => Ok(describe_text(alloc, correlation, &describe)?),
     }
 }
 
