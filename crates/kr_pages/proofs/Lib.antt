@@ -1,6 +1,6 @@
 pub mod Joining
 pub mod Rising
-pub mod Nullable
+pub mod NullableLaws
 pub mod Messages
 pub mod Asks
 mod Examples

@@ -18,7 +18,7 @@ use Rattle.kr_pages.specs.Messages.{IsCursor, IsDescribe, IsDescribed, IsDescrib
 use Rattle.kr_pages.specs.Nullable.{FitsOrNull, IsStructureOrNull, structure_or_null}
 use Rattle.kr_pages.specs.Reading.{describe_at, fields_of, of_fields}
 use Rattle.kr_pages.specs.Written.{DescribeFits, DescribedAreWritten, DescribedFits, DescribesAreWritten, page_bytes, describe_bytes, described_bytes}
-use Rattle.kr_pages.proofs.Nullable.{structure_or_null_apart, structure_or_null_law, structure_or_null_stands}
+use Rattle.kr_pages.proofs.NullableLaws.{structure_or_null_apart, structure_or_null_law, structure_or_null_stands}
 
 -- ---- requests
 
