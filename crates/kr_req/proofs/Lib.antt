@@ -1,4 +1,4 @@
-pub mod Headers
+mod Headers
 mod Bodies
 pub mod Asks
 pub mod Replies
