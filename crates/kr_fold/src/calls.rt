@@ -199,11 +199,7 @@ fn read_text<S: Source>(alloc: Global, input: &mut S) -> Result<Bytes, ToolFault
         Ok(image) => image,
         Err(fault) => return Err(fault),
     };
-    Ok(kr_dump::dump(
-        alloc,
-        &Seen::tip(&image.store),
-        image.offset,
-    )?)
+    Ok(kr_dump::dump(alloc, &Seen::tip(&image.store), image.offset)?)
 }
 
 fn dump_image<S: Source, K: Sink>(

@@ -28,7 +28,7 @@ use Rattle.kr_model.specs.World.{State, World, image_of_tip, is_far, start, tip_
 use Rattle.kr_model.proofs.Logs.{at_tip}
 use Rattle.kr_model.proofs.Places.{isnt_below}
 use Rattle.kr_leaders.specs.Balance as balance
-use Rattle.kr_leaders.specs.inner.Engines.{IsIdle, Leads, Takes, leader}
+use Rattle.kr_leaders.specs.inner.Engines.{IsAtRest, LeadsOn, IsAfterEvent, leader}
 
 -- on standby, with this image alone
 abbrev loaded : ℕ → Image → State
@@ -47,7 +47,7 @@ module _ (n : ℕ) (image : Image) (near : is_far (pos n) ≡ false) where
       ∙ (ap (λ b. cond b (Err (older_image (pos n) (pos s.world.committed))) (cond (is_far (pos n)) (Err (exhausted (pos n))) (Ok (after_load s n image)))) (isnt_below n 0 (omega arith))
       ∙ ap (λ b. let r : Result State Reason = cond b (Err (exhausted (pos n))) (Ok (after_load s n image)) in r) near)
 
-  loaded_is : (bytes : List ℕ) → image_of bytes ≡ Ok (pos n, image) → happens balance.options start (events.Load bytes) ≡ loaded n image
+  loaded_is : (bytes : List ℕ) → image_of bytes ≡ Ok (pos n, image) → happens balance.balance_options start (events.Load bytes) ≡ loaded n image
   loaded_is bytes is =
       let timed : State = at_time_of start (events.Load bytes) in
       ap (λ (r : Result (ℤ × Image) ImageFault). with_next_number (result_unwrap_or (and_then (image_or r) (take_image timed)) timed)) is
@@ -68,7 +68,7 @@ module _ (n : ℕ) (image : Image) (near : is_far (pos n) ≡ false) where
     basis = record (with_heartbeats start.basis (begin (unfenced seen) (stopping seen) (pos 0) (pos n))) { led = pos n };
   }
 
-  led_outcome : outcome balance.options (at_time_of s lead) lead ≡ Ok (after_lead s (pos 1) (pos n))
+  led_outcome : outcome balance.balance_options (at_time_of s lead) lead ≡ Ok (after_lead s (pos 1) (pos n))
   led_outcome =
       ap (λ b. let r : Result State Reason = cond (not (b || int_eq (pos n) (pos (n + 1)))) (Err (bad_next (pos n) (pos n))) (cond (is_far (pos n)) (Err (exhausted (pos n))) (Ok (after_lead s (pos 1) (pos n)))) in r) (id_itself (pos n))
       ∙ ap (λ b. let r : Result State Reason = cond b (Err (exhausted (pos n))) (Ok (after_lead s (pos 1) (pos n))) in r) near
@@ -78,16 +78,16 @@ module _ (n : ℕ) (image : Image) (near : is_far (pos n) ≡ false) where
       ap (λ b. led_on (cond b s.world (with_batch s.world (items.Control ∷ []))) (image_of_tip s)) (id_itself (pos n))
       ∙ ap (led_on s.world) image_is
 
-  led_is : happens balance.options s lead ≡ leader (pos n) image
+  led_is : happens balance.balance_options s lead ≡ leader (pos n) image
   led_is =
       ap (λ (r : Result State Reason). with_next_number (result_unwrap_or r (at_time_of s lead))) led_outcome
       ∙ ap with_next_number led_so
 
 -- the last two events of a controller that was new
-pub leads : (new between after : Core) (bytes : List ℕ) (offset : ℤ) (image : Image) → new.options ≡ balance.options → IsEngine new start [] → Takes new between (events.Load bytes)
-    → Takes between after (events.Lead (pos 1) offset (pos 0)) → image_of bytes ≡ Ok (offset, image) → pos 0 ≤ℤ offset → is_far offset ≡ false → Leads after offset image
+pub leads : (new between after : Core) (bytes : List ℕ) (offset : ℤ) (image : Image) → new.options ≡ balance.balance_options → IsEngine new start [] → IsAfterEvent new between (events.Load bytes)
+    → IsAfterEvent between after (events.Lead (pos 1) offset (pos 0)) → image_of bytes ≡ Ok (offset, image) → pos 0 ≤ℤ offset → is_far offset ≡ false → LeadsOn after offset image
 leads new between after bytes (pos n) image options stands first second is natural near =
-    let began : between.options ≡ balance.options = first.options ∙ options in
+    let began : between.options ≡ balance.balance_options = first.options ∙ options in
     let one : IsEngine between (loaded n image) (waiting_after new.options start [] (events.Load bytes)) =
     subst (λ (s : State). IsEngine between s (waiting_after new.options start [] (events.Load bytes))) (ap (λ (o : Options). happens o start (events.Load bytes)) options ∙ loaded_is n image near bytes is) (first.stands start [] stands) in
     let writes : List Write = waiting_after between.options (loaded n image) (waiting_after new.options start [] (events.Load bytes)) (lead n image near) in

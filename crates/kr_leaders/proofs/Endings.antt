@@ -18,7 +18,7 @@ use Rattle.kr_snapshot.proofs.WholeImages.{image_complete, image_one}
 use Rattle.kr_wire.specs.Grammar.{Exactly}
 use Rattle.law_balance.specs.Balancing.{Balances, RoundsBalance}
 use Rattle.kr_leaders.specs.Balance as balance
-use Rattle.kr_leaders.specs.Endings.{BalanceEnds, BalancesWhole, IsBalanced, IsPast, IsRefused, RefusesPast}
+use Rattle.kr_leaders.specs.Endings.{BalanceEnds, BalancesWhole, IsBalanced, IsPast, IsBalanceFault, RefusesPast}
 
 abbrev Answer : Type 0
 Answer = Result (Unit {0}) ToolFault
@@ -36,22 +36,33 @@ module _ (left left' : Option (List ℕ)) where
         image = image;
         ends = all_image bytes offset image all is;
         near = near;
-        balances = (rounds balance.options (balance.first_basis offset image) image offset percent valid).balances;
+        balances = (rounds balance.balance_options (balance.first_basis offset image) image offset percent valid).balances;
         wrote = sym told;
       }
 
-  pub past_of : (bytes : List ℕ) (offset : ℤ) (image : Image) → TookAll (Exactly bytes) left left' → IsImage offset image bytes → is_far offset ≡ true → IsRefused left left' (faults.Malformed 0)
+  pub past_of : (bytes : List ℕ) (offset : ℤ) (image : Image) → TookAll (Exactly bytes) left left' → IsImage offset image bytes → is_far offset ≡ true → IsBalanceFault left left' (faults.Malformed 0)
   past_of bytes offset image all is far = inr (refl, record { offset = offset; image = image; ends = all_image bytes offset image all is; far = far })
 
-  pub fault_of : (fault : ToolFault) → IsInputFault left left' fault → IsRefused left left' fault
+  pub fault_of : (fault : ToolFault) → IsInputFault left left' fault → IsBalanceFault left left' fault
   fault_of (faults.Malformed at) is = inl is
   fault_of faults.ReadFault is = is
   fault_of faults.NoMemory is = is
   fault_of faults.WriteFault is = is
   fault_of faults.TooLong is = is
 
+  kept_so : (a : Option (List ℕ)) → Keeps a a
+  kept_so None = tt
+  kept_so (Some xs) = refl
+
+  pub fault_ends : (percent : ℕ) (written : Option (List ℕ)) (fault : ToolFault) → IsBalanceFault left left' fault → BalanceEnds percent left left' written written (Err fault)
+  fault_ends percent written (faults.Malformed at) is = (is, kept_so written)
+  fault_ends percent written faults.ReadFault is = (is, kept_so written)
+  fault_ends percent written faults.NoMemory is = (is, kept_so written)
+  fault_ends percent written faults.WriteFault is = absurd is
+  fault_ends percent written faults.TooLong is = (is, kept_so written)
+
   -- memory runs out behind the input
-  pub forgotten : (bytes : List ℕ) → TookAll (Exactly bytes) left left' → IsRefused left left' faults.NoMemory
+  pub forgotten : (bytes : List ℕ) → TookAll (Exactly bytes) left left' → IsBalanceFault left left' faults.NoMemory
   forgotten bytes all = record { taken = all.taken; took = all.took; few = let short = all.short in omega (arith, short) }
 
   pub balance_done : (percent : ℕ) (written written' : Option (List ℕ)) (text : List ℕ) (result : Answer) → IsBalanced percent (Exactly text) left left'

@@ -2,7 +2,7 @@
 use Rattle.std.proofs.Common.{◌≡◌, ◌∙◌, ℕ, ℤ, pos, negsuc, suc, Bool, true, false, cond, not, ◌&&◌, ◌||◌, ◌+◌, ◌==◌, ◌≤ℤ◌, List, [], ◌∷◌, ◌++◌, length, refl, ap, sym, subst, arith}
 use Rattle.std.proofs.lemmas.Int.{ints}
 use Rattle.std.proofs.lemmas.List.{length-map}
-use Rattle.std.specs.Prelude.{Option, Some, None, Result, Ok, Err, IsSome, IsTrue, ◌+ℤ◌, int_lt, filter}
+use Rattle.std.specs.Prelude.{Option, Some, None, Result, Ok, Err, IfSome, IsSome, IsTrue, ◌+ℤ◌, int_lt, filter}
 use Rattle.std.specs.List.{list_any}
 use Rattle.std.specs.Ordering.{int_eq}
 use Rattle.std.specs.Result.{result_unwrap_or}
@@ -25,6 +25,7 @@ use Rattle.kr_defs.specs.Image.{Image, IsValid, empty}
 use Rattle.kr_defs.specs.ImageLaws.{as_items}
 use Rattle.kr_defs.specs.Log.{Log, apply_all, image_at, tip}
 use Rattle.kr_defs.proofs.IdLists.{id_itself}
+use Rattle.kr_snapshot.specs.ImageText.{image_text}
 use Rattle.kr_store.specs.Images.{kept_at}
 use Rattle.kr_model.specs.declared.writes.Write.{Write}
 use Rattle.kr_model.specs.Commit.{after_commit, is_end}
@@ -43,7 +44,7 @@ use Rattle.kr_rebalance.specs.Round.{round_event}
 use Rattle.law_balance.specs.Election.{preferred_election}
 use Rattle.kr_leaders.specs.Balance as balance
 use Rattle.kr_leaders.specs.inner.Engines as engines
-use Rattle.kr_leaders.specs.inner.Engines.{Commits, Leads, Takes, leader}
+use Rattle.kr_leaders.specs.inner.Engines.{Commits, LeadsOn, IsAfterEvent, leader}
 
 -- ---- a batch that is committed
 
@@ -74,31 +75,31 @@ module _ (n : ℕ) (image : Image) (basis : Basis) where
   ends_there [] = ap (λ (m : ℕ). int_eq (pos m) (pos n) || false) first_tip ∙ ap (λ b. b || false) (id_itself (pos n))
   ends_there (item ∷ own) =
       let all : List Item = item ∷ own in
-      ap (λ b. let w = cond b begun (some_batch all) in is_end w (pos (tip w.log))) (not_none (length own))
+      ap (λ b. let w : World = cond b begun (some_batch all) in is_end w (pos (tip w.log))) (not_none (length own))
       ∙ (ap (λ (m : ℕ). int_eq (pos m) (pos n) || (int_eq (pos m) (pos (tip begun.log + length all)) || false)) (tip_written begun.log all)
       ∙ either (int_eq (pos (tip begun.log + length all)) (pos n)) (int_eq (pos (tip begun.log + length all)) (pos (tip begun.log + length all))) (id_itself (pos (tip begun.log + length all))))
 
   module _ (own : List Item) where
-    abbrev s : State
-    s = with_items own
+    abbrev committing : State
+    committing = with_items own
 
     abbrev end : ℕ
-    end = tip_of s
+    end = tip_of committing
 
     abbrev commit : Event
     commit = events.Commit (pos 1) (pos end)
 
-    accepted : outcome balance.options (at_time_of s commit) commit ≡ Ok (after_commit s (pos end))
+    accepted : outcome balance.balance_options (at_time_of committing commit) commit ≡ Ok (after_commit committing (pos end))
     accepted =
-        ap (λ (l : Option ℤ). let r : Result State Reason = cond (not (leads_in l (pos 1))) (Err (not_leading (pos 1) s.world.leading)) (cond (not (is_end s.world (pos end))) (Err (bad_commit (pos end) (pos s.world.committed) (pos (tip_of s)))) (Ok (after_commit s (pos end)))) in r) (leads_still own)
-        ∙ ap (λ b. let r : Result State Reason = cond (not b) (Err (bad_commit (pos end) (pos s.world.committed) (pos (tip_of s)))) (Ok (after_commit s (pos end))) in r) (ends_there own)
+        ap (λ (l : Option ℤ). let r : Result State Reason = cond (not (leads_in l (pos 1))) (Err (not_leading (pos 1) committing.world.leading)) (cond (not (is_end committing.world (pos end))) (Err (bad_commit (pos end) (pos committing.world.committed) (pos (tip_of committing)))) (Ok (after_commit committing (pos end)))) in r) (leads_still own)
+        ∙ ap (λ b. let r : Result State Reason = cond (not b) (Err (bad_commit (pos end) (pos committing.world.committed) (pos (tip_of committing)))) (Ok (after_commit committing (pos end))) in r) (ends_there own)
 
     -- the state behind the commit
     abbrev last : State
-    last = with_next_number (after_commit s (pos end))
+    last = with_next_number (after_commit committing (pos end))
 
-    committed_is : happens balance.options s commit ≡ last
-    committed_is = ap (λ (r : Result State Reason). with_next_number (result_unwrap_or r (at_time_of s commit))) accepted
+    committed_is : happens balance.balance_options committing commit ≡ last
+    committed_is = ap (λ (r : Result State Reason). with_next_number (result_unwrap_or r (at_time_of committing commit))) accepted
 
     log_is : last.world.log ≡ log_with begun.log own
     log_is = batch_written begun own
@@ -117,8 +118,8 @@ module _ (n : ℕ) (image : Image) (basis : Basis) where
 -- ---- the round
 
 module _ (n : ℕ) (image : Image) (percent : ℕ) (near : is_far (pos n) ≡ false) where
-  abbrev s : State
-  s = leader (pos n) image
+  abbrev begins : State
+  begins = leader (pos n) image
 
   abbrev request : Request
   request = requests.ElectLeaders (preferred_election (plan image percent))
@@ -129,29 +130,29 @@ module _ (n : ℕ) (image : Image) (percent : ℕ) (near : is_far (pos n) ≡ fa
   abbrev decided : Decision
   decided = balance.round percent (pos n) image
 
-  image_is : image_of_tip s ≡ image
-  image_is = ap (λ (r : Result Image Ill). result_unwrap_or r empty) (at_tip s.world.log)
+  image_is : image_of_tip begins ≡ image
+  image_is = ap (λ (r : Result Image Ill). result_unwrap_or r empty) (at_tip begins.world.log)
 
-  tip_is : tip_of s ≡ n
+  tip_is : tip_of begins ≡ n
   tip_is = omega arith
 
-  decision_is : decision balance.options s request ≡ decided
+  decision_is : decision balance.balance_options begins request ≡ decided
   decision_is =
-      ap (λ (i : Image). decide balance.options i s.basis (pos (tip_of s)) request) image_is
-      ∙ ap (λ (m : ℕ). decide balance.options image s.basis (pos m) request) tip_is
+      ap (λ (i : Image). decide balance.balance_options i begins.basis (pos (tip_of begins)) request) image_is
+      ∙ ap (λ (m : ℕ). decide balance.balance_options image begins.basis (pos m) request) tip_is
 
   abbrev written : Decision → State
-  written d = with_items n image (with_heartbeats s.basis d.heartbeats) (as_items d.records)
+  written d = with_items n image (with_heartbeats begins.basis d.heartbeats) (as_items d.records)
 
-  round_is : happens balance.options s event ≡ written decided
+  round_is : happens balance.balance_options begins event ≡ written decided
   round_is =
-      ap (λ (m : ℕ). with_next_number (result_unwrap_or (cond (is_far (pos m)) (Err (exhausted (pos (tip_of s)))) (Ok (after_write balance.options s request))) s)) tip_is
-      ∙ (ap (λ b. with_next_number (result_unwrap_or (cond b (Err (exhausted (pos (tip_of s)))) (Ok (after_write balance.options s request))) s)) near
+      ap (λ (m : ℕ). with_next_number (result_unwrap_or (cond (is_far (pos m)) (Err (exhausted (pos (tip_of begins)))) (Ok (after_write balance.balance_options begins request))) begins)) tip_is
+      ∙ (ap (λ b. with_next_number (result_unwrap_or (cond b (Err (exhausted (pos (tip_of begins)))) (Ok (after_write balance.balance_options begins request))) begins)) near
       ∙ ap written decision_is)
 
 -- ---- a controller that made the round, and committed it
 
-module _ (n : ℕ) (image : Image) (percent : ℕ) (before rounded drained_then after : Core) (l : Leads before (pos n) image) where
+module _ (n : ℕ) (image : Image) (percent : ℕ) (before rounded drained_then after : Core) (l : LeadsOn before (pos n) image) where
   abbrev led : State
   led = leader (pos n) image
 
@@ -164,16 +165,16 @@ module _ (n : ℕ) (image : Image) (percent : ℕ) (before rounded drained_then 
   abbrev behind_round : State
   behind_round = written n image percent l.near d
 
-  abbrev basis : Basis
-  basis = with_heartbeats led.basis d.heartbeats
+  abbrev basis_behind : Basis
+  basis_behind = with_heartbeats led.basis d.heartbeats
 
   abbrev last_state : State
-  last_state = last n image basis (as_items d.records)
+  last_state = last n image basis_behind (as_items d.records)
 
   tip_image : before.images.tip ≡ image
   tip_image = ap (λ (r : Result Image Ill). result_unwrap_or r empty) (sym l.stands.present ∙ at_tip led.world.log)
 
-  module _ (meanings : RecordsHaveMeanings) (step : IsStep before rounded (event_of before.images.tip)) (handed : engines.IsDrained rounded drained_then) (took : Takes drained_then after (events.Commit (pos 1) drained_then.tip)) where
+  module _ (meanings : RecordsHaveMeanings) (step : IsStep before rounded (event_of before.images.tip)) (handed : engines.IsDrained rounded drained_then) (took : IsAfterEvent drained_then after (events.Commit (pos 1) drained_then.tip)) where
     abbrev waiting : List Write
     waiting = waiting_after before.options led l.writes (event_of before.images.tip)
 
@@ -194,17 +195,17 @@ module _ (n : ℕ) (image : Image) (percent : ℕ) (before rounded drained_then 
         subst (λ (s : State). IsEngine after s waiting_then)
         (ap (λ (tip : ℤ). happens drained_then.options behind_round (events.Commit (pos 1) tip)) ready.tip
         ∙ (ap (λ (o : Options). happens o behind_round (events.Commit (pos 1) (pos (tip_of behind_round)))) (handed.options ∙ (step.options ∙ l.options))
-        ∙ committed_is n image basis (as_items d.records)))
+        ∙ committed_is n image basis_behind (as_items d.records)))
         (took.stands behind_round waiting ready)
 
     count_is : length (as_items d.records) ≡ length d.records
     count_is = length-map d.records (λ (r : Record). items.Record r)
 
     place_is : after.committed ≡ pos n +ℤ pos (length d.records)
-    place_is = settled.committed ∙ ap (λ (m : ℕ). pos m) (end_is n image basis (as_items d.records) ∙ ap (λ m. n + m) count_is)
+    place_is = settled.committed ∙ ap (λ (m : ℕ). pos m) (end_is n image basis_behind (as_items d.records) ∙ ap (λ m. n + m) count_is)
 
     means : apply_records image d.records ≡ Ok d.image
-    means = meanings balance.options (balance.first_basis (pos n) image).time (heard (balance.first_basis (pos n) image)) image (pos n) (request n image percent l.near)
+    means = meanings balance.balance_options (balance.first_basis (pos n) image).time (heard (balance.first_basis (pos n) image)) image (pos n) (request n image percent l.near)
 
     commits_natural : Commits after (pos n +ℤ pos (length d.records)) d.image
     commits_natural = record {
@@ -212,22 +213,33 @@ module _ (n : ℕ) (image : Image) (percent : ℕ) (before rounded drained_then 
       kept =
           ap (kept_at after.images) (sym place_is)
           ∙ (committed_found after (drained after took.idle.drained) last_state waiting_then settled
-          ∙ ap (λ (i : Image). Some i) (image_there n image basis (as_items d.records) d.image d.records refl means));
+          ∙ ap (λ (i : Image). Some i) (image_there n image basis_behind (as_items d.records) d.image d.records refl means));
     }
 
-pub commits : (before rounded drained_then after : Core) (percent : ℕ) (offset : ℤ) (image : Image) → RecordsHaveMeanings → Leads before offset image → IsStep before rounded (round_event 0 (pos 0) before.images.tip percent)
-    → engines.IsDrained rounded drained_then → Takes drained_then after (events.Commit (pos 1) drained_then.tip)
+pub commits : (before rounded drained_then after : Core) (percent : ℕ) (offset : ℤ) (image : Image) → RecordsHaveMeanings → LeadsOn before offset image → IsStep before rounded (round_event 0 (pos 0) before.images.tip percent)
+    → engines.IsDrained rounded drained_then → IsAfterEvent drained_then after (events.Commit (pos 1) drained_then.tip)
     → Commits after (offset +ℤ pos (length (balance.round percent offset image).records)) (balance.round percent offset image).image
 commits before rounded drained_then after percent (pos n) image meanings l step handed took = commits_natural n image percent before rounded drained_then after l meanings step handed took
 commits before rounded drained_then after percent (negsuc n) image meanings l step handed took = absurd (let natural = l.natural in omega (arith, natural))
 
 -- ---- what a leader may do
 
-pub is_leading : (e : Core) (offset : ℤ) (image : Image) → Leads e offset image → IsSome e.leading
+pub is_leading : (e : Core) (offset : ℤ) (image : Image) → LeadsOn e offset image → IsSome e.leading
 is_leading e offset image l = subst (λ (o : Option ℤ). IsSome o) (sym l.stands.leading) refl
 
-pub is_near : (e : Core) (offset : ℤ) (image : Image) → Leads e offset image → IsTrue (not (is_far e.tip))
+pub is_near : (e : Core) (offset : ℤ) (image : Image) → LeadsOn e offset image → IsTrue (not (is_far e.tip))
 is_near e (pos n) image l =
     subst (λ (tip : ℤ). IsTrue (not (is_far tip))) (sym (l.stands.tip ∙ ap (λ (m : ℕ). pos m) (tip_is n image 0 l.near)))
     (subst (λ b. IsTrue (not b)) (sym l.near) refl)
 is_near e (negsuc n) image l = absurd (let natural = l.natural in omega (arith, natural))
+
+-- ---- what is written
+
+pub text_is : (e : Core) (end : ℤ) (image : Image) (old bytes : List ℕ) → IfSome (kept_at e.images e.committed) (λ image. bytes ≡ old ++ image_text e.committed image) → old ≡ [] → Commits e end image → bytes ≡ image_text end image
+text_is e end image old bytes told none c =
+    let there : bytes ≡ old ++ image_text e.committed image =
+    subst (λ (o : Option Image). IfSome o (λ image. bytes ≡ old ++ image_text e.committed image)) (ap (kept_at e.images) c.committed ∙ c.kept) told in
+    there ∙ (ap (λ (o : List ℕ). o ++ image_text e.committed image) none ∙ ap (λ (p : ℤ). image_text p image) c.committed)
+
+pub natural_end : (e : Core) → IsSound e → pos 0 ≤ℤ e.committed
+natural_end e sound = subst (λ (p : ℤ). pos 0 ≤ℤ p) (sym sound.stands.committed) (omega (arith, ints))

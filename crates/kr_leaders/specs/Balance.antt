@@ -14,8 +14,8 @@ use Rattle.kr_balance.specs.Plan.{plan}
 use Rattle.law_balance.specs.Election.{preferred_election}
 
 -- The greatest minimum of in-sync replicas: where no setting says otherwise, an election keeps eligible and last known lists.
-abbrev pub options : Options
-options = record {
+abbrev pub balance_options : Options
+balance_options = record {
   node = pos 1;
   salt = 0;
   session_ms = 9000;
@@ -32,7 +32,7 @@ first_basis place image = record (with_heartbeats start.basis (begin (unfenced i
 -- what the election of all that is planned gives
 abbrev pub round : ℕ → ℤ → Image → Decision
 round percent offset image =
-    decide options image (first_basis offset image) offset (requests.ElectLeaders (preferred_election (plan image percent)))
+    decide balance_options image (first_basis offset image) offset (requests.ElectLeaders (preferred_election (plan image percent)))
 
 -- the bytes of the image behind it, at the offset behind its records
 abbrev pub balanced_text : ℕ → ℤ → Image → List ℕ

@@ -28,15 +28,15 @@ pub record IsPast (left left' : Option (List ℕ)) : Type 0 where
   pub far : is_far offset ≡ true
 
 -- why nothing is balanced; that an image is past the last place is told at its first byte
-abbrev pub IsRefused : Option (List ℕ) → Option (List ℕ) → ToolFault → Type 0
-IsRefused left left' (faults.Malformed at) = IsInputFault left left' (faults.Malformed at) ⊎ ((at ≡ 0) × IsPast left left')
-IsRefused left left' fault = IsInputFault left left' fault
+abbrev pub IsBalanceFault : Option (List ℕ) → Option (List ℕ) → ToolFault → Type 0
+IsBalanceFault left left' (faults.Malformed at) = IsInputFault left left' (faults.Malformed at) ⊎ ((at ≡ 0) × IsPast left left')
+IsBalanceFault left left' fault = IsInputFault left left' fault
 
 -- what each answer tells: the bytes are written once all of the input is an image, and nothing before
 abbrev pub BalanceEnds : ℕ → Option (List ℕ) → Option (List ℕ) → Option (List ℕ) → Option (List ℕ) → Result (Unit {0}) ToolFault → Type 0
 BalanceEnds percent left left' written written' (Ok done) = IsBalanced percent (Appends written written') left left'
 BalanceEnds percent left left' written written' (Err faults.WriteFault) = IsBalanced percent (AppendsFront written written') left left'
-BalanceEnds percent left left' written written' (Err fault) = IsRefused left left' fault × Keeps written written'
+BalanceEnds percent left left' written written' (Err fault) = IsBalanceFault left left' fault × Keeps written written'
 
 -- where nothing failed, an input that is an image is balanced, if a leader may begin at its offset
 abbrev pub BalancesWhole : Option (List ℕ) → Result (Unit {0}) ToolFault → Type 0

@@ -5,7 +5,7 @@ ghost use Rattle.kr_base.specs.Causes.{Rose, Still};
 ghost use Rattle.kr_fold.specs.Endings.{RefusesBroken, RefusesLonger};
 ghost use Rattle.kr_model.specs.World.{is_far};
 ghost use Rattle.kr_wire.specs.Grammar.{Exactly};
-ghost use Rattle.kr_leaders.specs.Endings.{BalanceEnds, BalancesWhole, IsBalanced, IsRefused, RefusesPast};
+ghost use Rattle.kr_leaders.specs.Endings.{BalanceEnds, BalancesWhole, IsBalanced, IsBalanceFault, RefusesPast};
 
 use crate::controller::balanced_text;
 use kr_base::{Sink, Source};
@@ -27,7 +27,7 @@ fn balance_input<S: Source>(alloc: Global, percent: u8, input: &mut S) -> Result
     ensures text { IfOk result (λ text. IsBalanced percent (Exactly text.items) (S.left input.old)
         (S.left input.new)) }
     ensures fault { IfErr result
-        (λ fault. IsRefused (S.left input.old) (S.left input.new) fault) }
+        (λ fault. IsBalanceFault (S.left input.old) (S.left input.new) fault) }
     ensures read { IsErrOf result ToolFault.ReadFault →
         Rose (S.faults input.old) (S.faults input.new) }
 {

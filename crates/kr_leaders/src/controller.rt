@@ -8,7 +8,7 @@ ghost use Rattle.kr_model.specs.World.{is_far};
 ghost use Rattle.kr_snapshot.specs.Grammar.{IsImage};
 ghost use Rattle.kr_snapshot.specs.ImageText.{image_text};
 ghost use Rattle.kr_leaders.specs.Balance as balance;
-ghost use Rattle.kr_leaders.specs.inner.Engines.{Commits, IsDrained, IsIdle, IsLeader, Leads, Takes};
+ghost use Rattle.kr_leaders.specs.inner.Engines.{Commits, IsDrained, IsAtRest, IsLeader, LeadsOn, IsAfterEvent};
 
 use kr_base::{NoMemory, Steps};
 use kr_calls::Event;
@@ -24,7 +24,7 @@ use std::alloc::Global;
 use std::sync::ledger::{Blank, Ledger};
 
 fn options(alloc: Global) -> Result<Options, NoMemory>
-    ensures options { IfOk result (λ o. o ≡ balance.options) }
+    ensures options { IfOk result (λ o. o ≡ balance.balance_options) }
     ensures fits { IfOk result (λ o. IsTrue (are_options o)) }
 {
     Ok(Options {
@@ -47,8 +47,8 @@ fn drop_outputs(engine: &mut Engine)
 }
 
 fn take<L: Ledger>(engine: &mut Engine, event: &Event, steps: &mut Steps<L>) -> Result<(), NoMemory>
-    requires { IsIdle engine.old }
-    ensures { OnOk result (Takes engine.old engine.new event.now) }
+    requires { IsAtRest engine.old }
+    ensures { OnOk result (IsAfterEvent engine.old engine.new event.now) }
 {
     engine.step(event, steps)?;
     drop_outputs(engine);
@@ -65,7 +65,7 @@ fn lead_from<L: Ledger>(
 ) -> Result<Engine, NoMemory>
     requires image { IsImage offset store.now.tip bytes }
     requires near { is_far offset ≡ false }
-    ensures { IfOk result (λ e. Leads e offset store.now.tip) }
+    ensures { IfOk result (λ e. LeadsOn e offset store.now.tip) }
 {
     images();
     let mut engine = Engine::new(alloc, options(alloc)?)?;
@@ -88,7 +88,7 @@ fn rebalance<L: Ledger>(
 ) -> Result<(), NoMemory>
     requires { IsLeader engine.old }
     ensures sound { OnOk result (IsSound engine.new) }
-    ensures commits { OnOk result ((offset : ℤ) (image : Image) → Leads engine.old offset image →
+    ensures commits { OnOk result ((offset : ℤ) (image : Image) → LeadsOn engine.old offset image →
         Commits engine.new (offset +ℤ pos (length (balance.round percent offset image).records))
         (balance.round percent offset image).image) }
 {
@@ -126,7 +126,8 @@ pub(crate) fn balanced_text<L: Ledger>(
     requires name { blank.name ≡ L.name }
     requires parts { blank.parts ≡ L.parts }
     requires some { 0 < L.parts }
-    ensures text { IfOk result (λ text. text.items ≡ balance.balanced_text percent image.offset image.store.tip) }
+    ensures { IfOk result (λ text.
+        text.items ≡ balance.balanced_text percent image.offset image.store.tip) }
 {
     let InputImage {
         bytes,

@@ -328,7 +328,10 @@ fn tell<E: Sink>(alloc: Global, status: Status, notes: &mut E) -> Status
 {
     match status {
         Status::Done => {}
-        Status::Usage => put_line(b"usage: kr_tool session | fold | dump | make N | balance P\n", notes),
+        Status::Usage => put_line(
+            b"usage: kr_tool session | fold | dump | make N | balance P\n",
+            notes,
+        ),
         Status::Malformed { at } => return tell_malformed(alloc, at, notes),
         Status::ReadFault => put_line(b"read fault\n", notes),
         Status::WriteFault => put_line(b"write fault\n", notes),

@@ -19,12 +19,7 @@ pub fn balance_answer(alloc: Global, percent: u8, bytes: Vec<u8>) -> Result<Stri
     let mut input = MemorySource::new(copy, Vec::new(alloc));
     let mut output = MemorySink::new(alloc, ROOM, 1, Vec::new(alloc))?;
     let answer = balance(alloc, percent, &mut input, &mut output);
-    Ok(balance_text(
-        alloc,
-        bytes.as_slice(),
-        output.written(),
-        answer,
-    )?)
+    Ok(balance_text(alloc, bytes.as_slice(), output.written(), answer)?)
 }
 
 fn balance_text(

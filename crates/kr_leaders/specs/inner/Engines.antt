@@ -11,19 +11,19 @@ use Rattle.kr_model.specs.World.{State, is_far}
 use Rattle.kr_leaders.specs.Balance as balance
 
 -- ready for the next event
-pub record IsIdle (e : Core) : Type 0 where
+pub record IsAtRest (e : Core) : Type 0 where
   pub sound : IsSound e
   pub drained : outputs_left e ≡ []
 
 -- All outputs were handed out.
 pub record IsDrained (before after : Core) : Type 0 where
-  pub idle : IsIdle after
+  pub idle : IsAtRest after
   pub options : after.options ≡ before.options
   pub stands : (s : State) (writes : List Write) → IsEngine before s writes → IsEngine after s writes
 
 -- The event happened, and its outputs were handed out.
-pub record Takes (before after : Core) (event : Event) : Type 0 where
-  pub idle : IsIdle after
+pub record IsAfterEvent (before after : Core) (event : Event) : Type 0 where
+  pub idle : IsAtRest after
   pub options : after.options ≡ before.options
   pub stands : (s : State) (writes : List Write) → IsEngine before s writes → IsEngine after (happens before.options s event) (waiting_after before.options s writes event)
 
@@ -42,9 +42,9 @@ leader offset image = record {
 }
 
 -- the controller of a balance that stands for this leader
-pub record Leads (e : Core) (offset : ℤ) (image : Image) : Type 0 where
-  pub idle : IsIdle e
-  pub options : e.options ≡ balance.options
+pub record LeadsOn (e : Core) (offset : ℤ) (image : Image) : Type 0 where
+  pub idle : IsAtRest e
+  pub options : e.options ≡ balance.balance_options
   pub natural : pos 0 ≤ℤ offset
   pub near : is_far offset ≡ false
   pub writes : List Write
@@ -54,7 +54,7 @@ pub record Leads (e : Core) (offset : ℤ) (image : Image) : Type 0 where
 pub record IsLeader (e : Core) : Type 0 where
   pub offset : ℤ
   pub image : Image
-  pub leads : Leads e offset image
+  pub leads : LeadsOn e offset image
 
 -- the log is committed up to this place, and the image there is this one
 pub record Commits (e : Core) (end : ℤ) (image : Image) : Type 0 where
