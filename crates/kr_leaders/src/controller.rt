@@ -95,8 +95,11 @@ fn rebalance<L: Ledger>(
     records_have_meanings();
     round(alloc, engine, 0, 0, percent, steps)?;
     drop_outputs(engine);
-    let end = engine.tip();
-    take(engine, &Event::Commit { epoch: 1, end }, steps)
+    let commit = Event::Commit {
+        epoch: 1,
+        end: engine.tip(),
+    };
+    take(engine, &commit, steps)
 }
 
 // The bytes of the image at the committed end.

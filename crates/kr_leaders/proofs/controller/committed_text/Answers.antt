@@ -5,4 +5,4 @@ use Rattle.kr_leaders.proofs.Rounds.{natural_end, text_is}
 use Rattle.kr_leaders.proofs.controller.committed_text.Goals as goal
 
 pub write-requires : goal.write-requires
-write-requires c = rw c.committed.ensures (natural_end c.args.engine.now c.requires)
+write-requires c = rw c.committed-end.ensures (natural_end c.args.engine.now c.requires)
