@@ -60,14 +60,16 @@ fn lead_from<L: Ledger>(
     alloc: Global,
     bytes: Bytes,
     offset: i64,
-    store: &ImageStore,
+    store: ImageStore,
     steps: &mut Steps<L>,
 ) -> Result<Engine, NoMemory>
-    requires image { IsImage offset store.now.tip bytes }
+    requires image { IsImage offset store.tip bytes }
     requires near { is_far offset ≡ false }
-    ensures { IfOk result (λ e. LeadsOn e offset store.now.tip) }
+    ensures { IfOk result (λ e. LeadsOn e offset store.tip) }
 {
     images();
+    // The controller reads the bytes anew.
+    drop(store);
     let mut engine = Engine::new(alloc, options(alloc)?)?;
     take(&mut engine, &Event::Load { bytes }, steps)?;
     let lead = Event::Lead {
@@ -138,7 +140,7 @@ pub(crate) fn balanced_text<L: Ledger>(
         store,
     } = image;
     let mut steps: Steps<L> = Steps::new(blank);
-    let mut engine = lead_from(alloc, Rows::from_vec(bytes), offset, &store, &mut steps)?;
+    let mut engine = lead_from(alloc, Rows::from_vec(bytes), offset, store, &mut steps)?;
     rebalance(alloc, &mut engine, percent, &mut steps)?;
     committed_text(alloc, &engine)
 }
