@@ -58,9 +58,7 @@ impl Timelines {
             Record::NoOp => Ok(()),
             Record::BeginTransaction { .. }
             | Record::EndTransaction
-            | Record::AbortTransaction { .. } => {
-                Err(ChangeFault::IllFormed(Ill::BadTransaction))
-            }
+            | Record::AbortTransaction { .. } => Err(ChangeFault::IllFormed(Ill::BadTransaction)),
         }
     }
 }
