@@ -4,9 +4,8 @@ ghost use Rattle.kr_queue.specs.QueueLaws.{OpeningKeeps, PushKeeps, PopKeeps, Pa
 
 /// Each step of the queue keeps its rule: what a pass pushed is its jobs among those that were popped, and then those that the
 /// queue holds; the worker knows what was popped; and each job was allowed to one of the passes.
-#[tactic(auto, using(crate::proofs::QueueLaws::begins, crate::proofs::QueueLaws::pushes, crate::proofs::QueueLaws::pops, crate::proofs::QueueLaws::gives))]
 pub fn each_step_keeps_the_rule()
-    ensures open { OpeningKeeps }
+    ensures begin { OpeningKeeps }
     ensures push { PushKeeps }
     ensures pop { PopKeeps }
     ensures pass { PassKeeps }
