@@ -1,2 +1,6 @@
 pub mod Endings
 pub mod Leading
+pub mod Seated
+pub mod Seats
+pub mod Starts
+pub mod Unpushed

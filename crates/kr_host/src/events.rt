@@ -1,20 +1,15 @@
 //! The events that the link's seat takes.
 
-ghost use Rattle.std.specs.Prelude.{◌≡◌, ◌++◌, ◌∷◌, [], false, IfSome, IfNone, IsTrue};
-ghost use Rattle.kr_queue.specs.declared.jobs.Job.TheVariants as jobs;
+ghost use Rattle.std.specs.Prelude.{◌≡◌, false, IfSome, IfNone, IsTrue};
 ghost use Rattle.kr_queue.specs.Jobs.{is_link_event};
 
 use kr_calls::Event;
-use kr_shared::LinkSeat;
-use std::sync::Wait;
+use kr_flow::{EVENT_BYTES, Origin, Waiting};
 use std::time::Duration;
 use std::{thread, time};
 
 // How long a thread rests before it tries again what failed, in milliseconds.
 const REST_MS: u64 = 10;
-
-// The number of the one stop.
-const STOP: u64 = 1;
 
 /// Waits a little, before something is tried again.
 pub(crate) fn rest<C: time::Clock>(clock: &C) {
@@ -32,33 +27,10 @@ pub(crate) fn link_event(event: Event) -> Option<Event>
     }
 }
 
-/// Pushes an event, again and again where there is no memory for it: nothing is pushed before it.
-pub(crate) fn push<R: Wait + time::Clock>(rt: &R, link: &mut LinkSeat, event: Event)
-    requires { IsTrue (is_link_event event) }
-    ensures { link.new ≡ link.old ++ jobs.Link event ∷ [] }
-{
-    let mut event = event;
-    for _ in rt.forever() {
-        match link.push(rt, event) {
-            Ok(()) => return,
-            Err((_, back)) => {
-                event = back;
-                rest(rt);
-            }
-        }
+/// What an event of this origin takes, whose frame has so many bytes.
+pub(crate) fn waiting_of(origin: Origin, frame: u64) -> Waiting {
+    Waiting {
+        origin,
+        bytes: frame.saturating_add(EVENT_BYTES),
     }
-    unreachable!()
-}
-
-/// Stops the worker: again and again where there is no memory for it.
-pub(crate) fn stop<R: Wait + time::Clock>(rt: &R, link: &mut LinkSeat)
-    ensures { link.new ≡ link.old ++ jobs.Stop 1 ∷ [] }
-{
-    for _ in rt.forever() {
-        match link.stop(rt, STOP) {
-            Ok(()) => return,
-            Err(_) => rest(rt),
-        }
-    }
-    unreachable!()
 }
