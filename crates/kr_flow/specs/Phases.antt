@@ -18,22 +18,22 @@ is_same Answer Answer = true
 is_same Reply Reply = true
 is_same phase other = false
 
--- another phase begins, which nobody has seen yet
+-- another phase begins, which nobody has looked at yet
 abbrev pub entered : Watched → Phase → Watched
 entered watched phase = cond (is_same watched.phase phase) watched (record { phase = phase; since = None })
 
--- the second at which it was first seen, by one who looks now
+-- the second at which it was first looked at, by one who looks now
 abbrev pub first_seen : Option ℕ → ℕ → ℕ
 first_seen (Some since) now = since
 first_seen None now = now
 
-abbrev pub seen : Watched → ℕ → Watched
-seen watched now = record watched { since = Some (first_seen watched.since now) }
+abbrev pub looked_at : Watched → ℕ → Watched
+looked_at watched now = record watched { since = Some (first_seen watched.since now) }
 
 -- as many seconds went by as the limit allows
 abbrev pub has_passed : Option ℕ → ℕ → Bool
 has_passed (Some limit) seconds = nat_le limit seconds
 has_passed None seconds = false
 
-abbrev pub is_over : Watched → ℕ → Bool
-is_over watched now = has_passed (limit_of watched.phase) (now - first_seen watched.since now)
+abbrev pub has_lasted : Watched → ℕ → Bool
+has_lasted watched now = has_passed (limit_of watched.phase) (now - first_seen watched.since now)

@@ -9,12 +9,12 @@ abbrev pub before : ℕ → Progress
 before lack = cond (lack == 0) (Size 0 0) (Body lack)
 
 -- one byte more
-abbrev pub step : Progress → ℕ → Progress
-step (Size count size) byte =
+abbrev pub behind_byte : Progress → ℕ → Progress
+behind_byte (Size count size) byte =
     let size' = (size * 256 + byte) % 2 ^ 32 in cond (nat_le 3 count) (before size') (Size (count + 1) size')
-step (Body lack) byte = before (lack - 1)
+behind_byte (Body lack) byte = before (lack - 1)
 
 -- no message is unfinished
-abbrev pub is_whole : Progress → Bool
-is_whole (Size count size) = count == 0
-is_whole (Body lack) = false
+abbrev pub is_between : Progress → Bool
+is_between (Size count size) = count == 0
+is_between (Body lack) = false

@@ -27,8 +27,6 @@ pub struct HeldSource<S: Source> {
     held: Vec<u8>,
     // How much of that was read.
     at: usize,
-    // How many bytes were read in all.
-    read: u64,
     // The inner source's last read failed, and nobody was told so yet.
     has_failed: bool,
     // The last read found nothing.
@@ -49,7 +47,6 @@ impl<S: Source> HeldSource<S> {
             inner,
             held: Vec::new(alloc),
             at: 0,
-            read: 0,
             has_failed: false,
             at_end: false,
             faults: 0,
@@ -63,11 +60,6 @@ impl<S: Source> HeldSource<S> {
         &self.held.as_slice()[self.at..]
     }
 
-    /// How many bytes were read in all; the count stands still at the greatest u64.
-    pub fn count(&self) -> u64 {
-        self.read
-    }
-
     /// The last read found nothing.
     pub fn is_at_end(&self) -> bool {
         self.at_end
@@ -76,8 +68,10 @@ impl<S: Source> HeldSource<S> {
     /// Takes bytes until so many are held, or no more come. What is left to be read stays the same.
     #[tactic(auto, using(crate::proofs::Holding::keeps_refl, crate::proofs::Holding::keeps_trans))]
     pub fn hold(&mut self, count: usize) -> Result<(), NoMemory>
-        ensures left { Keeps (⟦<HeldSource<S> as Source>⟧.left self.old) (⟦<HeldSource<S> as Source>⟧.left self.new) }
-        ensures faults { ⟦<HeldSource<S> as Source>⟧.faults self.new ≡ ⟦<HeldSource<S> as Source>⟧.faults self.old }
+        ensures left { Keeps (⟦<HeldSource<S> as Source>⟧.left self.old)
+            (⟦<HeldSource<S> as Source>⟧.left self.new) }
+        ensures faults { ⟦<HeldSource<S> as Source>⟧.faults self.new
+            ≡ ⟦<HeldSource<S> as Source>⟧.faults self.old }
     {
         for _ in 0..u64::MAX {
             let held = self.held().len();
@@ -94,8 +88,10 @@ impl<S: Source> HeldSource<S> {
     // Takes one more piece; it answers whether one came.
     #[tactic(auto, using(crate::proofs::Holding::moved))]
     fn hold_more(&mut self, lack: usize) -> Result<bool, NoMemory>
-        ensures left { Keeps (⟦<HeldSource<S> as Source>⟧.left self.old) (⟦<HeldSource<S> as Source>⟧.left self.new) }
-        ensures faults { ⟦<HeldSource<S> as Source>⟧.faults self.new ≡ ⟦<HeldSource<S> as Source>⟧.faults self.old }
+        ensures left { Keeps (⟦<HeldSource<S> as Source>⟧.left self.old)
+            (⟦<HeldSource<S> as Source>⟧.left self.new) }
+        ensures faults { ⟦<HeldSource<S> as Source>⟧.faults self.new
+            ≡ ⟦<HeldSource<S> as Source>⟧.faults self.old }
     {
         self.forget();
         let most = lack.max(LEAST_PIECE).min(MOST_PIECE);
@@ -110,8 +106,10 @@ impl<S: Source> HeldSource<S> {
 
     // Forgets what was read.
     fn forget(&mut self)
-        ensures left { ⟦<HeldSource<S> as Source>⟧.left self.new ≡ ⟦<HeldSource<S> as Source>⟧.left self.old }
-        ensures faults { ⟦<HeldSource<S> as Source>⟧.faults self.new ≡ ⟦<HeldSource<S> as Source>⟧.faults self.old }
+        ensures left { ⟦<HeldSource<S> as Source>⟧.left self.new
+            ≡ ⟦<HeldSource<S> as Source>⟧.left self.old }
+        ensures faults { ⟦<HeldSource<S> as Source>⟧.faults self.new
+            ≡ ⟦<HeldSource<S> as Source>⟧.faults self.old }
     {
         forget_front(self.alloc, &mut self.held, self.at);
         self.at = 0;
@@ -161,7 +159,8 @@ fn grow(held: &mut Vec<u8>, most: usize) -> Result<(), NoMemory>
 // One read, to behind the first `len` bytes; the others are gone.
 fn read_grown<S: Source>(source: &mut S, held: &mut Vec<u8>, len: usize) -> Result<usize, Failed>
     requires { len ≤ vec_len held.old }
-    ensures { Moves (S.left source.old) (S.left source.new) (take len held.old.items) held.new.items }
+    ensures { Moves (S.left source.old) (S.left source.new)
+        (take len held.old.items) held.new.items }
 {
     match read_behind(source, held.as_mut_slice(), len) {
         Ok(count) => {
@@ -181,7 +180,8 @@ fn read_behind<S: Source>(source: &mut S, into: &mut [u8], at: usize) -> Result<
     ensures before { take at into.new ≡ take at into.old }
     ensures len { length into.new ≡ length into.old }
     ensures bound { IfOk result (λ count. at + count ≤ length into.new) }
-    ensures bytes { IfOk result (λ count. Consumes (S.left source.old) (S.left source.new) (take count (drop at into.new))) }
+    ensures bytes { IfOk result (λ count. Consumes (S.left source.old) (S.left source.new)
+        (take count (drop at into.new))) }
     ensures failed { OnErr result (Keeps (S.left source.old) (S.left source.new)) }
 {
     let (_, rest) = into.split_at_mut(at);
@@ -211,14 +211,14 @@ impl<S: Source> HeldSource<S> {
     fn read_held(&mut self, into: &mut [u8]) -> usize
         requires { self.old.at < vec_len self.old.held }
         ensures bound { result ≤ length into.new }
-        ensures bytes { Consumes (⟦<HeldSource<S> as Source>⟧.left self.old) (⟦<HeldSource<S> as Source>⟧.left self.new) (take result into.new) }
+        ensures bytes { Consumes (⟦<HeldSource<S> as Source>⟧.left self.old)
+            (⟦<HeldSource<S> as Source>⟧.left self.new) (take result into.new) }
         ensures some { 0 < length into.new → 0 < result }
         ensures faults { self.new.faults ≡ self.old.faults }
     {
         let count = copy_front(self.held(), into);
         self.at += count;
         self.at_end = false;
-        self.read = self.read.saturating_add(count as u64);
         count
     }
 
@@ -227,7 +227,8 @@ impl<S: Source> HeldSource<S> {
     fn read_on(&mut self, into: &mut [u8]) -> Result<usize, Failed>
         requires { self.old.at ≡ vec_len self.old.held }
         ensures bound { ReadsAtMost result into.new }
-        ensures bytes { ReadConsumes (⟦<HeldSource<S> as Source>⟧.left self.old) (⟦<HeldSource<S> as Source>⟧.left self.new) result into.new }
+        ensures bytes { ReadConsumes (⟦<HeldSource<S> as Source>⟧.left self.old)
+            (⟦<HeldSource<S> as Source>⟧.left self.new) result into.new }
         ensures cause { HasCause self.old.faults self.new.faults result }
     {
         if self.has_failed {
@@ -236,7 +237,6 @@ impl<S: Source> HeldSource<S> {
         match self.inner.read(into) {
             Ok(count) => {
                 self.at_end = count == 0;
-                self.read = self.read.saturating_add(count as u64);
                 Ok(count)
             }
             Err(Failed) => Err(self.fail()),
@@ -245,7 +245,8 @@ impl<S: Source> HeldSource<S> {
 
     // Counts a fault.
     fn fail(&mut self) -> Failed
-        ensures same { (self.new.inner ≡ self.old.inner) × (self.new.held ≡ self.old.held) × (self.new.at ≡ self.old.at) }
+        ensures same { (self.new.inner ≡ self.old.inner) × (self.new.held ≡ self.old.held)
+            × (self.new.at ≡ self.old.at) }
         ensures later { self.old.faults ≤ self.new.faults }
         ensures raised { self.new.faults ≡ raised self.old.faults }
     {

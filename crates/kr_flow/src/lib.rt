@@ -10,4 +10,4 @@ mod room;
 pub use held::HeldSource;
 pub use phase::{IDLE_SECONDS, MESSAGE_SECONDS, Phase, REPLY_SECONDS, Watched};
 pub use progress::Progress;
-pub use room::{EVENT_BYTES, EventRoom, MOST_WAITING_BYTES, Origin, Waiting};
+pub use room::{EventRoom, MOST_WAITING_BYTES, Origin, Waiting};

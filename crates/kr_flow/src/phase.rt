@@ -52,11 +52,12 @@ impl Phase {
     }
 }
 
-/// What is waited for on a connection, and since when: the second at which it was first seen so, none where nobody has looked
-/// since it began.
+/// What is waited for on a connection, and since when.
 #[derive(Clone, Copy, Debug, Drop, PartialEq, Eq)]
 pub struct Watched {
+    /// What is waited for.
     pub phase: Phase,
+    /// The number of the second at which it was first seen so; none where nobody has looked since it began.
     pub since: Option<u64>,
 }
 
@@ -84,8 +85,8 @@ impl Watched {
     /// Looks at the connection at the second `now`: whether what is waited for has lasted as long as it may since it was first
     /// seen.
     pub fn is_over(&mut self, now: u64) -> bool
-        ensures over { result ≡ rules.is_over self.old now }
-        ensures seen { self.new ≡ rules.seen self.old now }
+        ensures over { result ≡ rules.has_lasted self.old now }
+        ensures seen { self.new ≡ rules.looked_at self.old now }
     {
         let since = match self.since {
             Some(since) => since,

@@ -33,7 +33,7 @@ impl Progress {
 
     // Behind one byte more.
     fn step(self, byte: u8) -> Progress
-        ensures { result ≡ rules.step self byte }
+        ensures { result ≡ rules.behind_byte self byte }
     {
         match self {
             Progress::Size { count, size } => {
@@ -53,7 +53,7 @@ impl Progress {
     /// Where they end behind these bytes.
     #[tactic(auto, using(std::proofs::lemmas::List::Sums::fold_more))]
     pub fn take(&mut self, bytes: &[u8])
-        ensures { self.new ≡ fold rules.step self.old bytes.now }
+        ensures { self.new ≡ fold rules.behind_byte self.old bytes.now }
     {
         for byte in bytes {
             *self = self.step(*byte);
@@ -62,7 +62,7 @@ impl Progress {
 
     /// All messages that began have come whole.
     pub fn is_whole(self) -> bool
-        ensures { result ≡ rules.is_whole self }
+        ensures { result ≡ rules.is_between self }
     {
         match self {
             Progress::Size { count, .. } => count == 0,

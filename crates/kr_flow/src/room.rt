@@ -12,9 +12,6 @@ use std::marker::Model;
 /// How many bytes of events wait at most, unless a single one has more.
 pub const MOST_WAITING_BYTES: u64 = 67_108_864;
 
-/// How many bytes an event takes besides those of its frame.
-pub const EVENT_BYTES: u64 = 256;
-
 /// Who an event is from.
 #[derive(Clone, Copy, Debug, Drop, PartialEq, Eq)]
 pub enum Origin {
@@ -85,7 +82,7 @@ impl EventRoom {
 
     /// An event of so many bytes has room: it is within the most with all that wait, or nothing waits.
     pub fn has_room(&self, bytes: u64) -> bool
-        ensures { result ≡ rooms.has_room self.now.waiting bytes }
+        ensures { result ≡ rooms.has_room_for self.now.waiting bytes }
     {
         self.waiting.is_empty()
             || u128::from(self.bytes) + u128::from(bytes) <= u128::from(MOST_WAITING_BYTES)
@@ -108,7 +105,7 @@ impl EventRoom {
     /// One more waits, behind all others.
     #[tactic(auto, using(crate::proofs::Waits::more_is_bounded))]
     pub fn enter(&mut self, event: Waiting) -> Result<(), NoMemory>
-        requires { IsTrue (rooms.has_room self.old.waiting event.bytes) }
+        requires { IsTrue (rooms.has_room_for self.old.waiting event.bytes) }
         ensures ok { OnOk result (self.new
             ≡ record self.old { waiting = self.old.waiting ++ event ∷ [] }) }
         ensures err { OnErr result (self.new ≡ self.old) }
@@ -122,8 +119,8 @@ impl EventRoom {
     /// The one that entered last, which couldn't be pushed, waits no more.
     #[tactic(auto, using(crate::proofs::Waits::front_is_bounded))]
     pub fn cancel(&mut self)
-        ensures { (before : List Waiting) (event : Waiting) → self.old.waiting ≡ before ++ event ∷ []
-            → self.new ≡ record self.old { waiting = before } }
+        ensures { (before : List Waiting) (event : Waiting)
+            → self.old.waiting ≡ before ++ event ∷ [] → self.new ≡ record self.old { waiting = before } }
     {
         if let Some(last) = self.waiting.pop_back() {
             self.bytes -= last.bytes;
@@ -135,7 +132,7 @@ impl EventRoom {
     #[tactic(auto, using(crate::proofs::Waits::rest_is_bounded, crate::proofs::Waits::not_more, crate::proofs::Waits::none_first, crate::proofs::Waits::one_more_taken, crate::proofs::Waits::one_first, crate::proofs::Waits::none_waits, crate::proofs::Waits::none_waits_first))]
     pub fn note(&mut self, events: u64) -> Option<Waiting>
         ensures first { result ≡ rooms.noted_first self.old events }
-        ensures rest { self.new ≡ rooms.noted self.old events }
+        ensures rest { self.new ≡ rooms.room_noted self.old events }
     {
         if events <= self.taken {
             return None;

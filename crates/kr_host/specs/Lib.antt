@@ -4,3 +4,4 @@ pub mod Seated
 pub mod Seats
 pub mod Starts
 pub mod Unpushed
+pub mod Weights

@@ -5,7 +5,6 @@ ghost use Rattle.kr_queue.specs.Jobs.{is_link_event};
 ghost use Rattle.kr_host.specs.Unpushed.{event_back};
 
 use crate::event_seat::{EventSeat, Unpushed};
-use crate::events::waiting_of;
 use crate::inlet::Inlet;
 use kr_base::{Clock, SystemClock};
 use kr_calls::Event;
@@ -44,12 +43,11 @@ impl Door {
         self.closed.load(Ordering::SeqCst) != 0
     }
 
-    /// Pushes an event of the quorum's, whose frame has so many bytes, once it has room.
-    pub(crate) fn push<R: Wait + time::Clock>(&self, rt: &R, event: Event, frame: u64)
+    /// Pushes an event of the quorum's, once it has room.
+    pub(crate) fn push<R: Wait + time::Clock>(&self, rt: &R, event: Event)
         requires { IsTrue (is_link_event event) }
     {
-        self.inlet
-            .push(rt, event, waiting_of(Origin::Quorum, frame));
+        self.inlet.push(rt, event, Origin::Quorum);
     }
 
     /// Pushes an event of a quorum of this process, where it has room.
@@ -57,7 +55,7 @@ impl Door {
         requires { IsTrue (is_link_event event) }
         ensures { IfErr result (λ unpushed. event_back unpushed ≡ event) }
     {
-        self.inlet.offer(rt, event, waiting_of(Origin::Quorum, 0))
+        self.inlet.offer(rt, event, Origin::Quorum)
     }
 
     /// Tells the controller the time, unless the last Tick still waits.
@@ -66,8 +64,7 @@ impl Door {
             return;
         }
         let now = SystemClock::new(*rt).now();
-        self.inlet
-            .push(rt, Event::Tick { now }, waiting_of(Origin::Clock, 0));
+        self.inlet.push(rt, Event::Tick { now }, Origin::Clock);
     }
 
     /// The worker has taken so many events of the link in all. It answers the number among the quorum's own of the one that it took

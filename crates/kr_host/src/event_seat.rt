@@ -6,9 +6,9 @@ ghost use Rattle.kr_queue.specs.Jobs.{is_link_event};
 ghost use Rattle.kr_host.specs.Seats.{IsPushed, number_noted};
 ghost use Rattle.kr_host.specs.Unpushed.{event_back};
 
-use crate::events::rest;
+use crate::events::{rest, waiting_of};
 use kr_calls::Event;
-use kr_flow::{EventRoom, Origin, Waiting};
+use kr_flow::{EventRoom, Origin};
 use kr_shared::LinkSeat;
 use std::alloc::Global;
 use std::marker::Model;
@@ -66,13 +66,14 @@ impl EventSeat {
         &mut self,
         rt: &R,
         event: Event,
-        waiting: Waiting,
+        origin: Origin,
     ) -> Result<(), Unpushed>
         requires { IsTrue (is_link_event event) }
-        ensures ok { OnOk result (IsPushed self.old self.new event waiting) }
+        ensures ok { OnOk result (IsPushed self.old self.new event origin) }
         ensures err { IfErr result (λ unpushed. (self.new ≡ self.old)
             × (event_back unpushed ≡ event)) }
     {
+        let waiting = waiting_of(origin, &event);
         if !self.room.has_room(waiting.bytes) {
             self.is_awaited = true;
             return Err(Unpushed::NoRoom(event));
@@ -82,7 +83,7 @@ impl EventSeat {
         }
         match self.link.push(rt, event) {
             Ok(()) => {
-                self.has_tick = self.has_tick || matches!(waiting.origin, Origin::Clock);
+                self.has_tick = self.has_tick || matches!(origin, Origin::Clock);
                 Ok(())
             }
             Err((_, back)) => {

@@ -2,14 +2,18 @@
 
 ghost use Rattle.std.specs.Prelude.{◌≡◌, false, IfSome, IfNone, IsTrue};
 ghost use Rattle.kr_queue.specs.Jobs.{is_link_event};
+ghost use Rattle.kr_host.specs.Weights as weights;
 
 use kr_calls::Event;
-use kr_flow::{EVENT_BYTES, Origin, Waiting};
+use kr_flow::{Origin, Waiting};
 use std::time::Duration;
 use std::{thread, time};
 
 // How long a thread rests before it tries again what failed, in milliseconds.
 const REST_MS: u64 = 10;
+
+/// How many bytes an event takes besides those that it brings.
+pub const EVENT_BYTES: u64 = 256;
 
 /// Waits a little, before something is tried again.
 pub(crate) fn rest<C: time::Clock>(clock: &C) {
@@ -27,10 +31,22 @@ pub(crate) fn link_event(event: Event) -> Option<Event>
     }
 }
 
-/// What an event of this origin takes, whose frame has so many bytes.
-pub(crate) fn waiting_of(origin: Origin, frame: u64) -> Waiting {
+// How many bytes an event brings.
+fn brought_by(event: &Event) -> usize
+    ensures { result ≡ weights.brought event.now }
+{
+    match event {
+        Event::Batch { bytes } | Event::Load { bytes } => bytes.as_slice().len(),
+        _ => 0,
+    }
+}
+
+/// What an event of this origin takes while it waits.
+pub(crate) fn waiting_of(origin: Origin, event: &Event) -> Waiting
+    ensures { result ≡ weights.waiting_of origin event.now }
+{
     Waiting {
         origin,
-        bytes: frame.saturating_add(EVENT_BYTES),
+        bytes: brought_by(event) as u64 + EVENT_BYTES,
     }
 }

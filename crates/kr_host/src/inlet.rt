@@ -7,7 +7,7 @@ ghost use Rattle.kr_host.specs.Unpushed.{event_back};
 use crate::event_seat::{EventSeat, Unpushed};
 use crate::events::rest;
 use kr_calls::Event;
-use kr_flow::Waiting;
+use kr_flow::Origin;
 use kr_shared::Bell;
 use std::sync::{Mutex, Wait};
 use std::time;
@@ -33,24 +33,24 @@ impl Inlet {
         &self,
         rt: &R,
         event: Event,
-        waiting: Waiting,
+        origin: Origin,
     ) -> Result<(), Unpushed>
         requires { IsTrue (is_link_event event) }
         ensures { IfErr result (λ unpushed. event_back unpushed ≡ event) }
     {
         let mut seat = self.seat.lock(rt);
-        seat.push(rt, event, waiting)
+        seat.push(rt, event, origin)
     }
 
     /// Pushes an event once it has room, again and again where there is no memory for it. It waits for the worker, which must not
     /// call it.
-    pub(crate) fn push<R: Wait + time::Clock>(&self, rt: &R, event: Event, waiting: Waiting)
+    pub(crate) fn push<R: Wait + time::Clock>(&self, rt: &R, event: Event, origin: Origin)
         requires { IsTrue (is_link_event event) }
     {
         let mut event = event;
         for _ in rt.forever() {
             let seen = self.freed.number(rt);
-            match self.offer(rt, event, waiting) {
+            match self.offer(rt, event, origin) {
                 Ok(()) => return,
                 Err(Unpushed::NoRoom(back)) => {
                     event = back;

@@ -29,6 +29,7 @@ pub use clients::spawn_clients;
 pub use door::Door;
 pub use ended::{Ended, tell_no_memory, tell_refused};
 pub use event_seat::EventSeat;
+pub use events::EVENT_BYTES;
 pub use link::spawn_link;
 pub use link_images::{LinkImages, spawn_images};
 pub use link_quorum::LinkQuorum;

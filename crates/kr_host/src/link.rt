@@ -55,31 +55,28 @@ fn hold_frame<S: Source>(source: &mut HeldSource<S>) -> Result<(), NoMemory> {
     }
 }
 
-// The next frame, with how many bytes it has.
+// The next frame.
 fn next_frame<S: Source>(
     frames: &mut Reader,
     source: &mut HeldSource<S>,
-) -> Result<(Frame, u64), StreamFault> {
+) -> Result<Frame, StreamFault> {
     if hold_frame(source).is_err() {
         return Err(StreamFault::NoMemory);
     }
-    let before = source.count();
-    let frame = frames.next(source)?;
-    Ok((frame, source.count().saturating_sub(before)))
+    frames.next(source)
 }
 
 // Pushes an event once it has room, or passes on a question for an image; where the link ended by the frame, it answers how.
 fn take_frame<R: Wait + time::Clock>(
     rt: &R,
     frame: Frame,
-    size: u64,
     door: &Door,
     images: &AskedImages,
 ) -> Option<LinkEnd> {
     match frame {
         Frame::Event(Event::Image) => images.ask(rt),
         Frame::Event(event) => match link_event(event) {
-            Some(event) => door.push(rt, event, size),
+            Some(event) => door.push(rt, event),
             None => return Some(LinkEnd::Misplaced),
         },
         Frame::End => return Some(LinkEnd::Ended),
@@ -99,8 +96,8 @@ fn push_all<R: Wait + time::Clock, S: Source>(
     let mut frames = Reader::link(alloc);
     for _ in rt.forever() {
         match next_frame(&mut frames, source) {
-            Ok((frame, size)) => {
-                if let Some(end) = take_frame(rt, frame, size, door, images) {
+            Ok(frame) => {
+                if let Some(end) = take_frame(rt, frame, door, images) {
                     return end;
                 }
             }

@@ -8,7 +8,7 @@ ghost use Rattle.kr_host.specs.Leading.{PushesLead};
 use crate::door::Door;
 use crate::ended::Ended;
 use crate::event_seat::{EventSeat, Unpushed};
-use crate::events::{link_event, rest, waiting_of};
+use crate::events::{link_event, rest};
 use crate::shortage::Shortage;
 use crate::taken::Taken;
 use kr_base::{Clock, OpenGate, SystemClock};
@@ -31,7 +31,7 @@ fn push<R: Wait + time::Clock>(rt: &R, seat: &mut EventSeat, event: Event)
 {
     let mut event = event;
     for _ in rt.forever() {
-        match seat.push(rt, event, waiting_of(Origin::Quorum, 0)) {
+        match seat.push(rt, event, Origin::Quorum) {
             Ok(()) => return,
             Err(Unpushed::NoRoom(back)) => event = back,
             Err(Unpushed::NoMemory(back)) => event = back,
