@@ -3,6 +3,7 @@
 ghost use Rattle.std.specs.Prelude.{◌≡◌, ◌++◌, ◌∷◌, [], IfErr, OnOk, IsTrue};
 ghost use Rattle.kr_queue.specs.declared.jobs.Job.TheVariants as jobs;
 ghost use Rattle.kr_queue.specs.Jobs.{is_link_event};
+ghost use Rattle.kr_flow.specs.Rooms.{room_noted};
 ghost use Rattle.kr_host.specs.Seats.{IsPushed, number_noted};
 ghost use Rattle.kr_host.specs.Unpushed.{event_back};
 
@@ -96,7 +97,8 @@ impl EventSeat {
     /// The worker has taken so many events in all, at most one more than before. It answers which of the quorum's own events,
     /// by its number from 1, that one is; none where it is the clock's.
     pub(crate) fn note(&mut self, events: u64) -> Option<u64>
-        ensures { result ≡ number_noted self.old events }
+        ensures number { result ≡ number_noted self.old events }
+        ensures rest { self.new ≡ record self.old { flow = room_noted self.old.flow events } }
     {
         let taken = self.room.note(events)?;
         match taken.origin {

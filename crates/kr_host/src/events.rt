@@ -1,6 +1,6 @@
 //! The events that the link's seat takes.
 
-ghost use Rattle.std.specs.Prelude.{◌≡◌, false, IfSome, IfNone, IsTrue};
+ghost use Rattle.std.specs.Prelude.{◌≡◌, ◌+◌, ◌<◌, ◌^◌, false, IfSome, IfNone, IsTrue};
 ghost use Rattle.kr_queue.specs.Jobs.{is_link_event};
 ghost use Rattle.kr_host.specs.Weights as weights;
 
@@ -33,10 +33,12 @@ pub(crate) fn link_event(event: Event) -> Option<Event>
 
 // How many bytes an event brings.
 fn brought_by(event: &Event) -> usize
-    ensures { result ≡ weights.brought event.now }
+    ensures brought { result ≡ weights.brought event.now }
+    ensures fits { result + EVENT_BYTES < 2 ^ 64 }
 {
     match event {
-        Event::Batch { bytes } | Event::Load { bytes } => bytes.as_slice().len(),
+        Event::Batch { bytes } => bytes.as_slice().len(),
+        Event::Load { bytes } => bytes.as_slice().len(),
         _ => 0,
     }
 }
