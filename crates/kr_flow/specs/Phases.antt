@@ -27,8 +27,8 @@ abbrev pub first_seen : Option ℕ → ℕ → ℕ
 first_seen (Some since) now = since
 first_seen None now = now
 
-abbrev pub looked_at : Watched → ℕ → Watched
-looked_at watched now = record watched { since = Some (first_seen watched.since now) }
+abbrev pub watched_at : Watched → ℕ → Watched
+watched_at watched now = record watched { since = Some (first_seen watched.since now) }
 
 -- as many seconds went by as the limit allows
 abbrev pub has_passed : Option ℕ → ℕ → Bool

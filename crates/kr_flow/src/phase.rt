@@ -86,7 +86,7 @@ impl Watched {
     /// seen.
     pub fn is_over(&mut self, now: u64) -> bool
         ensures over { result ≡ rules.has_lasted self.old now }
-        ensures seen { self.new ≡ rules.looked_at self.old now }
+        ensures seen { self.new ≡ rules.watched_at self.old now }
     {
         let since = match self.since {
             Some(since) => since,

@@ -120,7 +120,8 @@ impl EventRoom {
     #[tactic(auto, using(crate::proofs::Waits::front_is_bounded))]
     pub fn cancel(&mut self)
         ensures { (before : List Waiting) (event : Waiting)
-            → self.old.waiting ≡ before ++ event ∷ [] → self.new ≡ record self.old { waiting = before } }
+            → self.old.waiting ≡ before ++ event ∷ []
+            → self.new ≡ record self.old { waiting = before } }
     {
         if let Some(last) = self.waiting.pop_back() {
             self.bytes -= last.bytes;
