@@ -1,6 +1,6 @@
 //! The link's seat, with the room for the events that wait for the worker.
 
-ghost use Rattle.std.specs.Prelude.{◌≡◌, ◌++◌, ◌∷◌, [], IfErr, OnOk, IsTrue};
+ghost use Rattle.std.specs.Prelude.{◌≡◌, ◌++◌, ◌∷◌, [], IfErr, OnErr, OnOk, IsTrue};
 ghost use Rattle.kr_queue.specs.declared.jobs.Job.TheVariants as jobs;
 ghost use Rattle.kr_queue.specs.Jobs.{is_link_event};
 ghost use Rattle.kr_flow.specs.Rooms.{room_noted};
@@ -8,6 +8,7 @@ ghost use Rattle.kr_host.specs.Seats.{IsPushed, number_noted};
 ghost use Rattle.kr_host.specs.Unpushed.{event_back};
 
 use crate::events::{rest, waiting_of};
+use kr_base::NoMemory;
 use kr_calls::Event;
 use kr_flow::{EventRoom, Origin};
 use kr_shared::LinkSeat;
@@ -122,16 +123,25 @@ impl EventSeat {
         was_awaited
     }
 
-    /// Stops the worker: again and again where there is no memory for it.
-    pub(crate) fn stop<R: Wait + time::Clock>(&mut self, rt: &R)
-        ensures { self.new ≡ record self.old { pushed = self.old.pushed ++ jobs.Stop 1 ∷ [] } }
+    // Stops the worker, where there is memory for it.
+    fn try_stop<R: Wait>(&mut self, rt: &R) -> Result<(), NoMemory>
+        ensures ok { OnOk result (self.new
+            ≡ record self.old { pushed = self.old.pushed ++ jobs.Stop 1 ∷ [] }) }
+        ensures err { OnErr result (self.new ≡ self.old) }
     {
-        for _ in rt.forever() {
-            match self.link.stop(rt, STOP) {
-                Ok(()) => return,
-                Err(_) => rest(rt),
-            }
-        }
-        unreachable!()
+        self.link.stop(rt, STOP)
     }
+}
+
+/// Stops the worker: again and again where there is no memory for it.
+pub(crate) fn stop<R: Wait + time::Clock>(rt: &R, seat: &mut EventSeat)
+    ensures { seat.new ≡ record seat.old { pushed = seat.old.pushed ++ jobs.Stop 1 ∷ [] } }
+{
+    for _ in rt.forever() {
+        match seat.try_stop(rt) {
+            Ok(()) => return,
+            Err(NoMemory) => rest(rt),
+        }
+    }
+    unreachable!()
 }

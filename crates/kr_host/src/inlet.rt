@@ -4,7 +4,7 @@ ghost use Rattle.std.specs.Prelude.{◌≡◌, IfErr, IsTrue};
 ghost use Rattle.kr_queue.specs.Jobs.{is_link_event};
 ghost use Rattle.kr_host.specs.Unpushed.{event_back};
 
-use crate::event_seat::{EventSeat, Unpushed};
+use crate::event_seat::{EventSeat, Unpushed, stop};
 use crate::events::rest;
 use kr_calls::Event;
 use kr_flow::Origin;
@@ -90,6 +90,6 @@ impl Inlet {
     /// Stops the worker.
     pub(crate) fn stop<R: Wait + time::Clock>(&self, rt: &R) {
         let mut seat = self.seat.lock(rt);
-        seat.stop(rt);
+        stop(rt, &mut *seat);
     }
 }
