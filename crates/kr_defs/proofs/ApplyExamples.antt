@@ -9,7 +9,7 @@ use Rattle.kr_defs.specs.declared.record.Record.{Record}
 use Rattle.kr_defs.specs.declared.record.Record.TheVariants as kinds
 use Rattle.kr_defs.specs.declared.record.Item.TheVariants as items
 use Rattle.kr_defs.specs.declared.ill.Ill.{Ill}
-use Rattle.kr_defs.specs.declared.ill.Ill.TheVariants.{BadNumber, NoBroker, StaleEpoch, NoTopic, TopicExists, BadName, NoPartition, PartitionExists, BadPartition, Limit}
+use Rattle.kr_defs.specs.declared.ill.Ill.TheVariants.{BadNumber, NoBroker, StaleEpoch, NoTopic, TopicExists, BadName, NoPartition, PartitionExists, BadPartition, Limit, BadTransaction}
 use Rattle.kr_defs.specs.Image.{Image}
 use Rattle.kr_defs.specs.Apply.{apply, apply_record}
 use Rattle.kr_defs.specs.Merge.{merged}
@@ -237,3 +237,17 @@ levelled = refl
 nothing : gives kinds.NoOp image
 unfolding apply apply_record merged is_well_formed
 nothing = refl
+
+-- ---- transactions, of which an image alone knows nothing
+
+begin : refused BadTransaction (kinds.BeginTransaction None)
+unfolding apply apply_record merged is_well_formed
+begin = refl
+
+end : refused BadTransaction kinds.EndTransaction
+unfolding apply apply_record merged is_well_formed
+end = refl
+
+abort : refused BadTransaction (kinds.AbortTransaction None)
+unfolding apply apply_record merged is_well_formed
+abort = refl

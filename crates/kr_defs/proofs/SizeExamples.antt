@@ -39,3 +39,23 @@ feature = refl
 nothing : value_bytes kinds.NoOp ≡ 4
 unfolding value_bytes
 nothing = refl
+
+begin : value_bytes (kinds.BeginTransaction None) ≡ 4
+unfolding value_bytes
+begin = refl
+
+begin_named : value_bytes (kinds.BeginTransaction (Some (codes "a"))) ≡ 8
+unfolding value_bytes
+begin_named = refl
+
+end : value_bytes kinds.EndTransaction ≡ 4
+unfolding value_bytes
+end = refl
+
+abort : value_bytes (kinds.AbortTransaction None) ≡ 4
+unfolding value_bytes
+abort = refl
+
+abort_with_reason : value_bytes (kinds.AbortTransaction (Some (codes "why"))) ≡ 10
+unfolding value_bytes
+abort_with_reason = refl

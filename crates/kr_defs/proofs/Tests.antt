@@ -70,6 +70,9 @@ module _ {X E : Type 0} (P : X → Type 0) where
   gives_found cause None next step x e = absurd cc
   gives_found cause (Some v) next step x e = step v refl x e
 
+  pub gives_none : (cause : E) → Gives P (Err cause)
+  gives_none cause x e = absurd cc
+
 abbrev pub ok_or_this : {X E : Type 0} → X → Result X E → X
 ok_or_this y (Ok x) = x
 ok_or_this y (Err e) = y

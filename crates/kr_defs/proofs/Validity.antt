@@ -11,7 +11,7 @@ use Rattle.kr_defs.specs.declared.record.Record.{Record}
 use Rattle.kr_defs.specs.declared.record.Record.TheVariants as kinds
 use Rattle.kr_defs.specs.declared.record.Item.{Item}
 use Rattle.kr_defs.specs.declared.record.Item.TheVariants as items
-use Rattle.kr_defs.specs.declared.ill.Ill.TheVariants.{BadNumber, NoBroker, StaleEpoch, NoTopic, TopicExists, BadName, NoPartition, PartitionExists, BadPartition, Limit}
+use Rattle.kr_defs.specs.declared.ill.Ill.TheVariants.{BadNumber, NoBroker, StaleEpoch, NoTopic, TopicExists, BadName, NoPartition, PartitionExists, BadPartition, Limit, BadTransaction}
 use Rattle.kr_defs.specs.declared.limits.TheConstants.{MOST_BROKERS, MOST_FEATURES, LONGEST_FEATURE}
 use Rattle.kr_defs.specs.Map as map
 use Rattle.kr_defs.specs.Map.{text_order, partition_order, config_order}
@@ -21,7 +21,7 @@ use Rattle.kr_defs.specs.Partition.{is_well_formed}
 use Rattle.kr_defs.specs.Texts.{is_topic_name}
 use Rattle.kr_defs.specs.Apply as apply
 use Rattle.kr_defs.proofs.ImageParts.{brokers-insert, brokers-set, brokers-remove, topics-insert, topics-filter, partitions-insert, partitions-set, partitions-more, partitions-filter, configs-insert, configs-remove, configs-filter, features-insert, features-remove}
-use Rattle.kr_defs.proofs.Tests.{Gives, gives_refuse, gives_found, gives_done, gives_if, positive, neither, not_false, none_is}
+use Rattle.kr_defs.proofs.Tests.{Gives, gives_refuse, gives_found, gives_done, gives_none, gives_if, positive, neither, not_false, none_is}
 
 short_enough : (n : ℕ) → nat_lt LONGEST_FEATURE n ≡ false → nat_le n LONGEST_FEATURE ≡ true
 short_enough n h = grind (arith, nat_tests)
@@ -128,6 +128,9 @@ module _ (image : Image) (v : IsValid image) where
   records (kinds.FeatureLevel name level) = sets_feature name level
   records (kinds.BrokerRegistrationChange broker epoch fenced stopping) = changes_registration broker epoch fenced stopping
   records kinds.NoOp = gives_done IsValid _ v
+  records (kinds.BeginTransaction name) = gives_none IsValid BadTransaction
+  records kinds.EndTransaction = gives_none IsValid BadTransaction
+  records (kinds.AbortTransaction reason) = gives_none IsValid BadTransaction
 
   pub kept : (item : Item) → Gives IsValid (apply.apply image item)
   unfolding apply.apply

@@ -67,3 +67,15 @@ fence = refl
 nothing : weighs kinds.NoOp 1
 unfolding weight
 nothing = refl
+
+begin : weighs (kinds.BeginTransaction None) 8
+unfolding weight
+begin = refl
+
+end : weighs kinds.EndTransaction 1
+unfolding weight
+end = refl
+
+abort : weighs (kinds.AbortTransaction None) 1
+unfolding weight
+abort = refl

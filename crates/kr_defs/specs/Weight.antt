@@ -18,10 +18,11 @@ settings_removed image id = elim (topic_name image.topics id) [
 abbrev pub partitions_removed : Image → ℕ → ℕ
 partitions_removed image id = count_by (λ e. e.0.0 == id) image.partitions
 
--- a topic is kept by name and by id
+-- a topic is kept by name and by id; an epoch is kept at the place of a transaction's begin
 abbrev pub record_weight : Image → Record → ℕ
 record_weight image (kinds.Topic name id) = 2
 record_weight image (kinds.RemoveTopic topic) = 2 + partitions_removed image topic + settings_removed image topic
+record_weight image (kinds.BeginTransaction name) = 8
 record_weight image _ = 1
 
 unfoldable pub weight : Image → Item → ℕ
