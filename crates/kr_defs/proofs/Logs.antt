@@ -25,7 +25,7 @@ pub kept_all : (items : List Item) (image : Image) → IsValid image → Gives I
 kept_all [] image v = gives_done IsValid image v
 kept_all (item ∷ items) image v = gives_then IsValid IsValid (apply.apply image item) (λ after. apply_all after items) (kept image v item) (λ after w. kept_all items after w)
 
-then_done : {X E : Type 0} (r : Result X E) → and_then r (λ x. Ok x) ≡ r
+pub then_done : {X E : Type 0} (r : Result X E) → and_then r (λ x. Ok x) ≡ r
 then_done (Ok x) = refl
 then_done (Err e) = refl
 
@@ -91,7 +91,7 @@ pub cause_named : (items : List Item) (image : Image) (place : ℤ) → option_m
 cause_named [] image place = refl
 cause_named (item ∷ items) image place = cause_of (apply.apply image item) place items (λ after. cause_named items after (place +ℤ pos 1))
 
-if_some_then : {X : Type 0} (P Q : X → Type 0) (o : Option X) → ((x : X) → P x → Q x) → IfSome o P → IfSome o Q
+pub if_some_then : {X : Type 0} (P Q : X → Type 0) (o : Option X) → ((x : X) → P x → Q x) → IfSome o P → IfSome o Q
 if_some_then P Q None step p = tt
 if_some_then P Q (Some x) step p = step x p
 
