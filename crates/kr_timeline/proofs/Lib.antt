@@ -11,3 +11,4 @@ pub mod Places
 pub mod Reverts
 pub mod Forgets
 pub mod Nexts
+pub mod Restores

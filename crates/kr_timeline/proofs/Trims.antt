@@ -34,7 +34,7 @@ module _ {K V : Type 0} where
     | false ↦ λ is. ap (λ (rest : List (K × List (ℕ × Option V))). e ∷ rest) (trim_none test left es is)
   ] h
 
-  remaining_some : (key : K) (left : List (ℕ × Option V)) (rest : List (K × List (ℕ × Option V))) → is_left left ≡ true → remaining key left rest ≡ (key, left) ∷ rest
+  pub remaining_some : (key : K) (left : List (ℕ × Option V)) (rest : List (K × List (ℕ × Option V))) → is_left left ≡ true → remaining key left rest ≡ (key, left) ∷ rest
   remaining_some key [] rest h = absurd cc
   remaining_some key (v ∷ older) rest h = refl
 
@@ -120,16 +120,24 @@ module _ {K V : Type 0} where
 
   -- ---- chains still fall
 
-  falls_remaining : (key : K) (left : List (ℕ × Option V)) (rest : List (K × List (ℕ × Option V))) → Falls left → AreFalling rest → AreFalling (remaining key left rest)
-  falls_remaining key [] rest f a = a
-  falls_remaining key (v ∷ older) rest f a = (f, a)
+  pub each_entry : (P Q : K × List (ℕ × Option V) → Type 0) (es : List (K × List (ℕ × Option V))) → ((e : K × List (ℕ × Option V)) → P e → Q e) → AllByRecursion P es → AllByRecursion Q es
+  each_entry P Q [] h p = tt
+  each_entry P Q (e ∷ es) h p = (h e p.0, each_entry P Q es h p.1)
+
+  each_remaining : (Q : K × List (ℕ × Option V) → Type 0) (key : K) (left : List (ℕ × Option V)) (rest : List (K × List (ℕ × Option V))) → Q (key, left) → AllByRecursion Q rest → AllByRecursion Q (remaining key left rest)
+  each_remaining Q key [] rest q a = a
+  each_remaining Q key (v ∷ older) rest q a = (q, a)
+
+  pub each_trimmed : (test : K → Bool) (left : List (ℕ × Option V) → List (ℕ × Option V)) (P Q : K × List (ℕ × Option V) → Type 0) (es : List (K × List (ℕ × Option V))) → ((k : K) (chain : List (ℕ × Option V)) → P (k, chain) → Q (k, left chain)) → ((e : K × List (ℕ × Option V)) → P e → Q e)
+      → AllByRecursion P es → AllByRecursion Q (trimmed test left es)
+  each_trimmed test left P Q [] here others a = tt
+  each_trimmed test left P Q (e ∷ es) here others a = elim (test e.0) as (λ b. AllByRecursion Q (cond b (remaining e.0 (left e.1) es) (e ∷ trimmed test left es))) [
+    | true ↦ each_remaining Q e.0 (left e.1) es (here e.0 e.1 a.0) (each_entry P Q es others a.1)
+    | false ↦ (others e a.0, each_trimmed test left P Q es here others a.1)
+  ]
 
   pub falls_trimmed : (test : K → Bool) (trim : Trim) (number : ℕ) (es : List (K × List (ℕ × Option V))) → AreFalling es → AreFalling (trimmed test (left_of trim number) es)
-  falls_trimmed test trim number [] a = tt
-  falls_trimmed test trim number (e ∷ es) a = elim (test e.0) as (λ b. AreFalling (cond b (remaining e.0 (left_of trim number e.1) es) (e ∷ trimmed test (left_of trim number) es))) [
-    | true ↦ falls_remaining e.0 (left_of trim number e.1) es (falls_left trim number e.1 a.0) a.1
-    | false ↦ (a.0, falls_trimmed test trim number es a.1)
-  ]
+  falls_trimmed test trim number es a = each_trimmed test (left_of trim number) (λ (e : K × List (ℕ × Option V)). Falls e.1) (λ (e : K × List (ℕ × Option V)). Falls e.1) es (λ k chain f. falls_left trim number chain f) (λ e f. f) a
 
   pub falls_all : (order : K → K → Ordering) (trim : Trim) (number : ℕ) (keys : List K) (es : List (K × List (ℕ × Option V))) → AreFalling es → AreFalling (all_trimmed order (left_of trim number) keys es)
   falls_all order trim number [] es a = a

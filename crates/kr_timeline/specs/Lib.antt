@@ -2,3 +2,4 @@ pub mod Chains
 pub mod History
 pub mod Intervals
 pub mod Keys
+pub mod RestoredMaps

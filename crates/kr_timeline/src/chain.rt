@@ -4,9 +4,10 @@ ghost use Rattle.std.specs.Prelude.{◌≡◌, ℕ, [], ◌∷◌, drop, nat_eq,
 ghost use Rattle.std.specs.Bool.{OnTrue, OnFalse};
 ghost use Rattle.std.specs.Option.{option_copied};
 ghost use Rattle.std.specs.VecDeque.{deque_len};
-ghost use Rattle.kr_timeline.specs.Chains.{value_at, is_written, written, Falls, is_above, cut, settled, left_of, is_left, EndsCovered, EndsOpen, newer, is_gone, without_gone};
+ghost use Rattle.kr_timeline.specs.Chains.{value_at, is_written, written, Falls, is_above, cut, settled, left_of, is_left, EndsCovered, EndsOpen, newer, is_gone, without_gone, without_first, repeated, lowered};
 
 use kr_base::NoMemory;
+use kr_defs::Copied;
 use std::alloc::Global;
 use std::collections::VecDeque;
 use std::marker::Model;
@@ -93,6 +94,19 @@ fn value_among<V: Drop>(versions: &VecDeque<Version<V>>, number: u64) -> Option<
     match versions.get(place) {
         Some(version) => version.value(),
         None => None,
+    }
+}
+
+// Drops the first version, where it has the number.
+fn drop_first_of<V: Drop>(versions: &mut VecDeque<Version<V>>, number: u64)
+    ensures { versions.new.items ≡ without_first number versions.old.items }
+{
+    let is_first = match versions.front() {
+        Some(version) => version.is_of(number),
+        None => false,
+    };
+    if is_first {
+        versions.pop_front();
     }
 }
 
@@ -246,6 +260,18 @@ impl<V: Drop> Chain<V> {
         is_left
     }
 
+    /// The newest version, where it has the number `above`, gets the number, in the place of one that has it.
+    pub fn lower(&mut self, above: u64, number: u64)
+        ensures lowered { self.new ≡ lowered above number self.old }
+        ensures some { is_left self.new ≡ true }
+    {
+        if self.is_written(above) {
+            self.newest.number = number;
+            drop_first_of(&mut self.older, number);
+            self.free_block();
+        }
+    }
+
     // Gives back the memory for older versions, where there are none.
     fn free_block(&mut self)
         ensures { self.new ≡ self.old }
@@ -253,5 +279,24 @@ impl<V: Drop> Chain<V> {
         if self.older.is_empty() {
             self.older.shrink_to_fit();
         }
+    }
+}
+
+impl<V: Copied + Drop> Chain<V> {
+    /// Writes the value at the number `from` under the number `above`, where nothing has that number.
+    pub fn repeat(&mut self, alloc: Global, from: u64, above: u64) -> Result<(), NoMemory>
+        requires { Falls self.old }
+        ensures ok { OnOk result (self.new ≡ repeated from above self.old) }
+        ensures err { OnErr result (self.new ≡ self.old) }
+    {
+        if self.is_written(above) {
+            return Ok(());
+        }
+        let value = match self.at(from) {
+            Some(value) => Some(value.copied(alloc)?),
+            None => None,
+        };
+        self.write(above, value)?;
+        Ok(())
     }
 }

@@ -7,11 +7,12 @@ ghost use Rattle.std.specs.Map.{remove_entry};
 ghost use Rattle.std.specs.BTreeMap.{is_at, insert_entry};
 ghost use Rattle.kr_defs.specs.Lookups.{entry_copied};
 ghost use Rattle.kr_defs.specs.Map as entries;
-ghost use Rattle.kr_timeline.specs.Chains.{map_of, written, AreFalling, HasVersion, Rewrites, Writes, is_left, left_of, trimmed};
+ghost use Rattle.kr_timeline.specs.Chains.{map_of, written, AreFalling, HasVersion, Rewrites, Writes, is_left, left_of, lowered, repeated, trimmed};
 
 use crate::chain::{Chain, Trim};
 use crate::key::Key;
 use kr_base::NoMemory;
+use kr_defs::Copied;
 use std::alloc::Global;
 use std::collections::BTreeMap;
 use std::ops::Bound;
@@ -90,6 +91,49 @@ pub(crate) fn trim<K: Ord + Drop, V: Drop>(
     if !trim_chain(chains, key, trim, number) {
         drop_key(chains, key);
     }
+}
+
+/// Writes the key's value at the number `from` under the number `above`, where it has no version of that number.
+#[tactic(auto, using(std::proofs::lemmas::Map::Steps::set_value_same))]
+pub(crate) fn repeat<K: Ord + Drop, V: Copied + Drop>(
+    chains: &mut BTreeMap<K, Chain<V>>,
+    alloc: Global,
+    key: &K,
+    from: u64,
+    above: u64,
+) -> Result<(), NoMemory>
+    requires { AreFalling chains.old.entries }
+    ensures absent { entries.get K.cmp chains.old.entries key.now ≡ None →
+        chains.new.entries ≡ chains.old.entries }
+    ensures ok { OnOk result
+        (Rewrites K.cmp key.now (repeated from above) chains.old.entries chains.new.entries) }
+    ensures err { OnErr result (chains.new.entries ≡ chains.old.entries) }
+{
+    let Some(chain) = chains.get_mut(key) else {
+        return Ok(());
+    };
+    chain.repeat(alloc, from, above)?;
+    Ok(())
+}
+
+/// The key's newest version, where it has the number `above`, gets the number.
+pub(crate) fn lower<K: Ord + Drop, V: Drop>(
+    chains: &mut BTreeMap<K, Chain<V>>,
+    key: &K,
+    above: u64,
+    number: u64,
+)
+    ensures absent { entries.get K.cmp chains.old.entries key.now ≡ None →
+        chains.new.entries ≡ chains.old.entries }
+    ensures lowered { Rewrites K.cmp key.now
+        (lowered above number) chains.old.entries chains.new.entries }
+    ensures left { (chain : List (ℕ × Option V)) → entries.get K.cmp chains.old.entries key.now ≡
+        Some chain → is_left (lowered above number chain) ≡ true }
+{
+    let Some(chain) = chains.get_mut(key) else {
+        return;
+    };
+    chain.lower(above, number);
 }
 
 #[tactic(auto, using(std::proofs::lemmas::Map::Steps::set_value_same))]

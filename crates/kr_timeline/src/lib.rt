@@ -5,8 +5,9 @@ mod chain;
 mod chains;
 mod intervals;
 mod key;
+mod restoration;
 mod timeline;
 
 pub use key::Key;
 pub use kr_base::NoEpoch;
-pub use timeline::Timeline;
+pub use timeline::{RestoreFault, Timeline};

@@ -1,12 +1,13 @@
 //! A map with kept epochs: the versions of each key, and for each kept epoch the keys that changed since the one before.
 
-ghost use Rattle.std.specs.Prelude.{◌≡◌, ◌↔◌, ◌≤◌, ◌+◌, Some, None, OnOk, OnErr, IfOk, IsOk, IsErr, IsTrue, All, length};
+ghost use Rattle.std.specs.Prelude.{◌≡◌, ◌↔◌, ◌≤◌, ◌+◌, Some, None, Err, OnOk, OnErr, IfOk, IsOk, IsErr, IsTrue, All, length};
 ghost use Rattle.std.specs.Option.{option_copied};
 ghost use Rattle.kr_defs.specs.Map as entries;
 ghost use Rattle.kr_defs.specs.KeptMaps.{AreRising, ForgetsMapWithin, IsAbove, RevertsMapWithin, no_maps, map_at, kept_above, kept_below, marked, inserted, removed, reverted, forgotten, one_call_more};
 ghost use Rattle.kr_defs.specs.Lookups.{Finds, FindsEntry, entry_copied};
 ghost use Rattle.kr_timeline.specs.Chains.{put};
 ghost use Rattle.kr_timeline.specs.Intervals.{WritesListed};
+ghost use Rattle.kr_timeline.specs.RestoredMaps.{RestoresMap};
 
 use crate::chain::{Chain, Trim};
 use crate::chains;
@@ -14,6 +15,7 @@ use crate::intervals::{
     Interval, drop_after, drop_below, find_place, number_at, settle_first, trim_keys,
 };
 use crate::key::Key;
+use crate::restoration::restore_after;
 use kr_base::{NoEpoch, NoMemory, Steps};
 use kr_defs::Copied;
 use std::alloc::Global;
@@ -21,6 +23,15 @@ use std::collections::{BTreeMap, VecDeque};
 use std::marker::Model;
 use std::mem::replace;
 use std::sync::ledger::Ledger;
+
+/// Why a map wasn't made the present one again.
+#[derive(Clone, Copy, Debug, Drop, PartialEq, Eq)]
+pub enum RestoreFault {
+    /// The epoch isn't kept.
+    NoEpoch,
+    /// There was no memory.
+    NoMemory,
+}
 
 /// A map, and the maps that were kept of it, each under its epoch. Versions carry the number of the interval between two
 /// marks in which they were written. The map of an interval has at each key the value of the newest version up to its number.
@@ -261,6 +272,45 @@ impl<K: Key + Drop, V: Drop> Timeline<K, V> {
         ensures room { self.new.has_room ≡ self.old.has_room }
     {
         self.made = self.made.saturating_add(1);
+    }
+}
+
+impl<K: Key + Drop, V: Copied + Drop> Timeline<K, V> {
+    /// Makes the map that is kept under the epoch the present one, and keeps all epochs. A refusal leaves all as before: NoEpoch
+    /// where the epoch isn't kept, else NoMemory, also once 2^64 - 1 intervals were numbered.
+    pub fn restore(&mut self, epoch: i64) -> Result<(), RestoreFault>
+        ensures ok { OnOk result (RestoresMap self.old.maps epoch self.new.maps) }
+        ensures err { OnErr result (self.new.maps ≡ self.old.maps) }
+        ensures no_epoch { (result ≡ Err RestoreFault.NoEpoch) ↔ (map_at self.old.maps epoch ≡ None) }
+        ensures room { IsTrue self.old.has_room → IsTrue self.new.has_room }
+    {
+        match find_place(&self.kept, &epoch) {
+            Some(place) => {
+                if self.number == u64::MAX {
+                    return Err(RestoreFault::NoMemory);
+                }
+                let from = number_at(&self.kept, place);
+                let before = self.keys.len();
+                let restored = restore_after(
+                    &mut self.chains,
+                    &mut self.keys,
+                    &self.kept,
+                    place + 1,
+                    self.alloc,
+                    from,
+                    self.number,
+                );
+                match restored {
+                    Ok(()) => {
+                        let more = self.keys.len() - before;
+                        self.made = self.made.saturating_add(more as u64); // a call for each key that joined the list
+                        Ok(())
+                    }
+                    Err(_) => Err(RestoreFault::NoMemory),
+                }
+            }
+            None => Err(RestoreFault::NoEpoch),
+        }
     }
 }
 
