@@ -1,5 +1,5 @@
 -- A map with kept epochs. This project's own.
-use Rattle.std.specs.Prelude.{ℕ, ℤ, List, [], ◌∷◌, ◌++◌, Option, ◌+◌, ◌-◌, ◌^◌, ◌≤◌, min, sum_by, take, not, filter, find, map, All, IsTrue, int_lt}
+use Rattle.std.specs.Prelude.{◌≡◌, ℕ, ℤ, List, [], ◌∷◌, ◌++◌, Option, Some, ◌+◌, ◌-◌, ◌^◌, ◌≤◌, min, sum_by, take, not, filter, find, map, All, IsTrue, int_lt}
 use Rattle.std.specs.Option.{option_map}
 use Rattle.std.specs.Ordering.{int_cmp, int_eq}
 use Rattle.std.specs.List.Sorted.{IsStrictlySortedBy}
@@ -91,6 +91,14 @@ module _ {K V : Type 0} where
   abbrev pub ForgetsMapWithin : KeptMaps K V → ℤ → ℕ → ℕ → Type 0
   ForgetsMapWithin maps epoch before after =
       after ≤ before + calls_and_epochs (kept_below maps epoch) + calls_in (oldest_kept_from maps epoch) + 1
+
+-- the map of an epoch is the present one again, and no epoch is dropped. What was done counts as at most as many calls as the entries
+-- above the epoch and the present map had
+pub record RestoresMap {K V : Type 0} (maps : KeptMaps K V) (epoch : ℤ) (later : KeptMaps K V) : Type 0 where
+  pub kept : later.kept ≡ maps.kept
+  pub present : map_at maps epoch ≡ Some later.present
+  pub least : maps.made ≤ later.made
+  pub most : later.made ≤ maps.made + (calls_in (kept_above maps epoch) + maps.made)
 
 module _ {K V : Type 0} (order : K → K → Ordering) where
   -- the key has the value in the present map

@@ -17,11 +17,10 @@ use Rattle.std.proofs.lemmas.List.Sums.{sum_by-append, sum_by-cons}
 use Rattle.std.proofs.Math.Seq.{drop-append_seam, take-append_seam}
 use Rattle.std.proofs.lemmas.Map.{NonePasses}
 use Rattle.kr_defs.specs.Map.{IsMap}
-use Rattle.kr_defs.specs.KeptMaps.{Kept, KeptMaps, AreRising, map_at, calls_in, kept_above}
+use Rattle.kr_defs.specs.KeptMaps.{Kept, KeptMaps, AreRising, RestoresMap, map_at, calls_in, kept_above}
 use Rattle.kr_defs.proofs.EpochCuts.{up_to-entry}
 use Rattle.kr_timeline.specs.Chains.{value_at, is_written, written, without_first, Falls, IsTidy, cut, is_left, repeated, lowered, restored, is_listed, standing, map_of, Versions, AreFalling, AreTidy, remaining, trimmed, all_trimmed, mapped, AreLeft}
 use Rattle.kr_timeline.specs.Intervals.{kept_of, maps_of, keys_in, IsTimeline, Rise, AreCounted, RepeatsSome, StandsAt, is_in, is_changed, is_old, is_any}
-use Rattle.kr_timeline.specs.RestoredMaps.{RestoresMap}
 use Rattle.kr_timeline.specs.declared.intervals.Interval.{Interval}
 use Rattle.kr_timeline.proofs.Bools.{or_either, and_first, and_second, any_append}
 use Rattle.kr_timeline.proofs.Versions.{each, tidy_map, of_left, same-written, present-written, all-written, falls-written, tidy-written}

@@ -2,4 +2,3 @@ pub mod Chains
 pub mod History
 pub mod Intervals
 pub mod Keys
-pub mod RestoredMaps

@@ -3,11 +3,10 @@
 ghost use Rattle.std.specs.Prelude.{◌≡◌, ◌↔◌, ◌≤◌, ◌+◌, Some, None, Err, OnOk, OnErr, IfOk, IsOk, IsErr, IsTrue, All, length};
 ghost use Rattle.std.specs.Option.{option_copied};
 ghost use Rattle.kr_defs.specs.Map as entries;
-ghost use Rattle.kr_defs.specs.KeptMaps.{AreRising, ForgetsMapWithin, IsAbove, RevertsMapWithin, no_maps, map_at, kept_above, kept_below, marked, inserted, removed, reverted, forgotten, one_call_more};
+ghost use Rattle.kr_defs.specs.KeptMaps.{AreRising, ForgetsMapWithin, IsAbove, RestoresMap, RevertsMapWithin, no_maps, map_at, kept_above, kept_below, marked, inserted, removed, reverted, forgotten, one_call_more};
 ghost use Rattle.kr_defs.specs.Lookups.{Finds, FindsEntry, entry_copied};
 ghost use Rattle.kr_timeline.specs.Chains.{put};
 ghost use Rattle.kr_timeline.specs.Intervals.{WritesListed};
-ghost use Rattle.kr_timeline.specs.RestoredMaps.{RestoresMap};
 
 use crate::chain::{Chain, Trim};
 use crate::chains;
