@@ -7,6 +7,7 @@ pub mod PageRows
 pub mod RecordPages
 pub mod RecordSections
 pub mod Readers
+pub mod SteadyReads
 pub mod Standing
 pub mod Tables
 pub mod Showing

@@ -20,6 +20,7 @@ mod seat;
 mod sharing;
 mod shown;
 mod standing;
+mod steady;
 mod table;
 mod window;
 
@@ -31,3 +32,4 @@ pub use record_reader::RecordReader;
 pub use rule::ThreadView;
 pub use scans::{Page, PageRow, ScanFault, ScanKey};
 pub use seat::{CopyFault, ReaderSeat};
+pub use steady::{Steady, SteadyFault};
