@@ -2,7 +2,7 @@
 use Rattle.std.proofs.Common.{Fits, w8, get_or, ◌≡◌, ℕ, Bool, true, false, cond, List, [], ◌∷◌, ◌++◌, length, ◌==◌, append_assoc, Option, Some, None, Result, Ok, Err, refl, sym, ap, subst, ◌∙◌, arith}
 use Rattle.std.specs.Prelude.{ℤ, pos, IfOk, IfSome, ◌&&◌, ◌↔◌}
 use Rattle.std.specs.Ordering.{int_eq}
-use Rattle.std.proofs.lemmas.Bool.{and_parts}
+use Rattle.std.proofs.lemmas.Bool.{and_parts, eqb-true}
 use Rattle.std.proofs.lemmas.Bool.Decides.{Decides-int_eq}
 use Rattle.std.proofs.lemmas.List.{append-nil}
 use Rattle.kr_base.specs.declared.answers.NoMemory.{NoMemory}
@@ -33,7 +33,7 @@ rest_law = record {
 -- nothing is left behind the request, or something is
 pub all_asked : (c : ℤ) (d : Describe) (left : List ℕ) → (length left == 0) ≡ true → describe_ask c (Ok (d, left)) ≡ asks.Ask c d
 all_asked c d [] none = refl
-all_asked c d (b ∷ bytes) none = absurd cc
+all_asked c d (b ∷ bytes) none = let h = eqb-true (length (b ∷ bytes)) 0 none in absurd (omega (arith, h))
 
 pub more_left : (c : ℤ) (d : Describe) (left : List ℕ) → (length left == 0) ≡ false → describe_ask c (Ok (d, left)) ≡ asks.Bare c
 more_left c d [] some = absurd cc

@@ -7,7 +7,7 @@ use Rattle.kr_pages.proofs.request.some_names.Goals as goal
 
 pub returns-in_err-read_name : goal.returns-in_err-read_name
 returns-in_err-read_name c =
-    let p = err_from_is_err_and c.from_residual-in_err-read_name.result c.from_residual-in_err-read_name.ensures.1 in
+    let p = err_from_is_err_and c.from_residual.result c.from_residual.ensures.1 in
     rw (p.1, p.2) (ends (value_at topic_request) c.loop.list.items c.args.count c.loop.counter _ _ c.loop.invariant c.in_err-read_name.field-0.0 c.loop-test.true c.in_err-read_name.ensures)
 
 pub loop-preserved : goal.loop-preserved
