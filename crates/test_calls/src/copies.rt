@@ -8,22 +8,35 @@ fn topic(alloc: Global) -> Result<Topic, AllocError> {
     Ok(Topic { name, id: 9 })
 }
 
-#[test]
-fn keys_and_numbers_are_copied(rt: HostRuntime) -> Result<(), AllocError> {
-    let alloc = rt.alloc();
+fn is_copied<T: Copied + PartialEq + Drop>(alloc: Global, value: &T) -> Result<bool, AllocError> {
+    let copy = value.copied(alloc)?;
+    Ok(copy == *value)
+}
+
+fn are_keys_copied(alloc: Global) -> Result<bool, AllocError> {
     let topic = topic(alloc)?;
-    assert!(rt; topic.copied(alloc)? == topic);
     let key = ConfigKey {
         kind: 4,
         name: Text::new(alloc),
         key: Text::from_str(alloc, "note")?,
     };
-    assert!(rt; key.copied(alloc)? == key);
-    assert_eq!(rt; (9_u128, 8_i32).copied(alloc)?, (9, 8));
-    assert_eq!(rt; (7_i16).copied(alloc)?, 7);
-    assert_eq!(rt; (7_i64).copied(alloc)?, 7);
-    assert_eq!(rt; (7_u128).copied(alloc)?, 7);
-    assert_eq!(rt; (7_u8).copied(alloc)?, 7);
+    Ok(is_copied(alloc, &topic)? && is_copied(alloc, &key)?)
+}
+
+fn are_numbers_copied(alloc: Global) -> Result<bool, AllocError> {
+    Ok(
+        is_copied(alloc, &(9_u128, 8_i32))?
+            && is_copied(alloc, &7_i16)?
+            && is_copied(alloc, &7_i64)?
+            && is_copied(alloc, &7_u128)?
+            && is_copied(alloc, &7_u8)?,
+    )
+}
+
+#[test]
+fn keys_and_numbers_are_copied(rt: HostRuntime) -> Result<(), AllocError> {
+    assert!(rt; are_keys_copied(rt.alloc())?);
+    assert!(rt; are_numbers_copied(rt.alloc())?);
     Ok(())
 }
 
