@@ -49,7 +49,7 @@ fn registration(alloc: Global, id: i32) -> Result<Record, AllocError> {
     })
 }
 
-pub(crate) fn topic_name(alloc: Global, number: i32) -> Result<Text, AllocError> {
+fn topic_name(alloc: Global, number: i32) -> Result<Text, AllocError> {
     Ok(Text::from_string(format!(in alloc; "topic-{number}")?))
 }
 
@@ -75,7 +75,7 @@ pub(crate) fn one_topic(alloc: Global, count: i32) -> Result<Vec<Record>, AllocE
     Ok(records)
 }
 
-pub(crate) fn partition(alloc: Global, topic: u128, index: i32) -> Result<Record, AllocError> {
+fn partition(alloc: Global, topic: u128, index: i32) -> Result<Record, AllocError> {
     Ok(Record::Partition {
         index,
         topic,

@@ -1,4 +1,4 @@
-//! A benchmark of record batches, request messages, placement, heartbeats, images and copies: with no word each job is done once,
+//! A benchmark of record batches, request messages, placement, heartbeats and images: with no word each job is done once,
 //! with the word `time` each is measured. With the word `message` one message is read from standard input; with `store`, `map` or
 //! `records` 9,000 partitions are made, whose memory can be measured from outside.
 #![tactic(auto)]
@@ -7,7 +7,6 @@ mod batches;
 mod beats;
 mod changes;
 mod checksum;
-mod copies;
 mod entries;
 mod image;
 mod message;

@@ -6,17 +6,18 @@ ghost use Rattle.std.specs.Duration.{as_nanos};
 use crate::batches::{Encoded, Kind};
 use crate::beats::{BEATS, FEW, MANY, SOME, beat_all, list_of};
 use crate::checksum::Summed;
-use crate::copies::print_copies;
 use crate::image::Written;
 use crate::placing::{PARTITIONS, brokers, place_all};
 use crate::request::{Form, ask, topics_of};
 use anyhow::{Result, ensure};
-use kr_defs::Text;
+use kr_batch::Batch;
+use kr_calls::Ask;
+use kr_contact::ContactList;
+use kr_defs::{Ids, Text};
+use kr_image::ImageStore;
 use kr_store::Store;
 use std::alloc::Global;
 use std::rt::Clock;
-use std::sync::Wait;
-use std::thread::Threads;
 use std::time::{Duration, Instant};
 
 /// How often each job is done.
@@ -39,10 +40,21 @@ enum Work<'a> {
     Copy(&'a [u8]),
 }
 
+/// What a round of it makes, which is dropped behind its time.
+#[derive(Drop)]
+enum Made {
+    Sum(u32),
+    // In the room for them.
+    Bytes,
+    Batch(Batch),
+    Asked(Ask),
+    Image(ImageStore),
+    Placed(Vec<Ids>),
+    Contacts(ContactList),
+}
+
 /// Measures each job and prints a table. Time is the shortest of all rounds, and a MB a million bytes.
-pub(crate) fn print_table<R: Print + Clock + AllocGlobal + Wait + Threads + Sync>(
-    rt: &R,
-) -> Result<()> {
+pub(crate) fn print_table<R: Print + Clock + AllocGlobal>(rt: &R) -> Result<()> {
     print_head(rt)?;
     print_checksum(rt)?;
     print_batch(rt, Kind::Changes)?;
@@ -54,8 +66,7 @@ pub(crate) fn print_table<R: Print + Clock + AllocGlobal + Wait + Threads + Sync
     print_placing(rt)?;
     print_beats(rt, FEW)?;
     print_beats(rt, SOME)?;
-    print_beats(rt, MANY)?;
-    print_copies(rt)
+    print_beats(rt, MANY)
 }
 
 fn print_head(rt: &impl Print) -> Result<()> {
@@ -116,7 +127,7 @@ fn print_placing<R: Print + Clock + AllocGlobal>(rt: &R) -> Result<()> {
     Ok(())
 }
 
-// The shortest time in which all heartbeats of so many brokers come.
+// The shortest time in which all heartbeats of so many brokers come, the list of the brokers among it.
 fn print_beats<R: Print + Clock + AllocGlobal>(rt: &R, brokers: u16) -> Result<()> {
     let mut room = Vec::new(rt.alloc());
     let work = shortest(rt, rt.alloc(), Work::Beat(brokers), ROUNDS, &mut room)?;
@@ -185,108 +196,103 @@ fn rate(bytes: usize, time: Duration) -> u128
     bytes as u128 * 1000 / time.as_nanos().max(1)
 }
 
+// One round of the work, whose result has to be the right one.
 fn round(rt: &impl Clock, alloc: Global, work: Work<'_>, room: &mut Vec<u8>) -> Result<Duration> {
     room.clear();
+    let start = Instant::now(rt)?;
+    let made = make(alloc, work, room)?;
+    let time = start.elapsed(rt);
+    let is_right = is_right(work, &made, room);
+    drop(made);
+    ensure!(is_right, "another result");
+    Ok(time?)
+}
+
+fn make(alloc: Global, work: Work<'_>, room: &mut Vec<u8>) -> Result<Made> {
     match work {
-        Work::Checksum(summed) => checksum_round(rt, summed),
-        Work::Encode(encoded) => encode_round(rt, encoded, room),
-        Work::Decode(encoded) => decode_round(rt, alloc, encoded),
-        Work::Ask(form, message) => ask_round(rt, alloc, form, message),
-        Work::Write(image) => write_round(rt, alloc, image, room),
-        Work::Read(image) => read_round(rt, alloc, image),
-        Work::Place(brokers) => place_round(rt, alloc, brokers),
-        Work::Beat(brokers) => beat_round(rt, alloc, brokers),
-        Work::Copy(bytes) => copy_round(rt, bytes, room),
+        Work::Checksum(summed) => Ok(Made::Sum(summed.checksum())),
+        Work::Encode(encoded) => {
+            encoded.encode(room)?;
+            Ok(Made::Bytes)
+        }
+        Work::Decode(encoded) => Ok(Made::Batch(encoded.decode(alloc)?)),
+        Work::Ask(_, message) => Ok(Made::Asked(ask(alloc, message)?)),
+        Work::Write(image) => {
+            image.write(alloc, room)?;
+            Ok(Made::Bytes)
+        }
+        Work::Read(image) => {
+            let (_offset, store) = image.read(alloc)?;
+            Ok(Made::Image(store))
+        }
+        Work::Place(brokers) => Ok(Made::Placed(place_all(alloc, brokers)?)),
+        Work::Beat(brokers) => beats_of(alloc, brokers),
+        Work::Copy(bytes) => {
+            room.extend_from_slice(bytes)?;
+            Ok(Made::Bytes)
+        }
     }
 }
 
-fn checksum_round(rt: &impl Clock, summed: &Summed) -> Result<Duration> {
-    let start = Instant::now(rt)?;
-    let sum = summed.checksum();
-    let time = start.elapsed(rt)?;
-    ensure!(sum == summed.sum(), "the checksum is another one");
-    Ok(time)
-}
-
-fn encode_round(rt: &impl Clock, encoded: &Encoded, room: &mut Vec<u8>) -> Result<Duration> {
-    let start = Instant::now(rt)?;
-    encoded.encode(room)?;
-    let time = start.elapsed(rt)?;
-    ensure!(
-        room.as_slice() == encoded.as_bytes(),
-        "other bytes were encoded"
-    );
-    Ok(time)
-}
-
-// The batch that was decoded is dropped behind the time.
-fn decode_round(rt: &impl Clock, alloc: Global, encoded: &Encoded) -> Result<Duration> {
-    let start = Instant::now(rt)?;
-    let batch = encoded.decode(alloc)?;
-    let time = start.elapsed(rt)?;
-    ensure!(encoded.has(&batch), "another batch was decoded");
-    Ok(time)
-}
-
-// What was asked is dropped behind the time.
-fn ask_round(rt: &impl Clock, alloc: Global, form: Form, message: &[u8]) -> Result<Duration> {
-    let start = Instant::now(rt)?;
-    let ask = ask(alloc, message)?;
-    let time = start.elapsed(rt)?;
-    ensure!(topics_of(&ask) == form.topics(), "another request was read");
-    Ok(time)
-}
-
-fn write_round(
-    rt: &impl Clock,
-    alloc: Global,
-    image: &Written,
-    room: &mut Vec<u8>,
-) -> Result<Duration> {
-    let start = Instant::now(rt)?;
-    image.write(alloc, room)?;
-    let time = start.elapsed(rt)?;
-    ensure!(
-        room.as_slice() == image.as_bytes(),
-        "another image was written"
-    );
-    Ok(time)
-}
-
-// The image that was read is dropped behind the time.
-fn read_round(rt: &impl Clock, alloc: Global, image: &Written) -> Result<Duration> {
-    let start = Instant::now(rt)?;
-    let (_offset, store) = image.read(alloc)?;
-    let time = start.elapsed(rt)?;
-    ensure!(store.counts() == image.counts(), "another image was read");
-    Ok(time)
-}
-
-fn place_round(
-    rt: &impl Clock,
-    alloc: Global,
-    brokers: &[(i32, Option<Text>)],
-) -> Result<Duration> {
-    let start = Instant::now(rt)?;
-    let placed = place_all(alloc, brokers)?;
-    let time = start.elapsed(rt)?;
-    ensure!(placed.len() == PARTITIONS as usize, "too few are placed");
-    Ok(time)
-}
-
-fn beat_round(rt: &impl Clock, alloc: Global, brokers: u16) -> Result<Duration> {
+fn beats_of(alloc: Global, brokers: u16) -> Result<Made> {
     let mut list = list_of(alloc, brokers)?;
-    let start = Instant::now(rt)?;
     beat_all(&mut list, brokers)?;
-    let time = start.elapsed(rt)?;
-    ensure!(list.len() == usize::from(brokers), "a broker is missing");
-    Ok(time)
+    Ok(Made::Contacts(list))
 }
 
-fn copy_round(rt: &impl Clock, bytes: &[u8], room: &mut Vec<u8>) -> Result<Duration> {
-    let start = Instant::now(rt)?;
-    room.extend_from_slice(bytes)?;
-    let time = start.elapsed(rt)?;
-    ensure!(room.as_slice() == bytes, "other bytes were copied");
-    Ok(time)
+// Whether this is what the work is to make.
+fn is_right(work: Work<'_>, made: &Made, room: &[u8]) -> bool {
+    match made {
+        Made::Sum(sum) => is_sum(work, *sum),
+        Made::Bytes => are_bytes(work, room),
+        Made::Batch(batch) => is_batch(work, batch),
+        Made::Asked(ask) => is_form(work, topics_of(ask)),
+        Made::Image(store) => is_image(work, store),
+        Made::Placed(placed) => placed.len() == PARTITIONS as usize,
+        Made::Contacts(list) => are_brokers(work, list.len()),
+    }
+}
+
+fn is_sum(work: Work<'_>, sum: u32) -> bool {
+    match work {
+        Work::Checksum(summed) => summed.sum() == sum,
+        _ => false,
+    }
+}
+
+fn are_bytes(work: Work<'_>, room: &[u8]) -> bool {
+    match work {
+        Work::Encode(encoded) => room == encoded.as_bytes(),
+        Work::Write(image) => room == image.as_bytes(),
+        Work::Copy(bytes) => room == bytes,
+        _ => false,
+    }
+}
+
+fn is_batch(work: Work<'_>, batch: &Batch) -> bool {
+    match work {
+        Work::Decode(encoded) => encoded.has(batch),
+        _ => false,
+    }
+}
+
+fn is_form(work: Work<'_>, topics: Option<usize>) -> bool {
+    match work {
+        Work::Ask(form, _) => topics == form.topics(),
+        _ => false,
+    }
+}
+
+fn is_image(work: Work<'_>, store: &ImageStore) -> bool {
+    match work {
+        Work::Read(image) => store.counts() == image.counts(),
+        _ => false,
+    }
+}
+
+fn are_brokers(work: Work<'_>, count: usize) -> bool {
+    match work {
+        Work::Beat(brokers) => count == usize::from(brokers),
+        _ => false,
+    }
 }
