@@ -202,7 +202,7 @@ fn round(rt: &impl Clock, alloc: Global, work: Work<'_>, room: &mut Vec<u8>) -> 
     let start = Instant::now(rt)?;
     let made = make(alloc, work, room)?;
     let time = start.elapsed(rt);
-    let is_right = is_right(work, &made, room);
+    let is_right = is_right(work, &made, room.as_slice());
     drop(made);
     ensure!(is_right, "another result");
     Ok(time?)
