@@ -81,6 +81,9 @@ one_leaves image (kinds.RemoveTopic topic) is = gives_found (LeavesBrokers image
 one_leaves image (kinds.FeatureLevel name level) is =
     gives_refuse (LeavesBrokers image) BadNumber (int_lt level (pos 0)) _ (λ _. gives_refuse (LeavesBrokers image) Limit (nat_lt LONGEST_FEATURE (length name) || (not (int_eq level (pos 0)) && entries.is_full text_order MOST_FEATURES image.features name)) _ (λ _. gives_if (LeavesBrokers image) (int_eq level (pos 0)) _ _ (λ _. gives_done (LeavesBrokers image) _ refl) (λ _. gives_done (LeavesBrokers image) _ refl)))
 one_leaves image kinds.NoOp is = gives_done (LeavesBrokers image) _ refl
+one_leaves image (kinds.BeginTransaction name) is = λ after e. absurd cc
+one_leaves image kinds.EndTransaction is = λ after e. absurd cc
+one_leaves image (kinds.AbortTransaction reason) is = λ after e. absurd cc
 
 pub all_leave : (image : Image) (records : List Record) → are_brokerless records ≡ true → Gives (LeavesBrokers image) (apply_records image records)
 all_leave image [] are = gives_done (LeavesBrokers image) image refl

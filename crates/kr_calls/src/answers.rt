@@ -47,7 +47,7 @@ pub struct Answer {
     pub seat: u32,
     /// The number of the call among those of the client.
     pub ticket: u64,
-    /// The end of the log, with what isn't committed, when the write came.
+    /// The place at which the log ended, with what isn't committed, when the write came.
     pub place: i64,
     /// How it ended.
     pub kind: AnswerKind,

@@ -10,7 +10,7 @@ pub struct BrokerRegistration {
     pub broker: i32,
     /// The id of the cluster that the broker belongs to.
     pub cluster: Text,
-    /// Drawn by the broker process as it starts.
+    /// A UUID that the broker process draws as it starts.
     pub incarnation: u128,
     /// Where the broker listens.
     pub listeners: Endpoints,

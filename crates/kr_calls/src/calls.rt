@@ -112,7 +112,7 @@ impl Drop for Reply {
 /// A request under its correlation id, which its reply repeats.
 #[derive(Drop)]
 pub struct Call {
-    /// Drawn by the client.
+    /// The number that the client drew for this request.
     pub correlation: i32,
     /// What is asked.
     pub request: Request,

@@ -9,7 +9,7 @@ use Rattle.kr_defs.specs.declared.record.Record.{Record}
 use Rattle.kr_defs.specs.declared.record.Record.TheVariants as kinds
 use Rattle.kr_defs.specs.declared.record.Item.TheVariants as items
 use Rattle.kr_defs.specs.declared.ill.Ill.{Ill}
-use Rattle.kr_defs.specs.declared.ill.Ill.TheVariants.{BadNumber, NoBroker, StaleEpoch, NoTopic, TopicExists, BadName, NoPartition, PartitionExists, BadPartition, Limit}
+use Rattle.kr_defs.specs.declared.ill.Ill.TheVariants.{BadNumber, NoBroker, StaleEpoch, NoTopic, TopicExists, BadName, NoPartition, PartitionExists, BadPartition, Limit, BadTransaction}
 use Rattle.kr_defs.specs.Image.{Image}
 use Rattle.kr_defs.specs.Apply.{apply, apply_record}
 use Rattle.kr_defs.specs.Merge.{merged}
@@ -233,6 +233,19 @@ no_level = refl
 levelled : gives (kinds.FeatureLevel (codes "e") (pos 1)) (record image { features = (codes "e", pos 1) ∷ (codes "f", pos 2) ∷ [] })
 unfolding apply apply_record merged is_well_formed
 levelled = refl
+
+-- an image has no transaction open
+begun : refused BadTransaction (kinds.BeginTransaction None)
+unfolding apply apply_record
+begun = refl
+
+ended : refused BadTransaction kinds.EndTransaction
+unfolding apply apply_record
+ended = refl
+
+aborted : refused BadTransaction (kinds.AbortTransaction None)
+unfolding apply apply_record
+aborted = refl
 
 nothing : gives kinds.NoOp image
 unfolding apply apply_record merged is_well_formed

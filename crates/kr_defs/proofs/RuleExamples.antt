@@ -190,3 +190,6 @@ types_fall = refl
 
 other_kind : are_in_order nothing_seen (kinds.NoOp ∷ []) ≡ false
 other_kind = refl
+
+transaction : are_in_order nothing_seen (kinds.BeginTransaction None ∷ []) ≡ false
+transaction = refl

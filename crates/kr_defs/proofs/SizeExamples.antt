@@ -36,6 +36,23 @@ feature : value_bytes (kinds.FeatureLevel (codes "a.b") (pos 0)) ≡ 10
 unfolding value_bytes
 feature = refl
 
+-- a name or a reason is left out where there is none
+begun : value_bytes (kinds.BeginTransaction None) ≡ 4
+unfolding value_bytes
+begun = refl
+
+begun_named : value_bytes (kinds.BeginTransaction (Some (codes "a"))) ≡ 8
+unfolding value_bytes
+begun_named = refl
+
+ended : value_bytes kinds.EndTransaction ≡ 4
+unfolding value_bytes
+ended = refl
+
+aborted : value_bytes (kinds.AbortTransaction (Some (codes "why"))) ≡ 10
+unfolding value_bytes
+aborted = refl
+
 nothing : value_bytes kinds.NoOp ≡ 4
 unfolding value_bytes
 nothing = refl

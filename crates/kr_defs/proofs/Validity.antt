@@ -128,6 +128,9 @@ module _ (image : Image) (v : IsValid image) where
   records (kinds.FeatureLevel name level) = sets_feature name level
   records (kinds.BrokerRegistrationChange broker epoch fenced stopping) = changes_registration broker epoch fenced stopping
   records kinds.NoOp = gives_done IsValid _ v
+  records (kinds.BeginTransaction name) = λ after e. absurd cc
+  records kinds.EndTransaction = λ after e. absurd cc
+  records (kinds.AbortTransaction reason) = λ after e. absurd cc
 
   pub kept : (item : Item) → Gives IsValid (apply.apply image item)
   unfolding apply.apply

@@ -1,6 +1,6 @@
 -- How many entries an item writes, computed.
 use Rattle.std.proofs.Common.{◌≡◌, ℕ, refl, [], ◌∷◌}
-use Rattle.std.specs.Prelude.{pos, codes, None}
+use Rattle.std.specs.Prelude.{pos, codes, None, Some}
 use Rattle.kr_defs.specs.declared.partition.Partition.{Partition}
 use Rattle.kr_defs.specs.declared.record.Record.{Record}
 use Rattle.kr_defs.specs.declared.record.Record.TheVariants as kinds
@@ -63,6 +63,19 @@ setting = refl
 fence : weighs (kinds.FenceBroker (pos 1) (pos 5)) 1
 unfolding weight
 fence = refl
+
+-- what begins a transaction keeps the place of its beginning besides
+begun : weighs (kinds.BeginTransaction None) 8
+unfolding weight
+begun = refl
+
+ended : weighs kinds.EndTransaction 1
+unfolding weight
+ended = refl
+
+aborted : weighs (kinds.AbortTransaction (Some (codes "why"))) 1
+unfolding weight
+aborted = refl
 
 nothing : weighs kinds.NoOp 1
 unfolding weight

@@ -1,5 +1,5 @@
 -- KIP-631: the meaning of a record is the image after it. The causes why there is none, and the limits, are this project's own.
-use Rattle.std.specs.Prelude.{◌≡◌, ℕ, ℤ, pos, negsuc, int_lt, false, Bool, not, ◌&&◌, ◌||◌, List, length, bytes_eq, filter, All, IsTrue, Option, Some, None, Result, Ok, ◌==◌, nat_le, nat_lt, if◌then◌else◌}
+use Rattle.std.specs.Prelude.{◌≡◌, ℕ, ℤ, pos, negsuc, int_lt, false, Bool, not, ◌&&◌, ◌||◌, List, length, bytes_eq, filter, All, IsTrue, Option, Some, None, Result, Ok, Err, ◌==◌, nat_le, nat_lt, if◌then◌else◌}
 use Rattle.std.specs.Ordering.{int_cmp, int_eq}
 use Rattle.std.specs.Option.{option_map_or}
 use Rattle.kr_defs.specs.declared.broker.Broker.{Broker}
@@ -11,7 +11,7 @@ use Rattle.kr_defs.specs.declared.record.Record.TheVariants as kinds
 use Rattle.kr_defs.specs.declared.record.Item.{Item}
 use Rattle.kr_defs.specs.declared.record.Item.TheVariants as items
 use Rattle.kr_defs.specs.declared.ill.Ill.{Ill}
-use Rattle.kr_defs.specs.declared.ill.Ill.TheVariants.{BadNumber, NoBroker, StaleEpoch, NoTopic, TopicExists, BadName, NoPartition, PartitionExists, BadPartition, Limit}
+use Rattle.kr_defs.specs.declared.ill.Ill.TheVariants.{BadNumber, NoBroker, StaleEpoch, NoTopic, TopicExists, BadName, NoPartition, PartitionExists, BadPartition, Limit, BadTransaction}
 use Rattle.kr_defs.specs.declared.limits.TheConstants.{MOST_BROKERS, MOST_TOPICS, MOST_PARTITIONS, MOST_CONFIG_TEXT, MOST_FEATURES, LONGEST_FEATURE}
 use Rattle.kr_defs.specs.Guard.{refuse◌when◌else◌, found}
 use Rattle.kr_defs.specs.Map as map
@@ -140,6 +140,10 @@ apply_record image (kinds.RemoveTopic topic) = remove_topic image topic
 apply_record image (kinds.FeatureLevel name level) = set_feature_level image name level
 apply_record image (kinds.BrokerRegistrationChange broker epoch fenced stopping) = change_broker_registration image broker epoch fenced stopping
 apply_record image kinds.NoOp = Ok image
+-- KIP-868: these three speak of a transaction that is open, and an image alone has none
+apply_record image (kinds.BeginTransaction name) = Err BadTransaction
+apply_record image kinds.EndTransaction = Err BadTransaction
+apply_record image (kinds.AbortTransaction reason) = Err BadTransaction
 
 unfoldable pub apply : Image → Item → Result Image Ill
 apply image items.Control = Ok image

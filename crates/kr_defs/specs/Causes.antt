@@ -1,7 +1,7 @@
 -- The numbers of the causes why a record has no meaning (this project's own).
 use Rattle.std.specs.Prelude.{ℕ}
 use Rattle.kr_defs.specs.declared.ill.Ill.{Ill}
-use Rattle.kr_defs.specs.declared.ill.Ill.TheVariants.{BadNumber, NoBroker, StaleEpoch, NoTopic, TopicExists, BadName, NoPartition, PartitionExists, BadPartition, Limit}
+use Rattle.kr_defs.specs.declared.ill.Ill.TheVariants.{BadNumber, NoBroker, StaleEpoch, NoTopic, TopicExists, BadName, NoPartition, PartitionExists, BadPartition, Limit, BadTransaction}
 
 abbrev pub number_of : Ill → ℕ
 number_of BadNumber = 1
@@ -14,3 +14,4 @@ number_of NoPartition = 7
 number_of PartitionExists = 8
 number_of BadPartition = 9
 number_of Limit = 10
+number_of BadTransaction = 11

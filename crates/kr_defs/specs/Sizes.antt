@@ -67,6 +67,11 @@ abbrev pub ids_field_or : Option (List ℤ) → Option ℕ
 ids_field_or None = None
 ids_field_or (Some ids) = Some (list_bytes 4 ids)
 
+-- a text that is left out where there is none
+abbrev pub text_field : Option (List ℕ) → Option ℕ
+text_field None = None
+text_field (Some text) = Some (text_bytes text)
+
 -- ---- the layouts
 
 -- id, incarnation, epoch, endpoints, features, rack and the two flags
@@ -120,6 +125,9 @@ layout_bytes (kinds.FeatureLevel name level) = text_bytes name + 2 + no_tags_byt
 layout_bytes (kinds.BrokerRegistrationChange broker epoch fenced stopping) =
     4 + 8 + tags_bytes (number_field 1 (pos 0) fenced ∷ number_field 1 (pos 0) stopping ∷ [])
 layout_bytes kinds.NoOp = no_tags_bytes
+layout_bytes (kinds.BeginTransaction name) = tags_bytes (text_field name ∷ [])
+layout_bytes kinds.EndTransaction = no_tags_bytes
+layout_bytes (kinds.AbortTransaction reason) = tags_bytes (text_field reason ∷ [])
 
 unfoldable pub value_bytes : Record → ℕ
 value_bytes r = frame_bytes + layout_bytes r

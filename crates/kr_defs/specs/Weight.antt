@@ -22,6 +22,8 @@ partitions_removed image id = count_by (λ e. e.0.0 == id) image.partitions
 abbrev pub record_weight : Image → Record → ℕ
 record_weight image (kinds.Topic name id) = 2
 record_weight image (kinds.RemoveTopic topic) = 2 + partitions_removed image topic + settings_removed image topic
+-- a transaction's beginning keeps its place in each of six maps, and two counts with it
+record_weight image (kinds.BeginTransaction name) = 8
 record_weight image _ = 1
 
 unfoldable pub weight : Image → Item → ℕ

@@ -31,7 +31,7 @@ pub type Stops = Rows<Stopping>;
 /// What decisions rest on besides the image.
 #[derive(Debug, Drop)]
 pub struct Basis {
-    /// The greatest time of any event so far.
+    /// The greatest time of any event so far, in milliseconds.
     pub time: i64,
     /// The place at which this node began to lead, 0 before it ever did.
     pub led: i64,

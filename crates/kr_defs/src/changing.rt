@@ -41,7 +41,7 @@ pub struct Want {
     pub recovery: i8,
     /// How its leader is found.
     pub mode: Mode,
-    /// A broker that has restarted uncleanly.
+    /// The id of a broker that has restarted uncleanly, where one has (KIP-966).
     pub restarted: Option<i32>,
 }
 

@@ -26,10 +26,12 @@ pub enum Ill {
     BadPartition,
     /// The image would hold more than it may.
     Limit,
+    /// A transaction is open where one begins, or none is open where one ends or is given up (KIP-868).
+    BadTransaction,
 }
 
 impl Ill {
-    /// The number that stands for the cause, 1 to 10 in the order above.
+    /// The number that stands for the cause, 1 to 11 in the order above.
     pub fn number(self) -> u8
         ensures { result ≡ number_of self }
     {
@@ -44,6 +46,7 @@ impl Ill {
             Ill::PartitionExists => 8,
             Ill::BadPartition => 9,
             Ill::Limit => 10,
+            Ill::BadTransaction => 11,
         }
     }
 }

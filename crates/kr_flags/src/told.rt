@@ -25,6 +25,7 @@ pub struct Settings {
 pub enum SettingsFault {
     /// The command doesn't take the words, or a value is wrong.
     Refused,
+    /// There was no memory.
     NoMemory,
 }
 

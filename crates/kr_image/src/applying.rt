@@ -8,7 +8,7 @@ ghost use Rattle.kr_image.specs.inner.RecordAnswers.{Changes};
 ghost use Rattle.kr_image.specs.Timelines.{Agrees, keeps_of, made_of, present_image};
 
 use crate::timelines::{ChangeFault, Timelines};
-use kr_defs::Record;
+use kr_defs::{Ill, Record};
 
 impl Timelines {
     /// Changes the present image by the meaning of a record. A record without one changes nothing.
@@ -56,6 +56,9 @@ impl Timelines {
                 stopping,
             } => { self.change_broker_registration(broker, epoch, fenced, stopping) }
             Record::NoOp => Ok(()),
+            Record::BeginTransaction { .. }
+            | Record::EndTransaction
+            | Record::AbortTransaction { .. } => Err(ChangeFault::IllFormed(Ill::BadTransaction)),
         }
     }
 }

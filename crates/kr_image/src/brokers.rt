@@ -93,6 +93,8 @@ impl Timelines {
         !contains(&self.brokers, id) && is_full(self.counts.brokers, MOST_BROKERS)
     }
 
+    /// What RegisterBroker makes of the present image: the broker of this id is registered so, in place of an earlier
+    /// registration.
     pub fn register_broker(&mut self, id: &i32, state: &Broker) -> Result<(), ChangeFault>
         requires valid { IsValid (present_image self.old) }
         requires agrees { Agrees self.old }
@@ -114,6 +116,7 @@ impl Timelines {
         Ok(())
     }
 
+    /// What UnregisterBroker makes of it: the broker, registered in this epoch, is gone.
     pub fn unregister_broker(&mut self, id: &i32, epoch: &i64) -> Result<(), ChangeFault>
         requires valid { IsValid (present_image self.old) }
         requires agrees { Agrees self.old }
@@ -132,6 +135,8 @@ impl Timelines {
         Ok(())
     }
 
+    /// What BrokerRegistrationChange makes of it, of a broker registered in this epoch: fenced by 1, unfenced by -1, as
+    /// before by 0; stopping by 1, as before by 0.
     pub fn change_broker_registration(
         &mut self,
         id: &i32,

@@ -224,6 +224,7 @@ impl<'a, M> Reader<'a, M> {
         Ok((tag.number, data))
     }
 
+    /// Where what is read takes its memory.
     pub fn alloc(&self) -> Global {
         self.alloc
     }

@@ -17,7 +17,7 @@ pub struct Decided {
 /// A write that was decided, with both of its replies.
 #[derive(Drop)]
 pub struct Write {
-    /// The client that asked.
+    /// The number of the client that asked.
     pub client: u32,
     /// The number that the client gave its request.
     pub correlation: i32,

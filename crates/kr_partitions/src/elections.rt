@@ -32,6 +32,7 @@ pub(crate) struct ElectionRule<'a> {
 }
 
 impl<'a> ElectionRule<'a> {
+    /// The rule for elections of this kind, under these options.
     pub fn new(options: &'a Options, kind: &i8) -> ElectionRule<'a>
         ensures options { result.options.now ≡ options.now }
         ensures kind { result.kind ≡ kind.now }

@@ -32,6 +32,7 @@ pub(crate) struct ReportRule<'a> {
 }
 
 impl<'a> ReportRule<'a> {
+    /// The rule for the reports of the broker of this id, under these options.
     pub fn new(options: &'a Options, broker: &i32) -> ReportRule<'a>
         ensures options { result.options.now ≡ options.now }
         ensures broker { result.broker ≡ broker.now }

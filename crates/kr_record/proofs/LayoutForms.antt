@@ -2,7 +2,7 @@
 -- is bytes where numbers and texts are those of their types. And what follows of bytes that stand for a value in some version. One
 -- induction for both.
 use Rattle.std.proofs.Common.{◌≡◌, ℕ, ◌+◌, ◌*◌, ◌<◌, ◌≤◌, ◌^◌, Bool, true, false, cond, ◌&&◌, ltb, leb, List, [], ◌∷◌, ◌++◌, length, map, take, get_or, Option, Some, None, refl, sym, ap, subst, ◌∙◌, arith, lit<, lit≤}
-use Rattle.std.specs.Prelude.{ℤ, pos, ◌≢◌, FitsSigned, IfSome}
+use Rattle.std.specs.Prelude.{ℤ, pos, ◌≢◌, FitsSigned, IfSome, IsUtf8}
 use Rattle.std.specs.List.{flat_map, sum_by}
 use Rattle.std.specs.Option.{option_map, unwrap_or}
 use Rattle.std.specs.Ordering.{int_eq}
@@ -12,14 +12,14 @@ use Rattle.std.proofs.lemmas.Bool.Decides.{Decides-int_eq, nat_tests}
 use Rattle.std.proofs.lemmas.List.{flat_map_more, take_more, map-append, length-map}
 use Rattle.std.proofs.lemmas.List.Elements.{All-nil, All-map}
 use Rattle.std.proofs.lemmas.List.Sums.{sum_by-cons}
-use Rattle.kr_defs.specs.Sizes.{uvarint_bytes, list_bytes, tags_bytes, number_field, number_field_or, ids_field, ids_field_or}
-use Rattle.kr_wire.specs.Grammar.{IsSigned, IsList, IsListOrNull, IfTaggedSince, given, includes}
+use Rattle.kr_defs.specs.Sizes.{uvarint_bytes, list_bytes, tags_bytes, number_field, number_field_or, ids_field, ids_field_or, text_field}
+use Rattle.kr_wire.specs.Grammar.{IsSigned, IsTextOrNull, IsList, IsListOrNull, IfTaggedSince, given, includes}
 use Rattle.kr_wire.specs.Schema as plain
 use Rattle.kr_wire.specs.Schema.{Schema, Int8, Int16, Int32, Int64, Uint16, Boolean, Uuid, Text, TextOrNull, End, Array, ArrayOrNull, ◌▸◌, Dropped, Constant, Structure}
 use Rattle.kr_wire.specs.Spelling as written
-use Rattle.kr_wire.specs.Tables.{ids, unless_empty, unless_default, written_data, Part, Int8NotZero, Int8OrNone, Int32OrNone, Int32sOrNull, Int32sOrEmpty, UuidsDropped, IsUnless, IsIdsOrEmpty, IsTaggedPart, absent, Table, NoField, Field, Are, are_rising, written_fields}
+use Rattle.kr_wire.specs.Tables.{ids, unless_empty, unless_default, written_data, Part, Int8NotZero, Int8OrNone, Int32OrNone, Int32sOrNull, Int32sOrEmpty, TextOrNone, UuidsDropped, IsUnless, IsIdsOrEmpty, IsTaggedPart, absent, Table, NoField, Field, Are, are_rising, written_fields}
 use Rattle.kr_wire.proofs.FormLaws.{◌beside◌, free, then}
-use Rattle.kr_wire.proofs.Lengths.{length_signed, length_signed_32, length_list, uvarint_few, each_long, both_lengths}
+use Rattle.kr_wire.proofs.Lengths.{length_signed, length_signed_32, length_text, length_list, uvarint_few, each_long, both_lengths}
 use Rattle.kr_wire.proofs.Numbers.{not_zero}
 use Rattle.kr_wire.proofs.Schemas.{not_empty}
 use Rattle.kr_wire.proofs.SpellingLaws.{Form, Plain, ◌plus◌, form, number, signed, id, bool, no_tags, text, small, list, list_of, int32s}
@@ -28,7 +28,7 @@ use Rattle.kr_wire.proofs.TaggedForms as tagged
 use Rattle.kr_wire.proofs.TaggedForms.{FieldForm, FieldsForm, field_there, left_out, present}
 use Rattle.kr_wire.proofs.TaggedSpelling.{AreFound, found, rising}
 use Rattle.kr_record.specs.Layout.{RecordLayout, Of, Flag, ◌▹◌, Directories, Tagged, IsSince, IsInVersion}
-use Rattle.kr_record.specs.Limits.{FitsField, AreInts, of_schema, of_part, of_table, of_record_layout}
+use Rattle.kr_record.specs.Limits.{FitsField, AreInts, IsShort, of_schema, of_part, of_table, of_record_layout}
 use Rattle.kr_record.specs.Spelling.{no_directories}
 use Rattle.kr_record.specs.Spelling as layouts
 
@@ -146,6 +146,18 @@ ids_or_empty (x ∷ xs) =
     } in
     subst T (sym (not_zero (length (x ∷ xs)) (omega arith))) there
 
+-- ---- a text that is left out where there is none
+
+pub length_text_data : (t : List ℕ) → length (written.text t) ≡ length (written.uvarint (length t + 1)) + length t
+length_text_data t = length_text t
+
+text_few : (t : List ℕ) → IsShort t → length (written.text t) < 2 ^ 32
+text_few t short = omega (arith, length_text t, uvarint_few (length t + 1))
+
+text_or_none : (o : Option (List ℕ)) → FieldForm (IsTextOrNull o) (o ≡ None) (option_map written.text o) (text_field o) (IfSome o IsShort) (IfSome o IsUtf8)
+text_or_none None = left_out refl tt tt
+text_or_none (Some t) = present (text t) (text_few t) (λ none. cc)
+
 -- ---- each of them
 
 part_form : {P : Type 0} (part : Part P) (p : P) → FieldForm (IsTaggedPart part p) (p ≡ absent part) (written_data part p) ((of_part part).size p) ((of_part part).short p) ((of_part part).held p)
@@ -154,6 +166,7 @@ part_form (Int8OrNone default) o = changed w8 (lit≤ tt) (lit< tt) default o
 part_form (Int32OrNone default) o = changed w32 (lit≤ tt) (lit< tt) default o
 part_form Int32sOrNull o = ids_or_null o
 part_form Int32sOrEmpty xs = ids_or_empty xs
+part_form TextOrNone o = text_or_none o
 part_form UuidsDropped u = left_out refl tt tt
 
 -- ---- tagged fields

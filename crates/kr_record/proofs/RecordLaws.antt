@@ -16,7 +16,7 @@ use Rattle.kr_wire.proofs.Tables.{both, fields_law}
 use Rattle.kr_record.specs.declared.fault.RecordFault.{RecordFault}
 use Rattle.kr_record.specs.declared.fault.RecordFault.TheVariants as faults
 use Rattle.kr_record.specs.Answers.{Gives, IsFault}
-use Rattle.kr_record.specs.Records.{chosen, of_kind, register_broker, unregister_broker, topic, partition, config, partition_change, fence_broker, unfence_broker, remove_topic, feature_level, broker_registration_change, no_op}
+use Rattle.kr_record.specs.Records.{chosen, of_kind, register_broker, unregister_broker, topic, partition, config, partition_change, fence_broker, unfence_broker, remove_topic, feature_level, broker_registration_change, no_op, begin_transaction, end_transaction, abort_transaction}
 use Rattle.kr_record.specs.Layout.{RecordLayout, Of, Flag, ◌▹◌, Directories, Tagged, Kind, IsSince, IsInVersion, since_at, version_at, is_whole}
 use Rattle.kr_record.specs.Reading.{wired, layout_at, kind_at, served_at, record_at, record_of}
 use Rattle.kr_record.specs.Grammar.{IsOfKind, IsLayout, IsRecord}
@@ -66,6 +66,7 @@ pub record IsChosen (r : Record) (k : Kind) (parts : k.Parts) : Type 0 where
 pub is_chosen : (r : Record) → IsChosen r (chosen r).kind (chosen r).parts
 unfolding layout_at chosen
 is_chosen kinds.NoOp = record { found = λ version bytes. refl; whole = refl; spelled = refl; low = (lit< tt, lit< tt); back = refl }
+is_chosen kinds.EndTransaction = record { found = λ version bytes. refl; whole = refl; spelled = refl; low = (lit< tt, lit< tt); back = refl }
 is_chosen _ = record { found = λ version bytes. refl; whole = refl; spelled = refl; low = (lit< tt, lit< tt); back = refl }
 
 parts_law : (k : Kind) → is_whole k.layout ≡ true → (version : ℕ) → Law (λ x front. (version ≤ k.newest) × IsInVersion k.layout version x front) (served_at k.key k.newest k.layout version)
@@ -104,7 +105,8 @@ module _ (key version : ℕ) (bytes : List ℕ) (fits : IsBytes bytes) where
       kind_or register_broker refl (λ x front is. is) _ (kind_or unregister_broker refl (λ x front is. is) _ (kind_or topic refl (λ x front is. is) _ (kind_or partition refl (λ x front is. is) _
       (kind_or config refl (λ x front is. is) _ (kind_or partition_change refl (λ x front is. is) _ (kind_or fence_broker refl (λ x front is. is) _ (kind_or unfence_broker refl (λ x front is. is) _
       (kind_or remove_topic refl (λ x front is. is) _ (kind_or feature_level refl (λ x front is. is) _ (kind_or broker_registration_change refl (λ x front is. is) _ (kind_or no_op refl (λ x front is. is) _
-      (λ r rest e. absurd cc))))))))))))
+      (kind_or begin_transaction refl (λ x front is. is) _ (kind_or end_transaction refl (λ x front is. is) _ (kind_or abort_transaction refl (λ x front is. is) _
+      (λ r rest e. absurd cc)))))))))))))))
 
 layout_complete : (key version : ℕ) (r : Record) (bytes rest : List ℕ) → IsLayout key version r bytes → layout_at key version (bytes ++ rest) ≡ Ok (r, rest)
 unfolding kind_at

@@ -6,7 +6,7 @@ use Rattle.kr_wire.specs.Grammar.{◌⌢◌, IsTags, includes}
 use Rattle.kr_wire.specs.Reading.{Read, ◌followed_by◌, structure_at, tags_at}
 use Rattle.kr_wire.specs.Schema as plain
 pub use Rattle.kr_wire.specs.Schema.{Schema, Int8, Int16, Int32, Int64, Uint16, Boolean, Uuid, Text, TextOrNull, End, Array, ◌▸◌, Dropped, Structure}
-pub use Rattle.kr_wire.specs.Tables.{Table, NoField, Field, Int8NotZero, Int8OrNone, Int32OrNone, Int32sOrNull, Int32sOrEmpty, UuidsDropped}
+pub use Rattle.kr_wire.specs.Tables.{Table, NoField, Field, Int8NotZero, Int8OrNone, Int32OrNone, Int32sOrNull, Int32sOrEmpty, TextOrNone, UuidsDropped}
 use Rattle.kr_wire.specs.Tables.{Are, absents, known, are_rising}
 
 infixr 6 ◌▹◌

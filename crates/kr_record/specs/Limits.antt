@@ -2,9 +2,9 @@
 -- the types of a value see to: its numbers fit them, and its texts are UTF-8.
 use Rattle.std.specs.Prelude.{ℕ, ℤ, pos, ◌+◌, ◌^◌, ◌<◌, ◌≢◌, List, [], ◌∷◌, length, All, Option, None, Some, IfSome, FitsSigned, IsUtf8}
 use Rattle.std.specs.Int.{w8, w16, w32, w64}
-use Rattle.kr_defs.specs.Sizes.{text_bytes, text_or_null_bytes, rows_bytes, list_bytes, number_field, number_field_or, ids_field, ids_field_or, tags_bytes}
+use Rattle.kr_defs.specs.Sizes.{text_bytes, text_or_null_bytes, rows_bytes, list_bytes, number_field, number_field_or, ids_field, ids_field_or, text_field, tags_bytes}
 use Rattle.kr_wire.specs.Schema.{Schema, Int8, Int16, Int32, Int64, Uint16, Uuid, Text, TextOrNull, Array, ◌▸◌, Structure}
-use Rattle.kr_wire.specs.Tables.{Part, Int8NotZero, Int8OrNone, Int32OrNone, Int32sOrNull, Int32sOrEmpty, UuidsDropped, Table, NoField, Field}
+use Rattle.kr_wire.specs.Tables.{Part, Int8NotZero, Int8OrNone, Int32OrNone, Int32sOrNull, Int32sOrEmpty, TextOrNone, UuidsDropped, Table, NoField, Field}
 use Rattle.kr_record.specs.Layout.{RecordLayout, Of, Flag, ◌▹◌, Directories, Tagged}
 
 pub record Limits (X N : Type 0) : Type 1 where
@@ -57,6 +57,7 @@ of_part (Int8OrNone default) = limits (number_field_or 1 default) (λ o. o ≢ S
 of_part (Int32OrNone default) = limits (number_field_or 4 default) (λ o. o ≢ Some default) (λ o. IfSome o (FitsSigned w32))
 of_part Int32sOrNull = limits ids_field_or (λ o. IfSome o FitsField) (λ o. IfSome o AreInts)
 of_part Int32sOrEmpty = limits ids_field FitsField AreInts
+of_part TextOrNone = limits text_field (λ o. IfSome o IsShort) (λ o. IfSome o IsUtf8)
 of_part UuidsDropped = limits (λ u. None) free free
 
 abbrev pub of_table : {Z : Type 0} → Table Z → Limits Z (List (Option ℕ))

@@ -5,7 +5,7 @@ use Rattle.kr_defs.specs.declared.broker.Range.{Range}
 use Rattle.kr_defs.specs.declared.partition.PartitionChange.{PartitionChange}
 use Rattle.kr_defs.specs.declared.record.Record.{Record}
 use Rattle.kr_defs.specs.declared.record.Record.TheVariants as kinds
-use Rattle.kr_record.specs.Layout.{Schema, Int8, Int16, Int32, Int64, Uint16, Boolean, Uuid, Text, TextOrNull, End, Array, ◌▸◌, Structure, NoField, Field, Int8NotZero, Int8OrNone, Int32OrNone, Int32sOrNull, Int32sOrEmpty, UuidsDropped, RecordLayout, Of, Flag, ◌▹◌, Directories, Tagged, Kind, kind}
+use Rattle.kr_record.specs.Layout.{Schema, Int8, Int16, Int32, Int64, Uint16, Boolean, Uuid, Text, TextOrNull, End, Array, ◌▸◌, Structure, NoField, Field, Int8NotZero, Int8OrNone, Int32OrNone, Int32sOrNull, Int32sOrEmpty, TextOrNone, UuidsDropped, RecordLayout, Of, Flag, ◌▹◌, Directories, Tagged, Kind, kind}
 
 -- ---- brokers (KIP-631, KIP-841)
 
@@ -92,6 +92,23 @@ feature_level = kind 12 0 (Of Text ▹ Of Int16 ▹ Of End) (λ (name, (level, e
 abbrev pub no_op : Kind
 no_op = kind 20 0 (Of End) (λ end. kinds.NoOp)
 
+-- ---- transactions (KIP-868)
+
+-- a text that is left out where there is none
+abbrev pub remark : RecordLayout (Option (List ℕ) × Unit {0})
+remark = Tagged (Field 0 0 TextOrNone NoField)
+
+-- what it is called
+abbrev pub begin_transaction : Kind
+begin_transaction = kind 23 0 remark (λ (name, none). kinds.BeginTransaction name)
+
+abbrev pub end_transaction : Kind
+end_transaction = kind 24 0 (Of End) (λ end. kinds.EndTransaction)
+
+-- why it is given up
+abbrev pub abort_transaction : Kind
+abort_transaction = kind 25 0 remark (λ (reason, none). kinds.AbortTransaction reason)
+
 -- ---- the choice of kinds
 
 -- what is said of the kind with the key, if there is one
@@ -100,7 +117,8 @@ by_key key of none =
     if key == 0 then of register_broker else if key == 1 then of unregister_broker else if key == 2 then of topic else
     if key == 3 then of partition else if key == 4 then of config else if key == 5 then of partition_change else
     if key == 7 then of fence_broker else if key == 8 then of unfence_broker else if key == 9 then of remove_topic else
-    if key == 12 then of feature_level else if key == 17 then of broker_registration_change else if key == 20 then of no_op else none
+    if key == 12 then of feature_level else if key == 17 then of broker_registration_change else if key == 20 then of no_op else
+    if key == 23 then of begin_transaction else if key == 24 then of end_transaction else if key == 25 then of abort_transaction else none
 
 -- a kind, and what stands in a record of it
 pub record OfKind : Type 1 where
@@ -126,3 +144,6 @@ chosen (kinds.RemoveTopic id) = of_kind remove_topic (id, tt)
 chosen (kinds.FeatureLevel name level) = of_kind feature_level (name, (level, tt))
 chosen (kinds.BrokerRegistrationChange broker epoch fenced stopping) = of_kind broker_registration_change (broker, (epoch, (fenced, (stopping, tt))))
 chosen kinds.NoOp = of_kind no_op tt
+chosen (kinds.BeginTransaction name) = of_kind begin_transaction (name, tt)
+chosen kinds.EndTransaction = of_kind end_transaction tt
+chosen (kinds.AbortTransaction reason) = of_kind abort_transaction (reason, tt)

@@ -56,6 +56,9 @@ macro_rules! each_kind {
                 [17, 1: BrokerRegistrationChange { broker, epoch, fenced, stopping }
                     = { (broker, (epoch, tags!(0 since 0 fenced, 1 since 1 stopping))) }]
                 [20, 0: NoOp {} = { () }]
+                [23, 0: BeginTransaction { name } = { tags!(0 since 0 name) }]
+                [24, 0: EndTransaction {} = { () }]
+                [25, 0: AbortTransaction { reason } = { tags!(0 since 0 reason) }]
             }
             {
                 [5, 2: PartitionChange { index, topic }

@@ -6,17 +6,17 @@ ghost use Rattle.kr_layout.specs.Answers.{Takes};
 ghost use Rattle.kr_wire.specs.Schema.{written};
 ghost use Rattle.kr_wire.specs.Spelling.{uvarint};
 ghost use Rattle.kr_wire.specs.Tables as tables;
-ghost use Rattle.kr_wire.specs.Tables.{Int32OrNone, Int32sOrEmpty, Int32sOrNull, Int8NotZero, Int8OrNone, Part, UuidsDropped, part_at, written_data};
+ghost use Rattle.kr_wire.specs.Tables.{Int32OrNone, Int32sOrEmpty, Int32sOrNull, Int8NotZero, Int8OrNone, Part, TextOrNone, UuidsDropped, part_at, written_data};
 
 use crate::parts::Mine;
 use kr_base::NoMemory;
-use kr_defs::{Ids, Rows};
+use kr_defs::{Ids, Rows, Text};
 use kr_layout::{Put, ReadFault, Reader};
 use std::alloc::Global;
 
 /// The data of a field, as they are written.
 pub(crate) trait FieldData: Put<Mine> {
-    /// How many bytes they take. As many as 2^29 ids want memory that there isn't.
+    /// How many bytes they take. As many as 2^29 ids, or as 2^31 bytes of text, want memory that there isn't.
     fn size(&self) -> Result<u32, NoMemory>
         ensures { IfOk result (λ n. n ≡ length (written Self.schema self.now)) };
 }
@@ -43,6 +43,17 @@ impl FieldData for Ids {
         }
         let count = self.len() as u32;
         Ok(uvarint_len(count + 1) + 4 * count)
+    }
+}
+
+impl FieldData for Text {
+    #[tactic(auto, using(crate::proofs::LayoutForms::length_text_data))]
+    fn size(&self) -> Result<u32, NoMemory> {
+        if self.len() >= 1 << 31 {
+            return Err(NoMemory);
+        }
+        let count = self.len() as u32;
+        Ok(uvarint_len(count + 1) + count)
     }
 }
 
@@ -150,6 +161,24 @@ impl TaggedPart for Option<Ids> {
     }
 
     fn data(&self) -> Option<&Ids> {
+        self.as_ref()
+    }
+}
+
+impl TaggedPart for Option<Text> {
+    type Data = Text;
+
+    ghost part = { TextOrNone };
+
+    fn absent(alloc: Global) -> Option<Text> {
+        None
+    }
+
+    fn read(from: &mut Reader<'_, Mine>) -> Result<Option<Text>, ReadFault> {
+        from.get()
+    }
+
+    fn data(&self) -> Option<&Text> {
         self.as_ref()
     }
 }

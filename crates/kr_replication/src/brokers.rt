@@ -22,6 +22,7 @@ pub fn is_active(state: &Broker) -> bool
 pub trait BrokerTest {
     ghost accepts: { Self → ℤ × AnyBroker → Bool };
 
+    /// Whether the registered broker of this id is looked for.
     fn accepts(&self, id: &i32, state: &Broker) -> bool
         ensures { result ≡ accepts self.now (id.now, state.now) };
 }

@@ -20,6 +20,7 @@ pub trait Change {
     /// The change by the image.
     ghost change: { Self → Image → Walked → Option AnyChange };
 
+    /// The change of the partition with this key by the image, where there is one.
     fn change<S: Store>(
         &self,
         alloc: Global,

@@ -7,17 +7,29 @@ ghost use Rattle.kr_req.specs.Reading.{is_api, served_by};
 /// The requests that are served, by their names in Kafka's ApiKeys.
 #[derive(Clone, Copy, Debug, Drop, PartialEq, Eq)]
 pub enum ApiKey {
+    /// Key 62.
     BrokerRegistration,
+    /// Key 63.
     BrokerHeartbeat,
+    /// Key 64.
     UnregisterBroker,
+    /// Key 19.
     CreateTopics,
+    /// Key 20.
     DeleteTopics,
+    /// Key 37.
     CreatePartitions,
+    /// Key 56.
     AlterPartition,
+    /// Key 43.
     ElectLeaders,
+    /// Key 45.
     AlterPartitionReassignments,
+    /// Key 46.
     ListPartitionReassignments,
+    /// Key 44.
     IncrementalAlterConfigs,
+    /// Key 3.
     Metadata,
 }
 

@@ -284,6 +284,9 @@ module _ (configs : List (ConfigKey × List ℕ)) (mid : Image) (f : Filling) (i
   goes (kinds.FeatureLevel name level) plain = absurd cc
   goes (kinds.BrokerRegistrationChange broker epoch fenced stopping) plain = absurd cc
   goes kinds.NoOp plain = absurd cc
+  goes (kinds.BeginTransaction name) plain = absurd cc
+  goes kinds.EndTransaction plain = absurd cc
+  goes (kinds.AbortTransaction reason) plain = absurd cc
 
   pub stops : (r : Record) → filled configs f r ≡ None → IsErr (apply_record mid r)
   stops (kinds.Topic name id) e = topic_full mid name id (rw is.topics at (is_full (nat_le MOST_TOPICS f.topics) (record f { topics = f.topics + 1 }) e))
@@ -301,6 +304,9 @@ module _ (configs : List (ConfigKey × List ℕ)) (mid : Image) (f : Filling) (i
   stops (kinds.FeatureLevel name level) e = absurd cc
   stops (kinds.BrokerRegistrationChange broker epoch fenced stopping) e = absurd cc
   stops kinds.NoOp e = absurd cc
+  stops (kinds.BeginTransaction name) e = absurd cc
+  stops kinds.EndTransaction e = absurd cc
+  stops (kinds.AbortTransaction reason) e = absurd cc
 
 -- ---- all records
 

@@ -15,6 +15,9 @@ one_byte n few = grind (arith, few)
 pub few_tags : (fields : List (Option ℕ)) → length fields < 128 → tags_bytes fields ≡ 1 + sum_by field_bytes fields
 few_tags fields few = let there = few_there fields in ap (λ n. n + sum_by field_bytes fields) (one_byte (sum_by field_there fields) (omega (arith, there, few)))
 
+pub one_tag : (a : Option ℕ) → tags_bytes (a ∷ []) ≡ 1 + field_bytes a
+one_tag a = few_tags (a ∷ []) (omega arith) ∙ omega arith
+
 pub two_tags : (a b : Option ℕ) → tags_bytes (a ∷ b ∷ []) ≡ 1 + (field_bytes a + field_bytes b)
 two_tags a b = few_tags (a ∷ b ∷ []) (omega arith) ∙ omega arith
 
@@ -24,4 +27,4 @@ three_tags a b c = few_tags (a ∷ b ∷ c ∷ []) (omega arith) ∙ omega arith
 pub eight_tags : (a b c d e f g h : Option ℕ) → tags_bytes (a ∷ b ∷ c ∷ d ∷ e ∷ f ∷ g ∷ h ∷ []) ≡ 1 + (field_bytes a + field_bytes b + field_bytes c + field_bytes d + field_bytes e + field_bytes f + field_bytes g + field_bytes h)
 eight_tags a b c d e f g h = few_tags (a ∷ b ∷ c ∷ d ∷ e ∷ f ∷ g ∷ h ∷ []) (omega arith) ∙ omega arith
 
-pub ruleset tags = (two_tags, three_tags, eight_tags)
+pub ruleset tags = (one_tag, two_tags, three_tags, eight_tags)

@@ -9,7 +9,9 @@ use std::alloc::{AllocError, AllocFailed};
 /// An entry is refused with Kafka's error number, or there is no memory.
 #[derive(Clone, Copy, Debug, Drop, PartialEq, Eq)]
 pub enum Refusal {
+    /// Kafka's error number.
     Error(i16),
+    /// There was no memory.
     NoMemory,
 }
 

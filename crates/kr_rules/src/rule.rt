@@ -21,9 +21,12 @@ pub trait Rule<E, A>: Sized {
     /// The records and the answer, or an error number, by the image and the place.
     ghost rule: { Self → Image → ℤ → E → Result (AnyDraft A) ℤ };
 
+    /// The answer to the entry with this error number.
     fn refusal(&self, alloc: Global, error: &i16, entry: &E) -> Result<A, NoMemory>
         ensures { IfOk result (λ answer. answer ≡ refusal self.now error.now entry.now) };
 
+    /// The records and the answer that the rule gives the entry, or Kafka's error number, by the image and the place of
+    /// the work.
     fn judge<S: Store>(
         &self,
         alloc: Global,
@@ -42,9 +45,12 @@ pub trait ItemRule<K, I, A>: Sized {
     /// The records and the answer, or an error number, by the image and the place.
     ghost rule: { Self → Image → ℤ → K × I → Result (AnyDraft A) ℤ };
 
+    /// The answer to the item with this error number.
     fn refusal(&self, alloc: Global, error: &i16, key: &K, item: &I) -> Result<A, NoMemory>
         ensures { IfOk result (λ answer. answer ≡ refusal self.now error.now (key.now, item.now)) };
 
+    /// The records and the answer that the rule gives the item, or Kafka's error number, by the image and the place of
+    /// the work.
     fn judge<S: Store>(
         &self,
         alloc: Global,
@@ -67,6 +73,7 @@ pub trait Groups<G, K, I, A, B>: Sized {
     fn members<'a>(&self, group: &'a G) -> (&'a K, &'a [I])
         ensures { entries_of group.now ≡ map (λ item. (result.0.now, item)) result.1.now };
 
+    /// The answer to the group, of the answers to its entries in order.
     fn answer(&self, alloc: Global, group: &G, answers: Rows<A>) -> Result<B, NoMemory>
         ensures { IfOk result (λ answer. answer ≡ answer_of group.now answers) };
 }

@@ -227,6 +227,29 @@ fn flags_bytes(fenced: i8, stopping: i8) -> u128
     1 + byte_field(0, fenced) + byte_field(0, stopping)
 }
 
+// A text that is left out where there is none.
+fn text_field(text: &Option<Text>) -> u128
+    ensures value { result ≡ sizes.field_bytes (sizes.text_field text.now) }
+    ensures small { result ≤ 2 ^ 66 }
+{
+    match text {
+        None => 0,
+        Some(text) => {
+            let bytes = text_bytes(text);
+            1 + uvarint_bytes(bytes) + bytes
+        }
+    }
+}
+
+// A transaction's name, or why it was given up.
+#[tactic(auto, using(crate::proofs::Tags::tags))]
+fn remark_bytes(text: &Option<Text>) -> u128
+    ensures value { result ≡ sizes.tags_bytes (sizes.text_field text.now ∷ []) }
+    ensures small { result ≤ 2 ^ 67 }
+{
+    1 + text_field(text)
+}
+
 // The bytes of a record's layout, where they aren't too many.
 fn layout_bytes(value: &Record) -> Option<u128>
     ensures some { IfSome result (λ n. (n ≡ sizes.layout_bytes value.now) × (n ≤ 2 ^ 73)) }
@@ -254,6 +277,9 @@ fn layout_bytes(value: &Record) -> Option<u128>
             ..
         } => Some(12 + flags_bytes(*fenced, *stopping)),
         Record::NoOp => Some(1),
+        Record::BeginTransaction { name } => Some(remark_bytes(name)),
+        Record::EndTransaction => Some(1),
+        Record::AbortTransaction { reason } => Some(remark_bytes(reason)),
     }
 }
 

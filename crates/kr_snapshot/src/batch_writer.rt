@@ -28,6 +28,7 @@ pub(crate) struct BatchWriter {
 }
 
 impl BatchWriter {
+    /// A writer before the first record.
     #[tactic(auto, using(crate::proofs::Groups::none_yet))]
     pub fn new(alloc: Global) -> BatchWriter
         ensures { Stands result [] }

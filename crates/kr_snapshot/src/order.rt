@@ -37,6 +37,7 @@ pub(crate) struct Order {
 }
 
 impl Order {
+    /// The order before the first record.
     pub fn new() -> Order
         ensures { seen_in result ≡ ranks.nothing_seen }
     {
@@ -166,6 +167,9 @@ fn rank_of(alloc: Global, last: &Option<Topic>, value: &Record) -> Result<Option
         | Record::UnfenceBroker { .. }
         | Record::RemoveTopic { .. }
         | Record::BrokerRegistrationChange { .. }
-        | Record::NoOp => Ok(None),
+        | Record::NoOp
+        | Record::BeginTransaction { .. }
+        | Record::EndTransaction
+        | Record::AbortTransaction { .. } => Ok(None),
     }
 }

@@ -137,6 +137,7 @@ fn judge_batch(
 }
 
 impl Pieces {
+    /// Before the first byte of an image.
     #[tactic(auto, unfolding(crate::specs::Reading::head_taken))]
     pub fn new(alloc: Global) -> Pieces
         ensures taken { taken_in result ≡ reading.nothing_taken }

@@ -9,18 +9,20 @@ use kr_defs::Ill;
 /// An image of a store: the present one, or that of a kept epoch.
 #[derive(Clone, Copy, Debug, Drop, PartialEq, Eq)]
 pub enum At {
+    /// The present image.
     Tip,
+    /// The image of a kept epoch, a place of the log.
     Epoch(i64),
 }
 
 /// How much an image has. `config_bytes` are the bytes of the resource names, keys and values of all settings.
 #[derive(Clone, Copy, Debug, Drop, PartialEq, Eq)]
 pub struct Counts {
-    /// Registered brokers.
+    /// How many brokers are registered.
     pub brokers: u32,
-    /// Topics.
+    /// How many topics there are.
     pub topics: u32,
-    /// Partitions of all topics.
+    /// How many partitions all topics have.
     pub partitions: u32,
     /// Bytes of the resource names, keys and values of all settings.
     pub config_bytes: u32,
@@ -31,14 +33,18 @@ pub struct Counts {
 /// Why an item wasn't applied: it has no meaning at its place, or there was no memory.
 #[derive(Clone, Copy, Debug, Drop, PartialEq, Eq)]
 pub enum ApplyFault {
+    /// The item at this place of the log has no meaning, for this cause.
     IllFormed { place: i64, cause: Ill },
+    /// There was no memory.
     NoMemory,
 }
 
 /// Why a read has no answer: the epoch isn't kept, or there was no memory.
 #[derive(Clone, Copy, Debug, Drop, PartialEq, Eq)]
 pub enum ReadFault {
+    /// The epoch isn't kept.
     NoEpoch,
+    /// There was no memory.
     NoMemory,
 }
 

@@ -23,29 +23,36 @@ pub trait Store {
     /// The present image, and those that are kept.
     ghost images: { Self → Images };
 
+    /// The registered broker of this id.
     fn broker(&self, at: At, id: i32) -> Result<Option<&Broker>, NoEpoch>
         ensures { Finds (brokers_at (images self.now) at) result
             (λ map. entries.get int_cmp map id) };
 
+    /// The topic of this name.
     fn topic_named(&self, at: At, name: &Text) -> Result<Option<&Topic>, NoEpoch>
         ensures { Finds (topics_at (images self.now) at) result
             (λ topics. topic_under topics name.now) };
 
+    /// The topic of this id.
     fn topic(&self, at: At, id: u128) -> Result<Option<&Topic>, NoEpoch>
         ensures { Finds (topics_at (images self.now) at) result (λ topics. topic_with topics id) };
 
+    /// The partition of the topic of this id with this index.
     fn partition(&self, at: At, id: u128, index: i32) -> Result<Option<&Partition>, NoEpoch>
         ensures { Finds (partitions_at (images self.now) at) result
             (λ map. entries.get partition_order map (id, index)) };
 
+    /// The value of the setting of this key.
     fn config(&self, at: At, key: &ConfigKey) -> Result<Option<&Text>, NoEpoch>
         ensures { Finds (configs_at (images self.now) at) result
             (λ map. entries.get config_order map key.now) };
 
+    /// The level of the feature of this name.
     fn feature(&self, at: At, name: &Text) -> Result<Option<&i16>, NoEpoch>
         ensures { Finds (features_at (images self.now) at) result
             (λ map. entries.get text_order map name.now) };
 
+    /// By id.
     fn next_broker(&self, at: At, after: Option<&i32>) -> Result<Option<(&i32, &Broker)>, NoEpoch>
         ensures { FindsEntry (brokers_at (images self.now) at) result
             (λ map. entries.next int_cmp map (option_copied after.entry)) };
@@ -55,6 +62,7 @@ pub trait Store {
         ensures { FindsEntry (topics_at (images self.now) at) result
             (λ topics. next_topic topics (option_copied after.entry)) };
 
+    /// By topic id, then by index.
     fn next_partition(
         &self,
         at: At,
@@ -63,6 +71,7 @@ pub trait Store {
         ensures { FindsEntry (partitions_at (images self.now) at) result
             (λ map. entries.next partition_order map (option_copied after.entry)) };
 
+    /// By type, resource name and key.
     fn next_config(
         &self,
         at: At,
@@ -71,6 +80,7 @@ pub trait Store {
         ensures { FindsEntry (configs_at (images self.now) at) result
             (λ map. entries.next config_order map (option_copied after.entry)) };
 
+    /// By name.
     fn next_feature(&self, at: At, after: Option<&Text>) -> Result<Option<(&Text, &i16)>, NoEpoch>
         ensures { FindsEntry (features_at (images self.now) at) result
             (λ map. entries.next text_order map (option_copied after.entry)) };

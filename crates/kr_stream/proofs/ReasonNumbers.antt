@@ -41,7 +41,8 @@ cause_of number =
     (cond (int_eq number (pos 6)) ills.BadName
     (cond (int_eq number (pos 7)) ills.NoPartition
     (cond (int_eq number (pos 8)) ills.PartitionExists
-    (cond (int_eq number (pos 9)) ills.BadPartition ills.Limit))))))))
+    (cond (int_eq number (pos 9)) ills.BadPartition
+    (cond (int_eq number (pos 10)) ills.Limit ills.BadTransaction)))))))))
 
 abbrev reason_of : ℕ → ℤ → ℤ → ℤ → Reason
 reason_of number first second third =
@@ -85,6 +86,7 @@ cause_again ills.NoPartition = refl
 cause_again ills.PartitionExists = refl
 cause_again ills.BadPartition = refl
 cause_again ills.Limit = refl
+cause_again ills.BadTransaction = refl
 
 abbrev again : Reason → Reason
 again r = reason_of (reason_number r) (first_number r) (second_number r) (third_number r)

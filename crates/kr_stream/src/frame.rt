@@ -8,6 +8,7 @@ use kr_defs::Options;
 pub enum Frame {
     /// The first: what the controller is started with.
     Open(Options),
+    /// What happens to the controller.
     Event(Event),
     /// The last.
     End,

@@ -9,15 +9,25 @@ use kr_defs::limits::{LONGEST_CLUSTER, MOST_FRAME_BYTES, MOST_LOAD_BYTES, MOST_M
 /// The kind of a frame that is read.
 #[derive(Clone, Copy, Debug, Drop, PartialEq, Eq)]
 pub enum FrameKind {
+    /// Number 1: what the controller is started with.
     Open,
+    /// Number 2: this node became the leader.
     Lead,
+    /// Number 3: the log is committed up to a place.
     Commit,
+    /// Number 4: the leadership is lost.
     Lost,
+    /// Number 5: a committed batch of another leader.
     Batch,
+    /// Number 6: a committed image in place of batches.
     Load,
+    /// Number 7: time went on.
     Tick,
+    /// Number 8: a client's message.
     Request,
+    /// Number 9: the committed image is asked for.
     Image,
+    /// Number 10: the session's end.
     End,
 }
 

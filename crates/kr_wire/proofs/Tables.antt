@@ -7,8 +7,8 @@ use Rattle.std.proofs.lemmas.Bool.Decides.{nat_tests}
 use Rattle.kr_wire.specs.declared.WireFault.{WireFault}
 use Rattle.kr_wire.specs.Reading.{◌>>=◌, Read, Known, field_of, whole_field, field_as, structure_at, tags_at}
 use Rattle.kr_wire.specs.Grammar.{AreRising, data_of, given, IfTagged, IfTaggedSince, IsTags, includes}
-use Rattle.kr_wire.specs.Schema.{Dropped, ArrayOrNull, Int32, Uuid}
-use Rattle.kr_wire.specs.Tables.{Part, Int8NotZero, Int8OrNone, Int32OrNone, Int32sOrNull, Int32sOrEmpty, UuidsDropped, IsTaggedPart, part_at, absent, Table, NoField, Field, Are, absents, set_part, known, are_above, are_rising}
+use Rattle.kr_wire.specs.Schema.{Dropped, ArrayOrNull, Int32, TextOrNull, Uuid}
+use Rattle.kr_wire.specs.Tables.{Part, Int8NotZero, Int8OrNone, Int32OrNone, Int32sOrNull, Int32sOrEmpty, TextOrNone, UuidsDropped, IsTaggedPart, part_at, absent, Table, NoField, Field, Are, absents, set_part, known, are_above, are_rising}
 use Rattle.kr_wire.proofs.Numbers.{signed_law}
 use Rattle.kr_wire.proofs.ReadingLaws.{IsBytes, Law, bind_ok, is_ok, sound_last, complete_last, whole_sound, whole_complete}
 use Rattle.kr_wire.proofs.Schemas as schemas
@@ -33,6 +33,7 @@ part_law (Int8OrNone default) = seen_law _ (signed_law w8) _ (λ n d is. record 
 part_law (Int32OrNone default) = seen_law _ (signed_law w32) _ (λ n d is. record { n = n; is = refl; spelled = is }) (λ o d is. (is.n, is.spelled, is.is))
 part_law Int32sOrNull = schemas.law (ArrayOrNull Int32) refl
 part_law Int32sOrEmpty = seen_law _ (schemas.law (ArrayOrNull Int32) refl) _ (λ o d is. record { listed = o; is = refl; spelled = is }) (λ xs d is. (is.listed, is.spelled, is.is))
+part_law TextOrNone = schemas.law TextOrNull refl
 part_law UuidsDropped = schemas.law (Dropped (ArrayOrNull Uuid)) refl
 
 part_whole : {P : Type 0} (part : Part P) (p : P) (d : List ℕ) → IsTaggedPart part p d → whole_field (part_at part d) ≡ Ok p

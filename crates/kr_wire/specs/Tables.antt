@@ -3,10 +3,10 @@ use Rattle.std.specs.Prelude.{◌≡◌, ℕ, ℤ, pos, Bool, true, ◌&&◌, �
 use Rattle.std.specs.Ordering.{int_eq}
 use Rattle.std.specs.Option.{option_map, unwrap_or}
 use Rattle.std.specs.Int.{w8, w32}
-use Rattle.kr_wire.specs.Grammar.{IsSigned, IsId, IsListOrNull, IsDropped, IfTaggedSince, includes}
+use Rattle.kr_wire.specs.Grammar.{IsSigned, IsId, IsListOrNull, IsTextOrNull, IsDropped, IfTaggedSince, includes}
 use Rattle.kr_wire.specs.declared.WireFault.{WireFault}
-use Rattle.kr_wire.specs.Reading.{◌>>=◌, Read, Known, field_as, structure_at, signed_at, id_at, list_or_null_at}
-use Rattle.kr_wire.specs.Spelling.{signed, list, tagged}
+use Rattle.kr_wire.specs.Reading.{◌>>=◌, Read, Known, field_as, structure_at, signed_at, id_at, list_or_null_at, text_or_null_at}
+use Rattle.kr_wire.specs.Spelling.{signed, list, text, tagged}
 
 -- ---- the data of a field
 
@@ -23,6 +23,8 @@ pub data Part : Type 0 → Type 1 where
   Int32sOrNull : Part (Option (List ℤ))
   -- null is the empty list, which is left out
   Int32sOrEmpty : Part (List ℤ)
+  -- null is none, which is left out
+  TextOrNone : Part (Option (List ℕ))
   -- dropped when they are read, and not written
   UuidsDropped : Part (Unit {0})
 
@@ -44,6 +46,7 @@ IsTaggedPart (Int8OrNone default) = IsUnless (IsSigned w8) default
 IsTaggedPart (Int32OrNone default) = IsUnless (IsSigned w32) default
 IsTaggedPart Int32sOrNull = IsListOrNull (IsSigned w32)
 IsTaggedPart Int32sOrEmpty = IsIdsOrEmpty
+IsTaggedPart TextOrNone = IsTextOrNull
 IsTaggedPart UuidsDropped = λ u. IsDropped (IsListOrNull IsId)
 
 abbrev pub part_at : {P : Type 0} → Part P → List ℕ → Read P
@@ -52,6 +55,7 @@ part_at (Int8OrNone default) = structure_at (unless_default default) (signed_at 
 part_at (Int32OrNone default) = structure_at (unless_default default) (signed_at w32)
 part_at Int32sOrNull = list_or_null_at (signed_at w32)
 part_at Int32sOrEmpty = structure_at (λ o. unwrap_or o []) (list_or_null_at (signed_at w32))
+part_at TextOrNone = text_or_null_at
 part_at UuidsDropped = structure_at (λ o. tt) (list_or_null_at id_at)
 
 -- what the part is where the field is absent
@@ -61,6 +65,7 @@ absent (Int8OrNone default) = None
 absent (Int32OrNone default) = None
 absent Int32sOrNull = None
 absent Int32sOrEmpty = []
+absent TextOrNone = None
 absent UuidsDropped = tt
 
 abbrev pub ids : List ℤ → List ℕ
@@ -77,6 +82,7 @@ written_data (Int8OrNone default) o = option_map (signed w8) o
 written_data (Int32OrNone default) o = option_map (signed w32) o
 written_data Int32sOrNull o = option_map ids o
 written_data Int32sOrEmpty xs = option_map ids (unless_empty xs)
+written_data TextOrNone o = option_map text o
 written_data UuidsDropped u = None
 
 -- ---- fields

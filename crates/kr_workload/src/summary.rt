@@ -17,17 +17,17 @@ use std::alloc::{AllocError, Global};
 /// partitions have a leader.
 #[derive(Clone, Copy, Debug, Drop, PartialEq, Eq)]
 pub struct Summary {
-    /// The events.
+    /// How many events there were.
     pub events: u64,
-    /// All records that were appended, those too that were lost again.
+    /// How many records were appended, those too that were lost again.
     pub records: u64,
     /// The first place that isn't committed.
     pub kept: u64,
-    /// The replies in which each error is 0.
+    /// How many replies have 0 as each error.
     pub ok: u64,
-    /// The other replies.
+    /// How many other replies there were.
     pub refused: u64,
-    /// The partitions that have a leader.
+    /// How many partitions have a leader.
     pub led: u64,
 }
 

@@ -220,3 +220,6 @@ written image after (kinds.RemoveTopic topic) meaning few = (tt, tt)
 written image after (kinds.FeatureLevel name level) meaning few = (text_short name (in_feature (text_bytes name) few), (tt, tt))
 written image after (kinds.BrokerRegistrationChange broker epoch fenced stopping) meaning few = (tt, (tt, (tt, (tt, tt))))
 written image after kinds.NoOp meaning few = tt
+written image after (kinds.BeginTransaction name) meaning few = absurd cc
+written image after kinds.EndTransaction meaning few = absurd cc
+written image after (kinds.AbortTransaction reason) meaning few = absurd cc

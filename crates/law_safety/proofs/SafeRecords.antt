@@ -73,6 +73,9 @@ module _ (exchange : Option Exchange) where
   calm_safe image (kinds.FeatureLevel name level) rest is more = (tt, more)
   calm_safe image (kinds.BrokerRegistrationChange broker epoch fenced stopping) rest is more = (tt, more)
   calm_safe image kinds.NoOp rest is more = (tt, more)
+  calm_safe image (kinds.BeginTransaction name) rest is more = (tt, more)
+  calm_safe image kinds.EndTransaction rest is more = (tt, more)
+  calm_safe image (kinds.AbortTransaction reason) rest is more = (tt, more)
 
   pub all_calm_safe : (image : Image) (records : List Record) → list_all is_calm records ≡ true → AreSafe exchange image records
   all_calm_safe image [] are = tt

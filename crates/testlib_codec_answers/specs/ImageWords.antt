@@ -25,6 +25,7 @@ ill_words ills.NoPartition = codes "NoPartition"
 ill_words ills.PartitionExists = codes "PartitionExists"
 ill_words ills.BadPartition = codes "BadPartition"
 ill_words ills.Limit = codes "Limit"
+ill_words ills.BadTransaction = codes "BadTransaction"
 
 abbrev pub batch_words : BatchFault → List ℕ
 batch_words batches.Short = codes "Short"

@@ -88,5 +88,6 @@ fn ill_word(cause: Ill) -> &'static str
         Ill::PartitionExists => "PartitionExists",
         Ill::BadPartition => "BadPartition",
         Ill::Limit => "Limit",
+        Ill::BadTransaction => "BadTransaction",
     }
 }

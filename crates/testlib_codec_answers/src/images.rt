@@ -21,6 +21,7 @@ const PIECES: [usize; 4] = [1, 7, 61, 1_000];
 pub enum Unanswered {
     /// In pieces of so many bytes the answer is another one.
     Differs { most: usize },
+    /// There was no memory.
     NoMemory,
 }
 

@@ -21,21 +21,37 @@ use testlib_words::{bool_word, halves, hex_text, join_by_space};
 /// What is read at the start of some bytes.
 #[derive(Clone, Copy, Drop)]
 pub enum Primitive {
+    /// A number of 32 bits, seven bits a byte.
     Uvarint,
+    /// A signed number of 32 bits, zigzag, seven bits a byte.
     Varint,
+    /// A signed number of 64 bits, zigzag, seven bits a byte.
     Varlong,
+    /// A signed number of 8 bits.
     I8,
+    /// A signed number of 16 bits.
     I16,
+    /// A signed number of 32 bits.
     I32,
+    /// A signed number of 64 bits.
     I64,
+    /// A number of 16 bits.
     U16,
+    /// A number of 32 bits.
     U32,
+    /// A number of 64 bits.
     U64,
+    /// A byte: 0 is false, any other one true.
     Bool,
+    /// 16 bytes, told by their high and their low 64 bits.
     Id,
+    /// A compact text.
     Text,
+    /// A compact text, or null.
     TextOrNull,
+    /// The number of a compact array's elements.
     Count,
+    /// The same, or null.
     CountOrNull,
     /// A tag and the size of its data, behind the last tag.
     Tag { last: Option<u32> },

@@ -15,24 +15,30 @@ use testlib_words::{RowFault, join_by_space};
 /// What sessions are told.
 #[derive(Drop)]
 pub enum Operation {
+    /// A leadership begins at the place `led` and the time `now`, in milliseconds, with these brokers, of which some
+    /// are stopping.
     Begin {
         unfenced: Ids,
         stopping: Ids,
         now: i64,
         led: i64,
     },
+    /// The broker was heard of at this time in milliseconds, and has read up to this place.
     Beat {
         broker: i32,
         now: i64,
         offset: i64,
     },
+    /// The broker began to stop where the log ended at this place.
     Stop {
         broker: i32,
         tip: i64,
     },
+    /// The broker isn't heard of any more.
     Leave {
         broker: i32,
     },
+    /// The leadership ends.
     End,
 }
 

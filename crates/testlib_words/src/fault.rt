@@ -8,6 +8,7 @@ use std::alloc::AllocError;
 pub enum RowFault {
     /// The row doesn't have the fields of its kind, or asks for what the call's conditions exclude.
     Fields,
+    /// There was no memory.
     NoMemory,
 }
 

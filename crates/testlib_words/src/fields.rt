@@ -14,10 +14,12 @@ pub struct Fields<'a> {
 }
 
 impl<'a> Fields<'a> {
+    /// All fields of a row's text.
     pub fn new(text: &'a str) -> Fields<'a> {
         Fields { left: Some(text) }
     }
 
+    /// The next field, up to a space or to the end; Fields where none is left.
     pub fn word(&mut self) -> Result<&'a str, RowFault> {
         let Some(left) = self.left else {
             return Err(RowFault::Fields);

@@ -92,6 +92,7 @@ pub fn number_text(alloc: Global, number: Option<i32>) -> Result<String, AllocEr
     }
 }
 
+/// `true` or `false`.
 pub fn bool_word(test: bool) -> &'static str
     ensures { result.now ≡ plain.bool_words test }
 {

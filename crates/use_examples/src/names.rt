@@ -22,5 +22,8 @@ pub(crate) fn record_name(record: &Record) -> &'static str
         Record::FeatureLevel { .. } => "FeatureLevelRecord",
         Record::BrokerRegistrationChange { .. } => "BrokerRegistrationChangeRecord",
         Record::NoOp => "NoOpRecord",
+        Record::BeginTransaction { .. } => "BeginTransactionRecord",
+        Record::EndTransaction => "EndTransactionRecord",
+        Record::AbortTransaction { .. } => "AbortTransactionRecord",
     }
 }
