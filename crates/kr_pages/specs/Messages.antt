@@ -1,6 +1,6 @@
 -- DescribeTopicPartitions, key 75, version 0, after Kafka's published schemas: what its bytes and those of its reply stand for, and
 -- the layouts of their structures.
-use Rattle.std.specs.Prelude.{◌≡◌, ℕ, ℤ, pos, false, List, refl}
+use Rattle.std.specs.Prelude.{ℕ, ℤ, pos, false, List, refl}
 use Rattle.std.specs.Int.{w16, w32}
 use Rattle.kr_wire.specs.Grammar.{◌⌢◌, IsSigned, IsBool, IsId, IsText, IsTextOrNull, IsList, NoTags}
 use Rattle.kr_wire.specs.Schema.{Schema, ◌▸◌, Int16, Int32, Boolean, Uuid, Text, TextOrNull, Array, Constant, Structure, End}
