@@ -43,11 +43,11 @@ fn read_next(alloc: Global, fields: &mut Fields) -> Result<Option<LineKey>, RowF
 
 fn read_topics(alloc: Global, fields: &mut Fields) -> Result<DescribedTopics, RowFault> {
     let count: u32 = fields.number()?;
-    let mut topics = Vec::new(alloc);
+    let mut topics = Rows::new(alloc);
     for _ in 0..count {
         topics.push(read_topic(alloc, fields)?)?;
     }
-    Ok(Rows::from_vec(topics))
+    Ok(topics)
 }
 
 // The error, the name, the id, and the partitions behind their count.
@@ -69,11 +69,11 @@ fn read_id(fields: &mut Fields) -> Result<u128, RowFault> {
 
 fn read_parts(alloc: Global, fields: &mut Fields) -> Result<DescribedParts, RowFault> {
     let count: u32 = fields.number()?;
-    let mut parts = Vec::new(alloc);
+    let mut parts = Rows::new(alloc);
     for _ in 0..count {
         parts.push(read_part(alloc, fields)?)?;
     }
-    Ok(Rows::from_vec(parts))
+    Ok(parts)
 }
 
 fn read_ids(alloc: Global, fields: &mut Fields) -> Result<Ids, RowFault> {
