@@ -1,2 +1,3 @@
 pub mod RecordAnswers
 pub mod TimelineMaps
+pub mod TopicKeys

@@ -1,6 +1,9 @@
 //! One entry of a timeline is set or goes.
 
-ghost use Rattle.std.specs.Prelude.{◌≡◌, ◌≤◌, ◌<◌, ◌+◌, ◌^◌, OnOk, length, nat_le};
+ghost use Rattle.std.specs.Prelude.{◌≡◌, ◌≤◌, ◌<◌, ◌+◌, ◌^◌, OnOk, IfOk, length, nat_le, slice_get};
+ghost use Rattle.std.specs.BTreeMap.Range.{IsLtBy, entries_between};
+ghost use Rattle.std.specs.Option.{option_map};
+ghost use Rattle.std.specs.declared.ops.Bound.TheVariants.{Excluded};
 ghost use Rattle.kr_defs.specs.Map as map;
 
 use kr_base::NoMemory;
@@ -13,6 +16,23 @@ pub(crate) fn contains<K: Ord + Drop, V: Drop>(timeline: &Timeline<K, V>, key: &
     ensures { result ≡ map.contains K.cmp timeline.now.maps.present key.now }
 {
     timeline.get(key).is_some()
+}
+
+/// The key of the first entry above one key and below another.
+pub(crate) fn key_between<K: Key + Drop, V: Drop>(
+    alloc: Global,
+    timeline: &Timeline<K, V>,
+    after: &K,
+    end: &K,
+) -> Result<Option<K>, NoMemory>
+    requires { IsLtBy K.cmp after.now end.now }
+    ensures { IfOk result (λ key. key ≡ option_map (λ e. e.0) (slice_get (entries_between K.cmp
+        (Excluded after.now) (Excluded end.now) timeline.now.maps.present) 0)) }
+{
+    match timeline.next_between(after, end) {
+        Some((key, _value)) => Ok(Some(Copied::copied(key, alloc)?)),
+        None => Ok(None),
+    }
 }
 
 /// There is no room for one more.

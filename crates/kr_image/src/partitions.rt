@@ -1,15 +1,16 @@
 //! Partitions: added, changed, and removed with their topic.
 
-ghost use Rattle.std.specs.Prelude.{◌≡◌, ◌≤◌, ◌+◌, OnOk, IfSome, IsNone, IsTrue, All, not, filter, count_by, length, ◌==◌, true};
+ghost use Rattle.std.specs.Prelude.{◌≡◌, ◌≤◌, ◌+◌, OnOk, IsTrue, All, not, filter, count_by, length, ◌==◌};
 ghost use Rattle.kr_defs.specs.Apply as apply;
 ghost use Rattle.kr_defs.specs.Image as images;
 ghost use Rattle.kr_defs.specs.Image.{IsValid};
 ghost use Rattle.kr_defs.specs.Map as map;
 ghost use Rattle.kr_defs.specs.Map.{partition_order};
 ghost use Rattle.kr_image.specs.inner.RecordAnswers.{Changes};
+ghost use Rattle.kr_image.specs.inner.TopicKeys.{partitions_end};
 ghost use Rattle.kr_image.specs.Timelines.{Agrees, keeps_of, made_of, present_image};
 
-use crate::entries::{contains, is_full, set_counted, unset_counted};
+use crate::entries::{contains, is_full, key_between, set_counted, unset_counted};
 use crate::timelines::{ChangeFault, Timelines};
 use kr_base::NoMemory;
 use kr_change::merge;
@@ -112,30 +113,14 @@ impl Timelines {
     }
 }
 
-fn is_of(topic: &u128, key: &(u128, i32)) -> bool
-    ensures { result ≡ (key.now.0 == topic.now) }
+// A key above all partitions of the topic, and below those of the topics above it.
+fn end_of(topic: &u128) -> (u128, i32)
+    ensures { result ≡ partitions_end topic.now }
 {
-    key.0 == *topic
+    key_of(topic, &(LAST_INDEX + 1))
 }
 
-// The key of the topic's first partition.
-fn first_partition(
-    partitions: &Timeline<(u128, i32), Partition>,
-    topic: &u128,
-) -> Option<(u128, i32)>
-    requires ordered { map.IsMap partition_order partitions.now.maps.present }
-    requires indexes { All (λ e. IsTrue (images.is_index e.0.1)) partitions.now.maps.present }
-    ensures own { IfSome result (λ key. ((key.0 == topic.now) ≡ true) × (map.contains partition_order partitions.now.maps.present key ≡ true)) }
-    ensures none { IsNone result → filter (λ e. not (e.0.0 == topic.now)) partitions.now.maps.present ≡ partitions.now.maps.present }
-{
-    let lowest = key_of(topic, &-1);
-    match partitions.next(Some(&lowest)) {
-        Some((key, _)) => { if is_of(topic, key) { Some(*key) } else { None } }
-        None => None,
-    }
-}
-
-/// Takes out the topic's partitions, one by one.
+/// Takes out the topic's partitions, one by one. Each is looked for behind the one before, and none behind the topic's last.
 pub(crate) fn remove_partitions(
     alloc: Global,
     partitions: &mut Timeline<(u128, i32), Partition>,
@@ -150,8 +135,11 @@ pub(crate) fn remove_partitions(
     ensures counted { OnOk result (count.new ≡ length partitions.new.maps.present) }
     ensures made { OnOk result (partitions.new.maps.made ≤ partitions.old.maps.made + count_by (λ e. e.0.0 == topic.now) partitions.old.maps.present) }
 {
-    while let Some(key) = first_partition(partitions, topic) {
+    let mut after = key_of(topic, &-1); // below them all
+    let end = end_of(topic);
+    while let Some(key) = key_between(alloc, partitions, &after, &end)? {
         unset_counted(alloc, partitions, count, &key)?;
+        after = key;
     }
     Ok(())
 }

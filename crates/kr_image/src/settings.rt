@@ -1,16 +1,17 @@
 //! Settings, with the bytes of their text.
 
-ghost use Rattle.std.specs.Prelude.{◌≡◌, ◌≤◌, ◌<◌, ◌+◌, OnOk, IfOk, IfSome, IsNone, IsTrue, Some, [], not, filter, count_by, length, unwrap_or, true};
-ghost use Rattle.std.specs.Option.{option_copied, option_map};
+ghost use Rattle.std.specs.Prelude.{◌≡◌, ◌≤◌, ◌<◌, ◌+◌, OnOk, IfOk, IfSome, IsNone, Some, not, filter, count_by, unwrap_or, cond, false};
+ghost use Rattle.std.specs.Option.{option_map};
 ghost use Rattle.kr_defs.specs.Apply as apply;
 ghost use Rattle.kr_defs.specs.Image.{IsValid, config_text, entry_text};
 ghost use Rattle.kr_defs.specs.Map as map;
 ghost use Rattle.kr_defs.specs.Map.{config_order};
 ghost use Rattle.kr_defs.specs.declared.limits.TheConstants.{MOST_CONFIG_TEXT as most};
 ghost use Rattle.kr_image.specs.inner.RecordAnswers.{Changes};
+ghost use Rattle.kr_image.specs.inner.TopicKeys.{settings_end};
 ghost use Rattle.kr_image.specs.Timelines.{lowest as lowest_key, Agrees, keeps_of, made_of, present_image};
 
-use crate::entries::{contains, set, unset};
+use crate::entries::{contains, key_between, set, unset};
 use crate::sums::added_within;
 use crate::timelines::{ChangeFault, Timelines};
 use kr_base::NoMemory;
@@ -159,55 +160,67 @@ fn lowest_of(alloc: Global, name: &Text) -> Result<ConfigKey, NoMemory>
     })
 }
 
-fn is_setting_of(name: &Text, key: &ConfigKey) -> bool
-    ensures { result ≡ apply.is_setting_of name.now key.now }
+// The key above which no setting of the topic stands, and below which none of a topic with a greater name.
+fn end_of(alloc: Global, name: &Text) -> Result<ConfigKey, NoMemory>
+    ensures { IfOk result (λ key. key ≡ settings_end name.now) }
 {
-    key.kind == TOPIC && key.name == *name
+    let mut next = String::from_str(alloc, name.as_str())?;
+    next.push('\0')?; // no name stands between
+    Ok(ConfigKey {
+        kind: TOPIC,
+        name: Text::from_string(next),
+        key: Text::new(alloc),
+    })
 }
 
-// The key of the first setting of the topic that `lowest` stands for.
-fn first_setting<'a>(
-    configs: &'a Timeline<ConfigKey, Text>,
-    lowest: &'a ConfigKey,
-) -> Option<&'a ConfigKey>
-    requires ordered { map.IsMap config_order configs.now.maps.present }
-    requires lowest { lowest.now ≡ lowest_key lowest.now.name }
-    ensures own { IfSome (option_copied result) (λ key. (apply.is_setting_of lowest.now.name key ≡ true) × (map.contains config_order configs.now.maps.present key ≡ true)) }
-    ensures none { IsNone result → filter (λ e. not (apply.is_setting_of lowest.now.name e.0)) configs.now.maps.present ≡ configs.now.maps.present }
-{
-    if contains(configs, lowest) {
-        return Some(lowest);
-    }
-    match configs.next(Some(lowest)) {
-        Some((key, _)) => {
-            if is_setting_of(&lowest.name, key) {
-                Some(key)
-            } else {
-                None
-            }
-        }
-        None => None,
-    }
-}
-
-// The same as a value of its own.
-fn next_setting(
+// Takes the setting out, if it is there.
+fn unset_standing(
     alloc: Global,
-    configs: &Timeline<ConfigKey, Text>,
-    lowest: &ConfigKey,
-) -> Result<Option<ConfigKey>, NoMemory>
-    requires ordered { map.IsMap config_order configs.now.maps.present }
-    requires lowest { lowest.now ≡ lowest_key lowest.now.name }
-    ensures own { IfOk result (λ next. IfSome next (λ key. (apply.is_setting_of lowest.now.name key ≡ true) × (map.contains config_order configs.now.maps.present key ≡ true))) }
-    ensures none { IfOk result (λ next. IsNone next → filter (λ e. not (apply.is_setting_of lowest.now.name e.0)) configs.now.maps.present ≡ configs.now.maps.present) }
+    configs: &mut Timeline<ConfigKey, Text>,
+    bytes: &mut u32,
+    key: &ConfigKey,
+) -> Result<(), NoMemory>
+    requires little { config_text configs.old.maps.present ≤ most }
+    requires counted { bytes.old ≡ config_text configs.old.maps.present }
+    ensures present { OnOk result (configs.new.maps.present ≡ map.remove config_order configs.old.maps.present key.now) }
+    ensures kept { configs.new.maps.kept ≡ configs.old.maps.kept }
+    ensures made { OnOk result (configs.new.maps.made ≤ configs.old.maps.made +
+        cond (map.contains config_order configs.old.maps.present key.now) 1 0) }
+    ensures counted { OnOk result (bytes.new ≡ config_text configs.new.maps.present) }
 {
-    match first_setting(configs, lowest) {
-        Some(key) => Ok(Some(key.copied(alloc)?)),
-        None => Ok(None),
+    if contains(configs, key) {
+        unset_text(alloc, configs, bytes, key)?;
     }
+    Ok(())
 }
 
-/// Takes out the settings of the topic with this name, one by one, with the bytes of their text.
+// Takes out the settings of the topic with this name, of which none has the least key.
+fn remove_above_lowest(
+    alloc: Global,
+    configs: &mut Timeline<ConfigKey, Text>,
+    bytes: &mut u32,
+    name: &Text,
+) -> Result<(), NoMemory>
+    requires ordered { map.IsMap config_order configs.old.maps.present }
+    requires little { config_text configs.old.maps.present ≤ most }
+    requires counted { bytes.old ≡ config_text configs.old.maps.present }
+    requires apart { map.contains config_order configs.old.maps.present (lowest_key name.now) ≡ false }
+    ensures present { OnOk result (configs.new.maps.present ≡ filter (λ e. not (apply.is_setting_of name.now e.0)) configs.old.maps.present) }
+    ensures kept { configs.new.maps.kept ≡ configs.old.maps.kept }
+    ensures counted { OnOk result (bytes.new ≡ config_text configs.new.maps.present) }
+    ensures made { OnOk result (configs.new.maps.made ≤ configs.old.maps.made + count_by (λ e. apply.is_setting_of name.now e.0) configs.old.maps.present) }
+{
+    let mut after = lowest_of(alloc, name)?;
+    let end = end_of(alloc, name)?;
+    while let Some(key) = key_between(alloc, configs, &after, &end)? {
+        unset_text(alloc, configs, bytes, &key)?;
+        after = key;
+    }
+    Ok(())
+}
+
+/// Takes out the settings of the topic with this name, one by one, with the bytes of their text. Each is looked for behind the
+/// one before, and none behind the topic's last.
 pub(crate) fn remove_settings(
     alloc: Global,
     configs: &mut Timeline<ConfigKey, Text>,
@@ -223,8 +236,7 @@ pub(crate) fn remove_settings(
     ensures made { OnOk result (configs.new.maps.made ≤ configs.old.maps.made + count_by (λ e. apply.is_setting_of name.now e.0) configs.old.maps.present) }
 {
     let lowest = lowest_of(alloc, name)?;
-    while let Some(key) = next_setting(alloc, configs, &lowest)? {
-        unset_text(alloc, configs, bytes, &key)?;
-    }
+    unset_standing(alloc, configs, bytes, &lowest)?;
+    remove_above_lowest(alloc, configs, bytes, name)?;
     Ok(())
 }

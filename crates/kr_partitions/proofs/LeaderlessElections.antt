@@ -1,6 +1,6 @@
 -- An election of a partition without leader that finds nobody.
-use Rattle.std.proofs.Common.{◌≡◌, ◌∙◌, ℤ, negsuc, Bool, true, false, ◌&&◌, List, refl, sym, ap, subst, inl, inr}
-use Rattle.std.specs.Prelude.{ℕ, pos, not, Option, Some, None, Result, Ok, unwrap_or, is_none, if◌then◌else◌}
+use Rattle.std.proofs.Common.{◌≡◌, ◌∙◌, ℤ, negsuc, Bool, true, false, ◌&&◌, refl, sym, ap, subst, inl, inr}
+use Rattle.std.specs.Prelude.{ℕ, not, Option, Some, None, Result, Ok, unwrap_or, is_none, if◌then◌else◌}
 use Rattle.std.specs.Ordering.{int_eq}
 use Rattle.std.proofs.lemmas.Bool.{cases_Bool}
 use Rattle.kr_defs.proofs.IdLists.{same_id}

@@ -1,4 +1,5 @@
 pub mod LeaderlessElections
 pub mod OngoingRows
+pub mod RequestKeys
 pub mod ReportedMembers
 pub mod WholeTopics

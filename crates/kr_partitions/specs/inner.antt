@@ -1,2 +1,3 @@
 pub mod EpochReports
 pub mod NamedLeader
+pub mod RequestKeys

@@ -12,6 +12,7 @@ mod lists;
 mod members;
 mod reassignments;
 mod reports;
+mod request_keys;
 mod showing;
 
 pub use alter_partition::AlterPartitionHandler;

@@ -1,43 +1,21 @@
 //! The reassignments that go on.
 
-ghost use Rattle.std.specs.Prelude.{◌≡◌, ◌&&◌, [], ◌∷◌, IfOk, bytes_eq, filter_map, option_to_list, if◌then◌else◌};
-ghost use Rattle.std.specs.List.{list_any};
-ghost use Rattle.kr_defs.specs.Ids.{has};
+ghost use Rattle.std.specs.Prelude.{◌≡◌, ◌&&◌, [], ◌∷◌, IfOk, filter_map, option_to_list, if◌then◌else◌};
 ghost use Rattle.kr_defs.specs.Partition.{is_moving};
 ghost use Rattle.kr_calls.specs.ListPartitionReassignments as list_partition_reassignments;
+ghost use Rattle.kr_partitions.specs.inner.RequestKeys.{is_among, ongoing_where, shown_where};
 
 use crate::lists::is_moving;
+use crate::request_keys::{Keys, is_among, keys_of_request};
 use kr_base::NoMemory;
 use kr_calls::{
-    ListPartitionReassignments, ListPartitionReassignmentsReply, ListedTopic, ListedTopics,
+    ListPartitionReassignments, ListPartitionReassignmentsReply, ListedTopics,
     OngoingPartitionReassignment, OngoingPartitionReassignments, OngoingTopicReassignment, Reply,
 };
 use kr_defs::{Copied, Options, Partition, Rows, Text};
 use kr_listing::{PartitionPart, TopicPart, gather_partitions, gather_topics};
 use kr_store::{Seen, Store};
 use std::alloc::Global;
-
-fn names(topic: &ListedTopic, name: &Text, index: &i32) -> bool
-    ensures { result ≡ (bytes_eq topic.now.name name.now && has topic.now.partitions index.now) }
-{
-    topic.name.as_str() == name.as_str() && topic.partitions.contains(index)
-}
-
-fn name_any(topics: &[ListedTopic], name: &Text, index: &i32) -> bool
-    ensures { result ≡ list_any (λ t. bytes_eq t.name name.now && has t.partitions index.now) topics.now }
-{
-    topics.iter().any(|topic| names(topic, name, index))
-}
-
-// The partition is asked for, or all are.
-fn is_asked(asked: &Option<ListedTopics>, name: &Text, index: &i32) -> bool
-    ensures { result ≡ list_partition_reassignments.is_asked asked.now name.now index.now }
-{
-    match asked {
-        Some(topics) => name_any(topics.as_slice(), name, index),
-        None => true,
-    }
-}
 
 fn ongoing_row(
     alloc: Global,
@@ -57,15 +35,15 @@ fn ongoing_row(
     })
 }
 
-// A partition that is asked for and moves, of the topic of this name.
+// A partition that is asked for and moves, of the topic of this id.
 #[derive(Drop)]
 struct AskedPartitions<'a> {
-    asked: &'a Option<ListedTopics>,
-    name: &'a Text,
+    asked: &'a Option<Keys>,
+    id: &'a u128,
 }
 
 impl<'a> PartitionPart<OngoingPartitionReassignment> for AskedPartitions<'a> {
-    ghost part = { λ a e. if is_moving e.1 && list_partition_reassignments.is_asked a.asked.now a.name.now e.0.1 then list_partition_reassignments.ongoing e ∷ [] else [] };
+    ghost part = { λ a e. if is_moving e.1 && is_among a.asked.now (a.id.now, e.0.1) then list_partition_reassignments.ongoing e ∷ [] else [] };
 
     fn add(
         &self,
@@ -74,7 +52,7 @@ impl<'a> PartitionPart<OngoingPartitionReassignment> for AskedPartitions<'a> {
         partition: &Partition,
         rows: &mut OngoingPartitionReassignments,
     ) -> Result<(), NoMemory> {
-        if is_moving(partition) && is_asked(self.asked, self.name, &key.1) {
+        if is_moving(partition) && is_among(self.asked, self.id, &key.1) {
             rows.push(ongoing_row(alloc, key, partition)?)?;
         }
         Ok(())
@@ -82,30 +60,30 @@ impl<'a> PartitionPart<OngoingPartitionReassignment> for AskedPartitions<'a> {
 }
 
 // The partitions of a topic that are asked for and move.
-#[tactic(auto, using(crate::proofs::OngoingRows::moving))]
 fn ongoing_of<S: Store>(
     alloc: Global,
     seen: &Seen<S>,
-    asked: &Option<ListedTopics>,
-    name: &Text,
+    asked: &Option<Keys>,
     id: &u128,
 ) -> Result<OngoingPartitionReassignments, NoMemory>
-    ensures { IfOk result (λ rows. rows ≡ list_partition_reassignments.ongoing_of seen.now asked.now (name.now, id.now)) }
+    ensures { IfOk result (λ rows. rows ≡
+        ongoing_where seen.now (λ index. is_among asked.now (id.now, index)) id.now) }
 {
-    gather_partitions(alloc, seen, &AskedPartitions { asked, name }, id)
+    gather_partitions(alloc, seen, &AskedPartitions { asked, id }, id)
 }
 
 // What is shown of a topic, where there is something to show.
 fn topic_row<S: Store>(
     alloc: Global,
     seen: &Seen<S>,
-    asked: &Option<ListedTopics>,
+    asked: &Option<Keys>,
     name: &Text,
     id: &u128,
 ) -> Result<Option<OngoingTopicReassignment>, NoMemory>
-    ensures { IfOk result (λ row. row ≡ list_partition_reassignments.shown seen.now asked.now (name.now, id.now)) }
+    ensures { IfOk result (λ row. row ≡
+        shown_where seen.now (λ index. is_among asked.now (id.now, index)) (name.now, id.now)) }
 {
-    let partitions = ongoing_of(alloc, seen, asked, name, id)?;
+    let partitions = ongoing_of(alloc, seen, asked, id)?;
     if partitions.is_empty() {
         return Ok(None);
     }
@@ -116,11 +94,11 @@ fn topic_row<S: Store>(
 // A topic that has something to show.
 #[derive(Drop)]
 struct AskedTopics<'a> {
-    asked: &'a Option<ListedTopics>,
+    asked: &'a Option<Keys>,
 }
 
 impl<'a> TopicPart<OngoingTopicReassignment> for AskedTopics<'a> {
-    ghost part = { λ a image topic. option_to_list (list_partition_reassignments.shown image a.asked.now topic) };
+    ghost part = { λ a image topic. option_to_list (shown_where image (λ index. is_among a.asked.now (topic.1, index)) topic) };
 
     fn add<S: Store>(
         &self,
@@ -145,7 +123,9 @@ fn all_topic_rows<S: Store>(
 ) -> Result<Rows<OngoingTopicReassignment>, NoMemory>
     ensures { IfOk result (λ rows. rows ≡ filter_map (list_partition_reassignments.shown seen.now asked.now) seen.now.topics) }
 {
-    gather_topics(alloc, seen, &AskedTopics { asked })
+    seen.is_valid();
+    let keys = keys_of_request(alloc, seen, asked)?;
+    gather_topics(alloc, seen, &AskedTopics { asked: &keys })
 }
 
 /// The partitions that are being reassigned, all or those that are asked for.

@@ -1,3 +1,4 @@
+pub mod AgreeingNames
 pub mod BrokerIds
 pub mod Changes
 pub mod Counts

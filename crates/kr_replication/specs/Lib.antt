@@ -1,3 +1,4 @@
+pub mod AgreeingNames
 pub mod BrokerIds
 pub mod FencingIndex
 pub mod FencingLaws

@@ -3,6 +3,7 @@
 #![tactic(auto)]
 
 mod brokers;
+mod collision;
 mod electing;
 mod fencing;
 mod index;
@@ -15,10 +16,11 @@ mod taking_out;
 mod topics;
 
 pub use brokers::{ActiveOnes, BrokerTest, active, brokers_where, is_active};
+pub use collision::has_agreeing_name;
 pub use electing::{build_with, build_without, is_accepted};
 pub use fencing::fencing_records;
 pub use index::FencingIndex;
 pub use partitions::{Change, add_changes, add_changes_of_topic, leads};
 pub use settings::{is_unclean, minimum_at, minimum_of, value_at};
 pub use taking_out::{default_want, take_out};
-pub use topics::{count_of, has_agreeing_name};
+pub use topics::count_of;

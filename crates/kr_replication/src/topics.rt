@@ -1,12 +1,9 @@
-//! The topics of an image: their names, and how many partitions one counts.
+//! How many partitions a topic counts.
 
 ghost use Rattle.std.specs.Prelude.{◌≡◌, ◌<◌, ◌≤◌, ◌+◌, ◌^◌, IfSome, IsNone, pos, unsigned_abs};
-ghost use Rattle.std.specs.List.{list_any};
-ghost use Rattle.kr_defs.specs.Texts as texts;
 ghost use Rattle.kr_defs.specs.Topics as topics;
 
 use kr_defs::limits::LAST_INDEX;
-use kr_defs::{Text, names_agree};
 use kr_store::{Seen, Store, before_all};
 
 // The key of a topic's partition with this index.
@@ -83,19 +80,4 @@ pub fn count_of<S: Store>(seen: &Seen<S>, id: &u128) -> u32
         Some(index) => greatest_index(seen, id, index, last_index(seen, id)) + 1,
         None => 0,
     }
-}
-
-/// There is a topic whose name agrees with this one in Kafka's metrics.
-pub fn has_agreeing_name<S: Store>(seen: &Seen<S>, name: &Text) -> bool
-    ensures { result ≡ list_any (λ topic. texts.names_agree topic.0 name.now) seen.now.topics }
-{
-    seen.is_valid();
-    let mut after = None;
-    while let Some((other, _id)) = seen.next_topic(after) {
-        if names_agree(other, name) {
-            return true;
-        }
-        after = Some(other);
-    }
-    false
 }

@@ -2,7 +2,7 @@
 use Rattle.std.proofs.Common.{◌≡◌, List, [], ◌∷◌, Option, Some, None, Bool, true, false, cond, ℕ, refl, ap, ◌∙◌, filter, sym}
 use Rattle.std.specs.declared.cmp.Ordering.{Ordering}
 use Rattle.std.specs.declared.ops.Bound.TheVariants.{Excluded, Unbounded}
-use Rattle.std.specs.BTreeMap.Range.{range_contains}
+use Rattle.std.specs.BTreeMap.Range.{range_contains, entries_between}
 use Rattle.kr_defs.specs.Map.{above}
 use Rattle.kr_timeline.specs.Chains.{AreFalling, value_at, standing, map_of}
 
@@ -33,3 +33,9 @@ module _ {K V : Type 0} where
 
   pub falls-above : (order : K → K → Ordering) (chains : List (K × List (ℕ × Option V))) (key : K) → AreFalling chains → AreFalling (above order chains (Some key))
   falls-above order chains key a = falls-filter (range_contains order (Excluded key) Unbounded) chains a
+
+  pub between_map_of : (order : K → K → Ordering) (m : ℕ) (chains : List (K × List (ℕ × Option V))) (after end : K) → entries_between order (Excluded after) (Excluded end) (map_of m chains) ≡ map_of m (entries_between order (Excluded after) (Excluded end) chains)
+  between_map_of order m chains after end = map_of-filter (range_contains order (Excluded after) (Excluded end)) m chains
+
+  pub falls-between : (order : K → K → Ordering) (chains : List (K × List (ℕ × Option V))) (after end : K) → AreFalling chains → AreFalling (entries_between order (Excluded after) (Excluded end) chains)
+  falls-between order chains after end a = falls-filter (range_contains order (Excluded after) (Excluded end)) chains a

@@ -5,6 +5,8 @@ ghost use Rattle.std.specs.Bool.{OnTrue};
 ghost use Rattle.std.specs.Option.{option_copied};
 ghost use Rattle.std.specs.Map.{remove_entry};
 ghost use Rattle.std.specs.BTreeMap.{is_at, insert_entry};
+ghost use Rattle.std.specs.BTreeMap.Range.{IsLtBy, entries_between};
+ghost use Rattle.std.specs.declared.ops.Bound.TheVariants.{Excluded};
 ghost use Rattle.kr_defs.specs.Lookups.{entry_copied};
 ghost use Rattle.kr_defs.specs.Map as entries;
 ghost use Rattle.kr_timeline.specs.Chains.{map_of, written, AreFalling, HasVersion, Rewrites, Writes, is_left, left_of, lowered, repeated, trimmed};
@@ -237,4 +239,25 @@ pub(crate) fn next<'a, K: Ord + Drop, V: Drop>(
         None => first_of(chains, number),
         Some(key) => first_above(chains, number, key),
     }
+}
+
+/// The first entry above one key and below another in the map at the number. It passes over no key outside of these.
+#[tactic(auto, using(crate::proofs::Nexts::between_map_of))]
+pub(crate) fn next_between<'a, K: Ord + Drop, V: Drop>(
+    chains: &'a BTreeMap<K, Chain<V>>,
+    number: u64,
+    after: &K,
+    end: &K,
+) -> Option<(&'a K, &'a V)>
+    requires falls { AreFalling chains.now.entries }
+    requires forward { IsLtBy K.cmp after.now end.now }
+    ensures { entry_copied result ≡ slice_get (entries_between K.cmp (Excluded after.now)
+        (Excluded end.now) (map_of number chains.now.entries)) 0 }
+{
+    for (key, chain) in chains.range((Bound::Excluded(after), Bound::Excluded(end))) {
+        if let Some(value) = chain.at(number) {
+            return Some((key, value));
+        }
+    }
+    None
 }

@@ -1,7 +1,9 @@
 //! A map with kept epochs: the versions of each key, and for each kept epoch the keys that changed since the one before.
 
-ghost use Rattle.std.specs.Prelude.{◌≡◌, ◌↔◌, ◌≤◌, ◌+◌, Some, None, Err, OnOk, OnErr, IfOk, IsOk, IsErr, IsTrue, All, length};
+ghost use Rattle.std.specs.Prelude.{◌≡◌, ◌↔◌, ◌≤◌, ◌+◌, Some, None, Err, OnOk, OnErr, IfOk, IsOk, IsErr, IsTrue, All, length, slice_get};
+ghost use Rattle.std.specs.BTreeMap.Range.{IsLtBy, entries_between};
 ghost use Rattle.std.specs.Option.{option_copied};
+ghost use Rattle.std.specs.declared.ops.Bound.TheVariants.{Excluded};
 ghost use Rattle.kr_defs.specs.Map as entries;
 ghost use Rattle.kr_defs.specs.KeptMaps.{AreRising, ForgetsMapWithin, IsAbove, RevertsMapWithin, no_maps, map_at, kept_above, kept_below, marked, inserted, removed, reverted, forgotten, one_call_more};
 ghost use Rattle.kr_defs.specs.Lookups.{Finds, FindsEntry, entry_copied};
@@ -159,6 +161,16 @@ impl<K: Ord + Drop, V: Drop> Timeline<K, V> {
             entries.next K.cmp self.now.maps.present (option_copied after.entry) }
     {
         chains::next(&self.chains, self.number, after)
+    }
+
+    /// The entry with the least key above one key and below another, in the present map. What was removed outside of these
+    /// keys costs nothing.
+    pub fn next_between(&self, after: &K, end: &K) -> Option<(&K, &V)>
+        requires { IsLtBy K.cmp after.now end.now }
+        ensures { entry_copied result ≡ slice_get (entries_between K.cmp (Excluded after.now)
+            (Excluded end.now) self.now.maps.present) 0 }
+    {
+        chains::next_between(&self.chains, self.number, after, end)
     }
 
     /// The entry with the least key above the given one, or the first entry, in the map that is kept under the epoch.

@@ -1,6 +1,6 @@
 -- What is shown: brokers, topics and partitions, as a walk gathers them, and topics that are named one after the other.
 use Rattle.std.proofs.Common.{◌≡◌, ◌∙◌, ◌<◌, ◌+◌, ℕ, ℤ, Bool, true, false, cond, List, [], ◌∷◌, ◌++◌, length, get_or, drop, refl, sym, ap, append_assoc, arith}
-use Rattle.std.specs.Prelude.{pos, not, ◌==◌, ◌||◌, Ok, Err, map, if◌then◌else◌}
+use Rattle.std.specs.Prelude.{not, ◌==◌, ◌||◌, Ok, Err, map, if◌then◌else◌}
 use Rattle.std.specs.BTreeSet.{BTreeSet, contains, Updates}
 use Rattle.std.specs.List.{flat_map, list_any}
 use Rattle.std.specs.Ordering.{is_eq, nat_cmp}

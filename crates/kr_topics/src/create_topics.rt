@@ -101,14 +101,15 @@ fn may_agree(name: &Text) -> bool
 }
 
 // There is a topic whose name agrees with this one, which is that of no topic.
-fn is_like_another<S: Store>(seen: &Seen<S>, name: &Text) -> bool
+fn is_like_another<S: Store>(alloc: Global, seen: &Seen<S>, name: &Text) -> Result<bool, NoMemory>
     requires { entries.contains text_order seen.now.topics name.now ≡ false }
-    ensures { result ≡ list_any (λ topic. texts.names_agree topic.0 name.now) seen.now.topics }
+    ensures { IfOk result (λ is. is ≡
+        list_any (λ topic. texts.names_agree topic.0 name.now) seen.now.topics) }
 {
     if may_agree(name) {
-        has_agreeing_name(seen, name)
+        has_agreeing_name(alloc, seen, name)
     } else {
-        false
+        Ok(false)
     }
 }
 
@@ -356,7 +357,7 @@ impl<'a> Rule<CreatableTopic, CreatableTopicResult> for Creating<'a> {
         if seen.topic_named(&entry.name).is_some() {
             return Err(Refusal::Error(TOPIC_ALREADY_EXISTS));
         }
-        if is_like_another(seen, &entry.name) {
+        if is_like_another(alloc, seen, &entry.name)? {
             return Err(Refusal::Error(INVALID_TOPIC_EXCEPTION));
         }
         create_new(alloc, seen, self, work, entry)

@@ -1,5 +1,5 @@
 -- The leader that a change names.
-use Rattle.std.specs.Prelude.{ℕ, ℤ, Bool, true, pos, negsuc, unwrap_or, Option, Some, None, Result, Ok}
+use Rattle.std.specs.Prelude.{ℕ, ℤ, Bool, true, negsuc, unwrap_or, Option, Some, None, Result, Ok}
 use Rattle.std.specs.Ordering.{int_eq}
 use Rattle.kr_defs.specs.declared.partition.PartitionChange.{PartitionChange}
 use Rattle.kr_defs.specs.Guard.{refuse◌when◌else◌}

@@ -1,36 +1,42 @@
-use Rattle.std.proofs.Common.{◌≡◌, ◌∙◌, ap, arith, length}
+use Rattle.std.proofs.Common.{◌∙◌, arith}
 use Rattle.kr_defs.specs.declared.record.ConfigKey.{ConfigKey}
 use Rattle.kr_defs.specs.Apply.{is_setting_of}
 use Rattle.kr_defs.specs.Map.{config_order}
+use Rattle.kr_defs.proofs.EntryCounts.{text_gone}
 use Rattle.kr_defs.proofs.ImageParts.{config_total}
 use Rattle.kr_defs.proofs.Maps.{IsMap-remove}
-use Rattle.kr_defs.proofs.EntryCounts.{length-gone, text_gone}
-use Rattle.kr_image.proofs.Owners.{setting_same}
-use Rattle.kr_image.proofs.Removal.{count-gone, others-gone}
+use Rattle.kr_image.specs.Timelines.{lowest}
+use Rattle.kr_image.proofs.Owners.{setting_same, setting_self}
+use Rattle.kr_image.proofs.Removal.{gone_for_good, others-gone, others-without}
 use Rattle.kr_image.proofs.settings.remove_settings.Goals as goal
 
-pub loop-lowest-smaller : goal.loop-lowest-smaller
-loop-lowest-smaller c =
-    let own = rw c.in-Some.is at c.in_ok-key.ensures.own in
-    let gone = length-gone config_order c.loop-lowest.configs.maps.present c.in-Some.key own.1 in
-    let less = ap length c.in_ok-unset_text.ensures.present in
-    omega (arith, gone, less)
+pub remove_above_lowest-requires-clause-ordered : goal.remove_above_lowest-requires-clause-ordered
+remove_above_lowest-requires-clause-ordered c =
+    rw c.in_ok-unset_standing.ensures.present (IsMap-remove config_total c.args.configs.now.maps.present c.in_ok-lowest.lowest c.requires.ordered)
 
-pub loop-lowest-preserved : goal.loop-lowest-preserved
-loop-lowest-preserved c =
-    let named : c.in_ok-lowest.lowest.name ≡ c.args.name.now = ap (λ (k : ConfigKey). k.name) c.in_ok-lowest.ensures in
-    let own = rw (c.in-Some.is, named) at c.in_ok-key.ensures.own in
-    let es = c.loop-lowest.configs.maps.present in
-    let key = c.in-Some.key in
-    let same = λ (x : ConfigKey). setting_same c.args.name.now key x own.0 in
-    let count = count-gone config_order (is_setting_of c.args.name.now) key same es own.1 in
-    let text = text_gone es key in
-    let is = c.in_ok-unset_text.ensures.present in
-    record {
-      others = rw is (others-gone config_order (is_setting_of c.args.name.now) key same es ∙ c.loop-lowest.invariant.others);
-      ordered = rw is (IsMap-remove config_total es key c.loop-lowest.invariant.ordered);
-      little = rw is (let little = c.loop-lowest.invariant.little in omega (arith, text, little));
-      counted = c.in_ok-unset_text.ensures.counted;
-      made = rw is (let more = c.in_ok-unset_text.ensures.made in let so_far = c.loop-lowest.invariant.made in omega (arith, count, more, so_far));
-      kept = c.unset_text.ensures.kept ∙ c.loop-lowest.invariant.kept;
-    }
+pub remove_above_lowest-requires-clause-little : goal.remove_above_lowest-requires-clause-little
+remove_above_lowest-requires-clause-little c =
+    let text = text_gone c.args.configs.now.maps.present c.in_ok-lowest.lowest in
+    let little = c.requires.little in
+    rw c.in_ok-unset_standing.ensures.present (omega (arith, text, little))
+
+pub remove_above_lowest-requires-clause-apart : goal.remove_above_lowest-requires-clause-apart
+remove_above_lowest-requires-clause-apart c =
+    rw (c.in_ok-unset_standing.ensures.present, c.in_ok-lowest.ensures) (gone_for_good config_total c.args.configs.now.maps.present (lowest c.args.name.now) c.requires.ordered)
+
+pub returns-clause-present : goal.returns-clause-present
+returns-clause-present c =
+    let own = is_setting_of c.args.name.now in
+    let same = λ (x : ConfigKey). setting_same c.args.name.now (lowest c.args.name.now) x (setting_self c.args.name.now) in
+    let first = rw c.in_ok-lowest.ensures at c.in_ok-unset_standing.ensures.present in
+    c.in_ok-remove_above_lowest.ensures.present ∙ (rw first (others-gone config_order own (lowest c.args.name.now) same c.args.configs.now.maps.present))
+
+pub returns-clause-made : goal.returns-clause-made
+returns-clause-made c =
+    let own = is_setting_of c.args.name.now in
+    let same = λ (x : ConfigKey). setting_same c.args.name.now (lowest c.args.name.now) x (setting_self c.args.name.now) in
+    let first = rw c.in_ok-lowest.ensures at c.in_ok-unset_standing.ensures.present in
+    let one = rw c.in_ok-lowest.ensures at c.in_ok-unset_standing.ensures.made in
+    let more = rw first at c.in_ok-remove_above_lowest.ensures.made in
+    let count = others-without config_order own c.args.configs.now.maps.present (lowest c.args.name.now) same in
+    omega (arith, one, more, count)
