@@ -1,5 +1,6 @@
-//! What callers do with the crates alone, an example a word: `host` steps the controller, `plan` asks the rules, `inspect` reads
-//! a record batch and `show` an image from standard input. With no word the examples come from standard input, a line each: the
+//! What callers do with the crates alone, an example a word: `host` steps the controller, `plan` asks the rules, `moves`
+//! asks what a round of the balancer would do to an image from standard input, `inspect` reads a record batch and `show` an
+//! image from there. With no word the examples come from standard input, a line each: the
 //! word, and behind a space the bytes that it reads, in hex. Where an example has a fault it is told, and the status is 1; other
 //! words have status 2.
 #![tactic(auto)]
@@ -10,6 +11,7 @@ mod host;
 mod hosting;
 mod image;
 mod loss;
+mod moves;
 mod names;
 mod plan;
 mod records;
@@ -35,7 +37,7 @@ fn main(rt: HostRuntime) -> anyhow::Result<ExitCode> {
         Asked::One(example) => print_one(&rt, example)?,
         Asked::Stored => print_stored(&rt)?,
         Asked::Nothing => {
-            eprintln!(rt; "usage: use_examples [host | plan | inspect | show]")?;
+            eprintln!(rt; "usage: use_examples [host | plan | moves | inspect | show]")?;
             return Ok(ExitCode::from(2));
         }
     }
