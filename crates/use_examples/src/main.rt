@@ -1,8 +1,7 @@
-//! What callers do with the crates alone, an example a word: `host` steps the controller, `plan` asks the rules, `moves`
-//! asks what a round of the balancer would do to an image from standard input, `inspect` reads a record batch and `show` an
-//! image from there. With no word the examples come from standard input, a line each: the
-//! word, and behind a space the bytes that it reads, in hex. Where an example has a fault it is told, and the status is 1; other
-//! words have status 2.
+//! What callers do with the crates alone, an example a word: `host` steps the controller, `plan` asks the rules; of standard
+//! input `moves` reads an image and asks what a round of the balancer would move, `inspect` reads a record batch and `show` an
+//! image. With no word the examples come from standard input, a line each: the word, and behind a space the bytes that it reads,
+//! in hex. Where an example has a fault it is told, and the status is 1; other words have status 2.
 #![tactic(auto)]
 
 mod events;
