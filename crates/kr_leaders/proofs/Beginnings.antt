@@ -1,6 +1,6 @@
 -- A controller leads from the offset of an image that it loaded.
-use Rattle.std.proofs.Common.{◌≡◌, ◌∙◌, ℕ, ℤ, pos, negsuc, true, false, cond, not, ◌||◌, ◌+◌, ◌≤ℤ◌, List, [], ◌∷◌, refl, ap, sym, subst, arith}
-use Rattle.std.specs.Prelude.{Option, Some, None, Result, Ok, Err, int_lt}
+use Rattle.std.proofs.Common.{◌≡◌, ◌∙◌, ℕ, ℤ, pos, negsuc, false, cond, not, ◌||◌, ◌+◌, ◌≤ℤ◌, List, [], ◌∷◌, refl, ap, sym, subst, arith}
+use Rattle.std.specs.Prelude.{Some, None, Result, Ok, Err, int_lt}
 use Rattle.std.specs.Ordering.{int_eq}
 use Rattle.std.specs.Result.{result_unwrap_or}
 use Rattle.kr_calls.specs.declared.events.Event.{Event}
@@ -13,7 +13,6 @@ use Rattle.kr_defs.specs.Brokers.{stopping, unfenced}
 use Rattle.kr_defs.specs.Guard.{and_then}
 use Rattle.kr_defs.specs.Heartbeats.{begin}
 use Rattle.kr_defs.specs.Image.{Image, empty}
-use Rattle.kr_defs.specs.Log.{image_at, tip}
 use Rattle.kr_defs.proofs.IdLists.{id_itself}
 use Rattle.kr_snapshot.specs.declared.fault.ImageFault.{ImageFault}
 use Rattle.kr_snapshot.specs.Reading.{image_of}
@@ -24,11 +23,11 @@ use Rattle.kr_model.specs.Lead.{after_lead}
 use Rattle.kr_model.specs.Load.{after_load, image_or, take_image}
 use Rattle.kr_model.specs.Outputs.{waiting_after}
 use Rattle.kr_model.specs.Reasons.{bad_next, exhausted, older_image}
-use Rattle.kr_model.specs.World.{State, World, image_of_tip, is_far, start, tip_of, with_batch, with_heartbeats}
+use Rattle.kr_model.specs.World.{State, World, image_of_tip, is_far, start, with_batch, with_heartbeats}
 use Rattle.kr_model.proofs.Logs.{at_tip}
 use Rattle.kr_model.proofs.Places.{isnt_below}
 use Rattle.kr_leaders.specs.Balance as balance
-use Rattle.kr_leaders.specs.inner.Engines.{IsAtRest, LeadsOn, IsAfterEvent, leader}
+use Rattle.kr_leaders.specs.inner.Engines.{LeadsOn, IsAfterEvent, leader}
 
 -- on standby, with this image alone
 abbrev loaded : ℕ → Image → State

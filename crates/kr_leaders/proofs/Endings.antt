@@ -1,5 +1,5 @@
 -- What a balance answers, of what was read and what was written.
-use Rattle.std.proofs.Common.{◌≡◌, ◌∙◌, ℕ, ℤ, ◌≤◌, ◌<◌, ◌⊎◌, inl, inr, true, false, List, [], ◌++◌, length, Option, Some, None, Result, Ok, Err, refl, sym, ap, subst, arith}
+use Rattle.std.proofs.Common.{◌≡◌, ◌∙◌, ℕ, ℤ, ◌≤◌, ◌<◌, ◌⊎◌, inl, inr, true, false, List, ◌++◌, length, Option, Some, None, Result, Ok, Err, refl, sym, ap, subst, arith}
 use Rattle.std.proofs.lemmas.List.{append-nil}
 use Rattle.std.specs.Prelude.{OnOk, OnErr, IfErr, IsErrOf}
 use Rattle.std.specs.Io.KnownBytes.{Appends, Consumes, IsAtEnd, Keeps}
@@ -16,9 +16,9 @@ use Rattle.kr_model.proofs.LoadedImages.{loaded_valid}
 use Rattle.kr_snapshot.specs.Grammar.{IsImage}
 use Rattle.kr_snapshot.proofs.WholeImages.{image_complete, image_one}
 use Rattle.kr_wire.specs.Grammar.{Exactly}
-use Rattle.law_balance.specs.Balancing.{Balances, RoundsBalance}
+use Rattle.law_balance.specs.Balancing.{RoundsBalance}
 use Rattle.kr_leaders.specs.Balance as balance
-use Rattle.kr_leaders.specs.Endings.{BalanceEnds, BalancesWhole, IsBalanced, IsPast, IsBalanceFault, RefusesPast}
+use Rattle.kr_leaders.specs.Endings.{BalanceEnds, BalancesWhole, IsBalanced, IsBalanceFault, RefusesPast}
 
 abbrev Answer : Type 0
 Answer = Result (Unit {0}) ToolFault
@@ -79,7 +79,7 @@ pub no_balance_line : (at percent : ℕ) (left left' written written' : Option (
 no_balance_line at percent left left' written written' ends = (
   elim ends.0 [
     | inl fault ↦ input_forgotten left left' at fault
-    | inr past ↦ let all = past.1.ends in record { taken = all.taken; took = all.took; few = let short = all.short in omega (arith, short) }
+    | inr late ↦ let all = late.1.ends in record { taken = all.taken; took = all.took; few = let short = all.short in omega (arith, short) }
   ],
   ends.1,
 )
@@ -112,7 +112,7 @@ module _ (percent : ℕ) (stream : List ℕ) (left' written written' : Option (L
   whole (Err faults.TooLong) ends read write offset image is short near = absurd ends.0
   whole (Err (faults.Malformed at)) ends read write offset image is short near = elim ends.0 [
     | inl fault ↦ dumps_whole left' None None (Err (faults.Malformed at)) (Some stream) (fault, tt) read write offset image is short
-    | inr past ↦ absurd (true_or_false (sym past.1.far ∙ (ap is_far (no_other past.1.offset offset past.1.image image past.1.ends is) ∙ near)))
+    | inr late ↦ absurd (true_or_false (sym late.1.far ∙ (ap is_far (no_other late.1.offset offset late.1.image image late.1.ends is) ∙ near)))
   ]
 
   past : (result : Answer) → BalanceEnds percent (Some stream) left' written written' result → (IsErrOf result faults.ReadFault → ⊥) → (IsErrOf result faults.WriteFault → ⊥)
@@ -127,7 +127,7 @@ module _ (percent : ℕ) (stream : List ℕ) (left' written written' : Option (L
       | inl done ↦ absurd cc
       | inr none ↦ inr none
     ]
-    | inr past ↦ inl (ap (λ (n : ℕ). let r : Answer = Err (faults.Malformed n) in r) past.0)
+    | inr late ↦ inl (ap (λ (n : ℕ). let r : Answer = Err (faults.Malformed n) in r) late.0)
   ]
 
   -- an image that was taken would be dumped, if nobody saw what is written
@@ -156,7 +156,7 @@ module _ (percent : ℕ) (stream : List ℕ) (left' written written' : Option (L
   broken (Err faults.TooLong) ends read write at breaks short = absurd ends.0
   broken (Err (faults.Malformed place)) ends read write at breaks short = elim ends.0 [
     | inl fault ↦ refuses_broken left' None None (Err (faults.Malformed place)) (Some stream) (fault, tt) read write at breaks short
-    | inr past ↦ absurd (unbroken past.1.offset past.1.image past.1.ends at breaks short)
+    | inr late ↦ absurd (unbroken late.1.offset late.1.image late.1.ends at breaks short)
   ]
 
   not_long : (offset : ℤ) (image : Image) → TookAll (IsImage offset image) (Some stream) left' → largest < length stream → ⊥
@@ -174,7 +174,7 @@ module _ (percent : ℕ) (stream : List ℕ) (left' written written' : Option (L
   longer (Err faults.TooLong) ends read write long = absurd ends.0
   longer (Err (faults.Malformed place)) ends read write long = elim ends.0 [
     | inl fault ↦ refuses_longer left' None None (Err (faults.Malformed place)) (Some stream) (fault, tt) read write long
-    | inr past ↦ absurd (not_long past.1.offset past.1.image past.1.ends long)
+    | inr late ↦ absurd (not_long late.1.offset late.1.image late.1.ends long)
   ]
 
 module _ (percent : ℕ) (left' written written' : Option (List ℕ)) (result : Answer) where

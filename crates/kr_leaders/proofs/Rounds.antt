@@ -1,9 +1,8 @@
 -- What a round and the commit behind it leave.
-use Rattle.std.proofs.Common.{◌≡◌, ◌∙◌, ℕ, ℤ, pos, negsuc, suc, Bool, true, false, cond, not, ◌&&◌, ◌||◌, ◌+◌, ◌==◌, ◌≤ℤ◌, List, [], ◌∷◌, ◌++◌, length, refl, ap, sym, subst, arith}
+use Rattle.std.proofs.Common.{◌≡◌, ◌∙◌, ℕ, ℤ, pos, negsuc, Bool, true, false, cond, not, ◌||◌, ◌+◌, ◌≤ℤ◌, List, [], ◌∷◌, ◌++◌, length, refl, ap, sym, subst, arith}
 use Rattle.std.proofs.lemmas.Int.{ints}
 use Rattle.std.proofs.lemmas.List.{length-map}
-use Rattle.std.specs.Prelude.{Option, Some, None, Result, Ok, Err, IfSome, IsSome, IsTrue, ◌+ℤ◌, int_lt, filter}
-use Rattle.std.specs.List.{list_any}
+use Rattle.std.specs.Prelude.{Option, Some, Result, Ok, Err, IfOk, IsSome, IsTrue, ◌+ℤ◌}
 use Rattle.std.specs.Ordering.{int_eq}
 use Rattle.std.specs.Result.{result_unwrap_or}
 use Rattle.kr_calls.specs.declared.calls.Request.{Request}
@@ -20,12 +19,11 @@ use Rattle.kr_defs.specs.declared.options.Options.{Options}
 use Rattle.kr_defs.specs.declared.record.Item.{Item}
 use Rattle.kr_defs.specs.declared.record.Item.TheVariants as items
 use Rattle.kr_defs.specs.declared.record.Record.{Record}
-use Rattle.kr_defs.specs.Heartbeats.{Heartbeats, heard}
-use Rattle.kr_defs.specs.Image.{Image, IsValid, empty}
+use Rattle.kr_defs.specs.Heartbeats.{heard}
+use Rattle.kr_defs.specs.Image.{Image, empty}
 use Rattle.kr_defs.specs.ImageLaws.{as_items}
-use Rattle.kr_defs.specs.Log.{Log, apply_all, image_at, tip}
+use Rattle.kr_defs.specs.Log.{Log, apply_all, tip}
 use Rattle.kr_defs.proofs.IdLists.{id_itself}
-use Rattle.kr_snapshot.specs.ImageText.{image_text}
 use Rattle.kr_store.specs.Images.{kept_at}
 use Rattle.kr_model.specs.declared.writes.Write.{Write}
 use Rattle.kr_model.specs.Commit.{after_commit, is_end}
@@ -235,11 +233,9 @@ is_near e (negsuc n) image l = absurd (let natural = l.natural in omega (arith, 
 
 -- ---- what is written
 
-pub text_is : (e : Core) (end : ℤ) (image : Image) (old bytes : List ℕ) → IfSome (kept_at e.images e.committed) (λ image. bytes ≡ old ++ image_text e.committed image) → old ≡ [] → Commits e end image → bytes ≡ image_text end image
-text_is e end image old bytes told none c =
-    let there : bytes ≡ old ++ image_text e.committed image =
-    subst (λ (o : Option Image). IfSome o (λ image. bytes ≡ old ++ image_text e.committed image)) (ap (kept_at e.images) c.committed ∙ c.kept) told in
-    there ∙ (ap (λ (o : List ℕ). o ++ image_text e.committed image) none ∙ ap (λ (p : ℤ). image_text p image) c.committed)
-
 pub natural_end : (e : Core) → IsSound e → pos 0 ≤ℤ e.committed
 natural_end e sound = subst (λ (p : ℤ). pos 0 ≤ℤ p) (sym sound.stands.committed) (omega (arith, ints))
+
+pub if_ok_weaker : {T E : Type 0} {P Q : T → Type 0} (r : Result T E) → ((x : T) → P x → Q x) → IfOk r P → IfOk r Q
+if_ok_weaker (Ok x) more is = more x is
+if_ok_weaker (Err fault) more is = tt

@@ -1,4 +1,4 @@
-use Rattle.kr_leaders.proofs.Endings.{balance_done, fault_ends}
+use Rattle.kr_leaders.proofs.Endings.{fault_ends}
 use Rattle.kr_leaders.proofs.call.balance_image.Goals as goal
 
 pub returns-in-Err-clause-ends : goal.returns-in-Err-clause-ends

@@ -5,13 +5,13 @@ use Rattle.kr_model.specs.Engine.{IsEngine, IsSound, outputs_left, writes_in_ord
 use Rattle.kr_model.specs.World.{State}
 use Rattle.kr_leaders.proofs.controller.drop_outputs.Given as goal
 
-abbrev pub invariant-loop-_output : goal.invariant-loop-_output
-invariant-loop-_output l = record {
+abbrev pub invariant-loop-output : goal.invariant-loop-output
+invariant-loop-output l = record {
   sound : IsSound l.engine;
   ordered : IsTrue (writes_in_order l.engine.held);
   options : l.engine.options ≡ l.initial.engine.options;
   stands : (s : State) (writes : List Write) → IsEngine l.initial.engine s writes → IsEngine l.engine s writes;
 }
 
-abbrev pub decreases-loop-_output : goal.decreases-loop-_output
-decreases-loop-_output l = length (outputs_left l.engine)
+abbrev pub decreases-loop-output : goal.decreases-loop-output
+decreases-loop-output l = length (outputs_left l.engine)

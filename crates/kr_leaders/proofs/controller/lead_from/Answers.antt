@@ -12,6 +12,6 @@ returns g c =
     let e = c.in_ok-engine.ensures in
     let fits : FitsSigned w64 c.args.offset = search rules in
     let lead = ap (λ (z : ℤ). events.Lead (pos 1) z (pos 0)) (to_z-of_z w64 c.args.offset fits) in
-    let led = subst (λ (event : Event). IsAfterEvent c.in_ok-take.new.engine c.in_ok-take-2.new.engine event) lead c.in_ok-take-2.ensures in
-    leads c.in_ok-engine.engine c.in_ok-take.new.engine c.in_ok-take-2.new.engine c.args.bytes c.args.offset c.args.store.tip (e.options ∙ c.in_ok-options.ensures.options) e.stands c.in_ok-take.ensures led
+    let led = subst (λ (event : Event). IsAfterEvent c.take.new.engine c.take-2.new.engine event) lead c.in_ok-take-2.ensures in
+    leads c.in_ok-engine.engine c.take.new.engine c.take-2.new.engine c.args.bytes c.args.offset c.args.store.tip (e.options ∙ c.in_ok-options.ensures.options) e.stands c.in_ok-take.ensures led
     (c.images.ensures.read c.args.offset c.args.store.tip c.args.bytes c.requires.image) c.requires.image.natural c.requires.near

@@ -18,6 +18,6 @@ returns-clause-commits g c =
     let commit = ap (λ (z : ℤ). events.Commit (pos 1) z) (to_z-of_z w64 c.tip.result (record { sfits = c.tip.type_inv }) ∙ c.tip.ensures) in
     on_ok_weaker c.take.result
     (λ t offset image l.
-    commits c.args.engine.now c.in_ok-round.new.engine c.drop_outputs.new.engine c.take.new.engine c.args.percent offset image c.records_have_meanings.ensures l c.in_ok-round.ensures.step c.drop_outputs.ensures
+    commits c.args.engine.now c.round.new.engine c.drop_outputs.new.engine c.take.new.engine c.args.percent offset image c.records_have_meanings.ensures l c.in_ok-round.ensures.step c.drop_outputs.ensures
     (subst (λ (event : Event). IsAfterEvent c.drop_outputs.new.engine c.take.new.engine event) commit t))
     c.take.ensures
