@@ -1,9 +1,8 @@
 -- What a balance answers, of what was read and what was written.
 use Rattle.std.proofs.Common.{◌≡◌, ◌∙◌, ℕ, ℤ, ◌≤◌, ◌<◌, ◌⊎◌, inl, inr, true, false, List, ◌++◌, length, Option, Some, None, Result, Ok, Err, refl, sym, ap, subst, arith}
 use Rattle.std.proofs.lemmas.List.{append-nil}
-use Rattle.std.specs.Prelude.{OnOk, OnErr, IfErr, IsErrOf}
-use Rattle.std.specs.Io.KnownBytes.{Appends, Consumes, IsAtEnd, Keeps}
-use Rattle.kr_base.specs.FailedPuts.{AppendsFront}
+use Rattle.std.specs.Prelude.{IsErrOf}
+use Rattle.std.specs.Io.KnownBytes.{Consumes, IsAtEnd, Keeps}
 use Rattle.kr_defs.specs.Image.{Image, IsValid}
 use Rattle.kr_fold.specs.declared.fault.ToolFault.{ToolFault}
 use Rattle.kr_fold.specs.declared.fault.ToolFault.TheVariants as faults
@@ -60,19 +59,6 @@ module _ (left left' : Option (List ℕ)) where
   fault_ends percent written faults.NoMemory is = (is, kept_so written)
   fault_ends percent written faults.WriteFault is = absurd is
   fault_ends percent written faults.TooLong is = (is, kept_so written)
-
-  -- memory runs out behind the input
-  pub forgotten : (bytes : List ℕ) → TookAll (Exactly bytes) left left' → IsBalanceFault left left' faults.NoMemory
-  forgotten bytes all = record { taken = all.taken; took = all.took; few = let short = all.short in omega (arith, short) }
-
-  pub balance_done : (percent : ℕ) (written written' : Option (List ℕ)) (text : List ℕ) (result : Answer) → IsBalanced percent (Exactly text) left left'
-      → OnOk result (Appends written written' text) → OnErr result (AppendsFront written written' text) → IfErr result (λ fault. fault ≡ faults.WriteFault)
-      → BalanceEnds percent left left' written written' result
-  balance_done percent written written' text (Ok done) b ok err fault =
-      record { offset = b.offset; image = b.image; ends = b.ends; near = b.near; balances = b.balances; wrote = subst (Appends written written') (sym b.wrote) ok }
-  balance_done percent written written' text (Err found) b ok err fault =
-      subst (λ (f : ToolFault). BalanceEnds percent left left' written written' (Err f)) (sym fault)
-      (record { offset = b.offset; image = b.image; ends = b.ends; near = b.near; balances = b.balances; wrote = subst (AppendsFront written written') (sym b.wrote) err })
 
 -- for what is told of a break
 pub no_balance_line : (at percent : ℕ) (left left' written written' : Option (List ℕ)) → BalanceEnds percent left left' written written' (Err (faults.Malformed at)) → BalanceEnds percent left left' written written' (Err faults.NoMemory)

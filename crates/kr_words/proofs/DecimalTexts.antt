@@ -1,10 +1,10 @@
 -- A text spells a number in decimal just where it is what the number is written as.
-use Rattle.std.proofs.Common.{◌≡◌, ◌<◌, ◌≤◌, ℕ, zero, suc, ◌+◌, ◌-◌, ◌^◌, Bool, true, false, cond, List, [], ◌∷◌, length, get_or, refl, sym, ap, subst, ◌∙◌, arith, rules}
+use Rattle.std.proofs.Common.{◌≡◌, ◌<◌, ◌≤◌, ℕ, zero, suc, ◌^◌, Bool, true, false, cond, List, [], ◌∷◌, length, get_or, refl, sym, ap, subst, ◌∙◌, arith, rules}
 use Rattle.std.proofs.lemmas.Bool.Decides.{nat_tests}
 use Rattle.std.proofs.lemmas.Fmt.{decimal_digit, decimal-digits_value, digits_decimal, digits_value-decimal, first_decimal}
 use Rattle.std.proofs.lemmas.Str.Parse.{IsNumeralModel, numerals_by_fold}
 use Rattle.std.specs.Fmt.{decimal}
-use Rattle.std.specs.Prelude.{◌&&◌, ◌||◌, ◌==◌, ◌↔◌, nat_le, not, unwrap_or, Option, Some, None}
+use Rattle.std.specs.Prelude.{◌&&◌, ◌↔◌, nat_le, unwrap_or, Option, Some, None}
 use Rattle.kr_defs.specs.Texts.{are_digits, decimal_up_to, is_led, number_behind}
 
 own : IsNumeralModel (λ ds. are_digits ds ≡ true) (number_behind 0)

@@ -10,6 +10,8 @@ pub(crate) fn percent_of(word: &str) -> Option<u8>
     ensures { (percent : ℕ) → (result ≡ Some percent) ↔
         ((percent ≤ 100) × (word.now ≡ decimal percent)) }
 {
-    let percent = decimal_up_to(100, word.as_bytes())?;
-    Some(percent as u8)
+    match decimal_up_to(100, word.as_bytes()) {
+        Some(percent) => Some(percent as u8),
+        None => None,
+    }
 }
