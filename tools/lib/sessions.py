@@ -183,17 +183,17 @@ class TooSlow(Exception):
     """A run was ended past the seconds of processor time that it was given."""
 
 
-def run(tool, data, limit=0):
+def run(tool, data, limit=0, words=("session",)):
     """Seconds of processor time, the peak of resident memory in bytes (some 10 MB where it is less), and what was written."""
     with tempfile.TemporaryFile() as given, tempfile.TemporaryFile() as told:
         given.write(data)
         given.seek(0)
-        words = [sys.executable, "-I", "-S", "-c", LAUNCHER, str(limit), tool, "session"]
+        words = [sys.executable, "-I", "-S", "-c", LAUNCHER, str(limit), tool, *words]
         done = subprocess.run(words, stdin=given, stdout=told, stderr=subprocess.PIPE, check=True)
         status, seconds, peak = done.stderr.decode().split()[-3:]
         if limit and status == "-24":  # SIGXCPU
             raise TooSlow
         if status != "0":
-            sys.exit(f"{tool} session ended with {status}")
+            sys.exit(f"{tool} {words[0]} ended with {status}")
         told.seek(0)
         return float(seconds), int(peak) * 1024, told.read()

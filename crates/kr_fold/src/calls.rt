@@ -1,10 +1,11 @@
-//! The two calls.
+//! The calls.
 
 ghost use Rattle.std.specs.Prelude.{◌≡◌, ◌≤◌, ◌≤ℤ◌, pos, IfOk, IfErr, IsErrOf, OnOk, OnErr};
 ghost use Rattle.std.specs.Io.KnownBytes.{Appends};
 ghost use Rattle.kr_base.specs.Causes.{Rose, Still};
 ghost use Rattle.kr_base.specs.FailedPuts.{AppendsFront};
 ghost use Rattle.kr_wire.specs.Grammar.{Exactly};
+ghost use Rattle.kr_snapshot.specs.Grammar.{IsImage};
 ghost use Rattle.kr_snapshot.specs.ImageText.{image_text};
 ghost use Rattle.kr_fold.specs.Endings.{FoldEnds, FoldsWhole, FoldsNoMore, DumpEnds, Dumps, DumpsWhole, IsInputFault, RefusesBroken, RefusesLonger, TookAll};
 ghost use Rattle.kr_fold.specs.inner.ImageParts.{IsLongInput};
@@ -146,12 +147,27 @@ pub fn dump<S: Source, K: Sink>(
     dump_image(alloc, input, output)
 }
 
-// The text of the image that all of the input is.
-fn read_text<S: Source>(alloc: Global, input: &mut S) -> Result<Bytes, ToolFault>
-    ensures text { IfOk result (λ text. Dumps (Exactly text) (S.left input.old)
+/// An image that an input was.
+#[derive(Drop)]
+pub struct InputImage {
+    /// All bytes of the input.
+    pub bytes: Vec<u8>,
+    /// The first place behind the image.
+    pub offset: i64,
+    /// The image.
+    pub store: ImageStore,
+}
+
+/// Takes an image to the end of the input.
+///
+/// It answers Malformed where `dump` does; ReadFault where a read failed; NoMemory where memory ran out.
+pub fn take_image<S: Source>(alloc: Global, input: &mut S) -> Result<InputImage, ToolFault>
+    ensures image { IfOk result (λ i. IsImage i.offset i.store.tip i.bytes.items) }
+    ensures took { IfOk result (λ i. TookAll (Exactly i.bytes.items) (S.left input.old)
         (S.left input.new)) }
     ensures fault { IfErr result
         (λ fault. IsInputFault (S.left input.old) (S.left input.new) fault) }
+    // A fault is told only where the source's count rose in this call.
     ensures read { IsErrOf result ToolFault.ReadFault →
         Rose (S.faults input.old) (S.faults input.new) }
 {
@@ -163,7 +179,27 @@ fn read_text<S: Source>(alloc: Global, input: &mut S) -> Result<Bytes, ToolFault
         Ok(image) => image,
         Err(fault) => return Err(fault),
     };
-    Ok(kr_dump::dump(alloc, &Seen::tip(&store), offset)?)
+    Ok(InputImage {
+        bytes,
+        offset,
+        store,
+    })
+}
+
+// The text of the image that all of the input is.
+fn read_text<S: Source>(alloc: Global, input: &mut S) -> Result<Bytes, ToolFault>
+    ensures text { IfOk result (λ text. Dumps (Exactly text) (S.left input.old)
+        (S.left input.new)) }
+    ensures fault { IfErr result
+        (λ fault. IsInputFault (S.left input.old) (S.left input.new) fault) }
+    ensures read { IsErrOf result ToolFault.ReadFault →
+        Rose (S.faults input.old) (S.faults input.new) }
+{
+    let image = match take_image(alloc, input) {
+        Ok(image) => image,
+        Err(fault) => return Err(fault),
+    };
+    Ok(kr_dump::dump(alloc, &Seen::tip(&image.store), image.offset)?)
 }
 
 fn dump_image<S: Source, K: Sink>(

@@ -8,5 +8,5 @@ mod image;
 mod log;
 mod piece;
 
-pub use calls::{dump, fold};
+pub use calls::{InputImage, dump, fold, take_image};
 pub use fault::ToolFault;

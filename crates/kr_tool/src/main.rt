@@ -1,5 +1,5 @@
-//! The tool: a session of the controller, a log folded to its image, or an image's text, from standard input to standard
-//! output; or what comes of the session of a number.
+//! The tool: a session of the controller, a log folded to its image, an image's text, or an image with balanced leaders,
+//! from standard input to standard output; or what comes of the session of a number.
 #![tactic(auto)]
 
 use kr_base::{ReadSource, WriteSink};

@@ -1,10 +1,10 @@
 -- A text spells a number in decimal just where it is what the number is written as.
-use Rattle.std.proofs.Common.{◌≡◌, ◌<◌, ◌≤◌, ℕ, zero, suc, ◌+◌, ◌-◌, ◌^◌, Bool, true, false, cond, List, [], ◌∷◌, length, get_or, refl, sym, ap, subst, ◌∙◌, arith, rules}
+use Rattle.std.proofs.Common.{◌≡◌, ◌<◌, ◌≤◌, ℕ, zero, suc, ◌^◌, Bool, true, false, cond, List, [], ◌∷◌, length, get_or, refl, sym, ap, subst, ◌∙◌, arith, rules}
 use Rattle.std.proofs.lemmas.Bool.Decides.{nat_tests}
 use Rattle.std.proofs.lemmas.Fmt.{decimal_digit, decimal-digits_value, digits_decimal, digits_value-decimal, first_decimal}
 use Rattle.std.proofs.lemmas.Str.Parse.{IsNumeralModel, numerals_by_fold}
 use Rattle.std.specs.Fmt.{decimal}
-use Rattle.std.specs.Prelude.{◌&&◌, ◌||◌, ◌==◌, ◌↔◌, nat_le, not, unwrap_or, Option, Some, None}
+use Rattle.std.specs.Prelude.{◌&&◌, ◌↔◌, nat_le, unwrap_or, Option, Some, None}
 use Rattle.kr_defs.specs.Texts.{are_digits, decimal_up_to, is_led, number_behind}
 
 own : IsNumeralModel (λ ds. are_digits ds ≡ true) (number_behind 0)
@@ -36,23 +36,23 @@ is_led_decimal : (n : ℕ) → n < 2 ^ 64 → is_led (decimal n) ≡ true
 is_led_decimal zero low = ap is_led (decimal_digit 0 (omega arith))
 is_led_decimal (suc n) low = led_other (decimal (suc n)) (first_decimal (suc n) (omega arith) low)
 
-low_so : (n : ℕ) → nat_le n (2 ^ 32 - 1) ≡ true → n < 2 ^ 32
-low_so n is = grind (arith, nat_tests)
+low_so : (n greatest : ℕ) → nat_le n greatest ≡ true → n ≤ greatest
+low_so n greatest is = grind (arith, nat_tests)
 
-so_low : (n : ℕ) → n < 2 ^ 32 → nat_le n (2 ^ 32 - 1) ≡ true
-so_low n is = grind (arith, nat_tests)
+so_low : (n greatest : ℕ) → n ≤ greatest → nat_le n greatest ≡ true
+so_low n greatest is = grind (arith, nat_tests)
 
-pub spells : (text : List ℕ) (number : ℕ) → (decimal_up_to (2 ^ 32 - 1) text ≡ Some number) ↔ ((number < 2 ^ 32) × (text ≡ decimal number))
-spells text number = (
+pub spells : (text : List ℕ) (greatest number : ℕ) → greatest < 2 ^ 32 → (decimal_up_to greatest text ≡ Some number) ↔ ((number ≤ greatest) × (text ≡ decimal number))
+spells text greatest number small = (
   λ is.
       let found = spelled (is_led text) (are_digits text) _ (number_behind 0 text) number is in
       let first = led_first text found.is_led in
-      let low = low_so (number_behind 0 text) found.is_low in
-      (subst (λ (n : ℕ). n < 2 ^ 32) found.value low, sym (decimal-digits_value own text found.are_digits first.0 first.1 (omega (arith, low))) ∙ ap decimal found.value),
+      let low = low_so (number_behind 0 text) greatest found.is_low in
+      (subst (λ (n : ℕ). n ≤ greatest) found.value low, sym (decimal-digits_value own text found.are_digits first.0 first.1 (omega (arith, low, small))) ∙ ap decimal found.value),
   λ (low, is).
-      let wide : number < 2 ^ 64 = omega (arith, low) in
+      let wide : number < 2 ^ 64 = omega (arith, low, small) in
       let led = ap is_led is ∙ is_led_decimal number wide in
       let digits = ap are_digits is ∙ digits_decimal own number wide in
       let value = ap (number_behind 0) is ∙ digits_value-decimal own number wide in
-      rw (led, digits, value, so_low number low) refl,
+      rw (led, digits, value, so_low number greatest low) refl,
 )

@@ -1,2 +1,3 @@
 pub mod DecimalTexts
 pub mod Statuses
+mod NumberedWords

@@ -10,6 +10,7 @@ use Rattle.kr_fold.specs.declared.fault.ToolFault.TheVariants as faults
 use Rattle.kr_fold.specs.Endings.{DumpEnds, DumpsWhole, FoldEnds, FoldsNoMore, FoldsWhole, RefusesBroken as BrokenImage, RefusesLonger}
 use Rattle.kr_fold.proofs.CallEnds.{input_forgotten}
 use Rattle.kr_fold.proofs.LogReading.{break_forgotten}
+use Rattle.kr_leaders.specs.Endings.{BalancesWhole, RefusesPast}
 use Rattle.kr_words.specs.Notes.{IsMalformed, IsOf, status_of}
 
 abbrev pub Same : Status → Status → Type 0
@@ -97,6 +98,14 @@ module _ (at : ℕ) where
   pub no_dumps_whole : (left : Option (List ℕ)) → DumpsWhole left (Err (faults.Malformed at)) → DumpsWhole left (Err faults.NoMemory)
   no_dumps_whole None whole = tt
   no_dumps_whole (Some stream) whole = λ offset image is short. inr refl
+
+  pub no_balances_whole : (left : Option (List ℕ)) → BalancesWhole left (Err (faults.Malformed at)) → BalancesWhole left (Err faults.NoMemory)
+  no_balances_whole None whole = tt
+  no_balances_whole (Some stream) whole = λ offset image is short near. inr refl
+
+  pub no_past : (left : Option (List ℕ)) → RefusesPast left (Err (faults.Malformed at)) → RefusesPast left (Err faults.NoMemory)
+  no_past None past = tt
+  no_past (Some stream) past = λ offset image is short far. inr refl
 
   pub no_dumps_broken : (left : Option (List ℕ)) → BrokenImage left (Err (faults.Malformed at)) → BrokenImage left (Err faults.NoMemory)
   no_dumps_broken None broken = tt

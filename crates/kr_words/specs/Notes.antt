@@ -1,5 +1,5 @@
 -- The words of the tool, and the line of notes of each status (this project's own).
-use Rattle.std.specs.Prelude.{◌≡◌, ◌<◌, ℕ, ◌^◌, ◌⊎◌, Result, Ok, Err, List, [], ◌∷◌, ◌++◌, codes}
+use Rattle.std.specs.Prelude.{◌≡◌, ◌<◌, ◌≤◌, ℕ, ◌^◌, ◌⊎◌, Result, Ok, Err, List, [], ◌∷◌, ◌++◌, codes}
 use Rattle.std.specs.Fmt.{decimal}
 use Rattle.kr_fold.specs.declared.fault.ToolFault.{ToolFault}
 use Rattle.kr_fold.specs.declared.fault.ToolFault.TheVariants as faults
@@ -20,10 +20,14 @@ IsDump words = words ≡ codes "dump" ∷ []
 abbrev pub IsMake : List (List ℕ) → ℕ → Type 0
 IsMake words seed = (seed < 2 ^ 32) × (words ≡ codes "make" ∷ decimal seed ∷ [])
 
-abbrev pub AreServed : List (List ℕ) → Type 0
-AreServed words = IsSession words ⊎ IsFold words ⊎ IsDump words ⊎ ((seed : ℕ) × IsMake words seed)
+-- `balance` and a percentage, without leading zeros
+abbrev pub IsBalance : List (List ℕ) → ℕ → Type 0
+IsBalance words percent = (percent ≤ 100) × (words ≡ codes "balance" ∷ decimal percent ∷ [])
 
--- the status of what `fold` and `dump` answer
+abbrev pub AreServed : List (List ℕ) → Type 0
+AreServed words = IsSession words ⊎ IsFold words ⊎ IsDump words ⊎ ((seed : ℕ) × IsMake words seed) ⊎ ((percent : ℕ) × IsBalance words percent)
+
+-- the status of what `fold`, `dump` and `balance` answer
 abbrev pub status_of : Result (Unit {0}) ToolFault → Status
 status_of (Ok done) = statuses.Done
 status_of (Err (faults.Malformed at)) = statuses.Malformed at
@@ -44,7 +48,7 @@ line text = text ++ 10 ∷ []
 -- the line of a status, none where the job was done
 abbrev pub note_of : Status → List ℕ
 note_of statuses.Done = []
-note_of statuses.Usage = line (codes "usage: kr_tool session | fold | dump | make N")
+note_of statuses.Usage = line (codes "usage: kr_tool session | fold | dump | make N | balance P")
 note_of (statuses.Malformed at) = line (codes "malformed at " ++ decimal at)
 note_of statuses.ReadFault = line (codes "read fault")
 note_of statuses.WriteFault = line (codes "write fault")

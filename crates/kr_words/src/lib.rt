@@ -2,6 +2,7 @@
 #![tactic(auto)]
 
 mod making;
+mod percents;
 mod running;
 mod seeds;
 

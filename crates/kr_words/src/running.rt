@@ -1,20 +1,23 @@
 //! The top call: one run of the tool.
 
-ghost use Rattle.std.specs.Prelude.{◌≡◌, ◌⊎◌, ◌↔◌, ℕ, Some, [], ◌++◌, ◌∷◌, IfOk, IsTrue, codes, string_bytes};
+ghost use Rattle.std.specs.Prelude.{◌≡◌, ◌⊎◌, ◌↔◌, ℕ, Some, [], ◌++◌, ◌∷◌, IfOk, IsSome, IsTrue, codes, string_bytes};
 ghost use Rattle.std.specs.Fmt.{decimal};
 ghost use Rattle.std.specs.Io.KnownBytes.{Appends};
 ghost use Rattle.kr_base.specs.Causes.{Rose, Still};
 ghost use Rattle.kr_session_loop.specs.Endings.{BreaksRightly, EndsWith, RefusesBroken, ServesWhole};
 ghost use Rattle.kr_fold.specs.Endings.{DumpEnds, DumpsWhole, FoldEnds, FoldsNoMore, FoldsWhole, RefusesBroken as RefusesBrokenImage, RefusesLonger};
+ghost use Rattle.kr_leaders.specs.Endings.{BalanceEnds, BalancesWhole, RefusesPast};
 ghost use Rattle.kr_words.specs.Notes as notes;
 ghost use Rattle.kr_words.specs.Making.{MakeEnds, MakesWhole};
-ghost use Rattle.kr_words.specs.Notes.{AreServed, IsDump, IsFold, IsMake, IsOf, IsSession, note_of, line, IsMalformed};
+ghost use Rattle.kr_words.specs.Notes.{AreServed, IsBalance, IsDump, IsFold, IsMake, IsOf, IsSession, note_of, line, IsMalformed};
 
 use crate::making::write_summary;
+use crate::percents::percent_of;
 use crate::seeds::seed_of;
 use kr_base::{Sink, Source};
 use kr_defs::Text;
 use kr_fold::{ToolFault, dump, fold};
+use kr_leaders::balance;
 use kr_process::{Status, WordsFault};
 use kr_session_loop::session;
 use std::alloc::{AllocError, Global};
@@ -22,8 +25,9 @@ use std::alloc::{AllocError, Global};
 /// Runs the tool by its word: `session` serves the session that comes from `input` and writes its output frames to
 /// `output`; `fold` reads record batches from place 0 to the end of the input and writes the image that they make;
 /// `dump` reads an image and writes its text; `make N` leads a controller through the session of the number, and writes what
-/// came of it. The line of a status other than Done goes to `notes`; a fault of `notes` changes no status. All other words
-/// are answered Usage.
+/// came of it; `balance P` reads an image, gives back to their preferred leaders the partitions of the brokers of which more
+/// than P % are imbalanced, and writes the image behind that. The line of a status other than Done goes to `notes`; a fault
+/// of `notes` changes no status. All other words are answered Usage.
 pub fn run<S: Source, K: Sink, E: Sink>(
     alloc: Global,
     words: &[Text],
@@ -40,6 +44,9 @@ pub fn run<S: Source, K: Sink, E: Sink>(
         (K.written output.old) (K.written output.new)) result }
     ensures make { (seed : ℕ) → IsMake words.now seed → IsOf (MakeEnds seed (S.left input.old)
         (S.left input.new) (K.written output.old) (K.written output.new)) result }
+    ensures balance { (percent : ℕ) → IsBalance words.now percent →
+        IsOf (BalanceEnds percent (S.left input.old) (S.left input.new) (K.written output.old)
+        (K.written output.new)) result }
 
     // Usage is told exactly where the words aren't served, and then nothing is taken or written.
     ensures usage { result ≡ Status.Usage → AreServed words.now → ⊥ }
@@ -79,6 +86,24 @@ pub fn run<S: Source, K: Sink, E: Sink>(
         IsOf (RefusesLonger (S.left input.old)) result }
     ensures make_complete { (seed : ℕ) → IsMake words.now seed →
         Still (K.faults output.old) (K.faults output.new) → IsOf MakesWhole result }
+
+    // Likewise an image is balanced, or refused: also where it is past the last place at which a leader begins.
+    ensures balance_complete { (percent : ℕ) → IsBalance words.now percent →
+        Still (S.faults input.old) (S.faults input.new) →
+        Still (K.faults output.old) (K.faults output.new) →
+        IsOf (BalancesWhole (S.left input.old)) result }
+    ensures balance_past { (percent : ℕ) → IsBalance words.now percent →
+        Still (S.faults input.old) (S.faults input.new) →
+        Still (K.faults output.old) (K.faults output.new) →
+        IsOf (RefusesPast (S.left input.old)) result }
+    ensures balance_broken { (percent : ℕ) → IsBalance words.now percent →
+        Still (S.faults input.old) (S.faults input.new) →
+        Still (K.faults output.old) (K.faults output.new) →
+        IsOf (RefusesBrokenImage (S.left input.old)) result }
+    ensures balance_longer { (percent : ℕ) → IsBalance words.now percent →
+        Still (S.faults input.old) (S.faults input.new) →
+        Still (K.faults output.old) (K.faults output.new) →
+        IsOf (RefusesLonger (S.left input.old)) result }
 
     // The notes get exactly the status's line.
     ensures notes { Still (E.faults notes.old) (E.faults notes.new) →
@@ -128,6 +153,9 @@ fn serve_words<S: Source, K: Sink>(
         (K.written output.old) (K.written output.new)) result }
     ensures make { (seed : ℕ) → IsMake words.now seed → IsOf (MakeEnds seed (S.left input.old)
         (S.left input.new) (K.written output.old) (K.written output.new)) result }
+    ensures balance { (percent : ℕ) → IsBalance words.now percent →
+        IsOf (BalanceEnds percent (S.left input.old) (S.left input.new) (K.written output.old)
+        (K.written output.new)) result }
     ensures usage { result ≡ Status.Usage → AreServed words.now → ⊥ }
     ensures served { (AreServed words.now → ⊥) → result ≡ Status.Usage }
     ensures idle { result ≡ Status.Usage → EndsWith (S.left input.old) (S.left input.new)
@@ -157,6 +185,22 @@ fn serve_words<S: Source, K: Sink>(
         IsOf (RefusesLonger (S.left input.old)) result }
     ensures make_complete { (seed : ℕ) → IsMake words.now seed →
         Still (K.faults output.old) (K.faults output.new) → IsOf MakesWhole result }
+    ensures balance_complete { (percent : ℕ) → IsBalance words.now percent →
+        Still (S.faults input.old) (S.faults input.new) →
+        Still (K.faults output.old) (K.faults output.new) →
+        IsOf (BalancesWhole (S.left input.old)) result }
+    ensures balance_past { (percent : ℕ) → IsBalance words.now percent →
+        Still (S.faults input.old) (S.faults input.new) →
+        Still (K.faults output.old) (K.faults output.new) →
+        IsOf (RefusesPast (S.left input.old)) result }
+    ensures balance_broken { (percent : ℕ) → IsBalance words.now percent →
+        Still (S.faults input.old) (S.faults input.new) →
+        Still (K.faults output.old) (K.faults output.new) →
+        IsOf (RefusesBrokenImage (S.left input.old)) result }
+    ensures balance_longer { (percent : ℕ) → IsBalance words.now percent →
+        Still (S.faults input.old) (S.faults input.new) →
+        Still (K.faults output.old) (K.faults output.new) →
+        IsOf (RefusesLonger (S.left input.old)) result }
 {
     match word_of(words) {
         None => Status::Usage,
@@ -164,6 +208,7 @@ fn serve_words<S: Source, K: Sink>(
         Some(Word::Fold) => status_of(fold(alloc, input, output)),
         Some(Word::Dump) => status_of(dump(alloc, input, output)),
         Some(Word::Make(seed)) => status_of(write_summary(alloc, seed, output)),
+        Some(Word::Balance(percent)) => status_of(balance(alloc, percent, input, output)),
     }
 }
 
@@ -174,6 +219,7 @@ enum Word {
     Fold,
     Dump,
     Make(u32),
+    Balance(u8),
 }
 
 // The word that is one text alone.
@@ -182,6 +228,7 @@ fn lone_word(word: &Text) -> Option<Word>
     ensures fold { (result ≡ Some Word.Fold) ↔ (word.now ≡ codes "fold") }
     ensures dump { (result ≡ Some Word.Dump) ↔ (word.now ≡ codes "dump") }
     ensures make { (seed : ℕ) → result ≡ Some (Word.Make seed) → ⊥ }
+    ensures balance { (percent : ℕ) → result ≡ Some (Word.Balance percent) → ⊥ }
 {
     match word.as_str() {
         "session" => Some(Word::Session),
@@ -198,6 +245,8 @@ fn make_word(word: &Text, number: &Text) -> Option<Word>
     ensures dump { result ≡ Some Word.Dump → ⊥ }
     ensures make { (seed : ℕ) →
         (result ≡ Some (Word.Make seed)) ↔ IsMake (word.now ∷ number.now ∷ []) seed }
+    ensures balance { (percent : ℕ) → result ≡ Some (Word.Balance percent) → ⊥ }
+    ensures word { IsSome result → word.now ≡ codes "make" }
 {
     if word.as_str() != "make" {
         return None;
@@ -208,16 +257,52 @@ fn make_word(word: &Text, number: &Text) -> Option<Word>
     }
 }
 
+// `balance` and its percentage.
+fn balance_word(word: &Text, number: &Text) -> Option<Word>
+    ensures session { result ≡ Some Word.Session → ⊥ }
+    ensures fold { result ≡ Some Word.Fold → ⊥ }
+    ensures dump { result ≡ Some Word.Dump → ⊥ }
+    ensures make { (seed : ℕ) → result ≡ Some (Word.Make seed) → ⊥ }
+    ensures balance { (percent : ℕ) →
+        (result ≡ Some (Word.Balance percent)) ↔ IsBalance (word.now ∷ number.now ∷ []) percent }
+{
+    if word.as_str() != "balance" {
+        return None;
+    }
+    match percent_of(number.as_str()) {
+        Some(percent) => Some(Word::Balance(percent)),
+        None => None,
+    }
+}
+
+// The word that a text and its number are.
+fn numbered_word(word: &Text, number: &Text) -> Option<Word>
+    ensures session { result ≡ Some Word.Session → ⊥ }
+    ensures fold { result ≡ Some Word.Fold → ⊥ }
+    ensures dump { result ≡ Some Word.Dump → ⊥ }
+    ensures make { (seed : ℕ) →
+        (result ≡ Some (Word.Make seed)) ↔ IsMake (word.now ∷ number.now ∷ []) seed }
+    ensures balance { (percent : ℕ) →
+        (result ≡ Some (Word.Balance percent)) ↔ IsBalance (word.now ∷ number.now ∷ []) percent }
+{
+    match make_word(word, number) {
+        Some(made) => Some(made),
+        None => balance_word(word, number),
+    }
+}
+
 // The word that the words are.
 fn word_of(words: &[Text]) -> Option<Word>
     ensures session { (result ≡ Some Word.Session) ↔ IsSession words.now }
     ensures fold { (result ≡ Some Word.Fold) ↔ IsFold words.now }
     ensures dump { (result ≡ Some Word.Dump) ↔ IsDump words.now }
     ensures make { (seed : ℕ) → (result ≡ Some (Word.Make seed)) ↔ IsMake words.now seed }
+    ensures balance { (percent : ℕ) →
+        (result ≡ Some (Word.Balance percent)) ↔ IsBalance words.now percent }
 {
     match words {
         [word] => lone_word(word),
-        [word, number] => make_word(word, number),
+        [word, number] => numbered_word(word, number),
         _ => None,
     }
 }
@@ -243,7 +328,10 @@ fn tell<E: Sink>(alloc: Global, status: Status, notes: &mut E) -> Status
 {
     match status {
         Status::Done => {}
-        Status::Usage => put_line(b"usage: kr_tool session | fold | dump | make N\n", notes),
+        Status::Usage => put_line(
+            b"usage: kr_tool session | fold | dump | make N | balance P\n",
+            notes,
+        ),
         Status::Malformed { at } => return tell_malformed(alloc, at, notes),
         Status::ReadFault => put_line(b"read fault\n", notes),
         Status::WriteFault => put_line(b"write fault\n", notes),

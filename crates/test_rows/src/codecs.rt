@@ -1,9 +1,9 @@
-//! Rows on readers and writers of bytes, and on sessions, folds and dumps.
+//! Rows on readers and writers of bytes, and on sessions, folds, dumps and balances.
 
 use std::alloc::{AllocError, Global};
 use testlib_codec_answers::{
-    Primitive, Unanswered, batch_answer, dump_answer, fold_answer, image_answer, message_answer,
-    primitive_answer, record_answer, session_answer,
+    Primitive, Unanswered, balance_answer, batch_answer, dump_answer, fold_answer, image_answer,
+    message_answer, primitive_answer, record_answer, session_answer,
 };
 use testlib_words::{Fields, RowFault};
 
@@ -101,4 +101,11 @@ pub(crate) fn fold_row(alloc: Global, fields: &mut Fields) -> Result<String, Row
 pub(crate) fn dump_row(alloc: Global, fields: &mut Fields) -> Result<String, RowFault> {
     let bytes = fields.bytes(alloc)?;
     dump_answer(alloc, bytes)
+}
+
+/// A percentage and an image.
+pub(crate) fn balance_row(alloc: Global, fields: &mut Fields) -> Result<String, RowFault> {
+    let percent = fields.number()?;
+    let bytes = fields.bytes(alloc)?;
+    Ok(balance_answer(alloc, percent, bytes)?)
 }

@@ -20,10 +20,11 @@ pub(crate) enum Kind {
     Images,
     Fold,
     Dump,
+    Balance,
 }
 
 /// Each kind, with the word that its rows begin with.
-pub(crate) const KINDS: [(Kind, &str); 17] = [
+pub(crate) const KINDS: [(Kind, &str); 18] = [
     (Kind::Primitives, "primitives"),
     (Kind::Records, "records"),
     (Kind::Batches, "batches"),
@@ -41,6 +42,7 @@ pub(crate) const KINDS: [(Kind, &str); 17] = [
     (Kind::Images, "images"),
     (Kind::Fold, "fold"),
     (Kind::Dump, "dump"),
+    (Kind::Balance, "balance"),
 ];
 
 impl Kind {

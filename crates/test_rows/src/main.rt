@@ -34,7 +34,7 @@ enum Form {
 #[derive(Drop)]
 struct Tally {
     form: Form,
-    by_kind: [Counts; 17],
+    by_kind: [Counts; 18],
 }
 
 fn main(rt: HostRuntime) -> ExitCode {
@@ -44,7 +44,7 @@ fn main(rt: HostRuntime) -> ExitCode {
     };
     let mut tally = Tally {
         form,
-        by_kind: [Counts::NONE; 17],
+        by_kind: [Counts::NONE; 18],
     };
     compare_input(&rt, &mut tally)
 }

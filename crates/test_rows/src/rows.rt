@@ -1,7 +1,8 @@
 //! What a row asks, read from its fields, and the answer.
 
 use crate::codecs::{
-    batch_row, dump_row, fold_row, image_row, message_row, primitive_row, record_row, session_row,
+    balance_row, batch_row, dump_row, fold_row, image_row, message_row, primitive_row, record_row,
+    session_row,
 };
 use crate::heartbeats::heartbeats_row;
 use crate::kinds::Kind;
@@ -38,5 +39,6 @@ fn answer_to(alloc: Global, kind: Kind, fields: &mut Fields) -> Result<String, R
         Kind::Images => image_row(alloc, fields),
         Kind::Fold => fold_row(alloc, fields),
         Kind::Dump => dump_row(alloc, fields),
+        Kind::Balance => balance_row(alloc, fields),
     }
 }

@@ -66,7 +66,7 @@ fn run_over(alloc: Global, words: &[&str], bytes: Vec<u8>, setup: Setup) -> Resu
 
 #[test]
 fn other_words(rt: HostRuntime) -> Result<(), Fail> {
-    let lists: [&[&str]; 10] = [
+    let lists: [&[&str]; 15] = [
         &[],
         &["sessions"],
         &["Session"],
@@ -77,6 +77,11 @@ fn other_words(rt: HostRuntime) -> Result<(), Fail> {
         &["make", "+1"],
         &["make", ""],
         &["make", "1", "1"],
+        &["balance"],
+        &["balance", "07"],
+        &["balance", "101"],
+        &["balance", "+1"],
+        &["balance", "1", "1"],
     ];
     for words in lists {
         let ran = run_words(rt.alloc(), words, WHOLE)?;
@@ -88,7 +93,7 @@ fn other_words(rt: HostRuntime) -> Result<(), Fail> {
         );
         assert_eq!(rt;
             ran.notes.written(),
-            b"usage: kr_tool session | fold | dump | make N\n".as_slice(),
+            b"usage: kr_tool session | fold | dump | make N | balance P\n".as_slice(),
             "of {words:?}"
         );
     }

@@ -1,5 +1,5 @@
 -- The words of an image's fault tell what reading gives, unless memory ran out.
-use Rattle.std.proofs.Common.{◌≡◌, ℕ, ℤ, true, false, List, refl, sym, Result, Ok, Err}
+use Rattle.std.proofs.Common.{◌≡◌, ℕ, ℤ, List, refl, sym, Result, Ok, Err}
 use Rattle.std.specs.Prelude.{IfOk, IsErr}
 use Rattle.kr_defs.specs.Image.{Image}
 use Rattle.kr_snapshot.specs.declared.fault.ImageFault.{ImageFault}

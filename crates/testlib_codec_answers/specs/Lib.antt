@@ -1,3 +1,4 @@
+pub mod BalanceWords
 pub mod FoldWords
 pub mod ImageWords
 pub mod MessageWords

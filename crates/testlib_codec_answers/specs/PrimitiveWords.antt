@@ -1,6 +1,6 @@
 -- The words in which a row tells what a reader of primitives answers (this project's own): the value, what is written
 -- for it in hex, and how many bytes are left, or the fault.
-use Rattle.std.specs.Prelude.{◌≡◌, ℕ, ℤ, ◌/◌, ◌%◌, ◌^◌, Bool, List, Option, Some, None, length, Result, Ok, Err, codes}
+use Rattle.std.specs.Prelude.{◌≡◌, ℕ, ℤ, ◌/◌, ◌%◌, ◌^◌, Bool, List, Option, Some, None, length, Ok, Err, codes}
 use Rattle.std.specs.Fmt.{decimal, signed_decimal}
 use Rattle.std.specs.Int.{Width, w8, w16, w32, w64}
 use Rattle.hex.specs.Hex.{encode_lower}

@@ -1,5 +1,5 @@
 -- The words in which a row tells how a session ended (this project's own).
-use Rattle.std.specs.Prelude.{◌≡◌, ℕ, List, [], ◌++◌, length, Option, Some, codes}
+use Rattle.std.specs.Prelude.{◌≡◌, ℕ, List, [], ◌++◌, length, Some, codes}
 use Rattle.std.specs.Fmt.{decimal}
 use Rattle.kr_process.specs.declared.status.Status.{Status}
 use Rattle.kr_process.specs.declared.status.Status.TheVariants as statuses

@@ -9,8 +9,8 @@ use kr_fold::{ToolFault, dump, fold};
 use std::alloc::{AllocError, Global};
 use testlib_words::RowFault;
 
-// How many bytes may be written.
-const ROOM: usize = 65_536;
+/// How many bytes may be written.
+pub(crate) const ROOM: usize = 65_536;
 
 /// The image that the batches of a log make, in hex, or why the log isn't folded.
 pub fn fold_answer(alloc: Global, bytes: Vec<u8>) -> Result<String, NoMemory>
@@ -42,7 +42,8 @@ fn ok_text(alloc: Global, written: &[u8]) -> Result<String, AllocError>
     format!(in alloc; "ok {digits}")
 }
 
-fn fault_text(alloc: Global, fault: ToolFault) -> Result<String, AllocError>
+/// Why nothing is written.
+pub(crate) fn fault_text(alloc: Global, fault: ToolFault) -> Result<String, AllocError>
     ensures { IfOk result (λ text. string_bytes text ≡ words.tool_fault_words fault) }
 {
     match fault {

@@ -1,6 +1,7 @@
-//! What readers and writers of bytes answer, in words, and what a session, a fold and a dump over memory write.
+//! What readers and writers of bytes answer, in words, and what a session, a fold, a dump and a balance over memory write.
 #![tactic(auto)]
 
+mod balances;
 mod batches;
 mod folds;
 mod image_reading;
@@ -11,6 +12,7 @@ mod primitives;
 mod records;
 mod sessions;
 
+pub use balances::balance_answer;
 pub use batches::batch_answer;
 pub use folds::{dump_answer, fold_answer};
 pub use images::{Unanswered, image_answer};

@@ -2,6 +2,7 @@
 
 use crate::host::print_host;
 use crate::image::print_image;
+use crate::moves::print_moves;
 use crate::plan::print_plan;
 use crate::records::print_batch;
 use std::io::Print;
@@ -13,6 +14,8 @@ pub(crate) enum Example {
     Host,
     /// A planner asks the rules.
     Plan,
+    /// A planner asks how much a round of the balancer would move.
+    Moves,
     /// The author of a tool reads a record batch.
     Inspect,
     /// The author of a tool reads an image.
@@ -24,7 +27,7 @@ impl Example {
     pub(crate) fn reads(self) -> bool {
         match self {
             Example::Host | Example::Plan => false,
-            Example::Inspect | Example::Show => true,
+            Example::Moves | Example::Inspect | Example::Show => true,
         }
     }
 }
@@ -34,6 +37,7 @@ pub(crate) fn example_of(word: &str) -> Option<Example> {
     match word {
         "host" => Some(Example::Host),
         "plan" => Some(Example::Plan),
+        "moves" => Some(Example::Moves),
         "inspect" => Some(Example::Inspect),
         "show" => Some(Example::Show),
         _ => None,
@@ -49,6 +53,7 @@ pub(crate) fn print_example<R: Print + AllocGlobal>(
     match example {
         Example::Host => print_host(rt),
         Example::Plan => print_plan(rt),
+        Example::Moves => print_moves(rt, bytes),
         Example::Inspect => print_batch(rt, bytes),
         Example::Show => print_image(rt, bytes),
     }

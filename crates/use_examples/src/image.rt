@@ -26,7 +26,8 @@ fn text_of(alloc: Global, bytes: &[u8]) -> Result<Bytes> {
     }
 }
 
-fn read(alloc: Global, bytes: &[u8]) -> Result<(i64, ImageStore), ImageFault> {
+/// The offset and the store of the image that the bytes stand for.
+pub(crate) fn read(alloc: Global, bytes: &[u8]) -> Result<(i64, ImageStore), ImageFault> {
     let mut reader = Reader::new(alloc);
     reader.feed(bytes)?;
     reader.finish()

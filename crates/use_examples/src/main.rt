@@ -1,7 +1,7 @@
-//! What callers do with the crates alone, an example a word: `host` steps the controller, `plan` asks the rules, `inspect` reads
-//! a record batch and `show` an image from standard input. With no word the examples come from standard input, a line each: the
-//! word, and behind a space the bytes that it reads, in hex. Where an example has a fault it is told, and the status is 1; other
-//! words have status 2.
+//! What callers do with the crates alone, an example a word: `host` steps the controller, `plan` asks the rules; of standard
+//! input `moves` reads an image and asks what a round of the balancer would move, `inspect` reads a record batch and `show` an
+//! image. With no word the examples come from standard input, a line each: the word, and behind a space the bytes that it reads,
+//! in hex. Where an example has a fault it is told, and the status is 1; other words have status 2.
 #![tactic(auto)]
 
 mod events;
@@ -10,6 +10,7 @@ mod host;
 mod hosting;
 mod image;
 mod loss;
+mod moves;
 mod names;
 mod plan;
 mod records;
@@ -35,7 +36,7 @@ fn main(rt: HostRuntime) -> anyhow::Result<ExitCode> {
         Asked::One(example) => print_one(&rt, example)?,
         Asked::Stored => print_stored(&rt)?,
         Asked::Nothing => {
-            eprintln!(rt; "usage: use_examples [host | plan | inspect | show]")?;
+            eprintln!(rt; "usage: use_examples [host | plan | moves | inspect | show]")?;
             return Ok(ExitCode::from(2));
         }
     }

@@ -6,6 +6,6 @@ use Rattle.kr_fold.proofs.calls.read_text.Goals as goal
 
 pub returns-clause-text : goal.returns-clause-text
 returns-clause-text g c =
-    let fits : FitsSigned w64 c.in-Ok-read_image.image.0 = search rules in
-    dumps_of _ _ c.in-Ok.bytes.items c.in_ok-dump.field-0 c.in-Ok-read_image.image.0 c.in-Ok-read_image.image.1.tip
-    c.in-Ok.ensures.all (rw c.as_slice.ensures.value at c.in-Ok-read_image.ensures.image) (rw (to_z-of_z w64 c.in-Ok-read_image.image.0 fits, c.tip.ensures) at c.in_ok-dump.ensures)
+    let fits : FitsSigned w64 c.in-Ok.image.offset = search rules in
+    dumps_of _ _ c.in-Ok.image.bytes.items c.in_ok-dump.field-0 c.in-Ok.image.offset c.in-Ok.image.store.tip
+    c.in-Ok.ensures.took c.in-Ok.ensures.image (rw (to_z-of_z w64 c.in-Ok.image.offset fits, c.tip.ensures) at c.in_ok-dump.ensures)

@@ -1,6 +1,7 @@
 use Rattle.std.proofs.Common.{inr, refl}
 use Rattle.kr_process.specs.declared.status.Status.TheVariants as statuses
-use Rattle.kr_words.proofs.Statuses.{breaks_told, ends_told, no_dump_line, no_dumps_broken, no_dumps_longer, no_dumps_whole, no_fold_line, no_folds_more, no_folds_whole, of_told, refuses_told, same_but_memory, serves_told}
+use Rattle.kr_leaders.proofs.Endings.{no_balance_line}
+use Rattle.kr_words.proofs.Statuses.{breaks_told, ends_told, no_balances_whole, no_dump_line, no_dumps_broken, no_dumps_longer, no_dumps_whole, no_fold_line, no_folds_more, no_folds_whole, no_past, of_told, refuses_told, same_but_memory, serves_told}
 use Rattle.kr_words.proofs.running.run.Goals as goal
 
 pub returns-clause-session : goal.returns-clause-session
@@ -52,3 +53,18 @@ returns-clause-make g c = λ seed is. of_told _ c.tell.result c.serve_words-stat
 
 pub returns-clause-make_complete : goal.returns-clause-make_complete
 returns-clause-make_complete g c = λ seed is write. of_told _ c.tell.result c.serve_words-status.result c.tell.ensures.same (λ at whole. inr refl) (c.serve_words-status.ensures.make_complete seed is write)
+
+pub returns-clause-balance : goal.returns-clause-balance
+returns-clause-balance g c = λ percent is. of_told _ c.tell.result c.serve_words-status.result c.tell.ensures.same (λ at. no_balance_line at percent _ _ _ _) (c.serve_words-status.ensures.balance percent is)
+
+pub returns-clause-balance_complete : goal.returns-clause-balance_complete
+returns-clause-balance_complete g c = λ percent is read write. of_told _ c.tell.result c.serve_words-status.result c.tell.ensures.same (λ at. no_balances_whole at _) (c.serve_words-status.ensures.balance_complete percent is read write)
+
+pub returns-clause-balance_past : goal.returns-clause-balance_past
+returns-clause-balance_past g c = λ percent is read write. of_told _ c.tell.result c.serve_words-status.result c.tell.ensures.same (λ at. no_past at _) (c.serve_words-status.ensures.balance_past percent is read write)
+
+pub returns-clause-balance_broken : goal.returns-clause-balance_broken
+returns-clause-balance_broken g c = λ percent is read write. of_told _ c.tell.result c.serve_words-status.result c.tell.ensures.same (λ at. no_dumps_broken at _) (c.serve_words-status.ensures.balance_broken percent is read write)
+
+pub returns-clause-balance_longer : goal.returns-clause-balance_longer
+returns-clause-balance_longer g c = λ percent is read write. of_told _ c.tell.result c.serve_words-status.result c.tell.ensures.same (λ at. no_dumps_longer at _) (c.serve_words-status.ensures.balance_longer percent is read write)

@@ -1,0 +1,3 @@
+mod Beginnings
+mod Rounds
+pub mod Endings
