@@ -1,21 +1,20 @@
 -- Pages join to the lines.
-use Rattle.std.proofs.Common.{◌≡◌, ◌∙◌, sym, subst, refl, ap, arith, Bool, true, false, not, cond, ℕ, zero, suc, ◌+◌, ◌<◌, ◌≤◌, length, List, [], ◌∷◌, ◌++◌, take, drop, map, Option, Some, None}
-use Rattle.std.specs.Prelude.{filter, slice_get}
+use Rattle.std.proofs.Common.{◌≡◌, ◌∙◌, sym, subst, refl, ap, false, not, cond, ℕ, zero, suc, List, [], ◌∷◌, ◌++◌, take, map, Option, Some, None}
+use Rattle.std.specs.Prelude.{slice_get}
 use Rattle.std.specs.declared.cmp.Ordering.{Ordering}
 use Rattle.std.specs.declared.cmp.Ordering.TheVariants.{Less, Equal, Greater}
 use Rattle.std.specs.Cmp.{IsTotalOrder}
 use Rattle.std.specs.List.{AllByRecursion}
 use Rattle.std.specs.List.Sorted.{IsStrictlySortedBy}
 use Rattle.std.specs.Option.{option_map}
-use Rattle.std.specs.Ordering.{int_cmp, is_lt, ordering_reverse}
+use Rattle.std.specs.Ordering.{is_lt, ordering_reverse}
 use Rattle.std.proofs.lemmas.Cmp.{int_cmp_total}
 use Rattle.std.proofs.lemmas.List.{append-nil, append_assoc}
-use Rattle.kr_defs.specs.Map.{text_order}
 use Rattle.kr_defs.proofs.ImageParts.{text_total}
 use Rattle.kr_defs.proofs.Maps.{by_total}
 use Rattle.kr_pages.specs.declared.describe.LineKey.{LineKey}
 use Rattle.kr_pages.specs.Lines.{Line, line_order}
-use Rattle.kr_pages.specs.Pages.{is_from, lines_from, next_cursor, page_lines}
+use Rattle.kr_pages.specs.Pages.{lines_from, page_lines}
 use Rattle.kr_pages.specs.Joined.{IsPaged, PagesJoin, joined_pages}
 
 total : IsTotalOrder line_order

@@ -1,24 +1,23 @@
 -- The lines rise.
-use Rattle.std.proofs.Common.{◌≡◌, ◌∙◌, sym, subst, refl, ap, arith, Bool, true, false, cond, not, ℕ, ℤ, List, [], ◌∷◌, ◌++◌, map, Option, Some, None}
-use Rattle.std.specs.Prelude.{filter, flat_map, fold, ◌==◌}
+use Rattle.std.proofs.Common.{◌≡◌, ◌∙◌, sym, refl, ap, true, false, cond, ℕ, ℤ, List, [], ◌∷◌, ◌++◌, map, Some, None}
+use Rattle.std.specs.Prelude.{flat_map, fold, ◌==◌}
 use Rattle.std.specs.declared.cmp.Ordering.{Ordering}
 use Rattle.std.specs.declared.cmp.Ordering.TheVariants.{Less, Equal, Greater}
-use Rattle.std.specs.Cmp.{IsTotalOrder}
 use Rattle.std.specs.List.{AllByRecursion}
 use Rattle.std.specs.List.Sorted.{IsStrictlySortedBy}
 use Rattle.std.specs.Map.{keys_of}
 use Rattle.std.specs.Option.{option_map_or}
-use Rattle.std.specs.Ordering.{int_cmp, is_eq, is_lt, nat_cmp, ordering_reverse, ordering_then}
+use Rattle.std.specs.Ordering.{int_cmp, nat_cmp, ordering_reverse, ordering_then}
 use Rattle.std.proofs.lemmas.Cmp.{nat_cmp_total}
 use Rattle.kr_defs.specs.declared.partition.Partition.{Partition}
 use Rattle.kr_defs.specs.Image.{Image, IsValid}
 use Rattle.kr_defs.specs.Map.{IsMap, get, partition_order, text_order}
-use Rattle.kr_defs.specs.Walk.{Walked, of_topic, walk_topic, walked}
+use Rattle.kr_defs.specs.Walk.{of_topic, walk_topic, walked}
 use Rattle.kr_defs.proofs.ImageParts.{text_total}
 use Rattle.kr_defs.proofs.Maps.{IsMap-filter, below_all}
 use Rattle.kr_defs.proofs.TopicWalks.{same_topic}
 use Rattle.kr_pages.specs.declared.describe.LineKey.{LineKey}
-use Rattle.kr_pages.specs.Lines.{Line, line_order, bare_line, in_order, line_of_partition, lines, lines_or_bare, name_before, name_lines, names_of, lines_of_topic, with_name}
+use Rattle.kr_pages.specs.Lines.{Line, line_order, bare_line, line_of_partition, lines, lines_or_bare, name_before, name_lines, names_of, lines_of_topic, with_name}
 use Rattle.kr_pages.specs.Joined.{LinesRise, PagesJoinLines}
 use Rattle.kr_pages.proofs.Joining.{pages_join}
 

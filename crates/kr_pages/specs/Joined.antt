@@ -1,5 +1,5 @@
 -- Pages from a null cursor to a null next cursor, each asked with the cursor that the one before gave, joined are all lines.
-use Rattle.std.specs.Prelude.{◌≡◌, ◌<◌, ℕ, List, [], ◌∷◌, ◌++◌, flat_map, map, Option, Some, None}
+use Rattle.std.specs.Prelude.{◌≡◌, ◌<◌, ℕ, List, [], ◌∷◌, ◌++◌, map, Option, Some, None}
 use Rattle.std.specs.List.Sorted.{IsStrictlySortedBy}
 use Rattle.kr_defs.specs.Image.{Image, IsValid}
 use Rattle.kr_pages.specs.declared.describe.LineKey.{LineKey}

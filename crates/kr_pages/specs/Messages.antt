@@ -5,8 +5,11 @@ use Rattle.std.specs.Int.{w16, w32}
 use Rattle.kr_wire.specs.Grammar.{◌⌢◌, IsSigned, IsBool, IsId, IsText, IsTextOrNull, IsList, NoTags}
 use Rattle.kr_wire.specs.Schema.{Schema, ◌▸◌, Int16, Int32, Boolean, Uuid, Text, TextOrNull, Array, Constant, Structure, End}
 use Rattle.kr_calls.specs.Metadata.{no_operations}
+use Rattle.kr_req.specs.Messages.{BeginsWith, IsClient, IsStart}
 use Rattle.kr_pages.specs.declared.describe.LineKey.{LineKey}
 use Rattle.kr_pages.specs.declared.describe.Describe.{Describe}
+use Rattle.kr_pages.specs.declared.describe.DescribeAsk.{DescribeAsk}
+use Rattle.kr_pages.specs.declared.describe.DescribeAsk.TheVariants as asks
 use Rattle.kr_pages.specs.declared.describe.DescribedPart.{DescribedPart}
 use Rattle.kr_pages.specs.declared.describe.DescribedTopic.{DescribedTopic}
 use Rattle.kr_pages.specs.declared.describe.Described.{Described}
@@ -23,6 +26,19 @@ IsCursor key = IsText key.topic ⌢ IsSigned w32 key.index ⌢ NoTags
 
 abbrev pub IsDescribe : Describe → List ℕ → Type 0
 IsDescribe d = IsList IsTopicRequest d.names ⌢ IsSigned w32 d.limit ⌢ IsStructureOrNull IsCursor d.cursor ⌢ NoTags
+
+abbrev pub IsDescribeMessage : ℤ → Describe → List ℕ → Type 0
+IsDescribeMessage correlation d = IsStart (pos 75) (pos 0) correlation ⌢ IsClient ⌢ IsDescribe d
+
+-- the message begins with this key and version, and with some correlation id
+abbrev pub IsDescribeKey : List ℕ → Type 0
+IsDescribeKey message = (correlation : ℤ) × BeginsWith (pos 75) (pos 0) correlation message
+
+-- A message of this key and version asks for a page where all of it stands for that.
+pub data IsDescribeAsk : DescribeAsk → List ℕ → Type 0 where
+  ask : (correlation : ℤ) (d : Describe) (message : List ℕ) → IsDescribeMessage correlation d message → IsDescribeAsk (asks.Ask correlation d) message
+  bare : (correlation : ℤ) (message : List ℕ) → BeginsWith (pos 75) (pos 0) correlation message
+      → ((c : ℤ) (d : Describe) → IsDescribeMessage c d message → ⊥) → IsDescribeAsk (asks.Bare correlation) message
 
 -- ---- the reply
 

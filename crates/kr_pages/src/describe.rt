@@ -23,6 +23,23 @@ pub struct Describe {
     pub cursor: Option<LineKey>,
 }
 
+/// What a message of this key and version asks.
+#[derive(Drop)]
+pub enum DescribeAsk {
+    /// A page.
+    Ask {
+        /// The number that the reply is found by.
+        correlation: i32,
+        /// What is asked for.
+        describe: Describe,
+    },
+    /// The bytes behind the correlation id stand for no request.
+    Bare {
+        /// The number that the reply is found by.
+        correlation: i32,
+    },
+}
+
 /// A partition as the page shows it (DescribeTopicPartitionsResponsePartition).
 #[derive(Drop)]
 pub struct DescribedPart {

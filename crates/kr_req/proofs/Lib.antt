@@ -1,4 +1,4 @@
-mod Headers
+pub mod Headers
 mod Bodies
 pub mod Asks
 pub mod Replies

@@ -6,16 +6,20 @@ ghost use Rattle.kr_req.specs.Reading.{Passes, client_at, client_id_at, sized_te
 
 use kr_wire::{WireFault, read_i16, read_i32, read_utf8, skip_tags};
 
-// What every message begins with.
+/// What every message begins with (RequestHeader).
 #[derive(Clone, Copy, Debug, Drop, PartialEq, Eq)]
-pub(crate) struct Start {
+pub struct Start {
+    /// The number of the request in Kafka's ApiKeys.
     pub key: i16,
+    /// The version of its layout.
     pub version: i16,
+    /// The number that the reply is found by.
     pub correlation: i32,
 }
 
+/// The start of a message, and the place behind it; or the first fault.
 #[tactic(auto, unfolding(crate::specs::Reading::head_at))]
-pub(crate) fn read_start(message: &[u8], at: usize) -> Result<(Start, usize), WireFault>
+pub fn read_start(message: &[u8], at: usize) -> Result<(Start, usize), WireFault>
     requires { at ≤ length message.now }
     ensures { Reads (λ s. (s.key, s.version, s.correlation)) result message.now (head_at (drop at message.now)) }
 {
@@ -54,9 +58,9 @@ fn read_client_id(message: &[u8], at: usize) -> Result<usize, WireFault>
     read_sized_text(message, next, size)
 }
 
-/// The place behind the client id and the header's tagged fields.
+/// The place behind the client id and the header's tagged fields, or the first fault.
 #[tactic(auto, unfolding(crate::specs::Reading::client_at))]
-pub(crate) fn read_client(message: &[u8], at: usize) -> Result<usize, WireFault>
+pub fn read_client(message: &[u8], at: usize) -> Result<usize, WireFault>
     requires { at ≤ length message.now }
     ensures { Passes result message.now (client_at (drop at message.now)) }
 {

@@ -9,5 +9,6 @@ mod message;
 mod reply;
 
 pub use api::ApiKey;
+pub use header::{Start, read_client, read_start};
 pub use message::decode;
 pub use reply::encode_reply;
