@@ -1,0 +1,39 @@
+-- How long a connection may be waited for. The first limit is Kafka's connections.max.idle.ms, the others are this project's own.
+use Rattle.std.specs.Prelude.{ℕ, ◌-◌, Bool, true, false, cond, nat_le, Option, Some, None}
+use Rattle.kr_flow.specs.declared.phase.Phase.{Phase}
+use Rattle.kr_flow.specs.declared.phase.Phase.TheVariants.{Idle, Message, Answer, Reply}
+use Rattle.kr_flow.specs.declared.phase.Watched.{Watched}
+
+-- in seconds; none for an answer, which comes once the quorum has committed what it tells
+abbrev pub limit_of : Phase → Option ℕ
+limit_of Idle = Some 600
+limit_of Message = Some 30
+limit_of Answer = None
+limit_of Reply = Some 30
+
+abbrev pub is_same : Phase → Phase → Bool
+is_same Idle Idle = true
+is_same Message Message = true
+is_same Answer Answer = true
+is_same Reply Reply = true
+is_same phase other = false
+
+-- another phase begins, which nobody has looked at yet
+abbrev pub entered : Watched → Phase → Watched
+entered watched phase = cond (is_same watched.phase phase) watched (record { phase = phase; since = None })
+
+-- the second at which it was first looked at, by one who looks now
+abbrev pub first_seen : Option ℕ → ℕ → ℕ
+first_seen (Some since) now = since
+first_seen None now = now
+
+abbrev pub watched_at : Watched → ℕ → Watched
+watched_at watched now = record watched { since = Some (first_seen watched.since now) }
+
+-- as many seconds went by as the limit allows
+abbrev pub has_passed : Option ℕ → ℕ → Bool
+has_passed (Some limit) seconds = nat_le limit seconds
+has_passed None seconds = false
+
+abbrev pub has_lasted : Watched → ℕ → Bool
+has_lasted watched now = has_passed (limit_of watched.phase) (now - first_seen watched.since now)
