@@ -1,15 +1,15 @@
--- How long a connection may be waited for. The first limit is Kafka's connections.max.idle.ms, the others are this project's own.
+-- How long a connection may be waited for: Kafka's connections.max.idle.ms; the other limits are this project's own.
 use Rattle.std.specs.Prelude.{ℕ, ◌-◌, Bool, true, false, cond, nat_le, Option, Some, None}
 use Rattle.kr_flow.specs.declared.phase.Phase.{Phase}
 use Rattle.kr_flow.specs.declared.phase.Phase.TheVariants.{Idle, Message, Answer, Reply}
 use Rattle.kr_flow.specs.declared.phase.Watched.{Watched}
 
 -- in seconds; none for an answer, which comes once the quorum has committed what it tells
-abbrev pub limit_of : Phase → Option ℕ
-limit_of Idle = Some 600
-limit_of Message = Some 30
-limit_of Answer = None
-limit_of Reply = Some 30
+abbrev pub seconds_of : Phase → Option ℕ
+seconds_of Idle = Some 600
+seconds_of Message = Some 30
+seconds_of Answer = None
+seconds_of Reply = Some 30
 
 abbrev pub is_same : Phase → Phase → Bool
 is_same Idle Idle = true
@@ -36,4 +36,4 @@ has_passed (Some limit) seconds = nat_le limit seconds
 has_passed None seconds = false
 
 abbrev pub has_lasted : Watched → ℕ → Bool
-has_lasted watched now = has_passed (limit_of watched.phase) (now - first_seen watched.since now)
+has_lasted watched now = has_passed (seconds_of watched.phase) (now - first_seen watched.since now)

@@ -1,5 +1,4 @@
--- Where a connection's bytes end: messages come one behind the other, each behind its size, a number of four bytes (Kafka's
--- protocol guide, "Network").
+-- Where a connection's bytes end: in messages, each behind its size in four bytes (Kafka's protocol guide, "Network").
 use Rattle.std.specs.Prelude.{ℕ, ◌+◌, ◌-◌, ◌*◌, ◌%◌, ◌==◌, ◌^◌, Bool, false, cond, nat_le}
 use Rattle.kr_flow.specs.declared.progress.Progress.{Progress}
 use Rattle.kr_flow.specs.declared.progress.Progress.TheVariants.{Size, Body}

@@ -1,4 +1,4 @@
--- What comes to the room of a link's events, and what leaves it. This project's own.
+-- What enters the room of a link's events, and leaves it. This project's own.
 use Rattle.std.specs.Prelude.{ℕ, ◌+◌, ◌==◌, ◌||◌, Bool, true, false, cond, nat_le, List, [], ◌∷◌, length, Option, Some, None}
 use Rattle.kr_base.specs.Causes.{raised}
 use Rattle.kr_flow.specs.declared.room.Waiting.{Waiting}

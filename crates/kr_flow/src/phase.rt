@@ -29,7 +29,7 @@ pub enum Phase {
 impl Phase {
     /// For how many seconds it may last; none: as long as it takes.
     pub fn limit(self) -> Option<u64>
-        ensures { result ≡ rules.limit_of self }
+        ensures { result ≡ rules.seconds_of self }
     {
         match self {
             Phase::Idle => Some(IDLE_SECONDS),

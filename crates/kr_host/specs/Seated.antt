@@ -1,4 +1,4 @@
--- What a clause sees of the link's seat with its room. This project's own.
+-- The link's seat with its room. This project's own.
 use Rattle.std.specs.Prelude.{List}
 use Rattle.kr_queue.specs.declared.jobs.Job.{Job}
 use Rattle.kr_flow.specs.Flows.{Flow}

@@ -1,4 +1,4 @@
--- What is pushed at the link's seat, and which of the quorum's events the worker took. This project's own.
+-- What is pushed at the link's seat, and what the worker took. This project's own.
 use Rattle.std.specs.Prelude.{◌≡◌, ℕ, cond, List, [], ◌∷◌, ◌++◌, IsTrue, Option, Some, None}
 use Rattle.kr_calls.specs.declared.events.Event.{Event}
 use Rattle.kr_queue.specs.declared.jobs.Job.TheVariants as jobs

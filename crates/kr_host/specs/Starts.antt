@@ -1,4 +1,4 @@
--- What a daemon opens when it starts. This project's own; sessions of nine seconds are Kafka's default (broker.session.timeout.ms).
+-- What a daemon opens; sessions of nine seconds are Kafka's default (broker.session.timeout.ms). This project's own.
 use Rattle.std.specs.Prelude.{ℕ, ℤ, pos, ◌+◌, List, Option, Some, None}
 use Rattle.kr_defs.specs.declared.options.Options.{Options}
 use Rattle.kr_flags.specs.declared.told.Settings.{Settings}

@@ -1,4 +1,4 @@
--- The event that comes back where it wasn't pushed. This project's own.
+-- An event that wasn't pushed. This project's own.
 use Rattle.kr_calls.specs.declared.events.Event.{Event}
 use Rattle.kr_host.specs.declared.event_seat.Unpushed.{Unpushed}
 use Rattle.kr_host.specs.declared.event_seat.Unpushed.TheVariants.{NoRoom, NoMemory}
