@@ -1,2 +1,7 @@
 pub mod Endings
 pub mod Leading
+pub mod Seated
+pub mod Seats
+pub mod Starts
+pub mod Unpushed
+pub mod Weights

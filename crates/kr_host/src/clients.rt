@@ -1,7 +1,9 @@
 //! The threads of the clients' seats.
 
+use crate::client_stream::{ClientSink, ClientSource};
 use crate::door::Door;
 use crate::events::rest;
+use crate::watch::{Watch, spawn_watch};
 use kr_base::{NoMemory, ReadSource, WriteSink};
 use kr_server::{NoTranscript, ServeEnd, serve_client};
 use kr_shared::ClientSeat;
@@ -13,20 +15,40 @@ use std::thread::{JoinHandle, Threads};
 use std::{thread, time};
 
 // Serves a connection until it ends.
-fn serve<R: Wait>(rt: &R, alloc: Global, seat: &mut ClientSeat, stream: &TcpStream) -> ServeEnd {
+fn serve<R: Wait + Copy>(
+    rt: &R,
+    alloc: Global,
+    seat: &mut ClientSeat,
+    watch: &Watch,
+    stream: TcpStream,
+) -> Result<ServeEnd, NoMemory> {
     // A reply is one put, so it needn't wait for more.
     let _ = stream.set_nodelay(true);
-    let mut source = ReadSource::new(stream);
-    let mut sink = WriteSink::new(stream);
+    let stream = Arc::new(alloc, stream)?;
+    watch.begin(rt, Arc::try_clone(&stream)?);
+    let end = serve_stream(rt, alloc, seat, watch, &stream);
+    watch.end(rt);
+    Ok(end)
+}
+
+fn serve_stream<R: Wait + Copy>(
+    rt: &R,
+    alloc: Global,
+    seat: &mut ClientSeat,
+    watch: &Watch,
+    stream: &TcpStream,
+) -> ServeEnd {
+    let mut source = ClientSource::new(*rt, watch, ReadSource::new(stream));
+    let mut sink = ClientSink::new(*rt, watch, WriteSink::new(stream));
     serve_client(rt, alloc, seat, &mut source, &mut sink, &mut NoTranscript)
 }
 
-/// Accepts one connection after the other and serves it at the seat, until the worker is stopped. At each connection the
-/// controller is told the time, where its quorum doesn't.
+/// Accepts one connection after the other and serves it at the seat, until the worker is stopped.
 fn accept_all<R: Wait + Eprint + time::Clock + Copy>(
     rt: &R,
     alloc: Global,
     mut seat: ClientSeat,
+    watch: &Watch,
     door: &Door,
 ) {
     for _ in rt.forever() {
@@ -37,18 +59,18 @@ fn accept_all<R: Wait + Eprint + time::Clock + Copy>(
         if door.is_closed() {
             return;
         }
-        door.tick(rt);
-        match serve(rt, alloc, &mut seat, &stream) {
-            ServeEnd::Ended { .. } => return,
-            ServeEnd::NoMemory => {
+        match serve(rt, alloc, &mut seat, watch, stream) {
+            Ok(ServeEnd::Ended { .. }) => return,
+            Ok(ServeEnd::NoMemory) | Err(NoMemory) => {
                 let _ = eprintln!(rt; "kr_daemon: a connection ended: out of memory");
             }
-            _ => {}
+            Ok(_) => {}
         }
     }
 }
 
-/// A thread for each seat, which serves one connection after the other, until the worker is stopped.
+/// A thread for each seat, which serves one connection after the other, until the worker is stopped, and one that ends the
+/// connections that are waited for too long.
 pub fn spawn_clients<R: Threads + Wait + Eprint + time::Clock + Send + Copy + 'static>(
     rt: R,
     alloc: Global,
@@ -56,12 +78,27 @@ pub fn spawn_clients<R: Threads + Wait + Eprint + time::Clock + Send + Copy + 's
     seats: Vec<ClientSeat>,
 ) -> Result<Vec<JoinHandle<()>>, NoMemory> {
     let mut threads = Vec::new(alloc);
+    let mut watches = Vec::new(alloc);
     for seat in seats {
-        let door = Arc::try_clone(door)?;
-        match thread::spawn(&rt, move || accept_all(&rt, alloc, seat, &door)) {
-            Ok(thread) => threads.push(thread)?,
-            Err(_) => return Err(NoMemory),
-        }
+        let watch = Arc::new(alloc, Watch::new())?;
+        watches.push(Arc::try_clone(&watch)?)?;
+        threads.push(spawn_client(rt, alloc, door, seat, watch)?)?;
     }
+    threads.push(spawn_watch(rt, watches, door)?)?;
     Ok(threads)
+}
+
+// The thread of a seat.
+fn spawn_client<R: Threads + Wait + Eprint + time::Clock + Send + Copy + 'static>(
+    rt: R,
+    alloc: Global,
+    door: &Arc<Door, Global>,
+    seat: ClientSeat,
+    watch: Arc<Watch, Global>,
+) -> Result<JoinHandle<()>, NoMemory> {
+    let door = Arc::try_clone(door)?;
+    match thread::spawn(&rt, move || accept_all(&rt, alloc, seat, &watch, &door)) {
+        Ok(thread) => Ok(thread),
+        Err(_) => Err(NoMemory),
+    }
 }

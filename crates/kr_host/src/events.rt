@@ -1,20 +1,19 @@
 //! The events that the link's seat takes.
 
-ghost use Rattle.std.specs.Prelude.{◌≡◌, ◌++◌, ◌∷◌, [], false, IfSome, IfNone, IsTrue};
-ghost use Rattle.kr_queue.specs.declared.jobs.Job.TheVariants as jobs;
+ghost use Rattle.std.specs.Prelude.{◌≡◌, ◌+◌, ◌<◌, ◌^◌, false, IfSome, IfNone, IsTrue};
 ghost use Rattle.kr_queue.specs.Jobs.{is_link_event};
+ghost use Rattle.kr_host.specs.Weights as weights;
 
 use kr_calls::Event;
-use kr_shared::LinkSeat;
-use std::sync::Wait;
+use kr_flow::{Origin, Waiting};
 use std::time::Duration;
 use std::{thread, time};
 
 // How long a thread rests before it tries again what failed, in milliseconds.
 const REST_MS: u64 = 10;
 
-// The number of the one stop.
-const STOP: u64 = 1;
+/// How many bytes an event takes besides those that it brings.
+pub const EVENT_BYTES: u64 = 256;
 
 /// Waits a little, before something is tried again.
 pub(crate) fn rest<C: time::Clock>(clock: &C) {
@@ -32,33 +31,24 @@ pub(crate) fn link_event(event: Event) -> Option<Event>
     }
 }
 
-/// Pushes an event, again and again where there is no memory for it: nothing is pushed before it.
-pub(crate) fn push<R: Wait + time::Clock>(rt: &R, link: &mut LinkSeat, event: Event)
-    requires { IsTrue (is_link_event event) }
-    ensures { link.new ≡ link.old ++ jobs.Link event ∷ [] }
+// How many bytes an event brings.
+fn brought_by(event: &Event) -> usize
+    ensures brought { result ≡ weights.brought event.now }
+    ensures fits { result + EVENT_BYTES < 2 ^ 64 }
 {
-    let mut event = event;
-    for _ in rt.forever() {
-        match link.push(rt, event) {
-            Ok(()) => return,
-            Err((_, back)) => {
-                event = back;
-                rest(rt);
-            }
-        }
+    match event {
+        Event::Batch { bytes } => bytes.as_slice().len(),
+        Event::Load { bytes } => bytes.as_slice().len(),
+        _ => 0,
     }
-    unreachable!()
 }
 
-/// Stops the worker: again and again where there is no memory for it.
-pub(crate) fn stop<R: Wait + time::Clock>(rt: &R, link: &mut LinkSeat)
-    ensures { link.new ≡ link.old ++ jobs.Stop 1 ∷ [] }
+/// What an event of this origin takes while it waits.
+pub(crate) fn waiting_of(origin: Origin, event: &Event) -> Waiting
+    ensures { result ≡ weights.waiting_of origin event.now }
 {
-    for _ in rt.forever() {
-        match link.stop(rt, STOP) {
-            Ok(()) => return,
-            Err(_) => rest(rt),
-        }
+    Waiting {
+        origin,
+        bytes: brought_by(event) as u64 + EVENT_BYTES,
     }
-    unreachable!()
 }

@@ -3,6 +3,7 @@
 ghost use Rattle.std.specs.Prelude.{◌≡◌, ◌<◌, ◌≤◌, ◌≤ℤ◌, ◌⊎◌, pos, length, IsTrue, IfOk, IfErr};
 ghost use Rattle.kr_defs.specs.OpenOptions.{are_options};
 ghost use Rattle.kr_shared.specs.Opened.{AreSeated};
+ghost use Rattle.kr_host.specs.Starts as starts;
 
 use crate::ended::{Ended, tell_no_memory, tell_no_place};
 use kr_defs::{Options, Text};
@@ -20,7 +21,8 @@ const SESSION_MS: u32 = 9_000;
 pub fn options_of(node: i32, cluster: Text, salt: u64) -> Options
     requires node { pos 0 ≤ℤ node }
     requires cluster { length cluster ≤ 255 }
-    ensures { IsTrue (are_options result) }
+    ensures exact { result ≡ starts.options_of node cluster salt }
+    ensures fit { IsTrue (are_options result) }
 {
     Options {
         node,

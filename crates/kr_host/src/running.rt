@@ -1,17 +1,19 @@
 //! The daemon as a whole.
 
-ghost use Rattle.std.specs.Prelude.{◌<◌, ◌≤◌};
 ghost use Rattle.kr_flags.specs.Words.{AreInRange};
 
 use crate::clients::spawn_clients;
 use crate::door::Door;
 use crate::ended::{Ended, tell_no_memory};
+use crate::event_seat::EventSeat;
 use crate::link::spawn_link;
 use crate::link_images::spawn_images;
 use crate::link_quorum::LinkQuorum;
 use crate::linked::turn_linked;
 use crate::local::{lead_alone, turn_alone};
-use crate::opening::{Opened, open_seats, options_of};
+use crate::opening::{Opened, open_seats};
+use crate::startup::{Startup, startup_of};
+use crate::ticks::spawn_ticks;
 use kr_base::NoMemory;
 use kr_flags::Settings;
 use kr_local::LocalQuorum;
@@ -37,14 +39,12 @@ where
         + 'static,
     requires { AreInRange settings }
 {
-    let Settings {
+    let Startup {
         listen,
-        node,
-        cluster,
-        salt,
         link,
-        clients,
-    } = settings;
+        options,
+        seats,
+    } = startup_of(settings);
     let Some(listener) = listen_on(&rt, listen.as_str()) else {
         return Ended::BadAddress;
     };
@@ -55,23 +55,11 @@ where
             None => return Ended::BadAddress,
         },
     };
-    let options = options_of(node, cluster, salt);
-    let opened = match open_seats(&rt, rt.alloc(), options, seats_of(clients, &stream)) {
+    let opened = match open_seats(&rt, rt.alloc(), options, seats) {
         Ok(opened) => opened,
         Err(ended) => return ended,
     };
     serve(rt, listener, stream, opened)
-}
-
-// As many seats as clients, and where there is a link one more, for the images that it asks for.
-fn seats_of<T>(clients: u32, link: &Option<T>) -> u32
-    requires { (0 < clients) × (clients ≤ 63) }
-    ensures { (0 < result) × (result ≤ 64) }
-{
-    match link {
-        None => clients,
-        Some(_) => clients + 1,
-    }
 }
 
 fn listen_on<R: Net<Listener = TcpListener, Stream = TcpStream> + Eprint>(
@@ -142,11 +130,11 @@ where
     R: Threads + Wait + Print + Eprint + AllocGlobal + time::Clock + Send + Copy + 'static,
 {
     let alloc = rt.alloc();
-    let mut link = link;
     let mut quorum = LocalQuorum::new(alloc, Vec::new(alloc), Vec::new(alloc))?;
-    lead_alone(&rt, &mut link);
-    let door = Arc::new(alloc, Door::alone(listener, link))?;
+    let seat = lead_alone(&rt, alloc, link);
+    let door = Arc::new(alloc, Door::new(listener, seat))?;
     let _threads = spawn_clients(rt, alloc, &door, seats)?;
+    let _ticks = spawn_ticks(rt, &door)?;
     let _ = println!(&rt; "listening");
     Ok(turn_alone(&rt, worker, &mut quorum, &door))
 }
@@ -169,12 +157,13 @@ where
     let Some(seat) = seats.pop() else {
         return Err(NoMemory);
     };
-    let door = Arc::new(alloc, Door::of_link(listener))?;
+    let door = Arc::new(alloc, Door::new(listener, EventSeat::new(alloc, link)))?;
     let mut quorum = LinkQuorum::new(rt, alloc, there)?;
     let images = quorum.images(seat)?;
     let _threads = spawn_clients(rt, alloc, &door, seats)?;
-    let _thread = spawn_link(rt, alloc, back, link, &images)?;
+    let _thread = spawn_link(rt, alloc, back, &door, &images)?;
     let _images = spawn_images(rt, images)?;
+    let _ticks = spawn_ticks(rt, &door)?;
     let _ = println!(&rt; "listening");
-    Ok(turn_linked(&rt, worker, &mut quorum))
+    Ok(turn_linked(&rt, worker, &mut quorum, &door))
 }

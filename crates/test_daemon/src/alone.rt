@@ -3,9 +3,11 @@
 use crate::talking::{BARE, WRITTEN, ask_unserved, ask_write, end_all, write_to};
 use kr_base::NoMemory;
 use kr_defs::Text;
-use kr_host::{Door, Ended, lead_alone, open_seats, options_of, spawn_clients, turn_alone};
+use kr_host::{
+    Door, Ended, EventSeat, lead_alone, open_seats, options_of, spawn_clients, turn_alone,
+};
 use kr_local::LocalQuorum;
-use kr_shared::{ClientSeat, LinkSeat, WorkerSeat};
+use kr_shared::{ClientSeat, WorkerSeat};
 use std::alloc::Global;
 use std::io::Eprint;
 use std::net::{Net, SocketAddr, TcpListener, TcpStream};
@@ -36,8 +38,8 @@ fn ask_and_stop<R: Net<Stream = TcpStream> + Wait + time::Clock>(
 type Doors = (Arc<Door, Global>, Arc<Door, Global>);
 
 // The door, twice.
-fn doors(alloc: Global, listener: TcpListener, link: LinkSeat) -> Result<Doors, NoMemory> {
-    let door = Arc::new(alloc, Door::alone(listener, link))?;
+fn doors(alloc: Global, listener: TcpListener, seat: EventSeat) -> Result<Doors, NoMemory> {
+    let door = Arc::new(alloc, Door::new(listener, seat))?;
     let theirs = Arc::try_clone(&door)?;
     Ok((door, theirs))
 }
@@ -69,9 +71,9 @@ fn a_client_is_served(rt: HostRuntime) -> Result<(), Fail> {
     let listener = TcpListener::bind(&rt, "127.0.0.1:0")?;
     let address = listener.local_addr()?;
     let options = options_of(1, Text::from_str(alloc, "c1")?, 7);
-    let (mut worker, mut link, seats) = open_seats(&rt, alloc, options, 2).ok().ok_or("seats")?;
-    lead_alone(&rt, &mut link);
-    let served = match doors(alloc, listener, link) {
+    let (mut worker, link, seats) = open_seats(&rt, alloc, options, 2).ok().ok_or("seats")?;
+    let seat = lead_alone(&rt, alloc, link);
+    let served = match doors(alloc, listener, seat) {
         Err(fault) => Err(fault),
         Ok((door, theirs)) => {
             match thread::spawn(&rt, move || ask_and_stop(&rt, address, &theirs)) {

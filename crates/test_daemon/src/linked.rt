@@ -5,8 +5,8 @@ use crate::talking::{BARE, WRITTEN, ask_unserved, ask_write, end_all, is_on_stan
 use kr_base::NoMemory;
 use kr_defs::Text;
 use kr_host::{
-    Door, Ended, LinkQuorum, open_seats, options_of, spawn_clients, spawn_images, spawn_link,
-    turn_linked,
+    Door, Ended, EventSeat, LinkQuorum, open_seats, options_of, spawn_clients, spawn_images,
+    spawn_link, spawn_ticks, turn_linked,
 };
 use kr_shared::{ClientSeat, LinkSeat, WorkerSeat};
 use std::alloc::Global;
@@ -59,13 +59,14 @@ where
         return Ok(false);
     };
     let (there, back) = halves;
-    let door = Arc::new(alloc, Door::of_link(listener))?;
+    let door = Arc::new(alloc, Door::new(listener, EventSeat::new(alloc, link)))?;
     let mut quorum = LinkQuorum::new(rt, alloc, there)?;
     let images = quorum.images(seat)?;
     let threads = spawn_clients(rt, alloc, &door, seats)?;
-    let reading = spawn_link(rt, alloc, back, link, &images)?;
+    let reading = spawn_link(rt, alloc, back, &door, &images)?;
     let imaging = spawn_images(rt, images)?;
-    let ended = turn_linked(&rt, worker, &mut quorum);
+    let ticking = spawn_ticks(rt, &door)?;
+    let ended = turn_linked(&rt, worker, &mut quorum, &door);
     reading.join(&rt);
     imaging.join(&rt);
     let mut served = ended == Ended::Done;
@@ -73,6 +74,7 @@ where
         served = asker.join(&rt) && served;
     }
     end_all(&rt, address, &door, threads);
+    ticking.join(&rt);
     Ok(served)
 }
 

@@ -1,0 +1,5 @@
+pub mod Flows
+pub mod Moves
+pub mod Rooms
+pub mod Phases
+pub mod Progresses

@@ -1,0 +1,7 @@
+-- Nothing was pushed yet.
+use Rattle.std.proofs.Common.{◌≡◌}
+use Rattle.kr_host.proofs.event_seat.stop.Given as goal
+
+abbrev pub invariant-loop : goal.invariant-loop
+invariant-loop g l =
+    (goal.iterator-loop g).can_next l.iterator' × (goal.iterator-loop g).is_finite l.iterator' × (l.seat ≡ l.fn.seat)

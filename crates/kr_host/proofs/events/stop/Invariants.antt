@@ -1,7 +1,0 @@
--- Nothing was pushed yet.
-use Rattle.std.proofs.Common.{◌≡◌}
-use Rattle.kr_host.proofs.events.stop.Given as goal
-
-abbrev pub invariant-loop : goal.invariant-loop
-invariant-loop g l =
-    (goal.iterator-loop g).can_next l.iterator' × (goal.iterator-loop g).is_finite l.iterator' × (l.link ≡ l.fn.link)
