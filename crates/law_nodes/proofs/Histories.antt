@@ -18,7 +18,7 @@ use Rattle.kr_model.specs.Outputs.{answers_now, is_open_in, new_writes, outputs,
 use Rattle.kr_model.specs.World.{State, World, leads_in, start}
 use Rattle.kr_model.proofs.OrderlyStates.{holds, waiting_then}
 use Rattle.kr_model.proofs.WaitingWrites.{state_more}
-use Rattle.law_nodes.specs.Histories.{NodeEvent, of_node, replies_over, told_by}
+use Rattle.law_nodes.specs.Histories.{NodeEvent, of_node, replies_over, told_of_node}
 use Rattle.law_nodes.specs.NodeEvents.{as_output, is_reply, writes_in}
 use Rattle.law_nodes.specs.Nodes.{NodeTold, Run, RunNode, Waiting, after_event, batches_of, tells_by, told_due, told_now, told_of, told_without_place, told_write, waits_in, writes_with}
 use Rattle.law_nodes.specs.OneList.{list_items}
@@ -84,10 +84,10 @@ none_left (w ∷ ws) is = absurd cc
 
 -- ---- what is told
 
-told_both : (j : ℕ) (xs ys : List NodeTold) → map as_output (told_by j (xs ++ ys)) ≡ map as_output (told_by j xs) ++ map as_output (told_by j ys)
+told_both : (j : ℕ) (xs ys : List NodeTold) → map as_output (told_of_node j (xs ++ ys)) ≡ map as_output (told_of_node j xs) ++ map as_output (told_of_node j ys)
 told_both j xs ys =
     ap (λ (l : List NodeTold). map as_output l) (filter-append (λ (t : NodeTold). t.node == j) xs ys)
-    ∙ map-append as_output (told_by j xs) (told_by j ys)
+    ∙ map-append as_output (told_of_node j xs) (told_of_node j ys)
 
 -- all are of one node
 abbrev AreOf : ℕ → List NodeTold → Type 0
@@ -127,13 +127,13 @@ module _ (options : Options) (k : ℕ) (n : RunNode) (event : Event) where
   told_of_own : AreOf k (told_of options k n event)
   told_of_own = by_outcome (outcome options (at_time_of n.state event) event)
 
-all_own : (k : ℕ) (ts : List NodeTold) → AreOf k ts → told_by k ts ≡ ts
+all_own : (k : ℕ) (ts : List NodeTold) → AreOf k ts → told_of_node k ts ≡ ts
 all_own k [] h = refl
-all_own k (t ∷ ts) h = ap (λ b. cond b (t ∷ told_by k ts) (told_by k ts)) (ap (λ m. m == k) h.0 ∙ same_number k) ∙ ap (λ (l : List NodeTold). t ∷ l) (all_own k ts h.1)
+all_own k (t ∷ ts) h = ap (λ b. cond b (t ∷ told_of_node k ts) (told_of_node k ts)) (ap (λ m. m == k) h.0 ∙ same_number k) ∙ ap (λ (l : List NodeTold). t ∷ l) (all_own k ts h.1)
 
-none_own : (k j : ℕ) (ts : List NodeTold) → (k == j) ≡ false → AreOf k ts → told_by j ts ≡ []
+none_own : (k j : ℕ) (ts : List NodeTold) → (k == j) ≡ false → AreOf k ts → told_of_node j ts ≡ []
 none_own k j [] other h = refl
-none_own k j (t ∷ ts) other h = ap (λ b. cond b (t ∷ told_by j ts) (told_by j ts)) (ap (λ m. m == j) h.0 ∙ other) ∙ none_own k j ts other h.1
+none_own k j (t ∷ ts) other h = ap (λ b. cond b (t ∷ told_of_node j ts) (told_of_node j ts)) (ap (λ m. m == j) h.0 ∙ other) ∙ none_own k j ts other h.1
 
 -- ---- the outputs of one event more
 
@@ -197,7 +197,7 @@ module _ (options : Options) where
 module _ (options : Options) where
   pub record Stand (r : Run) (past : ℕ → List Event) : Type 0 where
     pub nodes : (j : ℕ) (n : RunNode) → slice_get r.nodes j ≡ Some n → IsPast options n (past j)
-    pub told : (j : ℕ) → map as_output (told_by j r.told) ≡ replies_over options (past j)
+    pub told : (j : ℕ) → map as_output (told_of_node j r.told) ≡ replies_over options (past j)
 
   abbrev pub on_by : (ℕ → List Event) → List NodeEvent → ℕ → List Event
   on_by past made j = past j ++ of_node j made
@@ -222,11 +222,11 @@ module _ (options : Options) where
       abbrev made : List NodeEvent
       made = (k, event) ∷ []
 
-      own_told : map as_output (told_by k (r.told ++ told)) ≡ replies_over options (past k ++ of_node k made)
+      own_told : map as_output (told_of_node k (r.told ++ told)) ≡ replies_over options (past k ++ of_node k made)
       own_told =
           let before = h.nodes k n is in
           told_both k r.told told
-          ∙ (ap (λ (l : List Output). l ++ map as_output (told_by k told)) (h.told k)
+          ∙ (ap (λ (l : List Output). l ++ map as_output (told_of_node k told)) (h.told k)
           ∙ (ap (λ (l : List NodeTold). replies_over options (past k) ++ map as_output l) (all_own k told own)
           ∙ (ap (λ (l : List Output). replies_over options (past k) ++ l)
           (sym replies
@@ -235,14 +235,14 @@ module _ (options : Options) where
           ∙ (sym (replies_more options (past k) event)
           ∙ ap (λ (l : List Event). replies_over options (past k ++ l)) (sym (own_event k event))))))
 
-      told_at : (j : ℕ) (b : Bool) → (k == j) ≡ b → map as_output (told_by j (r.told ++ told)) ≡ replies_over options (past j ++ of_node j made)
+      told_at : (j : ℕ) (b : Bool) → (k == j) ≡ b → map as_output (told_of_node j (r.told ++ told)) ≡ replies_over options (past j ++ of_node j made)
       told_at j true same =
           let e : k ≡ j = grind (arith, nat_tests) in
-          subst (λ i. map as_output (told_by i (r.told ++ told)) ≡ replies_over options (past i ++ of_node i made)) e own_told
+          subst (λ i. map as_output (told_of_node i (r.told ++ told)) ≡ replies_over options (past i ++ of_node i made)) e own_told
       told_at j false other =
           told_both j r.told told
-          ∙ (ap (λ (l : List NodeTold). map as_output (told_by j r.told) ++ map as_output l) (none_own k j told other own)
-          ∙ (append-nil (map as_output (told_by j r.told))
+          ∙ (ap (λ (l : List NodeTold). map as_output (told_of_node j r.told) ++ map as_output l) (none_own k j told other own)
+          ∙ (append-nil (map as_output (told_of_node j r.told))
           ∙ (h.told j
           ∙ ap (λ (l : List Event). replies_over options l) (sym (none_more (past j) (of_node j made) (others_event k j event other))))))
 
@@ -253,7 +253,7 @@ module _ (options : Options) where
             (λ i y other q. subst (IsPast options y) (sym (none_more (past i) (of_node i made) (others_event k i event other))) q)
             (subst (λ (l : List Event). IsPast options m (past k ++ l)) (sym (own_event k event)) p)
             h.nodes j x (sym (ap (λ (l : List RunNode). slice_get l j) nodes) ∙ at);
-        told = λ j. ap (λ (l : List NodeTold). map as_output (told_by j l)) told_is ∙ told_at j (k == j) refl;
+        told = λ j. ap (λ (l : List NodeTold). map as_output (told_of_node j l)) told_is ∙ told_at j (k == j) refl;
       }
 
     -- a node takes an event
@@ -309,5 +309,5 @@ module _ (options : Options) where
               (λ i y other q. subst (IsPast options y) (sym (append-nil (past i))) q)
               (subst (IsPast options m) (sym (append-nil (past k))) (record { state_is = same ∙ p.state_is; writes = ap (λ (ws : List Waiting). writes_in ws) waits ∙ p.writes }))
               h.nodes j x (sym (ap (λ (l : List RunNode). slice_get l j) nodes) ∙ at);
-          told = λ j. ap (λ (l : List NodeTold). map as_output (told_by j l)) told_is ∙ (h.told j ∙ ap (λ (l : List Event). replies_over options l) (sym (append-nil (past j))));
+          told = λ j. ap (λ (l : List NodeTold). map as_output (told_of_node j l)) told_is ∙ (h.told j ∙ ap (λ (l : List Event). replies_over options l) (sym (append-nil (past j))));
         }

@@ -74,8 +74,8 @@ AllRead options r (m ∷ ms) = ReadsMove r m × AllRead options (after_move opti
 
 -- ---- the laws
 
-abbrev pub told_by : ℕ → List NodeTold → List NodeTold
-told_by k told = filter (λ (t : NodeTold). t.node == k) told
+abbrev pub told_of_node : ℕ → List NodeTold → List NodeTold
+told_of_node k told = filter (λ (t : NodeTold). t.node == k) told
 
 -- the replies among a controller's outputs, in order
 abbrev pub replies_over : Options → List Event → List Output
@@ -85,7 +85,7 @@ replies_over options past = filter is_reply (flat_map (λ (given : List Output).
 pub record StandsForEvents (options : Options) (nodes : ℕ) (ms : List Move) (k : ℕ) (n : RunNode) : Type 0 where
   pub state_is : n.state ≡ state options (node_events options nodes ms k)
   pub writes : writes_in n.waiting ≡ waiting_writes options (node_events options nodes ms k)
-  pub told : map as_output (told_by k (run options nodes ms).told) ≡ replies_over options (node_events options nodes ms k)
+  pub told : map as_output (told_of_node k (run options nodes ms).told) ≡ replies_over options (node_events options nodes ms k)
 
 abbrev pub NodesStand : Type 0
 NodesStand =
