@@ -6,4 +6,8 @@ pub mod LeaderLogs
 pub mod Steps
 pub mod AllMoves
 pub mod NodeEvents
-mod Examples
+pub mod Examples
+pub mod Steady
+pub mod ReadBatches
+pub mod Histories
+pub mod MoveHistories

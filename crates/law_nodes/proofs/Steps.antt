@@ -644,7 +644,7 @@ module _ (r : Run) (g : IsRun r) where
 -- ---- Copy
 
 -- a node that has given its image leads, or doesn't, as before
-set_leading : (ns : List RunNode) (from to : ℕ) (f after n t : RunNode) → slice_get ns from ≡ Some f → slice_get ns to ≡ Some t → slice_get (set ns from after) to ≡ Some n
+pub set_leading : (ns : List RunNode) (from to : ℕ) (f after n t : RunNode) → slice_get ns from ≡ Some f → slice_get ns to ≡ Some t → slice_get (set ns from after) to ≡ Some n
     → after.state.world.leading ≡ f.state.world.leading → n.state.world.leading ≡ t.state.world.leading
 set_leading [] from to f after n t is_f is_t is_n same = absurd cc
 set_leading (x ∷ xs) zero zero f after n t is_f is_t is_n same =

@@ -5,7 +5,9 @@
 mod moves;
 
 ghost use Rattle.law_nodes.specs.Agreement.{NodesAgree};
+ghost use Rattle.law_nodes.specs.Histories.{NodesStand};
 ghost use Rattle.law_nodes.specs.NodeEvents.{NodesTakeEvents};
+ghost use Rattle.law_nodes.specs.ReadingBack.{AppendsReadBack};
 
 pub use moves::{Move, MoveFault};
 
@@ -20,4 +22,16 @@ pub fn nodes_agree()
 /// appends; and what it tells clients are the replies that the event gives out, in order.
 pub fn nodes_take_events()
     ensures { NodesTakeEvents }
+{}
+
+/// After any moves of which each batch and image that comes is read back as it is, each node stands for the events of its own
+/// accepted moves, and what it told are the replies among a controller's outputs over these events, in order.
+pub fn nodes_stand()
+    ensures { NodesStand }
+{}
+
+/// The batches that an event appends to a node's log are read back by any other, where the items that it adds, the epoch and
+/// the time are those of a program.
+pub fn appends_read_back()
+    ensures { AppendsReadBack }
 {}
