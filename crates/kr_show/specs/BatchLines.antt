@@ -1,0 +1,60 @@
+-- The lines of a batch: one for each of its items, in order, with the version that the record's value tells.
+use Rattle.std.specs.Prelude.{ℕ, ◌+◌, List, [], ◌∷◌, ◌++◌, drop, flat_map, Result, Ok, Err}
+use Rattle.kr_defs.specs.declared.record.Item.{Item}
+use Rattle.kr_wire.specs.declared.WireFault.{WireFault}
+use Rattle.kr_wire.specs.Reading.{◌>>=◌, Read, uvarint_at}
+use Rattle.kr_batch.specs.declared.Batch.{Batch}
+use Rattle.kr_batch.specs.Grammar.{IsBatch}
+use Rattle.kr_batch.specs.Reading.{frame_at}
+use Rattle.kr_json.specs.declared.place.Place.{Place}
+use Rattle.kr_json.specs.Lines.{line}
+
+-- the frame version, the key and the version, with which a record's value begins
+unfoldable pub version_of : List ℕ → Read ℕ
+version_of value = do
+  frame ← uvarint_at value
+  key ← uvarint_at frame.1
+  uvarint_at key.1
+
+-- the version that the record at the front tells, and the bytes behind the record
+unfoldable pub version_at : List ℕ → Read ℕ
+version_at bytes = do
+  frame ← frame_at bytes
+  version ← version_of frame.0.1
+  Ok (version.0, frame.1)
+
+-- In a batch each record tells one; those of a control batch are any bytes, and their lines have no version.
+abbrev pub told : Result (ℕ × List ℕ) WireFault → ℕ × List ℕ
+told (Ok found) = found
+told (Err fault) = (0, [])
+
+abbrev pub place_in : Batch → ℕ → Place
+place_in batch number = record { base = batch.base; number = number; epoch = batch.epoch; time = batch.time }
+
+-- the items from this number on, whose records stand in the bytes
+abbrev pub lines_from : Batch → ℕ → List Item → List ℕ → List ℕ
+lines_from batch number [] bytes = []
+lines_from batch number (item ∷ others) bytes =
+    let version = told (version_at bytes) in
+    line (place_in batch number) version.0 item ++ lines_from batch (number + 1) others version.1
+
+-- the fields before the records take 61 bytes
+unfoldable pub batch_lines : Batch → List ℕ → List ℕ
+batch_lines batch bytes = lines_from batch 0 batch.items (drop 61 bytes)
+
+-- ---- batches
+
+-- a batch, and its bytes
+pub record Shown : Type 0 where
+  pub batch : Batch
+  pub bytes : List ℕ
+
+abbrev pub AreShown : List Shown → Type 0
+AreShown [] = Unit {0}
+AreShown (s ∷ others) = IsBatch s.batch s.bytes × AreShown others
+
+abbrev pub bytes_of : List Shown → List ℕ
+bytes_of shown = flat_map (λ (s : Shown). s.bytes) shown
+
+abbrev pub lines_of : List Shown → List ℕ
+lines_of shown = flat_map (λ (s : Shown). batch_lines s.batch s.bytes) shown

@@ -1,0 +1,27 @@
+//! Records of a metadata log as Kafka's tools show them: batches or an image from standard input, a line of JSON for each
+//! record to standard output.
+#![tactic(auto)]
+
+mod batch;
+mod fault;
+mod frames;
+mod input;
+mod showing;
+mod words;
+
+pub use fault::ShowFault;
+use kr_base::{ReadSource, WriteSink};
+use kr_process::{Status, WordsFault, words_of};
+pub use words::run;
+
+fn main(rt: HostRuntime) -> Status {
+    let mut notes = WriteSink::new(rt.stderr());
+    let words = match words_of(&rt) {
+        Ok(words) => words,
+        Err(WordsFault::NotText) => return Status::Usage,
+        Err(WordsFault::NoMemory) => return Status::NoMemory,
+    };
+    let mut input = ReadSource::new(rt.stdin());
+    let mut output = WriteSink::new(rt.stdout());
+    run(rt.alloc(), &words, &mut input, &mut output, &mut notes)
+}
