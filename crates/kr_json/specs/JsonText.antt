@@ -7,8 +7,8 @@ use Rattle.base64.specs.GeneralPurpose.{encode_of}
 
 -- ---- strings (RFC 8259, 7)
 
-abbrev pub hex_digit : ℕ → ℕ
-hex_digit n = if nat_lt n 10 then 48 + n else 55 + n
+abbrev pub upper_hex : ℕ → ℕ
+upper_hex n = if nat_lt n 10 then 48 + n else 55 + n
 
 -- A quotation mark, a backslash and control characters are escaped, five of them by a letter; all others stand as they are, in UTF-8.
 abbrev pub escaped : ℕ → List ℕ
@@ -16,7 +16,7 @@ escaped byte =
     if byte == 34 then codes "\\\"" else if byte == 92 then codes "\\\\" else if byte == 8 then codes "\\b" else
     if byte == 9 then codes "\\t" else if byte == 10 then codes "\\n" else if byte == 12 then codes "\\f" else
     if byte == 13 then codes "\\r" else
-    if nat_lt byte 32 then codes "\\u00" ++ (hex_digit (byte / 16) ∷ hex_digit (byte % 16) ∷ []) else byte ∷ []
+    if nat_lt byte 32 then codes "\\u00" ++ (upper_hex (byte / 16) ∷ upper_hex (byte % 16) ∷ []) else byte ∷ []
 
 abbrev pub string : List ℕ → List ℕ
 string text = codes "\"" ++ (flat_map escaped text ++ codes "\"")
@@ -43,5 +43,5 @@ numbers ns = codes "[" ++ (elements signed_decimal ns ++ codes "]")
 
 -- ---- ids: base64 with the alphabet for URLs and without padding (RFC 4648, 5), as Kafka's Uuid.toString
 
-abbrev pub id : ℕ → List ℕ
-id n = codes "\"" ++ (encode_of url_safe_no_pad (to_be_bytes w128 n) ++ codes "\"")
+abbrev pub base64_id : ℕ → List ℕ
+base64_id n = codes "\"" ++ (encode_of url_safe_no_pad (to_be_bytes w128 n) ++ codes "\"")

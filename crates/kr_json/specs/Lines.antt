@@ -14,7 +14,7 @@ use Rattle.kr_defs.specs.declared.record.Record.TheVariants as kinds
 use Rattle.kr_defs.specs.declared.record.Item.{Item}
 use Rattle.kr_defs.specs.declared.record.Item.TheVariants as items
 use Rattle.kr_json.specs.declared.place.Place.{Place}
-use Rattle.kr_json.specs.JsonText.{boolean, elements, id, numbers, string, string_or_null}
+use Rattle.kr_json.specs.JsonText.{boolean, elements, base64_id, numbers, string, string_or_null}
 
 -- ---- members
 
@@ -36,56 +36,56 @@ numbers_if_any name None = []
 numbers_if_any name (Some ns) = name ++ numbers ns
 
 -- a tagged list that is null where it is empty
-abbrev pub unless_empty : List ℕ → List ℤ → List ℕ
-unless_empty name [] = []
-unless_empty name (n ∷ ns) = name ++ numbers (n ∷ ns)
+abbrev pub unless_no_ids : List ℕ → List ℤ → List ℕ
+unless_no_ids name [] = []
+unless_no_ids name (n ∷ ns) = name ++ numbers (n ∷ ns)
 
 -- ---- data, by kind
 
 abbrev pub port : Endpoint → List ℕ
 port e = codes ",\"port\":" ++ (decimal e.port ++ (codes ",\"securityProtocol\":" ++ signed_decimal e.protocol))
 
-abbrev pub endpoint : Endpoint → List ℕ
-endpoint e =
+abbrev pub endpoint_object : Endpoint → List ℕ
+endpoint_object e =
     codes "{\"name\":" ++ (string e.name ++ (codes ",\"host\":" ++ (string e.host ++ (port e ++ codes "}"))))
 
 abbrev pub levels : Range → List ℕ
 levels r = codes ",\"minSupportedVersion\":" ++ (signed_decimal r.min ++ (codes ",\"maxSupportedVersion\":" ++ signed_decimal r.max))
 
-abbrev pub range : Range → List ℕ
-range r = codes "{\"name\":" ++ (string r.name ++ (levels r ++ codes "}"))
+abbrev pub range_object : Range → List ℕ
+range_object r = codes "{\"name\":" ++ (string r.name ++ (levels r ++ codes "}"))
 
 -- the process that registered
 abbrev pub process : ℤ → Broker → List ℕ
 process broker b =
-    codes "{\"brokerId\":" ++ (signed_decimal broker ++ (codes ",\"incarnationId\":" ++ (id b.incarnation
+    codes "{\"brokerId\":" ++ (signed_decimal broker ++ (codes ",\"incarnationId\":" ++ (base64_id b.incarnation
     ++ (codes ",\"brokerEpoch\":" ++ signed_decimal b.epoch))))
 
 abbrev pub endpoint_list : Broker → List ℕ
-endpoint_list b = codes ",\"endPoints\":[" ++ (elements endpoint b.endpoints ++ codes "]")
+endpoint_list b = codes ",\"endPoints\":[" ++ (elements endpoint_object b.endpoints ++ codes "]")
 
 abbrev pub feature_list : Broker → List ℕ
-feature_list b = codes ",\"features\":[" ++ (elements range b.features ++ codes "]")
+feature_list b = codes ",\"features\":[" ++ (elements range_object b.features ++ codes "]")
 
 -- what it tells of itself
 abbrev pub listeners : Broker → List ℕ
 listeners b = endpoint_list b ++ (feature_list b ++ (codes ",\"rack\":" ++ string_or_null b.rack))
 
-abbrev pub register_broker : ℕ → ℤ → Broker → List ℕ
-register_broker version broker b =
+abbrev pub register_broker_data : ℕ → ℤ → Broker → List ℕ
+register_broker_data version broker b =
     process broker b ++ (listeners b ++ (codes ",\"fenced\":" ++ (boolean b.fenced
     ++ (since 1 version (codes ",\"inControlledShutdown\":" ++ boolean b.stopping) ++ codes "}"))))
 
-abbrev pub unregister_broker : ℤ → ℤ → List ℕ
-unregister_broker broker epoch =
+abbrev pub unregister_broker_data : ℤ → ℤ → List ℕ
+unregister_broker_data broker epoch =
     codes "{\"brokerId\":" ++ (signed_decimal broker ++ (codes ",\"brokerEpoch\":" ++ (signed_decimal epoch ++ codes "}")))
 
-abbrev pub topic : List ℕ → ℕ → List ℕ
-topic name topic_id = codes "{\"name\":" ++ (string name ++ (codes ",\"topicId\":" ++ (id topic_id ++ codes "}")))
+abbrev pub topic_data : List ℕ → ℕ → List ℕ
+topic_data name topic_id = codes "{\"name\":" ++ (string name ++ (codes ",\"topicId\":" ++ (base64_id topic_id ++ codes "}")))
 
 -- which partition it is
 abbrev pub partition_key : ℤ → ℕ → List ℕ
-partition_key index topic_id = codes "{\"partitionId\":" ++ (signed_decimal index ++ (codes ",\"topicId\":" ++ id topic_id))
+partition_key index topic_id = codes "{\"partitionId\":" ++ (signed_decimal index ++ (codes ",\"topicId\":" ++ base64_id topic_id))
 
 abbrev pub replicas : Partition → List ℕ
 replicas p =
@@ -101,17 +101,20 @@ leadership p = codes ",\"leader\":" ++ (signed_decimal p.leader ++ (unless_zero 
 -- those are there since version 2
 abbrev pub eligible : ℕ → Partition → List ℕ
 eligible version p =
-    since 2 version (unless_empty (codes ",\"eligibleLeaderReplicas\":") p.eligible)
-    ++ since 2 version (unless_empty (codes ",\"lastKnownElr\":") p.last_known)
+    since 2 version (unless_no_ids (codes ",\"eligibleLeaderReplicas\":") p.eligible)
+    ++ since 2 version (unless_no_ids (codes ",\"lastKnownElr\":") p.last_known)
 
-abbrev pub partition : ℕ → ℤ → ℕ → Partition → List ℕ
-partition version index topic_id p =
+abbrev pub partition_data : ℕ → ℤ → ℕ → Partition → List ℕ
+partition_data version index topic_id p =
     partition_key index topic_id ++ (replicas p ++ (leadership p ++ (eligible version p ++ codes "}")))
 
-abbrev pub config : ℤ → List ℕ → List ℕ → Option (List ℕ) → List ℕ
-config kind name key value =
-    codes "{\"resourceType\":" ++ (signed_decimal kind ++ (codes ",\"resourceName\":" ++ (string name
-    ++ (codes ",\"name\":" ++ (string key ++ (codes ",\"value\":" ++ (string_or_null value ++ codes "}")))))))
+-- whose setting it is
+abbrev pub resource : ℤ → List ℕ → List ℕ
+resource kind name = codes "{\"resourceType\":" ++ (signed_decimal kind ++ (codes ",\"resourceName\":" ++ string name))
+
+abbrev pub config_data : ℤ → List ℕ → List ℕ → Option (List ℕ) → List ℕ
+config_data kind name key value =
+    resource kind name ++ (codes ",\"name\":" ++ (string key ++ (codes ",\"value\":" ++ (string_or_null value ++ codes "}"))))
 
 -- the lists that a reassignment changes
 abbrev pub changed_replicas : PartitionChange → List ℕ
@@ -131,25 +134,30 @@ changed_eligible version c =
     since 2 version (numbers_if_any (codes ",\"eligibleLeaderReplicas\":") c.eligible)
     ++ since 2 version (numbers_if_any (codes ",\"lastKnownElr\":") c.last_known)
 
-abbrev pub partition_change : ℕ → ℤ → ℕ → PartitionChange → List ℕ
-partition_change version index topic_id c =
+abbrev pub partition_change_data : ℕ → ℤ → ℕ → PartitionChange → List ℕ
+partition_change_data version index topic_id c =
     partition_key index topic_id ++ (changed_parts c ++ (changed_eligible version c ++ codes "}"))
 
 -- a broker is fenced, or its fence is lifted
-abbrev pub fencing : ℤ → ℤ → List ℕ
-fencing broker epoch = codes "{\"id\":" ++ (signed_decimal broker ++ (codes ",\"epoch\":" ++ (signed_decimal epoch ++ codes "}")))
+abbrev pub fencing_data : ℤ → ℤ → List ℕ
+fencing_data broker epoch = codes "{\"id\":" ++ (signed_decimal broker ++ (codes ",\"epoch\":" ++ (signed_decimal epoch ++ codes "}")))
 
-abbrev pub remove_topic : ℕ → List ℕ
-remove_topic topic_id = codes "{\"topicId\":" ++ (id topic_id ++ codes "}")
+abbrev pub remove_topic_data : ℕ → List ℕ
+remove_topic_data topic_id = codes "{\"topicId\":" ++ (base64_id topic_id ++ codes "}")
 
-abbrev pub feature_level : List ℕ → ℤ → List ℕ
-feature_level name level = codes "{\"name\":" ++ (string name ++ (codes ",\"featureLevel\":" ++ (signed_decimal level ++ codes "}")))
+abbrev pub feature_level_data : List ℕ → ℤ → List ℕ
+feature_level_data name level = codes "{\"name\":" ++ (string name ++ (codes ",\"featureLevel\":" ++ (signed_decimal level ++ codes "}")))
 
 -- the controlled shutdown is there since version 1
-abbrev pub broker_registration_change : ℕ → ℤ → ℤ → ℤ → ℤ → List ℕ
-broker_registration_change version broker epoch fenced stopping =
+abbrev pub broker_registration_change_data : ℕ → ℤ → ℤ → ℤ → ℤ → List ℕ
+broker_registration_change_data version broker epoch fenced stopping =
     codes "{\"brokerId\":" ++ (signed_decimal broker ++ (codes ",\"brokerEpoch\":" ++ (signed_decimal epoch
     ++ (unless_zero (codes ",\"fenced\":") fenced ++ (since 1 version (unless_zero (codes ",\"inControlledShutdown\":") stopping) ++ codes "}")))))
+
+-- a tagged text whose default is null
+abbrev pub remark_data : List ℕ → Option (List ℕ) → List ℕ
+remark_data name None = codes "{}"
+remark_data name (Some text) = name ++ (string text ++ codes "}")
 
 -- ---- the choice of kinds
 
@@ -167,20 +175,26 @@ kind_name (kinds.RemoveTopic topic_id) = codes "REMOVE_TOPIC_RECORD"
 kind_name (kinds.FeatureLevel name level) = codes "FEATURE_LEVEL_RECORD"
 kind_name (kinds.BrokerRegistrationChange broker epoch fenced stopping) = codes "BROKER_REGISTRATION_CHANGE_RECORD"
 kind_name kinds.NoOp = codes "NO_OP_RECORD"
+kind_name (kinds.BeginTransaction name) = codes "BEGIN_TRANSACTION_RECORD"
+kind_name kinds.EndTransaction = codes "END_TRANSACTION_RECORD"
+kind_name (kinds.AbortTransaction reason) = codes "ABORT_TRANSACTION_RECORD"
 
 unfoldable pub data_text : ℕ → Record → List ℕ
-data_text version (kinds.RegisterBroker broker state) = register_broker version broker state
-data_text version (kinds.UnregisterBroker broker epoch) = unregister_broker broker epoch
-data_text version (kinds.Topic name topic_id) = topic name topic_id
-data_text version (kinds.Partition index topic_id state) = partition version index topic_id state
-data_text version (kinds.Config kind name key value) = config kind name key value
-data_text version (kinds.PartitionChange index topic_id change) = partition_change version index topic_id change
-data_text version (kinds.FenceBroker broker epoch) = fencing broker epoch
-data_text version (kinds.UnfenceBroker broker epoch) = fencing broker epoch
-data_text version (kinds.RemoveTopic topic_id) = remove_topic topic_id
-data_text version (kinds.FeatureLevel name level) = feature_level name level
-data_text version (kinds.BrokerRegistrationChange broker epoch fenced stopping) = broker_registration_change version broker epoch fenced stopping
+data_text version (kinds.RegisterBroker broker state) = register_broker_data version broker state
+data_text version (kinds.UnregisterBroker broker epoch) = unregister_broker_data broker epoch
+data_text version (kinds.Topic name topic_id) = topic_data name topic_id
+data_text version (kinds.Partition index topic_id state) = partition_data version index topic_id state
+data_text version (kinds.Config kind name key value) = config_data kind name key value
+data_text version (kinds.PartitionChange index topic_id change) = partition_change_data version index topic_id change
+data_text version (kinds.FenceBroker broker epoch) = fencing_data broker epoch
+data_text version (kinds.UnfenceBroker broker epoch) = fencing_data broker epoch
+data_text version (kinds.RemoveTopic topic_id) = remove_topic_data topic_id
+data_text version (kinds.FeatureLevel name level) = feature_level_data name level
+data_text version (kinds.BrokerRegistrationChange broker epoch fenced stopping) = broker_registration_change_data version broker epoch fenced stopping
 data_text version kinds.NoOp = codes "{}"
+data_text version (kinds.BeginTransaction name) = remark_data (codes "{\"name\":") name
+data_text version kinds.EndTransaction = codes "{}"
+data_text version (kinds.AbortTransaction reason) = remark_data (codes "{\"reason\":") reason
 
 -- ---- a line
 
@@ -200,5 +214,5 @@ abbrev pub item_members : ℕ → Item → List ℕ
 item_members version (items.Record r) = record_members version r
 item_members version items.Control = codes ",\"control\":true"
 
-unfoldable pub line : Place → ℕ → Item → List ℕ
-line p version item = place p ++ (item_members version item ++ codes "}\n")
+unfoldable pub record_line : Place → ℕ → Item → List ℕ
+record_line p version item = place p ++ (item_members version item ++ codes "}\n")

@@ -6,8 +6,8 @@ ghost use Rattle.kr_json.specs.Lines as lines;
 
 use crate::members::{
     put_flag, put_i8, put_i16, put_i32, put_i64, put_ids, put_ids_if_any, put_ids_since,
-    put_leader, put_leaders_since, put_recovery, put_text, put_text_or_null, put_u16,
-    put_unless_zero, put_uuid,
+    put_leader, put_leaders_since, put_recovery, put_text, put_text_or_null, put_unless_zero,
+    put_uuid,
 };
 use crate::text::put_str;
 use kr_defs::{Broker, Endpoint, Partition, PartitionChange, Range, Record, Text};
@@ -16,12 +16,13 @@ use std::alloc::{AllocError, Global};
 fn put_port(alloc: Global, out: &mut Vec<u8>, endpoint: &Endpoint) -> Result<(), AllocError>
     ensures { OnOk result (out.new.items ≡ out.old.items ++ lines.port endpoint.now) }
 {
-    put_u16(alloc, out, ",\"port\":", &endpoint.port)?;
-    put_i16(alloc, out, ",\"securityProtocol\":", &endpoint.protocol)
+    let (port, protocol) = (endpoint.port, endpoint.protocol);
+    let text = format!(in alloc; ",\"port\":{port},\"securityProtocol\":{protocol}")?;
+    put_str(out, text.as_str())
 }
 
 fn put_endpoint(alloc: Global, out: &mut Vec<u8>, endpoint: &Endpoint) -> Result<(), AllocError>
-    ensures { OnOk result (out.new.items ≡ out.old.items ++ lines.endpoint endpoint.now) }
+    ensures { OnOk result (out.new.items ≡ out.old.items ++ lines.endpoint_object endpoint.now) }
 {
     put_text(out, "{\"name\":", &endpoint.name)?;
     put_text(out, ",\"host\":", &endpoint.host)?;
@@ -34,7 +35,8 @@ fn put_further_endpoint(
     out: &mut Vec<u8>,
     endpoint: &Endpoint,
 ) -> Result<(), AllocError>
-    ensures { OnOk result (out.new.items ≡ out.old.items ++ texts.further lines.endpoint endpoint.now) }
+    ensures { OnOk result (out.new.items ≡ out.old.items ++ texts.further lines.endpoint_object
+        endpoint.now) }
 {
     put_str(out, ",")?;
     put_endpoint(alloc, out, endpoint)
@@ -45,7 +47,8 @@ fn put_further_endpoints(
     out: &mut Vec<u8>,
     endpoints: &[Endpoint],
 ) -> Result<(), AllocError>
-    ensures { OnOk result (out.new.items ≡ out.old.items ++ flat_map (texts.further lines.endpoint) endpoints.now) }
+    ensures { OnOk result (out.new.items ≡ out.old.items ++ flat_map (texts.further
+        lines.endpoint_object) endpoints.now) }
 {
     for endpoint in endpoints {
         put_further_endpoint(alloc, out, endpoint)?;
@@ -54,7 +57,8 @@ fn put_further_endpoints(
 }
 
 fn put_endpoints(alloc: Global, out: &mut Vec<u8>, endpoints: &[Endpoint]) -> Result<(), AllocError>
-    ensures { OnOk result (out.new.items ≡ out.old.items ++ texts.elements lines.endpoint endpoints.now) }
+    ensures { OnOk result (out.new.items ≡ out.old.items ++ texts.elements lines.endpoint_object
+        endpoints.now) }
 {
     match endpoints.split_first() {
         None => Ok(()),
@@ -68,12 +72,14 @@ fn put_endpoints(alloc: Global, out: &mut Vec<u8>, endpoints: &[Endpoint]) -> Re
 fn put_levels(alloc: Global, out: &mut Vec<u8>, range: &Range) -> Result<(), AllocError>
     ensures { OnOk result (out.new.items ≡ out.old.items ++ lines.levels range.now) }
 {
-    put_i16(alloc, out, ",\"minSupportedVersion\":", &range.min)?;
-    put_i16(alloc, out, ",\"maxSupportedVersion\":", &range.max)
+    let (min, max) = (range.min, range.max);
+    let text =
+        format!(in alloc; ",\"minSupportedVersion\":{min},\"maxSupportedVersion\":{max}")?;
+    put_str(out, text.as_str())
 }
 
 fn put_range(alloc: Global, out: &mut Vec<u8>, range: &Range) -> Result<(), AllocError>
-    ensures { OnOk result (out.new.items ≡ out.old.items ++ lines.range range.now) }
+    ensures { OnOk result (out.new.items ≡ out.old.items ++ lines.range_object range.now) }
 {
     put_text(out, "{\"name\":", &range.name)?;
     put_levels(alloc, out, range)?;
@@ -81,14 +87,16 @@ fn put_range(alloc: Global, out: &mut Vec<u8>, range: &Range) -> Result<(), Allo
 }
 
 fn put_further_range(alloc: Global, out: &mut Vec<u8>, range: &Range) -> Result<(), AllocError>
-    ensures { OnOk result (out.new.items ≡ out.old.items ++ texts.further lines.range range.now) }
+    ensures { OnOk result (out.new.items ≡ out.old.items ++ texts.further lines.range_object
+        range.now) }
 {
     put_str(out, ",")?;
     put_range(alloc, out, range)
 }
 
 fn put_further_ranges(alloc: Global, out: &mut Vec<u8>, ranges: &[Range]) -> Result<(), AllocError>
-    ensures { OnOk result (out.new.items ≡ out.old.items ++ flat_map (texts.further lines.range) ranges.now) }
+    ensures { OnOk result (out.new.items ≡ out.old.items ++ flat_map (texts.further
+        lines.range_object) ranges.now) }
 {
     for range in ranges {
         put_further_range(alloc, out, range)?;
@@ -97,7 +105,8 @@ fn put_further_ranges(alloc: Global, out: &mut Vec<u8>, ranges: &[Range]) -> Res
 }
 
 fn put_ranges(alloc: Global, out: &mut Vec<u8>, ranges: &[Range]) -> Result<(), AllocError>
-    ensures { OnOk result (out.new.items ≡ out.old.items ++ texts.elements lines.range ranges.now) }
+    ensures { OnOk result (out.new.items ≡ out.old.items ++ texts.elements lines.range_object
+        ranges.now) }
 {
     match ranges.split_first() {
         None => Ok(()),
@@ -147,7 +156,8 @@ fn put_listeners(alloc: Global, out: &mut Vec<u8>, state: &Broker) -> Result<(),
 
 fn put_stopping(out: &mut Vec<u8>, version: u32, state: &Broker) -> Result<(), AllocError>
     ensures { OnOk result (out.new.items ≡
-        out.old.items ++ lines.since 1 version (codes ",\"inControlledShutdown\":" ++ texts.boolean state.now.stopping)) }
+        out.old.items ++ lines.since 1 version (codes ",\"inControlledShutdown\":" ++
+        texts.boolean state.now.stopping)) }
 {
     if version < 1 {
         return Ok(());
@@ -162,7 +172,8 @@ fn put_register_broker(
     broker: &i32,
     state: &Broker,
 ) -> Result<(), AllocError>
-    ensures { OnOk result (out.new.items ≡ out.old.items ++ lines.register_broker version broker.now state.now) }
+    ensures { OnOk result (out.new.items ≡ out.old.items ++ lines.register_broker_data version
+        broker.now state.now) }
 {
     put_process(alloc, out, broker, state)?;
     put_listeners(alloc, out, state)?;
@@ -177,7 +188,8 @@ fn put_unregister_broker(
     broker: &i32,
     epoch: &i64,
 ) -> Result<(), AllocError>
-    ensures { OnOk result (out.new.items ≡ out.old.items ++ lines.unregister_broker broker.now epoch.now) }
+    ensures { OnOk result (out.new.items ≡ out.old.items ++ lines.unregister_broker_data
+        broker.now epoch.now) }
 {
     put_i32(alloc, out, "{\"brokerId\":", broker)?;
     put_i64(alloc, out, ",\"brokerEpoch\":", epoch)?;
@@ -185,7 +197,7 @@ fn put_unregister_broker(
 }
 
 fn put_topic(alloc: Global, out: &mut Vec<u8>, name: &Text, id: &u128) -> Result<(), AllocError>
-    ensures { OnOk result (out.new.items ≡ out.old.items ++ lines.topic name.now id.now) }
+    ensures { OnOk result (out.new.items ≡ out.old.items ++ lines.topic_data name.now id.now) }
 {
     put_text(out, "{\"name\":", name)?;
     put_uuid(alloc, out, ",\"topicId\":", id)?;
@@ -198,7 +210,8 @@ fn put_partition_key(
     index: &i32,
     topic: &u128,
 ) -> Result<(), AllocError>
-    ensures { OnOk result (out.new.items ≡ out.old.items ++ lines.partition_key index.now topic.now) }
+    ensures { OnOk result (out.new.items ≡ out.old.items ++ lines.partition_key index.now
+        topic.now) }
 {
     put_i32(alloc, out, "{\"partitionId\":", index)?;
     put_uuid(alloc, out, ",\"topicId\":", topic)
@@ -216,8 +229,9 @@ fn put_replicas(alloc: Global, out: &mut Vec<u8>, state: &Partition) -> Result<(
 fn put_epochs(alloc: Global, out: &mut Vec<u8>, state: &Partition) -> Result<(), AllocError>
     ensures { OnOk result (out.new.items ≡ out.old.items ++ lines.epochs state.now) }
 {
-    put_i32(alloc, out, ",\"leaderEpoch\":", &state.leader_epoch)?;
-    put_i32(alloc, out, ",\"partitionEpoch\":", &state.partition_epoch)
+    let (leader, partition) = (state.leader_epoch, state.partition_epoch);
+    let text = format!(in alloc; ",\"leaderEpoch\":{leader},\"partitionEpoch\":{partition}")?;
+    put_str(out, text.as_str())
 }
 
 fn put_leadership(alloc: Global, out: &mut Vec<u8>, state: &Partition) -> Result<(), AllocError>
@@ -260,13 +274,26 @@ fn put_partition(
     topic: &u128,
     state: &Partition,
 ) -> Result<(), AllocError>
-    ensures { OnOk result (out.new.items ≡ out.old.items ++ lines.partition version index.now topic.now state.now) }
+    ensures { OnOk result (out.new.items ≡ out.old.items ++ lines.partition_data version index.now
+        topic.now state.now) }
 {
     put_partition_key(alloc, out, index, topic)?;
     put_replicas(alloc, out, state)?;
     put_leadership(alloc, out, state)?;
     put_eligible(alloc, out, version, state)?;
     put_str(out, "}")
+}
+
+fn put_resource(
+    alloc: Global,
+    out: &mut Vec<u8>,
+    kind: &i8,
+    name: &Text,
+) -> Result<(), AllocError>
+    ensures { OnOk result (out.new.items ≡ out.old.items ++ lines.resource kind.now name.now) }
+{
+    put_i8(alloc, out, "{\"resourceType\":", kind)?;
+    put_text(out, ",\"resourceName\":", name)
 }
 
 fn put_config(
@@ -277,10 +304,10 @@ fn put_config(
     key: &Text,
     value: &Option<Text>,
 ) -> Result<(), AllocError>
-    ensures { OnOk result (out.new.items ≡ out.old.items ++ lines.config kind.now name.now key.now value.now) }
+    ensures { OnOk result (out.new.items ≡ out.old.items ++ lines.config_data kind.now name.now
+        key.now value.now) }
 {
-    put_i8(alloc, out, "{\"resourceType\":", kind)?;
-    put_text(out, ",\"resourceName\":", name)?;
+    put_resource(alloc, out, kind, name)?;
     put_text(out, ",\"name\":", key)?;
     put_text_or_null(out, ",\"value\":", value)?;
     put_str(out, "}")
@@ -315,7 +342,8 @@ fn put_changed_eligible(
     version: u32,
     change: &PartitionChange,
 ) -> Result<(), AllocError>
-    ensures { OnOk result (out.new.items ≡ out.old.items ++ lines.changed_eligible version change.now) }
+    ensures { OnOk result (out.new.items ≡ out.old.items ++ lines.changed_eligible version
+        change.now) }
 {
     put_ids_since(
         alloc,
@@ -354,7 +382,7 @@ fn put_partition_change(
     change: &PartitionChange,
 ) -> Result<(), AllocError>
     ensures { OnOk result (out.new.items ≡
-        out.old.items ++ lines.partition_change version index.now topic.now change.now) }
+        out.old.items ++ lines.partition_change_data version index.now topic.now change.now) }
 {
     put_partition_key(alloc, out, index, topic)?;
     put_changed_parts(alloc, out, change)?;
@@ -368,7 +396,8 @@ fn put_fencing(
     broker: &i32,
     epoch: &i64,
 ) -> Result<(), AllocError>
-    ensures { OnOk result (out.new.items ≡ out.old.items ++ lines.fencing broker.now epoch.now) }
+    ensures { OnOk result (out.new.items ≡ out.old.items ++ lines.fencing_data broker.now
+        epoch.now) }
 {
     put_i32(alloc, out, "{\"id\":", broker)?;
     put_i64(alloc, out, ",\"epoch\":", epoch)?;
@@ -376,7 +405,7 @@ fn put_fencing(
 }
 
 fn put_remove_topic(alloc: Global, out: &mut Vec<u8>, topic: &u128) -> Result<(), AllocError>
-    ensures { OnOk result (out.new.items ≡ out.old.items ++ lines.remove_topic topic.now) }
+    ensures { OnOk result (out.new.items ≡ out.old.items ++ lines.remove_topic_data topic.now) }
 {
     put_uuid(alloc, out, "{\"topicId\":", topic)?;
     put_str(out, "}")
@@ -388,7 +417,8 @@ fn put_feature_level(
     name: &Text,
     level: &i16,
 ) -> Result<(), AllocError>
-    ensures { OnOk result (out.new.items ≡ out.old.items ++ lines.feature_level name.now level.now) }
+    ensures { OnOk result (out.new.items ≡ out.old.items ++ lines.feature_level_data name.now
+        level.now) }
 {
     put_text(out, "{\"name\":", name)?;
     put_i16(alloc, out, ",\"featureLevel\":", level)?;
@@ -402,7 +432,8 @@ fn put_stopping_since(
     stopping: &i8,
 ) -> Result<(), AllocError>
     ensures { OnOk result (out.new.items ≡
-        out.old.items ++ lines.since 1 version (lines.unless_zero (codes ",\"inControlledShutdown\":") stopping.now)) }
+        out.old.items ++ lines.since 1 version (lines.unless_zero
+        (codes ",\"inControlledShutdown\":") stopping.now)) }
 {
     if version < 1 {
         return Ok(());
@@ -420,13 +451,26 @@ fn put_broker_registration_change(
     stopping: &i8,
 ) -> Result<(), AllocError>
     ensures { OnOk result (out.new.items ≡ out.old.items ++
-        lines.broker_registration_change version broker.now epoch.now fenced.now stopping.now) }
+        lines.broker_registration_change_data version broker.now epoch.now fenced.now
+        stopping.now) }
 {
     put_i32(alloc, out, "{\"brokerId\":", broker)?;
     put_i64(alloc, out, ",\"brokerEpoch\":", epoch)?;
     put_unless_zero(alloc, out, ",\"fenced\":", fenced)?;
     put_stopping_since(alloc, out, version, stopping)?;
     put_str(out, "}")
+}
+
+fn put_remark(out: &mut Vec<u8>, name: &str, text: &Option<Text>) -> Result<(), AllocError>
+    ensures { OnOk result (out.new.items ≡ out.old.items ++ lines.remark_data name.now text.now) }
+{
+    match text {
+        None => put_str(out, "{}"),
+        Some(text) => {
+            put_text(out, name, text)?;
+            put_str(out, "}")
+        }
+    }
 }
 
 /// The name of the record's kind.
@@ -446,6 +490,9 @@ pub(crate) fn kind_name(value: &Record) -> &'static str
         Record::FeatureLevel { .. } => "FEATURE_LEVEL_RECORD",
         Record::BrokerRegistrationChange { .. } => "BROKER_REGISTRATION_CHANGE_RECORD",
         Record::NoOp => "NO_OP_RECORD",
+        Record::BeginTransaction { .. } => "BEGIN_TRANSACTION_RECORD",
+        Record::EndTransaction => "END_TRANSACTION_RECORD",
+        Record::AbortTransaction { .. } => "ABORT_TRANSACTION_RECORD",
     }
 }
 
@@ -493,6 +540,8 @@ pub(crate) fn put_data(
             fenced,
             stopping,
         } => put_broker_registration_change(alloc, out, version, broker, epoch, fenced, stopping),
-        Record::NoOp => put_str(out, "{}"),
+        Record::BeginTransaction { name } => put_remark(out, "{\"name\":", name),
+        Record::AbortTransaction { reason } => put_remark(out, "{\"reason\":", reason),
+        Record::NoOp | Record::EndTransaction => put_str(out, "{}"),
     }
 }

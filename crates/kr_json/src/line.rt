@@ -4,7 +4,6 @@ ghost use Rattle.std.specs.Prelude.{◌≡◌, ◌+ℤ◌, pos, ◌++◌, OnErr,
 ghost use Rattle.kr_json.specs.Lines as lines;
 
 use crate::kinds::{kind_name, put_data};
-use crate::members::{put_i32, put_i64, put_i128};
 use crate::place::Place;
 use crate::text::put_str;
 use kr_base::NoMemory;
@@ -20,10 +19,11 @@ fn offset_of(place: &Place) -> i128
 fn put_place(alloc: Global, out: &mut Vec<u8>, place: &Place) -> Result<(), AllocError>
     ensures { OnOk result (out.new.items ≡ out.old.items ++ lines.place place.now) }
 {
-    let offset = offset_of(place);
-    put_i128(alloc, out, "{\"offset\":", &offset)?;
-    put_i32(alloc, out, ",\"leaderEpoch\":", &place.epoch)?;
-    put_i64(alloc, out, ",\"timestamp\":", &place.time)
+    let (offset, epoch, time) = (offset_of(place), place.epoch, place.time);
+    let text =
+        format!(in alloc; "\"offset\":{offset},\"leaderEpoch\":{epoch},\"timestamp\":{time}")?;
+    put_str(out, "{")?;
+    put_str(out, text.as_str())
 }
 
 fn put_record(
@@ -32,7 +32,8 @@ fn put_record(
     version: u32,
     value: &Record,
 ) -> Result<(), AllocError>
-    ensures { OnOk result (out.new.items ≡ out.old.items ++ lines.record_members version value.now) }
+    ensures { OnOk result (out.new.items ≡ out.old.items ++ lines.record_members version
+        value.now) }
 {
     put_str(out, ",\"type\":\"")?;
     put_str(out, kind_name(value))?;
@@ -50,7 +51,7 @@ fn put_item(alloc: Global, out: &mut Vec<u8>, version: u32, item: &Item) -> Resu
     }
 }
 
-#[tactic(auto, unfolding(crate::specs::Lines::line))]
+#[tactic(auto, unfolding(crate::specs::Lines::record_line))]
 fn put_members(
     alloc: Global,
     place: &Place,
@@ -58,7 +59,8 @@ fn put_members(
     item: &Item,
     out: &mut Vec<u8>,
 ) -> Result<(), AllocError>
-    ensures { OnOk result (out.new.items ≡ out.old.items ++ lines.line place.now version item.now) }
+    ensures { OnOk result (out.new.items ≡ out.old.items ++ lines.record_line place.now version
+        item.now) }
 {
     put_place(alloc, out, place)?;
     put_item(alloc, out, version, item)?;
@@ -75,7 +77,8 @@ pub fn put_line(
     item: &Item,
     out: &mut Vec<u8>,
 ) -> Result<(), NoMemory>
-    ensures ok { OnOk result (out.new.items ≡ out.old.items ++ lines.line place.now version item.now) }
+    ensures ok { OnOk result (out.new.items ≡ out.old.items ++ lines.record_line place.now version
+        item.now) }
     ensures err { OnErr result (out.new.items ≡ out.old.items) }
 {
     let mut bytes = Vec::new(alloc);

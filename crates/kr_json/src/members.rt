@@ -1,7 +1,7 @@
 //! Members of an object, that are left out where a version doesn't have them or where they have their default.
 
 ghost use Rattle.std.specs.Prelude.{◌≡◌, [], ◌++◌, if◌then◌else◌, OnOk};
-ghost use Rattle.std.specs.Fmt.{decimal, signed_decimal};
+ghost use Rattle.std.specs.Fmt.{signed_decimal};
 ghost use Rattle.kr_json.specs.Lines as lines;
 ghost use Rattle.kr_json.specs.JsonText as texts;
 
@@ -16,7 +16,8 @@ pub(crate) fn put_i8(
     name: &str,
     number: &i8,
 ) -> Result<(), AllocError>
-    ensures { OnOk result (out.new.items ≡ out.old.items ++ (name.now ++ signed_decimal number.now)) }
+    ensures { OnOk result (out.new.items ≡ out.old.items ++ (name.now ++ signed_decimal
+        number.now)) }
 {
     put_str(out, name)?;
     let text = format!(in alloc; "{number}")?;
@@ -29,33 +30,8 @@ pub(crate) fn put_i16(
     name: &str,
     number: &i16,
 ) -> Result<(), AllocError>
-    ensures { OnOk result (out.new.items ≡ out.old.items ++ (name.now ++ signed_decimal number.now)) }
-{
-    put_str(out, name)?;
-    let text = format!(in alloc; "{number}")?;
-    put_str(out, text.as_str())
-}
-
-pub(crate) fn put_u16(
-    alloc: Global,
-    out: &mut Vec<u8>,
-    name: &str,
-    number: &u16,
-) -> Result<(), AllocError>
-    ensures { OnOk result (out.new.items ≡ out.old.items ++ (name.now ++ decimal number.now)) }
-{
-    put_str(out, name)?;
-    let text = format!(in alloc; "{number}")?;
-    put_str(out, text.as_str())
-}
-
-pub(crate) fn put_i128(
-    alloc: Global,
-    out: &mut Vec<u8>,
-    name: &str,
-    number: &i128,
-) -> Result<(), AllocError>
-    ensures { OnOk result (out.new.items ≡ out.old.items ++ (name.now ++ signed_decimal number.now)) }
+    ensures { OnOk result (out.new.items ≡ out.old.items ++ (name.now ++ signed_decimal
+        number.now)) }
 {
     put_str(out, name)?;
     let text = format!(in alloc; "{number}")?;
@@ -68,7 +44,8 @@ pub(crate) fn put_i32(
     name: &str,
     number: &i32,
 ) -> Result<(), AllocError>
-    ensures { OnOk result (out.new.items ≡ out.old.items ++ (name.now ++ signed_decimal number.now)) }
+    ensures { OnOk result (out.new.items ≡ out.old.items ++ (name.now ++ signed_decimal
+        number.now)) }
 {
     put_str(out, name)?;
     let text = format!(in alloc; "{number}")?;
@@ -81,7 +58,8 @@ pub(crate) fn put_i64(
     name: &str,
     number: &i64,
 ) -> Result<(), AllocError>
-    ensures { OnOk result (out.new.items ≡ out.old.items ++ (name.now ++ signed_decimal number.now)) }
+    ensures { OnOk result (out.new.items ≡ out.old.items ++ (name.now ++ signed_decimal
+        number.now)) }
 {
     put_str(out, name)?;
     let text = format!(in alloc; "{number}")?;
@@ -121,7 +99,8 @@ pub(crate) fn put_leader(
     name: &str,
     number: &Option<i32>,
 ) -> Result<(), AllocError>
-    ensures { OnOk result (out.new.items ≡ out.old.items ++ lines.number_if_any name.now number.now) }
+    ensures { OnOk result (out.new.items ≡ out.old.items ++ lines.number_if_any name.now
+        number.now) }
 {
     match number {
         None => Ok(()),
@@ -135,7 +114,8 @@ pub(crate) fn put_recovery(
     name: &str,
     number: &Option<i8>,
 ) -> Result<(), AllocError>
-    ensures { OnOk result (out.new.items ≡ out.old.items ++ lines.number_if_any name.now number.now) }
+    ensures { OnOk result (out.new.items ≡ out.old.items ++ lines.number_if_any name.now
+        number.now) }
 {
     match number {
         None => Ok(()),
@@ -179,7 +159,7 @@ fn put_unless_empty(
     name: &str,
     ids: &[i32],
 ) -> Result<(), AllocError>
-    ensures { OnOk result (out.new.items ≡ out.old.items ++ lines.unless_empty name.now ids.now) }
+    ensures { OnOk result (out.new.items ≡ out.old.items ++ lines.unless_no_ids name.now ids.now) }
 {
     match ids {
         [] => Ok(()),
@@ -198,7 +178,7 @@ pub(crate) fn put_leaders_since(
     ids: &Ids,
 ) -> Result<(), AllocError>
     ensures { OnOk result (out.new.items ≡
-        out.old.items ++ (if is_there then lines.unless_empty name.now ids.now else [])) }
+        out.old.items ++ (if is_there then lines.unless_no_ids name.now ids.now else [])) }
 {
     if !is_there {
         return Ok(());
@@ -221,7 +201,7 @@ pub(crate) fn put_uuid(
     name: &str,
     id: &u128,
 ) -> Result<(), AllocError>
-    ensures { OnOk result (out.new.items ≡ out.old.items ++ (name.now ++ texts.id id.now)) }
+    ensures { OnOk result (out.new.items ≡ out.old.items ++ (name.now ++ texts.base64_id id.now)) }
 {
     put_str(out, name)?;
     put_id(alloc, out, id)
@@ -241,7 +221,8 @@ pub(crate) fn put_text_or_null(
     name: &str,
     text: &Option<Text>,
 ) -> Result<(), AllocError>
-    ensures { OnOk result (out.new.items ≡ out.old.items ++ (name.now ++ texts.string_or_null text.now)) }
+    ensures { OnOk result (out.new.items ≡ out.old.items ++ (name.now ++ texts.string_or_null
+        text.now)) }
 {
     put_str(out, name)?;
     put_string_or_null(out, text)

@@ -19,7 +19,7 @@ pub(crate) fn put_str(out: &mut Vec<u8>, text: &str) -> Result<(), AllocError>
 
 fn hex_digit(n: u8) -> u8
     requires { n < 16 }
-    ensures { result ≡ texts.hex_digit n }
+    ensures { result ≡ texts.upper_hex n }
 {
     if n < 10 { b'0' + n } else { b'A' - 10 + n }
 }
@@ -27,7 +27,8 @@ fn hex_digit(n: u8) -> u8
 // A control character without a letter.
 fn put_control(out: &mut Vec<u8>, byte: u8) -> Result<(), AllocError>
     requires { byte < 32 }
-    ensures { OnOk result (out.new.items ≡ out.old.items ++ (codes "\\u00" ++ (texts.hex_digit (byte / 16) ∷ texts.hex_digit (byte % 16) ∷ []))) }
+    ensures { OnOk result (out.new.items ≡ out.old.items ++ (codes "\\u00" ++ (texts.upper_hex
+        (byte / 16) ∷ texts.upper_hex (byte % 16) ∷ []))) }
 {
     put_str(out, "\\u00")?;
     out.push(hex_digit(byte / 16))?;
@@ -90,15 +91,22 @@ pub(crate) fn put_boolean(out: &mut Vec<u8>, value: bool) -> Result<(), AllocErr
     put_str(out, if value { "true" } else { "false" })
 }
 
+fn encoded(alloc: Global, bytes: &[u8]) -> Result<String, AllocError>
+    ensures { IfOk result (λ text. string_bytes text ≡ encode_of url_safe_no_pad bytes.now) }
+{
+    URL_SAFE_NO_PAD.encode(alloc, bytes)
+}
+
 fn id_text(alloc: Global, id: u128) -> Result<String, AllocError>
-    ensures { IfOk result (λ text. string_bytes text ≡ encode_of url_safe_no_pad (to_be_bytes w128 id)) }
+    ensures { IfOk result (λ text. string_bytes text ≡
+        encode_of url_safe_no_pad (to_be_bytes w128 id)) }
 {
     let bytes = id.to_be_bytes();
-    URL_SAFE_NO_PAD.encode(alloc, &bytes)
+    encoded(alloc, &bytes)
 }
 
 pub(crate) fn put_id(alloc: Global, out: &mut Vec<u8>, id: &u128) -> Result<(), AllocError>
-    ensures { OnOk result (out.new.items ≡ out.old.items ++ texts.id id.now) }
+    ensures { OnOk result (out.new.items ≡ out.old.items ++ texts.base64_id id.now) }
 {
     put_str(out, "\"")?;
     let text = id_text(alloc, *id)?;
@@ -107,7 +115,8 @@ pub(crate) fn put_id(alloc: Global, out: &mut Vec<u8>, id: &u128) -> Result<(), 
 }
 
 fn put_further(alloc: Global, out: &mut Vec<u8>, numbers: &[i32]) -> Result<(), AllocError>
-    ensures { OnOk result (out.new.items ≡ out.old.items ++ flat_map (texts.further signed_decimal) numbers.now) }
+    ensures { OnOk result (out.new.items ≡ out.old.items ++ flat_map (texts.further
+        signed_decimal) numbers.now) }
 {
     for number in numbers {
         put_further_number(alloc, out, number)?;
@@ -117,7 +126,8 @@ fn put_further(alloc: Global, out: &mut Vec<u8>, numbers: &[i32]) -> Result<(), 
 
 // Behind a comma.
 fn put_further_number(alloc: Global, out: &mut Vec<u8>, number: &i32) -> Result<(), AllocError>
-    ensures { OnOk result (out.new.items ≡ out.old.items ++ texts.further signed_decimal number.now) }
+    ensures { OnOk result (out.new.items ≡ out.old.items ++ texts.further signed_decimal
+        number.now) }
 {
     let text = format!(in alloc; ",{number}")?;
     put_str(out, text.as_str())
@@ -131,7 +141,8 @@ fn put_first(alloc: Global, out: &mut Vec<u8>, number: &i32) -> Result<(), Alloc
 }
 
 fn put_elements(alloc: Global, out: &mut Vec<u8>, numbers: &[i32]) -> Result<(), AllocError>
-    ensures { OnOk result (out.new.items ≡ out.old.items ++ texts.elements signed_decimal numbers.now) }
+    ensures { OnOk result (out.new.items ≡ out.old.items ++ texts.elements signed_decimal
+        numbers.now) }
 {
     match numbers.split_first() {
         None => Ok(()),

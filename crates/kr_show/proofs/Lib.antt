@@ -1,2 +1,5 @@
+pub mod Fronts
+pub mod Items
 pub mod Runs
 pub mod Showing
+pub mod Told

@@ -6,7 +6,7 @@ use Rattle.kr_batch.specs.Grammar.{IsBatch}
 use Rattle.kr_show.specs.declared.fault.ShowFault.{ShowFault}
 use Rattle.kr_show.specs.declared.fault.ShowFault.TheVariants as faults
 use Rattle.kr_show.specs.BatchLines.{Shown, AreShown, bytes_of, lines_of, batch_lines}
-use Rattle.kr_show.specs.Endings.{Breaks, IsWhy, Shows}
+use Rattle.kr_show.specs.Endings.{Breaks, IsWhy, IsShown}
 use Rattle.kr_show.specs.inner.Steps.{IsShownTo, IsStopped, SoFar}
 
 are_more : (xs : List Shown) (s : Shown) → AreShown xs → IsBatch s.batch s.bytes → AreShown (xs ++ s ∷ [])
@@ -40,15 +40,15 @@ module _ (head bytes text : List ℕ) (at : ℕ) (so : SoFar head bytes at text)
   parts : bytes ≡ (head ++ bytes_of so.shown) ++ drop at bytes
   parts = sym (take-append-drop at bytes) ∙ ap (λ (l : List ℕ). l ++ drop at bytes) so.parts
 
-  stops : (text' : List ℕ) (answer : Result (Unit {0}) ShowFault) → text' ≡ text → IsWhy answer (length (head ++ bytes_of so.shown)) (drop at bytes) → Shows (IsWhy answer) head bytes text'
+  stops : (text' : List ℕ) (answer : Result (Unit {0}) ShowFault) → text' ≡ text → IsWhy answer (length (head ++ bytes_of so.shown)) (drop at bytes) → IsShown (IsWhy answer) head bytes text'
   stops text' answer same why = record { shown = so.shown; rest = drop at bytes; are = so.are; parts = parts; lines = same ∙ so.lines; why = why }
 
-  pub at_end : length bytes ≤ at → Shows (IsWhy (Ok tt)) head bytes text
+  pub at_end : length bytes ≤ at → IsShown (IsWhy (Ok tt)) head bytes text
   at_end long =
       let all : drop at bytes ≡ [] = drop_all at bytes long in
       stops text (Ok tt) refl all
 
-  pub broken : (text' : List ℕ) (fault : ShowFault) → IsStopped bytes at text text' fault → Shows (IsWhy (Err fault)) head bytes text'
+  pub broken : (text' : List ℕ) (fault : ShowFault) → IsStopped bytes at text text' fault → IsShown (IsWhy (Err fault)) head bytes text'
   broken text' (faults.Malformed found cause) is = stops text' (Err (faults.Malformed found cause)) is.1.1 (is.0 ∙ place, is.1.0)
   broken text' faults.NoMemory is = stops text' (Err faults.NoMemory) is tt
   broken text' faults.ReadFault is = absurd is

@@ -11,19 +11,21 @@ use Rattle.kr_record.specs.declared.fault.RecordFault.{RecordFault}
 use Rattle.kr_record.specs.declared.fault.RecordFault.TheVariants as values
 use Rattle.kr_process.specs.declared.status.Status.{Status}
 use Rattle.kr_process.specs.declared.status.Status.TheVariants as statuses
+use Rattle.kr_process.specs.declared.words.WordsFault.{WordsFault}
+use Rattle.kr_process.specs.declared.words.WordsFault.TheVariants as words
 use Rattle.kr_show.specs.declared.fault.ShowFault.{ShowFault}
 use Rattle.kr_show.specs.declared.fault.ShowFault.TheVariants as faults
 
 -- ---- words
 
-abbrev pub IsLog : List (List ℕ) → Type 0
-IsLog words = words ≡ codes "log" ∷ []
+abbrev pub AsksLog : List (List ℕ) → Type 0
+AsksLog words = words ≡ codes "log" ∷ []
 
-abbrev pub IsImage : List (List ℕ) → Type 0
-IsImage words = words ≡ codes "image" ∷ []
+abbrev pub AsksImage : List (List ℕ) → Type 0
+AsksImage words = words ≡ codes "image" ∷ []
 
-abbrev pub AreServed : List (List ℕ) → Type 0
-AreServed words = IsLog words ⊎ IsImage words
+abbrev pub AreShowWords : List (List ℕ) → Type 0
+AreShowWords words = AsksLog words ⊎ AsksImage words
 
 -- ---- names of faults
 
@@ -53,43 +55,48 @@ fault_name batches.NoMemory = codes "NoMemory"
 
 -- ---- answers
 
-abbrev pub status_of : Result (Unit {0}) ShowFault → Status
-status_of (Ok done) = statuses.Done
-status_of (Err (faults.BadHead)) = statuses.Malformed 0
-status_of (Err (faults.Malformed at cause)) = statuses.Malformed at
-status_of (Err faults.ReadFault) = statuses.ReadFault
-status_of (Err faults.WriteFault) = statuses.WriteFault
-status_of (Err faults.NoMemory) = statuses.NoMemory
-status_of (Err faults.TooLong) = statuses.TooLong
+abbrev pub status_for : Result (Unit {0}) ShowFault → Status
+status_for (Ok done) = statuses.Done
+status_for (Err (faults.BadHead)) = statuses.Malformed 0
+status_for (Err (faults.Malformed at cause)) = statuses.Malformed at
+status_for (Err faults.ReadFault) = statuses.ReadFault
+status_for (Err faults.WriteFault) = statuses.WriteFault
+status_for (Err faults.NoMemory) = statuses.NoMemory
+status_for (Err faults.TooLong) = statuses.TooLong
 
-abbrev pub line : List ℕ → List ℕ
-line text = text ++ 10 ∷ []
+abbrev pub note_line : List ℕ → List ℕ
+note_line text = text ++ 10 ∷ []
 
 abbrev pub usage : List ℕ
-usage = line (codes "usage: kr_show log | image")
+usage = note_line (codes "usage: kr_show log | image")
+
+-- the line where the words aren't known
+abbrev pub refusal : WordsFault → List ℕ
+refusal words.NotText = usage
+refusal words.NoMemory = note_line (codes "out of memory")
 
 -- the line of an answer, none where all of the input is shown
-abbrev pub note_of : Result (Unit {0}) ShowFault → List ℕ
-note_of (Ok done) = []
-note_of (Err faults.BadHead) = line (codes "malformed at 0: Head")
-note_of (Err (faults.Malformed at cause)) = codes "malformed at " ++ (decimal at ++ (codes ": " ++ line (fault_name cause)))
-note_of (Err faults.ReadFault) = line (codes "read fault")
-note_of (Err faults.WriteFault) = line (codes "write fault")
-note_of (Err faults.NoMemory) = line (codes "out of memory")
-note_of (Err faults.TooLong) = line (codes "input too long")
+abbrev pub note_for : Result (Unit {0}) ShowFault → List ℕ
+note_for (Ok done) = []
+note_for (Err faults.BadHead) = note_line (codes "malformed at 0: Head")
+note_for (Err (faults.Malformed at cause)) = codes "malformed at " ++ (decimal at ++ (codes ": " ++ note_line (fault_name cause)))
+note_for (Err faults.ReadFault) = note_line (codes "read fault")
+note_for (Err faults.WriteFault) = note_line (codes "write fault")
+note_for (Err faults.NoMemory) = note_line (codes "out of memory")
+note_for (Err faults.TooLong) = note_line (codes "input too long")
 
 -- ---- a run
 
 -- a number in the line of a fault wants memory
-abbrev pub IsMalformed : Result (Unit {0}) ShowFault → Type 0
-IsMalformed (Err (faults.Malformed at cause)) = Unit {0}
-IsMalformed other = ⊥
+abbrev pub NeedsNumber : Result (Unit {0}) ShowFault → Type 0
+NeedsNumber (Err (faults.Malformed at cause)) = Unit {0}
+NeedsNumber other = ⊥
 
 -- the status is that of an answer of which this holds, and the notes got the answer's line; or memory ran out for that of a fault
-pub record Tells (Holds : Result (Unit {0}) ShowFault → Type 0) (noted noted' : Option (List ℕ)) (count count' : ℕ) (ended : Status) : Type 0 where
+pub record IsTold (Holds : Result (Unit {0}) ShowFault → Type 0) (noted noted' : Option (List ℕ)) (count count' : ℕ) (ended : Status) : Type 0 where
   pub answer : Result (Unit {0}) ShowFault
   pub holds : Holds answer
   pub told : Result (Unit {0}) ShowFault
-  pub same : (told ≡ answer) ⊎ (IsMalformed answer × (told ≡ Err faults.NoMemory))
-  pub status : ended ≡ status_of told
-  pub noted : Still count count' → Appends noted noted' (note_of told)
+  pub same : (told ≡ answer) ⊎ (NeedsNumber answer × (told ≡ Err faults.NoMemory))
+  pub status : ended ≡ status_for told
+  pub noted : Still count count' → Appends noted noted' (note_for told)

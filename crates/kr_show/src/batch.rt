@@ -26,13 +26,13 @@ fn place_in(batch: &Batch, number: u32) -> Place
 }
 
 /// The lines of a batch that stands in these bytes.
-#[tactic(auto, unfolding(crate::specs::BatchLines::batch_lines))]
+#[tactic(auto, using(crate::proofs::Items::line_more, std::proofs::lemmas::List::drop_min), unfolding(crate::specs::BatchLines::batch_lines))]
 pub(crate) fn batch_lines(alloc: Global, batch: &Batch, bytes: &[u8]) -> Result<Vec<u8>, NoMemory>
     requires few { length batch.now.items ≤ MOST_RECORDS }
     ensures { IfOk result (λ text. text.items ≡ lines.batch_lines batch.now bytes.now) }
 {
     let mut text = Vec::new(alloc);
-    let mut at = bytes.len().min(HEAD);
+    let mut at = HEAD.min(bytes.len());
     let mut number = 0;
     for item in batch.items.as_slice() {
         let (version, next) = told_version(bytes, at);

@@ -77,19 +77,19 @@ fn read_frame(bytes: &[u8], at: usize) -> Result<((i32, &[u8]), usize), WireFaul
     Ok((frame, next))
 }
 
-#[tactic(auto, unfolding(crate::specs::BatchLines::version_of))]
+#[tactic(auto, unfolding(crate::specs::BatchLines::value_version))]
 fn read_version(value: &[u8]) -> Result<(u32, usize), WireFault>
-    ensures { Reads (λ v. v) result value.now (lines.version_of value.now) }
+    ensures { Reads (λ v. v) result value.now (lines.value_version value.now) }
 {
     let (_frame, next) = read_uvarint(value, 0)?;
     let (_key, next) = read_uvarint(value, next)?;
     read_uvarint(value, next)
 }
 
-#[tactic(auto, unfolding(crate::specs::BatchLines::version_at))]
-fn version_at(bytes: &[u8], at: usize) -> Result<(u32, usize), WireFault>
+#[tactic(auto, unfolding(crate::specs::BatchLines::entry_version))]
+fn entry_version(bytes: &[u8], at: usize) -> Result<(u32, usize), WireFault>
     requires { at ≤ length bytes.now }
-    ensures { Reads (λ v. v) result bytes.now (lines.version_at (drop at bytes.now)) }
+    ensures { Reads (λ v. v) result bytes.now (lines.entry_version (drop at bytes.now)) }
 {
     let ((_delta, value), next) = read_frame(bytes, at)?;
     let (version, _next) = read_version(value)?;
@@ -99,10 +99,11 @@ fn version_at(bytes: &[u8], at: usize) -> Result<(u32, usize), WireFault>
 /// The version that the record at this place tells, and where the next one begins.
 pub(crate) fn told_version(bytes: &[u8], at: usize) -> (u32, usize)
     requires { at ≤ length bytes.now }
-    ensures told { (result.0, drop result.1 bytes.now) ≡ lines.told (lines.version_at (drop at bytes.now)) }
+    ensures told { (result.0, drop result.1 bytes.now) ≡
+        lines.told_or_none (lines.entry_version (drop at bytes.now)) }
     ensures within { result.1 ≤ length bytes.now }
 {
-    match version_at(bytes, at) {
+    match entry_version(bytes, at) {
         Ok((version, next)) => (version, next),
         Err(_) => (0, bytes.len()),
     }

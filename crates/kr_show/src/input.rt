@@ -1,14 +1,12 @@
 //! An input, taken to its end, and shown.
 
-ghost use Rattle.std.specs.Prelude.{◌≡◌, ◌⊎◌, ◌↔◌, ◌≤◌, ◌<◌, ◌++◌, Some, None, length, codes, IfOk, IfErr, IfSome, IsErrOf, OnOk, OnErr, string_bytes};
-ghost use Rattle.std.specs.Fmt.{decimal};
-ghost use Rattle.std.specs.Io.KnownBytes.{Appends, IsAtEnd};
-ghost use Rattle.kr_base.specs.Causes.{Rose, Still};
+ghost use Rattle.std.specs.Prelude.{◌≡◌, ◌+◌, ◌≤◌, ◌<◌, length, IfOk, IfErr, IfSome, IsErrOf, OnOk};
+ghost use Rattle.std.specs.Io.KnownBytes.{IsAtEnd};
+ghost use Rattle.kr_base.specs.Causes.{Rose};
 ghost use Rattle.kr_wire.specs.Reading.{Reads};
-ghost use Rattle.kr_show.specs.Endings.{IsImageHead, IsLogHead, ShowEnds, head_at};
-ghost use Rattle.kr_show.specs.inner.Runs.{Grew, IsAllTaken, IsHeadOf, IsReadFault, IsStart};
-ghost use Rattle.kr_show.specs.Notes as notes;
-ghost use Rattle.kr_show.specs.Notes.{AreServed, IsImage, IsLog, Tells};
+ghost use Rattle.kr_snapshot.specs.Reading.{numbers_at};
+ghost use Rattle.kr_show.specs.Endings.{ShowEnds, TakesAll, longest_input};
+ghost use Rattle.kr_show.specs.inner.Runs.{TookBehind, IsHeadOf, IsPieceFault, IsNotTaken, IsStartOf};
 
 use crate::fault::ShowFault;
 use crate::showing::show_bytes;
@@ -29,30 +27,51 @@ pub(crate) enum Word {
     Image,
 }
 
+// How many bytes a read may bring, where so many were taken.
+fn room(taken: usize) -> usize
+    requires { taken < longest_input }
+    ensures some { 0 < result }
+    ensures piece { result ≤ 4096 }
+    ensures fits { taken + result ≤ longest_input }
+{
+    PIECE.min((MOST_SESSION_BYTES - taken as u64) as usize)
+}
+
 // One read, whose bytes get behind the others. It answers how many came; none is the end of the input.
+#[tactic(auto, using(crate::proofs::Runs::grew_by, crate::proofs::Runs::took_piece))]
 fn read_piece<S: Source>(source: &mut S, bytes: &mut Vec<u8>) -> Result<usize, ShowFault>
-    ensures grew { OnOk result (Grew (S.left source.old) (S.left source.new) bytes.old.items bytes.new.items) }
+    requires { length bytes.old.items < longest_input }
+    ensures grew { OnOk result (TookBehind (S.left source.old) (S.left source.new) bytes.old.items
+        bytes.new.items) }
     ensures count { IfOk result (λ count. length bytes.new.items ≡ length bytes.old.items + count) }
+    ensures within { OnOk result (length bytes.new.items ≤ longest_input) }
     ensures end { IfOk result (λ count. count ≡ 0 → IsAtEnd (S.left source.new)) }
-    ensures fault { IfErr result (λ fault. IsReadFault (S.left source.old) (S.left source.new) fault) }
-    ensures rose { IsErrOf result ShowFault.ReadFault → Rose (S.faults source.old) (S.faults source.new) }
+    ensures fault { IfErr result (λ fault. IsPieceFault (S.left source.old) (S.left source.new)
+        (length bytes.old.items) fault) }
+    ensures rose { IsErrOf result ShowFault.ReadFault →
+        Rose (S.faults source.old) (S.faults source.new) }
     ensures later { S.faults source.old ≤ S.faults source.new }
 {
     let mut piece = [0; PIECE];
-    let count = match source.read(&mut piece) {
+    let (into, _) = piece.split_at_mut(room(bytes.len()));
+    let count = match source.read(into) {
         Ok(count) => count,
         Err(_failed) => return Err(ShowFault::ReadFault),
     };
-    let (come, _) = piece.split_at(count);
+    let (come, _) = into.split_at(count);
     bytes.extend_from_slice(come)?;
     Ok(count)
 }
 
 // All bytes of the input.
+#[tactic(auto, using(crate::proofs::Runs::consumes_none, crate::proofs::Runs::grew_behind, crate::proofs::Runs::fault_behind))]
 fn read_all<S: Source>(alloc: Global, source: &mut S) -> Result<Vec<u8>, ShowFault>
-    ensures all { IfOk result (λ bytes. IsAllTaken (S.left source.old) (S.left source.new) bytes.items) }
-    ensures fault { IfErr result (λ fault. IsReadFault (S.left source.old) (S.left source.new) fault) }
-    ensures rose { IsErrOf result ShowFault.ReadFault → Rose (S.faults source.old) (S.faults source.new) }
+    ensures all { IfOk result (λ bytes. TakesAll (S.left source.old) (S.left source.new)
+        bytes.items) }
+    ensures fault { IfErr result (λ fault. IsNotTaken (S.left source.old) (S.left source.new)
+        fault) }
+    ensures rose { IsErrOf result ShowFault.ReadFault →
+        Rose (S.faults source.old) (S.faults source.new) }
     ensures later { S.faults source.old ≤ S.faults source.new }
 {
     let mut bytes = Vec::new(alloc);
@@ -68,21 +87,22 @@ fn read_all<S: Source>(alloc: Global, source: &mut S) -> Result<Vec<u8>, ShowFau
     Err(ShowFault::TooLong)
 }
 
-#[tactic(auto, unfolding(crate::specs::Endings::head_at))]
-fn read_head(bytes: &[u8]) -> Result<((i64, i64), usize), WireFault>
-    ensures { Reads (λ x. x) result bytes.now (head_at bytes.now) }
+// The offset and the count of an image, and where they end.
+#[tactic(auto, unfolding(kr_snapshot::specs::Reading::numbers_at))]
+fn read_head(bytes: &[u8]) -> Result<((i64, u64), usize), WireFault>
+    ensures { Reads (λ x. x) result bytes.now (numbers_at bytes.now) }
 {
     let (offset, next) = read_i64(bytes, 0)?;
     let (count, next) = read_i64(bytes, next)?;
     if offset < 0 || count < 0 {
         return Err(WireFault::Short);
     }
-    Ok(((offset, count), next))
+    Ok(((offset, count.unsigned_abs()), next))
 }
 
 // Where the batches begin.
 fn start_of(word: Word, bytes: &[u8]) -> Option<usize>
-    ensures is { IsStart word bytes.now result }
+    ensures is { IsStartOf word bytes.now result }
     ensures within { IfSome result (λ start. start ≤ length bytes.now) }
 {
     match word {
@@ -95,15 +115,19 @@ fn start_of(word: Word, bytes: &[u8]) -> Option<usize>
 }
 
 /// Shows all of an input.
+#[tactic(auto, using(crate::proofs::Runs::not_read, crate::proofs::Runs::no_head, crate::proofs::Runs::head_of_start, crate::proofs::Runs::written_all, crate::proofs::Runs::written_front, crate::proofs::Runs::no_read, crate::proofs::Runs::no_write))]
 pub(crate) fn show<S: Source, K: Sink>(
     alloc: Global,
     word: Word,
     input: &mut S,
     output: &mut K,
 ) -> Result<(), ShowFault>
-    ensures ends { ShowEnds (IsHeadOf word) (S.left input.old) (S.left input.new) (K.written output.old) (K.written output.new) result }
-    ensures read { IsErrOf result ShowFault.ReadFault → Rose (S.faults input.old) (S.faults input.new) }
-    ensures write { IsErrOf result ShowFault.WriteFault → Rose (K.faults output.old) (K.faults output.new) }
+    ensures ends { ShowEnds (IsHeadOf word) (S.left input.old) (S.left input.new) (K.written
+        output.old) (K.written output.new) result }
+    ensures read { IsErrOf result ShowFault.ReadFault →
+        Rose (S.faults input.old) (S.faults input.new) }
+    ensures write { IsErrOf result ShowFault.WriteFault →
+        Rose (K.faults output.old) (K.faults output.new) }
 {
     let bytes = match read_all(alloc, input) {
         Ok(bytes) => bytes,

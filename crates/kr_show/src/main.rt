@@ -11,15 +11,14 @@ mod words;
 
 pub use fault::ShowFault;
 use kr_base::{ReadSource, WriteSink};
-use kr_process::{Status, WordsFault, words_of};
-pub use words::run;
+use kr_process::{Status, words_of};
+pub use words::{refuse, run};
 
 fn main(rt: HostRuntime) -> Status {
     let mut notes = WriteSink::new(rt.stderr());
     let words = match words_of(&rt) {
         Ok(words) => words,
-        Err(WordsFault::NotText) => return Status::Usage,
-        Err(WordsFault::NoMemory) => return Status::NoMemory,
+        Err(fault) => return refuse(fault, &mut notes),
     };
     let mut input = ReadSource::new(rt.stdin());
     let mut output = WriteSink::new(rt.stdout());

@@ -1,8 +1,9 @@
 //! Batches one after the other, and their lines.
 
 ghost use Rattle.std.specs.Prelude.{◌≡◌, ◌⊎◌, ◌+◌, ◌≤◌, ◌^◌, ◌<◌, ◌++◌, [], take, length, None, IfOk, IfErr, IfSome, MatchResult, Ok, Err};
-ghost use Rattle.kr_show.specs.Endings.{IsCut, IsWhy, Shows, size_at};
-ghost use Rattle.kr_show.specs.inner.Steps.{IsFront, IsRefused, IsShownTo, IsStopped, IsText, fault_of as of_batch};
+ghost use Rattle.kr_show.specs.Endings.{IsTooShort, IsWhy, IsShown};
+ghost use Rattle.kr_snapshot.specs.Reading.{size_at};
+ghost use Rattle.kr_show.specs.inner.Steps.{IsFront, IsNoText, IsShownTo, IsStopped, IsTextOf, fault_of as of_batch};
 
 use crate::batch::batch_lines;
 use crate::fault::ShowFault;
@@ -11,9 +12,10 @@ use kr_wire::{read_i64, read_u32};
 use std::alloc::Global;
 
 // How many bytes there are behind the size of the batch at the front.
-#[tactic(auto, unfolding(crate::specs::Endings::size_at, kr_batch::specs::Reading::start_at))]
+#[tactic(auto, unfolding(kr_snapshot::specs::Reading::size_at, kr_batch::specs::Reading::start_at))]
 fn read_size(bytes: &[u8]) -> Result<u32, BatchFault>
-    ensures read { MatchResult result (λ size. size_at bytes.now ≡ Ok size) (λ e. size_at bytes.now ≡ Err e) }
+    ensures read { MatchResult result (λ size. size_at bytes.now ≡
+        Ok size) (λ e. size_at bytes.now ≡ Err e) }
     ensures small { IfOk result (λ size. size < 2 ^ 31) }
 {
     let (_base, next) = read_i64(bytes, 0)?;
@@ -26,8 +28,9 @@ fn read_size(bytes: &[u8]) -> Result<u32, BatchFault>
 
 // How many bytes the batch at the front has, where it is whole.
 fn front_len(bytes: &[u8]) -> Option<usize>
-    ensures some { IfSome result (λ len. (len ≤ length bytes.now) × ((12 ≤ len) × IsFront bytes.now len)) }
-    ensures none { result ≡ None → IsCut bytes.now }
+    ensures some { IfSome result (λ len. (len ≤ length bytes.now) × ((12 ≤ len) ×
+        IsFront bytes.now len)) }
+    ensures none { result ≡ None → IsTooShort bytes.now }
 {
     let len = match read_size(bytes) {
         Ok(size) => size as usize + START,
@@ -40,12 +43,16 @@ fn front_len(bytes: &[u8]) -> Option<usize>
 }
 
 // The lines of the batch that stands in these bytes at the place `at`.
+#[tactic(auto, using(crate::proofs::Fronts::batch_few, crate::proofs::Fronts::text_of_batch))]
 fn text_of(alloc: Global, bytes: &[u8], at: u64) -> Result<Vec<u8>, ShowFault>
-    ensures text { IfOk result (λ text. IsText bytes.now text.items) }
-    ensures refused { IfErr result (λ fault. IsRefused bytes.now at fault) }
+    ensures text { IfOk result (λ text. IsTextOf bytes.now text.items) }
+    ensures refused { IfErr result (λ fault. IsNoText bytes.now at fault) }
 {
     match decode(alloc, bytes) {
-        Ok(batch) => Ok(batch_lines(alloc, &batch, bytes)?),
+        Ok(batch) => match batch_lines(alloc, &batch, bytes) {
+            Ok(text) => Ok(text),
+            Err(_no_memory) => Err(ShowFault::NoMemory),
+        },
         Err(cause) => Err(fault_of(at, cause)),
     }
 }
@@ -60,6 +67,7 @@ fn fault_of(at: u64, cause: BatchFault) -> ShowFault
 }
 
 // Appends the lines of the batch at the front of what stands at this place, and answers where it ends.
+#[tactic(auto, using(crate::proofs::Fronts::shown_to, crate::proofs::Fronts::stopped_short, crate::proofs::Fronts::stopped_refused))]
 fn show_front(
     alloc: Global,
     bytes: &[u8],
@@ -67,8 +75,10 @@ fn show_front(
     text: &mut Vec<u8>,
 ) -> Result<usize, ShowFault>
     requires { at < length bytes.now }
-    ensures shown { IfOk result (λ next. IsShownTo bytes.now at text.old.items text.new.items next) }
-    ensures why { IfErr result (λ fault. IsStopped bytes.now at text.old.items text.new.items fault) }
+    ensures shown { IfOk result (λ next. IsShownTo bytes.now at text.old.items text.new.items
+        next) }
+    ensures why { IfErr result (λ fault. IsStopped bytes.now at text.old.items text.new.items
+        fault) }
 {
     let (_, rest) = bytes.split_at(at);
     let len = match front_len(rest) {
@@ -92,6 +102,7 @@ fn show_front(
 }
 
 /// Appends the lines of the batches that stand behind a head of so many bytes, up to the first fault.
+#[tactic(auto, using(crate::proofs::Showing::begins, crate::proofs::Showing::goes_on, crate::proofs::Showing::at_end, crate::proofs::Showing::broken))]
 pub(crate) fn show_bytes(
     alloc: Global,
     bytes: &[u8],
@@ -100,7 +111,7 @@ pub(crate) fn show_bytes(
 ) -> Result<(), ShowFault>
     requires head { start ≤ length bytes.now }
     requires empty { text.old.items ≡ [] }
-    ensures { Shows (IsWhy result) (take start bytes.now) bytes.now text.new.items }
+    ensures { IsShown (IsWhy result) (take start bytes.now) bytes.now text.new.items }
 {
     let mut at = start;
     while at < bytes.len() {

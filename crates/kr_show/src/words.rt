@@ -1,26 +1,27 @@
 //! The program's call: what is shown by its word, and the line of notes.
 
-ghost use Rattle.std.specs.Prelude.{◌≡◌, ◌⊎◌, ◌↔◌, ◌++◌, Some, codes, IfOk, string_bytes};
+ghost use Rattle.std.specs.Prelude.{◌≡◌, ◌⊎◌, ◌↔◌, ◌++◌, ◌∷◌, [], Some, Err, codes, IfOk, string_bytes};
 ghost use Rattle.std.specs.Fmt.{decimal};
 ghost use Rattle.std.specs.Io.KnownBytes.{Appends, Keeps};
-ghost use Rattle.kr_base.specs.Causes.{Still};
+ghost use Rattle.kr_base.specs.Causes.{Rose, Still};
 ghost use Rattle.kr_show.specs.Endings.{IsImageHead, IsLogHead, ShowEnds};
+ghost use Rattle.kr_show.specs.inner.Runs.{IsHeadOf};
 ghost use Rattle.kr_show.specs.Notes as notes;
-ghost use Rattle.kr_show.specs.Notes.{AreServed, IsImage, IsLog, IsMalformed, Tells};
+ghost use Rattle.kr_show.specs.Notes.{AreShowWords, AsksImage, AsksLog, NeedsNumber, IsTold};
 
 use crate::fault::ShowFault;
 use crate::input::{Word, show};
 use kr_base::{Sink, Source};
 use kr_batch::{BatchFault, Cause};
 use kr_defs::Text;
-use kr_process::Status;
+use kr_process::{Status, WordsFault};
 use kr_record::RecordFault;
 use std::alloc::{AllocError, Global};
 
 // What the words ask for.
 fn word_of(words: &[Text]) -> Option<Word>
-    ensures log { (result ≡ Some Word.Log) ↔ IsLog words.now }
-    ensures image { (result ≡ Some Word.Image) ↔ IsImage words.now }
+    ensures log { (result ≡ Some Word.Log) ↔ AsksLog words.now }
+    ensures image { (result ≡ Some Word.Image) ↔ AsksImage words.now }
 {
     match words {
         [word] => lone_word(word),
@@ -29,8 +30,8 @@ fn word_of(words: &[Text]) -> Option<Word>
 }
 
 fn lone_word(word: &Text) -> Option<Word>
-    ensures log { (result ≡ Some Word.Log) ↔ IsLog (word.now ∷ []) }
-    ensures image { (result ≡ Some Word.Image) ↔ IsImage (word.now ∷ []) }
+    ensures log { (result ≡ Some Word.Log) ↔ AsksLog (word.now ∷ []) }
+    ensures image { (result ≡ Some Word.Image) ↔ AsksImage (word.now ∷ []) }
 {
     match word.as_str() {
         "log" => Some(Word::Log),
@@ -77,8 +78,8 @@ fn fault_name(fault: &BatchFault) -> &'static str
     }
 }
 
-fn status_of(answer: Result<(), ShowFault>) -> Status
-    ensures { result ≡ notes.status_of answer }
+fn status_for(answer: Result<(), ShowFault>) -> Status
+    ensures { result ≡ notes.status_for answer }
 {
     match answer {
         Ok(()) => Status::Done,
@@ -93,7 +94,8 @@ fn status_of(answer: Result<(), ShowFault>) -> Status
 
 fn malformed_line(alloc: Global, at: u64, cause: &BatchFault) -> Result<String, AllocError>
     ensures { IfOk result (λ text. string_bytes text ≡
-        codes "malformed at " ++ (decimal at ++ (codes ": " ++ notes.line (notes.fault_name cause.now)))) }
+        codes "malformed at " ++ (decimal at ++ (codes ": " ++ notes.note_line (notes.fault_name
+        cause.now)))) }
 {
     let name = fault_name(cause);
     format!(in alloc; "malformed at {at}: {name}\n")
@@ -114,9 +116,10 @@ fn tell_malformed<E: Sink>(
     cause: &BatchFault,
     notes: &mut E,
 ) -> Result<(), ShowFault>
-    ensures same { (result ≡ Err (ShowFault.Malformed at cause.now)) ⊎ (result ≡ Err ShowFault.NoMemory) }
+    ensures same { (result ≡ Err (ShowFault.Malformed at cause.now)) ⊎ (result ≡
+        Err ShowFault.NoMemory) }
     ensures told { Still (E.faults notes.old) (E.faults notes.new) →
-        Appends (E.written notes.old) (E.written notes.new) (notes.note_of result) }
+        Appends (E.written notes.old) (E.written notes.new) (notes.note_for result) }
 {
     match malformed_line(alloc, at, cause) {
         Ok(text) => {
@@ -136,9 +139,9 @@ fn tell<E: Sink>(
     answer: Result<(), ShowFault>,
     notes: &mut E,
 ) -> Result<(), ShowFault>
-    ensures same { (result ≡ answer) ⊎ (IsMalformed answer × (result ≡ Err ShowFault.NoMemory)) }
+    ensures same { (result ≡ answer) ⊎ (NeedsNumber answer × (result ≡ Err ShowFault.NoMemory)) }
     ensures told { Still (E.faults notes.old) (E.faults notes.new) →
-        Appends (E.written notes.old) (E.written notes.new) (notes.note_of result) }
+        Appends (E.written notes.old) (E.written notes.new) (notes.note_for result) }
 {
     match answer {
         Ok(()) => {}
@@ -152,6 +155,35 @@ fn tell<E: Sink>(
     answer
 }
 
+// Shows the input, and writes the line of the answer.
+fn show_and_tell<S: Source, K: Sink, E: Sink>(
+    alloc: Global,
+    word: Word,
+    input: &mut S,
+    output: &mut K,
+    notes: &mut E,
+) -> Status
+    ensures ends { IsTold (ShowEnds (IsHeadOf word) (S.left input.old) (S.left input.new)
+        (K.written output.old) (K.written output.new)) (E.written notes.old) (E.written notes.new)
+        (E.faults notes.old) (E.faults notes.new) result }
+    ensures served { result ≡ Status.Usage → ⊥ }
+    ensures read { result ≡ Status.ReadFault → Rose (S.faults input.old) (S.faults input.new) }
+    ensures write { result ≡ Status.WriteFault → Rose (K.faults output.old) (K.faults output.new) }
+{
+    let answer = show(alloc, word, input, output);
+    let told = tell(alloc, answer, notes);
+    status_for(told)
+}
+
+fn put_usage<E: Sink>(notes: &mut E) -> Status
+    ensures usage { result ≡ Status.Usage }
+    ensures told { Still (E.faults notes.old) (E.faults notes.new) →
+        Appends (E.written notes.old) (E.written notes.new) notes.usage }
+{
+    put_note(b"usage: kr_show log | image\n", notes);
+    Status::Usage
+}
+
 /// Shows the batches of a log (`log`) or an image (`image`) as lines of JSON, a line for each record, up to the first batch
 /// that is none. The line of an answer that isn't Done goes to `notes`; a fault of `notes` changes no status. Other words are
 /// answered Usage.
@@ -163,23 +195,47 @@ pub fn run<S: Source, K: Sink, E: Sink>(
     notes: &mut E,
 ) -> Status
     // What was taken and what was written at each status, and its line.
-    ensures log { IsLog words.now → Tells (ShowEnds IsLogHead (S.left input.old) (S.left input.new)
-        (K.written output.old) (K.written output.new)) (E.written notes.old) (E.written notes.new) (E.faults notes.old) (E.faults notes.new) result }
-    ensures image { IsImage words.now → Tells (ShowEnds IsImageHead (S.left input.old) (S.left input.new)
-        (K.written output.old) (K.written output.new)) (E.written notes.old) (E.written notes.new) (E.faults notes.old) (E.faults notes.new) result }
-    // Usage is told exactly where the words aren't served.
-    ensures usage { result ≡ Status.Usage → AreServed words.now → ⊥ }
-    ensures served { (AreServed words.now → ⊥) → result ≡ Status.Usage }
-    ensures idle { result ≡ Status.Usage → Keeps (S.left input.old) (S.left input.new) × Keeps (K.written output.old) (K.written output.new) }
+    ensures log { AsksLog words.now → IsTold (ShowEnds IsLogHead (S.left input.old) (S.left
+        input.new)
+        (K.written output.old) (K.written output.new)) (E.written notes.old) (E.written notes.new)
+        (E.faults notes.old) (E.faults notes.new) result }
+    ensures image { AsksImage words.now → IsTold (ShowEnds IsImageHead (S.left input.old) (S.left
+        input.new)
+        (K.written output.old) (K.written output.new)) (E.written notes.old) (E.written notes.new)
+        (E.faults notes.old) (E.faults notes.new) result }
+
+    // Usage is told exactly where the words aren't served, and then nothing is taken or written but its line.
+    ensures usage { result ≡ Status.Usage → AreShowWords words.now → ⊥ }
+    ensures served { (AreShowWords words.now → ⊥) → result ≡ Status.Usage }
+    ensures idle { result ≡ Status.Usage → Keeps (S.left input.old) (S.left input.new) ×
+        Keeps (K.written output.old) (K.written output.new) }
+    ensures told { result ≡ Status.Usage → Still (E.faults notes.old) (E.faults notes.new) →
+        Appends (E.written notes.old) (E.written notes.new) notes.usage }
+
+    // A fault is told only where that object's count rose in this call.
+    ensures read { result ≡ Status.ReadFault → Rose (S.faults input.old) (S.faults input.new) }
+    ensures write { result ≡ Status.WriteFault → Rose (K.faults output.old) (K.faults output.new) }
 {
     match word_of(words) {
-        None => {
-            put_note(b"usage: kr_show log | image\n", notes);
-            Status::Usage
-        }
-        Some(word) => {
-            let answer = show(alloc, word, input, output);
-            status_of(tell(alloc, answer, notes))
+        None => put_usage(notes),
+        Some(Word::Log) => show_and_tell(alloc, Word::Log, input, output, notes),
+        Some(Word::Image) => show_and_tell(alloc, Word::Image, input, output, notes),
+    }
+}
+
+/// Answers for words that aren't known: Usage where one isn't text, NoMemory where memory for them ran out, each with its
+/// line.
+pub fn refuse<E: Sink>(fault: WordsFault, notes: &mut E) -> Status
+    ensures usage { fault ≡ WordsFault.NotText → result ≡ Status.Usage }
+    ensures no_memory { fault ≡ WordsFault.NoMemory → result ≡ Status.NoMemory }
+    ensures told { Still (E.faults notes.old) (E.faults notes.new) →
+        Appends (E.written notes.old) (E.written notes.new) (notes.refusal fault) }
+{
+    match fault {
+        WordsFault::NotText => put_usage(notes),
+        WordsFault::NoMemory => {
+            put_note(b"out of memory\n", notes);
+            Status::NoMemory
         }
     }
 }

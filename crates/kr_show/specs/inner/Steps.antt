@@ -8,22 +8,23 @@ use Rattle.kr_batch.specs.Reading.{batch_of}
 use Rattle.kr_show.specs.declared.fault.ShowFault.{ShowFault}
 use Rattle.kr_show.specs.declared.fault.ShowFault.TheVariants as faults
 use Rattle.kr_show.specs.BatchLines.{Shown, AreShown, bytes_of, lines_of, batch_lines}
-use Rattle.kr_show.specs.Endings.{Breaks, size_at}
+use Rattle.kr_snapshot.specs.Reading.{extent, size_at}
+use Rattle.kr_show.specs.Endings.{Breaks}
 
 -- the batch at the front has so many bytes
 abbrev pub IsFront : List ℕ → ℕ → Type 0
-IsFront bytes len = (size : ℕ) × (size_at bytes ≡ Ok size) × (len ≡ 12 + size)
+IsFront bytes len = (size : ℕ) × (size_at bytes ≡ Ok size) × (len ≡ extent size)
 
 -- the lines of the batch that the bytes are, or why they are none
-pub record IsText (bytes text : List ℕ) : Type 0 where
+pub record IsTextOf (bytes text : List ℕ) : Type 0 where
   pub batch : Batch
   pub is : IsBatch batch bytes
   pub lines : text ≡ batch_lines batch bytes
 
-abbrev pub IsRefused : List ℕ → ℕ → ShowFault → Type 0
-IsRefused bytes at (faults.Malformed place cause) = (place ≡ at) × (batch_of bytes ≡ Err cause)
-IsRefused bytes at faults.NoMemory = Unit {0}
-IsRefused bytes at other = ⊥
+abbrev pub IsNoText : List ℕ → ℕ → ShowFault → Type 0
+IsNoText bytes at (faults.Malformed place cause) = (place ≡ at) × (batch_of bytes ≡ Err cause)
+IsNoText bytes at faults.NoMemory = Unit {0}
+IsNoText bytes at other = ⊥
 
 -- the fault of a batch at the place `at`
 abbrev pub fault_of : ℕ → BatchFault → ShowFault
