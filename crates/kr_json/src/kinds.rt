@@ -6,8 +6,8 @@ ghost use Rattle.kr_json.specs.Lines as lines;
 
 use crate::members::{
     put_flag, put_i8, put_i16, put_i32, put_i64, put_ids, put_ids_if_any, put_ids_since,
-    put_leader, put_leaders_since, put_recovery, put_text, put_text_or_null, put_unless_zero,
-    put_uuid,
+    put_leader, put_leaders_since, put_recovery, put_text, put_text_or_null, put_u16,
+    put_unless_zero, put_uuid,
 };
 use crate::text::put_str;
 use kr_defs::{Broker, Endpoint, Partition, PartitionChange, Range, Record, Text};
@@ -16,9 +16,9 @@ use std::alloc::{AllocError, Global};
 fn put_port(alloc: Global, out: &mut Vec<u8>, endpoint: &Endpoint) -> Result<(), AllocError>
     ensures { OnOk result (out.new.items ≡ out.old.items ++ lines.port endpoint.now) }
 {
-    let (port, protocol) = (endpoint.port, endpoint.protocol);
-    let text = format!(in alloc; ",\"port\":{port},\"securityProtocol\":{protocol}")?;
-    put_str(out, text.as_str())
+    put_u16(alloc, out, ",\"port\":", &endpoint.port)?;
+    put_i16(alloc, out, ",\"securityProtocol\":", &endpoint.protocol)?;
+    Ok(())
 }
 
 fn put_endpoint(alloc: Global, out: &mut Vec<u8>, endpoint: &Endpoint) -> Result<(), AllocError>
@@ -72,10 +72,9 @@ fn put_endpoints(alloc: Global, out: &mut Vec<u8>, endpoints: &[Endpoint]) -> Re
 fn put_levels(alloc: Global, out: &mut Vec<u8>, range: &Range) -> Result<(), AllocError>
     ensures { OnOk result (out.new.items ≡ out.old.items ++ lines.levels range.now) }
 {
-    let (min, max) = (range.min, range.max);
-    let text =
-        format!(in alloc; ",\"minSupportedVersion\":{min},\"maxSupportedVersion\":{max}")?;
-    put_str(out, text.as_str())
+    put_i16(alloc, out, ",\"minSupportedVersion\":", &range.min)?;
+    put_i16(alloc, out, ",\"maxSupportedVersion\":", &range.max)?;
+    Ok(())
 }
 
 fn put_range(alloc: Global, out: &mut Vec<u8>, range: &Range) -> Result<(), AllocError>
@@ -135,7 +134,8 @@ fn put_endpoint_list(alloc: Global, out: &mut Vec<u8>, state: &Broker) -> Result
 {
     put_str(out, ",\"endPoints\":[")?;
     put_endpoints(alloc, out, state.endpoints.as_slice())?;
-    put_str(out, "]")
+    put_str(out, "]")?;
+    Ok(())
 }
 
 fn put_feature_list(alloc: Global, out: &mut Vec<u8>, state: &Broker) -> Result<(), AllocError>
@@ -229,9 +229,9 @@ fn put_replicas(alloc: Global, out: &mut Vec<u8>, state: &Partition) -> Result<(
 fn put_epochs(alloc: Global, out: &mut Vec<u8>, state: &Partition) -> Result<(), AllocError>
     ensures { OnOk result (out.new.items ≡ out.old.items ++ lines.epochs state.now) }
 {
-    let (leader, partition) = (state.leader_epoch, state.partition_epoch);
-    let text = format!(in alloc; ",\"leaderEpoch\":{leader},\"partitionEpoch\":{partition}")?;
-    put_str(out, text.as_str())
+    put_i32(alloc, out, ",\"leaderEpoch\":", &state.leader_epoch)?;
+    put_i32(alloc, out, ",\"partitionEpoch\":", &state.partition_epoch)?;
+    Ok(())
 }
 
 fn put_leadership(alloc: Global, out: &mut Vec<u8>, state: &Partition) -> Result<(), AllocError>
@@ -239,7 +239,8 @@ fn put_leadership(alloc: Global, out: &mut Vec<u8>, state: &Partition) -> Result
 {
     put_i32(alloc, out, ",\"leader\":", &state.leader)?;
     put_unless_zero(alloc, out, ",\"leaderRecoveryState\":", &state.recovery)?;
-    put_epochs(alloc, out, state)
+    put_epochs(alloc, out, state)?;
+    Ok(())
 }
 
 fn put_eligible(
@@ -284,16 +285,12 @@ fn put_partition(
     put_str(out, "}")
 }
 
-fn put_resource(
-    alloc: Global,
-    out: &mut Vec<u8>,
-    kind: &i8,
-    name: &Text,
-) -> Result<(), AllocError>
+fn put_resource(alloc: Global, out: &mut Vec<u8>, kind: &i8, name: &Text) -> Result<(), AllocError>
     ensures { OnOk result (out.new.items ≡ out.old.items ++ lines.resource kind.now name.now) }
 {
     put_i8(alloc, out, "{\"resourceType\":", kind)?;
-    put_text(out, ",\"resourceName\":", name)
+    put_text(out, ",\"resourceName\":", name)?;
+    Ok(())
 }
 
 fn put_config(

@@ -4,6 +4,7 @@ ghost use Rattle.std.specs.Prelude.{◌≡◌, ◌+ℤ◌, pos, ◌++◌, OnErr,
 ghost use Rattle.kr_json.specs.Lines as lines;
 
 use crate::kinds::{kind_name, put_data};
+use crate::members::{put_i32, put_i64, put_i128};
 use crate::place::Place;
 use crate::text::put_str;
 use kr_base::NoMemory;
@@ -19,11 +20,11 @@ fn offset_of(place: &Place) -> i128
 fn put_place(alloc: Global, out: &mut Vec<u8>, place: &Place) -> Result<(), AllocError>
     ensures { OnOk result (out.new.items ≡ out.old.items ++ lines.place place.now) }
 {
-    let (offset, epoch, time) = (offset_of(place), place.epoch, place.time);
-    let text =
-        format!(in alloc; "\"offset\":{offset},\"leaderEpoch\":{epoch},\"timestamp\":{time}")?;
-    put_str(out, "{")?;
-    put_str(out, text.as_str())
+    let offset = offset_of(place);
+    put_i128(alloc, out, "{\"offset\":", offset)?;
+    put_i32(alloc, out, ",\"leaderEpoch\":", &place.epoch)?;
+    put_i64(alloc, out, ",\"timestamp\":", &place.time)?;
+    Ok(())
 }
 
 fn put_record(

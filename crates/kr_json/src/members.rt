@@ -1,7 +1,7 @@
 //! Members of an object, that are left out where a version doesn't have them or where they have their default.
 
 ghost use Rattle.std.specs.Prelude.{◌≡◌, [], ◌++◌, if◌then◌else◌, OnOk};
-ghost use Rattle.std.specs.Fmt.{signed_decimal};
+ghost use Rattle.std.specs.Fmt.{decimal, signed_decimal};
 ghost use Rattle.kr_json.specs.Lines as lines;
 ghost use Rattle.kr_json.specs.JsonText as texts;
 
@@ -32,6 +32,34 @@ pub(crate) fn put_i16(
 ) -> Result<(), AllocError>
     ensures { OnOk result (out.new.items ≡ out.old.items ++ (name.now ++ signed_decimal
         number.now)) }
+{
+    put_str(out, name)?;
+    let text = format!(in alloc; "{number}")?;
+    put_str(out, text.as_str())
+}
+
+pub(crate) fn put_u16(
+    alloc: Global,
+    out: &mut Vec<u8>,
+    name: &str,
+    number: &u16,
+) -> Result<(), AllocError>
+    ensures { OnOk result (out.new.items ≡
+        out.old.items ++ (name.now ++ decimal number.now)) }
+{
+    put_str(out, name)?;
+    let text = format!(in alloc; "{number}")?;
+    put_str(out, text.as_str())
+}
+
+pub(crate) fn put_i128(
+    alloc: Global,
+    out: &mut Vec<u8>,
+    name: &str,
+    number: i128,
+) -> Result<(), AllocError>
+    ensures { OnOk result (out.new.items ≡
+        out.old.items ++ (name.now ++ signed_decimal number)) }
 {
     put_str(out, name)?;
     let text = format!(in alloc; "{number}")?;

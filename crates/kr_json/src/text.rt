@@ -91,7 +91,7 @@ pub(crate) fn put_boolean(out: &mut Vec<u8>, value: bool) -> Result<(), AllocErr
     put_str(out, if value { "true" } else { "false" })
 }
 
-fn encoded(alloc: Global, bytes: &[u8]) -> Result<String, AllocError>
+fn base64_of(alloc: Global, bytes: &[u8]) -> Result<String, AllocError>
     ensures { IfOk result (λ text. string_bytes text ≡ encode_of url_safe_no_pad bytes.now) }
 {
     URL_SAFE_NO_PAD.encode(alloc, bytes)
@@ -102,7 +102,7 @@ fn id_text(alloc: Global, id: u128) -> Result<String, AllocError>
         encode_of url_safe_no_pad (to_be_bytes w128 id)) }
 {
     let bytes = id.to_be_bytes();
-    encoded(alloc, &bytes)
+    base64_of(alloc, &bytes)
 }
 
 pub(crate) fn put_id(alloc: Global, out: &mut Vec<u8>, id: &u128) -> Result<(), AllocError>

@@ -93,7 +93,7 @@ NeedsNumber (Err (faults.Malformed at cause)) = Unit {0}
 NeedsNumber other = ⊥
 
 -- the status is that of an answer of which this holds, and the notes got the answer's line; or memory ran out for that of a fault
-pub record IsTold (Holds : Result (Unit {0}) ShowFault → Type 0) (noted noted' : Option (List ℕ)) (count count' : ℕ) (ended : Status) : Type 0 where
+pub record TellsAnswer (Holds : Result (Unit {0}) ShowFault → Type 0) (noted noted' : Option (List ℕ)) (count count' : ℕ) (ended : Status) : Type 0 where
   pub answer : Result (Unit {0}) ShowFault
   pub holds : Holds answer
   pub told : Result (Unit {0}) ShowFault

@@ -7,7 +7,7 @@ ghost use Rattle.kr_base.specs.Causes.{Rose, Still};
 ghost use Rattle.kr_show.specs.Endings.{IsImageHead, IsLogHead, ShowEnds};
 ghost use Rattle.kr_show.specs.inner.Runs.{IsHeadOf};
 ghost use Rattle.kr_show.specs.Notes as notes;
-ghost use Rattle.kr_show.specs.Notes.{AreShowWords, AsksImage, AsksLog, NeedsNumber, IsTold};
+ghost use Rattle.kr_show.specs.Notes.{AreShowWords, AsksImage, AsksLog, NeedsNumber, TellsAnswer};
 
 use crate::fault::ShowFault;
 use crate::input::{Word, show};
@@ -163,7 +163,7 @@ fn show_and_tell<S: Source, K: Sink, E: Sink>(
     output: &mut K,
     notes: &mut E,
 ) -> Status
-    ensures ends { IsTold (ShowEnds (IsHeadOf word) (S.left input.old) (S.left input.new)
+    ensures ends { TellsAnswer (ShowEnds (IsHeadOf word) (S.left input.old) (S.left input.new)
         (K.written output.old) (K.written output.new)) (E.written notes.old) (E.written notes.new)
         (E.faults notes.old) (E.faults notes.new) result }
     ensures served { result ≡ Status.Usage → ⊥ }
@@ -195,11 +195,11 @@ pub fn run<S: Source, K: Sink, E: Sink>(
     notes: &mut E,
 ) -> Status
     // What was taken and what was written at each status, and its line.
-    ensures log { AsksLog words.now → IsTold (ShowEnds IsLogHead (S.left input.old) (S.left
+    ensures log { AsksLog words.now → TellsAnswer (ShowEnds IsLogHead (S.left input.old) (S.left
         input.new)
         (K.written output.old) (K.written output.new)) (E.written notes.old) (E.written notes.new)
         (E.faults notes.old) (E.faults notes.new) result }
-    ensures image { AsksImage words.now → IsTold (ShowEnds IsImageHead (S.left input.old) (S.left
+    ensures image { AsksImage words.now → TellsAnswer (ShowEnds IsImageHead (S.left input.old) (S.left
         input.new)
         (K.written output.old) (K.written output.new)) (E.written notes.old) (E.written notes.new)
         (E.faults notes.old) (E.faults notes.new) result }
