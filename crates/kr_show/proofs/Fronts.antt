@@ -49,12 +49,12 @@ module _ (bytes : List ℕ) (at : ℕ) (text : List ℕ) where
   pub stopped_short : at < length bytes → IsTooShort (drop at bytes) → IsStopped bytes at text text (faults.Malformed at batches.Short)
   stopped_short more short =
       let some : 0 < length (drop at bytes) = simp length-drop (omega (arith, more)) in
-      (refl, (cut some short, refl))
+      (refl, cut some short, refl)
 
   pub stopped_refused : (len : ℕ) (fault : ShowFault) → IsFront (drop at bytes) len → IsNoText (take len (drop at bytes)) at fault → IsStopped bytes at text text fault
   stopped_refused len (faults.Malformed place cause) front is =
-      let whole : batch_of (take (front.0 + 12) (drop at bytes)) ≡ Err cause = subst (λ (n : ℕ). batch_of (take n (drop at bytes)) ≡ Err cause) front.1.1 is.1 in
-      (is.0, (refused front.0 cause front.1.0 whole, refl))
+      let whole : batch_of (take (front.0 + 12) (drop at bytes)) ≡ Err cause = subst (λ (n : ℕ). batch_of (take n (drop at bytes)) ≡ Err cause) front.2 is.1 in
+      (is.0, refused front.0 cause front.1 whole, refl)
   stopped_refused len faults.NoMemory front is = refl
   stopped_refused len faults.ReadFault front is = absurd is
   stopped_refused len faults.WriteFault front is = absurd is

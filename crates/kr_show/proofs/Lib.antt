@@ -1,5 +1,5 @@
+pub mod BatchByBatch
 pub mod Fronts
 pub mod Items
 pub mod Runs
-pub mod Showing
 pub mod Told

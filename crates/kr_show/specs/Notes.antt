@@ -99,4 +99,4 @@ pub record TellsAnswer (Holds : Result (Unit {0}) ShowFault → Type 0) (noted n
   pub told : Result (Unit {0}) ShowFault
   pub same : (told ≡ answer) ⊎ (NeedsNumber answer × (told ≡ Err faults.NoMemory))
   pub status : ended ≡ status_for told
-  pub noted : Still count count' → Appends noted noted' (note_for told)
+  pub line : Still count count' → Appends noted noted' (note_for told)

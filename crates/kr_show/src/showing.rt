@@ -102,7 +102,7 @@ fn show_front(
 }
 
 /// Appends the lines of the batches that stand behind a head of so many bytes, up to the first fault.
-#[tactic(auto, using(crate::proofs::Showing::begins, crate::proofs::Showing::goes_on, crate::proofs::Showing::at_end, crate::proofs::Showing::broken))]
+#[tactic(auto, using(crate::proofs::BatchByBatch::begins, crate::proofs::BatchByBatch::goes_on, crate::proofs::BatchByBatch::at_end, crate::proofs::BatchByBatch::broken))]
 pub(crate) fn show_bytes(
     alloc: Global,
     bytes: &[u8],

@@ -7,7 +7,16 @@ ghost use Rattle.kr_base.specs.Causes.{Rose, Still};
 ghost use Rattle.kr_show.specs.Endings.{IsImageHead, IsLogHead, ShowEnds};
 ghost use Rattle.kr_show.specs.inner.Runs.{IsHeadOf};
 ghost use Rattle.kr_show.specs.Notes as notes;
-ghost use Rattle.kr_show.specs.Notes.{AreShowWords, AsksImage, AsksLog, NeedsNumber, TellsAnswer};
+ghost use Rattle.kr_show.specs.Notes.{
+  AreShowWords,
+  AsksImage,
+  AsksLog,
+  NeedsNumber,
+  TellsAnswer,
+  note_for,
+  refusal,
+  usage,
+};
 
 use crate::fault::ShowFault;
 use crate::input::{Word, show};
@@ -119,7 +128,7 @@ fn tell_malformed<E: Sink>(
     ensures same { (result ≡ Err (ShowFault.Malformed at cause.now)) ⊎ (result ≡
         Err ShowFault.NoMemory) }
     ensures told { Still (E.faults notes.old) (E.faults notes.new) →
-        Appends (E.written notes.old) (E.written notes.new) (notes.note_for result) }
+        Appends (E.written notes.old) (E.written notes.new) (note_for result) }
 {
     match malformed_line(alloc, at, cause) {
         Ok(text) => {
@@ -141,7 +150,7 @@ fn tell<E: Sink>(
 ) -> Result<(), ShowFault>
     ensures same { (result ≡ answer) ⊎ (NeedsNumber answer × (result ≡ Err ShowFault.NoMemory)) }
     ensures told { Still (E.faults notes.old) (E.faults notes.new) →
-        Appends (E.written notes.old) (E.written notes.new) (notes.note_for result) }
+        Appends (E.written notes.old) (E.written notes.new) (note_for result) }
 {
     match answer {
         Ok(()) => {}
@@ -178,7 +187,7 @@ fn show_and_tell<S: Source, K: Sink, E: Sink>(
 fn put_usage<E: Sink>(notes: &mut E) -> Status
     ensures usage { result ≡ Status.Usage }
     ensures told { Still (E.faults notes.old) (E.faults notes.new) →
-        Appends (E.written notes.old) (E.written notes.new) notes.usage }
+        Appends (E.written notes.old) (E.written notes.new) usage }
 {
     put_note(b"usage: kr_show log | image\n", notes);
     Status::Usage
@@ -195,14 +204,12 @@ pub fn run<S: Source, K: Sink, E: Sink>(
     notes: &mut E,
 ) -> Status
     // What was taken and what was written at each status, and its line.
-    ensures log { AsksLog words.now → TellsAnswer (ShowEnds IsLogHead (S.left input.old) (S.left
-        input.new)
-        (K.written output.old) (K.written output.new)) (E.written notes.old) (E.written notes.new)
-        (E.faults notes.old) (E.faults notes.new) result }
-    ensures image { AsksImage words.now → TellsAnswer (ShowEnds IsImageHead (S.left input.old) (S.left
-        input.new)
-        (K.written output.old) (K.written output.new)) (E.written notes.old) (E.written notes.new)
-        (E.faults notes.old) (E.faults notes.new) result }
+    ensures log { AsksLog words.now → TellsAnswer (ShowEnds IsLogHead (S.left input.old)
+        (S.left input.new) (K.written output.old) (K.written output.new)) (E.written notes.old)
+        (E.written notes.new) (E.faults notes.old) (E.faults notes.new) result }
+    ensures image { AsksImage words.now → TellsAnswer (ShowEnds IsImageHead (S.left input.old)
+        (S.left input.new) (K.written output.old) (K.written output.new)) (E.written notes.old)
+        (E.written notes.new) (E.faults notes.old) (E.faults notes.new) result }
 
     // Usage is told exactly where the words aren't served, and then nothing is taken or written but its line.
     ensures usage { result ≡ Status.Usage → AreShowWords words.now → ⊥ }
@@ -210,7 +217,7 @@ pub fn run<S: Source, K: Sink, E: Sink>(
     ensures idle { result ≡ Status.Usage → Keeps (S.left input.old) (S.left input.new) ×
         Keeps (K.written output.old) (K.written output.new) }
     ensures told { result ≡ Status.Usage → Still (E.faults notes.old) (E.faults notes.new) →
-        Appends (E.written notes.old) (E.written notes.new) notes.usage }
+        Appends (E.written notes.old) (E.written notes.new) usage }
 
     // A fault is told only where that object's count rose in this call.
     ensures read { result ≡ Status.ReadFault → Rose (S.faults input.old) (S.faults input.new) }
@@ -229,7 +236,7 @@ pub fn refuse<E: Sink>(fault: WordsFault, notes: &mut E) -> Status
     ensures usage { fault ≡ WordsFault.NotText → result ≡ Status.Usage }
     ensures no_memory { fault ≡ WordsFault.NoMemory → result ≡ Status.NoMemory }
     ensures told { Still (E.faults notes.old) (E.faults notes.new) →
-        Appends (E.written notes.old) (E.written notes.new) (notes.refusal fault) }
+        Appends (E.written notes.old) (E.written notes.new) (refusal fault) }
 {
     match fault {
         WordsFault::NotText => put_usage(notes),

@@ -8,7 +8,7 @@ returns-clause-ends g c = record {
   told = c.tell-told.result;
   same = c.tell-told.ensures.same;
   status = c.status_of.ensures;
-  noted = c.tell-told.ensures.told;
+  line = c.tell-told.ensures.told;
 }
 
 pub returns-clause-read : goal.returns-clause-read

@@ -49,7 +49,7 @@ module _ (head bytes text : List ℕ) (at : ℕ) (so : SoFar head bytes at text)
       stops text (Ok tt) refl all
 
   pub broken : (text' : List ℕ) (fault : ShowFault) → IsStopped bytes at text text' fault → IsShown (IsWhy (Err fault)) head bytes text'
-  broken text' (faults.Malformed found cause) is = stops text' (Err (faults.Malformed found cause)) is.1.1 (is.0 ∙ place, is.1.0)
+  broken text' (faults.Malformed found cause) is = stops text' (Err (faults.Malformed found cause)) is.2 (is.0 ∙ place, is.1)
   broken text' faults.NoMemory is = stops text' (Err faults.NoMemory) is tt
   broken text' faults.ReadFault is = absurd is
   broken text' faults.WriteFault is = absurd is
