@@ -7,12 +7,12 @@ returns-clause-ends g c = record {
   holds = c.show-answer.ensures.ends;
   told = c.tell-told.result;
   same = c.tell-told.ensures.same;
-  status = c.status_of.ensures;
+  status = c.status_for.ensures;
   line = c.tell-told.ensures.told;
 }
 
 pub returns-clause-read : goal.returns-clause-read
-returns-clause-read g c = λ is. c.show-answer.ensures.read (read_told c.tell-told.result c.show-answer.result _ c.tell-told.ensures.same c.status_of.ensures is)
+returns-clause-read g c = λ is. c.show-answer.ensures.read (read_told c.tell-told.result c.show-answer.result _ c.tell-told.ensures.same c.status_for.ensures is)
 
 pub returns-clause-write : goal.returns-clause-write
-returns-clause-write g c = λ is. c.show-answer.ensures.write (write_told c.tell-told.result c.show-answer.result _ c.tell-told.ensures.same c.status_of.ensures is)
+returns-clause-write g c = λ is. c.show-answer.ensures.write (write_told c.tell-told.result c.show-answer.result _ c.tell-told.ensures.same c.status_for.ensures is)
