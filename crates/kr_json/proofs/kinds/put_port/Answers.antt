@@ -1,0 +1,5 @@
+use Rattle.kr_json.proofs.Joined.{two}
+use Rattle.kr_json.proofs.kinds.put_port.Goals as goal
+
+pub returns : goal.returns
+returns c = two _ _ _ _ _ c.in_ok-put_u16.ensures c.in_ok-put_i16.ensures

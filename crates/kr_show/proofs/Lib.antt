@@ -1,0 +1,5 @@
+pub mod BatchByBatch
+pub mod Fronts
+pub mod Items
+pub mod Runs
+pub mod Told

@@ -1,0 +1,4 @@
+pub mod BatchLines
+pub mod Endings
+pub mod Notes
+pub mod inner
