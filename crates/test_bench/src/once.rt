@@ -110,7 +110,7 @@ fn print_beats<R: Print + AllocGlobal>(rt: &R) -> Result<()> {
 
 fn oldest_of(alloc: Global, brokers: u16) -> Result<Option<(i32, i64)>, AllocError> {
     let mut list = list_of(alloc, brokers)?;
-    beat_all(&mut list, brokers)?;
+    beat_all(&mut list, brokers, 0)?;
     Ok(list.oldest())
 }
 
