@@ -27,7 +27,7 @@ const ONE: u128 = 2;
 const OFFSET: i64 = 1;
 
 /// What is done with copies.
-#[derive(Clone, Copy, Debug, PartialEq, Eq)]
+#[derive(Clone, Copy)]
 pub(crate) enum Work {
     /// A change is published.
     Publish,
@@ -38,7 +38,7 @@ pub(crate) enum Work {
 }
 
 /// Copies of so many partitions.
-#[derive(Clone, Copy, Debug, PartialEq, Eq)]
+#[derive(Clone, Copy)]
 pub(crate) struct Copies {
     pub work: Work,
     pub partitions: i32,

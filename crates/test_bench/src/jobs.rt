@@ -2,7 +2,7 @@
 
 use crate::batches::{Encoded, Kind};
 use crate::beats::{BEATS, beat_all, list_of};
-use crate::checksum::Summed;
+use crate::checksum::are_summed;
 use crate::copies::{Copies, Work};
 use crate::image::Written;
 use crate::placing::{PARTITIONS, brokers, place_all};
@@ -14,7 +14,7 @@ use std::sync::Wait;
 use std::thread::Threads;
 
 /// What is done.
-#[derive(Clone, Copy, Debug, PartialEq, Eq)]
+#[derive(Clone, Copy)]
 pub(crate) enum Job {
     /// Bytes are summed.
     Sum,
@@ -82,7 +82,7 @@ impl Job {
     ) -> Result<bool> {
         let alloc = rt.alloc();
         match self {
-            Job::Sum => Ok(is_summed(alloc, rounds)?),
+            Job::Sum => Ok(are_summed(alloc, rounds)?),
             Job::Encode(kind) => Ok(is_encoded(alloc, kind, rounds)?),
             Job::Decode(kind) => is_decoded(alloc, kind, rounds),
             Job::Ask(form) => Ok(is_read(alloc, form, rounds)?),
@@ -93,16 +93,6 @@ impl Job {
             Job::Copy(work, partitions) => Copies { work, partitions }.are_done(rt, alloc, rounds),
         }
     }
-}
-
-fn is_summed(alloc: Global, rounds: u32) -> Result<bool, AllocError> {
-    let summed = Summed::new(alloc)?;
-    for _ in 0..rounds {
-        if summed.checksum() != summed.sum() {
-            return Ok(false);
-        }
-    }
-    Ok(true)
 }
 
 fn is_encoded(alloc: Global, kind: Kind, rounds: u32) -> Result<bool, AllocError> {
