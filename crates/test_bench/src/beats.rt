@@ -10,11 +10,7 @@ use std::alloc::{AllocError, Global};
 /// So many heartbeats come in a round, however many brokers send them.
 pub(crate) const BEATS: u32 = 100_000;
 
-/// How many brokers send them.
-pub(crate) const FEW: u16 = 10;
-
-pub(crate) const SOME: u16 = 100;
-
+/// How many brokers send them where each job is done once.
 pub(crate) const MANY: u16 = 1_000;
 
 /// A list of so many brokers.
@@ -27,20 +23,25 @@ pub(crate) fn list_of(alloc: Global, brokers: u16) -> Result<ContactList, AllocE
     Ok(list)
 }
 
-/// Each broker beats in turn, so that it is each time the one at the front, until all heartbeats came. A heartbeat
-/// makes sure of room first, as a handler does.
-pub(crate) fn beat_all(list: &mut ContactList, brokers: u16) -> Result<(), AllocError> {
+/// Each broker beats in turn from this time on, so that it is each time the one at the front, until all heartbeats came.
+pub(crate) fn beat_all(list: &mut ContactList, brokers: u16, since: i64) -> Result<(), AllocError> {
     let times = BEATS / u32::from(brokers).max(1);
     for time in 0..times {
         for id in 0..brokers {
-            make_room(list)?;
-            list.beat(&Contact {
-                broker: i32::from(id),
-                time: i64::from(time),
-                offset: i64::from(time),
-            });
+            beat(list, i32::from(id), since.wrapping_add(i64::from(time)))?;
         }
     }
+    Ok(())
+}
+
+// A heartbeat makes sure of room first, as a handler does.
+fn beat(list: &mut ContactList, broker: i32, time: i64) -> Result<(), AllocError> {
+    make_room(list)?;
+    list.beat(&Contact {
+        broker,
+        time,
+        offset: time,
+    });
     Ok(())
 }
 

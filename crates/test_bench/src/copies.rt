@@ -1,4 +1,4 @@
-//! Copies of an image: how long it takes to publish one change, and how often one topic is read by one thread and by two.
+//! Copies of an image: one change is published again and again, or one topic is read, by one thread or by each of two.
 
 ghost use Rattle.std.specs.Prelude.{◌≡◌, true, IfOk, IsTrue, OnOk};
 ghost use Rattle.kr_calls.specs.Decide.{is_read};
@@ -14,11 +14,9 @@ use kr_defs::{Item, Options, PartitionChange, Record, Records, Text};
 use kr_view::laws::logged_entries_are_right;
 use kr_view::{Opening, Publisher, ReaderSeat, ReaderSeats, open};
 use std::alloc::Global;
-use std::rt::Clock;
 use std::sync::Wait;
 use std::thread;
 use std::thread::Threads;
-use std::time::{Duration, Instant};
 
 /// The id of the one topic with many partitions, and that of the topic that is read, which has one.
 const MANY: u128 = 1;
@@ -28,55 +26,63 @@ const ONE: u128 = 2;
 /// The place of the image.
 const OFFSET: i64 = 1;
 
-/// How many changes are published, and how often each thread reads.
-const CHANGES: i32 = 20;
-
-const READS: u32 = 20_000;
-
-/// What was measured beside some number of partitions.
-struct Measured {
-    publish: Duration,
-    by_one: Duration,
-    by_two: Duration,
+/// What is done with copies.
+#[derive(Clone, Copy)]
+pub(crate) enum Work {
+    /// A change is published.
+    Publish,
+    /// The one topic is read by one thread.
+    Look,
+    /// It is read so often by each of two threads.
+    LookTwice,
 }
 
-/// Prints a row for each number of partitions.
-pub(crate) fn print_copies<R: Print + Clock + AllocGlobal + Wait + Threads + Sync>(
-    rt: &R,
-) -> Result<()> {
-    print_beside(rt, 100)?;
-    print_beside(rt, 1_000)?;
-    print_beside(rt, 9_000)
+/// Copies of so many partitions.
+#[derive(Clone, Copy)]
+pub(crate) struct Copies {
+    pub work: Work,
+    pub partitions: i32,
 }
 
-fn print_beside<R: Print + Clock + AllocGlobal + Wait + Threads + Sync>(
-    rt: &R,
-    partitions: i32,
-) -> Result<()> {
-    let alloc = rt.alloc();
-    let mut opening = Opening::new();
-    let Ok((mut publisher, seats)) = open(rt, alloc, &mut opening, options(alloc), 2) else {
-        bail!("no copies are opened");
-    };
-    let measured = measure(rt, alloc, &mut publisher, seats, partitions);
-    publisher.close(rt);
-    let Measured {
-        publish,
-        by_one,
-        by_two,
-    } = measured?;
-    println!(rt;
-        "beside {partitions} partitions a change is published in {} microseconds; one topic is read {} times a second by one thread, {} times by two",
-        publish.as_micros(),
-        rate(READS, by_one),
-        rate(READS.wrapping_mul(2), by_two)
-    )?;
-    Ok(())
-}
+impl Copies {
+    /// Does it so often. Whether what came was the right one.
+    pub(crate) fn are_done<R: Wait + Threads + Sync>(
+        self,
+        rt: &R,
+        alloc: Global,
+        rounds: u32,
+    ) -> Result<bool> {
+        let mut opening = Opening::new();
+        let Ok((mut publisher, seats)) = open(rt, alloc, &mut opening, options(alloc), 2) else {
+            bail!("no copies are opened");
+        };
+        let are_done = self.show_and_do(rt, alloc, &mut publisher, seats, rounds);
+        publisher.close(rt);
+        are_done
+    }
 
-// So many a second. A time below a nanosecond counts as one.
-fn rate(count: u32, time: Duration) -> u128 {
-    u128::from(count) * 1_000_000_000 / time.as_nanos().max(1)
+    fn show_and_do<R: Wait + Threads + Sync>(
+        self,
+        rt: &R,
+        alloc: Global,
+        publisher: &mut Publisher,
+        seats: ReaderSeats,
+        rounds: u32,
+    ) -> Result<bool>
+        requires { HasNothing publisher.old }
+    {
+        show(rt, publisher, image(alloc, self.partitions)?, OFFSET)?;
+        let mut seats = seats.into_vec();
+        let (Some(mut first), Some(mut second)) = (seats.pop(), seats.pop()) else {
+            bail!("there are no two seats");
+        };
+        let call = one_topic(alloc)?;
+        match self.work {
+            Work::Publish => publish_changes(rt, publisher, rounds),
+            Work::Look => Ok(looks(&mut first, &call, rounds)),
+            Work::LookTwice => Ok(look_by_two(rt, &mut first, &mut second, &call, rounds)),
+        }
+    }
 }
 
 fn options(alloc: Global) -> Options {
@@ -89,31 +95,6 @@ fn options(alloc: Global) -> Options {
         minimum: 1,
         cluster: Text::new(alloc),
     }
-}
-
-fn measure<R: Clock + Wait + Threads + Sync>(
-    rt: &R,
-    alloc: Global,
-    publisher: &mut Publisher,
-    seats: ReaderSeats,
-    partitions: i32,
-) -> Result<Measured>
-    requires { HasNothing publisher.old }
-{
-    let mut seats = seats.into_vec();
-    let (Some(mut first), Some(mut second)) = (seats.pop(), seats.pop()) else {
-        bail!("there are no two seats");
-    };
-    show(rt, publisher, image(alloc, partitions)?, OFFSET)?;
-    let publish = shortest_publish(rt, publisher)?;
-    let call = one_topic(alloc)?;
-    let by_one = time_one(rt, &mut first, &call)?;
-    let by_two = time_two(rt, &mut first, &mut second, &call)?;
-    Ok(Measured {
-        publish,
-        by_one,
-        by_two,
-    })
 }
 
 // The two topics with so many partitions together, as an image.
@@ -139,11 +120,11 @@ fn add_topic(alloc: Global, id: u128, partitions: i32, records: &mut Records) ->
 }
 
 // The first partition has another leader.
-fn change(round: i32) -> Entry
+fn change(round: u32) -> Entry
     ensures { is_logged result ≡ true }
 {
     Entry::Item {
-        place: i64::from(round.wrapping_add(1)),
+        place: i64::from(round) + 1,
         item: Item::Record(Record::PartitionChange {
             index: 0,
             topic: MANY,
@@ -154,7 +135,7 @@ fn change(round: i32) -> Entry
                 adding: None,
                 eligible: None,
                 last_known: None,
-                leader: Some(round % 3),
+                leader: Some((round % 3) as i32),
                 recovery: None,
             },
         }),
@@ -178,17 +159,13 @@ fn show<R: Wait>(rt: &R, publisher: &mut Publisher, entry: Entry, end: i64) -> R
     Ok(())
 }
 
-fn shortest_publish<R: Clock + Wait>(rt: &R, publisher: &mut Publisher) -> Result<Duration>
+fn publish_changes<R: Wait>(rt: &R, publisher: &mut Publisher, rounds: u32) -> Result<bool>
     requires { HasNothing publisher.old }
 {
-    let mut least = Duration::MAX;
-    for round in 0..CHANGES {
-        let entry = change(round);
-        let start = Instant::now(rt)?;
-        show(rt, publisher, entry, i64::from(round.wrapping_add(2)))?;
-        least = least.min(start.elapsed(rt)?);
+    for round in 0..rounds {
+        show(rt, publisher, change(round), i64::from(round) + 2)?;
     }
-    Ok(least)
+    Ok(true)
 }
 
 fn one_topic(alloc: Global) -> Result<Call>
@@ -208,10 +185,10 @@ fn one_topic(alloc: Global) -> Result<Call>
 }
 
 // Reads so often. False where the one topic wasn't there.
-fn reads(seat: &mut ReaderSeat, call: &Call) -> bool
+fn looks(seat: &mut ReaderSeat, call: &Call, rounds: u32) -> bool
     requires { IsTrue (is_read call.now.request) }
 {
-    for _ in 0..READS {
+    for _ in 0..rounds {
         let reply = seat.read(call);
         match &reply {
             Ok(Reply::Metadata(reply)) if reply.topics.len() == 1 => {}
@@ -221,37 +198,23 @@ fn reads(seat: &mut ReaderSeat, call: &Call) -> bool
     true
 }
 
-fn time_one(rt: &impl Clock, seat: &mut ReaderSeat, call: &Call) -> Result<Duration>
-    requires { IsTrue (is_read call.now.request) }
-{
-    let start = Instant::now(rt)?;
-    if !reads(seat, call) {
-        bail!("the topic isn't read");
-    }
-    Ok(start.elapsed(rt)?)
-}
-
-fn time_two<R: Clock + Threads>(
+fn look_by_two<R: Threads>(
     rt: &R,
     first: &mut ReaderSeat,
     second: &mut ReaderSeat,
     call: &Call,
-) -> Result<Duration>
+    rounds: u32,
+) -> bool
     requires { IsTrue (is_read call.now.request) }
 {
-    let start = Instant::now(rt)?;
     let (one, other) = thread::join(
         rt,
         ||
             requires { IsTrue (is_read call.now.request) }
-        { reads(first, call) },
+        { looks(first, call, rounds) },
         ||
             requires { IsTrue (is_read call.now.request) }
-        { reads(second, call) },
+        { looks(second, call, rounds) },
     );
-    let time = start.elapsed(rt)?;
-    if !one || !other {
-        bail!("the topic isn't read by both");
-    }
-    Ok(time)
+    one && other
 }

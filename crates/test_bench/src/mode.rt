@@ -2,6 +2,7 @@
 
 ghost use Rattle.std.specs.Prelude.{◌≡◌, ◌↔◌, [], ◌∷◌, Some, IsTrue, codes};
 
+use crate::jobs::Job;
 use kr_defs::Text;
 use std::env;
 use std::io::{self, ErrorKind};
@@ -12,8 +13,6 @@ use std::rt::Env;
 pub enum Mode {
     /// Each job once, and what came of it.
     Once,
-    /// Each job many times, and how long it took.
-    Time,
     /// The message on standard input, and whether it is a call.
     Message,
     /// As many partitions as there may be, in a store.
@@ -24,10 +23,18 @@ pub enum Mode {
     Records,
 }
 
-/// The way that the words of this process ask for. Words that aren't all text ask for none.
-pub(crate) fn read_mode<R: Env + AllocGlobal>(rt: &R) -> io::Result<Option<Mode>> {
+/// What the words ask for.
+#[derive(Clone, Copy)]
+pub(crate) enum Asked {
+    One(Mode),
+    /// A job, so many times.
+    Often(Job, u32),
+}
+
+/// What the words of this process ask for. Words that aren't all text ask for nothing.
+pub(crate) fn read_asked<R: Env + AllocGlobal>(rt: &R) -> io::Result<Option<Asked>> {
     match read_words(rt) {
-        Ok(words) => Ok(mode_of(&words)),
+        Ok(words) => Ok(asked_by(&words)),
         Err(fault) if fault.kind() == ErrorKind::InvalidData => Ok(None),
         Err(fault) => Err(fault),
     }
@@ -41,10 +48,25 @@ fn read_words<R: Env + AllocGlobal>(rt: &R) -> io::Result<Vec<Text>> {
     Ok(words)
 }
 
+// A job and how often, or a mode.
+fn asked_by(words: &[Text]) -> Option<Asked> {
+    match words {
+        [job, rounds] => often(job, rounds),
+        _ => Some(Asked::One(mode_of(words)?)),
+    }
+}
+
+fn often(job: &Text, rounds: &Text) -> Option<Asked> {
+    let job = Job::of(job.as_str())?;
+    match rounds.as_str().parse() {
+        Ok(rounds) => Some(Asked::Often(job, rounds)),
+        Err(_) => None,
+    }
+}
+
 // No word, or one word of these; all other words ask for nothing.
 fn mode_of(words: &[Text]) -> Option<Mode>
     ensures once { (result ≡ Some Mode.Once) ↔ (words.now ≡ []) }
-    ensures time { (result ≡ Some Mode.Time) ↔ (words.now ≡ codes "time" ∷ []) }
     ensures message { (result ≡ Some Mode.Message) ↔ (words.now ≡ codes "message" ∷ []) }
     ensures store { (result ≡ Some Mode.Store) ↔ (words.now ≡ codes "store" ∷ []) }
     ensures map { (result ≡ Some Mode.Map) ↔ (words.now ≡ codes "map" ∷ []) }
@@ -52,19 +74,12 @@ fn mode_of(words: &[Text]) -> Option<Mode>
 {
     match words {
         [] => Some(Mode::Once),
-        [word] if is_time(word) => Some(Mode::Time),
         [word] if is_message(word) => Some(Mode::Message),
         [word] if is_store(word) => Some(Mode::Store),
         [word] if is_map(word) => Some(Mode::Map),
         [word] if is_records(word) => Some(Mode::Records),
         _ => None,
     }
-}
-
-fn is_time(word: &Text) -> bool
-    ensures { IsTrue result ↔ (word.now ≡ codes "time") }
-{
-    word.as_str() == "time"
 }
 
 fn is_message(word: &Text) -> bool

@@ -2,7 +2,7 @@
 
 use crate::batches::{Encoded, Kind};
 use crate::beats::{BEATS, MANY, beat_all, list_of};
-use crate::checksum::Summed;
+use crate::checksum::numbers;
 use crate::image::Written;
 use crate::placing::{brokers, place_all};
 use crate::request::{Form, ask, topics_of};
@@ -33,8 +33,8 @@ fn print_checksum<R: Print + AllocGlobal>(rt: &R) -> Result<()> {
 }
 
 fn checksum(alloc: Global) -> Result<(usize, u32), AllocError> {
-    let summed = Summed::new(alloc)?;
-    Ok((summed.as_bytes().len(), summed.checksum()))
+    let bytes = numbers(alloc)?;
+    Ok((bytes.len(), crc32c(&bytes)))
 }
 
 fn print_batch<R: Print + AllocGlobal>(rt: &R, kind: Kind) -> Result<()> {
@@ -110,7 +110,7 @@ fn print_beats<R: Print + AllocGlobal>(rt: &R) -> Result<()> {
 
 fn oldest_of(alloc: Global, brokers: u16) -> Result<Option<(i32, i64)>, AllocError> {
     let mut list = list_of(alloc, brokers)?;
-    beat_all(&mut list, brokers)?;
+    beat_all(&mut list, brokers, 0)?;
     Ok(list.oldest())
 }
 

@@ -15,12 +15,21 @@ impl Answers {
         }
     }
 
-    pub(crate) fn add(&mut self, words: &str) -> Result<(), AllocError> {
-        if !self.text.is_empty() {
-            self.text.push_str("; ")?;
+    /// What is pushed from here on is the next answer.
+    pub(crate) fn begin(&mut self) -> Result<(), AllocError> {
+        if self.text.is_empty() {
+            return Ok(());
         }
-        self.text.push_str(words)?;
-        Ok(())
+        self.text.push_str("; ")
+    }
+
+    pub(crate) fn push(&mut self, words: &str) -> Result<(), AllocError> {
+        self.text.push_str(words)
+    }
+
+    pub(crate) fn add(&mut self, words: &str) -> Result<(), AllocError> {
+        self.begin()?;
+        self.push(words)
     }
 
     /// All of them; `-` for none.

@@ -51,13 +51,22 @@ fn tell_feature(
     answers: &mut Answers,
 ) -> Result<(), AllocError> {
     match store.feature(at, name) {
-        Ok(Some(level)) => answers.add(&feature_text(alloc, name.as_str(), *level)?),
+        Ok(Some(level)) => {
+            let level = *level;
+            answers.begin()?;
+            push_named("feature", name.as_str(), answers)?;
+            answers.push(&format!(in alloc; "{level}")?)
+        }
         _ => Ok(()),
     }
 }
 
-fn feature_text(alloc: Global, name: &str, level: i16) -> Result<String, AllocError> {
-    format!(in alloc; "feature \"{name}\" {level}")
+// A word, a name in quotes, and a space.
+fn push_named(word: &str, name: &str, answers: &mut Answers) -> Result<(), AllocError> {
+    answers.push(word)?;
+    answers.push(" \"")?;
+    answers.push(name)?;
+    answers.push("\" ")
 }
 
 fn tell_brokers(
@@ -85,64 +94,79 @@ fn tell_broker(
     answers: &mut Answers,
 ) -> Result<(), AllocError> {
     match store.broker(at, id) {
-        Ok(Some(broker)) => answers.add(&broker_text(alloc, id, broker)?),
+        Ok(Some(broker)) => {
+            answers.begin()?;
+            push_broker(alloc, id, broker, answers)
+        }
         _ => Ok(()),
     }
 }
 
-fn broker_text(alloc: Global, id: i32, broker: &Broker) -> Result<String, AllocError> {
+fn push_broker(
+    alloc: Global,
+    id: i32,
+    broker: &Broker,
+    answers: &mut Answers,
+) -> Result<(), AllocError> {
     let epoch = broker.epoch;
-    let registered = format!(in alloc; "broker {id} epoch {epoch}")?;
-    let (fenced, stopping) = (broker.fenced, broker.stopping);
-    let state = format!(in alloc; "fenced {fenced} stopping {stopping}")?;
-    let incarnation = id_text(alloc, broker.incarnation)?;
-    let rack = rack_text(alloc, &broker.rack)?;
-    let known = format!(in alloc; "{registered} {incarnation} {state} rack {rack}")?;
-    let endpoints = endpoints_text(alloc, broker.endpoints.as_slice())?;
-    let features = ranges_text(alloc, broker.features.as_slice())?;
-    format!(in alloc; "{known} listeners{endpoints} features{features}")
+    answers.push(&format!(in alloc; "broker {id} epoch {epoch} ")?)?;
+    push_id(alloc, broker.incarnation, answers)?;
+    push_state(alloc, broker, answers)?;
+    push_endpoints(alloc, broker.endpoints.as_slice(), answers)?;
+    push_ranges(alloc, broker.features.as_slice(), answers)
 }
 
 // The high and the low 64 bits.
-fn id_text(alloc: Global, id: u128) -> Result<String, AllocError> {
+fn push_id(alloc: Global, id: u128, answers: &mut Answers) -> Result<(), AllocError> {
     let (high, low) = halves(id);
-    format!(in alloc; "{high}:{low}")
+    answers.push(&format!(in alloc; "{high}:{low}")?)
 }
 
-fn rack_text(alloc: Global, rack: &Option<Text>) -> Result<String, AllocError> {
-    match rack {
-        Some(rack) => format!(in alloc; "\"{}\"", rack.as_str()),
-        None => String::from_str(alloc, "-"),
+// Whether it is fenced and stopping, and its rack.
+fn push_state(alloc: Global, broker: &Broker, answers: &mut Answers) -> Result<(), AllocError> {
+    let (fenced, stopping) = (broker.fenced, broker.stopping);
+    answers.push(&format!(in alloc; " fenced {fenced} stopping {stopping} ")?)?;
+    match &broker.rack {
+        Some(rack) => push_named("rack", rack.as_str(), answers),
+        None => answers.push("rack - "),
     }
 }
 
 // Each behind a space.
-fn endpoints_text(alloc: Global, endpoints: &[Endpoint]) -> Result<String, AllocError> {
-    let mut text = String::new(alloc);
+fn push_endpoints(
+    alloc: Global,
+    endpoints: &[Endpoint],
+    answers: &mut Answers,
+) -> Result<(), AllocError> {
+    answers.push("listeners")?;
     for endpoint in endpoints {
-        text.push_str(&endpoint_text(alloc, endpoint)?)?;
+        push_endpoint(alloc, endpoint, answers)?;
     }
-    Ok(text)
+    Ok(())
 }
 
-fn endpoint_text(alloc: Global, endpoint: &Endpoint) -> Result<String, AllocError> {
+fn push_endpoint(
+    alloc: Global,
+    endpoint: &Endpoint,
+    answers: &mut Answers,
+) -> Result<(), AllocError> {
     let (name, host) = (endpoint.name.as_str(), endpoint.host.as_str());
     let (port, protocol) = (endpoint.port, endpoint.protocol);
-    format!(in alloc; " {name}@{host}:{port}/{protocol}")
+    answers.push(&format!(in alloc; " {name}@{host}:{port}/{protocol}")?)
 }
 
 // Each behind a space.
-fn ranges_text(alloc: Global, ranges: &[Range]) -> Result<String, AllocError> {
-    let mut text = String::new(alloc);
+fn push_ranges(alloc: Global, ranges: &[Range], answers: &mut Answers) -> Result<(), AllocError> {
+    answers.push(" features")?;
     for range in ranges {
-        text.push_str(&range_text(alloc, range)?)?;
+        push_range(alloc, range, answers)?;
     }
-    Ok(text)
+    Ok(())
 }
 
-fn range_text(alloc: Global, range: &Range) -> Result<String, AllocError> {
+fn push_range(alloc: Global, range: &Range, answers: &mut Answers) -> Result<(), AllocError> {
     let (name, min, max) = (range.name.as_str(), range.min, range.max);
-    format!(in alloc; " {name}@{min}:{max}")
+    answers.push(&format!(in alloc; " {name}@{min}:{max}")?)
 }
 
 fn tell_topics(
@@ -177,12 +201,9 @@ fn tell_topic(
     let Ok(Some(by_id)) = store.topic(at, id) else {
         return Ok(());
     };
-    answers.add(&topic_text(alloc, by_id.name.as_str(), named.id)?)
-}
-
-fn topic_text(alloc: Global, name: &str, id: u128) -> Result<String, AllocError> {
-    let id = id_text(alloc, id)?;
-    format!(in alloc; "topic \"{name}\" {id}")
+    answers.begin()?;
+    push_named("topic", by_id.name.as_str(), answers)?;
+    push_id(alloc, named.id, answers)
 }
 
 fn tell_partitions(
@@ -210,20 +231,24 @@ fn tell_partition(
     answers: &mut Answers,
 ) -> Result<(), AllocError> {
     match store.partition(at, key.0, key.1) {
-        Ok(Some(partition)) => answers.add(&placed_text(alloc, key, partition)?),
+        Ok(Some(partition)) => {
+            answers.add("partition ")?;
+            push_placed(alloc, key, partition, answers)
+        }
         _ => Ok(()),
     }
 }
 
-fn placed_text(
+fn push_placed(
     alloc: Global,
     key: &(u128, i32),
     partition: &Partition,
-) -> Result<String, AllocError> {
-    let topic = id_text(alloc, key.0)?;
-    let words = partition_text(alloc, partition)?;
+    answers: &mut Answers,
+) -> Result<(), AllocError> {
     let index = key.1;
-    format!(in alloc; "partition {topic} {index} {words}")
+    push_id(alloc, key.0, answers)?;
+    answers.push(&format!(in alloc; " {index} ")?)?;
+    answers.push(&partition_text(alloc, partition)?)
 }
 
 fn tell_configs(
@@ -251,14 +276,24 @@ fn tell_config(
     answers: &mut Answers,
 ) -> Result<(), AllocError> {
     match store.config(at, key) {
-        Ok(Some(value)) => answers.add(&config_text(alloc, key, value.as_str())?),
+        Ok(Some(value)) => {
+            answers.add("config ")?;
+            push_config(alloc, key, value.as_str(), answers)
+        }
         _ => Ok(()),
     }
 }
 
-fn config_text(alloc: Global, key: &ConfigKey, value: &str) -> Result<String, AllocError> {
-    let (kind, name) = (key.kind, key.name.as_str());
-    let resource = format!(in alloc; "config {kind} \"{name}\"")?;
-    let key = key.key.as_str();
-    format!(in alloc; "{resource} \"{key}\" \"{value}\"")
+fn push_config(
+    alloc: Global,
+    key: &ConfigKey,
+    value: &str,
+    answers: &mut Answers,
+) -> Result<(), AllocError> {
+    let kind = key.kind;
+    push_named(&format!(in alloc; "{kind}")?, key.name.as_str(), answers)?;
+    for word in ["\"", key.key.as_str(), "\" \"", value, "\""] {
+        answers.push(word)?;
+    }
+    Ok(())
 }

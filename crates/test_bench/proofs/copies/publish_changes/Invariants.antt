@@ -1,5 +1,5 @@
 use Rattle.kr_view.specs.StagedLaws.{HasNothing}
-use Rattle.test_bench.proofs.copies.shortest_publish.Given as goal
+use Rattle.test_bench.proofs.copies.publish_changes.Given as goal
 
 abbrev pub invariant-loop-round : goal.invariant-loop-round
 invariant-loop-round g l = HasNothing l.publisher
