@@ -1,7 +1,7 @@
 -- The line of a record: one JSON object, with the names of Kafka's metadata record schemas and in their order, and what its JSON
 -- converters leave out: parts that the record's version doesn't have, and tagged fields that have their default. Directories
 -- (KIP-858) aren't kept by what reads records, and aren't shown.
-use Rattle.std.specs.Prelude.{ℕ, ℤ, pos, Bool, nat_le, ◌+ℤ◌, List, [], ◌∷◌, ◌++◌, Option, Some, None, if◌then◌else◌, codes}
+use Rattle.std.specs.Prelude.{ℕ, ℤ, pos, nat_le, ◌+ℤ◌, List, [], ◌∷◌, ◌++◌, Option, Some, None, if◌then◌else◌, codes}
 use Rattle.std.specs.Fmt.{decimal, signed_decimal}
 use Rattle.std.specs.Ordering.{int_eq}
 use Rattle.kr_defs.specs.declared.broker.Broker.{Broker}

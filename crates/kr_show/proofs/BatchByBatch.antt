@@ -1,12 +1,12 @@
 -- One batch after the other is shown.
-use Rattle.std.proofs.Common.{◌≡◌, ◌∙◌, ℕ, ◌+◌, ◌<◌, ◌≤◌, List, [], ◌∷◌, ◌++◌, length, append_assoc, take, drop, Result, Ok, Err, refl, sym, ap, subst, arith}
+use Rattle.std.proofs.Common.{◌≡◌, ◌∙◌, ℕ, ◌≤◌, List, [], ◌∷◌, ◌++◌, length, append_assoc, take, drop, Result, Ok, Err, refl, sym, ap}
 use Rattle.std.proofs.lemmas.List.{append-nil, drop_all, take-append-drop, length-take-le}
 use Rattle.std.proofs.lemmas.Grind.{flat_map-append}
 use Rattle.kr_batch.specs.Grammar.{IsBatch}
 use Rattle.kr_show.specs.declared.fault.ShowFault.{ShowFault}
 use Rattle.kr_show.specs.declared.fault.ShowFault.TheVariants as faults
 use Rattle.kr_show.specs.BatchLines.{Shown, AreShown, shown_bytes, lines_of, batch_lines}
-use Rattle.kr_show.specs.Endings.{Breaks, IsWhy, IsShown}
+use Rattle.kr_show.specs.Endings.{IsWhy, IsShown}
 use Rattle.kr_show.specs.inner.Steps.{IsShownTo, IsStopped, SoFar}
 
 are_more : (xs : List Shown) (s : Shown) → AreShown xs → IsBatch s.batch s.bytes → AreShown (xs ++ s ∷ [])

@@ -1,5 +1,5 @@
 -- The batch at the front of bytes: how many bytes it has, and what is shown of it.
-use Rattle.std.proofs.Common.{◌≡◌, ◌∙◌, ℕ, ◌+◌, ◌-◌, ◌<◌, ◌≤◌, ◌⊎◌, inl, inr, List, ◌++◌, length, take, drop, Result, Ok, Err, refl, sym, ap, subst, arith}
+use Rattle.std.proofs.Common.{◌≡◌, ◌∙◌, ℕ, ◌+◌, ◌<◌, ◌≤◌, List, ◌++◌, length, take, drop, Err, refl, ap, subst, arith}
 use Rattle.std.proofs.Math.Seq.{take-add}
 use Rattle.std.proofs.lemmas.List.{length-drop}
 use Rattle.kr_defs.specs.declared.limits.TheConstants.{MOST_RECORDS}
@@ -9,11 +9,10 @@ use Rattle.kr_batch.specs.declared.fault.BatchFault.TheVariants as batches
 use Rattle.kr_batch.specs.Answers.{IsFault}
 use Rattle.kr_batch.specs.Grammar.{IsBatch}
 use Rattle.kr_batch.specs.Reading.{batch_of}
-use Rattle.kr_snapshot.specs.Reading.{size_at}
 use Rattle.kr_show.specs.declared.fault.ShowFault.{ShowFault}
 use Rattle.kr_show.specs.declared.fault.ShowFault.TheVariants as faults
 use Rattle.kr_show.specs.BatchLines.{batch_lines}
-use Rattle.kr_show.specs.Endings.{Breaks, IsTooShort, cut, refused}
+use Rattle.kr_show.specs.Endings.{IsTooShort, cut, refused}
 use Rattle.kr_show.specs.inner.Steps.{IsFront, IsNoText, IsShownTo, IsStopped, IsTextOf, fault_of}
 
 pub batch_few : (batch : Batch) (bytes : List ℕ) → IsBatch batch bytes → length batch.items ≤ MOST_RECORDS

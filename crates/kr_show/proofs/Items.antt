@@ -1,7 +1,5 @@
 -- The lines of a batch's items, one after the other.
-use Rattle.std.proofs.Common.{◌≡◌, ◌∙◌, ℕ, ◌+◌, ◌≤◌, List, [], ◌∷◌, ◌++◌, length, drop, append_assoc, refl, sym, ap, arith}
-use Rattle.std.specs.Prelude.{min}
-use Rattle.std.proofs.lemmas.List.{append-nil, drop_all}
+use Rattle.std.proofs.Common.{◌≡◌, ◌∙◌, ℕ, ◌+◌, List, ◌∷◌, ◌++◌, drop, append_assoc, ap}
 use Rattle.kr_defs.specs.declared.record.Item.{Item}
 use Rattle.kr_batch.specs.declared.Batch.{Batch}
 use Rattle.kr_json.specs.Lines.{record_line}

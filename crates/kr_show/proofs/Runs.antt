@@ -1,14 +1,14 @@
 -- An input is taken to its end, and what is shown of it is written.
-use Rattle.std.proofs.Common.{◌≡◌, ◌∙◌, ℕ, ◌+◌, ◌<◌, ◌≤◌, ◌⊎◌, inl, inr, List, [], ◌++◌, length, length-append, take, drop, Option, Some, None, Result, Ok, Err, refl, sym, ap, subst, arith}
-use Rattle.std.proofs.lemmas.List.{append-nil, length-take, take-append-drop}
-use Rattle.std.specs.Io.KnownBytes.{Consumes, Appends, IsAtEnd, Keeps}
+use Rattle.std.proofs.Common.{◌≡◌, ◌∙◌, ℕ, ◌+◌, ◌<◌, ◌≤◌, inl, inr, List, [], ◌++◌, length, length-append, take, drop, Option, Some, None, Result, Ok, Err, refl, sym, ap, subst, arith}
+use Rattle.std.proofs.lemmas.List.{length-take, take-append-drop}
+use Rattle.std.specs.Io.KnownBytes.{Consumes, Appends, Keeps}
 use Rattle.kr_base.proofs.Pieces.{consumes_more}
 use Rattle.kr_base.specs.FailedPuts.{AppendsFront}
 use Rattle.kr_show.specs.declared.fault.ShowFault.{ShowFault}
 use Rattle.kr_show.specs.declared.fault.ShowFault.TheVariants as faults
 use Rattle.kr_show.specs.declared.input.Word.{Word}
 use Rattle.kr_show.specs.declared.input.Word.TheVariants as which
-use Rattle.kr_show.specs.Endings.{HasNoHead, IsWhy, NoWhy, Ran, ShowEnds, IsShown, TakesAll, TakesSome, longest_input}
+use Rattle.kr_show.specs.Endings.{IsWhy, NoWhy, Ran, ShowEnds, IsShown, TakesAll, TakesSome, longest_input}
 use Rattle.kr_show.specs.inner.Runs.{FitsBehind, TookBehind, IsHeadOf, IsPieceFault, IsNotTaken, IsStartOf}
 
 pub consumes_none : (a : Option (List ℕ)) → Consumes a a []

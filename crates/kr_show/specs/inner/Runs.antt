@@ -1,6 +1,6 @@
 -- An input is taken to its end, and what is shown of it is written.
-use Rattle.std.specs.Prelude.{◌≡◌, ℕ, ℤ, ◌+◌, ◌≤◌, List, Option, Some, None, ◌++◌, drop, Result, Ok, Err}
-use Rattle.std.specs.Io.KnownBytes.{Consumes, IsAtEnd, Keeps}
+use Rattle.std.specs.Prelude.{◌≡◌, ℕ, ℤ, ◌+◌, ◌≤◌, List, Option, Some, None, ◌++◌, drop, Ok, Err}
+use Rattle.std.specs.Io.KnownBytes.{Consumes, Keeps}
 use Rattle.kr_wire.specs.declared.WireFault.{WireFault}
 use Rattle.kr_show.specs.declared.fault.ShowFault.{ShowFault}
 use Rattle.kr_show.specs.declared.fault.ShowFault.TheVariants as faults
