@@ -53,7 +53,7 @@ impl Bell {
         rung.number
     }
 
-    /// TakesNothing until the number isn't this one.
+    /// Waits until the number isn't this one.
     pub fn wait_past<R: Wait>(&self, rt: &R, seen: u64) {
         let mut rung = self.rung.lock(rt);
         rung.waiting = rung.waiting.saturating_add(1);
@@ -102,7 +102,7 @@ impl SeatBells {
         }
     }
 
-    /// TakesNothing until the number of a seat's bell isn't this one.
+    /// Waits until the number of a seat's bell isn't this one.
     pub(crate) fn wait_past<R: Wait>(&self, rt: &R, seat: u32, seen: u64) {
         if let Some(seat) = self.at(seat) {
             seat.bell.wait_past(rt, seen);
