@@ -16,6 +16,8 @@ use Rattle.kr_shared.specs.contracts.asked.Asked.{the_row as asked_row}
 use Rattle.kr_shared.proofs.asked.Asked.TheSendSync as asked
 use Rattle.kr_shared.specs.contracts.bell.Bell.{the_row as bell_row}
 use Rattle.kr_shared.proofs.bell.Bell.TheSendSync as bell
+use Rattle.kr_shared.specs.contracts.bell.SeatBells.{the_row as seat_bells_row}
+use Rattle.kr_shared.proofs.bell.SeatBells.TheSendSync as seat_bells
 use Rattle.kr_shared.specs.contracts.clients.Bells.{the_row as bells_row}
 use Rattle.kr_shared.proofs.clients.Bells.TheSendSync as bells
 use Rattle.kr_shared.specs.contracts.clients.ClientSeat.{the_row as client_row}
@@ -32,7 +34,7 @@ use Rattle.kr_shared.specs.contracts.worker.WorkerSeat.TheInside.{the_type as wo
 
 -- the allocator, the queue with its pass, the bells, the reader, the number of the last call, and the places
 pub client_send : IsSend client_row
-client_send = view_send _ _ _ _ _ (declared_send client_type (search sendable depth 20, (heap.Arc-send queue_row queue.the_send queue.the_sync, (pass.the_send, (heap.Arc-send bell_row bell.the_send bell.the_sync, (heap.Arc-send bell_row bell.the_send bell.the_sync, (seat_send, (search sendable depth 20, (places.the_send, tt)))))))))
+client_send = view_send _ _ _ _ _ (declared_send client_type (search sendable depth 20, (heap.Arc-send queue_row queue.the_send queue.the_sync, (pass.the_send, (heap.Arc-send bell_row bell.the_send bell.the_sync, (heap.Arc-send seat_bells_row seat_bells.the_send seat_bells.the_sync, (seat_send, (search sendable depth 20, (places.the_send, tt)))))))))
 
 -- the writes that wait, and what is due
 line_send : IsSend line_row

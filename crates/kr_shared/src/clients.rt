@@ -15,7 +15,7 @@ ghost use Rattle.kr_shared.specs.Clients.{HasReadCause, MayRise, job_of_call, wi
 ghost use Rattle.kr_shared.specs.Ends.{Ends, EndsBare};
 ghost use Rattle.kr_shared.specs.Submit.{IsAnswered, IsSubmitCause, Pushed, PushedAtFault};
 
-use crate::bell::Bell;
+use crate::bell::{Bell, SeatBells};
 use crate::places::Places;
 use kr_base::{NoMemory, Shared};
 use kr_calls::{Answer, AnswerKind, Answered, Call, Reply, SeatEntry};
@@ -127,7 +127,7 @@ fn bare_ending(
 #[tactic(auto, using(crate::proofs::Onwards::onward_refl, crate::proofs::Onwards::onward_trans, crate::proofs::Ends::ends_found, crate::proofs::Misses::stays, crate::proofs::Misses::looked_on))]
 fn wait_for<R: Wait>(
     rt: &R,
-    bell: &Bell,
+    bells: &SeatBells,
     reader: &mut ReaderSeat,
     ticket: u64,
     floor: &i64,
@@ -141,8 +141,9 @@ fn wait_for<R: Wait>(
         floor.now fault) }
     ensures misses { MayRise reader.old.misses reader.new.misses }
 {
+    let seat = reader.number();
     for _ in rt.forever() {
-        let seen = bell.number(rt);
+        let seen = bells.number(rt, seat);
         match reader.look(ticket) {
             Ok(
                 Look::Found {
@@ -150,11 +151,11 @@ fn wait_for<R: Wait>(
                 },
             ) => match end_of_call(&answer, floor, call) {
                 Some(end) => return end,
-                None => bell.wait_past(rt, seen),
+                None => bells.wait_past(rt, seat, seen),
             },
-            Ok(Look::Found { .. }) => bell.wait_past(rt, seen),
+            Ok(Look::Found { .. }) => bells.wait_past(rt, seat, seen),
             Ok(Look::Stopped { number }) => return Err(SubmitFault::Ended { number }),
-            Ok(Look::NotYet) => bell.wait_past(rt, seen),
+            Ok(Look::NotYet) => bells.wait_past(rt, seat, seen),
             Err(CopyFault::NoMemory) => return Err(SubmitFault::NoMemory),
             Err(CopyFault::NoCopy) => thread::yield_now(),
         }
@@ -174,8 +175,8 @@ pub struct ClientSeat {
     pass: Pass,
     // Rung at each push, for the worker.
     jobs: Arc<Bell, Global>,
-    // Rung by the worker when it has published.
-    pub(crate) copies: Arc<Bell, Global>,
+    // Rung by the worker when it has published what a seat is told.
+    pub(crate) copies: Arc<SeatBells, Global>,
     // The committed copies.
     pub(crate) reader: ReaderSeat,
     // The number of the last write, pin or unpin.
@@ -196,18 +197,18 @@ impl Model for ClientSeat {
     ghost invariant = { IsClientSeat };
 }
 
-// The bells of a worker and its clients: of what was pushed, and of what was published.
+// The bells of a worker and its clients: of what was pushed, and of what each was told.
 #[derive(Drop)]
 pub(crate) struct Bells {
     pub jobs: Arc<Bell, Global>,
-    pub copies: Arc<Bell, Global>,
+    pub copies: Arc<SeatBells, Global>,
 }
 
 impl Bells {
-    pub(crate) fn new(alloc: Global) -> Result<Bells, NoMemory> {
+    pub(crate) fn new(alloc: Global, clients: u32) -> Result<Bells, NoMemory> {
         Ok(Bells {
             jobs: Arc::new(alloc, Bell::new())?,
-            copies: Arc::new(alloc, Bell::new())?,
+            copies: Arc::new(alloc, SeatBells::new(alloc, clients)?)?,
         })
     }
 

@@ -20,6 +20,7 @@ ghost use Rattle.kr_shared.specs.Works.{IsBareNote, KeepsShown, Onwards, call_in
 ghost use Rattle.kr_shared.specs.inner.DeskCalls.{ComesBack, ComesBackCaughtUp, DeskDoesJob, DeskPins, DeskServes, DeskServesRequest, DeskServesWhole, DeskWrites};
 
 use crate::answers::{Aside, Asking, asked_by};
+use crate::bell::SeatBells;
 use crate::line::{Line, Note, bare_answer, note_of_decision, note_of_pin, note_of_unpin, stop};
 use crate::taking::{Given, give_out};
 use kr_base::{Clock, NoMemory, Quorum, Steps};
@@ -226,6 +227,11 @@ impl Desk {
             self.publisher.drop_staged();
             self.cut = false;
         }
+    }
+
+    /// Those that are told what is due are owed a ring.
+    pub(crate) fn owe(&self, bells: &SeatBells) {
+        self.line.owe(bells);
     }
 
     /// Publishes all that is due. Without memory it stays due.

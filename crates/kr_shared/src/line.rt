@@ -10,6 +10,7 @@ ghost use Rattle.kr_shared.specs.Turns.{pin_entry, unpin_entry};
 ghost use Rattle.kr_shared.specs.Answers.{answering};
 
 use crate::asked::Asked;
+use crate::bell::SeatBells;
 use kr_base::{NoMemory, Shared};
 use kr_calls::{Answer, AnswerKind, Answered, Entry, Pin, Reply};
 use kr_model::Ended;
@@ -82,6 +83,20 @@ pub(crate) fn stop(number: u64) -> Note
 {
     Note::Bare {
         entry: Entry::Stop { number },
+    }
+}
+
+// The seat that is told this; none where each is.
+fn seat_of(note: &Note) -> Option<u32> {
+    match note {
+        Note::Decided { answered, .. } => Some(answered.seat),
+        Note::Bare {
+            entry: Entry::Answer { answer },
+        } => Some(answer.seat),
+        Note::Bare {
+            entry: Entry::Pin { pin } | Entry::Unpin { pin },
+        } => Some(pin.seat),
+        Note::Bare { .. } => None,
     }
 }
 
@@ -263,6 +278,16 @@ impl Line {
         match self.waiting.pop_front() {
             Some(asked) => Some(asked),
             None => self.newest.take(),
+        }
+    }
+
+    /// Those that are told what is due are owed a ring.
+    pub(crate) fn owe(&self, bells: &SeatBells) {
+        for note in &self.due {
+            match seat_of(note) {
+                Some(seat) => bells.owe(seat),
+                None => bells.owe_all(),
+            }
         }
     }
 

@@ -131,7 +131,7 @@ fn parts_of(alloc: Global, options: Options, clients: u32) -> Result<Parts, NoMe
         × (g.engine.options ≡ options)) }
 {
     let engine = Engine::new(alloc, options)?;
-    let bells = Bells::new(alloc)?;
+    let bells = Bells::new(alloc, clients)?;
     let (queue, passes) = kr_queue::open(alloc, clients)?;
     let Passes {
         worker,

@@ -12,7 +12,7 @@ ghost use Rattle.kr_shared.specs.declared.places.TheConstants.{MOST_PLACES};
 ghost use Rattle.kr_shared.specs.HeldPlaces.{with_place, without_place};
 ghost use Rattle.kr_shared.specs.Grants.{EndsAhead, EndsPlace, IsGranted, IsKeptFrom, IsPinCause, IsPlaceCause, PushedPlace, PushedPlaceAtFault, job_of_wanted, pin_at};
 
-use crate::bell::Bell;
+use crate::bell::SeatBells;
 use crate::clients::{ClientSeat, SubmitFault};
 use crate::places::MOST_PLACES;
 use kr_base::NoMemory;
@@ -90,7 +90,7 @@ fn end_of_place(entry: &SeatEntry, floor: &i64, wanted: &Wanted) -> Option<Resul
 #[tactic(auto, using(crate::proofs::Onwards::onward_refl, crate::proofs::Onwards::onward_trans, crate::proofs::PinnedPlaces::places_found, crate::proofs::Misses::stays, crate::proofs::Misses::looked_on))]
 fn wait_for<R: Wait>(
     rt: &R,
-    bell: &Bell,
+    bells: &SeatBells,
     reader: &mut ReaderSeat,
     ticket: u64,
     floor: &i64,
@@ -104,15 +104,16 @@ fn wait_for<R: Wait>(
         floor.now fault) }
     ensures misses { MayRise reader.old.misses reader.new.misses }
 {
+    let seat = reader.number();
     for _ in rt.forever() {
-        let seen = bell.number(rt);
+        let seen = bells.number(rt, seat);
         match reader.look(ticket) {
             Ok(Look::Found { entry }) => match end_of_place(&entry, floor, wanted) {
                 Some(end) => return end,
-                None => bell.wait_past(rt, seen),
+                None => bells.wait_past(rt, seat, seen),
             },
             Ok(Look::Stopped { number }) => return Err(SubmitFault::Ended { number }),
-            Ok(Look::NotYet) => bell.wait_past(rt, seen),
+            Ok(Look::NotYet) => bells.wait_past(rt, seat, seen),
             Err(CopyFault::NoMemory) => return Err(SubmitFault::NoMemory),
             Err(CopyFault::NoCopy) => thread::yield_now(),
         }

@@ -153,9 +153,10 @@ impl WorkerSeat {
         ensures err { OnErr result (StaysLate self.old self.new) }
     {
         if self.late {
+            self.desk.owe(&self.bells.copies);
             self.desk.settle(rt)?;
             self.late = false;
-            self.bells.copies.ring(rt);
+            self.bells.copies.ring_owed(rt);
         }
         Ok(())
     }
