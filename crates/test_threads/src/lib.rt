@@ -16,4 +16,6 @@ mod pinned_place;
 #[cfg(test)]
 mod setup;
 #[cfg(test)]
+mod stopped_worker;
+#[cfg(test)]
 mod threads;

@@ -26,7 +26,7 @@ pub(crate) trait Part {
 pub(crate) struct Signs {
     // Where the quorum's log ends.
     end: AtomicI64,
-    // All clients are done.
+    // All clients are done, or the worker is to be stopped.
     done: AtomicBool,
     // Rung where the link may have something to do.
     news: Bell,
@@ -48,6 +48,8 @@ pub(crate) struct TellingQuorum<'a> {
     pub kept: MemoryQuorum,
     // It tells no end, so that nothing is committed.
     is_silent: bool,
+    // After so many appends the worker is stopped; at 0 once all clients are done.
+    last: u64,
     signs: &'a Signs,
 }
 
@@ -62,6 +64,21 @@ impl TellingQuorum<'_> {
         Ok(TellingQuorum {
             is_silent,
             kept: MemoryQuorum::new(alloc, 1_000_000, 4_000, failing)?,
+            last: 0,
+            signs,
+        })
+    }
+
+    // Nothing is committed, and after so many appends the worker is stopped.
+    pub(crate) fn stopped_after(
+        alloc: Global,
+        appends: u64,
+        signs: &Signs,
+    ) -> Result<TellingQuorum<'_>, NoMemory> {
+        Ok(TellingQuorum {
+            is_silent: true,
+            kept: MemoryQuorum::new(alloc, 1_000_000, 4_000, Vec::new(alloc))?,
+            last: appends,
             signs,
         })
     }
@@ -78,6 +95,9 @@ impl Quorum for TellingQuorum<'_> {
         self.kept.append(bytes)?;
         if !self.is_silent {
             self.signs.end.store(end_after(bytes), Ordering::SeqCst);
+        }
+        if self.kept.calls() == self.last {
+            self.signs.done.store(true, Ordering::SeqCst);
         }
         Ok(())
     }
