@@ -6,3 +6,4 @@ pub mod Handed
 pub mod FirstNodes
 pub mod TakenBy
 pub mod Moved
+pub mod ReadMoves

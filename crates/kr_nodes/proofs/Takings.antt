@@ -93,7 +93,7 @@ module _ (options : Options) (k : ℕ) (n : RunNode) (event : Event) (before aft
   abbrev q : Result State Reason
   q = outcome options (at_time_of n.state event) event
 
-  stepped_stands : IsEngine t.stepped (happens options n.state event) (waiting_after options n.state (writes_in n.waiting) event)
+  pub stepped_stands : IsEngine t.stepped (happens options n.state event) (waiting_after options n.state (writes_in n.waiting) event)
   stepped_stands =
       subst (λ (o : Options). IsEngine t.stepped (happens o n.state event) (waiting_after o n.state (writes_in n.waiting) event)) stands.options_are
       (t.step.stands n.state (writes_in n.waiting) stands.engine)

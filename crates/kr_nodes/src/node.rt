@@ -142,6 +142,7 @@ impl Node {
         ensures { OnOk result
             (NodeTakes number self.old self.new is_write told.old.items told.new.items event.now) }
     {
+        look_at_places(&self.engine);
         self.engine.step(event, steps)?;
         self.note(is_write)?;
         hand_out(&mut self.engine, number, &mut self.pending, told)

@@ -1,5 +1,5 @@
 -- What an event makes of a node.
-use Rattle.std.specs.Prelude.{◌≡◌, ℕ, ℤ, pos, List, [], ◌∷◌, ◌++◌, All, Bool, FitsSigned, Option, Some, if◌then◌else◌}
+use Rattle.std.specs.Prelude.{◌≡◌, ℕ, ℤ, pos, List, [], ◌∷◌, ◌++◌, All, Bool, FitsSigned, IfSome, Option, Some, if◌then◌else◌}
 use Rattle.std.specs.Int.{w32, w64}
 use Rattle.std.specs.List.{flat_map}
 use Rattle.kr_calls.specs.declared.events.Entry.{Entry}
@@ -64,6 +64,7 @@ pub record NodeTakes (number : ℕ) (before after : Node) (is_write : Bool) (tol
   pub stepped : Core
   pub step : IsStep before.engine stepped event
   pub has : HasHeld stepped
+  pub led : IfSome before.engine.leading (λ epoch. FitsSigned w32 epoch)
   pub options : after.engine.options ≡ stepped.options
   pub stands : (s : State) (writes : List Write) → IsEngine stepped s writes → IsEngine after.engine s writes
   pub drained : outputs_left after.engine ≡ []
