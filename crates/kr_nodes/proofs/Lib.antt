@@ -7,3 +7,4 @@ pub mod FirstNodes
 pub mod TakenBy
 pub mod Moved
 pub mod ReadMoves
+pub mod Rows
