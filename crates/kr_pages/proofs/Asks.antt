@@ -1,6 +1,6 @@
 -- A message asks at most one thing, which reading finds.
-use Rattle.std.proofs.Common.{Fits, w8, get_or, ◌≡◌, ℕ, Bool, true, false, cond, List, [], ◌∷◌, length, ◌==◌, Option, Some, None, Result, Ok, Err, refl, sym, ap, subst, ◌∙◌, arith}
-use Rattle.std.specs.Prelude.{ℤ, pos, IfOk, IfSome, ◌↔◌}
+use Rattle.std.proofs.Common.{Fits, w8, get_or, ◌≡◌, ℕ, Bool, true, false, cond, List, [], ◌∷◌, ◌++◌, length, ◌==◌, append_assoc, Option, Some, None, Result, Ok, Err, refl, sym, ap, subst, ◌∙◌, arith}
+use Rattle.std.specs.Prelude.{ℤ, pos, IfOk, IfSome, ◌&&◌, ◌↔◌}
 use Rattle.std.specs.Ordering.{int_eq}
 use Rattle.std.proofs.lemmas.Bool.{and_parts, eqb-true}
 use Rattle.std.proofs.lemmas.Bool.Decides.{Decides-int_eq}
@@ -9,15 +9,15 @@ use Rattle.kr_base.specs.declared.answers.NoMemory.{NoMemory}
 use Rattle.kr_wire.specs.Grammar.{◌⌢◌}
 use Rattle.kr_wire.specs.Laws.{Front}
 use Rattle.kr_wire.specs.Reading.{Read}
-use Rattle.kr_wire.proofs.ReadingLaws.{IsBytes, IsBytes-behind, Law, joined, sound_as, sound_then, complete_then}
-use Rattle.kr_req.specs.Messages.{IsClient, IsStart}
-use Rattle.kr_req.specs.Reading.{head_at}
+use Rattle.kr_wire.proofs.ReadingLaws.{IsBytes, IsBytes-behind, Law, joined, one_value, sound_as, sound_then, complete_then}
+use Rattle.kr_req.specs.Messages.{BeginsWith, IsClient, IsStart}
+use Rattle.kr_req.specs.Reading.{client_at, head_at}
 use Rattle.kr_req.proofs.Headers.{client_law, start_law}
 use Rattle.kr_pages.specs.declared.describe.Describe.{Describe}
 use Rattle.kr_pages.specs.declared.describe.DescribeAsk.{DescribeAsk}
 use Rattle.kr_pages.specs.declared.describe.DescribeAsk.TheVariants as asks
 use Rattle.kr_pages.specs.Messages.{IsDescribe, IsDescribeAsk, IsDescribeKey, IsDescribeMessage, ask, bare}
-use Rattle.kr_pages.specs.Reading.{page_ask, describe_ask, is_key, rest_at, begun_describe}
+use Rattle.kr_pages.specs.Reading.{page_ask, describe_ask, describe_at, is_key, rest_at, begun_describe}
 use Rattle.kr_pages.proofs.Messages.{describe_law}
 
 -- ---- the rest behind the correlation id

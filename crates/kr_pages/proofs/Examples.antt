@@ -5,7 +5,7 @@ use Rattle.std.proofs.Common.{refl}
 use Rattle.kr_defs.specs.declared.broker.Broker.{Broker}
 use Rattle.kr_defs.specs.declared.partition.Partition.{Partition}
 use Rattle.kr_defs.specs.Image.{Image}
-use Rattle.kr_pages.specs.declared.describe.LineKey.{LineKey}
+use Rattle.kr_view.specs.declared.scans.ScanKey.{ScanKey}
 use Rattle.kr_pages.specs.declared.describe.Describe.{Describe}
 use Rattle.kr_pages.specs.declared.describe.Described.{Described}
 use Rattle.kr_pages.specs.declared.describe.DescribedPart.{DescribedPart}
@@ -52,10 +52,10 @@ image = record {
   features = [];
 }
 
-abbrev at : List ℕ → ℤ → Option LineKey
+abbrev at : List ℕ → ℤ → Option ScanKey
 at topic index = Some (record { topic = topic; index = index })
 
-abbrev asked : List (List ℕ) → ℤ → Option LineKey → Describe
+abbrev asked : List (List ℕ) → ℤ → Option ScanKey → Describe
 asked names limit cursor = record { names = names; limit = limit; cursor = cursor }
 
 abbrev part : ℤ → ℤ → DescribedPart
@@ -90,7 +90,7 @@ entry name id parts = record { error = pos 0; name = Some name; id = id; parts =
 abbrev unknown : List ℕ → DescribedTopic
 unknown name = record (entry name 0 []) { error = pos 3 }
 
-abbrev shows : List DescribedTopic → Option LineKey → Described
+abbrev shows : List DescribedTopic → Option ScanKey → Described
 shows topics next = record { topics = topics; next = next }
 
 abbrev t : DescribedTopic

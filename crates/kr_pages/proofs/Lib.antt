@@ -3,4 +3,10 @@ pub mod Rising
 pub mod NullableLaws
 pub mod Messages
 pub mod Asks
+pub mod Going
+pub mod LookedUp
+pub mod NamedLines
+pub mod NamesInOrder
+pub mod PutTogether
+pub mod ShownParts
 mod Examples

@@ -1,18 +1,20 @@
 -- The laws of requests for a page and of their replies.
-use Rattle.std.proofs.Common.{◌≡◌, ℕ, List, [], ◌++◌, refl, Option, rules}
-use Rattle.std.specs.Prelude.{ℤ, pos}
+use Rattle.std.proofs.Common.{◌≡◌, ℕ, List, [], ◌++◌, refl, sym, ap, ◌∙◌, Option, rules}
+use Rattle.std.specs.Prelude.{ℤ, pos, FitsSigned}
 use Rattle.std.specs.Int.{w32}
-use Rattle.kr_wire.specs.Schema.{Array, End, Fits, Int32, written}
+use Rattle.kr_wire.specs.Grammar.{◌⌢◌, IsList, IsSigned, NoTags}
+use Rattle.kr_wire.specs.Laws.{Apart}
+use Rattle.kr_wire.specs.Schema.{Array, End, Fits, Int32, Is, value_at, written}
 use Rattle.kr_wire.specs.Spelling.{list, signed, tags}
 use Rattle.kr_wire.proofs.Apart.{apart, first_apart, written_once}
 use Rattle.kr_wire.proofs.Numbers.{signed_law}
 use Rattle.kr_wire.proofs.ReadingLaws.{Law, ◌before◌, joined, primitive, structure_law}
 use Rattle.kr_wire.proofs.Schemas.{law, stands}
 use Rattle.kr_wire.proofs.Tags.{no_tags_law}
-use Rattle.kr_pages.specs.declared.describe.LineKey.{LineKey}
+use Rattle.kr_view.specs.declared.scans.ScanKey.{ScanKey}
 use Rattle.kr_pages.specs.declared.describe.Describe.{Describe}
 use Rattle.kr_pages.specs.declared.describe.Described.{Described}
-use Rattle.kr_pages.specs.Messages.{IsCursor, IsDescribe, IsDescribed, IsDescribedMessage, cursor, described_topic, topic_request}
+use Rattle.kr_pages.specs.Messages.{IsCursor, IsDescribe, IsDescribed, IsDescribedMessage, IsDescribedTopic, cursor, described_topic, topic_request}
 use Rattle.kr_pages.specs.Nullable.{FitsOrNull, IsStructureOrNull, structure_or_null}
 use Rattle.kr_pages.specs.Reading.{describe_at, fields_of, of_fields}
 use Rattle.kr_pages.specs.Written.{DescribeFits, DescribedAreWritten, DescribedFits, DescribesAreWritten, page_bytes, describe_bytes, described_bytes}
@@ -25,7 +27,7 @@ unfolding describe_at
 describe_law = structure_law of_fields fields_of (λ v. refl) (λ d. refl)
     (law (Array topic_request) refl before signed_law w32 before structure_or_null_law (law cursor refl) before no_tags_law)
 
-cursor_stands : (o : Option LineKey) → FitsOrNull (Fits cursor) o → IsStructureOrNull IsCursor o (structure_or_null (written cursor) o)
+cursor_stands : (o : Option ScanKey) → FitsOrNull (Fits cursor) o → IsStructureOrNull IsCursor o (structure_or_null (written cursor) o)
 cursor_stands = structure_or_null_stands IsCursor (written cursor) (Fits cursor) (stands cursor)
 
 describe_stands : (d : Describe) → DescribeFits d → IsDescribe d (describe_bytes d)

@@ -1,6 +1,6 @@
 -- The laws of a structure or null, from those of the structure.
 use Rattle.std.proofs.Common.{◌≡◌, ℕ, Bool, true, false, List, [], ◌++◌, append_assoc, Option, Some, None, Ok, refl, sym, ap, subst, ◌∙◌, rules}
-use Rattle.std.specs.Prelude.{ℤ, pos, negsuc, not}
+use Rattle.std.specs.Prelude.{ℤ, pos, negsuc, not, FitsSigned}
 use Rattle.std.specs.Int.{w8}
 use Rattle.std.specs.Ordering.{int_eq}
 use Rattle.std.proofs.lemmas.Bool.Decides.{Decides-int_eq}

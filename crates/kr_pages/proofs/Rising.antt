@@ -1,23 +1,25 @@
 -- The lines rise.
-use Rattle.std.proofs.Common.{◌≡◌, ◌∙◌, sym, refl, ap, true, false, cond, ℕ, ℤ, List, [], ◌∷◌, ◌++◌, map, Some, None}
-use Rattle.std.specs.Prelude.{flat_map, fold, ◌==◌}
+use Rattle.std.proofs.Common.{◌≡◌, ◌∙◌, sym, subst, refl, ap, arith, Bool, true, false, cond, not, ℕ, ℤ, List, [], ◌∷◌, ◌++◌, map, Option, Some, None}
+use Rattle.std.specs.Prelude.{filter, flat_map, fold, ◌==◌}
 use Rattle.std.specs.declared.cmp.Ordering.{Ordering}
 use Rattle.std.specs.declared.cmp.Ordering.TheVariants.{Less, Equal, Greater}
+use Rattle.std.specs.Cmp.{IsTotalOrder}
 use Rattle.std.specs.List.{AllByRecursion}
 use Rattle.std.specs.List.Sorted.{IsStrictlySortedBy}
 use Rattle.std.specs.Map.{keys_of}
 use Rattle.std.specs.Option.{option_map_or}
-use Rattle.std.specs.Ordering.{int_cmp, nat_cmp, ordering_reverse, ordering_then}
+use Rattle.std.specs.Ordering.{int_cmp, is_eq, is_lt, nat_cmp, ordering_reverse, ordering_then}
 use Rattle.std.proofs.lemmas.Cmp.{nat_cmp_total}
 use Rattle.kr_defs.specs.declared.partition.Partition.{Partition}
 use Rattle.kr_defs.specs.Image.{Image, IsValid}
 use Rattle.kr_defs.specs.Map.{IsMap, get, partition_order, text_order}
-use Rattle.kr_defs.specs.Walk.{of_topic, walk_topic, walked}
+use Rattle.kr_defs.specs.Walk.{Walked, of_topic, walk_topic, walked}
 use Rattle.kr_defs.proofs.ImageParts.{text_total}
 use Rattle.kr_defs.proofs.Maps.{IsMap-filter, below_all}
 use Rattle.kr_defs.proofs.TopicWalks.{same_topic}
-use Rattle.kr_pages.specs.declared.describe.LineKey.{LineKey}
-use Rattle.kr_pages.specs.Lines.{Line, line_order, bare_line, line_of_partition, lines, lines_or_bare, name_before, name_lines, names_of, lines_of_topic, with_name}
+use Rattle.kr_view.specs.declared.scans.ScanKey.{ScanKey}
+use Rattle.kr_view.specs.Scans.{scan_order}
+use Rattle.kr_pages.specs.Lines.{Line, bare_line, in_order, line_of_partition, lines, lines_or_bare, name_before, name_lines, names_of, lines_of_topic, with_name}
 use Rattle.kr_pages.specs.Joined.{LinesRise, PagesJoinLines}
 use Rattle.kr_pages.proofs.Joining.{pages_join}
 
@@ -25,7 +27,7 @@ abbrev Names : Type 0
 Names = List (List ℕ)
 
 abbrev Rise : List Line → Type 0
-Rise xs = IsStrictlySortedBy line_order (map (λ (l : Line). l.key) xs)
+Rise xs = IsStrictlySortedBy scan_order (map (λ (l : Line). l.key) xs)
 
 equal_itself : (o : Ordering) → o ≡ ordering_reverse o → o ≡ Equal
 equal_itself Less h = absurd cc
@@ -87,13 +89,13 @@ kept_in id (e ∷ es) =
       | false ↦ λ is. kept_in id es
     ] refl
 
-index_less : (name : List ℕ) (x y : ℕ × ℤ) → x.0 ≡ y.0 → partition_order x y ≡ Less → line_order (record { topic = name; index = x.1 }) (record { topic = name; index = y.1 }) ≡ Less
+index_less : (name : List ℕ) (x y : ℕ × ℤ) → x.0 ≡ y.0 → partition_order x y ≡ Less → scan_order (record { topic = name; index = x.1 }) (record { topic = name; index = y.1 }) ≡ Less
 index_less name x y same less =
     let ids : nat_cmp x.0 y.0 ≡ Equal = ap (λ n. nat_cmp x.0 n) (sym same) ∙ equal_itself (nat_cmp x.0 x.0) (nat_cmp_total.antisymm x.0 x.0) in
     ap (λ o. ordering_then o (int_cmp x.1 y.1)) (text_itself name) ∙ (ap (λ o. ordering_then o (int_cmp x.1 y.1)) (sym ids) ∙ less)
 
 rows_above : (name : List ℕ) (id : ℕ) (e : Entry) (es : List Entry) → e.0.0 ≡ id → AreIn id es → AllByRecursion (λ k. partition_order e.0 k ≡ Less) (keys_of es)
-    → AllByRecursion (λ k. line_order (record { topic = name; index = e.0.1 }) k ≡ Less) (map (λ (l : Line). l.key) (map line_of_partition (map (walked name) es)))
+    → AllByRecursion (λ k. scan_order (record { topic = name; index = e.0.1 }) k ≡ Less) (map (λ (l : Line). l.key) (map line_of_partition (map (walked name) es)))
 rows_above name id e [] own are h = tt
 rows_above name id e (d ∷ ds) own are h = (index_less name e.0 d.0 (own ∙ sym are.0) h.0, rows_above name id e ds own are.1 h.1)
 
@@ -147,11 +149,11 @@ module _ (image : Image) (valid : IsValid image) where
   behind_all name [] h = tt
   behind_all name (n ∷ ns) h = behind_one name n (name_lines image n) (flat_map (name_lines image) ns) h.0 (name_of n) (behind_all name ns h.1)
 
-  all_less : (name : List ℕ) (k : LineKey) (ys : List Line) → k.topic ≡ name → Behind name ys → AllByRecursion (λ z. line_order k z ≡ Less) (map (λ (l : Line). l.key) ys)
+  all_less : (name : List ℕ) (k : ScanKey) (ys : List Line) → k.topic ≡ name → Behind name ys → AllByRecursion (λ z. scan_order k z ≡ Less) (map (λ (l : Line). l.key) ys)
   all_less name k [] own h = tt
   all_less name k (y ∷ ys) own h = (ap (λ o. ordering_then o (int_cmp k.index y.key.index)) (ap (λ t. text_order t y.key.topic) own ∙ h.0), all_less name k ys own h.1)
 
-  all_both : (P : LineKey → Type 0) (xs ys : List Line) → AllByRecursion P (map (λ (l : Line). l.key) xs) → AllByRecursion P (map (λ (l : Line). l.key) ys) → AllByRecursion P (map (λ (l : Line). l.key) (xs ++ ys))
+  all_both : (P : ScanKey → Type 0) (xs ys : List Line) → AllByRecursion P (map (λ (l : Line). l.key) xs) → AllByRecursion P (map (λ (l : Line). l.key) ys) → AllByRecursion P (map (λ (l : Line). l.key) (xs ++ ys))
   all_both P [] ys h g = g
   all_both P (x ∷ xs) ys h g = (h.0, all_both P xs ys h.1 g)
 
@@ -159,7 +161,7 @@ module _ (image : Image) (valid : IsValid image) where
   unfolding IsStrictlySortedBy
   both_rise name [] ys are behind h g = g
   both_rise name (x ∷ xs) ys are behind h g =
-      (all_both (λ z. line_order x.key z ≡ Less) xs ys h.0 (all_less name x.key ys are.0 behind), both_rise name xs ys are.1 behind h.1 g)
+      (all_both (λ z. scan_order x.key z ≡ Less) xs ys h.0 (all_less name x.key ys are.0 behind), both_rise name xs ys are.1 behind h.1 g)
 
   all_rise : (names : Names) → IsStrictlySortedBy text_order names → Rise (flat_map (name_lines image) names)
   unfolding IsStrictlySortedBy

@@ -5,3 +5,6 @@ pub mod Written
 pub mod Lines
 pub mod Pages
 pub mod Joined
+pub mod RecordFields
+pub mod ShownLines
+pub mod SteadyReads

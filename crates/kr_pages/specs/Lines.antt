@@ -3,21 +3,17 @@
 use Rattle.std.specs.Prelude.{ℕ, negsuc, List, [], ◌∷◌, map, flat_map, Option, Some, None, if◌then◌else◌, fold}
 use Rattle.std.specs.declared.cmp.Ordering.{Ordering}
 use Rattle.std.specs.Option.{option_map_or}
-use Rattle.std.specs.Ordering.{int_cmp, is_eq, is_lt, ordering_then}
+use Rattle.std.specs.Ordering.{is_eq, is_lt}
 use Rattle.std.specs.Map.{keys_of}
 use Rattle.kr_defs.specs.declared.partition.Partition.{Partition}
 use Rattle.kr_defs.specs.Image.{Image}
 use Rattle.kr_defs.specs.Map.{get, text_order}
 use Rattle.kr_defs.specs.Walk.{Walked, walk_topic}
-use Rattle.kr_pages.specs.declared.describe.LineKey.{LineKey}
-
--- by the topic's name in bytes, then by index
-abbrev pub line_order : LineKey → LineKey → Ordering
-line_order x y = ordering_then (text_order x.topic y.topic) (int_cmp x.index y.index)
+use Rattle.kr_view.specs.declared.scans.ScanKey.{ScanKey}
 
 -- the topic's id, where the topic is there, and the partition, where there is one
 pub record Line : Type 0 where
-  pub key : LineKey
+  pub key : ScanKey
   pub id : Option ℕ
   pub partition : Option Partition
 

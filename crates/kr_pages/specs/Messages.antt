@@ -1,12 +1,12 @@
 -- DescribeTopicPartitions, key 75, version 0, after Kafka's published schemas: what its bytes and those of its reply stand for, and
 -- the layouts of their structures.
-use Rattle.std.specs.Prelude.{ℕ, ℤ, pos, false, List, refl}
+use Rattle.std.specs.Prelude.{◌≡◌, ℕ, ℤ, pos, false, List, refl}
 use Rattle.std.specs.Int.{w16, w32}
 use Rattle.kr_wire.specs.Grammar.{◌⌢◌, IsSigned, IsBool, IsId, IsText, IsTextOrNull, IsList, NoTags}
 use Rattle.kr_wire.specs.Schema.{Schema, ◌▸◌, Int16, Int32, Boolean, Uuid, Text, TextOrNull, Array, Constant, Structure, End}
 use Rattle.kr_calls.specs.Metadata.{no_operations}
 use Rattle.kr_req.specs.Messages.{BeginsWith, IsClient, IsStart}
-use Rattle.kr_pages.specs.declared.describe.LineKey.{LineKey}
+use Rattle.kr_view.specs.declared.scans.ScanKey.{ScanKey}
 use Rattle.kr_pages.specs.declared.describe.Describe.{Describe}
 use Rattle.kr_pages.specs.declared.describe.DescribeAsk.{DescribeAsk}
 use Rattle.kr_pages.specs.declared.describe.DescribeAsk.TheVariants as asks
@@ -21,7 +21,7 @@ use Rattle.kr_pages.specs.Nullable.{IsStructureOrNull}
 abbrev pub IsTopicRequest : List ℕ → List ℕ → Type 0
 IsTopicRequest name = IsText name ⌢ NoTags
 
-abbrev pub IsCursor : LineKey → List ℕ → Type 0
+abbrev pub IsCursor : ScanKey → List ℕ → Type 0
 IsCursor key = IsText key.topic ⌢ IsSigned w32 key.index ⌢ NoTags
 
 abbrev pub IsDescribe : Describe → List ℕ → Type 0
@@ -67,7 +67,7 @@ IsDescribedMessage correlation d = IsSigned w32 correlation ⌢ NoTags ⌢ IsDes
 abbrev pub topic_request : Schema (List ℕ)
 topic_request = Structure (Text ▸ End) (λ (name, end). name) (λ name. (name, tt)) (λ v. refl) (λ name. refl)
 
-abbrev pub cursor : Schema LineKey
+abbrev pub cursor : Schema ScanKey
 cursor = Structure (Text ▸ Int32 ▸ End)
     (λ (topic, (index, end)). record { topic = topic; index = index })
     (λ key. (key.topic, (key.index, tt))) (λ v. refl) (λ key. refl)

@@ -6,12 +6,13 @@ use Rattle.kr_defs.specs.declared.partition.Partition.{Partition}
 use Rattle.kr_defs.specs.Image.{Image}
 use Rattle.kr_calls.specs.declared.errors.TheConstants.{UNKNOWN_TOPIC_OR_PARTITION}
 use Rattle.kr_calls.specs.Metadata.{is_offline, leader_error}
-use Rattle.kr_pages.specs.declared.describe.LineKey.{LineKey}
+use Rattle.kr_view.specs.declared.scans.ScanKey.{ScanKey}
+use Rattle.kr_view.specs.Scans.{scan_order}
 use Rattle.kr_pages.specs.declared.describe.Describe.{Describe}
 use Rattle.kr_pages.specs.declared.describe.Described.{Described}
 use Rattle.kr_pages.specs.declared.describe.DescribedPart.{DescribedPart}
 use Rattle.kr_pages.specs.declared.describe.DescribedTopic.{DescribedTopic}
-use Rattle.kr_pages.specs.Lines.{Line, line_order, lines}
+use Rattle.kr_pages.specs.Lines.{Line, lines}
 
 -- a limit below 1 or above 2,000 counts as 2,000
 abbrev pub most_lines : ℕ
@@ -20,18 +21,18 @@ most_lines = 2000
 abbrev pub limit_of : ℤ → ℕ
 limit_of limit = if int_lt limit (pos 1) || int_lt (pos most_lines) limit then most_lines else unsigned_abs limit
 
-abbrev pub is_from : Option LineKey → Line → Bool
+abbrev pub is_from : Option ScanKey → Line → Bool
 is_from None line = true
-is_from (Some cursor) line = not (is_lt (line_order line.key cursor))
+is_from (Some cursor) line = not (is_lt (scan_order line.key cursor))
 
 -- the lines from the cursor on
-abbrev pub lines_from : List Line → Option LineKey → List Line
+abbrev pub lines_from : List Line → Option ScanKey → List Line
 lines_from those cursor = filter (is_from cursor) those
 
-abbrev pub page_lines : List Line → Option LineKey → ℕ → List Line
+abbrev pub page_lines : List Line → Option ScanKey → ℕ → List Line
 page_lines those cursor limit = take limit (lines_from those cursor)
 
-abbrev pub next_cursor : List Line → Option LineKey → ℕ → Option LineKey
+abbrev pub next_cursor : List Line → Option ScanKey → ℕ → Option ScanKey
 next_cursor those cursor limit = option_map (λ (l : Line). l.key) (slice_get (lines_from those cursor) limit)
 
 -- ---- what is shown

@@ -5,7 +5,7 @@ use Rattle.std.specs.Ordering.{int_eq}
 use Rattle.kr_wire.specs.Reading.{◌>>=◌, ◌followed_by◌, Read, list_at, none_known, signed_at, structure_at, tags_at}
 use Rattle.kr_wire.specs.Schema.{value_at}
 use Rattle.kr_req.specs.Reading.{client_at, head_at}
-use Rattle.kr_pages.specs.declared.describe.LineKey.{LineKey}
+use Rattle.kr_view.specs.declared.scans.ScanKey.{ScanKey}
 use Rattle.kr_pages.specs.declared.describe.Describe.{Describe}
 use Rattle.kr_pages.specs.declared.describe.DescribeAsk.{DescribeAsk}
 use Rattle.kr_pages.specs.declared.describe.DescribeAsk.TheVariants as asks
@@ -14,7 +14,7 @@ use Rattle.kr_pages.specs.Nullable.{structure_or_null_at}
 
 -- the fields of a Describe as pairs, in the order of the layout
 abbrev pub Fields : Type 0
-Fields = List (List ℕ) × (ℤ × (Option LineKey × Unit {0}))
+Fields = List (List ℕ) × (ℤ × (Option ScanKey × Unit {0}))
 
 abbrev pub of_fields : Fields → Describe
 of_fields (names, (limit, (cursor, end))) = record { names = names; limit = limit; cursor = cursor }

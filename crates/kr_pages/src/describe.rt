@@ -2,15 +2,7 @@
 //! is always the same.
 
 use kr_defs::{Ids, Rows, Text, Texts};
-
-/// Where a line of the description stands.
-#[derive(Debug, Drop)]
-pub struct LineKey {
-    /// The topic's name.
-    pub topic: Text,
-    /// The partition's index in the topic; -1 where the line has no partition.
-    pub index: i32,
-}
+use kr_view::ScanKey;
 
 /// A page of the description of topics (DescribeTopicPartitionsRequest, version 0).
 #[derive(Drop)]
@@ -20,7 +12,7 @@ pub struct Describe {
     /// How many lines the page may have; below 1 and above 2,000 it counts as 2,000.
     pub limit: i32,
     /// The first line of the page, or where it would stand; none for the first of all.
-    pub cursor: Option<LineKey>,
+    pub cursor: Option<ScanKey>,
 }
 
 /// What a message of this key and version asks.
@@ -88,5 +80,5 @@ pub struct Described {
     /// The topics of the page's lines.
     pub topics: DescribedTopics,
     /// The first line behind the page, none at the end.
-    pub next: Option<LineKey>,
+    pub next: Option<ScanKey>,
 }

@@ -6,15 +6,16 @@ ghost use Rattle.kr_pages.specs.Messages.{cursor, described_part, described_topi
 ghost use Rattle.kr_pages.specs.Written.{DescribedFits, PageFits, described_bytes, page_bytes};
 
 use crate::nullable::put_or_null;
-use crate::{Described, DescribedPart, DescribedTopic, LineKey, Mine};
+use crate::{Described, DescribedPart, DescribedTopic, Mine};
 use kr_base::NoMemory;
 use kr_layout::{Put, put_end};
+use kr_view::ScanKey;
 use kr_wire::put_i32;
 
 // Kafka's number for operations that aren't told.
 const NO_OPERATIONS: i32 = i32::MIN;
 
-impl Put<Mine> for LineKey {
+impl Put<Mine> for ScanKey {
     ghost schema = { cursor };
 
     fn put_parts(&self, mine: &Mine, out: &mut Vec<u8>) -> Result<(), NoMemory> {

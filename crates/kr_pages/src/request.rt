@@ -9,18 +9,19 @@ ghost use Rattle.kr_pages.specs.Messages.{IsDescribeAsk, IsDescribeKey, cursor, 
 ghost use Rattle.kr_pages.specs.Reading.{page_ask, describe_ask, describe_at, rest_at};
 
 use crate::nullable::get_or_null;
-use crate::{Describe, DescribeAsk, LineKey, Mine};
+use crate::{Describe, DescribeAsk, Mine};
 use kr_base::NoMemory;
 use kr_defs::{Rows, Text, Texts};
 use kr_layout::{Get, ReadFault, Reader};
 use kr_req::{read_client, read_start};
+use kr_view::ScanKey;
 use std::alloc::Global;
 
 const KEY: i16 = 75;
 
 const VERSION: i16 = 0;
 
-impl Get<Mine> for LineKey {
+impl Get<Mine> for ScanKey {
     ghost schema = { cursor };
 
     ghost is_whole = { refl };
@@ -29,8 +30,8 @@ impl Get<Mine> for LineKey {
         6
     }
 
-    fn get(from: &mut Reader<'_, Mine>) -> Result<LineKey, ReadFault> {
-        let key = LineKey {
+    fn get(from: &mut Reader<'_, Mine>) -> Result<ScanKey, ReadFault> {
+        let key = ScanKey {
             topic: from.get()?,
             index: from.get()?,
         };

@@ -3,8 +3,9 @@
 use kr_calls::Reply;
 use kr_calls::errors::INVALID_REQUEST;
 use kr_defs::Texts;
-use kr_pages::{Describe, DescribeAsk, LineKey, decode};
+use kr_pages::{Describe, DescribeAsk, decode};
 use kr_req::encode_reply;
+use kr_view::ScanKey;
 use std::alloc::{AllocError, Global};
 use testlib_words::{Fields, RowFault, hex_text};
 
@@ -57,10 +58,10 @@ fn names_text(alloc: Global, names: &Texts) -> Result<String, AllocError> {
 }
 
 // The name and the index, `.` for none.
-fn cursor_text(alloc: Global, cursor: &Option<LineKey>) -> Result<String, AllocError> {
+fn cursor_text(alloc: Global, cursor: &Option<ScanKey>) -> Result<String, AllocError> {
     match cursor {
         None => String::from_str(alloc, "."),
-        Some(LineKey { topic, index }) => {
+        Some(ScanKey { topic, index }) => {
             let digits = hex_text(alloc, topic.as_bytes())?;
             format!(in alloc; "{digits}@{index}")
         }

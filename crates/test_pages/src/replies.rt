@@ -2,8 +2,9 @@
 
 use kr_defs::{Ids, Rows, Text};
 use kr_pages::{
-    Described, DescribedPart, DescribedParts, DescribedTopic, DescribedTopics, LineKey, encode,
+    Described, DescribedPart, DescribedParts, DescribedTopic, DescribedTopics, encode,
 };
+use kr_view::ScanKey;
 use std::alloc::Global;
 use testlib_words::{Fields, RowFault, hex_text};
 
@@ -27,7 +28,7 @@ fn read_text(alloc: Global, word: &str) -> Result<Text, RowFault> {
 }
 
 // The name and the index, `.` for none.
-fn read_next(alloc: Global, fields: &mut Fields) -> Result<Option<LineKey>, RowFault> {
+fn read_next(alloc: Global, fields: &mut Fields) -> Result<Option<ScanKey>, RowFault> {
     let word = fields.word()?;
     if word == "." {
         return Ok(None);
@@ -35,7 +36,7 @@ fn read_next(alloc: Global, fields: &mut Fields) -> Result<Option<LineKey>, RowF
     let Some((topic, index)) = word.split_once('@') else {
         return Err(RowFault::Fields);
     };
-    Ok(Some(LineKey {
+    Ok(Some(ScanKey {
         topic: read_text(alloc, topic)?,
         index: testlib_words::number_of(index)?,
     }))

@@ -1,0 +1,39 @@
+//! The names of a request, each once and in order.
+
+ghost use Rattle.std.specs.Prelude.{◌≡◌, IfOk};
+ghost use Rattle.std.specs.Map.{keys_of};
+ghost use Rattle.kr_pages.specs.Lines.{in_order};
+ghost use Rattle.kr_pages.specs.ShownLines as shown;
+
+use kr_base::NoMemory;
+use kr_defs::{Copied, Text, Texts};
+use kr_view::ScanKey;
+use std::alloc::Global;
+use std::cmp::Ordering;
+use std::collections::BTreeMap;
+
+/// Names in order, each once.
+pub(crate) type Names = BTreeMap<Text, ()>;
+
+#[tactic(auto, using(crate::proofs::NamesInOrder::keys_with))]
+pub(crate) fn in_order(alloc: Global, names: &Texts) -> Result<Names, NoMemory>
+    ensures { IfOk result (λ sorted. keys_of sorted.entries ≡ in_order names.now) }
+{
+    let mut sorted = BTreeMap::new(alloc);
+    let names = names.as_slice();
+    for name in names {
+        sorted.insert(name.copied(alloc)?, ())?;
+    }
+    Ok(sorted)
+}
+
+/// The index from which on the lines of a name aren't before the cursor; none where all of them are.
+pub(crate) fn first_index(name: &Text, cursor: &ScanKey) -> Option<i32>
+    ensures { result ≡ shown.first_index name.now cursor.now }
+{
+    match name.cmp(&cursor.topic) {
+        Ordering::Less => None,
+        Ordering::Equal => Some(cursor.index),
+        Ordering::Greater => Some(-1),
+    }
+}
