@@ -83,8 +83,8 @@ fault_is P (Err e) fault told holds = subst P (sym told) holds
 
 module _ {A : Type 0} (reading : A → Reading) (with_reading : A → Reading → A) where
   pub calls_on : (a b c : A) → Calls reading with_reading a b → Calls reading with_reading b c → Calls reading with_reading a c
-  calls_on a b .b first (none .b) = first
-  calls_on a b c first (one_more .b mid .c then last) = one_more a mid c (calls_on a b mid first then) last
+  calls_on a b _ first (none _) = first
+  calls_on a b c first (one_more _ mid _ then last) = one_more a mid c (calls_on a b mid first then) last
 
   pub one_call : (a b : A) → b ≡ with_reading a (reading b) → Calls reading with_reading a b
   one_call a b same = one_more a a b (none a) same
@@ -112,6 +112,7 @@ module _ {A : Type 0} (reading : A → Reading) (with_reading : A → Reading �
     -- what follows a call is as steady
     pub steady_on : {T : Type 0} (a b : A) (x : T) → IsSteady s (reading a) → Goes reading with_reading s a b (Ok x) → IsSteady s (reading b)
     steady_on a b x steady g = record {
+      fits = steady.fits;
       kept = g.ends.kept;
       loads = steady.loads ∙ sym g.ends.loads;
       few = steady.few;
@@ -127,7 +128,7 @@ module _ {A : Type 0} (reading : A → Reading) (with_reading : A → Reading �
 
     ends_on : (a b c : A) (fault : PageFault) → StillKept s.place (list a) (list b) → IsUnsteady s.place (list b) (list c) fault → IsUnsteady s.place (list a) (list c) fault
     ends_on a b c (faults.Scan fault) first ends = ends
-    ends_on a b c (faults.Loaded before later) first ends = (ends.0, (ends.1.0 ∙ first.loads, (ends.1.1.0, other_on (loads_of (list a)) (loads_of (list b)) (loads_of (list c)) first.loads ends.1.1.1)))
+    ends_on a b c (faults.Loaded before later) first ends = (ends.0, ends.1 ∙ first.loads, ends.2, other_on (loads_of (list a)) (loads_of (list b)) (loads_of (list c)) first.loads ends.3)
     ends_on a b c faults.NoMemory first ends = kept_on a b c first ends
 
     -- one after the other
@@ -170,6 +171,10 @@ module _ {A : Type 0} (reading : A → Reading) (with_reading : A → Reading �
         ends = still_kept stay s.place (list a) (list b) steady.kept onward.list kept (few.0 ∙ steady.loads) few.1;
       }
 
+      -- and it is of the same image
+      pub call_image : IsTrue (is_kept_in (list b) s.place) → (later ≡ s.loads) × (later < 2 ^ 64 - 1) → image_at s (reading b) ≡ image_at s (reading a)
+      call_image kept few = (still_kept stay s.place (list a) (list b) steady.kept onward.list kept (few.0 ∙ steady.loads) few.1).image
+
       -- that gave none
       pub call_fails : {T : Type 0} (fault : ScanFault) (result : Result T PageFault) → IsNotThere (pinned_log (list b)) s.place fault → IsErrAnd result (λ e. e ≡ faults.Scan fault) → Goes reading with_reading s a b result
       call_fails fault (Ok x) there told = absurd told
@@ -181,5 +186,5 @@ module _ {A : Type 0} (reading : A → Reading) (with_reading : A → Reading �
       call_loaded fault (Err e) kept is told = record {
         calls = one_call a b same;
         onward = onward;
-        ends = subst (IsUnsteady s.place (list a) (list b)) (sym (told ∙ is.0)) (kept, (steady.loads, (refl, other_on (loads_of (list a)) s.loads later steady.loads is.1)));
+        ends = subst (IsUnsteady s.place (list a) (list b)) (sym (told ∙ is.0)) (kept, steady.loads, refl, other_on (loads_of (list a)) s.loads later steady.loads is.1);
       }

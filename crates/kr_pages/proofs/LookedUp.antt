@@ -101,7 +101,7 @@ module _ (image : Image) where
       ap (λ b. is_lt (cond b Less (cond (int_lt n LAST_INDEX) Greater Equal))) within
       ∙ elim (int_lt n LAST_INDEX) as (λ b. is_lt (cond b Greater Equal) ≡ false) [ true ↦ refl | false ↦ refl ]
 
-  is_behind : Entry → Bool
+  abbrev is_behind : Entry → Bool
   is_behind e = is_lt (int_cmp LAST_INDEX e.0.1)
 
   none_left : (id : ℕ) (es : List Entry) → AllByRecursion (λ (e : Entry). IsTrue (is_index e.0.1)) es → filter is_behind (of_topic id es) ≡ []

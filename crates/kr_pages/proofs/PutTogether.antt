@@ -71,12 +71,12 @@ module _ (image : Image) where
 
   -- ---- the first of them
 
-  first_of_more : {X : Type 0} (n : ℕ) (xs : List X) → take n (take (n + 1) xs) ≡ take n xs
+  first_of_more : {X : Type 0} (n : ℕ) (xs : List X) → take n (take (suc n) xs) ≡ take n xs
   first_of_more zero xs = refl
   first_of_more (suc n) [] = refl
   first_of_more (suc n) (x ∷ xs) = ap (λ ys. x ∷ ys) (first_of_more n xs)
 
-  next_of_more : {X : Type 0} (n : ℕ) (xs : List X) → slice_get (take (n + 1) xs) n ≡ slice_get xs n
+  next_of_more : {X : Type 0} (n : ℕ) (xs : List X) → slice_get (take (suc n) xs) n ≡ slice_get xs n
   next_of_more zero [] = refl
   next_of_more zero (x ∷ xs) = refl
   next_of_more (suc n) [] = refl
@@ -97,12 +97,14 @@ module _ (image : Image) where
   page_of_entries d entries described taken is =
       let limit = limit_of d.limit in
       let ls = lines_from (lines image d.names) d.cursor in
+      let more : limit + 1 ≡ suc limit = omega arith in
+      let some : entries ≡ take (suc limit) (entries_of image ls) = taken ∙ ap (λ n. take n (entries_of image ls)) more in
       let topics : fold with_entry [] (take limit entries) ≡ topic_entries image (take limit ls) =
-      ap (λ (es : List DescribedTopic). fold with_entry [] (take limit es)) taken
+      ap (λ (es : List DescribedTopic). fold with_entry [] (take limit es)) some
       ∙ ap (fold with_entry []) (first_of_more limit (entries_of image ls) ∙ taken_entries limit ls)
       ∙ sym (same_fold [] (take limit ls)) in
       let next : option_map key_of_entry (slice_get entries limit) ≡ option_map (λ (l : Line). l.key) (slice_get ls limit) =
-      ap (λ (es : List DescribedTopic). option_map key_of_entry (slice_get es limit)) taken
+      ap (λ (es : List DescribedTopic). option_map key_of_entry (slice_get es limit)) some
       ∙ ap (option_map key_of_entry) (next_of_more limit (entries_of image ls))
       ∙ next_key limit ls (some_keyed (is_from d.cursor) (lines image d.names) (lines_keyed d.names)) in
       is ∙ (λ i. record { topics = topics i; next = next i })

@@ -59,15 +59,15 @@ module _ (ps : List Entry) (ordered : IsMap partition_order ps) (id : ℕ) (last
 module _ (image : Image) (valid : IsValid image) (name : List ℕ) (id : ℕ) (last : ℤ) where
   found_entry : (index : ℤ) (state : Partition) (o : Option Entry) → Some (index, state) ≡ option_map indexed o → (e : Entry) × (o ≡ Some e) × (indexed e ≡ (index, state))
   found_entry index state None is = absurd cc
-  found_entry index state (Some e) is = (e, (refl, sym (some_is (index, state) (indexed e) is)))
+  found_entry index state (Some e) is = (e, refl, sym (some_is (index, state) (indexed e) is))
 
   pub part_left : (index : ℤ) (state : Partition) → Some (index, state) ≡ option_map indexed (slice_get (rest_of_topic (id, last) image.partitions) 0)
       → part_entries image name id last ≡ part_entry name id (part_of image index state) ∷ part_entries image name id index
   part_left index state is =
       let f = found_entry index state (slice_get (rest_of_topic (id, last) image.partitions) 0) is in
       let row : Entry → DescribedTopic = λ e. entry_of_topic image (line_of_partition (walked name e)) in
-      ap (map row) (rest_next image.partitions valid.partitions.ordered id last f.0 f.1.0)
-      ∙ ap (λ (x : ℤ × Partition). part_entry name id (part_of image x.0 x.1) ∷ part_entries image name id x.0) f.1.1
+      ap (map row) (rest_next image.partitions valid.partitions.ordered id last f.0 f.1)
+      ∙ ap (λ (x : ℤ × Partition). part_entry name id (part_of image x.0 x.1) ∷ part_entries image name id x.0) f.2
 
   no_entry : (o : Option Entry) → None ≡ option_map indexed o → o ≡ None
   no_entry None is = refl
@@ -126,7 +126,7 @@ module _ (image : Image) (valid : IsValid image) (name : List ℕ) (index : ℤ)
   all_rows [] = refl
   all_rows (e ∷ es) = ap (λ xs. row e ∷ xs) (all_rows es)
 
-  or_bare : ℕ → List DescribedTopic → List DescribedTopic
+  abbrev pub or_bare : ℕ → List DescribedTopic → List DescribedTopic
   or_bare id [] = bare_entry name (Some id) ∷ []
   or_bare id (x ∷ xs) = x ∷ xs
 
@@ -172,7 +172,7 @@ module _ (image : Image) (valid : IsValid image) (name : List ℕ) (index : ℤ)
     bare_fails : (id : Option ℕ) → passes (bare_line name id) ≡ false
     bare_fails id = own_line (bare_line name id) refl ∙ ap not (above_bare index high)
 
-    is_behind : Entry → Bool
+    abbrev is_behind : Entry → Bool
     is_behind e = is_lt (int_cmp (index -ℤ pos 1) e.0.1)
 
     row_behind : (e : Entry) → passes (line e) ≡ is_behind e

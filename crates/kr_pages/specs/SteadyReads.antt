@@ -1,5 +1,6 @@
 -- Calls of a reader for one page: all of them see the image at one place, while no image comes in place of all. This project's own.
-use Rattle.std.specs.Prelude.{◌≡◌, ◌⊎◌, ℕ, ℤ, ◌<◌, ◌^◌, ◌-◌, IsTrue, List, MatchResult}
+use Rattle.std.specs.Prelude.{◌≡◌, ◌⊎◌, ℕ, ℤ, ◌<◌, ◌^◌, ◌-◌, FitsSigned, IsTrue, List, MatchResult}
+use Rattle.std.specs.Int.{w64}
 use Rattle.core.specs.declared.result.Result.{Result}
 use Rattle.kr_calls.specs.declared.events.Entry.{Entry}
 use Rattle.kr_calls.specs.SeatList.{image_below, is_kept_in, loads_of, pinned_log}
@@ -41,6 +42,7 @@ image_at s r = image_below s.place r.seen.list
 
 -- the place is kept in the list, whose images in place of all can be told by their number
 pub record IsSteady (s : Steady) (r : Reading) : Type 0 where
+  pub fits : FitsSigned w64 s.place
   pub kept : IsTrue (is_kept_in r.seen.list s.place)
   pub loads : s.loads ≡ loads_of r.seen.list
   pub few : s.loads < 2 ^ 64 - 1
