@@ -188,3 +188,5 @@ module _ {A : Type 0} (reading : A → Reading) (with_reading : A → Reading �
         onward = onward;
         ends = subst (IsUnsteady s.place (list a) (list b)) (sym (told ∙ is.0)) (kept, steady.loads, refl, other_on (loads_of (list a)) s.loads later steady.loads is.1);
       }
+
+pub ruleset goings = (no_memory, then_no_memory, fails, goes_as)

@@ -1,6 +1,6 @@
 -- What single records tell of an image.
-use Rattle.std.proofs.Common.{◌≡◌, ◌∙◌, ℕ, ℤ, Bool, true, false, cond, List, [], ◌∷◌, ◌++◌, filter, map, take, refl, sym, ap}
-use Rattle.std.specs.Prelude.{◌&&◌, ◌==◌, IsTrue, flat_map, not, int_lt, pos, negsuc, Option, Some, None, slice_get}
+use Rattle.std.proofs.Common.{◌≡◌, ◌∙◌, ℕ, ℤ, Bool, true, false, cond, List, [], ◌∷◌, ◌++◌, filter, length, length-append, map, take, refl, sym, ap, arith, ◌<◌, ◌≤◌}
+use Rattle.std.specs.Prelude.{◌&&◌, ◌==◌, ◌↔◌, IsSome, option_to_list, IsTrue, flat_map, not, int_lt, pos, negsuc, Option, Some, None, slice_get}
 use Rattle.std.specs.declared.cmp.Ordering.{Ordering}
 use Rattle.std.specs.declared.cmp.Ordering.TheVariants.{Less, Equal, Greater}
 use Rattle.std.specs.List.{AllByRecursion}
@@ -35,6 +35,15 @@ Entry = (ℕ × ℤ) × Partition
 first_taken : {X : Type 0} (xs : List X) → slice_get (take 1 xs) 0 ≡ slice_get xs 0
 first_taken [] = refl
 first_taken (x ∷ xs) = refl
+
+-- at most one is taken out from the end
+pub popped : {X : Type 0} (page new : List X) (o : Option X) (n : ℕ) → page ≡ new ++ option_to_list o → (IsSome o ↔ (0 < n)) → n ≡ length page → length page ≤ 1 → o ≡ slice_get page 0
+popped [] new None n is some long few = refl
+popped [] new (Some y) n is some long few = absurd (let up = some.0 tt in omega (arith, up, long))
+popped (x ∷ []) new None n is some long few = absurd (some.1 (omega (arith, long)))
+popped (x ∷ []) [] (Some y) n is some long few = ap (λ (rs : List _). slice_get rs 0) (sym is)
+popped (x ∷ []) (z ∷ zs) (Some y) n is some long few = absurd (let all = ap (λ (rs : List _). length rs) is in let both = length-append zs (y ∷ []) in omega (arith, all, both))
+popped (x ∷ x' ∷ xs) new o n is some long few = absurd (omega (arith, few))
 
 -- the record behind a key is the first of those that stand behind it
 next_is : (image : Image) (key : RecordKey) → IsValid image → slice_get (record_page image (Some key) 1) 0 ≡ slice_get (behind_key image key) 0

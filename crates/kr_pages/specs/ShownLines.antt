@@ -1,11 +1,11 @@
 -- Lines of a description, each as an entry of its topic that shows it alone, and how such entries are put together. This project's own.
-use Rattle.std.specs.Prelude.{ℕ, ℤ, pos, negsuc, int_lt, ◌-ℤ◌, List, [], ◌∷◌, ◌++◌, filter, flat_map, fold, map, slice_get, take, Option, Some, None, if◌then◌else◌}
+use Rattle.std.specs.Prelude.{ℕ, ℤ, Bool, false, pos, negsuc, int_lt, ◌-ℤ◌, List, [], ◌∷◌, ◌++◌, filter, flat_map, fold, map, slice_get, take, Option, Some, None, if◌then◌else◌}
 use Rattle.std.specs.declared.cmp.Ordering.{Ordering}
 use Rattle.std.specs.declared.cmp.Ordering.TheVariants.{Less, Equal, Greater}
 use Rattle.std.specs.Option.{option_map, option_map_or, unwrap_or}
 use Rattle.kr_defs.specs.declared.partition.Partition.{Partition}
 use Rattle.kr_defs.specs.Image.{Image}
-use Rattle.kr_defs.specs.Map.{above, text_order}
+use Rattle.kr_defs.specs.Map.{above, get, text_order}
 use Rattle.kr_defs.specs.Walk.{rest_of_topic, walked}
 use Rattle.kr_calls.specs.declared.errors.TheConstants.{UNKNOWN_TOPIC_OR_PARTITION}
 use Rattle.kr_calls.specs.Metadata.{leader_error}
@@ -78,13 +78,26 @@ first_index name cursor = index_after (text_order name cursor.topic) cursor.inde
 abbrev pub topics_entries : Image → List ℕ → List DescribedTopic
 topics_entries image name = flat_map (λ (e : List ℕ × ℕ). entries_of image (name_lines image e.0)) (above text_order image.topics (Some name))
 
+-- the cursor, or the one before all lines
+abbrev pub cursor_or_first : Option ScanKey → ScanKey
+cursor_or_first None = record { topic = []; index = negsuc 0 }
+cursor_or_first (Some cursor) = cursor
+
+-- the lines of the cursor's own topic, where there is one
+abbrev pub own_entries : Image → ScanKey → List DescribedTopic
+own_entries image cursor = option_map_or (λ (id : ℕ). name_entries image cursor.topic cursor.index) (get text_order image.topics cursor.topic) []
+
 -- ---- put together
+
+abbrev pub is_of_topic : Option (List ℕ) → DescribedTopic → Bool
+is_of_topic None last = false
+is_of_topic (Some name) last = has_name name last
 
 -- an entry of the same topic as the last one joins it
 abbrev pub with_entry : List DescribedTopic → DescribedTopic → List DescribedTopic
 with_entry [] entry = entry ∷ []
 with_entry (last ∷ []) entry =
-    if has_name (unwrap_or entry.name []) last then record last { parts = last.parts ++ entry.parts } ∷ [] else last ∷ entry ∷ []
+    if is_of_topic entry.name last then record last { parts = last.parts ++ entry.parts } ∷ [] else last ∷ entry ∷ []
 with_entry (first ∷ second ∷ rest) entry = first ∷ with_entry (second ∷ rest) entry
 
 -- where an entry of one line stands

@@ -1,6 +1,6 @@
 //! Lines of a page, each as an entry of its topic that shows it alone.
 
-ghost use Rattle.std.specs.Prelude.{◌≡◌, ◌≤◌, ◌++◌, Some, IfOk, OnOk, length, nat_le, take};
+ghost use Rattle.std.specs.Prelude.{◌≡◌, ◌≤◌, ◌&&◌, [], ◌∷◌, ◌++◌, false, true, pos, int_lt, Some, IfOk, OnOk, length, nat_eq, nat_le, take};
 ghost use Rattle.kr_calls.specs.Metadata as metadata;
 ghost use Rattle.kr_defs.specs.Map.{get, text_order};
 ghost use Rattle.kr_pages.specs.Pages.{part_of};
@@ -92,6 +92,7 @@ fn is_full(entries: &DescribedTopics, most: usize) -> bool
 }
 
 // The line of a partition.
+#[tactic(auto, using(crate::proofs::Going::goings))]
 fn partition_line<R: RecordReader>(
     alloc: Global,
     steady: &Steady,
@@ -109,6 +110,7 @@ fn partition_line<R: RecordReader>(
 }
 
 // The partitions of a topic behind an index.
+#[tactic(auto, using(crate::proofs::SoFar::ends))]
 fn add_parts<R: RecordReader>(
     alloc: Global,
     steady: &Steady,
@@ -128,17 +130,15 @@ fn add_parts<R: RecordReader>(
         (image_at steady.now (R.reading reader.old)) name.now id.now after)) }
 {
     let mut last = after;
-    loop {
+    while let Some((index, state)) = next_partition(alloc, steady, reader, name, id, last)? {
         if is_full(entries, most) {
             return Ok(());
         }
-        let Some((index, state)) = next_partition(alloc, steady, reader, name, id, last)? else {
-            return Ok(());
-        };
         let part = partition_line(alloc, steady, reader, index, state)?;
         entries.push(part_entry(alloc, name, id, part)?)?;
         last = index;
     }
+    Ok(())
 }
 
 fn index_before(index: i32) -> i32
@@ -147,7 +147,70 @@ fn index_before(index: i32) -> i32
     if index < 0 { -1 } else { index - 1 }
 }
 
+// No line was added, and the one without a partition isn't before the index.
+fn is_alone(index: i32, before: usize, entries: &DescribedTopics) -> bool
+    ensures { result ≡ (int_lt index (pos 0) && nat_eq (length entries.now) before) }
+{
+    index < 0 && entries.len() == before
+}
+
+// The line without a partition, where it is called for.
+fn add_bare(
+    alloc: Global,
+    name: &Text,
+    id: Option<u128>,
+    called_for: bool,
+    entries: &mut DescribedTopics,
+) -> Result<(), NoMemory>
+    ensures added { OnOk result (called_for ≡ true → entries.new
+        ≡ entries.old ++ shown.bare_entry name.now id ∷ []) }
+    ensures none { OnOk result (called_for ≡ false → entries.new ≡ entries.old) }
+{
+    if called_for {
+        entries.push(bare_entry(alloc, name, id)?)?;
+    }
+    Ok(())
+}
+
+// The lines of a topic from an index on.
+#[tactic(auto, using(crate::proofs::SoFar::ends))]
+fn add_known<R: RecordReader>(
+    alloc: Global,
+    steady: &Steady,
+    reader: &mut R,
+    name: &Text,
+    id: &u128,
+    index: i32,
+    most: usize,
+    entries: &mut DescribedTopics,
+) -> Result<(), PageFault>
+    requires steady { IsSteady steady.now (R.reading reader.old) }
+    requires named { get text_order (image_at steady.now (R.reading reader.old)).topics name.now
+        ≡ Some id.now }
+    requires few { length entries.old ≤ most }
+    requires free { nat_le most (length entries.old) ≡ false }
+    ensures went { Goes R.reading R.with_reading steady.now reader.old reader.new result }
+    ensures entries { OnOk result (entries.new ≡ take most (entries.old ++ shown.name_entries
+        (image_at steady.now (R.reading reader.old)) name.now index)) }
+{
+    let before = entries.len();
+    add_parts(
+        alloc,
+        steady,
+        reader,
+        name,
+        id,
+        index_before(index),
+        most,
+        entries,
+    )?;
+    let alone = is_alone(index, before, entries);
+    add_bare(alloc, name, Some(*id), alone, entries)?;
+    Ok(())
+}
+
 /// The lines of a name from an index on.
+#[tactic(auto, using(crate::proofs::SoFar::ends))]
 pub(crate) fn add_name<R: RecordReader>(
     alloc: Global,
     steady: &Steady,
@@ -166,27 +229,16 @@ pub(crate) fn add_name<R: RecordReader>(
     if is_full(entries, most) {
         return Ok(());
     }
-    let before = entries.len();
-    let id = topic_id(alloc, steady, reader, name)?;
-    if let Some(id) = &id {
-        add_parts(
-            alloc,
-            steady,
-            reader,
-            name,
-            id,
-            index_before(index),
-            most,
-            entries,
-        )?;
-    }
-    if index < 0 && entries.len() == before {
-        entries.push(bare_entry(alloc, name, id)?)?;
-    }
+    let Some(id) = topic_id(alloc, steady, reader, name)? else {
+        add_bare(alloc, name, None, index < 0, entries)?;
+        return Ok(());
+    };
+    add_known(alloc, steady, reader, name, &id, index, most, entries)?;
     Ok(())
 }
 
 /// The lines of the topics behind a name.
+#[tactic(auto, using(crate::proofs::SoFar::ends))]
 pub(crate) fn add_topics<R: RecordReader>(
     alloc: Global,
     steady: &Steady,
@@ -202,14 +254,12 @@ pub(crate) fn add_topics<R: RecordReader>(
         (image_at steady.now (R.reading reader.old)) after.now)) }
 {
     let mut last = after.copied(alloc)?;
-    loop {
+    while let Some(name) = next_name(alloc, steady, reader, &last)? {
         if is_full(entries, most) {
             return Ok(());
         }
-        let Some(name) = next_name(alloc, steady, reader, &last)? else {
-            return Ok(());
-        };
         add_name(alloc, steady, reader, &name, -1, most, entries)?;
         last = name;
     }
+    Ok(())
 }

@@ -1,6 +1,6 @@
 //! What a page asks of the image, one record at a time.
 
-ghost use Rattle.std.specs.Prelude.{◌≡◌, ℕ, ℤ, List, IfOk, Some, filter, slice_get};
+ghost use Rattle.std.specs.Prelude.{◌≡◌, ℕ, ℤ, [], ◌∷◌, ◌++◌, List, IfOk, OnOk, Some, filter, slice_get};
 ghost use Rattle.std.specs.Option.{option_map};
 ghost use Rattle.kr_calls.specs.Metadata.{is_offline};
 ghost use Rattle.kr_defs.specs.declared.partition.Partition.{Partition as AnyPartition};
@@ -16,6 +16,7 @@ use kr_view::{RecordKey, RecordReader};
 use std::alloc::Global;
 
 /// The id of the topic of a name.
+#[tactic(auto, using(crate::proofs::Going::goings, crate::proofs::LookedUp::topic_found))]
 pub(crate) fn topic_id<R: RecordReader>(
     alloc: Global,
     steady: &Steady,
@@ -35,6 +36,7 @@ pub(crate) fn topic_id<R: RecordReader>(
 }
 
 /// The name of the topic behind a name.
+#[tactic(auto, using(crate::proofs::Going::goings, crate::proofs::LookedUp::topic_next))]
 pub(crate) fn next_name<R: RecordReader>(
     alloc: Global,
     steady: &Steady,
@@ -55,6 +57,7 @@ pub(crate) fn next_name<R: RecordReader>(
 }
 
 /// The partition of a topic behind an index, with its own.
+#[tactic(auto, using(crate::proofs::Going::goings, crate::proofs::LookedUp::partition_next))]
 pub(crate) fn next_partition<R: RecordReader>(
     alloc: Global,
     steady: &Steady,
@@ -79,6 +82,7 @@ pub(crate) fn next_partition<R: RecordReader>(
     Ok(partition_in(alloc, &found)?)
 }
 
+#[tactic(auto, using(crate::proofs::Going::goings, crate::proofs::LookedUp::broker_found))]
 fn is_broker_offline<R: RecordReader>(
     steady: &Steady,
     reader: &mut R,
@@ -94,7 +98,27 @@ fn is_broker_offline<R: RecordReader>(
     Ok(is_offline_in(&found))
 }
 
+// The broker, where it is fenced or not registered.
+#[tactic(auto, using(crate::proofs::Going::goings))]
+fn add_offline<R: RecordReader>(
+    steady: &Steady,
+    reader: &mut R,
+    id: i32,
+    offline: &mut Ids,
+) -> Result<(), PageFault>
+    requires { IsSteady steady.now (R.reading reader.old) }
+    ensures went { Goes R.reading R.with_reading steady.now reader.old reader.new result }
+    ensures offline { OnOk result (offline.new ≡ offline.old ++ filter
+        (is_offline (image_at steady.now (R.reading reader.old))) (id ∷ [])) }
+{
+    if is_broker_offline(steady, reader, id)? {
+        offline.push(id)?;
+    }
+    Ok(())
+}
+
 /// The replicas whose brokers are fenced or not registered.
+#[tactic(auto, using(crate::proofs::SoFar::ends))]
 pub(crate) fn offline_among<R: RecordReader>(
     alloc: Global,
     steady: &Steady,
@@ -108,9 +132,7 @@ pub(crate) fn offline_among<R: RecordReader>(
 {
     let mut offline = Ids::new(alloc);
     for &id in replicas {
-        if is_broker_offline(steady, reader, id)? {
-            offline.push(id)?;
-        }
+        add_offline(steady, reader, id, &mut offline)?;
     }
     Ok(offline)
 }

@@ -1,8 +1,8 @@
 //! The names of a request, each once and in order.
 
-ghost use Rattle.std.specs.Prelude.{◌≡◌, IfOk};
+ghost use Rattle.std.specs.Prelude.{◌≡◌, IfOk, OnOk};
 ghost use Rattle.std.specs.Map.{keys_of};
-ghost use Rattle.kr_pages.specs.Lines.{in_order};
+ghost use Rattle.kr_pages.specs.Lines.{in_order, with_name};
 ghost use Rattle.kr_pages.specs.ShownLines as shown;
 
 use kr_base::NoMemory;
@@ -15,14 +15,22 @@ use std::collections::BTreeMap;
 /// Names in order, each once.
 pub(crate) type Names = BTreeMap<Text, ()>;
 
-#[tactic(auto, using(crate::proofs::NamesInOrder::keys_with))]
+// One name more.
+fn add_sorted(alloc: Global, name: &Text, sorted: &mut Names) -> Result<(), NoMemory>
+    ensures { OnOk result (keys_of sorted.new.entries ≡ with_name (keys_of sorted.old.entries)
+        name.now) }
+{
+    sorted.insert(name.copied(alloc)?, ())?;
+    Ok(())
+}
+
 pub(crate) fn in_order(alloc: Global, names: &Texts) -> Result<Names, NoMemory>
     ensures { IfOk result (λ sorted. keys_of sorted.entries ≡ in_order names.now) }
 {
     let mut sorted = BTreeMap::new(alloc);
     let names = names.as_slice();
     for name in names {
-        sorted.insert(name.copied(alloc)?, ())?;
+        add_sorted(alloc, name, &mut sorted)?;
     }
     Ok(sorted)
 }

@@ -114,7 +114,7 @@ impl Steady {
         kept_places_stay();
         let page = reader.records(self.place, Some(after), 1)?;
         self.stays(reader.loads())?;
-        Ok(page.into_vec().into_iter().next())
+        Ok(page.into_vec().pop())
     }
 
     /// The record of a key, of the image that the first call found.
