@@ -1,0 +1,5 @@
+pub mod Lines
+pub mod Pages
+pub mod RecordFields
+pub mod ShownLines
+pub mod SteadyReads
