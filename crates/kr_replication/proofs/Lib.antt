@@ -5,4 +5,6 @@ pub mod EntryTests
 pub mod Indexes
 pub mod KeptIndexes
 pub mod KeyLists
+pub mod ListedWalks
 pub mod NamedChanges
+pub mod Supersets

@@ -2,6 +2,7 @@
 //! broker out, and an index of the partitions that brokers have replicas of.
 #![tactic(auto)]
 
+mod broker_walks;
 mod brokers;
 mod electing;
 mod fencing;
@@ -14,6 +15,7 @@ mod settings;
 mod taking_out;
 mod topics;
 
+pub use broker_walks::add_changes_of_broker;
 pub use brokers::{ActiveOnes, BrokerTest, active, brokers_where, is_active};
 pub use electing::{build_with, build_without, is_accepted};
 pub use fencing::fencing_records;
