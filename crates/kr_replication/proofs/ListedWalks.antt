@@ -12,6 +12,7 @@ use Rattle.std.specs.List.Sorted.{IsStrictlySortedBy}
 use Rattle.std.specs.Map.{keys_of, values_of}
 use Rattle.std.specs.Option.{option_map, option_map_or}
 use Rattle.std.proofs.lemmas.Cmp.{int_ranked, nat_cmp_total, ranked, tied_itself}
+use Rattle.std.proofs.lemmas.List.{append-nil}
 use Rattle.std.proofs.lemmas.List.Elements.{filter_map-append, recursion_from_All}
 use Rattle.std.proofs.lemmas.Map.Lookups.{exact_bytes}
 use Rattle.kr_defs.specs.declared.limits.TheConstants.{LAST_INDEX}
@@ -19,17 +20,20 @@ use Rattle.kr_defs.specs.declared.partition.Partition.{Partition}
 use Rattle.kr_defs.specs.declared.partition.PartitionChange.{PartitionChange}
 use Rattle.kr_defs.specs.declared.record.Record.{Record}
 use Rattle.kr_defs.specs.declared.record.Record.TheVariants as kinds
-use Rattle.kr_defs.specs.Ids.{has}
+use Rattle.kr_defs.specs.Ids.{has, is_distinct, is_within}
 use Rattle.kr_defs.specs.Image.{Image, IsValid, are_distinct, is_index, topic_name}
 use Rattle.kr_defs.specs.Map.{IsMap, get, insert, partition_order, text_order}
 use Rattle.kr_defs.specs.Partition.{is_natural, is_well_formed}
 use Rattle.kr_defs.specs.Walk.{Walked, change_of, changes_of, of_topic, walk, walk_topic, walked}
+use Rattle.kr_calls.specs.TakingOut.{taking_out}
+use Rattle.kr_defs.proofs.Changes.{formed_parts}
+use Rattle.kr_defs.proofs.IdLists.{all_at}
 use Rattle.kr_defs.proofs.ImageParts.{partition_total, text_total}
 use Rattle.kr_defs.proofs.Maps.{IsMap-insert, then_equal}
 use Rattle.kr_defs.proofs.Tests.{both, neither, not_equal, not_true, or_right, some_is}
 use Rattle.kr_defs.proofs.TopicWalks.{equal_ids, same_topic}
 use Rattle.kr_defs.proofs.Walks.{own_entries}
-use Rattle.kr_replicas.specs.BrokerPartitions.{AreAtLeast, is_among}
+use Rattle.kr_replicas.specs.BrokerPartitions.{AreAtLeast, Lists, is_among}
 use Rattle.kr_replication.specs.BrokerWalks.{Concerns, keys_of_topic, last_of, names_of, records_of_keys, records_of_names, with_name}
 use Rattle.kr_replication.specs.Leaving.{records_in_topic}
 use Rattle.kr_replication.proofs.Supersets.{IsCovered, superset}
@@ -342,3 +346,37 @@ module _ (change : Walked → Option PartitionChange) (image : Image) (broker : 
       walked_names names (names_all topics (λ (t : Named). get text_order topics t.0 ≡ Some t.1) (own_entries text_total topics valid.topics.ordered) keys [] tt)
       ∙ (superset text_total same_text of_name (keys_of names) (names_ordered topics keys [] tt) topics valid.topics.ordered (covered_names topics (own_names topics valid.topics.distinct))
       ∙ walked_topics topics)
+
+-- ---- of an index
+
+pub at_least : (listed : List (ℤ × List Key)) (broker : ℤ) (keys : List Key) (es : List Entry) → Lists listed es → Some keys ≡ get int_cmp listed broker → AreAtLeast keys broker es
+at_least listed broker keys es lists found =
+    subst (λ (o : Option (List Key)). All (λ (e : Entry). has e.1.replicas broker ≡ true → option_map_or (λ keys. is_among keys e.0) o false ≡ true) es) (sym found) (lists broker)
+
+none_at_least : (listed : List (ℤ × List Key)) (broker : ℤ) (es : List Entry) → Lists listed es → None ≡ get int_cmp listed broker → AreAtLeast [] broker es
+none_at_least listed broker es lists none =
+    subst (λ (o : Option (List Key)). All (λ (e : Entry). has e.1.replicas broker ≡ true → option_map_or (λ keys. is_among keys e.0) o false ≡ true) es) (sym none) (lists broker)
+
+pub nothing_changes : (change : Walked → Option PartitionChange) (image : Image) (listed : List (ℤ × List Key)) (broker : ℤ) (records : List Record) → IsValid image → Lists listed image.partitions → Concerns broker change → None ≡ get int_cmp listed broker → records ≡ records ++ changes_of change (walk image)
+unfolding IsStrictlySortedBy
+nothing_changes change image listed broker records valid lists concerns none =
+    sym (append-nil records) ∙ ap (λ rs. records ++ rs) (listed_changes change image broker [] valid tt (none_at_least listed broker image.partitions lists none) concerns)
+
+-- ---- of a broker that is taken out
+
+none_within : (ids replicas : List ℤ) (broker : ℤ) → is_within ids replicas ≡ true → has replicas broker ≡ false → has ids broker ≡ false
+none_within ids replicas broker within absent =
+    elim (has ids broker) as (λ b. has ids broker ≡ b → b ≡ false) [
+      | true ↦ λ there. let apart : false ≡ true = sym absent ∙ all_at (has replicas) ids broker within there in absurd cc
+      | false ↦ λ _. refl
+    ] refl
+
+pub taking_concerns : (minimum : ℤ) (image : Image) (broker : ℤ) (restarted : Bool) → Concerns broker (taking_out minimum image broker restarted)
+taking_concerns minimum image broker restarted w formed absent =
+    let parts = formed_parts w.partition formed in
+    let synced = none_within w.partition.in_sync w.partition.replicas broker parts.inside absent in
+    let eligible = none_within w.partition.eligible w.partition.replicas broker (both (is_distinct w.partition.eligible) (is_within w.partition.eligible w.partition.replicas) parts.stand.eligible_part).1 absent in
+    elim restarted as (λ r. taking_out minimum image broker r w ≡ None) [
+      | true ↦ rw (synced, eligible) refl
+      | false ↦ rw synced refl
+    ]
