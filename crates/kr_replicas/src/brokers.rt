@@ -89,12 +89,7 @@ impl BrokerPartitions {
     }
 
     /// Lists the key for each of these replicas. Without memory it may be listed for some of them.
-    pub fn add(
-        &mut self,
-        alloc: Global,
-        key: &(u128, i32),
-        replicas: &Ids,
-    ) -> Result<(), NoMemory>
+    pub fn add(&mut self, alloc: Global, key: &(u128, i32), replicas: &Ids) -> Result<(), NoMemory>
         ensures added { OnOk result (IsListedFor replicas.now key.now self.old self.new) }
         ensures grows { Grows self.old self.new }
     {

@@ -2,6 +2,7 @@ pub mod BrokerIds
 pub mod Changes
 pub mod Counts
 pub mod EntryTests
+pub mod ImageIndexes
 pub mod Indexes
 pub mod KeptIndexes
 pub mod KeyLists

@@ -1,7 +1,6 @@
 -- The changes of the partitions whose keys are listed for a broker are those of all, where they concern the broker alone.
 use Rattle.std.proofs.Common.{◌≡◌, ◌∙◌, ℕ, ℤ, Bool, true, false, not, ◌&&◌, ◌||◌, cond, List, [], ◌∷◌, ◌++◌, refl, sym, ap, subst, negsuc, pos}
 use Rattle.std.specs.Prelude.{◌==◌, Option, Some, None, All, IsTrue, filter, find, flat_map, fold, map, int_lt}
-use Rattle.std.specs.declared.cmp.Ordering.{Ordering}
 use Rattle.std.specs.declared.cmp.Ordering.TheVariants.{Less, Equal, Greater}
 use Rattle.std.specs.declared.ops.Bound.TheVariants.{Excluded, Included}
 use Rattle.std.specs.Ordering.{is_eq, is_lt, int_cmp, match_ordering, nat_cmp, ordering_then}
@@ -35,7 +34,6 @@ use Rattle.kr_defs.proofs.TopicWalks.{equal_ids, same_topic}
 use Rattle.kr_defs.proofs.Walks.{own_entries}
 use Rattle.kr_replicas.specs.BrokerPartitions.{AreAtLeast, Lists, is_among}
 use Rattle.kr_replication.specs.BrokerWalks.{Concerns, keys_of_topic, last_of, names_of, records_of_keys, records_of_names, with_name}
-use Rattle.kr_replication.specs.Leaving.{records_in_topic}
 use Rattle.kr_replication.proofs.Supersets.{IsCovered, superset}
 use Rattle.kr_store.specs.Images.{topic_of}
 
@@ -101,10 +99,10 @@ among_kept : (test : Key → Bool) (keys : List Key) (key : Key) → is_among ke
 among_kept test [] key h t = absurd cc
 among_kept test (k ∷ ks) key h t =
     let kept : is_among ks key ≡ true → is_among (filter test (k ∷ ks)) key ≡ true = λ h.
-        elim (test k) as (λ b. is_among (cond b (k ∷ filter test ks) (filter test ks)) key ≡ true) [
-          | true ↦ or_right (is_eq (partition_order key k)) (is_among (filter test ks) key) (among_kept test ks key h t)
-          | false ↦ among_kept test ks key h t
-        ]
+    elim (test k) as (λ b. is_among (cond b (k ∷ filter test ks) (filter test ks)) key ≡ true) [
+      | true ↦ or_right (is_eq (partition_order key k)) (is_among (filter test ks) key) (among_kept test ks key h t)
+      | false ↦ among_kept test ks key h t
+    ]
     in
     elim (partition_order key k) as (λ r. partition_order key k ≡ r → (is_eq r || is_among ks key) ≡ true → is_among (filter test (k ∷ ks)) key ≡ true) [
       | Less ↦ λ is h. kept h
@@ -281,21 +279,23 @@ module _ (change : Walked → Option PartitionChange) (image : Image) (broker : 
 
   covered : (name : List ℕ) (id : ℕ) (es : List Entry) → Least es → AllByRecursion (λ (e : Entry). IsTrue (is_index e.0.1)) es → Formed es → AllByRecursion (IsCovered partition_total same_partition (out name id) (keys_of_topic id keys)) es
   covered name id [] l i f = tt
-  covered name id (e ∷ es) l i f =
-      ((λ none. elim (e.0.0 == id) as (λ b. (e.0.0 == id) ≡ b → cond b (cons_option (change_of change (walked name e)) []) [] ≡ []) [
-        | true ↦ λ is. elim (has e.1.replicas broker) as (λ c. has e.1.replicas broker ≡ c → cons_option (change_of change (walked name e)) [] ≡ []) [
-          | true ↦ λ there. let apart : false ≡ true = sym none ∙ among_kept (is_of id) keys e.0 (l.0 there) (from_topic id e.0 is i.0) in absurd cc
-          | false ↦ λ absent. no_change e name [] f.0 absent
-        ] refl
-        | false ↦ λ is. refl
-      ] refl), covered name id es l.1 i.1 f.1)
+  covered name id (e ∷ es) l i f = (
+    (λ none. elim (e.0.0 == id) as (λ b. (e.0.0 == id) ≡ b → cond b (cons_option (change_of change (walked name e)) []) [] ≡ []) [
+      | true ↦ λ is. elim (has e.1.replicas broker) as (λ c. has e.1.replicas broker ≡ c → cons_option (change_of change (walked name e)) [] ≡ []) [
+        | true ↦ λ there. let apart : false ≡ true = sym none ∙ among_kept (is_of id) keys e.0 (l.0 there) (from_topic id e.0 is i.0) in absurd cc
+        | false ↦ λ absent. no_change e name [] f.0 absent
+      ] refl
+      | false ↦ λ is. refl
+    ] refl),
+    covered name id es l.1 i.1 f.1,
+  )
 
   topic_changes : (name : List ℕ) (id : ℕ) → records_of_keys change image name (keys_of_topic id keys) ≡ changes_of change (walk_topic ps (name, id))
   topic_changes name id =
       let ks = keys_of_topic id keys in
       looked_up name id ks (all_pass (λ k. (k.0 == id) ≡ true) (is_of id) keys (in_topic id))
       ∙ (superset partition_total same_partition (out name id) ks (sorted_kept (is_of id) keys sorted) ps valid.partitions.ordered
-        (covered name id ps least_all (recursion_from_All (λ (e : Entry). IsTrue (is_index e.0.1)) ps valid.partitions.indexes) formed_all)
+      (covered name id ps least_all (recursion_from_All (λ (e : Entry). IsTrue (is_index e.0.1)) ps valid.partitions.indexes) formed_all)
       ∙ walked_topic name id ps)
 
   -- ---- all topics

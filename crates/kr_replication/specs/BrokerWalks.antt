@@ -1,5 +1,5 @@
 -- The changes that concern a broker, of the partitions whose keys are listed for it (this project's own).
-use Rattle.std.specs.Prelude.{◌≡◌, ℕ, ℤ, Bool, true, false, List, [], ◌∷◌, Option, None, fold, filter, flat_map, negsuc}
+use Rattle.std.specs.Prelude.{◌≡◌, ℕ, ℤ, true, false, List, [], Option, None, fold, filter, flat_map, negsuc}
 use Rattle.std.specs.BTreeMap.Range.{range_contains}
 use Rattle.std.specs.Option.{option_map_or}
 use Rattle.std.specs.declared.ops.Bound.TheVariants.{Excluded, Included}

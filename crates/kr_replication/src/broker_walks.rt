@@ -42,11 +42,7 @@ fn add_name<S: Store>(
 }
 
 // The topics of the keys.
-fn names<S: Store>(
-    alloc: Global,
-    seen: &Seen<S>,
-    keys: &PartitionKeys,
-) -> Result<Names, NoMemory>
+fn names<S: Store>(alloc: Global, seen: &Seen<S>, keys: &PartitionKeys) -> Result<Names, NoMemory>
     ensures { IfOk result (λ names. names.entries ≡ names_of seen.now.topics keys.now) }
 {
     let mut names = BTreeMap::new(alloc);
@@ -99,7 +95,10 @@ fn add_listed<C: Change, S: Store>(
 {
     let first = before_all(id);
     let last = last_of(id);
-    for key in keys.as_set().range((Bound::Excluded(&first), Bound::Included(&last))) {
+    for key in keys
+        .as_set()
+        .range((Bound::Excluded(&first), Bound::Included(&last)))
+    {
         add_at(alloc, seen, rule, name, key, records)?;
     }
     Ok(())

@@ -2,6 +2,7 @@
 //! broker out, and an index of the partitions that brokers have replicas of.
 #![tactic(auto)]
 
+mod broker_index;
 mod broker_walks;
 mod brokers;
 mod electing;
@@ -15,6 +16,7 @@ mod settings;
 mod taking_out;
 mod topics;
 
+pub use broker_index::index_of;
 pub use broker_walks::{add_changes_by, add_changes_of_broker};
 pub use brokers::{ActiveOnes, BrokerTest, active, brokers_where, is_active};
 pub use electing::{build_with, build_without, is_accepted};
