@@ -1,6 +1,6 @@
 -- A log from its start, and what RemoveTopic leaves.
 use Rattle.std.proofs.Common.{◌≡◌, ◌∙◌, sym, subst, ℕ, suc, ◌+◌, ◌≤◌, ◌<◌, ℤ, pos, ◌+ℤ◌, false, List, [], ◌∷◌, length, take, refl, ap, arith}
-use Rattle.std.specs.Prelude.{Option, Result, Ok, Err, None, Some, IfSome, IsOk, All, IsTrue, not, ◌==◌, filter}
+use Rattle.std.specs.Prelude.{Result, Ok, Err, Some, IfSome, IsOk, All, IsTrue, not, ◌==◌, filter}
 use Rattle.std.proofs.lemmas.List.Elements.{filter_passes}
 use Rattle.std.specs.Option.{option_map}
 use Rattle.std.specs.Result.{result_err}

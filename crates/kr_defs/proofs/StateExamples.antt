@@ -1,15 +1,13 @@
 -- States of logs with transactions, computed.
-use Rattle.std.proofs.Common.{◌≡◌, ℕ, ℤ, List, [], ◌∷◌, refl}
-use Rattle.std.specs.Prelude.{pos, codes, Option, Some, None, Result, Ok, Err}
-use Rattle.std.specs.Option.{option_map}
+use Rattle.std.proofs.Common.{◌≡◌, List, [], ◌∷◌, refl}
+use Rattle.std.specs.Prelude.{pos, codes, Some, None, Ok, Err}
 use Rattle.kr_defs.specs.declared.record.Record.TheVariants as kinds
 use Rattle.kr_defs.specs.declared.record.Item.{Item}
 use Rattle.kr_defs.specs.declared.record.Item.TheVariants as items
-use Rattle.kr_defs.specs.declared.ill.Ill.{Ill}
 use Rattle.kr_defs.specs.declared.ill.Ill.TheVariants.{BadTransaction, NoTopic}
 use Rattle.kr_defs.specs.Apply.{apply, apply_record}
 use Rattle.kr_defs.specs.Image.{Image, empty}
-use Rattle.kr_defs.specs.Log.{Log, state_at}
+use Rattle.kr_defs.specs.Log.{Log, closed_end_at, open_at, state_at}
 use Rattle.kr_defs.specs.LogStates.{LogState, closed, apply_at, closed_end, first_ill_at}
 
 abbrev begin : Item
@@ -60,6 +58,19 @@ set_after = refl
 
 closed_end_after : closed_end (closed with_minimum) 5 ≡ 5
 closed_end_after = refl
+
+-- the same is told by the items alone
+open_told : open_at given_up 3 ≡ Some 0
+unfolding open_at
+open_told = refl
+
+closed_told : closed_end_at given_up 3 ≡ 0
+unfolding open_at
+closed_told = refl
+
+closed_told_after : closed_end_at given_up 5 ≡ 5
+unfolding open_at
+closed_told_after = refl
 
 -- ---- closed later
 

@@ -1,19 +1,18 @@
 -- States of a log: both images are valid, the open transaction stands in the log, and what a transaction leaves.
 use Rattle.std.proofs.Common.{◌≡◌, ◌∙◌, sym, subst, ℕ, suc, ◌+◌, ◌-◌, ◌≤◌, ◌<◌, ℤ, pos, List, [], ◌∷◌, ◌++◌, length, take, drop, refl, ap, arith, append_assoc}
-use Rattle.std.specs.Prelude.{Option, Result, Ok, Err, None, Some, is_some, IfSome, IsOk, cond}
+use Rattle.std.specs.Prelude.{Option, Result, Ok, Err, None, Some, is_some, unwrap_or, IfSome, IsOk, cond}
 use Rattle.std.proofs.lemmas.List.{take-append-le, take-append-drop, take_all, take-take, length-append, length-take, append-nil}
 use Rattle.std.specs.Option.{option_map, option_map_or}
 use Rattle.std.specs.Result.{result_err}
-use Rattle.kr_defs.specs.declared.record.Record.{Record}
 use Rattle.kr_defs.specs.declared.record.Record.TheVariants as kinds
 use Rattle.kr_defs.specs.declared.record.Item.{Item}
 use Rattle.kr_defs.specs.declared.record.Item.TheVariants as items
 use Rattle.kr_defs.specs.declared.ill.Ill.{Ill}
 use Rattle.kr_defs.specs.declared.ill.Ill.TheVariants.{BadTransaction}
-use Rattle.kr_defs.specs.Guard.{and_then, found, refuse◌when◌else◌}
+use Rattle.kr_defs.specs.Guard.{and_then}
 use Rattle.kr_defs.specs.Image.{Image, IsValid}
-use Rattle.kr_defs.specs.Log.{Log, StandsOpen, tip, more, apply_all, state_at}
-use Rattle.kr_defs.specs.LogStates.{Opened, LogState, closed, IsValidState, begin_at, end_open, abort_open, image_after, apply_at, apply_all_at, closed_end, ill_at_or, first_ill_at, IsBehindGoodAt}
+use Rattle.kr_defs.specs.Log.{Log, StandsOpen, tip, more, apply_all, closed_end_at, open_at, state_at}
+use Rattle.kr_defs.specs.LogStates.{Opened, LogState, closed, IsValidState, begin_at, end_open, abort_open, image_after, apply_at, apply_all_at, closed_end, ill_at_or, first_ill_at, open_behind, open_behind_all, IsBehindGoodAt}
 use Rattle.kr_defs.specs.Apply.{apply, apply_record}
 use Rattle.kr_defs.proofs.Validity.{kept}
 use Rattle.kr_defs.proofs.Tests.{Gives, gives_done, gives_found, gives_refuse, gives_then, none_is, ok_or_this, some_is}
@@ -288,6 +287,96 @@ closed_end_rises log low high before after start le end is_before is_after =
     let same : closed_end before low ≤ closed_end before low = omega arith in
     let risen : Rises (closed_end before low) (low + length rest) after = rises_all rest before low (closed_end before low) (same, open_below log low before is_before) after whole in
     subst (λ p. closed_end before low ≤ closed_end after p) at_high risen.0
+
+-- ---- closed ends, told by the items alone
+
+abbrev place_in : Option Opened → Option ℕ
+place_in opened = option_map (λ (o : Opened). o.place) opened
+
+open_one : (state : LogState) (place : ℕ) (item : Item) → Gives (λ after. place_in after.opened ≡ open_behind (place_in state.opened) place item) (apply_at state place item)
+unfolding apply_at
+open_one state place (items.Record (kinds.BeginTransaction name)) = gives_begin (λ after. place_in after.opened ≡ Some (unwrap_or (place_in state.opened) place)) state place (λ none. ap (λ (o : Option Opened). Some (unwrap_or (place_in o) place)) (sym none))
+open_one state place (items.Record kinds.EndTransaction) = gives_end (λ after. place_in after.opened ≡ None) state (λ opened some. refl)
+open_one state place (items.Record (kinds.AbortTransaction reason)) = gives_abort (λ after. place_in after.opened ≡ None) state (λ opened some. refl)
+open_one state place item = gives_image (λ after. place_in after.opened ≡ place_in state.opened) state item (λ after is. refl)
+
+pub open_all : (items : List Item) (state : LogState) (place : ℕ) → Gives (λ after. place_in after.opened ≡ open_behind_all (place_in state.opened) place items) (apply_all_at state place items)
+open_all [] state place = gives_done (λ (after : LogState). place_in after.opened ≡ place_in state.opened) state refl
+open_all (item ∷ items) state place =
+    gives_then (λ (mid : LogState). place_in mid.opened ≡ open_behind (place_in state.opened) place item) (λ (after : LogState). place_in after.opened ≡ open_behind_all (open_behind (place_in state.opened) place item) (place + 1) items)
+    (apply_at state place item) (λ mid. apply_all_at mid (place + 1) items) (open_one state place item)
+    (λ mid here after is. open_all items mid (place + 1) after is ∙ ap (λ o. open_behind_all o (place + 1) items) here)
+
+end_in : (o : Option Opened) (place : ℕ) → option_map_or (λ (opened : Opened). opened.place) o place ≡ unwrap_or (place_in o) place
+end_in None place = refl
+end_in (Some opened) place = refl
+
+pub open_told : (log : Log) (place : ℕ) (state : LogState) → state_at log place ≡ Ok state → option_map (λ (o : Opened). o.place) state.opened ≡ open_at log place
+unfolding state_at open_at
+open_told log place state is = open_all (take (place - log.offset) log.items) (closed log.image) log.offset state is
+
+pub closed_end_told : (log : Log) (place : ℕ) (state : LogState) → state_at log place ≡ Ok state → closed_end state place ≡ closed_end_at log place
+closed_end_told log place state is = end_in state.opened place ∙ ap (λ o. unwrap_or o place) (open_told log place state is)
+
+pub open_append : (first second : List Item) (opened : Option ℕ) (place : ℕ) → open_behind_all opened place (first ++ second) ≡ open_behind_all (open_behind_all opened place first) (place + length first) second
+open_append [] second opened place = let here : place + 0 ≡ place = omega arith in ap (λ p. open_behind_all opened p second) (sym here)
+open_append (item ∷ first) second opened place =
+    let further : (place + 1) + length first ≡ place + length (item ∷ first) = omega arith in
+    open_append first second (open_behind opened place item) (place + 1) ∙ ap (λ p. open_behind_all (open_behind_all (open_behind opened place item) (place + 1) first) p second) further
+
+-- an open transaction isn't above its place, and what is closed stays so
+record StaysClosed (least : ℕ) (place : ℕ) (opened : Option ℕ) : Type 0 where
+  from : least ≤ unwrap_or opened place
+  to : unwrap_or opened place ≤ place
+
+stays_one : (opened : Option ℕ) (least place : ℕ) (item : Item) → StaysClosed least place opened → StaysClosed least (place + 1) (open_behind opened place item)
+stays_one opened least place (items.Record (kinds.BeginTransaction name)) s = let from = s.from in let to = s.to in record { from = from; to = omega (arith, to) }
+stays_one opened least place (items.Record kinds.EndTransaction) s = let from = s.from in let to = s.to in record { from = omega (arith, from, to); to = omega arith }
+stays_one opened least place (items.Record (kinds.AbortTransaction reason)) s = let from = s.from in let to = s.to in record { from = omega (arith, from, to); to = omega arith }
+stays_one None least place item s = let from = s.from in record { from = omega (arith, from); to = omega arith }
+stays_one (Some at) least place item s = let from = s.from in let to = s.to in record { from = from; to = omega (arith, to) }
+
+stays_all : (items : List Item) (opened : Option ℕ) (least place : ℕ) → StaysClosed least place opened → StaysClosed least (place + length items) (open_behind_all opened place items)
+stays_all [] opened least place s = let here : place ≡ place + 0 = omega arith in subst (λ p. StaysClosed least p opened) here s
+stays_all (item ∷ items) opened least place s =
+    let further : (place + 1) + length items ≡ place + length (item ∷ items) = omega arith in
+    subst (λ p. StaysClosed least p (open_behind_all (open_behind opened place item) (place + 1) items)) further (stays_all items (open_behind opened place item) least (place + 1) (stays_one opened least place item s))
+
+begins_closed : (log : Log) (place : ℕ) → log.offset ≤ place → place ≤ tip log → StaysClosed log.offset place (open_behind_all None log.offset (take (place - log.offset) log.items))
+begins_closed log place start end =
+    let few = length-take (place - log.offset) log.items in
+    let at : log.offset + length (take (place - log.offset) log.items) ≡ place = omega (arith, few, start, end) in
+    subst (λ p. StaysClosed log.offset p (open_behind_all None log.offset (take (place - log.offset) log.items))) at
+    (stays_all (take (place - log.offset) log.items) None log.offset log.offset (record { from = omega arith; to = omega arith }))
+
+-- it isn't above the place, nor below the log's start
+pub closed_end_between : (log : Log) (place : ℕ) → log.offset ≤ place → place ≤ tip log → (log.offset ≤ closed_end_at log place) × (closed_end_at log place ≤ place)
+unfolding open_at
+closed_end_between log place start end = let s = begins_closed log place start end in (s.from, s.to)
+
+pub closed_end_stays : (log : Log) (low high : ℕ) → log.offset ≤ low → low ≤ high → high ≤ tip log → closed_end_at log low ≤ closed_end_at log high
+unfolding open_at
+closed_end_stays log low high start le end =
+    let first : List Item = take (low - log.offset) log.items in
+    let rest : List Item = drop (low - log.offset) (take (high - log.offset) log.items) in
+    let parted : first ++ rest ≡ take (high - log.offset) log.items =
+    ap (λ (front : List Item). front ++ rest) (sym (take-take (low - log.offset) (high - log.offset) log.items (omega (arith, le)))) ∙ take-append-drop (low - log.offset) (take (high - log.offset) log.items) in
+    let few = length-take (low - log.offset) log.items in
+    let many = length-take (high - log.offset) log.items in
+    let both = length-append first rest in
+    let all : length (first ++ rest) ≡ length (take (high - log.offset) log.items) = ap length parted in
+    let at_low : log.offset + length first ≡ low = omega (arith, few, start, le, end) in
+    let at_high : low + length rest ≡ high = omega (arith, few, many, both, all, start, le, end) in
+    let opened : Option ℕ = open_behind_all None log.offset first in
+    let b = begins_closed log low start (omega (arith, le, end)) in
+    let to = b.to in
+    let begun : StaysClosed (unwrap_or opened low) low opened = record { from = omega arith; to = to } in
+    let risen : StaysClosed (unwrap_or opened low) (low + length rest) (open_behind_all opened low rest) = stays_all rest opened (unwrap_or opened low) low begun in
+    let whole : open_behind_all opened low rest ≡ open_behind_all None log.offset (take (high - log.offset) log.items) =
+    ap (λ p. open_behind_all opened p rest) (sym at_low) ∙ sym (open_append first rest None log.offset) ∙ ap (λ (xs : List Item). open_behind_all None log.offset xs) parted in
+    let at_end : StaysClosed (unwrap_or opened low) high (open_behind_all opened low rest) = subst (λ p. StaysClosed (unwrap_or opened low) p (open_behind_all opened low rest)) at_high risen in
+    let least = at_end.from in
+    subst (λ (o : Option ℕ). unwrap_or opened low ≤ unwrap_or o high) whole least
 
 -- ---- a log of no transaction
 

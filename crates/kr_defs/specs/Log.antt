@@ -1,11 +1,11 @@
 -- KIP-631: the metadata log, and the state and the image at a place of it (KIP-868: with the transaction that is open there).
-use Rattle.std.specs.Prelude.{◌≡◌, ◌<◌, ◌≤◌, ℕ, ◌+◌, ◌-◌, ℤ, pos, ◌+ℤ◌, List, [], ◌∷◌, ◌++◌, length, take, Option, Some, None, Result, Ok, Err, IsOk}
+use Rattle.std.specs.Prelude.{◌≡◌, ◌<◌, ◌≤◌, ℕ, ◌+◌, ◌-◌, ℤ, pos, ◌+ℤ◌, List, [], ◌∷◌, ◌++◌, length, take, unwrap_or, Option, Some, None, Result, Ok, Err, IsOk}
 use Rattle.kr_defs.specs.declared.record.Item.{Item}
 use Rattle.kr_defs.specs.declared.ill.Ill.{Ill}
 use Rattle.kr_defs.specs.Guard.{and_then}
 use Rattle.kr_defs.specs.Image.{Image, empty}
 use Rattle.kr_defs.specs.Apply.{apply}
-use Rattle.kr_defs.specs.LogStates.{Opened, LogState, apply_all_at, closed}
+use Rattle.kr_defs.specs.LogStates.{Opened, LogState, apply_all_at, closed, open_behind_all}
 
 -- the image that a log starts from, the place of its first item, and the items
 pub record Log : Type 0 where
@@ -36,6 +36,14 @@ image_of state = and_then state (λ s. Ok s.image)
 
 unfoldable pub image_at : Log → ℕ → Result Image Ill
 image_at log place = image_of (state_at log place)
+
+-- the place of the transaction that is open at this one
+unfoldable pub open_at : Log → ℕ → Option ℕ
+open_at log place = open_behind_all None log.offset (take (place - log.offset) log.items)
+
+-- the closed end at a place: that of the open transaction, or the place itself where none is open
+abbrev pub closed_end_at : Log → ℕ → ℕ
+closed_end_at log place = unwrap_or (open_at log place) place
 
 -- the transaction that is open at the end began in the log, on the image below its place, and none was open there
 pub record StandsOpen (log : Log) (end : ℕ) (opened : Opened) : Type 0 where

@@ -1,6 +1,6 @@
 -- KIP-868: metadata transactions. A transaction is a run of records between BeginTransactionRecord and EndTransactionRecord or
 -- AbortTransactionRecord. That the log's state says which one is open, and the cause of a misplaced one, are this project's own.
-use Rattle.std.specs.Prelude.{◌≡◌, ◌<◌, ℕ, ℤ, pos, ◌+◌, List, [], ◌∷◌, length, take, is_some, Option, Some, None, Result, Ok, Err, IsOk}
+use Rattle.std.specs.Prelude.{◌≡◌, ◌<◌, ℕ, ℤ, pos, ◌+◌, List, [], ◌∷◌, length, take, is_some, unwrap_or, Option, Some, None, Result, Ok, Err, IsOk}
 use Rattle.std.specs.Option.{option_map_or}
 use Rattle.kr_defs.specs.declared.record.Record.TheVariants as kinds
 use Rattle.kr_defs.specs.declared.record.Item.{Item}
@@ -58,6 +58,22 @@ apply_all_at state place (item ∷ items) = and_then (apply_at state place item)
 -- the end of what is settled, below an end with this state: the place of the open transaction, or the end where none is open
 abbrev pub closed_end : LogState → ℕ → ℕ
 closed_end state end = option_map_or (λ opened. opened.place) state.opened end
+
+-- ---- the open transaction, told by the items alone
+
+-- the place of the open transaction behind an item: what has no meaning there changes nothing
+abbrev pub open_behind : Option ℕ → ℕ → Item → Option ℕ
+open_behind opened place (items.Record (kinds.BeginTransaction name)) = Some (unwrap_or opened place)
+open_behind opened place (items.Record kinds.EndTransaction) = None
+open_behind opened place (items.Record (kinds.AbortTransaction reason)) = None
+open_behind opened place item = opened
+
+-- behind items, the first of which has this place
+abbrev pub open_behind_all : Option ℕ → ℕ → List Item → Option ℕ
+open_behind_all opened place [] = opened
+open_behind_all opened place (item ∷ items) = open_behind_all (open_behind opened place item) (place + 1) items
+
+-- ---- the first item without a meaning
 
 -- what comes of an answer, or the place and the cause of the fault
 abbrev pub ill_at_or : ℕ → Result LogState Ill → (LogState → Option (ℤ × Ill)) → Option (ℤ × Ill)

@@ -7,7 +7,7 @@ ghost use Rattle.kr_defs.specs.declared.record.Item.{Item as AnyItem};
 ghost use Rattle.kr_defs.specs.declared.record.Item.TheVariants as items;
 ghost use Rattle.kr_defs.specs.declared.record.Record.TheVariants as kinds;
 ghost use Rattle.kr_defs.specs.Image.{Image, IsValid};
-ghost use Rattle.kr_defs.specs.Log.{Log, StandsOpen, tip, more, apply_all, state_at};
+ghost use Rattle.kr_defs.specs.Log.{Log, StandsOpen, tip, more, apply_all, closed_end_at, open_at, state_at};
 ghost use Rattle.kr_defs.specs.LogStates.{LogState, Opened, IsValidState, IsBehindGoodAt, closed, closed_end, apply_at, apply_all_at, first_ill_at};
 
 /// Every item that has a meaning keeps both images of a state valid.
@@ -59,6 +59,19 @@ pub fn transactions_hold_or_not()
 pub fn open_transactions_stand()
     ensures { (log : Log) (end : ℕ) (state : LogState) (opened : Opened) → state_at log end ≡
         Ok state → state.opened ≡ Some opened → StandsOpen log end opened }
+{}
+
+/// The place of the open transaction, and so the closed end, are those of a log's state, and told by the items alone. The closed
+/// end isn't above its place nor below the log's start, and never falls as the place rises.
+pub fn closed_ends_are_told()
+    ensures place { (log : Log) (place : ℕ) (state : LogState) → state_at log place ≡ Ok state →
+        option_map (λ (o : Opened). o.place) state.opened ≡ open_at log place }
+    ensures told { (log : Log) (place : ℕ) (state : LogState) → state_at log place ≡ Ok state →
+        closed_end state place ≡ closed_end_at log place }
+    ensures between { (log : Log) (place : ℕ) → log.offset ≤ place → place ≤ tip log →
+        (log.offset ≤ closed_end_at log place) × (closed_end_at log place ≤ place) }
+    ensures stays { (log : Log) (low high : ℕ) → log.offset ≤ low → low ≤ high → high ≤ tip log →
+        closed_end_at log low ≤ closed_end_at log high }
 {}
 
 /// The closed end never falls as the end rises.
