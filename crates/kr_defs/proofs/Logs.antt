@@ -12,7 +12,7 @@ use Rattle.kr_defs.specs.declared.ill.Ill.{Ill}
 use Rattle.kr_defs.specs.declared.ill.Ill.TheVariants.{NoTopic}
 use Rattle.kr_defs.specs.Guard.{and_then}
 use Rattle.kr_defs.specs.Image.{Image, IsValid, has_topic, topic_name}
-use Rattle.kr_defs.specs.Log.{Log, tip, more, apply_all, image_at, image_of, state_at, ill_or, first_ill, IsBehindGood}
+use Rattle.kr_defs.specs.Log.{Log, tip, more, apply_all, image_at, state_image, state_at, ill_or, first_ill, IsBehindGood}
 use Rattle.kr_defs.specs.LogStates.{LogState, IsValidState}
 use Rattle.kr_defs.specs.Apply as apply
 use Rattle.kr_defs.proofs.Validity.{kept}
@@ -32,13 +32,13 @@ valid_at log place v = gives_then IsValidState IsValid (state_at log place) (λ 
 
 pub at_start : (log : Log) → image_at log log.offset ≡ Ok log.image
 unfolding image_at
-at_start log = ap image_of (state_at_start log)
+at_start log = ap state_image (state_at_start log)
 
-more_at_tip_of : (log : Log) (item : Item) (image after : Image) (there : Result LogState Ill) → state_at log (tip log) ≡ there → image_of there ≡ Ok image → apply.apply image item ≡ Ok after → image_of (state_at (more log item) (tip log + 1)) ≡ Ok after
+more_at_tip_of : (log : Log) (item : Item) (image after : Image) (there : Result LogState Ill) → state_at log (tip log) ≡ there → state_image there ≡ Ok image → apply.apply image item ≡ Ok after → state_image (state_at (more log item) (tip log + 1)) ≡ Ok after
 more_at_tip_of log item image after (Err cause) at is takes = absurd cc
 more_at_tip_of log item image after (Ok state) at is takes =
     let same : state.image ≡ image = ok_is state.image image is in
-    ap image_of (state_more_at_tip log item state at ∙ plain_at state (tip log) item after (ap (λ i. apply.apply i item) same ∙ takes))
+    ap state_image (state_more_at_tip log item state at ∙ plain_at state (tip log) item after (ap (λ i. apply.apply i item) same ∙ takes))
 
 -- an item that an image takes
 pub more_at_tip : (log : Log) (item : Item) (image after : Image) → image_at log (tip log) ≡ Ok image → apply.apply image item ≡ Ok after → image_at (more log item) (tip log + 1) ≡ Ok after
@@ -47,7 +47,7 @@ more_at_tip log item image after is takes = more_at_tip_of log item image after 
 
 pub more_below : (log : Log) (item : Item) (place : ℕ) → place ≤ tip log → image_at (more log item) place ≡ image_at log place
 unfolding image_at
-more_below log item place below = ap image_of (state_more_below log item place below)
+more_below log item place below = ap state_image (state_more_below log item place below)
 
 -- ---- RemoveTopic
 

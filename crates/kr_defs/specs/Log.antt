@@ -31,11 +31,11 @@ unfoldable pub state_at : Log → ℕ → Result LogState Ill
 state_at log place = apply_all_at (closed log.image) log.offset (take (place - log.offset) log.items)
 
 -- the image of that state
-abbrev pub image_of : Result LogState Ill → Result Image Ill
-image_of state = and_then state (λ s. Ok s.image)
+abbrev pub state_image : Result LogState Ill → Result Image Ill
+state_image state = and_then state (λ s. Ok s.image)
 
 unfoldable pub image_at : Log → ℕ → Result Image Ill
-image_at log place = image_of (state_at log place)
+image_at log place = state_image (state_at log place)
 
 -- the place of the transaction that is open at this one
 unfoldable pub open_at : Log → ℕ → Option ℕ

@@ -1,7 +1,8 @@
 -- KIP-868: metadata transactions. A transaction is a run of records between BeginTransactionRecord and EndTransactionRecord or
 -- AbortTransactionRecord. That the log's state says which one is open, and the cause of a misplaced one, are this project's own.
-use Rattle.std.specs.Prelude.{◌≡◌, ◌<◌, ℕ, ℤ, pos, ◌+◌, List, [], ◌∷◌, length, take, is_some, unwrap_or, Option, Some, None, Result, Ok, Err, IsOk}
+use Rattle.std.specs.Prelude.{◌≡◌, ◌<◌, ℕ, ℤ, pos, ◌+◌, List, [], ◌∷◌, ◌++◌, length, take, is_some, unwrap_or, Option, Some, None, Result, Ok, Err, IsOk}
 use Rattle.std.specs.Option.{option_map_or}
+use Rattle.kr_defs.specs.declared.record.Record.{Record}
 use Rattle.kr_defs.specs.declared.record.Record.TheVariants as kinds
 use Rattle.kr_defs.specs.declared.record.Item.{Item}
 use Rattle.kr_defs.specs.declared.record.Item.TheVariants as items
@@ -54,6 +55,10 @@ apply_at state place item = image_after state item
 abbrev pub apply_all_at : LogState → ℕ → List Item → Result LogState Ill
 apply_all_at state place [] = Ok state
 apply_all_at state place (item ∷ items) = and_then (apply_at state place item) (λ after. apply_all_at after (place + 1) items)
+
+-- a whole transaction, with these items inside and a record that closes it
+abbrev pub transaction : Option (List ℕ) → List Item → Record → List Item
+transaction name inner last = items.Record (kinds.BeginTransaction name) ∷ inner ++ items.Record last ∷ []
 
 -- the end of what is settled, below an end with this state: the place of the open transaction, or the end where none is open
 abbrev pub closed_end : LogState → ℕ → ℕ

@@ -1,14 +1,13 @@
 //! What is true of logs with transactions. Each function says so in its contract, and does nothing.
 
-ghost use Rattle.std.specs.Prelude.{◌≡◌, ℕ, ◌+◌, ◌-◌, ◌≤◌, List, [], ◌∷◌, ◌++◌, take, Option, Some, None, Ok, IfSome};
+ghost use Rattle.std.specs.Prelude.{◌≡◌, ℕ, ◌+◌, ◌-◌, ◌≤◌, List, take, Option, Some, None, Ok, IfSome};
 ghost use Rattle.std.specs.Option.{option_map};
 ghost use Rattle.std.specs.Result.{result_err};
 ghost use Rattle.kr_defs.specs.declared.record.Item.{Item as AnyItem};
-ghost use Rattle.kr_defs.specs.declared.record.Item.TheVariants as items;
 ghost use Rattle.kr_defs.specs.declared.record.Record.TheVariants as kinds;
 ghost use Rattle.kr_defs.specs.Image.{Image, IsValid};
 ghost use Rattle.kr_defs.specs.Log.{Log, StandsOpen, tip, more, apply_all, closed_end_at, open_at, state_at};
-ghost use Rattle.kr_defs.specs.LogStates.{LogState, Opened, IsValidState, IsBehindGoodAt, closed, closed_end, apply_at, apply_all_at, first_ill_at};
+ghost use Rattle.kr_defs.specs.LogStates.{LogState, Opened, IsValidState, IsBehindGoodAt, closed, closed_end, apply_at, apply_all_at, first_ill_at, transaction};
 
 /// Every item that has a meaning keeps both images of a state valid.
 pub fn apply_keeps_states_valid()
@@ -45,13 +44,11 @@ pub fn plain_logs_are_closed()
 pub fn transactions_hold_or_not()
     ensures ended { (state : LogState) (place : ℕ) (name : Option (List ℕ)) (inner : List AnyItem)
         (after : Image) → state.opened ≡ None → apply_all state.image inner ≡ Ok after →
-        apply_all_at state place
-        (items.Record (kinds.BeginTransaction name) ∷ inner ++ items.Record kinds.EndTransaction ∷ []) ≡
-        Ok (closed after) }
-    ensures aborted { (state : LogState) (place : ℕ) (name reason : Option (List ℕ)) (inner : List AnyItem)
-        (after : Image) → state.opened ≡ None → apply_all state.image inner ≡ Ok after →
-        apply_all_at state place
-        (items.Record (kinds.BeginTransaction name) ∷ inner ++ items.Record (kinds.AbortTransaction reason) ∷ []) ≡
+        apply_all_at state place (transaction name inner kinds.EndTransaction) ≡ Ok (closed after) }
+    ensures aborted { (state : LogState) (place : ℕ) (name reason : Option (List ℕ))
+        (inner : List AnyItem) (after : Image) → state.opened ≡ None →
+        apply_all state.image inner ≡ Ok after →
+        apply_all_at state place (transaction name inner (kinds.AbortTransaction reason)) ≡
         Ok (closed state.image) }
 {}
 
@@ -83,8 +80,8 @@ pub fn closed_ends_rise()
 
 /// The first ill item is named exactly where the items have no state, with the cause that there is none, and all before it have one.
 pub fn first_ill_of_states_is_named()
-    ensures cause { (state : LogState) (place : ℕ) (items : List AnyItem) → option_map (λ ill. ill.1)
-        (first_ill_at state place items) ≡ result_err (apply_all_at state place items) }
+    ensures cause { (state : LogState) (at : ℕ) (items : List AnyItem) → option_map (λ ill. ill.1)
+        (first_ill_at state at items) ≡ result_err (apply_all_at state at items) }
     ensures place { (state : LogState) (place : ℕ) (items : List AnyItem) →
         IfSome (first_ill_at state place items) (IsBehindGoodAt state place items) }
 {}
