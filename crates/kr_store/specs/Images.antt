@@ -66,13 +66,13 @@ begun_of_place images places.Tip = images.begun
 begun_of_place images (places.Epoch epoch) = begun_at images epoch
 
 -- an epoch as a place of a log, which is never below 0
-abbrev pub place_of : ℤ → ℕ
-place_of (pos place) = place
-place_of (negsuc n) = 0
+abbrev pub log_place : ℤ → ℕ
+log_place (pos place) = place
+log_place (negsuc n) = 0
 
 -- the transaction that began at this epoch, with the image that is kept there
 abbrev pub opened_under : Images → ℤ → Option Opened
-opened_under images begin = option_map (λ (i : Image). record { place = place_of begin; image = i }) (kept_at images begin)
+opened_under images begin = option_map (λ (i : Image). record { place = log_place begin; image = i }) (kept_at images begin)
 
 abbrev pub opened_at : Images → Option ℤ → Option Opened
 opened_at images begun = option_map_or (opened_under images) begun None

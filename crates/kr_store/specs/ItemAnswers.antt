@@ -10,7 +10,7 @@ use Rattle.kr_defs.specs.LogStates.{LogState, apply_at}
 use Rattle.kr_defs.specs.Weight.{weight}
 use Rattle.kr_store.specs.declared.places.ApplyFault.{ApplyFault}
 use Rattle.kr_store.specs.declared.places.ApplyFault.TheVariants as faults
-use Rattle.kr_store.specs.Images.{Images, IsAbove, above, calls_of, kept_at, last_image, last_kept, last_begun, marked, place_of, tip_state}
+use Rattle.kr_store.specs.Images.{Images, IsAbove, above, calls_of, kept_at, last_image, last_kept, last_begun, marked, log_place, tip_state}
 
 -- ---- what is kept besides
 
@@ -24,12 +24,12 @@ with_begin images place (items.Record (kinds.BeginTransaction name)) = with_epoc
 with_begin images place item = images
 
 -- above the kept epochs, or the last of them, of which the tip is the image
-abbrev pub MayBegin : Images → ℤ → Type 0
-MayBegin images place = IsAbove images.kept place ⊎ (last_kept images ≡ Some (place, images.tip))
+abbrev pub MayOpen : Images → ℤ → Type 0
+MayOpen images place = IsAbove images.kept place ⊎ (last_kept images ≡ Some (place, images.tip))
 
 -- a begin stands there
 abbrev pub MayStand : Images → ℤ → Item → Type 0
-MayStand images place (items.Record (kinds.BeginTransaction name)) = MayBegin images place
+MayStand images place (items.Record (kinds.BeginTransaction name)) = MayOpen images place
 MayStand images place item = Unit {0}
 
 -- the same epochs are kept
@@ -39,7 +39,7 @@ pub record KeepsEpochs (after before : Images) : Type 0 where
   pub begun : after.kept_begun ≡ before.kept_begun
 
 -- the present state is that of the last kept epoch
-pub record GoesBack (before after : Images) : Type 0 where
+pub record FallsBack (before after : Images) : Type 0 where
   pub tip : last_image before ≡ Some after.tip
   pub begun : after.begun ≡ last_begun before
   pub made : after.made ≡ 0
@@ -48,23 +48,27 @@ pub record GoesBack (before after : Images) : Type 0 where
 -- ---- an item at a place of the log
 
 -- there is no meaning, and nothing has changed; or the present state is that of the last kept epoch
-abbrev pub IsFaultOf : Images → Images → ApplyFault → ℤ → Result LogState Ill → Type 0
-IsFaultOf before after (faults.IllFormed there cause) place meaning = (meaning ≡ Err cause) × (there ≡ place) × (after ≡ before)
-IsFaultOf before after faults.NoMemory place meaning = GoesBack before after
+abbrev pub FailsFor : Images → Images → ApplyFault → ℤ → Result LogState Ill → Type 0
+FailsFor before after (faults.IllFormed there cause) place meaning = (meaning ≡ Err cause) × (there ≡ place) × (after ≡ before)
+FailsFor before after faults.NoMemory place meaning = FallsBack before after
 
 -- the present state is the meaning, and these epochs are kept
 abbrev pub Becomes : Images → Images → Result (Unit {0}) ApplyFault → ℤ → Result LogState Ill → Images → Type 0
 Becomes before after (Ok done) place meaning epochs = (meaning ≡ Ok (tip_state after)) × KeepsEpochs after epochs
-Becomes before after (Err fault) place meaning epochs = IsFaultOf before after fault place meaning
+Becomes before after (Err fault) place meaning epochs = FailsFor before after fault place meaning
 
 -- the present state is what the item makes of the one before
 abbrev pub AppliesAt : Images → Images → Result (Unit {0}) ApplyFault → ℤ → Item → Type 0
 AppliesAt before after result place item =
-    Becomes before after result place (apply_at (tip_state before) (place_of place) item) (with_begin before place item)
+    Becomes before after result place (apply_at (tip_state before) (log_place place) item) (with_begin before place item)
 
--- the calls that the item makes at most: an abort makes those of the transaction once more
+-- the calls of the open transaction
+abbrev pub calls_to_undo : Images → ℕ
+calls_to_undo images = option_map_or (λ (begin : ℤ). calls_of (above images begin) + images.made) images.begun 0
+
+-- the calls that the item makes at most: an abort makes those of its transaction once more
 abbrev pub calls_at : Images → Item → ℕ
-calls_at images (items.Record (kinds.AbortTransaction reason)) = option_map_or (λ (begin : ℤ). calls_of (above images begin) + images.made) images.begun 0
+calls_at images (items.Record (kinds.AbortTransaction reason)) = calls_to_undo images
 calls_at images item = weight images.tip item
 
 -- the calls since the last kept epoch, the item's among them

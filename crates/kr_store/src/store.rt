@@ -128,7 +128,8 @@ pub trait Store {
         requires some { IsSome (last_kept (images self.old)) }
         requires stands { MayStand (images self.old) place item.now }
         ensures applied { AppliesAt (images self.old) (images self.new) result place item.now }
-        ensures made { OnOk result ((images self.new).made ≤ made_at (images self.old) place item.now) }
+        ensures made { OnOk result
+            ((images self.new).made ≤ made_at (images self.old) place item.now) }
         ensures valid { AreValid (images self.new) }
         ensures counted { Ticks steps.old steps.new result };
 
