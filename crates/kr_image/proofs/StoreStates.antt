@@ -110,45 +110,60 @@ last_listed t list begun epoch =
 
 -- ---- what the rows give
 
-abbrev with_begun : Images → Option ℤ → Images
-with_begun images begun = record images { begun = begun }
+abbrev gives : Image → Option Opened → Result LogState Ill
+gives image opened = Ok (record { image = image; opened = opened })
+
+abbrev opened_with : ℤ → Image → Opened
+opened_with place image = record { place = log_place place; image = image }
 
 module _ (images : Images) where
+  abbrev if_none : Option Opened → Image → ℕ → Result LogState Ill
+  if_none o image place = cond (is_some o) (Err BadTransaction) (gives image (Some (record { place = place; image = image })))
+
   -- none is open
   pub begins : (place : ℤ) (after : Images) → images.begun ≡ None → after.begun ≡ Some place → after.tip ≡ images.tip → kept_at after place ≡ Some images.tip → begin_at (tip_state images) (log_place place) ≡ Ok (tip_state after)
   begins place after none some tip there =
-      ap (λ (o : Option ℤ). cond (is_some (opened_at images o)) (Err BadTransaction) (Ok (record { image = images.tip; opened = Some (record { place = log_place place; image = images.tip }) }))) none
-      ∙ sym (ap (λ (o : Option ℤ). Ok (record { image = after.tip; opened = opened_at after o })) some
-      ∙ ap (λ (o : Option Image). Ok (record { image = after.tip; opened = option_map (λ (i : Image). record { place = log_place place; image = i }) o })) there
-      ∙ ap (λ (i : Image). Ok (record { image = i; opened = Some (record { place = log_place place; image = images.tip }) })) tip)
+      ap (λ (o : Option ℤ). if_none (opened_at images o) images.tip (log_place place)) none
+      ∙ sym (ap (λ (o : Option ℤ). gives after.tip (opened_at after o)) some
+      ∙ (ap (λ (o : Option Image). gives after.tip (option_map (opened_with place) o)) there
+      ∙ ap (λ (i : Image). gives i (Some (opened_with place images.tip))) tip))
 
   -- one is open
-  open_some : (begin : ℤ) (image : Image) → images.begun ≡ Some begin → kept_at images begin ≡ Some image → opened_at images images.begun ≡ Some (record { place = log_place begin; image = image })
-  open_some begin image some there = ap (opened_at images) some ∙ ap (option_map (λ (i : Image). record { place = log_place begin; image = i })) there
+  open_some : (begin : ℤ) (image : Image) → images.begun ≡ Some begin → kept_at images begin ≡ Some image → opened_at images images.begun ≡ Some (opened_with begin image)
+  open_some begin image some there = ap (λ (o : Option ℤ). opened_at images o) some ∙ ap (λ (o : Option Image). option_map (opened_with begin) o) there
 
   pub no_begin : (begin : ℤ) (image : Image) (place : ℕ) → images.begun ≡ Some begin → kept_at images begin ≡ Some image → begin_at (tip_state images) place ≡ Err BadTransaction
-  no_begin begin image place some there = ap (λ (o : Option Opened). cond (is_some o) (Err BadTransaction) (Ok (record { image = images.tip; opened = Some (record { place = place; image = images.tip }) }))) (open_some begin image some there)
+  no_begin begin image place some there = ap (λ (o : Option Opened). if_none o images.tip place) (open_some begin image some there)
+
+  abbrev if_ended : Option Opened → Result LogState Ill
+  if_ended o = found BadTransaction o (λ (opened : Opened). gives images.tip None)
+
+  abbrev if_aborted : Option Opened → Result LogState Ill
+  if_aborted o = found BadTransaction o (λ (opened : Opened). gives opened.image None)
 
   pub no_end : images.begun ≡ None → end_open (tip_state images) ≡ Err BadTransaction
-  no_end none = ap (λ (o : Option ℤ). found BadTransaction (opened_at images o) (λ (opened : Opened). Ok (closed images.tip))) none
+  no_end none = ap (λ (o : Option ℤ). if_ended (opened_at images o)) none
 
   pub no_abort : images.begun ≡ None → abort_open (tip_state images) ≡ Err BadTransaction
-  no_abort none = ap (λ (o : Option ℤ). found BadTransaction (opened_at images o) (λ (opened : Opened). Ok (closed opened.image))) none
+  no_abort none = ap (λ (o : Option ℤ). if_aborted (opened_at images o)) none
 
   pub ends : (begin : ℤ) (image : Image) → images.begun ≡ Some begin → kept_at images begin ≡ Some image → end_open (tip_state images) ≡ Ok (closed images.tip)
-  ends begin image some there = ap (λ (o : Option Opened). found BadTransaction o (λ (opened : Opened). Ok (closed images.tip))) (open_some begin image some there)
+  ends begin image some there = ap if_ended (open_some begin image some there)
 
   pub aborts : (begin : ℤ) (image : Image) → images.begun ≡ Some begin → kept_at images begin ≡ Some image → abort_open (tip_state images) ≡ Ok (closed image)
-  aborts begin image some there = ap (λ (o : Option Opened). found BadTransaction o (λ (opened : Opened). Ok (closed opened.image))) (open_some begin image some there)
+  aborts begin image some there = ap if_aborted (open_some begin image some there)
+
+  abbrev if_changed : Result Image Ill → Result LogState Ill
+  if_changed r = and_then r (λ (i : Image). gives i (opened_at images images.begun))
 
   pub changes : (item : Item) (after : Images) → apply images.tip item ≡ Ok after.tip → after.kept ≡ images.kept → after.begun ≡ images.begun → image_after (tip_state images) item ≡ Ok (tip_state after)
   changes item after is kept begun =
-      ap (λ r. and_then r (λ (i : Image). Ok (record { image = i; opened = opened_at images images.begun }))) is
-      ∙ sym (ap (λ (o : Option ℤ). Ok (record { image = after.tip; opened = opened_at after o })) begun
-      ∙ ap (λ (ks : List (ℤ × Image)). Ok (record { image = after.tip; opened = opened_at (record after { kept = ks }) images.begun })) kept)
+      ap if_changed is
+      ∙ sym (ap (λ (o : Option ℤ). gives after.tip (opened_at after o)) begun
+      ∙ ap (λ (ks : List (ℤ × Image)). gives after.tip (opened_at (record images { kept = ks }) images.begun)) kept)
 
   pub changes_nothing : (item : Item) (cause : Ill) → apply images.tip item ≡ Err cause → image_after (tip_state images) item ≡ Err cause
-  changes_nothing item cause is = ap (λ r. and_then r (λ (i : Image). Ok (record { image = i; opened = opened_at images images.begun }))) is
+  changes_nothing item cause is = ap if_changed is
 
 -- the image that is kept for the open transaction
 pub record BeganOn (images : Images) (begin : ℤ) : Type 0 where
