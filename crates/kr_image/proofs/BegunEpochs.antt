@@ -163,5 +163,5 @@ are_valid t list begun is = record {
   kept = is.store.kept.valid;
   tip = is.store.valid;
   beside = made_epochs (keeps_of t) list is.store.kept.epochs ∙ sym (map_again (λ (k : KeptCounts). (k.epoch, image_in (keeps_of t) k.epoch)) (λ (e : ℤ × Image). e.0) list);
-  begun = are_begun t list begun is.begun;
+  begun = are_begun t list begun is.opens;
 }

@@ -1,6 +1,6 @@
 -- The last kept epoch: going back to it drops nothing.
 use Rattle.std.proofs.Common.{◌≡◌, ℤ, true, false, not, List, [], ◌∷◌, ◌++◌, refl, sym, ap, subst, ◌∙◌, map, filter, find, arith}
-use Rattle.std.specs.Prelude.{Some, None, IsTrue, IsSome, int_lt}
+use Rattle.std.specs.Prelude.{Option, Some, None, IsTrue, IsSome, int_lt}
 use Rattle.std.specs.Option.{option_map}
 use Rattle.std.specs.declared.cmp.Ordering.TheVariants.{Less}
 use Rattle.std.specs.Ordering.{int_cmp, int_eq}

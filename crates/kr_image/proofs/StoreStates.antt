@@ -32,7 +32,7 @@ use Rattle.kr_image.proofs.LastEpoch.{back_image, back_keeps, back_store, last_m
 
 module _ (t after : Timelines) (list : List KeptCounts) (k : KeptCounts) (begun : Option ℤ) (is_last : last list ≡ Some k) (is : IsKept (keeps_of t) list) (has : HaveBegins list begun) (reverts : RevertsAll t after k.epoch) (counts : after.counts ≡ k.counts) where
   pub back_whole : IsStoreWith after list k.begun
-  back_whole = record { store = back_store t after list k is_last is reverts counts; begun = begun_at_last list begun k has is_last }
+  back_whole = record { store = back_store t after list k is_last is reverts counts; opens = begun_at_last list begun k has is_last }
 
   pub goes_back : FallsBack (images_of t list begun) (images_of after list k.begun)
   goes_back =
@@ -216,3 +216,8 @@ pub becomes_changed : (before after : Images) (r : Result (Unit {0}) ApplyFault)
 becomes_changed before after (Ok done) place item is same begun = (changes before item after is same.images begun, same)
 becomes_changed before after (Err (faults.IllFormed there cause)) place item is same begun = (changes_nothing before item cause is.0, is.1, is.2)
 becomes_changed before after (Err faults.NoMemory) place item is same begun = record { tip = is.0; begun = is.2; made = is.1; epochs = same }
+
+-- what follows from an answer's clause
+pub on_ok_then : {X E : Type 0} (P Q : Type 0) (r : Result X E) → (P → Q) → OnOk r P → OnOk r Q
+on_ok_then P Q (Ok x) step p = step p
+on_ok_then P Q (Err e) step p = tt

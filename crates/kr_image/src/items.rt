@@ -24,7 +24,7 @@ pub(crate) fn apply_record<L: Ledger>(
     timelines: &mut Timelines,
     kept: &VecDeque<KeptCounts>,
     begun: &mut Option<i64>,
-    place: i64,
+    place: &i64,
     value: &Record,
     steps: &mut Steps<L>,
 ) -> Result<(), ApplyFault>
@@ -32,7 +32,7 @@ pub(crate) fn apply_record<L: Ledger>(
     requires some { IsSome (last_kept (images_of timelines.old kept.now.items begun.old)) }
     ensures store { IsStoreWith timelines.new kept.now.items begun.new }
     ensures applied { Applies (images_of timelines.old kept.now.items begun.old)
-        (images_of timelines.new kept.now.items begun.new) result place (items.Record value.now) }
+        (images_of timelines.new kept.now.items begun.new) result place.now (items.Record value.now) }
     ensures same { keeps_of timelines.new ≡ keeps_of timelines.old }
     ensures begun { OnOk result (begun.new ≡ begun.old) }
     ensures made { OnOk result (made_of timelines.new ≤
@@ -43,7 +43,10 @@ pub(crate) fn apply_record<L: Ledger>(
     steps.tick();
     match timelines.apply_record(value) {
         Ok(()) => Ok(()),
-        Err(ChangeFault::IllFormed(cause)) => Err(ApplyFault::IllFormed { place, cause }),
+        Err(ChangeFault::IllFormed(cause)) => Err(ApplyFault::IllFormed {
+            place: *place,
+            cause,
+        }),
         Err(ChangeFault::NoMemory) => {
             go_back(timelines, kept, begun, steps);
             Err(ApplyFault::NoMemory)
@@ -57,7 +60,7 @@ pub(crate) fn apply<L: Ledger>(
     timelines: &mut Timelines,
     kept: &VecDeque<KeptCounts>,
     begun: &mut Option<i64>,
-    place: i64,
+    place: &i64,
     item: &Item,
     steps: &mut Steps<L>,
 ) -> Result<(), ApplyFault>
@@ -65,7 +68,7 @@ pub(crate) fn apply<L: Ledger>(
     requires some { IsSome (last_kept (images_of timelines.old kept.now.items begun.old)) }
     ensures store { IsStoreWith timelines.new kept.now.items begun.new }
     ensures applied { Applies (images_of timelines.old kept.now.items begun.old)
-        (images_of timelines.new kept.now.items begun.new) result place item.now }
+        (images_of timelines.new kept.now.items begun.new) result place.now item.now }
     ensures same { keeps_of timelines.new ≡ keeps_of timelines.old }
     ensures begun { OnOk result (begun.new ≡ begun.old) }
     ensures made { OnOk result (made_of timelines.new ≤

@@ -233,7 +233,7 @@ fn change<L: Ledger>(
         made_of timelines.old + weight (present_image timelines.old) item.now) }
     ensures counted { Ticks steps.old steps.new result }
 {
-    apply(timelines, kept, begun, *place, item, steps)
+    apply(timelines, kept, begun, place, item, steps)
 }
 
 /// Applies the item, which stands at the place.

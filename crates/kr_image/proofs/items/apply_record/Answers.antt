@@ -14,7 +14,7 @@ returns-in-Ok-clause-store g c = record {
     present = c.in-Ok.ensures.agrees;
     valid = c.apply_keeps_valid.ensures (present_image c.args.timelines.now) (present_image c.apply_record.new.self) (items.Record c.args.value.now) c.requires.store.store.valid c.in-Ok.ensures.changes;
   };
-  begun = c.requires.store.begun;
+  opens = c.requires.store.opens;
 }
 
 pub go_back-requires-clause-kept : goal.go_back-requires-clause-kept

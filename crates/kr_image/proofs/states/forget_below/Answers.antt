@@ -32,7 +32,7 @@ returns-clause-bound g c =
 pub returns-clause-store : goal.returns-clause-store
 returns-clause-store g c = rw c.keep_from.ensures.left (record {
   store = forgotten_store c.args.timelines.now c.forget_below.new.self c.args.epoch.now c.forget_below.ensures.left c.args.kept.now.items c.requires.store.store;
-  begun = begun_from c.args.timelines.now c.args.kept.now.items c.args.begun.now c.args.epoch.now c.requires.store.begun c.requires.from;
+  opens = begun_from c.args.timelines.now c.args.kept.now.items c.args.begun.now c.args.epoch.now c.requires.store.opens c.requires.from;
 })
 
 pub returns-clause-images : goal.returns-clause-images

@@ -17,7 +17,7 @@ returns-clause-store c =
     let above = above_each (keeps_of c.args.timelines.now) c.args.kept.now.items c.args.epoch.now c.requires.above in
     rw (c.in_ok-push_back.ensures.items, c.kept_under.ensures) (record {
       store = marked_store c.reserve.new.self c.mark.new.self c.args.epoch.now c.mark.ensures c.args.kept.now.items is.kept.epochs above c.args.begun.now is;
-      begun = begun_then c.args.kept.now.items c.args.begun.now (record { epoch = c.args.epoch.now; counts = c.reserve.new.self.counts; begun = c.args.begun.now }) refl c.requires.store.begun above;
+      opens = begun_then c.args.kept.now.items c.args.begun.now (record { epoch = c.args.epoch.now; counts = c.reserve.new.self.counts; begun = c.args.begun.now }) refl c.requires.store.opens above;
     })
 
 pub returns-clause-ok : goal.returns-clause-ok

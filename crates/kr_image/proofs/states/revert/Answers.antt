@@ -58,7 +58,7 @@ returns-clause-store g c =
     let begun = begun_there _ there.here c.begun_at.result c.begun_at.ensures there.found in
     rw c.keep_up_to.ensures.left (record {
       store = reverted_store c.args.timelines.now c.revert.new.self c.args.epoch.now c.revert.ensures.back c.args.kept.now.items there.here there.found (rw there.same at c.revert.ensures.counts) c.requires.kept;
-      begun = subst (HaveBegins (filter (λ (k : KeptCounts). not (int_lt c.args.epoch.now k.epoch)) c.args.kept.now.items)) (sym begun) (begun_up_to c.args.kept.now.items c.args.begun.now c.args.epoch.now there.here c.requires.begun there.found);
+      opens = subst (HaveBegins (filter (λ (k : KeptCounts). not (int_lt c.args.epoch.now k.epoch)) c.args.kept.now.items)) (sym begun) (begun_up_to c.args.kept.now.items c.args.begun.now c.args.epoch.now there.here c.requires.begun there.found);
     })
 
 pub returns-clause-ok : goal.returns-clause-ok

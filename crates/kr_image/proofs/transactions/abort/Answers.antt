@@ -18,7 +18,7 @@ restore-requires-clause-there g c =
     subst (λ o. IsSome o) (sym began.there) refl
 
 pub returns-in-Ok-clause-store : goal.returns-in-Ok-clause-store
-returns-in-Ok-clause-store g c = record { store = c.restore.ensures.store.store; begun = none_begun c.args.kept.now.items c.restore.new.begun c.restore.ensures.store.begun }
+returns-in-Ok-clause-store g c = record { store = c.restore.ensures.store.store; opens = none_begun c.args.kept.now.items c.restore.new.begun c.restore.ensures.store.opens }
 
 pub returns-in-Ok-clause-applied : goal.returns-in-Ok-clause-applied
 returns-in-Ok-clause-applied g c = (

@@ -15,7 +15,7 @@ returns-then-is_some-clause-applied g c =
 pub returns-in-Ok-clause-store : goal.returns-in-Ok-clause-store
 returns-in-Ok-clause-store g c = record {
   store = c.keep_epoch.ensures.store.store;
-  begun = begun_here c.keep_epoch.new.kept.items c.keep_epoch.new.begun c.args.place.now c.keep_epoch.ensures.store.begun
+  opens = begun_here c.keep_epoch.new.kept.items c.keep_epoch.new.begun c.args.place.now c.keep_epoch.ensures.store.opens
       (kept_listed c.keep_epoch.new.timelines c.keep_epoch.new.kept.items c.keep_epoch.new.begun c.args.place.now _ c.in-Ok.ensures.there);
 }
 
@@ -23,8 +23,7 @@ pub returns-in-Ok-clause-applied : goal.returns-in-Ok-clause-applied
 returns-in-Ok-clause-applied g c =
     let images = images_of c.args.timelines.now c.args.kept.now.items c.args.begun.now in
     let after = images_of c.keep_epoch.new.timelines c.keep_epoch.new.kept.items (Some c.args.place.now) in
-    let same = c.in-Ok.ensures.ok in
-    (
+    let same = c.in-Ok.ensures.ok in (
       begins images c.args.place.now after (none_is c.args.begun.now c.if-is_some.false) refl (ap (λ (i : Images). i.tip) same ∙ epoch_tip images c.args.place.now) c.in-Ok.ensures.there,
       record { images = ap (λ (i : Images). i.kept) same; calls = ap (λ (i : Images). i.kept_made) same; begun = ap (λ (i : Images). i.kept_begun) same },
     )
