@@ -137,6 +137,7 @@ pub(crate) fn restore<L: Ledger>(
     ensures err { OnErr result (FallsBack (images_of timelines.old kept.now.items begun.old)
         (images_of timelines.new kept.now.items begun.new)) }
     ensures counted { steps.old ≤ steps.new }
+    ensures still { OnOk result (steps.new ≡ steps.old) }
 {
     match counts_at(kept, epoch) {
         Some(counts) => match timelines.restore(epoch, counts) {

@@ -114,6 +114,12 @@ fn open_place(begun: &Option<i64>) -> Option<i64>
     *begun
 }
 
+fn begun_here(place: &i64) -> Option<i64>
+    ensures { result ≡ Some place.now }
+{
+    Some(*place)
+}
+
 fn bad_transaction(place: &i64) -> ApplyFault
     ensures { result ≡ faults.IllFormed place.now BadTransaction }
 {
@@ -150,7 +156,7 @@ fn begin<L: Ledger>(
     }
     match keep_epoch(timelines, kept, begun, place, steps) {
         Ok(()) => {
-            *begun = Some(*place);
+            *begun = begun_here(place);
             Ok(())
         }
         Err(NoMemory) => Err(ApplyFault::NoMemory),
@@ -201,15 +207,16 @@ fn abort<L: Ledger>(
     ensures counted { Ticks steps.old steps.new result }
 {
     steps.tick();
-    let Some(begin) = open_place(begun) else {
-        return Err(bad_transaction(place));
-    };
-    match restore(timelines, kept, begun, &begin, steps) {
-        Ok(()) => {
-            *begun = None;
-            Ok(())
-        }
-        Err(NoMemory) => Err(ApplyFault::NoMemory),
+    let found = open_place(begun);
+    match &found {
+        Some(begin) => match restore(timelines, kept, begun, begin, steps) {
+            Ok(()) => {
+                *begun = None;
+                Ok(())
+            }
+            Err(NoMemory) => Err(ApplyFault::NoMemory),
+        },
+        None => Err(bad_transaction(place)),
     }
 }
 

@@ -9,12 +9,12 @@ use Rattle.kr_image.proofs.KeptCalls.{above_all}
 use Rattle.kr_image.proofs.StoreStates.{aborts, no_abort, open_began, same_epochs}
 use Rattle.kr_image.proofs.transactions.abort.Goals as goal
 
-pub returns-in_default-clause-applied : goal.returns-in_default-clause-applied
-returns-in_default-clause-applied g c = rw c.bad_transaction.ensures (no_abort (images_of c.args.timelines.now c.args.kept.now.items c.args.begun.now) (sym c.in_default.ensures), refl, refl)
+pub returns-in-None-clause-applied : goal.returns-in-None-clause-applied
+returns-in-None-clause-applied g c = rw c.bad_transaction.ensures (no_abort (images_of c.args.timelines.now c.args.kept.now.items c.args.begun.now) (sym c.open_place-found.ensures ∙ c.in-None.is), refl, refl)
 
 pub restore-requires-clause-there : goal.restore-requires-clause-there
 restore-requires-clause-there g c =
-    let began = open_began (images_of c.args.timelines.now c.args.kept.now.items c.args.begun.now) c.in-Some.begin (are_valid c.args.timelines.now c.args.kept.now.items c.args.begun.now c.requires.store) (sym c.in-Some.ensures) in
+    let began = open_began (images_of c.args.timelines.now c.args.kept.now.items c.args.begun.now) c.in-Some.begin (are_valid c.args.timelines.now c.args.kept.now.items c.args.begun.now c.requires.store) (sym c.open_place-found.ensures ∙ c.in-Some.is) in
     subst (λ o. IsSome o) (sym began.there) refl
 
 pub returns-in-Ok-clause-store : goal.returns-in-Ok-clause-store
@@ -22,7 +22,7 @@ returns-in-Ok-clause-store g c = record { store = c.restore.ensures.store.store;
 
 pub returns-in-Ok-clause-applied : goal.returns-in-Ok-clause-applied
 returns-in-Ok-clause-applied g c = (
-  aborts (images_of c.args.timelines.now c.args.kept.now.items c.args.begun.now) c.in-Some.begin (present_image c.restore.new.timelines) (sym c.in-Some.ensures) c.in-Ok.ensures.ok,
+  aborts (images_of c.args.timelines.now c.args.kept.now.items c.args.begun.now) c.in-Some.begin (present_image c.restore.new.timelines) (sym c.open_place-found.ensures ∙ c.in-Some.is) c.in-Ok.ensures.ok,
   same_epochs c.args.timelines.now c.restore.new.timelines c.args.kept.now.items c.args.begun.now None c.restore.ensures.same,
 )
 
@@ -33,4 +33,4 @@ returns-in-Ok-clause-made g c =
     let calls = above_all (keeps_of c.args.timelines.now) c.args.kept.now.items c.requires.store.store.kept.epochs begin in
     let few = c.in-Ok.ensures.made in
     let most : made_of c.restore.new.timelines ≤ made_of c.args.timelines.now + (calls_of (filter (λ (m : ℤ × ℕ). int_lt begin m.0) (made_in (keeps_of c.args.timelines.now) c.args.kept.now.items)) + made_of c.args.timelines.now) = omega (arith, few, calls) in
-    subst (λ (o : Option ℤ). made_of c.restore.new.timelines ≤ made_of c.args.timelines.now + option_map_or (λ (b : ℤ). calls_of (filter (λ (m : ℤ × ℕ). int_lt b m.0) images.kept_made) + images.made) o 0) c.in-Some.ensures most
+    subst (λ (o : Option ℤ). made_of c.restore.new.timelines ≤ made_of c.args.timelines.now + option_map_or (λ (b : ℤ). calls_of (filter (λ (m : ℤ × ℕ). int_lt b m.0) images.kept_made) + images.made) o 0) (sym (sym c.open_place-found.ensures ∙ c.in-Some.is)) most
