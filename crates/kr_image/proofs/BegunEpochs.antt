@@ -1,7 +1,7 @@
 -- Where the open transactions began: the epochs that are kept for them stay.
-use Rattle.std.proofs.Common.{◌≡◌, ◌∙◌, ℤ, Bool, true, false, cond, not, List, [], ◌∷◌, ◌++◌, refl, sym, ap, subst, map, filter, find, arith}
-use Rattle.std.specs.Prelude.{Option, Some, None, IfSome, IsSome, IsTrue, All, int_lt}
-use Rattle.std.specs.Option.{option_map, option_map_or}
+use Rattle.std.proofs.Common.{◌≡◌, ◌∙◌, ℤ, Bool, true, false, cond, not, List, [], ◌∷◌, ◌++◌, refl, sym, ap, subst, filter, arith}
+use Rattle.std.specs.Prelude.{Option, Some, None, IfSome, IsSome, IsTrue, int_lt}
+use Rattle.std.specs.Option.{option_map}
 use Rattle.std.specs.Ordering.{int_eq}
 use Rattle.std.specs.List.{AllByRecursion}
 use Rattle.std.proofs.lemmas.Int.{ints}
@@ -13,8 +13,8 @@ use Rattle.kr_defs.proofs.Tests.{some_is}
 use Rattle.kr_store.specs.Images.{AreBegun, AreBegunFrom, AreValid, kept_at}
 use Rattle.kr_image.specs.declared.kept_counts.KeptCounts.{KeptCounts}
 use Rattle.kr_image.specs.declared.timelines.Timelines.{Timelines}
-use Rattle.kr_image.specs.Timelines.{Keeps, keeps_of, image_in}
-use Rattle.kr_image.specs.KeptImages.{HaveBegins, IsStoreWith, HasBegin, IsListed, begins_in, listed_at, images_in, images_of}
+use Rattle.kr_image.specs.Timelines.{keeps_of, image_in}
+use Rattle.kr_image.specs.KeptImages.{HaveBegins, IsStoreWith, HasBegin, IsListed, begins_in, listed_at, images_of}
 use Rattle.kr_image.proofs.EpochEnds.{last, last_later}
 use Rattle.kr_image.proofs.KeptCalls.{made_epochs}
 use Rattle.kr_image.proofs.KeptLists.{all_map, all_mapped, all_passing, all_push, all_weaker, find_filter, find_map, filter_map_is, map_again}

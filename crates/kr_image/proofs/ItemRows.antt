@@ -2,7 +2,6 @@
 use Rattle.std.proofs.Common.{◌≡◌, ℕ, ℤ, refl, subst, sym}
 use Rattle.kr_defs.specs.declared.record.Item.{Item}
 use Rattle.kr_defs.specs.declared.record.Item.TheVariants as items
-use Rattle.kr_defs.specs.declared.record.Record.{Record}
 use Rattle.kr_defs.specs.declared.record.Record.TheVariants as kinds
 use Rattle.kr_defs.specs.LogStates.{LogState, abort_open, apply_at, begin_at, end_open, image_after}
 use Rattle.kr_defs.specs.Weight.{weight}
@@ -10,7 +9,7 @@ use Rattle.kr_store.specs.Images.{Images}
 use Rattle.kr_store.specs.ItemAnswers.{MayOpen, MayStand, calls_at, calls_to_undo, with_begin, with_epoch}
 use Rattle.kr_image.specs.declared.transactions.Role.{Role}
 use Rattle.kr_image.specs.declared.transactions.Role.TheVariants as roles
-use Rattle.kr_image.specs.inner.Roles.{item_role, role_of}
+use Rattle.kr_image.specs.inner.Roles.{item_role}
 
 pub record Begins (item : Item) : Type 0 where
   pub may : (images : Images) (place : ℤ) → MayStand images place item → MayOpen images place

@@ -1,5 +1,5 @@
 -- What an item makes of a store's state.
-use Rattle.std.proofs.Common.{◌≡◌, ◌∙◌, inl, inr, ℕ, ℤ, Bool, true, false, cond, not, List, [], ◌∷◌, ◌++◌, length, refl, sym, ap, subst, map, filter, find, arith}
+use Rattle.std.proofs.Common.{◌≡◌, ◌∙◌, inl, inr, ℕ, ℤ, Bool, true, false, cond, List, [], ◌∷◌, length, refl, sym, ap, subst, find}
 use Rattle.std.specs.Prelude.{Option, Some, None, Result, Ok, Err, IfSome, IsSome, IsTrue, OnOk, int_lt, is_some, slice_get, ◌-◌}
 use Rattle.std.specs.Option.{option_map, option_map_or}
 use Rattle.std.specs.Ordering.{int_eq}
@@ -13,15 +13,15 @@ use Rattle.kr_defs.specs.Apply.{apply}
 use Rattle.kr_defs.specs.Guard.{and_then, found}
 use Rattle.kr_defs.specs.Image.{Image}
 use Rattle.kr_defs.specs.LogStates.{LogState, Opened, abort_open, begin_at, closed, end_open, image_after}
-use Rattle.kr_store.specs.Images.{Images, AreValid, IsAbove, begun_under, kept_at, last_begun, last_image, last_kept, marked, opened_at, opened_under, log_place, tip_state}
+use Rattle.kr_store.specs.Images.{Images, AreValid, IsAbove, begun_under, kept_at, last_kept, marked, opened_at, log_place, tip_state}
 use Rattle.kr_store.specs.declared.places.ApplyFault.{ApplyFault}
 use Rattle.kr_store.specs.declared.places.ApplyFault.TheVariants as faults
 use Rattle.kr_store.specs.ItemAnswers.{Applies, Becomes, FallsBack, KeepsEpochs, MayOpen, with_epoch}
 use Rattle.kr_store.proofs.LastKept.{last_found as last_under}
 use Rattle.kr_image.specs.declared.kept_counts.KeptCounts.{KeptCounts}
 use Rattle.kr_image.specs.declared.timelines.Timelines.{Timelines}
-use Rattle.kr_image.specs.Timelines.{Keeps, keeps_of, image_in, made_of, present_image}
-use Rattle.kr_image.specs.KeptImages.{IsKept, IsListed, IsStore, IsStoreWith, HaveBegins, RevertsAll, begins_in, listed_at, images_in, images_of, made_in}
+use Rattle.kr_image.specs.Timelines.{Keeps, keeps_of, image_in}
+use Rattle.kr_image.specs.KeptImages.{IsKept, IsListed, IsStoreWith, HaveBegins, RevertsAll, listed_at, images_in, images_of, made_in}
 use Rattle.kr_image.proofs.BegunEpochs.{begun_at_last}
 use Rattle.kr_defs.proofs.Tests.{some_is}
 use Rattle.kr_image.proofs.EpochEnds.{last, last_later}

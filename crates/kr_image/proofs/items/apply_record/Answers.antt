@@ -1,9 +1,8 @@
 use Rattle.kr_defs.specs.declared.record.Item.TheVariants as items
 use Rattle.kr_defs.specs.Apply.{apply}
 use Rattle.kr_image.specs.Timelines.{present_image}
-use Rattle.kr_image.specs.KeptImages.{images_of}
 use Rattle.kr_image.proofs.Stores.{same_kept}
-use Rattle.kr_image.proofs.StoreStates.{goes_back_alike, same_epochs, some_still}
+use Rattle.kr_image.proofs.StoreStates.{some_still}
 use Rattle.kr_image.proofs.items.apply_record.Goals as goal
 
 pub returns-in-Ok-clause-store : goal.returns-in-Ok-clause-store

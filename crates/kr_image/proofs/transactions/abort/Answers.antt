@@ -1,7 +1,7 @@
-use Rattle.std.proofs.Common.{◌+◌, ◌≤◌, ◌∙◌, ap, arith, filter, refl, subst, sym, ℤ, ℕ}
-use Rattle.std.specs.Prelude.{Option, None, Some, IsSome, int_lt}
+use Rattle.std.proofs.Common.{◌+◌, ◌≤◌, ◌∙◌, arith, filter, refl, subst, sym, ℤ, ℕ}
+use Rattle.std.specs.Prelude.{Option, None, IsSome, int_lt}
 use Rattle.std.specs.Option.{option_map_or}
-use Rattle.kr_store.specs.Images.{Images, calls_of, kept_at}
+use Rattle.kr_store.specs.Images.{calls_of}
 use Rattle.kr_image.specs.Timelines.{keeps_of, made_of, present_image}
 use Rattle.kr_image.specs.KeptImages.{images_of, made_in}
 use Rattle.kr_image.proofs.BegunEpochs.{are_valid, none_begun}

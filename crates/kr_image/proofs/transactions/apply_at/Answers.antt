@@ -1,7 +1,4 @@
-use Rattle.std.proofs.Common.{◌≤◌, ◌+◌, ap, arith, subst, sym, ℕ}
-use Rattle.kr_defs.specs.LogStates.{LogState}
-use Rattle.kr_store.specs.Images.{Images, log_place, tip_state}
-use Rattle.kr_store.specs.ItemAnswers.{Becomes}
+use Rattle.kr_store.specs.Images.{log_place, tip_state}
 use Rattle.kr_image.specs.KeptImages.{images_of}
 use Rattle.kr_image.specs.declared.transactions.Role.TheVariants as roles
 use Rattle.kr_image.proofs.ItemRows.{row}

@@ -1,5 +1,4 @@
-use Rattle.std.proofs.Common.{ap, length, List, ℤ, ◌-◌}
-use Rattle.std.specs.Prelude.{IsSome, slice_get}
+use Rattle.std.specs.Prelude.{IsSome}
 use Rattle.kr_store.specs.Images.{Images, last_kept}
 use Rattle.kr_store.specs.ItemAnswers.{FallsBack}
 use Rattle.std.proofs.Common.{sym, subst}
