@@ -1,7 +1,7 @@
 //! When a quorum of this process alone commits.
 
 ghost use Rattle.std.specs.Prelude.{◌≡◌};
-ghost use Rattle.kr_host.specs.inner.Commits.{is_due, turns_behind};
+ghost use Rattle.kr_host.specs.inner.Commits.{commits_are_due, turns_behind};
 
 /// How many turns with a job a commit waits at most.
 pub(crate) const MOST_TURNS: u32 = 64;
@@ -24,7 +24,7 @@ impl Commits {
     /// Behind a turn, with a job or without: it is time to commit. It is where there was none, and behind 64 with one at the
     /// latest.
     pub(crate) fn are_due(&mut self, did: bool) -> bool
-        ensures due { result ≡ is_due self.old.turns did }
+        ensures due { result ≡ commits_are_due self.old.turns did }
         ensures turns { self.new.turns ≡ turns_behind self.old.turns did }
     {
         if did && self.turns < MOST_TURNS {
