@@ -1,0 +1,4 @@
+pub mod Handing
+pub mod Taking
+pub mod Settling
+pub mod Acting
