@@ -8,3 +8,11 @@ pub mod TakenBy
 pub mod Moved
 pub mod ReadMoves
 pub mod Rows
+pub mod RefusedMoves
+pub mod OwnEnds
+pub mod Arrivals
+pub mod Feeds
+pub mod Elections
+pub mod Asks
+pub mod Settlings
+pub mod Tellings

@@ -1,13 +1,17 @@
 -- For which moves a cluster stands: that of kr_nodes after them is the run of law_nodes.
 use Rattle.std.specs.Prelude.{◌≡◌, ◌≤◌, ◌<◌, ℕ, ℤ, pos, List, [], ◌∷◌, ◌++◌, map, length, Bool, true, false, IsTrue, FitsSigned, Option, Some, None, Result, Ok, Err}
 use Rattle.std.specs.Int.{w64}
-use Rattle.std.specs.List.{AllByRecursion}
+use Rattle.std.specs.List.{AllByRecursion, slice_get}
 use Rattle.kr_batch.specs.declared.Batch.{Batch}
 use Rattle.kr_batch.specs.BatchBytes.{batch_bytes}
 use Rattle.kr_calls.specs.Decide.{is_read}
 use Rattle.kr_calls.specs.declared.events.Event.TheVariants as events
 use Rattle.kr_defs.specs.declared.options.Options.{Options}
+use Rattle.kr_defs.specs.Image.{Image}
+use Rattle.kr_model.specs.declared.writes.Write.{Write}
 use Rattle.kr_model.specs.Engine.{IsEngine, outputs_left}
+use Rattle.kr_model.specs.World.{State}
+use Rattle.kr_store.specs.Images.{kept_at}
 use Rattle.law_nodes.specs.declared.moves.Move.{Move}
 use Rattle.law_nodes.specs.declared.moves.Move.TheVariants as moves
 use Rattle.law_nodes.specs.declared.moves.MoveFault.{MoveFault}
@@ -15,7 +19,7 @@ use Rattle.law_nodes.specs.declared.moves.MoveFault.TheVariants as faults
 use Rattle.law_nodes.specs.Moves.{committed_end, length_of, move_outcome, run}
 use Rattle.law_nodes.specs.NodeEvents.{writes_in}
 use Rattle.law_nodes.specs.Nodes.{NodeTold, Run, RunNode}
-use Rattle.law_nodes.specs.OneList.{list_items}
+use Rattle.law_nodes.specs.OneList.{Follows, StandsIn, list_items}
 use Rattle.law_nodes.specs.ReadingBack.{ReadsBack}
 use Rattle.kr_nodes.specs.declared.cluster.Cluster.{Cluster}
 use Rattle.kr_nodes.specs.declared.node.Node.{Node}
@@ -103,6 +107,28 @@ Answers options nodes past turn after (Err faults.NoMemory) = after.spent ≡ tr
 Answers options nodes past turn after (Err fault) = (move_outcome options (run options nodes past) turn ≡ Err fault) × StandsFor options nodes (past ++ turn ∷ []) after
 Answers options nodes past turn after (Ok done) =
     (next : Run) × (move_outcome options (run options nodes past) turn ≡ Ok next) × StandsFor options nodes (past ++ turn ∷ []) after
+
+-- ---- what is so of a cluster, whatever the moves were
+
+-- the node's log is the list's below its committed end, from its own start on
+pub record FollowsList (list : List Batch) (node : Node) : Type 0 where
+  pub state : State
+  pub writes : List Write
+  pub stands : IsEngine node.engine state writes
+  pub follows : Follows list state.world.log state.world.committed
+
+abbrev pub IsToldOf : List Batch → Told → Type 0
+IsToldOf list t = (place : ℕ) → t.place ≡ pos place → StandsIn (list_items list) place t.items
+
+pub record ClusterAgrees (c : Cluster) : Type 0 where
+  pub list : List Batch
+  pub list_is : c.shared.list.items ≡ map list_batch list
+  pub follow : (k : ℕ) (node : Node) → slice_get c.nodes.items k ≡ Some node → FollowsList list node
+  -- equal ends have equal images
+  pub equal : (j k : ℕ) (m n : Node) → slice_get c.nodes.items j ≡ Some m → slice_get c.nodes.items k ≡ Some n → m.engine.committed ≡ n.engine.committed
+      → (image : Image) × (kept_at m.engine.images m.engine.committed ≡ Some image) × (kept_at n.engine.images n.engine.committed ≡ Some image)
+  -- what was told to have been written stands in the list
+  pub told : AllByRecursion (IsToldOf list) c.shared.told.items
 
 -- so many nodes to which nothing has happened
 abbrev pub AreFirst : Options → ℕ → List Node → Type 0

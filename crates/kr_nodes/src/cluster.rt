@@ -1,13 +1,21 @@
 //! Several controllers over one committed list.
 
-ghost use Rattle.std.specs.Prelude.{◌≡◌, [], ◌<◌, ◌≤◌, ℕ, Bool, false, true, IfOk, IsErrOf, IsTrue, List, OnErr, OnOk, Some, None, pos, length, map};
+ghost use Rattle.std.specs.Prelude.{◌≡◌, [], ◌++◌, ◌∷◌, ◌<◌, ◌≤◌, ℕ, IfOk, IsErrOf, IsTrue, List, MatchResult, None, Some, false, map, pos, true};
+ghost use Rattle.std.specs.List.{slice_get};
+ghost use Rattle.std.specs.Option.{option_map};
 ghost use Rattle.kr_defs.specs.OpenOptions.{are_options};
 ghost use Rattle.kr_defs.specs.declared.options.Options.{Options as AnyOptions};
 ghost use Rattle.law_nodes.specs.declared.moves.Move.{Move as AnyMove};
-ghost use Rattle.law_nodes.specs.Moves as table;
+ghost use Rattle.law_nodes.specs.declared.moves.Move.TheVariants as moves;
+ghost use Rattle.law_nodes.specs.declared.moves.MoveFault.TheVariants as faults;
+ghost use Rattle.law_nodes.specs.Moves.{committed_end, length_of, run};
+ghost use Rattle.kr_nodes.specs.inner.Acting as acting;
+ghost use Rattle.kr_nodes.specs.inner.Acting.{AreIdle, IsOfOne, MakesSome};
 ghost use Rattle.kr_nodes.specs.Standing as standing;
-ghost use Rattle.kr_nodes.specs.Standing.{IsReady, IsWriteMove, StandsFor};
+ghost use Rattle.kr_nodes.specs.Standing.{Answers, ClusterAgrees, IsReady, IsWriteMove, StandsFor, told_as};
 
+use crate::copying::{check_copy, image_at, load_at};
+use crate::moving::act_at;
 use crate::Told;
 use crate::node::Node;
 use crate::shared::Shared;
@@ -87,5 +95,132 @@ impl Cluster {
             },
             spent: false,
         })
+    }
+
+    /// One move. It is refused by the first reason of the table, and then all is as before; or memory was wanted, and then
+    /// nothing more is done with the cluster.
+    pub fn step(&mut self, turn: Move) -> Result<(), MoveFault>
+        requires ready { IsReady self.old }
+        requires write { IsWriteMove turn }
+        ensures moved { (options : AnyOptions) (nodes : ℕ) (past : List AnyMove) →
+            StandsFor options nodes past self.old → Answers options nodes past turn self.new result }
+        // Two nodes with equal ends have equal images, and each success that a leader told stands at its place in the
+        // one list, of which each node's log is a part.
+        ensures agrees { self.new.spent ≡ false → ClusterAgrees self.new }
+        ensures ready { IsReady self.new }
+        ensures spent { self.old.spent ≡ true → IsErrOf result faults.NoMemory × (self.new.spent ≡ true) }
+    {
+        if self.spent {
+            return Err(MoveFault::NoMemory);
+        }
+        let result = self.make::<Brand>(turn, Blank::new(1));
+        if let Err(MoveFault::NoMemory) = &result {
+            self.spent = true;
+        }
+        result
+    }
+
+    fn make<L: Ledger>(&mut self, turn: Move, blank: Blank) -> Result<(), MoveFault>
+        requires idle { AreIdle self.old.nodes.items }
+        requires write { IsWriteMove turn }
+        requires name { blank.name ≡ L.name }
+        requires parts { blank.parts ≡ L.parts }
+        requires some { 0 < L.parts }
+        ensures { MakesSome self.old self.new turn result }
+    {
+        let mut steps: Steps<L> = Steps::new(blank);
+        match turn {
+            Move::Copy { from, to } => self.copy(from, to, &mut steps),
+            turn => self.make_one(turn, &mut steps),
+        }
+    }
+
+    fn check_node(&self, node: u32) -> Result<(), MoveFault>
+        ensures { MatchResult result (λ _. node < self.now.count)
+            (λ fault. (self.now.count ≤ node) × (fault ≡ faults.NoNode node self.now.count)) }
+    {
+        if node < self.count {
+            return Ok(());
+        }
+        Err(MoveFault::NoNode {
+            node,
+            count: self.count,
+        })
+    }
+
+    fn make_one<L: Ledger>(
+        &mut self,
+        turn: Move,
+        steps: &mut Steps<L>,
+    ) -> Result<(), MoveFault>
+        requires idle { AreIdle self.old.nodes.items }
+        requires write { IsWriteMove turn }
+        requires one { IsOfOne turn }
+        ensures { MakesSome self.old self.new turn result }
+    {
+        let node = node_of(&turn);
+        self.check_node(node)?;
+        act_at(&mut self.nodes, node, turn, &mut self.shared, steps)
+    }
+
+    fn copy<L: Ledger>(
+        &mut self,
+        from: u32,
+        to: u32,
+        steps: &mut Steps<L>,
+    ) -> Result<(), MoveFault>
+        requires idle { AreIdle self.old.nodes.items }
+        ensures { MakesSome self.old self.new (moves.Copy from to) result }
+    {
+        self.check_node(from)?;
+        self.check_node(to)?;
+        let (end, fed) = check_copy(&self.nodes, from, to)?;
+        let event = image_at(&mut self.nodes, from, &mut self.shared, steps)?;
+        load_at(&mut self.nodes, to, &event, end, fed, &mut self.shared.told, steps)?;
+        Ok(())
+    }
+
+    /// How many items the list has.
+    pub fn length(&self) -> i64
+        ensures { (options : AnyOptions) (nodes : ℕ) (past : List AnyMove) →
+            StandsFor options nodes past self.now → result ≡ pos (length_of (run options nodes past)) }
+    {
+        self.shared.length
+    }
+
+    /// A node's committed end, none where there is no such node.
+    pub fn end(&self, node: u32) -> Option<i64>
+        ensures { (options : AnyOptions) (nodes : ℕ) (past : List AnyMove) → StandsFor options nodes past self.now →
+            result ≡ option_map (λ n. pos (committed_end n)) (slice_get (run options nodes past).nodes node) }
+    {
+        match self.nodes.get(node as usize) {
+            Some(node) => Some(node.engine.committed()),
+            None => None,
+        }
+    }
+
+    /// What clients were told, in order.
+    pub fn told(&self) -> &[Told]
+        ensures { (options : AnyOptions) (nodes : ℕ) (past : List AnyMove) →
+            StandsFor options nodes past self.now → result.now ≡ map told_as (run options nodes past).told }
+    {
+        self.shared.told.as_slice()
+    }
+}
+
+// The node of a move of one node.
+fn node_of(turn: &Move) -> u32
+    requires { IsOfOne turn.now }
+    ensures { result ≡ acting.node_of turn.now }
+{
+    match turn {
+        Move::Feed { node }
+        | Move::Elect { node, .. }
+        | Move::Ask { node, .. }
+        | Move::Tick { node, .. }
+        | Move::Settle { node }
+        | Move::Tell { node }
+        | Move::Depose { node } => *node,
+        Move::Copy { from, .. } => *from,
     }
 }

@@ -1,8 +1,11 @@
 //! Several controllers in one process, over one committed list of batches: the moves of an outside are made with them.
 #![tactic(auto)]
 
+mod acting;
 mod cluster;
+mod copying;
 mod handing;
+mod moving;
 mod node;
 mod shared;
 mod told;

@@ -1,30 +1,27 @@
 -- What a move makes of its node, and of what the nodes share.
-use Rattle.std.specs.Prelude.{◌≡◌, ℕ, ℤ, pos, List, [], ◌∷◌, ◌++◌, set, Bool, false, Option, Some, None, Result, Ok, Err}
+use Rattle.std.specs.Prelude.{◌≡◌, ◌+◌, ◌+ℤ◌, ℕ, ℤ, pos, List, [], ◌∷◌, ◌++◌, set, Bool, false, if◌then◌else◌, Option, Some, None, Result, Ok, Err}
+use Rattle.std.specs.Int.{saturate_signed, w64}
+use Rattle.std.specs.Ordering.{int_eq}
 use Rattle.std.specs.List.{AllByRecursion, slice_get}
 use Rattle.kr_calls.specs.declared.calls.Ask.TheVariants as asks
 use Rattle.kr_calls.specs.declared.calls.Call.{Call}
 use Rattle.kr_calls.specs.declared.calls.Request.{Request}
-use Rattle.kr_calls.specs.declared.events.Event.{Event}
 use Rattle.kr_calls.specs.declared.events.Event.TheVariants as events
 use Rattle.kr_calls.specs.Decide.{is_read}
 use Rattle.kr_batch.specs.declared.Batch.{Batch}
 use Rattle.kr_defs.specs.declared.options.Options.{Options}
-use Rattle.kr_defs.specs.Image.{Image}
 use Rattle.kr_model.specs.Engine.{IsSound, outputs_left}
-use Rattle.kr_model.specs.Load.{take_image}
-use Rattle.kr_model.specs.World.{State, image_of_end}
-use Rattle.kr_snapshot.specs.Reading.{image_of}
 use Rattle.law_nodes.specs.declared.moves.Move.{Move}
 use Rattle.law_nodes.specs.declared.moves.Move.TheVariants as moves
 use Rattle.law_nodes.specs.declared.moves.MoveFault.{MoveFault}
 use Rattle.law_nodes.specs.declared.moves.MoveFault.TheVariants as faults
 use Rattle.law_nodes.specs.Moves as table
-use Rattle.law_nodes.specs.Moves.{after_arrival, committed_end, run, with_event}
-use Rattle.law_nodes.specs.Nodes.{NodeTold, Run, RunNode}
+use Rattle.law_nodes.specs.Moves.{run, with_event}
+use Rattle.law_nodes.specs.Nodes.{Run, RunNode}
+use Rattle.kr_nodes.specs.declared.cluster.Cluster.{Cluster}
 use Rattle.kr_nodes.specs.declared.node.Node.{Node}
 use Rattle.kr_nodes.specs.declared.shared.Shared.{Shared}
-use Rattle.kr_nodes.specs.declared.told.Told.{Told}
-use Rattle.kr_nodes.specs.Standing.{AreBelow, StandsForNode, StandsForShared, told_as}
+use Rattle.kr_nodes.specs.Standing.{StandsForNode, StandsForRun, StandsForShared}
 
 -- the next event may come
 pub record IsIdleNode (node : Node) : Type 0 where
@@ -33,6 +30,21 @@ pub record IsIdleNode (node : Node) : Type 0 where
 
 abbrev pub AreIdle : List Node → Type 0
 AreIdle nodes = AllByRecursion IsIdleNode nodes
+
+-- ---- places behind an event
+
+abbrev pub passed : ℤ → Node → ℕ
+passed before node = if int_eq node.engine.committed before then node.fed else node.fed + 1
+
+abbrev pub caught_up : ℤ → Node → ℕ
+caught_up end node = if int_eq node.engine.committed end then node.sent else node.fed
+
+abbrev pub skipped : ℤ → ℕ → Node → ℕ
+skipped end fed node = if int_eq node.engine.committed end then fed else node.fed
+
+-- an end, so many items later
+abbrev pub longer : ℤ → ℕ → ℤ
+longer end count = saturate_signed w64 (end +ℤ pos count)
 
 abbrev pub IsWrite : Request → Type 0
 IsWrite request = is_read request ≡ false
@@ -103,19 +115,24 @@ pub record ActsAt (row : Row) (k : ℕ) (nodes nodes' : List Node) (shared share
   pub put : nodes' ≡ set nodes k after
   pub acts : Acts row k before after shared shared' result
 
--- ---- images
+-- ---- of all nodes
 
--- the image of its end is read back as it
-abbrev pub GivesImage : Node → Event → Type 0
-GivesImage node (events.Load bytes) =
-    (options : Options) (list : List Batch) (n : RunNode) → StandsForNode options list n node → image_of bytes ≡ Ok (node.engine.committed, image_of_end n.state)
-GivesImage node other = ⊥
+abbrev pub node_of : Move → ℕ
+node_of (moves.Feed node) = node
+node_of (moves.Elect node epoch now) = node
+node_of (moves.Ask node client now call) = node
+node_of (moves.Tick node now) = node
+node_of (moves.Settle node) = node
+node_of (moves.Tell node) = node
+node_of (moves.Depose node) = node
+node_of (moves.Copy from to) = from
 
-abbrev pub LoadsBytes : ℕ → Node → Node → List ℕ → ℤ → ℕ → List Told → List Told → Type 0
-LoadsBytes k before after bytes end fed told told' =
-    (options : Options) (list : List Batch) (n : RunNode) (image : Image) → StandsForNode options list n before → n.state.world.leading ≡ None
-    → image_of bytes ≡ Ok (end, image) → ((place : ℕ) → end ≡ pos place → AreBelow list place fed → StandsForNode options list (after_arrival n (take_image n.state (end, image))) after) × (told' ≡ told)
+-- the answer is the table's
+abbrev pub Makes : Options → Run → Result Run MoveFault → Cluster → Result (Unit {0}) MoveFault → Type 0
+Makes options r outcome after (Ok done) = (next : Run) × (outcome ≡ Ok next) × StandsForRun options next after
+Makes options r outcome after (Err faults.NoMemory) = Unit {0}
+Makes options r outcome after (Err fault) = (outcome ≡ Err fault) × StandsForRun options r after
 
-abbrev pub Loads : ℕ → Node → Node → Event → ℤ → ℕ → List Told → List Told → Type 0
-Loads k before after (events.Load bytes) end fed told told' = LoadsBytes k before after bytes end fed told told'
-Loads k before after other end fed told told' = Unit {0}
+abbrev pub MakesSome : Cluster → Cluster → Move → Result (Unit {0}) MoveFault → Type 0
+MakesSome before after turn result =
+    (options : Options) (r : Run) → IsReached options r → StandsForRun options r before → Makes options r (table.move_outcome options r turn) after result
