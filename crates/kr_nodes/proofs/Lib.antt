@@ -16,3 +16,7 @@ pub mod Elections
 pub mod Asks
 pub mod Settlings
 pub mod Tellings
+pub mod Copies
+pub mod Clusters
+pub mod CopyMoves
+pub mod Agreements

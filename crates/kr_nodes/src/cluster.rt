@@ -1,6 +1,6 @@
 //! Several controllers over one committed list.
 
-ghost use Rattle.std.specs.Prelude.{◌≡◌, [], ◌++◌, ◌∷◌, ◌<◌, ◌≤◌, ℕ, IfOk, IsErrOf, IsTrue, List, MatchResult, None, Some, false, map, pos, true};
+ghost use Rattle.std.specs.Prelude.{◌≡◌, [], ◌++◌, ◌∷◌, ◌<◌, ◌≤◌, ℕ, IfOk, IsErrOf, IsTrue, List, MatchResult, None, Some, false, length, map, pos, true};
 ghost use Rattle.std.specs.List.{slice_get};
 ghost use Rattle.std.specs.Option.{option_map};
 ghost use Rattle.kr_defs.specs.OpenOptions.{are_options};
@@ -114,9 +114,7 @@ impl Cluster {
             return Err(MoveFault::NoMemory);
         }
         let result = self.make::<Brand>(turn, Blank::new(1));
-        if let Err(MoveFault::NoMemory) = &result {
-            self.spent = true;
-        }
+        self.spent = is_memory(&result);
         result
     }
 
@@ -136,10 +134,10 @@ impl Cluster {
     }
 
     fn check_node(&self, node: u32) -> Result<(), MoveFault>
-        ensures { MatchResult result (λ _. node < self.now.count)
-            (λ fault. (self.now.count ≤ node) × (fault ≡ faults.NoNode node self.now.count)) }
+        ensures { MatchResult result (λ _. node < length self.now.nodes.items)
+            (λ fault. (length self.now.nodes.items ≤ node) × (fault ≡ faults.NoNode node self.now.count)) }
     {
-        if node < self.count {
+        if (node as usize) < self.nodes.len() {
             return Ok(());
         }
         Err(MoveFault::NoNode {
@@ -206,6 +204,12 @@ impl Cluster {
     {
         self.shared.told.as_slice()
     }
+}
+
+fn is_memory(answer: &Result<(), MoveFault>) -> bool
+    ensures { result ≡ acting.is_memory answer.now }
+{
+    matches!(answer, Err(MoveFault::NoMemory))
 }
 
 // The node of a move of one node.
