@@ -24,8 +24,8 @@ use Rattle.law_nodes.proofs.AllMoves.{nodes_agree}
 use Rattle.kr_nodes.specs.declared.cluster.Cluster.{Cluster}
 use Rattle.kr_nodes.specs.declared.node.Node.{Node}
 use Rattle.kr_nodes.specs.declared.told.Told.{Told}
-use Rattle.kr_nodes.specs.inner.Acting.{AreIdle, IsIdleNode, IsReached, Makes, MakesSome, is_memory}
-use Rattle.kr_nodes.specs.Standing.{AllPairs, Answers, ClusterAgrees, FollowsList, IsReady, IsToldOf, StandsFor, StandsForNode, StandsForRun, StandsForShared, StandsForSome, told_as}
+use Rattle.kr_nodes.specs.inner.Acting.{AreIdle, IsIdleNode, IsReached, Makes, MakesSome}
+use Rattle.kr_nodes.specs.Standing.{AllPairs, Answers, ClusterAgrees, FollowsList, IsReady, IsToldOf, StandsFor, StandsForNode, StandsForRun, StandsForShared, StandsForSome, is_memory, told_as}
 use Rattle.kr_nodes.proofs.Clusters.{there}
 use Rattle.kr_nodes.proofs.Copies.{kept_end}
 

@@ -101,6 +101,10 @@ pub record StandsForSome (c : Cluster) : Type 0 where
 abbrev pub IsReady : Cluster → Type 0
 IsReady c = c.spent ≡ false → StandsForSome c
 
+abbrev pub is_memory : Result (Unit {0}) MoveFault → Bool
+is_memory (Err faults.NoMemory) = true
+is_memory other = false
+
 -- the answer is the table's, and the cluster stands for one move more
 abbrev pub Answers : Options → ℕ → List Move → Move → Cluster → Result (Unit {0}) MoveFault → Type 0
 Answers options nodes past turn after (Err faults.NoMemory) = after.spent ≡ true

@@ -81,7 +81,8 @@ impl Cluster {
         requires some { 1 ≤ nodes }
         requires few { nodes ≤ 16 }
         requires options { IsTrue (are_options options) }
-        ensures { IfOk result (λ cluster. StandsFor options nodes [] cluster) }
+        ensures stands { IfOk result (λ cluster. StandsFor options nodes [] cluster) }
+        ensures ready { IfOk result (λ cluster. IsReady cluster) }
     {
         Ok(Cluster {
             nodes: first_nodes(alloc, &options, nodes)?,
@@ -108,7 +109,8 @@ impl Cluster {
         // one list, of which each node's log is a part.
         ensures agrees { self.new.spent ≡ false → ClusterAgrees self.new }
         ensures ready { IsReady self.new }
-        ensures spent { self.old.spent ≡ true → IsErrOf result faults.NoMemory × (self.new.spent ≡ true) }
+        ensures spent { self.new.spent ≡ standing.is_memory result }
+        ensures over { self.old.spent ≡ true → IsErrOf result faults.NoMemory }
     {
         if self.spent {
             return Err(MoveFault::NoMemory);
@@ -186,6 +188,14 @@ impl Cluster {
         self.shared.length
     }
 
+    /// The greatest epoch in which a node was elected, at first -1.
+    pub fn elected(&self) -> i32
+        ensures { (options : AnyOptions) (nodes : ℕ) (past : List AnyMove) →
+            StandsFor options nodes past self.now → result ≡ (run options nodes past).elected }
+    {
+        self.shared.elected
+    }
+
     /// A node's committed end, none where there is no such node.
     pub fn end(&self, node: u32) -> Option<i64>
         ensures { (options : AnyOptions) (nodes : ℕ) (past : List AnyMove) → StandsFor options nodes past self.now →
@@ -207,7 +217,7 @@ impl Cluster {
 }
 
 fn is_memory(answer: &Result<(), MoveFault>) -> bool
-    ensures { result ≡ acting.is_memory answer.now }
+    ensures { result ≡ standing.is_memory answer.now }
 {
     matches!(answer, Err(MoveFault::NoMemory))
 }

@@ -1,5 +1,5 @@
 -- What a move makes of its node, and of what the nodes share.
-use Rattle.std.specs.Prelude.{◌≡◌, ◌+◌, ◌+ℤ◌, ℕ, ℤ, pos, List, [], ◌∷◌, ◌++◌, set, Bool, true, false, if◌then◌else◌, Option, Some, None, Result, Ok, Err}
+use Rattle.std.specs.Prelude.{◌≡◌, ◌+◌, ◌+ℤ◌, ℕ, ℤ, pos, List, [], ◌∷◌, ◌++◌, set, Bool, false, if◌then◌else◌, Option, Some, None, Result, Ok, Err}
 use Rattle.std.specs.Int.{saturate_signed, w64}
 use Rattle.std.specs.Ordering.{int_eq}
 use Rattle.std.specs.List.{AllByRecursion, slice_get}
@@ -126,10 +126,6 @@ node_of (moves.Settle node) = node
 node_of (moves.Tell node) = node
 node_of (moves.Depose node) = node
 node_of (moves.Copy from to) = from
-
-abbrev pub is_memory : Result (Unit {0}) MoveFault → Bool
-is_memory (Err faults.NoMemory) = true
-is_memory other = false
 
 -- the answer is the table's
 abbrev pub Makes : Options → Run → Result Run MoveFault → Cluster → Result (Unit {0}) MoveFault → Type 0
