@@ -1,9 +1,10 @@
 -- The first batch of the latest leader that isn't in the list joins it.
 use Rattle.std.proofs.Common.{◌≡◌, ◌∙◌, sym, subst, ℕ, ℤ, pos, ◌+◌, ◌^◌, ◌-◌, ◌<◌, ◌≤◌, Bool, true, false, cond, List, [], ◌∷◌, ◌++◌, length, length-append, map, set, refl, ap, arith}
-use Rattle.std.specs.Prelude.{◌+ℤ◌, ◌<ℤ◌, ◌≤ℤ◌, Option, Some, None, Result, Ok, Err, min, not, unsigned_abs}
+use Rattle.std.specs.Prelude.{◌+ℤ◌, ◌<ℤ◌, ◌≤ℤ◌, Option, Some, None, Result, Ok, Err, not, unsigned_abs}
 use Rattle.std.specs.Int.{saturate_signed, w64}
 use Rattle.std.specs.List.{AllByRecursion, slice_get}
 use Rattle.std.specs.Ordering.{int_eq}
+use Rattle.std.proofs.Math.Nat.{min-eq_left}
 use Rattle.std.proofs.lemmas.Bool.Decides.{nat_tests}
 use Rattle.std.proofs.lemmas.Int.{ints}
 use Rattle.std.proofs.lemmas.List.{append-nil, length-map, map-append}
@@ -41,10 +42,7 @@ use Rattle.kr_nodes.proofs.RefusedMoves.{leading_goes}
 pub within : (m : ℕ) → m ≤ unsigned_abs PLACES_END → (z : ℤ) (count : ℕ) → (z +ℤ pos count) ≡ pos m → longer z count ≡ pos m
 within m low z count is =
     ap (λ (x : ℤ). saturate_signed w64 x) is
-    ∙ ap (λ x. pos x) (least m (2 ^ 63 - 1) (omega (arith, low)))
-  where
-    least : (a b : ℕ) → a ≤ b → min a b ≡ a
-    least a b le = ?
+    ∙ ap (λ x. pos x) (let le : m ≤ 2 ^ 63 - 1 = omega (arith, low) in min-eq_left le)
 
 head_is : {X : Type 0} (x y : X) (xs ys : List X) → x ∷ xs ≡ y ∷ ys → (x ≡ y) × (xs ≡ ys)
 head_is x y xs ys is = (cc, cc)
