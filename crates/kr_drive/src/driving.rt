@@ -35,7 +35,8 @@ impl Drop for Driver {
 
 impl Driver {
     fn new(alloc: Global, seed: u32) -> Result<Driver, NoMemory>
-        ensures stands { IfOk result (λ driver. HasDriven seed 0 (driving.nothing_driven seed) driver) }
+        ensures stands { IfOk result (λ driver. HasDriven seed 0
+            (driving.nothing_driven seed) driver) }
         ensures may { IfOk result (λ driver. MayDrive 0 driver) }
     {
         let options = options(alloc, seed)?;
@@ -89,7 +90,8 @@ impl Driver {
     fn rounds(&mut self, rounds: u32) -> Result<(), NoMemory>
         requires few { rounds ≤ 1000000000 }
         requires first { MayDrive 0 self.old }
-        ensures stands { OnOk result ((seed : ℕ) → HasDriven seed 0 (driving.nothing_driven seed) self.old →
+        ensures stands { OnOk result ((seed : ℕ) →
+            HasDriven seed 0 (driving.nothing_driven seed) self.old →
             HasDriven seed rounds (driving.driven seed rounds) self.new) }
         ensures may { OnOk result (MayDrive rounds self.new) }
     {
@@ -101,7 +103,8 @@ impl Driver {
 
     fn summary(&self, rounds: u32) -> NodesSummary
         requires { MayDrive rounds self.now }
-        ensures { (seed : ℕ) (d : Driven) → HasDriven seed rounds d self.now → result ≡ driving.summary_of seed rounds d }
+        ensures { (seed : ℕ) (d : Driven) → HasDriven seed rounds d self.now →
+            result ≡ driving.summary_of seed rounds d }
     {
         NodesSummary {
             moves: self.made,

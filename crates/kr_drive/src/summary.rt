@@ -42,7 +42,8 @@ pub(crate) fn count_standing(told: &[Told]) -> u64
 
 // Adds a line of a word and a number.
 fn add_line(alloc: Global, text: &mut String, word: &str, number: u64) -> Result<(), AllocError>
-    ensures { OnOk result (string_bytes text.new ≡ string_bytes text.old ++ number_line word.now number) }
+    ensures { OnOk result (string_bytes text.new
+        ≡ string_bytes text.old ++ number_line word.now number) }
 {
     let line = format!(in alloc; "{word} {number}\n")?;
     text.push_str(&line)

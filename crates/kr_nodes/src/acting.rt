@@ -1,8 +1,6 @@
 //! What a move makes of its node.
 
-ghost use Rattle.std.specs.Prelude.{◌≡◌, ◌&&◌, ◌<◌, ◌≤◌, ◌+◌, ◌^◌, ◌<ℤ◌, ◌⊎◌, [], ◌∷◌, IfOk, IfErr, List, MatchResult, None, Ok, Err, OnOk, Option, Some, ℕ, ℤ, if◌then◌else◌, int_lt, is_some, length, not, pos, true, false};
-ghost use Rattle.std.specs.List.{slice_get};
-ghost use Rattle.std.specs.Ordering.{int_eq};
+ghost use Rattle.std.specs.Prelude.{◌≡◌, ◌&&◌, ◌<◌, ◌+◌, ◌^◌, ◌++◌, [], MatchResult, None, Some, if◌then◌else◌, is_some, not, option_to_list};
 ghost use Rattle.kr_calls.specs.declared.calls.Ask.TheVariants as asks;
 ghost use Rattle.kr_calls.specs.declared.events.Event.TheVariants as events;
 ghost use Rattle.kr_model.specs.World.{is_far};
@@ -189,9 +187,11 @@ impl Node {
 
     // Its first batch that isn't in the list.
     fn pop_unsettled(&mut self) -> Option<ListBatch>
-        ensures items { self.old.pending.unsettled.items ≡ option_to_list result ++ self.new.pending.unsettled.items }
+        ensures items { self.old.pending.unsettled.items
+            ≡ option_to_list result ++ self.new.pending.unsettled.items }
         ensures none { result ≡ None → self.old.pending.unsettled.items ≡ [] }
-        ensures same { self.new ≡ record self.old { pending = record self.old.pending { unsettled = self.new.pending.unsettled } } }
+        ensures same { self.new ≡ record
+            self.old { pending = record self.old.pending { unsettled = self.new.pending.unsettled } } }
     {
         self.pending.unsettled.pop_front()
     }
@@ -225,7 +225,8 @@ impl Node {
         steps: &mut Steps<L>,
     ) -> Result<(), MoveFault>
         requires { IsIdleNode self.old }
-        ensures { Acts (λ _ r n. table.feed r number n) number self.old self.new shared.old shared.new result }
+        ensures { Acts (λ _ r n. table.feed r number n)
+            number self.old self.new shared.old shared.new result }
     {
         let batch = self.batch_to_feed(number, shared.list.as_slice())?;
         let before = self.engine.committed();
@@ -245,7 +246,8 @@ impl Node {
         steps: &mut Steps<L>,
     ) -> Result<(), MoveFault>
         requires { IsIdleNode self.old }
-        ensures { Acts (λ options r n. table.elect options r number n epoch now) number self.old self.new shared.old shared.new result }
+        ensures { Acts (λ options r n. table.elect options r number n epoch now)
+            number self.old self.new shared.old shared.new result }
     {
         let next = self.check_elect(number, epoch, shared)?;
         let event = lead_event(epoch, next, now);
@@ -267,7 +269,8 @@ impl Node {
     ) -> Result<(), MoveFault>
         requires idle { IsIdleNode self.old }
         requires write { IsWrite call.request }
-        ensures { Acts (λ options r n. acting.ask options r number n client now call) number self.old self.new shared.old shared.new result }
+        ensures { Acts (λ options r n. acting.ask options r number n client now call)
+            number self.old self.new shared.old shared.new result }
     {
         let is_decided = self.decides();
         let event = request_event(client, now, call);
@@ -284,7 +287,8 @@ impl Node {
         steps: &mut Steps<L>,
     ) -> Result<(), MoveFault>
         requires { IsIdleNode self.old }
-        ensures { Acts (λ options r n. acting.tick options r number n now) number self.old self.new shared.old shared.new result }
+        ensures { Acts (λ options r n. acting.tick options r number n now)
+            number self.old self.new shared.old shared.new result }
     {
         let event = tick_event(now);
         self.take(number, &event, false, &mut shared.told, steps)?;
@@ -293,7 +297,8 @@ impl Node {
 
     /// Its first batch that isn't in the list joins it.
     pub(crate) fn settle(&mut self, number: u32, shared: &mut Shared) -> Result<(), MoveFault>
-        ensures { Acts (λ _ r n. table.settle r number n) number self.old self.new shared.old shared.new result }
+        ensures { Acts (λ _ r n. table.settle r number n)
+            number self.old self.new shared.old shared.new result }
     {
         self.check_settle(number, shared)?;
         let Some(batch) = self.pop_unsettled() else {
@@ -313,7 +318,8 @@ impl Node {
         steps: &mut Steps<L>,
     ) -> Result<(), MoveFault>
         requires { IsIdleNode self.old }
-        ensures { Acts (λ options r n. table.tell options r number n) number self.old self.new shared.old shared.new result }
+        ensures { Acts (λ options r n. table.tell options r number n)
+            number self.old self.new shared.old shared.new result }
     {
         let epoch = self.check_tell(number)?;
         let end = self.settled;
@@ -331,7 +337,8 @@ impl Node {
         steps: &mut Steps<L>,
     ) -> Result<(), MoveFault>
         requires { IsIdleNode self.old }
-        ensures { Acts (λ options r n. table.depose options r number n) number self.old self.new shared.old shared.new result }
+        ensures { Acts (λ options r n. table.depose options r number n)
+            number self.old self.new shared.old shared.new result }
     {
         let epoch = self.led_epoch(number)?;
         let event = lost_event(epoch);

@@ -137,7 +137,8 @@ impl Cluster {
 
     fn check_node(&self, node: u32) -> Result<(), MoveFault>
         ensures { MatchResult result (λ _. node < length self.now.nodes.items)
-            (λ fault. (length self.now.nodes.items ≤ node) × (fault ≡ faults.NoNode node self.now.count)) }
+            (λ fault. (length self.now.nodes.items ≤ node)
+                × (fault ≡ faults.NoNode node self.now.count)) }
     {
         if (node as usize) < self.nodes.len() {
             return Ok(());
@@ -198,7 +199,8 @@ impl Cluster {
 
     /// A node's committed end, none where there is no such node.
     pub fn end(&self, node: u32) -> Option<i64>
-        ensures { (options : AnyOptions) (nodes : ℕ) (past : List AnyMove) → StandsFor options nodes past self.now →
+        ensures { (options : AnyOptions) (nodes : ℕ) (past : List AnyMove) →
+            StandsFor options nodes past self.now →
             result ≡ option_map (λ n. pos (committed_end n)) (slice_get (run options nodes past).nodes node) }
     {
         match self.nodes.get(node as usize) {

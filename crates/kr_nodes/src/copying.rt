@@ -48,7 +48,8 @@ impl Node {
         steps: &mut Steps<L>,
     ) -> Result<Event, NoMemory>
         requires { IsIdleNode self.old }
-        ensures { IfOk result (λ event. Images number self.old self.new shared.old shared.new event) }
+        ensures { IfOk result (λ event. Images
+            number self.old self.new shared.old shared.new event) }
     {
         let event = self.image_event()?;
         self.take(number, &Event::Image, false, &mut shared.told, steps)?;
@@ -66,7 +67,8 @@ impl Node {
         steps: &mut Steps<L>,
     ) -> Result<(), NoMemory>
         requires { IsIdleNode self.old }
-        ensures { OnOk result (Loads number self.old self.new event.now end fed told.old.items told.new.items) }
+        ensures { OnOk result (Loads number
+            self.old self.new event.now end fed told.old.items told.new.items) }
     {
         self.take(number, event, false, told, steps)?;
         self.skip_to(end, fed);
@@ -79,7 +81,8 @@ impl Node {
 pub(crate) fn check_copy(nodes: &[Node], from: u32, to: u32) -> Result<(i64, usize), MoveFault>
     requires from { from < length nodes.now }
     requires to { to < length nodes.now }
-    ensures { MatchResult result (λ found. MayCopy nodes.now from to found.0 found.1) (λ fault. IsCopyFault nodes.now from to fault) }
+    ensures { MatchResult result (λ found. MayCopy nodes.now from to found.0 found.1)
+        (λ fault. IsCopyFault nodes.now from to fault) }
 {
     let source = &nodes[from as usize];
     let target = &nodes[to as usize];
@@ -101,7 +104,8 @@ pub(crate) fn image_at<L: Ledger>(
 ) -> Result<Event, NoMemory>
     requires there { number < length nodes.old.items }
     requires idle { AreIdle nodes.old.items }
-    ensures { IfOk result (λ event. ImagesAt number nodes.old.items nodes.new.items shared.old shared.new event) }
+    ensures { IfOk result (λ event. ImagesAt
+        number nodes.old.items nodes.new.items shared.old shared.new event) }
 {
     nodes[number as usize].image(number, shared, steps)
 }
@@ -118,7 +122,8 @@ pub(crate) fn load_at<L: Ledger>(
 ) -> Result<(), NoMemory>
     requires there { number < length nodes.old.items }
     requires idle { AreIdle nodes.old.items }
-    ensures { OnOk result (LoadsAt number nodes.old.items nodes.new.items event.now end fed told.old.items told.new.items) }
+    ensures { OnOk result (LoadsAt number
+        nodes.old.items nodes.new.items event.now end fed told.old.items told.new.items) }
 {
     nodes[number as usize].load(number, event, end, fed, told, steps)
 }

@@ -106,7 +106,8 @@ impl Pending {
     }
 
     fn reply(&mut self, asker: Asker, reply: Reply, ended: Option<Ended>) -> Told
-        ensures told { result ≡ handing.told_by asker.node asker.client asker.correlation reply (handing.first_items self.old.waiting.items) ended }
+        ensures told { result ≡ handing.told_by asker.node asker.client asker.correlation reply
+            (handing.first_items self.old.waiting.items) ended }
         ensures rest { self.new.waiting.items ≡ handing.waiting_by ended self.old.waiting.items }
         ensures same { self.new.unsettled ≡ self.old.unsettled }
     {
@@ -117,7 +118,8 @@ impl Pending {
     }
 
     fn keep(&mut self, bytes: Bytes) -> Result<(), NoMemory>
-        ensures unsettled { OnOk result (self.new.unsettled.items ≡ self.old.unsettled.items ++ handing.batch_in bytes ∷ []) }
+        ensures unsettled { OnOk result (self.new.unsettled.items
+            ≡ self.old.unsettled.items ++ handing.batch_in bytes ∷ []) }
         ensures waiting { self.new.waiting ≡ self.old.waiting }
     {
         self.unsettled.push_back(batch_of(bytes))?;
@@ -131,7 +133,9 @@ impl Pending {
         ended: Option<Ended>,
         told: &mut Vec<Told>,
     ) -> Result<(), NoMemory>
-        ensures { OnOk result (handed self.new told.new.items ≡ handing.after_reply asker.node asker.client asker.correlation reply ended (handed self.old told.old.items)) }
+        ensures { OnOk result (handed self.new told.new.items
+            ≡ handing.after_reply asker.node asker.client asker.correlation reply ended
+            (handed self.old told.old.items)) }
     {
         let reply = self.reply(asker, reply, ended);
         told.push(reply)?;
@@ -176,7 +180,8 @@ pub(crate) fn hand_out(
     told: &mut Vec<Told>,
 ) -> Result<(), NoMemory>
     requires { IsTrue (writes_in_order engine.old.held) }
-    ensures { OnOk result (HandsOut node engine.old engine.new (handed pending.old told.old.items) (handed pending.new told.new.items)) }
+    ensures { OnOk result (HandsOut node engine.old engine.new
+        (handed pending.old told.old.items) (handed pending.new told.new.items)) }
 {
     while let Some(output) = engine.next_told() {
         let Output_ { output, ended } = output;

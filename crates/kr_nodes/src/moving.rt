@@ -23,7 +23,8 @@ impl Node {
         requires idle { IsIdleNode self.old }
         requires write { IsWriteMove turn }
         requires one { IsOfOne turn }
-        ensures { Acts (λ options r n. acting.one_outcome options r number n turn) number self.old self.new shared.old shared.new result }
+        ensures { Acts (λ options r n. acting.one_outcome options r number n turn)
+            number self.old self.new shared.old shared.new result }
     {
         match turn {
             Move::Feed { .. } => self.feed(number, shared, steps),
@@ -52,7 +53,8 @@ pub(crate) fn act_at<L: Ledger>(
     requires idle { AreIdle nodes.old.items }
     requires write { IsWriteMove turn }
     requires one { IsOfOne turn }
-    ensures { ActsAt (λ options r n. acting.one_outcome options r number n turn) number nodes.old.items nodes.new.items shared.old shared.new result }
+    ensures { ActsAt (λ options r n. acting.one_outcome options r number n turn)
+        number nodes.old.items nodes.new.items shared.old shared.new result }
 {
     nodes[number as usize].act(number, turn, shared, steps)
 }

@@ -10,39 +10,49 @@ use kr_req::decode;
 use std::alloc::{AllocError, Global};
 use testlib_words::{Fields, RowFault};
 
-/// `feed N`, `elect N EPOCH NOW`, `ask N CLIENT NOW HEX` with a message that is a write, `tick N NOW`, `settle N`, `tell N`,
-/// `depose N` or `copy FROM TO`.
-pub(crate) fn move_of(alloc: Global, words: &str) -> Result<Move, RowFault>
-    ensures { IfOk result (λ turn. IsWriteMove turn) }
-{
-    let mut fields = Fields::new(words);
-    let word = fields.word()?;
-    let node: u32 = fields.number()?;
-    let turn = match word {
-        "elect" => elect_of(node, &mut fields)?,
-        "ask" => ask_of(alloc, node, &mut fields)?,
-        "tick" => Move::Tick {
-            node,
-            now: fields.number()?,
-        },
-        "copy" => Move::Copy {
-            from: node,
-            to: fields.number()?,
-        },
-        other => short_move(other, node)?,
-    };
-    fields.end()?;
-    Ok(turn)
+/// A move, and the items that it is to tell.
+#[derive(Drop)]
+pub(crate) struct Asked<'a> {
+    pub turn: Move,
+    pub items: &'a str,
 }
 
-fn short_move(word: &str, node: u32) -> Result<Move, RowFault>
+/// `feed N`, `elect N EPOCH NOW`, `ask N CLIENT NOW HEX` with a message that is a write, `tick N NOW`, `settle N`, `tell N ITEMS`,
+/// `depose N` or `copy FROM TO`.
+pub(crate) fn asked_of<'a>(alloc: Global, fields: &mut Fields<'a>) -> Result<Asked<'a>, RowFault>
+    ensures { IfOk result (λ asked. IsWriteMove asked.turn) }
+{
+    let word = fields.word()?;
+    let node: u32 = fields.number()?;
+    if word == "tell" {
+        return Ok(Asked {
+            turn: Move::Tell { node },
+            items: fields.word()?,
+        });
+    }
+    Ok(Asked {
+        turn: move_of(alloc, word, node, fields)?,
+        items: "-",
+    })
+}
+
+fn move_of(alloc: Global, word: &str, node: u32, fields: &mut Fields) -> Result<Move, RowFault>
     ensures { IfOk result (λ turn. IsWriteMove turn) }
 {
     match word {
         "feed" => Ok(Move::Feed { node }),
         "settle" => Ok(Move::Settle { node }),
-        "tell" => Ok(Move::Tell { node }),
         "depose" => Ok(Move::Depose { node }),
+        "elect" => elect_of(node, fields),
+        "ask" => ask_of(alloc, node, fields),
+        "tick" => Ok(Move::Tick {
+            node,
+            now: fields.number()?,
+        }),
+        "copy" => Ok(Move::Copy {
+            from: node,
+            to: fields.number()?,
+        }),
         _ => Err(RowFault::Fields),
     }
 }
