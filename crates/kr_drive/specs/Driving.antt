@@ -17,25 +17,25 @@ use Rattle.kr_drive.specs.declared.summary.NodesSummary.{NodesSummary}
 -- ---- the move of a round
 
 -- the epoch above each in which a node was elected, at most the greatest of 32 bits
-abbrev pub next_epoch : ℤ → ℤ
-next_epoch elected = saturate_signed w32 (int_max elected (pos 0) +ℤ pos 1)
+abbrev pub epoch_above : ℤ → ℤ
+epoch_above elected = saturate_signed w32 (int_max elected (pos 0) +ℤ pos 1)
 
-abbrev pub ask : ℕ → ℕ → Move
-ask round node = moves.Ask node 1 (pos 0) (record { correlation = pos round; request = note round })
+abbrev pub asked_move : ℕ → ℕ → Move
+asked_move round node = moves.Ask node 1 (pos 0) (record { correlation = pos round; request = note round })
 
 -- to the node behind it
-abbrev pub copy : ℕ → Move
-copy node = moves.Copy node ((node + 1) % 3)
+abbrev pub copied_move : ℕ → Move
+copied_move node = moves.Copy node ((node + 1) % 3)
 
 abbrev pub drawn_move : ℤ → ℕ → ℕ → ℕ → Move
 drawn_move elected round kind node =
     if kind == 0 then moves.Feed node else
-    if kind == 1 then moves.Elect node (next_epoch elected) (pos 0) else
-    if kind == 2 || kind == 3 then ask round node else
+    if kind == 1 then moves.Elect node (epoch_above elected) (pos 0) else
+    if kind == 2 || kind == 3 then asked_move round node else
     if kind == 4 then moves.Settle node else
     if kind == 5 then moves.Tell node else
     if kind == 6 then moves.Depose node else
-    copy node
+    copied_move node
 
 -- ---- rounds
 
@@ -54,8 +54,8 @@ abbrev pub run_behind : ℕ → Driven → Run
 run_behind seed d = run (options seed) 3 d.past
 
 -- one of eight kinds is drawn, and then one of three nodes
-abbrev pub turn_of : ℕ → ℕ → Driven → Move
-turn_of seed round d =
+abbrev pub drawn_turn : ℕ → ℕ → Driven → Move
+drawn_turn seed round d =
     drawn_move (run_behind seed d).elected round (drawn_below (next_drawn d.drawn) 8) (drawn_below (next_drawn (next_drawn d.drawn)) 3)
 
 abbrev pub with_move : ℕ → Move → Driven → Driven
@@ -68,7 +68,7 @@ with_move seed turn d = record {
 -- rounds are numbered from 1
 unfoldable pub driven : ℕ → ℕ → Driven
 driven seed zero = nothing_driven seed
-driven seed (suc n) = with_move seed (turn_of seed (suc n) (driven seed n)) (driven seed n)
+driven seed (suc n) = with_move seed (drawn_turn seed (suc n) (driven seed n)) (driven seed n)
 
 -- ---- what comes of them
 
@@ -87,7 +87,7 @@ summary_of seed rounds d = record {
 abbrev pub nodes_summary : ℕ → ℕ → NodesSummary
 nodes_summary seed rounds = summary_of seed rounds (driven seed rounds)
 
-unfoldable pub summary_text : NodesSummary → List ℕ
-summary_text s =
+unfoldable pub nodes_lines : NodesSummary → List ℕ
+nodes_lines s =
     number_line (codes "moves") s.moves ++ number_line (codes "refused") s.refused ++ number_line (codes "length") (unsigned_abs s.length)
     ++ number_line (codes "told") s.told

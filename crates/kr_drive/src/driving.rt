@@ -3,8 +3,8 @@
 ghost use Rattle.std.specs.Prelude.{◌≡◌, ◌+◌, ◌<◌, ◌≤◌, ℕ, IfOk, IfErr, OnOk};
 ghost use Rattle.kr_drive.specs.Driving as driving;
 ghost use Rattle.kr_drive.specs.Driving.{Driven, nodes_summary};
-ghost use Rattle.kr_drive.specs.inner.Standing.{HasDriven, MayDrive, Makes};
-ghost use Rattle.kr_nodes.specs.Standing.{IsReady, IsWriteMove};
+ghost use Rattle.kr_drive.specs.inner.Standing.{HasDriven, MayDrive, DrivesMove};
+ghost use Rattle.kr_nodes.specs.Standing.{IsReadyCluster, IsWriteMove};
 
 use crate::summary::{NodesSummary, count_standing};
 use crate::turns::drawn_move;
@@ -50,10 +50,10 @@ impl Driver {
 
     // The move is made, or refused.
     fn take(&mut self, turn: Move) -> Result<(), NoMemory>
-        requires ready { IsReady self.old.cluster }
+        requires ready { IsReadyCluster self.old.cluster }
         requires write { IsWriteMove turn }
         requires few { self.old.made ≤ 1000000000 }
-        ensures { OnOk result (Makes turn self.old self.new) }
+        ensures { OnOk result (DrivesMove turn self.old self.new) }
     {
         match self.cluster.step(turn) {
             Ok(()) => {
@@ -69,12 +69,12 @@ impl Driver {
         requires may { MayDrive round self.old }
         requires few { round < 1000000000 }
         ensures stands { OnOk result ((seed : ℕ) (d : Driven) → HasDriven seed round d self.old →
-            HasDriven seed (round + 1) (driving.with_move seed (driving.turn_of seed (round + 1) d) d) self.new) }
+            HasDriven seed (round + 1) (driving.with_move seed (driving.drawn_turn seed (round + 1) d) d) self.new) }
         ensures may { OnOk result (MayDrive (round + 1) self.new) }
     {
         let kind = next_drawn(self.drawn);
         let node = next_drawn(kind);
-        let elected = self.cluster.elected();
+        let elected = self.cluster.greatest_epoch();
         let turn = drawn_move(
             self.alloc,
             &elected,

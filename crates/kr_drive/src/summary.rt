@@ -5,7 +5,7 @@ ghost use Rattle.kr_workload.specs.Summary.{number_line};
 ghost use Rattle.kr_drive.specs.Driving as driving;
 ghost use Rattle.kr_drive.specs.inner.Standing as standing;
 
-use kr_nodes::Told;
+use kr_nodes::ToldReply;
 use std::alloc::{AllocError, Global};
 
 /// So many moves were accepted and refused, the list has so many items, and so many replies tell of a write that stands.
@@ -22,7 +22,7 @@ pub struct NodesSummary {
 }
 
 // One more, where the reply tells of a write that stands.
-fn count_if_stands(count: usize, told: &Told) -> usize
+fn count_if_stands(count: usize, told: &ToldReply) -> usize
     requires { count < 2 ^ 64 - 1 }
     ensures { result ≡ standing.counted count told.now }
 {
@@ -30,7 +30,7 @@ fn count_if_stands(count: usize, told: &Told) -> usize
 }
 
 /// How many replies tell of a write that stands.
-pub(crate) fn count_standing(told: &[Told]) -> u64
+pub(crate) fn count_standing(told: &[ToldReply]) -> u64
     ensures { result ≡ length (filter standing.stands told.now) }
 {
     let mut count: usize = 0;
@@ -50,9 +50,9 @@ fn add_line(alloc: Global, text: &mut String, word: &str, number: u64) -> Result
 }
 
 /// Four lines, each a word and a number.
-#[tactic(auto, unfolding(crate::specs::Driving::summary_text))]
+#[tactic(auto, unfolding(crate::specs::Driving::nodes_lines))]
 pub fn summary_text(alloc: Global, summary: &NodesSummary) -> Result<String, AllocError>
-    ensures { IfOk result (λ text. string_bytes text ≡ driving.summary_text summary.now) }
+    ensures { IfOk result (λ text. string_bytes text ≡ driving.nodes_lines summary.now) }
 {
     let mut text = String::new(alloc);
     add_line(alloc, &mut text, "moves", summary.moves)?;

@@ -11,8 +11,8 @@ use kr_workload::note;
 use std::alloc::Global;
 
 // The epoch above each in which a node was elected.
-fn next_epoch(elected: &i32) -> i32
-    ensures { result ≡ driving.next_epoch elected.now }
+fn epoch_above(elected: &i32) -> i32
+    ensures { result ≡ driving.epoch_above elected.now }
 {
     let least = if *elected < 0 { 0 } else { *elected };
     least.saturating_add(1)
@@ -21,7 +21,7 @@ fn next_epoch(elected: &i32) -> i32
 // A client sets the key `note` to the round's number.
 fn ask(alloc: Global, round: u32, node: u32) -> Result<Move, NoMemory>
     requires { round ≤ 1000000000 }
-    ensures { IfOk result (λ turn. turn ≡ driving.ask round node) }
+    ensures { IfOk result (λ turn. turn ≡ driving.asked_move round node) }
 {
     Ok(Move::Ask {
         node,
@@ -36,7 +36,7 @@ fn ask(alloc: Global, round: u32, node: u32) -> Result<Move, NoMemory>
 
 fn copy(node: u32) -> Move
     requires { node < 3 }
-    ensures { result ≡ driving.copy node }
+    ensures { result ≡ driving.copied_move node }
 {
     Move::Copy {
         from: node,
@@ -61,7 +61,7 @@ pub(crate) fn drawn_move(
         0 => Ok(Move::Feed { node }),
         1 => Ok(Move::Elect {
             node,
-            epoch: next_epoch(elected),
+            epoch: epoch_above(elected),
             now: 0,
         }),
         2 | 3 => ask(alloc, round, node),

@@ -23,9 +23,9 @@ use Rattle.law_nodes.specs.Nodes.{NodeTold, Run, RunNode, first_run}
 use Rattle.law_nodes.proofs.AllMoves.{nodes_agree}
 use Rattle.kr_nodes.specs.declared.cluster.Cluster.{Cluster}
 use Rattle.kr_nodes.specs.declared.node.Node.{Node}
-use Rattle.kr_nodes.specs.declared.told.Told.{Told}
-use Rattle.kr_nodes.specs.inner.Acting.{AreIdle, IsIdleNode, IsReached, Makes, MakesSome}
-use Rattle.kr_nodes.specs.Standing.{AllPairs, Answers, ClusterAgrees, FollowsList, IsReady, IsToldOf, StandsFor, StandsForNode, StandsForRun, StandsForShared, StandsForSome, is_memory, told_as}
+use Rattle.kr_nodes.specs.declared.told.ToldReply.{ToldReply}
+use Rattle.kr_nodes.specs.inner.Acting.{AreIdle, IsIdleNode, IsReached, MakesRun, MakesSome}
+use Rattle.kr_nodes.specs.Standing.{AllPairs, AnswersMove, ClusterAgrees, FollowsList, IsReadyCluster, IsToldOf, StandsForMoves, StandsForNode, StandsForRun, StandsForShared, StandsForSomeMoves, is_memory, told_as}
 use Rattle.kr_nodes.proofs.Clusters.{there}
 use Rattle.kr_nodes.proofs.Copies.{kept_end}
 
@@ -40,7 +40,7 @@ idle_pairs options list (n ∷ ns) (node ∷ nodes) h = (
   idle_pairs options list ns nodes h.1,
 )
 
-pub are_idle : (c : Cluster) → IsReady c → c.spent ≡ false → AreIdle c.nodes.items
+pub are_idle : (c : Cluster) → IsReadyCluster c → c.spent ≡ false → AreIdle c.nodes.items
 are_idle c ready running =
     let s = ready running in
     let r = run s.options s.nodes s.past in
@@ -66,7 +66,7 @@ module _ (c made after : Cluster) (turn : Move) (result : Result (Unit {0}) Move
     abbrev r : Run
     r = run options nodes past
 
-    answered : (o : Result Run MoveFault) → move_outcome options r turn ≡ o → (x : Result (Unit {0}) MoveFault) → result ≡ x → Makes options r o made x → Answers options nodes past turn after x
+    answered : (o : Result Run MoveFault) → move_outcome options r turn ≡ o → (x : Result (Unit {0}) MoveFault) → result ≡ x → MakesRun options r o made x → AnswersMove options nodes past turn after x
     answered o is (Ok done) at (next, same, st) = (
       next,
       is ∙ same,
@@ -75,14 +75,14 @@ module _ (c made after : Cluster) (turn : Move) (result : Result (Unit {0}) Move
     )
     answered o is (Err fault) at makes = by_fault fault at makes
       where
-        stays : (f : MoveFault) → result ≡ Err f → is_memory (Err f) ≡ false → o ≡ Err f → StandsForRun options r made → (move_outcome options r turn ≡ Err f) × StandsFor options nodes (past ++ turn ∷ []) after
+        stays : (f : MoveFault) → result ≡ Err f → is_memory (Err f) ≡ false → o ≡ Err f → StandsForRun options r made → (move_outcome options r turn ≡ Err f) × StandsForMoves options nodes (past ++ turn ∷ []) after
         stays f at real same st = (
           is ∙ same,
           subst (λ (y : Run). StandsForRun options y after) (sym (next_run options nodes past turn ∙ ap (λ (z : Result Run MoveFault). result_unwrap_or z r) (is ∙ same)))
               (stands_on options r (ap is_memory at ∙ real) st),
         )
 
-        by_fault : (f : MoveFault) → result ≡ Err f → Makes options r o made (Err f) → Answers options nodes past turn after (Err f)
+        by_fault : (f : MoveFault) → result ≡ Err f → MakesRun options r o made (Err f) → AnswersMove options nodes past turn after (Err f)
         by_fault (faults.NoNode a b) at (same, st) = stays (faults.NoNode a b) at refl same st
         by_fault (faults.NotStandby a) at (same, st) = stays (faults.NotStandby a) at refl same st
         by_fault (faults.NotLeading a) at (same, st) = stays (faults.NotLeading a) at refl same st
@@ -93,10 +93,10 @@ module _ (c made after : Cluster) (turn : Move) (result : Result (Unit {0}) Move
         by_fault (faults.OlderImage a b) at (same, st) = stays (faults.OlderImage a b) at refl same st
         by_fault faults.NoMemory at makes = spent ∙ ap is_memory at
 
-    pub moved : StandsFor options nodes past c → Answers options nodes past turn after result
+    pub moved : StandsForMoves options nodes past c → AnswersMove options nodes past turn after result
     moved st = answered (move_outcome options r turn) refl result refl (makes options r (record { nodes = nodes; past = past; is = refl }) st)
 
-    ready_by : (x : Result (Unit {0}) MoveFault) → Answers options nodes past turn after x → after.spent ≡ false → StandsForSome after
+    ready_by : (x : Result (Unit {0}) MoveFault) → AnswersMove options nodes past turn after x → after.spent ≡ false → StandsForSomeMoves after
     ready_by (Ok done) (next, same, st) running = record { options = options; nodes = nodes; past = past ++ turn ∷ []; stands = st }
     ready_by (Err (faults.NoNode a b)) (same, st) running = record { options = options; nodes = nodes; past = past ++ turn ∷ []; stands = st }
     ready_by (Err (faults.NotStandby a)) (same, st) running = record { options = options; nodes = nodes; past = past ++ turn ∷ []; stands = st }
@@ -112,7 +112,7 @@ module _ (c made after : Cluster) (turn : Move) (result : Result (Unit {0}) Move
         clash true yes no = cc
         clash false yes no = cc
 
-  pub still_ready : IsReady c → c.spent ≡ false → IsReady after
+  pub still_ready : IsReadyCluster c → c.spent ≡ false → IsReadyCluster after
   still_ready ready running = λ still. let s = ready running in ready_by s.options s.nodes s.past result (moved s.options s.nodes s.past s.stands) still
 
 -- ---- after any moves
@@ -121,7 +121,7 @@ told_again : (list : List Batch) (ts : List NodeTold) → AllByRecursion (IsTold
 told_again list [] h = tt
 told_again list (t ∷ ts) h = (h.0, told_again list ts h.1)
 
-pub agrees : (c : Cluster) → StandsForSome c → ClusterAgrees c
+pub agrees : (c : Cluster) → StandsForSomeMoves c → ClusterAgrees c
 agrees c s =
     let r = run s.options s.nodes s.past in
     let a : RunAgrees r = nodes_agree s.options s.nodes s.past in record {

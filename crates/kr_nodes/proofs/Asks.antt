@@ -34,9 +34,9 @@ use Rattle.law_nodes.specs.OneList.{list_items}
 use Rattle.law_nodes.proofs.Steady.{max_fits}
 use Rattle.kr_nodes.specs.declared.node.Node.{Node}
 use Rattle.kr_nodes.specs.declared.shared.Shared.{Shared}
-use Rattle.kr_nodes.specs.declared.told.Told.{Told}
+use Rattle.kr_nodes.specs.declared.told.ToldReply.{ToldReply}
 use Rattle.kr_nodes.specs.inner.Acting as acting
-use Rattle.kr_nodes.specs.inner.Acting.{Acts, IsReached, Leaves}
+use Rattle.kr_nodes.specs.inner.Acting.{Acts, IsReached, LeavesRun}
 use Rattle.kr_nodes.specs.inner.Taking.{NodeTakes, all_items, if_write}
 use Rattle.kr_nodes.specs.Standing.{StandsForNode, StandsForShared}
 use Rattle.kr_nodes.proofs.Handings.{new_items}
@@ -90,7 +90,7 @@ module _ (options : Options) (k : ℕ) (n : RunNode) (client : ℕ) (now : ℤ) 
   by_tests fresh items w false false f is same = refl
   by_tests fresh items w l true f is same = absurd cc
 
-  module _ (before between : Node) (told told' : List Told) (t : NodeTakes k before between (is_some before.engine.leading && not (is_far before.engine.tip)) told told' event)
+  module _ (before between : Node) (told told' : List ToldReply) (t : NodeTakes k before between (is_some before.engine.leading && not (is_far before.engine.tip)) told told' event)
       (e : IsEngine before.engine n.state (writes_in n.waiting)) (options_are : before.engine.options ≡ options) where
     fresh_is : q ≡ Ok after → t.stepped.fresh ≡ entries_added n.state event after
     fresh_is got =
@@ -113,7 +113,7 @@ module _ (options : Options) (k : ℕ) (n : RunNode) (client : ℕ) (now : ℤ) 
 module _ (k client : ℕ) (now : ℤ) (call : Call) (write : is_read call.request ≡ false) (fits : FitsSigned w64 now) (before between : Node) (shared shared' : Shared)
     (t : NodeTakes k before between (is_some before.engine.leading && not (is_far before.engine.tip)) shared.told.items shared'.told.items (events.Request client now (asks.Call call)))
     (same : shared' ≡ record shared { told = shared'.told }) where
-  pub ask_acts : Acts (λ options r n. acting.ask options r k n client now call) k before between shared shared' (Ok tt)
+  pub ask_acts : Acts (λ options r n. acting.ask_outcome options r k n client now call) k before between shared shared' (Ok tt)
   ask_acts = λ options r n reached is s g.
       let event = events.Request client now (asks.Call call) in
       let is_write = is_some before.engine.leading && not (is_far before.engine.tip) in
@@ -128,5 +128,5 @@ module _ (k client : ℕ) (now : ℤ) (call : Call) (write : is_read call.reques
 
 module _ (k : ℕ) (now : ℤ) (fits : FitsSigned w64 now) (before between : Node) (shared shared' : Shared)
     (t : NodeTakes k before between false shared.told.items shared'.told.items (events.Tick now)) (same : shared' ≡ record shared { told = shared'.told }) where
-  pub tick_acts : Acts (λ options r n. acting.tick options r k n now) k before between shared shared' (Ok tt)
+  pub tick_acts : Acts (λ options r n. acting.tick_outcome options r k n now) k before between shared shared' (Ok tt)
   tick_acts = λ options r n reached is s g. tick_row options r k n before between shared shared' is s g same now reached fits t

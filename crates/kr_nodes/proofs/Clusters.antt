@@ -26,9 +26,9 @@ use Rattle.law_nodes.proofs.Steps.{set_leading}
 use Rattle.kr_nodes.specs.declared.cluster.Cluster.{Cluster}
 use Rattle.kr_nodes.specs.declared.node.Node.{Node}
 use Rattle.kr_nodes.specs.declared.shared.Shared.{Shared}
-use Rattle.kr_nodes.specs.declared.told.Told.{Told}
-use Rattle.kr_nodes.specs.inner.Acting.{ActsAt, ActsBy, AreIdle, IsOfOne, IsReached, Leaves, Makes, MakesSome, node_of, one_outcome}
-use Rattle.kr_nodes.specs.inner.Copying.{GivesImage, ImagesAt, IsCopyFault, Loads, LoadsAt, MayCopy}
+use Rattle.kr_nodes.specs.declared.told.ToldReply.{ToldReply}
+use Rattle.kr_nodes.specs.inner.Acting.{ActsAt, ActsBy, AreIdle, IsOfOne, IsReached, LeavesRun, MakesRun, MakesSome, moved_node, one_outcome}
+use Rattle.kr_nodes.specs.inner.Copying.{GivesImage, ImagesAt, IsCopyFault, LoadsEvent, LoadsAt, MayCopy}
 use Rattle.kr_nodes.specs.Standing.{AllPairs, AreBelow, StandsForNode, StandsForRun, StandsForShared}
 use Rattle.kr_nodes.proofs.Copies.{none_imaged, set_waiting}
 use Rattle.kr_nodes.proofs.Feeds.{is_node}
@@ -49,7 +49,7 @@ at_missing r k next none = ap (λ (o : Option RunNode). if_node r k o next) none
 pub at_there : (r : Run) (k : ℕ) (n : RunNode) (next : RunNode → Result Run MoveFault) → slice_get r.nodes k ≡ Some n → on_node r k next ≡ next n
 at_there r k n next is = ap (λ (o : Option RunNode). if_node r k o next) is
 
-outcome_is : (options : Options) (r : Run) (n : RunNode) (turn : Move) → IsOfOne turn → slice_get r.nodes (node_of turn) ≡ Some n → move_outcome options r turn ≡ one_outcome options r (node_of turn) n turn
+outcome_is : (options : Options) (r : Run) (n : RunNode) (turn : Move) → IsOfOne turn → slice_get r.nodes (moved_node turn) ≡ Some n → move_outcome options r turn ≡ one_outcome options r (moved_node turn) n turn
 outcome_is options r n (moves.Feed k) one is = at_there r k n _ is
 outcome_is options r n (moves.Elect k epoch now) one is = at_there r k n _ is
 outcome_is options r n (moves.Ask k client now call) one is = at_there r k n _ is
@@ -59,7 +59,7 @@ outcome_is options r n (moves.Tell k) one is = at_there r k n _ is
 outcome_is options r n (moves.Depose k) one is = at_there r k n _ is
 outcome_is options r n (moves.Copy from to) one is = absurd one
 
-outcome_none : (options : Options) (r : Run) (turn : Move) → IsOfOne turn → slice_get r.nodes (node_of turn) ≡ None → move_outcome options r turn ≡ Err (faults.NoNode (node_of turn) (length r.nodes))
+outcome_none : (options : Options) (r : Run) (turn : Move) → IsOfOne turn → slice_get r.nodes (moved_node turn) ≡ None → move_outcome options r turn ≡ Err (faults.NoNode (moved_node turn) (length r.nodes))
 outcome_none options r (moves.Feed k) one none = at_missing r k _ none
 outcome_none options r (moves.Elect k epoch now) one none = at_missing r k _ none
 outcome_none options r (moves.Ask k client now call) one none = at_missing r k _ none
@@ -89,7 +89,7 @@ module _ (options : Options) (r : Run) (c : Cluster) (st : StandsForRun options 
   pub there : (k : ℕ) (node : Node) → slice_get c.nodes.items k ≡ Some node → (n : RunNode) × (slice_get r.nodes k ≡ Some n) × StandsForNode options r.list n node
   there k node is = pair_at (StandsForNode options r.list) r.nodes c.nodes.items k node st.nodes is
 
-  pub put_stands : (next : Run) (k : ℕ) (after : Node) (c' : Cluster) → Leaves options r next k after c'.shared → c'.nodes.items ≡ set c.nodes.items k after → c'.count ≡ c.count → c'.spent ≡ c.spent → StandsForRun options next c'
+  pub put_stands : (next : Run) (k : ℕ) (after : Node) (c' : Cluster) → LeavesRun options r next k after c'.shared → c'.nodes.items ≡ set c.nodes.items k after → c'.count ≡ c.count → c'.spent ≡ c.spent → StandsForRun options next c'
   put_stands next k after c' l put count spent = record {
     running = spent ∙ st.running;
     nodes =
@@ -108,7 +108,7 @@ module _ (options : Options) (r : Run) (c : Cluster) (st : StandsForRun options 
 -- ---- a move of one node
 
 made_by : (options : Options) (r : Run) (outcome : Result Run MoveFault) (k : ℕ) (before after : Node) (c c' : Cluster) (result : Result (Unit {0}) MoveFault) → StandsForRun options r c → slice_get c.nodes.items k ≡ Some before
-    → c'.nodes.items ≡ set c.nodes.items k after → c'.count ≡ c.count → c'.spent ≡ c.spent → ActsBy options r k outcome before after c.shared c'.shared result → Makes options r outcome c' result
+    → c'.nodes.items ≡ set c.nodes.items k after → c'.count ≡ c.count → c'.spent ≡ c.spent → ActsBy options r k outcome before after c.shared c'.shared result → MakesRun options r outcome c' result
 made_by options r outcome k before after c c' (Ok done) st is put count spent (next, same, l) = (next, same, put_stands options r c st next k after c' l put count spent)
 made_by options r outcome k before after c c' (Err fault) st is put count spent acts = by_fault fault acts
   where
@@ -125,7 +125,7 @@ made_by options r outcome k before after c c' (Err fault) st is put count spent 
         set_same (x ∷ xs) zero n is = ap (λ (y : Node). y ∷ xs) (sym (some_is x n is))
         set_same (x ∷ xs) (suc j) n is = ap (λ (l : List Node). x ∷ l) (set_same xs j n is)
 
-    by_fault : (f : MoveFault) → ActsBy options r k outcome before after c.shared c'.shared (Err f) → Makes options r outcome c' (Err f)
+    by_fault : (f : MoveFault) → ActsBy options r k outcome before after c.shared c'.shared (Err f) → MakesRun options r outcome c' (Err f)
     by_fault (faults.NoNode a b) (same, node, shared) = (same, stays node shared)
     by_fault (faults.NotStandby a) (same, node, shared) = (same, stays node shared)
     by_fault (faults.NotLeading a) (same, node, shared) = (same, stays node shared)
@@ -137,18 +137,18 @@ made_by options r outcome k before after c c' (Err fault) st is put count spent 
     by_fault faults.NoMemory acts = tt
 
 pub one_made : (c c' : Cluster) (turn : Move) (result : Result (Unit {0}) MoveFault) → IsOfOne turn
-    → ActsAt (λ options r n. one_outcome options r (node_of turn) n turn) (node_of turn) c.nodes.items c'.nodes.items c.shared c'.shared result → c'.count ≡ c.count → c'.spent ≡ c.spent → MakesSome c c' turn result
+    → ActsAt (λ options r n. one_outcome options r (moved_node turn) n turn) (moved_node turn) c.nodes.items c'.nodes.items c.shared c'.shared result → c'.count ≡ c.count → c'.spent ≡ c.spent → MakesSome c c' turn result
 one_made c c' turn result one a count spent = λ options r reached st.
-    let p = there options r c st (node_of turn) a.before a.there in
-    made_by options r (move_outcome options r turn) (node_of turn) a.before a.after c c' result st a.there a.put count spent
-    (subst (λ (o : Result Run MoveFault). ActsBy options r (node_of turn) o a.before a.after c.shared c'.shared result) (sym (outcome_is options r p.0 turn one p.1))
+    let p = there options r c st (moved_node turn) a.before a.there in
+    made_by options r (move_outcome options r turn) (moved_node turn) a.before a.after c c' result st a.there a.put count spent
+    (subst (λ (o : Result Run MoveFault). ActsBy options r (moved_node turn) o a.before a.after c.shared c'.shared result) (sym (outcome_is options r p.0 turn one p.1))
     (a.acts options r p.0 reached p.1 p.2 st.shared))
 
-pub one_missing : (c : Cluster) (turn : Move) (fault : MoveFault) → IsOfOne turn → length c.nodes.items ≤ node_of turn → fault ≡ faults.NoNode (node_of turn) c.count → MakesSome c c turn (Err fault)
+pub one_missing : (c : Cluster) (turn : Move) (fault : MoveFault) → IsOfOne turn → length c.nodes.items ≤ moved_node turn → fault ≡ faults.NoNode (moved_node turn) c.count → MakesSome c c turn (Err fault)
 one_missing c turn fault one low is =
     subst (λ (f : MoveFault). MakesSome c c turn (Err f)) (sym is) (λ options r reached st.
-    let m = missing options r c st (node_of turn) low in
-    (outcome_none options r turn one m.0 ∙ ap (λ n. Err (faults.NoNode (node_of turn) n)) (sym m.1), st))
+    let m = missing options r c st (moved_node turn) low in
+    (outcome_none options r turn one m.0 ∙ ap (λ n. Err (faults.NoNode (moved_node turn) n)) (sym m.1), st))
 
 pub none_made : (c c' : Cluster) (turn : Move) (fault : MoveFault) → fault ≡ faults.NoMemory → MakesSome c c' turn (Err fault)
 none_made c c' turn fault is = subst (λ (f : MoveFault). MakesSome c c' turn (Err f)) (sym is) (λ options r reached st. tt)

@@ -27,9 +27,9 @@ use Rattle.law_nodes.specs.Moves.{after_arrival, committed_end}
 use Rattle.law_nodes.specs.Nodes.{NodeTold, RunNode, Waiting, after_event, waits_in}
 use Rattle.kr_nodes.specs.declared.node.Node.{Node}
 use Rattle.kr_nodes.specs.declared.shared.Shared.{Shared}
-use Rattle.kr_nodes.specs.declared.told.Told.{Told}
+use Rattle.kr_nodes.specs.declared.told.ToldReply.{ToldReply}
 use Rattle.kr_nodes.specs.inner.Acting.{skipped}
-use Rattle.kr_nodes.specs.inner.Copying.{GivesImage, Images, IsImageEvent, Loads, LoadsBytes}
+use Rattle.kr_nodes.specs.inner.Copying.{GivesImage, ImagesNode, IsImageEvent, LoadsEvent, LoadsBytes}
 use Rattle.kr_nodes.specs.inner.Taking.{NodeTakes, ReturnsToEnd}
 use Rattle.kr_nodes.specs.Standing.{AreBelow, StandsForNode, told_as}
 use Rattle.kr_nodes.proofs.Arrivals.{arrival_is, image_is, loaded_to, told_none}
@@ -55,7 +55,7 @@ gives node event i =
     (λ options list n s. read_by node.engine.committed (image_of_end n.state) (kept_at node.engine.images node.engine.committed) (kept_end node.engine n.state _ s.engine) i.stands)
 
 pub images : (k : ℕ) (before after : Node) (shared shared' : Shared) (event : Event) → IsImageEvent before.engine event → NodeTakes k before after false shared.told.items shared'.told.items events.Image → shared' ≡ record shared { told = shared'.told }
-    → Images k before after shared shared' event
+    → ImagesNode k before after shared shared' event
 images k before after shared shared' event i t same = record {
   gives = gives before event i;
   goes = λ options r n is s g. image_row options r k n before after shared shared' is s g same t;
@@ -63,7 +63,7 @@ images k before after shared shared' event i t same = record {
 
 -- ---- loading
 
-module _ (k : ℕ) (before between after : Node) (bytes : List ℕ) (end : ℤ) (fed : ℕ) (told told' : List Told) (t : NodeTakes k before between false told told' (events.Load bytes))
+module _ (k : ℕ) (before between after : Node) (bytes : List ℕ) (end : ℤ) (fed : ℕ) (told told' : List ToldReply) (t : NodeTakes k before between false told told' (events.Load bytes))
     (back : ReturnsToEnd (record between { fed = skipped end fed between }) after) where
   fed_by : (list : List Batch) (n : RunNode) (place to : ℕ) → end ≡ pos place → between.engine.committed ≡ pos to → AreBelow list place fed → AreBelow list (committed_end n) before.fed → ((to ≡ place → ⊥) → to ≡ committed_end n)
       → (b : Bool) → int_eq between.engine.committed end ≡ b → AreBelow list to (cond b fed between.fed)
@@ -93,8 +93,8 @@ module _ (k : ℕ) (before between after : Node) (bytes : List ℕ) (end : ℤ) 
         told_so options k n event before between false told told' t (taken_of options list n before s) (none_new (outcome options n.state event)) r_none told refl
         ∙ (ap (λ (l : List NodeTold). told ++ map told_as l) (told_none options k n idle event tt) ∙ append-nil told))
 
-pub loads : (k : ℕ) (before between after : Node) (event : Event) (end : ℤ) (fed : ℕ) (told told' : List Told) → NodeTakes k before between false told told' event
-    → ReturnsToEnd (record between { fed = skipped end fed between }) after → Loads k before after event end fed told told'
+pub loads : (k : ℕ) (before between after : Node) (event : Event) (end : ℤ) (fed : ℕ) (told told' : List ToldReply) → NodeTakes k before between false told told' event
+    → ReturnsToEnd (record between { fed = skipped end fed between }) after → LoadsEvent k before after event end fed told told'
 loads k before between after (events.Load bytes) end fed told told' t back = loads_bytes k before between after bytes end fed told told' t back
 loads k before between after (events.Batch bytes) end fed told told' t back = tt
 loads k before between after (events.Lead epoch next now) end fed told told' t back = tt

@@ -23,9 +23,9 @@ use Rattle.law_nodes.proofs.Steps.{set_leading}
 use Rattle.kr_nodes.specs.declared.cluster.Cluster.{Cluster}
 use Rattle.kr_nodes.specs.declared.node.Node.{Node}
 use Rattle.kr_nodes.specs.declared.shared.Shared.{Shared}
-use Rattle.kr_nodes.specs.declared.told.Told.{Told}
-use Rattle.kr_nodes.specs.inner.Acting.{IsReached, Leaves, MakesSome}
-use Rattle.kr_nodes.specs.inner.Copying.{GivesImage, ImagesAt, IsCopyFault, Loads, LoadsAt, LoadsBytes, MayCopy}
+use Rattle.kr_nodes.specs.declared.told.ToldReply.{ToldReply}
+use Rattle.kr_nodes.specs.inner.Acting.{IsReached, LeavesRun, MakesSome}
+use Rattle.kr_nodes.specs.inner.Copying.{GivesImage, ImagesAt, IsCopyFault, LoadsEvent, LoadsAt, LoadsBytes, MayCopy}
 use Rattle.kr_nodes.specs.Standing.{AreBelow, StandsForNode, StandsForRun, StandsForShared}
 use Rattle.kr_nodes.proofs.Clusters.{at_missing, at_there, missing, put_stands, there}
 use Rattle.kr_nodes.proofs.Copies.{none_imaged, set_waiting}
@@ -94,7 +94,7 @@ module _ (from to : ℕ) where
   brings options r f node (events.Request client now ask) g s = absurd g
   brings options r f node events.Image g s = absurd g
 
-  loaded : (options : Options) (r : Run) (n : RunNode) (before after : Node) (event : Event) (end : ℤ) (place : ℕ) (image : Image) (fed : ℕ) (told told' : List Told) → Loads to before after event end fed told told' → Brings event place image
+  loaded : (options : Options) (r : Run) (n : RunNode) (before after : Node) (event : Event) (end : ℤ) (place : ℕ) (image : Image) (fed : ℕ) (told told' : List ToldReply) → LoadsEvent to before after event end fed told told' → Brings event place image
       → StandsForNode options r.list n before → n.state.world.leading ≡ None → n.waiting ≡ [] → end ≡ pos place → AreBelow r.list place fed
       → StandsForNode options r.list (after_arrival n (take_image n.state (pos place, image))) after × (told' ≡ told)
   loaded options r n before after (events.Load bytes) end place image fed told told' loads b s none idle is below = loads options r.list n place image s none idle is b below
@@ -119,7 +119,7 @@ module _ (from to : ℕ) where
         let own : may.source ≡ gives.before = node_is c.nodes.items from may.source gives.before may.source_is gives.there in
         let s_before : StandsForNode options r.list f gives.before = subst (λ (n : Node). StandsForNode options r.list f n) own p.2 in
         let next = with_event options r from f events.Image in
-        let l1 : Leaves options r next from gives.after between.shared = gives.images.goes options r f p.1 s_before st.shared in
+        let l1 : LeavesRun options r next from gives.after between.shared = gives.images.goes options r f p.1 s_before st.shared in
         let st1 = put_stands options r c st next from gives.after between l1 gives.put count spent in
         let p2 = there options next between st1 to loads.before loads.there in
         let n = p2.0 in

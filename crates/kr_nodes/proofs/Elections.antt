@@ -21,7 +21,7 @@ use Rattle.law_nodes.specs.Nodes.{NodeTold, Run, RunNode, after_event, at_own_en
 use Rattle.law_nodes.proofs.Steady.{max_fits, node_end}
 use Rattle.kr_nodes.specs.declared.node.Node.{Node}
 use Rattle.kr_nodes.specs.declared.shared.Shared.{Shared}
-use Rattle.kr_nodes.specs.inner.Acting.{Acts, IsReached, Leaves}
+use Rattle.kr_nodes.specs.inner.Acting.{Acts, IsReached, LeavesRun}
 use Rattle.kr_nodes.specs.inner.Checks.{MayElect}
 use Rattle.kr_nodes.specs.inner.Taking.{NodeTakes, ReturnsToEnd}
 use Rattle.kr_nodes.specs.Standing.{AreBelow, StandsForNode, StandsForShared, told_as}
@@ -34,7 +34,7 @@ use Rattle.kr_nodes.proofs.Takings.{TakenNode, taken, taken_of, told_so}
 module _ (k : ℕ) (epoch now next : ℤ) (fits : FitsSigned w64 now) (before back between : Node) (shared shared' shared'' : Shared) (may : MayElect epoch shared before next)
     (return : ReturnsToEnd before back) (t : NodeTakes k back between false shared.told.items shared'.told.items (events.Lead epoch next now)) (same : shared' ≡ record shared { told = shared'.told })
     (notes : shared'' ≡ record shared' { elected = if is_some between.engine.leading then epoch else shared'.elected }) where
-  elected : (options : Options) (r : Run) (n : RunNode) → StandsForNode options r.list n before → StandsForShared r shared → (next : Run) × (table.elect options r k n epoch now ≡ Ok next) × Leaves options r next k between shared''
+  elected : (options : Options) (r : Run) (n : RunNode) → StandsForNode options r.list n before → StandsForShared r shared → (next : Run) × (table.elect options r k n epoch now ≡ Ok next) × LeavesRun options r next k between shared''
   elected options r n s g =
       let m = at_own_end n in
       let end = committed_end n in

@@ -34,7 +34,7 @@ use Rattle.law_nodes.proofs.Lists.{HasItems, batch_behind, items_append, items_o
 use Rattle.kr_nodes.specs.declared.node.Node.{Node}
 use Rattle.kr_nodes.specs.declared.shared.ListBatch.{ListBatch}
 use Rattle.kr_nodes.specs.declared.shared.Shared.{Shared}
-use Rattle.kr_nodes.specs.inner.Acting.{Acts, IsReached, Leaves, passed}
+use Rattle.kr_nodes.specs.inner.Acting.{Acts, IsReached, LeavesRun, passed}
 use Rattle.kr_nodes.specs.inner.Checks.{MayFeed}
 use Rattle.kr_nodes.specs.inner.Taking.{NodeTakes, ReturnsToEnd}
 use Rattle.kr_nodes.specs.Standing.{AreBelow, StandsForNode, StandsForShared, list_batch, told_as}
@@ -126,7 +126,7 @@ module _ (k : ℕ) (before between after : Node) (shared shared' : Shared) (batc
     (t : NodeTakes k before between false shared.told.items shared'.told.items batch.event)
     (back : ReturnsToEnd (record between { fed = passed before.engine.committed between }) after) (same : shared' ≡ record shared { told = shared'.told }) where
   fed_at : (options : Options) (r : Run) (n : RunNode) → IsReached options r → slice_get r.nodes k ≡ Some n → StandsForNode options r.list n before → StandsForShared r shared → Found r.list (committed_end n) before.fed batch
-      → (next : Run) × (table.feed r k n ≡ Ok next) × Leaves options r next k after shared'
+      → (next : Run) × (table.feed r k n ≡ Ok next) × LeavesRun options r next k after shared'
   fed_at options r n reached is s g f =
       let b = f.b in
       let event = events.Batch (batch_bytes b) in

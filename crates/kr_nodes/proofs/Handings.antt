@@ -24,7 +24,7 @@ use Rattle.law_nodes.specs.NodeEvents.{writes_in}
 use Rattle.law_nodes.specs.Nodes.{RunNode, Waiting, after_by, batches_of, tells_by, told_due, told_now, waits_in, writes_with}
 use Rattle.law_nodes.specs.OneList.{list_items}
 use Rattle.law_nodes.proofs.NodeEvents.{takes}
-use Rattle.kr_nodes.specs.declared.told.Told.{Told}
+use Rattle.kr_nodes.specs.declared.told.ToldReply.{ToldReply}
 use Rattle.kr_nodes.specs.inner.Handing.{Handed, after_output, after_outputs}
 use Rattle.kr_nodes.specs.Standing.{list_batch, told_as}
 use Rattle.kr_nodes.proofs.Outputs.{IsCounted, all_appended, all_due, alone, appended, items_in, no_image, now_replied}
@@ -37,10 +37,10 @@ module _ (options : Options) (k : ℕ) (n : RunNode) (event : Event) where
   abbrev pub new_items : Result State Reason → List (List Item)
   new_items q = if_accepted q (map (λ (w : Write). list_items (batches_of options at event)) (writes_of options at event))
 
-  abbrev pub before : Result State Reason → List Told → Handed
+  abbrev pub before : Result State Reason → List ToldReply → Handed
   before q told = record { unsettled = map list_batch n.unsettled; waiting = items_in n.waiting ++ new_items q; told = told }
 
-  abbrev pub after : Result State Reason → List Told → Handed
+  abbrev pub after : Result State Reason → List ToldReply → Handed
   after q told = record {
     unsettled = map list_batch (after_by options n at event q).unsettled;
     waiting = items_in (after_by options n at event q).waiting;
@@ -91,7 +91,7 @@ module _ (options : Options) (k : ℕ) (n : RunNode) (event : Event) where
 
   -- ---- all of it
 
-  handed_ok : (s : State) (told : List Told) → AllByRecursion IsCounted (batches_of options at event) → writes_in_order (held_then (Ok s)) ≡ true
+  handed_ok : (s : State) (told : List ToldReply) → AllByRecursion IsCounted (batches_of options at event) → writes_in_order (held_then (Ok s)) ≡ true
       → after_outputs k (before (Ok s) told) (told_then (Ok s)) ≡ after (Ok s) told
   handed_ok s told counted ordered =
       let A = appends options at event in
@@ -122,7 +122,7 @@ module _ (options : Options) (k : ℕ) (n : RunNode) (event : Event) where
       (append_assoc told (map told_as (flat_map (told_now k) N)) (map told_as (told_due k s.world ws))
       ∙ ap (λ l. told ++ l) (sym (map-append told_as (flat_map (told_now k) N) (told_due k s.world ws))))))))
 
-  handed_err : (reason : Reason) (told : List Told) → filter (is_open_in n.state.world) (writes_in n.waiting) ≡ writes_in n.waiting
+  handed_err : (reason : Reason) (told : List ToldReply) → filter (is_open_in n.state.world) (writes_in n.waiting) ≡ writes_in n.waiting
       → after_outputs k (before (Err reason) told) (told_then (Err reason)) ≡ after (Err reason) told
   handed_err reason told undue =
       let none : told_answers n.state.world.leading (pos n.state.world.committed) (writes_in n.waiting ++ []) ≡ [] =
@@ -137,7 +137,7 @@ module _ (options : Options) (k : ℕ) (n : RunNode) (event : Event) where
   CountedBy (Ok s) = AllByRecursion IsCounted (batches_of options at event)
   CountedBy (Err reason) = Unit {0}
 
-  pub handed_all : (q : Result State Reason) (told : List Told) → CountedBy q → writes_in_order (held_then q) ≡ true
+  pub handed_all : (q : Result State Reason) (told : List ToldReply) → CountedBy q → writes_in_order (held_then q) ≡ true
       → filter (is_open_in n.state.world) (writes_in n.waiting) ≡ writes_in n.waiting
       → after_outputs k (before q told) (told_then q) ≡ after q told
   handed_all (Ok s) told counted ordered undue = handed_ok s told counted ordered

@@ -14,7 +14,7 @@ use Rattle.law_nodes.specs.Nodes.{NodeTold, Run, RunNode, after_event, told_of}
 use Rattle.law_nodes.proofs.Steady.{LeavesEnd, node_end, node_settled}
 use Rattle.kr_nodes.specs.declared.node.Node.{Node}
 use Rattle.kr_nodes.specs.declared.shared.Shared.{Shared}
-use Rattle.kr_nodes.specs.inner.Acting.{Leaves}
+use Rattle.kr_nodes.specs.inner.Acting.{LeavesRun}
 use Rattle.kr_nodes.specs.inner.Taking.{NodeTakes, if_write}
 use Rattle.kr_nodes.specs.Standing.{AreBelow, StandsForNode, StandsForShared, told_as}
 use Rattle.kr_nodes.proofs.Handings.{new_items}
@@ -53,7 +53,7 @@ module _ (options : Options) (r : Run) (k : ℕ) (n : RunNode) (event : Event) (
         ∙ sym (map-append told_as r.told (told_of options k n event));
   }
 
-  pub event_leaves : LeavesEnd event → shared' ≡ record shared { told = shared'.told } → Leaves options r (with_event options r k n event) k after shared'
+  pub event_leaves : LeavesEnd event → shared' ≡ record shared { told = shared'.told } → LeavesRun options r (with_event options r k n event) k after shared'
   event_leaves kind same = record {
     node = after_event options n event;
     nodes_are = refl;

@@ -27,8 +27,8 @@ use Rattle.law_nodes.specs.NodeEvents.{writes_in}
 use Rattle.law_nodes.specs.Nodes.{NodeTold, RunNode, Waiting, after_by, batches_of, tells_by, told_due, told_now, told_without_place, told_write, waits_in, writes_with}
 use Rattle.law_nodes.specs.OneList.{list_items}
 use Rattle.kr_nodes.specs.declared.shared.ListBatch.{ListBatch}
-use Rattle.kr_nodes.specs.declared.told.Told.{Told}
-use Rattle.kr_nodes.specs.inner.Handing.{Handed, after_by as after_output_by, after_output, after_outputs, batch_in, first_items, other_items, told_alone, told_at}
+use Rattle.kr_nodes.specs.declared.told.ToldReply.{ToldReply}
+use Rattle.kr_nodes.specs.inner.Handing.{Handed, after_given, after_output, after_outputs, list_batch_in, first_items, other_items, told_unplaced, told_at}
 use Rattle.kr_nodes.specs.Standing.{list_batch, told_as}
 
 abbrev pub items_in : List Waiting → List (List Item)
@@ -36,7 +36,7 @@ items_in ws = map (λ (w : Waiting). w.items) ws
 
 -- the batch that is handed out is that of the list
 abbrev pub IsCounted : Batch → Type 0
-IsCounted b = batch_in (batch_bytes b) ≡ list_batch b
+IsCounted b = list_batch_in (batch_bytes b) ≡ list_batch b
 
 abbrev pub appended : Batch → Output
 appended b = given.Append (batch_bytes b)
@@ -50,8 +50,8 @@ module _ (k : ℕ) where
   pub all_appended : (h : Handed) (bs : List Batch) → AllByRecursion IsCounted bs → alone h (map appended bs) ≡ record h { unsettled = h.unsettled ++ map list_batch bs }
   all_appended h [] c = ap (λ l. record h { unsettled = l }) (sym (append-nil h.unsettled))
   all_appended h (b ∷ bs) c =
-      all_appended (record h { unsettled = h.unsettled ++ batch_in (batch_bytes b) ∷ [] }) bs c.1
-      ∙ ap (λ l. record h { unsettled = l }) (append_assoc h.unsettled (batch_in (batch_bytes b) ∷ []) (map list_batch bs) ∙ ap (λ (x : ListBatch). h.unsettled ++ x ∷ map list_batch bs) c.0)
+      all_appended (record h { unsettled = h.unsettled ++ list_batch_in (batch_bytes b) ∷ [] }) bs c.1
+      ∙ ap (λ l. record h { unsettled = l }) (append_assoc h.unsettled (list_batch_in (batch_bytes b) ∷ []) (map list_batch bs) ∙ ap (λ (x : ListBatch). h.unsettled ++ x ∷ map list_batch bs) c.0)
 
   pub no_image : (h : Handed) (s : State) (event : Event) → alone h (images s event) ≡ h
   no_image h s (events.Lead epoch next now) = refl
@@ -69,7 +69,7 @@ module _ (k : ℕ) where
   all_replied : (h : Handed) (client : ℕ) (correlation : ℤ) (rs : List Reply) → Replies h (map (given.Reply client correlation) rs)
   all_replied h client correlation [] = ap (λ l. record h { told = l }) (sym (append-nil h.told))
   all_replied h client correlation (r ∷ rs) =
-      let one = told_alone k client correlation r in
+      let one = told_unplaced k client correlation r in
       all_replied (record h { told = h.told ++ one ∷ [] }) client correlation rs
       ∙ ap (λ l. record h { told = l }) (append_assoc h.told (one ∷ []) (map told_as (flat_map (told_now k) (map (given.Reply client correlation) rs))))
 
@@ -93,9 +93,9 @@ module _ (k : ℕ) where
       → after_output k h (told_reply (pos end) x.write) ≡ record h { waiting = rest; told = h.told ++ told_as (told_write k end x) ∷ [] }
   one_due end x h rest is =
       let w = x.write in
-      elim (int_lt (pos end) w.need) as (λ b. after_output_by k h (Some (record { kind = cond b kinds.Lost kinds.Stands; decided = w.decided })) (given.Reply w.client w.correlation (cond b w.refusal w.reply))
+      elim (int_lt (pos end) w.need) as (λ b. after_given k h (Some (record { kind = cond b kinds.Lost kinds.Stands; decided = w.decided })) (given.Reply w.client w.correlation (cond b w.refusal w.reply))
       ≡ record h { waiting = rest; told = h.told ++ told_as (cond b (told_without_place k w.client w.correlation w.refusal) (record { node = k; client = w.client; correlation = w.correlation; place = w.decided.place; items = x.items; reply = w.reply })) ∷ [] }) [
-        | true ↦ ap (λ (ws : List (List Item)). record h { waiting = other_items ws; told = h.told ++ told_alone k w.client w.correlation w.refusal ∷ [] }) is
+        | true ↦ ap (λ (ws : List (List Item)). record h { waiting = other_items ws; told = h.told ++ told_unplaced k w.client w.correlation w.refusal ∷ [] }) is
         | false ↦ ap (λ (ws : List (List Item)). record h { waiting = other_items ws; told = h.told ++ told_at k w.client w.correlation w.decided.place (first_items ws) w.reply ∷ [] }) is
       ]
 

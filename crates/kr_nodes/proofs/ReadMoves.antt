@@ -19,7 +19,7 @@ use Rattle.law_nodes.specs.Nodes.{Run, RunNode}
 use Rattle.law_nodes.specs.ReadingBack.{IsHeldEntry}
 use Rattle.law_nodes.proofs.ReadBatches.{appends_read_back}
 use Rattle.kr_nodes.specs.declared.node.Node.{Node}
-use Rattle.kr_nodes.specs.declared.told.Told.{Told}
+use Rattle.kr_nodes.specs.declared.told.ToldReply.{ToldReply}
 use Rattle.kr_nodes.specs.inner.Acting.{IsReached}
 use Rattle.kr_nodes.specs.inner.Taking.{NodeTakes}
 use Rattle.kr_nodes.proofs.Takings.{ReadBy, TakenNode, stepped_stands}
@@ -27,7 +27,7 @@ use Rattle.kr_nodes.proofs.Takings.{ReadBy, TakenNode, stepped_stands}
 led_so : (o : Option ℤ) → IfSome o (λ epoch. FitsSigned w32 epoch) → (epoch : ℤ) → o ≡ Some epoch → FitsSigned w32 epoch
 led_so o fits epoch is = subst (λ (x : Option ℤ). IfSome x (λ e. FitsSigned w32 e)) is fits
 
-pub reads_back : (options : Options) (r : Run) (k : ℕ) (n : RunNode) (event : Event) (before after : Node) (is_write : Bool) (told told' : List Told) (t : NodeTakes k before after is_write told told' event) (s : TakenNode options n before)
+pub reads_back : (options : Options) (r : Run) (k : ℕ) (n : RunNode) (event : Event) (before after : Node) (is_write : Bool) (told told' : List ToldReply) (t : NodeTakes k before after is_write told told' event) (s : TakenNode options n before)
     → IsReached options r → slice_get r.nodes k ≡ Some n → FitsSigned w64 (time_after n.state.basis.time event) → (q : Result State Reason) → outcome options (at_time_of n.state event) event ≡ q → ReadBy options n event q
 reads_back options r k n event before after is_write told told' t s reached is fits (Err reason) got = tt
 reads_back options r k n event before after is_write told told' t s reached is fits (Ok state) got =

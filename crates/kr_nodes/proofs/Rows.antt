@@ -15,7 +15,7 @@ use Rattle.law_nodes.specs.Nodes.{Run, RunNode}
 use Rattle.law_nodes.proofs.Steady.{max_fits}
 use Rattle.kr_nodes.specs.declared.node.Node.{Node}
 use Rattle.kr_nodes.specs.declared.shared.Shared.{Shared}
-use Rattle.kr_nodes.specs.inner.Acting.{IsReached, Leaves, tick}
+use Rattle.kr_nodes.specs.inner.Acting.{IsReached, LeavesRun, tick_outcome}
 use Rattle.kr_nodes.specs.inner.Taking.{NodeTakes}
 use Rattle.kr_nodes.specs.Standing.{StandsForNode, StandsForShared}
 use Rattle.kr_nodes.proofs.Moved.{event_leaves}
@@ -29,7 +29,7 @@ none_new (Err reason) = refl
 module _ (options : Options) (r : Run) (k : ℕ) (n : RunNode) (before after : Node) (shared shared' : Shared) (is : slice_get r.nodes k ≡ Some n) (s : StandsForNode options r.list n before) (g : StandsForShared r shared)
     (same : shared' ≡ record shared { told = shared'.told }) where
   pub tick_row : (now : ℤ) → IsReached options r → FitsSigned w64 now → NodeTakes k before after false shared.told.items shared'.told.items (events.Tick now)
-      → (next : Run) × (tick options r k n now ≡ Ok next) × Leaves options r next k after shared'
+      → (next : Run) × (tick_outcome options r k n now ≡ Ok next) × LeavesRun options r next k after shared'
   tick_row now reached fits t =
       let event = events.Tick now in
       let late = max_fits n.state.basis.time now s.time fits in
@@ -40,5 +40,5 @@ module _ (options : Options) (r : Run) (k : ℕ) (n : RunNode) (before after : N
             (reads_back options r k n event before after false shared.told.items shared'.told.items t (taken_of options r.list n before s) reached is late q refl) late tt same,
       )
 
-  pub image_row : NodeTakes k before after false shared.told.items shared'.told.items events.Image → Leaves options r (with_event options r k n events.Image) k after shared'
+  pub image_row : NodeTakes k before after false shared.told.items shared'.told.items events.Image → LeavesRun options r (with_event options r k n events.Image) k after shared'
   image_row t = event_leaves options r k n events.Image before after false shared shared' t s g refl tt s.time tt same

@@ -30,8 +30,8 @@ use Rattle.law_nodes.proofs.ReadBatches.{reads_both}
 use Rattle.kr_nodes.specs.declared.node.Node.{Node}
 use Rattle.kr_nodes.specs.declared.shared.ListBatch.{ListBatch}
 use Rattle.kr_nodes.specs.declared.shared.Shared.{Shared}
-use Rattle.kr_nodes.specs.inner.Acting.{Acts, IsReached, Leaves, longer}
-use Rattle.kr_nodes.specs.inner.Checks.{MaySettle}
+use Rattle.kr_nodes.specs.inner.Acting.{Acts, IsReached, LeavesRun, longer}
+use Rattle.kr_nodes.specs.inner.Checks.{MaySettleNext}
 use Rattle.kr_nodes.specs.inner.Settling.{Joins}
 use Rattle.kr_nodes.specs.Standing.{AreBelow, StandsForNode, StandsForShared, list_batch}
 use Rattle.kr_nodes.proofs.Feeds.{is_node}
@@ -64,9 +64,9 @@ pub record SettlesFirst (before after : Node) (batch : ListBatch) (sent : ℕ) :
   pub fed : after.fed ≡ before.fed
   pub sent_is : after.sent ≡ sent
 
-module _ (k : ℕ) (before after : Node) (shared shared' : Shared) (batch : ListBatch) (may : MaySettle shared before) (pops : SettlesFirst before after batch (length shared'.list.items)) (joins : Joins shared shared' batch) where
+module _ (k : ℕ) (before after : Node) (shared shared' : Shared) (batch : ListBatch) (may : MaySettleNext shared before) (pops : SettlesFirst before after batch (length shared'.list.items)) (joins : Joins shared shared' batch) where
   settled_by : (options : Options) (r : Run) (n : RunNode) → IsReached options r → slice_get r.nodes k ≡ Some n → StandsForNode options r.list n before → StandsForShared r shared → (bs : List Batch) → n.unsettled ≡ bs
-      → (next : Run) × (settle_first r k n bs ≡ Ok next) × Leaves options r next k after shared'
+      → (next : Run) × (settle_first r k n bs ≡ Ok next) × LeavesRun options r next k after shared'
   settled_by options r n reached is s g [] has = absurd (nothing (sym pops.unsettled ∙ (s.unsettled ∙ ap (λ (l : List Batch). map list_batch l) has)))
     where
       nothing : batch ∷ after.pending.unsettled.items ≡ [] → ⊥

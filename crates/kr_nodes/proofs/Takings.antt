@@ -27,9 +27,9 @@ use Rattle.law_nodes.specs.Nodes.{RunNode, Waiting, after_by, after_event, batch
 use Rattle.law_nodes.proofs.NodeEvents.{takes}
 use Rattle.kr_nodes.specs.declared.node.Node.{Node}
 use Rattle.kr_nodes.specs.declared.shared.ListBatch.{ListBatch}
-use Rattle.kr_nodes.specs.declared.told.Told.{Told}
-use Rattle.kr_nodes.specs.inner.Handing.{Handed, after_outputs, batch_in, count_in, handed}
-use Rattle.kr_nodes.specs.inner.Taking.{NodeTakes, if_write, noted}
+use Rattle.kr_nodes.specs.declared.told.ToldReply.{ToldReply}
+use Rattle.kr_nodes.specs.inner.Handing.{Handed, after_outputs, list_batch_in, count_in, handed_over}
+use Rattle.kr_nodes.specs.inner.Taking.{NodeTakes, if_write, handed_noted}
 use Rattle.law_nodes.specs.ReadingBack.{ReadsBack}
 use Rattle.kr_nodes.specs.Standing.{StandsForNode, list_batch, told_as}
 use Rattle.law_nodes.proofs.ReadBatches.{reads_both}
@@ -88,7 +88,7 @@ abbrev pub ReadBy : Options → RunNode → Event → Result State Reason → Ty
 ReadBy options n event (Ok after) = AllByRecursion ReadsBack (batches_of options (at_time_of n.state event) event)
 ReadBy options n event (Err reason) = Unit {0}
 
-module _ (options : Options) (k : ℕ) (n : RunNode) (event : Event) (before after : Node) (is_write : Bool) (told told' : List Told) (t : NodeTakes k before after is_write told told' event)
+module _ (options : Options) (k : ℕ) (n : RunNode) (event : Event) (before after : Node) (is_write : Bool) (told told' : List ToldReply) (t : NodeTakes k before after is_write told told' event)
     (stands : TakenNode options n before) where
   abbrev q : Result State Reason
   q = outcome options (at_time_of n.state event) event
@@ -122,22 +122,22 @@ module _ (options : Options) (k : ℕ) (n : RunNode) (event : Event) (before aft
   by_reads (Err reason) reads = tt
 
   module _ (new : if_write is_write t.stepped.fresh ≡ new_items options k n event q) (reads : ReadBy options n event q) where
-    all : (before_told : List Told) → told ≡ before_told → handed after.pending told' ≡ handings.after options k n event q before_told
+    all : (before_told : List ToldReply) → told ≡ before_told → handed_over after.pending told' ≡ handings.after options k n event q before_told
     all before_told same =
-        let h = handed before.pending told in
+        let h = handed_over before.pending told in
         t.all
-        ∙ (ap (λ (os : List Output_). after_outputs k (noted is_write t.stepped.fresh h) os) left
+        ∙ (ap (λ (os : List Output_). after_outputs k (handed_noted is_write t.stepped.fresh h) os) left
         ∙ (ap (λ (l : List ListBatch). after_outputs k (record { unsettled = l; waiting = before.pending.waiting.items ++ if_write is_write t.stepped.fresh; told = told }) (told_then options k n event q)) stands.unsettled
         ∙ (ap (λ (l : List (List Item)). after_outputs k (record { unsettled = map list_batch n.unsettled; waiting = l ++ if_write is_write t.stepped.fresh; told = told }) (told_then options k n event q)) stands.waiting
         ∙ (ap (λ (l : List (List Item)). after_outputs k (record { unsettled = map list_batch n.unsettled; waiting = items_in n.waiting ++ l; told = told }) (told_then options k n event q)) new
-        ∙ (ap (λ (l : List Told). after_outputs k (record { unsettled = map list_batch n.unsettled; waiting = items_in n.waiting ++ new_items options k n event q; told = l }) (told_then options k n event q)) same
+        ∙ (ap (λ (l : List ToldReply). after_outputs k (record { unsettled = map list_batch n.unsettled; waiting = items_in n.waiting ++ new_items options k n event q; told = l }) (told_then options k n event q)) same
         ∙ handed_all options k n event q before_told (by_reads q reads) (sym (ap writes_in_order held_is) ∙ stepped_stands.ordered) undue_now)))))
 
     reads_by : (r : Result State Reason) → ReadBy options n event r → AllByRecursion ReadsBack (after_by options n (at_time_of n.state event) event r).unsettled
     reads_by (Ok s) more = reads_both n.unsettled (batches_of options (at_time_of n.state event) event) stands.reads more
     reads_by (Err reason) more = stands.reads
 
-    pub told_so : (before_told : List Told) → told ≡ before_told → told' ≡ before_told ++ map told_as (told_of options k n event)
+    pub told_so : (before_told : List ToldReply) → told ≡ before_told → told' ≡ before_told ++ map told_as (told_of options k n event)
     told_so before_told same = ap (λ (h : Handed). h.told) (all before_told same)
 
     pub taken : FitsSigned w64 (time_after n.state.basis.time event) → TakenNode options (after_event options n event) after

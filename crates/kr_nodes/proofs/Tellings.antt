@@ -17,7 +17,7 @@ use Rattle.law_nodes.specs.Nodes.{Run, RunNode, after_event}
 use Rattle.law_nodes.proofs.Steady.{node_settled, uncommitted}
 use Rattle.kr_nodes.specs.declared.node.Node.{Node}
 use Rattle.kr_nodes.specs.declared.shared.Shared.{Shared}
-use Rattle.kr_nodes.specs.inner.Acting.{Acts, caught_up}
+use Rattle.kr_nodes.specs.inner.Acting.{Acts, told_fed}
 use Rattle.kr_nodes.specs.inner.Checks.{MayTell}
 use Rattle.kr_nodes.specs.inner.Taking.{NodeTakes}
 use Rattle.kr_nodes.specs.Standing.{AreBelow, StandsForNode, StandsForShared}
@@ -37,7 +37,7 @@ module _ (k : ℕ) (epoch : ℤ) (before between : Node) (shared shared' : Share
       let here : to ≡ committed_end n = stays (λ all. absurd (grind (arith, ints))) in
       subst (AreBelow list to) (sym t.places.fed) (subst (λ c. AreBelow list c before.fed) (sym here) fed)
 
-  pub tell_acts : Acts (λ options r n. table.tell options r k n) k before (record between { fed = caught_up before.settled between }) shared shared' (Ok tt)
+  pub tell_acts : Acts (λ options r n. table.tell options r k n) k before (record between { fed = told_fed before.settled between }) shared shared' (Ok tt)
   tell_acts = λ options r n reached is s g.
       let event = events.Commit epoch (pos n.settled) in
       let takes : NodeTakes k before between false shared.told.items shared'.told.items event = subst (λ z. NodeTakes k before between false shared.told.items shared'.told.items (events.Commit epoch z)) s.settled t in

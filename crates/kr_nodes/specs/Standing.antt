@@ -25,7 +25,7 @@ use Rattle.kr_nodes.specs.declared.cluster.Cluster.{Cluster}
 use Rattle.kr_nodes.specs.declared.node.Node.{Node}
 use Rattle.kr_nodes.specs.declared.shared.ListBatch.{ListBatch}
 use Rattle.kr_nodes.specs.declared.shared.Shared.{Shared}
-use Rattle.kr_nodes.specs.declared.told.Told.{Told}
+use Rattle.kr_nodes.specs.declared.told.ToldReply.{ToldReply}
 use Rattle.kr_nodes.specs.inner.Taking.{IsFirstNode}
 
 -- ---- of a node
@@ -34,7 +34,7 @@ use Rattle.kr_nodes.specs.inner.Taking.{IsFirstNode}
 abbrev pub list_batch : Batch → ListBatch
 list_batch b = record { event = events.Batch (batch_bytes b); count = length b.items }
 
-abbrev pub told_as : NodeTold → Told
+abbrev pub told_as : NodeTold → ToldReply
 told_as t = record { node = t.node; client = t.client; correlation = t.correlation; place = t.place; items = t.items; reply = t.reply }
 
 -- so many batches of the list are below the place
@@ -81,8 +81,8 @@ pub record StandsForRun (options : Options) (r : Run) (c : Cluster) : Type 0 whe
   pub shared : StandsForShared r c.shared
 
 -- so many nodes, after these moves
-abbrev pub StandsFor : Options → ℕ → List Move → Cluster → Type 0
-StandsFor options nodes past c = StandsForRun options (run options nodes past) c
+abbrev pub StandsForMoves : Options → ℕ → List Move → Cluster → Type 0
+StandsForMoves options nodes past c = StandsForRun options (run options nodes past) c
 
 -- ---- moves
 
@@ -92,25 +92,25 @@ IsWriteMove (moves.Ask node client now call) = is_read call.request ≡ false
 IsWriteMove other = Unit {0}
 
 -- a cluster stands for some moves, or wanted memory
-pub record StandsForSome (c : Cluster) : Type 0 where
+pub record StandsForSomeMoves (c : Cluster) : Type 0 where
   pub options : Options
   pub nodes : ℕ
   pub past : List Move
-  pub stands : StandsFor options nodes past c
+  pub stands : StandsForMoves options nodes past c
 
-abbrev pub IsReady : Cluster → Type 0
-IsReady c = c.spent ≡ false → StandsForSome c
+abbrev pub IsReadyCluster : Cluster → Type 0
+IsReadyCluster c = c.spent ≡ false → StandsForSomeMoves c
 
 abbrev pub is_memory : Result (Unit {0}) MoveFault → Bool
 is_memory (Err faults.NoMemory) = true
 is_memory other = false
 
 -- the answer is the table's, and the cluster stands for one move more
-abbrev pub Answers : Options → ℕ → List Move → Move → Cluster → Result (Unit {0}) MoveFault → Type 0
-Answers options nodes past turn after (Err faults.NoMemory) = after.spent ≡ true
-Answers options nodes past turn after (Err fault) = (move_outcome options (run options nodes past) turn ≡ Err fault) × StandsFor options nodes (past ++ turn ∷ []) after
-Answers options nodes past turn after (Ok done) =
-    (next : Run) × (move_outcome options (run options nodes past) turn ≡ Ok next) × StandsFor options nodes (past ++ turn ∷ []) after
+abbrev pub AnswersMove : Options → ℕ → List Move → Move → Cluster → Result (Unit {0}) MoveFault → Type 0
+AnswersMove options nodes past turn after (Err faults.NoMemory) = after.spent ≡ true
+AnswersMove options nodes past turn after (Err fault) = (move_outcome options (run options nodes past) turn ≡ Err fault) × StandsForMoves options nodes (past ++ turn ∷ []) after
+AnswersMove options nodes past turn after (Ok done) =
+    (next : Run) × (move_outcome options (run options nodes past) turn ≡ Ok next) × StandsForMoves options nodes (past ++ turn ∷ []) after
 
 -- ---- what is so of a cluster, whatever the moves were
 
@@ -121,7 +121,7 @@ pub record FollowsList (list : List Batch) (node : Node) : Type 0 where
   pub stands : IsEngine node.engine state writes
   pub follows : Follows list state.world.log state.world.committed
 
-abbrev pub IsToldOf : List Batch → Told → Type 0
+abbrev pub IsToldOf : List Batch → ToldReply → Type 0
 IsToldOf list t = (place : ℕ) → t.place ≡ pos place → StandsIn (list_items list) place t.items
 
 pub record ClusterAgrees (c : Cluster) : Type 0 where

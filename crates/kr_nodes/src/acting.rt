@@ -7,8 +7,8 @@ ghost use Rattle.kr_model.specs.World.{is_far};
 ghost use Rattle.law_nodes.specs.declared.moves.MoveFault.TheVariants as faults;
 ghost use Rattle.law_nodes.specs.Moves as table;
 ghost use Rattle.kr_nodes.specs.inner.Acting as acting;
-ghost use Rattle.kr_nodes.specs.inner.Acting.{Acts, IsIdleNode, IsWrite};
-ghost use Rattle.kr_nodes.specs.inner.Checks.{IsElectFault, IsFeedFault, IsSettleFault, IsStandbyFault, IsTellFault, MayElect, MayFeed, MaySettle, MayTell};
+ghost use Rattle.kr_nodes.specs.inner.Acting.{Acts, IsIdleNode, IsWriteRequest};
+ghost use Rattle.kr_nodes.specs.inner.Checks.{IsElectFault, IsFeedFault, IsSettleFault, IsStandbyFault, IsTellFault, MayElect, MayFeed, MaySettleNext, MayTell};
 
 use crate::node::Node;
 use crate::shared::{ListBatch, Shared};
@@ -117,7 +117,7 @@ impl Node {
 
     // It is the leader that was elected last, and has a batch that isn't in the list.
     fn check_settle(&self, number: u32, shared: &Shared) -> Result<(), MoveFault>
-        ensures { MatchResult result (λ _. MaySettle shared.now self.now)
+        ensures { MatchResult result (λ _. MaySettleNext shared.now self.now)
             (λ fault. IsSettleFault number shared.now self.now fault) }
     {
         let epoch = self.led_epoch(number)?;
@@ -169,7 +169,7 @@ impl Node {
 
     // All that it settled is below its end, where that is the one that it was told.
     fn catch_up(&mut self, end: i64)
-        ensures { self.new ≡ record self.old { fed = acting.caught_up end self.old } }
+        ensures { self.new ≡ record self.old { fed = acting.told_fed end self.old } }
     {
         if self.engine.committed() == end {
             self.fed = self.sent;
@@ -268,8 +268,8 @@ impl Node {
         steps: &mut Steps<L>,
     ) -> Result<(), MoveFault>
         requires idle { IsIdleNode self.old }
-        requires write { IsWrite call.request }
-        ensures { Acts (λ options r n. acting.ask options r number n client now call)
+        requires write { IsWriteRequest call.request }
+        ensures { Acts (λ options r n. acting.ask_outcome options r number n client now call)
             number self.old self.new shared.old shared.new result }
     {
         let is_decided = self.decides();
@@ -287,7 +287,7 @@ impl Node {
         steps: &mut Steps<L>,
     ) -> Result<(), MoveFault>
         requires { IsIdleNode self.old }
-        ensures { Acts (λ options r n. acting.tick options r number n now)
+        ensures { Acts (λ options r n. acting.tick_outcome options r number n now)
             number self.old self.new shared.old shared.new result }
     {
         let event = tick_event(now);

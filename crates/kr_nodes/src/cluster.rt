@@ -12,11 +12,11 @@ ghost use Rattle.law_nodes.specs.Moves.{committed_end, length_of, run};
 ghost use Rattle.kr_nodes.specs.inner.Acting as acting;
 ghost use Rattle.kr_nodes.specs.inner.Acting.{AreIdle, IsOfOne, MakesSome};
 ghost use Rattle.kr_nodes.specs.Standing as standing;
-ghost use Rattle.kr_nodes.specs.Standing.{Answers, ClusterAgrees, IsReady, IsWriteMove, StandsFor, told_as};
+ghost use Rattle.kr_nodes.specs.Standing.{AnswersMove, ClusterAgrees, IsReadyCluster, IsWriteMove, StandsForMoves, told_as};
 
 use crate::copying::{check_copy, image_at, load_at};
 use crate::moving::act_at;
-use crate::Told;
+use crate::ToldReply;
 use crate::node::Node;
 use crate::shared::Shared;
 use kr_base::{NoMemory, Steps};
@@ -81,8 +81,8 @@ impl Cluster {
         requires some { 1 ≤ nodes }
         requires few { nodes ≤ 16 }
         requires options { IsTrue (are_options options) }
-        ensures stands { IfOk result (λ cluster. StandsFor options nodes [] cluster) }
-        ensures ready { IfOk result (λ cluster. IsReady cluster) }
+        ensures stands { IfOk result (λ cluster. StandsForMoves options nodes [] cluster) }
+        ensures ready { IfOk result (λ cluster. IsReadyCluster cluster) }
     {
         Ok(Cluster {
             nodes: first_nodes(alloc, &options, nodes)?,
@@ -101,14 +101,14 @@ impl Cluster {
     /// One move. It is refused by the first reason of the table, and then all is as before; or memory was wanted, and then
     /// nothing more is done with the cluster.
     pub fn step(&mut self, turn: Move) -> Result<(), MoveFault>
-        requires ready { IsReady self.old }
+        requires ready { IsReadyCluster self.old }
         requires write { IsWriteMove turn }
         ensures moved { (options : AnyOptions) (nodes : ℕ) (past : List AnyMove) →
-            StandsFor options nodes past self.old → Answers options nodes past turn self.new result }
+            StandsForMoves options nodes past self.old → AnswersMove options nodes past turn self.new result }
         // Two nodes with equal ends have equal images, and each success that a leader told stands at its place in the
         // one list, of which each node's log is a part.
         ensures agrees { self.new.spent ≡ false → ClusterAgrees self.new }
-        ensures ready { IsReady self.new }
+        ensures ready { IsReadyCluster self.new }
         ensures spent { self.new.spent ≡ standing.is_memory result }
         ensures over { self.old.spent ≡ true → IsErrOf result faults.NoMemory }
     {
@@ -159,7 +159,7 @@ impl Cluster {
         requires one { IsOfOne turn }
         ensures { MakesSome self.old self.new turn result }
     {
-        let node = node_of(&turn);
+        let node = moved_node(&turn);
         self.check_node(node)?;
         act_at(&mut self.nodes, node, turn, &mut self.shared, steps)
     }
@@ -184,15 +184,15 @@ impl Cluster {
     /// How many items the list has.
     pub fn length(&self) -> i64
         ensures { (options : AnyOptions) (nodes : ℕ) (past : List AnyMove) →
-            StandsFor options nodes past self.now → result ≡ pos (length_of (run options nodes past)) }
+            StandsForMoves options nodes past self.now → result ≡ pos (length_of (run options nodes past)) }
     {
         self.shared.length
     }
 
     /// The greatest epoch in which a node was elected, at first -1.
-    pub fn elected(&self) -> i32
+    pub fn greatest_epoch(&self) -> i32
         ensures { (options : AnyOptions) (nodes : ℕ) (past : List AnyMove) →
-            StandsFor options nodes past self.now → result ≡ (run options nodes past).elected }
+            StandsForMoves options nodes past self.now → result ≡ (run options nodes past).elected }
     {
         self.shared.elected
     }
@@ -200,7 +200,7 @@ impl Cluster {
     /// A node's committed end, none where there is no such node.
     pub fn end(&self, node: u32) -> Option<i64>
         ensures { (options : AnyOptions) (nodes : ℕ) (past : List AnyMove) →
-            StandsFor options nodes past self.now →
+            StandsForMoves options nodes past self.now →
             result ≡ option_map (λ n. pos (committed_end n)) (slice_get (run options nodes past).nodes node) }
     {
         match self.nodes.get(node as usize) {
@@ -210,9 +210,9 @@ impl Cluster {
     }
 
     /// What clients were told, in order.
-    pub fn told(&self) -> &[Told]
+    pub fn told(&self) -> &[ToldReply]
         ensures { (options : AnyOptions) (nodes : ℕ) (past : List AnyMove) →
-            StandsFor options nodes past self.now → result.now ≡ map told_as (run options nodes past).told }
+            StandsForMoves options nodes past self.now → result.now ≡ map told_as (run options nodes past).told }
     {
         self.shared.told.as_slice()
     }
@@ -225,7 +225,7 @@ fn is_memory(answer: &Result<(), MoveFault>) -> bool
 }
 
 // The node of a move of one node.
-fn node_of(turn: &Move) -> u32
+fn moved_node(turn: &Move) -> u32
     requires { IsOfOne turn.now }
     ensures { result ≡ acting.node_of turn.now }
 {

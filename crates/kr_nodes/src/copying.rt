@@ -3,9 +3,9 @@
 ghost use Rattle.std.specs.Prelude.{◌≡◌, ◌<◌, IfOk, MatchResult, OnOk, length};
 ghost use Rattle.kr_store.specs.declared.places.At.TheVariants as places;
 ghost use Rattle.kr_nodes.specs.inner.Acting.{AreIdle, IsIdleNode};
-ghost use Rattle.kr_nodes.specs.inner.Copying.{GivesImage, Images, ImagesAt, IsCopyFault, IsImageEvent, Loads, LoadsAt, MayCopy};
+ghost use Rattle.kr_nodes.specs.inner.Copying.{GivesImage, ImagesNode, ImagesAt, IsCopyFault, IsImageEvent, LoadsEvent, LoadsAt, MayCopy};
 
-use crate::Told;
+use crate::ToldReply;
 use crate::node::Node;
 use crate::shared::Shared;
 use kr_base::{NoMemory, Steps};
@@ -48,7 +48,7 @@ impl Node {
         steps: &mut Steps<L>,
     ) -> Result<Event, NoMemory>
         requires { IsIdleNode self.old }
-        ensures { IfOk result (λ event. Images
+        ensures { IfOk result (λ event. ImagesNode
             number self.old self.new shared.old shared.new event) }
     {
         let event = self.image_event()?;
@@ -63,11 +63,11 @@ impl Node {
         event: &Event,
         end: i64,
         fed: usize,
-        told: &mut Vec<Told>,
+        told: &mut Vec<ToldReply>,
         steps: &mut Steps<L>,
     ) -> Result<(), NoMemory>
         requires { IsIdleNode self.old }
-        ensures { OnOk result (Loads number
+        ensures { OnOk result (LoadsEvent number
             self.old self.new event.now end fed told.old.items told.new.items) }
     {
         self.take(number, event, false, told, steps)?;
@@ -117,7 +117,7 @@ pub(crate) fn load_at<L: Ledger>(
     event: &Event,
     end: i64,
     fed: usize,
-    told: &mut Vec<Told>,
+    told: &mut Vec<ToldReply>,
     steps: &mut Steps<L>,
 ) -> Result<(), NoMemory>
     requires there { number < length nodes.old.items }

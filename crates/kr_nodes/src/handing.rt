@@ -4,9 +4,9 @@ ghost use Rattle.std.specs.Prelude.{◌≡◌, ◌++◌, ◌∷◌, [], IfOk, Is
 ghost use Rattle.kr_calls.specs.declared.events.Event.TheVariants as events;
 ghost use Rattle.kr_model.specs.Engine.{writes_in_order};
 ghost use Rattle.kr_nodes.specs.inner.Handing as handing;
-ghost use Rattle.kr_nodes.specs.inner.Handing.{HandsOut, handed};
+ghost use Rattle.kr_nodes.specs.inner.Handing.{HandsOut, handed_over};
 
-use crate::Told;
+use crate::ToldReply;
 use crate::shared::ListBatch;
 use kr_base::NoMemory;
 use kr_batch::head;
@@ -44,7 +44,7 @@ fn count_in(bytes: &Bytes) -> u32
 }
 
 fn batch_of(bytes: Bytes) -> ListBatch
-    ensures { result ≡ handing.batch_in bytes }
+    ensures { result ≡ handing.list_batch_in bytes }
 {
     let count = count_in(&bytes);
     ListBatch {
@@ -53,10 +53,10 @@ fn batch_of(bytes: Bytes) -> ListBatch
     }
 }
 
-fn told_alone(alloc: Global, asker: Asker, reply: Reply) -> Told
-    ensures { result ≡ handing.told_alone asker.node asker.client asker.correlation reply }
+fn told_unplaced(alloc: Global, asker: Asker, reply: Reply) -> ToldReply
+    ensures { result ≡ handing.told_unplaced asker.node asker.client asker.correlation reply }
 {
-    Told {
+    ToldReply {
         node: asker.node,
         client: asker.client,
         correlation: asker.correlation,
@@ -66,10 +66,10 @@ fn told_alone(alloc: Global, asker: Asker, reply: Reply) -> Told
     }
 }
 
-fn told_at(asker: Asker, place: i64, items: Items, reply: Reply) -> Told
+fn told_at(asker: Asker, place: i64, items: Items, reply: Reply) -> ToldReply
     ensures { result ≡ handing.told_at asker.node asker.client asker.correlation place items reply }
 {
-    Told {
+    ToldReply {
         node: asker.node,
         client: asker.client,
         correlation: asker.correlation,
@@ -93,7 +93,7 @@ impl Pending {
     }
 
     // The reply of a write that waited.
-    fn ended(&mut self, asker: Asker, reply: Reply, ended: Ended) -> Told
+    fn reply_ended(&mut self, asker: Asker, reply: Reply, ended: Ended) -> ToldReply
         ensures told { result ≡ handing.told_end asker.node asker.client asker.correlation reply ended (handing.first_items self.old.waiting.items) }
         ensures rest { self.new.waiting.items ≡ handing.other_items self.old.waiting.items }
         ensures same { self.new.unsettled ≡ self.old.unsettled }
@@ -101,25 +101,25 @@ impl Pending {
         let items = self.next_items();
         match ended.kind {
             AnswerKind::Stands => told_at(asker, ended.decided.place, items, reply),
-            _ => told_alone(self.alloc, asker, reply),
+            _ => told_unplaced(self.alloc, asker, reply),
         }
     }
 
-    fn reply(&mut self, asker: Asker, reply: Reply, ended: Option<Ended>) -> Told
-        ensures told { result ≡ handing.told_by asker.node asker.client asker.correlation reply
+    fn reply(&mut self, asker: Asker, reply: Reply, ended: Option<Ended>) -> ToldReply
+        ensures told { result ≡ handing.told_with asker.node asker.client asker.correlation reply
             (handing.first_items self.old.waiting.items) ended }
         ensures rest { self.new.waiting.items ≡ handing.waiting_by ended self.old.waiting.items }
         ensures same { self.new.unsettled ≡ self.old.unsettled }
     {
         match ended {
-            Some(ended) => self.ended(asker, reply, ended),
-            None => told_alone(self.alloc, asker, reply),
+            Some(ended) => self.reply_ended(asker, reply, ended),
+            None => told_unplaced(self.alloc, asker, reply),
         }
     }
 
     fn keep(&mut self, bytes: Bytes) -> Result<(), NoMemory>
         ensures unsettled { OnOk result (self.new.unsettled.items
-            ≡ self.old.unsettled.items ++ handing.batch_in bytes ∷ []) }
+            ≡ self.old.unsettled.items ++ handing.list_batch_in bytes ∷ []) }
         ensures waiting { self.new.waiting ≡ self.old.waiting }
     {
         self.unsettled.push_back(batch_of(bytes))?;
@@ -131,11 +131,11 @@ impl Pending {
         asker: Asker,
         reply: Reply,
         ended: Option<Ended>,
-        told: &mut Vec<Told>,
+        told: &mut Vec<ToldReply>,
     ) -> Result<(), NoMemory>
-        ensures { OnOk result (handed self.new told.new.items
+        ensures { OnOk result (handed_over self.new told.new.items
             ≡ handing.after_reply asker.node asker.client asker.correlation reply ended
-            (handed self.old told.old.items)) }
+            (handed_over self.old told.old.items)) }
     {
         let reply = self.reply(asker, reply, ended);
         told.push(reply)?;
@@ -148,10 +148,10 @@ impl Pending {
         node: u32,
         output: Output,
         ended: Option<Ended>,
-        told: &mut Vec<Told>,
+        told: &mut Vec<ToldReply>,
     ) -> Result<(), NoMemory>
-        ensures { OnOk result (handed self.new told.new.items ≡
-            handing.after_by node (handed self.old told.old.items) ended output) }
+        ensures { OnOk result (handed_over self.new told.new.items ≡
+            handing.after_given node (handed_over self.old told.old.items) ended output) }
     {
         match output {
             Output::Append { bytes } => self.keep(bytes),
@@ -177,11 +177,11 @@ pub(crate) fn hand_out(
     engine: &mut Engine,
     node: u32,
     pending: &mut Pending,
-    told: &mut Vec<Told>,
+    told: &mut Vec<ToldReply>,
 ) -> Result<(), NoMemory>
     requires { IsTrue (writes_in_order engine.old.held) }
     ensures { OnOk result (HandsOut node engine.old engine.new
-        (handed pending.old told.old.items) (handed pending.new told.new.items)) }
+        (handed_over pending.old told.old.items) (handed_over pending.new told.new.items)) }
 {
     while let Some(output) = engine.next_told() {
         let Output_ { output, ended } = output;

@@ -12,4 +12,4 @@ mod told;
 
 pub use cluster::Cluster;
 pub use law_nodes::{Move, MoveFault};
-pub use told::Told;
+pub use told::ToldReply;

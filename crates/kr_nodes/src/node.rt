@@ -6,9 +6,9 @@ ghost use Rattle.kr_defs.specs.OpenOptions.{are_options};
 ghost use Rattle.kr_model.specs.Engine.{IsSound, outputs_left};
 ghost use Rattle.law_nodes.specs.ReadingBack.{IsHeldEntry};
 ghost use Rattle.kr_nodes.specs.inner.Taking as taking;
-ghost use Rattle.kr_nodes.specs.inner.Taking.{IsFirstNode, NodeTakes, Notes, ReturnsToEnd};
+ghost use Rattle.kr_nodes.specs.inner.Taking.{IsFirstNode, NodeTakes, NotesAdded, ReturnsToEnd};
 
-use crate::Told;
+use crate::ToldReply;
 use crate::handing::{Pending, hand_out};
 use kr_base::{NoMemory, Steps};
 use kr_calls::{Entry, Event};
@@ -116,7 +116,7 @@ impl Node {
 
     // What the event added is taken; where it is a write that waits, it waits with these items.
     fn note(&mut self, is_write: bool) -> Result<(), NoMemory>
-        ensures { OnOk result (Notes is_write self.old self.new) }
+        ensures { OnOk result (NotesAdded is_write self.old self.new) }
     {
         look_at_places(&self.engine);
         let fresh = self.engine.take_fresh();
@@ -134,7 +134,7 @@ impl Node {
         number: u32,
         event: &Event,
         is_write: bool,
-        told: &mut Vec<Told>,
+        told: &mut Vec<ToldReply>,
         steps: &mut Steps<L>,
     ) -> Result<(), NoMemory>
         requires sound { IsSound self.old.engine }

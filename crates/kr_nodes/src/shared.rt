@@ -3,7 +3,7 @@
 ghost use Rattle.std.specs.Prelude.{◌≡◌, ◌++◌, ◌∷◌, [], OnOk};
 ghost use Rattle.kr_nodes.specs.inner.Settling.{Joins};
 
-use crate::Told;
+use crate::ToldReply;
 use kr_base::NoMemory;
 use kr_calls::Event;
 use std::alloc::Global;
@@ -29,7 +29,7 @@ pub(crate) struct Shared {
     /// The greatest epoch in which a node was elected, at first -1.
     pub(crate) elected: i32,
     /// What clients were told, in order.
-    pub(crate) told: Vec<Told>,
+    pub(crate) told: Vec<ToldReply>,
 }
 
 impl Shared {

@@ -5,7 +5,7 @@ use kr_defs::Items;
 
 /// A reply that a node gave a client.
 #[derive(Drop)]
-pub struct Told {
+pub struct ToldReply {
     /// The node.
     pub node: u32,
     /// The client's number.

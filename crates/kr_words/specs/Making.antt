@@ -2,7 +2,7 @@
 use Rattle.std.specs.Prelude.{◌≡◌, ◌⊎◌, ℕ, List, Option, Result, Ok, Err}
 use Rattle.std.specs.Io.KnownBytes.{Appends, Keeps}
 use Rattle.kr_base.specs.FailedPuts.{AppendsFront}
-use Rattle.kr_drive.specs.Driving.{nodes_summary, summary_text as nodes_lines}
+use Rattle.kr_drive.specs.Driving.{nodes_lines, nodes_summary}
 use Rattle.kr_fold.specs.declared.fault.ToolFault.{ToolFault}
 use Rattle.kr_fold.specs.declared.fault.ToolFault.TheVariants as faults
 use Rattle.kr_workload.specs.Session.{made_session, options}

@@ -1,7 +1,7 @@
 //! What was told, as words.
 
 use kr_defs::Item;
-use kr_nodes::Told;
+use kr_nodes::ToldReply;
 use kr_req::encode_reply;
 use std::alloc::Global;
 use testlib_rule_answers::record_of;
@@ -12,7 +12,7 @@ use testlib_words::{RowFault, hex_text};
 /// value in hex, with commas between.
 pub(crate) fn add_told(
     alloc: Global,
-    told: &[Told],
+    told: &[ToldReply],
     items: &str,
     text: &mut String,
 ) -> Result<(), RowFault> {
@@ -29,7 +29,7 @@ pub(crate) fn add_told(
     Ok(())
 }
 
-fn add_one(alloc: Global, told: &Told, word: &str, text: &mut String) -> Result<(), RowFault> {
+fn add_one(alloc: Global, told: &ToldReply, word: &str, text: &mut String) -> Result<(), RowFault> {
     let mut message = Vec::new(alloc);
     encode_reply(told.correlation, &told.reply, &mut message)?;
     let digits = hex_text(alloc, &message)?;

@@ -1,7 +1,7 @@
 //! Rows on moves that are made with several controllers over one list.
 
 ghost use Rattle.std.specs.Prelude.{IfOk};
-ghost use Rattle.kr_nodes.specs.Standing.{IsReady, IsWriteMove};
+ghost use Rattle.kr_nodes.specs.Standing.{IsReadyCluster, IsWriteMove};
 
 use crate::moves::{Asked, asked_of, outcome_text};
 use crate::tellings::add_told;
@@ -30,7 +30,7 @@ pub(crate) fn moves_row(alloc: Global, fields: &mut Fields) -> Result<String, Ro
 }
 
 fn cluster_of(alloc: Global, nodes: u32, salt: u32) -> Result<Cluster, RowFault>
-    ensures { IfOk result (λ cluster. IsReady cluster) }
+    ensures { IfOk result (λ cluster. IsReadyCluster cluster) }
 {
     if nodes < 1 || nodes > 16 {
         return Err(RowFault::Fields);
@@ -46,9 +46,9 @@ fn add_move(
     asked: Asked,
     text: &mut String,
 ) -> Result<(), RowFault>
-    requires ready { IsReady cluster.old }
+    requires ready { IsReadyCluster cluster.old }
     requires write { IsWriteMove asked.turn }
-    ensures { IsReady cluster.new }
+    ensures { IsReadyCluster cluster.new }
 {
     let Asked { turn, items } = asked;
     let before = cluster.told().len();

@@ -36,8 +36,8 @@ AreIdle nodes = AllByRecursion IsIdleNode nodes
 abbrev pub passed : ℤ → Node → ℕ
 passed before node = if int_eq node.engine.committed before then node.fed else node.fed + 1
 
-abbrev pub caught_up : ℤ → Node → ℕ
-caught_up end node = if int_eq node.engine.committed end then node.sent else node.fed
+abbrev pub told_fed : ℤ → Node → ℕ
+told_fed end node = if int_eq node.engine.committed end then node.sent else node.fed
 
 abbrev pub skipped : ℤ → ℕ → Node → ℕ
 skipped end fed node = if int_eq node.engine.committed end then fed else node.fed
@@ -46,8 +46,8 @@ skipped end fed node = if int_eq node.engine.committed end then fed else node.fe
 abbrev pub longer : ℤ → ℕ → ℤ
 longer end count = saturate_signed w64 (end +ℤ pos count)
 
-abbrev pub IsWrite : Request → Type 0
-IsWrite request = is_read request ≡ false
+abbrev pub IsWriteRequest : Request → Type 0
+IsWriteRequest request = is_read request ≡ false
 
 -- a move of one node alone
 abbrev pub IsOfOne : Move → Type 0
@@ -59,17 +59,17 @@ IsOfOne other = Unit {0}
 abbrev pub Row : Type 0
 Row = Options → Run → RunNode → Result Run MoveFault
 
-abbrev pub ask : Options → Run → ℕ → RunNode → ℕ → ℤ → Call → Result Run MoveFault
-ask options r k n client now call = Ok (with_event options r k n (events.Request client now (asks.Call call)))
+abbrev pub ask_outcome : Options → Run → ℕ → RunNode → ℕ → ℤ → Call → Result Run MoveFault
+ask_outcome options r k n client now call = Ok (with_event options r k n (events.Request client now (asks.Call call)))
 
-abbrev pub tick : Options → Run → ℕ → RunNode → ℤ → Result Run MoveFault
-tick options r k n now = Ok (with_event options r k n (events.Tick now))
+abbrev pub tick_outcome : Options → Run → ℕ → RunNode → ℤ → Result Run MoveFault
+tick_outcome options r k n now = Ok (with_event options r k n (events.Tick now))
 
 abbrev pub one_outcome : Options → Run → ℕ → RunNode → Move → Result Run MoveFault
 one_outcome options r k n (moves.Feed node) = table.feed r k n
 one_outcome options r k n (moves.Elect node epoch now) = table.elect options r k n epoch now
-one_outcome options r k n (moves.Ask node client now call) = ask options r k n client now call
-one_outcome options r k n (moves.Tick node now) = tick options r k n now
+one_outcome options r k n (moves.Ask node client now call) = ask_outcome options r k n client now call
+one_outcome options r k n (moves.Tick node now) = tick_outcome options r k n now
 one_outcome options r k n (moves.Settle node) = table.settle r k n
 one_outcome options r k n (moves.Tell node) = table.tell options r k n
 one_outcome options r k n (moves.Depose node) = table.depose options r k n
@@ -84,7 +84,7 @@ pub record IsReached (options : Options) (r : Run) : Type 0 where
   pub is : r ≡ run options nodes past
 
 -- one node is another, and the list at most longer
-pub record Leaves (options : Options) (r next : Run) (k : ℕ) (after : Node) (shared : Shared) : Type 0 where
+pub record LeavesRun (options : Options) (r next : Run) (k : ℕ) (after : Node) (shared : Shared) : Type 0 where
   pub node : RunNode
   pub nodes_are : next.nodes ≡ set r.nodes k node
   pub more : List Batch
@@ -92,13 +92,13 @@ pub record Leaves (options : Options) (r next : Run) (k : ℕ) (after : Node) (s
   pub stands : StandsForNode options next.list node after
   pub shares : StandsForShared next shared
 
-abbrev pub Goes : (Options → Run → RunNode → Run) → ℕ → Node → Node → Shared → Shared → Type 0
-Goes to k before after shared shared' =
+abbrev pub GoesTo : (Options → Run → RunNode → Run) → ℕ → Node → Node → Shared → Shared → Type 0
+GoesTo to k before after shared shared' =
     (options : Options) (r : Run) (n : RunNode) → slice_get r.nodes k ≡ Some n → StandsForNode options r.list n before → StandsForShared r shared
-    → Leaves options r (to options r n) k after shared'
+    → LeavesRun options r (to options r n) k after shared'
 
 abbrev pub ActsBy : Options → Run → ℕ → Result Run MoveFault → Node → Node → Shared → Shared → Result (Unit {0}) MoveFault → Type 0
-ActsBy options r k outcome before after shared shared' (Ok done) = (next : Run) × (outcome ≡ Ok next) × Leaves options r next k after shared'
+ActsBy options r k outcome before after shared shared' (Ok done) = (next : Run) × (outcome ≡ Ok next) × LeavesRun options r next k after shared'
 ActsBy options r k outcome before after shared shared' (Err faults.NoMemory) = Unit {0}
 ActsBy options r k outcome before after shared shared' (Err fault) = (outcome ≡ Err fault) × (after ≡ before) × (shared' ≡ shared)
 
@@ -117,22 +117,22 @@ pub record ActsAt (row : Row) (k : ℕ) (nodes nodes' : List Node) (shared share
 
 -- ---- of all nodes
 
-abbrev pub node_of : Move → ℕ
-node_of (moves.Feed node) = node
-node_of (moves.Elect node epoch now) = node
-node_of (moves.Ask node client now call) = node
-node_of (moves.Tick node now) = node
-node_of (moves.Settle node) = node
-node_of (moves.Tell node) = node
-node_of (moves.Depose node) = node
-node_of (moves.Copy from to) = from
+abbrev pub moved_node : Move → ℕ
+moved_node (moves.Feed node) = node
+moved_node (moves.Elect node epoch now) = node
+moved_node (moves.Ask node client now call) = node
+moved_node (moves.Tick node now) = node
+moved_node (moves.Settle node) = node
+moved_node (moves.Tell node) = node
+moved_node (moves.Depose node) = node
+moved_node (moves.Copy from to) = from
 
 -- the answer is the table's
-abbrev pub Makes : Options → Run → Result Run MoveFault → Cluster → Result (Unit {0}) MoveFault → Type 0
-Makes options r outcome after (Ok done) = (next : Run) × (outcome ≡ Ok next) × StandsForRun options next after
-Makes options r outcome after (Err faults.NoMemory) = Unit {0}
-Makes options r outcome after (Err fault) = (outcome ≡ Err fault) × StandsForRun options r after
+abbrev pub MakesRun : Options → Run → Result Run MoveFault → Cluster → Result (Unit {0}) MoveFault → Type 0
+MakesRun options r outcome after (Ok done) = (next : Run) × (outcome ≡ Ok next) × StandsForRun options next after
+MakesRun options r outcome after (Err faults.NoMemory) = Unit {0}
+MakesRun options r outcome after (Err fault) = (outcome ≡ Err fault) × StandsForRun options r after
 
 abbrev pub MakesSome : Cluster → Cluster → Move → Result (Unit {0}) MoveFault → Type 0
 MakesSome before after turn result =
-    (options : Options) (r : Run) → IsReached options r → StandsForRun options r before → Makes options r (table.move_outcome options r turn) after result
+    (options : Options) (r : Run) → IsReached options r → StandsForRun options r before → MakesRun options r (table.move_outcome options r turn) after result

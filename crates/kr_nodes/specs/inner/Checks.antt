@@ -43,7 +43,7 @@ IsElectFault number epoch shared node fault =
 
 -- ---- Settle
 
-pub record MaySettle (shared : Shared) (node : Node) : Type 0 where
+pub record MaySettleNext (shared : Shared) (node : Node) : Type 0 where
   pub latest : node.engine.leading ≡ Some shared.elected
   pub some : length node.pending.unsettled.items ≡ 0 → ⊥
 

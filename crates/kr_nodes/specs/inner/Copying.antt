@@ -20,8 +20,8 @@ use Rattle.law_nodes.specs.Moves.{after_arrival, with_event}
 use Rattle.law_nodes.specs.Nodes.{Run, RunNode}
 use Rattle.kr_nodes.specs.declared.node.Node.{Node}
 use Rattle.kr_nodes.specs.declared.shared.Shared.{Shared}
-use Rattle.kr_nodes.specs.declared.told.Told.{Told}
-use Rattle.kr_nodes.specs.inner.Acting.{Goes}
+use Rattle.kr_nodes.specs.declared.told.ToldReply.{ToldReply}
+use Rattle.kr_nodes.specs.inner.Acting.{GoesTo}
 use Rattle.kr_nodes.specs.inner.Checks.{IsStandbyFault}
 use Rattle.kr_nodes.specs.Standing.{AreBelow, StandsForNode}
 
@@ -67,32 +67,32 @@ GivesImage node (events.Load bytes) =
     (options : Options) (list : List Batch) (n : RunNode) → StandsForNode options list n node → image_of bytes ≡ Ok (node.engine.committed, image_of_end n.state)
 GivesImage node other = ⊥
 
-pub record Images (k : ℕ) (before after : Node) (shared shared' : Shared) (event : Event) : Type 0 where
+pub record ImagesNode (k : ℕ) (before after : Node) (shared shared' : Shared) (event : Event) : Type 0 where
   pub gives : GivesImage before event
-  pub goes : Goes (λ options r n. with_event options r k n events.Image) k before after shared shared'
+  pub goes : GoesTo (λ options r n. with_event options r k n events.Image) k before after shared shared'
 
 pub record ImagesAt (k : ℕ) (nodes nodes' : List Node) (shared shared' : Shared) (event : Event) : Type 0 where
   pub before : Node
   pub after : Node
   pub there : slice_get nodes k ≡ Some before
   pub put : nodes' ≡ set nodes k after
-  pub images : Images k before after shared shared' event
+  pub images : ImagesNode k before after shared shared' event
 
 -- ---- loading it
 
-abbrev pub LoadsBytes : ℕ → Node → Node → List ℕ → ℤ → ℕ → List Told → List Told → Type 0
+abbrev pub LoadsBytes : ℕ → Node → Node → List ℕ → ℤ → ℕ → List ToldReply → List ToldReply → Type 0
 LoadsBytes k before after bytes end fed told told' =
     (options : Options) (list : List Batch) (n : RunNode) (place : ℕ) (image : Image) → StandsForNode options list n before → n.state.world.leading ≡ None → n.waiting ≡ []
     → end ≡ pos place → image_of bytes ≡ Ok (pos place, image) → AreBelow list place fed
     → StandsForNode options list (after_arrival n (take_image n.state (pos place, image))) after × (told' ≡ told)
 
-abbrev pub Loads : ℕ → Node → Node → Event → ℤ → ℕ → List Told → List Told → Type 0
-Loads k before after (events.Load bytes) end fed told told' = LoadsBytes k before after bytes end fed told told'
-Loads k before after other end fed told told' = Unit {0}
+abbrev pub LoadsEvent : ℕ → Node → Node → Event → ℤ → ℕ → List ToldReply → List ToldReply → Type 0
+LoadsEvent k before after (events.Load bytes) end fed told told' = LoadsBytes k before after bytes end fed told told'
+LoadsEvent k before after other end fed told told' = Unit {0}
 
-pub record LoadsAt (k : ℕ) (nodes nodes' : List Node) (event : Event) (end : ℤ) (fed : ℕ) (told told' : List Told) : Type 0 where
+pub record LoadsAt (k : ℕ) (nodes nodes' : List Node) (event : Event) (end : ℤ) (fed : ℕ) (told told' : List ToldReply) : Type 0 where
   pub before : Node
   pub after : Node
   pub there : slice_get nodes k ≡ Some before
   pub put : nodes' ≡ set nodes k after
-  pub loads : Loads k before after event end fed told told'
+  pub loads : LoadsEvent k before after event end fed told told'

@@ -12,8 +12,8 @@ use Rattle.kr_model.specs.Engine.{Core, IsEngine, IsStep, outputs_left, told_lef
 use Rattle.kr_model.specs.World.{State, start}
 use Rattle.law_nodes.specs.ReadingBack.{IsHeldEntry}
 use Rattle.kr_nodes.specs.declared.node.Node.{Node}
-use Rattle.kr_nodes.specs.declared.told.Told.{Told}
-use Rattle.kr_nodes.specs.inner.Handing.{Handed, after_outputs, handed}
+use Rattle.kr_nodes.specs.declared.told.ToldReply.{ToldReply}
+use Rattle.kr_nodes.specs.inner.Handing.{Handed, after_outputs, handed_over}
 
 -- ---- what an event adds
 
@@ -28,8 +28,8 @@ abbrev pub if_write : Bool → List Entry → List (List Item)
 if_write is_write added = if is_write then all_items added ∷ [] else []
 
 -- a write that is decided waits, with what it added
-abbrev pub noted : Bool → List Entry → Handed → Handed
-noted is_write added h = record h { waiting = h.waiting ++ if_write is_write added }
+abbrev pub handed_noted : Bool → List Entry → Handed → Handed
+handed_noted is_write added h = record h { waiting = h.waiting ++ if_write is_write added }
 
 pub record IsFirstNode (options : Options) (node : Node) : Type 0 where
   pub options_are : node.engine.options ≡ options
@@ -53,14 +53,14 @@ pub record HasHeld (e : Core) : Type 0 where
   pub tip : FitsSigned w64 e.tip
   pub epoch : (epoch : ℤ) → e.leading ≡ Some epoch → FitsSigned w32 epoch
 
-pub record Notes (is_write : Bool) (before after : Node) : Type 0 where
+pub record NotesAdded (is_write : Bool) (before after : Node) : Type 0 where
   pub engine : after.engine ≡ record before.engine { fresh = [] }
   pub has : HasHeld before.engine
   pub unsettled : after.pending.unsettled.items ≡ before.pending.unsettled.items
   pub waiting : after.pending.waiting.items ≡ before.pending.waiting.items ++ if_write is_write before.engine.fresh
   pub places : SamePlaces before after
 
-pub record NodeTakes (number : ℕ) (before after : Node) (is_write : Bool) (told told' : List Told) (event : Event) : Type 0 where
+pub record NodeTakes (number : ℕ) (before after : Node) (is_write : Bool) (told told' : List ToldReply) (event : Event) : Type 0 where
   pub stepped : Core
   pub step : IsStep before.engine stepped event
   pub has : HasHeld stepped
@@ -68,7 +68,7 @@ pub record NodeTakes (number : ℕ) (before after : Node) (is_write : Bool) (tol
   pub options : after.engine.options ≡ stepped.options
   pub stands : (s : State) (writes : List Write) → IsEngine stepped s writes → IsEngine after.engine s writes
   pub drained : outputs_left after.engine ≡ []
-  pub all : handed after.pending told' ≡ after_outputs number (noted is_write stepped.fresh (handed before.pending told)) (told_left stepped)
+  pub all : handed_over after.pending told' ≡ after_outputs number (handed_noted is_write stepped.fresh (handed_over before.pending told)) (told_left stepped)
   pub places : SamePlaces before after
 
 pub record ReturnsToEnd (before after : Node) : Type 0 where
