@@ -69,7 +69,8 @@ impl Driver {
         requires may { MayDrive round self.old }
         requires few { round < 1000000000 }
         ensures stands { OnOk result ((seed : ℕ) (d : Driven) → HasDriven seed round d self.old →
-            HasDriven seed (round + 1) (driving.with_move seed (driving.drawn_turn seed (round + 1) d) d) self.new) }
+            HasDriven seed (round + 1)
+            (driving.with_move seed (driving.drawn_turn seed (round + 1) d) d) self.new) }
         ensures may { OnOk result (MayDrive (round + 1) self.new) }
     {
         let kind = next_drawn(self.drawn);

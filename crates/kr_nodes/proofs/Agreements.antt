@@ -51,6 +51,9 @@ are_idle c ready running =
 next_run : (options : Options) (nodes : ℕ) (past : List Move) (turn : Move) → run options nodes (past ++ turn ∷ []) ≡ after_move options (run options nodes past) turn
 next_run options nodes past turn = fold-append (after_move options) (first_run nodes) past (turn ∷ [])
 
+clash : (b : Bool) → b ≡ true → b ≡ false → ⊥
+clash b high low = absurd cc
+
 -- the cluster has noted whether memory was wanted
 module _ (c made after : Cluster) (turn : Move) (result : Result (Unit {0}) MoveFault) (makes : MakesSome c made turn result) (nodes_are : after.nodes ≡ made.nodes) (count : after.count ≡ made.count) (shared : after.shared ≡ made.shared)
     (spent : after.spent ≡ is_memory result) where
@@ -107,10 +110,6 @@ module _ (c made after : Cluster) (turn : Move) (result : Result (Unit {0}) Move
     ready_by (Err (faults.NothingNew a)) (same, st) running = record { options = options; nodes = nodes; past = past ++ turn ∷ []; stands = st }
     ready_by (Err (faults.OlderImage a b)) (same, st) running = record { options = options; nodes = nodes; past = past ++ turn ∷ []; stands = st }
     ready_by (Err faults.NoMemory) gone running = absurd (clash after.spent gone running)
-      where
-        clash : (b : Bool) → b ≡ true → b ≡ false → ⊥
-        clash true yes no = cc
-        clash false yes no = cc
 
   pub still_ready : IsReadyCluster c → c.spent ≡ false → IsReadyCluster after
   still_ready ready running = λ still. let s = ready running in ready_by s.options s.nodes s.past result (moved s.options s.nodes s.past s.stands) still

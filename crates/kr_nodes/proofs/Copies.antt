@@ -77,7 +77,7 @@ module _ (k : ℕ) (before between after : Node) (bytes : List ℕ) (end : ℤ) 
   loads_bytes : LoadsBytes k before after bytes end fed told told'
   loads_bytes = λ options list n place image s none idle is reads below.
       let event = events.Load bytes in
-      let x = (pos place, image) in
+      let x : ℤ × Image = (pos place, image) in
       let q = take_image n.state x in
       let m = after_arrival n q in
       let r_none = reads_none options n event refl (outcome options n.state event) in

@@ -5,7 +5,7 @@ use Rattle.kr_calls.specs.declared.events.Output.{Output}
 use Rattle.kr_model.specs.declared.writes.Told.{Told as Output_}
 use Rattle.kr_model.specs.declared.writes.Write.{Write}
 use Rattle.kr_model.specs.Engine.{Core, Hands, HandsTold, outputs_left, told_left}
-use Rattle.kr_model.specs.Outputs.{due_reply, due_writes, told_unplaced, told_answers, told_reply}
+use Rattle.kr_model.specs.Outputs.{due_reply, due_writes, told_alone, told_answers, told_reply}
 use Rattle.kr_model.proofs.Queues.{drained}
 use Rattle.kr_nodes.specs.inner.Handing.{Handed, HandsOut, HandsPart, after_output, after_outputs}
 
@@ -22,8 +22,8 @@ goes_on node first now next h h' h'' output some hands tells is = record {
 none_told : (e : Core) → outputs_left e ≡ [] → told_left e ≡ []
 none_told e none =
     let d = drained e none in
-    ap (λ (os : List Output). map told_unplaced (os ++ option_to_list e.refusal) ++ told_answers e.leading e.committed e.held) d.none_given
-    ∙ (ap (λ (o : Option Output). map told_unplaced (option_to_list o) ++ told_answers e.leading e.committed e.held) d.none_refused
+    ap (λ (os : List Output). map told_alone (os ++ option_to_list e.refusal) ++ told_answers e.leading e.committed e.held) d.none_given
+    ∙ (ap (λ (o : Option Output). map told_alone (option_to_list o) ++ told_answers e.leading e.committed e.held) d.none_refused
     ∙ none_due (due_writes e.leading e.committed e.held) d.none_due)
   where
     none_due : (ws : List Write) → map (due_reply e.committed) ws ≡ [] → map (told_reply e.committed) ws ≡ []

@@ -1,25 +1,26 @@
 -- Moves that a node refuses, with what is shared: nothing changes.
-use Rattle.std.proofs.Common.{◌≡◌, ◌∙◌, sym, subst, inl, inr, ℕ, ℤ, pos, ◌+◌, Bool, true, false, cond, List, [], ◌∷◌, ◌++◌, length, length-append, map, refl, ap, arith}
+use Rattle.std.proofs.Common.{◌≡◌, ◌∙◌, sym, subst, inl, inr, ℕ, zero, suc, ◌<◌, get_or, ℤ, pos, ◌+◌, Bool, true, false, cond, List, [], ◌∷◌, ◌++◌, length, length-append, map, refl, ap, arith}
 use Rattle.std.specs.Prelude.{Option, Some, None, Result, Ok, Err, int_lt, is_some, nat_lt, not, ◌==◌}
 use Rattle.std.specs.List.{slice_get}
 use Rattle.std.specs.Ordering.{int_eq}
 use Rattle.std.proofs.lemmas.Bool.Decides.{nat_tests}
 use Rattle.std.proofs.lemmas.Int.{ints}
 use Rattle.std.proofs.lemmas.List.{append-nil}
+use Rattle.std.proofs.lemmas.Option.{slice_get-get_or}
+use Rattle.kr_defs.proofs.Tests.{some_is}
 use Rattle.kr_batch.specs.declared.Batch.{Batch}
 use Rattle.kr_defs.specs.declared.options.Options.{Options}
-use Rattle.kr_defs.proofs.IdLists.{id_itself}
 use Rattle.law_nodes.specs.declared.moves.MoveFault.{MoveFault}
 use Rattle.law_nodes.specs.declared.moves.MoveFault.TheVariants as faults
 use Rattle.law_nodes.specs.Moves as table
-use Rattle.law_nodes.specs.Moves.{committed_end, feed_next, length_of, on_standby, settle_first, while_leading}
+use Rattle.law_nodes.specs.Moves.{committed_end, feed_next, length_of, on_standby, while_leading}
 use Rattle.law_nodes.specs.Nodes.{Run, RunNode}
 use Rattle.law_nodes.specs.OneList.{batch_from, list_items}
 use Rattle.kr_nodes.specs.declared.node.Node.{Node}
 use Rattle.kr_nodes.specs.declared.shared.ListBatch.{ListBatch}
 use Rattle.kr_nodes.specs.declared.shared.Shared.{Shared}
-use Rattle.kr_nodes.specs.inner.Acting.{Acts, IsReached, Row}
-use Rattle.kr_nodes.specs.inner.Checks.{IsElectFault, IsFeedFault, IsLeadingFault, IsSettleFault, IsStandbyFault, IsTellFault}
+use Rattle.kr_nodes.specs.inner.Acting.{Acts, ActsBy, AreIdle, IsIdleNode, IsReached, Row}
+use Rattle.kr_nodes.specs.inner.Checks.{IsFeedFault}
 use Rattle.kr_nodes.specs.Standing.{AreBelow, StandsForNode, StandsForShared, list_batch}
 
 -- ---- who leads
@@ -106,62 +107,17 @@ module _ (k : ℕ) (node : Node) (shared : Shared) (fault : MoveFault) where
       ∙ (ap (λ b. cond b (Err (faults.NothingNew (pos (committed_end n)))) (feed_next r k n (batch_from (committed_end n) r.list))) same
       ∙ ap (λ z. Err (faults.NothingNew z)) (sym s.engine.committed)))
 
-  module _ (epoch now : ℤ) where
-    abbrev elect_row : Row
-    elect_row = λ options r n. table.elect options r k n epoch now
+-- another row that gives the same
+pub acts_as : (row other : Row) (k : ℕ) (before after : Node) (shared shared' : Shared) (result : Result (Unit {0}) MoveFault) → ((options : Options) (r : Run) (n : RunNode) → row options r n ≡ other options r n)
+    → Acts row k before after shared shared' result → Acts other k before after shared shared' result
+acts_as row other k before after shared shared' result same acts =
+    λ options r n reached is s g. subst (λ (o : Result Run MoveFault). ActsBy options r k o before after shared shared' result) (same options r n) (acts options r n reached is s g)
 
-    pub elect_refused : IsElectFault k epoch shared node fault → Stays elect_row k node shared fault
-    elect_refused (inl f) = by_fault elect_row k node shared fault (faults.NotStandby k) f.1 tt (λ options r n is s g.
-        standby_refuses k n.state.world.leading _ (ap (λ (o : Option ℤ). is_some o) (sym s.engine.leading) ∙ f.0))
-    elect_refused (inr (inl f)) = by_fault elect_row k node shared fault (faults.OldEpoch epoch shared.elected) f.2 tt (λ options r n is s g.
-        let old : int_lt r.elected epoch ≡ false = ap (λ e. int_lt e epoch) (sym g.elected) ∙ f.1 in
-        standby_goes k n.state.world.leading _ (sym s.engine.leading ∙ f.0)
-        ∙ (ap (λ b. cond (not b) (Err (faults.OldEpoch epoch r.elected)) _) old
-        ∙ ap (λ e. Err (faults.OldEpoch epoch e)) (sym g.elected)))
-    elect_refused (inr (inr f)) = by_fault elect_row k node shared fault (faults.Behind node.engine.committed shared.length) f.3 tt (λ options r n is s g.
-        let new : int_lt r.elected epoch ≡ true = ap (λ e. int_lt e epoch) (sym g.elected) ∙ f.1 in
-        let apart : int_eq (pos (committed_end n)) (pos (length_of r)) ≡ false = ap (λ e. int_eq e (pos (length_of r))) (sym s.engine.committed) ∙ (ap (λ l. int_eq node.engine.committed l) (sym g.length_is) ∙ f.2) in
-        let other : (committed_end n == length_of r) ≡ false = grind (arith, nat_tests, ints) in
-        standby_goes k n.state.world.leading _ (sym s.engine.leading ∙ f.0)
-        ∙ (ap (λ b. cond (not b) (Err (faults.OldEpoch epoch r.elected)) _) new
-        ∙ (ap (λ b. cond (not b) (Err (faults.Behind (pos (committed_end n)) (pos (length_of r)))) _) other
-        ∙ (ap (λ e. Err (faults.Behind e (pos (length_of r)))) (sym s.engine.committed)
-        ∙ ap (λ l. Err (faults.Behind node.engine.committed l)) (sym g.length_is)))))
+-- what stands at a place
+pub stands_at : (nodes : List Node) (k : ℕ) (node : Node) → k < length nodes → node ≡ get_or nodes k node → slice_get nodes k ≡ Some node
+stands_at nodes k node low is = slice_get-get_or nodes k node low ∙ ap (λ (n : Node). Some n) (sym is)
 
-  abbrev settle_row : Row
-  settle_row = λ _ r n. table.settle r k n
-
-  pub settle_refused : IsSettleFault k shared node fault → Stays settle_row k node shared fault
-  settle_refused (inl f) = by_fault settle_row k node shared fault (faults.NotLeading k) f.1 tt (λ options r n is s g.
-      leading_refuses k n.state.world.leading _ (sym s.engine.leading ∙ f.0))
-  settle_refused (inr (inl f)) = by_fault settle_row k node shared fault (faults.NotLatest f.0 shared.elected) f.3 tt (λ options r n is s g.
-      let other : int_eq f.0 r.elected ≡ false = ap (λ e. int_eq f.0 e) (sym g.elected) ∙ f.2 in
-      leading_goes k n.state.world.leading f.0 _ (sym s.engine.leading ∙ f.1)
-      ∙ (ap (λ b. cond (not b) (Err (faults.NotLatest f.0 r.elected)) (settle_first r k n n.unsettled)) other
-      ∙ ap (λ e. Err (faults.NotLatest f.0 e)) (sym g.elected)))
-  settle_refused (inr (inr f)) = by_fault settle_row k node shared fault (faults.NothingNew shared.length) f.2 tt (λ options r n is s g.
-      let same : int_eq shared.elected r.elected ≡ true = ap (λ e. int_eq shared.elected e) (sym g.elected) ∙ id_itself shared.elected in
-      leading_goes k n.state.world.leading shared.elected _ (sym s.engine.leading ∙ f.0)
-      ∙ (ap (λ b. cond (not b) (Err (faults.NotLatest shared.elected r.elected)) (settle_first r k n n.unsettled)) same
-      ∙ (ap (λ (bs : List Batch). settle_first r k n bs) (none_mapped n.unsettled (sym s.unsettled ∙ f.1))
-      ∙ ap (λ l. Err (faults.NothingNew l)) (sym g.length_is))))
-
-  abbrev tell_row : Row
-  tell_row = λ options r n. table.tell options r k n
-
-  pub tell_refused : IsTellFault k node fault → Stays tell_row k node shared fault
-  tell_refused (inl f) = by_fault tell_row k node shared fault (faults.NotLeading k) f.1 tt (λ options r n is s g.
-      leading_refuses k n.state.world.leading _ (sym s.engine.leading ∙ f.0))
-  tell_refused (inr f) = by_fault tell_row k node shared fault (faults.NothingNew node.engine.committed) f.3 tt (λ options r n is s g.
-      let apart : int_lt (pos (committed_end n)) (pos n.settled) ≡ false = ap (λ e. int_lt e (pos n.settled)) (sym s.engine.committed) ∙ (ap (λ z. int_lt node.engine.committed z) (sym s.settled) ∙ f.2) in
-      let low : nat_lt (committed_end n) n.settled ≡ false = grind (arith, nat_tests, ints) in
-      leading_goes k n.state.world.leading f.0 _ (sym s.engine.leading ∙ f.1)
-      ∙ (ap (λ b. cond (not b) (Err (faults.NothingNew (pos (committed_end n)))) _) low
-      ∙ ap (λ z. Err (faults.NothingNew z)) (sym s.engine.committed)))
-
-  abbrev depose_row : Row
-  depose_row = λ options r n. table.depose options r k n
-
-  pub depose_refused : IsLeadingFault k node fault → Stays depose_row k node shared fault
-  depose_refused f = by_fault depose_row k node shared fault (faults.NotLeading k) f.1 tt (λ options r n is s g.
-      leading_refuses k n.state.world.leading _ (sym s.engine.leading ∙ f.0))
+pub idle_at : (nodes : List Node) (k : ℕ) (node : Node) → AreIdle nodes → slice_get nodes k ≡ Some node → IsIdleNode node
+idle_at [] k node idle is = absurd cc
+idle_at (x ∷ xs) zero node idle is = subst IsIdleNode (some_is x node is) idle.0
+idle_at (x ∷ xs) (suc k) node idle is = idle_at xs k node idle.1 is

@@ -104,7 +104,8 @@ impl Cluster {
         requires ready { IsReadyCluster self.old }
         requires write { IsWriteMove turn }
         ensures moved { (options : AnyOptions) (nodes : ℕ) (past : List AnyMove) →
-            StandsForMoves options nodes past self.old → AnswersMove options nodes past turn self.new result }
+            StandsForMoves options nodes past self.old →
+            AnswersMove options nodes past turn self.new result }
         // Two nodes with equal ends have equal images, and each success that a leader told stands at its place in the
         // one list, of which each node's log is a part.
         ensures agrees { self.new.spent ≡ false → ClusterAgrees self.new }
@@ -184,7 +185,8 @@ impl Cluster {
     /// How many items the list has.
     pub fn length(&self) -> i64
         ensures { (options : AnyOptions) (nodes : ℕ) (past : List AnyMove) →
-            StandsForMoves options nodes past self.now → result ≡ pos (length_of (run options nodes past)) }
+            StandsForMoves options nodes past self.now →
+            result ≡ pos (length_of (run options nodes past)) }
     {
         self.shared.length
     }
@@ -201,7 +203,8 @@ impl Cluster {
     pub fn end(&self, node: u32) -> Option<i64>
         ensures { (options : AnyOptions) (nodes : ℕ) (past : List AnyMove) →
             StandsForMoves options nodes past self.now →
-            result ≡ option_map (λ n. pos (committed_end n)) (slice_get (run options nodes past).nodes node) }
+            result ≡ option_map (λ n. pos (committed_end n))
+            (slice_get (run options nodes past).nodes node) }
     {
         match self.nodes.get(node as usize) {
             Some(node) => Some(node.engine.committed()),
@@ -212,7 +215,8 @@ impl Cluster {
     /// What clients were told, in order.
     pub fn told(&self) -> &[ToldReply]
         ensures { (options : AnyOptions) (nodes : ℕ) (past : List AnyMove) →
-            StandsForMoves options nodes past self.now → result.now ≡ map told_as (run options nodes past).told }
+            StandsForMoves options nodes past self.now →
+            result.now ≡ map told_as (run options nodes past).told }
     {
         self.shared.told.as_slice()
     }
@@ -227,7 +231,7 @@ fn is_memory(answer: &Result<(), MoveFault>) -> bool
 // The node of a move of one node.
 fn moved_node(turn: &Move) -> u32
     requires { IsOfOne turn.now }
-    ensures { result ≡ acting.node_of turn.now }
+    ensures { result ≡ acting.moved_node turn.now }
 {
     match turn {
         Move::Feed { node }

@@ -94,7 +94,8 @@ impl Pending {
 
     // The reply of a write that waited.
     fn reply_ended(&mut self, asker: Asker, reply: Reply, ended: Ended) -> ToldReply
-        ensures told { result ≡ handing.told_end asker.node asker.client asker.correlation reply ended (handing.first_items self.old.waiting.items) }
+        ensures told { result ≡ handing.told_end asker.node asker.client asker.correlation reply
+            ended (handing.first_items self.old.waiting.items) }
         ensures rest { self.new.waiting.items ≡ handing.other_items self.old.waiting.items }
         ensures same { self.new.unsettled ≡ self.old.unsettled }
     {

@@ -6,7 +6,7 @@ use kr_defs::Items;
 /// A reply that a node gave a client.
 #[derive(Drop)]
 pub struct ToldReply {
-    /// The node.
+    /// The node's number.
     pub node: u32,
     /// The client's number.
     pub client: u32,

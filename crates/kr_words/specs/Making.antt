@@ -17,15 +17,15 @@ abbrev pub nodes_text : ℕ → List ℕ
 nodes_text seed = nodes_lines (nodes_summary seed 5000)
 
 -- the whole text; a front of it where a write failed; and nothing where memory ran out
-abbrev pub WritesText : List ℕ → Option (List ℕ) → Option (List ℕ) → Result (Unit {0}) ToolFault → Type 0
-WritesText text written written' (Ok done) = Appends written written' text
-WritesText text written written' (Err faults.WriteFault) = AppendsFront written written' text
-WritesText text written written' (Err faults.NoMemory) = Keeps written written'
-WritesText text written written' (Err other) = ⊥
+abbrev pub WritesOneText : List ℕ → Option (List ℕ) → Option (List ℕ) → Result (Unit {0}) ToolFault → Type 0
+WritesOneText text written written' (Ok done) = Appends written written' text
+WritesOneText text written written' (Err faults.WriteFault) = AppendsFront written written' text
+WritesOneText text written written' (Err faults.NoMemory) = Keeps written written'
+WritesOneText text written written' (Err other) = ⊥
 
 -- and no input is taken
 abbrev pub TextEnds : List ℕ → Option (List ℕ) → Option (List ℕ) → Option (List ℕ) → Option (List ℕ) → Result (Unit {0}) ToolFault → Type 0
-TextEnds text left left' written written' result = Keeps left left' × WritesText text written written' result
+TextEnds text left left' written written' result = Keeps left left' × WritesOneText text written written' result
 
 abbrev pub MakeEnds : ℕ → Option (List ℕ) → Option (List ℕ) → Option (List ℕ) → Option (List ℕ) → Result (Unit {0}) ToolFault → Type 0
 MakeEnds seed left left' written written' result = TextEnds (make_text seed) left left' written written' result

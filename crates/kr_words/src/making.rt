@@ -2,7 +2,7 @@
 
 ghost use Rattle.std.specs.Prelude.{◌≡◌, ◌≤◌, IfOk, IsErrOf, OnErr, string_bytes};
 ghost use Rattle.kr_base.specs.Causes.{Rose, Still};
-ghost use Rattle.kr_words.specs.Making.{MakesWhole, WritesText, make_text, nodes_text};
+ghost use Rattle.kr_words.specs.Making.{MakesWhole, WritesOneText, make_text, nodes_text};
 
 use kr_base::{NoMemory, Sink};
 use kr_drive::drive;
@@ -28,7 +28,7 @@ fn nodes_lines(alloc: Global, seed: u32) -> Result<String, NoMemory>
 
 // Writes a text by one put.
 fn write_text<K: Sink>(text: &String, output: &mut K) -> Result<(), ToolFault>
-    ensures ends { WritesText (string_bytes text.now) (K.written output.old) (K.written output.new) result }
+    ensures ends { WritesOneText (string_bytes text.now) (K.written output.old) (K.written output.new) result }
     ensures write { IsErrOf result ToolFault.WriteFault →
         Rose (K.faults output.old) (K.faults output.new) }
     ensures complete { Still (K.faults output.old) (K.faults output.new) → MakesWhole result }
@@ -46,7 +46,7 @@ pub(crate) fn write_summary<K: Sink>(
     seed: u32,
     output: &mut K,
 ) -> Result<(), ToolFault>
-    ensures ends { WritesText (make_text seed) (K.written output.old) (K.written output.new) result }
+    ensures ends { WritesOneText (make_text seed) (K.written output.old) (K.written output.new) result }
     ensures write { IsErrOf result ToolFault.WriteFault →
         Rose (K.faults output.old) (K.faults output.new) }
     ensures complete { Still (K.faults output.old) (K.faults output.new) → MakesWhole result }
@@ -62,7 +62,7 @@ pub(crate) fn write_nodes<K: Sink>(
     seed: u32,
     output: &mut K,
 ) -> Result<(), ToolFault>
-    ensures ends { WritesText (nodes_text seed) (K.written output.old) (K.written output.new) result }
+    ensures ends { WritesOneText (nodes_text seed) (K.written output.old) (K.written output.new) result }
     ensures write { IsErrOf result ToolFault.WriteFault →
         Rose (K.faults output.old) (K.faults output.new) }
     ensures complete { Still (K.faults output.old) (K.faults output.new) → MakesWhole result }
