@@ -19,7 +19,8 @@ use Rattle.kr_snapshot.proofs.WholeImages.{image_complete}
 use Rattle.kr_store.specs.Images.{kept_at}
 use Rattle.kr_model.specs.declared.writes.Write.{Write}
 use Rattle.kr_model.specs.Engine.{Core, IsEngine, kept_image}
-use Rattle.kr_model.specs.Events.{outcome}
+use Rattle.kr_model.specs.Events.{happens, outcome}
+use Rattle.kr_model.specs.Outputs.{waiting_after}
 use Rattle.kr_model.specs.Load.{take_image}
 use Rattle.kr_model.specs.World.{State, image_of_end}
 use Rattle.kr_model.proofs.KeptImages.{first_found}
@@ -28,7 +29,7 @@ use Rattle.law_nodes.specs.Nodes.{NodeTold, RunNode, Waiting, after_event, waits
 use Rattle.kr_nodes.specs.declared.node.Node.{Node}
 use Rattle.kr_nodes.specs.declared.shared.Shared.{Shared}
 use Rattle.kr_nodes.specs.declared.told.ToldReply.{ToldReply}
-use Rattle.kr_nodes.specs.inner.Acting.{skipped}
+use Rattle.kr_nodes.specs.inner.Acting.{IsIdleNode, skipped}
 use Rattle.kr_nodes.specs.inner.Copying.{GivesImage, ImagesNode, IsImageEvent, LoadsEvent, LoadsBytes}
 use Rattle.kr_nodes.specs.inner.Taking.{NodeTakes, ReturnsToEnd}
 use Rattle.kr_nodes.specs.Standing.{AreBelow, StandsForNode, told_as}
@@ -54,10 +55,22 @@ gives node event i =
     subst (GivesImage node) (sym i.is)
     (λ options list n s. read_by node.engine.committed (image_of_end n.state) (kept_at node.engine.images node.engine.committed) (kept_end node.engine n.state _ s.engine) i.stands)
 
-pub images : (k : ℕ) (before after : Node) (shared shared' : Shared) (event : Event) → IsImageEvent before.engine event → NodeTakes k before after false shared.told.items shared'.told.items events.Image → shared' ≡ record shared { told = shared'.told }
+pub still_idle : (k : ℕ) (before after : Node) (is_write : Bool) (told told' : List ToldReply) (event : Event) → NodeTakes k before after is_write told told' event → IsIdleNode before → IsIdleNode after
+still_idle k before after is_write told told' event t i =
+    let s = i.sound in record {
+      sound = record {
+        state = happens before.engine.options s.state event;
+        writes = waiting_after before.engine.options s.state s.writes event;
+        stands = t.stands (happens before.engine.options s.state event) (waiting_after before.engine.options s.state s.writes event) (t.step.stands s.state s.writes s.stands);
+      };
+      drained = t.drained;
+    }
+
+pub images : (k : ℕ) (before after : Node) (shared shared' : Shared) (event : Event) → IsIdleNode before → IsImageEvent before.engine event → NodeTakes k before after false shared.told.items shared'.told.items events.Image → shared' ≡ record shared { told = shared'.told }
     → ImagesNode k before after shared shared' event
-images k before after shared shared' event i t same = record {
+images k before after shared shared' event idle i t same = record {
   gives = gives before event i;
+  idle = still_idle k before after false shared.told.items shared'.told.items events.Image t idle;
   goes = λ options r n is s g. image_row options r k n before after shared shared' is s g same t;
 }
 

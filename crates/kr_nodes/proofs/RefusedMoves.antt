@@ -1,5 +1,5 @@
 -- Moves that a node refuses, with what is shared: nothing changes.
-use Rattle.std.proofs.Common.{◌≡◌, ◌∙◌, sym, subst, inl, inr, ℕ, zero, suc, ◌<◌, get_or, ℤ, pos, ◌+◌, Bool, true, false, cond, List, [], ◌∷◌, ◌++◌, length, length-append, map, refl, ap, arith}
+use Rattle.std.proofs.Common.{◌≡◌, ◌∙◌, sym, subst, inl, inr, ℕ, zero, suc, ◌<◌, get_or, ℤ, pos, ◌+◌, Bool, true, false, cond, List, [], ◌∷◌, ◌++◌, length, length-append, map, set, refl, ap, arith}
 use Rattle.std.specs.Prelude.{Option, Some, None, Result, Ok, Err, int_lt, is_some, nat_lt, not, ◌==◌}
 use Rattle.std.specs.List.{slice_get}
 use Rattle.std.specs.Ordering.{int_eq}
@@ -117,7 +117,12 @@ acts_as row other k before after shared shared' result same acts =
 pub stands_at : (nodes : List Node) (k : ℕ) (node : Node) → k < length nodes → node ≡ get_or nodes k node → slice_get nodes k ≡ Some node
 stands_at nodes k node low is = slice_get-get_or nodes k node low ∙ ap (λ (n : Node). Some n) (sym is)
 
-pub idle_at : (nodes : List Node) (k : ℕ) (node : Node) → AreIdle nodes → slice_get nodes k ≡ Some node → IsIdleNode node
-idle_at [] k node idle is = absurd cc
-idle_at (x ∷ xs) zero node idle is = subst IsIdleNode (some_is x node is) idle.0
-idle_at (x ∷ xs) (suc k) node idle is = idle_at xs k node idle.1 is
+pub some_at : (nodes : List Node) (k : ℕ) → k < length nodes → (node : Node) × (slice_get nodes k ≡ Some node)
+some_at [] k low = absurd (omega (arith, low))
+some_at (x ∷ xs) zero low = (x, refl)
+some_at (x ∷ xs) (suc k) low = some_at xs k (omega (arith, low))
+
+pub idle_put : (nodes : List Node) (k : ℕ) (node : Node) → AreIdle nodes → IsIdleNode node → AreIdle (set nodes k node)
+idle_put [] k node idle own = tt
+idle_put (x ∷ xs) zero node idle own = (own, idle.1)
+idle_put (x ∷ xs) (suc k) node idle own = (idle.0, idle_put xs k node idle.1 own)

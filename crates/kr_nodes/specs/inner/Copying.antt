@@ -21,7 +21,7 @@ use Rattle.law_nodes.specs.Nodes.{Run, RunNode}
 use Rattle.kr_nodes.specs.declared.node.Node.{Node}
 use Rattle.kr_nodes.specs.declared.shared.Shared.{Shared}
 use Rattle.kr_nodes.specs.declared.told.ToldReply.{ToldReply}
-use Rattle.kr_nodes.specs.inner.Acting.{GoesTo}
+use Rattle.kr_nodes.specs.inner.Acting.{GoesTo, IsIdleNode}
 use Rattle.kr_nodes.specs.inner.Checks.{IsStandbyFault}
 use Rattle.kr_nodes.specs.Standing.{AreBelow, StandsForNode}
 
@@ -69,6 +69,7 @@ GivesImage node other = ⊥
 
 pub record ImagesNode (k : ℕ) (before after : Node) (shared shared' : Shared) (event : Event) : Type 0 where
   pub gives : GivesImage before event
+  pub idle : IsIdleNode after
   pub goes : GoesTo (λ options r n. with_event options r k n events.Image) k before after shared shared'
 
 pub record ImagesAt (k : ℕ) (nodes nodes' : List Node) (shared shared' : Shared) (event : Event) : Type 0 where
