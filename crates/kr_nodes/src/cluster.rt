@@ -1,6 +1,6 @@
 //! Several controllers over one committed list.
 
-ghost use Rattle.std.specs.Prelude.{◌≡◌, [], ◌++◌, ◌∷◌, ◌<◌, ◌≤◌, ℕ, IfOk, IsErrOf, IsTrue, List, MatchResult, None, Some, false, length, map, pos, true};
+ghost use Rattle.std.specs.Prelude.{◌≡◌, [], ◌++◌, ◌∷◌, ◌<◌, ◌≤◌, ℕ, IfOk, IsErrOf, IsTrue, List, MatchOption, MatchResult, None, Some, false, length, map, pos, true};
 ghost use Rattle.std.specs.List.{slice_get};
 ghost use Rattle.std.specs.Option.{option_map};
 ghost use Rattle.kr_defs.specs.OpenOptions.{are_options};
@@ -206,7 +206,7 @@ impl Cluster {
             result ≡ option_map (λ n. pos (committed_end n))
             (slice_get (run options nodes past).nodes node) }
     {
-        match self.nodes.get(node as usize) {
+        match node_at(&self.nodes, node as usize) {
             Some(node) => Some(node.engine.committed()),
             None => None,
         }
@@ -219,6 +219,17 @@ impl Cluster {
             result.now ≡ map told_as (run options nodes past).told }
     {
         self.shared.told.as_slice()
+    }
+}
+
+// The node of a number.
+fn node_at(nodes: &[Node], number: usize) -> Option<&Node>
+    ensures { MatchOption result (slice_get nodes.now number ≡ None)
+        (λ node. slice_get nodes.now number ≡ Some node.now) }
+{
+    match nodes.get(number) {
+        Some(node) => Some(node),
+        None => None,
     }
 }
 
