@@ -28,7 +28,8 @@ fn nodes_lines(alloc: Global, seed: u32) -> Result<String, NoMemory>
 
 // Writes a text by one put.
 fn write_text<K: Sink>(text: &String, output: &mut K) -> Result<(), ToolFault>
-    ensures ends { WritesOneText (string_bytes text.now) (K.written output.old) (K.written output.new) result }
+    ensures ends { WritesOneText (string_bytes text.now) (K.written output.old)
+        (K.written output.new) result }
     ensures write { IsErrOf result ToolFault.WriteFault →
         Rose (K.faults output.old) (K.faults output.new) }
     ensures complete { Still (K.faults output.old) (K.faults output.new) → MakesWhole result }
@@ -46,7 +47,8 @@ pub(crate) fn write_summary<K: Sink>(
     seed: u32,
     output: &mut K,
 ) -> Result<(), ToolFault>
-    ensures ends { WritesOneText (make_text seed) (K.written output.old) (K.written output.new) result }
+    ensures ends { WritesOneText (make_text seed) (K.written output.old)
+        (K.written output.new) result }
     ensures write { IsErrOf result ToolFault.WriteFault →
         Rose (K.faults output.old) (K.faults output.new) }
     ensures complete { Still (K.faults output.old) (K.faults output.new) → MakesWhole result }
@@ -62,7 +64,8 @@ pub(crate) fn write_nodes<K: Sink>(
     seed: u32,
     output: &mut K,
 ) -> Result<(), ToolFault>
-    ensures ends { WritesOneText (nodes_text seed) (K.written output.old) (K.written output.new) result }
+    ensures ends { WritesOneText (nodes_text seed) (K.written output.old)
+        (K.written output.new) result }
     ensures write { IsErrOf result ToolFault.WriteFault →
         Rose (K.faults output.old) (K.faults output.new) }
     ensures complete { Still (K.faults output.old) (K.faults output.new) → MakesWhole result }
