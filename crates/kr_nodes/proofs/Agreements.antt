@@ -1,6 +1,6 @@
 -- One move more, and what is so of a cluster after any moves.
-use Rattle.std.proofs.Common.{◌≡◌, ◌∙◌, sym, subst, ℕ, zero, suc, ℤ, pos, Bool, true, false, List, [], ◌∷◌, ◌++◌, length, map, refl, ap, arith}
-use Rattle.std.specs.Prelude.{Option, Some, None, Result, Ok, Err, fold}
+use Rattle.std.proofs.Common.{◌≡◌, ◌∙◌, sym, subst, ℕ, zero, suc, ℤ, pos, Bool, true, false, List, [], ◌∷◌, ◌++◌, map, refl, ap, arith}
+use Rattle.std.specs.Prelude.{Some, Result, Ok, Err}
 use Rattle.std.specs.List.{AllByRecursion, slice_get}
 use Rattle.std.specs.Option.{option_map}
 use Rattle.std.specs.Result.{result_unwrap_or}
@@ -10,9 +10,7 @@ use Rattle.kr_batch.specs.declared.Batch.{Batch}
 use Rattle.kr_defs.specs.declared.options.Options.{Options}
 use Rattle.kr_defs.specs.declared.ill.Ill.{Ill}
 use Rattle.kr_defs.specs.Image.{Image, empty}
-use Rattle.kr_defs.specs.Log.{image_at}
 use Rattle.kr_model.specs.World.{image_of_end}
-use Rattle.kr_store.specs.Images.{kept_at}
 use Rattle.law_nodes.specs.declared.moves.Move.{Move}
 use Rattle.law_nodes.specs.declared.moves.MoveFault.{MoveFault}
 use Rattle.law_nodes.specs.declared.moves.MoveFault.TheVariants as faults
@@ -23,9 +21,8 @@ use Rattle.law_nodes.specs.Nodes.{NodeTold, Run, RunNode, first_run}
 use Rattle.law_nodes.proofs.AllMoves.{nodes_agree}
 use Rattle.kr_nodes.specs.declared.cluster.Cluster.{Cluster}
 use Rattle.kr_nodes.specs.declared.node.Node.{Node}
-use Rattle.kr_nodes.specs.declared.told.ToldReply.{ToldReply}
-use Rattle.kr_nodes.specs.inner.Acting.{AreIdle, IsIdleNode, IsReached, MakesRun, MakesSome}
-use Rattle.kr_nodes.specs.Standing.{AllPairs, AnswersMove, ClusterAgrees, FollowsList, IsReadyCluster, IsToldOf, StandsForMoves, StandsForNode, StandsForRun, StandsForShared, StandsForSomeMoves, is_memory, told_as}
+use Rattle.kr_nodes.specs.inner.Acting.{AreIdle, MakesRun, MakesSome}
+use Rattle.kr_nodes.specs.Standing.{AllPairs, AnswersMove, ClusterAgrees, IsReadyCluster, IsToldOf, StandsForMoves, StandsForNode, StandsForRun, StandsForShared, StandsForSomeMoves, is_memory, told_as}
 use Rattle.kr_nodes.proofs.Clusters.{there}
 use Rattle.kr_nodes.proofs.Copies.{kept_end}
 

@@ -1,13 +1,7 @@
 -- A batch, or an image, that comes to a node on standby.
-use Rattle.std.proofs.Common.{◌≡◌, ◌∙◌, sym, subst, ℕ, ℤ, pos, ◌+◌, ◌<◌, Bool, true, false, cond, List, [], ◌∷◌, ◌++◌, length, length-append, map, set, refl, ap, arith}
-use Rattle.std.specs.Prelude.{FitsSigned, Option, Some, None, Result, Ok, Err, filter, int_lt, is_some, not, unsigned_abs, ◌==◌}
-use Rattle.std.specs.Int.{w64}
-use Rattle.std.specs.List.{AllByRecursion, slice_get}
+use Rattle.std.proofs.Common.{◌≡◌, ◌∙◌, sym, ℕ, ℤ, pos, ◌+◌, cond, List, [], ◌++◌, length, refl, ap}
+use Rattle.std.specs.Prelude.{Option, Some, None, Result, Ok, Err, filter, int_lt, is_some, not, unsigned_abs}
 use Rattle.std.specs.Ordering.{int_eq}
-use Rattle.std.specs.Result.{result_unwrap_or}
-use Rattle.std.proofs.lemmas.Bool.Decides.{nat_tests}
-use Rattle.std.proofs.lemmas.Int.{ints}
-use Rattle.std.proofs.lemmas.List.{append-nil, append_assoc}
 use Rattle.kr_batch.specs.declared.Batch.{Batch}
 use Rattle.kr_batch.specs.declared.fault.BatchFault.{BatchFault}
 use Rattle.kr_batch.specs.BatchBytes.{batch_bytes}
@@ -24,12 +18,12 @@ use Rattle.kr_defs.proofs.Tests.{Gives, gives_done, gives_refuse}
 use Rattle.kr_snapshot.specs.declared.fault.ImageFault.{ImageFault}
 use Rattle.kr_snapshot.specs.Reading.{image_of}
 use Rattle.kr_model.specs.Batch.{after_batch, batch_or, end_of, take_batch, unless_ill}
-use Rattle.kr_model.specs.Events.{at_time_of, outcome, with_next_number}
+use Rattle.kr_model.specs.Events.{outcome, with_next_number}
 use Rattle.kr_model.specs.Load.{after_load, image_or, take_image}
 use Rattle.kr_model.specs.Reasons as reasons
 use Rattle.kr_model.specs.World.{State, image_of_tip, is_far, tip_of}
 use Rattle.law_nodes.specs.Moves.{after_arrival}
-use Rattle.law_nodes.specs.Nodes.{NodeTold, RunNode, Waiting, after_by, after_event, at_own_end, tells_by, told_due, told_of, waits_in, writes_with}
+use Rattle.law_nodes.specs.Nodes.{RunNode, Waiting, after_by, after_event, at_own_end, tells_by, told_due, told_of, waits_in, writes_with}
 
 -- ---- of a node that no write waits at, an arrival is an event
 

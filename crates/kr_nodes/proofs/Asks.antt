@@ -1,10 +1,8 @@
 -- A client asks a node.
-use Rattle.std.proofs.Common.{◌≡◌, ◌∙◌, sym, subst, ℕ, ℤ, pos, Bool, true, false, cond, List, [], ◌∷◌, ◌++◌, length, map, refl, ap}
+use Rattle.std.proofs.Common.{◌≡◌, ◌∙◌, sym, ℕ, ℤ, pos, Bool, true, false, cond, List, [], ◌∷◌, length, map, refl, ap}
 use Rattle.std.proofs.lemmas.List.{append-nil}
-use Rattle.std.specs.Prelude.{◌+ℤ◌, ◌&&◌, FitsSigned, Some, None, Result, Ok, Err, is_some, not}
+use Rattle.std.specs.Prelude.{◌+ℤ◌, ◌&&◌, FitsSigned, Result, Ok, Err, is_some, not}
 use Rattle.std.specs.Int.{w64}
-use Rattle.std.specs.List.{slice_get}
-use Rattle.kr_batch.specs.declared.Batch.{Batch}
 use Rattle.kr_calls.specs.declared.calls.Ask.TheVariants as asks
 use Rattle.kr_calls.specs.declared.calls.Call.{Call}
 use Rattle.kr_calls.specs.declared.events.Entry.{Entry}
@@ -18,7 +16,7 @@ use Rattle.kr_defs.specs.declared.record.Record.{Record}
 use Rattle.kr_defs.specs.ImageLaws.{as_items}
 use Rattle.kr_defs.specs.Log.{Log}
 use Rattle.kr_model.specs.declared.writes.Write.{Write}
-use Rattle.kr_model.specs.Engine.{Core, IsEngine}
+use Rattle.kr_model.specs.Engine.{IsEngine}
 use Rattle.kr_model.specs.Entries.{entries_added, item_entries, items_from, log_entries}
 use Rattle.kr_model.specs.Events.{at_time_of, outcome}
 use Rattle.kr_model.specs.Outputs.{if_accepted, next_batch, write_of}
@@ -29,7 +27,7 @@ use Rattle.kr_model.proofs.EventOutcomes.{entries_accepted}
 use Rattle.kr_model.proofs.LogEntries.{batch_written, behind, not_none}
 use Rattle.law_nodes.specs.Moves.{with_event}
 use Rattle.law_nodes.specs.NodeEvents.{writes_in}
-use Rattle.law_nodes.specs.Nodes.{Run, RunNode, batch_for, batches_of}
+use Rattle.law_nodes.specs.Nodes.{RunNode, batch_for, batches_of}
 use Rattle.law_nodes.specs.OneList.{list_items}
 use Rattle.law_nodes.proofs.Steady.{max_fits}
 use Rattle.kr_nodes.specs.declared.node.Node.{Node}
@@ -38,7 +36,6 @@ use Rattle.kr_nodes.specs.declared.told.ToldReply.{ToldReply}
 use Rattle.kr_nodes.specs.inner.Acting as acting
 use Rattle.kr_nodes.specs.inner.Acting.{Acts, IsReached, LeavesRun}
 use Rattle.kr_nodes.specs.inner.Taking.{NodeTakes, all_items, if_write}
-use Rattle.kr_nodes.specs.Standing.{StandsForNode, StandsForShared}
 use Rattle.kr_nodes.proofs.Handings.{new_items}
 use Rattle.kr_nodes.proofs.Moved.{event_leaves}
 use Rattle.kr_nodes.proofs.ReadMoves.{reads_back}

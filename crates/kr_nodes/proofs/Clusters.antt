@@ -1,40 +1,23 @@
 -- A move of all nodes.
-use Rattle.std.proofs.Common.{◌≡◌, ◌∙◌, sym, subst, inl, inr, ℕ, zero, suc, ℤ, pos, ◌<◌, ◌≤◌, Bool, true, false, cond, List, [], ◌∷◌, ◌++◌, length, map, set, refl, ap, arith}
-use Rattle.std.specs.Prelude.{Option, Some, None, Result, Ok, Err, fold, int_lt, is_some, nat_lt, ◌==◌}
-use Rattle.std.specs.List.{AllByRecursion, slice_get}
-use Rattle.std.specs.Result.{result_unwrap_or}
-use Rattle.std.proofs.lemmas.Bool.Decides.{nat_tests}
-use Rattle.std.proofs.lemmas.Int.{ints}
+use Rattle.std.proofs.Common.{◌≡◌, ◌∙◌, sym, subst, ℕ, zero, suc, ◌≤◌, List, [], ◌∷◌, ◌++◌, length, set, refl, ap, arith}
+use Rattle.std.specs.Prelude.{Option, Some, None, Result, Ok, Err}
+use Rattle.std.specs.List.{slice_get}
 use Rattle.std.proofs.lemmas.List.{length-set}
-use Rattle.std.proofs.lemmas.List.Sums.{fold-append}
 use Rattle.kr_batch.specs.declared.Batch.{Batch}
-use Rattle.kr_calls.specs.declared.events.Event.{Event}
-use Rattle.kr_calls.specs.declared.events.Event.TheVariants as events
 use Rattle.kr_defs.specs.declared.options.Options.{Options}
-use Rattle.kr_defs.specs.Image.{Image}
 use Rattle.kr_defs.proofs.Tests.{some_is}
-use Rattle.kr_model.specs.Load.{take_image}
-use Rattle.kr_model.specs.World.{image_of_end}
 use Rattle.law_nodes.specs.declared.moves.Move.{Move}
 use Rattle.law_nodes.specs.declared.moves.Move.TheVariants as moves
 use Rattle.law_nodes.specs.declared.moves.MoveFault.{MoveFault}
 use Rattle.law_nodes.specs.declared.moves.MoveFault.TheVariants as faults
-use Rattle.law_nodes.specs.Moves as table
-use Rattle.law_nodes.specs.Moves.{after_arrival, after_move, committed_end, if_node, load_on, move_outcome, on_node, put_node, run, with_event}
-use Rattle.law_nodes.specs.Nodes.{Run, RunNode, after_event}
-use Rattle.law_nodes.proofs.Steps.{set_leading}
+use Rattle.law_nodes.specs.Moves.{committed_end, if_node, move_outcome, on_node}
+use Rattle.law_nodes.specs.Nodes.{Run, RunNode}
 use Rattle.kr_nodes.specs.declared.cluster.Cluster.{Cluster}
 use Rattle.kr_nodes.specs.declared.node.Node.{Node}
-use Rattle.kr_nodes.specs.declared.shared.Shared.{Shared}
-use Rattle.kr_nodes.specs.declared.told.ToldReply.{ToldReply}
-use Rattle.kr_nodes.specs.inner.Acting.{ActsAt, ActsBy, AreIdle, IsOfOne, IsReached, LeavesRun, MakesRun, MakesSome, moved_node, one_outcome}
-use Rattle.kr_nodes.specs.inner.Copying.{GivesImage, ImagesAt, IsCopyFault, LoadsEvent, LoadsAt, MayCopy}
+use Rattle.kr_nodes.specs.inner.Acting.{ActsAt, ActsBy, IsOfOne, LeavesRun, MakesRun, MakesSome, moved_node, one_outcome}
 use Rattle.kr_nodes.specs.Standing.{AllPairs, AreBelow, StandsForNode, StandsForRun, StandsForShared}
-use Rattle.kr_nodes.proofs.Copies.{none_imaged, set_waiting}
-use Rattle.kr_nodes.proofs.Feeds.{is_node}
 use Rattle.kr_nodes.proofs.OwnEnds.{below_more}
 use Rattle.kr_nodes.proofs.Pairs.{pair_at, pairs_put, same_length}
-use Rattle.kr_nodes.proofs.RefusedMoves.{standby_goes, standby_refuses}
 
 -- ---- nodes by their numbers
 

@@ -37,7 +37,7 @@ use Rattle.kr_nodes.proofs.Arrivals.{arrival_is, image_is, loaded_to, told_none}
 use Rattle.kr_nodes.proofs.Feeds.{none_new, reads_none}
 use Rattle.kr_nodes.proofs.OwnEnds.{own_end}
 use Rattle.kr_nodes.proofs.Rows.{image_row}
-use Rattle.kr_nodes.proofs.Takings.{TakenNode, taken, taken_of, told_so}
+use Rattle.kr_nodes.proofs.Takings.{taken, taken_of, told_so}
 
 -- the image at the committed end is always kept
 pub kept_end : (e : Core) (s : State) (writes : List Write) → IsEngine e s writes → kept_at e.images e.committed ≡ Some (image_of_end s)
@@ -98,13 +98,14 @@ module _ (k : ℕ) (before between after : Node) (bytes : List ℕ) (end : ℤ) 
       let own = taken options k n event before between false told told' t (taken_of options list n before s) (none_new (outcome options n.state event)) r_none s.time in
       let moved : (after_event options n event).state.world.committed ≡ m.state.world.committed = ap (λ (y : RunNode). y.state.world.committed) arrived in
       let at : between.engine.committed ≡ pos m.state.world.committed = own.engine.committed ∙ ap (λ c. pos c) moved in
-      let fed' = fed_by list n place m.state.world.committed is at below s.fed (λ other. loaded_to n x other) (int_eq between.engine.committed end) refl in
-      (subst (λ (y : RunNode). StandsForNode options list y after) arrived
-        (own_end options list (after_event options n event) (record between { fed = skipped end fed between }) after
-        (record { options_are = own.options_are; engine = own.engine; drained = own.drained; unsettled = own.unsettled; waiting = own.waiting; reads = own.reads; time = own.time })
-        back (subst (λ c. AreBelow list c (skipped end fed between)) (sym moved) fed')),
+      let fed' = fed_by list n place m.state.world.committed is at below s.fed (λ other. loaded_to n x other) (int_eq between.engine.committed end) refl in (
+        subst (λ (y : RunNode). StandsForNode options list y after) arrived
+            (own_end options list (after_event options n event) (record between { fed = skipped end fed between }) after
+            (record { options_are = own.options_are; engine = own.engine; drained = own.drained; unsettled = own.unsettled; waiting = own.waiting; reads = own.reads; time = own.time })
+            back (subst (λ c. AreBelow list c (skipped end fed between)) (sym moved) fed')),
         told_so options k n event before between false told told' t (taken_of options list n before s) (none_new (outcome options n.state event)) r_none told refl
-        ∙ (ap (λ (l : List NodeTold). told ++ map told_as l) (told_none options k n idle event tt) ∙ append-nil told))
+            ∙ (ap (λ (l : List NodeTold). told ++ map told_as l) (told_none options k n idle event tt) ∙ append-nil told),
+      )
 
 pub loads : (k : ℕ) (before between after : Node) (event : Event) (end : ℤ) (fed : ℕ) (told told' : List ToldReply) → NodeTakes k before between false told told' event
     → ReturnsToEnd (record between { fed = skipped end fed between }) after → LoadsEvent k before after event end fed told told'

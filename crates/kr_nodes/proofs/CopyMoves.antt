@@ -1,5 +1,5 @@
 -- The move that copies an image, of all nodes.
-use Rattle.std.proofs.Common.{◌≡◌, ◌∙◌, sym, subst, inl, inr, ℕ, ℤ, pos, ◌≤◌, Bool, true, false, cond, List, [], ◌∷◌, ◌++◌, length, map, set, refl, ap, arith}
+use Rattle.std.proofs.Common.{◌≡◌, ◌∙◌, sym, subst, inl, inr, ℕ, ℤ, pos, ◌≤◌, true, false, cond, List, [], length, refl, ap, arith}
 use Rattle.std.specs.Prelude.{Option, Some, None, Result, Ok, Err, int_lt, is_some, nat_lt}
 use Rattle.std.specs.List.{slice_get}
 use Rattle.std.proofs.lemmas.Bool.Decides.{nat_tests}
@@ -24,9 +24,9 @@ use Rattle.kr_nodes.specs.declared.cluster.Cluster.{Cluster}
 use Rattle.kr_nodes.specs.declared.node.Node.{Node}
 use Rattle.kr_nodes.specs.declared.shared.Shared.{Shared}
 use Rattle.kr_nodes.specs.declared.told.ToldReply.{ToldReply}
-use Rattle.kr_nodes.specs.inner.Acting.{IsReached, LeavesRun, MakesSome}
-use Rattle.kr_nodes.specs.inner.Copying.{GivesImage, ImagesAt, IsCopyFault, LoadsEvent, LoadsAt, LoadsBytes, MayCopy}
-use Rattle.kr_nodes.specs.Standing.{AreBelow, StandsForNode, StandsForRun, StandsForShared}
+use Rattle.kr_nodes.specs.inner.Acting.{LeavesRun, MakesSome}
+use Rattle.kr_nodes.specs.inner.Copying.{GivesImage, ImagesAt, IsCopyFault, LoadsEvent, LoadsAt, MayCopy}
+use Rattle.kr_nodes.specs.Standing.{AreBelow, StandsForNode}
 use Rattle.kr_nodes.proofs.Clusters.{at_missing, at_there, missing, put_stands, there}
 use Rattle.kr_nodes.proofs.Copies.{none_imaged, set_waiting}
 use Rattle.kr_nodes.proofs.Feeds.{is_node}
@@ -68,11 +68,13 @@ module _ (from to : ℕ) where
       subst (λ (f : MoveFault). MakesSome c c (moves.Copy from to) (Err f)) (sym o.is) (λ options r reached st.
       let p = there options r c st from o.source o.source_is in
       let q = there options r c st to o.target o.target_is in
-      let low : nat_lt (committed_end p.0) (committed_end q.0) ≡ true = as_numbers o.source.engine.committed o.target.engine.committed (committed_end p.0) (committed_end q.0) p.2.engine.committed q.2.engine.committed o.older in
-      (copy_is options r p.0 q.0 p.1 q.1
-        ∙ (standby_goes to q.0.state.world.leading _ (sym q.2.engine.leading ∙ o.idle)
-        ∙ (ap (λ b. cond b (Err (faults.OlderImage (pos (committed_end p.0)) (pos (committed_end q.0)))) (then_load options r p.0)) low
-        ∙ (ap (λ z. Err (faults.OlderImage z (pos (committed_end q.0)))) (sym p.2.engine.committed) ∙ ap (λ z. Err (faults.OlderImage o.source.engine.committed z)) (sym q.2.engine.committed)))), st))
+      let low : nat_lt (committed_end p.0) (committed_end q.0) ≡ true = as_numbers o.source.engine.committed o.target.engine.committed (committed_end p.0) (committed_end q.0) p.2.engine.committed q.2.engine.committed o.older in (
+        copy_is options r p.0 q.0 p.1 q.1
+            ∙ (standby_goes to q.0.state.world.leading _ (sym q.2.engine.leading ∙ o.idle)
+            ∙ (ap (λ b. cond b (Err (faults.OlderImage (pos (committed_end p.0)) (pos (committed_end q.0)))) (then_load options r p.0)) low
+            ∙ (ap (λ z. Err (faults.OlderImage z (pos (committed_end q.0)))) (sym p.2.engine.committed) ∙ ap (λ z. Err (faults.OlderImage o.source.engine.committed z)) (sym q.2.engine.committed)))),
+        st,
+      ))
     where
       as_numbers : (x y : ℤ) (a b : ℕ) → x ≡ pos a → y ≡ pos b → int_lt x y ≡ true → nat_lt a b ≡ true
       as_numbers x y a b is_a is_b is = grind (arith, nat_tests, ints)
@@ -128,30 +130,31 @@ module _ (from to : ℕ) where
         let place = committed_end f in
         let image = image_of_end f.state in
         let got = loaded options next n loads.before loads.after event end place image fed between.shared.told.items after.shared.told.items loads.loads
-            (brings options r f gives.before event gives.images.gives s_before) p2.2 still idle (may.end_is ∙ p.2.engine.committed) (subst (AreBelow r.list place) (sym may.fed_is) p.2.fed) in
+        (brings options r f gives.before event gives.images.gives s_before) p2.2 still idle (may.end_is ∙ p.2.engine.committed) (subst (AreBelow r.list place) (sym may.fed_is) p.2.fed) in
         let m = after_arrival n (take_image n.state (pos place, image)) in
         let last = put_node next to m in
-        let later : nat_lt (committed_end f) (committed_end t) ≡ false = as_numbers may.source.engine.committed may.target.engine.committed (committed_end f) (committed_end t) p.2.engine.committed q.2.engine.committed may.later in
-        (last,
+        let later : nat_lt (committed_end f) (committed_end t) ≡ false = as_numbers may.source.engine.committed may.target.engine.committed (committed_end f) (committed_end t) p.2.engine.committed q.2.engine.committed may.later in (
+          last,
           copy_is options r f t p.1 q.1
-          ∙ (standby_goes to t.state.world.leading _ none
-          ∙ (ap (λ b. cond b (Err (faults.OlderImage (pos (committed_end f)) (pos (committed_end t)))) (then_load options r f)) later
-          ∙ at_there next to n (λ (x : RunNode). Ok (put_node next to (after_arrival x (take_image x.state (pos place, image))))) p2.1)),
+              ∙ (standby_goes to t.state.world.leading _ none
+              ∙ (ap (λ b. cond b (Err (faults.OlderImage (pos (committed_end f)) (pos (committed_end t)))) (then_load options r f)) later
+              ∙ at_there next to n (λ (x : RunNode). Ok (put_node next to (after_arrival x (take_image x.state (pos place, image))))) p2.1)),
           put_stands options next between st1 last to loads.after after
-          (record {
-            node = m;
-            nodes_are = refl;
-            more = [];
-            grows = sym (append-nil next.list);
-            stands = got.0;
-            shares = record {
-              list = ap (λ (x : Shared). x.list.items) same ∙ st1.shared.list;
-              reads = st1.shared.reads;
-              length_is = ap (λ (x : Shared). x.length) same ∙ st1.shared.length_is;
-              elected = ap (λ (x : Shared). x.elected) same ∙ st1.shared.elected;
-              told = got.1 ∙ st1.shared.told;
-            };
-          }) loads.put (count' ∙ sym count) (spent' ∙ sym spent))
+              (record {
+                node = m;
+                nodes_are = refl;
+                more = [];
+                grows = sym (append-nil next.list);
+                stands = got.0;
+                shares = record {
+                  list = ap (λ (x : Shared). x.list.items) same ∙ st1.shared.list;
+                  reads = st1.shared.reads;
+                  length_is = ap (λ (x : Shared). x.length) same ∙ st1.shared.length_is;
+                  elected = ap (λ (x : Shared). x.elected) same ∙ st1.shared.elected;
+                  told = got.1 ∙ st1.shared.told;
+                };
+              }) loads.put (count' ∙ sym count) (spent' ∙ sym spent),
+        )
       where
         as_numbers : (x y : ℤ) (a b : ℕ) → x ≡ pos a → y ≡ pos b → int_lt x y ≡ false → nat_lt a b ≡ false
         as_numbers x y a b is_a is_b is = grind (arith, nat_tests, ints)

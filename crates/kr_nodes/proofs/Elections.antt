@@ -1,27 +1,21 @@
 -- A node begins to lead, or is told that its leadership is over.
-use Rattle.std.proofs.Common.{◌≡◌, ◌∙◌, sym, subst, ℕ, ℤ, pos, Bool, true, false, cond, List, [], ◌∷◌, ◌++◌, map, set, refl, ap, arith}
-use Rattle.std.specs.Prelude.{FitsSigned, Option, Some, None, Result, Ok, Err, int_lt, is_some, not, ◌==◌, if◌then◌else◌}
+use Rattle.std.proofs.Common.{◌≡◌, ◌∙◌, sym, subst, ℕ, ℤ, pos, true, false, cond, [], map, refl, ap, arith}
+use Rattle.std.specs.Prelude.{FitsSigned, Option, Some, Ok, Err, int_lt, is_some, not, ◌==◌, if◌then◌else◌}
 use Rattle.std.specs.Int.{w64}
-use Rattle.std.specs.List.{AllByRecursion, slice_get}
 use Rattle.std.proofs.lemmas.Bool.Decides.{nat_tests}
 use Rattle.std.proofs.lemmas.Int.{ints}
 use Rattle.std.proofs.lemmas.List.{append-nil, map-append}
-use Rattle.kr_batch.specs.declared.Batch.{Batch}
-use Rattle.kr_calls.specs.declared.events.Event.{Event}
 use Rattle.kr_calls.specs.declared.events.Event.TheVariants as events
-use Rattle.kr_calls.specs.declared.events.Reason.{Reason}
 use Rattle.kr_defs.specs.declared.options.Options.{Options}
-use Rattle.kr_model.specs.Events.{at_time_of, outcome, time_after}
-use Rattle.kr_model.specs.World.{State}
-use Rattle.law_nodes.specs.declared.moves.MoveFault.{MoveFault}
+use Rattle.kr_model.specs.Events.{at_time_of, outcome}
 use Rattle.law_nodes.specs.declared.moves.MoveFault.TheVariants as faults
 use Rattle.law_nodes.specs.Moves as table
 use Rattle.law_nodes.specs.Moves.{after_election, committed_end, deposed, length_of, with_event}
-use Rattle.law_nodes.specs.Nodes.{NodeTold, Run, RunNode, after_event, at_own_end, told_of}
+use Rattle.law_nodes.specs.Nodes.{Run, RunNode, after_event, at_own_end, told_of}
 use Rattle.law_nodes.proofs.Steady.{max_fits, node_end}
 use Rattle.kr_nodes.specs.declared.node.Node.{Node}
 use Rattle.kr_nodes.specs.declared.shared.Shared.{Shared}
-use Rattle.kr_nodes.specs.inner.Acting.{Acts, IsReached, LeavesRun}
+use Rattle.kr_nodes.specs.inner.Acting.{Acts, LeavesRun}
 use Rattle.kr_nodes.specs.inner.Checks.{MayElect}
 use Rattle.kr_nodes.specs.inner.Taking.{NodeTakes, ReturnsToEnd}
 use Rattle.kr_nodes.specs.Standing.{AreBelow, StandsForNode, StandsForShared, told_as}
@@ -29,7 +23,7 @@ use Rattle.kr_nodes.proofs.Feeds.{none_new, reads_none}
 use Rattle.kr_nodes.proofs.Moved.{event_leaves, node_stands}
 use Rattle.kr_nodes.proofs.OwnEnds.{own_end}
 use Rattle.kr_nodes.proofs.RefusedMoves.{leading_goes, standby_goes}
-use Rattle.kr_nodes.proofs.Takings.{TakenNode, taken, taken_of, told_so}
+use Rattle.kr_nodes.proofs.Takings.{taken, taken_of, told_so}
 
 module _ (k : ℕ) (epoch now next : ℤ) (fits : FitsSigned w64 now) (before back between : Node) (shared shared' shared'' : Shared) (may : MayElect epoch shared before next)
     (return : ReturnsToEnd before back) (t : NodeTakes k back between false shared.told.items shared'.told.items (events.Lead epoch next now)) (same : shared' ≡ record shared { told = shared'.told })
@@ -54,11 +48,11 @@ module _ (k : ℕ) (epoch now next : ℤ) (fits : FitsSigned w64 now) (before ba
       let now_elected : shared''.elected ≡ (if is_some (after_event options m event).state.world.leading then epoch else r.elected) =
       ap (λ (x : Shared). x.elected) notes
       ∙ (ap (λ b. cond b epoch shared'.elected) leads
-      ∙ ap (λ e. cond (is_some (after_event options m event).state.world.leading) epoch e) (ap (λ (x : Shared). x.elected) same ∙ g.elected)) in
-      (to,
+      ∙ ap (λ e. cond (is_some (after_event options m event).state.world.leading) epoch e) (ap (λ (x : Shared). x.elected) same ∙ g.elected)) in (
+        to,
         standby_goes k n.state.world.leading _ (sym s.engine.leading ∙ may.idle)
-        ∙ (ap (λ b. cond (not b) (Err (faults.OldEpoch epoch r.elected)) (cond (not (end == length_of r)) (Err (faults.Behind (pos end) (pos (length_of r)))) (Ok to))) new
-        ∙ ap (λ b. cond (not b) (Err (faults.Behind (pos end) (pos (length_of r)))) (Ok to)) whole),
+            ∙ (ap (λ b. cond (not b) (Err (faults.OldEpoch epoch r.elected)) (cond (not (end == length_of r)) (Err (faults.Behind (pos end) (pos (length_of r)))) (Ok to))) new
+            ∙ ap (λ b. cond (not b) (Err (faults.Behind (pos end) (pos (length_of r)))) (Ok to)) whole),
         record {
           node = after_event options m event;
           nodes_are = refl;
@@ -73,7 +67,8 @@ module _ (k : ℕ) (epoch now next : ℤ) (fits : FitsSigned w64 now) (before ba
             elected = now_elected;
             told = ap (λ (x : Shared). x.told.items) notes ∙ l.shares.told;
           };
-        })
+        },
+      )
 
   pub elect_acts : Acts (λ options r n. table.elect options r k n epoch now) k before between shared shared'' (Ok tt)
   elect_acts = λ options r n reached is s g. elected options r n s g
@@ -87,8 +82,8 @@ module _ (k : ℕ) (epoch : ℤ) (before between after : Node) (shared shared' :
       let event = events.Lost epoch in
       let q = outcome options n.state event in
       let reads = reads_none options n event refl q in
-      let own = taken options k n event before between false shared.told.items shared'.told.items t (taken_of options r.list n before s) (none_new q) reads s.time in
-      (deposed options r k n event,
+      let own = taken options k n event before between false shared.told.items shared'.told.items t (taken_of options r.list n before s) (none_new q) reads s.time in (
+        deposed options r k n event,
         leading_goes k n.state.world.leading epoch _ (sym s.engine.leading ∙ led),
         record {
           node = at_own_end (after_event options n event);
@@ -106,4 +101,5 @@ module _ (k : ℕ) (epoch : ℤ) (before between after : Node) (shared shared' :
                 told_so options k n event before between false shared.told.items shared'.told.items t (taken_of options r.list n before s) (none_new q) reads (map told_as r.told) g.told
                 ∙ sym (map-append told_as r.told (told_of options k n event));
           };
-        })
+        },
+      )

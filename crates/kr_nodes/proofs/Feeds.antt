@@ -1,6 +1,6 @@
 -- The list's batch at a node's end comes to it.
-use Rattle.std.proofs.Common.{◌≡◌, ◌∙◌, sym, subst, ℕ, ℤ, pos, ◌+◌, ◌<◌, Bool, true, false, cond, List, [], ◌∷◌, ◌++◌, length, length-append, map, set, refl, ap, arith}
-use Rattle.std.specs.Prelude.{FitsSigned, Option, Some, None, Result, Ok, Err, is_some, ◌==◌}
+use Rattle.std.proofs.Common.{◌≡◌, ◌∙◌, sym, subst, ℕ, pos, ◌+◌, Bool, true, false, cond, List, [], ◌∷◌, ◌++◌, length, length-append, map, refl, ap, arith}
+use Rattle.std.specs.Prelude.{Option, Some, None, Result, Ok, Err, ◌==◌}
 use Rattle.std.specs.List.{AllByRecursion, slice_get}
 use Rattle.std.specs.Ordering.{int_eq}
 use Rattle.std.proofs.lemmas.Bool.Decides.{nat_tests}
@@ -8,7 +8,6 @@ use Rattle.std.proofs.lemmas.Int.{ints}
 use Rattle.std.proofs.lemmas.List.{append-nil, append_assoc}
 use Rattle.kr_batch.specs.declared.Batch.{Batch}
 use Rattle.kr_batch.specs.BatchBytes.{batch_bytes}
-use Rattle.kr_batch.specs.Reading.{batch_of}
 use Rattle.kr_batch.proofs.WrittenBatches.{regular_again}
 use Rattle.kr_calls.specs.declared.events.Event.{Event}
 use Rattle.kr_calls.specs.declared.events.Event.TheVariants as events
@@ -18,14 +17,13 @@ use Rattle.kr_defs.specs.declared.record.Item.{Item}
 use Rattle.kr_defs.proofs.Tests.{some_is}
 use Rattle.kr_model.specs.Batch.{take_batch}
 use Rattle.kr_model.specs.Engine.{Rise}
-use Rattle.kr_model.specs.Events.{at_time_of, outcome, time_after}
+use Rattle.kr_model.specs.Events.{at_time_of, outcome}
 use Rattle.kr_model.specs.Outputs.{if_accepted}
 use Rattle.kr_model.specs.World.{State, tip_of}
-use Rattle.law_nodes.specs.declared.moves.MoveFault.{MoveFault}
 use Rattle.law_nodes.specs.declared.moves.MoveFault.TheVariants as faults
 use Rattle.law_nodes.specs.Moves as table
 use Rattle.law_nodes.specs.Moves.{after_arrival, committed_end, feed_next, length_of, put_node, run}
-use Rattle.law_nodes.specs.Nodes.{NodeTold, Run, RunNode, batches_of, after_event, at_own_end, told_of}
+use Rattle.law_nodes.specs.Nodes.{NodeTold, Run, RunNode, batches_of, after_event}
 use Rattle.law_nodes.specs.OneList.{batch_from, list_items}
 use Rattle.law_nodes.specs.ReadingBack.{ReadsBack}
 use Rattle.law_nodes.proofs.AllMoves.{run_is}
@@ -145,11 +143,11 @@ module _ (k : ℕ) (before between after : Node) (shared shared' : Shared) (batc
       let engine_end : between.engine.committed ≡ pos m.state.world.committed = own_taken.engine.committed ∙ ap (λ c. pos c) moved_end in
       let tip : tip_of n.state ≡ committed_end n = standby_tip s none in
       let below : AreBelow r.list m.state.world.committed (passed before.engine.committed between) =
-      by_test options r n f run s m.state.world.committed engine_end tip (λ other. fed_to n b other) (int_eq between.engine.committed before.engine.committed) refl in
-      (put_node r k m,
+      by_test options r n f run s m.state.world.committed engine_end tip (λ other. fed_to n b other) (int_eq between.engine.committed before.engine.committed) refl in (
+        put_node r k m,
         standby_goes k n.state.world.leading _ none
-        ∙ (ap (λ c. cond c (Err (faults.NothingNew (pos (committed_end n)))) (feed_next r k n (batch_from (committed_end n) r.list))) (not_whole r.list (committed_end n) before.fed f.below b f.bs f.ahead run.some)
-        ∙ ap (λ (o : Option Batch). feed_next r k n o) (next_is r.list (committed_end n) before.fed f.below b f.bs f.ahead run.some)),
+            ∙ (ap (λ c. cond c (Err (faults.NothingNew (pos (committed_end n)))) (feed_next r k n (batch_from (committed_end n) r.list))) (not_whole r.list (committed_end n) before.fed f.below b f.bs f.ahead run.some)
+            ∙ ap (λ (o : Option Batch). feed_next r k n o) (next_is r.list (committed_end n) before.fed f.below b f.bs f.ahead run.some)),
         record {
           node = m;
           nodes_are = refl;
@@ -167,7 +165,8 @@ module _ (k : ℕ) (before between after : Node) (shared shared' : Shared) (batc
                 told_so options k n event before between false shared.told.items shared'.told.items takes (taken_of options r.list n before s) (none_new (outcome options n.state event)) r_none (map told_as r.told) g.told
                 ∙ (ap (λ (l : List NodeTold). map told_as r.told ++ map told_as l) (told_none options k n idle event tt) ∙ append-nil (map told_as r.told));
           };
-        })
+        },
+      )
     where
       standby_tip : (s : StandsForNode options r.list n before) → n.state.world.leading ≡ None → tip_of n.state ≡ committed_end n
       standby_tip s none = sym (subst (λ (ends : List ℕ). Rise (committed_end n) ends (tip_of n.state)) (s.engine.is_state.at_standby none).0 s.engine.is_state.ends)

@@ -1,5 +1,5 @@
 -- An engine hands out one output more, or none.
-use Rattle.std.proofs.Common.{◌≡◌, ◌∙◌, sym, ℕ, List, [], ◌∷◌, ◌++◌, length, map, refl, ap, arith}
+use Rattle.std.proofs.Common.{◌≡◌, ◌∙◌, sym, ℕ, List, [], ◌∷◌, ◌++◌, map, refl, ap}
 use Rattle.std.specs.Prelude.{Option, Some, None, option_to_list}
 use Rattle.kr_calls.specs.declared.events.Output.{Output}
 use Rattle.kr_model.specs.declared.writes.Told.{Told as Output_}

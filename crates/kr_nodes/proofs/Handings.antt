@@ -6,7 +6,6 @@ use Rattle.std.specs.Result.{result_unwrap_or}
 use Rattle.std.proofs.lemmas.List.{append-nil, append_assoc, append_cancel_right, map-append}
 use Rattle.std.proofs.lemmas.List.Filters.{length-filter_both}
 use Rattle.std.proofs.lemmas.List.Sums.{fold-append}
-use Rattle.kr_batch.specs.declared.Batch.{Batch}
 use Rattle.kr_calls.specs.declared.events.Event.{Event}
 use Rattle.kr_calls.specs.declared.events.Output.{Output}
 use Rattle.kr_calls.specs.declared.events.Output.TheVariants as given
@@ -17,7 +16,7 @@ use Rattle.kr_model.specs.declared.writes.Told.{Told as Output_}
 use Rattle.kr_model.specs.declared.writes.Write.{Write}
 use Rattle.kr_model.specs.Engine.{Core, outputs_left, told_left, writes_in_order}
 use Rattle.kr_model.specs.Events.{at_time_of, next_number}
-use Rattle.kr_model.specs.Outputs.{answers, answers_now, appends, if_accepted, images, due_reply, is_open, is_open_in, outputs_by, told_alone as output_alone, told_answers, told_reply, writes_of}
+use Rattle.kr_model.specs.Outputs.{answers, answers_now, appends, if_accepted, images, due_reply, is_open_in, outputs_by, told_alone as output_alone, told_answers, told_reply, writes_of}
 use Rattle.kr_model.specs.World.{State, World}
 use Rattle.kr_model.proofs.LogEntries.{nothing_left}
 use Rattle.law_nodes.specs.NodeEvents.{writes_in}
@@ -27,7 +26,7 @@ use Rattle.law_nodes.proofs.NodeEvents.{takes}
 use Rattle.kr_nodes.specs.declared.told.ToldReply.{ToldReply}
 use Rattle.kr_nodes.specs.inner.Handing.{Handed, after_output, after_outputs}
 use Rattle.kr_nodes.specs.Standing.{list_batch, told_as}
-use Rattle.kr_nodes.proofs.Outputs.{IsCounted, all_appended, all_due, alone, appended, items_in, no_image, now_replied}
+use Rattle.kr_nodes.proofs.Outputs.{IsCounted, all_appended, all_due, alone, items_in, no_image, now_replied}
 
 module _ (options : Options) (k : ℕ) (n : RunNode) (event : Event) where
   abbrev pub at : State

@@ -1,16 +1,13 @@
 -- What one event leaves of all nodes, and of what they share.
-use Rattle.std.proofs.Common.{◌≡◌, ◌∙◌, sym, subst, ℕ, ℤ, pos, Bool, List, [], ◌++◌, map, set, refl, ap}
-use Rattle.std.specs.Prelude.{FitsSigned, Some, Result}
+use Rattle.std.proofs.Common.{◌≡◌, ◌∙◌, sym, subst, ℕ, pos, Bool, [], map, refl, ap}
+use Rattle.std.specs.Prelude.{FitsSigned}
 use Rattle.std.specs.Int.{w64}
-use Rattle.std.specs.List.{slice_get}
 use Rattle.std.proofs.lemmas.List.{append-nil, map-append}
 use Rattle.kr_calls.specs.declared.events.Event.{Event}
-use Rattle.kr_calls.specs.declared.events.Reason.{Reason}
 use Rattle.kr_defs.specs.declared.options.Options.{Options}
 use Rattle.kr_model.specs.Events.{at_time_of, outcome, time_after}
-use Rattle.kr_model.specs.World.{State}
 use Rattle.law_nodes.specs.Moves.{with_event}
-use Rattle.law_nodes.specs.Nodes.{NodeTold, Run, RunNode, after_event, told_of}
+use Rattle.law_nodes.specs.Nodes.{Run, RunNode, after_event, told_of}
 use Rattle.law_nodes.proofs.Steady.{LeavesEnd, node_end, node_settled}
 use Rattle.kr_nodes.specs.declared.node.Node.{Node}
 use Rattle.kr_nodes.specs.declared.shared.Shared.{Shared}

@@ -1,9 +1,8 @@
 -- What all outputs of an event leave.
-use Rattle.std.proofs.Common.{◌≡◌, ◌∙◌, sym, ℕ, ℤ, pos, negsuc, Bool, true, false, cond, List, [], ◌∷◌, ◌++◌, map, refl, ap}
-use Rattle.std.specs.Prelude.{Option, Some, None, Result, Ok, Err, filter, fold, int_lt, not, option_to_list}
+use Rattle.std.proofs.Common.{◌≡◌, ◌∙◌, sym, ℕ, ℤ, pos, Bool, true, false, cond, List, [], ◌∷◌, ◌++◌, map, refl, ap}
+use Rattle.std.specs.Prelude.{Some, filter, int_lt, not}
 use Rattle.std.specs.List.{AllByRecursion, flat_map}
-use Rattle.std.proofs.lemmas.List.{append-nil, append_assoc, map-append}
-use Rattle.std.proofs.lemmas.List.Sums.{fold-append}
+use Rattle.std.proofs.lemmas.List.{append-nil, append_assoc}
 use Rattle.kr_batch.specs.declared.Batch.{Batch}
 use Rattle.kr_batch.specs.BatchBytes.{batch_bytes}
 use Rattle.kr_calls.specs.declared.answers.AnswerKind.TheVariants as kinds
@@ -13,21 +12,16 @@ use Rattle.kr_calls.specs.declared.events.Event.{Event}
 use Rattle.kr_calls.specs.declared.events.Event.TheVariants as events
 use Rattle.kr_calls.specs.declared.events.Output.{Output}
 use Rattle.kr_calls.specs.declared.events.Output.TheVariants as given
-use Rattle.kr_calls.specs.declared.events.Reason.{Reason}
 use Rattle.kr_defs.specs.declared.options.Options.{Options}
 use Rattle.kr_defs.specs.declared.record.Item.{Item}
 use Rattle.kr_model.specs.declared.writes.Told.{Told as Output_}
-use Rattle.kr_model.specs.declared.writes.Write.{Write}
 use Rattle.kr_model.specs.Engine.{writes_in_order}
-use Rattle.kr_model.specs.Events.{at_time_of}
-use Rattle.kr_model.specs.Outputs.{answers_now, appends, if_accepted, images, is_open, is_open_in, replies_now, told_alone as output_alone, told_answers, told_reply, writes_of}
+use Rattle.kr_model.specs.Outputs.{answers_now, images, is_open, replies_now, told_alone as output_alone, told_answers, told_reply}
 use Rattle.kr_model.specs.World.{State, World}
 use Rattle.kr_model.proofs.Queues.{first_is_due, none_is_due, order_behind}
 use Rattle.law_nodes.specs.NodeEvents.{writes_in}
-use Rattle.law_nodes.specs.Nodes.{NodeTold, RunNode, Waiting, after_by, batches_of, tells_by, told_due, told_now, told_without_place, told_write, waits_in, writes_with}
-use Rattle.law_nodes.specs.OneList.{list_items}
+use Rattle.law_nodes.specs.Nodes.{Waiting, told_due, told_now, told_without_place, told_write, waits_in}
 use Rattle.kr_nodes.specs.declared.shared.ListBatch.{ListBatch}
-use Rattle.kr_nodes.specs.declared.told.ToldReply.{ToldReply}
 use Rattle.kr_nodes.specs.inner.Handing.{Handed, after_given, after_output, after_outputs, list_batch_in, first_items, other_items, told_unplaced, told_at}
 use Rattle.kr_nodes.specs.Standing.{list_batch, told_as}
 

@@ -1,5 +1,5 @@
 -- A node that has all of the list below its committed end, and nothing else.
-use Rattle.std.proofs.Common.{◌≡◌, ◌∙◌, sym, subst, ℕ, List, [], ◌++◌, map, ap}
+use Rattle.std.proofs.Common.{◌∙◌, sym, subst, ℕ, List, ◌++◌, ap}
 use Rattle.std.proofs.lemmas.List.{append_assoc}
 use Rattle.kr_batch.specs.declared.Batch.{Batch}
 use Rattle.kr_defs.specs.declared.options.Options.{Options}

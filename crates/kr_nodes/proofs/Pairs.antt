@@ -1,7 +1,7 @@
 -- Lists whose elements belong together, each to its own.
 use Rattle.std.proofs.Common.{◌≡◌, ℕ, zero, suc, List, [], ◌∷◌, length, set, refl, ap, subst}
-use Rattle.std.specs.Prelude.{Option, Some, None}
-use Rattle.std.specs.List.{AllByRecursion, slice_get}
+use Rattle.std.specs.Prelude.{Some}
+use Rattle.std.specs.List.{slice_get}
 use Rattle.kr_defs.proofs.Tests.{some_is}
 use Rattle.kr_nodes.specs.Standing.{AllPairs}
 

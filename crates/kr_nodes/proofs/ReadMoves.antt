@@ -1,11 +1,10 @@
 -- What a node appends in a move is read back.
 use Rattle.std.proofs.Common.{◌≡◌, ◌∙◌, sym, subst, ℕ, ℤ, ◌≤◌, Bool, List, ap}
-use Rattle.std.specs.Prelude.{All, FitsSigned, IfSome, Option, Some, None, Result, Ok, Err, unsigned_abs}
+use Rattle.std.specs.Prelude.{FitsSigned, IfSome, Option, Some, Result, Ok, Err, unsigned_abs}
 use Rattle.std.specs.Int.{w32, w64}
 use Rattle.std.specs.List.{AllByRecursion, slice_get}
 use Rattle.std.specs.Result.{result_unwrap_or}
 use Rattle.std.proofs.lemmas.List.Elements.{recursion_from_All}
-use Rattle.kr_calls.specs.declared.events.Entry.{Entry}
 use Rattle.kr_calls.specs.declared.events.Event.{Event}
 use Rattle.kr_calls.specs.declared.events.Reason.{Reason}
 use Rattle.kr_defs.specs.declared.limits.TheConstants.{PLACES_END}

@@ -1,13 +1,10 @@
 -- Moves that a node refuses, with what is shared: nothing changes.
-use Rattle.std.proofs.Common.{◌≡◌, ◌∙◌, sym, subst, inl, inr, ℕ, zero, suc, ◌<◌, get_or, ℤ, pos, ◌+◌, Bool, true, false, cond, List, [], ◌∷◌, ◌++◌, length, length-append, map, set, refl, ap, arith}
-use Rattle.std.specs.Prelude.{Option, Some, None, Result, Ok, Err, int_lt, is_some, nat_lt, not, ◌==◌}
+use Rattle.std.proofs.Common.{◌≡◌, ◌∙◌, sym, subst, inl, inr, ℕ, zero, suc, ◌<◌, get_or, ℤ, pos, true, cond, List, [], ◌∷◌, ◌++◌, length, map, set, refl, ap, arith}
+use Rattle.std.specs.Prelude.{Option, Some, None, Result, Err, is_some, ◌==◌}
 use Rattle.std.specs.List.{slice_get}
-use Rattle.std.specs.Ordering.{int_eq}
 use Rattle.std.proofs.lemmas.Bool.Decides.{nat_tests}
-use Rattle.std.proofs.lemmas.Int.{ints}
 use Rattle.std.proofs.lemmas.List.{append-nil}
 use Rattle.std.proofs.lemmas.Option.{slice_get-get_or}
-use Rattle.kr_defs.proofs.Tests.{some_is}
 use Rattle.kr_batch.specs.declared.Batch.{Batch}
 use Rattle.kr_defs.specs.declared.options.Options.{Options}
 use Rattle.law_nodes.specs.declared.moves.MoveFault.{MoveFault}
@@ -19,7 +16,7 @@ use Rattle.law_nodes.specs.OneList.{batch_from, list_items}
 use Rattle.kr_nodes.specs.declared.node.Node.{Node}
 use Rattle.kr_nodes.specs.declared.shared.ListBatch.{ListBatch}
 use Rattle.kr_nodes.specs.declared.shared.Shared.{Shared}
-use Rattle.kr_nodes.specs.inner.Acting.{Acts, ActsBy, AreIdle, IsIdleNode, IsReached, Row}
+use Rattle.kr_nodes.specs.inner.Acting.{Acts, ActsBy, AreIdle, IsIdleNode, Row}
 use Rattle.kr_nodes.specs.inner.Checks.{IsFeedFault}
 use Rattle.kr_nodes.specs.Standing.{AreBelow, StandsForNode, StandsForShared, list_batch}
 

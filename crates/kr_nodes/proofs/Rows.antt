@@ -1,5 +1,5 @@
 -- Rows of the table of moves whose event is always taken.
-use Rattle.std.proofs.Common.{◌≡◌, ◌∙◌, sym, subst, ℕ, ℤ, true, false, List, [], refl, ap}
+use Rattle.std.proofs.Common.{◌≡◌, ℕ, ℤ, false, List, [], refl}
 use Rattle.std.specs.Prelude.{FitsSigned, Ok, Err, Result, Some}
 use Rattle.std.specs.Int.{w64}
 use Rattle.std.specs.List.{slice_get}
@@ -20,7 +20,7 @@ use Rattle.kr_nodes.specs.inner.Taking.{NodeTakes}
 use Rattle.kr_nodes.specs.Standing.{StandsForNode, StandsForShared}
 use Rattle.kr_nodes.proofs.Moved.{event_leaves}
 use Rattle.kr_nodes.proofs.ReadMoves.{reads_back}
-use Rattle.kr_nodes.proofs.Takings.{ReadBy, taken_of}
+use Rattle.kr_nodes.proofs.Takings.{taken_of}
 
 none_new : (q : Result State Reason) → [] ≡ if_accepted {X = List Item} q []
 none_new (Ok after) = refl

@@ -1,11 +1,10 @@
 -- The first batch of the latest leader that isn't in the list joins it.
-use Rattle.std.proofs.Common.{◌≡◌, ◌∙◌, sym, subst, ℕ, ℤ, pos, ◌+◌, ◌^◌, ◌-◌, ◌<◌, ◌≤◌, Bool, true, false, cond, List, [], ◌∷◌, ◌++◌, length, length-append, map, set, refl, ap, arith}
-use Rattle.std.specs.Prelude.{◌+ℤ◌, ◌<ℤ◌, ◌≤ℤ◌, Option, Some, None, Result, Ok, Err, not, unsigned_abs}
+use Rattle.std.proofs.Common.{◌≡◌, ◌∙◌, sym, subst, ℕ, ℤ, pos, ◌+◌, ◌^◌, ◌-◌, ◌≤◌, true, cond, List, [], ◌∷◌, ◌++◌, length, length-append, map, refl, ap, arith}
+use Rattle.std.specs.Prelude.{◌+ℤ◌, ◌<ℤ◌, ◌≤ℤ◌, Some, Ok, Err, not, unsigned_abs}
 use Rattle.std.specs.Int.{saturate_signed, w64}
 use Rattle.std.specs.List.{AllByRecursion, slice_get}
 use Rattle.std.specs.Ordering.{int_eq}
 use Rattle.std.proofs.Math.Nat.{min-eq_left}
-use Rattle.std.proofs.lemmas.Bool.Decides.{nat_tests}
 use Rattle.std.proofs.lemmas.Int.{ints}
 use Rattle.std.proofs.lemmas.List.{append-nil, length-map, map-append}
 use Rattle.kr_batch.specs.declared.Batch.{Batch}
@@ -13,9 +12,7 @@ use Rattle.kr_defs.specs.declared.limits.TheConstants.{PLACES_END}
 use Rattle.kr_defs.specs.declared.options.Options.{Options}
 use Rattle.kr_defs.specs.declared.record.Item.{Item}
 use Rattle.kr_defs.proofs.IdLists.{id_itself}
-use Rattle.kr_defs.specs.Log.{tip}
 use Rattle.kr_model.specs.Engine.{Core, IsEngine, outputs_left}
-use Rattle.kr_model.specs.World.{tip_of}
 use Rattle.law_nodes.specs.declared.moves.MoveFault.TheVariants as faults
 use Rattle.law_nodes.specs.Moves as table
 use Rattle.law_nodes.specs.Moves.{committed_end, length_of, put_node, settle_first}
@@ -87,32 +84,35 @@ module _ (k : ℕ) (before after : Node) (shared shared' : Shared) (batch : List
       let counted : length shared'.list.items ≡ length list' = ap (λ (l : List ListBatch). length l) longer_list ∙ length-map list' list_batch in
       let upto : (before.settled +ℤ pos batch.count) ≡ pos to = ap (λ z. z +ℤ pos batch.count) s.settled ∙ ap (λ c. pos n.settled +ℤ pos c) count in
       let reads : AllByRecursion ReadsBack (b ∷ bs) = subst (AllByRecursion ReadsBack) has s.reads in
-      let node = record n { settled = to; unsettled = bs } in
-      (record (put_node r k node) { list = list' }, refl, record {
-        node = node;
-        nodes_are = refl;
-        more = b ∷ [];
-        grows = refl;
-        stands = record {
-          options_are = ap (λ (e : Core). e.options) pops.engine ∙ s.options_are;
-          engine = subst (λ (e : Core). IsEngine e n.state (writes_in n.waiting)) (sym pops.engine) s.engine;
-          drained = ap (λ (e : Core). outputs_left e) pops.engine ∙ s.drained;
-          settled = pops.settled ∙ within to low before.settled batch.count upto;
-          unsettled = both.1;
-          waiting = ap (λ w. w.items) pops.waiting ∙ s.waiting;
-          fed = subst (AreBelow list' (committed_end n)) (sym pops.fed) (below_more r.list (b ∷ []) (committed_end n) before.fed s.fed);
-          sent = record { done = list'; ahead = []; is = sym (append-nil list'); reaches = sym long; count_is = pops.sent_is ∙ counted };
-          reads = reads.1;
-          time = s.time;
-        };
-        shares = record {
-          list = longer_list;
-          reads = reads_both r.list (b ∷ []) g.reads (reads.0, tt);
-          length_is = all_long r g b to long (ap (λ x. x + length b.items) (sym whole)) low count;
-          elected = joins.elected ∙ g.elected;
-          told = ap (λ t. t.items) joins.told ∙ g.told;
-        };
-      })
+      let node = record n { settled = to; unsettled = bs } in (
+        record (put_node r k node) { list = list' },
+        refl,
+        record {
+          node = node;
+          nodes_are = refl;
+          more = b ∷ [];
+          grows = refl;
+          stands = record {
+            options_are = ap (λ (e : Core). e.options) pops.engine ∙ s.options_are;
+            engine = subst (λ (e : Core). IsEngine e n.state (writes_in n.waiting)) (sym pops.engine) s.engine;
+            drained = ap (λ (e : Core). outputs_left e) pops.engine ∙ s.drained;
+            settled = pops.settled ∙ within to low before.settled batch.count upto;
+            unsettled = both.1;
+            waiting = ap (λ w. w.items) pops.waiting ∙ s.waiting;
+            fed = subst (AreBelow list' (committed_end n)) (sym pops.fed) (below_more r.list (b ∷ []) (committed_end n) before.fed s.fed);
+            sent = record { done = list'; ahead = []; is = sym (append-nil list'); reaches = sym long; count_is = pops.sent_is ∙ counted };
+            reads = reads.1;
+            time = s.time;
+          };
+          shares = record {
+            list = longer_list;
+            reads = reads_both r.list (b ∷ []) g.reads (reads.0, tt);
+            length_is = all_long r g b to long (ap (λ x. x + length b.items) (sym whole)) low count;
+            elected = joins.elected ∙ g.elected;
+            told = ap (λ t. t.items) joins.told ∙ g.told;
+          };
+        },
+      )
     where
       -- what isn't settled stands below the tip
       below_tip : (options : Options) (r : Run) (n : RunNode) (s : StandsForNode options r.list n before) (i : IsNode r.list r.elected n) (b : Batch) (bs : List Batch) → n.unsettled ≡ b ∷ bs → (n.settled + length b.items) ≤ unsigned_abs PLACES_END
@@ -133,8 +133,9 @@ module _ (k : ℕ) (before after : Node) (shared shared' : Shared) (batch : List
   pub settle_acts : Acts (λ _ r n. table.settle r k n) k before after shared shared' (Ok tt)
   settle_acts = λ options r n reached is s g.
       let got = settled_by options r n reached is s g n.unsettled refl in
-      let same : int_eq shared.elected r.elected ≡ true = ap (λ e. int_eq shared.elected e) (sym g.elected) ∙ id_itself shared.elected in
-      (got.0,
+      let same : int_eq shared.elected r.elected ≡ true = ap (λ e. int_eq shared.elected e) (sym g.elected) ∙ id_itself shared.elected in (
+        got.0,
         leading_goes k n.state.world.leading shared.elected _ (sym s.engine.leading ∙ may.latest)
-        ∙ (ap (λ b. cond (not b) (Err (faults.NotLatest shared.elected r.elected)) (settle_first r k n n.unsettled)) same ∙ got.1),
-        got.2)
+            ∙ (ap (λ b. cond (not b) (Err (faults.NotLatest shared.elected r.elected)) (settle_first r k n n.unsettled)) same ∙ got.1),
+        got.2,
+      )

@@ -1,20 +1,17 @@
 -- What a step, what is noted of it, and what is handed out make of a node.
-use Rattle.std.proofs.Common.{◌≡◌, ◌∙◌, sym, subst, ℕ, Bool, List, [], ◌++◌, refl, ap}
+use Rattle.std.proofs.Common.{◌≡◌, ◌∙◌, sym, subst, ℕ, Bool, List, [], ap}
 use Rattle.std.specs.Prelude.{FitsSigned, IfSome}
 use Rattle.std.specs.Int.{w32}
 use Rattle.kr_calls.specs.declared.events.Event.{Event}
 use Rattle.kr_defs.specs.declared.record.Item.{Item}
-use Rattle.kr_model.specs.declared.writes.Told.{Told as Output_}
-use Rattle.kr_model.specs.declared.writes.Write.{Write}
 use Rattle.kr_model.specs.Engine.{Core, IsEngine, IsStep, told_left}
-use Rattle.kr_model.specs.World.{State}
 use Rattle.kr_model.proofs.OutputsLeft.{handing_out_stands}
 use Rattle.kr_nodes.specs.declared.handing.Pending.{Pending}
 use Rattle.kr_nodes.specs.declared.node.Node.{Node}
 use Rattle.kr_nodes.specs.declared.shared.ListBatch.{ListBatch}
 use Rattle.kr_nodes.specs.declared.told.ToldReply.{ToldReply}
 use Rattle.kr_nodes.specs.inner.Handing.{Handed, HandsOut, after_outputs, handed_over}
-use Rattle.kr_nodes.specs.inner.Taking.{NodeTakes, NotesAdded, if_write, handed_noted}
+use Rattle.kr_nodes.specs.inner.Taking.{NodeTakes, NotesAdded, handed_noted}
 
 pub takes_by : (number : ℕ) (before : Node) (stepped : Core) (between : Node) (engine : Core) (pending : Pending) (is_write : Bool) (told told' : List ToldReply) (event : Event) → IfSome before.engine.leading (λ epoch. FitsSigned w32 epoch) → IsStep before.engine stepped event
     → NotesAdded is_write (record before { engine = stepped }) between → HandsOut number between.engine engine (handed_over between.pending told) (handed_over pending told')

@@ -1,14 +1,12 @@
 -- A node that took an event stands for what law_nodes makes of it.
 use Rattle.std.proofs.Common.{◌≡◌, ◌∙◌, sym, subst, ℕ, ℤ, pos, Bool, true, false, cond, List, [], ◌∷◌, ◌++◌, length, map, refl, ap}
-use Rattle.std.specs.Prelude.{FitsSigned, Option, Some, None, Result, Ok, Err, filter, option_to_list, unsigned_abs}
+use Rattle.std.specs.Prelude.{FitsSigned, Option, Some, None, Result, Ok, Err, filter, unsigned_abs}
 use Rattle.std.specs.Int.{w64}
 use Rattle.std.specs.List.{AllByRecursion}
 use Rattle.std.specs.Option.{option_map_or}
-use Rattle.std.specs.Result.{result_ok, result_unwrap_or}
 use Rattle.kr_batch.specs.declared.Batch.{Batch}
 use Rattle.kr_batch.specs.declared.heading.Heading.{Heading}
 use Rattle.kr_batch.specs.BatchBytes.{batch_bytes}
-use Rattle.kr_batch.specs.Reading.{head_of, is_base}
 use Rattle.kr_batch.proofs.Batches.{head_there}
 use Rattle.kr_batch.proofs.WrittenBatches.{regular_spelled}
 use Rattle.kr_calls.specs.declared.events.Event.{Event}
@@ -20,15 +18,15 @@ use Rattle.kr_model.specs.declared.writes.Told.{Told as Output_}
 use Rattle.kr_model.specs.declared.writes.Write.{Write}
 use Rattle.kr_model.specs.Engine.{Core, IsEngine, outputs_left, told_left, writes_in_order}
 use Rattle.kr_model.specs.Events.{at_time_of, happens, outcome, time_after}
-use Rattle.kr_model.specs.Outputs.{is_open, is_open_in, new_writes, outputs_of, waiting_after, writes_of}
+use Rattle.kr_model.specs.Outputs.{is_open, is_open_in, new_writes, outputs_of, waiting_after}
 use Rattle.kr_model.specs.World.{State}
 use Rattle.law_nodes.specs.NodeEvents.{writes_in}
-use Rattle.law_nodes.specs.Nodes.{RunNode, Waiting, after_by, after_event, batches_of, told_of, tells_by}
+use Rattle.law_nodes.specs.Nodes.{RunNode, after_by, after_event, batches_of, told_of}
 use Rattle.law_nodes.proofs.NodeEvents.{takes}
 use Rattle.kr_nodes.specs.declared.node.Node.{Node}
 use Rattle.kr_nodes.specs.declared.shared.ListBatch.{ListBatch}
 use Rattle.kr_nodes.specs.declared.told.ToldReply.{ToldReply}
-use Rattle.kr_nodes.specs.inner.Handing.{Handed, after_outputs, list_batch_in, count_in, handed_over}
+use Rattle.kr_nodes.specs.inner.Handing.{Handed, after_outputs, handed_over}
 use Rattle.kr_nodes.specs.inner.Taking.{NodeTakes, if_write, handed_noted}
 use Rattle.law_nodes.specs.ReadingBack.{ReadsBack}
 use Rattle.kr_nodes.specs.Standing.{StandsForNode, list_batch, told_as}

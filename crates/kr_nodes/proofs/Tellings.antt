@@ -1,26 +1,24 @@
 -- A leader is told that what it settled is committed.
-use Rattle.std.proofs.Common.{◌≡◌, ◌∙◌, sym, subst, ℕ, ℤ, pos, Bool, true, false, cond, List, [], ◌∷◌, ◌++◌, map, set, refl, ap, arith}
-use Rattle.std.specs.Prelude.{◌<ℤ◌, Option, Some, None, Result, Ok, Err, nat_lt, not, unsigned_abs}
-use Rattle.std.specs.List.{slice_get}
+use Rattle.std.proofs.Common.{◌≡◌, ◌∙◌, sym, subst, ℕ, ℤ, pos, Bool, true, false, cond, List, [], refl, ap, arith}
+use Rattle.std.specs.Prelude.{◌<ℤ◌, Ok, Err, nat_lt, not}
 use Rattle.std.specs.Ordering.{int_eq}
 use Rattle.std.proofs.lemmas.Bool.Decides.{nat_tests}
 use Rattle.std.proofs.lemmas.Int.{ints}
 use Rattle.std.proofs.lemmas.List.{append-nil}
 use Rattle.kr_batch.specs.declared.Batch.{Batch}
 use Rattle.kr_calls.specs.declared.events.Event.TheVariants as events
-use Rattle.kr_defs.specs.declared.options.Options.{Options}
 use Rattle.kr_model.specs.Events.{outcome}
 use Rattle.law_nodes.specs.declared.moves.MoveFault.TheVariants as faults
 use Rattle.law_nodes.specs.Moves as table
 use Rattle.law_nodes.specs.Moves.{committed_end, with_event}
-use Rattle.law_nodes.specs.Nodes.{Run, RunNode, after_event}
+use Rattle.law_nodes.specs.Nodes.{RunNode, after_event}
 use Rattle.law_nodes.proofs.Steady.{node_settled, uncommitted}
 use Rattle.kr_nodes.specs.declared.node.Node.{Node}
 use Rattle.kr_nodes.specs.declared.shared.Shared.{Shared}
 use Rattle.kr_nodes.specs.inner.Acting.{Acts, told_fed}
 use Rattle.kr_nodes.specs.inner.Checks.{MayTell}
 use Rattle.kr_nodes.specs.inner.Taking.{NodeTakes}
-use Rattle.kr_nodes.specs.Standing.{AreBelow, StandsForNode, StandsForShared}
+use Rattle.kr_nodes.specs.Standing.{AreBelow}
 use Rattle.kr_nodes.proofs.Feeds.{none_new, reads_none}
 use Rattle.kr_nodes.proofs.Moved.{shares}
 use Rattle.kr_nodes.proofs.RefusedMoves.{leading_goes}
@@ -45,10 +43,10 @@ module _ (k : ℕ) (epoch : ℤ) (before between : Node) (shared shared' : Share
       let reads = reads_none options n event refl q in
       let m = after_event options n event in
       let own : TakenNode options m between = taken options k n event before between false shared.told.items shared'.told.items takes (taken_of options r.list n before s) (none_new q) reads s.time in
-      let low : nat_lt (committed_end n) n.settled ≡ true = less (committed_end n) n.settled before.engine.committed before.settled s.engine.committed s.settled may.some in
-      (with_event options r k n event,
+      let low : nat_lt (committed_end n) n.settled ≡ true = less (committed_end n) n.settled before.engine.committed before.settled s.engine.committed s.settled may.some in (
+        with_event options r k n event,
         leading_goes k n.state.world.leading epoch _ (sym s.engine.leading ∙ may.leads)
-        ∙ ap (λ b. cond (not b) (Err (faults.NothingNew (pos (committed_end n)))) (Ok (with_event options r k n event))) low,
+            ∙ ap (λ b. cond (not b) (Err (faults.NothingNew (pos (committed_end n)))) (Ok (with_event options r k n event))) low,
         record {
           node = m;
           nodes_are = refl;
@@ -67,7 +65,8 @@ module _ (k : ℕ) (epoch : ℤ) (before between : Node) (shared shared' : Share
             time = own.time;
           };
           shares = shares options r k n event before between false shared shared' takes s g (none_new q) reads s.time same;
-        })
+        },
+      )
     where
       less : (a b : ℕ) (x y : ℤ) → x ≡ pos a → y ≡ pos b → x <ℤ y → nat_lt a b ≡ true
       less a b x y is_a is_b low = grind (arith, nat_tests, ints)

@@ -1,5 +1,5 @@
 -- For which moves a cluster stands: that of kr_nodes after them is the run of law_nodes.
-use Rattle.std.specs.Prelude.{◌≡◌, ◌≤◌, ◌<◌, ℕ, ℤ, pos, List, [], ◌∷◌, ◌++◌, map, length, Bool, true, false, IsTrue, FitsSigned, Option, Some, None, Result, Ok, Err}
+use Rattle.std.specs.Prelude.{◌≡◌, ℕ, pos, List, [], ◌∷◌, ◌++◌, map, length, Bool, true, false, FitsSigned, Some, Result, Ok, Err}
 use Rattle.std.specs.Int.{w64}
 use Rattle.std.specs.List.{AllByRecursion, slice_get}
 use Rattle.kr_batch.specs.declared.Batch.{Batch}

@@ -191,7 +191,8 @@ impl Node {
             ≡ option_to_list result ++ self.new.pending.unsettled.items }
         ensures none { result ≡ None → self.old.pending.unsettled.items ≡ [] }
         ensures same { self.new ≡ record self.old {
-            pending = record self.old.pending { unsettled = self.new.pending.unsettled } } }
+          pending = record self.old.pending { unsettled = self.new.pending.unsettled };
+        } }
     {
         self.pending.unsettled.pop_front()
     }
@@ -199,7 +200,9 @@ impl Node {
     // A batch of so many items of it joined the list, which has so many batches now.
     fn note_settled(&mut self, count: u32, sent: usize)
         ensures { self.new ≡ record self.old {
-            settled = acting.longer self.old.settled count; sent = sent } }
+          settled = acting.longer self.old.settled count;
+          sent = sent;
+        } }
     {
         self.settled = self.settled.saturating_add(i64::from(count));
         self.sent = sent;
@@ -208,7 +211,8 @@ impl Node {
     // It was elected, where it leads now.
     fn note_election(&self, epoch: i32, shared: &mut Shared)
         ensures { shared.new ≡ record shared.old {
-            elected = if is_some self.now.engine.leading then epoch else shared.old.elected } }
+          elected = if is_some self.now.engine.leading then epoch else shared.old.elected;
+        } }
     {
         if self.engine.leading().is_some() {
             shared.elected = epoch;

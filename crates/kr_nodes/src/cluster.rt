@@ -1,6 +1,6 @@
 //! Several controllers over one committed list.
 
-ghost use Rattle.std.specs.Prelude.{◌≡◌, [], ◌++◌, ◌∷◌, ◌<◌, ◌≤◌, ℕ, IfOk, IsErrOf, IsTrue, List, MatchResult, None, Some, false, length, map, pos, true};
+ghost use Rattle.std.specs.Prelude.{◌≡◌, [], ◌++◌, ◌∷◌, ◌<◌, ◌≤◌, ℕ, IfOk, IsErrOf, IsTrue, List, MatchOption, MatchResult, None, Some, false, length, map, pos, true};
 ghost use Rattle.std.specs.List.{slice_get};
 ghost use Rattle.std.specs.Option.{option_map};
 ghost use Rattle.kr_defs.specs.OpenOptions.{are_options};
@@ -14,9 +14,9 @@ ghost use Rattle.kr_nodes.specs.inner.Acting.{AreIdle, IsOfOne, MakesSome};
 ghost use Rattle.kr_nodes.specs.Standing as standing;
 ghost use Rattle.kr_nodes.specs.Standing.{AnswersMove, ClusterAgrees, IsReadyCluster, IsWriteMove, StandsForMoves, told_as};
 
+use crate::ToldReply;
 use crate::copying::{check_copy, image_at, load_at};
 use crate::moving::act_at;
-use crate::ToldReply;
 use crate::node::Node;
 use crate::shared::Shared;
 use kr_base::{NoMemory, Steps};
@@ -139,7 +139,7 @@ impl Cluster {
     fn check_node(&self, node: u32) -> Result<(), MoveFault>
         ensures { MatchResult result (λ _. node < length self.now.nodes.items)
             (λ fault. (length self.now.nodes.items ≤ node)
-                × (fault ≡ faults.NoNode node self.now.count)) }
+            × (fault ≡ faults.NoNode node self.now.count)) }
     {
         if (node as usize) < self.nodes.len() {
             return Ok(());
@@ -150,11 +150,7 @@ impl Cluster {
         })
     }
 
-    fn make_one<L: Ledger>(
-        &mut self,
-        turn: Move,
-        steps: &mut Steps<L>,
-    ) -> Result<(), MoveFault>
+    fn make_one<L: Ledger>(&mut self, turn: Move, steps: &mut Steps<L>) -> Result<(), MoveFault>
         requires idle { AreIdle self.old.nodes.items }
         requires write { IsWriteMove turn }
         requires one { IsOfOne turn }
@@ -165,12 +161,7 @@ impl Cluster {
         act_at(&mut self.nodes, node, turn, &mut self.shared, steps)
     }
 
-    fn copy<L: Ledger>(
-        &mut self,
-        from: u32,
-        to: u32,
-        steps: &mut Steps<L>,
-    ) -> Result<(), MoveFault>
+    fn copy<L: Ledger>(&mut self, from: u32, to: u32, steps: &mut Steps<L>) -> Result<(), MoveFault>
         requires idle { AreIdle self.old.nodes.items }
         ensures { MakesSome self.old self.new (moves.Copy from to) result }
     {
@@ -178,7 +169,15 @@ impl Cluster {
         self.check_node(to)?;
         let (end, fed) = check_copy(&self.nodes, from, to)?;
         let event = image_at(&mut self.nodes, from, &mut self.shared, steps)?;
-        load_at(&mut self.nodes, to, &event, end, fed, &mut self.shared.told, steps)?;
+        load_at(
+            &mut self.nodes,
+            to,
+            &event,
+            end,
+            fed,
+            &mut self.shared.told,
+            steps,
+        )?;
         Ok(())
     }
 
@@ -206,7 +205,7 @@ impl Cluster {
             result ≡ option_map (λ n. pos (committed_end n))
             (slice_get (run options nodes past).nodes node) }
     {
-        match self.nodes.get(node as usize) {
+        match node_at(&self.nodes, node as usize) {
             Some(node) => Some(node.engine.committed()),
             None => None,
         }
@@ -219,6 +218,17 @@ impl Cluster {
             result.now ≡ map told_as (run options nodes past).told }
     {
         self.shared.told.as_slice()
+    }
+}
+
+// The node of a number.
+fn node_at(nodes: &[Node], number: usize) -> Option<&Node>
+    ensures { MatchOption result (slice_get nodes.now number ≡ None)
+        (λ node. slice_get nodes.now number ≡ Some node.now) }
+{
+    match nodes.get(number) {
+        Some(node) => Some(node),
+        None => None,
     }
 }
 

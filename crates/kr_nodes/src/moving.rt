@@ -30,7 +30,10 @@ impl Node {
             Move::Feed { .. } => self.feed(number, shared, steps),
             Move::Elect { epoch, now, .. } => self.elect(number, epoch, now, shared, steps),
             Move::Ask {
-                client, now, call, ..
+                client,
+                now,
+                call,
+                ..
             } => self.ask(number, client, now, call, shared, steps),
             Move::Tick { now, .. } => self.tick(number, now, shared, steps),
             Move::Settle { .. } => self.settle(number, shared),

@@ -38,8 +38,7 @@ impl Drop for Host {
     }
 }
 
-/// The controller's options in the session of a number.
-pub fn options(alloc: Global, seed: u32) -> Result<Options, NoMemory>
+fn options(alloc: Global, seed: u32) -> Result<Options, NoMemory>
     ensures options { IfOk result (λ o. o ≡ session.options seed) }
     ensures fits { IfOk result (λ o. IsTrue (are_options o)) }
 {

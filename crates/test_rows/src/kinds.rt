@@ -21,12 +21,10 @@ pub(crate) enum Kind {
     Fold,
     Dump,
     Balance,
-    Moves,
-    Nodes,
 }
 
 /// Each kind, with the word that its rows begin with.
-pub(crate) const KINDS: [(Kind, &str); 20] = [
+pub(crate) const KINDS: [(Kind, &str); 18] = [
     (Kind::Primitives, "primitives"),
     (Kind::Records, "records"),
     (Kind::Batches, "batches"),
@@ -45,8 +43,6 @@ pub(crate) const KINDS: [(Kind, &str); 20] = [
     (Kind::Fold, "fold"),
     (Kind::Dump, "dump"),
     (Kind::Balance, "balance"),
-    (Kind::Moves, "moves"),
-    (Kind::Nodes, "nodes"),
 ];
 
 impl Kind {

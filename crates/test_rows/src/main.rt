@@ -7,13 +7,10 @@ mod codecs;
 mod heartbeats;
 mod image_text;
 mod kinds;
-mod moves;
 mod partitions;
 mod places;
 mod rows;
 mod stores;
-mod tellings;
-mod walks;
 
 use kinds::{KINDS, Kind};
 use rows::answer;
@@ -37,7 +34,7 @@ enum Form {
 #[derive(Drop)]
 struct Tally {
     form: Form,
-    by_kind: [Counts; 20],
+    by_kind: [Counts; 18],
 }
 
 fn main(rt: HostRuntime) -> ExitCode {
@@ -47,7 +44,7 @@ fn main(rt: HostRuntime) -> ExitCode {
     };
     let mut tally = Tally {
         form,
-        by_kind: [Counts::NONE; 20],
+        by_kind: [Counts::NONE; 18],
     };
     compare_input(&rt, &mut tally)
 }

@@ -1,5 +1,5 @@
 -- What a move asks of its node, as the node and what is shared have it.
-use Rattle.std.specs.Prelude.{◌≡◌, ◌⊎◌, ◌<◌, ◌<ℤ◌, ℕ, ℤ, List, [], length, int_lt, is_some, Option, Some, None, true, false}
+use Rattle.std.specs.Prelude.{◌≡◌, ◌⊎◌, ◌<◌, ◌<ℤ◌, ℕ, ℤ, List, [], length, int_lt, is_some, Some, None, true, false}
 use Rattle.std.specs.List.{slice_get}
 use Rattle.std.specs.Ordering.{int_eq}
 use Rattle.law_nodes.specs.declared.moves.MoveFault.{MoveFault}
@@ -39,7 +39,7 @@ IsElectFault number epoch shared node fault =
     IsStandbyFault number node fault
     ⊎ ((node.engine.leading ≡ None) × (int_lt shared.elected epoch ≡ false) × (fault ≡ faults.OldEpoch epoch shared.elected))
     ⊎ ((node.engine.leading ≡ None) × (int_lt shared.elected epoch ≡ true) × (int_eq node.engine.committed shared.length ≡ false)
-        × (fault ≡ faults.Behind node.engine.committed shared.length))
+    × (fault ≡ faults.Behind node.engine.committed shared.length))
 
 -- ---- Settle
 

@@ -1,5 +1,5 @@
 -- What the image of one node's end makes of another.
-use Rattle.std.specs.Prelude.{◌≡◌, ◌⊎◌, ℕ, ℤ, pos, List, [], set, int_lt, is_some, IfSome, Option, Some, None, Ok, true, false}
+use Rattle.std.specs.Prelude.{◌≡◌, ◌⊎◌, ℕ, ℤ, pos, List, [], set, int_lt, IfSome, Some, None, Ok, true, false}
 use Rattle.std.specs.List.{slice_get}
 use Rattle.std.specs.Option.{unwrap_or}
 use Rattle.kr_batch.specs.declared.Batch.{Batch}
@@ -17,7 +17,7 @@ use Rattle.kr_store.specs.Images.{kept_at}
 use Rattle.law_nodes.specs.declared.moves.MoveFault.{MoveFault}
 use Rattle.law_nodes.specs.declared.moves.MoveFault.TheVariants as faults
 use Rattle.law_nodes.specs.Moves.{after_arrival, with_event}
-use Rattle.law_nodes.specs.Nodes.{Run, RunNode}
+use Rattle.law_nodes.specs.Nodes.{RunNode}
 use Rattle.kr_nodes.specs.declared.node.Node.{Node}
 use Rattle.kr_nodes.specs.declared.shared.Shared.{Shared}
 use Rattle.kr_nodes.specs.declared.told.ToldReply.{ToldReply}

@@ -1,5 +1,5 @@
 -- What becomes of the list as a batch joins it.
-use Rattle.std.specs.Prelude.{◌≡◌, ◌+ℤ◌, ◌≤ℤ◌, ◌<ℤ◌, ℤ, pos, ◌^◌, List, [], ◌∷◌, ◌++◌}
+use Rattle.std.specs.Prelude.{◌≡◌, ◌+ℤ◌, ◌≤ℤ◌, ◌<ℤ◌, pos, ◌^◌, [], ◌∷◌, ◌++◌}
 use Rattle.kr_nodes.specs.declared.shared.ListBatch.{ListBatch}
 use Rattle.kr_nodes.specs.declared.shared.Shared.{Shared}
 

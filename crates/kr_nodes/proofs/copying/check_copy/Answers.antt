@@ -1,4 +1,4 @@
-use Rattle.std.proofs.Common.{rules, w64, to_z, of_z, ◌≡◌, ◌∙◌, ap, subst, sym, inl, inr, ℤ, ℕ, List, refl, true, false}
+use Rattle.std.proofs.Common.{rules, w64, to_z, of_z, ◌≡◌, ◌∙◌, ap, subst, sym, inl, inr, ℤ, ℕ, refl, true, false}
 use Rattle.std.specs.Prelude.{MatchResult, Result, Err, int_lt}
 use Rattle.std.proofs.lemmas.Result.{err_from_is_err_and}
 use Rattle.law_nodes.specs.declared.moves.MoveFault.{MoveFault}

@@ -1,4 +1,4 @@
-use Rattle.std.proofs.Common.{◌≡◌, ℕ, List, length}
+use Rattle.std.proofs.Common.{length}
 use Rattle.std.specs.Prelude.{IsTrue}
 use Rattle.kr_model.specs.Engine.{outputs_left, writes_in_order}
 use Rattle.kr_nodes.specs.inner.Handing.{HandsPart, handed_over}

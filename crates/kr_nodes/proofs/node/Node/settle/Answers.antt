@@ -1,4 +1,4 @@
-use Rattle.std.proofs.Common.{◌≡◌, ◌∙◌, ap, sym, List, ◌∷◌}
+use Rattle.std.proofs.Common.{◌∙◌, ap, sym, List, ◌∷◌}
 use Rattle.kr_nodes.specs.declared.node.Node.{Node}
 use Rattle.kr_nodes.specs.declared.shared.ListBatch.{ListBatch}
 use Rattle.kr_nodes.specs.inner.Acting.{longer}
@@ -16,6 +16,6 @@ returns c =
       waiting = ap (λ (n : Node). n.pending.waiting) after ∙ ap (λ (n : Node). n.pending.waiting) popped;
       settled = ap (λ (n : Node). n.settled) after ∙ ap (λ (n : Node). longer n.settled c.in-Some.batch.count) popped;
       fed = ap (λ (n : Node). n.fed) after ∙ ap (λ (n : Node). n.fed) popped;
-      sent_is = ap (λ (n : Node). n.sent) after ∙ (c.len.ensures ∙ sym c.join.new.self.list.ok);
+      sent_is = ap (λ (n : Node). n.sent) after ∙ (c.len.ensures ∙ c.join.new.self.list.ok.0);
     })
     c.in_ok-join.ensures
