@@ -1,6 +1,6 @@
 //! Rounds of drawn moves.
 
-ghost use Rattle.std.specs.Prelude.{◌≡◌, ◌+◌, ◌<◌, ◌≤◌, ℕ, IfOk, IfErr, OnOk};
+ghost use Rattle.std.specs.Prelude.{◌≡◌, ◌+◌, ◌<◌, ◌≤◌, ℕ, IfOk, OnOk};
 ghost use Rattle.kr_drive.specs.Driving as driving;
 ghost use Rattle.kr_drive.specs.Driving.{Driven, nodes_summary};
 ghost use Rattle.kr_drive.specs.inner.Standing.{HasDriven, MayDrive, DrivesMove};

@@ -1,6 +1,6 @@
 //! What came of the moves.
 
-ghost use Rattle.std.specs.Prelude.{◌≡◌, ◌++◌, IfOk, OnOk, filter, length, string_bytes};
+ghost use Rattle.std.specs.Prelude.{◌≡◌, ◌+◌, ◌<◌, ◌^◌, ◌++◌, IfOk, OnOk, filter, length, string_bytes};
 ghost use Rattle.kr_workload.specs.Summary.{number_line};
 ghost use Rattle.kr_drive.specs.Driving as driving;
 ghost use Rattle.kr_drive.specs.inner.Standing as standing;
@@ -23,7 +23,7 @@ pub struct NodesSummary {
 
 // One more, where the reply tells of a write that stands.
 fn count_if_stands(count: usize, told: &ToldReply) -> usize
-    requires { count < 2 ^ 64 - 1 }
+    requires { count + 1 < 2 ^ 64 }
     ensures { result ≡ standing.counted count told.now }
 {
     if told.place != -1 { count + 1 } else { count }

@@ -1,6 +1,7 @@
 //! The move of a round.
 
-ghost use Rattle.std.specs.Prelude.{◌≡◌, ◌<◌, ◌≤◌, IfOk};
+ghost use Rattle.std.specs.Prelude.{◌≡◌, ◌<◌, ◌≤◌, IfOk, pos};
+ghost use Rattle.std.specs.Int.{int_max};
 ghost use Rattle.kr_nodes.specs.Standing.{IsWriteMove};
 ghost use Rattle.kr_drive.specs.Driving as driving;
 
@@ -10,12 +11,18 @@ use kr_nodes::Move;
 use kr_workload::note;
 use std::alloc::Global;
 
+// The number, or 0 where that is greater.
+fn natural(number: &i32) -> i32
+    ensures { result ≡ int_max number.now (pos 0) }
+{
+    if 0 < *number { *number } else { 0 }
+}
+
 // The epoch above each in which a node was elected.
 fn epoch_above(elected: &i32) -> i32
     ensures { result ≡ driving.epoch_above elected.now }
 {
-    let least = if *elected < 0 { 0 } else { *elected };
-    least.saturating_add(1)
+    natural(elected).saturating_add(1)
 }
 
 // A client sets the key `note` to the round's number.
