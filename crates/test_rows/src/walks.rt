@@ -3,6 +3,7 @@
 ghost use Rattle.std.specs.Prelude.{IfOk};
 ghost use Rattle.kr_nodes.specs.Standing.{IsReadyCluster, IsWriteMove};
 
+use crate::heartbeats::MOST_OPERATIONS;
 use crate::moves::{Asked, asked_of, outcome_text};
 use crate::tellings::add_told;
 use kr_drive::{drive, summary_text};
@@ -18,15 +19,31 @@ pub(crate) fn moves_row(alloc: Global, fields: &mut Fields) -> Result<String, Ro
     let salt: u32 = fields.number()?;
     let mut cluster = cluster_of(alloc, nodes, salt)?;
     let mut text = String::new(alloc);
-    while !fields.is_empty() {
-        fields.bar()?;
-        if !text.is_empty() {
-            text.push_str(" / ")?;
+    for _move in 0..MOST_OPERATIONS {
+        if fields.is_empty() {
+            break;
         }
-        let asked = asked_of(alloc, fields)?;
-        add_move(alloc, &mut cluster, asked, &mut text)?;
+        add_asked(alloc, &mut cluster, fields, &mut text)?;
     }
     Ok(text)
+}
+
+// A slash, and a move.
+fn add_asked(
+    alloc: Global,
+    cluster: &mut Cluster,
+    fields: &mut Fields,
+    text: &mut String,
+) -> Result<(), RowFault>
+    requires { IsReadyCluster cluster.old }
+    ensures { IsReadyCluster cluster.new }
+{
+    fields.bar()?;
+    if !text.is_empty() {
+        text.push_str(" / ")?;
+    }
+    let asked = asked_of(alloc, fields)?;
+    add_move(alloc, cluster, asked, text)
 }
 
 fn cluster_of(alloc: Global, nodes: u32, salt: u32) -> Result<Cluster, RowFault>
