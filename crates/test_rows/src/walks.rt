@@ -19,7 +19,7 @@ pub(crate) fn moves_row(alloc: Global, fields: &mut Fields) -> Result<String, Ro
     let salt: u32 = fields.number()?;
     let mut cluster = cluster_of(alloc, nodes, salt)?;
     let mut text = String::new(alloc);
-    for _move in 0..MOST_OPERATIONS {
+    for _ in 0..MOST_OPERATIONS {
         if fields.is_empty() {
             break;
         }
