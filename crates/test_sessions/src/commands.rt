@@ -93,7 +93,7 @@ fn other_words(rt: HostRuntime) -> Result<(), Fail> {
         );
         assert_eq!(rt;
             ran.notes.written(),
-            b"usage: kr_tool session | fold | dump | make N | balance P\n".as_slice(),
+            b"usage: kr_tool session | fold | dump | make N | nodes N | balance P\n".as_slice(),
             "of {words:?}"
         );
     }
