@@ -1,2 +1,3 @@
+pub mod Roles
 pub mod RecordAnswers
 pub mod TimelineMaps
