@@ -23,23 +23,24 @@ use Rattle.kr_defs.specs.Heartbeats as hearing
 use Rattle.kr_defs.specs.Heartbeats.{Heartbeats, expired}
 use Rattle.kr_defs.specs.Image.{Image}
 use Rattle.kr_defs.specs.ImageLaws.{as_items}
-use Rattle.kr_defs.specs.Log.{first_ill, tip}
+use Rattle.kr_defs.specs.Log.{tip}
+use Rattle.kr_defs.specs.LogStates.{first_ill_at}
 use Rattle.kr_defs.proofs.HeartbeatLists.{le_through}
 use Rattle.kr_defs.proofs.Tests.{Gives, both, gives_done, gives_refuse, gives_then, none_is, not_false}
 use Rattle.kr_snapshot.specs.Reading.{image_of}
 use Rattle.kr_model.specs.Commit.{commit, after_commit, is_end}
 use Rattle.kr_model.specs.Engine.{Rise}
 use Rattle.kr_model.specs.Events.{with_next_number, happens, time_after, outcome, state, at_time_of}
-use Rattle.kr_model.specs.Lead.{after_lead, lead, may_begin_at, up_to}
+use Rattle.kr_model.specs.Lead.{after_lead, giving_up, in_lead, lead, may_begin_at, taking_over, up_to}
 use Rattle.kr_model.specs.Lost.{after_lost, lost}
-use Rattle.kr_model.specs.World.{leads_in, State, World, image_of_tip, is_far, start, tip_of, with_batch, log_with}
+use Rattle.kr_model.specs.World.{leads_in, State, World, image_of_tip, is_far, start, state_of_tip, tip_of, with_batch, log_with}
 use Rattle.kr_model.specs.Outputs.{new_writes, waiting_writes, waiting_after, writes_from}
 use Rattle.kr_model.specs.Reasons as reasons
 use Rattle.kr_model.specs.Batch.{batch_or, end_of, batch, take_batch, after_batch, unless_ill}
 use Rattle.kr_model.specs.Load.{image_or, load, take_image, after_load}
 use Rattle.kr_model.specs.Request.{after_ask, after_write, decision, is_decided, request}
 use Rattle.kr_model.specs.Tick.{fence, fence_all, fencing_of, lapsed_contacts, tick}
-use Rattle.kr_model.proofs.DueWrites.{Goes, batch_leaves, event_goes}
+use Rattle.kr_model.proofs.DueWrites.{Goes, batch_leaves, event_goes, lead_leading}
 use Rattle.kr_model.proofs.Logs.{cut_tip, tip_written}
 use Rattle.kr_model.proofs.LongerLogs.{rise_more}
 use Rattle.kr_model.proofs.KeptImages.{not_higher}
@@ -132,10 +133,12 @@ module _ (options : Options) (s : State) (k : IsOrderly s) where
       gives_refuse P (reasons.already_leading s.world.leading) (is_some s.world.leading) _ (λ _. gives_refuse P (reasons.old_epoch epoch s.world.greatest) (not (int_lt s.world.greatest epoch)) _ (λ _.
       gives_refuse P (reasons.bad_next next (pos s.world.committed)) (not (may_begin_at s.world next)) _ (λ _. gives_refuse P (reasons.exhausted next) (is_far next) _ (λ _.
       let u : Rises (up_to s.world next) = rises_up_to s.world k.rises next (int_eq next (pos s.world.committed)) in
+      let led : World = (taking_over s epoch next).world in
+      let v : Rises (in_lead s epoch next) = rises_with_batch led (record { started = u.started; ends = u.ends }) (as_items (giving_up led)) in
       gives_done P (after_lead s epoch next) (record {
-        rises = record { started = u.started; ends = u.ends };
+        rises = record { started = v.started; ends = v.ends };
         natural = k.natural;
-        at_standby = λ none. absurd cc;
+        at_standby = λ none. absurd (let some = lead_leading s epoch next below in cc);
       })))))
 
   commits_on : (epoch end : ℤ) → Gives P (commit s epoch end)
@@ -176,7 +179,7 @@ module _ (options : Options) (s : State) (k : IsOrderly s) where
   follows_on bytes =
       gives_refuse P (reasons.already_leading s.world.leading) (is_some s.world.leading) _ (λ none. gives_then (λ (b : Batch). Unit {0}) P (batch_or (batch_of bytes)) (take_batch s) (λ _ _. tt) (λ batch _.
       gives_refuse P (reasons.gap (pos s.world.committed) batch.base) (not (int_eq batch.base (pos s.world.committed))) _ (λ _. gives_refuse P (reasons.exhausted (end_of batch)) (is_far (end_of batch)) _ (λ _.
-      ill_on batch (first_ill (image_of_tip s) (pos (tip_of s)) batch.items) (none_is s.world.leading none)))))
+      ill_on batch (first_ill_at (state_of_tip s) (tip_of s) batch.items) (none_is s.world.leading none)))))
 
   loads_on : (bytes : List ℕ) → Gives P (load s bytes)
   loads_on bytes =
@@ -266,7 +269,7 @@ module _ (options : Options) where
     s = state options past
 
     goes : Goes s.world (happens options s event).world
-    goes = event_goes options s event h.orderly.rises.ends
+    goes = event_goes options s event h.orderly.rises.started h.orderly.rises.ends
 
     known_then : AreKnown (happens options s event).world (writes_from options start past ++ new_writes options s event)
     known_then = known_later s.world (happens options s event).world _ goes.succeeds.greatest
