@@ -1,5 +1,5 @@
 import re,glob
-root='/work/transactions/crates/'
+root='/work/trans/crates/'
 files=glob.glob(root+'kr_rules/src/*.rt')+[root+'kr_brokers/src/expiry.rt']+glob.glob(root+'kr_topics/src/*.rt')+glob.glob(root+'kr_handlers/src/*.rt')
 n=0
 for f in files:

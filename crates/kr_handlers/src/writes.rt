@@ -54,6 +54,8 @@ pub fn decide<S: Store, L: Ledger>(
         (S.images store.old).made + weights (S.images store.old).tip effect.records) }
     ensures kept { (S.images store.new).kept ≡ (S.images store.old).kept }
     ensures calls { (S.images store.new).kept_made ≡ (S.images store.old).kept_made }
+    ensures begins { (S.images store.new).kept_begun ≡ (S.images store.old).kept_begun }
+    ensures settled { IsSettled (S.images store.old) → IsSettled (S.images store.new) }
     ensures later { steps.old ≤ steps.new }
 {
     match request {

@@ -185,6 +185,11 @@ pub record AreBegunFrom (images : Images) (epoch : ℤ) : Type 0 where
   pub tip : IfSome images.begun (λ begin. IsTrue (not (int_lt begin epoch)))
   pub kept : All (λ (b : ℤ × Option ℤ). IfSome b.1 (λ begin. IsTrue (not (int_lt begin epoch)))) (filter (λ (b : ℤ × Option ℤ). not (int_lt b.0 epoch)) images.kept_begun)
 
+-- no transaction is open at the tip, nor was at the last kept epoch
+pub record IsSettled (images : Images) : Type 0 where
+  pub tip : images.begun ≡ None
+  pub last : last_begun images ≡ None
+
 -- the epoch is above each kept one
 abbrev pub IsAbove : List (ℤ × Image) → ℤ → Type 0
 IsAbove kept epoch = All (λ (k : ℤ × Image). IsTrue (int_lt k.0 epoch)) kept
