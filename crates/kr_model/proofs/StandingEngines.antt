@@ -92,6 +92,7 @@ start_state = record {
   started = omega arith;
   settled = ap (λ o. unwrap_or o 0) (none_open_at_start 0 empty 0);
   ends = refl;
+  begun = tt;
   low = omega arith;
   at_standby = λ none. (refl, refl);
   decided = λ some. absurd (never some);

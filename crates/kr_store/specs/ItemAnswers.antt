@@ -66,8 +66,9 @@ AppliesAt before after result place item =
 abbrev pub calls_to_undo : Images → ℕ
 calls_to_undo images = option_map_or (λ (begin : ℤ). calls_of (above images begin) + images.made) images.begun 0
 
--- the calls that the item makes at most: an abort makes those of its transaction once more
+-- the calls that the item makes at most: a begin makes none, and an abort those of its transaction once more
 abbrev pub calls_at : Images → Item → ℕ
+calls_at images (items.Record (kinds.BeginTransaction name)) = 0
 calls_at images (items.Record (kinds.AbortTransaction reason)) = calls_to_undo images
 calls_at images item = weight images.tip item
 
