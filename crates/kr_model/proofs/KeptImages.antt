@@ -18,7 +18,7 @@ use Rattle.kr_defs.proofs.IdLists.{id_itself}
 use Rattle.kr_model.specs.declared.writes.Write.{Write}
 use Rattle.kr_model.specs.Engine.{Rise, kept_image}
 use Rattle.kr_model.specs.Outputs.{is_open}
-use Rattle.kr_model.specs.World.{seen_at}
+use Rattle.kr_model.specs.World.{seen_at, seen_state}
 use Rattle.kr_model.proofs.Places.{is_below, isnt_below}
 
 -- ---- the image at the end
@@ -27,14 +27,40 @@ seen_first : (r : Result LogState Ill) (next : LogState → Result LogState Ill)
 seen_first (Ok state) next after is = refl
 seen_first (Err cause) next after is = absurd cc
 
--- each place below the tip has an image
+kept_first : (r : Result LogState Ill) (next : LogState → Result LogState Ill) (after : Image) → state_image (and_then r next) ≡ Ok after → r ≡ Ok (result_unwrap_or r (closed empty))
+kept_first (Ok state) next after is = refl
+kept_first (Err cause) next after is = absurd cc
+
+-- the items below a place and those behind it
+parted_at : (log : Log) (place : ℕ) → and_then (apply_all_at (closed log.image) log.offset (take (place - log.offset) log.items)) (λ (s : LogState). apply_all_at s (log.offset + length (take (place - log.offset) log.items)) (drop (place - log.offset) log.items)) ≡ state_at log (tip log)
+parted_at log place =
+    let n = place - log.offset in
+    sym (states_append (take n log.items) (drop n log.items) (closed log.image) log.offset)
+    ∙ (ap (λ (xs : List Item). apply_all_at (closed log.image) log.offset xs) (take-append-drop n log.items) ∙ sym (state_at_tip log))
+
+-- each place below the tip has a state
+pub state_below : (log : Log) (place : ℕ) (image : Image) → image_at log (tip log) ≡ Ok image → state_at log place ≡ Ok (seen_state log place)
+unfolding image_at state_at
+state_below log place image is =
+    let n = place - log.offset in
+    kept_first (apply_all_at (closed log.image) log.offset (take n log.items)) (λ (s : LogState). apply_all_at s (log.offset + length (take n log.items)) (drop n log.items)) image
+    (ap state_image (parted_at log place) ∙ is)
+
+image_in : (r : Result LogState Ill) → (result_unwrap_or r (closed empty)).image ≡ result_unwrap_or (state_image r) empty
+image_in (Ok state) = refl
+image_in (Err cause) = refl
+
+pub image_of_seen : (log : Log) (place : ℕ) → (seen_state log place).image ≡ seen_at log place
+unfolding image_at
+image_of_seen log place = image_in (state_at log place)
+
+-- and an image
 pub seen_below : (log : Log) (place : ℕ) (image : Image) → image_at log (tip log) ≡ Ok image → image_at log place ≡ Ok (seen_at log place)
 unfolding image_at state_at
 seen_below log place image is =
     let n = place - log.offset in
     seen_first (apply_all_at (closed log.image) log.offset (take n log.items)) (λ (s : LogState). apply_all_at s (log.offset + length (take n log.items)) (drop n log.items)) image
-    (ap state_image (sym (states_append (take n log.items) (drop n log.items) (closed log.image) log.offset)
-    ∙ (ap (λ (xs : List Item). apply_all_at (closed log.image) log.offset xs) (take-append-drop n log.items) ∙ sym (state_at_tip log))) ∙ is)
+    (ap state_image (parted_at log place) ∙ is)
 
 -- ---- what is kept
 

@@ -6,6 +6,7 @@ pub mod EventsWithoutWrites
 mod Examples
 pub mod FencedBrokers
 pub mod KeptImages
+pub mod Leaderships
 pub mod LoadedImages
 pub mod LogEntries
 pub mod Logs

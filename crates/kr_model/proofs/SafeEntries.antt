@@ -45,6 +45,7 @@ use Rattle.kr_model.specs.Tick.{fence, fence_all, fencing_of, lapsed_contacts, t
 use Rattle.kr_model.proofs.Logs.{as_records, apply_append, tip_written}
 use Rattle.kr_model.proofs.LogEntries.{batch_written, behind, cut_behind, none_behind, placed_both}
 use Rattle.kr_model.proofs.LongerLogs.{present_then}
+use Rattle.kr_model.proofs.Leaderships.{control_if, lead_written}
 
 -- ---- records as entries
 
@@ -182,9 +183,6 @@ module _ (exchange : Option Exchange) (s : State) (event : Event) (image : Image
   refused_row false reason r safe = safe
 
 -- what a new leadership adds: an item of the quorum's own, and the record that gives up an open transaction
-abbrev control_if : Bool → List Item
-control_if b = cond b [] (items.Control ∷ [])
-
 abbrev abort_if : Bool → List Record
 abort_if c = cond c (kinds.AbortTransaction None ∷ []) []
 
@@ -194,19 +192,6 @@ lead_items_safe image place true true = (tt, tt)
 lead_items_safe image place true false = tt
 lead_items_safe image place false true = (tt, (tt, tt))
 lead_items_safe image place false false = (tt, tt)
-
-up_to_written : (w : World) (b : Bool) → (cond b w (with_batch w (items.Control ∷ []))).log ≡ log_with w.log (control_if b)
-up_to_written w true = ap (λ (is : List Item). record w.log { items = is }) (sym (append-nil w.log.items))
-up_to_written w false = batch_written w (items.Control ∷ [])
-
-lead_written : (s : State) (epoch next : ℤ) → (in_lead s epoch next).log ≡ log_with s.world.log (control_if (int_eq next (pos s.world.committed)) ++ as_items (giving_up (taking_over s epoch next).world))
-lead_written s epoch next =
-    let led : World = (taking_over s epoch next).world in
-    let xs : List Item = control_if (int_eq next (pos s.world.committed)) in
-    let ys : List Item = as_items (giving_up led) in
-    batch_written led ys
-    ∙ (ap (λ (l : Log). log_with l ys) (up_to_written s.world (int_eq next (pos s.world.committed)))
-    ∙ ap (λ (is : List Item). record s.world.log { items = is }) (append_assoc s.world.log.items xs ys))
 
 safe_none : (exchange : Option Exchange) (image : Image) (place : ℤ) (items : List Item) → items ≡ [] → AreSafeEntries exchange image (item_entries place items)
 safe_none exchange image place items none = subst (λ (is : List Item). AreSafeEntries exchange image (item_entries place is)) (sym none) tt

@@ -49,9 +49,12 @@ seen_at log place = result_unwrap_or (image_at log place) empty
 abbrev pub tip_of : State → ℕ
 tip_of s = tip s.world.log
 
--- the state of the items below the tip
+-- the state of the items below the place: their image, and the transaction that is open there
+abbrev pub seen_state : Log → ℕ → LogState
+seen_state log place = result_unwrap_or (state_at log place) (closed empty)
+
 abbrev pub state_of_tip : State → LogState
-state_of_tip s = result_unwrap_or (state_at s.world.log (tip_of s)) (closed empty)
+state_of_tip s = seen_state s.world.log (tip_of s)
 
 abbrev pub image_of_tip : State → Image
 image_of_tip s = seen_at s.world.log (tip_of s)
