@@ -5,6 +5,7 @@ ghost use Rattle.kr_calls.specs.Deciding.{weights};
 ghost use Rattle.kr_calls.specs.declared.calls.Reply.TheVariants as replies;
 ghost use Rattle.kr_handlers.specs.Decided.{decided_in};
 ghost use Rattle.kr_rules.specs.Handlers.{IsAtPlace};
+ghost use Rattle.kr_store.specs.Images.{IsSettled};
 
 use kr_base::{NoMemory, Steps};
 use kr_brokers::{BrokerHeartbeatHandler, BrokerRegistrationHandler, UnregisterBrokerHandler};

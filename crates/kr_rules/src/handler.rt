@@ -5,6 +5,7 @@ ghost use Rattle.kr_defs.specs.Image.{Image};
 ghost use Rattle.kr_sessions.specs.declared.context.Context.{Context as Given};
 ghost use Rattle.kr_calls.specs.declared.calls.Reply.{Reply};
 ghost use Rattle.kr_calls.specs.Deciding.{Work, weights};
+ghost use Rattle.kr_store.specs.Images.{IsSettled};
 ghost use Rattle.kr_rules.specs.Handlers.{IsAtPlace};
 
 use kr_base::{NoMemory, Steps};
