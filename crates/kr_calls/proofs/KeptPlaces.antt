@@ -1,6 +1,6 @@
 -- What is kept of a list of entries, and what stays of it.
 use Rattle.std.proofs.Common.{◌≡◌, ℤ, pos, Bool, true, false, true≢false, ◌&&◌, ◌||◌, cond, not, ◌==◌, List, [], ◌∷◌, ◌++◌, fold, filter, refl, sym, ap, ◌∙◌, subst, append_assoc, append-nil, arith}
-use Rattle.std.specs.Prelude.{◌+ℤ◌, int_lt, unsigned_abs, IsTrue, Option, Result, Ok, Err}
+use Rattle.std.specs.Prelude.{◌+ℤ◌, int_lt, unsigned_abs, Option, Result, Ok, Err}
 use Rattle.std.specs.List.{AllByRecursion, list_any}
 use Rattle.std.specs.Ordering.{int_eq}
 use Rattle.std.proofs.lemmas.Bool.{and_parts}
@@ -17,7 +17,7 @@ use Rattle.kr_calls.specs.declared.events.Entry.{Entry}
 use Rattle.kr_calls.specs.declared.events.Entry.TheVariants as entries
 use Rattle.kr_calls.specs.declared.pins.Pin.{Pin}
 use Rattle.kr_calls.specs.Deciding.{apply_records}
-use Rattle.kr_calls.specs.SeatList.{PinnedLog, Reached, end_of, image_below, is_below, is_kept_in, is_load, is_pinned, is_same_pin, nothing_pinned, nothing_reached, pinned_log, pinned_with, pins_in, pins_of, pins_with, reached, reached_with, with_image, with_pin, with_state, without_pin}
+use Rattle.kr_calls.specs.SeatList.{PinnedLog, Reached, end_of, image_below, is_below, is_load, is_pinned, is_same_pin, nothing_pinned, nothing_reached, pinned_log, pinned_with, pins_in, pins_of, pins_with, reached, reached_with, with_image, with_state, without_pin}
 use Rattle.kr_calls.specs.SeatListLaws.{EndImages, KeptImagesStay, PinImages, PinsStay, unpins}
 
 -- ---- the end rises

@@ -8,7 +8,7 @@ use Rattle.kr_defs.specs.LogStates.{LogState, apply_all_at}
 use Rattle.kr_calls.specs.declared.events.Entry.{Entry}
 use Rattle.kr_calls.specs.declared.events.Entry.TheVariants as entries
 use Rattle.kr_calls.specs.declared.pins.Pin.{Pin}
-use Rattle.kr_calls.specs.SeatList.{Reached, end_of, image_below, image_of, is_kept_in, is_load, is_pinned, is_same_pin, item_entries, pinned_log, pins_of, reached_with}
+use Rattle.kr_calls.specs.SeatList.{end_of, image_below, image_of, is_kept_in, is_load, is_pinned, is_same_pin, item_entries, pinned_log, pins_of, reached_with}
 
 -- Items one behind the other from the end on, which all have a meaning and a place, all count: the state is what they make of it
 -- one after the other, and the end is behind the last of them.
