@@ -9,7 +9,7 @@ use Rattle.kr_calls.specs.declared.events.Entry.{Entry}
 use Rattle.kr_calls.specs.declared.events.Entry.TheVariants as entries
 use Rattle.kr_calls.specs.declared.pins.Pin.{Pin}
 use Rattle.kr_calls.specs.SeatList.{PinnedLog, Reached, with_item, with_load}
-use Rattle.kr_store.specs.Images.{Images, IsAbove, kept_at, kept_once, last_begun, last_kept}
+use Rattle.kr_store.specs.Images.{Images, IsAbove, kept_at, kept_once, last_kept}
 
 -- the image, where all records had a meaning
 abbrev pub StandsIf : Bool → Result Image Ill → Image → Type 0
@@ -57,13 +57,24 @@ pub record IsStandingAt (store : Images) (end : ℤ) (pins : List Pin) : Type 0 
   pub begun : store.kept_begun ≡ earlier_begun ++ (end, store.begun) ∷ []
   pub in_turn : AreInTurn store.kept_begun
 
--- in a run, at a place, which is above the kept epochs, or the last of them, with the present state
+-- a place is the last kept epoch, under which the present state is kept
+pub record IsLastKept (store : Images) (at : ℤ) : Type 0 where
+  pub last : last_kept store ≡ Some (at, store.tip)
+  pub earlier_begun : List (ℤ × Option ℤ)
+  pub begun : store.kept_begun ≡ earlier_begun ++ (at, store.begun) ∷ []
+
+-- in a run, at a place, which is above the kept epochs, or the last of them
 pub record IsRunningAt (store : Images) (at : ℤ) : Type 0 where
   pub some : IsSome (last_kept store)
-  pub place : IsAbove store.kept at ⊎ ((last_kept store ≡ Some (at, store.tip)) × (last_begun store ≡ store.begun))
+  pub place : IsAbove store.kept at ⊎ IsLastKept store at
   pub from : int_lt (negsuc 0) at ≡ true
   pub natural : AreNatural store.kept
   pub in_turn : AreInTurn (store.kept_begun ++ (at, store.begun) ∷ [])
+
+-- a run came to a place: it stands where it stood, or above all that is kept
+pub record ComesTo (before after : Images) (from to : ℤ) : Type 0 where
+  pub running : IsRunningAt after to
+  pub moved : ((to ≡ from) × (after ≡ before)) ⊎ IsAbove after.kept to
 
 -- what was kept is kept, and besides what came in a run
 pub record KeepsMore (before after : Images) : Type 0 where

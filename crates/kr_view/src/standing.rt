@@ -5,13 +5,13 @@ ghost use Rattle.kr_defs.specs.declared.limits.TheConstants.{PLACES_END as place
 ghost use Rattle.kr_defs.specs.Image.{empty};
 ghost use Rattle.kr_calls.specs.Deciding.{apply_records};
 ghost use Rattle.kr_calls.specs.SeatList.{is_new_pin, is_place_kept, lower, nothing_pinned, oldest_place, pinned_with, with_item, with_load, with_pin, without_pin};
-ghost use Rattle.kr_store.specs.Images.{AreBegunFrom, AreValid, kept_at, kept_once, last_kept, reverted, tip_state};
+ghost use Rattle.kr_store.specs.Images.{AreBegunFrom, AreValid, IsAbove, kept_at, kept_once, last_kept, marked, reverted, tip_state};
 ghost use Rattle.kr_store.specs.ItemAnswers.{AppliesAt, MayStand};
 ghost use Rattle.kr_store.specs.declared.places.At.TheVariants as places;
 ghost use Rattle.kr_view.specs.Pinned.{kept_image_at, log_in};
 ghost use Rattle.kr_view.specs.Runs.{AreNoSingles, is_single};
 ghost use Rattle.kr_view.specs.Scans.{HasCopy, IsNotThere, IsOfCopy};
-ghost use Rattle.kr_view.specs.Standing.{IsRunningAt, IsStandingAt, KeepsMore, Loads, StandsIf, run_with, with_run};
+ghost use Rattle.kr_view.specs.Standing.{ComesTo, IsRunningAt, IsStandingAt, KeepsMore, Loads, StandsIf, run_with, with_run};
 ghost use Rattle.kr_view.specs.Steps.{entries_of};
 
 use crate::pins::Pins;
@@ -66,7 +66,6 @@ fn apply_at<L: Ledger>(
 
 // Applies an item, where it counts, and keeps besides the place of a begin. It answers the end. Without memory the state is
 // one that was kept.
-#[tactic(auto, using(crate::proofs::OpenTransactions::items))]
 fn apply_item<L: Ledger>(
     store: &mut ImageStore,
     end: &i64,
@@ -76,7 +75,7 @@ fn apply_item<L: Ledger>(
 ) -> Result<i64, NoMemory>
     requires runs { IsRunningAt store.old end.now }
     ensures ok { IfOk result (λ next. record { state = tip_state store.new; end = next } ≡ with_item (record { state = tip_state store.old; end = end.now }) place.now item.now) }
-    ensures runs { IfOk result (IsRunningAt store.new) }
+    ensures comes { IfOk result (ComesTo store.old store.new end.now) }
     ensures kept { KeepsMore store.old store.new }
 {
     if *place != *end || *place >= PLACES_END {
@@ -90,7 +89,6 @@ fn apply_item<L: Ledger>(
 }
 
 // Applies the items of a run. It answers the end. Without memory the state is one that was kept.
-#[tactic(auto, using(crate::proofs::OpenTransactions::entries))]
 fn apply_run<L: Ledger>(
     store: &mut ImageStore,
     end: &i64,
@@ -99,7 +97,7 @@ fn apply_run<L: Ledger>(
 ) -> Result<i64, NoMemory>
     requires runs { IsRunningAt store.old end.now }
     ensures ok { IfOk result (λ next. record { state = tip_state store.new; end = next } ≡ fold run_with (record { state = tip_state store.old; end = end.now }) entries.now) }
-    ensures runs { IfOk result (IsRunningAt store.new) }
+    ensures comes { IfOk result (ComesTo store.old store.new end.now) }
     ensures kept { KeepsMore store.old store.new }
 {
     let mut at = *end;
@@ -114,24 +112,37 @@ fn apply_run<L: Ledger>(
 // Makes the state that was kept at the end the present one.
 fn go_back<L: Ledger>(store: &mut ImageStore, end: &i64, steps: &mut Steps<L>)
     requires { IsSome (kept_at store.old end.now) }
-    ensures { reverted store.old end.now ≡ Some store.new }
+    ensures back { reverted store.old end.now ≡ Some store.new }
+    ensures valid { AreValid store.old }
 {
+    let _counts = store.counts();
     if store.revert(*end, steps).is_err() {
         unreachable!();
     }
 }
 
+// Keeps the present state at the end.
+fn keep(store: &mut ImageStore, end: &i64) -> Result<(), NoMemory>
+    requires { IsAbove store.old.kept end.now }
+    ensures ok { OnOk result (store.new ≡ marked store.old end.now) }
+    ensures err { OnErr result (store.new ≡ store.old) }
+    ensures valid { AreValid store.old }
+{
+    let _counts = store.counts();
+    store.mark(*end)
+}
+
 // The oldest epoch that is needed: that of the oldest place, or of the begin of the transaction that was open there.
-#[tactic(auto, using(crate::proofs::OpenTransactions::oldest))]
 fn oldest_needed(store: &ImageStore, pins: &Pins, end: &i64) -> i64
     requires { IsStandingAt store.now end.now pins.now }
     ensures low { int_lt (fold lower end.now pins.now) result ≡ false }
     ensures begun { AreBegunFrom store.now result }
 {
     let oldest = pins.oldest(end);
+    let _counts = store.counts();
     match store.open_at(at_epoch(&oldest)) {
-        Ok(Some(begin)) => begin,
-        Ok(None) | Err(NoEpoch) => oldest,
+        Ok(begin) => begin.unwrap_or(oldest),
+        Err(NoEpoch) => oldest,
     }
 }
 
@@ -146,7 +157,6 @@ fn forget<L: Ledger>(store: &mut ImageStore, pins: &Pins, end: &i64, steps: &mut
 
 // Applies the items of a run, and keeps the state at its end, besides those of the pins. It answers the end. Without memory
 // nothing changes.
-#[tactic(auto, using(crate::proofs::Kept::runs))]
 fn advance<L: Ledger>(
     store: &mut ImageStore,
     pins: &Pins,
@@ -166,10 +176,9 @@ fn advance<L: Ledger>(
         return Err(NoMemory);
     };
     if next == *end {
-        go_back(store, end, steps);
         return Ok(next);
     }
-    if let Err(NoMemory) = store.mark(next) {
+    if let Err(NoMemory) = keep(store, &next) {
         go_back(store, end, steps);
         return Err(NoMemory);
     }
