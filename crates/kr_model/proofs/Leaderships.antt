@@ -67,7 +67,7 @@ module _ (w : World) (state : LogState) (is : state_at w.log (tip w.log) ≡ Ok 
       ap (λ (l : Log). state_at l (tip l)) (batch_written w (as_items (giving_up w)))
       ∙ (state_written w.log (as_items (giving_up w)) state is ∙ given_up)
 
-state_up_to : (w : World) (state : LogState) (b : Bool) → state_at w.log (tip w.log) ≡ Ok state
+pub state_up_to : (w : World) (state : LogState) (b : Bool) → state_at w.log (tip w.log) ≡ Ok state
     → state_at (cond b w (with_batch w (items.Control ∷ []))).log (tip (cond b w (with_batch w (items.Control ∷ []))).log) ≡ Ok state
 unfolding apply
 state_up_to w state true is = is
@@ -79,6 +79,13 @@ module _ (s : State) (epoch next : ℤ) (state : LogState) (is : state_at s.worl
   -- the state at the tip behind a leadership that begins
   pub lead_state : state_at (in_lead s epoch next).log (tip (in_lead s epoch next).log) ≡ Ok (closed (image_left state))
   lead_state = state_given_up (taking_over s epoch next).world state (state_up_to s.world state (int_eq next (pos s.world.committed)) is)
+
+  -- where nothing is open, nothing is given up
+  pub none_given_up : state.opened ≡ None → giving_up (taking_over s epoch next).world ≡ []
+  none_given_up none =
+      let led : World = (taking_over s epoch next).world in
+      ap (λ (o : Option ℕ). cond (is_some o) (kinds.AbortTransaction None ∷ []) [])
+      (sym (open_told led.log (tip led.log) state (state_up_to s.world state (int_eq next (pos s.world.committed)) is)) ∙ ap (λ (o : Option Opened). option_map (λ (x : Opened). x.place) o) none)
 
   pub lead_open : open_at (in_lead s epoch next).log (tip (in_lead s epoch next).log) ≡ None
   lead_open = sym (open_told (in_lead s epoch next).log (tip (in_lead s epoch next).log) (closed (image_left state)) lead_state)

@@ -1,5 +1,6 @@
 pub mod AllEvents
 pub mod ContactTimes
+pub mod CoveredEnds
 pub mod DueWrites
 pub mod EventOutcomes
 pub mod EventsWithoutWrites
@@ -19,6 +20,7 @@ pub mod RightReplies
 pub mod SafeEntries
 pub mod SoundEngines
 pub mod StandingEngines
+pub mod TransactionWeights
 pub mod UnfencedBrokers
 pub mod WaitingWrites
 pub mod Weights

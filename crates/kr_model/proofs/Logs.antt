@@ -1,6 +1,7 @@
 -- A log that is written on, or cut.
 use Rattle.std.proofs.Common.{◌≡◌, ◌∙◌, sym, ℕ, zero, suc, take, ◌+◌, ◌-◌, ◌≤◌, List, [], ◌∷◌, ◌++◌, length, refl, ap, arith}
-use Rattle.std.specs.Prelude.{None, Result, Ok, Err}
+use Rattle.std.specs.Prelude.{None, Option, Result, Some, Ok, Err}
+use Rattle.std.specs.Option.{option_map, option_map_or}
 use Rattle.std.specs.Result.{result_unwrap_or}
 use Rattle.std.proofs.lemmas.List.{take-append-le, take-take, take_all, length-append, length-take}
 use Rattle.kr_calls.specs.Deciding.{apply_records}
@@ -9,9 +10,9 @@ use Rattle.kr_defs.specs.declared.ill.Ill.{Ill}
 use Rattle.kr_defs.specs.Apply.{apply, apply_record}
 use Rattle.kr_defs.specs.Guard.{and_then}
 use Rattle.kr_defs.specs.Image.{Image, empty}
-use Rattle.kr_defs.specs.Log.{Log, tip, apply_all, image_at, state_image, open_at, state_at}
-use Rattle.kr_defs.specs.LogStates.{LogState, apply_all_at, apply_at, closed, first_ill_at, ill_at_or, open_behind_all}
-use Rattle.kr_defs.proofs.StateLogs.{apply_append as states_append, ok_is, open_append, open_told, plain_all, state_at_tip}
+use Rattle.kr_defs.specs.Log.{Log, closed_end_at, tip, apply_all, image_at, state_image, open_at, state_at}
+use Rattle.kr_defs.specs.LogStates.{LogState, Opened, apply_all_at, apply_at, closed, first_ill_at, ill_at_or, open_behind_all}
+use Rattle.kr_defs.proofs.StateLogs.{apply_append as states_append, closed_end_told, ok_is, open_append, open_stands, open_told, plain_all, state_at_tip}
 use Rattle.kr_defs.specs.declared.record.Record.{Record}
 use Rattle.kr_defs.specs.ImageLaws.{as_items}
 use Rattle.kr_model.specs.Lost.{cut}
@@ -75,6 +76,15 @@ pub open_still : (log : Log) (items : List Item) (state : LogState) (image : Ima
 open_still log items state image is means =
     sym (open_told (log_with log items) (tip (log_with log items)) (record state { image = image }) (state_written log items state is ∙ plain_all items state (tip log) image means))
     ∙ open_told log (tip log) state is
+
+-- nothing is open at a closed end
+none_open_by : (log : Log) (place : ℕ) (state : LogState) (opened : Option Opened) → state_at log place ≡ Ok state → state.opened ≡ opened → open_at log (option_map_or (λ (o : Opened). o.place) opened place) ≡ None
+none_open_by log place state None is none = sym (open_told log place state is) ∙ ap (λ (o : Option Opened). option_map (λ (x : Opened). x.place) o) none
+none_open_by log place state (Some opened) is some =
+    sym (open_told log opened.place (closed opened.image) (open_stands log place state opened is some).there)
+
+pub closed_end_closed : (log : Log) (place : ℕ) (state : LogState) → state_at log place ≡ Ok state → open_at log (closed_end_at log place) ≡ None
+closed_end_closed log place state is = ap (open_at log) (sym (closed_end_told log place state is)) ∙ none_open_by log place state state.opened is refl
 
 -- ---- the image at the tip, and below it
 

@@ -1,9 +1,9 @@
 -- The weights of a log that gets longer; and the steps of going back to the committed end.
 use Rattle.std.proofs.Common.{◌≡◌, ◌∙◌, sym, ℕ, suc, ℤ, pos, ◌+◌, ◌*◌, ◌-◌, ◌≤◌, ◌<◌, Bool, true, false, cond, List, [], ◌∷◌, ◌++◌, length, filter, refl, ap, subst, arith}
-use Rattle.std.specs.Prelude.{◌||◌, Result, Ok, Err, int_lt, not, sum_by, take, unsigned_abs}
+use Rattle.std.specs.Prelude.{◌||◌, Result, Ok, Err, drop, int_lt, not, sum_by, take, unsigned_abs}
 use Rattle.std.specs.List.{list_any}
 use Rattle.std.specs.Ordering.{int_eq}
-use Rattle.std.proofs.lemmas.List.{take-append-le, take_all}
+use Rattle.std.proofs.lemmas.List.{append-nil, take-append-drop, take-append-le, take-take, take_all}
 use Rattle.std.proofs.lemmas.List.Sums.{sum_by-cons}
 use Rattle.kr_calls.specs.Deciding.{apply_records, weight_then, weights}
 use Rattle.kr_defs.specs.declared.ill.Ill.{Ill}
@@ -24,6 +24,7 @@ use Rattle.kr_defs.proofs.IdLists.{same_id}
 use Rattle.kr_store.specs.Images.{Images, above, below, calls_of, forgotten, oldest_from, oldest_unmade}
 use Rattle.kr_model.specs.Engine.{Rise}
 use Rattle.kr_model.specs.Weights.{AreWeighed, IsWeighed, item_weights, since_begin, steps_for, weight_behind, weight_below, weight_between, weight_of_state}
+use Rattle.kr_model.specs.Lost.{cut}
 use Rattle.kr_model.specs.World.{log_with}
 use Rattle.kr_model.proofs.KeptImages.{not_higher}
 use Rattle.kr_model.proofs.Places.{all_above, is_below, isnt_below, moves}
@@ -60,6 +61,21 @@ weights_append (x ∷ xs) ys since state place =
 
 pub weight_longer : (log : Log) (items : List Item) (place : ℕ) → place ≤ tip log → weight_below (log_with log items) place ≡ weight_below log place
 weight_longer log items place low = ap (λ (xs : List Item). item_weights 0 (closed log.image) log.offset xs) (take-append-le (place - log.offset) log.items items (omega arith))
+
+-- what stands further up weighs no less
+pub weights_rise : (log : Log) (low high : ℕ) → low ≤ high → weight_below log low ≤ weight_below log high
+weights_rise log low high le =
+    let all : List Item = take (high - log.offset) log.items in
+    let xs : List Item = take (low - log.offset) log.items in
+    let ys : List Item = drop (low - log.offset) all in
+    let parted : xs ++ ys ≡ all =
+    ap (λ (front : List Item). front ++ ys) (sym (take-take (low - log.offset) (high - log.offset) log.items (omega (arith, le)))) ∙ take-append-drop (low - log.offset) all in
+    let sum = weights_append xs ys 0 (closed log.image) log.offset in
+    subst (λ (is : List Item). item_weights 0 (closed log.image) log.offset xs ≤ item_weights 0 (closed log.image) log.offset is) parted (omega (arith, sum))
+
+-- and stays so where the log is cut above
+weight_cut : (log : Log) (end place : ℕ) → place ≤ end → weight_below (cut log end) place ≡ weight_below log place
+weight_cut log end place low = ap (λ (xs : List Item). item_weights 0 (closed log.image) log.offset xs) (take-take (place - log.offset) (end - log.offset) log.items (omega (arith, low)))
 
 whole : (log : Log) → weight_below log (tip log) ≡ item_weights 0 (closed log.image) log.offset log.items
 whole log = ap (λ (xs : List Item). item_weights 0 (closed log.image) log.offset xs) (take_all (tip log - log.offset) log.items (omega arith))
@@ -150,7 +166,7 @@ all_weighed log before from (n ∷ ns) to (m ∷ ms) rise least are =
 
 -- ---- going back
 
-fewer_calls : (q : ℤ × ℕ → Bool) (ms : List (ℤ × ℕ)) → calls_of (filter q ms) ≤ calls_of ms
+pub fewer_calls : (q : ℤ × ℕ → Bool) (ms : List (ℤ × ℕ)) → calls_of (filter q ms) ≤ calls_of ms
 fewer_calls q [] = omega arith
 fewer_calls q (m ∷ ms) =
     let rest : calls_of (filter q ms) ≤ calls_of ms = fewer_calls q ms in
@@ -189,6 +205,37 @@ none_above log before first (n ∷ covered) committed (m ∷ lower) upper rise a
     ap (λ b. cond b (m ∷ rest) rest) (ap (λ z. int_lt (pos committed) z) are.0 ∙ isnt_below committed n (not_higher n covered committed rise.1))
     ∙ none_above log (weight_below log n) n covered committed lower upper rise.1 are.2
 
+-- and all of them are left
+all_left : (log : Log) (before first : ℕ) (covered : List ℕ) (committed : ℕ) (lower upper : List (ℤ × ℕ)) → Rise first covered committed → AreWeighed log before covered lower
+    → filter (λ (m : ℤ × ℕ). not (int_lt (pos committed) m.0)) (lower ++ upper) ≡ lower ++ filter (λ (m : ℤ × ℕ). not (int_lt (pos committed) m.0)) upper
+all_left log before first [] committed [] upper rise are = refl
+all_left log before first [] committed (m ∷ lower) upper rise are = absurd are
+all_left log before first (n ∷ covered) committed [] upper rise are = absurd are
+all_left log before first (n ∷ covered) committed (m ∷ lower) upper rise are =
+    let rest : List (ℤ × ℕ) = filter (λ (m : ℤ × ℕ). not (int_lt (pos committed) m.0)) (lower ++ upper) in
+    ap (λ b. cond (not b) (m ∷ rest) rest) (ap (λ z. int_lt (pos committed) z) are.0 ∙ isnt_below committed n (not_higher n covered committed rise.1))
+    ∙ ap (λ (xs : List (ℤ × ℕ)). m ∷ xs) (all_left log (weight_below log n) n covered committed lower upper rise.1 are.2)
+
+none_left : (log : Log) (before least from : ℕ) (ends : List ℕ) (to : ℕ) (ms : List (ℤ × ℕ)) → least ≤ from → Rise from ends to → AreWeighed log before ends ms
+    → filter (λ (m : ℤ × ℕ). not (int_lt (pos least) m.0)) ms ≡ []
+none_left log before least from [] to [] low rise are = refl
+none_left log before least from [] to (m ∷ ms) low rise are = absurd are
+none_left log before least from (n ∷ ends) to [] low rise are = absurd are
+none_left log before least from (n ∷ ends) to (m ∷ ms) low rise are =
+    let up : from < n = rise.0 in
+    let rest : List (ℤ × ℕ) = filter (λ (m : ℤ × ℕ). not (int_lt (pos least) m.0)) ms in
+    ap (λ b. cond (not b) (m ∷ rest) rest) (ap (λ z. int_lt (pos least) z) are.0 ∙ is_below least n (omega (arith, up, low)))
+    ∙ none_left log (weight_below log n) least n ends to ms (omega (arith, up, low)) rise.1 are.2
+
+weighed_cut : (log : Log) (end before from : ℕ) (ns : List ℕ) (ms : List (ℤ × ℕ)) → Rise from ns end → AreWeighed log before ns ms → AreWeighed (cut log end) before ns ms
+weighed_cut log end before from [] [] rise are = tt
+weighed_cut log end before from [] (m ∷ ms) rise are = absurd are
+weighed_cut log end before from (n ∷ ns) [] rise are = absurd are
+weighed_cut log end before from (n ∷ ns) (m ∷ ms) rise are =
+    let same : weight_below (cut log end) n ≡ weight_below log n = weight_cut log end n (not_higher n ns end rise.1) in
+    let here : m.1 + before ≤ weight_below log n = are.1 in
+    (are.0, omega (arith, here, same), subst (λ b. AreWeighed (cut log end) b ns ms) (sym same) (weighed_cut log end (weight_below log n) n ns ms rise.1 are.2))
+
 module _ (images : Images) (log : Log) (first before committed : ℕ) (covered ends : List ℕ) (to : ℕ) (is : IsWeighed images log first before (covered ++ ends)) (settled : Rise first covered committed) (rise : Rise committed ends to) (same : covered ≡ [] → before ≡ weight_below log committed) where
   parts : Parted log before covered committed ends is.rest
   parts = parted log before first covered committed ends is.rest settled same is.each
@@ -217,6 +264,22 @@ module _ (images : Images) (log : Log) (first before committed : ℕ) (covered e
       let none : images.made ≡ 0 = is.unmade in
       omega (arith, bound, sum, many, calls, long, none)
 
+  -- what is left, in a log that is cut there
+  pub lost_weighed : (after : Images) → after.made ≡ 0 → after.kept_made ≡ filter (λ (m : ℤ × ℕ). not (int_lt (pos committed) m.0)) images.kept_made → IsWeighed after (cut log committed) first before covered
+  lost_weighed after unmade kept =
+      let q : ℤ × ℕ → Bool = λ m. not (int_lt (pos committed) m.0) in record {
+        unmade = unmade;
+        rest = parts.lower;
+        counted =
+            kept
+            ∙ (ap (λ (ms : List (ℤ × ℕ)). filter q ms) (is.counted ∙ ap (λ (ms : List (ℤ × ℕ)). (pos first, 0) ∷ ms) parts.both)
+            ∙ (ap (λ b. cond (not b) ((pos first, 0) ∷ filter q (parts.lower ++ parts.upper)) (filter q (parts.lower ++ parts.upper))) first_below
+            ∙ (ap (λ (ms : List (ℤ × ℕ)). (pos first, 0) ∷ ms) (all_left log before first covered committed parts.lower parts.upper settled parts.under)
+            ∙ (ap (λ (ms : List (ℤ × ℕ)). (pos first, 0) ∷ parts.lower ++ ms) (none_left log (weight_below log committed) committed committed ends to parts.upper (omega arith) rise parts.over)
+            ∙ ap (λ (ms : List (ℤ × ℕ)). (pos first, 0) ∷ ms) (append-nil parts.lower)))));
+        each = weighed_cut log committed before first covered parts.lower settled parts.under;
+      }
+
 -- ---- a batch behind the others
 
 pub weighed_behind : (images after : Images) (log : Log) (items : List Item) (state : LogState) (first before : ℕ) (ends : List ℕ) (n made : ℕ) → IsWeighed images log first before ends
@@ -238,6 +301,7 @@ record Forgets (log : Log) (from before : ℕ) (ns : List ℕ) (count : ℕ) (ms
   -- what stands up to the end weighs so much: all below it, where that holds of the first place too
   weight : ℕ
   weighs : (end ≡ pos from → before ≡ weight_below log from) → weight ≡ weight_below log (unsigned_abs end)
+  stays : end ≡ pos from → weight ≡ before
   left : filter (λ (m : ℤ × ℕ). not (int_lt m.0 end)) ((pos from, count) ∷ ms) ≡ (end, last) ∷ rest
   each : AreWeighed log weight (filter (λ n. int_lt end (pos n)) ns) rest
   calls : calls_of (filter (λ (m : ℤ × ℕ). int_lt m.0 end) ((pos from, count) ∷ ms)) + last + before ≤ count + weight
@@ -289,6 +353,7 @@ module _ (log : Log) (to : ℕ) where
         rest = ms;
         weight = before;
         weighs = λ same. same refl;
+        stays = λ _. refl;
         left =
             ap (λ b. cond (not b) ((pos from, count) ∷ made_from (pos from) ms) (made_from (pos from) ms)) (isnt_below from from (omega arith))
             ∙ ap (λ rest. (pos from, count) ∷ rest) (all_from from from before ns ms (omega arith) rise are);
@@ -311,6 +376,7 @@ module _ (log : Log) (to : ℕ) where
         rest = f.rest;
         weight = f.weight;
         weighs = λ _. f.weighs (λ _. refl);
+        stays = λ same. let first : unsigned_abs end ≡ from = ap unsigned_abs same in absurd (omega (arith, up, high, first));
         left = ap (λ b. cond (not b) ((pos from, count) ∷ made_from end (m ∷ ms)) (made_from end (m ∷ ms))) low ∙ (ap (made_from end) (sym same) ∙ f.left);
         each = subst (λ above. AreWeighed log f.weight above f.rest) (sym (ap (λ b. cond b (n ∷ ends_above end ns) (ends_above end ns)) under)) f.each;
         calls = subst (λ (xs : List (ℤ × ℕ)). calls_of xs + f.last + before ≤ count + f.weight) (sym dropped)
@@ -351,6 +417,9 @@ module _ (images : Images) (log : Log) (first before : ℕ) (ends : List ℕ) (t
 
   pub weight_told : (end ≡ pos first → before ≡ weight_below log first) → weight_up_to ≡ weight_below log (unsigned_abs end)
   weight_told same = gone.weighs same
+
+  pub weight_stays : end ≡ pos first → weight_up_to ≡ before
+  weight_stays same = gone.stays same
 
   pub commit_weighed : IsWeighed (forgotten images end) log (unsigned_abs end) weight_up_to (filter (λ n. int_lt end (pos n)) ends)
   commit_weighed = record {
