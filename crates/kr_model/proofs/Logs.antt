@@ -1,6 +1,6 @@
 -- A log that is written on, or cut.
 use Rattle.std.proofs.Common.{◌≡◌, ◌∙◌, sym, ℕ, zero, suc, take, ◌+◌, ◌-◌, ◌≤◌, List, [], ◌∷◌, ◌++◌, length, refl, ap, arith}
-use Rattle.std.specs.Prelude.{None, Option, Result, Some, Ok, Err}
+use Rattle.std.specs.Prelude.{None, Option, Result, Some, Ok, Err, unwrap_or}
 use Rattle.std.specs.Option.{option_map, option_map_or}
 use Rattle.std.specs.Result.{result_unwrap_or}
 use Rattle.std.proofs.lemmas.List.{take-append-le, take-take, take_all, length-append, length-take}
@@ -62,6 +62,9 @@ open_written_below log items place below = ap (λ (xs : List Item). open_behind_
 pub open_cut_below : (log : Log) (end place : ℕ) → place ≤ end → open_at (cut log end) place ≡ open_at log place
 unfolding open_at
 open_cut_below log end place below = ap (λ (xs : List Item). open_behind_all None log.offset xs) (take-take (place - log.offset) (end - log.offset) log.items (omega arith))
+
+pub closed_cut_below : (log : Log) (end place : ℕ) → place ≤ end → closed_end_at (cut log end) place ≡ closed_end_at log place
+closed_cut_below log end place below = ap (λ (o : Option ℕ). unwrap_or o place) (open_cut_below log end place below)
 
 none_begun : (n offset : ℕ) → open_behind_all None offset (take n []) ≡ None
 none_begun zero offset = refl

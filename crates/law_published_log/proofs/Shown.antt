@@ -63,15 +63,15 @@ longer log end list items low h =
       items = subst (HaveItems list (pos log.offset)) (sym (take-append-le (end - log.offset) log.items items (omega (arith, low)))) h.items;
     }
 
--- ---- a log that is cut where the list ends
+-- ---- a log that is cut where the list ends, or above
 
-shorter : (log : Log) (end : ℕ) (list : List Entry) → Shows log end list → Shows (cut log end) end list
-shorter log end list h =
-    let same : (place : ℕ) → place ≤ end → seen_at log place ≡ seen_at (cut log end) place = λ place up. ap image_or_empty (sym (cut_below log end place up)) in record {
-      whole = h.whole ∙ ap (λ (s : LogState). record { state = s; end = pos end }) (ap state_or_none (sym (state_cut_below log end end (omega arith))));
+shorter : (log : Log) (end cuts : ℕ) (list : List Entry) → end ≤ cuts → Shows log end list → Shows (cut log cuts) end list
+shorter log end cuts list low h =
+    let same : (place : ℕ) → place ≤ end → seen_at log place ≡ seen_at (cut log cuts) place = λ place up. ap image_or_empty (sym (cut_below log cuts place (omega (arith, low, up)))) in record {
+      whole = h.whole ∙ ap (λ (s : LogState). record { state = s; end = pos end }) (ap state_or_none (sym (state_cut_below log cuts end low)));
       low = h.low;
       images = λ place started up. h.images place started up ∙ same place up;
-      items = subst (HaveItems list (pos log.offset)) (sym (take-take (end - log.offset) (end - log.offset) log.items (omega arith))) h.items;
+      items = subst (HaveItems list (pos log.offset)) (sym (take-take (end - log.offset) (cuts - log.offset) log.items (omega (arith, low)))) h.items;
     }
 
 -- ---- the items up to a later place

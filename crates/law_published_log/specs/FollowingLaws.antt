@@ -32,8 +32,8 @@ pub record ShownLogsGoOn : Type 0 where
   pub further : (log : Log) (end later : ℕ) (list : List Entry) (image : Image)
       → image_at log (tip log) ≡ Ok image → tip log ≤ unsigned_abs PLACES_END → log.offset ≤ end → end ≤ later → later ≤ tip log
       → Shows log end list → Shows log later (list ++ item_entries (pos end) (take (later - end) (items_from log end)))
-  -- the log that is cut there
-  pub cut : (log : Log) (end : ℕ) (list : List Entry) → Shows log end list → Shows (cut log end) end list
+  -- the log that is cut there, or above
+  pub cut : (log : Log) (end place : ℕ) (list : List Entry) → end ≤ place → Shows log end list → Shows (cut log place) end list
   -- with an image in place of all, the log that starts from it
   pub loaded : (log : Log) (end offset : ℕ) (list : List Entry) (image : Image) (records : List Record)
       → end ≤ offset → offset < unsigned_abs PLACES_END → apply_records empty records ≡ Ok image
