@@ -1,8 +1,7 @@
 //! The kinds of records.
 
-ghost use Rattle.std.specs.Prelude.{◌≡◌, ◌≢◌, ◌++◌, OnErr, OnOk};
+ghost use Rattle.std.specs.Prelude.{◌≡◌, ◌≢◌, ◌++◌, OnOk};
 ghost use Rattle.kr_defs.specs.declared.record.Record.TheVariants as variants;
-ghost use Rattle.kr_layout.specs.Answers.{Begins};
 ghost use Rattle.kr_record.specs.Answers.{GivesFront};
 ghost use Rattle.kr_record.specs.Encodable.{IsEncodable, IsHeld};
 ghost use Rattle.kr_record.specs.Reading.{kind_at, layout_at, served_at};
@@ -258,11 +257,10 @@ fn read_version<P: Parts>(
     Ok(P::read(from, version)?)
 }
 
-/// Appends the record's written form. Without memory what there was stays, and perhaps more behind it.
+/// Appends the record's written form. Without memory some front of it may be appended.
 pub fn append(value: &Record, out: &mut Vec<u8>) -> Result<(), NoMemory>
     requires { IsEncodable value.now }
-    ensures ok { OnOk result (out.new.items ≡ out.old.items ++ record_value value.now) }
-    ensures err { OnErr result (Begins out.old.items out.new.items) }
+    ensures { OnOk result (out.new.items ≡ out.old.items ++ record_value value.now) }
 {
     if let Record::PartitionChange {
         index,
@@ -280,8 +278,7 @@ pub fn append(value: &Record, out: &mut Vec<u8>) -> Result<(), NoMemory>
 #[inline(never)]
 fn append_any(value: &Record, out: &mut Vec<u8>) -> Result<(), NoMemory>
     requires { IsEncodable value.now }
-    ensures ok { OnOk result (out.new.items ≡ out.old.items ++ record_value value.now) }
-    ensures err { OnErr result (Begins out.old.items out.new.items) }
+    ensures { OnOk result (out.new.items ≡ out.old.items ++ record_value value.now) }
 {
     each_kind!(writing(value, out))
 }
@@ -293,9 +290,8 @@ fn put_partition_change(
     change: &PartitionChange,
     out: &mut Vec<u8>,
 ) -> Result<(), NoMemory>
-    ensures ok { OnOk result (out.new.items ≡
+    ensures { OnOk result (out.new.items ≡
         out.old.items ++ record_value (variants.PartitionChange index topic change.now)) }
-    ensures err { OnErr result (Begins out.old.items out.new.items) }
 {
     each_kind!(writing_change(index, topic, change, out))
 }
@@ -303,9 +299,7 @@ fn put_partition_change(
 // The frame version, the key and the version of a record, and what stands in it.
 #[tactic(auto, unfolding(crate::specs::Spelling::framed))]
 fn put_kind<P: Pieces>(out: &mut Vec<u8>, key: u32, version: u32, parts: &P) -> Result<(), NoMemory>
-    ensures ok { OnOk result (out.new.items ≡
-        out.old.items ++ (framed key version ++ P.bytes parts.now)) }
-    ensures err { OnErr result (Begins out.old.items out.new.items) }
+    ensures { OnOk result (out.new.items ≡ out.old.items ++ (framed key version ++ P.bytes parts.now)) }
 {
     put_uvarint(out, 1)?;
     put_uvarint(out, key)?;
