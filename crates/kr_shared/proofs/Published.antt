@@ -1,7 +1,6 @@
 -- What is published of a log that went on, and what is kept behind the closed end.
 use Rattle.std.proofs.Common.{◌≡◌, ◌∙◌, sym, subst, ℕ, zero, suc, ℤ, pos, Bool, true, false, cond, ◌+◌, ◌-◌, ◌≤◌, ◌<◌, List, [], ◌∷◌, ◌++◌, take, drop, length, refl, ap, arith}
 use Rattle.std.specs.Prelude.{◌+ℤ◌, filter, not, unsigned_abs, Ok}
-use Rattle.std.proofs.Math.Seq.{take-add}
 use Rattle.std.proofs.lemmas.Int.{ints}
 use Rattle.std.proofs.lemmas.List.{append_assoc, append-nil, drop-append-le, drop-drop, drop-take, drop_all, length-drop, length-take, take_all}
 use Rattle.kr_calls.specs.declared.events.Entry.{Entry}
@@ -144,21 +143,13 @@ module _ (log : Log) (end later : ℕ) (list : List Entry) (started : log.offset
   abbrev between : List Item
   between = take (later - end) (items_from log end)
 
-  cut_items : take (later - log.offset) log.items ≡ take (end - log.offset) log.items ++ between
-  cut_items = ap (λ n. take n log.items) (let e : later - log.offset ≡ (end - log.offset) + (later - end) = omega (arith, up, started) in e) ∙ take-add (end - log.offset) (later - end) log.items
-
-  cut_again : shorter ≡ log_with (cut log end) between
-  cut_again = ap (λ (is : List Item). record log { items = is }) cut_items
-
   cut_left : items_from shorter end ≡ between
   cut_left =
       ap (λ n. drop (end - log.offset) (take n log.items)) (let e : later - log.offset ≡ (end - log.offset) + (later - end) = omega (arith, up, started) in e)
       ∙ drop-take (end - log.offset) (later - end) log.items
 
   still_shows : Shows log end list → Shows shorter end list
-  still_shows shows =
-      let n = length-take (end - log.offset) log.items in
-      subst (λ (g : Log). Shows g end list) (sym cut_again) (shown_logs_go_on.longer (cut log end) end list between (omega (arith, n, started, low)) (shown_logs_go_on.cut log end list shows))
+  still_shows shows = shown_logs_go_on.cut log end later list up shows
 
   pub left_is : filter (is_below (pos later)) (item_entries (pos end) (items_from log end)) ++ [] ≡ item_entries (pos end) (items_from shorter end)
   left_is =

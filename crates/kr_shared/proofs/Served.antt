@@ -100,6 +100,9 @@ module _ (old : DeskView) (between : Core) (event : Event) (told : List Told) (s
   pub stands : IsEngine between next later
   stands = t.emptied.stands next later mid
 
+  pub next_committed : between.committed ≡ pos next.world.committed
+  next_committed = stands.committed
+
   fresh : between.fresh ≡ log_entries o s event
   fresh = t.emptied.fresh ∙ t.step.fresh s writes k.engine
 
@@ -122,7 +125,7 @@ module _ (old : DeskView) (between : Core) (event : Event) (told : List Told) (s
         started = first;
         low = omega (arith, second, low);
         committed = second;
-        rises = (event_goes o s event k.engine.is_state.ends).closed;
+        rises = (event_goes o s event k.engine.is_state.started k.engine.is_state.ends).closed;
         within = omega (arith, third, low_then);
         few = mid.is_state.low;
         few_before = k.engine.is_state.low;

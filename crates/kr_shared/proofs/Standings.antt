@@ -24,7 +24,7 @@ use Rattle.kr_model.specs.Outputs.{waiting_after}
 use Rattle.kr_model.specs.World.{World, closed_of, log_with}
 use Rattle.kr_model.proofs.DueWrites.{event_goes}
 use Rattle.kr_model.proofs.KeptImages.{not_higher}
-use Rattle.kr_model.proofs.Logs.{none_open_at_start, open_cut_below}
+use Rattle.kr_model.proofs.Logs.{closed_cut_below, none_open_at_start}
 use Rattle.kr_model.proofs.StandingEngines.{tip_only}
 use Rattle.law_published_log.specs.Following.{Shows}
 use Rattle.law_published_log.specs.FollowingLaws.{log_from}
@@ -89,7 +89,7 @@ module _ (w after : World) (list fresh : List Entry) (f : Rests w after) (shows 
   pub closed_stays : Shorter w after → closed_of after ≡ closed_of w
   closed_stays c =
       ap (λ (x : Log × ℕ). closed_end_at x.0 x.1) (λ i. (c.cuts i, c.same i))
-      ∙ ap (λ o. unwrap_or o w.committed) (open_cut_below w.log w.committed w.committed (omega arith))
+      ∙ closed_cut_below w.log w.committed w.committed (omega arith)
 
   pub shorter_added : Shorter w after → fresh ≡ [] → Publishes after.log (closed_of after) list added
   shorter_added c is =

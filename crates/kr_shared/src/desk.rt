@@ -174,6 +174,7 @@ fn stage_below(
 }
 
 // What stands behind the last entry below the end goes.
+#[tactic(auto, using(crate::proofs::Dropped::dropping))]
 fn drop_behind(entries: &mut VecDeque<Entry>, end: &i64)
     ensures { entries.new.items ≡ up_to_below end.now entries.old.items }
 {

@@ -4,12 +4,11 @@ use Rattle.std.specs.List.{AllByRecursion}
 use Rattle.kr_defs.specs.declared.ill.Ill.{Ill}
 use Rattle.kr_defs.specs.declared.record.Record.{Record}
 use Rattle.kr_defs.specs.Image.{Image}
-use Rattle.kr_defs.specs.LogStates.{closed}
 use Rattle.kr_calls.specs.declared.events.Entry.{Entry}
 use Rattle.kr_calls.specs.declared.events.Entry.TheVariants as entries
 use Rattle.kr_calls.specs.declared.pins.Pin.{Pin}
 use Rattle.kr_calls.specs.SeatList.{PinnedLog, Reached, with_item, with_load}
-use Rattle.kr_store.specs.Images.{Images, IsAbove, kept_at, kept_once, last_kept}
+use Rattle.kr_store.specs.Images.{Images, IsAbove, kept_at, kept_once, last_kept, tip_state}
 
 -- the image, where all records had a meaning
 abbrev pub StandsIf : Bool → Result Image Ill → Image → Type 0
@@ -86,4 +85,4 @@ pub record KeepsMore (before after : Images) : Type 0 where
 -- the store of an image in place of all at the offset, and none where it doesn't count
 abbrev pub Loads : Reached → ℤ → List Record → Option Images → Type 0
 Loads r offset records None = with_load r offset records ≡ r
-Loads r offset records (Some store) = (with_load r offset records ≡ record { state = closed store.tip; end = offset }) × (store ≡ kept_once offset store.tip) × (int_lt (negsuc 0) offset ≡ true)
+Loads r offset records (Some store) = (with_load r offset records ≡ record { state = tip_state store; end = offset }) × (store ≡ kept_once offset store.tip) × (int_lt (negsuc 0) offset ≡ true)
