@@ -37,7 +37,7 @@ use Rattle.kr_engine.specs.inner.Batch.{AppliesOrReverts, batch_reason, core_aft
 use Rattle.kr_model.specs.Weights.{AreWeighed}
 use Rattle.kr_model.specs.World.{State, image_of_tip, is_far, seen_at, tip_of, log_with}
 use Rattle.kr_model.proofs.Places.{near}
-use Rattle.kr_engine.proofs.LeadSteps.{no_writes, none_row}
+use Rattle.kr_engine.proofs.LeadSteps.{no_writes}
 use Rattle.kr_model.proofs.LongerLogs.{present_then, seen_then}
 use Rattle.kr_model.proofs.LogEntries.{behind}
 use Rattle.kr_model.proofs.Logs.{means_unless_ill, tip_written}
@@ -45,7 +45,7 @@ use Rattle.kr_model.proofs.Queues.{IsDrained, drained, never}
 use Rattle.kr_model.proofs.StandingEngines.{same_image, tip_only, core_of, is_core}
 use Rattle.kr_engine.proofs.StandbyOutcomes.{settled_step}
 use Rattle.kr_model.proofs.EventsWithoutWrites.{answers_then, held_then, waits_then}
-use Rattle.kr_engine.proofs.FirstReasons.{IsAccepted, row, unless_refused}
+use Rattle.kr_engine.proofs.FirstReasons.{IsAccepted, none_row, row, unless_refused}
 
 -- ---- items that are applied, or not
 

@@ -30,6 +30,7 @@ use Rattle.law_safety.proofs.FencingSizes.{fencings_fit}
 use Rattle.law_safety.specs.HearingLaws.{HearsOf}
 use Rattle.kr_store.specs.Images.{AreValid, IsAbove, marked}
 use Rattle.kr_model.specs.declared.writes.Write.{Write}
+use Rattle.kr_engine.proofs.FirstReasons.{none_row}
 use Rattle.kr_engine.specs.inner.Changes.{BreaksOff, counted_core, timed_core}
 use Rattle.kr_model.specs.Engine.{Core, IsEngine, IsSound, IsStep, outputs_left}
 use Rattle.kr_model.specs.Entries.{item_entries}
@@ -41,7 +42,6 @@ use Rattle.kr_model.specs.Tick as worlds
 use Rattle.kr_model.specs.Tick.{fencing_of}
 use Rattle.kr_model.specs.World.{State, is_far, tip_of}
 use Rattle.kr_engine.specs.inner.Append.{Fences, Writes, core_after_append, batch_at, place_behind}
-use Rattle.kr_engine.proofs.LeadSteps.{none_row}
 use Rattle.kr_engine.proofs.FencingSteps.{fence_stands, fence_stays}
 use Rattle.kr_engine.proofs.ReadyEngines as engines_ready
 use Rattle.kr_model.proofs.StandingEngines.{same_image}

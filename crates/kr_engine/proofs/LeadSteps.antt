@@ -38,12 +38,8 @@ use Rattle.kr_model.proofs.KeptImages.{none_open}
 use Rattle.kr_model.proofs.Queues.{IsDrained, drained}
 use Rattle.kr_model.proofs.StandingEngines.{same_image, tip_only, core_of, is_core}
 use Rattle.kr_model.proofs.EventsWithoutWrites.{answers_then, held_then, timed_state, waits_then}
-use Rattle.kr_engine.proofs.FirstReasons.{IsAccepted, row, step_by, unless_refused}
+use Rattle.kr_engine.proofs.FirstReasons.{IsAccepted, none_row, row, step_by, unless_refused}
 use Rattle.kr_model.proofs.Places.{near}
-
-pub none_row : {X : Type 0} (b : Bool) (x : X) (o : Option X) → cond b (Some x) o ≡ None → (b ≡ false) × (o ≡ None)
-none_row true x o is = absurd cc
-none_row false x o is = (refl, is)
 
 -- an item of the quorum's own has no meaning
 one_control : (image : Image) → apply_all image (items.Control ∷ []) ≡ Ok image

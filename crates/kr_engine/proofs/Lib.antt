@@ -1,5 +1,6 @@
 pub mod AppendSteps
 pub mod BatchSteps
+pub mod ClosedEnds
 pub mod CommitSteps
 pub mod EventBatches
 pub mod FencingSteps
@@ -7,6 +8,8 @@ pub mod Fencings
 pub mod FirstContacts
 pub mod FirstReasons
 pub mod ImageSteps
+pub mod ItemSteps
+pub mod KeptPlaces
 pub mod LeadSteps
 pub mod LoadSteps
 pub mod LostSteps

@@ -25,12 +25,12 @@ use Rattle.kr_engine.specs.inner.Load.{load_reason, core_after_read_image, read_
 use Rattle.kr_model.specs.World.{State, is_far, seen_at}
 use Rattle.kr_model.proofs.LoadedImages.{IsLoadable, loaded_valid}
 use Rattle.kr_model.proofs.Places.{near}
-use Rattle.kr_engine.proofs.LeadSteps.{no_writes, none_row}
+use Rattle.kr_engine.proofs.LeadSteps.{no_writes}
 use Rattle.kr_engine.proofs.BatchSteps.{leads_not}
 use Rattle.kr_model.proofs.Queues.{IsDrained, drained}
 use Rattle.kr_engine.proofs.StandbyOutcomes.{settled_step}
 use Rattle.kr_model.proofs.EventsWithoutWrites.{answers_then, held_then, waits_then}
-use Rattle.kr_engine.proofs.FirstReasons.{IsAccepted, row, unless_refused}
+use Rattle.kr_engine.proofs.FirstReasons.{IsAccepted, none_row, row, unless_refused}
 use Rattle.kr_model.proofs.StandingEngines.{core_of, is_core}
 
 is_natural : (z : ℤ) (n : ℕ) → int_lt z (pos n) ≡ false → z ≡ pos (unsigned_abs z)

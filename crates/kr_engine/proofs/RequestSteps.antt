@@ -51,11 +51,10 @@ use Rattle.kr_model.proofs.LogEntries.{Gains, batch_written, gained, gains_none}
 use Rattle.kr_engine.proofs.AppendSteps.{IsLonger, engine_behind, longer_by}
 use Rattle.kr_model.proofs.ContactTimes.{AreInTime, decided_in_time}
 use Rattle.kr_model.proofs.EventsWithoutWrites.{answers_then, held_then, passes}
-use Rattle.kr_engine.proofs.FirstReasons.{IsAccepted, accepted_step, row, unless_refused}
+use Rattle.kr_engine.proofs.FirstReasons.{IsAccepted, accepted_step, none_row, row, unless_refused}
 use Rattle.kr_model.proofs.StandingEngines.{is_core, same_image}
 use Rattle.kr_model.proofs.WriteOrders.{reached_later, all_behind, all_open, all_reached, order_more}
 use Rattle.kr_engine.proofs.ImageSteps.{committed_found}
-use Rattle.kr_engine.proofs.LeadSteps.{none_row}
 use Rattle.kr_model.proofs.Queues.{IsDrained, drained}
 use Rattle.kr_engine.proofs.Refusals.{refused_step}
 use Rattle.kr_engine.proofs.TickSteps.{counted_engine, timed_engine}

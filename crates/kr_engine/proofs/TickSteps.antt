@@ -26,14 +26,13 @@ use Rattle.kr_model.specs.Reasons.{exhausted}
 use Rattle.kr_engine.specs.inner.Tick.{FencesAll, SettlesTick, lapsed_contacts, tick_reason}
 use Rattle.kr_model.specs.Tick.{fence_all, lapsed_contacts as lapsed_in, tick}
 use Rattle.kr_model.specs.World.{State, is_far, tip_of}
-use Rattle.kr_engine.proofs.LeadSteps.{none_row}
 use Rattle.kr_model.proofs.LogEntries.{gained, gains_none}
 use Rattle.kr_engine.proofs.FencingSteps.{AllFenced, all_fenced, stays_itself}
 use Rattle.kr_model.proofs.Queues.{IsDrained, drained}
 use Rattle.kr_model.proofs.StandingEngines.{same_image, core_of, is_core}
 use Rattle.kr_engine.proofs.Refusals.{refused_step}
 use Rattle.kr_model.proofs.EventsWithoutWrites.{counted_state, held_then, timed_state}
-use Rattle.kr_engine.proofs.FirstReasons.{IsAccepted, accepted_step, row, unless_refused}
+use Rattle.kr_engine.proofs.FirstReasons.{IsAccepted, accepted_step, none_row, row, unless_refused}
 use Rattle.kr_model.proofs.Places.{near_enough}
 
 -- ---- at most 1,000 sessions end
