@@ -10,10 +10,12 @@ pub mod FirstReasons
 pub mod ImageSteps
 pub mod ItemSteps
 pub mod KeptPlaces
+pub mod KeptStates
 pub mod LeadSteps
 pub mod LoadSteps
 pub mod LostSteps
 pub mod NewEngines
+pub mod OpenTransactions
 pub mod ReadyEngines
 pub mod Refusals
 pub mod RequestDecisions
