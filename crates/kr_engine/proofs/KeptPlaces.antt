@@ -106,7 +106,7 @@ all_from c from (n ∷ ns) to low rise =
     ap (λ b. cond (not b) (n ∷ from_on c ns) (from_on c ns)) (isnt_below n c (omega (arith, up, low)))
     ∙ ap (λ rest. n ∷ rest) (all_from c n ns to (omega (arith, up, low)) rise.1)
 
-none_up_to : (c from : ℕ) (ns : List ℕ) (to : ℕ) → c ≤ from → Rise from ns to → up_to c ns ≡ []
+pub none_up_to : (c from : ℕ) (ns : List ℕ) (to : ℕ) → c ≤ from → Rise from ns to → up_to c ns ≡ []
 none_up_to c from [] to low rise = refl
 none_up_to c from (n ∷ ns) to low rise =
     let up = rise.0 in

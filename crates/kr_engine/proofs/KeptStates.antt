@@ -584,7 +584,7 @@ settled_low log state place is low =
       | Some begin ↦ λ some. weights_rise log (begin + 1) (tip log) (let below = begun_below log place state begin is some in omega (arith, below, low))
     ] refl
 
-settled_high : (log : Log) (place : ℕ) → weight_below log (closed_end_at log place) ≤ weight_settled log place
+pub settled_high : (log : Log) (place : ℕ) → weight_below log (closed_end_at log place) ≤ weight_settled log place
 settled_high log place =
     elim (open_at log place) as (λ o. weight_below log (unwrap_or o place) ≤ option_map_or (λ (begin : ℕ). weight_below log (begin + 1)) o (weight_below log place)) [
       | None ↦ omega arith

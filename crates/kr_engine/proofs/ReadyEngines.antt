@@ -73,7 +73,7 @@ still_before (Some c) time now le is = le_through c.time time now is le
 nats_le : (m n : ℕ) → m ≤ n → pos m ≤ℤ pos n
 nats_le m n le = omega (arith, ints)
 
-closed_of_places : (o : Option ℕ) (place : ℕ) → unwrap_or (option_map (λ (n : ℕ). pos n) o) (pos place) ≡ pos (unwrap_or o place)
+pub closed_of_places : (o : Option ℕ) (place : ℕ) → unwrap_or (option_map (λ (n : ℕ). pos n) o) (pos place) ≡ pos (unwrap_or o place)
 closed_of_places None place = refl
 closed_of_places (Some n) place = refl
 

@@ -74,7 +74,7 @@ weights_rise log low high le =
     subst (λ (is : List Item). item_weights 0 (closed log.image) log.offset xs ≤ item_weights 0 (closed log.image) log.offset is) parted (omega (arith, sum))
 
 -- and stays so where the log is cut above
-weight_cut : (log : Log) (end place : ℕ) → place ≤ end → weight_below (cut log end) place ≡ weight_below log place
+pub weight_cut : (log : Log) (end place : ℕ) → place ≤ end → weight_below (cut log end) place ≡ weight_below log place
 weight_cut log end place low = ap (λ (xs : List Item). item_weights 0 (closed log.image) log.offset xs) (take-take (place - log.offset) (end - log.offset) log.items (omega (arith, low)))
 
 whole : (log : Log) → weight_below log (tip log) ≡ item_weights 0 (closed log.image) log.offset log.items
