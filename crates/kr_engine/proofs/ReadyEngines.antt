@@ -20,13 +20,11 @@ use Rattle.kr_calls.specs.NextBasis.{broker_is_stopping}
 use Rattle.kr_defs.proofs.HeartbeatLists.{le_through}
 use Rattle.law_safety.specs.HearingLaws.{HearsOf}
 use Rattle.law_safety.proofs.BrokerTests.{by_get}
-use Rattle.kr_store.specs.Images.{AreBegunFrom, AreValid, IsSettled, begun_at, begun_under}
+use Rattle.kr_store.specs.Images.{AreValid, IsSettled, begun_at, begun_under}
 use Rattle.kr_model.specs.declared.writes.Write.{Write}
 use Rattle.kr_model.specs.Engine.{Core, IsEngine, IsSound}
 use Rattle.kr_engine.specs.inner.Changes.{cleared_core}
 use Rattle.kr_engine.specs.inner.Ready.{IsReady}
-use Rattle.kr_engine.specs.inner.Settled.{closed_behind}
-use Rattle.kr_engine.proofs.ClosedEnds.{begun_from}
 use Rattle.kr_engine.proofs.KeptPlaces.{found_under, last_under, one_last}
 use Rattle.kr_defs.specs.Log.{Log, open_at}
 use Rattle.kr_model.specs.World.{State, closed_of, tip_of}
@@ -95,15 +93,6 @@ module _ (e : Core) (s : State) (writes : List Write) (k : IsEngine e s writes) 
       ∙ (ap begun_under (found_under open_under (tip_of s) (closed_of s.world ∷ ends) (one_last (closed_of s.world) ends (tip_of s) (places_rise e s writes k)))
       ∙ sym k.begun))
 
-  started_below : log.offset ≤ tip_of s
-  started_below = let low = k.is_state.started in let high = rises e s writes k in omega (arith, low, high)
-
-  begun_behind : AreBegunFrom e.images (closed_behind e.images e.tip)
-  begun_behind =
-      subst (λ z. AreBegunFrom e.images z)
-      (sym (ap (λ o. unwrap_or o e.tip) k.begun ∙ (ap (unwrap_or (open_under (tip_of s))) k.tip ∙ closed_of_places (open_at log (tip_of s)) (tip_of s))))
-      (begun_from e.images log e.images.tip (tip_of s) (closed_of s.world) ends k.present started_below (omega arith) (places_rise e s writes k) k.begun k.kept_begun)
-
   -- a leader has nothing open
   pub settled_leader : IsSome s.world.leading → IsSettled e.images
   settled_leader leads =
@@ -126,7 +115,6 @@ module _ (e : Core) (s : State) (writes : List Write) (k : IsEngine e s writes) 
     unmade = k.weighed.unmade;
     above = all_kept_below e s writes k;
     begun = begun_kept;
-    begun_from = begun_behind;
     settled = λ some. settled_leader (subst (λ (l : Option ℤ). IsSome l) k.leading some);
     at_standby = stands_still e s writes k;
     in_time = ap (λ h. hearing.is_not_before h e.time) k.heard_of ∙ (ap (hearing.is_not_before (hearing.heard s.basis)) k.time ∙ last_before s.basis.contacts s.basis.time k.is_state.in_time);
@@ -150,7 +138,6 @@ timed_ready e now r = record {
   unmade = r.unmade;
   above = r.above;
   begun = r.begun;
-  begun_from = r.begun_from;
   settled = r.settled;
   at_standby = r.at_standby;
   in_time = still_before (last_or None e.heard.contacts) e.time (int_max e.time now) (grown e.time now) r.in_time;
@@ -171,7 +158,6 @@ cleared_ready e after is r = subst IsReady (sym is) (record {
   unmade = r.unmade;
   above = r.above;
   begun = r.begun;
-  begun_from = r.begun_from;
   settled = r.settled;
   at_standby = r.at_standby;
   in_time = r.in_time;

@@ -83,8 +83,10 @@ impl Engine {
         end: &i64,
         steps: &mut Steps<L>,
     ) -> Result<(), NoMemory>
+        requires sound { IsSound self.old }
         requires ready { IsReady self.old }
         requires valid { AreValid self.old.images }
+        requires standby { self.old.leading ≡ None }
         requires few { length items ≤ most_records }
         requires end { end.now ≡ (self.old.tip +ℤ pos (length items)) }
         requires some { 1 ≤ length items }
@@ -104,6 +106,7 @@ impl Engine {
 
     #[tactic(auto, using(crate::proofs::BatchSteps::take_batch))]
     fn take_batch<L: Ledger>(&mut self, batch: Batch, steps: &mut Steps<L>) -> Result<(), NoMemory>
+        requires sound { IsSound self.old }
         requires ready { IsReady self.old }
         requires valid { AreValid self.old.images }
         requires standby { self.old.leading ≡ None }
@@ -132,6 +135,7 @@ impl Engine {
         bytes: &Bytes,
         steps: &mut Steps<L>,
     ) -> Result<(), NoMemory>
+        requires sound { IsSound self.old }
         requires ready { IsReady self.old }
         requires valid { AreValid self.old.images }
         ensures settled { OnOk result (SettlesBatch self.old self.new (batch_of bytes.now) (batch_reason self.old (batch_of bytes.now))) }
@@ -155,7 +159,7 @@ impl Engine {
 
     /// A committed record batch of another leader came. All outputs are handed out before. After want of memory nothing has
     /// changed.
-    #[tactic(auto, using(crate::proofs::ReadyEngines::cleared_ready))]
+    #[tactic(auto, using(crate::proofs::ReadyEngines::cleared_ready, kr_model::proofs::SoundEngines::taken_sound))]
     pub fn batch<L: Ledger>(&mut self, bytes: &Bytes, steps: &mut Steps<L>) -> Result<(), NoMemory>
         requires sound { IsSound self.old }
         requires drained { outputs_left self.old ≡ [] }

@@ -4,8 +4,7 @@ use Rattle.kr_defs.specs.declared.limits.TheConstants.{PLACES_END}
 use Rattle.kr_defs.specs.Heartbeats as hearing
 use Rattle.kr_defs.specs.Ids.{has}
 use Rattle.kr_calls.specs.NextBasis.{broker_is_stopping}
-use Rattle.kr_store.specs.Images.{AreBegunFrom, IsAbove, IsSettled, begun_at, last_kept}
-use Rattle.kr_engine.specs.inner.Settled.{closed_behind}
+use Rattle.kr_store.specs.Images.{IsAbove, IsSettled, begun_at, last_kept}
 use Rattle.kr_model.specs.Engine.{Core}
 
 pub record IsReady (e : Core) : Type 0 where
@@ -19,9 +18,8 @@ pub record IsReady (e : Core) : Type 0 where
   -- no call counts since then
   pub unmade : e.images.made ≡ 0
   pub above : (place : ℤ) → IsTrue (int_lt e.tip place) → IsAbove e.images.kept place
-  -- the transaction that is open at the tip was open when the tip was kept; the places from its begin on may be kept alone
+  -- the transaction that is open at the tip was open when the tip was kept
   pub begun : begun_at e.images e.tip ≡ e.images.begun
-  pub begun_from : AreBegunFrom e.images (closed_behind e.images e.tip)
   -- a leader has given it up
   pub settled : IsSome e.leading → IsSettled e.images
   pub at_standby : e.leading ≡ None → e.committed ≡ e.tip
