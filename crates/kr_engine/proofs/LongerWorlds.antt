@@ -25,7 +25,7 @@ settled_by : (log : Log) (more : List Item) (place : ℕ) (state : LogState) (o 
 settled_by log more place state None is low open = weight_longer log more place low
 settled_by log more place state (Some begin) is low open = weight_longer log more (begin + 1) (let below = begun_below log place state begin is open in omega (arith, below, low))
 
-settled_same : (log : Log) (more : List Item) (place : ℕ) (image : Image) → image_at log (tip log) ≡ Ok image → place ≤ tip log → weight_settled (log_with log more) place ≡ weight_settled log place
+pub settled_same : (log : Log) (more : List Item) (place : ℕ) (image : Image) → image_at log (tip log) ≡ Ok image → place ≤ tip log → weight_settled (log_with log more) place ≡ weight_settled log place
 settled_same log more place image seen low =
     let h = state_seen log place (seen_at log place) (seen_below log place image seen) in
     ap (λ o. option_map_or (λ (begin : ℕ). weight_below (log_with log more) (begin + 1)) o (weight_below (log_with log more) place)) (open_written_below log more place low)
