@@ -74,10 +74,11 @@ items_refused e between after end items ill r valid longer same is refuses =
     ∙ (ap (λ (i : Images). refused_core (record between { images = i }) (ill_formed ill.0 ill.1)) back
     ∙ ap (λ (c : Core). refused_core (record c { images = e.images }) (ill_formed ill.0 ill.1)) same))
 
-pub items_followed : (e between told after : Core) (end : ℤ) (items : List Item) → None ≡ first_ill_of e items → TakesItems e.images between.images e.tip items → between ≡ record e { images = between.images }
+pub items_followed : (e between told after : Core) (end : ℤ) (items : List Item) → 1 ≤ length items → None ≡ first_ill_of e items → TakesItems e.images between.images e.tip items → between ≡ record e { images = between.images }
     → told ≡ core_with_entries between (item_entries between.tip items) → after ≡ core_moved told end → SettlesItems e after items end (items_reason (first_ill_of e items))
-items_followed e between told after end items is takes same adds moves =
+items_followed e between told after end items some is takes same adds moves =
     subst (λ o. SettlesItems e after items end (items_reason o)) is (record {
+      some = some;
       images = between.images;
       takes = takes;
       same =
@@ -452,7 +453,7 @@ module _ (e : Core) (bytes : List ℕ) (d : IsDrained e) where
 
   -- ---- the engine behind the batch
 
-  module _ (core : Core) (batch : Batch) (some : 1 ≤ length batch.items) (f : Follows noted core batch.items (end_of batch)) (s : State) (writes : List Write) (k : IsEngine e s writes) (none : e.leading ≡ None) (at : batch.base ≡ e.committed) (is_near : is_far (end_of batch) ≡ false) where
+  module _ (core : Core) (batch : Batch) (f : Follows noted core batch.items (end_of batch)) (s : State) (writes : List Write) (k : IsEngine e s writes) (none : e.leading ≡ None) (at : batch.base ≡ e.committed) (is_near : is_far (end_of batch) ≡ false) where
     abbrev after : State
     after = replicas.after_batch s batch
 
@@ -469,7 +470,7 @@ module _ (e : Core) (bytes : List ℕ) (d : IsDrained e) where
     last_is = sym (tip_written s.world.log batch.items)
 
     behind_is : end_of batch ≡ pos last
-    behind_is = ap (λ b. b +ℤ pos (length batch.items)) (at ∙ (k.committed ∙ ap pos (at_end e f.images batch.items s writes k standby f.takes some)))
+    behind_is = ap (λ b. b +ℤ pos (length batch.items)) (at ∙ (k.committed ∙ ap pos (at_end e f.images batch.items s writes k standby f.takes f.some)))
 
     none_waits : writes ≡ []
     none_waits = no_writes e.leading e.closed e.held writes none k.waits
@@ -477,13 +478,13 @@ module _ (e : Core) (bytes : List ℕ) (d : IsDrained e) where
     closed_then : closed_behind f.images (end_of batch) ≡ pos (closed_of after.world)
     closed_then =
         ap (closed_behind f.images) (behind_is ∙ ap pos last_is)
-        ∙ (closed_is e f.images batch.items s writes k standby f.takes some ∙ ap (λ n. pos (closed_end_at far n)) (sym last_is))
+        ∙ (closed_is e f.images batch.items s writes k standby f.takes f.some ∙ ap (λ n. pos (closed_end_at far n)) (sym last_is))
 
     state_after : IsState (with_next_number after) (filter (is_open_in after.world) (writes ++ []))
     state_after = record {
       valid = k.is_state.valid;
-      started = (let low = k.is_state.started in let there = at_end e f.images batch.items s writes k standby f.takes some in omega (arith, low, there));
-      settled = settled_by_batch s.world batch.items k.is_state.started k.is_state.settled (at_end e f.images batch.items s writes k standby f.takes some) some;
+      started = (let low = k.is_state.started in let there = at_end e f.images batch.items s writes k standby f.takes f.some in omega (arith, low, there));
+      settled = settled_by_batch s.world batch.items k.is_state.started k.is_state.settled (at_end e f.images batch.items s writes k standby f.takes f.some) f.some;
       ends = subst (λ ns. Rise last ns (tip far)) (sym (k.is_state.at_standby standby).0) last_is;
       begun = subst (λ ns. AllByRecursion (λ (n : ℕ). IfSome (open_at far n) (λ begin. begin < last)) ns) (sym (k.is_state.at_standby standby).0) tt;
       low = subst (λ n. n ≤ unsigned_abs PLACES_END) last_is (near last (ap is_far (sym behind_is) ∙ is_near));
@@ -509,7 +510,7 @@ module _ (e : Core) (bytes : List ℕ) (d : IsDrained e) where
     kept_then =
         subst (λ n. Kept n core_then.images) (sym last_is)
         (subst (λ z. Kept (tip far) (forgotten (marked f.images z) (closed_behind f.images z))) (sym (behind_is ∙ ap pos last_is))
-        (images_kept e f.images batch.items s writes k standby f.takes some, begins_kept e f.images batch.items s writes k standby f.takes some, weighed_then e f.images batch.items s writes k standby f.takes some))
+        (images_kept e f.images batch.items s writes k standby f.takes f.some, begins_kept e f.images batch.items s writes k standby f.takes f.some, weighed_then e f.images batch.items s writes k standby f.takes f.some))
 
     -- the ends above the closed one
     ends_so : above (closed_of after.world) (s.world.covered ++ last ∷ []) ≡ after.world.covered ++ after.world.batch_ends
@@ -527,9 +528,9 @@ module _ (e : Core) (bytes : List ℕ) (d : IsDrained e) where
         time = k.time;
         led = k.led;
         heard_of = k.heard_of;
-        present = (keeps e f.images batch.items s writes k standby f.takes some).present;
+        present = (keeps e f.images batch.items s writes k standby f.takes f.some).present;
         kept = kept_then.0 ∙ ap (λ ns. map (kept_image far) (closed_of after.world ∷ ns)) ends_so;
-        begun = (keeps e f.images batch.items s writes k standby f.takes some).begun;
+        begun = (keeps e f.images batch.items s writes k standby f.takes f.some).begun;
         kept_begun = kept_then.1 ∙ ap (λ ns. map (kept_begin far) (closed_of after.world ∷ ns)) ends_so;
         weighed = subst (λ ns. IsWeighed core_then.images far (closed_of after.world) (weight_settled far last) ns) ends_so kept_then.2;
         waits = waits_then e s writes d k e.leading core_then.closed after.world k.leading closed_then;
@@ -547,31 +548,31 @@ module _ (e : Core) (bytes : List ℕ) (d : IsDrained e) where
     accepted : IsAccepted e e.options s writes event core after
     accepted = subst (λ (c : Core). IsAccepted e e.options s writes event c after) (sym f.same) accepted_so
 
-  accepted_by : (core : Core) (read : Result Batch BatchFault) → ((batch : Batch) → read ≡ Ok batch → 1 ≤ length batch.items) → batch_reason noted read ≡ None → FollowsRead noted core read → (s : State) (writes : List Write) → IsEngine e s writes
+  accepted_by : (core : Core) (read : Result Batch BatchFault) → batch_reason noted read ≡ None → FollowsRead noted core read → (s : State) (writes : List Write) → IsEngine e s writes
       → IsAccepted e e.options s writes event core (state_by read s)
-  accepted_by core (Ok batch) has none f s writes k =
+  accepted_by core (Ok batch) none f s writes k =
       let one = none_row (is_some e.leading) (already_leading e.leading) _ none in
       let two = none_row (not (int_eq batch.base e.committed)) (gap e.committed batch.base) _ one.1 in
       let three = none_row (is_far (end_of batch)) (exhausted (end_of batch)) _ two.1 in
-      accepted core batch (has batch refl) f s writes k (none_is e.leading one.0) (same_id batch.base e.committed (not_false (int_eq batch.base e.committed) two.0)) three.0
-  accepted_by core (Err fault) has none f s writes k = absurd f
+      accepted core batch f s writes k (none_is e.leading one.0) (same_id batch.base e.committed (not_false (int_eq batch.base e.committed) two.0)) three.0
+  accepted_by core (Err fault) none f s writes k = absurd f
 
   same_options : (core : Core) (read : Result Batch BatchFault) → FollowsRead noted core read → core.options ≡ e.options
   same_options core (Ok batch) f = ap (λ (c : Core). c.options) f.same
   same_options core (Err fault) f = absurd f
 
-  settled : (core : Core) (reason : Option Reason) → ((batch : Batch) → batch_of bytes ≡ Ok batch → 1 ≤ length batch.items) → batch_reason noted (batch_of bytes) ≡ reason → SettlesBatch noted core (batch_of bytes) reason → IsStep e (counted_core core) event
-  settled core None has is follows =
+  settled : (core : Core) (reason : Option Reason) → batch_reason noted (batch_of bytes) ≡ reason → SettlesBatch noted core (batch_of bytes) reason → IsStep e (counted_core core) event
+  settled core None is follows =
       accepted_step e event d core (same_options core (batch_of bytes) follows) (state_by (batch_of bytes))
       (λ s writes k. judged s writes k ∙ ap (λ r. unless_refused r (state_by (batch_of bytes) s)) is)
-      (λ s writes k. accepted_by core (batch_of bytes) has is follows s writes k)
-  settled core (Some reason) has is refuses =
+      (λ s writes k. accepted_by core (batch_of bytes) is follows s writes k)
+  settled core (Some reason) is refuses =
       subst (λ (c : Core). IsStep e (counted_core c) event) (sym refuses)
       (refused_step e event reason d (λ s writes k. judged s writes k ∙ ap (λ r. unless_refused r (state_by (batch_of bytes) s)) is))
 
-pub batch_step : (e begun between after : Core) (bytes : List ℕ) → outputs_left e ≡ [] → ((batch : Batch) → batch_of bytes ≡ Ok batch → 1 ≤ length batch.items) → begun ≡ cleared_core e
+pub batch_step : (e begun between after : Core) (bytes : List ℕ) → outputs_left e ≡ [] → begun ≡ cleared_core e
     → SettlesBatch begun between (batch_of bytes) (batch_reason begun (batch_of bytes)) → after ≡ counted_core between → IsStep e after (events.Batch bytes)
-batch_step e begun between stepped bytes none has clears settles counts =
+batch_step e begun between stepped bytes none clears settles counts =
     subst (λ (a : Core). IsStep e a (events.Batch bytes)) (sym counts)
-    (settled e bytes (drained e none) between (batch_reason (timed_core e (events.Batch bytes)) (batch_of bytes)) has refl
+    (settled e bytes (drained e none) between (batch_reason (timed_core e (events.Batch bytes)) (batch_of bytes)) refl
     (subst (λ (c : Core). SettlesBatch c between (batch_of bytes) (batch_reason c (batch_of bytes))) clears settles))

@@ -1,5 +1,5 @@
 -- What a Batch makes of an engine: on standby, a committed batch of another leader.
-use Rattle.std.specs.Prelude.{◌≡◌, ◌≤◌, ◌+ℤ◌, ℤ, pos, List, [], ◌∷◌, not, is_some, Option, Some, None, Result, Ok, Err, if◌then◌else◌}
+use Rattle.std.specs.Prelude.{◌≡◌, ◌≤◌, ◌+ℤ◌, ℤ, pos, List, [], ◌∷◌, length, not, is_some, Option, Some, None, Result, Ok, Err, if◌then◌else◌}
 use Rattle.std.specs.Ordering.{int_eq}
 use Rattle.kr_calls.specs.declared.events.Reason.{Reason}
 use Rattle.kr_defs.specs.declared.ill.Ill.{Ill}
@@ -60,6 +60,7 @@ batch_reason e read = if is_some e.leading then Some (already_leading e.leading)
 
 -- the items are committed, up to the end
 pub record Follows (before after : Core) (items : List Item) (end : ℤ) : Type 0 where
+  pub some : 1 ≤ length items
   -- those behind the items
   pub images : Images
   pub takes : TakesItems before.images images before.tip items
