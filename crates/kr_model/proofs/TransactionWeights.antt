@@ -51,7 +51,7 @@ some_begin a b is = ap (λ (o : Option ℕ). unwrap_or o a) is
 
 -- the transaction that is open at a place began below it
 pub begun_below : (log : Log) (place : ℕ) (state : LogState) (begin : ℕ) → state_at log place ≡ Ok state → open_at log place ≡ Some begin → begin + 1 ≤ place
-begun_below log place state begin is open = by state.opened refl (open_told log place state is ∙ open)
+begun_below log place state begin is opens = by state.opened refl (open_told log place state is ∙ opens)
   where
     by : (opened : Option Opened) → state.opened ≡ opened → option_map (λ (o : Opened). o.place) opened ≡ Some begin → begin + 1 ≤ place
     by None none at = absurd cc
@@ -81,8 +81,8 @@ module _ (log : Log) (state after : LogState) (item : Item) (is : state_at log (
 
   -- a transaction that stays open
   still_since : since_begin (since_at log) state.image item ≡ since_at log + weight_behind (since_at log) state.image item → open_behind (open_at log (tip log)) (tip log) item ≡ open_at log (tip log) → WeighsSince log → WeighsSince longer
-  still_since adds same before begin open =
-      let there : open_at log (tip log) ≡ Some begin = sym same ∙ (sym open_more ∙ open) in
+  still_since adds same before begin opens =
+      let there : open_at log (tip log) ≡ Some begin = sym same ∙ (sym open_more ∙ opens) in
       let below : begin + 1 ≤ tip log = begun_below log (tip log) state begin is there in
       let held = before begin there in
       let unchanged : weight_below longer (begin + 1) ≡ weight_below log (begin + 1) = weight_longer log (item ∷ []) (begin + 1) below in
@@ -103,14 +103,14 @@ none_before state after place name means = by state.opened means
     by (Some o) means = absurd cc
 
 pub since_step : (log : Log) (state after : LogState) (item : Item) → state_at log (tip log) ≡ Ok state → apply_at state (tip log) item ≡ Ok after → WeighsSince log → WeighsSince (log_with log (item ∷ []))
-since_step log state after (items.Record (kinds.BeginTransaction name)) is means before begin open =
+since_step log state after (items.Record (kinds.BeginTransaction name)) is means before begin opens =
     let item = items.Record (kinds.BeginTransaction name) in
     let none : open_at log (tip log) ≡ None = sym (open_told log (tip log) state is) ∙ none_before state after (tip log) name means in
     since_here log state after item is means refl begin
-    (sym (some_begin (tip log) begin (sym (ap (λ (o : Option ℕ). Some (unwrap_or o (tip log))) none) ∙ (sym (open_more log state after item is means) ∙ open))))
-since_step log state after (items.Record kinds.EndTransaction) is means before begin open = absurd (let none = open_more log state after (items.Record kinds.EndTransaction) is means in cc)
-since_step log state after (items.Record (kinds.AbortTransaction reason)) is means before begin open = absurd (let none = open_more log state after (items.Record (kinds.AbortTransaction reason)) is means in cc)
-since_step log state after item is means before = still_since log state after item is means refl refl before
+    (sym (some_begin (tip log) begin (sym (ap (λ (o : Option ℕ). Some (unwrap_or o (tip log))) none) ∙ (sym (open_more log state after item is means) ∙ opens))))
+since_step log state after (items.Record kinds.EndTransaction) is means before begin opens = absurd (let none = open_more log state after (items.Record kinds.EndTransaction) is means in cc)
+since_step log state after (items.Record (kinds.AbortTransaction reason)) is means before begin opens = absurd (let none = open_more log state after (items.Record (kinds.AbortTransaction reason)) is means in cc)
+since_step log state after item is means before begin opens = still_since log state after item is means refl refl before begin opens
 
 -- ---- all items of a log
 
@@ -119,27 +119,24 @@ upto log done = record log { items = done }
 
 all_since : (log : Log) (rest done : List Item) (mid state : LogState) → state_at (upto log done) (tip (upto log done)) ≡ Ok mid → WeighsSince (upto log done) → apply_all_at mid (tip (upto log done)) rest ≡ Ok state → WeighsSince (upto log (done ++ rest))
 all_since log [] done mid state is before means = subst (λ (xs : List Item). WeighsSince (upto log xs)) (sym (append-nil done)) before
-all_since log (item ∷ rest) done mid state is before means = by (apply_at mid (tip (upto log done)) item) refl means
-  where
-    at : ℕ
-    at = tip (upto log done)
-
-    by : (r : Result LogState Ill) → apply_at mid at item ≡ r → and_then r (λ (s : LogState). apply_all_at s (at + 1) rest) ≡ Ok state → WeighsSince (upto log (done ++ item ∷ rest))
-    by (Ok next) one others =
-        let further : tip (upto log (done ++ item ∷ [])) ≡ at + 1 = tip_written (upto log done) (item ∷ []) in
-        let there : state_at (upto log (done ++ item ∷ [])) (tip (upto log (done ++ item ∷ []))) ≡ Ok next =
-        state_written (upto log done) (item ∷ []) mid is ∙ ap (λ r. and_then r (λ (s : LogState). Ok s)) one in
-        subst (λ (xs : List Item). WeighsSince (upto log xs)) (append_assoc done (item ∷ []) rest)
-        (all_since log rest (done ++ item ∷ []) next state there (since_step (upto log done) mid next item is one before)
-        (ap (λ n. apply_all_at next n rest) further ∙ others))
-    by (Err cause) one others = absurd cc
+all_since log (item ∷ rest) done mid state is before means =
+    elim (apply_at mid (tip (upto log done)) item) as (λ (r : Result LogState Ill). apply_at mid (tip (upto log done)) item ≡ r → and_then r (λ (s : LogState). apply_all_at s (tip (upto log done) + 1) rest) ≡ Ok state → WeighsSince (upto log (done ++ item ∷ rest))) [
+      | Ok next ↦ λ one others.
+          let further : tip (upto log (done ++ item ∷ [])) ≡ tip (upto log done) + 1 = tip_written (upto log done) (item ∷ []) in
+          let there : state_at (upto log (done ++ item ∷ [])) (tip (upto log (done ++ item ∷ []))) ≡ Ok next =
+          state_written (upto log done) (item ∷ []) mid is ∙ ap (λ r. and_then r (λ (s : LogState). Ok s)) one in
+          subst (λ (xs : List Item). WeighsSince (upto log xs)) (append_assoc done (item ∷ []) rest)
+          (all_since log rest (done ++ item ∷ []) next state there (since_step (upto log done) mid next item is one before)
+          (ap (λ n. apply_all_at next n rest) further ∙ others))
+      | Err cause ↦ λ one others. absurd cc
+    ] refl means
 
 pub weighs_since : (log : Log) (state : LogState) → state_at log (tip log) ≡ Ok state → WeighsSince log
 weighs_since log state is =
     let start : Log = upto log [] in
     let none : open_at start (tip start) ≡ None = none_open_at_start log.offset log.image (tip start) in
     let here : tip start ≡ log.offset = omega arith in
-    all_since log log.items [] (closed log.image) state (state_at_tip start) (λ begin open. absurd (let both = none in cc))
+    all_since log log.items [] (closed log.image) state (state_at_tip start) (λ begin begun. absurd (let both = none in cc))
     (ap (λ n. apply_all_at (closed log.image) n log.items) here ∙ (sym (state_at_tip log) ∙ is))
 
 -- ---- what a store counts
@@ -168,13 +165,13 @@ item_counts images log item within = omega arith
 -- where the transaction began at the first kept place
 pub undoes_from_first : (images : Images) (log : Log) (state : LogState) (first before : ℕ) (ends : List ℕ) → state_at log (tip log) ≡ Ok state → IsWeighed images log first before ends → Rise first ends (tip log)
     → open_at log (tip log) ≡ Some first → before ≡ weight_below log (first + 1) → UndoesWithin images log
-undoes_from_first images log state first before ends is weighed rise open settled begin there =
-    let same : first ≡ begin = some_begin first begin (sym open ∙ there) in
-    let up : first + 1 ≤ tip log = begun_below log (tip log) state first is open in
+undoes_from_first images log state first before ends is weighed rise opens settled begin there =
+    let same : first ≡ begin = some_begin first begin (sym opens ∙ there) in
+    let up : first + 1 ≤ tip log = begun_below log (tip log) state first is opens in
     let risen : weight_below log (first + 1) ≤ weight_below log (tip log) = weights_rise log (first + 1) (tip log) up in
     let all = all_weighed log before first ends (tip log) weighed.rest rise (λ _. omega (arith, settled, risen)) weighed.each in
     let sum : calls_of weighed.rest + before ≤ weight_below log (tip log) = all.0 in
-    let share = weighs_since log state is first open in
+    let share = weighs_since log state is first opens in
     let own : calls_of ((pos first, 0) ∷ weighed.rest) ≡ 0 + calls_of weighed.rest = sum_by-cons (λ (k : ℤ × ℕ). k.1) (pos first, 0) weighed.rest in
     let fewer : calls_of (above images (pos begin)) ≤ calls_of images.kept_made = fewer_calls (λ (m : ℤ × ℕ). int_lt (pos begin) m.0) images.kept_made in
     let told : calls_of images.kept_made ≡ calls_of ((pos first, 0) ∷ weighed.rest) = ap calls_of weighed.counted in
@@ -186,8 +183,8 @@ module _ (images after : Images) (log : Log) (state next : LogState) (item : Ite
   pub undoes_more : UndoesWithin images log → after.kept_made ≡ images.kept_made → after.made ≤ images.made + weight_behind (since_at log) state.image item
       → since_begin (since_at log) state.image item ≡ since_at log + weight_behind (since_at log) state.image item → open_behind (open_at log (tip log)) (tip log) item ≡ open_at log (tip log)
       → UndoesWithin after (log_with log (item ∷ []))
-  undoes_more within kept few adds same begin open =
-      let there : open_at log (tip log) ≡ Some begin = sym same ∙ (sym (open_more log state next item is means) ∙ open) in
+  undoes_more within kept few adds same begin opens =
+      let there : open_at log (tip log) ≡ Some begin = sym same ∙ (sym (open_more log state next item is means) ∙ opens) in
       let held : calls_of (above images (pos begin)) + images.made ≤ since_at log = within begin there in
       let told : calls_of (above after (pos begin)) ≡ calls_of (above images (pos begin)) = ap (λ (ms : List (ℤ × ℕ)). calls_of (filter (λ (m : ℤ × ℕ). int_lt (pos begin) m.0) ms)) kept in
       let grows = since_more log state next item is means in
@@ -195,7 +192,7 @@ module _ (images after : Images) (log : Log) (state next : LogState) (item : Ite
 
   -- a begin: nothing is counted above its place
   pub undoes_none : after.made ≡ 0 → above after (pos (tip log)) ≡ [] → open_behind (open_at log (tip log)) (tip log) item ≡ Some (tip log) → UndoesWithin after (log_with log (item ∷ []))
-  undoes_none none empty opens begin open =
-      let same : tip log ≡ begin = some_begin (tip log) begin (sym opens ∙ (sym (open_more log state next item is means) ∙ open)) in
+  undoes_none none empty begins begin opens =
+      let same : tip log ≡ begin = some_begin (tip log) begin (sym begins ∙ (sym (open_more log state next item is means) ∙ opens)) in
       let nothing : calls_of (above after (pos begin)) ≡ 0 = ap (λ n. calls_of (above after (pos n))) (sym same) ∙ ap calls_of empty in
       omega (arith, none, nothing)

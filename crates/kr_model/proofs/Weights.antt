@@ -295,17 +295,17 @@ weighed_behind images after log items state first before ends n made is seen ris
 -- ---- going on
 
 -- the counts under a new end and above it, and those that are dropped with it
-record Forgets (log : Log) (from before : ℕ) (ns : List ℕ) (count : ℕ) (ms : List (ℤ × ℕ)) (end : ℤ) : Type 0 where
-  last : ℕ
-  rest : List (ℤ × ℕ)
+pub record Forgets (log : Log) (from before : ℕ) (ns : List ℕ) (count : ℕ) (ms : List (ℤ × ℕ)) (end : ℤ) : Type 0 where
+  pub last : ℕ
+  pub rest : List (ℤ × ℕ)
   -- what stands up to the end weighs so much: all below it, where that holds of the first place too
-  weight : ℕ
-  weighs : (end ≡ pos from → before ≡ weight_below log from) → weight ≡ weight_below log (unsigned_abs end)
-  stays : end ≡ pos from → weight ≡ before
-  left : filter (λ (m : ℤ × ℕ). not (int_lt m.0 end)) ((pos from, count) ∷ ms) ≡ (end, last) ∷ rest
-  each : AreWeighed log weight (filter (λ n. int_lt end (pos n)) ns) rest
-  calls : calls_of (filter (λ (m : ℤ × ℕ). int_lt m.0 end) ((pos from, count) ∷ ms)) + last + before ≤ count + weight
-  many : length (filter (λ (m : ℤ × ℕ). int_lt m.0 end) ((pos from, count) ∷ ms)) ≡ length (filter (λ n. not (int_lt end (pos n))) ns)
+  pub weight : ℕ
+  pub weighs : (end ≡ pos from → before ≡ weight_below log from) → weight ≡ weight_below log (unsigned_abs end)
+  pub stays : end ≡ pos from → weight ≡ before
+  pub left : filter (λ (m : ℤ × ℕ). not (int_lt m.0 end)) ((pos from, count) ∷ ms) ≡ (end, last) ∷ rest
+  pub each : AreWeighed log weight (filter (λ n. int_lt end (pos n)) ns) rest
+  pub calls : calls_of (filter (λ (m : ℤ × ℕ). int_lt m.0 end) ((pos from, count) ∷ ms)) + last + before ≤ count + weight
+  pub many : length (filter (λ (m : ℤ × ℕ). int_lt m.0 end) ((pos from, count) ∷ ms)) ≡ length (filter (λ n. not (int_lt end (pos n))) ns)
 
 module _ (log : Log) (to : ℕ) where
   abbrev made_from : ℤ → List (ℤ × ℕ) → List (ℤ × ℕ)
@@ -408,7 +408,7 @@ module _ (log : Log) (to : ℕ) where
       ] refl is
 
 module _ (images : Images) (log : Log) (first before : ℕ) (ends : List ℕ) (to : ℕ) (end : ℤ) (is : IsWeighed images log first before ends) (rise : Rise first ends to) (one : list_any (λ n. int_eq end (pos n)) (first ∷ ends) ≡ true) where
-  gone : Forgets log first before ends 0 is.rest end
+  pub gone : Forgets log first before ends 0 is.rest end
   gone = forgets log to first before ends 0 is.rest end rise is.each one
 
   -- what stands up to the end weighs so much

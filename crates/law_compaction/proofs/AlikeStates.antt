@@ -127,7 +127,6 @@ module _ (before : State) where
       log = shortens_written s.world.log r.world.log k.log items;
       committed = k.committed;
       covered = k.covered;
-    covered = k.covered;
       ends =
           ap (λ ends. ends ++ (tip s.world.log + length items) ∷ []) k.ends
           ∙ ap (λ n. r.world.batch_ends ++ (n + length items) ∷ []) (same_tip s.world.log r.world.log k.log);
@@ -197,7 +196,6 @@ timed_alike before s r k event =
       log = k.log;
       committed = k.committed;
       covered = k.covered;
-    covered = k.covered;
       ends = k.ends;
       leading = k.leading;
       epochs = k.epochs;

@@ -95,9 +95,9 @@ none_waits options past standby =
     ap (λ l. filter (is_open l (pos (closed_of w))) (writes_from options start past)) standby ∙ none_open (pos (closed_of w)) (writes_from options start past)
 
 -- none stands between an end and itself
-none_covered : {end : ℕ} (ns : List ℕ) → AreCovered end end ns → ns ≡ []
-none_covered [] are = refl
-none_covered {end} (n ∷ ns) are = let above : end < n = are.0.0 in let low : n ≤ end = are.0.1 in absurd (omega (arith, above, low))
+none_covered : (end : ℕ) (ns : List ℕ) → AreCovered end end ns → ns ≡ []
+none_covered end [] are = refl
+none_covered end (n ∷ ns) are = let above : end < n = are.0.0 in let low : n ≤ end = are.0.1 in absurd (omega (arith, above, low))
 
 not_below_zero : (n : ℕ) → int_lt (pos n) (pos 0) ≡ false
 not_below_zero n = grind (arith, nat_tests)
@@ -160,7 +160,7 @@ module _ (options : Options) (earlier : List Event) (end : ℕ) (image : Image) 
       state = sym (state_at_tip before.world.log) ∙ (ap (state_at before.world.log) (sym at_end) ∙ state_there);
     };
     committed = stands.committed;
-    covered = none_covered before.world.covered (subst (λ c. AreCovered c before.world.committed before.world.covered) (stands.closed ∙ sym stands.committed) h.orderly.rises.covered);
+    covered = none_covered before.world.committed before.world.covered (subst (λ c. AreCovered c before.world.committed before.world.covered) (stands.closed ∙ sym stands.committed) h.orderly.rises.covered);
     ends = at_standby.0;
     leading = stands.standby;
     epochs = epochs_by (int_eq before.world.greatest (negsuc 0)) refl;

@@ -6,7 +6,7 @@ use Rattle.kr_calls.specs.declared.events.Event.{Event}
 use Rattle.kr_defs.specs.declared.ill.Ill.{Ill}
 use Rattle.kr_defs.specs.declared.options.Options.{Options}
 use Rattle.kr_defs.specs.Image.{Image, IsValid, empty}
-use Rattle.kr_defs.specs.Log.{image_at, tip}
+use Rattle.kr_defs.specs.Log.{image_at, state_at, tip}
 use Rattle.kr_defs.specs.LogStates.{closed}
 use Rattle.kr_defs.proofs.HeartbeatLists.{ended}
 use Rattle.kr_defs.proofs.Logs.{valid_at}
@@ -50,7 +50,7 @@ module _ (options : Options) where
       whole_on events (happens options s event) (stays_orderly options s event k) (stays_whole options s event (timed_orderly s event k) w)
 
   whole_start : IsWhole start
-  unfolding image_at
+  unfolding image_at state_at
   whole_start = record {
     log = record { valid = empty_valid; shows = image_there start.world.log (tip start.world.log) (closed empty) (state_at_tip start.world.log) };
     decided = λ some. absurd (never some);

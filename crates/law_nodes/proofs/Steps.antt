@@ -1,5 +1,5 @@
 -- Each move keeps it.
-use Rattle.std.proofs.Common.{◌≡◌, ◌∙◌, sym, subst, ℕ, zero, suc, ℤ, pos, ◌+◌, true, false, cond, Bool, List, [], ◌∷◌, ◌++◌, length, set, refl, ap, arith}
+use Rattle.std.proofs.Common.{◌≡◌, ◌∙◌, sym, subst, ℕ, zero, suc, ℤ, pos, ◌+◌, true, false, cond, Bool, List, [], ◌∷◌, ◌++◌, length, map, set, refl, ap, arith}
 use Rattle.std.specs.Prelude.{Option, Some, None, Result, Ok, Err, IsOk, int_lt, nat_lt, ◌==◌, ◌&&◌, not, filter, is_some}
 use Rattle.std.specs.List.{AllByRecursion, flat_map, slice_get}
 use Rattle.std.specs.Ordering.{int_eq}
@@ -685,12 +685,6 @@ module _ (options : Options) (r : Run) (g : IsRun r) where
       let i = node_is r g from f is_f in
       copied (kept_steps r g options from f events.Image is_f (image_fine options r.list r.elected from f i)) i none))
     where
-      copied : IsRun (with_event options r from f events.Image) → IsNode r.list r.elected f → t.state.world.leading ≡ None
-          → Keeps (load_on (with_event options r from f events.Image) to (pos (closed_of f.state.world), image_of_closed f.state))
-      copied after i none =
-          subst (λ (end : ℕ). Keeps (load_on (with_event options r from f events.Image) to (pos end, seen_at f.state.world.log end))) (sym (Logs.all_closed f.state.world.log i.core.means f.state.world.committed))
-          (loaded after i none)
-
       loaded : IsRun (with_event options r from f events.Image) → IsNode r.list r.elected f → t.state.world.leading ≡ None
           → Keeps (load_on (with_event options r from f events.Image) to (pos f.state.world.committed, seen_at f.state.world.log f.state.world.committed))
       loaded after i none = there (with_event options r from f events.Image) to _ (λ n is.
@@ -698,3 +692,9 @@ module _ (options : Options) (r : Run) (g : IsRun r) where
           let idle : n.state.world.leading ≡ None = set_leading r.nodes from to f (after_event options f events.Image) n t is_f is_t is refl ∙ none in
           let load = loaded_is options r.list r.elected to n (node_is next after to n is) idle f.state.world.log f.state.world.committed i.core.committed i.core.means in
           kept_changed next after to n (after_arrival n (take_image n.state (pos f.state.world.committed, seen_at f.state.world.log f.state.world.committed))) is load.0 (λ l. absurd (never _ load.1 l)))
+
+      copied : IsRun (with_event options r from f events.Image) → IsNode r.list r.elected f → t.state.world.leading ≡ None
+          → Keeps (load_on (with_event options r from f events.Image) to (pos (closed_of f.state.world), image_of_closed f.state))
+      copied after i none =
+          subst (λ (end : ℕ). Keeps (load_on (with_event options r from f events.Image) to (pos end, seen_at f.state.world.log end))) (sym (Logs.all_closed f.state.world.log i.core.means f.state.world.committed))
+          (loaded after i none)
