@@ -54,7 +54,7 @@ use Rattle.kr_model.proofs.Weights.{commit_weighed, weight_longer, weight_stays,
 use Rattle.kr_engine.proofs.ClosedEnds.{begun_from, open_before}
 use Rattle.kr_engine.proofs.FirstReasons.{IsAccepted, accepted_step, none_row, row, unless_refused}
 use Rattle.kr_engine.proofs.Refusals.{refused_step}
-use Rattle.kr_engine.proofs.KeptPlaces.{above, from_under, is_one, one_last, rise_above}
+use Rattle.kr_engine.proofs.KeptPlaces.{above, above_tested, from_under, is_one, one_last, rise_above}
 use Rattle.kr_engine.proofs.KeptStates.{Behind, Keeps, engine_keeps, items_behind, keeps_state, keeps_weighed, open_first, place_of, tip_kept}
 use Rattle.kr_engine.proofs.LeadSteps.{no_writes}
 use Rattle.kr_engine.proofs.ReadyEngines.{closed_of_places}
@@ -262,39 +262,39 @@ module _ (e : Core) (images : Images) (items : List Item) (s : State) (writes : 
 
   -- what was open before still is
   weighed_still : (begin : ℕ) → open_at longer end ≡ Some begin → begin < tip_of s → Weighed
-  weighed_still begin open low =
+  weighed_still begin unclosed low =
       let there : open_at log (tip_of s) ≡ Some begin =
-      sym (open_written_below log items (tip_of s) (omega arith)) ∙ open_before longer (tip_of s) end begin (omega arith) (let far = long in omega (arith, far)) (omega arith) open low in
+      sym (open_written_below log items (tip_of s) (omega arith)) ∙ open_before longer (tip_of s) end begin (omega arith) (let far = long in omega (arith, far)) (omega arith) unclosed low in
       let at = open_first e s writes k begin there in
-      let same : c ≡ first = ap (λ o. unwrap_or o end) open ∙ sym at.1 in
+      let same : c ≡ first = ap (λ o. unwrap_or o end) unclosed ∙ sym at.1 in
       let up : begin + 1 ≤ tip_of s = omega (arith, low) in
       let settled : before ≡ weight_below log (begin + 1) =
       ap (λ n. option_map_or (λ (b : ℕ). weight_below log (b + 1)) (open_at log n) (weight_below log n)) at.0 ∙ ap (λ o. option_map_or (λ (b : ℕ). weight_below log (b + 1)) o (weight_below log (tip_of s))) there in
       weighed_with
       (weight_stays (marked images (pos end)) longer first before places end (pos c) weighed_all keeps.rise one_closed (ap pos same)
-      ∙ (settled ∙ (sym (weight_longer log items (begin + 1) up) ∙ sym (settled_by (Some begin) open))))
+      ∙ (settled ∙ (sym (weight_longer log items (begin + 1) up) ∙ sym (settled_by (Some begin) unclosed))))
 
   -- a transaction that began among the items is the last that is kept below the end
   weighed_new : (begin : ℕ) → open_at longer end ≡ Some begin → tip_of s ≤ begin → Weighed
-  weighed_new begin open high =
-      let at : c ≡ begin = ap (λ o. unwrap_or o end) open in
+  weighed_new begin unclosed high =
+      let at : c ≡ begin = ap (λ o. unwrap_or o end) unclosed in
       let up = first_low in
       let old_low : AreUpTo c ends = all_within first ends (tip_of s) c (places_rise e s writes k) (omega (arith, at, high)) in
       let last_low : reached.last ≤ c = last_within first (ends ++ reached.new) reached.last c reached.keeps.rise (omega (arith, at, high, up)) (within_both c ends reached.new old_low reached.low) in
-      let last_high : begin ≤ reached.last = highest first (ends ++ reached.new) reached.last reached.keeps.rise begin (reached.keeps.there begin open) in
+      let last_high : begin ≤ reached.last = highest first (ends ++ reached.new) reached.last reached.keeps.rise begin (reached.keeps.there begin unclosed) in
       let last_is : reached.last ≡ c = omega (arith, at, last_low, last_high) in
       let state : state_at longer end ≡ Ok (tip_state images) = keeps_state images longer first before (ends ++ reached.new) reached.last reached.keeps in
-      let below : c < end = let b = begun_below longer end (tip_state images) begin state open in omega (arith, b, at) in
+      let below : c < end = let b = begun_below longer end (tip_state images) begin state unclosed in omega (arith, b, at) in
       let found = last_counted longer first before (ends ++ reached.new) reached.last reached.keeps.rest 0 reached.keeps.rise reached.keeps.each in
       let q : ℤ × ℕ → Bool = λ m. not (int_lt m.0 (pos c)) in
       let kept_last : filter q images.kept_made ≡ (pos c, found.0) ∷ [] =
       ap (filter q) reached.keeps.counted ∙ subst (λ n. filter (λ (m : ℤ × ℕ). not (int_lt m.0 (pos n))) ((pos first, 0) ∷ reached.keeps.rest) ≡ (pos n, found.0) ∷ []) last_is found.1 in
-      let within = reached.keeps.undoes begin open in
-      let share = weighs_since longer (tip_state images) state begin open in
+      let within = reached.keeps.undoes begin unclosed in
+      let share = weighs_since longer (tip_state images) state begin unclosed in
       let one_left : above c (s.world.covered ++ end ∷ []) ≡ end ∷ [] =
       filter-append (λ n. int_lt (pos c) (pos n)) s.world.covered (end ∷ [])
       ∙ (ap (λ xs. xs ++ above c (end ∷ [])) (none_later c s.world.covered (covered_low c old_low)) ∙ ap (λ b. cond b (end ∷ []) []) (is_below c end below)) in
-      let settled : weight_settled longer end ≡ weight_below longer (begin + 1) = settled_by (Some begin) open in
+      let settled : weight_settled longer end ≡ weight_below longer (begin + 1) = settled_by (Some begin) unclosed in
       let few : images.made + weight_settled longer end ≤ weight_below longer end = omega (arith, within, share, settled) in
       subst (λ z. IsWeighed (forgotten (marked images (pos end)) z) longer c (weight_settled longer end) (above c (s.world.covered ++ end ∷ []))) (sym closed_is)
       (subst (λ ns. IsWeighed (forgotten (marked images (pos end)) (pos c)) longer c (weight_settled longer end) ns) (sym one_left) (record {
@@ -321,14 +321,14 @@ module _ (e : Core) (images : Images) (items : List Item) (s : State) (writes : 
   weighed_then : Weighed
   weighed_then = elim (open_at longer end) as (λ o. open_at longer end ≡ o → Weighed) [
     | None ↦ λ none. weighed_closed none
-    | Some begin ↦ λ open. either_side begin open
+    | Some begin ↦ λ unclosed. either_side begin unclosed
   ] refl
     where
       either_side : (begin : ℕ) → open_at longer end ≡ Some begin → Weighed
-      either_side begin open =
+      either_side begin unclosed =
           elim (nat_lt begin (tip_of s)) as (λ b. nat_lt begin (tip_of s) ≡ b → Weighed) [
-            | true ↦ λ is. weighed_still begin open (less begin (tip_of s) is)
-            | false ↦ λ is. weighed_new begin open (not_less begin (tip_of s) is)
+            | true ↦ λ is. weighed_still begin unclosed (less begin (tip_of s) is)
+            | false ↦ λ is. weighed_new begin unclosed (not_less begin (tip_of s) is)
           ] refl
 
       less : (a b : ℕ) → nat_lt a b ≡ true → a < b
@@ -514,7 +514,7 @@ module _ (e : Core) (bytes : List ℕ) (d : IsDrained e) where
 
     -- the ends above the closed one
     ends_so : above (closed_of after.world) (s.world.covered ++ last ∷ []) ≡ after.world.covered ++ after.world.batch_ends
-    ends_so = sym (append-nil (above (closed_of after.world) (s.world.covered ++ last ∷ []))) ∙ ap (λ xs. after.world.covered ++ xs) (sym (k.is_state.at_standby standby).0)
+    ends_so = above_tested (closed_of after.world) (s.world.covered ++ last ∷ []) ∙ (sym (append-nil after.world.covered) ∙ ap (λ xs. after.world.covered ++ xs) (sym (k.is_state.at_standby standby).0))
 
     accepted_so : IsAccepted e e.options s writes event core_then after
     accepted_so = record {

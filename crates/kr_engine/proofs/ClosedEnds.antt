@@ -98,16 +98,16 @@ stands_by log place begin h (Some opened) is at =
     }
 
 pub stands_open : (log : Log) (image : Image) (place begin : ℕ) → image_at log (tip log) ≡ Ok image → open_at log place ≡ Some begin → Stands log place begin
-stands_open log image place begin is open =
+stands_open log image place begin is unclosed =
     let h = seen_state log image place is in
-    stands_by log place begin h h.state.opened refl (open_told log place h.state h.there ∙ open)
+    stands_by log place begin h h.state.opened refl (open_told log place h.state h.there ∙ unclosed)
 
 -- the closed end at a closed end is that end
 pub closed_there : (log : Log) (image : Image) (place : ℕ) → image_at log (tip log) ≡ Ok image → open_at log (closed_end_at log place) ≡ None
 closed_there log image place is =
     elim (open_at log place) as (λ o. open_at log place ≡ o → open_at log (unwrap_or o place) ≡ None) [
-      | None ↦ λ open. open
-      | Some begin ↦ λ open. (stands_open log image place begin is open).none
+      | None ↦ λ unclosed. unclosed
+      | Some begin ↦ λ unclosed. (stands_open log image place begin is unclosed).none
     ] refl
 
 pub itself : (log : Log) (image : Image) (place : ℕ) → image_at log (tip log) ≡ Ok image → closed_end_at log (closed_end_at log place) ≡ closed_end_at log place

@@ -38,7 +38,7 @@ use Rattle.kr_model.proofs.StandingEngines.{places_rise}
 use Rattle.kr_model.proofs.Weights.{commit_bound, commit_weighed, weight_stays, weight_told, weight_up_to}
 use Rattle.kr_engine.proofs.ClosedEnds.{begun_from, open_before}
 use Rattle.kr_engine.proofs.FirstReasons.{none_row}
-use Rattle.kr_engine.proofs.KeptPlaces.{above, found_under, from_under, is_one, one_first}
+use Rattle.kr_engine.proofs.KeptPlaces.{above, above_tested, found_under, from_under, is_one, one_first}
 use Rattle.kr_engine.proofs.KeptStates.{settled_high}
 use Rattle.kr_engine.proofs.ReadyEngines.{closed_of_places}
 use Rattle.kr_engine.proofs.Refusals.{refused_step}
@@ -199,7 +199,7 @@ module _ (e : Core) (end : ℤ) (s : State) (writes : List Write) (k : IsEngine 
   begun_behind = subst (λ z. AreBegunFrom e.images z) (sym closed_is) (begun_from e.images log e.images.tip u (closed_of s.world) ends k.present start low rise k.begun k.kept_begun)
 
   places : above c ends ≡ after.covered ++ after.batch_ends
-  places = places_by_commit s end k.is_state.started k.is_state.settled k.is_state.ends is
+  places = above_tested c ends ∙ places_by_commit s end k.is_state.started k.is_state.settled k.is_state.ends is
 
   images_kept : (forgotten e.images (closed_at e.images end)).kept ≡ map (kept_image log) (kept_places after)
   images_kept =

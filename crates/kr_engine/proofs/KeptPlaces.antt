@@ -3,7 +3,7 @@ use Rattle.std.proofs.Common.{◌≡◌, ◌∙◌, sym, subst, ℕ, suc, ℤ, p
 use Rattle.std.proofs.lemmas.Bool.Decides.{nat_tests}
 use Rattle.std.proofs.lemmas.List.Elements.{filter-append}
 use Rattle.std.proofs.lemmas.List.{append_assoc}
-use Rattle.std.specs.Prelude.{◌||◌, Option, Some, find, int_lt, slice_get, unsigned_abs}
+use Rattle.std.specs.Prelude.{◌||◌, Option, Some, find, int_lt, nat_lt, slice_get, unsigned_abs}
 use Rattle.std.specs.List.{AllByRecursion, list_any}
 use Rattle.std.specs.Ordering.{int_eq}
 use Rattle.kr_defs.proofs.IdLists.{id_itself, same_id}
@@ -19,6 +19,10 @@ is_one n ns = list_any (λ m. int_eq (pos n) (pos m)) ns
 
 same_place : (m n : ℕ) → int_eq (pos m) (pos n) ≡ true → m ≡ n
 same_place m n is = ap unsigned_abs (same_id (pos m) (pos n) is)
+
+-- the other way round
+place_same : (c n : ℕ) → int_eq (pos c) (pos n) ≡ true → n ≡ c
+place_same c n is = sym (same_place c n is)
 
 other_way : (m n : ℕ) → int_eq (pos m) (pos n) ≡ int_eq (pos n) (pos m)
 other_way m n = grind (arith, nat_tests)
@@ -56,15 +60,16 @@ one_last from (n ∷ ns) to rise = one_later to from (n ∷ ns) (one_last n ns t
 
 -- none is below the first
 pub not_lower : (c from : ℕ) (ns : List ℕ) (to : ℕ) → Rise from ns to → is_one c (from ∷ ns) ≡ true → from ≤ c
-not_lower c from ns to rise is =
-    elim (int_eq (pos c) (pos from)) as (λ b. int_eq (pos c) (pos from) ≡ b → from ≤ c) [
-      | true ↦ λ same. let at = same_place c from same in omega (arith, at)
-      | false ↦ λ other. later ns rise (one_of_either (int_eq (pos c) (pos from)) (is_one c ns) other is)
-    ] refl
-  where
-    later : (ns : List ℕ) → Rise from ns to → is_one c ns ≡ true → from ≤ c
-    later [] rise is = absurd cc
-    later (n ∷ ns) rise is = let up = rise.0 in let low = not_lower c n ns to rise.1 is in omega (arith, up, low)
+not_lower c from [] to rise is =
+    elim (int_eq (pos c) (pos from)) as (λ b. int_eq (pos c) (pos from) ≡ b → (b || false) ≡ true → from ≤ c) [
+      | true ↦ λ same _. let at = place_same c from same in omega (arith, at)
+      | false ↦ λ other is. absurd cc
+    ] refl is
+not_lower c from (n ∷ ns) to rise is =
+    elim (int_eq (pos c) (pos from)) as (λ b. int_eq (pos c) (pos from) ≡ b → (b || is_one c (n ∷ ns)) ≡ true → from ≤ c) [
+      | true ↦ λ same _. let at = place_same c from same in omega (arith, at)
+      | false ↦ λ other is. let up = rise.0 in let low = not_lower c n ns to rise.1 is in omega (arith, up, low)
+    ] refl is
 
 -- ---- what is kept under a place
 
@@ -117,47 +122,59 @@ module _ (log : Log) where
   every : (c from : ℕ) (ns : List ℕ) (to : ℕ) → c ≤ from → Rise from ns to → above c ns ≡ ns
   every c from ns to low rise = all_above log to c from ns low rise
 
+  from_here : (from : ℕ) (ns : List ℕ) (to : ℕ) → Rise from ns to → from_on from (from ∷ ns) ≡ from ∷ above from ns
+  from_here from ns to rise =
+      ap (λ b. cond (not b) (from ∷ from_on from ns) (from_on from ns)) (isnt_below from from (omega arith))
+      ∙ ap (λ rest. from ∷ rest) (all_from from from ns to (omega arith) rise ∙ sym (every from from ns to (omega arith) rise))
+
+  same_from : (c from : ℕ) (ns : List ℕ) (to : ℕ) → Rise from ns to → int_eq (pos c) (pos from) ≡ true → from_on c (from ∷ ns) ≡ c ∷ above c ns
+  same_from c from ns to rise same = subst (λ n. from_on n (from ∷ ns) ≡ n ∷ above n ns) (place_same c from same) (from_here from ns to rise)
+
   -- one of rising places, and those above it
   from_one : (c from : ℕ) (ns : List ℕ) (to : ℕ) → Rise from ns to → is_one c (from ∷ ns) ≡ true → from_on c (from ∷ ns) ≡ c ∷ above c ns
-  from_one c from ns to rise is =
-      elim (int_eq (pos c) (pos from)) as (λ b. int_eq (pos c) (pos from) ≡ b → from_on c (from ∷ ns) ≡ c ∷ above c ns) [
-        | true ↦ λ same. subst (λ n. from_on n (from ∷ ns) ≡ n ∷ above n ns) (sym (same_place c from same)) here
-        | false ↦ λ other. later ns rise (one_of_either (int_eq (pos c) (pos from)) (is_one c ns) other is)
-      ] refl
-    where
-      here : from_on from (from ∷ ns) ≡ from ∷ above from ns
-      here =
-          ap (λ b. cond (not b) (from ∷ from_on from ns) (from_on from ns)) (isnt_below from from (omega arith))
-          ∙ ap (λ rest. from ∷ rest) (all_from from from ns to (omega arith) rise ∙ sym (every from from ns to (omega arith) rise))
-
-      later : (ns : List ℕ) → Rise from ns to → is_one c ns ≡ true → from_on c (from ∷ ns) ≡ c ∷ above c ns
-      later [] rise is = absurd cc
-      later (n ∷ ns) rise is =
-          let up = rise.0 in
-          let low = not_lower c n ns to rise.1 is in
-          ap (λ b. cond (not b) (from ∷ from_on c (n ∷ ns)) (from_on c (n ∷ ns))) (is_below from c (omega (arith, up, low)))
-          ∙ from_one c n ns to rise.1 is
-          ∙ ap (λ rest. c ∷ rest) (sym (ap (λ b. cond b (n ∷ above c ns) (above c ns)) (isnt_below c n low)))
+  from_one c from [] to rise is =
+      elim (int_eq (pos c) (pos from)) as (λ b. int_eq (pos c) (pos from) ≡ b → (b || false) ≡ true → from_on c (from ∷ []) ≡ c ∷ above c []) [
+        | true ↦ λ same _. same_from c from [] to rise same
+        | false ↦ λ other is. absurd cc
+      ] refl is
+  from_one c from (n ∷ ns) to rise is =
+      elim (int_eq (pos c) (pos from)) as (λ b. int_eq (pos c) (pos from) ≡ b → (b || is_one c (n ∷ ns)) ≡ true → from_on c (from ∷ n ∷ ns) ≡ c ∷ above c (n ∷ ns)) [
+        | true ↦ λ same _. same_from c from (n ∷ ns) to rise same
+        | false ↦ λ other is.
+            let up = rise.0 in
+            let low = not_lower c n ns to rise.1 is in
+            ap (λ b. cond (not b) (from ∷ from_on c (n ∷ ns)) (from_on c (n ∷ ns))) (is_below from c (omega (arith, up, low)))
+            ∙ (from_one c n ns to rise.1 is
+            ∙ ap (λ rest. c ∷ rest) (sym (ap (λ b. cond b (n ∷ above c ns) (above c ns)) (isnt_below c n low))))
+      ] refl is
 
   pub rise_above : (c from : ℕ) (ns : List ℕ) (to : ℕ) → Rise from ns to → is_one c (from ∷ ns) ≡ true → Rise c (above c ns) to
   rise_above c from ns to rise is = (moves log to from ns (pos c) rise is).rise
 
+none_further : (c from : ℕ) (ns : List ℕ) (to : ℕ) → Rise from ns to → int_eq (pos c) (pos from) ≡ true → Rise from (up_to c ns) c
+none_further c from ns to rise same =
+    let at : from ≡ c = place_same c from same in
+    subst (λ xs. Rise from xs c) (sym (none_up_to c from ns to (omega (arith, at)) rise)) at
+
 pub rise_up_to : (c from : ℕ) (ns : List ℕ) (to : ℕ) → Rise from ns to → is_one c (from ∷ ns) ≡ true → Rise from (up_to c ns) c
-rise_up_to c from ns to rise is =
-    elim (int_eq (pos c) (pos from)) as (λ b. int_eq (pos c) (pos from) ≡ b → Rise from (up_to c ns) c) [
-      | true ↦ λ same. let at : c ≡ from = same_place c from same in
-          subst (λ xs. Rise from xs c) (sym (none_up_to c from ns to (omega (arith, at)) rise)) (sym at)
-      | false ↦ λ other. later ns rise (one_of_either (int_eq (pos c) (pos from)) (is_one c ns) other is)
-    ] refl
-  where
-    later : (ns : List ℕ) → Rise from ns to → is_one c ns ≡ true → Rise from (up_to c ns) c
-    later [] rise is = absurd cc
-    later (n ∷ ns) rise is =
-        subst (λ b. Rise from (cond (not b) (n ∷ up_to c ns) (up_to c ns)) c) (sym (isnt_below c n (not_lower c n ns to rise.1 is))) (rise.0, rise_up_to c n ns to rise.1 is)
+rise_up_to c from [] to rise is =
+    elim (int_eq (pos c) (pos from)) as (λ b. int_eq (pos c) (pos from) ≡ b → (b || false) ≡ true → Rise from (up_to c []) c) [
+      | true ↦ λ same _. none_further c from [] to rise same
+      | false ↦ λ other is. absurd cc
+    ] refl is
+rise_up_to c from (n ∷ ns) to rise is =
+    elim (int_eq (pos c) (pos from)) as (λ b. int_eq (pos c) (pos from) ≡ b → (b || is_one c (n ∷ ns)) ≡ true → Rise from (up_to c (n ∷ ns)) c) [
+      | true ↦ λ same _. none_further c from (n ∷ ns) to rise same
+      | false ↦ λ other is.
+          subst (λ b. Rise from (cond (not b) (n ∷ up_to c ns) (up_to c ns)) c) (sym (isnt_below c n (not_lower c n ns to rise.1 is))) (rise.0, rise_up_to c n ns to rise.1 is)
+    ] refl is
 
 -- the places from the first on that aren't above one
 first_up_to : (c from : ℕ) (ns : List ℕ) → from ≤ c → up_to c (from ∷ ns) ≡ from ∷ up_to c ns
 first_up_to c from ns low = ap (λ b. cond (not b) (from ∷ up_to c ns) (up_to c ns)) (isnt_below c from low)
+
+lower : (c n : ℕ) → int_lt (pos c) (pos n) ≡ true → c < n
+lower c n is = grind (arith, nat_tests)
 
 -- all are up to it or above it
 pub parted : (log : Log) (c from : ℕ) (ns : List ℕ) (to : ℕ) → Rise from ns to → ns ≡ up_to c ns ++ above c ns
@@ -168,12 +185,6 @@ parted log c from (n ∷ ns) to rise =
           sym (ap (λ xs. xs ++ n ∷ above c ns) (none_up_to c n ns to (omega (arith, up)) rise.1) ∙ ap (λ xs. n ∷ xs) (every log c n ns to (omega (arith, up)) rise.1))
       | false ↦ λ is. ap (λ xs. n ∷ xs) (parted log c n ns to rise.1)
     ] refl
-  where
-    lower : (c n : ℕ) → int_lt (pos c) (pos n) ≡ true → c < n
-    lower c n is = grind (arith, nat_tests)
-
-lower : (c n : ℕ) → int_lt (pos c) (pos n) ≡ true → c < n
-lower c n is = grind (arith, nat_tests)
 
 above_more : (c e : ℕ) (ns : List ℕ) → c ≤ e → above c (above e ns) ≡ above e ns
 above_more c e [] low = refl
@@ -192,6 +203,15 @@ covered_more log c e from covered ends to low rise =
     ∙ (ap (above c) (sym (append_assoc covered (up_to e ends) (above e ends)))
     ∙ (filter-append (λ n. int_lt (pos c) (pos n)) (covered ++ up_to e ends) (above e ends)
     ∙ ap (λ xs. above c (covered ++ up_to e ends) ++ xs) (above_more c e ends low)))
+
+-- the same by the test of numbers
+pub above_tested : (c : ℕ) (ns : List ℕ) → above c ns ≡ filter (λ n. nat_lt c n) ns
+above_tested c [] = refl
+above_tested c (n ∷ ns) =
+    ap (λ b. cond b (n ∷ above c ns) (above c ns)) (lt_tested c n) ∙ ap (λ rest. cond (nat_lt c n) (n ∷ rest) rest) (above_tested c ns)
+  where
+    lt_tested : (c n : ℕ) → int_lt (pos c) (pos n) ≡ nat_lt c n
+    lt_tested c n = grind (arith, nat_tests)
 
 -- ---- a function of places
 

@@ -77,7 +77,7 @@ kept_there images log first before ends last k n is =
 
 pub keeps_state : (images : Images) (log : Log) (first before : ℕ) (ends : List ℕ) (last : ℕ) → Keeps images log first before ends last → state_at log (tip log) ≡ Ok (tip_state images)
 keeps_state images log first before ends last k =
-    state_kept images log (tip log) k.present k.begun (λ begin open. kept_there images log first before ends last k begin (k.there begin open))
+    state_kept images log (tip log) k.present k.begun (λ begin unclosed. kept_there images log first before ends last k begin (k.there begin unclosed))
 
 -- ---- weights up to the last kept place
 
@@ -180,6 +180,9 @@ place_kept images log ns z kept some =
 
 -- ---- the open transaction of a valid store
 
+abbrev opened_with : ℤ → Image → Opened
+opened_with begin image = record { place = log_place begin; image = image }
+
 -- where it began, told by the state
 module _ (images : Images) (log : Log) (ns : List ℕ) (valid : AreValid images) (kept : images.kept ≡ map (kept_image log) ns) where
   abbrev told : Option ℤ → Option ℤ
@@ -192,7 +195,7 @@ module _ (images : Images) (log : Log) (ns : List ℕ) (valid : AreValid images)
       natural : begin ≡ pos (log_place begin)
       natural = let p = place_kept images log ns begin kept there in p.is ∙ ap (λ z. pos (log_place z)) (sym p.is)
 
-      by : (k : Option Image) → IsSome k → Some begin ≡ place_of (option_map (λ (x : Opened). x.place) (option_map (λ (i : Image). record { place = log_place begin; image = i }) k))
+      by : (k : Option Image) → IsSome k → Some begin ≡ place_of (option_map (λ (x : Opened). x.place) (option_map (opened_with begin) k))
       by None some = absurd (never some)
       by (Some image) some = ap (λ z. Some z) natural
 
@@ -236,7 +239,7 @@ none_begun state after place name means = by state.opened means
     by (Some o) means = absurd cc
 
 none_vacuous : (images : Images) (log : Log) → open_at log (tip log) ≡ None → UndoesWithin images log
-none_vacuous images log none begin open = absurd (let both : None ≡ Some begin = sym none ∙ open in cc)
+none_vacuous images log none begin unclosed = absurd (let both : None ≡ Some begin = sym none ∙ unclosed in cc)
 
 -- what an item leaves to undo
 undoes_behind : (images next : Images) (log : Log) (item : Item) → state_at log (tip log) ≡ Ok (tip_state images) → apply_at (tip_state images) (tip log) item ≡ Ok (tip_state next) → UndoesWithin images log → calls_to_undo images ≤ since_at log
@@ -281,7 +284,7 @@ module _ (images next : Images) (log : Log) (first before : ℕ) (ends : List �
   begun_behind ns kept = begun_told next behind ns t.valid kept ∙ ap place_of (open_told behind (tip behind) (tip_state next) state_behind)
 
   there_behind : (ns : List ℕ) → next.kept ≡ map (kept_image behind) ns → (begin : ℕ) → open_at behind (tip behind) ≡ Some begin → is_one begin ns ≡ true
-  there_behind ns kept begin open = begun_there next behind ns t.valid kept begin (begun_behind ns kept ∙ ap place_of open)
+  there_behind ns kept begin unclosed = begun_there next behind ns t.valid kept begin (begun_behind ns kept ∙ ap place_of unclosed)
 
   few : calls_to_undo images ≤ since_at log
   few = undo_within images log k.begun k.undoes
@@ -384,7 +387,7 @@ module _ (images next : Images) (log : Log) (first before : ℕ) (ends : List �
       let up = last_below m.new in
       let low = k.low in
       let seen : images.tip ≡ seen_at behind place = sym (seen_still log (item ∷ []) place (omega arith) ∙ ap (λ (r : Result Image Ill). result_unwrap_or r empty) k.present) in
-      let open : images.begun ≡ place_of (open_at behind place) = k.begun ∙ sym (open_still_there log (item ∷ []) place (omega arith)) in
+      let unclosed : images.begun ≡ place_of (open_at behind place) = k.begun ∙ sym (open_still_there log (item ∷ []) place (omega arith)) in
       let kept : next.kept ≡ map (kept_image behind) (first ∷ (ends ++ place ∷ [])) =
       keeps.images
       ∙ (ap (λ (ks : List (ℤ × Image)). ks ++ (pos place, images.tip) ∷ []) (k.kept ∙ images_still log (item ∷ []) first ends last k.rise k.low)
@@ -401,7 +404,7 @@ module _ (images next : Images) (log : Log) (first before : ℕ) (ends : List �
         kept = kept;
         kept_begun = keeps.begun
             ∙ (ap (λ (bs : List (ℤ × Option ℤ)). bs ++ (pos place, images.begun) ∷ []) (k.kept_begun ∙ begins_still log (item ∷ []) first ends last k.rise k.low)
-            ∙ one_more_begin behind first ends place images.begun open);
+            ∙ one_more_begin behind first ends place images.begun unclosed);
         there = there_behind (first ∷ (ends ++ place ∷ [])) kept;
         rise = rise_more first ends last place k.rise up;
         low = (let long = new_tip in omega (arith, long));
@@ -448,8 +451,8 @@ begun_low (items.Record (kinds.BeginTransaction name)) images next log first bef
     let after : Log = log_with log (item ∷ []) in
     let none : open_at log (tip log) ≡ None =
     sym (open_told log (tip log) (tip_state images) (keeps_state images log first before ends last k)) ∙ none_begun (tip_state images) (tip_state next) (tip log) name means in
-    let open : open_at after (tip after) ≡ Some (tip log) = open_written log (item ∷ []) ∙ ap (λ o. Some (unwrap_or o (tip log))) none in
-    let same : closed_end_at after (tip after) ≡ tip log = ap (λ o. unwrap_or o (tip after)) open in
+    let unclosed : open_at after (tip after) ≡ Some (tip log) = open_written log (item ∷ []) ∙ ap (λ o. Some (unwrap_or o (tip log))) none in
+    let same : closed_end_at after (tip after) ≡ tip log = ap (λ o. unwrap_or o (tip after)) unclosed in
     omega (arith, same)
 begun_low item images next log first before ends last k m means = absurd (marked_not images (pos (tip log)) m.is)
 
@@ -514,7 +517,7 @@ tip_kept images after log first before ends last k up is = subst (λ (i : Images
   begun = k.begun;
   kept = ap (λ (ks : List (ℤ × Image)). ks ++ (pos (tip log), images.tip) ∷ []) k.kept ∙ one_more_image log first ends (tip log) images.tip (sym (ap (λ (r : Result Image Ill). result_unwrap_or r empty) k.present));
   kept_begun = ap (λ (bs : List (ℤ × Option ℤ)). bs ++ (pos (tip log), images.begun) ∷ []) k.kept_begun ∙ one_more_begin log first ends (tip log) images.begun k.begun;
-  there = λ begin open. one_before begin (first ∷ ends) (tip log ∷ []) (k.there begin open);
+  there = λ begin unclosed. one_before begin (first ∷ ends) (tip log ∷ []) (k.there begin unclosed);
   rise = rise_more first ends last (tip log) k.rise up;
   low = omega arith;
   rest = k.rest ++ (pos (tip log), images.made) ∷ [];
@@ -522,8 +525,8 @@ tip_kept images after log first before ends last k up is = subst (λ (i : Images
   each = weighed_added log before ends k.rest (tip log) images.made k.each k.made;
   made = (let based = base_more log before ends (tip log) in omega (arith, based));
   least = k.least;
-  undoes = λ begin open.
-      let within = k.undoes begin open in
+  undoes = λ begin unclosed.
+      let within = k.undoes begin unclosed in
       let q : ℤ × ℕ → Bool = λ m. int_lt (pos begin) m.0 in
       let more = calls_added q images.kept_made (pos (tip log), images.made) in
       omega (arith, within, more);
@@ -563,7 +566,7 @@ records_kept images next log first before ends last records k none means kept ca
       begun = begun ∙ ap place_of (sym closed_then);
       kept = kept ∙ (k.kept ∙ images_still log own first ends last k.rise k.low);
       kept_begun = begins ∙ (k.kept_begun ∙ begins_still log own first ends last k.rise k.low);
-      there = λ begin open. absurd (let both : None ≡ Some begin = sym closed_then ∙ open in cc);
+      there = λ begin unclosed. absurd (let both : None ≡ Some begin = sym closed_then ∙ unclosed in cc);
       rise = k.rise;
       low = omega (arith, low, long);
       rest = k.rest;
@@ -603,15 +606,15 @@ module _ (e : Core) (s : State) (writes : List Write) (k : IsEngine e s writes) 
 
   -- a transaction that is open at the tip was open at the committed end, on standby
   pub open_first : (begin : ℕ) → open_at log (tip log) ≡ Some begin → (committed ≡ tip_of s) × (closed_of s.world ≡ begin)
-  open_first begin open = by s.world.leading refl
+  open_first begin unclosed = by s.world.leading refl
     where
       by : (leading : Option ℤ) → s.world.leading ≡ leading → (committed ≡ tip_of s) × (closed_of s.world ≡ begin)
       by None none =
           let at : committed ≡ tip_of s = tip_only log committed s.world.batch_ends (tip_of s) k.is_state.ends (k.is_state.at_standby none).0 in
-          (at, ap (λ n. unwrap_or (open_at log n) n) at ∙ ap (λ o. unwrap_or o (tip_of s)) open)
+          (at, ap (λ n. unwrap_or (open_at log n) n) at ∙ ap (λ o. unwrap_or o (tip_of s)) unclosed)
       by (Some epoch) some =
           let closed_then = k.is_state.decided (subst (λ (l : Option ℤ). IsSome l) (sym some) refl) in
-          absurd (let both : None ≡ Some begin = sym closed_then ∙ open in cc)
+          absurd (let both : None ≡ Some begin = sym closed_then ∙ unclosed in cc)
 
   a_state : HasState log (tip_of s) e.images.tip
   a_state = state_seen log (tip_of s) e.images.tip k.present
@@ -622,12 +625,12 @@ module _ (e : Core) (s : State) (writes : List Write) (k : IsEngine e s writes) 
       settled_low log h.state committed h.there (rises e s writes k)
 
   undoes_engine : UndoesWithin e.images log
-  undoes_engine begin open =
-      let at = open_first begin open in
-      let first_open : open_at log (tip log) ≡ Some (closed_of s.world) = open ∙ ap (λ n. Some n) (sym at.1) in
+  undoes_engine begin unclosed =
+      let at = open_first begin unclosed in
+      let first_open : open_at log (tip log) ≡ Some (closed_of s.world) = unclosed ∙ ap (λ n. Some n) (sym at.1) in
       let settled : weight_settled log committed ≡ weight_below log (closed_of s.world + 1) =
       ap (λ n. option_map_or (λ (b : ℕ). weight_below log (b + 1)) (open_at log n) (weight_below log n)) at.0 ∙ ap (λ o. option_map_or (λ (b : ℕ). weight_below log (b + 1)) o (weight_below log (tip_of s))) first_open in
-      undoes_from_first e.images log a_state.state (closed_of s.world) (weight_settled log committed) ends a_state.there k.weighed (places_rise e s writes k) first_open settled begin open
+      undoes_from_first e.images log a_state.state (closed_of s.world) (weight_settled log committed) ends a_state.there k.weighed (places_rise e s writes k) first_open settled begin unclosed
 
   pub engine_keeps : Keeps e.images log (closed_of s.world) (weight_settled log committed) ends (tip_of s)
   engine_keeps = record {
@@ -635,7 +638,7 @@ module _ (e : Core) (s : State) (writes : List Write) (k : IsEngine e s writes) 
     begun = k.begun;
     kept = k.kept;
     kept_begun = k.kept_begun;
-    there = λ begin open. subst (λ n. is_one n (closed_of s.world ∷ ends) ≡ true) (open_first begin open).1 (one_first (closed_of s.world) ends);
+    there = λ begin unclosed. subst (λ n. is_one n (closed_of s.world ∷ ends) ≡ true) (open_first begin unclosed).1 (one_first (closed_of s.world) ends);
     rise = places_rise e s writes k;
     low = omega arith;
     rest = k.weighed.rest;

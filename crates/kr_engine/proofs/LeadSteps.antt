@@ -266,11 +266,11 @@ module _ (e : Core) (epoch next now : ℤ) (d : IsDrained e) where
       closed_is : closed_of v ≡ closed_of s.world
 
     module _ (up c : Core) (v : World) (u : Up up v) where
-      abbrev open : Option ℕ
-      open = open_at v.log (tip v.log)
+      abbrev unclosed : Option ℕ
+      unclosed = open_at v.log (tip v.log)
 
       -- nothing is open
-      settled_none : open ≡ None → c ≡ up → Settled up c v (with_records v (giving_up v))
+      settled_none : unclosed ≡ None → c ≡ up → Settled up c v (with_records v (giving_up v))
       settled_none none same =
           let stays : with_records v (giving_up v) ≡ v = ap (λ o. with_records v (cond (is_some o) (kinds.AbortTransaction None ∷ []) [])) none in
           subst (λ (w : World). Settled up c v w) (sym stays) (subst (λ (x : Core). Settled up x v v) (sym same) (record {
@@ -288,7 +288,7 @@ module _ (e : Core) (epoch next now : ℤ) (d : IsDrained e) where
           }))
 
       -- the abort is a batch
-      module _ (begin : ℕ) (some : open ≡ Some begin) (g : GivesUp up c epoch) (room : tip v.log + 1 ≤ unsigned_abs PLACES_END) where
+      module _ (begin : ℕ) (some : unclosed ≡ Some begin) (g : GivesUp up c epoch) (room : tip v.log + 1 ≤ unsigned_abs PLACES_END) where
         abbrev own : List Item
         own = items.Record an_abort ∷ []
 
@@ -347,12 +347,12 @@ module _ (e : Core) (epoch next now : ℤ) (d : IsDrained e) where
                   ∙ u.closed;
             }))
 
-      settled_by : (o : Option ℕ) → open ≡ o → GivesUpOpen (place_of o) up c epoch → tip v.log + 1 ≤ unsigned_abs PLACES_END → Settled up c v (with_records v (giving_up v))
+      settled_by : (o : Option ℕ) → unclosed ≡ o → GivesUpOpen (place_of o) up c epoch → tip v.log + 1 ≤ unsigned_abs PLACES_END → Settled up c v (with_records v (giving_up v))
       settled_by None none same room = settled_none none same
       settled_by (Some begin) some g room = settled_some begin some g room
 
       settles : GivesUpOpen up.images.begun up c epoch → tip v.log + 1 ≤ unsigned_abs PLACES_END → Settled up c v (with_records v (giving_up v))
-      settles g room = settled_by open refl (subst (λ o. GivesUpOpen o up c epoch) u.has.keeps.begun g) room
+      settles g room = settled_by unclosed refl (subst (λ o. GivesUpOpen o up c epoch) u.has.keeps.begun g) room
 
     -- ---- the engine that leads
 

@@ -1,3 +1,4 @@
+pub mod LongerWorlds
 pub mod AppendSteps
 pub mod BatchSteps
 pub mod ClosedEnds

@@ -22,8 +22,8 @@ use Rattle.kr_engine.proofs.KeptStates.{Keeps, keeps_weighed}
 
 settled_by : (log : Log) (more : List Item) (place : ℕ) (state : LogState) (o : Option ℕ) → state_at log place ≡ Ok state → place ≤ tip log → open_at log place ≡ o
     → option_map_or (λ (begin : ℕ). weight_below (log_with log more) (begin + 1)) o (weight_below (log_with log more) place) ≡ option_map_or (λ (begin : ℕ). weight_below log (begin + 1)) o (weight_below log place)
-settled_by log more place state None is low open = weight_longer log more place low
-settled_by log more place state (Some begin) is low open = weight_longer log more (begin + 1) (let below = begun_below log place state begin is open in omega (arith, below, low))
+settled_by log more place state None is low unclosed = weight_longer log more place low
+settled_by log more place state (Some begin) is low unclosed = weight_longer log more (begin + 1) (let below = begun_below log place state begin is unclosed in omega (arith, below, low))
 
 pub settled_same : (log : Log) (more : List Item) (place : ℕ) (image : Image) → image_at log (tip log) ≡ Ok image → place ≤ tip log → weight_settled (log_with log more) place ≡ weight_settled log place
 settled_same log more place image seen low =

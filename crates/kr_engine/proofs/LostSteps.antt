@@ -59,19 +59,19 @@ covered_left closed covered c ends to settled rise =
 
 settled_cut : (log : Log) (place : ℕ) (state : LogState) (o : Option ℕ) → state_at log place ≡ Ok state → open_at log place ≡ o
     → option_map_or (λ (begin : ℕ). weight_below (cut log place) (begin + 1)) o (weight_below (cut log place) place) ≡ option_map_or (λ (begin : ℕ). weight_below log (begin + 1)) o (weight_below log place)
-settled_cut log place state None is open = weight_cut log place place (omega arith)
-settled_cut log place state (Some begin) is open = weight_cut log place (begin + 1) (begun_below log place state begin is open)
+settled_cut log place state None is unclosed = weight_cut log place place (omega arith)
+settled_cut log place state (Some begin) is unclosed = weight_cut log place (begin + 1) (begun_below log place state begin is unclosed)
 
 -- where no end is covered, nothing is open at the committed end
 all_settled : (e : Core) (s : State) (writes : List Write) → IsEngine e s writes → s.world.covered ≡ [] → weight_settled s.world.log s.world.committed ≡ weight_below s.world.log s.world.committed
 all_settled e s writes k none = by (open_at s.world.log s.world.committed) refl
   where
     by : (o : Option ℕ) → open_at s.world.log s.world.committed ≡ o → weight_settled s.world.log s.world.committed ≡ weight_below s.world.log s.world.committed
-    by None open = ap (λ o. option_map_or (λ (begin : ℕ). weight_below s.world.log (begin + 1)) o (weight_below s.world.log s.world.committed)) open
-    by (Some begin) open =
+    by None unclosed = ap (λ o. option_map_or (λ (begin : ℕ). weight_below s.world.log (begin + 1)) o (weight_below s.world.log s.world.committed)) unclosed
+    by (Some begin) unclosed =
         let at : closed_of s.world ≡ s.world.committed = tip_only s.world.log (closed_of s.world) s.world.covered s.world.committed k.is_state.settled none in
-        let first : closed_of s.world ≡ begin = ap (λ o. unwrap_or o s.world.committed) open in
-        let up = (stands_open s.world.log e.images.tip s.world.committed begin k.present open).below in
+        let first : closed_of s.world ≡ begin = ap (λ o. unwrap_or o s.world.committed) unclosed in
+        let up = (stands_open s.world.log e.images.tip s.world.committed begin k.present unclosed).below in
         absurd (omega (arith, at, first, up))
 
 -- ---- the step

@@ -39,11 +39,14 @@ use Rattle.kr_engine.proofs.Undoing.{appended_in_breaks, begun_breaks, begun_the
 
 -- ---- the abort has a meaning
 
+abbrev opened_with : ℤ → Image → Opened
+opened_with begin image = record { place = log_place begin; image = image }
+
 abort_by : (images : Images) (o : Option ℤ) (cause : Ill) → IsSome o → IfSome o (λ (begin : ℤ). IsSome (kept_at images begin)) → found BadTransaction (opened_at images o) (λ (opened : Opened). Ok (closed opened.image)) ≡ Err cause → ⊥
 abort_by images None cause some there is = never some
 abort_by images (Some begin) cause some there is = kept_by (kept_at images begin) there is
   where
-    kept_by : (k : Option Image) → IsSome k → found BadTransaction (option_map (λ (i : Image). record { place = log_place begin; image = i }) k) (λ (opened : Opened). Ok (closed opened.image)) ≡ Err cause → ⊥
+    kept_by : (k : Option Image) → IsSome k → found BadTransaction (option_map (opened_with begin) k) (λ (opened : Opened). Ok (closed opened.image)) ≡ Err cause → ⊥
     kept_by None some is = never some
     kept_by (Some image) some is = cc
 

@@ -2,7 +2,7 @@
 use Rattle.std.proofs.Common.{◌≡◌, ◌∙◌, ℕ, ℤ, pos, negsuc, Bool, true, false, cond, not, ◌||◌, ◌+◌, ◌≤ℤ◌, List, [], ◌∷◌, ◌++◌, length, refl, ap, sym, subst, arith}
 use Rattle.std.proofs.lemmas.Int.{ints}
 use Rattle.std.proofs.lemmas.List.{length-map}
-use Rattle.std.specs.Prelude.{Option, Some, Result, Ok, Err, IfOk, IsSome, IsTrue, ◌+ℤ◌}
+use Rattle.std.specs.Prelude.{Option, Some, Result, Ok, Err, IfOk, IsSome, IsTrue, unwrap_or, ◌+ℤ◌}
 use Rattle.std.specs.Ordering.{int_eq}
 use Rattle.std.specs.Result.{result_unwrap_or}
 use Rattle.kr_calls.specs.declared.calls.Request.{Request}
@@ -22,7 +22,7 @@ use Rattle.kr_defs.specs.declared.record.Record.{Record}
 use Rattle.kr_defs.specs.Heartbeats.{heard}
 use Rattle.kr_defs.specs.Image.{Image, empty}
 use Rattle.kr_defs.specs.ImageLaws.{as_items}
-use Rattle.kr_defs.specs.Log.{Log, apply_all, tip}
+use Rattle.kr_defs.specs.Log.{Log, apply_all, image_at, tip}
 use Rattle.kr_defs.proofs.IdLists.{id_itself}
 use Rattle.kr_store.specs.Images.{kept_at}
 use Rattle.kr_model.specs.declared.writes.Write.{Write}
