@@ -237,8 +237,13 @@ shown_before = refl
 abbrev leads_behind : Event
 leads_behind = events.Lead (pos 2) (pos 2) (pos 0)
 
-pub given_up : outputs_of options half_open [] leads_behind
-    ≡ given.Append (batch_bytes (record { base = pos 2; epoch = pos 2; time = pos 0; items = items.Record (kinds.AbortTransaction None) ∷ [] })) ∷ []
+abbrev commits_to : ℕ → Event
+commits_to end = events.Commit (pos 2) (pos end)
+
+abbrev abort_batch : Batch
+abort_batch = record { base = pos 2; epoch = pos 2; time = pos 0; items = items.Record (kinds.AbortTransaction None) ∷ [] }
+
+pub given_up : outputs_of options half_open [] leads_behind ≡ given.Append (batch_bytes abort_batch) ∷ []
 unfolding apply apply_record image_at state_at apply_at open_at
 given_up = refl
 
@@ -246,12 +251,16 @@ pub taken_back : image_of_tip (after half_open (leads_behind ∷ [])) ≡ empty
 unfolding apply apply_record image_at state_at apply_at open_at
 taken_back = refl
 
+-- a write is decided behind the abort, and answered once both are committed
+pub answered_behind :
+    outputs_from half_open [] (leads_behind ∷ asked (pos 1) ∷ commits_to 3 ∷ commits_to 6 ∷ [])
+    ≡ (given.Append (batch_bytes abort_batch) ∷ []) ∷ (given.Append (batch_bytes (record settings_batch { base = pos 3; epoch = pos 2 })) ∷ []) ∷ [] ∷ (replied (pos 1) (pos 0) ∷ []) ∷ []
+unfolding work_of incremental_alter_configs.decided done taken apply_record apply image_at state_at apply_at open_at value_bytes heartbeats_after refusals.refuse
+answered_behind = refl
+
 -- behind an item of the quorum's own: the commit of that item closes nothing, that of the abort does
 abbrev leads_above : Event
 leads_above = events.Lead (pos 2) (pos 3) (pos 0)
-
-abbrev commits_to : ℕ → Event
-commits_to end = events.Commit (pos 2) (pos end)
 
 pub still_open : closed_of (after half_open (leads_above ∷ commits_to 3 ∷ [])).world ≡ 0
 unfolding apply apply_record image_at state_at apply_at open_at
@@ -272,6 +281,29 @@ lost_inside = refl
 pub closed_later : closed_of (after_batch open_again (record { base = pos 3; epoch = pos 3; time = pos 0; items = items.Record kinds.EndTransaction ∷ [] })).world ≡ 4
 unfolding apply apply_record image_at state_at apply_at open_at
 closed_later = refl
+
+-- what it brought is seen then
+abbrev end_batch : Batch
+end_batch = record { base = pos 2; epoch = pos 3; time = pos 0; items = items.Record kinds.EndTransaction ∷ [] }
+
+pub shown_later : outputs_of options (after_batch (after half_open (leads_behind ∷ events.Lost (pos 2) ∷ [])) end_batch) [] events.Image
+    ≡ given.Image (image_text (pos 3) (record empty { configs = (record { kind = pos 4; name = []; key = codes "a" }, codes "1") ∷ [] })) ∷ []
+unfolding apply apply_record image_at state_at apply_at open_at value_bytes
+shown_later = refl
+
+-- the ends of batches that the transaction goes over are kept until it is closed
+pub covered_inside : half_open.world.covered ≡ 2 ∷ []
+unfolding open_at
+covered_inside = refl
+
+pub covered_then : (after_batch half_open end_batch).world.covered ≡ []
+unfolding open_at
+covered_then = refl
+
+-- an image in place of all closes it: then none ends
+pub loaded_inside : take_batch (after_load half_open 2 empty) end_batch ≡ Err (ill_formed (pos 2) BadTransaction)
+unfolding apply apply_record image_at state_at apply_at open_at
+loaded_inside = refl
 
 -- a second one can't begin inside, and none ends that hasn't begun
 pub second_begin : take_batch half_open (record { base = pos 2; epoch = pos 1; time = pos 0; items = items.Record (kinds.BeginTransaction None) ∷ [] }) ≡ Err (ill_formed (pos 2) BadTransaction)
