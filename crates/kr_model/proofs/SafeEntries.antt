@@ -20,7 +20,6 @@ use Rattle.kr_defs.specs.declared.broker.Broker.{Broker}
 use Rattle.kr_defs.specs.declared.ill.Ill.{Ill}
 use Rattle.kr_defs.specs.declared.options.Options.{Options}
 use Rattle.kr_defs.specs.declared.record.Item.{Item}
-use Rattle.kr_defs.specs.declared.record.Item.TheVariants as items
 use Rattle.kr_defs.specs.declared.record.Record.{Record}
 use Rattle.kr_defs.specs.declared.record.Record.TheVariants as kinds
 use Rattle.kr_defs.specs.Apply.{apply, apply_record}

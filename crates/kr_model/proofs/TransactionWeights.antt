@@ -12,7 +12,7 @@ use Rattle.kr_defs.specs.declared.record.Record.TheVariants as kinds
 use Rattle.kr_defs.specs.Guard.{and_then}
 use Rattle.kr_defs.specs.Log.{Log, open_at, state_at, tip}
 use Rattle.kr_defs.specs.LogStates.{LogState, Opened, apply_all_at, apply_at, closed, open_behind}
-use Rattle.kr_defs.proofs.StateLogs.{open_stands, open_told, state_at_start, state_at_tip}
+use Rattle.kr_defs.proofs.StateLogs.{open_stands, open_told, state_at_tip}
 use Rattle.kr_store.specs.Images.{Images, above, calls_of}
 use Rattle.kr_store.specs.ItemAnswers.{calls_at, calls_to_undo}
 use Rattle.kr_model.specs.Engine.{Rise}

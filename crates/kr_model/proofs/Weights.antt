@@ -150,9 +150,12 @@ weighed_more log items state before from [] (m ∷ ms) n made seen rise least ar
 weighed_more log items state before from (k ∷ ns) [] n made seen rise least are end few = absurd are
 weighed_more log items state before from (k ∷ ns) (m ∷ ms) n made seen rise least are end few =
     let same : weight_below (log_with log items) k ≡ weight_below log k = weight_longer log items k (not_higher k ns (tip log) rise.1) in
-    let here : m.1 + before ≤ weight_below log k = are.1 in
-    (are.0, omega (arith, here, same), subst (λ b. AreWeighed (log_with log items) b (ns ++ n ∷ []) (ms ++ (pos n, made) ∷ [])) (sym same)
-    (weighed_more log items state (weight_below log k) k ns ms n made seen rise.1 (weighs_from log k ns (tip log) rise.1) are.2 end few))
+    let here : m.1 + before ≤ weight_below log k = are.1 in (
+      are.0,
+      omega (arith, here, same),
+      subst (λ b. AreWeighed (log_with log items) b (ns ++ n ∷ []) (ms ++ (pos n, made) ∷ [])) (sym same)
+          (weighed_more log items state (weight_below log k) k ns ms n made seen rise.1 (weighs_from log k ns (tip log) rise.1) are.2 end few),
+    )
 
 pub all_weighed : (log : Log) (before from : ℕ) (ns : List ℕ) (to : ℕ) (ms : List (ℤ × ℕ)) → Rise from ns to → WeighsUpTo log before ns to → AreWeighed log before ns ms → (calls_of ms + before ≤ weight_below log to) × (length ms ≡ length ns)
 all_weighed log before from [] to [] rise least are = let start : before ≤ weight_below log to = least refl in (omega (arith, start), refl)

@@ -9,7 +9,7 @@ use Rattle.kr_batch.specs.declared.Batch.{Batch}
 use Rattle.kr_batch.specs.declared.fault.BatchFault.{BatchFault}
 use Rattle.kr_batch.specs.Reading.{batch_of}
 use Rattle.kr_model.specs.Reasons.{already_leading, bad_batch, exhausted, gap, ill_formed}
-use Rattle.kr_model.specs.World.{State, World, is_far, log_with, state_of_tip, tip_of, with_end}
+use Rattle.kr_model.specs.World.{State, is_far, log_with, state_of_tip, tip_of, with_end}
 
 abbrev pub batch_or : Result Batch BatchFault → Result Batch Reason
 batch_or (Ok batch) = Ok batch

@@ -32,9 +32,9 @@ use Rattle.kr_defs.proofs.Tests.{both, not_false}
 use Rattle.kr_snapshot.specs.Reading.{image_of}
 use Rattle.kr_model.specs.Commit.{commit, after_commit, ends_up_to, is_end}
 use Rattle.kr_model.specs.Events.{happens, outcome, at_time_of}
-use Rattle.kr_model.specs.Lead.{after_lead, giving_up, in_lead, lead, may_begin_at, up_to}
+use Rattle.kr_model.specs.Lead.{after_lead, giving_up, lead, may_begin_at, up_to}
 use Rattle.kr_model.specs.Lost.{after_lost, lost}
-use Rattle.kr_model.specs.World.{leads_in, State, World, with_heartbeats, image_of_tip, is_far, log_with, state_of_tip, tip_of, with_batch, with_records}
+use Rattle.kr_model.specs.World.{leads_in, State, with_heartbeats, image_of_tip, is_far, log_with, state_of_tip, tip_of, with_batch, with_records}
 use Rattle.kr_model.specs.Reasons as reasons
 use Rattle.kr_model.specs.Batch.{batch_or, end_of, batch, take_batch, after_batch, unless_ill}
 use Rattle.kr_model.specs.Load.{image_or, load, take_image, after_load}

@@ -21,7 +21,7 @@ use Rattle.kr_defs.proofs.StateLogs.{apply_append as states_append, open_told}
 use Rattle.kr_calls.specs.declared.events.Entry.{Entry}
 use Rattle.kr_calls.specs.declared.events.Entry.TheVariants as entries
 use Rattle.kr_calls.specs.Deciding.{apply_records}
-use Rattle.kr_calls.specs.SeatList.{IsClosedList, Reached, image_below, image_of, is_below, item_entries, nothing_reached, reached, reached_with, with_image}
+use Rattle.kr_calls.specs.SeatList.{Reached, image_below, image_of, is_below, item_entries, nothing_reached, reached, reached_with, with_image}
 use Rattle.kr_calls.proofs.CountedItems.{all_count}
 use Rattle.kr_model.specs.Entries.{items_from}
 use Rattle.kr_model.specs.Lost.{cut}
