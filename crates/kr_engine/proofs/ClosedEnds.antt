@@ -177,7 +177,7 @@ state_kept images log place seen begun kept =
     ok : LogState → Result LogState Ill
     ok s = Ok s
 
-    abbrev state_of : Image → Option Opened → LogState
+    state_of : Image → Option Opened → LogState
     state_of image opened = record { image = image; opened = opened }
 
     opened_so : (h : HasState log place images.tip) (o : Option Opened) → h.state.opened ≡ o → o ≡ opened_at images (option_map (λ (n : ℕ). pos n) (option_map (λ (o : Opened). o.place) o))

@@ -72,15 +72,15 @@ all_next kept place above =
     each [] all = tt
     each (k ∷ kept) all = (lt_next k.0 place all.0, each kept all.1)
 
+abbrev Low : ℤ → ℤ × Image → Type 0
+Low place k = IsTrue (int_lt k.0 place)
+
 -- none is kept above the next place
 grown_above : (before after : Images) (place : ℤ) → Grows before after place → IsAbove before.kept (place +ℤ pos 1) → IsAbove after.kept (place +ℤ pos 1)
 grown_above before after place (inl keeps) above = subst (λ (ks : List (ℤ × Image)). IsAbove ks (place +ℤ pos 1)) (sym keeps.images) above
 grown_above before after place (inr adds) above =
     subst (λ (ks : List (ℤ × Image)). IsAbove ks (place +ℤ pos 1)) (sym adds.epochs.images)
-    (All-append P before.kept ((place, before.tip) ∷ []) above (All-from_recursion P ((place, before.tip) ∷ []) (lt_itself place, tt)))
-  where
-    abbrev P : ℤ × Image → Type 0
-    P k = IsTrue (int_lt k.0 (place +ℤ pos 1))
+    (All-append (Low (place +ℤ pos 1)) before.kept ((place, before.tip) ∷ []) above (All-from_recursion (Low (place +ℤ pos 1)) ((place, before.tip) ∷ []) (lt_itself place, tt)))
 
 grown_some : (before after : Images) (place : ℤ) → Grows before after place → IsSome (last_kept before) → IsSome (last_kept after)
 grown_some before after place (inl keeps) some = subst (λ (ks : List (ℤ × Image)). IsSome (slice_get ks (length ks - 1))) (sym keeps.images) some

@@ -1,12 +1,10 @@
 -- A leadership gives up the transaction that is open at the tip.
-use Rattle.std.proofs.Common.{◌≡◌, ◌∙◌, sym, subst, ℕ, ℤ, pos, negsuc, Bool, true, false, cond, ◌+◌, ◌≤◌, ◌<◌, List, [], ◌∷◌, ◌++◌, length, refl, ap, arith, lit<, lit≤}
+use Rattle.std.proofs.Common.{◌≡◌, ◌∙◌, sym, subst, ℕ, ℤ, pos, negsuc, Bool, true, false, cond, ◌+◌, ◌≤◌, ◌<◌, List, [], ◌∷◌, ◌++◌, length, refl, ap, arith}
 use Rattle.std.proofs.lemmas.Int.{ints}
 use Rattle.std.proofs.lemmas.List.Elements.{All-append, All-from_recursion}
-use Rattle.std.proofs.lemmas.List.Sums.{sum_by-cons}
 use Rattle.std.specs.Prelude.{◌+ℤ◌, ◌≤ℤ◌, ◌||◌, Option, Some, None, Result, Ok, Err, IfSome, IsSome, IsTrue, int_lt, is_some, not}
 use Rattle.std.specs.Option.{option_map, option_map_or}
 use Rattle.std.specs.Ordering.{int_eq}
-use Rattle.kr_batch.specs.BatchBytes.{IsWritable, VALUES_END, item_value, values_size}
 use Rattle.kr_defs.specs.declared.ill.Ill.{Ill}
 use Rattle.kr_defs.specs.declared.ill.Ill.TheVariants.{BadTransaction}
 use Rattle.kr_defs.specs.declared.limits.TheConstants.{PLACES_END}
@@ -15,9 +13,8 @@ use Rattle.kr_defs.specs.declared.record.Item.TheVariants as items
 use Rattle.kr_defs.specs.declared.record.Record.{Record}
 use Rattle.kr_defs.specs.Guard.{found}
 use Rattle.kr_defs.specs.Image.{Image}
-use Rattle.kr_defs.specs.ImageLaws.{as_items}
 use Rattle.kr_defs.specs.LogStates.{LogState, Opened, apply_at, closed}
-use Rattle.kr_record.proofs.RecordForms.{size}
+use Rattle.law_batch_limits.proofs.AbortRecords.{abort_fits}
 use Rattle.law_batch_limits.specs.Fitting.{FitsBatch}
 use Rattle.kr_store.specs.Images.{AreValid, Images, IsAbove, kept_at, last_kept, log_place, marked, opened_at, tip_state}
 use Rattle.kr_store.specs.ItemAnswers.{KeepsEpochs, MayStand}
@@ -67,18 +64,6 @@ abort_never before after place item cause is valid some taken =
 pub ruleset apply_abort = (abort_stands, abort_taken, abort_never)
 
 -- ---- it fits a batch
-
-abort_size : length (item_value (items.Record an_abort)) ≡ 4
-abort_size = size an_abort (tt, tt)
-
-abort_fits : FitsBatch (an_abort ∷ [])
-abort_fits = record {
-  few = lit≤ tt;
-  each = All-from_recursion IsWritable (as_items (an_abort ∷ [])) ((tt, tt), tt);
-  small =
-      (let one = sum_by-cons (λ i. length (item_value i)) (items.Record an_abort) [] in
-      let long = abort_size in omega (arith, one, long));
-}
 
 pub one_fits : (records : List Record) → records ≡ an_abort ∷ [] → FitsBatch records
 one_fits records is = subst FitsBatch (sym is) abort_fits
