@@ -1,12 +1,16 @@
 -- Where no transaction is open in a store, none is after each of its calls.
-use Rattle.std.proofs.Common.{◌≡◌, ◌∙◌, ℤ, ℕ, suc, ◌-◌, Bool, true, false, cond, List, [], ◌∷◌, ◌++◌, refl, sym, ap, subst, filter, length}
+use Rattle.std.proofs.Common.{◌≡◌, ◌∙◌, ℤ, ℕ, zero, suc, ◌-◌, Bool, true, false, cond, List, [], ◌∷◌, ◌++◌, refl, sym, ap, subst, filter, length}
 use Rattle.std.specs.Prelude.{Option, Some, None, IfSome, IsTrue, find, int_lt, not, slice_get}
 use Rattle.std.specs.List.{AllByRecursion}
 use Rattle.std.specs.Option.{option_map}
 use Rattle.std.specs.Ordering.{int_eq}
 use Rattle.std.proofs.lemmas.List.Elements.{All-from_recursion}
+use Rattle.kr_defs.specs.declared.record.Item.{Item}
 use Rattle.kr_defs.specs.Image.{Image}
 use Rattle.kr_defs.proofs.Tests.{some_is}
+use Rattle.kr_store.specs.declared.places.ApplyFault.{ApplyFault}
+use Rattle.kr_store.specs.declared.places.ApplyFault.TheVariants as faults
+use Rattle.kr_store.specs.ItemAnswers.{IsFault}
 use Rattle.kr_store.specs.Images.{AreBegunFrom, Images, begun_at, begun_under, forgotten, kept_at, last_begun, marked, reverted}
 use Rattle.testlib_rule_answers.specs.Histories.{AreClosed}
 
@@ -23,7 +27,7 @@ found_shut test (b ∷ begins) all =
 
 there_shut : (begins : List (ℤ × Option ℤ)) (n : ℕ) → AllByRecursion IsShut begins → begun_under (slice_get begins n) ≡ None
 there_shut [] n all = refl
-there_shut (b ∷ begins) 0 all = all.0
+there_shut (b ∷ begins) zero all = all.0
 there_shut (b ∷ begins) (suc n) all = there_shut begins n all.1
 
 more_shut : (begins : List (ℤ × Option ℤ)) (b : ℤ × Option ℤ) → AllByRecursion IsShut begins → IsShut b → AllByRecursion IsShut (begins ++ b ∷ [])
@@ -47,11 +51,16 @@ all_from epoch (b ∷ begins) all = (from_any epoch b.1 all.0, all_from epoch be
 
 -- ---- the calls
 
-closed_on : (before after : Images) → after.begun ≡ before.begun → after.kept_begun ≡ before.kept_begun → AreClosed before → AreClosed after
+pub closed_on : (before after : Images) → after.begun ≡ before.begun → after.kept_begun ≡ before.kept_begun → AreClosed before → AreClosed after
 closed_on before after tip same closed = record { tip = tip ∙ closed.tip; kept = rw same closed.kept }
 
 closed_back : (before after : Images) → after.begun ≡ last_begun before → after.kept_begun ≡ before.kept_begun → AreClosed before → AreClosed after
 closed_back before after tip same closed = record { tip = tip ∙ there_shut before.kept_begun (length before.kept_begun - 1) closed.kept; kept = rw same closed.kept }
+
+-- an item that has no meaning changes nothing, and without memory the tip is that of the last kept epoch
+pub closed_failed : (before after : Images) (fault : ApplyFault) (place : ℤ) (item : Item) → IsFault before after fault place item → after.kept_begun ≡ before.kept_begun → AreClosed before → AreClosed after
+closed_failed before after (faults.IllFormed there cause) place item failed same closed = subst AreClosed (sym failed.2) closed
+closed_failed before after faults.NoMemory place item failed same closed = closed_back before after failed.2 same closed
 
 pub closed_marked : (images : Images) (epoch : ℤ) → AreClosed images → AreClosed (marked images epoch)
 closed_marked images epoch closed = record { tip = closed.tip; kept = more_shut images.kept_begun (epoch, images.begun) closed.kept closed.tip }
@@ -81,7 +90,7 @@ closed_reverted images after epoch is closed = of_epoch images after epoch (kept
 pub closed_forgotten : (images : Images) (epoch : ℤ) → AreClosed images → AreClosed (forgotten images epoch)
 closed_forgotten images epoch closed = record { tip = closed.tip; kept = some_shut (λ (b : ℤ × Option ℤ). not (int_lt b.0 epoch)) images.kept_begun closed.kept }
 
-begun_from : (images : Images) (epoch : ℤ) → AreClosed images → AreBegunFrom images epoch
+pub begun_from : (images : Images) (epoch : ℤ) → AreClosed images → AreBegunFrom images epoch
 begun_from images epoch closed =
     let left : List (ℤ × Option ℤ) = filter (λ (b : ℤ × Option ℤ). not (int_lt b.0 epoch)) images.kept_begun in
     record {
@@ -89,5 +98,4 @@ begun_from images epoch closed =
       kept = All-from_recursion (λ (b : ℤ × Option ℤ). IfSome b.1 (λ begin. IsTrue (not (int_lt begin epoch)))) left (all_from epoch left (some_shut (λ (b : ℤ × Option ℤ). not (int_lt b.0 epoch)) images.kept_begun closed.kept));
     }
 
-pub ruleset applied = (closed_on, closed_back)
-pub ruleset begins = (begun_from, closed_marked)
+pub ruleset begins = (closed_on, begun_from, closed_marked)

@@ -53,7 +53,7 @@ fn drop_below(epochs: &mut Vec<i64>, limit: &i64)
 }
 
 // The record's image is the present one, or the cause why it has none.
-#[tactic(auto, using(crate::proofs::ClosedStores::applied))]
+#[tactic(auto, using(crate::proofs::ClosedStores::begins))]
 fn judge<L: Ledger>(
     store: &mut ImageStore,
     place: i64,
