@@ -275,6 +275,12 @@ stays_staged old new is fresh same left keeps =
       room = λ room. subst (λ (k : DeskState). HasLineRoom k.line) (sym is) room;
     }
 
+-- both, one after the other
+pub stays_entries : (old mid new : DeskState) → mid ≡ record old { unstaged = mid.unstaged; fresh = mid.fresh } → added mid ≡ added old → mid.fresh ≡ [] → new ≡ record mid { shelf = new.shelf; unstaged = new.unstaged }
+    → fold with_staged new.shelf (staged_below mid.engine.closed new.unstaged) ≡ fold with_staged mid.shelf (staged_below mid.engine.closed mid.unstaged)
+    → staged_above mid.engine.closed new.unstaged ≡ staged_above mid.engine.closed mid.unstaged → KeepsShown mid.shelf new.shelf → StaysDue old new
+stays_entries old mid new joins all fresh is same left keeps = stays_then old mid new (stays_joined old mid joins all) (stays_staged mid new is fresh same left keeps)
+
 pub stays_seated : (old new : DeskState) → new ≡ record old { line = new.line } → new.line ≡ record old.line { seated = new.line.seated } → StaysDue old new
 stays_seated old new is seated = record {
   ready = (λ i. fold with_staged (fold with_staged (is i).shelf (staged_below (is i).engine.closed (added (is i)))) new.line.due) ∙ (λ i. fold with_staged (fold with_staged old.shelf (staged_below old.engine.closed (added old))) (seated i).due);

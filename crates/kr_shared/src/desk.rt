@@ -4,6 +4,7 @@ ghost use Rattle.std.specs.Prelude.{◌≡◌, ◌&&◌, ◌<◌, ◌++◌, ℤ,
 ghost use Rattle.std.specs.Int.{int_max};
 ghost use Rattle.kr_calls.specs.declared.events.Event.TheVariants as events;
 ghost use Rattle.kr_calls.specs.Decide.{is_read};
+ghost use Rattle.kr_calls.specs.SeatList.{is_below};
 ghost use Rattle.kr_queue.specs.Jobs.{is_fit};
 ghost use Rattle.kr_view.specs.Shelves.{IsDelayed, MayPublish, shown_at, with_staged};
 ghost use Rattle.kr_view.specs.Staged.{staged_above, staged_below};
@@ -30,7 +31,7 @@ use kr_defs::Basis;
 use kr_defs::limits::GREATEST_TIP;
 use kr_engine::Engine;
 use kr_queue::Job;
-use kr_view::{Publisher, is_below};
+use kr_view::Publisher;
 use std::alloc::Global;
 use std::collections::VecDeque;
 use std::marker::Model;
@@ -131,6 +132,17 @@ fn later(time: &i64, other: &i64) -> i64
     ensures { result ≡ int_max time.now other.now }
 {
     (*time).max(*other)
+}
+
+// An item or an image in place of all stands below the end.
+fn is_below(entry: &Entry, end: &i64) -> bool
+    ensures { result ≡ is_below end.now entry.now }
+{
+    match entry {
+        Entry::Item { place, .. } => place < end,
+        Entry::Load { offset, .. } => offset <= end,
+        Entry::Pin { .. } | Entry::Unpin { .. } | Entry::Answer { .. } | Entry::Stop { .. } => true,
+    }
 }
 
 // What was added last stands behind the others. What found no room stays.

@@ -18,9 +18,9 @@ use Rattle.kr_calls.specs.SeatList.{PinnedLog, Reached, lower, nothing_pinned}
 use Rattle.kr_image.proofs.EpochEnds.{filter_all, last_later}
 use Rattle.kr_image.proofs.KeptLists.{all_passing, all_push, all_weaker, apart_before, find_filter, find_last, map_same}
 use Rattle.kr_store.specs.Images.{AreBegunFrom, AreValid, Images, IsAbove, begun_at, begun_under, forgotten, kept_at, kept_once, last_kept, log_place, marked, no_images, opened_at, opened_under, reverted, tip_state}
-use Rattle.kr_view.specs.Pinned.{log_in, pin_image}
+use Rattle.kr_view.specs.Pinned.{log_in, pin_image, reached_in}
 use Rattle.kr_view.specs.Standing.{AreInTurn, AreNatural, ComesTo, GoesOnFrom, IsRunningAt, IsStandingAt, KeepsMore, run_with, with_run}
-use Rattle.kr_view.proofs.OpenTransactions.{Begun, Rising, all_filter, all_follow_last, all_middle, around, begun_rising, lt_itself, not_both, turn_filter, turn_push}
+use Rattle.kr_view.proofs.OpenTransactions.{Begun, Rising, opened_with, all_filter, all_follow_last, all_middle, around, begun_rising, lt_itself, not_both, turn_filter, turn_push}
 use Rattle.kr_view.proofs.Runs.{gone_on, still_there}
 
 -- ---- numbers
@@ -83,7 +83,7 @@ kept_more_at before after more at same is =
 -- what is open is the same where its epoch is kept with the same image
 opened_alike : (a b : Images) (begun : Option ℤ) → IfSome begun (λ begin. kept_at a begin ≡ kept_at b begin) → opened_at a begun ≡ opened_at b begun
 opened_alike a b None same = refl
-opened_alike a b (Some begin) same = ap (λ (o : Option Image). option_map (λ (i : Image). record { place = log_place begin; image = i }) o) same
+opened_alike a b (Some begin) same = ap (option_map (opened_with begin)) same
 
 abbrev state_by : Image → Option Opened → LogState
 state_by image opened = record { image = image; opened = opened }
@@ -159,7 +159,7 @@ module _ (store : Images) (end : ℤ) (pins : List Pin) (s : IsStandingAt store 
       none_left q [] a = refl
       none_left q (e ∷ es) a = ap (λ b. cond b (e ∷ filter q es) (filter q es)) a.0 ∙ none_left q es a.1
 
-  module _ (mid : Images) (keeps : KeepsMore store mid) (valid : AreValid mid) where
+  module _ (mid : Images) (keeps : KeepsMore store mid) where
     mid_at : (at : ℤ) → IsSome (kept_at store at) → kept_at mid at ≡ kept_at store at
     mid_at at is = kept_more_at store mid keeps.more at keeps.kept is
 
@@ -169,6 +169,7 @@ module _ (store : Images) (end : ℤ) (pins : List Pin) (s : IsStandingAt store 
     pub may_go_back : IsSome (kept_at mid end)
     may_go_back = ap is_some mid_end
 
+  module _ (mid : Images) (keeps : KeepsMore store mid) (valid : AreValid mid) where
     mid_kept : mid.kept ≡ (s.earlier ++ (end, store.tip) ∷ []) ++ keeps.more
     mid_kept = keeps.kept ∙ ap (λ (ks : List Kept). ks ++ keeps.more) s.kept
 
@@ -185,27 +186,23 @@ module _ (store : Images) (end : ℤ) (pins : List Pin) (s : IsStandingAt store 
         let found : find p (s.earlier_begun ++ (end, store.begun) ∷ []) ≡ Some (end, store.begun) = find_last p s.earlier_begun (end, store.begun) (all_weaker (λ (b : Begun). int_lt b.0 end ≡ true) (λ (b : Begun). p b ≡ false) (λ b below. apart_before b.0 end below) s.earlier_begun near.0) ((Decides-int_eq end end).1 refl) in
         ap begun_under (ap (find p) mid_begun ∙ find-append p (s.earlier_begun ++ (end, store.begun) ∷ []) keeps.more_begun ∙ ap (λ (o : Option Begun). option_or o (find p keeps.more_begun)) found)
 
-    back_is : reverted mid end ≡ Some (record {
-      kept = filter (λ (k : Kept). not (int_lt end k.0)) mid.kept;
-      tip = store.tip;
-      made = 0;
-      kept_made = filter (λ (m : ℤ × ℕ). not (int_lt end m.0)) mid.kept_made;
-      begun = begun_at mid end;
-      kept_begun = filter (λ (b : Begun). not (int_lt end b.0)) mid.kept_begun;
-    })
-    back_is = ap (option_map (λ (tip : Image). record {
+    abbrev back_to : Image → Images
+    back_to tip = record {
       kept = filter (λ (k : Kept). not (int_lt end k.0)) mid.kept;
       tip = tip;
       made = 0;
       kept_made = filter (λ (m : ℤ × ℕ). not (int_lt end m.0)) mid.kept_made;
       begun = begun_at mid end;
       kept_begun = filter (λ (b : Begun). not (int_lt end b.0)) mid.kept_begun;
-    })) mid_end
+    }
+
+    back_is : reverted mid end ≡ Some (back_to store.tip)
+    back_is = ap (option_map back_to) (mid_end mid keeps)
 
     -- what was applied is taken back
     pub goes_back : (new : Images) → reverted mid end ≡ Some new → (log_in new end pins ≡ log_in store end pins) × IsStandingAt new end pins
     goes_back new is =
-        let own = some_is _ new (sym back_is ∙ is) in
+        let own : back_to store.tip ≡ new = some_is (back_to store.tip) new (sym back_is ∙ is) in
         alike new
         (ap (λ (x : Images). x.kept) (sym own) ∙ ap (filter (λ (k : Kept). not (int_lt end k.0))) mid_kept ∙ up_to_end s.earlier store.tip keeps.more (subst (λ (ks : List Kept). Rising ks) mid_kept valid.rising) ∙ sym s.kept)
         (ap (λ (x : Images). x.kept_begun) (sym own) ∙ ap (filter (λ (b : Begun). not (int_lt end b.0))) mid_begun ∙ up_to_end s.earlier_begun store.begun keeps.more_begun rising_begun ∙ sym s.begun)
@@ -222,7 +219,7 @@ module _ (store : Images) (end : ℤ) (pins : List Pin) (s : IsStandingAt store 
       marked_at at is = kept_more_at mid (marked mid next) ((next, mid.tip) ∷ []) at refl is
 
       pinned_at : (at : ℤ) → IsSome (kept_at store at) → kept_at (marked mid next) at ≡ kept_at store at
-      pinned_at at is = marked_at at (subst IsSome (sym (mid_at at is)) is) ∙ mid_at at is
+      pinned_at at is = marked_at at (subst IsSome (sym (mid_at mid keeps at is)) is) ∙ mid_at mid keeps at is
 
       marked_state : tip_state (marked mid next) ≡ tip_state mid
       marked_state = ap (state_by mid.tip) (opened_alike (marked mid next) mid mid.begun (if_some_then (λ begin. IsSome (kept_at mid begin)) (λ begin. kept_at (marked mid next) begin ≡ kept_at mid begin) mid.begun (λ begin is. marked_at begin is) valid.begun.tip))
@@ -326,11 +323,8 @@ once_stands end image from = record { earlier = []; kept = refl; above = tt; fro
 
 -- ---- a run
 
-abbrev reached_at : Images → ℤ → Reached
-reached_at store end = record { state = tip_state store; end = end }
-
-module _ (old mid : Images) (end next : ℤ) (pins : List Pin) (s : IsStandingAt old end pins) (entries : List Entry) (run : reached_at mid next ≡ fold run_with (reached_at old end) entries) (comes : ComesTo old mid end next) (keeps : KeepsMore old mid) where
-  next_is : next ≡ (fold run_with (reached_at old end) entries).end
+module _ (old mid : Images) (end next : ℤ) (pins : List Pin) (s : IsStandingAt old end pins) (entries : List Entry) (run : reached_in mid next ≡ fold run_with (reached_in old end) entries) (comes : ComesTo old mid end next) (keeps : KeepsMore old mid) where
+  next_is : next ≡ (fold run_with (reached_in old end) entries).end
   next_is = ap (λ (r : Reached). r.end) run
 
   with_pinned : Reached → PinnedLog
@@ -351,7 +345,7 @@ module _ (old mid : Images) (end next : ℤ) (pins : List Pin) (s : IsStandingAt
   pub stays_log : next ≡ end → log_in mid next pins ≡ with_run (log_in old end pins) entries
   stays_log same =
       ap (λ (x : Images × ℤ). log_in x.0 x.1 pins) (λ i. (put same i, same i))
-      ∙ ap with_pinned (sym (still_there (reached_at old end) entries (sym next_is ∙ same)))
+      ∙ ap with_pinned (sym (still_there (reached_in old end) entries (sym next_is ∙ same)))
 
   pub stays_at : next ≡ end → IsStandingAt mid next pins
   stays_at same = subst (λ (x : Images × ℤ). IsStandingAt x.0 x.1 pins) (λ i. (sym (put same) i, sym same i)) s

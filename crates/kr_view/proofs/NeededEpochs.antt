@@ -98,7 +98,7 @@ record Found (bs : List Begun) (at : ℤ) : Type 0 where
 found_beside : (at : ℤ) (ks : List (ℤ × Image)) (bs : List Begun) → map (λ (b : Begun). b.0) bs ≡ map (λ (k : ℤ × Image). k.0) ks
     → IsSome (option_map (λ (k : ℤ × Image). k.1) (find (λ (k : ℤ × Image). int_eq k.0 at) ks)) → Found bs at
 found_beside at [] bs same h = absurd cc
-found_beside at (k ∷ ks) [] same h = absurd (let none : 0 ≡ length (map (λ (k : ℤ × Image). k.0) (k ∷ ks)) = ap length same in cc)
+found_beside at (k ∷ ks) [] same h = absurd cc
 found_beside at (k ∷ ks) (b ∷ bs) same h =
     let heads : b.0 ≡ k.0 = cc in
     let tails : map (λ (b : Begun). b.0) bs ≡ map (λ (k : ℤ × Image). k.0) ks = cc in

@@ -20,7 +20,7 @@ use Rattle.kr_defs.specs.LogStates.{LogState, Opened, abort_open, apply_at, begi
 use Rattle.kr_defs.proofs.Tests.{Gives, gives_done, gives_found, gives_refuse, gives_then, none_is, not_true, some_is}
 use Rattle.kr_calls.specs.declared.pins.Pin.{Pin}
 use Rattle.kr_calls.specs.SeatList.{lower}
-use Rattle.kr_image.proofs.EpochEnds.{less_lt, split}
+use Rattle.kr_image.proofs.EpochEnds.{last_later, less_lt, split}
 use Rattle.kr_image.proofs.KeptLists.{all_passing, all_push, all_weaker, find_map}
 use Rattle.kr_image.proofs.Stores.{found_has, found_passes}
 use Rattle.kr_image.proofs.StoreStates.{kept_already, kept_more}
@@ -139,7 +139,7 @@ module _ (store : Images) (valid : AreValid store) where
   -- a property of the kept epochs is one of those with what is open there
   pub of_begun : (P : ℤ → Type 0) (ks : List (ℤ × Image)) (bs : List Begun) → map (λ (b : Begun). b.0) bs ≡ map (λ (k : ℤ × Image). k.0) ks → AllByRecursion (λ (k : ℤ × Image). P k.0) ks → AllByRecursion (λ (b : Begun). P b.0) bs
   of_begun P ks [] same a = tt
-  of_begun P [] (b ∷ bs) same a = absurd (let none : length (map (λ (b : Begun). b.0) (b ∷ bs)) ≡ 0 = ap length same in cc)
+  of_begun P [] (b ∷ bs) same a = absurd cc
   of_begun P (k ∷ ks) (b ∷ bs) same a =
       let heads : b.0 ≡ k.0 = cc in
       let tails : map (λ (b : Begun). b.0) bs ≡ map (λ (k : ℤ × Image). k.0) ks = cc in
@@ -153,13 +153,16 @@ kept_has P (k ∷ ks) at a h =
       | false ↦ λ is h. kept_has P ks at a.1 h
     ] refl h
 
+abbrev pub opened_with : ℤ → Image → Opened
+opened_with begin image = record { place = log_place begin; image = image }
+
 -- the place of the open transaction, as the state tells it
 module _ (store : Images) (natural : AreNatural store.kept) where
   told_of : (begin : ℤ) (o : Option Image) → kept_at store begin ≡ o → IsSome o → option_map (λ (op : Opened). pos op.place) (opened_under store begin) ≡ Some begin
   told_of begin None is some = absurd cc
   told_of begin (Some image) is some =
       let here : IsSome (kept_at store begin) = subst (λ (o : Option Image). IsSome o) (sym is) refl in
-      ap (λ (o : Option Image). option_map (λ (op : Opened). pos op.place) (option_map (λ (i : Image). record { place = log_place begin; image = i }) o)) is
+      ap (λ (o : Option Image). option_map (λ (op : Opened). pos op.place) (option_map (opened_with begin) o)) is
       ∙ ap (λ z. Some z) (natural_place begin (kept_has (λ z. int_lt (negsuc 0) z ≡ true) store.kept begin natural here))
 
   pub begun_told : (begun : Option ℤ) → IfSome begun (λ begin. IsSome (kept_at store begin)) → option_map (λ (op : Opened). pos op.place) (opened_at store begun) ≡ begun
@@ -176,8 +179,8 @@ some_pushed xs x = ap is_some (last_pushed xs x)
   where
     last_pushed : (xs : List (ℤ × Image)) (x : ℤ × Image) → slice_get (xs ++ x ∷ []) (length (xs ++ x ∷ []) - 1) ≡ Some x
     last_pushed [] x = refl
-    last_pushed (y ∷ []) x = Rattle.kr_image.proofs.EpochEnds.last_later y x []
-    last_pushed (y ∷ z ∷ xs) x = Rattle.kr_image.proofs.EpochEnds.last_later y z (xs ++ x ∷ []) ∙ last_pushed (z ∷ xs) x
+    last_pushed (y ∷ []) x = last_later y x []
+    last_pushed (y ∷ z ∷ xs) x = last_later y z (xs ++ x ∷ []) ∙ last_pushed (z ∷ xs) x
 
 module _ (before : Images) (at : ℤ) (run : IsRunningAt before at) (valid : AreValid before) where
   abbrev next : ℤ

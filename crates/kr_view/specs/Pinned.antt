@@ -4,7 +4,7 @@ use Rattle.std.specs.Option.{option_map}
 use Rattle.std.specs.Ordering.{int_eq}
 use Rattle.kr_defs.specs.Image.{Image, empty}
 use Rattle.kr_calls.specs.declared.pins.Pin.{Pin}
-use Rattle.kr_calls.specs.SeatList.{PinnedLog}
+use Rattle.kr_calls.specs.SeatList.{PinnedLog, Reached}
 use Rattle.kr_store.specs.Images.{Images, kept_at, tip_state}
 
 -- the image at the end, or that of the first pin of the place
@@ -14,6 +14,10 @@ kept_image_at l place = if int_eq place l.at.end then Some l.at.state.image else
 abbrev pub pin_image : Images → Pin → Pin × Image
 pin_image store pin = (pin, unwrap_or (kept_at store pin.place) empty)
 
+-- the state of a store that stands at this end
+abbrev pub reached_in : Images → ℤ → Reached
+reached_in store end = record { state = tip_state store; end = end }
+
 -- what a store with this end and these pins keeps
 abbrev pub log_in : Images → ℤ → List Pin → PinnedLog
-log_in store end pins = record { at = record { state = tip_state store; end = end }; pinned = map (pin_image store) pins }
+log_in store end pins = record { at = reached_in store end; pinned = map (pin_image store) pins }

@@ -25,7 +25,7 @@ mod window;
 
 pub use looks::Look;
 pub use opening::{Opening, ReaderSeats, ViewFault, open};
-pub use publisher::{Publisher, is_below};
+pub use publisher::Publisher;
 pub use record_key::RecordKey;
 pub use record_reader::RecordReader;
 pub use rule::ThreadView;

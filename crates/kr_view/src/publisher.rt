@@ -33,8 +33,7 @@ impl Model for Publisher {
     ghost view = { shelf_of };
 }
 
-/// An item that stands below the end, or an image in place of all that stands not above it; so is what isn't of the log.
-pub fn is_below(entry: &Entry, end: &i64) -> bool
+fn is_below(entry: &Entry, end: &i64) -> bool
     ensures { result ≡ is_below end.now entry.now }
 {
     match entry {

@@ -5,10 +5,10 @@ ghost use Rattle.kr_defs.specs.declared.limits.TheConstants.{PLACES_END as place
 ghost use Rattle.kr_defs.specs.Image.{empty};
 ghost use Rattle.kr_calls.specs.Deciding.{apply_records};
 ghost use Rattle.kr_calls.specs.SeatList.{is_new_pin, is_place_kept, lower, nothing_pinned, oldest_place, pinned_with, with_item, with_load, with_pin, without_pin};
-ghost use Rattle.kr_store.specs.Images.{AreBegunFrom, AreValid, IsAbove, kept_at, kept_once, last_kept, marked, reverted, tip_state};
+ghost use Rattle.kr_store.specs.Images.{AreBegunFrom, AreValid, IsAbove, kept_at, kept_once, last_kept, marked, reverted};
 ghost use Rattle.kr_store.specs.ItemAnswers.{AppliesAt, MayStand};
 ghost use Rattle.kr_store.specs.declared.places.At.TheVariants as places;
-ghost use Rattle.kr_view.specs.Pinned.{kept_image_at, log_in};
+ghost use Rattle.kr_view.specs.Pinned.{kept_image_at, log_in, reached_in};
 ghost use Rattle.kr_view.specs.Runs.{AreNoSingles, is_single};
 ghost use Rattle.kr_view.specs.Scans.{HasCopy, IsNotThere, IsOfCopy};
 ghost use Rattle.kr_view.specs.Standing.{ComesTo, IsRunningAt, IsStandingAt, KeepsMore, Loads, StandsIf, run_with, with_run};
@@ -74,7 +74,8 @@ fn apply_item<L: Ledger>(
     steps: &mut Steps<L>,
 ) -> Result<i64, NoMemory>
     requires runs { IsRunningAt store.old end.now }
-    ensures ok { IfOk result (λ next. record { state = tip_state store.new; end = next } ≡ with_item (record { state = tip_state store.old; end = end.now }) place.now item.now) }
+    ensures ok { IfOk result (λ next. reached_in store.new next
+        ≡ with_item (reached_in store.old end.now) place.now item.now) }
     ensures comes { IfOk result (ComesTo store.old store.new end.now) }
     ensures kept { KeepsMore store.old store.new }
 {
@@ -96,7 +97,8 @@ fn apply_run<L: Ledger>(
     steps: &mut Steps<L>,
 ) -> Result<i64, NoMemory>
     requires runs { IsRunningAt store.old end.now }
-    ensures ok { IfOk result (λ next. record { state = tip_state store.new; end = next } ≡ fold run_with (record { state = tip_state store.old; end = end.now }) entries.now) }
+    ensures ok { IfOk result (λ next. reached_in store.new next
+        ≡ fold run_with (reached_in store.old end.now) entries.now) }
     ensures comes { IfOk result (ComesTo store.old store.new end.now) }
     ensures kept { KeepsMore store.old store.new }
 {
