@@ -29,7 +29,7 @@ Folded old new steps = new ≡ fold with_step old steps
 shows : (old new : Showing) (steps : List Step) → Folded old new steps → new ≡ showing_more old (entries_in steps)
 shows old new steps is = is ∙ all_steps old steps ∙ ap (showing old.options) (behind old.list steps)
 
-pub may_publish : (pass : ℕ) (v : ThreadView) (old new : Showing) (steps : List Step) → MayShow old (entries_in steps) → Folded old new steps → TurnsAt CopiesRuleHolds pass v old new Saw
+pub may_publish : (pass : ℕ) (v : ThreadView) (old new : Showing) (steps : List Step) → MayShow old.options old.list (entries_in steps) → Folded old new steps → TurnsAt CopiesRuleHolds pass v old new Saw
 may_publish pass v old new steps may is =
     let es = entries_in steps in
     let s = shows old new steps is in

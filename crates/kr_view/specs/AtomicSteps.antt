@@ -20,7 +20,7 @@ SeatIsMade = (o : Options) (views : List ThreadView) → CopiesRuleHolds (showin
 abbrev pub Publishes : Type 0
 Publishes =
     (x : Showing) (views : List ThreadView) (number : ℕ) (v : ThreadView) (more : List Entry)
-    → MayShow x more → get_elem? views number ≡ some v → CopiesRuleHolds x views
+    → MayShow x.options x.list more → get_elem? views number ≡ some v → CopiesRuleHolds x views
     → CopiesRuleHolds (showing_more x more) (slice_set views number (all_seen (showing_more x more)))
 
 -- a reader enters, and has seen what is published

@@ -19,9 +19,9 @@ abbrev pub showing_more : Showing → List Entry → Showing
 showing_more s more = showing s.options (s.list ++ more)
 
 -- what may be shown behind: answers and pins that are right there, and no transaction that stays open
-pub record MayShow (s : Showing) (more : List Entry) : Type 0 where
-  pub right : AreRightAfter s.options s.list more
-  pub closed : IsClosedList (s.list ++ more)
+pub record MayShow (options : Options) (list more : List Entry) : Type 0 where
+  pub right : AreRightAfter options list more
+  pub closed : IsClosedList (list ++ more)
 
 -- what a copy holds is what its entries say
 pub record HoldsEntries (log : PinnedLog) (told : List (Option SeatEntry)) (first : Option ℕ) (loads : ℕ) (entries : List Entry) : Type 0 where
