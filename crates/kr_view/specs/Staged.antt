@@ -33,7 +33,7 @@ is_begin_record (kinds.BeginTransaction name) = true
 is_begin_record other = false
 
 abbrev pub is_begin_item : Item → Bool
-is_begin_item (items.Record record) = is_begin_record record
+is_begin_item (items.Record r) = is_begin_record r
 is_begin_item items.Control = false
 
 abbrev pub is_begin : Entry → Bool

@@ -66,13 +66,13 @@ pub(crate) fn partition(alloc: Global, topic: u128, index: i32) -> Result<Record
 pub(crate) fn stage_record(
     publisher: &mut Publisher,
     place: i64,
-    record: Record,
+    change: Record,
 ) -> Result<(), NoMemory>
     requires plain { IsPlain publisher.old }
-    requires record { is_begin_record record ≡ false }
+    requires begins { is_begin_record change ≡ false }
     ensures { OnOk result (IsPlain publisher.new) }
 {
-    let item = Item::Record(record);
+    let item = Item::Record(change);
     match publisher.stage(Entry::Item { place, item }) {
         Ok(()) => Ok(()),
         Err(_) => Err(NoMemory),
