@@ -7,10 +7,12 @@ use Rattle.std.specs.Option.{option_map, option_map_or}
 use Rattle.std.specs.Ordering.{int_cmp, int_eq}
 use Rattle.std.specs.declared.cmp.Ordering.TheVariants.{Less}
 use Rattle.std.proofs.lemmas.Int.{ints}
+use Rattle.std.proofs.lemmas.Bool.{and_parts}
 use Rattle.std.proofs.lemmas.Bool.Decides.{Decides-int_eq}
 use Rattle.std.proofs.lemmas.List.Elements.{All-from_recursion, recursion_from_All}
 use Rattle.kr_defs.specs.declared.ill.Ill.{Ill}
 use Rattle.kr_defs.specs.declared.ill.Ill.TheVariants.{BadTransaction}
+use Rattle.kr_defs.specs.declared.limits.TheConstants.{PLACES_END}
 use Rattle.kr_defs.specs.declared.record.Item.{Item}
 use Rattle.kr_defs.specs.declared.record.Item.TheVariants as items
 use Rattle.kr_defs.specs.declared.record.Record.TheVariants as kinds
@@ -18,14 +20,14 @@ use Rattle.kr_defs.specs.Apply.{apply}
 use Rattle.kr_defs.specs.Image.{Image}
 use Rattle.kr_defs.specs.LogStates.{LogState, Opened, abort_open, apply_at, begin_at, end_open, image_after}
 use Rattle.kr_defs.proofs.Tests.{Gives, gives_done, gives_found, gives_refuse, gives_then, none_is, not_true, some_is}
-use Rattle.kr_calls.specs.declared.pins.Pin.{Pin}
-use Rattle.kr_calls.specs.SeatList.{lower}
+use Rattle.kr_calls.specs.SeatList.{with_item, with_state}
+use Rattle.kr_view.specs.Pinned.{reached_in}
 use Rattle.kr_image.proofs.EpochEnds.{last_later, less_lt, split}
 use Rattle.kr_image.proofs.KeptLists.{all_passing, all_push, all_weaker, find_map}
 use Rattle.kr_image.proofs.Stores.{found_has, found_passes}
 use Rattle.kr_image.proofs.StoreStates.{kept_already, kept_more}
 use Rattle.kr_store.specs.Images.{AreBegunFrom, AreValid, Images, IsAbove, begun_at, begun_under, kept_at, last_kept, log_place, marked, opened_at, opened_under, tip_state}
-use Rattle.kr_store.specs.ItemAnswers.{KeepsEpochs, MayStand, with_begin, with_epoch}
+use Rattle.kr_store.specs.ItemAnswers.{FallsBack, KeepsEpochs, MayOpen, MayStand, with_begin, with_epoch}
 use Rattle.kr_view.specs.Standing.{AreInTurn, AreNatural, ComesTo, GoesOnFrom, IsLastKept, IsRunningAt, IsStandingAt, KeepsMore}
 
 -- ---- numbers
@@ -319,3 +321,86 @@ module _ (before after : Images) (at : ℤ) (run : IsRunningAt before at) (valid
   comes (items.Record kinds.EndTransaction) is epochs = closes epochs (end_closes (tip_state before) (tip_state after) is)
   comes (items.Record (kinds.AbortTransaction reason)) is epochs = closes epochs (abort_closes (tip_state before) (tip_state after) is)
   comes item is epochs = leaves epochs (other_leaves (tip_state before) item (tip_state after) is)
+
+-- ---- what an item of a run comes to
+
+-- nothing has changed
+pub stays_there : (before after : Images) (at : ℤ) → after ≡ before → IsRunningAt before at → ComesTo before after at at
+stays_there before after at same run = record { running = subst (λ (x : Images). IsRunningAt x at) (sym same) run; moved = inl (refl, same) }
+
+pub keeps_same : (before after : Images) → after ≡ before → KeepsMore before after
+keeps_same before after same = nothing_more before after (ap (λ (x : Images). x.kept) same) (ap (λ (x : Images). x.kept_begun) same)
+
+pub keeps_fallen : (before after : Images) → FallsBack before after → KeepsMore before after
+keeps_fallen before after back = nothing_more before after back.epochs.images back.epochs.begun
+
+abbrev counted : ℤ → ℤ → Bool
+counted place end = int_eq place end && int_lt place PLACES_END
+
+counted_at : (place end : ℤ) → counted place end ≡ true → place ≡ end
+counted_at place end is = (Decides-int_eq place end).0 (and_parts (int_eq place end) (int_lt place PLACES_END) is).0
+
+may_open : (store : Images) (at : ℤ) → IsRunningAt store at → MayOpen store at
+may_open store at run = ⊎_elim (λ (above : IsAbove store.kept at). inl above) (λ (last : IsLastKept store at). inr last.last) run.place
+
+stands_at : (store : Images) (at : ℤ) (item : Item) → IsRunningAt store at → MayStand store at item
+stands_at store at (items.Record (kinds.BeginTransaction name)) run = may_open store at run
+stands_at store at item run = tt
+
+pub may_stand : (store : Images) (end place : ℤ) (item : Item) → IsRunningAt store end → counted place end ≡ true → MayStand store place item
+may_stand store end place item run is = subst (λ z. MayStand store z item) (sym (counted_at place end is)) (stands_at store end item run)
+
+-- it doesn't count
+pub passed_state : (store : Images) (end place : ℤ) (item : Item) → counted place end ≡ false → reached_in store end ≡ with_item (reached_in store end) place item
+passed_state store end place item off = ap (λ b. cond b (with_state (reached_in store end) (place +ℤ pos 1) (apply_at (tip_state store) (unsigned_abs place) item)) (reached_in store end)) (sym off)
+
+module _ (before after : Images) (end place : ℤ) (item : Item) (run : IsRunningAt before end) (is : counted place end ≡ true) where
+  natural_there : log_place place ≡ unsigned_abs place
+  natural_there = log_place_is place (subst (λ z. int_lt (negsuc 0) z ≡ true) (sym (counted_at place end is)) run.from)
+
+  made : (r : Result LogState Ill) → apply_at (tip_state before) (log_place place) item ≡ r → with_item (reached_in before end) place item ≡ with_state (reached_in before end) (place +ℤ pos 1) r
+  made r by =
+      ap (λ b. cond b (with_state (reached_in before end) (place +ℤ pos 1) (apply_at (tip_state before) (unsigned_abs place) item)) (reached_in before end)) is
+      ∙ ap (with_state (reached_in before end) (place +ℤ pos 1)) (ap (λ n. apply_at (tip_state before) n item) (sym natural_there) ∙ by)
+
+  -- it has a meaning, or none
+  pub done_state : apply_at (tip_state before) (log_place place) item ≡ Ok (tip_state after) → reached_in after (place +ℤ pos 1) ≡ with_item (reached_in before end) place item
+  done_state by = sym (made (Ok (tip_state after)) by)
+
+  pub ill_state : (cause : Ill) → apply_at (tip_state before) (log_place place) item ≡ Err cause → after ≡ before → reached_in after end ≡ with_item (reached_in before end) place item
+  ill_state cause by same = ap (λ (x : Images). reached_in x end) same ∙ sym (made (Err cause) by)
+
+  both_come : AreValid before → AreValid after → apply_at (tip_state before) (log_place place) item ≡ Ok (tip_state after) → KeepsEpochs after (with_begin before place item) → ComesTo before after end (place +ℤ pos 1) × KeepsMore before after
+  both_come valid valid' =
+      subst (λ z. apply_at (tip_state before) (log_place z) item ≡ Ok (tip_state after) → KeepsEpochs after (with_begin before z item) → ComesTo before after end (z +ℤ pos 1) × KeepsMore before after) (sym (counted_at place end is))
+      (λ by epochs. comes before after end run valid valid' item by epochs)
+
+  pub done_comes : AreValid before × AreValid after → (apply_at (tip_state before) (log_place place) item ≡ Ok (tip_state after)) × KeepsEpochs after (with_begin before place item) → ComesTo before after end (place +ℤ pos 1)
+  done_comes valid done = (both_come valid.0 valid.1 done.0 done.1).0
+
+  pub done_keeps : AreValid before × AreValid after → (apply_at (tip_state before) (log_place place) item ≡ Ok (tip_state after)) × KeepsEpochs after (with_begin before place item) → KeepsMore before after
+  done_keeps valid done = (both_come valid.0 valid.1 done.0 done.1).1
+
+pub ruleset item_steps = (stays_there, keeps_same, keeps_fallen, may_stand, passed_state, done_state, ill_state, done_comes, done_keeps)
+
+-- ---- a run of them
+
+pub comes_then : (a b c : Images) (x y z : ℤ) → ComesTo a b x y → ComesTo b c y z → ComesTo a c x z
+comes_then a b c x y z first second = record {
+  running = second.running;
+  moved = ⊎_elim
+      (λ (stood : (z ≡ y) × (c ≡ b)). ⊎_elim
+      (λ (still : (y ≡ x) × (b ≡ a)). inl (stood.0 ∙ still.0, stood.1 ∙ still.1))
+      (λ (above : IsAbove b.kept y). inr (subst (λ (w : Images × ℤ). IsAbove w.0.kept w.1) (λ i. (sym stood.1 i, sym stood.0 i)) above)) first.moved)
+      (λ (above : IsAbove c.kept z). inr above) second.moved;
+}
+
+pub keeps_then : (a b c : Images) → KeepsMore a b → KeepsMore b c → KeepsMore a c
+keeps_then a b c first second = record {
+  more = first.more ++ second.more;
+  kept = second.kept ∙ ap (λ (ks : List (ℤ × Image)). ks ++ second.more) first.kept ∙ append_assoc a.kept first.more second.more;
+  more_begun = first.more_begun ++ second.more_begun;
+  begun = second.begun ∙ ap (λ (bs : List Begun). bs ++ second.more_begun) first.begun ∙ append_assoc a.kept_begun first.more_begun second.more_begun;
+}
+
+pub ruleset run_steps = (stays_there, keeps_same, comes_then, keeps_then)

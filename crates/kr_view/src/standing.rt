@@ -1,6 +1,7 @@
 //! What a copy keeps of the log: the state at the end of its entries, and those of the pinned places.
 
 ghost use Rattle.std.specs.Prelude.{◌≡◌, ◌<◌, ◌&&◌, [], negsuc, int_lt, Ok, IsTrue, IsErr, IsSome, IfOk, MatchOption, MatchResult, not, true, false, OnOk, OnErr, Some, fold};
+ghost use Rattle.std.specs.Ordering.{int_eq};
 ghost use Rattle.kr_defs.specs.declared.limits.TheConstants.{PLACES_END as places_end};
 ghost use Rattle.kr_defs.specs.Image.{empty};
 ghost use Rattle.kr_calls.specs.Deciding.{apply_records};
@@ -64,8 +65,16 @@ fn apply_at<L: Ledger>(
     store.apply_at(*place, item, steps)
 }
 
+// An item counts there.
+fn counts(place: &i64, end: &i64) -> bool
+    ensures { result ≡ (int_eq place.now end.now && int_lt place.now places_end) }
+{
+    *place == *end && *place < PLACES_END
+}
+
 // Applies an item, where it counts, and keeps besides the place of a begin. It answers the end. Without memory the state is
 // one that was kept.
+#[tactic(auto, using(crate::proofs::OpenTransactions::item_steps))]
 fn apply_item<L: Ledger>(
     store: &mut ImageStore,
     end: &i64,
@@ -79,7 +88,7 @@ fn apply_item<L: Ledger>(
     ensures comes { IfOk result (ComesTo store.old store.new end.now) }
     ensures kept { KeepsMore store.old store.new }
 {
-    if *place != *end || *place >= PLACES_END {
+    if !counts(place, end) {
         return Ok(*end);
     }
     match apply_at(store, place, item, steps) {
@@ -90,6 +99,7 @@ fn apply_item<L: Ledger>(
 }
 
 // Applies the items of a run. It answers the end. Without memory the state is one that was kept.
+#[tactic(auto, using(crate::proofs::OpenTransactions::run_steps))]
 fn apply_run<L: Ledger>(
     store: &mut ImageStore,
     end: &i64,
